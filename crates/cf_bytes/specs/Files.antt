@@ -1,0 +1,57 @@
+-- Files by their names.
+use Rattle.std.specs.Prelude.{◌≡◌, ◌≢◌, ℕ, ◌<◌, ◌≤◌, List, length, map, Option, Some, None, Result, Ok, Err, String, Vec, string_bytes}
+use Rattle.std.specs.Global.{Global}
+use Rattle.std.specs.Ordering.{nat_cmp}
+use Rattle.std.specs.Cmp.Lexicographic.{slice_cmp}
+use Rattle.std.specs.FinMap as finite
+use Rattle.std.specs.Coded.{Coded, coded_list, coded_ℕ}
+use Rattle.cf_bytes.specs.Outside.{HasRisen}
+use Rattle.cf_bytes.specs.declared.files.FileFail.{FileFail}
+use Rattle.cf_bytes.specs.declared.files.FileFail.TheVariants as fails
+
+-- names, as UTF-8, and the bytes that stand under each
+abbrev pub Named : Type 0
+Named = finite.FinMap (slice_cmp nat_cmp) (List ℕ)
+
+abbrev pub named_code : Coded Named
+named_code = finite.code (coded_list coded_ℕ) (coded_list coded_ℕ)
+
+abbrev pub entry_of : String Global × Vec ℕ Global → List ℕ × List ℕ
+entry_of e = (string_bytes e.0, e.1.items)
+
+-- the first entry of a name stands
+abbrev pub named_of : List (String Global × Vec ℕ Global) → Named
+named_of es = finite.from_entries (map entry_of es)
+
+-- what a call does to the count of faults: it rises where the answer is Failed, and else stays
+abbrev pub Counts : {X : Type 0} → Result X FileFail → ℕ → ℕ → Type 0
+Counts (Err fails.Failed) before after = HasRisen before after
+Counts (Err fails.TooBig) before after = after ≡ before
+Counts (Err fails.NoMemory) before after = after ≡ before
+Counts (Ok x) before after = after ≡ before
+
+-- what a read of at most so many bytes answers, by what stands under the name
+abbrev pub ReadOf : Option (List ℕ) → ℕ → Result (Vec ℕ Global) FileFail → Type 0
+ReadOf (Some bytes) most (Ok v) = (v.items ≡ bytes) × (length bytes ≤ most)
+ReadOf (Some bytes) most (Err fails.TooBig) = most < length bytes
+ReadOf None most (Ok v) = ⊥
+ReadOf None most (Err fails.TooBig) = ⊥
+ReadOf held most (Err fails.Failed) = Unit {0}
+ReadOf held most (Err fails.NoMemory) = Unit {0}
+
+-- a read of files that are told or not
+abbrev pub ReadIn : Option Named → List ℕ → ℕ → Result (Vec ℕ Global) FileFail → Type 0
+ReadIn (Some m) name most r = ReadOf (finite.get m name) most r
+ReadIn None name most (Ok v) = length v.items ≤ most
+ReadIn None name most (Err e) = Unit {0}
+
+-- the files that are told, with these bytes under this name
+abbrev pub with_file : List ℕ → List ℕ → Option Named → Option Named
+with_file name bytes None = None
+with_file name bytes (Some m) = Some (finite.insert m name bytes)
+
+-- nothing changed but under this name
+abbrev pub SameElsewhere : List ℕ → Option Named → Option Named → Type 0
+SameElsewhere name (Some before) (Some after) = (other : List ℕ) → other ≢ name → finite.get after other ≡ finite.get before other
+SameElsewhere name None None = Unit {0}
+SameElsewhere name before after = ⊥

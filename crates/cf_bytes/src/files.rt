@@ -1,0 +1,61 @@
+//! Files by their names, as a trait.
+ghost use Rattle.std.specs.Prelude.{◌≡◌, ℕ, Option, Err, OnOk, IsErrOf};
+ghost use Rattle.cf_bytes.specs.declared.files.FileFail.TheVariants.{NoMemory as OutOfMemory};
+ghost use Rattle.cf_bytes.specs.Files.{Named, ReadIn, Counts, SameElsewhere, with_file};
+
+use std::alloc::{AllocError, AllocFailed, Global};
+use thiserror::Error;
+
+/// Why a file was not read or written.
+#[derive(Clone, Copy, Debug, PartialEq, Eq, Error)]
+pub enum FileFail {
+    /// There is no such file, or it can't be read or written.
+    #[error("the file can't be read or written")]
+    Failed,
+    /// It has more bytes than the call allows.
+    #[error("the file is too big")]
+    TooBig,
+    /// No memory was found.
+    #[error("no memory")]
+    NoMemory,
+}
+
+impl<T: Drop> From<AllocFailed<T>> for FileFail {
+    ghost from_gives = { λ _ e. e ≡ OutOfMemory };
+
+    fn from(_e: AllocFailed<T>) -> FileFail {
+        FileFail::NoMemory
+    }
+}
+
+impl From<AllocError> for FileFail {
+    ghost from_gives = { λ _ e. e ≡ OutOfMemory };
+
+    fn from(_e: AllocError) -> FileFail {
+        FileFail::NoMemory
+    }
+}
+
+/// Files by their names.
+pub trait Files {
+    /// What stands under each name, where it is told.
+    ghost files: { Self → Option Named };
+    /// How often it has failed. The count stands still at the greatest u64.
+    ghost faults: { Self → ℕ };
+
+    /// The bytes of a file, which are at most `most`: `TooBig` exactly where it has more, and
+    /// `Failed` where there is none. Reading changes no file.
+    fn read(&mut self, alloc: Global, name: &str, most: usize) -> Result<Vec<u8>, FileFail>
+        ensures answer { ReadIn (files self.old) name.now most result }
+        ensures same { files self.new ≡ files self.old }
+        ensures count { Counts result (faults self.old) (faults self.new) };
+
+    /// Sets the bytes of a name, and of no other. After `Failed` any bytes may stand under it, and
+    /// where no memory is found nothing has changed. It doesn't answer `TooBig`.
+    fn write(&mut self, alloc: Global, name: &str, bytes: &[u8]) -> Result<(), FileFail>
+        ensures ok { OnOk result (files self.new ≡ with_file name.now bytes.now (files self.old)) }
+        ensures failed { IsErrOf result FileFail.Failed → SameElsewhere name.now (files self.old) (files self.new) }
+        ensures memory { IsErrOf result FileFail.NoMemory → files self.new ≡ files self.old }
+        ensures fits { result ≡ Err FileFail.TooBig → ⊥ }
+        ensures count { Counts result (faults self.old) (faults self.new) };
+}

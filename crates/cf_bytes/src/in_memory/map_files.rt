@@ -1,0 +1,112 @@
+//! Files in memory.
+ghost use Rattle.std.specs.Prelude.{◌≡◌, ◌↔◌, [], true, Some, OnOk, OnErr, Err, IsErrOf, IsTrue};
+ghost use Rattle.std.specs.Option.{option_map};
+ghost use Rattle.std.specs.FinMap as finite;
+ghost use Rattle.cf_bytes.specs.Files.{ReadOf, Counts, named_of};
+ghost use Rattle.cf_bytes.specs.Plan.{is_refused, after_call};
+ghost use Rattle.cf_bytes.specs.MapFiles.{has_file};
+
+use super::plan::Plan;
+use crate::files::{FileFail, Files};
+use crate::memory::NoMemory;
+use std::alloc::Global;
+use std::collections::VecDeque;
+use std::marker::Model;
+
+/// Keeps files in memory, with calls that are to fail.
+#[derive(Drop)]
+pub struct MapFiles {
+    alloc: Global,
+    // As they were written, the newest first.
+    log: VecDeque<(String, Vec<u8>)>,
+    plan: Plan,
+}
+
+impl Model for MapFiles {
+    ghost use Rattle.cf_bytes.specs.Files.{named_of};
+    ghost use Rattle.cf_bytes.specs.MapFiles.{Held, held_code};
+
+    ghost Value = { Held };
+
+    ghost coded = { held_code };
+
+    ghost view = { λ f. record { files = named_of f.log.items; plan = f.plan } };
+}
+
+// The bytes under a name, which were written last.
+#[tactic(auto, using(crate::proofs::Texts::found_text, crate::proofs::Texts::other_text))]
+fn find<'a>(log: &'a VecDeque<(String, Vec<u8>)>, name: &str) -> Option<&'a Vec<u8>>
+    ensures { option_map (λ v. v.now.items) result ≡ finite.get (named_of log.now.items) name.now }
+{
+    for (key, bytes) in log {
+        if key.as_str() == name {
+            return Some(bytes);
+        }
+    }
+    None
+}
+
+impl MapFiles {
+    /// No files yet.
+    pub fn new(alloc: Global) -> MapFiles
+        ensures { result ≡ record { files = named_of []; plan = record { calls = 0; failing = []; faults = 0 } } }
+    {
+        MapFiles {
+            alloc,
+            log: VecDeque::new(alloc),
+            plan: Plan::new(alloc),
+        }
+    }
+
+    /// From now on these calls fail, counted from 1 over all reads and writes.
+    pub fn failing(&mut self, calls: &[u64]) -> Result<(), NoMemory>
+        ensures ok { OnOk result (self.new ≡ record self.old { plan = record self.old.plan { failing = calls.now } }) }
+        ensures err { OnErr result (self.new ≡ self.old) }
+    {
+        self.plan.set(self.alloc, calls)
+    }
+}
+
+impl Files for MapFiles {
+    ghost files = { λ f. Some f.files };
+
+    ghost faults = { λ f. f.plan.faults };
+
+    /// Fails where the call is to fail, and where no file has this name.
+    fn read(&mut self, alloc: Global, name: &str, most: usize) -> Result<Vec<u8>, FileFail>
+        ensures answer { ReadOf (finite.get self.old.files name.now) most result }
+        ensures same { Some self.new.files ≡ Some self.old.files }
+        ensures count { Counts result self.old.plan.faults self.new.plan.faults }
+        ensures failed { IsErrOf result FileFail.Failed ↔ IsTrue (is_refused self.old.plan (has_file self.old name.now)) }
+        ensures after { self.new ≡ record self.old { plan = after_call self.old.plan (has_file self.old name.now) } }
+    {
+        let found = find(&self.log, name);
+        if self.plan.call(found.is_some()).is_err() {
+            return Err(FileFail::Failed);
+        }
+        let Some(bytes) = found else {
+            return Err(FileFail::Failed);
+        };
+        if bytes.len() > most {
+            return Err(FileFail::TooBig);
+        }
+        Ok(Vec::from_slice(alloc, bytes)?)
+    }
+
+    /// Fails where the call is to fail, and then changes nothing.
+    fn write(&mut self, alloc: Global, name: &str, bytes: &[u8]) -> Result<(), FileFail>
+        ensures ok { OnOk result (self.new ≡ record { files = finite.insert self.old.files name.now bytes.now; plan = after_call self.old.plan true }) }
+        ensures err { OnErr result (self.new ≡ record self.old { plan = after_call self.old.plan true }) }
+        ensures failed { IsErrOf result FileFail.Failed ↔ IsTrue (is_refused self.old.plan true) }
+        ensures fits { result ≡ Err FileFail.TooBig → ⊥ }
+        ensures count { Counts result self.old.plan.faults self.new.plan.faults }
+    {
+        if self.plan.call(true).is_err() {
+            return Err(FileFail::Failed);
+        }
+        let name = String::from_str(alloc, name)?;
+        let bytes = Vec::from_slice(alloc, bytes)?;
+        self.log.push_front((name, bytes))?;
+        Ok(())
+    }
+}
