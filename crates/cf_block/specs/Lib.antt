@@ -1,1 +1,4 @@
 pub mod Header
+pub mod Output
+pub mod Reading
+pub mod Tx

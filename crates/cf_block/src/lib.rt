@@ -4,12 +4,18 @@
 mod fault;
 mod header;
 mod laws;
+mod listed;
+mod parse;
 mod script;
+mod tx;
 
 pub use fault::{BlockFault, BlockFaultKind};
 pub use header::{Header, block_hash, genesis_header, parse_header, write_header};
 pub use laws::laws_of_headers;
+pub use listed::Listed;
+
 pub use script::Script;
+pub use tx::{Block, OutPoint, Tx, TxIn, TxIns, TxOut, TxOuts, Txs};
 
 #[cfg(test)]
 mod tests;
