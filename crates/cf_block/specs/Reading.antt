@@ -1,5 +1,5 @@
 -- What reading transactions and blocks gives: a value and the bytes after it, or the first fault and the bytes from the refused field on.
-use Rattle.std.specs.Prelude.{ℕ, ◌-◌, ◌^◌, min, ◌==◌, nat_lt, nat_le, Bool, true, false, if◌then◌else◌, List, [], ◌∷◌, length, Ok, Err}
+use Rattle.std.specs.Prelude.{◌≡◌, ℕ, ◌-◌, ◌^◌, min, ◌==◌, nat_lt, nat_le, Bool, true, false, if◌then◌else◌, List, [], ◌∷◌, length, Result, Ok, Err}
 use Rattle.std.specs.Int.{w32, w64}
 use Rattle.cf_bytes.specs.Cut.{Read, bytes_at, number_at, int_at, ◌>>=◌}
 use Rattle.cf_bytes.specs.Compact.{compact_at}
@@ -7,6 +7,8 @@ use Rattle.cf_bytes.specs.Lists.{list_at, counted_bytes_at}
 use Rattle.cf_bytes.specs.declared.cut.CutFault.{CutFault}
 use Rattle.cf_bytes.specs.declared.cut.CutFault.TheVariants.{Short as CutShort, NotShortest as CutNotShortest, TooLarge as CutTooLarge}
 use Rattle.cf_bytes.specs.declared.hash.Hash32.{Hash32}
+use Rattle.cf_bytes.specs.declared.memory.Refused.{Refused}
+use Rattle.cf_bytes.specs.declared.memory.Refused.TheVariants.{No, NoMemory}
 use Rattle.cf_block.specs.declared.fault.BlockFault.{BlockFault}
 use Rattle.cf_block.specs.declared.fault.BlockFaultKind.{BlockFaultKind}
 use Rattle.cf_block.specs.declared.fault.BlockFaultKind.TheVariants.{Short, NotShortest, TooLarge, NoInput, NoOutput, Value, TooLong, Rest, Witness, NoTx}
@@ -127,3 +129,9 @@ tx_at bytes = placed bytes (tx_fields_at bytes)
 
 unfoldable pub block_at : List ℕ → Read Block BlockFault
 block_at bytes = placed bytes (short_block_at bytes)
+
+-- What a call answered that reads all the bytes and takes memory.
+abbrev pub GivesAll : {X Y : Type 0} → (X → Y) → List ℕ → Read Y BlockFault → Result X (Refused BlockFault) → Type 0
+GivesAll view bytes read (Ok x) = read ≡ Ok (view x, [])
+GivesAll view bytes read (Err (No e)) = read ≡ Err (e, bytes)
+GivesAll view bytes read (Err NoMemory) = Unit {0}

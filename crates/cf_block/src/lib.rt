@@ -13,6 +13,7 @@ pub use fault::{BlockFault, BlockFaultKind};
 pub use header::{Header, block_hash, genesis_header, parse_header, write_header};
 pub use laws::laws_of_headers;
 pub use listed::Listed;
+pub use parse::{parse_block, parse_tx};
 
 pub use script::Script;
 pub use tx::{Block, OutPoint, Tx, TxIn, TxIns, TxOut, TxOuts, Txs};
