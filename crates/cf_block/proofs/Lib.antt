@@ -1,3 +1,5 @@
 pub mod Joins
 pub mod HeaderLaws
 pub mod Refusals
+pub mod Roots
+pub mod Halving

@@ -2,3 +2,5 @@ pub mod Header
 pub mod Output
 pub mod Reading
 pub mod Tx
+pub mod Merkle
+pub mod Views

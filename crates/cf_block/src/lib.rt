@@ -5,6 +5,7 @@ mod fault;
 mod header;
 mod laws;
 mod listed;
+mod merkle;
 mod parse;
 mod script;
 mod tx;
@@ -13,6 +14,7 @@ pub use fault::{BlockFault, BlockFaultKind};
 pub use header::{Header, block_hash, genesis_header, parse_header, write_header};
 pub use laws::laws_of_headers;
 pub use listed::Listed;
+pub use merkle::{is_mutated, merkle_root};
 pub use parse::{parse_block, parse_tx};
 
 pub use script::Script;
