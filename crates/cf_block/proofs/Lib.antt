@@ -3,3 +3,4 @@ pub mod HeaderLaws
 pub mod Refusals
 pub mod Roots
 pub mod Halving
+pub mod FedLemmas

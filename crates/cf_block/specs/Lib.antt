@@ -1,3 +1,4 @@
+pub mod Fed
 pub mod Header
 pub mod Output
 pub mod Reading

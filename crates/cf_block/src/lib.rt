@@ -2,6 +2,7 @@
 #![tactic(auto)]
 
 mod fault;
+mod feeding;
 mod header;
 mod laws;
 mod listed;
@@ -9,6 +10,8 @@ mod merkle;
 mod parse;
 mod script;
 mod tx;
+
+mod write;
 
 pub use fault::{BlockFault, BlockFaultKind};
 pub use header::{Header, block_hash, genesis_header, parse_header, write_header};
@@ -19,6 +22,8 @@ pub use parse::{parse_block, parse_tx};
 
 pub use script::Script;
 pub use tx::{Block, OutPoint, Tx, TxIn, TxIns, TxOut, TxOuts, Txs};
+pub use feeding::txid;
+pub use write::{write_block, write_tx};
 
 #[cfg(test)]
 mod tests;
