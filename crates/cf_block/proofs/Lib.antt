@@ -4,3 +4,4 @@ pub mod Refusals
 pub mod Roots
 pub mod Halving
 pub mod FedLemmas
+pub mod CommitLemmas

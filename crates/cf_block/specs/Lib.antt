@@ -1,3 +1,4 @@
+pub mod Commitment
 pub mod Fed
 pub mod Header
 pub mod Output

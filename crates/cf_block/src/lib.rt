@@ -1,6 +1,7 @@
 //! Headers, transactions and blocks of the Bitcoin protocol, by the Bitcoin developer reference.
 #![tactic(auto)]
 
+mod commitment;
 mod fault;
 mod feeding;
 mod header;
@@ -13,6 +14,7 @@ mod tx;
 
 mod write;
 
+pub use commitment::{CommitFault, check_commitment, is_coinbase};
 pub use fault::{BlockFault, BlockFaultKind};
 pub use header::{Header, block_hash, genesis_header, parse_header, write_header};
 pub use laws::laws_of_headers;
