@@ -5,3 +5,5 @@ pub mod Roots
 pub mod Halving
 pub mod FedLemmas
 pub mod CommitLemmas
+pub mod Again
+pub mod Committed

@@ -6,3 +6,4 @@ pub mod Reading
 pub mod Tx
 pub mod Merkle
 pub mod Views
+pub mod Genesis

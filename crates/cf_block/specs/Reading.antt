@@ -1,18 +1,16 @@
 -- What reading transactions and blocks gives: a value and the bytes after it, or the first fault and the bytes from the refused field on.
-use Rattle.std.specs.Prelude.{◌≡◌, ℕ, ◌-◌, ◌^◌, min, ◌==◌, nat_lt, nat_le, Bool, true, false, if◌then◌else◌, List, [], ◌∷◌, length, Result, Ok, Err}
+use Rattle.std.specs.Prelude.{◌≡◌, ℕ, ◌-◌, ◌^◌, min, ◌==◌, nat_lt, if◌then◌else◌, List, [], ◌∷◌, length, Result, Ok, Err}
 use Rattle.std.specs.Int.{w32, w64}
-use Rattle.cf_bytes.specs.Cut.{Read, bytes_at, number_at, int_at, ◌>>=◌}
+use Rattle.cf_bytes.specs.Cut.{Read, number_at, int_at, ◌>>=◌}
 use Rattle.cf_bytes.specs.Compact.{compact_at}
 use Rattle.cf_bytes.specs.Lists.{list_at, counted_bytes_at}
 use Rattle.cf_bytes.specs.declared.cut.CutFault.{CutFault}
 use Rattle.cf_bytes.specs.declared.cut.CutFault.TheVariants.{Short as CutShort, NotShortest as CutNotShortest, TooLarge as CutTooLarge}
-use Rattle.cf_bytes.specs.declared.hash.Hash32.{Hash32}
 use Rattle.cf_bytes.specs.declared.memory.Refused.{Refused}
 use Rattle.cf_bytes.specs.declared.memory.Refused.TheVariants.{No, NoMemory}
 use Rattle.cf_block.specs.declared.fault.BlockFault.{BlockFault}
 use Rattle.cf_block.specs.declared.fault.BlockFaultKind.{BlockFaultKind}
 use Rattle.cf_block.specs.declared.fault.BlockFaultKind.TheVariants.{Short, NotShortest, TooLarge, NoInput, NoOutput, Value, TooLong, Rest, Witness, NoTx}
-use Rattle.cf_block.specs.declared.header.Header.{Header}
 use Rattle.cf_block.specs.declared.tx.OutPoint.{OutPoint}
 use Rattle.cf_block.specs.declared.tx.TxIn.{TxIn}
 use Rattle.cf_block.specs.declared.tx.Tx.{Tx}

@@ -1,11 +1,10 @@
 -- Transactions and blocks (Bitcoin developer reference, "Raw Transaction Format" and "Serialized Blocks"), without witnesses.
-use Rattle.std.specs.Prelude.{◌≡◌, ℕ, ◌^◌, ◌<◌, ◌≤◌, List, ◌++◌, length, FitsSigned}
+use Rattle.std.specs.Prelude.{ℕ, ◌^◌, ◌<◌, ◌≤◌, List, ◌++◌, length, FitsSigned}
 use Rattle.std.specs.Int.{w32, w64, to_le_bytes, cast_unsigned}
 use Rattle.std.specs.List.{flat_map, AllByRecursion}
 use Rattle.cf_bytes.specs.Hash.{hash_of}
 use Rattle.cf_bytes.specs.Compact.{compact}
 use Rattle.cf_bytes.specs.Lists.{counted_bytes}
-use Rattle.cf_block.specs.declared.tx.OutPoint.{OutPoint}
 use Rattle.cf_block.specs.declared.tx.TxIn.{TxIn}
 use Rattle.cf_block.specs.declared.tx.Tx.{Tx}
 use Rattle.cf_block.specs.declared.tx.Block.{Block}

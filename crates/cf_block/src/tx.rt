@@ -51,7 +51,9 @@ impl TxOut {
 }
 
 pub type TxIns = Listed<TxIn>;
+
 pub type TxOuts = Listed<TxOut>;
+
 pub type Txs = Listed<Tx>;
 
 /// A transaction, in its form without witnesses.

@@ -1,4 +1,4 @@
-use Rattle.std.proofs.Common.{◌≡◌, length, arith}
+use Rattle.std.proofs.Common.{◌≡◌, arith}
 use Rattle.std.specs.Vec.{vec_len}
 use Rattle.cf_block.proofs.CommitLemmas.{no_twins, none_there}
 use Rattle.cf_block.proofs.commitment.has_twins.Goals as goal

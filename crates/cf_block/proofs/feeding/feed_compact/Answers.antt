@@ -1,4 +1,4 @@
-use Rattle.std.proofs.Common.{◌≡◌, ◌++◌, ◌∷◌, [], ℕ, List, ap, ◌∙◌, arith}
+use Rattle.std.proofs.Common.{◌∷◌, ℕ, List, ap, ◌∙◌, arith}
 use Rattle.cf_block.proofs.FedLemmas.{fed_then, fed_same, compact_1, compact_3, compact_5, compact_9}
 use Rattle.cf_block.proofs.feeding.feed_compact.Goals as goal
 

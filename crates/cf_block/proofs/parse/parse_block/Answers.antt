@@ -1,5 +1,4 @@
-use Rattle.std.proofs.Common.{◌≡◌, ◌∙◌, ap, lt-ltb, length, Err, List, ℕ}
-use Rattle.cf_block.specs.declared.fault.BlockFault.{BlockFault}
+use Rattle.std.proofs.Common.{ap, lt-ltb, length, Err, ℕ}
 use Rattle.cf_block.specs.declared.fault.BlockFaultKind.TheVariants.{TooLong}
 use Rattle.cf_block.proofs.Refusals.{place_start}
 use Rattle.cf_block.specs.Reading.{short_block_at, block_at}
