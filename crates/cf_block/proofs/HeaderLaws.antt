@@ -1,50 +1,13 @@
 -- What is spelled is read again.
-use Rattle.std.proofs.Common.{◌≡◌, ℤ, ℕ, ◌<◌, ◌^◌, Bool, true, false, nat_lt, List, [], ◌++◌, length, take, drop, Result, Ok, Err, refl, sym, ap, ◌∙◌, arith, le-ltb, length-append, FitsSigned}
-use Rattle.std.specs.Bool.{if◌then◌else◌}
-use Rattle.std.proofs.lemmas.List.{take_at, drop_at}
-use Rattle.std.proofs.lemmas.Nat.{from_le_bytes-to_le_bytes_4}
-use Rattle.std.proofs.lemmas.Int.{to_z-of_z, ints}
-use Rattle.std.specs.Int.{w32, to_le_bytes, from_le_bytes, cast_signed, cast_unsigned}
-use Rattle.sha2.specs.Sha256.{sha256}
-use Rattle.sha2.proofs.Facts256.{length-sha256}
-use Rattle.cf_bytes.specs.Hash.{hash_of}
-use Rattle.cf_bytes.specs.Cut.{Read, bytes_at, number_at, int_at, ◌>>=◌}
+use Rattle.std.proofs.Common.{◌≡◌, ℕ, List, [], ◌++◌, length, Ok, refl, sym, ap, ◌∙◌, arith}
+use Rattle.std.specs.Int.{w32, to_le_bytes, cast_unsigned}
+use Rattle.cf_bytes.specs.Cut.{bytes_at, number_at, int_at}
 use Rattle.cf_bytes.specs.declared.hash.Hash32.{Hash32}
-use Rattle.cf_bytes.specs.declared.cut.CutFault.{CutFault}
-use Rattle.cf_bytes.specs.declared.cut.CutFault.TheVariants.{Short}
+use Rattle.cf_bytes.proofs.Codecs.{bind_is, value_of, bytes_again, u32_again, i32_again}
+use Rattle.cf_bytes.proofs.HashLemmas.{length-hash_of}
 use Rattle.cf_block.proofs.Joins.{regrouped}
 use Rattle.cf_block.specs.declared.header.Header.{Header}
 use Rattle.cf_block.specs.Header.{IsHash, IsHeader, header_spelling, hash_at, header_fields_at, whole_header, header_at, block_hash_of, genesis_header}
-
-pub bind_is : {A B E : Type 0} (r : Result A E) (x : A) (f : A → Result B E) → r ≡ Ok x → (r >>= f) ≡ f x
-bind_is r x f h = ap (λ s. s >>= f) h
-
-pub bytes_again : (n : ℕ) (text more : List ℕ) → length text ≡ n → bytes_at n (text ++ more) ≡ Ok (text, more)
-bytes_again n text more e =
-    rw (le-ltb (length (text ++ more)) n (omega (arith, length-append text more, e)), take_at text more n e, drop_at text more n e) refl
-
-pub u32_again : (n : ℕ) (more : List ℕ) → n < 2 ^ 32 → number_at w32 (to_le_bytes w32 n ++ more) ≡ Ok (n, more)
-u32_again n more small = grind (arith, from_le_bytes-to_le_bytes_4)
-
-abbrev signed : Read ℕ CutFault → Read ℤ CutFault
-signed r = r >>= λ x. Ok (cast_signed w32 x.0, x.1)
-
-int_is_if : (b : Bool) (n : ℕ) (bytes rest : List ℕ)
-    → (if b then Err (Short, bytes) else Ok (cast_signed w32 n, rest)) ≡ signed (if b then Err (Short, bytes) else Ok (n, rest))
-int_is_if true n bytes rest = refl
-int_is_if false n bytes rest = refl
-
-int_is : (bytes : List ℕ) → int_at w32 bytes ≡ signed (number_at w32 bytes)
-int_is bytes = int_is_if (nat_lt (length bytes) 4) (from_le_bytes w32 (take 4 bytes)) bytes (drop 4 bytes)
-
-pub unsigned_fits : (z : ℤ) → FitsSigned w32 z → cast_unsigned w32 z < 2 ^ 32
-unsigned_fits z fits = omega (arith, ints)
-
-pub i32_again : (z : ℤ) (more : List ℕ) → FitsSigned w32 z → int_at w32 (to_le_bytes w32 (cast_unsigned w32 z) ++ more) ≡ Ok (z, more)
-i32_again z more fits =
-    int_is (to_le_bytes w32 (cast_unsigned w32 z) ++ more)
-    ∙ ap signed (u32_again (cast_unsigned w32 z) more (unsigned_fits z fits))
-    ∙ ap (λ (v : ℤ). Ok (v, more)) (to_z-of_z w32 z fits)
 
 pub hash_again : (h : Hash32) (more : List ℕ) → IsHash h → hash_at (h.0 ++ more) ≡ Ok (h, more)
 hash_again h more e = bind_is (bytes_at 32 (h.0 ++ more)) (h.0, more) (λ x. Ok (record { 0 = x.0 }, x.1)) (bytes_again 32 h.0 more e)
@@ -76,9 +39,6 @@ pub header_again : (h : Header) (more : List ℕ) → IsHeader h → header_at (
 unfolding header_at
 header_again h more fits = ap (whole_header (header_spelling h ++ more)) (header_fields_again h more fits)
 
-pub value_of : {X E : Type 0} (x y : X) (r : Result X E) → r ≡ Ok x → r ≡ Ok y → x ≡ y
-value_of x y r a b = cc
-
 pub header_one : (a b : Header) → IsHeader a → IsHeader b → header_spelling a ≡ header_spelling b → a ≡ b
 header_one a b fa fb e =
     let ra : header_at (header_spelling a ++ []) ≡ Ok (a, []) = header_again a [] fa in
@@ -86,8 +46,8 @@ header_one a b fa fb e =
     ap (λ p. p.0) (value_of (a, []) (b, []) (header_at (header_spelling a ++ [])) ra rb)
 
 pub block_hash_length : (h : Header) → length (block_hash_of h) ≡ 32
-unfolding block_hash_of hash_of
-block_hash_length h = length-sha256 (sha256 (header_spelling h))
+unfolding block_hash_of
+block_hash_length h = length-hash_of (header_spelling h)
 
 pub genesis_fits : IsHeader genesis_header
 unfolding genesis_header

@@ -1,2 +1,9 @@
 pub mod Joins
 pub mod HeaderLaws
+pub mod Refusals
+pub mod Roots
+pub mod Halving
+pub mod FedLemmas
+pub mod CommitLemmas
+pub mod Again
+pub mod Committed

@@ -1,8 +1,9 @@
 //! Why bytes are no header, no transaction or no block.
 ghost use Rattle.std.specs.Prelude.{◌≡◌};
+ghost use Rattle.cf_block.specs.Reading.{kind_of};
 ghost use Rattle.cf_bytes.specs.declared.memory.Refused.TheVariants.{No};
 
-use cf_bytes::Refused;
+use cf_bytes::{CutFault, Refused};
 use thiserror::Error;
 
 /// Which rule the bytes break.
@@ -54,5 +55,25 @@ impl From<BlockFault> for Refused<BlockFault> {
 
     fn from(fault: BlockFault) -> Refused<BlockFault> {
         Refused::No(fault)
+    }
+}
+
+impl From<BlockFaultKind> for Refused<BlockFaultKind> {
+    ghost from_gives = { λ kind e. e ≡ No kind };
+
+    fn from(kind: BlockFaultKind) -> Refused<BlockFaultKind> {
+        Refused::No(kind)
+    }
+}
+
+impl From<CutFault> for BlockFaultKind {
+    ghost from_gives = { λ fault e. e ≡ kind_of fault };
+
+    fn from(fault: CutFault) -> BlockFaultKind {
+        match fault {
+            CutFault::Short => BlockFaultKind::Short,
+            CutFault::NotShortest => BlockFaultKind::NotShortest,
+            CutFault::TooLarge => BlockFaultKind::TooLarge,
+        }
     }
 }

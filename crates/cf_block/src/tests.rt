@@ -22,7 +22,7 @@ fn the_first_header_and_its_hash(rt: HostRuntime) -> Result<(), Fail> {
     let mut cut = Cut::new(bytes.as_slice());
     assert!(rt; parse_header(&mut cut) == Ok(header));
     assert!(rt; cut.rest().is_empty());
-    let mut short = Cut::new(&bytes[1..]);
+    let mut short = Cut::new(&[1; 79]);
     let fault = BlockFault {
         kind: BlockFaultKind::Short,
         place: 0,

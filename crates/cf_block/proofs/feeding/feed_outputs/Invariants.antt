@@ -1,0 +1,8 @@
+use Rattle.std.proofs.Common.{take}
+use Rattle.std.specs.List.{flat_map}
+use Rattle.cf_block.specs.Fed.{Fed}
+use Rattle.cf_block.specs.Tx.{output_spelling}
+use Rattle.cf_block.proofs.feeding.feed_outputs.Given as goal
+
+abbrev pub invariant-loop-output : goal.invariant-loop-output
+invariant-loop-output l = Fed l.fn.hasher l.hasher (flat_map output_spelling (take l.output-index l.outputs))

@@ -1,0 +1,51 @@
+-- Which transactions a header stands for.
+use Rattle.std.specs.Prelude.{◌≡◌, ◌<◌, ◌==◌, ◌&&◌, ℕ, Bool, false, not, replicate, if◌then◌else◌, List, [], ◌∷◌, map, length, Option, Some, None, Result, Ok, Err, bytes_eq}
+use Rattle.std.specs.List.{list_any}
+use Rattle.cf_bytes.specs.declared.memory.Refused.{Refused}
+use Rattle.cf_bytes.specs.declared.memory.Refused.TheVariants.{No, NoMemory}
+use Rattle.cf_block.specs.declared.commitment.CommitFault.{CommitFault}
+use Rattle.cf_block.specs.declared.commitment.CommitFault.TheVariants.{Root, Mutated, Tx64}
+use Rattle.cf_block.specs.declared.tx.TxIn.{TxIn}
+use Rattle.cf_block.specs.declared.tx.Tx.{Tx}
+use Rattle.cf_block.specs.declared.tx.Block.{Block}
+use Rattle.cf_block.specs.Tx.{tx_spelling}
+use Rattle.cf_block.specs.Merkle.{merkle_root_of, mutated, txids, None64}
+
+-- the bytes of a block's transactions
+abbrev pub spelled_txs : Block → List (List ℕ)
+spelled_txs b = map tx_spelling b.txs
+
+-- the root is theirs, no other list of txids has it by a doubled one, and none can be read as a node of the tree
+pub record IsCommitted (b : Block) : Type 0 where
+  pub some : 0 < length b.txs
+  pub root : b.header.root.0 ≡ merkle_root_of (txids (spelled_txs b))
+  pub unmutated : mutated (txids (spelled_txs b)) ≡ false
+  pub none64 : None64 (spelled_txs b)
+
+abbrev pub has_64 : List ℕ → Bool
+has_64 text = length text == 64
+
+abbrev pub has_root : Block → Bool
+has_root b = not (length b.txs == 0) && bytes_eq (merkle_root_of (txids (spelled_txs b))) b.header.root.0
+
+-- the first of the three that a block breaks
+unfoldable pub commit_fault : Block → Option CommitFault
+commit_fault b =
+    if not (has_root b) then Some Root
+    else if mutated (txids (spelled_txs b)) then Some Mutated
+    else if list_any has_64 (spelled_txs b) then Some Tx64
+    else None
+
+abbrev pub FindsFault : Option CommitFault → Result (Unit {0}) (Refused CommitFault) → Type 0
+FindsFault fault (Ok x) = fault ≡ None
+FindsFault fault (Err (No e)) = fault ≡ Some e
+FindsFault fault (Err NoMemory) = Unit {0}
+
+-- one input, which names the output 0xffffffff of the hash zero
+abbrev pub makes_coins : List TxIn → Bool
+makes_coins [] = false
+makes_coins (i ∷ []) = i.prev.index == 0xffffffff && bytes_eq i.prev.txid.0 (replicate 32 0)
+makes_coins (i ∷ j ∷ rest) = false
+
+abbrev pub is_coinbase_tx : Tx → Bool
+is_coinbase_tx t = makes_coins t.inputs

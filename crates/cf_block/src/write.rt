@@ -1,0 +1,89 @@
+//! The writers of transactions and blocks. Where no memory is found, a writer may have written a part.
+ghost use Rattle.std.specs.Prelude.{◌≡◌, ◌++◌, OnOk};
+ghost use Rattle.std.specs.List.{flat_map};
+ghost use Rattle.cf_bytes.specs.Lists.{counted_bytes};
+ghost use Rattle.cf_block.specs.Tx.{input_spelling, output_spelling, tx_spelling, block_spelling};
+
+use crate::header::write_header;
+use crate::tx::{Block, Tx, TxIn, TxOut};
+use cf_bytes::{NoMemory, put_compact};
+
+fn put_counted(bytes: &[u8], out: &mut Vec<u8>) -> Result<(), NoMemory>
+    ensures { OnOk result (out.new.items ≡ out.old.items ++ counted_bytes bytes.now) }
+{
+    put_compact(out, bytes.len() as u64)?;
+    out.extend_from_slice(bytes)?;
+    Ok(())
+}
+
+#[tactic(auto, unfolding(crate::specs::Tx::input_spelling))]
+fn put_input(input: &TxIn, out: &mut Vec<u8>) -> Result<(), NoMemory>
+    ensures { OnOk result (out.new.items ≡ out.old.items ++ input_spelling input.now) }
+{
+    out.extend_from_slice(&input.prev.txid.0)?;
+    out.extend_from_slice(&input.prev.index.to_le_bytes())?;
+    put_counted(input.script.as_slice(), out)?;
+    out.extend_from_slice(&input.sequence.to_le_bytes())?;
+    Ok(())
+}
+
+#[tactic(auto, unfolding(crate::specs::Tx::output_spelling))]
+fn put_output(output: &TxOut, out: &mut Vec<u8>) -> Result<(), NoMemory>
+    ensures { OnOk result (out.new.items ≡ out.old.items ++ output_spelling output.now) }
+{
+    out.extend_from_slice(&output.amount().to_le_bytes())?;
+    put_counted(output.script.as_slice(), out)?;
+    Ok(())
+}
+
+fn put_inputs(inputs: &[TxIn], out: &mut Vec<u8>) -> Result<(), NoMemory>
+    ensures { OnOk result (out.new.items ≡ out.old.items ++ flat_map input_spelling inputs.now) }
+{
+    for input in inputs {
+        put_input(input, out)?;
+    }
+    Ok(())
+}
+
+fn put_outputs(outputs: &[TxOut], out: &mut Vec<u8>) -> Result<(), NoMemory>
+    ensures { OnOk result (out.new.items ≡ out.old.items ++ flat_map output_spelling outputs.now) }
+{
+    for output in outputs {
+        put_output(output, out)?;
+    }
+    Ok(())
+}
+
+/// Writes the transaction's bytes at the end, in its form without witnesses.
+#[tactic(auto, unfolding(crate::specs::Tx::tx_spelling))]
+pub fn write_tx(t: &Tx, out: &mut Vec<u8>) -> Result<(), NoMemory>
+    ensures { OnOk result (out.new.items ≡ out.old.items ++ tx_spelling t.now) }
+{
+    out.extend_from_slice(&t.version.cast_unsigned().to_le_bytes())?;
+    put_compact(out, t.inputs.len() as u64)?;
+    put_inputs(t.inputs.as_slice(), out)?;
+    put_compact(out, t.outputs.len() as u64)?;
+    put_outputs(t.outputs.as_slice(), out)?;
+    out.extend_from_slice(&t.lock_time.to_le_bytes())?;
+    Ok(())
+}
+
+fn put_txs(txs: &[Tx], out: &mut Vec<u8>) -> Result<(), NoMemory>
+    ensures { OnOk result (out.new.items ≡ out.old.items ++ flat_map tx_spelling txs.now) }
+{
+    for tx in txs {
+        write_tx(tx, out)?;
+    }
+    Ok(())
+}
+
+/// Writes the block's bytes at the end.
+#[tactic(auto, unfolding(crate::specs::Tx::block_spelling))]
+pub fn write_block(b: &Block, out: &mut Vec<u8>) -> Result<(), NoMemory>
+    ensures { OnOk result (out.new.items ≡ out.old.items ++ block_spelling b.now) }
+{
+    write_header(&b.header, out)?;
+    put_compact(out, b.txs.len() as u64)?;
+    put_txs(b.txs.as_slice(), out)?;
+    Ok(())
+}
