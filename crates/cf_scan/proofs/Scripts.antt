@@ -75,11 +75,11 @@ agree_more watch old new key script put is h q =
     at [] = or_turns false (pointwise nat_eq q script)
     at (x ∷ xs) = assoc (pointwise nat_eq q x) (list_any (pointwise nat_eq q) xs) (pointwise nat_eq q script) ∙ ap (λ b. pointwise nat_eq q x || b) (at xs)
 
-none_later : (k : Option WatchKind) (n : ℕ) (later : Option WatchFault) → or_later k n later ≡ None → (k ≡ None) × (later ≡ None)
+pub none_later : (k : Option WatchKind) (n : ℕ) (later : Option WatchFault) → or_later k n later ≡ None → (k ≡ None) × (later ≡ None)
 none_later None n later h = (refl, h)
 none_later (Some kind) n later h = cc
 
-both_none : (k : Option WatchKind) (n : ℕ) (later : Option WatchFault) → k ≡ None → later ≡ None → or_later k n later ≡ None
+pub both_none : (k : Option WatchKind) (n : ℕ) (later : Option WatchFault) → k ≡ None → later ≡ None → or_later k n later ≡ None
 both_none k n later a b = rw a b
 
 faultless_more : (before xs : List (List ℕ)) (s : List ℕ) → first_fault before xs ≡ None → watch_kind_of (before ++ xs) s ≡ None → first_fault before (xs ++ s ∷ []) ≡ None

@@ -1,2 +1,3 @@
 pub mod HistoryText
+pub mod Watchable
 pub mod Watching
