@@ -10,7 +10,7 @@ ghost use Rattle.cf_block.specs.Commitment.{has_root as has_root_of, has_64 as i
 use crate::feeding::txid;
 use crate::merkle::{is_mutated, merkle_root};
 use crate::tx::{Block, Tx};
-use crate::write::write_tx;
+use crate::write::put_tx;
 use cf_bytes::{Hash32, NoMemory, Refused};
 use std::alloc::Global;
 use thiserror::Error;
@@ -74,7 +74,7 @@ fn has_64_bytes(alloc: Global, t: &Tx) -> Result<bool, NoMemory>
     ensures { IfOk result (λ r. r ≡ is_64 (tx_spelling t.now)) }
 {
     let mut bytes = Vec::new(alloc);
-    write_tx(t, &mut bytes)?;
+    put_tx(t, &mut bytes)?;
     Ok(bytes.len() == 64)
 }
 

@@ -1,5 +1,5 @@
-//! The writers of transactions and blocks. Where no memory is found, a writer may have written a part.
-ghost use Rattle.std.specs.Prelude.{◌≡◌, ◌++◌, OnOk};
+//! The writers of transactions and blocks.
+ghost use Rattle.std.specs.Prelude.{◌≡◌, ◌++◌, OnOk, OnErr};
 ghost use Rattle.std.specs.List.{flat_map};
 ghost use Rattle.cf_bytes.specs.Lists.{counted_bytes};
 ghost use Rattle.cf_block.specs.Tx.{input_spelling, output_spelling, tx_spelling, block_spelling};
@@ -54,9 +54,8 @@ fn put_outputs(outputs: &[TxOut], out: &mut Vec<u8>) -> Result<(), NoMemory>
     Ok(())
 }
 
-/// Writes the transaction's bytes at the end, in its form without witnesses.
 #[tactic(auto, unfolding(crate::specs::Tx::tx_spelling))]
-pub fn write_tx(t: &Tx, out: &mut Vec<u8>) -> Result<(), NoMemory>
+pub(crate) fn put_tx(t: &Tx, out: &mut Vec<u8>) -> Result<(), NoMemory>
     ensures { OnOk result (out.new.items ≡ out.old.items ++ tx_spelling t.now) }
 {
     out.extend_from_slice(&t.version.cast_unsigned().to_le_bytes())?;
@@ -72,18 +71,40 @@ fn put_txs(txs: &[Tx], out: &mut Vec<u8>) -> Result<(), NoMemory>
     ensures { OnOk result (out.new.items ≡ out.old.items ++ flat_map tx_spelling txs.now) }
 {
     for tx in txs {
-        write_tx(tx, out)?;
+        put_tx(tx, out)?;
     }
     Ok(())
 }
 
-/// Writes the block's bytes at the end.
 #[tactic(auto, unfolding(crate::specs::Tx::block_spelling))]
-pub fn write_block(b: &Block, out: &mut Vec<u8>) -> Result<(), NoMemory>
+fn put_block(b: &Block, out: &mut Vec<u8>) -> Result<(), NoMemory>
     ensures { OnOk result (out.new.items ≡ out.old.items ++ block_spelling b.now) }
 {
     write_header(&b.header, out)?;
     put_compact(out, b.txs.len() as u64)?;
     put_txs(b.txs.as_slice(), out)?;
+    Ok(())
+}
+
+/// Writes the transaction's bytes at the end, in its form without witnesses. Where no memory is found nothing is
+/// written, so they are first written apart.
+pub fn write_tx(t: &Tx, out: &mut Vec<u8>) -> Result<(), NoMemory>
+    ensures ok { OnOk result (out.new.items ≡ out.old.items ++ tx_spelling t.now) }
+    ensures err { OnErr result (out.new.items ≡ out.old.items) }
+{
+    let mut bytes = Vec::new(*out.allocator());
+    put_tx(t, &mut bytes)?;
+    out.extend_from_slice(&bytes)?;
+    Ok(())
+}
+
+/// Writes the block's bytes at the end. Where no memory is found nothing is written, so they are first written apart.
+pub fn write_block(b: &Block, out: &mut Vec<u8>) -> Result<(), NoMemory>
+    ensures ok { OnOk result (out.new.items ≡ out.old.items ++ block_spelling b.now) }
+    ensures err { OnErr result (out.new.items ≡ out.old.items) }
+{
+    let mut bytes = Vec::new(*out.allocator());
+    put_block(b, &mut bytes)?;
+    out.extend_from_slice(&bytes)?;
     Ok(())
 }
