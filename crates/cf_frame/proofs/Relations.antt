@@ -1,14 +1,14 @@
 -- Reading and the definitions of frames, faults and streams say the same.
-use Rattle.std.proofs.Common.{◌≡◌, ◌↔◌, ℕ, zero, suc, ◌≤◌, ◌<◌, ◌^◌, List, [], ◌∷◌, ◌++◌, length, take, drop, Option, Some, None, Result, Ok, Err, Bool, true, false, not, if◌then◌else◌, nat_lt, refl, sym, ap, ◌∙◌, arith, inl, inr, append_assoc, le-ltb, lt-ltb, subst}
-use Rattle.std.proofs.lemmas.List.{append-nil, places}
+use Rattle.std.proofs.Common.{◌≡◌, ◌↔◌, ℕ, zero, suc, ◌≤◌, ◌<◌, List, [], ◌∷◌, ◌++◌, length, take, drop, Option, Some, None, Result, Ok, Err, Bool, true, false, not, if◌then◌else◌, nat_lt, refl, sym, ap, ◌∙◌, arith, inl, inr, append_assoc, le-ltb, lt-ltb, subst}
+use Rattle.std.proofs.lemmas.List.{append-nil}
 use Rattle.std.proofs.lemmas.Bool.{cases_lt}
 use Rattle.std.proofs.lemmas.Slice.Eq.{bytes_eq-Decides}
-use Rattle.std.specs.Int.{w32, from_le_bytes, to_le_bytes}
+use Rattle.std.specs.Int.{w32, to_le_bytes}
 use Rattle.std.specs.Str.{bytes_eq}
 use Rattle.std.specs.List.{flat_map}
 use Rattle.cf_bytes.specs.declared.cut.CutFault.{CutFault}
 use Rattle.cf_bytes.specs.Cut.{Read, bytes_at, number_at}
-use Rattle.cf_bytes.proofs.Codecs.{bind_ok, value_of, number_bytes, bytes_again, bytes_taken, u32_taken}
+use Rattle.cf_bytes.proofs.Codecs.{bind_ok, value_of, bytes_again, bytes_taken, u32_taken}
 use Rattle.cf_frame.specs.declared.frame.Frame.{Frame}
 use Rattle.cf_frame.specs.declared.frame.FrameFault.{FrameFault}
 use Rattle.cf_frame.specs.declared.frame.FrameFault.TheVariants.{Magic, Command, Oversize, Checksum}
@@ -72,23 +72,6 @@ header_fails h after fault e = some_fails h after fault (bytes_eq h.magic magic)
 
 -- a header that was read stands there
 
-pub u32_small : (bytes : List ℕ) → IsBytes bytes → from_le_bytes w32 bytes < 2 ^ 32
-u32_small bytes fits = omega (arith, fits 0, fits 1, fits 2, fits 3)
-
-front_bytes : (bytes front rest : List ℕ) → IsBytes bytes → bytes ≡ front ++ rest → IsBytes front
-front_bytes bytes front rest fits e i = grind (arith, places, fits i, e)
-
-u32_bound : (bytes : List ℕ) (n : ℕ) (rest : List ℕ) → IsBytes bytes → number_at w32 bytes ≡ Ok (n, rest) → n < 2 ^ 32
-u32_bound bytes n rest fits h =
-    let first = bind_ok (bytes_at 4 bytes) (λ x. Ok (from_le_bytes w32 x.0, x.1)) (n, rest) (sym (number_bytes w32 bytes) ∙ h) in
-    let x = first.0 in
-    let t = bytes_taken 4 bytes x.0 x.1 fits first.1 in
-    let read : Read ℕ CutFault = Ok (from_le_bytes w32 x.0, x.1) in
-    let both = value_of (from_le_bytes w32 x.0, x.1) (n, rest) read refl first.2 in
-    let known : IsBytes x.0 = front_bytes bytes x.0 x.1 fits t.0.joined in
-    let P : ℕ × List ℕ → Type 0 = λ p. p.0 < 2 ^ 32 in
-    subst P both (u32_small x.0 known)
-
 header_taken : (bytes : List ℕ) (h : Header) (rest : List ℕ) → IsBytes bytes → header_at bytes ≡ Ok (h, rest) → HasHeader bytes h rest × IsBytes rest
 unfolding header_at
 header_taken bytes h rest fits e =
@@ -99,16 +82,16 @@ header_taken bytes h rest fits e =
     let tm = bytes_taken 4 bytes m.0.0 m.0.1 fits m.1 in
     let tc = bytes_taken 12 m.0.1 c.0.0 c.0.1 tm.0.rest c.1 in
     let tn = u32_taken c.0.1 n.0.0 n.0.1 tc.0.rest n.1 in
-    let tk = bytes_taken 4 n.0.1 k.0.0 k.0.1 tn.rest k.1 in
+    let tk = bytes_taken 4 n.0.1 k.0.0 k.0.1 tn.0.rest k.1 in
     let read : Header = record { magic = m.0.0; command = c.0.0; len = n.0.0; checksum = k.0.0 } in
     let both = value_of (read, k.0.1) (h, rest) _ refl k.2 in
     let P : Header × List ℕ → Type 0 = λ p. HasHeader bytes p.0 p.1 × IsBytes p.1 in
     subst P both (
       record {
-        joined = tm.0.joined ∙ ap (λ t. m.0.0 ++ t) (tc.0.joined ∙ ap (λ t. c.0.0 ++ t) (tn.joined ∙ ap (λ t. to_le_bytes w32 n.0.0 ++ t) tk.0.joined));
+        joined = tm.0.joined ∙ ap (λ t. m.0.0 ++ t) (tc.0.joined ∙ ap (λ t. c.0.0 ++ t) (tn.0.joined ∙ ap (λ t. to_le_bytes w32 n.0.0 ++ t) tk.0.joined));
         four = tm.1;
         twelve = tc.1;
-        len = u32_bound c.0.1 n.0.0 n.0.1 tc.0.rest n.1;
+        len = tn.1;
         sum = tk.1;
       },
       tk.0.rest,
