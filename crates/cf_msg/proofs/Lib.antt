@@ -1,0 +1,4 @@
+pub mod Codecs
+pub mod Rows
+pub mod Table
+pub mod Writes
