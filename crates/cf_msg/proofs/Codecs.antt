@@ -159,8 +159,8 @@ fields_taken bytes h rest fits e =
     subst P both (
       record {
         joined = taken bytes v.0.1 p.0.1 r.0.1 t.0.1 b.0.1 n.0.1
-        (to_le_bytes w32 (cast_unsigned w32 v.0.0)) p.0.0.0 r.0.0.0 (to_le_bytes w32 t.0.0) (to_le_bytes w32 b.0.0) (to_le_bytes w32 n.0.0)
-        tv.0.joined tp.0.joined tr.0.joined tt.0.joined tb.0.joined tn.0.joined;
+            (to_le_bytes w32 (cast_unsigned w32 v.0.0)) p.0.0.0 r.0.0.0 (to_le_bytes w32 t.0.0) (to_le_bytes w32 b.0.0) (to_le_bytes w32 n.0.0)
+            tv.0.joined tp.0.joined tr.0.joined tt.0.joined tb.0.joined tn.0.joined;
         rest = tn.0.rest;
       },
       record { version = tv.1; previous = tp.1; root = tr.1; time = tt.1; bits = tb.1; nonce = tn.1 },

@@ -183,8 +183,8 @@ unfolding payload_of
 version_made v s t a f n g h r b0 b1 b2 b3 b4 b5 b6 b7 b8 rest e0 e1 e2 e3 e4 e5 e6 e7 e8 fits = record {
   command = refl;
   joined = joined_9 b0 b1 b2 b3 b4 b5 b6 b7 b8 rest
-  (to_le_bytes w32 (cast_unsigned w32 v)) (to_le_bytes w64 s) (to_le_bytes w64 (cast_unsigned w64 t)) (address_spelling a) (address_spelling f)
-  (to_le_bytes w64 n) (counted_bytes g) (to_le_bytes w32 (cast_unsigned w32 h)) (byte_or_none r) e0 e1 e2 e3 e4 e5 e6 e7 e8;
+      (to_le_bytes w32 (cast_unsigned w32 v)) (to_le_bytes w64 s) (to_le_bytes w64 (cast_unsigned w64 t)) (address_spelling a) (address_spelling f)
+      (to_le_bytes w64 n) (counted_bytes g) (to_le_bytes w32 (cast_unsigned w32 h)) (byte_or_none r) e0 e1 e2 e3 e4 e5 e6 e7 e8;
   fits = fits;
 }
 
@@ -268,7 +268,7 @@ getheaders_taken bytes m rest fits e =
     subst P both (record {
       command = refl;
       joined = joined_4 bytes v.0.1 n.0.1 l.0.1 s.0.1 (to_le_bytes w32 v.0.0) (compact (length l.0.0)) (flat_map hash_spelling l.0.0) s.0.0.0
-      tv.0.joined joined tl.0.joined ts.0.joined;
+          tv.0.joined joined tl.0.joined ts.0.joined;
       fits = (tv.1, few, tl.1, ts.1);
     })
 

@@ -17,7 +17,7 @@ use Rattle.cf_msg.specs.declared.msg.Malformed.{Malformed}
 use Rattle.cf_msg.specs.declared.msg.Msg.{Msg}
 use Rattle.cf_msg.specs.declared.msg.Msg.TheVariants.{Version, Verack, Ping, Pong, GetHeaders, Headers, Other}
 use Rattle.cf_msg.specs.Command.{version_command, verack_command, ping_command, pong_command, getheaders_command, headers_command, kind_of}
-use Rattle.cf_msg.specs.Message.{HasSpelling, Spells, command_of, frame_of, payload_of}
+use Rattle.cf_msg.specs.Message.{HasSpelling, IsWithinLimits, Spells, command_of, frame_of, payload_of}
 use Rattle.cf_msg.specs.Reading.{fields_at, to_end, whole_at, placed, message_of}
 use Rattle.cf_msg.proofs.Rows.{IsRead, version_again, version_taken, ping_again, ping_taken, pong_again, pong_taken, getheaders_again, getheaders_taken, headers_again, headers_taken}
 
@@ -89,6 +89,15 @@ frame_fits (Pong n) h few = record { command = refl; twelve = refl; payload = fe
 frame_fits (GetHeaders version locator stop) h few = record { command = refl; twelve = refl; payload = few }
 frame_fits (Headers headers) h few = record { command = refl; twelve = refl; payload = few }
 frame_fits (Other command payload) h few = record { command = h.1; twelve = h.0; payload = few }
+
+pub limits_of : (m : Msg) → HasSpelling m → IsWithinLimits m
+limits_of (Version version services time to from nonce agent height relay) h = h.6
+limits_of Verack h = tt
+limits_of (Ping n) h = tt
+limits_of (Pong n) h = tt
+limits_of (GetHeaders version locator stop) h = h.1
+limits_of (Headers headers) h = h.0
+limits_of (Other command payload) h = (h.1, h.2)
 
 pub carries : (f : Frame) (m : Msg) → Spells m f.command f.payload → message_of f ≡ Ok m
 carries f m s =

@@ -76,6 +76,16 @@ HasSpelling (GetHeaders version locator stop) = (version < 2 ^ 32) × (length lo
 HasSpelling (Headers headers) = (length headers ≤ 2000) × AllByRecursion IsHeader headers
 HasSpelling (Other command payload) = (length command ≡ 12) × (is_command command ≡ true) × (kind_of command ≡ OtherKind)
 
+-- Of these conditions those that the types of a message in memory leave open.
+abbrev pub IsWithinLimits : Msg → Type 0
+IsWithinLimits (Version version services time to from nonce agent height relay) = length agent ≤ 33554432
+IsWithinLimits Verack = Unit {0}
+IsWithinLimits (Ping n) = Unit {0}
+IsWithinLimits (Pong n) = Unit {0}
+IsWithinLimits (GetHeaders version locator stop) = length locator ≤ 101
+IsWithinLimits (Headers headers) = length headers ≤ 2000
+IsWithinLimits (Other command payload) = (is_command command ≡ true) × (kind_of command ≡ OtherKind)
+
 -- this command and this payload spell the message
 pub record Spells (m : Msg) (command payload : List ℕ) : Type 0 where
   pub fits : HasSpelling m

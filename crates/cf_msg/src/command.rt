@@ -3,10 +3,15 @@ ghost use Rattle.std.specs.Prelude.{◌≡◌};
 ghost use Rattle.cf_msg.specs.Command.{kind_of as kind_of_command, version_command, verack_command, ping_command, pong_command, getheaders_command, headers_command};
 
 pub(crate) const VERSION: [u8; 12] = *b"version\0\0\0\0\0";
+
 pub(crate) const VERACK: [u8; 12] = *b"verack\0\0\0\0\0\0";
+
 pub(crate) const PING: [u8; 12] = *b"ping\0\0\0\0\0\0\0\0";
+
 pub(crate) const PONG: [u8; 12] = *b"pong\0\0\0\0\0\0\0\0";
+
 pub(crate) const GETHEADERS: [u8; 12] = *b"getheaders\0\0";
+
 pub(crate) const HEADERS: [u8; 12] = *b"headers\0\0\0\0\0";
 
 /// What a command announces.

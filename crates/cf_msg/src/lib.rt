@@ -13,3 +13,6 @@ pub use lists::{Bytes, Hashes, Headers};
 pub use msg::{Cause, Malformed, Msg, NetAddress};
 pub use reader::read;
 pub use writer::write;
+
+#[cfg(test)]
+mod tests;

@@ -57,7 +57,10 @@ pub enum Msg {
     /// Headers in the order of their chain, at most 2000.
     Headers(Headers),
     /// A message that isn't looked into.
-    Other { command: [u8; 12], payload: Bytes },
+    Other {
+        command: [u8; 12],
+        payload: Bytes,
+    },
 }
 
 /// Why a field of a payload can't be read.

@@ -4,7 +4,7 @@ ghost use Rattle.std.specs.List.{flat_map};
 ghost use Rattle.std.specs.Int.{w32, w64, to_le_bytes};
 ghost use Rattle.cf_bytes.specs.Lists.{counted_bytes};
 ghost use Rattle.cf_frame.specs.Frame.{IsFrame};
-ghost use Rattle.cf_msg.specs.Message.{HasSpelling, address_spelling, byte_or_none, command_of as command_of_message, frame_of, hash_spelling, item_spelling, payload_of};
+ghost use Rattle.cf_msg.specs.Message.{IsWithinLimits, address_spelling, byte_or_none, command_of as command_of_message, frame_of, hash_spelling, item_spelling, payload_of};
 
 use crate::command::{GETHEADERS, HEADERS, PING, PONG, VERACK, VERSION};
 use crate::lists::{Bytes, Hashes, Headers};
@@ -14,10 +14,11 @@ use cf_bytes::{NoMemory, put_compact};
 use cf_frame::{Frame, Payload};
 use std::alloc::Global;
 
-/// The frame that carries a message. The message's counts are within its limits, an `Other` has another command
-/// than those that are looked into, and the payload has at most 4,000,000 bytes.
+/// The frame that carries a message. The message's counts are within its limits; an `Other` has a command of
+/// printable characters and then NULs, and none of those that are looked into; the payload has at most 4,000,000
+/// bytes.
 pub fn write(alloc: Global, msg: &Msg) -> Result<Frame, NoMemory>
-    requires spelled { HasSpelling msg.now }
+    requires limits { IsWithinLimits msg.now }
     requires fits { length (payload_of msg.now) ≤ 4000000 }
     ensures exact { IfOk result (λ f. f ≡ frame_of msg.now) }
     ensures frame { IfOk result (λ f. IsFrame f) }
@@ -61,7 +62,12 @@ fn put_payload(msg: &Msg, out: &mut Vec<u8>) -> Result<(), NoMemory>
             height,
             relay,
         } => {
-            put_sender(version.cast_unsigned(), *services, time.cast_unsigned(), out)?;
+            put_sender(
+                version.cast_unsigned(),
+                *services,
+                time.cast_unsigned(),
+                out,
+            )?;
             put_addresses(to, from, *nonce, out)?;
             put_agent(agent, height.cast_unsigned(), *relay, out)
         }
@@ -121,7 +127,12 @@ fn put_addresses(
 }
 
 #[tactic(auto, using(std::proofs::Common::append_assoc))]
-fn put_agent(agent: &Bytes, height: u32, relay: Option<u8>, out: &mut Vec<u8>) -> Result<(), NoMemory>
+fn put_agent(
+    agent: &Bytes,
+    height: u32,
+    relay: Option<u8>,
+    out: &mut Vec<u8>,
+) -> Result<(), NoMemory>
     ensures { OnOk result (out.new.items ≡ out.old.items ++ (counted_bytes agent.now ++ (to_le_bytes w32 height ++ byte_or_none relay))) }
 {
     put_counted(agent, out)?;

@@ -1,4 +1,4 @@
-use Rattle.cf_msg.proofs.Table.{again, carried, carries, frame_fits, place_within}
+use Rattle.cf_msg.proofs.Table.{again, carried, carries, frame_fits, limits_of, place_within}
 use Rattle.cf_msg.proofs.laws.laws_of_messages.Goals as goal
 
 pub returns-clause-spelled : goal.returns-clause-spelled
@@ -12,3 +12,6 @@ returns-clause-frame c = frame_fits
 
 pub returns-clause-place : goal.returns-clause-place
 returns-clause-place c = place_within
+
+pub returns-clause-limits : goal.returns-clause-limits
+returns-clause-limits c = limits_of
