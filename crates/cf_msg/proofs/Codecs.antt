@@ -1,0 +1,231 @@
+-- Each field and each row of the table: what is spelled is read again, and what is read was spelled so.
+use Rattle.std.proofs.Common.{◌≡◌, ℕ, ℤ, FitsSigned, zero, suc, ◌<◌, ◌≤◌, ◌^◌, List, [], ◌∷◌, ◌++◌, nat_lt, true, Result, Ok, Err, refl, sym, ap, ◌∙◌, append_assoc, arith, inl, inr, lt-ltb, le-ltb, subst}
+use Rattle.std.proofs.lemmas.List.{places}
+use Rattle.std.proofs.lemmas.Bool.{cases_lt}
+use Rattle.std.proofs.lemmas.Nat.{be_bytes_2, from_be_bytes-to_be_bytes_2}
+use Rattle.std.proofs.lemmas.Int.{of_z-to_z}
+use Rattle.std.proofs.Math.Facts.{sfits_to_z}
+use Rattle.std.proofs.Math.Dec.{eqb-suc-zero}
+use Rattle.std.specs.Int.{Width, w16, w32, w64, to_le_bytes, to_be_bytes, from_be_bytes, cast_signed, cast_unsigned}
+use Rattle.cf_bytes.specs.declared.cut.CutFault.{CutFault}
+use Rattle.cf_bytes.specs.declared.hash.Hash32.{Hash32}
+use Rattle.cf_bytes.specs.Cut.{Read, bytes_at, number_at, int_at}
+use Rattle.cf_bytes.specs.Compact.{compact, compact_at}
+use Rattle.cf_bytes.proofs.Codecs.{IsBytes, Takes, Codec, bind_ok, bind_is, value_of, int_number, bytes_taken, bytes_again, u64_codec, u32_taken, u64_taken, i32_again, i64_again, compact_codec}
+use Rattle.cf_block.specs.declared.header.Header.{Header}
+use Rattle.cf_block.specs.declared.fault.BlockFault.{BlockFault}
+use Rattle.cf_block.specs.Header.{IsHash, IsHeader, hash_at, header_at, header_fields_at, header_spelling, whole_header}
+use Rattle.cf_block.proofs.HeaderLaws.{hash_again, header_again}
+use Rattle.cf_block.proofs.Joins.{taken}
+use Rattle.cf_msg.specs.declared.msg.NetAddress.{NetAddress}
+use Rattle.cf_msg.specs.declared.msg.Cause.{Cause}
+use Rattle.cf_msg.specs.declared.msg.Cause.TheVariants.{NotZero}
+use Rattle.cf_msg.specs.Message.{IsAddress, address_spelling, hash_spelling, item_spelling}
+use Rattle.cf_msg.specs.Reading.{of_cut, port_at, address_at, limited, count_at, hash_item_at, of_header, past_zero, header_item_at}
+
+pub err_ok : {X E : Type 0} (e : E) (x : X) (r : Result X E) → r ≡ Err e → r ≡ Ok x → ⊥
+err_ok e x r a b = cc
+
+-- a reader whose fault is put into a cause
+
+of_cut_ok : {X : Type 0} (r : Read X CutFault) (x : X × List ℕ) → of_cut r ≡ Ok x → r ≡ Ok x
+of_cut_ok {X} (Ok y) x h = let made : Read X Cause = Ok y in ap Ok (value_of y x made refl h)
+of_cut_ok (Err e) x h = cc
+
+pub of_cut_codec : {X : Type 0} (item : List ℕ → Read X CutFault) (spell : X → List ℕ) (Fits : X → Type 0) → Codec item spell Fits → Codec (λ bytes. of_cut (item bytes)) spell Fits
+of_cut_codec item spell Fits codec = record {
+  again = λ x more h. ap of_cut (codec.again x more h);
+  taken = λ bytes x rest fits h. codec.taken bytes x rest fits (of_cut_ok (item bytes) (x, rest) h);
+}
+
+-- signed numbers
+
+int_taken : (w : Width) (limit : ℕ) → ((bytes : List ℕ) (n : ℕ) (rest : List ℕ) → IsBytes bytes → number_at w bytes ≡ Ok (n, rest) → Takes bytes (to_le_bytes w n) rest × (n < limit))
+    → ((n : ℕ) → n < limit → cast_unsigned w (cast_signed w n) ≡ n) → ((n : ℕ) → n < limit → FitsSigned w (cast_signed w n))
+    → (bytes : List ℕ) (z : ℤ) (rest : List ℕ) → IsBytes bytes → int_at w bytes ≡ Ok (z, rest) → Takes bytes (to_le_bytes w (cast_unsigned w z)) rest × FitsSigned w z
+int_taken w limit numbers back ranged bytes z rest fits h =
+    let first = bind_ok (number_at w bytes) (λ x. Ok (cast_signed w x.0, x.1)) (z, rest) (sym (int_number w bytes) ∙ h) in
+    let n = first.0 in
+    let t = numbers bytes n.0 n.1 fits first.1 in
+    let made : Read ℤ CutFault = Ok (cast_signed w n.0, n.1) in
+    let both = value_of (cast_signed w n.0, n.1) (z, rest) made refl first.2 in
+    let P : ℤ × List ℕ → Type 0 = λ p. Takes bytes (to_le_bytes w (cast_unsigned w p.0)) p.1 × FitsSigned w p.0 in
+    subst P both (
+      record { joined = t.0.joined ∙ ap (λ m. to_le_bytes w m ++ n.1) (sym (back n.0 t.1)); rest = t.0.rest },
+      ranged n.0 t.1,
+    )
+
+pub i32_codec : Codec (int_at w32) (λ z. to_le_bytes w32 (cast_unsigned w32 z)) (λ z. FitsSigned w32 z)
+i32_codec = record { again = λ z more h. i32_again z more h; taken = λ bytes z rest fits h. int_taken w32 (2 ^ 32) u32_taken (of_z-to_z w32) (λ n small. sfits_to_z (record { fits = small })) bytes z rest fits h }
+
+pub i64_codec : Codec (int_at w64) (λ z. to_le_bytes w64 (cast_unsigned w64 z)) (λ z. FitsSigned w64 z)
+i64_codec = record { again = λ z more h. i64_again z more h; taken = λ bytes z rest fits h. int_taken w64 (2 ^ 64) u64_taken (of_z-to_z w64) (λ n small. sfits_to_z (record { fits = small })) bytes z rest fits h }
+
+regroup_3 : (a b c more : List ℕ) → (a ++ (b ++ c)) ++ more ≡ a ++ (b ++ (c ++ more))
+regroup_3 a b c more = simp append_assoc
+
+-- addresses
+
+port_again : (n : ℕ) (more : List ℕ) → n < 2 ^ 16 → port_at (to_be_bytes w16 n ++ more) ≡ Ok (n, more)
+port_again n more small =
+    let text = to_be_bytes w16 n ++ more in
+    bind_is (bytes_at 2 text) (to_be_bytes w16 n, more) (λ x. Ok (from_be_bytes w16 x.0, x.1)) (bytes_again 2 (to_be_bytes w16 n) more refl)
+    ∙ ap (λ (v : ℕ). Ok (v, more)) (from_be_bytes-to_be_bytes_2 n small)
+
+small_port : (bytes : List ℕ) → IsBytes bytes → from_be_bytes w16 bytes < 2 ^ 16
+small_port bytes fits = omega (arith, fits 0, fits 1)
+
+port_taken : (bytes : List ℕ) (n : ℕ) (rest : List ℕ) → IsBytes bytes → port_at bytes ≡ Ok (n, rest) → Takes bytes (to_be_bytes w16 n) rest × (n < 2 ^ 16)
+port_taken bytes n rest fits h =
+    let first = bind_ok (bytes_at 2 bytes) (λ x. Ok (from_be_bytes w16 x.0, x.1)) (n, rest) h in
+    let x = first.0 in
+    let t = bytes_taken 2 bytes x.0 x.1 fits first.1 in
+    let made : Read ℕ CutFault = Ok (from_be_bytes w16 x.0, x.1) in
+    let both = value_of (from_be_bytes w16 x.0, x.1) (n, rest) made refl first.2 in
+    let known : IsBytes x.0 = λ i. grind (arith, places, fits i, t.0.joined) in
+    let spelled : to_be_bytes w16 (from_be_bytes w16 x.0) ≡ x.0 = be_bytes_2 x.0 (from_be_bytes w16 x.0) t.1 known refl in
+    let P : ℕ × List ℕ → Type 0 = λ p. Takes bytes (to_be_bytes w16 p.0) p.1 × (p.0 < 2 ^ 16) in
+    subst P both (record { joined = t.0.joined ∙ ap (λ s. s ++ x.1) (sym spelled); rest = t.0.rest }, small_port x.0 known)
+
+address_again : (a : NetAddress) (more : List ℕ) → IsAddress a → address_at (address_spelling a ++ more) ≡ Ok (a, more)
+unfolding address_at
+address_again a more h =
+    let after_ip = to_be_bytes w16 a.port ++ more in
+    let after_services = a.ip ++ after_ip in
+    let grouped : address_spelling a ++ more ≡ to_le_bytes w64 a.services ++ after_services = regroup_3 (to_le_bytes w64 a.services) a.ip (to_be_bytes w16 a.port) more in
+    ap address_at grouped
+    ∙ bind_is (number_at w64 (to_le_bytes w64 a.services ++ after_services)) (a.services, after_services) _ (u64_codec.again a.services after_services h.services)
+    ∙ bind_is (bytes_at 16 after_services) (a.ip, after_ip) _ (bytes_again 16 a.ip after_ip h.ip)
+    ∙ bind_is (port_at after_ip) (a.port, more) _ (port_again a.port more h.port)
+
+address_taken : (bytes : List ℕ) (a : NetAddress) (rest : List ℕ) → IsBytes bytes → address_at bytes ≡ Ok (a, rest) → Takes bytes (address_spelling a) rest × IsAddress a
+unfolding address_at
+address_taken bytes a rest fits h =
+    let s = bind_ok (number_at w64 bytes) _ _ h in
+    let i = bind_ok (bytes_at 16 s.0.1) _ _ s.2 in
+    let p = bind_ok (port_at i.0.1) _ _ i.2 in
+    let ts = u64_taken bytes s.0.0 s.0.1 fits s.1 in
+    let ti = bytes_taken 16 s.0.1 i.0.0 i.0.1 ts.0.rest i.1 in
+    let tp = port_taken i.0.1 p.0.0 p.0.1 ti.0.rest p.1 in
+    let read : NetAddress = record { services = s.0.0; ip = i.0.0; port = p.0.0 } in
+    let both = value_of (read, p.0.1) (a, rest) _ refl p.2 in
+    let P : NetAddress × List ℕ → Type 0 = λ q. Takes bytes (address_spelling q.0) q.1 × IsAddress q.0 in
+    subst P both (
+      record {
+        joined = ts.0.joined ∙ ap (λ t. to_le_bytes w64 s.0.0 ++ t) (ti.0.joined ∙ ap (λ t. i.0.0 ++ t) tp.0.joined) ∙ sym (regroup_3 (to_le_bytes w64 s.0.0) i.0.0 (to_be_bytes w16 p.0.0) p.0.1);
+        rest = tp.0.rest;
+      },
+      record { services = ts.1; ip = ti.1; port = tp.1 },
+    )
+
+pub address_codec : Codec address_at address_spelling IsAddress
+address_codec = record { again = address_again; taken = address_taken }
+
+-- hashes and headers
+
+hash_taken : (bytes : List ℕ) (x : Hash32) (rest : List ℕ) → IsBytes bytes → hash_at bytes ≡ Ok (x, rest) → Takes bytes x.0 rest × IsHash x
+hash_taken bytes x rest fits h =
+    let first = bind_ok (bytes_at 32 bytes) _ _ h in
+    let t = bytes_taken 32 bytes first.0.0 first.0.1 fits first.1 in
+    let made : Hash32 = record { 0 = first.0.0 } in
+    let both = value_of (made, first.0.1) (x, rest) _ refl first.2 in
+    let P : Hash32 × List ℕ → Type 0 = λ p. Takes bytes p.0.0 p.1 × IsHash p.0 in
+    subst P both t
+
+hash_codec : Codec hash_at hash_spelling IsHash
+hash_codec = record { again = hash_again; taken = hash_taken }
+
+pub hash_item_codec : Codec hash_item_at hash_spelling IsHash
+hash_item_codec = of_cut_codec hash_at hash_spelling IsHash hash_codec
+
+fields_taken : (bytes : List ℕ) (h : Header) (rest : List ℕ) → IsBytes bytes → header_fields_at bytes ≡ Ok (h, rest) → Takes bytes (header_spelling h) rest × IsHeader h
+unfolding header_fields_at header_spelling
+fields_taken bytes h rest fits e =
+    let v = bind_ok (int_at w32 bytes) _ _ e in
+    let p = bind_ok (hash_at v.0.1) _ _ v.2 in
+    let r = bind_ok (hash_at p.0.1) _ _ p.2 in
+    let t = bind_ok (number_at w32 r.0.1) _ _ r.2 in
+    let b = bind_ok (number_at w32 t.0.1) _ _ t.2 in
+    let n = bind_ok (number_at w32 b.0.1) _ _ b.2 in
+    let tv = i32_codec.taken bytes v.0.0 v.0.1 fits v.1 in
+    let tp = hash_taken v.0.1 p.0.0 p.0.1 tv.0.rest p.1 in
+    let tr = hash_taken p.0.1 r.0.0 r.0.1 tp.0.rest r.1 in
+    let tt = u32_taken r.0.1 t.0.0 t.0.1 tr.0.rest t.1 in
+    let tb = u32_taken t.0.1 b.0.0 b.0.1 tt.0.rest b.1 in
+    let tn = u32_taken b.0.1 n.0.0 n.0.1 tb.0.rest n.1 in
+    let read : Header = record { version = v.0.0; previous = p.0.0; root = r.0.0; time = t.0.0; bits = b.0.0; nonce = n.0.0 } in
+    let both = value_of (read, n.0.1) (h, rest) _ refl n.2 in
+    let P : Header × List ℕ → Type 0 = λ q. Takes bytes (header_spelling q.0) q.1 × IsHeader q.0 in
+    subst P both (
+      record {
+        joined = taken bytes v.0.1 p.0.1 r.0.1 t.0.1 b.0.1 n.0.1
+            (to_le_bytes w32 (cast_unsigned w32 v.0.0)) p.0.0.0 r.0.0.0 (to_le_bytes w32 t.0.0) (to_le_bytes w32 b.0.0) (to_le_bytes w32 n.0.0)
+            tv.0.joined tp.0.joined tr.0.joined tt.0.joined tb.0.joined tn.0.joined;
+        rest = tn.0.rest;
+      },
+      record { version = tv.1; previous = tp.1; root = tr.1; time = tt.1; bits = tb.1; nonce = tn.1 },
+    )
+
+whole_ok : (bytes : List ℕ) (r : Read Header CutFault) (x : Header × List ℕ) → whole_header bytes r ≡ Ok x → r ≡ Ok x
+whole_ok bytes (Ok y) x h = let made : Read Header BlockFault = Ok y in ap Ok (value_of y x made refl h)
+whole_ok bytes (Err e) x h = cc
+
+of_header_ok : (r : Read Header BlockFault) (x : Header × List ℕ) → of_header r ≡ Ok x → r ≡ Ok x
+of_header_ok (Ok y) x h = let made : Read Header Cause = Ok y in ap Ok (value_of y x made refl h)
+of_header_ok (Err e) x h = cc
+
+header_taken : (bytes : List ℕ) (h : Header) (rest : List ℕ) → IsBytes bytes → header_at bytes ≡ Ok (h, rest) → Takes bytes (header_spelling h) rest × IsHeader h
+unfolding header_at
+header_taken bytes h rest fits e = fields_taken bytes h rest fits (whole_ok bytes (header_fields_at bytes) (h, rest) e)
+
+item_again : (h : Header) (more : List ℕ) → IsHeader h → header_item_at (item_spelling h ++ more) ≡ Ok (h, more)
+unfolding header_item_at
+item_again h more fits =
+    let after = 0 ∷ more in
+    let grouped : item_spelling h ++ more ≡ header_spelling h ++ after = append_assoc (header_spelling h) (0 ∷ []) more in
+    ap header_item_at grouped ∙ bind_is (of_header (header_at (header_spelling h ++ after))) (h, after) past_zero (ap of_header (header_again h after fits))
+
+zero_taken : (bytes : List ℕ) (h x : Header) (rest after : List ℕ) → Takes bytes (header_spelling h) after × IsHeader h → past_zero (h, after) ≡ Ok (x, rest) → Takes bytes (item_spelling x) rest × IsHeader x
+zero_taken bytes h x rest [] t e = cc
+zero_taken bytes h x rest (zero ∷ after) t e =
+    let made : Read Header Cause = Ok (h, after) in
+    let both = value_of (h, after) (x, rest) made refl e in
+    let P : Header × List ℕ → Type 0 = λ q. Takes bytes (item_spelling q.0) q.1 × IsHeader q.0 in
+    subst P both (record { joined = t.0.joined ∙ sym (append_assoc (header_spelling h) (0 ∷ []) after); rest = λ i. t.0.rest (suc i) }, t.1)
+zero_taken bytes h x rest (suc b ∷ after) t e = absurd (err_ok (NotZero, suc b ∷ after) (x, rest) (past_zero (h, suc b ∷ after)) (rw (eqb-suc-zero b) refl) e)
+
+item_taken : (bytes : List ℕ) (h : Header) (rest : List ℕ) → IsBytes bytes → header_item_at bytes ≡ Ok (h, rest) → Takes bytes (item_spelling h) rest × IsHeader h
+unfolding header_item_at
+item_taken bytes h rest fits e =
+    let first = bind_ok (of_header (header_at bytes)) past_zero (h, rest) e in
+    let x = first.0 in
+    zero_taken bytes x.0 h rest x.1 (header_taken bytes x.0 x.1 fits (of_header_ok (header_at bytes) x first.1)) first.2
+
+pub item_codec : Codec header_item_at item_spelling IsHeader
+item_codec = record { again = item_again; taken = item_taken }
+
+-- counts
+
+pub count_again : (limit n : ℕ) (more : List ℕ) → n ≤ limit → limit ≤ 33554432 → count_at limit (compact n ++ more) ≡ Ok (n, more)
+count_again limit n more few small =
+    let text = compact n ++ more in
+    bind_is (of_cut (compact_at text)) (n, more) (limited limit text) (ap of_cut (compact_codec.again n more (omega arith)))
+    ∙ rw (le-ltb limit n few) refl
+
+limited_taken : (limit n m : ℕ) (bytes after rest : List ℕ) → limited limit bytes (m, after) ≡ Ok (n, rest) → Takes bytes (compact m) after → Takes bytes (compact n) rest × (n ≤ limit)
+limited_taken limit n m bytes after rest h t = elim (cases_lt limit m) [
+  | inl more ↦ absurd (let many = lt-ltb limit m more in over limit n m bytes after rest h many)
+  | inr few ↦
+      let kept : limited limit bytes (m, after) ≡ Ok (m, after) = rw (le-ltb limit m few) refl in
+      let both = value_of (m, after) (n, rest) (limited limit bytes (m, after)) kept h in
+      let P : ℕ × List ℕ → Type 0 = λ p. Takes bytes (compact p.0) p.1 × (p.0 ≤ limit) in
+      subst P both (t, few)
+] where
+  over : (limit n m : ℕ) (bytes after rest : List ℕ) → limited limit bytes (m, after) ≡ Ok (n, rest) → nat_lt limit m ≡ true → ⊥
+  over limit n m bytes after rest h many = let g = rw many at h in cc
+
+pub count_taken : (limit : ℕ) (bytes : List ℕ) (n : ℕ) (rest : List ℕ) → IsBytes bytes → count_at limit bytes ≡ Ok (n, rest) → Takes bytes (compact n) rest × (n ≤ limit)
+count_taken limit bytes n rest fits h =
+    let first = bind_ok (of_cut (compact_at bytes)) (limited limit bytes) (n, rest) h in
+    let x = first.0 in
+    limited_taken limit n x.0 bytes x.1 rest first.2 (compact_codec.taken bytes x.0 x.1 fits (of_cut_ok (compact_at bytes) x first.1)).0

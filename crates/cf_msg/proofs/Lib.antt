@@ -1,0 +1,5 @@
+pub mod Codecs
+pub mod Rows
+pub mod Sizes
+pub mod Table
+pub mod Writes

@@ -1,0 +1,3 @@
+pub mod Command
+pub mod Message
+pub mod Reading

@@ -1,0 +1,97 @@
+-- How messages are spelled: the command and the payload of each (Bitcoin developer reference, "P2P Network").
+use Rattle.std.specs.Prelude.{◌≡◌, ℕ, ◌<◌, ◌≤◌, ◌^◌, true, List, [], ◌∷◌, ◌++◌, length, Option, Some, None, FitsSigned}
+use Rattle.std.specs.Int.{w16, w32, w64, to_le_bytes, to_be_bytes, cast_unsigned}
+use Rattle.std.specs.List.{flat_map, AllByRecursion}
+use Rattle.cf_bytes.specs.Compact.{compact}
+use Rattle.cf_bytes.specs.Lists.{counted_bytes}
+use Rattle.cf_bytes.specs.declared.hash.Hash32.{Hash32}
+use Rattle.cf_block.specs.declared.header.Header.{Header}
+use Rattle.cf_block.specs.Header.{IsHash, IsHeader, header_spelling}
+use Rattle.cf_frame.specs.declared.frame.Frame.{Frame}
+use Rattle.cf_frame.specs.Frame.{is_command}
+use Rattle.cf_msg.specs.declared.command.Kind.TheVariants.{Other as OtherKind}
+use Rattle.cf_msg.specs.declared.msg.NetAddress.{NetAddress}
+use Rattle.cf_msg.specs.declared.msg.Msg.{Msg}
+use Rattle.cf_msg.specs.declared.msg.Msg.TheVariants.{Version, Verack, Ping, Pong, GetHeaders, Headers, Other}
+use Rattle.cf_msg.specs.Command.{version_command, verack_command, ping_command, pong_command, getheaders_command, headers_command, kind_of}
+
+-- a network address: services, IP address, and the port with its high byte first
+abbrev pub address_spelling : NetAddress → List ℕ
+address_spelling a = to_le_bytes w64 a.services ++ (a.ip ++ to_be_bytes w16 a.port)
+
+pub record IsAddress (a : NetAddress) : Type 0 where
+  pub services : a.services < 2 ^ 64
+  pub ip : length a.ip ≡ 16
+  pub port : a.port < 2 ^ 16
+
+-- a byte, or nothing
+abbrev pub byte_or_none : Option ℕ → List ℕ
+byte_or_none None = []
+byte_or_none (Some b) = b ∷ []
+
+abbrev pub IsByteOrNone : Option ℕ → Type 0
+IsByteOrNone None = Unit {0}
+IsByteOrNone (Some b) = b < 256
+
+abbrev pub hash_spelling : Hash32 → List ℕ
+hash_spelling h = h.0
+
+-- a header in a list of headers is followed by a zero, the count of its transactions
+abbrev pub item_spelling : Header → List ℕ
+item_spelling h = header_spelling h ++ 0 ∷ []
+
+-- the table: each message's command
+abbrev pub command_of : Msg → List ℕ
+command_of (Version version services time to from nonce agent height relay) = version_command
+command_of Verack = verack_command
+command_of (Ping n) = ping_command
+command_of (Pong n) = pong_command
+command_of (GetHeaders version locator stop) = getheaders_command
+command_of (Headers headers) = headers_command
+command_of (Other command payload) = command
+
+-- and its payload
+unfoldable pub payload_of : Msg → List ℕ
+payload_of (Version version services time to from nonce agent height relay) =
+    to_le_bytes w32 (cast_unsigned w32 version) ++ (to_le_bytes w64 services ++ (to_le_bytes w64 (cast_unsigned w64 time)
+    ++ (address_spelling to ++ (address_spelling from ++ (to_le_bytes w64 nonce
+    ++ (counted_bytes agent ++ (to_le_bytes w32 (cast_unsigned w32 height) ++ byte_or_none relay)))))))
+payload_of Verack = []
+payload_of (Ping n) = to_le_bytes w64 n
+payload_of (Pong n) = to_le_bytes w64 n
+payload_of (GetHeaders version locator stop) = to_le_bytes w32 version ++ (compact (length locator) ++ (flat_map hash_spelling locator ++ stop.0))
+payload_of (Headers headers) = compact (length headers) ++ flat_map item_spelling headers
+payload_of (Other command payload) = payload
+
+-- Which messages have a spelling: numbers are in their types' ranges, counts within the limits, and a message that
+-- isn't looked into has another command than those that are.
+abbrev pub HasSpelling : Msg → Type 0
+HasSpelling (Version version services time to from nonce agent height relay) =
+    FitsSigned w32 version × (services < 2 ^ 64) × FitsSigned w64 time × IsAddress to × IsAddress from × (nonce < 2 ^ 64)
+    × (length agent ≤ 33554432) × FitsSigned w32 height × IsByteOrNone relay
+HasSpelling Verack = Unit {0}
+HasSpelling (Ping n) = n < 2 ^ 64
+HasSpelling (Pong n) = n < 2 ^ 64
+HasSpelling (GetHeaders version locator stop) = (version < 2 ^ 32) × (length locator ≤ 101) × AllByRecursion IsHash locator × IsHash stop
+HasSpelling (Headers headers) = (length headers ≤ 2000) × AllByRecursion IsHeader headers
+HasSpelling (Other command payload) = (length command ≡ 12) × (is_command command ≡ true) × (kind_of command ≡ OtherKind)
+
+-- Of these conditions those that the types of a message in memory leave open.
+abbrev pub IsWithinLimits : Msg → Type 0
+IsWithinLimits (Version version services time to from nonce agent height relay) = length agent ≤ 33554432
+IsWithinLimits Verack = Unit {0}
+IsWithinLimits (Ping n) = Unit {0}
+IsWithinLimits (Pong n) = Unit {0}
+IsWithinLimits (GetHeaders version locator stop) = length locator ≤ 101
+IsWithinLimits (Headers headers) = length headers ≤ 2000
+IsWithinLimits (Other command payload) = (is_command command ≡ true) × (kind_of command ≡ OtherKind)
+
+-- this command and this payload spell the message
+pub record Spells (m : Msg) (command payload : List ℕ) : Type 0 where
+  pub fits : HasSpelling m
+  pub command_is : command ≡ command_of m
+  pub payload_is : payload ≡ payload_of m
+
+-- the frame that carries a message
+abbrev pub frame_of : Msg → Frame
+frame_of m = record { command = command_of m; payload = payload_of m }

@@ -1,0 +1,132 @@
+-- Reading messages, field by field.
+use Rattle.std.specs.Prelude.{◌≡◌, ℕ, ◌-◌, ◌==◌, nat_lt, if◌then◌else◌, List, [], ◌∷◌, length, Option, Some, None, Result, Ok, Err}
+use Rattle.std.specs.Int.{w16, w32, w64, from_be_bytes}
+use Rattle.cf_bytes.specs.Cut.{Read, bytes_at, number_at, int_at, ◌>>=◌}
+use Rattle.cf_bytes.specs.Compact.{compact_at}
+use Rattle.cf_bytes.specs.Lists.{list_at, counted_bytes_at}
+use Rattle.cf_bytes.specs.declared.cut.CutFault.{CutFault}
+use Rattle.cf_bytes.specs.declared.cut.CutFault.TheVariants.{Short}
+use Rattle.cf_bytes.specs.declared.hash.Hash32.{Hash32}
+use Rattle.cf_bytes.specs.declared.memory.Refused.{Refused}
+use Rattle.cf_bytes.specs.declared.memory.Refused.TheVariants.{No, NoMemory}
+use Rattle.cf_block.specs.declared.fault.BlockFault.{BlockFault}
+use Rattle.cf_block.specs.declared.header.Header.{Header}
+use Rattle.cf_block.specs.Header.{hash_at, header_at}
+use Rattle.cf_frame.specs.declared.frame.Frame.{Frame}
+use Rattle.cf_msg.specs.declared.command.Kind.{Kind}
+use Rattle.cf_msg.specs.declared.command.Kind.TheVariants.{Version as VersionKind, Verack as VerackKind, Ping as PingKind, Pong as PongKind, GetHeaders as GetHeadersKind, Headers as HeadersKind, Other as OtherKind}
+use Rattle.cf_msg.specs.declared.msg.NetAddress.{NetAddress}
+use Rattle.cf_msg.specs.declared.msg.Msg.{Msg}
+use Rattle.cf_msg.specs.declared.msg.Msg.TheVariants.{Version, Verack, Ping, Pong, GetHeaders, Headers, Other}
+use Rattle.cf_msg.specs.declared.msg.Cause.{Cause}
+use Rattle.cf_msg.specs.declared.msg.Cause.TheVariants.{Cut, TooMany, NotZero, Rest}
+use Rattle.cf_msg.specs.declared.msg.Malformed.{Malformed}
+use Rattle.cf_msg.specs.Command.{kind_of}
+
+-- a field of the base, its fault as a cause
+abbrev pub of_cut : {X : Type 0} → Read X CutFault → Read X Cause
+of_cut (Ok x) = Ok x
+of_cut (Err e) = Err (Cut e.0, e.1)
+
+-- a port, the high byte first
+abbrev pub port_at : List ℕ → Read ℕ CutFault
+port_at bytes = bytes_at 2 bytes >>= λ x. Ok (from_be_bytes w16 x.0, x.1)
+
+unfoldable pub address_at : List ℕ → Read NetAddress CutFault
+address_at bytes = do
+  services ← number_at w64 bytes
+  ip ← bytes_at 16 services.1
+  port ← port_at ip.1
+  Ok (record { services = services.0; ip = ip.0; port = port.0 }, port.1)
+
+-- a byte, where one is left
+abbrev pub byte_or_none_at : List ℕ → Read (Option ℕ) Cause
+byte_or_none_at [] = Ok (None, [])
+byte_or_none_at (b ∷ bytes) = Ok (Some b, bytes)
+
+unfoldable pub version_at : List ℕ → Read Msg Cause
+version_at bytes = do
+  version ← of_cut (int_at w32 bytes)
+  services ← of_cut (number_at w64 version.1)
+  time ← of_cut (int_at w64 services.1)
+  to ← of_cut (address_at time.1)
+  from ← of_cut (address_at to.1)
+  nonce ← of_cut (number_at w64 from.1)
+  agent ← of_cut (counted_bytes_at nonce.1)
+  height ← of_cut (int_at w32 agent.1)
+  relay ← byte_or_none_at height.1
+  Ok (Version version.0 services.0 time.0 to.0 from.0 nonce.0 agent.0 height.0 relay.0, relay.1)
+
+unfoldable pub ping_at : List ℕ → Read Msg Cause
+ping_at bytes = of_cut (number_at w64 bytes) >>= λ n. Ok (Ping n.0, n.1)
+
+unfoldable pub pong_at : List ℕ → Read Msg Cause
+pong_at bytes = of_cut (number_at w64 bytes) >>= λ n. Ok (Pong n.0, n.1)
+
+-- a count that is at most the limit, refused where it begins
+abbrev pub limited : ℕ → List ℕ → ℕ × List ℕ → Read ℕ Cause
+limited limit bytes x = if nat_lt limit x.0 then Err (TooMany, bytes) else Ok x
+
+abbrev pub count_at : ℕ → List ℕ → Read ℕ Cause
+count_at limit bytes = of_cut (compact_at bytes) >>= limited limit bytes
+
+abbrev pub hash_item_at : List ℕ → Read Hash32 Cause
+hash_item_at bytes = of_cut (hash_at bytes)
+
+unfoldable pub getheaders_at : List ℕ → Read Msg Cause
+getheaders_at bytes = do
+  version ← of_cut (number_at w32 bytes)
+  count ← count_at 101 version.1
+  locator ← list_at hash_item_at count.0 count.1
+  stop ← hash_item_at locator.1
+  Ok (GetHeaders version.0 locator.0 stop.0, stop.1)
+
+-- a header is refused only where it is cut off
+abbrev pub of_header : Read Header BlockFault → Read Header Cause
+of_header (Ok x) = Ok x
+of_header (Err e) = Err (Cut Short, e.1)
+
+-- the zero after a header
+abbrev pub past_zero : Header × List ℕ → Read Header Cause
+past_zero (h, []) = Err (Cut Short, [])
+past_zero (h, b ∷ bytes) = if b == 0 then Ok (h, bytes) else Err (NotZero, b ∷ bytes)
+
+unfoldable pub header_item_at : List ℕ → Read Header Cause
+header_item_at bytes = of_header (header_at bytes) >>= past_zero
+
+unfoldable pub headers_at : List ℕ → Read Msg Cause
+headers_at bytes = do
+  count ← count_at 2000 bytes
+  headers ← list_at header_item_at count.0 count.1
+  Ok (Headers headers.0, headers.1)
+
+-- the table: what each command's payload holds
+unfoldable pub fields_at : Kind → List ℕ → List ℕ → Read Msg Cause
+fields_at VersionKind command bytes = version_at bytes
+fields_at VerackKind command bytes = Ok (Verack, bytes)
+fields_at PingKind command bytes = ping_at bytes
+fields_at PongKind command bytes = pong_at bytes
+fields_at GetHeadersKind command bytes = getheaders_at bytes
+fields_at HeadersKind command bytes = headers_at bytes
+fields_at OtherKind command bytes = Ok (Other command bytes, [])
+
+-- no byte is left
+abbrev pub to_end : Msg × List ℕ → Read Msg Cause
+to_end x = if length x.1 == 0 then Ok x else Err (Rest, x.1)
+
+unfoldable pub whole_at : List ℕ → List ℕ → Read Msg Cause
+whole_at command bytes = fields_at (kind_of command) command bytes >>= to_end
+
+abbrev pub placed : Frame → Read Msg Cause → Result Msg Malformed
+placed f (Ok x) = Ok x.0
+placed f (Err e) = Err (record { command = f.command; place = length f.payload - length e.1; cause = e.0 })
+
+-- the message that a frame carries, or its first field that can't be read
+unfoldable pub message_of : Frame → Result Msg Malformed
+message_of f = placed f (whole_at f.command f.payload)
+
+-- what a call that takes memory answered
+abbrev pub Answers : {X E : Type 0} → Result X E → Result X (Refused E) → Type 0
+Answers answer (Ok x) = answer ≡ Ok x
+Answers answer (Err (No e)) = answer ≡ Err e
+Answers answer (Err NoMemory) = Unit {0}

@@ -1,0 +1,53 @@
+//! The commands of the messages that are looked into.
+ghost use Rattle.std.specs.Prelude.{◌≡◌};
+ghost use Rattle.cf_msg.specs.Command.{kind_of as kind_of_command, version_command, verack_command, ping_command, pong_command, getheaders_command, headers_command};
+
+pub(crate) const VERSION: [u8; 12] = *b"version\0\0\0\0\0";
+
+pub(crate) const VERACK: [u8; 12] = *b"verack\0\0\0\0\0\0";
+
+pub(crate) const PING: [u8; 12] = *b"ping\0\0\0\0\0\0\0\0";
+
+pub(crate) const PONG: [u8; 12] = *b"pong\0\0\0\0\0\0\0\0";
+
+pub(crate) const GETHEADERS: [u8; 12] = *b"getheaders\0\0";
+
+pub(crate) const HEADERS: [u8; 12] = *b"headers\0\0\0\0\0";
+
+/// What a command announces.
+#[derive(Clone, Copy, Debug, PartialEq, Eq)]
+pub(crate) enum Kind {
+    Version,
+    Verack,
+    Ping,
+    Pong,
+    GetHeaders,
+    Headers,
+    Other,
+}
+
+/// What this command announces.
+#[tactic(auto, unfolding(crate::specs::Command::kind_of))]
+pub(crate) fn kind_of(command: &[u8; 12]) -> Kind
+    ensures { result ≡ kind_of_command command.now }
+{
+    if *command == VERSION {
+        return Kind::Version;
+    }
+    if *command == VERACK {
+        return Kind::Verack;
+    }
+    if *command == PING {
+        return Kind::Ping;
+    }
+    if *command == PONG {
+        return Kind::Pong;
+    }
+    if *command == GETHEADERS {
+        return Kind::GetHeaders;
+    }
+    if *command == HEADERS {
+        return Kind::Headers;
+    }
+    Kind::Other
+}

@@ -1,0 +1,116 @@
+//! Messages, and why a payload is none.
+ghost use Rattle.std.specs.Prelude.{◌≡◌};
+ghost use Rattle.cf_bytes.specs.declared.memory.Refused.TheVariants.{No};
+ghost use Rattle.cf_msg.specs.declared.msg.Cause.TheVariants.{Cut as OfCut};
+
+use crate::lists::{Bytes, Hashes, Headers};
+use cf_bytes::{CutFault, Hash32, Refused};
+use thiserror::Error;
+
+/// A network address as `version` has it: 26 bytes.
+#[derive(Clone, Copy, Debug, PartialEq, Eq)]
+pub struct NetAddress {
+    /// The services of the node, a bit each.
+    pub services: u64,
+    /// The IPv6 address, or an IPv4 address that is mapped into it.
+    pub ip: [u8; 16],
+    /// The port, which is spelled with its high byte first.
+    pub port: u16,
+}
+
+/// A message, by the command of its frame.
+#[derive(Drop, Debug)]
+pub enum Msg {
+    /// The first message of each side.
+    Version {
+        /// The protocol's version that the sender speaks.
+        version: i32,
+        /// The sender's services, a bit each.
+        services: u64,
+        /// The sender's clock, in seconds since 1970.
+        time: i64,
+        to: NetAddress,
+        from: NetAddress,
+        /// A random number by which a node knows its own `version`.
+        nonce: u64,
+        /// The program's name, of at most 33,554,432 bytes.
+        agent: Bytes,
+        /// The height of the sender's chain.
+        height: i32,
+        /// Whether transactions are to be relayed (BIP 37): any byte, or none.
+        relay: Option<u8>,
+    },
+    /// The answer to `version`.
+    Verack,
+    /// Asks for a `pong` with the same number.
+    Ping(u64),
+    /// The answer to `ping`.
+    Pong(u64),
+    /// Asks for the headers after the first known hash of a locator.
+    GetHeaders {
+        version: u32,
+        /// Hashes of blocks from the tip downward, at most 101.
+        locator: Hashes,
+        /// The last block that is asked for, or zeros.
+        stop: Hash32,
+    },
+    /// Headers in the order of their chain, at most 2000.
+    Headers(Headers),
+    /// A message that isn't looked into.
+    Other {
+        command: [u8; 12],
+        payload: Bytes,
+    },
+}
+
+/// Why a field of a payload can't be read.
+#[derive(Clone, Copy, Debug, PartialEq, Eq, Error)]
+pub enum Cause {
+    /// The field is cut off, or its number is badly spelled.
+    #[error("a field is cut off or badly spelled")]
+    Cut(CutFault),
+    /// A count is above what the message may have.
+    #[error("a count is too large")]
+    TooMany,
+    /// The byte after a header isn't zero.
+    #[error("the byte after a header isn't zero")]
+    NotZero,
+    /// Bytes stand after the last field.
+    #[error("bytes stand after the last field")]
+    Rest,
+}
+
+impl From<CutFault> for Cause {
+    ghost from_gives = { λ fault e. e ≡ OfCut fault };
+
+    fn from(fault: CutFault) -> Cause {
+        Cause::Cut(fault)
+    }
+}
+
+impl From<Cause> for Refused<Cause> {
+    ghost from_gives = { λ cause e. e ≡ No cause };
+
+    fn from(cause: Cause) -> Refused<Cause> {
+        Refused::No(cause)
+    }
+}
+
+/// The first field of a payload that can't be read.
+#[derive(Clone, Copy, Debug, PartialEq, Eq, Error)]
+#[error("{cause}, at byte {place} of a payload")]
+pub struct Malformed {
+    /// The frame's command.
+    pub command: [u8; 12],
+    /// How many bytes of the payload stand before the field.
+    pub place: usize,
+    pub cause: Cause,
+}
+
+impl From<Malformed> for Refused<Malformed> {
+    ghost from_gives = { λ fault e. e ≡ No fault };
+
+    fn from(fault: Malformed) -> Refused<Malformed> {
+        Refused::No(fault)
+    }
+}

@@ -1,0 +1,239 @@
+//! Reading messages.
+ghost use Rattle.std.specs.Prelude.{◌≡◌};
+ghost use Rattle.cf_bytes.specs.Cut.{Reads, Gives};
+ghost use Rattle.cf_bytes.specs.Lists.{list_at, counted_bytes_at};
+ghost use Rattle.cf_msg.specs.Reading.{Answers, of_cut, port_at, address_at, byte_or_none_at, count_at, hash_item_at, header_item_at, version_at, ping_at, pong_at, getheaders_at, headers_at, fields_at, whole_at, message_of};
+
+use crate::command::{Kind, kind_of};
+use crate::lists::{Bytes, Hashes, Headers};
+use crate::msg::{Cause, Malformed, Msg, NetAddress};
+use cf_block::{Header, parse_header};
+use cf_bytes::{Cut, CutFault, Hash32, Refused};
+use cf_frame::Frame;
+use std::alloc::Global;
+
+/// The most hashes of a locator.
+const MAX_LOCATOR: u64 = 101;
+
+/// The most headers of one message.
+const MAX_HEADERS: u64 = 2000;
+
+/// The message that a frame carries. It is refused at the first field that can't be read: with the number of
+/// payload bytes before that field.
+#[tactic(auto, unfolding(crate::specs::Reading::message_of))]
+pub fn read(alloc: Global, frame: &Frame) -> Result<Msg, Refused<Malformed>>
+    ensures { Answers (message_of frame.now) result }
+{
+    let payload = frame.payload.as_slice();
+    let mut cut = Cut::new(payload);
+    match whole_of(alloc, &frame.command, &mut cut) {
+        Ok(msg) => Ok(msg),
+        Err(Refused::NoMemory) => Err(Refused::NoMemory),
+        Err(Refused::No(cause)) => {
+            let place = payload.len().saturating_sub(cut.rest().len());
+            let command = frame.command;
+            Err(Refused::No(Malformed {
+                command,
+                place,
+                cause,
+            }))
+        }
+    }
+}
+
+#[tactic(auto, unfolding(crate::specs::Reading::whole_at))]
+fn whole_of(alloc: Global, command: &[u8; 12], cut: &mut Cut) -> Result<Msg, Refused<Cause>>
+    ensures { Gives (λ m. m) (whole_at command.now cut.old) result cut.new }
+{
+    let msg = fields_of(alloc, kind_of(command), command, cut)?;
+    if !cut.rest().is_empty() {
+        return Err(Refused::No(Cause::Rest));
+    }
+    Ok(msg)
+}
+
+#[tactic(auto, unfolding(crate::specs::Reading::fields_at))]
+fn fields_of(
+    alloc: Global,
+    kind: Kind,
+    command: &[u8; 12],
+    cut: &mut Cut,
+) -> Result<Msg, Refused<Cause>>
+    ensures { Gives (λ m. m) (fields_at kind command.now cut.old) result cut.new }
+{
+    match kind {
+        Kind::Version => version_of(alloc, cut),
+        Kind::Verack => Ok(Msg::Verack),
+        Kind::Ping => ping_of(cut),
+        Kind::Pong => pong_of(cut),
+        Kind::GetHeaders => getheaders_of(alloc, cut),
+        Kind::Headers => headers_of(alloc, cut),
+        Kind::Other => other_of(alloc, command, cut),
+    }
+}
+
+#[tactic(auto, unfolding(crate::specs::Reading::fields_at))]
+fn other_of(alloc: Global, command: &[u8; 12], cut: &mut Cut) -> Result<Msg, Refused<Cause>>
+    ensures { Gives (λ m. m) (fields_at Kind.Other command.now cut.old) result cut.new }
+{
+    let bytes = cut.rest();
+    let payload = Bytes::from_vec(Vec::from_slice(alloc, bytes)?);
+    *cut = Cut::new(&bytes[bytes.len()..]);
+    let command = *command;
+    Ok(Msg::Other { command, payload })
+}
+
+fn port_of(cut: &mut Cut) -> Result<u16, CutFault>
+    ensures { Reads (λ n. n) (port_at cut.old) result cut.new }
+{
+    let bytes = cut.array()?;
+    Ok(u16::from_be_bytes(bytes))
+}
+
+#[tactic(auto, unfolding(crate::specs::Reading::address_at))]
+fn address_of(cut: &mut Cut) -> Result<NetAddress, CutFault>
+    ensures { Reads (λ a. a) (address_at cut.old) result cut.new }
+{
+    let services = cut.u64()?;
+    let ip = cut.array()?;
+    let port = port_of(cut)?;
+    Ok(NetAddress { services, ip, port })
+}
+
+// Bytes with their count before them. Memory is taken once they stand there.
+fn counted_of(alloc: Global, cut: &mut Cut) -> Result<Bytes, Refused<Cause>>
+    ensures { Gives (λ b. b) (of_cut (counted_bytes_at cut.old)) result cut.new }
+{
+    let count = cut.compact().map_err(Cause::Cut)?;
+    let bytes = cut.bytes(count as usize).map_err(Cause::Cut)?;
+    Ok(Bytes::from_vec(Vec::from_slice(alloc, bytes)?))
+}
+
+fn byte_or_none(cut: &mut Cut) -> Option<u8>
+    ensures { byte_or_none_at cut.old ≡ Ok (result, cut.new) }
+{
+    cut.u8().ok()
+}
+
+#[tactic(auto, unfolding(crate::specs::Reading::version_at))]
+fn version_of(alloc: Global, cut: &mut Cut) -> Result<Msg, Refused<Cause>>
+    ensures { Gives (λ m. m) (version_at cut.old) result cut.new }
+{
+    let version = cut.i32().map_err(Cause::Cut)?;
+    let services = cut.u64().map_err(Cause::Cut)?;
+    let time = cut.i64().map_err(Cause::Cut)?;
+    let to = address_of(cut).map_err(Cause::Cut)?;
+    let from = address_of(cut).map_err(Cause::Cut)?;
+    let nonce = cut.u64().map_err(Cause::Cut)?;
+    let agent = counted_of(alloc, cut)?;
+    let height = cut.i32().map_err(Cause::Cut)?;
+    let relay = byte_or_none(cut);
+    Ok(Msg::Version {
+        version,
+        services,
+        time,
+        to,
+        from,
+        nonce,
+        agent,
+        height,
+        relay,
+    })
+}
+
+#[tactic(auto, unfolding(crate::specs::Reading::ping_at))]
+fn ping_of(cut: &mut Cut) -> Result<Msg, Refused<Cause>>
+    ensures { Gives (λ m. m) (ping_at cut.old) result cut.new }
+{
+    let nonce = cut.u64().map_err(Cause::Cut)?;
+    Ok(Msg::Ping(nonce))
+}
+
+#[tactic(auto, unfolding(crate::specs::Reading::pong_at))]
+fn pong_of(cut: &mut Cut) -> Result<Msg, Refused<Cause>>
+    ensures { Gives (λ m. m) (pong_at cut.old) result cut.new }
+{
+    let nonce = cut.u64().map_err(Cause::Cut)?;
+    Ok(Msg::Pong(nonce))
+}
+
+// A count, which is refused where it begins.
+fn count_of(limit: u64, cut: &mut Cut) -> Result<u64, Cause>
+    ensures { Reads (λ n. n) (count_at limit cut.old) result cut.new }
+{
+    let start = cut.rest();
+    let count = cut.compact()?;
+    if count > limit {
+        *cut = Cut::new(start);
+        return Err(Cause::TooMany);
+    }
+    Ok(count)
+}
+
+fn hash_of(cut: &mut Cut) -> Result<Hash32, Cause>
+    ensures { Reads (λ h. h) (hash_item_at cut.old) result cut.new }
+{
+    Ok(cut.hash()?)
+}
+
+fn hashes_of(alloc: Global, count: u64, cut: &mut Cut) -> Result<Hashes, Refused<Cause>>
+    ensures { Gives (λ h. h) (list_at hash_item_at count cut.old) result cut.new }
+{
+    let mut items = Vec::new(alloc);
+    for _ in 0..count {
+        let hash = hash_of(cut)?;
+        items.push(hash)?;
+    }
+    Ok(Hashes::from_vec(items))
+}
+
+#[tactic(auto, unfolding(crate::specs::Reading::getheaders_at))]
+fn getheaders_of(alloc: Global, cut: &mut Cut) -> Result<Msg, Refused<Cause>>
+    ensures { Gives (λ m. m) (getheaders_at cut.old) result cut.new }
+{
+    let version = cut.u32().map_err(Cause::Cut)?;
+    let count = count_of(MAX_LOCATOR, cut)?;
+    let locator = hashes_of(alloc, count, cut)?;
+    let stop = hash_of(cut)?;
+    Ok(Msg::GetHeaders {
+        version,
+        locator,
+        stop,
+    })
+}
+
+// A header and the zero after it.
+#[tactic(auto, unfolding(crate::specs::Reading::header_item_at))]
+fn header_of(cut: &mut Cut) -> Result<Header, Cause>
+    ensures { Reads (λ h. h) (header_item_at cut.old) result cut.new }
+{
+    let Ok(header) = parse_header(cut) else {
+        return Err(Cause::Cut(CutFault::Short));
+    };
+    let start = cut.rest();
+    if cut.u8()? != 0 {
+        *cut = Cut::new(start);
+        return Err(Cause::NotZero);
+    }
+    Ok(header)
+}
+
+fn header_list_of(alloc: Global, count: u64, cut: &mut Cut) -> Result<Headers, Refused<Cause>>
+    ensures { Gives (λ h. h) (list_at header_item_at count cut.old) result cut.new }
+{
+    let mut items = Vec::new(alloc);
+    for _ in 0..count {
+        let header = header_of(cut)?;
+        items.push(header)?;
+    }
+    Ok(Headers::from_vec(items))
+}
+
+#[tactic(auto, unfolding(crate::specs::Reading::headers_at))]
+fn headers_of(alloc: Global, cut: &mut Cut) -> Result<Msg, Refused<Cause>>
+    ensures { Gives (λ m. m) (headers_at cut.old) result cut.new }
+{
+    let count = count_of(MAX_HEADERS, cut)?;
+    let headers = header_list_of(alloc, count, cut)?;
+    Ok(Msg::Headers(headers))
+}
