@@ -1,0 +1,18 @@
+-- The whole command is simple.
+use Rattle.std.proofs.Common.{◌≡◌, refl, true}
+use Rattle.std.specs.Prelude.{codes}
+use Rattle.clap.specs.Words.{is_simple, is_simple_and_free, new_app}
+use Rattle.clap.proofs.OnLiterals.{clap_on_literals}
+use Rattle.cf_cli.specs.Words.{cli_app, with_sub, sync_app, replay_app}
+
+pub cli_is : cli_app ≡ with_sub (with_sub (new_app (codes "cf")) sync_app) replay_app
+unfolding cli_app
+cli_is = refl
+
+pub simple_cli : is_simple cli_app ≡ true
+unfolding clap_on_literals cli_app with_sub
+simple_cli = refl
+
+pub free_cli : is_simple_and_free cli_app ≡ true
+unfolding clap_on_literals cli_app with_sub
+free_cli = refl

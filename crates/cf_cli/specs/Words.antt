@@ -1,0 +1,95 @@
+-- The program's words, as clap reads them.
+use Rattle.std.specs.Prelude.{ℕ, ◌||◌, Bool, if◌then◌else◌, List, [], ◌∷◌, codes, Option, Some, None, true, option_and_then, false}
+use Rattle.std.specs.Str.{bytes_eq}
+use Rattle.clap.specs.Words.{App, Rule, Row, Text, new_app, new_rule, with_rule, with_subcommand, first_of, fault_of, subcommand_of, Kinds}
+use Rattle.clap.specs.declared.builder.ArgAction.TheVariants.{SetTrue}
+use Rattle.cf_cli.specs.Number.{number_within}
+use Rattle.cf_cli.specs.Name.{is_name}
+use Rattle.cf_cli.specs.declared.words.Command.{Command}
+use Rattle.cf_cli.specs.declared.words.Command.TheVariants.{Replay, Sync}
+
+abbrev pub needed : Rule → Rule
+needed r = record r { required = true }
+
+abbrev pub trace : Rule
+trace = record (new_rule (codes "trace")) { long = Some (codes "trace"); action = Some SetTrue }
+
+abbrev pub turns : Rule
+turns = record (new_rule (codes "turns")) { long = Some (codes "turns") }
+
+-- replay [--trace] WATCH SESSION
+abbrev pub replay_app : App
+replay_app = with_rule (with_rule (with_rule (new_app (codes "replay")) trace) (needed (new_rule (codes "watch")))) (needed (new_rule (codes "session")))
+
+-- sync [--turns N] WATCH PEER
+abbrev pub sync_app : App
+sync_app = with_rule (with_rule (with_rule (new_app (codes "sync")) turns) (needed (new_rule (codes "watch")))) (needed (new_rule (codes "peer")))
+
+unfoldable pub with_sub : App → App → App
+with_sub a s = with_subcommand a s.top
+
+unfoldable pub cli_app : App
+cli_app = with_sub (with_sub (new_app (codes "cf")) sync_app) replay_app
+
+-- the subcommand that was met, and what was found for its arguments
+abbrev pub Met : Type 0
+Met = Option (Text × List Row)
+
+abbrev pub is_met : Text → Met → Bool
+is_met name None = false
+is_met name (Some p) = bytes_eq p.0 name
+
+-- the text that was given for an argument
+abbrev pub text_of : Text → Met → Option Text
+text_of id met = option_and_then (λ p. first_of id p.1) met
+
+abbrev pub is_true : Option Text → Bool
+is_true None = false
+is_true (Some text) = bytes_eq text (codes "true")
+
+-- a flag that was given
+abbrev pub is_set : Text → Met → Bool
+is_set id met = is_true (text_of id met)
+
+-- at most this many messages are taken from peers
+abbrev pub most_turns : ℕ
+most_turns = 10000000
+
+-- a number from 1 to the most, which stands also where none is given
+abbrev pub turns_of : Option Text → Option ℕ
+turns_of None = Some most_turns
+turns_of (Some text) = number_within most_turns text
+
+abbrev pub replay_of : Met → Option Command
+replay_of met =
+    option_and_then (λ watch. option_and_then (λ session.
+    Some (Replay (is_set (codes "trace") met) watch session))
+    (text_of (codes "session") met)) (text_of (codes "watch") met)
+
+abbrev pub sync_of : Met → Option Command
+sync_of met =
+    option_and_then (λ turns. option_and_then (λ watch. option_and_then (λ peer.
+    if is_name peer then Some (Sync turns watch peer) else None)
+    (text_of (codes "peer") met)) (text_of (codes "watch") met)) (turns_of (text_of (codes "turns") met))
+
+abbrev pub asked_of : Met → Option Command
+asked_of met =
+    if is_met (codes "replay") met then replay_of met
+    else if is_met (codes "sync") met then sync_of met
+    else None
+
+-- clap finds no fault in the words
+abbrev pub is_faultless : Kinds → Bool
+is_faultless [] = true
+is_faultless (k ∷ ks) = false
+
+-- what the words ask for, where clap takes them and each number and name is in its range
+abbrev pub command_of : List Text → Option Command
+command_of words =
+    if is_faultless (fault_of cli_app words) then asked_of (subcommand_of cli_app words) else None
+
+abbrev pub is_help_word : Text → Bool
+is_help_word word = bytes_eq word (codes "help") || (bytes_eq word (codes "--help") || bytes_eq word (codes "-h"))
+
+abbrev pub is_version_word : Text → Bool
+is_version_word word = bytes_eq word (codes "--version") || bytes_eq word (codes "-V")
