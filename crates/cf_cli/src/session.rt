@@ -1,5 +1,7 @@
 //! Session files: the dials of a run, and then what is delivered.
 ghost use Rattle.std.specs.Prelude.{◌≡◌, ◌+◌, ◌<◌, ◌≤◌, ◌^◌, true, ◌++◌, ◌∷◌, [], length, map, string_bytes, IfOk, OnOk, option_map};
+ghost use Rattle.std.specs.List.{list_all};
+ghost use Rattle.cf_peer.specs.Log.{is_real};
 ghost use Rattle.cf_cli.specs.Lines.{GivesRead, GivesAfter};
 ghost use Rattle.cf_cli.specs.Name.{is_name};
 ghost use Rattle.cf_cli.specs.SessionFile.{max_dials, answer_of, dial_of, peer_of, got_of, gone_of, tick_of, delivery_of, taken, line_after, lines_in, session_of};
@@ -116,7 +118,8 @@ fn read_peer(text: &[u8], dials: u32) -> Result<PeerNo, SessionCause>
 }
 
 fn read_got(alloc: Global, rest: &[u8], dials: u32) -> Result<Delivery, Refused<SessionCause>>
-    ensures { GivesRead (λ d. d) (got_of dials rest.now) result }
+    ensures exact { GivesRead (λ d. d) (got_of dials rest.now) result }
+    ensures real { IfOk result (λ d. is_real d ≡ true) }
 {
     let (peer, text) = cut_at(rest, b' ');
     let Some(bytes) = read_hex(alloc, text)? else {
@@ -130,14 +133,16 @@ fn read_got(alloc: Global, rest: &[u8], dials: u32) -> Result<Delivery, Refused<
 }
 
 fn read_gone(rest: &[u8], dials: u32) -> Result<Delivery, SessionCause>
-    ensures { result ≡ gone_of dials rest.now }
+    ensures exact { result ≡ gone_of dials rest.now }
+    ensures real { IfOk result (λ d. is_real d ≡ true) }
 {
     let peer = read_peer(rest, dials)?;
     Ok(Delivery::Gone(peer))
 }
 
 fn read_tick(rest: &[u8]) -> Result<Delivery, SessionCause>
-    ensures { result ≡ tick_of rest.now }
+    ensures exact { result ≡ tick_of rest.now }
+    ensures real { IfOk result (λ d. is_real d ≡ true) }
 {
     match number_within(rest, MOST_SECONDS) {
         Some(seconds) => Ok(Delivery::Tick(seconds)),
@@ -147,7 +152,8 @@ fn read_tick(rest: &[u8]) -> Result<Delivery, SessionCause>
 
 // The delivery of a line, after so many dials.
 fn read_delivery(alloc: Global, line: &[u8], dials: u32) -> Result<Delivery, Refused<SessionCause>>
-    ensures { GivesRead (λ d. d) (delivery_of dials line.now) result }
+    ensures exact { GivesRead (λ d. d) (delivery_of dials line.now) result }
+    ensures real { IfOk result (λ d. is_real d ≡ true) }
 {
     let (word, rest) = cut_at(line, b' ');
     if word == b"got".as_slice() {
@@ -197,6 +203,7 @@ fn take_line(alloc: Global, session: &mut Session, line: &[u8]) -> Result<(), Re
     ensures more { OnOk result (lines_in (script_in session.new) ≡ lines_in (script_in session.old) + 1) }
     ensures few { OnOk result (length session.new.dials.items ≤ max_dials) }
     ensures named { OnOk result (AreNamed session.old → AreNamed session.new) }
+    ensures real { OnOk result (list_all is_real session.old.deliveries.items ≡ true → list_all is_real session.new.deliveries.items ≡ true) }
 {
     let dials = session.dials.len() as u32;
     if let Some((name, answered)) = read_dial(line) {
@@ -225,6 +232,7 @@ fn add_line(alloc: Global, session: &mut Session, line: &[u8]) -> Result<(), Ref
     ensures more { OnOk result (lines_in (script_in session.new) ≡ lines_in (script_in session.old) + 1) }
     ensures few { OnOk result (length session.new.dials.items ≤ max_dials) }
     ensures named { OnOk result (AreNamed session.old → AreNamed session.new) }
+    ensures real { OnOk result (list_all is_real session.old.deliveries.items ≡ true → list_all is_real session.new.deliveries.items ≡ true) }
 {
     let place = (session.dials.len() + session.deliveries.len()) as u32 + 1;
     match take_line(alloc, session, line) {
@@ -242,6 +250,8 @@ pub fn read_session(alloc: Global, bytes: &[u8]) -> Result<Session, Refused<Sess
     requires { length bytes.now < 2 ^ 32 }
     ensures exact { GivesRead script_in (session_of bytes.now) result }
     ensures named { IfOk result AreNamed }
+    ensures few { IfOk result (λ s. length s.dials.items ≤ max_dials) }
+    ensures real { IfOk result (λ s. list_all is_real s.deliveries.items ≡ true) }
 {
     let mut session = Session {
         names: Vec::new(alloc),

@@ -26,6 +26,7 @@ loop-rest-preserved c =
       few = c.in_ok-add_line.ensures.few;
       lines = omega (arith, c.in_ok-add_line.ensures.more, c.loop-rest.invariant.lines);
       named = c.in_ok-add_line.ensures.named c.loop-rest.invariant.named;
+      real = c.in_ok-add_line.ensures.real c.loop-rest.invariant.real;
     }
 
 pub returns-then-is_empty-clause-exact : goal.returns-then-is_empty-clause-exact

@@ -1,4 +1,6 @@
-use Rattle.std.proofs.Common.{◌≡◌, ◌+◌, ◌≤◌, [], length}
+use Rattle.std.proofs.Common.{◌≡◌, ◌+◌, ◌≤◌, [], length, true}
+use Rattle.std.specs.List.{list_all}
+use Rattle.cf_peer.specs.Log.{is_real}
 use Rattle.cf_cli.specs.Lines.{lines_of, read_lines}
 use Rattle.cf_cli.specs.SessionFile.{max_dials, line_after, lines_in}
 use Rattle.cf_cli.specs.Sessions.{script_in, AreNamed}
@@ -10,6 +12,7 @@ invariant-loop-rest l = record {
   few : length l.session.dials.items ≤ max_dials;
   lines : lines_in (script_in l.session) + length l.rest ≤ length l.bytes;
   named : AreNamed l.session;
+  real : list_all is_real l.session.deliveries.items ≡ true;
 }
 
 abbrev pub decreases-loop-rest : goal.decreases-loop-rest
