@@ -1,0 +1,9 @@
+pub mod Spelled
+pub mod Standing
+pub mod Taking
+pub mod Asking
+pub mod HonestLemmas
+pub mod Example
+pub mod Courses
+pub mod Performs
+pub mod Turns

@@ -1,0 +1,325 @@
+-- How a piece of a peer's bytes, its going, and a tick change the places.
+use Rattle.std.proofs.Common.{◌≡◌, ◌≢◌, ◌⊎◌, inl, inr, ℕ, zero, suc, ◌<◌, ◌≤◌, List, [], ◌∷◌, ◌++◌, length, get_or, set, map, Option, Some, None, Ok, Err, true, false, refl, sym, ◌∙◌, ap, subst, arith, append_assoc}
+use Rattle.std.proofs.lemmas.Grind.{common_steps}
+use Rattle.std.proofs.lemmas.Bool.{cases_eq}
+use Rattle.std.proofs.lemmas.List.{append-nil}
+use Rattle.std.specs.List.{All, AllByRecursion}
+use Rattle.cf_bytes.specs.declared.peer.PeerNo.{PeerNo}
+use Rattle.cf_frame.specs.declared.frame.Frame.{Frame}
+use Rattle.cf_frame.specs.declared.frame.FrameFault.{FrameFault}
+use Rattle.cf_frame.specs.Stream.{StreamRead, read_stream}
+use Rattle.cf_msg.specs.declared.msg.Msg.{Msg}
+use Rattle.cf_msg.specs.declared.msg.Msg.TheVariants.{Version, Verack, Ping, Pong, GetHeaders, Headers, Other}
+use Rattle.cf_msg.specs.Reading.{message_of}
+use Rattle.cf_peer.specs.declared.act.Act.{Act}
+use Rattle.cf_peer.specs.declared.act.Act.TheVariants.{Send, Close}
+use Rattle.cf_peer.specs.declared.event.Delivery.TheVariants.{Got}
+use Rattle.cf_peer.specs.declared.event.Event.TheVariants.{Sent, Closed, Took}
+use Rattle.cf_peer.specs.declared.peer.Cause.{Cause}
+use Rattle.cf_peer.specs.declared.peer.Cause.TheVariants.{SendFailed as SendFault}
+use Rattle.cf_peer.specs.declared.peer.Peer.{Peer}
+use Rattle.cf_peer.specs.Acts.{bytes_of, IsSendable, IsDoable}
+use Rattle.cf_peer.specs.Log.{Log, tally_of}
+use Rattle.cf_peer.specs.Trail.{Trail, Part, Asked, Passed, item_of, item_of_read, hears, hears_fault, part_after, heard_part, part_of, trail, went_on, with_item, connected, met, heard, verdict, owed, replied, as_reply, MayAsk}
+use Rattle.cf_peer.specs.Peer.{Holds}
+use Rattle.cf_peer.specs.Hearing.{IsReply, HeardWhole, HeardFault}
+use Rattle.cf_client.specs.declared.place.Place.{Place}
+use Rattle.cf_client.specs.declared.place.Place.TheVariants.{Here, Lost}
+use Rattle.cf_client.specs.declared.place.PeerEnd.{PeerEnd}
+use Rattle.cf_client.specs.Places.{Keeps, Fits, nobody, PlacesStand, after, Allowed, Goes, CutFor}
+use Rattle.cf_client.proofs.Standing.{after-append, allowed-append, set_is, stand_same, goes_start, sent_others, sent_here, closed_others, closed_here, number_within}
+
+-- what bytes say loses nobody, and is no reply to anybody
+item_connected : (f : Frame) (t : Trail) → connected (item_of f ∷ t) ≡ connected t
+item_connected f t = elim (message_of f) as (λ r. connected (item_of_read r ∷ t) ≡ connected t) [ Ok m ↦ refl | Err e ↦ refl ]
+
+hears_connected : (fs : List Frame) (t : Trail) → connected (hears fs t) ≡ connected t
+hears_connected [] t = refl
+hears_connected (f ∷ fs) t = hears_connected fs (item_of f ∷ t) ∙ item_connected f t
+
+fault_connected : (o : Option FrameFault) (t : Trail) → connected (hears_fault o t) ≡ connected t
+fault_connected None t = refl
+fault_connected (Some fault) t = refl
+
+pub part_connected : (r : StreamRead) (t : Trail) → connected (part_after r t).trail ≡ connected t
+part_connected r t = fault_connected r.fault (hears r.frames t) ∙ hears_connected r.frames t
+
+item_replied : (f : Frame) (t : Trail) → replied (item_of f ∷ t) ≡ replied t
+item_replied f t = elim (message_of f) as (λ r. replied (item_of_read r ∷ t) ≡ replied t) [ Ok m ↦ refl | Err e ↦ refl ]
+
+hears_replied : (fs : List Frame) (t : Trail) → replied (hears fs t) ≡ replied t
+hears_replied [] t = refl
+hears_replied (f ∷ fs) t = hears_replied fs (item_of f ∷ t) ∙ item_replied f t
+
+fault_replied : (o : Option FrameFault) (t : Trail) → replied (hears_fault o t) ≡ replied t
+fault_replied None t = refl
+fault_replied (Some fault) t = refl
+
+part_replied : (r : StreamRead) (t : Trail) → replied (part_after r t).trail ≡ replied t
+part_replied r t = fault_replied r.fault (hears r.frames t) ∙ hears_replied r.frames t
+
+pub heard_connected : (piece : List ℕ) (part : Part) → connected (heard_part piece part).trail ≡ connected part.trail
+heard_connected piece part = part_connected (read_stream (part.waits ++ piece)) part.trail
+
+heard_replied : (piece : List ℕ) (part : Part) → replied (heard_part piece part).trail ≡ replied part.trail
+heard_replied piece part = part_replied (read_stream (part.waits ++ piece)) part.trail
+
+-- a piece that a peer sends is its own part alone
+got_here : (p : PeerNo) (piece : List ℕ) (part : Part) → went_on (Took (Got p piece)) p.0 part ≡ heard_part piece part
+got_here p piece part = grind (arith, common_steps)
+
+pub got_others : (p : PeerNo) (piece : List ℕ) (q : ℕ) (part : Part) → q ≢ p.0 → went_on (Took (Got p piece)) q part ≡ part
+got_others p piece q part ne = grind (arith, common_steps)
+
+-- a place that isn't connected fits whatever its peer still says
+deaf_fits : (place : Place) (p : PeerNo) (piece : List ℕ) (q : ℕ) (part : Part) → connected part.trail ≡ false → connected (went_on (Took (Got p piece)) q part).trail ≡ false
+deaf_fits place p piece q part off = elim (cases_eq q p.0) [
+  | inl same ↦ subst (λ k. connected (went_on (Took (Got p piece)) k part).trail ≡ false) (sym same) (ap (λ (x : Part). connected x.trail) (got_here p piece part) ∙ heard_connected piece part ∙ off)
+  | inr other ↦ ap (λ (x : Part). connected x.trail) (got_others p piece q part other) ∙ off
+]
+
+got_fits : (place : Place) (p : PeerNo) (piece : List ℕ) (q : ℕ) (part : Part) → (q ≡ p.0 → (end : PeerEnd) × (place ≡ Lost end)) → Fits place part → Fits place (went_on (Took (Got p piece)) q part)
+got_fits (Here peer) p piece q part lost fits = elim (cases_eq q p.0) [
+  | inl same ↦ absurd (let is = (lost same).1 in cc)
+  | inr other ↦ subst (λ (x : Part). Keeps peer x) (sym (got_others p piece q part other)) fits
+]
+got_fits (Lost end) p piece q part lost off = deaf_fits (Lost end) p piece q part off
+
+pub deaf_goes : (places : List Place) (acts : List Act) (log : Log) (p : PeerNo) (piece : List ℕ) (end : PeerEnd)
+    → acts ≡ [] → get_or places p.0 nobody ≡ Lost end → PlacesStand places log → Goes places acts (Took (Got p piece) ∷ log)
+deaf_goes places acts log p piece end none lost stand =
+    goes_start places acts (Took (Got p piece) ∷ log) none (stand_same places log (Took (Got p piece)) stand
+    (λ q fits. got_fits (get_or places q nobody) p piece q (part_of log q) (λ same. (end, ap (λ k. get_or places k nobody) same ∙ lost)) fits) refl)
+
+-- replies that are sent one after another
+abbrev sends : PeerNo → List Msg → List Act
+sends p rs = map (λ (m : Msg). Send p m) rs
+
+abbrev asked_all : List Msg → Part → Part
+asked_all [] part = part
+asked_all (r ∷ rs) part = asked_all rs (with_item (Asked r) part)
+
+record RepliesDone (p : PeerNo) (rs : List Msg) (log : Log) : Type 0 where
+  allowed : Allowed (sends p rs) log
+  here : part_of (after (sends p rs) log) p.0 ≡ asked_all rs (part_of log p.0)
+  others : (q : ℕ) → q ≢ p.0 → part_of (after (sends p rs) log) q ≡ part_of log q
+  count : (tally_of (after (sends p rs) log)).dials ≡ (tally_of log).dials
+
+abbrev AreSendable : List Msg → Type 0
+AreSendable [] = Unit {0}
+AreSendable (r ∷ rs) = IsSendable r × AreSendable rs
+
+reply_may : (r : Msg) (t : Trail) → IsReply r → connected t ≡ true → met t ≡ true → MayAsk t r
+reply_may Verack t is on over = (on, over)
+reply_may (Pong number) t is on over = (on, over)
+reply_may (Version version services time to from nonce agent height relay) t is on over = absurd is
+reply_may (Ping number) t is on over = absurd is
+reply_may (GetHeaders version locator stop) t is on over = absurd is
+reply_may (Headers hs) t is on over = absurd is
+reply_may (Other command payload) t is on over = absurd is
+
+replies_done : (p : PeerNo) (rs : List Msg) (log : Log) → p.0 ≤ (tally_of log).dials → AllByRecursion IsReply rs → AreSendable rs
+    → connected (trail log p.0) ≡ true → (rs ≡ []) ⊎ (met (trail log p.0) ≡ true) → RepliesDone p rs log
+replies_done p [] log number are sendable on over = record { allowed = tt; here = refl; others = λ q ne. refl; count = refl }
+replies_done p (r ∷ rs) log number are sendable on (inl none) = absurd (let e : r ∷ rs ≡ [] = none in cc)
+replies_done p (r ∷ rs) log number are sendable on (inr over) =
+    let next = Sent p (bytes_of r) ∷ log in
+    let here : part_of next p.0 ≡ with_item (Asked r) (part_of log p.0) = sent_here p r (part_of log p.0) sendable.0 in
+    let more = replies_done p rs next number are.1 sendable.1 (ap (λ (x : Part). connected x.trail) here ∙ on) (inr (ap (λ (x : Part). met x.trail) here ∙ over)) in
+    record {
+      allowed = ((number, sendable.0, reply_may r (trail log p.0) are.0 on over), more.allowed);
+      here = more.here ∙ ap (asked_all rs) here;
+      others = λ q ne. more.others q ne ∙ sent_others p (bytes_of r) q (part_of log q) ne;
+      count = more.count;
+    }
+
+-- what replies leave as it is
+record Unchanged (rs : List Msg) (part : Part) : Type 0 where
+  waits : (asked_all rs part).waits ≡ part.waits
+  on : connected (asked_all rs part).trail ≡ connected part.trail
+  first : verdict (asked_all rs part).trail ≡ verdict part.trail
+  owes : owed (asked_all rs part).trail ≡ owed part.trail
+  replies : replied (asked_all rs part).trail ≡ replied part.trail ++ rs
+  holds : (peer : Peer) → Holds peer part.trail → Holds peer (asked_all rs part).trail
+
+reply_holds : (r : Msg) (peer : Peer) (t : Trail) → IsReply r → Holds peer t → Holds peer (Asked r ∷ t)
+reply_holds Verack peer t is h = record {
+  on = h.on;
+  called = h.called;
+  meeting = h.meeting;
+  request = h.request;
+  hearing = h.hearing;
+  chain = h.chain;
+  clean = h.clean;
+  orderly = h.orderly;
+  acquainted = h.acquainted;
+  fresh = λ idle quiet was. h.fresh idle quiet (was.0, was.1, elim was.2 [ inl same ↦ absurd (let e = was.1 in let s : was.0 ≡ Verack = same in cc) | inr before ↦ before ]);
+}
+reply_holds (Pong number) peer t is h = record {
+  on = h.on;
+  called = h.called;
+  meeting = h.meeting;
+  request = h.request;
+  hearing = h.hearing;
+  chain = h.chain;
+  clean = h.clean;
+  orderly = h.orderly;
+  acquainted = h.acquainted;
+  fresh = λ idle quiet was. h.fresh idle quiet (was.0, was.1, elim was.2 [ inl same ↦ absurd (let e = was.1 in let s : was.0 ≡ Pong number = same in cc) | inr before ↦ before ]);
+}
+reply_holds (Version version services time to from nonce agent height relay) peer t is h = absurd is
+reply_holds (Ping number) peer t is h = absurd is
+reply_holds (GetHeaders version locator stop) peer t is h = absurd is
+reply_holds (Headers hs) peer t is h = absurd is
+reply_holds (Other command payload) peer t is h = absurd is
+
+as_itself : (r : Msg) → IsReply r → as_reply r ≡ r ∷ []
+as_itself Verack is = refl
+as_itself (Pong number) is = refl
+as_itself (Version version services time to from nonce agent height relay) is = absurd is
+as_itself (Ping number) is = absurd is
+as_itself (GetHeaders version locator stop) is = absurd is
+as_itself (Headers hs) is = absurd is
+as_itself (Other command payload) is = absurd is
+
+unchanged : (rs : List Msg) (part : Part) → AllByRecursion IsReply rs → Unchanged rs part
+unchanged [] part are = record { waits = refl; on = refl; first = refl; owes = refl; replies = sym (append-nil (replied part.trail)); holds = λ peer h. h }
+unchanged (r ∷ rs) part are =
+    let more = unchanged rs (with_item (Asked r) part) are.1 in
+    record {
+      waits = more.waits;
+      on = more.on;
+      first = more.first;
+      owes = more.owes;
+      replies = more.replies ∙ ap (λ (xs : List Msg). (replied part.trail ++ xs) ++ rs) (as_itself r are.0) ∙ append_assoc (replied part.trail) (r ∷ []) rs;
+      holds = λ peer h. more.holds peer (reply_holds r peer part.trail are.0 h);
+    }
+
+-- replies and what they leave, after a piece
+heard_log : (p : PeerNo) (piece : List ℕ) (log : Log) → part_of (Took (Got p piece) ∷ log) p.0 ≡ heard_part piece (part_of log p.0)
+heard_log p piece log = got_here p piece (part_of log p.0)
+
+met_by : (p : PeerNo) (rs : List Msg) (part end : Part) → part ≡ end → (rs ≡ []) ⊎ (met end.trail ≡ true) → (rs ≡ []) ⊎ (met part.trail ≡ true)
+met_by p rs part end e (inl none) = inl none
+met_by p rs part end e (inr over) = inr (ap (λ (x : Part). met x.trail) e ∙ over)
+
+sendable_by : (p : PeerNo) (rs : List Msg) → All IsDoable (sends p rs) → AreSendable rs
+sendable_by p [] h = tt
+sendable_by p (r ∷ rs) h = ((h 0 (Send p r) (omega arith)).1, sendable_by p rs (λ k d lt. h (suc k) d (omega arith)))
+
+-- a place that is set twice, or to what it is
+pub set_set : (places : List Place) (i : ℕ) (a b : Place) → set (set places i a) i b ≡ set places i b
+set_set [] i a b = refl
+set_set (x ∷ places) zero a b = refl
+set_set (x ∷ places) (suc i) a b = ap (λ (xs : List Place). x ∷ xs) (set_set places i a b)
+
+pub set_same : (places : List Place) (i : ℕ) (a : Place) → i < length places → get_or places i nobody ≡ a → set places i a ≡ places
+set_same [] i a lt e = absurd (omega arith)
+set_same (x ∷ places) zero a lt e = ap (λ y. y ∷ places) (sym e)
+set_same (x ∷ places) (suc i) a lt e = ap (λ (xs : List Place). x ∷ xs) (set_same places i a (omega arith) e)
+
+-- a piece of a connected peer, all of which is taken
+whole_at : (places : List Place) (log : Log) (p : PeerNo) (piece : List ℕ) (peer : Peer) (acts : List Act)
+    → p.0 < length places → PlacesStand places log → connected (trail log p.0) ≡ true → replied (trail log p.0) ≡ owed (trail log p.0)
+    → (whole : HeardWhole p peer [] acts (part_of log p.0) (heard_part piece (part_of log p.0))) → AreSendable whole.replies
+    → Goes (set places p.0 (Here peer)) acts (Took (Got p piece) ∷ log)
+whole_at places log p piece peer acts lt stand on answered whole sendable =
+    let next = Took (Got p piece) ∷ log in
+    let rs = whole.replies in
+    let here = heard_log p piece log in
+    let part = heard_part piece (part_of log p.0) in
+    let now : connected (trail next p.0) ≡ true = ap (λ (x : Part). connected x.trail) here ∙ heard_connected piece (part_of log p.0) ∙ on in
+    let done = replies_done p rs next (number_within places log p.0 stand lt) whole.are.each sendable now (met_by p rs (part_of next p.0) part here whole.are.after_version) in
+    let same = unchanged rs part whole.are.each in
+    let at_end : part_of (after (sends p rs) next) p.0 ≡ asked_all rs part = done.here ∙ ap (asked_all rs) here in
+    let keeps : Keeps peer (asked_all rs part) = record {
+      holds = same.holds peer whole.holds;
+      waits = whole.waits ∙ sym same.waits;
+      answered = same.replies ∙ ap (λ (xs : List Msg). xs ++ rs) (heard_replied piece (part_of log p.0) ∙ answered) ∙ sym whole.owes ∙ sym same.owes;
+    } in
+    let mine : Fits (Here peer) (part_of (after (sends p rs) next) p.0) = subst (λ (x : Part). Keeps peer x) (sym at_end) keeps in
+    subst (λ (xs : List Act). Goes (set places p.0 (Here peer)) xs next) (sym whole.acts) (record {
+      stand = record {
+        count = grind (arith, common_steps, stand.count, done.count);
+        each = λ q. elim (cases_eq q p.0) [
+          | inl is ↦ subst (λ k. Fits (get_or (set places p.0 (Here peer)) k nobody) (part_of (after (sends p rs) next) k)) (sym is)
+              (subst (λ x. Fits x (part_of (after (sends p rs) next) p.0)) (sym (set_is places p.0 (Here peer) lt)) mine)
+          | inr other ↦ subst (λ x. Fits x (part_of (after (sends p rs) next) q)) (grind (arith, common_steps))
+              (subst (λ t. Fits (get_or places q nobody) t) (sym (done.others q other ∙ got_others p piece q (part_of log q) other)) (stand.each q))
+        ];
+      };
+      allowed = done.allowed;
+    })
+
+pub heard_goes : (places : List Place) (log : Log) (p : PeerNo) (piece : List ℕ) (old peer : Peer) (before acts : List Act)
+    → p.0 < length places → before ≡ [] → get_or places p.0 nobody ≡ Here old → PlacesStand places log
+    → ((part : Part) → Holds old part.trail → old.framer ≡ part.waits → HeardWhole p peer before acts part (heard_part piece part)) → All IsDoable acts
+    → Goes (set places p.0 (Here peer)) acts (Took (Got p piece) ∷ log)
+heard_goes places log p piece old peer before acts lt none here stand heard doable =
+    let keeps : Keeps old (part_of log p.0) = subst (λ (x : Place). Fits x (part_of log p.0)) here (stand.each p.0) in
+    let whole = subst (λ (xs : List Act). HeardWhole p peer xs acts (part_of log p.0) (heard_part piece (part_of log p.0))) none (heard (part_of log p.0) keeps.holds keeps.waits) in
+    whole_at places log p piece peer acts lt stand keeps.holds.on keeps.answered whole (sendable_by p whole.replies (subst (All IsDoable) whole.acts doable))
+
+-- a piece in which a frame deserves a cause: the peer is closed
+fault_at : (places : List Place) (log : Log) (p : PeerNo) (piece : List ℕ) (end : PeerEnd) (cause : Cause) (acts : List Act)
+    → p.0 < length places → PlacesStand places log → connected (trail log p.0) ≡ true
+    → (fault : HeardFault p [] acts (heard_part piece (part_of log p.0)) cause) → AreSendable fault.replies
+    → Goes (set places p.0 (Lost end)) (acts ++ Close p cause ∷ []) (Took (Got p piece) ∷ log)
+fault_at places log p piece end cause acts lt stand on fault sendable =
+    let next = Took (Got p piece) ∷ log in
+    let rs = fault.replies in
+    let here = heard_log p piece log in
+    let part = heard_part piece (part_of log p.0) in
+    let now : connected (trail next p.0) ≡ true = ap (λ (x : Part). connected x.trail) here ∙ heard_connected piece (part_of log p.0) ∙ on in
+    let number = number_within places log p.0 stand lt in
+    let done = replies_done p rs next number fault.are.each sendable now (met_by p rs (part_of next p.0) part here fault.are.after_version) in
+    let same = unchanged rs part fault.are.each in
+    let later = after (sends p rs) next in
+    let at_end : part_of later p.0 ≡ asked_all rs part = done.here ∙ ap (asked_all rs) here in
+    let up : connected (trail later p.0) ≡ true = ap (λ (x : Part). connected x.trail) at_end ∙ same.on ∙ heard_connected piece (part_of log p.0) ∙ on in
+    let guilty : verdict (trail later p.0) ≡ Some cause = ap (λ (x : Part). verdict x.trail) at_end ∙ same.first ∙ fault.first in
+    let off : connected (part_of (Closed p ∷ later) p.0).trail ≡ false = ap (λ (x : Part). connected x.trail) (closed_here p (part_of later p.0)) in
+    let count : p.0 ≤ (tally_of later).dials = omega (arith, number, done.count) in
+    subst (λ (xs : List Act). Goes (set places p.0 (Lost end)) (xs ++ Close p cause ∷ []) next) (sym fault.acts) (record {
+      stand = subst (PlacesStand (set places p.0 (Lost end))) (sym (after-append (sends p rs) (Close p cause) next)) (record {
+        count = grind (arith, common_steps, stand.count, done.count);
+        each = λ q. elim (cases_eq q p.0) [
+          | inl is ↦ subst (λ k. Fits (get_or (set places p.0 (Lost end)) k nobody) (part_of (Closed p ∷ later) k)) (sym is)
+              (subst (λ x. Fits x (part_of (Closed p ∷ later) p.0)) (sym (set_is places p.0 (Lost end) lt)) off)
+          | inr other ↦ subst (λ x. Fits x (part_of (Closed p ∷ later) q)) (grind (arith, common_steps))
+              (subst (λ t. Fits (get_or places q nobody) t) (sym (closed_others p q (part_of later q) other ∙ done.others q other ∙ got_others p piece q (part_of log q) other)) (stand.each q))
+        ];
+      });
+      allowed = allowed-append (sends p rs) (Close p cause) next done.allowed (count, inl (up, guilty));
+    })
+
+pub faulty_goes : (places : List Place) (log : Log) (p : PeerNo) (piece : List ℕ) (old : Peer) (end : PeerEnd) (cause : Cause) (before acts : List Act)
+    → p.0 < length places → before ≡ [] → get_or places p.0 nobody ≡ Here old → PlacesStand places log
+    → ((part : Part) → Holds old part.trail → old.framer ≡ part.waits → HeardFault p before acts (heard_part piece part) cause) → All IsDoable acts
+    → Goes (set places p.0 (Lost end)) (acts ++ Close p cause ∷ []) (Took (Got p piece) ∷ log)
+faulty_goes places log p piece old end cause before acts lt none here stand heard doable =
+    let keeps : Keeps old (part_of log p.0) = subst (λ (x : Place). Fits x (part_of log p.0)) here (stand.each p.0) in
+    let fault = subst (λ (xs : List Act). HeardFault p xs acts (heard_part piece (part_of log p.0)) cause) none (heard (part_of log p.0) keeps.holds keeps.waits) in
+    fault_at places log p piece end cause acts lt stand keeps.holds.on fault (sendable_by p fault.replies (subst (All IsDoable) fault.acts doable))
+
+-- a tick adds to each part
+pub passed_fits : (peer new : Peer) (seconds : ℕ) (part : Part) → Keeps peer part → Holds new (Passed seconds ∷ part.trail) → new.framer ≡ peer.framer → Keeps new (with_item (Passed seconds) part)
+passed_fits peer new seconds part keeps holds same = record { holds = holds; waits = same ∙ keeps.waits; answered = keeps.answered }
+
+-- a failed send cuts a peer off
+pub cut_goes : (places : List Place) (log cut : Log) (p : PeerNo) (end : PeerEnd)
+    → p.0 < length places → PlacesStand places log → CutFor p log cut → Goes (set places p.0 (Lost end)) (Close p SendFault ∷ []) cut
+cut_goes places log cut p end lt stand is =
+    let off : connected (part_of (Closed p ∷ cut) p.0).trail ≡ false = ap (λ (x : Part). connected x.trail) (closed_here p (part_of cut p.0)) in
+    record {
+      stand = record {
+        count = grind (arith, common_steps, stand.count, is.dials);
+        each = λ q. elim (cases_eq q p.0) [
+          | inl same ↦ subst (λ k. Fits (get_or (set places p.0 (Lost end)) k nobody) (part_of (Closed p ∷ cut) k)) (sym same)
+              (subst (λ x. Fits x (part_of (Closed p ∷ cut) p.0)) (sym (set_is places p.0 (Lost end) lt)) off)
+          | inr other ↦ subst (λ x. Fits x (part_of (Closed p ∷ cut) q)) (grind (arith, common_steps))
+              (subst (λ t. Fits (get_or places q nobody) t) (sym (closed_others p q (part_of cut q) other ∙ is.others q other)) (stand.each q))
+        ];
+      };
+      allowed = ((omega (arith, stand.count, is.dials), inr (inl (refl, is.broken))), tt);
+    }

@@ -1,0 +1,18 @@
+use Rattle.std.proofs.Common.{◌≡◌, List, ℕ}
+use Rattle.cf_peer.specs.Log.{Log}
+use Rattle.cf_client.specs.Stands.{Reflects, count_of}
+use Rattle.cf_client.specs.Run.{Doing, Waits, trouble, SameCounts, Course, IsInStep}
+use Rattle.cf_client.proofs.over.settle.Given as goal
+
+abbrev pub invariant-loop-p : goal.invariant-loop-p
+invariant-loop-p g l = record {
+  waits : (called : List (List ℕ)) (planned : Log) → Reflects l.fn.client planned → Doing l.fn.progress called planned (g.W.Wires.told l.fn.wires)
+      → Waits l.client l.progress called (g.W.Wires.told l.wires);
+  count : count_of l.client ≡ count_of l.fn.client;
+  keeps : SameCounts (g.W.Wires.told l.fn.wires) (g.W.Wires.told l.wires);
+  course : Course (g.W.Wires.faults l.fn.wires) (g.W.Wires.faults l.wires) (g.W.Wires.script l.fn.wires) (g.W.Wires.script l.wires);
+  step : IsInStep (g.W.Wires.told l.wires) l.progress;
+}
+
+abbrev pub decreases-loop-p : goal.decreases-loop-p
+decreases-loop-p g l = trouble l.progress

@@ -1,0 +1,146 @@
+-- A peer that answers as the serving machine of a chain does, and what it is promised.
+use Rattle.std.specs.Prelude.{◌≡◌, ◌≢◌, ℕ, ◌≤◌, ◌<◌, pos, Bool, true, false, List, [], ◌∷◌, ◌++◌, length}
+use Rattle.cf_bytes.specs.declared.hash.Hash32.{Hash32}
+use Rattle.cf_chain.specs.Serve.{is_version, replies}
+use Rattle.cf_headers.specs.Chain.{Chain, tip_hash, IsValidChain, IsWithinLimit}
+use Rattle.cf_msg.specs.declared.msg.Msg.{Msg}
+use Rattle.cf_msg.specs.declared.msg.Msg.TheVariants.{Version, Verack, Headers}
+use Rattle.cf_peer.specs.declared.event.Delivery.TheVariants.{Got, Gone, Tick, Ended}
+use Rattle.cf_peer.specs.declared.event.Event.{Event}
+use Rattle.cf_peer.specs.declared.event.Event.TheVariants.{Dialled, NotDialled, Sent, SendFailed, Closed, Took}
+use Rattle.cf_peer.specs.Log.{Log}
+use Rattle.cf_peer.specs.Trail.{Trail, Called, Said, Refused, Asked, Passed, Lost, trail, has_filters, is_open, age, counted, Shows}
+use Rattle.cf_client.specs.declared.outcome.End.{End}
+use Rattle.cf_client.specs.declared.outcome.End.TheVariants.{Synced, NoPeers}
+use Rattle.cf_client.specs.Places.{IsConnected}
+
+-- what it was asked, and what it has said since it was dialled, in order
+abbrev pub asked : Trail → List Msg
+asked [] = []
+asked (Called ∷ t) = []
+asked (Said m ∷ t) = asked t
+asked (Refused c ∷ t) = asked t
+asked (Asked m ∷ t) = asked t ++ m ∷ []
+asked (Passed s ∷ t) = asked t
+asked (Lost w ∷ t) = asked t
+
+abbrev pub said : Trail → List Msg
+said [] = []
+said (Called ∷ t) = []
+said (Said m ∷ t) = said t ++ m ∷ []
+said (Refused c ∷ t) = said t
+said (Asked m ∷ t) = said t
+said (Passed s ∷ t) = said t
+said (Lost w ∷ t) = said t
+
+-- what a peer may say at any time, and is no answer
+abbrev pub is_chatter : Msg → Bool
+is_chatter (Version version services time to from nonce agent height relay) = false
+is_chatter Verack = false
+is_chatter (Headers hs) = false
+is_chatter m = true
+
+abbrev pub with_message : Bool → Msg → List Msg → List Msg
+with_message true m ms = ms
+with_message false m ms = m ∷ ms
+
+-- without chatter
+abbrev pub plain : List Msg → List Msg
+plain [] = []
+plain (m ∷ ms) = with_message (is_chatter m) m (plain ms)
+
+-- a message is the one that the machine sends; a version may have any other fields, with service bits 0 and 6
+abbrev pub IsAnswer : Msg → Msg → Type 0
+IsAnswer (Version version services time to from nonce agent height relay) n = (is_version n ≡ true) × (has_filters services ≡ true)
+IsAnswer m n = m ≡ n
+
+-- messages are those of a list, one by one as far as they go, and leave the rest of it
+abbrev pub Leaves : List Msg → List Msg → List Msg → Type 0
+Leaves [] ns rest = ns ≡ rest
+Leaves (m ∷ ms) [] rest = ⊥
+Leaves (m ∷ ms) (n ∷ ns) rest = IsAnswer m n × Leaves ms ns rest
+
+abbrev pub IsPrefixOf : List Msg → List Msg → Type 0
+IsPrefixOf ms ns = (rest : List Msg) × Leaves ms ns rest
+
+-- each whole frame of it spells a message, and the bytes behind them aren't bad
+abbrev pub IsSpelled : Trail → Type 0
+IsSpelled [] = Unit {0}
+IsSpelled (Called ∷ t) = Unit {0}
+IsSpelled (Said m ∷ t) = IsSpelled t
+IsSpelled (Refused c ∷ t) = ⊥
+IsSpelled (Asked m ∷ t) = IsSpelled t
+IsSpelled (Passed s ∷ t) = IsSpelled t
+IsSpelled (Lost w ∷ t) = IsSpelled t
+
+-- what it has said without chatter is a prefix of the machine's answers to what it was asked
+pub record AnswersAs (chain : Chain) (t : Trail) : Type 0 where
+  pub spelled : IsSpelled t
+  pub follows : IsPrefixOf (plain (said t)) (replies (pos 0) 0 chain false (asked t))
+
+-- no tick finds a request open to p that is then 60 seconds old or more
+abbrev pub InTime : Event → Log → ℕ → Type 0
+InTime (Took (Tick s)) log p = is_open (trail (Took (Tick s) ∷ log) p) ≡ true → age (trail (Took (Tick s) ∷ log) p) < 60
+InTime (Took (Got q piece)) log p = Unit {0}
+InTime (Took (Gone q)) log p = Unit {0}
+InTime (Took Ended) log p = Unit {0}
+InTime (Dialled q name) log p = Unit {0}
+InTime (NotDialled q name) log p = Unit {0}
+InTime (Sent q bytes) log p = Unit {0}
+InTime (SendFailed q) log p = Unit {0}
+InTime (Closed q) log p = Unit {0}
+
+-- this entry doesn't lose p by p's own doing
+abbrev pub Stays : Event → ℕ → Type 0
+Stays (SendFailed q) p = q.0 ≢ p
+Stays (Took (Gone q)) p = q.0 ≢ p
+Stays (Took (Got q piece)) p = Unit {0}
+Stays (Took (Tick s)) p = Unit {0}
+Stays (Took Ended) p = Unit {0}
+Stays (Dialled q name) p = Unit {0}
+Stays (NotDialled q name) p = q.0 ≢ p
+Stays (Sent q bytes) p = Unit {0}
+Stays (Closed q) p = Unit {0}
+
+-- at every moment of the log p has answered as the machine of this chain does, and in time
+abbrev pub IsHonestOver : Log → ℕ → Chain → Type 0
+IsHonestOver [] p chain = Unit {0}
+IsHonestOver (e ∷ log) p chain = AnswersAs chain (trail (e ∷ log) p) × InTime e log p × Stays e p × IsHonestOver log p chain
+
+-- it was dialled
+abbrev pub was_called : Trail → Bool
+was_called [] = false
+was_called (Called ∷ t) = true
+was_called (Said m ∷ t) = was_called t
+was_called (Refused c ∷ t) = was_called t
+was_called (Asked m ∷ t) = was_called t
+was_called (Passed s ∷ t) = was_called t
+was_called (Lost w ∷ t) = was_called t
+
+-- an honest peer on a chain
+pub record IsHonest (log : Log) (p : ℕ) (chain : Chain) : Type 0 where
+  pub valid : IsValidChain chain
+  pub low : IsWithinLimit chain
+  pub dialled : was_called (trail log p) ≡ true
+  pub honest : IsHonestOver log p chain
+
+-- no connected peer has shown another chain that is as long
+abbrev pub ShowsNoOther : Log → Chain → Type 0
+ShowsNoOther log chain = (q : ℕ) (other : Chain) → IsConnected log q → Shows (counted (trail log q)) other → IsWithinLimit other → length chain ≤ length other → other ≡ chain
+
+-- p was never closed
+abbrev pub IsNeverClosed : Log → ℕ → Type 0
+IsNeverClosed [] p = Unit {0}
+IsNeverClosed (Closed q ∷ log) p = (q.0 ≢ p) × IsNeverClosed log p
+IsNeverClosed (Dialled q name ∷ log) p = IsNeverClosed log p
+IsNeverClosed (NotDialled q name ∷ log) p = IsNeverClosed log p
+IsNeverClosed (Sent q bytes ∷ log) p = IsNeverClosed log p
+IsNeverClosed (SendFailed q ∷ log) p = IsNeverClosed log p
+IsNeverClosed (Took d ∷ log) p = IsNeverClosed log p
+
+-- The sync theorem: where p answers as the machine of a chain does, p is never closed, and the run doesn't end for want of peers; and where
+-- no connected peer has shown another chain as long, a run that ends with nothing open has that chain's tip.
+pub record SyncTheorem (end : End) (height : ℕ) (hash : Hash32) (log : Log) : Type 0 where
+  pub never : (p : ℕ) (chain : Chain) → IsHonest log p chain → IsNeverClosed log p
+  pub somebody : (p : ℕ) (chain : Chain) → IsHonest log p chain → end ≢ NoPeers
+  pub exact : (p : ℕ) (chain : Chain) → IsHonest log p chain → ShowsNoOther log chain → end ≡ Synced → (height ≡ length chain) × (hash.0 ≡ tip_hash chain)

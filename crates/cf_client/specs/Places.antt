@@ -1,0 +1,148 @@
+-- What the places of a client hold of a log.
+use Rattle.std.specs.Prelude.{◌≡◌, ◌≢◌, ℕ, ◌+◌, ◌≤◌, Bool, true, false, not, ◌&&◌, if◌then◌else◌, List, [], ◌∷◌, map, length, slice_index_or}
+use Rattle.std.specs.List.{list_any}
+use Rattle.cf_bytes.specs.declared.peer.PeerNo.{PeerNo}
+use Rattle.cf_bytes.specs.declared.hash.Hash32.{Hash32}
+use Rattle.cf_headers.specs.Chain.{Chain, no_hash, locator_of}
+use Rattle.cf_msg.specs.declared.msg.Msg.{Msg}
+use Rattle.cf_msg.specs.declared.msg.Msg.TheVariants.{GetHeaders}
+use Rattle.cf_peer.specs.declared.act.Act.{Act}
+use Rattle.cf_peer.specs.declared.act.Act.TheVariants.{Send, Close}
+use Rattle.cf_peer.specs.declared.event.Event.{Event}
+use Rattle.cf_peer.specs.declared.event.Event.TheVariants.{Sent, Closed}
+use Rattle.cf_peer.specs.declared.peer.Peer.{Peer}
+use Rattle.cf_peer.specs.Acts.{bytes_of, IsSendable}
+use Rattle.cf_peer.specs.Log.{Log, tally_of}
+use Rattle.cf_peer.specs.Trail.{Part, part_of, trail, connected, heard, is_open, failed, owed, replied, Deserves, MayAsk, IsClientVersion}
+use Rattle.cf_peer.specs.Peer.{Holds, calm, busy, wants, is_ready_peer}
+use Rattle.cf_client.specs.declared.place.Place.{Place}
+use Rattle.cf_client.specs.declared.place.Place.TheVariants.{Here, Lost}
+use Rattle.cf_client.specs.declared.place.PeerEnd.{PeerEnd}
+use Rattle.cf_client.specs.declared.place.PeerEnd.TheVariants.{NotDialled, Ready, Waiting}
+use Rattle.cf_client.specs.declared.state.State.{State}
+use Rattle.cf_client.specs.declared.state.State.TheVariants.{Working, Synced, NoPeers}
+
+-- a connected peer: what is kept of it, the bytes that wait, and all that was owed to it was sent
+pub record Keeps (peer : Peer) (part : Part) : Type 0 where
+  pub holds : Holds peer part.trail
+  pub waits : peer.framer ≡ part.waits
+  pub answered : replied part.trail ≡ owed part.trail
+
+-- what is held of a peer
+abbrev pub Fits : Place → Part → Type 0
+Fits (Here peer) part = Keeps peer part
+Fits (Lost end) part = connected part.trail ≡ false
+
+abbrev pub nobody : Place
+nobody = Lost NotDialled
+
+abbrev pub place_at : List Place → ℕ → Place
+place_at places p = slice_index_or places p nobody
+
+-- the places stand for the log: one for each peer that was dialled, at its number, and nobody's at 0
+pub record PlacesStand (places : List Place) (log : Log) : Type 0 where
+  pub count : length places ≡ (tally_of log).dials + 1
+  pub each : (p : ℕ) → Fits (place_at places p) (part_of log p)
+
+-- what an act leaves in the log when it is done
+abbrev pub entry_of : Act → Event
+entry_of (Send p m) = Sent p (bytes_of m)
+entry_of (Close p cause) = Closed p
+
+-- the log once acts are done in order
+abbrev pub after : List Act → Log → Log
+after [] log = log
+after (a ∷ acts) log = after acts (entry_of a ∷ log)
+
+-- an act may be done
+abbrev pub MayAct : Act → Log → Type 0
+MayAct (Send p m) log = (p.0 ≤ (tally_of log).dials) × IsSendable m × MayAsk (trail log p.0) m
+MayAct (Close p cause) log = (p.0 ≤ (tally_of log).dials) × Deserves (trail log p.0) cause
+
+-- each act may be done when the ones before it are
+abbrev pub Allowed : List Act → Log → Type 0
+Allowed [] log = Unit {0}
+Allowed (a ∷ acts) log = MayAct a log × Allowed acts (entry_of a ∷ log)
+
+-- the places stand for the log with the acts, each of which was allowed
+pub record Goes (places : List Place) (acts : List Act) (log : Log) : Type 0 where
+  pub stand : PlacesStand places (after acts log)
+  pub allowed : Allowed acts log
+
+-- no open request is 60 seconds old or more
+abbrev pub is_calm : Place → Bool
+is_calm (Here peer) = calm peer
+is_calm (Lost end) = true
+
+abbrev pub AreCalm : List Place → Type 0
+AreCalm places = (p : ℕ) → is_calm (place_at places p) ≡ true
+
+-- it is to be asked for headers
+abbrev pub is_wanting : Place → Bool
+is_wanting (Here peer) = wants peer
+is_wanting (Lost end) = false
+
+-- between two calls of the client no open request is late, and nobody is left to ask
+abbrev pub is_settled : Place → Bool
+is_settled place = is_calm place && not (is_wanting place)
+
+abbrev pub AreSettled : List Place → Type 0
+AreSettled places = (p : ℕ) → is_settled (place_at places p) ≡ true
+
+-- the same log, but that a send to p failed: p's part alone differs, and p is cut off
+pub record CutFor (p : PeerNo) (log cut : Log) : Type 0 where
+  pub others : (q : ℕ) → q ≢ p.0 → part_of cut q ≡ part_of log q
+  pub off : connected (trail cut p.0) ≡ false
+  pub broken : failed (trail cut p.0) ≡ true
+  pub dials : (tally_of cut).dials ≡ (tally_of log).dials
+
+-- nothing is open; something is
+abbrev pub IsQuiet : Log → Type 0
+IsQuiet log = (p : ℕ) → is_open (trail log p) ≡ false
+
+abbrev pub IsBusy : Log → Type 0
+IsBusy log = (p : ℕ) × (is_open (trail log p) ≡ true)
+
+abbrev pub IsConnected : Log → ℕ → Type 0
+IsConnected log p = connected (trail log p) ≡ true
+
+-- what the client says of its state
+abbrev pub IsState : State → Log → Type 0
+IsState Working log = IsBusy log
+IsState Synced log = IsQuiet log × ((p : ℕ) × IsConnected log p)
+IsState NoPeers log = (p : ℕ) → connected (trail log p) ≡ false
+
+-- something is open to the peer of this place; it is connected
+abbrev pub is_busy : Place → Bool
+is_busy (Here peer) = busy peer
+is_busy (Lost end) = false
+
+abbrev pub is_here : Place → Bool
+is_here (Here peer) = true
+is_here (Lost end) = false
+
+abbrev pub state_of : List Place → State
+state_of places = if list_any is_busy places then Working else if list_any is_here places then Synced else NoPeers
+
+-- between two calls: a connected peer with nothing open has been heard out
+abbrev pub AreHeardOut : Log → Type 0
+AreHeardOut log = (p : ℕ) → IsConnected log p → is_open (trail log p) ≡ false → heard (trail log p) ≡ true
+
+-- the question for headers above the tip of a chain
+abbrev pub AsksAbove : Chain → Msg → Type 0
+AsksAbove chain (GetHeaders version locator stop) = (version ≡ 70016) × (map (λ (h : Hash32). h.0) locator ≡ locator_of chain) × (stop.0 ≡ no_hash)
+AsksAbove chain m = ⊥
+
+-- the version that is sent to a peer, and the question for headers above genesis alone
+pub record IsGreeting (m : Msg) : Type 0 where
+  pub sendable : IsSendable m
+  pub ours : IsClientVersion m
+
+pub record IsQuestion (m : Msg) : Type 0 where
+  pub sendable : IsSendable m
+  pub asks : AsksAbove [] m
+
+-- how a peer stands
+abbrev pub end_of : Place → PeerEnd
+end_of (Here peer) = if is_ready_peer peer then Ready else Waiting
+end_of (Lost end) = end

@@ -1,0 +1,21 @@
+//! The client: a machine that takes deliveries and says what is to be done, and its run over any wires.
+#![tactic(auto)]
+
+mod ask;
+mod client;
+mod deliver;
+mod laws;
+mod outcome;
+mod over;
+mod place;
+mod progress;
+mod state;
+mod trace;
+
+pub use client::Client;
+pub use laws::{an_honest_run, laws_of_honest_peers};
+pub use outcome::{End, Outcome};
+pub use over::sync_over;
+pub use place::{PeerEnd, Place};
+pub use state::State;
+pub use trace::TraceLine;

@@ -1,0 +1,351 @@
+//! The run of a client over any wires: the dials, the turns, and the finish.
+ghost use Rattle.std.specs.Prelude.{◌≡◌, ◌≢◌, ◌↔◌, ℕ, ◌<◌, ◌≤◌, ◌+◌, ◌∷◌, ◌++◌, [], List, map, OnOk, IfOk, OnErr, IfNone, IfSome, IsErrOf, true, false, length, take};
+ghost use Rattle.cf_bytes.specs.declared.hash.Hash32.{Hash32};
+ghost use Rattle.cf_client.specs.Names.{names_in};
+ghost use Rattle.cf_client.specs.Honest.{SyncTheorem};
+ghost use Rattle.cf_client.specs.Places.{MayAct, Allowed, after, entry_of};
+ghost use Rattle.cf_client.specs.Run.{Followed, NobodyLeft, Course, Doing, HoldsOver, trouble, SameCounts, Turned, Stopped, IsEnd, IsInStep, IsEndTold};
+ghost use Rattle.cf_client.specs.Stands.{Reflects, Answers, count_of};
+ghost use Rattle.std.specs.List.{All};
+ghost use Rattle.cf_msg.specs.Message.{command_of};
+ghost use Rattle.cf_peer.specs.declared.act.Act.TheVariants.{Send, Close};
+ghost use Rattle.cf_peer.specs.Acts.{IsDoable, IsSendable, bytes_of};
+ghost use Rattle.cf_peer.specs.Log.{Log, Tells, tell};
+ghost use Rattle.cf_peer.specs.Wires.{HasCause};
+ghost use Rattle.cf_peer.specs.declared.event.Event.TheVariants.{Sent, SendFailed, Closed};
+
+use crate::client::Client;
+use crate::outcome::{End, Outcome};
+use crate::progress::{Progress, SendState};
+use crate::state::State;
+use crate::trace::TraceLine;
+use cf_block::{block_hash, genesis_header};
+use cf_bytes::{NoMemory, PeerNo};
+use cf_frame::encode;
+use cf_msg::{Msg, write};
+use cf_peer::{Act, Cause, Delivery, WireFail, Wires};
+use std::alloc::Global;
+
+// Writes a message and sends it.
+fn send_message<W: Wires>(
+    alloc: Global,
+    wires: &mut W,
+    p: PeerNo,
+    message: &Msg,
+) -> Result<[u8; 12], WireFail>
+    requires { IsSendable message.now }
+    ensures sent { IfOk result (λ command. (command ≡ command_of message.now) × (W.told wires.new ≡ tell (Sent p (bytes_of message.now)) (W.told wires.old))) }
+    ensures not_sent { IsErrOf result WireFail.Failed → W.told wires.new ≡ tell (SendFailed p) (W.told wires.old) }
+    ensures cause { HasCause (W.faults wires.old) (W.faults wires.new) result }
+    ensures same { W.script wires.new ≡ W.script wires.old }
+{
+    let frame = write(alloc, message)?;
+    let bytes = encode(alloc, &frame.command, frame.payload.as_slice())?;
+    wires.send(p, &bytes)?;
+    Ok(frame.command)
+}
+
+// Sends a message, unless the peer's failed send is still to be told.
+fn perform_send<W: Wires>(
+    alloc: Global,
+    wires: &mut W,
+    p: PeerNo,
+    message: &Msg,
+    progress: &mut Progress,
+) -> Result<(), NoMemory>
+    requires number { p.0 < 9 }
+    requires sendable { IsSendable message.now }
+    requires step { IsInStep (W.told wires.old) progress.old }
+    ensures doing { OnOk result ((called : List (List ℕ)) (planned : Log) → MayAct (Send p message.now) planned → Doing progress.old called planned (W.told wires.old) → Doing progress.new called (Sent p (bytes_of message.now) ∷ planned) (W.told wires.new)) }
+    ensures fewer { OnOk result (trouble progress.new ≤ trouble progress.old) }
+    ensures keeps { OnOk result (SameCounts (W.told wires.old) (W.told wires.new)) }
+    ensures course { OnOk result (Course (W.faults wires.old) (W.faults wires.new) (W.script wires.old) (W.script wires.new)) }
+    ensures step { OnOk result (IsInStep (W.told wires.new) progress.new) }
+{
+    if progress.is_pending(p) {
+        return Ok(());
+    }
+    match send_message(alloc, wires, p, message) {
+        Ok(command) => {
+            progress.trace.push(TraceLine::Sent(p, command))?;
+            Ok(())
+        }
+        Err(WireFail::Failed) => {
+            progress.note_failure(p);
+            Ok(())
+        }
+        Err(WireFail::NoMemory) => Err(NoMemory),
+    }
+}
+
+// Closes a peer, unless its failed send is still to be told. A second close does nothing.
+fn perform_close<W: Wires>(
+    wires: &mut W,
+    p: PeerNo,
+    cause: Cause,
+    progress: &mut Progress,
+) -> Result<(), NoMemory>
+    requires number { p.0 < 9 }
+    requires step { IsInStep (W.told wires.old) progress.old }
+    ensures doing { OnOk result ((called : List (List ℕ)) (planned : Log) → MayAct (Close p cause) planned → Doing progress.old called planned (W.told wires.old) → Doing progress.new called (Closed p ∷ planned) (W.told wires.new)) }
+    ensures fewer { OnOk result (trouble progress.new ≤ trouble progress.old) }
+    ensures keeps { OnOk result (SameCounts (W.told wires.old) (W.told wires.new)) }
+    ensures course { OnOk result (Course (W.faults wires.old) (W.faults wires.new) (W.script wires.old) (W.script wires.new)) }
+    ensures step { OnOk result (IsInStep (W.told wires.new) progress.new) }
+{
+    if progress.is_pending(p) || progress.is_closed(p) {
+        return Ok(());
+    }
+    progress.trace.push(TraceLine::Closed(p, cause))?;
+    wires.close(p);
+    progress.closed[p.0 as usize] = true;
+    Ok(())
+}
+
+// Does one act, unless its peer's failed send is still to be told.
+fn perform_one<W: Wires>(
+    alloc: Global,
+    wires: &mut W,
+    act: &Act,
+    progress: &mut Progress,
+) -> Result<(), NoMemory>
+    requires doable { IsDoable act.now }
+    requires step { IsInStep (W.told wires.old) progress.old }
+    ensures doing { OnOk result ((called : List (List ℕ)) (planned : Log) → MayAct act.now planned → Doing progress.old called planned (W.told wires.old) → Doing progress.new called (entry_of act.now ∷ planned) (W.told wires.new)) }
+    ensures fewer { OnOk result (trouble progress.new ≤ trouble progress.old) }
+    ensures keeps { OnOk result (SameCounts (W.told wires.old) (W.told wires.new)) }
+    ensures course { OnOk result (Course (W.faults wires.old) (W.faults wires.new) (W.script wires.old) (W.script wires.new)) }
+    ensures step { OnOk result (IsInStep (W.told wires.new) progress.new) }
+{
+    match act {
+        Act::Send(p, message) => {
+            perform_send(alloc, wires, *p, message, progress)?;
+            Ok(())
+        }
+        Act::Close(p, cause) => {
+            perform_close(wires, *p, *cause, progress)?;
+            Ok(())
+        }
+    }
+}
+
+// Does acts in order.
+fn perform<W: Wires>(
+    alloc: Global,
+    wires: &mut W,
+    acts: &[Act],
+    progress: &mut Progress,
+) -> Result<(), NoMemory>
+    requires doable { All IsDoable acts.now }
+    requires step { IsInStep (W.told wires.old) progress.old }
+    ensures doing { OnOk result ((called : List (List ℕ)) (planned : Log) → Allowed acts.now planned → Doing progress.old called planned (W.told wires.old) → Doing progress.new called (after acts.now planned) (W.told wires.new)) }
+    ensures fewer { OnOk result (trouble progress.new ≤ trouble progress.old) }
+    ensures keeps { OnOk result (SameCounts (W.told wires.old) (W.told wires.new)) }
+    ensures course { OnOk result (Course (W.faults wires.old) (W.faults wires.new) (W.script wires.old) (W.script wires.new)) }
+    ensures step { OnOk result (IsInStep (W.told wires.new) progress.new) }
+{
+    for act in acts {
+        perform_one(alloc, wires, act, progress)?;
+    }
+    Ok(())
+}
+
+// Tells the client of each failed send, the lowest number first, and does what it then wants.
+fn settle<W: Wires>(
+    alloc: Global,
+    wires: &mut W,
+    client: &mut Client,
+    progress: &mut Progress,
+) -> Result<(), NoMemory>
+    requires step { IsInStep (W.told wires.old) progress.old }
+    ensures holds { OnOk result ((called : List (List ℕ)) (planned : Log) → Reflects client.old planned → Doing progress.old called planned (W.told wires.old) → HoldsOver client.new progress.new called (W.told wires.new)) }
+    ensures count { OnOk result (count_of client.new ≡ count_of client.old) }
+    ensures keeps { OnOk result (SameCounts (W.told wires.old) (W.told wires.new)) }
+    ensures course { OnOk result (Course (W.faults wires.old) (W.faults wires.new) (W.script wires.old) (W.script wires.new)) }
+    ensures step { OnOk result (IsInStep (W.told wires.new) progress.new) }
+{
+    while let Some(p) = progress.next_pending() {
+        progress.sends[p.0 as usize] = SendState::Known;
+        let acts = client.send_failed(p)?;
+        perform(alloc, wires, &acts, progress)?;
+    }
+    Ok(())
+}
+
+// Does what the client wants, and tells it of what failed.
+fn carry_out<W: Wires>(
+    alloc: Global,
+    wires: &mut W,
+    client: &mut Client,
+    acts: &[Act],
+    progress: &mut Progress,
+) -> Result<(), NoMemory>
+    requires doable { All IsDoable acts.now }
+    requires step { IsInStep (W.told wires.old) progress.old }
+    ensures holds { OnOk result ((called : List (List ℕ)) (log : Log) → Answers client.old acts.now log → Doing progress.old called log (W.told wires.old) → HoldsOver client.new progress.new called (W.told wires.new)) }
+    ensures count { OnOk result (count_of client.new ≡ count_of client.old) }
+    ensures keeps { OnOk result (SameCounts (W.told wires.old) (W.told wires.new)) }
+    ensures course { OnOk result (Course (W.faults wires.old) (W.faults wires.new) (W.script wires.old) (W.script wires.new)) }
+    ensures step { OnOk result (IsInStep (W.told wires.new) progress.new) }
+{
+    perform(alloc, wires, acts, progress)?;
+    settle(alloc, wires, client, progress)?;
+    Ok(())
+}
+
+// Dials the next peer.
+fn dial_one<W: Wires>(
+    alloc: Global,
+    wires: &mut W,
+    client: &mut Client,
+    progress: &mut Progress,
+    name: &str,
+) -> Result<(), NoMemory>
+    requires room { (W.told wires.old).tally.dials < 8 }
+    requires next { count_of client.old ≡ (W.told wires.old).tally.dials + 1 }
+    requires step { IsInStep (W.told wires.old) progress.old }
+    ensures holds { OnOk result ((called : List (List ℕ)) → HoldsOver client.old progress.old called (W.told wires.old) → HoldsOver client.new progress.new (called ++ name.now ∷ []) (W.told wires.new)) }
+    ensures next { OnOk result (count_of client.new ≡ (W.told wires.new).tally.dials + 1) }
+    ensures dials { OnOk result ((W.told wires.new).tally.dials ≡ (W.told wires.old).tally.dials + 1) }
+    ensures taken { OnOk result ((W.told wires.new).tally.taken ≡ (W.told wires.old).tally.taken) }
+    ensures ended { OnOk result ((W.told wires.new).tally.ended ≡ (W.told wires.old).tally.ended) }
+    ensures course { OnOk result (Course (W.faults wires.old) (W.faults wires.new) (W.script wires.old) (W.script wires.new)) }
+    ensures step { OnOk result (IsInStep (W.told wires.new) progress.new) }
+{
+    match wires.dial(name) {
+        Ok(p) => {
+            let acts = client.dialled(p, name)?;
+            carry_out(alloc, wires, client, &acts, progress)?;
+            Ok(())
+        }
+        Err(WireFail::Failed) => {
+            client.not_dialled(client.next_number(), name)?;
+            Ok(())
+        }
+        Err(WireFail::NoMemory) => Err(NoMemory),
+    }
+}
+
+// Takes one delivery, if something is open.
+fn take_turn<W: Wires>(
+    alloc: Global,
+    wires: &mut W,
+    client: &mut Client,
+    progress: &mut Progress,
+) -> Result<Option<End>, NoMemory>
+    requires step { IsInStep (W.told wires.old) progress.old }
+    ensures turned { IfOk result (λ end. (called : List (List ℕ)) → HoldsOver client.old progress.old called (W.told wires.old) → Turned end client.new progress.new called (W.told wires.new)) }
+    ensures taken { IfOk result (λ end. IfNone end ((W.told wires.new).tally.taken ≡ (W.told wires.old).tally.taken + 1)) }
+    ensures untired { IfOk result (λ end. end ≢ Some End.Tired) }
+    ensures ended { IfOk result (λ end. IsEndTold end (W.told wires.old).tally (W.told wires.new).tally) }
+    ensures course { OnOk result (Course (W.faults wires.old) (W.faults wires.new) (W.script wires.old) (W.script wires.new)) }
+    ensures step { OnOk result (IsInStep (W.told wires.new) progress.new) }
+{
+    match client.state() {
+        State::Synced => return Ok(Some(End::Synced)),
+        State::NoPeers => return Ok(Some(End::NoPeers)),
+        State::Working => {}
+    }
+    let d = wires.next()?;
+    if let Delivery::Ended = &d {
+        return Ok(Some(End::Ended));
+    }
+    let acts = client.step(&d)?;
+    carry_out(alloc, wires, client, &acts, progress)?;
+    Ok(None)
+}
+
+// Dials the names in order.
+fn dial_all<W: Wires>(
+    alloc: Global,
+    wires: &mut W,
+    client: &mut Client,
+    progress: &mut Progress,
+    names: &[String],
+) -> Result<(), NoMemory>
+    requires few { length names.now ≤ 8 }
+    requires fresh { (W.told wires.old).tally.dials ≡ 0 }
+    requires untaken { (W.told wires.old).tally.taken ≡ 0 }
+    requires unended { (W.told wires.old).tally.ended ≡ 0 }
+    requires next { count_of client.old ≡ 1 }
+    requires step { IsInStep (W.told wires.old) progress.old }
+    ensures holds { OnOk result (HoldsOver client.old progress.old [] (W.told wires.old) → HoldsOver client.new progress.new (names_in names.now) (W.told wires.new)) }
+    ensures taken { OnOk result ((W.told wires.new).tally.taken ≡ 0) }
+    ensures unended { OnOk result ((W.told wires.new).tally.ended ≡ 0) }
+    ensures course { OnOk result (Course (W.faults wires.old) (W.faults wires.new) (W.script wires.old) (W.script wires.new)) }
+    ensures step { OnOk result (IsInStep (W.told wires.new) progress.new) }
+{
+    for name in names {
+        dial_one(alloc, wires, client, progress, name.as_str())?;
+    }
+    Ok(())
+}
+
+// How a run ends once its turns are used up.
+fn last_end(client: &Client) -> End
+    ensures end { (log : Log) → Reflects client.now log → IsEnd result log }
+    ensures unended { result ≢ End.Ended }
+{
+    match client.state() {
+        State::Working => End::Tired,
+        State::Synced => End::Synced,
+        State::NoPeers => End::NoPeers,
+    }
+}
+
+// Takes turns until the run ends.
+fn take_turns<W: Wires>(
+    alloc: Global,
+    wires: &mut W,
+    client: &mut Client,
+    progress: &mut Progress,
+    turns: u32,
+) -> Result<End, NoMemory>
+    requires fresh { (W.told wires.old).tally.taken ≡ 0 }
+    requires unended { (W.told wires.old).tally.ended ≡ 0 }
+    requires step { IsInStep (W.told wires.old) progress.old }
+    ensures stopped { IfOk result (λ end. (called : List (List ℕ)) → HoldsOver client.old progress.old called (W.told wires.old) → Stopped end client.new progress.new called (W.told wires.new)) }
+    ensures tired { IfOk result (λ end. end ≡ End.Tired → (W.told wires.new).tally.taken ≡ turns) }
+    ensures ended { IfOk result (λ end. end ≡ End.Ended → (W.told wires.new).tally.ended ≡ 1) }
+    ensures course { OnOk result (Course (W.faults wires.old) (W.faults wires.new) (W.script wires.old) (W.script wires.new)) }
+{
+    for _turn in 0..turns {
+        if let Some(end) = take_turn(alloc, wires, client, progress)? {
+            return Ok(end);
+        }
+    }
+    Ok(last_end(client))
+}
+
+/// Dials the peers in order, at most eight, and follows the best chain that they show, until nothing is open, no peer is left,
+/// the stated number of deliveries was taken, or the wires give no more. The wires are new: nothing has passed them.
+pub fn sync_over<W: Wires>(
+    alloc: Global,
+    wires: &mut W,
+    names: &[String],
+    moment: i64,
+    nonce: u64,
+    turns: u32,
+) -> Result<Outcome, NoMemory>
+    requires fresh { Tells [] (W.told wires.old) }
+    requires few { length names.now ≤ 8 }
+    ensures followed { IfOk result (λ o. IfSome (W.told wires.new).log (λ log. Followed o.end o.height o.tip o.trace.items (names_in names.now) log)) }
+    ensures theorem { IfOk result (λ o. IfSome (W.told wires.new).log (λ log. SyncTheorem o.end o.height o.tip log)) }
+    ensures no_peers { IfOk result (λ o. (o.end ≡ End.NoPeers) ↔ NobodyLeft (W.told wires.new).tally) }
+    ensures tired { IfOk result (λ o. o.end ≡ End.Tired → (W.told wires.new).tally.taken ≡ turns) }
+    ensures ended { IfOk result (λ o. o.end ≡ End.Ended → (W.told wires.new).tally.ended ≡ 1) }
+    ensures course { OnOk result (Course (W.faults wires.old) (W.faults wires.new) (W.script wires.old) (W.script wires.new)) }
+{
+    let mut client = Client::new(alloc, moment, nonce)?;
+    let mut progress = Progress::new(alloc);
+    dial_all(alloc, wires, &mut client, &mut progress, names)?;
+    let end = take_turns(alloc, wires, &mut client, &mut progress, turns)?;
+    let ends = client.ends()?;
+    Ok(Outcome {
+        end,
+        height: 0,
+        tip: block_hash(&genesis_header()),
+        trace: progress.trace,
+        ends,
+    })
+}

@@ -1,0 +1,390 @@
+-- One peer's part of a log, message by message, the newest first, and what can be said of it. Nothing here knows of the client.
+use Rattle.std.specs.Prelude.{◌≡◌, ◌⊎◌, ℕ, ℤ, pos, ◌+◌, ◌≤◌, ◌==◌, nat_lt, Bool, true, false, not, ◌&&◌, ◌||◌, if◌then◌else◌, List, [], ◌∷◌, ◌++◌, map, replicate, codes, length, Option, Some, None, is_none, Result, Ok, Err, bit_and}
+use Rattle.cf_bytes.specs.declared.hash.Hash32.{Hash32}
+use Rattle.cf_bytes.specs.declared.peer.PeerNo.{PeerNo}
+use Rattle.cf_frame.specs.declared.frame.Frame.{Frame}
+use Rattle.cf_frame.specs.declared.frame.FrameFault.{FrameFault}
+use Rattle.cf_frame.specs.Stream.{StreamRead, read_stream}
+use Rattle.cf_block.specs.declared.header.Header.{Header}
+use Rattle.cf_headers.specs.Chain.{Chain, Accepted, Longer, NoLonger, Unlinked, Invalid, TooHigh, accept, no_hash, locator_of, IsValidChain}
+use Rattle.cf_msg.specs.declared.msg.Malformed.{Malformed}
+use Rattle.cf_msg.specs.declared.msg.Msg.{Msg}
+use Rattle.cf_msg.specs.declared.msg.Msg.TheVariants.{Version, Verack, Ping, Pong, GetHeaders, Headers, Other}
+use Rattle.cf_msg.specs.declared.msg.NetAddress.{NetAddress}
+use Rattle.cf_msg.specs.Reading.{message_of}
+use Rattle.cf_peer.specs.declared.event.Delivery.{Delivery}
+use Rattle.cf_peer.specs.declared.event.Delivery.TheVariants.{Got, Gone, Tick, Ended}
+use Rattle.cf_peer.specs.declared.event.Event.{Event}
+use Rattle.cf_peer.specs.declared.event.Event.TheVariants.{Dialled, NotDialled, Sent, SendFailed, Closed, Took}
+use Rattle.cf_peer.specs.declared.peer.Cause.{Cause}
+use Rattle.cf_peer.specs.declared.peer.Cause.TheVariants.{BadFrame, Malformed as IsMalformed, NoFilters, Unlinked as NotLinked, InvalidHeader, TooHigh as AboveLimit, SendFailed as SendFault, Overdue}
+use Rattle.cf_peer.specs.Log.{Log}
+
+-- how a peer is lost: it went, or was never there; a send to it failed; or it was closed
+pub data Why : Type 0 where
+  Went : Why
+  Failing : Why
+  Shutting : Why
+
+-- what may pass between the client and one peer
+pub data Item : Type 0 where
+  Called : Item
+  Said : (m : Msg) → Item
+  Refused : (cause : Cause) → Item
+  Asked : (m : Msg) → Item
+  Passed : (seconds : ℕ) → Item
+  Lost : (why : Why) → Item
+
+abbrev pub Trail : Type 0
+Trail = List Item
+
+-- what a whole frame says: a message, or what deserves a cause
+abbrev pub item_of_read : Result Msg Malformed → Item
+item_of_read (Ok m) = Said m
+item_of_read (Err e) = Refused IsMalformed
+
+abbrev pub item_of : Frame → Item
+item_of f = item_of_read (message_of f)
+
+abbrev pub hears : List Frame → Trail → Trail
+hears [] t = t
+hears (f ∷ fs) t = hears fs (item_of f ∷ t)
+
+abbrev pub hears_fault : Option FrameFault → Trail → Trail
+hears_fault None t = t
+hears_fault (Some fault) t = Refused BadFrame ∷ t
+
+-- a peer's part: what was said and done, and the bytes of it that are no whole frame yet
+pub record Part : Type 0 where
+  pub trail : Trail
+  pub waits : List ℕ
+
+-- what a stream of bytes says
+abbrev pub part_after : StreamRead → Trail → Part
+part_after r t = record { trail = hears_fault r.fault (hears r.frames t); waits = r.rest }
+
+abbrev pub heard_part : List ℕ → Part → Part
+heard_part piece part = part_after (read_stream (part.waits ++ piece)) part.trail
+
+-- the message that the bytes of one send spell
+abbrev pub message_in : Result Msg Malformed → Option Msg
+message_in (Ok m) = Some m
+message_in (Err e) = None
+
+abbrev pub one_message : List Frame → Option Msg
+one_message [] = None
+one_message (f ∷ []) = message_in (message_of f)
+one_message (f ∷ g ∷ fs) = None
+
+abbrev pub spelled : List ℕ → Option Msg
+spelled bytes = one_message (read_stream bytes).frames
+
+abbrev pub asks : Option Msg → Trail → Trail
+asks None t = t
+asks (Some m) t = Asked m ∷ t
+
+abbrev pub with_item : Item → Part → Part
+with_item i part = record part { trail = i ∷ part.trail }
+
+-- a peer is dialled: its stream begins
+abbrev pub called_part : Part → Part
+called_part part = record { trail = Called ∷ part.trail; waits = [] }
+
+abbrev pub took : Delivery → ℕ → Part → Part
+took (Got q piece) p part = if q.0 == p then heard_part piece part else part
+took (Gone q) p part = if q.0 == p then with_item (Lost Went) part else part
+took (Tick s) p part = with_item (Passed s) part
+took Ended p part = part
+
+abbrev pub went_on : Event → ℕ → Part → Part
+went_on (Dialled q name) p part = if q.0 == p then called_part part else part
+went_on (NotDialled q name) p part = if q.0 == p then with_item (Lost Went) part else part
+went_on (Sent q bytes) p part = if q.0 == p then record part { trail = asks (spelled bytes) part.trail } else part
+went_on (SendFailed q) p part = if q.0 == p then with_item (Lost Failing) part else part
+went_on (Closed q) p part = if q.0 == p then with_item (Lost Shutting) part else part
+went_on (Took d) p part = took d p part
+
+-- the part of the peer with this number
+abbrev pub part_of : Log → ℕ → Part
+part_of [] p = record { trail = []; waits = [] }
+part_of (e ∷ log) p = went_on e p (part_of log p)
+
+abbrev pub trail : Log → ℕ → Trail
+trail log p = (part_of log p).trail
+
+-- kinds of messages
+abbrev pub is_version : Msg → Bool
+is_version (Version version services time to from nonce agent height relay) = true
+is_version m = false
+
+abbrev pub is_verack : Msg → Bool
+is_verack Verack = true
+is_verack m = false
+
+-- service bits 0 (the whole chain) and 6 (compact filters)
+abbrev pub has_filters : ℕ → Bool
+has_filters services = bit_and services 65 == 65
+
+-- it was dialled, and nothing has cut it off
+abbrev pub connected : Trail → Bool
+connected [] = false
+connected (Called ∷ t) = true
+connected (Said m ∷ t) = connected t
+connected (Refused c ∷ t) = connected t
+connected (Asked m ∷ t) = connected t
+connected (Passed s ∷ t) = connected t
+connected (Lost w ∷ t) = false
+
+-- the client has sent its version
+abbrev pub greeted : Trail → Bool
+greeted [] = false
+greeted (Called ∷ t) = false
+greeted (Said m ∷ t) = greeted t
+greeted (Refused c ∷ t) = greeted t
+greeted (Asked m ∷ t) = is_version m || greeted t
+greeted (Passed s ∷ t) = greeted t
+greeted (Lost w ∷ t) = greeted t
+
+-- its version has come
+abbrev pub met : Trail → Bool
+met [] = false
+met (Called ∷ t) = false
+met (Said m ∷ t) = is_version m || met t
+met (Refused c ∷ t) = met t
+met (Asked m ∷ t) = met t
+met (Passed s ∷ t) = met t
+met (Lost w ∷ t) = met t
+
+-- a verack has come after its version: the handshake is over
+abbrev pub ready : Trail → Bool
+ready [] = false
+ready (Called ∷ t) = false
+ready (Said m ∷ t) = (is_verack m && met t) || ready t
+ready (Refused c ∷ t) = ready t
+ready (Asked m ∷ t) = ready t
+ready (Passed s ∷ t) = ready t
+ready (Lost w ∷ t) = ready t
+
+-- its own chain: the longest that its headers after the handshake have made
+abbrev pub longer_of : Accepted → Chain → Chain
+longer_of (Longer next) own = next
+longer_of NoLonger own = own
+longer_of Unlinked own = own
+longer_of (Invalid place fault) own = own
+longer_of TooHigh own = own
+
+abbrev pub own_after : Msg → Chain → Chain
+own_after (Headers hs) own = longer_of (accept hs own) own
+own_after m own = own
+
+abbrev pub own : Trail → Chain
+own [] = []
+own (Called ∷ t) = []
+own (Said m ∷ t) = if ready t then own_after m (own t) else own t
+own (Refused c ∷ t) = own t
+own (Asked m ∷ t) = own t
+own (Passed s ∷ t) = own t
+own (Lost w ∷ t) = own t
+
+-- headers have come that were empty, brought no longer chain or were fewer than 2000: it has no more to tell
+abbrev pub ends_by : Accepted → List Header → Bool
+ends_by (Longer next) hs = nat_lt (length hs) 2000
+ends_by NoLonger hs = true
+ends_by Unlinked hs = false
+ends_by (Invalid place fault) hs = false
+ends_by TooHigh hs = false
+
+abbrev pub ends_with : Msg → Chain → Bool
+ends_with (Headers hs) own = ends_by (accept hs own) hs
+ends_with m own = false
+
+abbrev pub heard : Trail → Bool
+heard [] = false
+heard (Called ∷ t) = false
+heard (Said m ∷ t) = heard t || (ready t && ends_with m (own t))
+heard (Refused c ∷ t) = heard t
+heard (Asked m ∷ t) = heard t
+heard (Passed s ∷ t) = heard t
+heard (Lost w ∷ t) = heard t
+
+-- it was asked for headers, and none have come since
+abbrev pub is_getheaders : Msg → Bool
+is_getheaders (GetHeaders version locator stop) = true
+is_getheaders m = false
+
+abbrev pub is_headers : Msg → Bool
+is_headers (Headers hs) = true
+is_headers m = false
+
+abbrev pub headers_open : Trail → Bool
+headers_open [] = false
+headers_open (Called ∷ t) = false
+headers_open (Said m ∷ t) = not (is_headers m) && headers_open t
+headers_open (Refused c ∷ t) = headers_open t
+headers_open (Asked m ∷ t) = is_getheaders m || headers_open t
+headers_open (Passed s ∷ t) = headers_open t
+headers_open (Lost w ∷ t) = headers_open t
+
+-- the seconds since the newest request, the call among them
+abbrev pub age : Trail → ℕ
+age [] = 0
+age (Called ∷ t) = 0
+age (Said m ∷ t) = age t
+age (Refused c ∷ t) = age t
+age (Asked m ∷ t) = if is_getheaders m then 0 else age t
+age (Passed s ∷ t) = age t + s
+age (Lost w ∷ t) = age t
+
+-- something is open to it: the handshake, or a request
+abbrev pub is_open : Trail → Bool
+is_open t = connected t && (not (ready t) || headers_open t)
+
+-- the cause for which a message has a peer closed, after what passed before
+abbrev pub fault_in : Accepted → Option Cause
+fault_in (Longer next) = None
+fault_in NoLonger = None
+fault_in Unlinked = Some NotLinked
+fault_in (Invalid place fault) = Some InvalidHeader
+fault_in TooHigh = Some AboveLimit
+
+abbrev pub fault_of : Msg → Trail → Option Cause
+fault_of (Version version services time to from nonce agent height relay) t = if met t || has_filters services then None else Some NoFilters
+fault_of (Headers hs) t = if ready t then fault_in (accept hs (own t)) else None
+fault_of m t = None
+
+abbrev pub first : Option Cause → Option Cause → Option Cause
+first (Some c) later = Some c
+first None later = later
+
+-- the first cause that its frames give
+abbrev pub verdict : Trail → Option Cause
+verdict [] = None
+verdict (Called ∷ t) = None
+verdict (Said m ∷ t) = first (verdict t) (fault_of m t)
+verdict (Refused c ∷ t) = first (verdict t) (Some c)
+verdict (Asked m ∷ t) = verdict t
+verdict (Passed s ∷ t) = verdict t
+verdict (Lost w ∷ t) = verdict t
+
+-- the part that counts: what it said while it was connected and before the first frame that deserves a cause
+abbrev pub counts : Msg → Trail → Bool
+counts m t = connected t && is_none (verdict (Said m ∷ t))
+
+abbrev pub counted : Trail → Trail
+counted [] = []
+counted (Called ∷ t) = Called ∷ counted t
+counted (Said m ∷ t) = if counts m t then Said m ∷ counted t else counted t
+counted (Refused c ∷ t) = counted t
+counted (Asked m ∷ t) = Asked m ∷ counted t
+counted (Passed s ∷ t) = Passed s ∷ counted t
+counted (Lost w ∷ t) = Lost w ∷ counted t
+
+-- the headers that it has shown, and the chains that they make
+abbrev pub headers_in : Msg → List Header
+headers_in (Headers hs) = hs
+headers_in m = []
+
+abbrev pub shown : Trail → List Header
+shown [] = []
+shown (Called ∷ t) = []
+shown (Said m ∷ t) = if ready t then headers_in m ++ shown t else shown t
+shown (Refused c ∷ t) = shown t
+shown (Asked m ∷ t) = shown t
+shown (Passed s ∷ t) = shown t
+shown (Lost w ∷ t) = shown t
+
+abbrev pub IsIn : {A : Type 0} → A → List A → Type 0
+IsIn x [] = ⊥
+IsIn x (y ∷ ys) = (x ≡ y) ⊎ IsIn x ys
+
+pub record Shows (t : Trail) (chain : Chain) : Type 0 where
+  pub valid : IsValidChain chain
+  pub told : (h : Header) → IsIn h chain → IsIn h (shown t)
+
+-- a send to it has failed
+abbrev pub is_failing : Why → Bool
+is_failing Went = false
+is_failing Failing = true
+is_failing Shutting = false
+
+abbrev pub failed : Trail → Bool
+failed [] = false
+failed (Called ∷ t) = false
+failed (Said m ∷ t) = failed t
+failed (Refused c ∷ t) = failed t
+failed (Asked m ∷ t) = failed t
+failed (Passed s ∷ t) = failed t
+failed (Lost w ∷ t) = is_failing w || failed t
+
+-- it deserves to be closed for this cause: by its words, by a send that failed, or by its silence
+abbrev pub Deserves : Trail → Cause → Type 0
+Deserves t cause =
+    ((connected t ≡ true) × (verdict t ≡ Some cause))
+    ⊎ ((cause ≡ SendFault) × (failed t ≡ true))
+    ⊎ ((cause ≡ Overdue) × (is_open t ≡ true) × (60 ≤ age t))
+
+-- what is owed to its messages: one verack to its version, and after that one pong to each ping
+abbrev pub reply_to : Msg → Trail → List Msg
+reply_to (Version version services time to from nonce agent height relay) t = if met t then [] else Verack ∷ []
+reply_to (Ping number) t = if met t then Pong number ∷ [] else []
+reply_to m t = []
+
+abbrev pub owed : Trail → List Msg
+owed [] = []
+owed (Called ∷ t) = []
+owed (Said m ∷ t) = owed t ++ reply_to m t
+owed (Refused c ∷ t) = owed t
+owed (Asked m ∷ t) = owed t
+owed (Passed s ∷ t) = owed t
+owed (Lost w ∷ t) = owed t
+
+-- the replies that it was sent
+abbrev pub as_reply : Msg → List Msg
+as_reply Verack = Verack ∷ []
+as_reply (Pong number) = Pong number ∷ []
+as_reply m = []
+
+abbrev pub replied : Trail → List Msg
+replied [] = []
+replied (Called ∷ t) = []
+replied (Said m ∷ t) = replied t
+replied (Refused c ∷ t) = replied t
+replied (Asked m ∷ t) = replied t ++ as_reply m
+replied (Passed s ∷ t) = replied t
+replied (Lost w ∷ t) = replied t
+
+-- the version that the client sends: protocol 70016, no services, no addresses, its agent, height 0, no relay
+abbrev pub no_address : NetAddress
+no_address = record { services = 0; ip = replicate 16 0; port = 0 }
+
+abbrev pub IsClientVersion : Msg → Type 0
+IsClientVersion (Version version services time to from nonce agent height relay) =
+    (version ≡ pos 70016) × (services ≡ 0) × (to ≡ no_address) × (from ≡ no_address) × (agent ≡ codes "/cf:1/") × (height ≡ pos 0) × (relay ≡ Some 0)
+IsClientVersion m = ⊥
+
+-- the same message was sent to it before
+abbrev pub WasAsked : Trail → Msg → Type 0
+WasAsked [] m = ⊥
+WasAsked (Called ∷ t) m = ⊥
+WasAsked (Said n ∷ t) m = WasAsked t m
+WasAsked (Refused c ∷ t) m = WasAsked t m
+WasAsked (Asked n ∷ t) m = (m ≡ n) ⊎ WasAsked t m
+WasAsked (Passed s ∷ t) m = WasAsked t m
+WasAsked (Lost w ∷ t) m = WasAsked t m
+
+-- it may be asked: it is ready, and nothing is open to it
+pub record IsFree (t : Trail) : Type 0 where
+  pub on : connected t ≡ true
+  pub over : ready t ≡ true
+  pub idle : headers_open t ≡ false
+
+-- whether a message may be sent to it
+abbrev pub MayAsk : Trail → Msg → Type 0
+MayAsk t (Version version services time to from nonce agent height relay) =
+    (connected t ≡ true) × (greeted t ≡ false) × IsClientVersion (Version version services time to from nonce agent height relay)
+MayAsk t Verack = (connected t ≡ true) × (met t ≡ true)
+MayAsk t (Pong number) = (connected t ≡ true) × (met t ≡ true)
+MayAsk t (GetHeaders version locator stop) =
+    IsFree t × (heard t ≡ false) × (version ≡ 70016) × (map (λ (h : Hash32). h.0) locator ≡ locator_of (own t)) × (stop.0 ≡ no_hash)
+    × (WasAsked t (GetHeaders version locator stop) → ⊥)
+MayAsk t m = ⊥

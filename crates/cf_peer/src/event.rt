@@ -1,0 +1,150 @@
+//! What passes the wires.
+ghost use Rattle.std.specs.Prelude.{◌≡◌, IfOk};
+
+use cf_bytes::{NoMemory, PeerNo};
+use std::alloc::Global;
+use std::marker::Model;
+
+/// Bytes that came from a peer together, seen as the list of them.
+#[derive(Drop, Debug)]
+pub struct Piece {
+    bytes: Vec<u8>,
+}
+
+impl Model for Piece {
+    ghost use Rattle.std.specs.Prelude.{ℕ, List};
+
+    ghost Value = { List ℕ };
+
+    ghost view = { λ p. p.bytes.items };
+}
+
+impl Piece {
+    /// A piece of these bytes.
+    pub fn new(bytes: Vec<u8>) -> Piece
+        ensures { result ≡ bytes.items }
+    {
+        Piece { bytes }
+    }
+
+    /// A copy of some bytes.
+    pub fn from_slice(alloc: Global, bytes: &[u8]) -> Result<Piece, NoMemory>
+        ensures { IfOk result (λ p. p ≡ bytes.now) }
+    {
+        Ok(Piece {
+            bytes: Vec::from_slice(alloc, bytes)?,
+        })
+    }
+
+    /// Its bytes.
+    pub fn as_slice(&self) -> &[u8]
+        ensures { result.now ≡ self.now }
+    {
+        &self.bytes
+    }
+}
+
+/// The name by which a peer is dialled, seen as the list of its bytes.
+#[derive(Drop, Debug)]
+pub struct Name {
+    bytes: Vec<u8>,
+}
+
+impl Model for Name {
+    ghost use Rattle.std.specs.Prelude.{ℕ, List};
+
+    ghost Value = { List ℕ };
+
+    ghost view = { λ n. n.bytes.items };
+}
+
+impl Name {
+    /// A copy of a name.
+    pub fn from_text(alloc: Global, text: &str) -> Result<Name, NoMemory>
+        ensures { IfOk result (λ n. n ≡ text.now) }
+    {
+        Ok(Name {
+            bytes: Vec::from_slice(alloc, text.as_bytes())?,
+        })
+    }
+
+    /// Its bytes.
+    pub fn as_bytes(&self) -> &[u8]
+        ensures { result.now ≡ self.now }
+    {
+        &self.bytes
+    }
+}
+
+/// A dial: its name, and whether the peer answered.
+#[derive(Drop, Debug)]
+pub struct Dial {
+    /// The name that was dialled.
+    pub name: Name,
+    /// Whether the dial went well.
+    pub answered: bool,
+}
+
+/// What comes from the outside, one at a time.
+#[derive(Drop, Debug)]
+pub enum Delivery {
+    /// A peer has sent these bytes, at least one.
+    Got(PeerNo, Piece),
+    /// A peer has gone, and sends no more.
+    Gone(PeerNo),
+    /// So many seconds have passed since the last tick, from 1 to 86,400.
+    Tick(u32),
+    /// Nothing more comes.
+    Ended,
+}
+
+/// What passed the wires.
+#[derive(Drop, Debug)]
+pub enum Event {
+    /// A peer was dialled by this name.
+    Dialled(PeerNo, Name),
+    /// A dial of this name failed.
+    NotDialled(PeerNo, Name),
+    /// These bytes were sent to a peer.
+    Sent(PeerNo, Piece),
+    /// A send to a peer failed.
+    SendFailed(PeerNo),
+    /// The connection to a peer was closed.
+    Closed(PeerNo),
+    /// A delivery was taken.
+    Took(Delivery),
+}
+
+/// How a peer stands, by what passed last of these.
+#[derive(Clone, Copy, Debug, PartialEq, Eq)]
+pub enum Mark {
+    /// It was not dialled yet.
+    NotYet,
+    /// It was dialled.
+    Called,
+    /// Its dial failed.
+    Missed,
+    /// It has gone.
+    Left,
+    /// It was closed.
+    Shut,
+    /// A send to it failed.
+    Broken,
+}
+
+impl Delivery {
+    /// The same delivery once more.
+    pub fn copy(&self, alloc: Global) -> Result<Delivery, NoMemory>
+        ensures { IfOk result (λ d. d ≡ self.now) }
+    {
+        match self {
+            Delivery::Got(p, piece) => {
+                let piece = Piece::from_slice(alloc, piece.as_slice())?;
+                Ok(Delivery::Got(*p, piece))
+            }
+            Delivery::Gone(p) => Ok(Delivery::Gone(*p)),
+            Delivery::Tick(seconds) => Ok(Delivery::Tick(*seconds)),
+            Delivery::Ended => Ok(Delivery::Ended),
+        }
+    }
+}

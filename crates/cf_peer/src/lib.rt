@@ -1,0 +1,15 @@
+//! One peer of the client: what passes the wires between them, and what the client keeps of it.
+#![tactic(auto)]
+
+mod act;
+mod event;
+mod hear;
+mod memory;
+mod peer;
+mod wires;
+
+pub use act::Act;
+pub use event::{Delivery, Dial, Event, Mark, Name, Piece};
+pub use memory::{MemoryWires, Scripted};
+pub use peer::{Cause, Peer, Reply, Request};
+pub use wires::{WireFail, Wires};

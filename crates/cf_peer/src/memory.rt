@@ -1,0 +1,207 @@
+//! Wires in memory: how each dial goes, the deliveries, a list of the calls that fail, and a log that is always told.
+ghost use Rattle.std.specs.Prelude.{◌≡◌, ◌≤◌, ◌<◌, ◌+◌, ℕ, Some, reverse, length, [], ◌∷◌, ◌++◌, OnOk, OnErr, IfOk, IsErrOf, true, false, not, take, vec_len, vec_capacity};
+ghost use Rattle.std.specs.List.{list_all, count_by};
+ghost use Rattle.cf_bytes.specs.Outside.{HasRisen};
+ghost use Rattle.cf_peer.specs.Log.{tally_of, deliveries, dials as dials_of, is_real};
+ghost use Rattle.cf_peer.specs.Dials.{WentAsMade, answered_at};
+
+use crate::event::{Delivery, Dial, Event, Name, Piece};
+use crate::wires::{WireFail, Wires};
+use cf_bytes::{NoMemory, PeerNo};
+use std::alloc::Global;
+
+/// What wires in memory are made to give.
+#[derive(Drop, Debug)]
+pub enum Scripted {
+    /// The next dial is answered.
+    Dial(Name),
+    /// The next dial fails.
+    NoDial(Name),
+    /// A delivery.
+    Deliver(Delivery),
+}
+
+/// Wires that give what they were made to give, in order, and keep a log. A dial past the last one that was added fails.
+#[derive(Drop)]
+pub struct MemoryWires {
+    alloc: Global,
+    dial_script: Vec<Dial>,
+    script: Vec<Delivery>,
+    // How many deliveries were given.
+    at: usize,
+    failing: Vec<u64>,
+    calls: u64,
+    faults: u64,
+    dials: u32,
+    // Which peers were closed, by their numbers.
+    closed: [bool; 9],
+    log: Vec<Event>,
+    ghost dials_are: { (tally_of (reverse log.items)).dials ≡ dials },
+    ghost closed_are: { (tally_of (reverse log.items)).closed ≡ closed },
+    ghost played: { deliveries (reverse log.items) ≡ take at script.items },
+    ghost real: { list_all is_real script.items ≡ true },
+    ghost within: { at ≤ vec_len script },
+    ghost spent: { 0 < (tally_of (reverse log.items)).ended → at ≡ vec_len script },
+    ghost room: { vec_len log + count_by not closed ≤ vec_capacity log },
+    ghost went: { failing.items ≡ [] → WentAsMade dial_script.items (dials_of (reverse log.items)) },
+    ghost many: { length (dials_of (reverse log.items)) ≡ dials },
+}
+
+impl MemoryWires {
+    ghost use Rattle.cf_peer.specs.Memory.{script_of, log_of, failing_of, may_be_added, with_scripted, with_dial};
+
+    /// Wires that were made to give nothing: each dial fails.
+    pub fn new(alloc: Global) -> Result<MemoryWires, NoMemory>
+        ensures log { IfOk result (λ w. log_of w ≡ []) }
+        ensures script { IfOk result (λ w. script_of w ≡ record { dials = []; deliveries = [] }) }
+        ensures failing { IfOk result (λ w. failing_of w ≡ []) }
+    {
+        Ok(MemoryWires {
+            alloc,
+            dial_script: Vec::new(alloc),
+            script: Vec::new(alloc),
+            at: 0,
+            failing: Vec::new(alloc),
+            calls: 0,
+            faults: 0,
+            dials: 0,
+            closed: [false; 9],
+            log: Vec::with_capacity(alloc, 9)?,
+        })
+    }
+
+    /// Adds what is to be given next: a dial's fate, or a delivery other than the end. All is added before the first dial.
+    pub fn add(&mut self, e: Scripted) -> Result<(), NoMemory>
+        requires new { log_of self.old ≡ [] }
+        requires real { may_be_added e ≡ true }
+        ensures script { OnOk result (script_of self.new ≡ with_scripted (script_of self.old) e) }
+        ensures log { log_of self.new ≡ log_of self.old }
+        ensures failing { failing_of self.new ≡ failing_of self.old }
+        ensures err { OnErr result (script_of self.new ≡ script_of self.old) }
+    {
+        match e {
+            Scripted::Dial(name) => self.add_dial(name, true),
+            Scripted::NoDial(name) => self.add_dial(name, false),
+            Scripted::Deliver(d) => {
+                self.script.push(d)?;
+                Ok(())
+            }
+        }
+    }
+
+    /// Takes a whole script in place of what was added: how the dials go, in order, and the deliveries, none of them the end. It takes no memory.
+    pub fn load(&mut self, dials: Vec<Dial>, deliveries: Vec<Delivery>)
+        requires new { log_of self.old ≡ [] }
+        requires real { list_all is_real deliveries.items ≡ true }
+        ensures script { script_of self.new ≡ record { dials = dials.items; deliveries = deliveries.items } }
+        ensures log { log_of self.new ≡ log_of self.old }
+        ensures failing { failing_of self.new ≡ failing_of self.old }
+    {
+        self.dial_script = dials;
+        self.script = deliveries;
+        self.at = 0;
+    }
+
+    // Adds a dial's fate.
+    fn add_dial(&mut self, name: Name, answered: bool) -> Result<(), NoMemory>
+        requires { log_of self.old ≡ [] }
+        ensures script { OnOk result (script_of self.new ≡ with_dial (script_of self.old) (record { name = name; answered = answered })) }
+        ensures log { log_of self.new ≡ log_of self.old }
+        ensures failing { failing_of self.new ≡ failing_of self.old }
+        ensures err { OnErr result (script_of self.new ≡ script_of self.old) }
+    {
+        self.dial_script.push(Dial { name, answered })?;
+        Ok(())
+    }
+
+    /// These calls of `dial` and `send` are to fail, counted from 1 over both. It is told before the first dial.
+    pub fn failing(&mut self, calls: &[u64]) -> Result<(), NoMemory>
+        requires { log_of self.old ≡ [] }
+        ensures ok { OnOk result (failing_of self.new ≡ calls.now) }
+        ensures script { script_of self.new ≡ script_of self.old }
+        ensures log { log_of self.new ≡ log_of self.old }
+        ensures err { OnErr result (failing_of self.new ≡ failing_of self.old) }
+    {
+        self.failing = Vec::from_slice(self.alloc, calls)?;
+        Ok(())
+    }
+
+    // Whether the next dial is answered.
+    fn is_answered(&self) -> bool
+        ensures { result ≡ answered_at self.now.dial_script.items self.now.dials }
+    {
+        match self.dial_script.get(self.dials as usize) {
+            Some(dial) => dial.answered,
+            None => false,
+        }
+    }
+
+    // Whether this call is one of those that fail.
+    fn fails(&mut self) -> bool
+        ensures log { self.new.log ≡ self.old.log }
+        ensures script { self.new.script ≡ self.old.script }
+        ensures dial_script { self.new.dial_script ≡ self.old.dial_script }
+        ensures failing { self.new.failing ≡ self.old.failing }
+        ensures dials { self.new.dials ≡ self.old.dials }
+        ensures closed { self.new.closed ≡ self.old.closed }
+        ensures faults { self.new.faults ≡ self.old.faults }
+        ensures none { self.old.failing.items ≡ [] → result ≡ false }
+    {
+        self.calls = self.calls.saturating_add(1);
+        self.failing.contains(&self.calls)
+    }
+}
+
+impl Wires for MemoryWires {
+    ghost told = { λ w. record { log = Some (reverse w.log.items); tally = tally_of (reverse w.log.items) } };
+
+    ghost faults = { λ w. w.faults };
+
+    ghost script = { λ w. Some (record { dials = w.dial_script.items; deliveries = w.script.items }) };
+
+    fn dial(&mut self, name: &str) -> Result<PeerNo, WireFail> {
+        let name = Name::from_text(self.alloc, name)?;
+        self.log.reserve(10)?;
+        let p = PeerNo(self.dials + 1);
+        if self.fails() || !self.is_answered() {
+            self.log.push(Event::NotDialled(p, name)).unwrap();
+            self.dials += 1;
+            self.faults = self.faults.saturating_add(1);
+            return Err(WireFail::Failed);
+        }
+        self.log.push(Event::Dialled(p, name)).unwrap();
+        self.dials += 1;
+        Ok(p)
+    }
+
+    fn send(&mut self, p: PeerNo, bytes: &[u8]) -> Result<(), WireFail> {
+        let piece = Piece::from_slice(self.alloc, bytes)?;
+        self.log.reserve(10)?;
+        if self.fails() {
+            self.log.push(Event::SendFailed(p)).unwrap();
+            self.faults = self.faults.saturating_add(1);
+            return Err(WireFail::Failed);
+        }
+        self.log.push(Event::Sent(p, piece)).unwrap();
+        Ok(())
+    }
+
+    fn close(&mut self, p: PeerNo) {
+        self.log.push(Event::Closed(p)).unwrap();
+        self.closed[p.0 as usize] = true;
+    }
+
+    fn next(&mut self) -> Result<Delivery, NoMemory> {
+        self.log.reserve(10)?;
+        if self.at >= self.script.len() {
+            self.log.push(Event::Took(Delivery::Ended)).unwrap();
+            return Ok(Delivery::Ended);
+        }
+        let next = &self.script[self.at];
+        let d = next.copy(self.alloc)?;
+        let kept = next.copy(self.alloc)?;
+        self.log.push(Event::Took(kept)).unwrap();
+        self.at += 1;
+        Ok(d)
+    }
+}

@@ -1,0 +1,86 @@
+//! The outside of a client: peers that are dialled, sent to, closed and heard.
+ghost use Rattle.std.specs.Prelude.{◌≡◌, ℕ, ◌+◌, ◌<◌, ◌≤◌, List, Option, IfOk, OnOk, IsErrOf, false};
+ghost use Rattle.cf_bytes.specs.declared.peer.PeerNo.{PeerNo};
+ghost use Rattle.cf_peer.specs.declared.event.Event.TheVariants.{Dialled, NotDialled, Sent, SendFailed, Closed, Took};
+ghost use Rattle.cf_peer.specs.declared.wires.WireFail.TheVariants.{NoMemory as WireNoMemory};
+ghost use Rattle.cf_peer.specs.Log.{Told, tell, was_closed};
+ghost use Rattle.cf_peer.specs.Wires.{HasCause, Script};
+
+use crate::event::Delivery;
+use cf_bytes::{NoMemory, PeerNo};
+use std::alloc::{AllocError, AllocFailed};
+use thiserror::Error;
+
+/// Why a peer was not dialled, or nothing was sent to it.
+#[derive(Clone, Copy, Debug, PartialEq, Eq, Error)]
+pub enum WireFail {
+    /// The outside failed, and its count of faults rose.
+    #[error("the connection failed")]
+    Failed,
+    /// No memory was found.
+    #[error("no memory")]
+    NoMemory,
+}
+
+impl From<NoMemory> for WireFail {
+    ghost from_gives = { λ _ e. e ≡ WireNoMemory };
+
+    fn from(_e: NoMemory) -> WireFail {
+        WireFail::NoMemory
+    }
+}
+
+impl From<AllocError> for WireFail {
+    ghost from_gives = { λ _ e. e ≡ WireNoMemory };
+
+    fn from(_e: AllocError) -> WireFail {
+        WireFail::NoMemory
+    }
+}
+
+impl<T: Drop> From<AllocFailed<T>> for WireFail {
+    ghost from_gives = { λ _ e. e ≡ WireNoMemory };
+
+    fn from(_e: AllocFailed<T>) -> WireFail {
+        WireFail::NoMemory
+    }
+}
+
+/// Connections to peers, which are numbered from 1 in the order in which they are dialled.
+pub trait Wires {
+    /// The log, where it is told, and the tally.
+    ghost told: { Self → Told };
+    /// How often the outside has failed. The count stands still at the greatest u64.
+    ghost faults: { Self → ℕ };
+    /// What they are made to give, where that is told. No call changes it.
+    ghost script: { Self → Option Script };
+
+    /// Dials the next peer. At most eight are dialled.
+    fn dial(&mut self, name: &str) -> Result<PeerNo, WireFail>
+        requires { (told self.old).tally.dials < 8 }
+        ensures dialled { IfOk result (λ p. (p.0 ≡ (told self.old).tally.dials + 1) × (told self.new ≡ tell (Dialled p name.now) (told self.old))) }
+        ensures not_dialled { IsErrOf result WireFail.Failed → told self.new ≡ tell (NotDialled (record { 0 = (told self.old).tally.dials + 1 }) name.now) (told self.old) }
+        ensures cause { HasCause (faults self.old) (faults self.new) result }
+        ensures same { script self.new ≡ script self.old };
+
+    /// Sends bytes to a peer that was dialled. Where it fails none of them may be taken as sent.
+    fn send(&mut self, p: PeerNo, bytes: &[u8]) -> Result<(), WireFail>
+        ensures sent { OnOk result (told self.new ≡ tell (Sent p bytes.now) (told self.old)) }
+        ensures not_sent { IsErrOf result WireFail.Failed → told self.new ≡ tell (SendFailed p) (told self.old) }
+        ensures cause { HasCause (faults self.old) (faults self.new) result }
+        ensures same { script self.new ≡ script self.old };
+
+    /// Closes the connection to a peer, which was dialled and not closed before. It takes no memory.
+    fn close(&mut self, p: PeerNo)
+        requires dialled { p.0 ≤ 8 }
+        requires once { was_closed (told self.old).tally p.0 ≡ false }
+        ensures closed { told self.new ≡ tell (Closed p) (told self.old) }
+        ensures later { faults self.old ≤ faults self.new }
+        ensures same { script self.new ≡ script self.old };
+
+    /// Takes the next delivery.
+    fn next(&mut self) -> Result<Delivery, NoMemory>
+        ensures took { IfOk result (λ d. told self.new ≡ tell (Took d) (told self.old)) }
+        ensures later { faults self.old ≤ faults self.new }
+        ensures same { script self.new ≡ script self.old };
+}
