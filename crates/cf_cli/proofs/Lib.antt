@@ -6,3 +6,5 @@ pub mod Refusals
 pub mod Rows
 pub mod SessionSteps
 pub mod Simple
+pub mod Runs
+pub mod Plays

@@ -7,3 +7,6 @@ pub mod SessionFile
 pub mod Sessions
 pub mod WatchFile
 pub mod Words
+pub mod Statuses
+pub mod Texts
+pub mod Theorem

@@ -1,10 +1,10 @@
 -- What holds from one moment to a later one, put together.
 use Rattle.std.proofs.Common.{ℕ, Option, refl, ◌∙◌, arith}
 use Rattle.cf_peer.specs.Log.{Told}
-use Rattle.cf_peer.specs.Wires.{Script}
+use Rattle.cf_peer.specs.Wires.{Made}
 use Rattle.cf_client.specs.Run.{Course, SameCounts}
 
-pub course_on : (f g h : ℕ) (s r q : Option Script) → Course f g s r → Course g h r q → Course f h s q
+pub course_on : (f g h : ℕ) (s r q : Option Made) → Course f g s r → Course g h r q → Course f h s q
 course_on f g h s r q one two = record {
   later = omega (arith, one.later, two.later);
   script = two.script ∙ one.script;
@@ -17,7 +17,7 @@ counts_on t u v one two = record {
   ended = two.ended ∙ one.ended;
 }
 
-pub course_still : (f : ℕ) (s : Option Script) → Course f f s s
+pub course_still : (f : ℕ) (s : Option Made) → Course f f s s
 course_still f s = record { later = omega arith; script = refl }
 
 pub counts_still : (t : Told) → SameCounts t t

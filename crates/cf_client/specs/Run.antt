@@ -15,7 +15,7 @@ use Rattle.cf_peer.specs.declared.event.Mark.{Mark}
 use Rattle.cf_peer.specs.declared.event.Mark.TheVariants.{NotYet, Called, Missed, Left, Shut, Broken}
 use Rattle.cf_peer.specs.declared.peer.Cause.{Cause}
 use Rattle.cf_peer.specs.Log.{Log, Told, Tally, Tells, tally_of, mark_of, dials}
-use Rattle.cf_peer.specs.Wires.{Script}
+use Rattle.cf_peer.specs.Wires.{Made}
 use Rattle.cf_peer.specs.Trail.{Part, part_of, trail, spelled, connected, failed, own, Deserves, MayAsk}
 use Rattle.cf_client.specs.declared.client.Client.{Client}
 use Rattle.cf_client.specs.declared.outcome.End.{End}
@@ -157,7 +157,7 @@ abbrev pub NoFailure : Tally → Type 0
 NoFailure tally = (p : ℕ) → is_fault (mark_of tally p) ≡ false
 
 -- from one moment to a later one: the count of faults never falls, and the script stays
-pub record Course (f g : ℕ) (s r : Option Script) : Type 0 where
+pub record Course (f g : ℕ) (s r : Option Made) : Type 0 where
   pub later : f ≤ g
   pub script : r ≡ s
 

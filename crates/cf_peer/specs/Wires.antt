@@ -15,3 +15,8 @@ pub record HasCause {T : Type 0} (before now : ℕ) (result : Result T WireFail)
 pub record Script : Type 0 where
   pub dials : List Dial
   pub deliveries : List Delivery
+
+-- a script, and which calls of dial and send are to fail, counted from 1
+pub record Made : Type 0 where
+  pub script : Script
+  pub failing : List ℕ

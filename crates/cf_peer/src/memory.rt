@@ -157,7 +157,7 @@ impl Wires for MemoryWires {
 
     ghost faults = { λ w. w.faults };
 
-    ghost script = { λ w. Some (record { dials = w.dial_script.items; deliveries = w.script.items }) };
+    ghost script = { λ w. Some (record { script = record { dials = w.dial_script.items; deliveries = w.script.items }; failing = w.failing.items }) };
 
     fn dial(&mut self, name: &str) -> Result<PeerNo, WireFail> {
         let name = Name::from_text(self.alloc, name)?;

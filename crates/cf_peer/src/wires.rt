@@ -4,7 +4,7 @@ ghost use Rattle.cf_bytes.specs.declared.peer.PeerNo.{PeerNo};
 ghost use Rattle.cf_peer.specs.declared.event.Event.TheVariants.{Dialled, NotDialled, Sent, SendFailed, Closed, Took};
 ghost use Rattle.cf_peer.specs.declared.wires.WireFail.TheVariants.{NoMemory as WireNoMemory};
 ghost use Rattle.cf_peer.specs.Log.{Told, tell, was_closed};
-ghost use Rattle.cf_peer.specs.Wires.{HasCause, Script};
+ghost use Rattle.cf_peer.specs.Wires.{HasCause, Made};
 
 use crate::event::Delivery;
 use cf_bytes::{NoMemory, PeerNo};
@@ -52,8 +52,8 @@ pub trait Wires {
     ghost told: { Self → Told };
     /// How often the outside has failed. The count stands still at the greatest u64.
     ghost faults: { Self → ℕ };
-    /// What they are made to give, where that is told. No call changes it.
-    ghost script: { Self → Option Script };
+    /// What they are made to give, and which calls are to fail, where that is told. No call changes it.
+    ghost script: { Self → Option Made };
 
     /// Dials the next peer. At most eight are dialled.
     fn dial(&mut self, name: &str) -> Result<PeerNo, WireFail>

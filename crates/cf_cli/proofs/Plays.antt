@@ -1,0 +1,121 @@
+-- How a session is played, and what is said where no run is made.
+use Rattle.std.proofs.Common.{◌≡◌, ℕ, suc, ◌<◌, Bool, true, false, List, [], ◌∷◌, map, length, take, Option, Some, None, Result, Ok, refl, sym, ◌∙◌, ap, subst, arith}
+use Rattle.std.specs.Prelude.{IfSome, vec_len}
+use Rattle.std.specs.FinMap as finite
+use Rattle.std.proofs.lemmas.Bool.{false≢true}
+use Rattle.std.proofs.lemmas.List.{take_all}
+use Rattle.cf_bytes.specs.Files.{Named}
+use Rattle.cf_peer.specs.declared.event.Dial.{Dial}
+use Rattle.cf_peer.specs.declared.memory.MemoryWires.{MemoryWires}
+use Rattle.cf_peer.specs.Dials.{answered_at}
+use Rattle.cf_peer.specs.Log.{Log, tally_of, dials}
+use Rattle.cf_peer.specs.Memory.{script_of, log_of, failing_of}
+use Rattle.cf_peer.specs.Wires.{Script, Made}
+use Rattle.cf_cli.specs.declared.session.SessionFault.{SessionFault}
+use Rattle.cf_cli.specs.declared.status.Status.{Status}
+use Rattle.cf_cli.specs.declared.status.Status.TheVariants.{Done, NoMemory, Usage, BadFile, FileFault, OutFault, NoPeers, Tired, Ended}
+use Rattle.cf_cli.specs.declared.words.Command.{Command}
+use Rattle.cf_cli.specs.declared.words.Command.TheVariants.{Replay, Sync}
+use Rattle.cf_cli.specs.SessionFile.{session_of}
+use Rattle.cf_cli.specs.Statuses.{has_run, IsOfFile, IsJudged, verdict_of, and_then, watch_verdict, session_verdict}
+use Rattle.cf_cli.specs.Theorem.{Kept, IsKept, Plays, PlaysSession, Tallied}
+
+-- dials of the same names that went alike are the same
+pub dials_same : (xs ys : List Dial) → map (λ (d : Dial). d.name) xs ≡ map (λ (d : Dial). d.name) ys → ((i : ℕ) → i < length xs → answered_at xs i ≡ answered_at ys i) → xs ≡ ys
+dials_same [] [] names alike = refl
+dials_same [] (y ∷ ys) names alike = absurd (let e : [] ≡ y.name ∷ map (λ (d : Dial). d.name) ys = names in cc)
+dials_same (x ∷ xs) [] names alike = absurd (let e : x.name ∷ map (λ (d : Dial). d.name) xs ≡ [] = names in cc)
+dials_same (x ∷ xs) (y ∷ ys) names alike =
+    let heads : x.name ≡ y.name = cc in
+    let tails : map (λ (d : Dial). d.name) xs ≡ map (λ (d : Dial). d.name) ys = cc in
+    let here : x.answered ≡ y.answered = alike 0 (omega arith) in
+    let more : xs ≡ ys = dials_same xs ys tails (λ i lt. alike (suc i) (omega arith)) in
+    let one : x ≡ y = ap (λ (p : List ℕ). record { name = p; answered = x.answered }) heads ∙ ap (λ (b : Bool). record { name = y.name; answered = b }) here in
+    ap (λ (d : Dial). d ∷ xs) one ∙ ap (λ (ds : List Dial). y ∷ ds) more
+
+abbrev pub made : Script → List ℕ → Made
+made script failing = record { script = script; failing = failing }
+
+some_same : (a b : Made) → Some a ≡ Some b → a ≡ b
+some_same a b e = cc
+
+pub plays_of : (status : Status) (trace : Bool) (names : List (List ℕ)) (before after : Option (List ℕ)) (turns : ℕ) (script : Script) (tape : MemoryWires)
+    → Some (made (script_of tape) (failing_of tape)) ≡ Some (made script []) → names ≡ map (λ (d : Dial). d.name) script.dials
+    → Kept status trace names before after (log_of tape) → Tallied status turns (tally_of (log_of tape)) → has_run status ≡ true → Plays status script (log_of tape)
+plays_of status trace names before after turns script tape is_made named kept tallied is =
+    let same = some_same (made (script_of tape) (failing_of tape)) (made script []) is_made in
+    let mine : script_of tape ≡ script = ap (λ (m : Made). m.script) same in
+    let unfailing : failing_of tape ≡ [] = ap (λ (m : Made). m.failing) same in
+    let run = kept.ran is in
+    record {
+      dialled = dials_same (dials (log_of tape)) script.dials (run.followed.named ∙ named) (λ i lt. tape.went unfailing i lt ∙ ap (λ (s : Script). answered_at s.dials i) mine);
+      given = (tape.at, tape.played ∙ ap (λ (s : Script). take tape.at s.deliveries) mine);
+      whole = λ over.
+          let one = tallied.ended over in
+          let all = tape.spent (omega (arith, one)) in
+          tape.played ∙ ap (λ (n : ℕ). take n tape.script.items) all ∙ whole_of tape ∙ ap (λ (s : Script). s.deliveries) mine;
+    } where
+      whole_of : (tape : MemoryWires) → take (vec_len tape.script) tape.script.items ≡ tape.script.items
+      whole_of tape = let ok = tape.script.ok.0 in take_all (vec_len tape.script) tape.script.items (omega (arith, ok))
+
+plays_by : (status : Status) (r : Result Script SessionFault) (script : Script) (log : Log) → r ≡ Ok script → (has_run status ≡ true → Plays status script log) → PlaysSession status r log
+plays_by status r script log e plays = subst (λ (x : Result Script SessionFault). PlaysSession status x log) (sym e) plays
+
+-- what is told stays the same file
+pub told_so : (o p : Option Named) (name : List ℕ) (script : Script) → o ≡ p → IfSome o (λ m. IfSome (finite.get m name) (λ bytes. session_of bytes ≡ Ok script))
+    → IfSome p (λ m. IfSome (finite.get m name) (λ bytes. session_of bytes ≡ Ok script))
+told_so o p name script same h = subst (λ (x : Option Named). IfSome x (λ m. IfSome (finite.get m name) (λ bytes. session_of bytes ≡ Ok script))) same h
+
+pub told_plays : (o : Option Named) (name : List ℕ) (status : Status) (script : Script) (log : Log)
+    → IfSome o (λ m. IfSome (finite.get m name) (λ bytes. session_of bytes ≡ Ok script)) → (has_run status ≡ true → Plays status script log)
+    → IfSome o (λ m. IfSome (finite.get m name) (λ bytes. PlaysSession status (session_of bytes) log))
+told_plays None name status script log read plays = tt
+told_plays (Some m) name status script log read plays = held_plays (finite.get m name) read where
+  held_plays : (held : Option (List ℕ)) → IfSome held (λ bytes. session_of bytes ≡ Ok script) → IfSome held (λ bytes. PlaysSession status (session_of bytes) log)
+  held_plays None h = tt
+  held_plays (Some bytes) h = plays_by status (session_of bytes) script log h plays
+
+no_run : (status : Status) → IsOfFile status → has_run status ≡ false
+no_run NoMemory is = refl
+no_run FileFault is = refl
+no_run (BadFile which place cause) is = refl
+no_run Done is = absurd is
+no_run Usage is = absurd is
+no_run OutFault is = absurd is
+no_run (NoPeers ends) is = absurd is
+no_run Tired is = absurd is
+no_run Ended is = absurd is
+
+-- where no run is made nothing has passed, and nobody is honest
+pub early_kept : (status : Status) (trace : Bool) (b : Option (List ℕ)) (log : Log) → has_run status ≡ false → log ≡ [] → Kept status trace [] b b log
+early_kept status trace b log off none = subst (λ (l : Log). Kept status trace [] b b l) (sym none) (record {
+  writes = λ p chain honest other is untraced. absurd (false≢true honest.dialled);
+  answers = λ p chain honest quiet. absurd (false≢true honest.dialled);
+  complete = λ p chain honest. absurd (false≢true honest.dialled);
+  never = λ p chain honest ne. tt;
+  ran = λ is. absurd (false≢true (sym off ∙ is));
+})
+
+pub early_is_kept : (status : Status) (trace : Bool) (b : Option (List ℕ)) (log : Log) → IsOfFile status → log ≡ [] → IsKept status trace b b log
+early_is_kept status trace b log is none = ([], early_kept status trace b log (no_run status is) none)
+
+pub judged_for : (o : Option Named) (found : Option Command) (c : Command) (status : Status) → found ≡ Some c → IfSome o (λ m. IsJudged (verdict_of m c) status)
+    → IfSome o (λ m. (other : Command) → found ≡ Some other → IsJudged (verdict_of m other) status)
+judged_for None found c status e judged = tt
+judged_for (Some m) found c status e judged = λ other is. subst (λ (x : Command). IsJudged (verdict_of m x) status) (same_command found c other e is) judged where
+  same_command : (found : Option Command) (a b : Command) → found ≡ Some a → found ≡ Some b → a ≡ b
+  same_command found a b e f = cc
+
+pub judged_replay : (o : Option Named) (found : Option Command) (trace : Bool) (watch session watch_name session_name : List ℕ) (status : Status) → watch_name ≡ watch → session_name ≡ session
+    → found ≡ Some (Replay trace watch session)
+    → IfSome o (λ m. IsJudged (and_then (watch_verdict (finite.get m watch_name)) (session_verdict (finite.get m session_name))) status)
+    → IfSome o (λ m. (other : Command) → found ≡ Some other → IsJudged (verdict_of m other) status)
+judged_replay o found trace watch session watch_name session_name status a b e judged =
+    let one = subst (λ (w : List ℕ). IfSome o (λ m. IsJudged (and_then (watch_verdict (finite.get m w)) (session_verdict (finite.get m session_name))) status)) a judged in
+    judged_for o found (Replay trace watch session) status e (subst (λ (w : List ℕ). IfSome o (λ m. IsJudged (and_then (watch_verdict (finite.get m watch)) (session_verdict (finite.get m w))) status)) b one)
+
+pub judged_sync : (o : Option Named) (found : Option Command) (turns : ℕ) (watch peer watch_name : List ℕ) (status : Status) → watch_name ≡ watch → found ≡ Some (Sync turns watch peer)
+    → IfSome o (λ m. IsJudged (watch_verdict (finite.get m watch_name)) status)
+    → IfSome o (λ m. (other : Command) → found ≡ Some other → IsJudged (verdict_of m other) status)
+judged_sync o found turns watch peer watch_name status a e judged =
+    judged_for o found (Sync turns watch peer) status e (subst (λ (w : List ℕ). IfSome o (λ m. IsJudged (watch_verdict (finite.get m w)) status)) a judged)

@@ -1,0 +1,8 @@
+use Rattle.std.proofs.Common.{refl, sym, subst}
+use Rattle.cf_client.specs.declared.outcome.End.{End}
+use Rattle.cf_cli.specs.declared.status.Status.TheVariants.{NoPeers}
+use Rattle.cf_cli.specs.Theorem.{AnswersTo}
+use Rattle.cf_cli.proofs.following.status_of.Goals as goal
+
+pub returns-in-NoPeers : goal.returns-in-NoPeers
+returns-in-NoPeers c = subst (λ (end : End). AnswersTo end (NoPeers c.args.ends)) (sym c.in-NoPeers.is) (c.args.ends, refl)

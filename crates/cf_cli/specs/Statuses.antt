@@ -1,0 +1,117 @@
+-- The answers of the program, and what each says of the files.
+use Rattle.std.specs.Prelude.{◌≡◌, ℕ, nat_lt, Bool, true, false, if◌then◌else◌, List, length, Option, Some, None, Result, Ok, Err}
+use Rattle.std.specs.FinMap as finite
+use Rattle.cf_bytes.specs.Files.{Named}
+use Rattle.cf_bytes.specs.declared.files.FileFail.{FileFail}
+use Rattle.cf_bytes.specs.declared.files.FileFail.TheVariants.{Failed, TooBig as TooMuch, NoMemory as OutOfMemory}
+use Rattle.cf_peer.specs.Wires.{Script}
+use Rattle.cf_cli.specs.declared.session.SessionFault.{SessionFault}
+use Rattle.cf_cli.specs.declared.status.FileCause.{FileCause}
+use Rattle.cf_cli.specs.declared.status.FileCause.TheVariants.{TooBig, Watch as OfWatch, Session as OfSession}
+use Rattle.cf_cli.specs.declared.status.Status.{Status}
+use Rattle.cf_cli.specs.declared.status.Status.TheVariants.{Done, NoMemory, Usage, BadFile, FileFault, OutFault, NoPeers, Tired, Ended}
+use Rattle.cf_cli.specs.declared.status.Which.{Which}
+use Rattle.cf_cli.specs.declared.status.Which.TheVariants.{Watch, Session}
+use Rattle.cf_cli.specs.declared.watch_file.WatchFileFault.{WatchFileFault}
+use Rattle.cf_cli.specs.declared.words.Command.{Command}
+use Rattle.cf_cli.specs.declared.words.Command.TheVariants.{Replay, Sync}
+use Rattle.cf_cli.specs.SessionFile.{session_of}
+use Rattle.cf_cli.specs.WatchFile.{watch_of}
+
+abbrev pub code_of : Status → ℕ
+code_of Done = 0
+code_of NoMemory = 1
+code_of Usage = 2
+code_of (BadFile which place cause) = 3
+code_of FileFault = 4
+code_of OutFault = 5
+code_of (NoPeers ends) = 6
+code_of Tired = 7
+code_of Ended = 8
+
+-- the most bytes that a watch file and a session file may have
+abbrev pub most_watch : ℕ
+most_watch = 33554432
+
+abbrev pub most_session : ℕ
+most_session = 1073741824
+
+-- what stands under a name: no file, a file that is refused, or a good one
+pub data Verdict : Type 0 where
+  Missing : Verdict
+  Bad : (which : Which) → (place : ℕ) → (cause : FileCause) → Verdict
+  Good : Verdict
+
+abbrev pub watch_read : Result (List (List ℕ)) WatchFileFault → Verdict
+watch_read (Ok scripts) = Good
+watch_read (Err fault) = Bad Watch fault.place (OfWatch fault.cause)
+
+abbrev pub watch_verdict : Option (List ℕ) → Verdict
+watch_verdict None = Missing
+watch_verdict (Some bytes) = if nat_lt most_watch (length bytes) then Bad Watch 0 TooBig else watch_read (watch_of bytes)
+
+abbrev pub session_read : Result Script SessionFault → Verdict
+session_read (Ok script) = Good
+session_read (Err fault) = Bad Session fault.place (OfSession fault.cause)
+
+abbrev pub session_verdict : Option (List ℕ) → Verdict
+session_verdict None = Missing
+session_verdict (Some bytes) = if nat_lt most_session (length bytes) then Bad Session 0 TooBig else session_read (session_of bytes)
+
+-- the watch file is judged first
+abbrev pub and_then : Verdict → Verdict → Verdict
+and_then Missing later = Missing
+and_then (Bad which place cause) later = Bad which place cause
+and_then Good later = later
+
+abbrev pub verdict_of : Named → Command → Verdict
+verdict_of files (Replay trace watch session) = and_then (watch_verdict (finite.get files watch)) (session_verdict (finite.get files session))
+verdict_of files (Sync turns watch peer) = watch_verdict (finite.get files watch)
+
+-- a file that is missing or refused is answered so, and no other is; a read may fail, and memory may be wanting
+abbrev pub IsJudged : Verdict → Status → Type 0
+IsJudged verdict FileFault = Unit {0}
+IsJudged verdict NoMemory = Unit {0}
+IsJudged verdict Usage = ⊥
+IsJudged Missing status = ⊥
+IsJudged (Bad which place cause) (BadFile w p c) = (w ≡ which) × (p ≡ place) × (c ≡ cause)
+IsJudged (Bad which place cause) status = ⊥
+IsJudged Good (BadFile w p c) = ⊥
+IsJudged Good status = Unit {0}
+
+-- what reading a file answers: a good one, or the program's answer
+abbrev pub IsReadAs : {X : Type 0} → Verdict → Result X Status → Type 0
+IsReadAs verdict (Ok x) = verdict ≡ Good
+IsReadAs verdict (Err FileFault) = Unit {0}
+IsReadAs verdict (Err NoMemory) = Unit {0}
+IsReadAs verdict (Err (BadFile w p c)) = verdict ≡ Bad w p c
+IsReadAs verdict (Err status) = ⊥
+
+-- the run was made, and its text was written or begun
+abbrev pub has_run : Status → Bool
+has_run Done = true
+has_run NoMemory = false
+has_run Usage = false
+has_run (BadFile which place cause) = false
+has_run FileFault = false
+has_run OutFault = true
+has_run (NoPeers ends) = true
+has_run Tired = true
+has_run Ended = true
+
+abbrev pub is_no_peers : Status → Bool
+is_no_peers (NoPeers ends) = true
+is_no_peers status = false
+
+-- the answers to files
+abbrev pub IsOfFile : Status → Type 0
+IsOfFile NoMemory = Unit {0}
+IsOfFile FileFault = Unit {0}
+IsOfFile (BadFile which place cause) = Unit {0}
+IsOfFile status = ⊥
+
+-- the answer to a file that can't be read
+abbrev pub IsUnread : Which → FileFail → Status → Type 0
+IsUnread which Failed status = status ≡ FileFault
+IsUnread which TooMuch status = status ≡ BadFile which 0 TooBig
+IsUnread which OutOfMemory status = status ≡ NoMemory

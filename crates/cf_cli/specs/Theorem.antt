@@ -1,0 +1,105 @@
+-- What is promised of a run of the program.
+use Rattle.std.specs.Prelude.{◌≡◌, ◌≢◌, ℕ, Bool, true, false, List, [], length, take, Option, Vec, Result, Ok, Err}
+use Rattle.std.specs.Global.{Global}
+use Rattle.cf_bytes.specs.Outside.{with_more}
+use Rattle.cf_bytes.specs.declared.hash.Hash32.{Hash32}
+use Rattle.cf_headers.specs.Chain.{Chain, tip_hash}
+use Rattle.cf_client.specs.declared.outcome.End.{End}
+use Rattle.cf_client.specs.declared.outcome.End.TheVariants.{Synced as IsSynced, NoPeers as HasNoPeers, Tired as IsTired, Ended as HasEnded}
+use Rattle.cf_client.specs.declared.place.PeerEnd.{PeerEnd}
+use Rattle.cf_client.specs.declared.trace.TraceLine.{TraceLine}
+use Rattle.cf_client.specs.Honest.{IsHonest, ShowsNoOther, IsNeverClosed}
+use Rattle.cf_client.specs.Places.{IsQuiet}
+use Rattle.cf_client.specs.Run.{Followed, NobodyLeft}
+use Rattle.cf_peer.specs.Log.{Log, Tally, deliveries, dials}
+use Rattle.cf_peer.specs.Wires.{Script}
+use Rattle.cf_scan.specs.HistoryText.{history_text}
+use Rattle.cf_cli.specs.declared.session.SessionFault.{SessionFault}
+use Rattle.cf_cli.specs.declared.status.Status.{Status}
+use Rattle.cf_cli.specs.declared.status.Status.TheVariants.{Done, NoMemory, Usage, BadFile, FileFault, OutFault, NoPeers, Tired, Ended}
+use Rattle.cf_cli.specs.Statuses.{has_run}
+use Rattle.cf_cli.specs.Texts.{run_text}
+
+-- the answer of a run that ended so: its whole text was written, or the sink failed and a beginning of it was
+abbrev pub IsAnswerOf : End → Status → Option (List ℕ) → Option (List ℕ) → List ℕ → Type 0
+IsAnswerOf end Done before after text = (end ≡ IsSynced) × (after ≡ with_more before text)
+IsAnswerOf end (NoPeers ends) before after text = (end ≡ HasNoPeers) × (after ≡ with_more before text)
+IsAnswerOf end Tired before after text = (end ≡ IsTired) × (after ≡ with_more before text)
+IsAnswerOf end Ended before after text = (end ≡ HasEnded) × (after ≡ with_more before text)
+IsAnswerOf end OutFault before after text = (n : ℕ) × (after ≡ with_more before (take n text))
+IsAnswerOf end NoMemory before after text = ⊥
+IsAnswerOf end Usage before after text = ⊥
+IsAnswerOf end (BadFile which place cause) before after text = ⊥
+IsAnswerOf end FileFault before after text = ⊥
+
+-- a run over a log: how it ended, by the log, and what was written of it
+pub record Ran (status : Status) (trace : Bool) (names : List (List ℕ)) (before after : Option (List ℕ)) (log : Log) : Type 0 where
+  pub end : End
+  pub height : ℕ
+  pub tip : Hash32
+  pub lines : List TraceLine
+  pub followed : Followed end height tip lines names log
+  pub answered : IsAnswerOf end status before after (run_text trace lines end height tip)
+
+-- Done, or the answer of a sink that fails, or of want of memory
+abbrev pub Settles : Status → Type 0
+Settles Done = Unit {0}
+Settles OutFault = Unit {0}
+Settles NoMemory = Unit {0}
+Settles status = ⊥
+
+-- the answers where a peer is honest to the end of what is taken
+abbrev pub IsComplete : Status → Type 0
+IsComplete Done = Unit {0}
+IsComplete Tired = Unit {0}
+IsComplete Ended = Unit {0}
+IsComplete OutFault = Unit {0}
+IsComplete NoMemory = Unit {0}
+IsComplete status = ⊥
+
+-- The sync theorem for the program. Whatever peers send: where one of them answers as the serving machine of a chain does, and no connected
+-- peer has shown another chain as long, a run that answers Done has written exactly that chain's history and tip; it answers Done as soon as
+-- no request is open, unless the sink fails or memory is wanting; and it never closes that peer.
+pub record Kept (status : Status) (trace : Bool) (names : List (List ℕ)) (before after : Option (List ℕ)) (log : Log) : Type 0 where
+  pub writes : (p : ℕ) (chain : Chain) → IsHonest log p chain → ShowsNoOther log chain → status ≡ Done → trace ≡ false
+      → after ≡ with_more before (history_text [] (length chain) (tip_hash chain))
+  pub answers : (p : ℕ) (chain : Chain) → IsHonest log p chain → IsQuiet log → Settles status
+  pub complete : (p : ℕ) (chain : Chain) → IsHonest log p chain → IsComplete status
+  pub never : (p : ℕ) (chain : Chain) → IsHonest log p chain → status ≢ NoMemory → IsNeverClosed log p
+  pub ran : has_run status ≡ true → Ran status trace names before after log
+
+-- the same by the tally alone, for wires that tell no log
+pub record Tallied (status : Status) (turns : ℕ) (tally : Tally) : Type 0 where
+  pub no_peers : (ends : Vec PeerEnd Global) → status ≡ NoPeers ends → NobodyLeft tally
+  pub somebody : status ≡ Done → NobodyLeft tally → ⊥
+  pub tired : status ≡ Tired → tally.taken ≡ turns
+  pub ended : status ≡ Ended → tally.ended ≡ 1
+
+-- what the log of a session says: its dials and deliveries are the session's, in order, and all of them where the end came
+pub record Plays (status : Status) (script : Script) (log : Log) : Type 0 where
+  pub dialled : dials log ≡ script.dials
+  pub given : (n : ℕ) × (deliveries log ≡ take n script.deliveries)
+  pub whole : status ≡ Ended → deliveries log ≡ script.deliveries
+
+-- the answer that tells how a run ended
+abbrev pub AnswersTo : End → Status → Type 0
+AnswersTo IsSynced status = status ≡ Done
+AnswersTo HasNoPeers status = (ends : Vec PeerEnd Global) × (status ≡ NoPeers ends)
+AnswersTo IsTired status = status ≡ Tired
+AnswersTo HasEnded status = status ≡ Ended
+
+-- the answers of a run
+abbrev pub IsOfRun : Status → Type 0
+IsOfRun Usage = ⊥
+IsOfRun (BadFile which place cause) = ⊥
+IsOfRun FileFault = ⊥
+IsOfRun status = Unit {0}
+
+-- the same for a log of which the names aren't told
+abbrev pub IsKept : Status → Bool → Option (List ℕ) → Option (List ℕ) → Log → Type 0
+IsKept status trace before after log = (names : List (List ℕ)) × Kept status trace names before after log
+
+-- a session that was read is played once the run is made
+abbrev pub PlaysSession : Status → Result Script SessionFault → Log → Type 0
+PlaysSession status (Ok script) log = has_run status ≡ true → Plays status script log
+PlaysSession status (Err fault) log = Unit {0}

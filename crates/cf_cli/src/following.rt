@@ -1,0 +1,59 @@
+//! A run of the client over any wires, and what is written of it.
+ghost use Rattle.std.specs.Prelude.{◌≡◌, ◌≤◌, [], length, IfSome, true};
+ghost use Rattle.cf_bytes.specs.Outside.{HasRisen};
+ghost use Rattle.cf_client.specs.Names.{names_in};
+ghost use Rattle.cf_client.specs.Run.{Course};
+ghost use Rattle.cf_peer.specs.Log.{Tells};
+ghost use Rattle.cf_cli.specs.Statuses.{has_run};
+ghost use Rattle.cf_cli.specs.Theorem.{Kept, Tallied, AnswersTo, IsOfRun};
+
+use crate::status::Status;
+use crate::texts::text_of;
+use cf_bytes::{Sink, put_all};
+use cf_client::{End, PeerEnd, sync_over};
+use cf_peer::Wires;
+use std::alloc::Global;
+
+// The answer to a run whose text was written.
+fn status_of(end: End, ends: Vec<PeerEnd>) -> Status
+    ensures { AnswersTo end result }
+{
+    match end {
+        End::Synced => Status::Done,
+        End::NoPeers => Status::NoPeers { ends },
+        End::Tired => Status::Tired,
+        End::Ended => Status::Ended,
+    }
+}
+
+/// Follows the chains that the peers of these names show, and writes the trace where it is asked for, and the history and the tip once nothing is
+/// open. The wires are new.
+pub(crate) fn follow<W: Wires, O: Sink>(
+    alloc: Global,
+    wires: &mut W,
+    names: &[String],
+    moment: i64,
+    nonce: u64,
+    turns: u32,
+    trace: bool,
+    out: &mut O,
+) -> Status
+    requires fresh { Tells [] (W.told wires.old) }
+    requires few { length names.now ≤ 8 }
+    ensures kept { IfSome (W.told wires.new).log (λ log. Kept result trace (names_in names.now) (O.written out.old) (O.written out.new) log) }
+    ensures tallied { Tallied result turns (W.told wires.new).tally }
+    ensures same { has_run result ≡ true → W.script wires.new ≡ W.script wires.old }
+    ensures out_fault { result ≡ Status.OutFault → HasRisen (O.faults out.old) (O.faults out.new) }
+    ensures no_other { IsOfRun result }
+{
+    let Ok(outcome) = sync_over(alloc, wires, names, moment, nonce, turns) else {
+        return Status::NoMemory;
+    };
+    let Ok(text) = text_of(alloc, &outcome, trace) else {
+        return Status::NoMemory;
+    };
+    match put_all(out, &text) {
+        Ok(()) => status_of(outcome.end, outcome.ends),
+        Err(_) => Status::OutFault,
+    }
+}
