@@ -51,7 +51,7 @@ is_true (Some text) = bytes_eq text (codes "true")
 abbrev pub is_set : Text → Met → Bool
 is_set id met = is_true (text_of id met)
 
--- at most this many messages are taken from peers
+-- at most this many deliveries are taken from the wires
 abbrev pub most_turns : ℕ
 most_turns = 10000000
 

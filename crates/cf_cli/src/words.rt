@@ -28,7 +28,7 @@ impl From<Usage> for Refused<Usage> {
     }
 }
 
-/// At most this many messages are taken from peers.
+/// At most this many deliveries are taken from the wires.
 pub const MOST_TURNS: u32 = 10_000_000;
 
 /// What the words ask for.
@@ -40,7 +40,7 @@ pub enum Command {
         watch: Word,
         session: Word,
     },
-    /// The client over sockets, which takes at most so many messages.
+    /// The client over the wires that are handed in, which takes at most so many deliveries.
     Sync {
         turns: u32,
         watch: Word,

@@ -1,0 +1,75 @@
+//! `cf`: the program. Its words, the clock and a random number go to the client, whose text goes to standard output; what went
+//! wrong is told on standard error, and the exit status says which way the call ended.
+#![tactic(auto)]
+
+mod outside;
+mod texts;
+
+use cf_bytes::{StdFiles, WriterSink, put_all};
+use cf_cli::{Status, is_help, is_version, run};
+use cf_peer::MemoryWires;
+use std::io;
+use std::process::ExitCode;
+
+// What is asked for, behind the program's name.
+fn asked(words: &[String]) -> &[String] {
+    if words.is_empty() { words } else { &words[1..] }
+}
+
+// The text that the program has of itself, where it is asked for.
+fn own_text(words: &[String]) -> Option<&'static str> {
+    if is_help(asked(words)) {
+        Some(texts::HELP)
+    } else if is_version(asked(words)) {
+        Some(texts::VERSION)
+    } else {
+        None
+    }
+}
+
+// Writes a whole text to standard output.
+fn say(rt: &HostRuntime, text: &str) -> Status {
+    match put_all(&mut WriterSink::new(io::writer(rt)), text.as_bytes()) {
+        Ok(()) => Status::Done,
+        Err(_) => Status::OutFault,
+    }
+}
+
+// Runs the command. A dial of `sync` fails, since no sockets are opened yet.
+fn run_command(rt: &HostRuntime, words: &[String]) -> Status {
+    let alloc = rt.alloc();
+    let (Ok(mut wires), Ok(mut tape)) = (MemoryWires::new(alloc), MemoryWires::new(alloc)) else {
+        return Status::NoMemory;
+    };
+    run(
+        alloc,
+        words,
+        outside::moment(rt),
+        outside::nonce(rt),
+        &mut StdFiles::new(rt),
+        &mut wires,
+        &mut tape,
+        &mut WriterSink::new(io::writer(rt)),
+    )
+}
+
+fn answer(rt: &HostRuntime) -> Status {
+    let words = match outside::words(rt) {
+        Ok(words) => words,
+        Err(status) => return status,
+    };
+    match own_text(&words) {
+        Some(text) => say(rt, text),
+        None => run_command(rt, &words),
+    }
+}
+
+fn main(rt: HostRuntime) -> ExitCode {
+    let status = answer(&rt);
+    // Where standard error can't be written, the exit status alone tells.
+    let _told = texts::tell_fault(&rt, &status);
+    ExitCode::from(status.code())
+}
+
+#[cfg(test)]
+mod tests;
