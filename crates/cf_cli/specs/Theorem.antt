@@ -1,5 +1,5 @@
 -- What is promised of a run of the program.
-use Rattle.std.specs.Prelude.{◌≡◌, ◌≢◌, ℕ, Bool, true, false, List, [], length, take, Option, Vec, Result, Ok, Err}
+use Rattle.std.specs.Prelude.{◌≡◌, ◌≢◌, ◌<◌, ℕ, Bool, true, false, List, [], length, take, Option, Vec, Result, Ok, Err}
 use Rattle.std.specs.Global.{Global}
 use Rattle.cf_bytes.specs.Outside.{with_more}
 use Rattle.cf_bytes.specs.declared.hash.Hash32.{Hash32}
@@ -74,6 +74,7 @@ pub record Tallied (status : Status) (turns : ℕ) (tally : Tally) : Type 0 wher
   pub somebody : status ≡ Done → NobodyLeft tally → ⊥
   pub tired : status ≡ Tired → tally.taken ≡ turns
   pub ended : status ≡ Ended → tally.ended ≡ 1
+  pub early : status ≡ Ended → tally.taken < turns
 
 -- what the log of a session says: its dials and deliveries are the session's, in order, and all of them where the end came
 pub record Plays (status : Status) (script : Script) (log : Log) : Type 0 where

@@ -400,6 +400,11 @@ fn a_sync_takes_so_many_deliveries(rt: HostRuntime) -> Result<(), Fail> {
     assert!(rt; tired.is("7 Tired", ""));
     let done = answer(alloc, &["cf", "sync", "--turns", "3", "w", "a"], &session)?;
     assert!(rt; done.is("0 Done", SYNCED));
+    let cut = session_of(alloc, &[VERSION, VERACK])?;
+    let at_the_end = answer(alloc, &["cf", "sync", "--turns", "2", "w", "a"], &cut)?;
+    assert!(rt; at_the_end.is("7 Tired", ""));
+    let past_it = answer(alloc, &["cf", "sync", "--turns", "3", "w", "a"], &cut)?;
+    assert!(rt; past_it.is("8 Ended", ""));
     Ok(())
 }
 

@@ -236,6 +236,7 @@ fn take_turn<W: Wires>(
     requires step { IsInStep (W.told wires.old) progress.old }
     ensures turned { IfOk result (λ end. (called : List (List ℕ)) → HoldsOver client.old progress.old called (W.told wires.old) → Turned end client.new progress.new called (W.told wires.new)) }
     ensures taken { IfOk result (λ end. IfNone end ((W.told wires.new).tally.taken ≡ (W.told wires.old).tally.taken + 1)) }
+    ensures untaken { IfOk result (λ end. IfSome end (λ e. (W.told wires.new).tally.taken ≡ (W.told wires.old).tally.taken)) }
     ensures untired { IfOk result (λ end. end ≢ Some End.Tired) }
     ensures ended { IfOk result (λ end. IsEndTold end (W.told wires.old).tally (W.told wires.new).tally) }
     ensures course { OnOk result (Course (W.faults wires.old) (W.faults wires.new) (W.script wires.old) (W.script wires.new)) }
@@ -307,6 +308,7 @@ fn take_turns<W: Wires>(
     ensures stopped { IfOk result (λ end. (called : List (List ℕ)) → HoldsOver client.old progress.old called (W.told wires.old) → Stopped end client.new progress.new called (W.told wires.new)) }
     ensures tired { IfOk result (λ end. end ≡ End.Tired → (W.told wires.new).tally.taken ≡ turns) }
     ensures ended { IfOk result (λ end. end ≡ End.Ended → (W.told wires.new).tally.ended ≡ 1) }
+    ensures early { IfOk result (λ end. end ≡ End.Ended → (W.told wires.new).tally.taken < turns) }
     ensures course { OnOk result (Course (W.faults wires.old) (W.faults wires.new) (W.script wires.old) (W.script wires.new)) }
 {
     for _turn in 0..turns {
@@ -334,6 +336,7 @@ pub fn sync_over<W: Wires>(
     ensures no_peers { IfOk result (λ o. (o.end ≡ End.NoPeers) ↔ NobodyLeft (W.told wires.new).tally) }
     ensures tired { IfOk result (λ o. o.end ≡ End.Tired → (W.told wires.new).tally.taken ≡ turns) }
     ensures ended { IfOk result (λ o. o.end ≡ End.Ended → (W.told wires.new).tally.ended ≡ 1) }
+    ensures early { IfOk result (λ o. o.end ≡ End.Ended → (W.told wires.new).tally.taken < turns) }
     ensures course { OnOk result (Course (W.faults wires.old) (W.faults wires.new) (W.script wires.old) (W.script wires.new)) }
 {
     let mut client = Client::new(alloc, moment, nonce)?;
