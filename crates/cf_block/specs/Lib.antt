@@ -7,3 +7,4 @@ pub mod Tx
 pub mod Merkle
 pub mod Views
 pub mod Genesis
+pub mod Outpoint
