@@ -1,2 +1,7 @@
+pub mod BalanceLaws
+pub mod Balances
+pub mod CoinMaps
+pub mod HistoryLaws
 pub mod Scripts
+pub mod Totals
 pub mod WatchLaws

@@ -1,7 +1,10 @@
-//! The history of watched scripts, as a text.
+//! The history of watched scripts, and its text.
 ghost use Rattle.std.specs.Prelude.{◌≡◌, [], IfOk, string_bytes};
+ghost use Rattle.cf_scan.specs.Extracts.{history_of, balance_of};
 ghost use Rattle.cf_scan.specs.HistoryText.{entry_line, last_line, history_text};
 
+use crate::extracts::Placed;
+use crate::ledger::Ledger;
 use cf_bytes::{Hash32, NoMemory, show};
 use std::alloc::Global;
 use std::marker::Model;
@@ -53,11 +56,37 @@ fn write_last(alloc: Global, height: u32, tip: &Hash32) -> Result<String, NoMemo
 }
 
 impl History {
+    /// No entry.
     pub fn empty(alloc: Global) -> History
         ensures { result ≡ [] }
     {
         History {
             entries: Vec::new(alloc),
+        }
+    }
+
+    /// The history that these extracts tell, in their order: for each transaction the watched coins
+    /// that it spends are taken out, each once, and then its outputs to watched scripts are put in.
+    /// One entry comes for each transaction that does either.
+    ///
+    /// Over the extracts of a chain's blocks, from height 1 on, it is the plain scan of the blocks.
+    pub fn of(alloc: Global, blocks: &[Placed]) -> Result<History, NoMemory>
+        ensures { IfOk result (λ history. history ≡ history_of blocks.now) }
+    {
+        let mut ledger = Ledger::new(alloc);
+        for block in blocks {
+            ledger = ledger.add_block(block.height, &block.extract)?;
+        }
+        Ok(ledger.into_history())
+    }
+
+    /// The sum of the watched coins after the last entry, in satoshis; 0 where there is none.
+    pub fn balance(&self) -> u128
+        ensures { result ≡ balance_of self.now }
+    {
+        match self.entries.last() {
+            Some(entry) => entry.balance,
+            None => 0,
         }
     }
 
