@@ -1,1 +1,4 @@
+pub mod Coins
+pub mod Filters
+pub mod Good
 pub mod Serve

@@ -7,7 +7,7 @@ use Rattle.cf_block.specs.Header.{block_hash_of, genesis_header}
 use Rattle.cf_headers.specs.Rules.{same}
 use Rattle.cf_headers.specs.Chain.{Chain, back_to, above}
 use Rattle.cf_msg.specs.declared.msg.Msg.{Msg}
-use Rattle.cf_msg.specs.declared.msg.Msg.TheVariants.{Version, Verack, Ping, Pong, GetHeaders, Headers, Other}
+use Rattle.cf_msg.specs.declared.msg.Msg.TheVariants.{Version, Verack, Ping, Pong, GetHeaders, Headers}
 use Rattle.cf_msg.specs.declared.msg.NetAddress.{NetAddress}
 
 -- the part up to the first hash of a locator that is in the chain; genesis alone if none is
