@@ -1,0 +1,104 @@
+-- Reading a file, a record at a time.
+use Rattle.std.proofs.Common.{◌≡◌, ℕ, zero, suc, ◌+◌, ◌-◌, ◌<◌, Bool, true, false, List, [], ◌∷◌, ◌++◌, length, drop, refl, sym, ◌∙◌, ap, arith, append_assoc, length-append, Result, Ok, Err}
+use Rattle.std.specs.Prelude.{if◌then◌else◌, IfOk}
+use Rattle.std.specs.List.{flat_map}
+use Rattle.std.proofs.lemmas.List.{drop_at, append-nil}
+use Rattle.cf_bytes.specs.Cut.{◌>>=◌}
+use Rattle.cf_bytes.specs.declared.memory.Refused.{Refused}
+use Rattle.cf_block.specs.declared.tx.Block.{Block}
+use Rattle.cf_block.specs.Reading.{block_at}
+use Rattle.cf_block.specs.Tx.{block_spelling}
+use Rattle.cf_index.specs.declared.cause.RecordCause.{RecordCause}
+use Rattle.cf_index.specs.declared.chain.Chain.{Chain}
+use Rattle.cf_index.specs.Records.{Taken, record_with, record_spelling, record_at}
+use Rattle.cf_index.specs.Files.{all_zeros, in_block, put_on, cause_on, next_at, numbered, blocks_from}
+use Rattle.cf_index.specs.Progress.{HasRecord}
+
+skip : (before k : ℕ) (blocks : List Block) (bytes : List ℕ) → blocks_from before k blocks bytes ≡ blocks_from before zero blocks (drop k bytes)
+unfolding blocks_from
+skip before zero blocks bytes = refl
+skip before (suc k) blocks [] = refl
+skip before (suc k) blocks (b ∷ bytes) = skip before k blocks bytes
+
+pub ends : (before : ℕ) (blocks : List Block) (bytes : List ℕ) → all_zeros bytes ≡ true → blocks_from before zero blocks bytes ≡ Ok blocks
+unfolding blocks_from
+ends before blocks [] z = refl
+ends before blocks (b ∷ bytes) z =
+    ap (λ (t : Bool). if t then Ok blocks else numbered (suc (before + length blocks)) (next_at blocks (b ∷ bytes)) >>= λ x. blocks_from before (length bytes - length x.1) x.0 bytes) z
+
+-- a record's first byte is none of the zeros at the end
+more_by : (before : ℕ) (blocks more : List Block) (a : ℕ) (tail front rest : List ℕ) → tail ≡ front ++ rest → all_zeros (a ∷ tail) ≡ false → next_at blocks (a ∷ tail) ≡ Ok (more, rest)
+    → blocks_from before zero blocks (a ∷ tail) ≡ blocks_from before zero more rest
+unfolding blocks_from
+more_by before blocks more a tail front rest e z is =
+    let size : length tail - length rest ≡ length front = omega (arith, ap length e, length-append front rest) in
+    ap (λ (t : Bool). if t then Ok blocks else numbered (suc (before + length blocks)) (next_at blocks (a ∷ tail)) >>= λ x. blocks_from before (length tail - length x.1) x.0 tail) z
+    ∙ ap (λ (r : Taken (List Block)). numbered (suc (before + length blocks)) r >>= λ x. blocks_from before (length tail - length x.1) x.0 tail) is
+    ∙ skip before (length tail - length rest) more tail
+    ∙ ap (λ (n : ℕ). blocks_from before zero more (drop n tail)) size
+    ∙ ap (λ (l : List ℕ). blocks_from before zero more (drop (length front) l)) e
+    ∙ ap (blocks_from before zero more) (drop_at front rest (length front) refl)
+
+tail_is : (a : ℕ) (tail rest : List ℕ) (block : Block) → a ∷ tail ≡ record_spelling block ++ rest → tail ≡ drop 1 (record_spelling block) ++ rest
+unfolding record_spelling
+tail_is a tail rest block e = ap (λ (l : List ℕ). drop 1 l) e
+
+pub one_more : (before : ℕ) (blocks more : List Block) (bytes rest : List ℕ) → all_zeros bytes ≡ false → next_at blocks bytes ≡ Ok (more, rest) → HasRecord blocks more bytes rest
+    → blocks_from before zero blocks bytes ≡ blocks_from before zero more rest
+one_more before blocks more [] rest z is has = cc
+one_more before blocks more (a ∷ tail) rest z is has =
+    more_by before blocks more a tail (drop 1 (record_spelling has.block)) rest (tail_is a tail rest has.block has.spelled) z is
+
+pub bad_here : (before : ℕ) (blocks : List Block) (bytes : List ℕ) (cause : RecordCause) → all_zeros bytes ≡ false → next_at blocks bytes ≡ Err cause
+    → blocks_from before zero blocks bytes ≡ Err (record { number = suc (before + length blocks); cause = cause })
+unfolding blocks_from
+bad_here before blocks [] cause z is = cc
+bad_here before blocks (a ∷ tail) cause z is =
+    ap (λ (t : Bool). if t then Ok blocks else numbered (suc (before + length blocks)) (next_at blocks (a ∷ tail)) >>= λ x. blocks_from before (length tail - length x.1) x.0 tail) z
+    ∙ ap (λ (r : Taken (List Block)). numbered (suc (before + length blocks)) r >>= λ x. blocks_from before (length tail - length x.1) x.0 tail) is
+
+-- ---- the next record
+
+pub no_record : (blocks : List Block) (bytes : List ℕ) (cause : RecordCause) → record_at bytes ≡ Err cause → next_at blocks bytes ≡ Err cause
+unfolding next_at
+no_record blocks bytes cause h = ap (λ r. r >>= λ text. in_block (block_at text.0) >>= λ b. put_on (cause_on blocks b) blocks b >>= λ more. Ok (more, text.1)) h
+
+pub no_block : (blocks : List Block) (bytes text rest : List ℕ) (cause : RecordCause) → record_at bytes ≡ Ok (text, rest) → in_block (block_at text) ≡ Err cause → next_at blocks bytes ≡ Err cause
+unfolding next_at
+no_block blocks bytes text rest cause h e =
+    ap (λ r. r >>= λ text. in_block (block_at text.0) >>= λ b. put_on (cause_on blocks b) blocks b >>= λ more. Ok (more, text.1)) h
+    ∙ ap (λ r. r >>= λ b. put_on (cause_on blocks b) blocks b >>= λ more. Ok (more, rest)) e
+
+pub next_is : (blocks : List Block) (bytes text rest : List ℕ) (b : Block) → record_at bytes ≡ Ok (text, rest) → in_block (block_at text) ≡ Ok b
+    → next_at blocks bytes ≡ (put_on (cause_on blocks b) blocks b >>= λ more. Ok (more, rest))
+unfolding next_at
+next_is blocks bytes text rest b h e =
+    ap (λ r. r >>= λ text. in_block (block_at text.0) >>= λ b. put_on (cause_on blocks b) blocks b >>= λ more. Ok (more, text.1)) h
+    ∙ ap (λ r. r >>= λ b. put_on (cause_on blocks b) blocks b >>= λ more. Ok (more, rest)) e
+
+-- ---- the bytes so far
+
+pub spelled_more : (all bytes rest : List ℕ) (blocks more : List Block) → all ≡ flat_map record_spelling blocks ++ bytes → HasRecord blocks more bytes rest → all ≡ flat_map record_spelling more ++ rest
+spelled_more all bytes rest blocks more so_far has =
+    so_far
+    ∙ ap (λ l. flat_map record_spelling blocks ++ l) has.spelled
+    ∙ sym (append_assoc (flat_map record_spelling blocks) (record_spelling has.block) rest)
+    ∙ ap (λ l. l ++ rest) (sym (flat_one blocks has.block) ∙ ap (flat_map record_spelling) (sym has.added))
+  where
+    flat_one : (xs : List Block) (b : Block) → flat_map record_spelling (xs ++ b ∷ []) ≡ flat_map record_spelling xs ++ record_spelling b
+    flat_one [] b = append-nil (record_spelling b)
+    flat_one (x ∷ xs) b = ap (λ l. record_spelling x ++ l) (flat_one xs b) ∙ sym (append_assoc (record_spelling x) (flat_map record_spelling xs) (record_spelling b))
+
+some_bytes : (block : Block) → 0 < length (record_spelling block)
+unfolding record_spelling
+some_bytes block = omega arith
+
+pub fewer : (blocks more : List Block) (bytes rest : List ℕ) → HasRecord blocks more bytes rest → length rest < length bytes
+fewer blocks more bytes rest has = omega (arith, ap length has.spelled, length-append (record_spelling has.block) rest, some_bytes has.block)
+
+-- a block whose bytes stand in the record
+pub found_if : (blocks : List Block) (bytes text rest : List ℕ) (b : Block) (r : Result Chain (Refused RecordCause)) → bytes ≡ record_with text ++ rest → text ≡ block_spelling b
+    → IfOk r (λ longer. longer.blocks ≡ blocks ++ b ∷ []) → IfOk r (λ longer. HasRecord blocks longer.blocks bytes rest)
+unfolding record_spelling
+found_if blocks bytes text rest b (Ok longer) e is more = record { block = b; added = more; spelled = e ∙ ap (λ t. record_with t ++ rest) is }
+found_if blocks bytes text rest b (Err x) e is more = tt

@@ -1,0 +1,10 @@
+pub mod Causes
+pub mod CoinMaps
+pub mod FileLaws
+pub mod FileSteps
+pub mod GenesisHash
+pub mod Growing
+pub mod RecordLaws
+pub mod Steps
+pub mod Bounds
+pub mod Walking

@@ -1,0 +1,14 @@
+use Rattle.cf_index.proofs.FileLaws.{taken, refused, apart, one}
+use Rattle.cf_index.proofs.laws.laws_of_files.Goals as goal
+
+pub returns-clause-taken : goal.returns-clause-taken
+returns-clause-taken c = taken
+
+pub returns-clause-refused : goal.returns-clause-refused
+returns-clause-refused c = refused
+
+pub returns-clause-apart : goal.returns-clause-apart
+returns-clause-apart c = apart
+
+pub returns-clause-one : goal.returns-clause-one
+returns-clause-one c = one

@@ -1,0 +1,148 @@
+-- Files of blocks: which are good, and the first bad record of the others.
+use Rattle.std.specs.Prelude.{◌≡◌, ◌⊎◌, ℕ, zero, suc, ◌+◌, ◌-◌, ◌==◌, Bool, true, false, nat_le, bytes_eq, if◌then◌else◌, List, [], ◌∷◌, ◌++◌, length, take, drop, replicate, Option, Some, None, Result, Ok, Err}
+use Rattle.std.specs.List.{flat_map, list_all}
+use Rattle.std.specs.FinMap.{empty}
+use Rattle.cf_bytes.specs.Cut.{Read, ◌>>=◌}
+use Rattle.cf_bytes.specs.declared.memory.Refused.{Refused}
+use Rattle.cf_bytes.specs.declared.memory.Refused.TheVariants.{No, NoMemory}
+use Rattle.cf_block.specs.declared.fault.BlockFault.{BlockFault}
+use Rattle.cf_block.specs.declared.commitment.CommitFault.{CommitFault}
+use Rattle.cf_block.specs.declared.tx.Block.{Block}
+use Rattle.cf_block.specs.Genesis.{first_block}
+use Rattle.cf_block.specs.Reading.{block_at}
+use Rattle.cf_block.specs.Commitment.{commit_fault}
+use Rattle.cf_headers.specs.declared.rules.HeaderFault.{HeaderFault}
+use Rattle.cf_headers.specs.Rules.{fault_after}
+use Rattle.cf_headers.specs.Chain.{tip_hash}
+use Rattle.cf_chain.specs.Coins.{CoinMap, coins_after}
+use Rattle.cf_chain.specs.Good.{IsGoodChain, headers_of, max_height}
+use Rattle.cf_index.specs.declared.cause.CoinFault.{CoinFault}
+use Rattle.cf_index.specs.declared.cause.CoinFault.TheVariants.{NoCoinbase as NoFirst, SecondCoinbase as SecondFirst, Missing as MissingCoin, Exists as ExistingCoin}
+use Rattle.cf_index.specs.declared.cause.RecordCause.{RecordCause}
+use Rattle.cf_index.specs.declared.cause.RecordCause.TheVariants.{Block as InBlock, Header as InHeader, TooHigh, Commit, NoCoinbase, SecondCoinbase, Missing, Exists}
+use Rattle.cf_index.specs.declared.cause.BadBlock.{BadBlock}
+use Rattle.cf_index.specs.Records.{Taken, record_spelling, record_at}
+use Rattle.cf_index.specs.Spending.{spend_txs}
+
+-- ---- good files
+
+-- the records of blocks above genesis, the lowest first, before which genesis's may stand, and then zeros alone, any number of them
+pub record IsFileOf (bytes : List ℕ) (blocks : List Block) : Type 0 where
+  pub zeros : ℕ
+  pub spelled :
+      (bytes ≡ flat_map record_spelling blocks ++ replicate zeros 0)
+      ⊎ (bytes ≡ record_spelling first_block ++ (flat_map record_spelling blocks ++ replicate zeros 0))
+
+pub record IsGoodFile (bytes : List ℕ) (blocks : List Block) : Type 0 where
+  pub file : IsFileOf bytes blocks
+  pub chain : IsGoodChain blocks
+
+-- ---- the first bad record
+
+abbrev pub all_zeros : List ℕ → Bool
+all_zeros bytes = list_all (λ b. b == 0) bytes
+
+abbrev pub in_block : Read Block BlockFault → Result Block RecordCause
+in_block (Ok x) = Ok x.0
+in_block (Err e) = Err (InBlock e.0.kind)
+
+abbrev pub in_header : Option HeaderFault → Option RecordCause
+in_header None = None
+in_header (Some fault) = Some (InHeader fault)
+
+abbrev pub in_height : ℕ → Option RecordCause
+in_height height = if nat_le max_height height then Some TooHigh else None
+
+abbrev pub in_commitment : Option CommitFault → Option RecordCause
+in_commitment None = None
+in_commitment (Some fault) = Some (Commit fault)
+
+abbrev pub coin_cause : CoinFault → RecordCause
+coin_cause NoFirst = NoCoinbase
+coin_cause SecondFirst = SecondCoinbase
+coin_cause (MissingCoin name) = Missing name
+coin_cause (ExistingCoin name) = Exists name
+
+abbrev pub in_coins : Result CoinMap CoinFault → Option RecordCause
+in_coins (Ok coins) = None
+in_coins (Err fault) = Some (coin_cause fault)
+
+abbrev pub or_else : Option RecordCause → Option RecordCause → Option RecordCause
+or_else (Some cause) later = Some cause
+or_else None later = later
+
+-- why a block may not stand on these blocks
+unfoldable pub cause_on : List Block → Block → Option RecordCause
+cause_on blocks b =
+    or_else (in_header (fault_after (tip_hash (headers_of blocks)) b.header))
+    (or_else (in_height (length blocks))
+    (or_else (in_commitment (commit_fault b))
+    (in_coins (spend_txs (coins_after empty blocks) b.txs))))
+
+-- these blocks and one more
+abbrev pub put_on : Option RecordCause → List Block → Block → Result (List Block) RecordCause
+put_on None blocks b = Ok (blocks ++ b ∷ [])
+put_on (Some cause) blocks b = Err cause
+
+-- the blocks with that of the record that stands here, and the bytes after it
+unfoldable pub next_at : List Block → List ℕ → Taken (List Block)
+next_at blocks bytes = do
+  text ← record_at bytes
+  b ← in_block (block_at text.0)
+  more ← put_on (cause_on blocks b) blocks b
+  Ok (more, text.1)
+
+abbrev pub numbered : {X : Type 0} → ℕ → Taken X → Result (X × List ℕ) BadBlock
+numbered number (Ok x) = Ok x
+numbered number (Err cause) = Err (record { number = number; cause = cause })
+
+-- The blocks of the file, or its first bad record, where these blocks were read and so many records stand before their own. The first
+-- bytes, so many of them, belong to a record that was read.
+unfoldable pub blocks_from : ℕ → ℕ → List Block → List ℕ → Result (List Block) BadBlock
+blocks_from before read blocks [] = Ok blocks
+blocks_from before (suc read) blocks (b ∷ bytes) = blocks_from before read blocks bytes
+blocks_from before zero blocks (b ∷ bytes) =
+    if all_zeros (b ∷ bytes) then Ok blocks
+    else numbered (suc (before + length blocks)) (next_at blocks (b ∷ bytes)) >>= λ x. blocks_from before (length bytes - length x.1) x.0 bytes
+
+unfoldable pub genesis_record : List ℕ
+genesis_record = record_spelling first_block
+
+abbrev pub begins_with_genesis : List ℕ → Bool
+begins_with_genesis bytes = bytes_eq (take (length genesis_record) bytes) genesis_record
+
+unfoldable pub blocks_at : List ℕ → Result (List Block) BadBlock
+blocks_at bytes =
+    if begins_with_genesis bytes then blocks_from 1 0 [] (drop (length genesis_record) bytes)
+    else blocks_from 0 0 [] bytes
+
+-- ---- bad files
+
+-- The records of a good chain's blocks, and then what is neither zeros alone nor the record of a block that may stand on them: its
+-- number, where so many records stand before those of the blocks, and why.
+pub record StopsAt (bytes : List ℕ) (before : ℕ) (bad : BadBlock) : Type 0 where
+  pub blocks : List Block
+  pub rest : List ℕ
+  pub good : IsGoodChain blocks
+  pub spelled : bytes ≡ flat_map record_spelling blocks ++ rest
+  pub some : all_zeros rest ≡ false
+  pub number : bad.number ≡ suc (before + length blocks)
+  pub cause : next_at blocks rest ≡ Err bad.cause
+
+-- a first record of the genesis block is passed over, and counted
+abbrev pub IsBadFile : List ℕ → BadBlock → Type 0
+IsBadFile bytes bad =
+    ((begins_with_genesis bytes ≡ false) × StopsAt bytes 0 bad)
+    ⊎ ((begins_with_genesis bytes ≡ true) × StopsAt (drop (length genesis_record) bytes) 1 bad)
+
+-- what is said of a fault
+abbrev pub IfBad : Result (List Block) (Refused BadBlock) → (BadBlock → Type 0) → Type 0
+IfBad (Ok blocks) Says = Unit {0}
+IfBad (Err (No bad)) Says = Says bad
+IfBad (Err NoMemory) Says = Unit {0}
+
+-- what reading a file answered
+abbrev pub Answers : Result (List Block) BadBlock → Result (List Block) (Refused BadBlock) → Type 0
+Answers read (Ok blocks) = read ≡ Ok blocks
+Answers read (Err (No bad)) = read ≡ Err bad
+Answers read (Err NoMemory) = Unit {0}

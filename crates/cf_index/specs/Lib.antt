@@ -1,0 +1,5 @@
+pub mod Spending
+pub mod Records
+pub mod Files
+pub mod Progress
+pub mod Filtering

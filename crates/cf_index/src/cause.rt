@@ -1,0 +1,88 @@
+//! Why a file of blocks is refused.
+ghost use Rattle.std.specs.Prelude.{◌≡◌};
+ghost use Rattle.cf_bytes.specs.declared.memory.Refused.TheVariants.{No};
+
+use cf_block::{BlockFaultKind, CommitFault, OutPoint};
+use cf_bytes::Refused;
+use cf_headers::HeaderFault;
+use thiserror::Error;
+
+/// The first rule by which a block's transactions don't fit the coins: the coinbases are judged first, and then each
+/// transaction, its inputs before its outputs.
+#[derive(Clone, Copy, Debug, PartialEq, Eq, Error)]
+pub enum CoinFault {
+    /// The first transaction is no coinbase.
+    #[error("the first transaction is no coinbase")]
+    NoCoinbase,
+    /// A transaction after the first is a coinbase.
+    #[error("a second transaction is a coinbase")]
+    SecondCoinbase,
+    /// An input names an output that isn't there, or isn't there any more.
+    #[error("an input spends an output that isn't there")]
+    Missing(OutPoint),
+    /// An output would be put over one that still stands.
+    #[error("an output has the name of one that is not spent")]
+    Exists(OutPoint),
+}
+
+impl From<CoinFault> for Refused<CoinFault> {
+    ghost from_gives = { λ fault e. e ≡ No fault };
+
+    fn from(fault: CoinFault) -> Refused<CoinFault> {
+        Refused::No(fault)
+    }
+}
+
+/// The first rule that a record of a file breaks, in this order.
+#[derive(Clone, Copy, Debug, PartialEq, Eq, Error)]
+pub enum RecordCause {
+    /// Fewer than 8 bytes are left, or fewer than the record's length says.
+    #[error("the record is cut off")]
+    Cut,
+    /// The record doesn't begin with regtest's magic.
+    #[error("the record begins with another magic")]
+    Magic,
+    /// Its length is above 1,000,000.
+    #[error("the record is too long")]
+    TooLong,
+    /// Its bytes are no block.
+    #[error("no block: {0}")]
+    Block(BlockFaultKind),
+    /// The header may not stand on the one before.
+    #[error("no header here: {0}")]
+    Header(HeaderFault),
+    /// The block would stand above height 100,000.
+    #[error("the chain is too high")]
+    TooHigh,
+    /// The header doesn't stand for the transactions.
+    #[error("{0}")]
+    Commit(CommitFault),
+    /// The first transaction is no coinbase.
+    #[error("the first transaction is no coinbase")]
+    NoCoinbase,
+    /// A transaction after the first is a coinbase.
+    #[error("a second transaction is a coinbase")]
+    SecondCoinbase,
+    /// An input names an output that isn't there, or isn't there any more.
+    #[error("an input spends an output that isn't there")]
+    Missing(OutPoint),
+    /// An output would be put over one that still stands.
+    #[error("an output has the name of one that is not spent")]
+    Exists(OutPoint),
+}
+
+impl From<RecordCause> for Refused<RecordCause> {
+    ghost from_gives = { λ cause e. e ≡ No cause };
+
+    fn from(cause: RecordCause) -> Refused<RecordCause> {
+        Refused::No(cause)
+    }
+}
+
+/// The first record of a file that is refused, by its number, counted from 1, and why.
+#[derive(Clone, Copy, Debug, PartialEq, Eq, Error)]
+#[error("record {number}: {cause}")]
+pub struct BadBlock {
+    pub number: u32,
+    pub cause: RecordCause,
+}

@@ -1,0 +1,61 @@
+//! The coins of a chain: the outputs that nothing has spent yet.
+ghost use Rattle.std.specs.Prelude.{◌≡◌, OnOk, OnErr, is_some};
+ghost use Rattle.std.specs.FinMap.{get, insert, remove, empty};
+
+use cf_block::{OutPoint, TxOut};
+use cf_bytes::NoMemory;
+use std::alloc::Global;
+use std::collections::BTreeMap;
+use std::marker::Model;
+
+/// Outputs by their names. Contracts see a finite map.
+#[derive(Drop)]
+pub struct Coins {
+    map: BTreeMap<OutPoint, TxOut>,
+}
+
+impl Model for Coins {
+    ghost use Rattle.std.specs.FinMap.{from_entries};
+    ghost use Rattle.cf_chain.specs.Coins.{CoinMap, coins_code};
+
+    ghost Value = { CoinMap };
+
+    ghost coded = { coins_code };
+
+    ghost view = { λ s. from_entries s.map.entries };
+}
+
+impl Coins {
+    /// No coins; it takes no memory.
+    pub fn new(alloc: Global) -> Coins
+        ensures { result ≡ empty }
+    {
+        Coins {
+            map: BTreeMap::new(alloc),
+        }
+    }
+
+    /// Whether an output stands under this name.
+    pub fn has(&self, name: OutPoint) -> bool
+        ensures { result ≡ is_some (get self.now name) }
+    {
+        self.map.contains_key(&name)
+    }
+
+    /// Takes a coin out, where it is there.
+    pub fn take(&mut self, name: OutPoint) -> Option<TxOut>
+        ensures value { result ≡ get self.old name }
+        ensures after { self.new ≡ remove self.old name }
+    {
+        self.map.remove(&name)
+    }
+
+    /// Puts a coin in, in the place of one of this name. Where no memory is found nothing has changed.
+    pub fn put(&mut self, name: OutPoint, output: TxOut) -> Result<(), NoMemory>
+        ensures ok { OnOk result (self.new ≡ insert self.old name output) }
+        ensures err { OnErr result (self.new ≡ self.old) }
+    {
+        self.map.insert(name, output)?;
+        Ok(())
+    }
+}

@@ -1,0 +1,101 @@
+//! Files of blocks.
+ghost use Rattle.std.specs.Prelude.{◌≡◌, ◌≤◌, ◌+◌, [], zero, suc, length, IfOk};
+ghost use Rattle.cf_block.specs.Reading.{block_at};
+ghost use Rattle.cf_block.specs.Tx.{IsBlock, block_spelling};
+ghost use Rattle.cf_chain.specs.Good.{IsGoodChain, max_height};
+ghost use Rattle.cf_index.specs.Files.{IsGoodFile, StopsAt, IsBadFile, IfBad, all_zeros, in_block, next_at, blocks_from, blocks_at, Answers};
+ghost use Rattle.cf_index.specs.Progress.{Keeps, GivesBlock, GivesNext, HasRecord, IsRecordsOf};
+
+use crate::cause::{BadBlock, RecordCause};
+use crate::chain::{Blocks, Chain, new_chain, put_on_chain};
+use crate::record::{genesis_record, take_record};
+use cf_block::{Block, parse_block};
+use cf_bytes::{Cut, Refused};
+use std::alloc::Global;
+
+fn is_end(bytes: &[u8]) -> bool
+    ensures { result ≡ all_zeros bytes.now }
+{
+    bytes.iter().all(|b| *b == 0)
+}
+
+// The block whose bytes these are.
+fn block_of(alloc: Global, text: &[u8]) -> Result<Block, Refused<RecordCause>>
+    ensures exact { GivesBlock (in_block (block_at text.now)) result }
+    ensures found { IfOk result (λ b. text.now ≡ block_spelling b) }
+    ensures fits { IfOk result (λ b. IsBlock b) }
+{
+    match parse_block(alloc, text) {
+        Ok(block) => Ok(block),
+        Err(Refused::NoMemory) => Err(Refused::NoMemory),
+        Err(Refused::No(fault)) => Err(Refused::No(RecordCause::Block(fault.kind))),
+    }
+}
+
+// Puts the block of the record that stands here on the chain.
+#[tactic(auto, unfolding(crate::specs::Files::next_at))]
+fn take_next(alloc: Global, chain: Chain, cut: &mut Cut) -> Result<Chain, Refused<RecordCause>>
+    requires { Keeps chain }
+    ensures exact { GivesNext (next_at chain.blocks cut.old) result cut.new }
+    ensures kept { IfOk result (λ longer. Keeps longer) }
+    ensures found { IfOk result (λ longer. HasRecord chain.blocks longer.blocks cut.old cut.new) }
+{
+    match take_record(cut) {
+        Err(cause) => Err(Refused::No(cause)),
+        Ok(text) => match block_of(alloc, text) {
+            Err(e) => Err(e),
+            Ok(block) => put_on_chain(alloc, chain, block),
+        },
+    }
+}
+
+// The number of the record after those of these blocks, where so many stand before them.
+fn number_after(before: u32, blocks: &Blocks) -> u32
+    requires few { before ≤ 1 }
+    requires low { length blocks.now ≤ max_height }
+    ensures { result ≡ suc (before + length blocks.now) }
+{
+    before + blocks.len() as u32 + 1
+}
+
+// The blocks of the records that stand here, after so many others.
+fn read_records(alloc: Global, before: u32, bytes: &[u8]) -> Result<Blocks, Refused<BadBlock>>
+    requires { before ≤ 1 }
+    ensures exact { Answers (blocks_from before zero [] bytes.now) result }
+    ensures good { IfOk result (λ blocks. IsGoodChain blocks) }
+    ensures found { IfOk result (λ blocks. IsRecordsOf bytes.now blocks) }
+    ensures bad { IfBad result (λ bad. StopsAt bytes.now before bad) }
+{
+    let mut cut = Cut::new(bytes);
+    let mut chain = new_chain(alloc);
+    while !is_end(cut.rest()) {
+        let number = number_after(before, &chain.blocks);
+        match take_next(alloc, chain, &mut cut) {
+            Ok(longer) => chain = longer,
+            Err(Refused::NoMemory) => return Err(Refused::NoMemory),
+            Err(Refused::No(cause)) => return Err(Refused::No(BadBlock { number, cause })),
+        }
+    }
+    Ok(chain.blocks)
+}
+
+/// The blocks of a file, above genesis, the lowest first. The file is a run of records, each of regtest's magic
+/// fa bf b5 da (hexadecimal), the block's length in 4 bytes, the low byte first, and the block; the genesis block's may
+/// stand first, and zeros alone may stand at the end.
+///
+/// # Errors
+///
+/// The first record that is no record, or whose block may not stand on those before it, with the first rule that it
+/// breaks, in the order of `RecordCause`.
+#[tactic(auto, unfolding(crate::specs::Files::blocks_at, crate::specs::Files::genesis_record))]
+pub fn read_chain(alloc: Global, bytes: &[u8]) -> Result<Blocks, Refused<BadBlock>>
+    ensures exact { Answers (blocks_at bytes.now) result }
+    ensures found { IfOk result (λ blocks. IsGoodFile bytes.now blocks) }
+    ensures bad { IfBad result (λ bad. IsBadFile bytes.now bad) }
+{
+    let genesis = genesis_record(alloc)?;
+    match bytes.strip_prefix(genesis.as_slice()) {
+        Some(rest) => read_records(alloc, 1, rest),
+        None => read_records(alloc, 0, bytes),
+    }
+}

@@ -1,0 +1,102 @@
+//! The records of a file of blocks.
+ghost use Rattle.std.specs.Prelude.{◌≡◌, ◌++◌, ◌≤◌, IfOk, length};
+ghost use Rattle.std.specs.Int.{w32, to_le_bytes};
+ghost use Rattle.cf_block.specs.Genesis.{first_block};
+ghost use Rattle.cf_block.specs.Tx.{max_block};
+ghost use Rattle.cf_index.specs.Records.{magic, record_with, record_spelling, magic_at, length_at, head_at, text_at, record_at, Takes};
+
+use crate::cause::RecordCause;
+use cf_block::{genesis, write_block};
+use cf_bytes::{Cut, NoMemory};
+use std::alloc::Global;
+
+// Regtest's magic.
+const MAGIC: [u8; 4] = [0xfa, 0xbf, 0xb5, 0xda];
+
+// The most bytes that a block may have.
+const MAX_BLOCK: u32 = 1_000_000;
+
+#[tactic(auto, unfolding(crate::specs::Records::magic_at))]
+fn take_magic(cut: &mut Cut) -> Result<[u8; 4], RecordCause>
+    ensures exact { Takes (λ b. b) (magic_at cut.old) result cut.new }
+    ensures found { IfOk result (λ b. (b ≡ magic) × (cut.old ≡ b ++ cut.new)) }
+{
+    match cut.array::<4>() {
+        Err(_) => Err(RecordCause::Cut),
+        Ok(bytes) => {
+            if bytes != MAGIC {
+                return Err(RecordCause::Magic);
+            }
+            Ok(bytes)
+        }
+    }
+}
+
+#[tactic(auto, unfolding(crate::specs::Records::length_at))]
+fn take_length(cut: &mut Cut) -> Result<u32, RecordCause>
+    ensures exact { Takes (λ n. n) (length_at cut.old) result cut.new }
+    ensures found { IfOk result (λ n. (n ≤ max_block) × (cut.old ≡ to_le_bytes w32 n ++ cut.new)) }
+{
+    match cut.u32() {
+        Err(_) => Err(RecordCause::Cut),
+        Ok(length) => {
+            if length > MAX_BLOCK {
+                return Err(RecordCause::TooLong);
+            }
+            Ok(length)
+        }
+    }
+}
+
+// The length of the block of the record that stands here.
+#[tactic(auto, unfolding(crate::specs::Records::head_at))]
+fn take_head(cut: &mut Cut) -> Result<u32, RecordCause>
+    ensures exact { Takes (λ n. n) (head_at cut.old) result cut.new }
+    ensures found { IfOk result (λ n. (n ≤ max_block) × (cut.old ≡ magic ++ (to_le_bytes w32 n ++ cut.new))) }
+{
+    if cut.rest().len() < 8 {
+        return Err(RecordCause::Cut);
+    }
+    match take_magic(cut) {
+        Err(cause) => Err(cause),
+        Ok(_) => take_length(cut),
+    }
+}
+
+fn take_text<'a>(size: u32, cut: &mut Cut<'a>) -> Result<&'a [u8], RecordCause>
+    ensures exact { Takes (λ b. b.now) (text_at size cut.old) result cut.new }
+    ensures found { IfOk result (λ b. (cut.old ≡ b.now ++ cut.new) × (length b.now ≡ size)) }
+{
+    match cut.bytes(size as usize) {
+        Err(_) => Err(RecordCause::Cut),
+        Ok(bytes) => Ok(bytes),
+    }
+}
+
+// The bytes of the block of the record that stands here, lent.
+#[tactic(auto, unfolding(crate::specs::Records::record_at))]
+pub(crate) fn take_record<'a>(cut: &mut Cut<'a>) -> Result<&'a [u8], RecordCause>
+    ensures exact { Takes (λ b. b.now) (record_at cut.old) result cut.new }
+    ensures found { IfOk result (λ b. (cut.old ≡ record_with b.now ++ cut.new) × (length b.now ≤ max_block)) }
+{
+    match take_head(cut) {
+        Err(cause) => Err(cause),
+        Ok(size) => take_text(size, cut),
+    }
+}
+
+// The record of the genesis block.
+#[tactic(auto, unfolding(crate::specs::Records::record_spelling))]
+pub(crate) fn genesis_record(alloc: Global) -> Result<Vec<u8>, NoMemory>
+    ensures { IfOk result (λ bytes. bytes.items ≡ record_spelling first_block) }
+{
+    let block = genesis(alloc)?;
+    let mut text = Vec::new(alloc);
+    write_block(&block, &mut text)?;
+    let length = text.len() as u32;
+    let mut record = Vec::new(alloc);
+    record.extend_from_slice(&MAGIC)?;
+    record.extend_from_slice(&length.to_le_bytes())?;
+    record.extend_from_slice(&text)?;
+    Ok(record)
+}

@@ -1,0 +1,179 @@
+//! The transactions of a block against the coins.
+ghost use Rattle.std.specs.Prelude.{◌≡◌, ◌++◌, ◌<◌, ◌^◌, length, IfOk, OnOk, MatchResult, All, Ok, Err};
+ghost use Rattle.std.specs.List.{list_any};
+ghost use Rattle.cf_block.specs.Commitment.{is_coinbase_tx};
+ghost use Rattle.cf_block.specs.Outpoint.{spends_of};
+ghost use Rattle.cf_block.specs.Tx.{IsBlock};
+ghost use Rattle.cf_chain.specs.Coins.{spent as spent_of, spent_by, after_tx, after_block};
+ghost use Rattle.cf_index.specs.Spending.{prevs, take_all, put_all, spend, spend_all, spend_txs, coinbase_fault as coinbase_fault_of, Gives};
+
+use crate::cause::CoinFault;
+use crate::coins::Coins;
+use cf_block::{Block, Listed, OutPoint, Tx, TxIn, TxOut, is_coinbase, txid};
+use cf_bytes::{Hash32, NoMemory, Refused};
+use std::alloc::Global;
+
+/// The outputs that a block's transactions spend, in the order of their inputs.
+pub type Spent = Listed<TxOut>;
+
+/// Spends a block's inputs and puts its outputs in, transaction by transaction, and answers what was spent; or the first
+/// fault, after which nothing is said of the coins. The first transaction must be a coinbase and no other may be one;
+/// each input must name a coin as they stand when it comes; no output may be put over a standing one.
+pub fn spend_block(
+    alloc: Global,
+    coins: &mut Coins,
+    block: &Block,
+) -> Result<Spent, Refused<CoinFault>>
+    requires { IsBlock block.now }
+    ensures exact { Gives (spend_txs coins.old block.now.txs) result coins.new }
+    ensures after { OnOk result (coins.new ≡ after_block coins.old block.now) }
+    ensures spent { IfOk result (λ outputs. outputs ≡ spent_by coins.old block.now.txs) }
+{
+    let mut spent = Vec::new(alloc);
+    match check_txs(alloc, coins, block.txs.as_slice(), &mut spent) {
+        Ok(()) => Ok(Listed::from_vec(spent)),
+        Err(e) => Err(e),
+    }
+}
+
+#[tactic(auto, unfolding(crate::specs::Spending::spend_txs))]
+fn check_txs(
+    alloc: Global,
+    coins: &mut Coins,
+    txs: &[Tx],
+    spent: &mut Vec<TxOut>,
+) -> Result<(), Refused<CoinFault>>
+    requires { All (λ t. length t.outputs < 2 ^ 32) txs.now }
+    ensures exact { Gives (spend_txs coins.old txs.now) result coins.new }
+    ensures spent { OnOk result (spent.new.items ≡ spent.old.items ++ spent_by coins.old txs.now) }
+{
+    match find_coinbase_fault(txs) {
+        Some(fault) => Err(Refused::No(fault)),
+        None => spend_each(alloc, coins, txs, spent),
+    }
+}
+
+fn find_coinbase_fault(txs: &[Tx]) -> Option<CoinFault>
+    ensures { result ≡ coinbase_fault_of txs.now }
+{
+    match txs.split_first() {
+        None => Some(CoinFault::NoCoinbase),
+        Some((first, others)) => {
+            if !is_coinbase(first) {
+                return Some(CoinFault::NoCoinbase);
+            }
+            if has_coinbase(others) {
+                return Some(CoinFault::SecondCoinbase);
+            }
+            None
+        }
+    }
+}
+
+fn has_coinbase(txs: &[Tx]) -> bool
+    ensures { result ≡ list_any is_coinbase_tx txs.now }
+{
+    txs.iter().any(|t| is_coinbase(t))
+}
+
+fn spend_each(
+    alloc: Global,
+    coins: &mut Coins,
+    txs: &[Tx],
+    spent: &mut Vec<TxOut>,
+) -> Result<(), Refused<CoinFault>>
+    requires { All (λ t. length t.outputs < 2 ^ 32) txs.now }
+    ensures exact { Gives (spend_all coins.old txs.now) result coins.new }
+    ensures spent { OnOk result (spent.new.items ≡ spent.old.items ++ spent_by coins.old txs.now) }
+{
+    for tx in txs {
+        match spend_tx(alloc, coins, tx, spent) {
+            Ok(()) => {}
+            Err(e) => return Err(e),
+        }
+    }
+    Ok(())
+}
+
+// The transaction's hash is computed once.
+fn spend_tx(
+    alloc: Global,
+    coins: &mut Coins,
+    tx: &Tx,
+    spent: &mut Vec<TxOut>,
+) -> Result<(), Refused<CoinFault>>
+    requires { length tx.now.outputs < 2 ^ 32 }
+    ensures exact { Gives (spend coins.old tx.now) result coins.new }
+    ensures spent { OnOk result (spent.new.items ≡ spent.old.items ++ spent_of coins.old (spends_of tx.now)) }
+{
+    match spend_inputs(coins, tx, spent) {
+        Ok(()) => {
+            let hash = txid(tx);
+            put_outputs(alloc, coins, hash, tx.outputs.as_slice())
+        }
+        Err(e) => Err(e),
+    }
+}
+
+fn spend_inputs(
+    coins: &mut Coins,
+    tx: &Tx,
+    spent: &mut Vec<TxOut>,
+) -> Result<(), Refused<CoinFault>>
+    ensures exact { Gives (take_all coins.old (spends_of tx.now)) result coins.new }
+    ensures spent { OnOk result (spent.new.items ≡ spent.old.items ++ spent_of coins.old (spends_of tx.now)) }
+{
+    if is_coinbase(tx) {
+        return Ok(());
+    }
+    take_inputs(coins, tx.inputs.as_slice(), spent)
+}
+
+fn take_inputs(
+    coins: &mut Coins,
+    inputs: &[TxIn],
+    spent: &mut Vec<TxOut>,
+) -> Result<(), Refused<CoinFault>>
+    ensures exact { Gives (take_all coins.old (prevs inputs.now)) result coins.new }
+    ensures spent { OnOk result (spent.new.items ≡ spent.old.items ++ spent_of coins.old (prevs inputs.now)) }
+{
+    for input in inputs {
+        match coins.take(input.prev) {
+            None => return Err(Refused::No(CoinFault::Missing(input.prev))),
+            Some(output) => spent.push(output)?,
+        }
+    }
+    Ok(())
+}
+
+fn copy_of(alloc: Global, output: &TxOut) -> Result<TxOut, NoMemory>
+    ensures { IfOk result (λ copy. copy ≡ output.now) }
+{
+    let script = output.script.copy(alloc)?;
+    Ok(TxOut {
+        value: output.value,
+        script,
+    })
+}
+
+fn put_outputs(
+    alloc: Global,
+    coins: &mut Coins,
+    txid: Hash32,
+    outputs: &[TxOut],
+) -> Result<(), Refused<CoinFault>>
+    requires { length outputs.now < 2 ^ 32 }
+    ensures { Gives (put_all txid.0 0 coins.old outputs.now) result coins.new }
+{
+    let mut index = 0u32;
+    for output in outputs {
+        let name = OutPoint { txid, index };
+        if coins.has(name) {
+            return Err(Refused::No(CoinFault::Exists(name)));
+        }
+        let copy = copy_of(alloc, output)?;
+        coins.put(name, copy)?;
+        index += 1;
+    }
+    Ok(())
+}
