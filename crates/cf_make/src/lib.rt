@@ -1,0 +1,19 @@
+//! Made chains, for tests: chains of regtest that a seed tells.
+#![tactic(auto)]
+
+mod copying;
+mod laws;
+mod making;
+mod mining;
+mod paying;
+mod recording;
+mod spending;
+
+pub use laws::laws_of_made_chains;
+pub use making::{AtHeight, Chain, chain, extend};
+pub use mining::{NoNonce, mine};
+pub use paying::script;
+pub use recording::records;
+
+#[cfg(test)]
+mod tests;
