@@ -19,6 +19,13 @@ log_of w = reverse w.log.items
 abbrev pub failing_of : MemoryWires → List ℕ
 failing_of w = w.failing.items
 
+-- how many dials and sends there were, and how many of them failed
+abbrev pub calls_of : MemoryWires → ℕ
+calls_of w = w.calls
+
+abbrev pub faults_of : MemoryWires → ℕ
+faults_of w = w.faults
+
 -- the end is told by itself, and not added
 abbrev pub may_be_added : Scripted → Bool
 may_be_added (MadeDial name) = true

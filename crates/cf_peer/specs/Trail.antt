@@ -16,6 +16,7 @@ use Rattle.cf_peer.specs.declared.event.Delivery.{Delivery}
 use Rattle.cf_peer.specs.declared.event.Delivery.TheVariants.{Got, Gone, Tick, Ended}
 use Rattle.cf_peer.specs.declared.event.Event.{Event}
 use Rattle.cf_peer.specs.declared.event.Event.TheVariants.{Dialled, NotDialled, Sent, SendFailed, Closed, Took}
+use Rattle.cf_peer.specs.declared.peer.TheConstants.{TICKS_COUNT}
 use Rattle.cf_peer.specs.declared.peer.Cause.{Cause}
 use Rattle.cf_peer.specs.declared.peer.Cause.TheVariants.{BadFrame, Malformed as IsMalformed, NoFilters, Unlinked as NotLinked, InvalidHeader, TooHigh as AboveLimit, SendFailed as SendFault, Overdue}
 use Rattle.cf_peer.specs.Log.{Log}
@@ -225,14 +226,21 @@ headers_open (Asked m ∷ t) = is_getheaders m || headers_open t
 headers_open (Passed s ∷ t) = headers_open t
 headers_open (Lost w ∷ t) = headers_open t
 
--- the seconds since the newest request, the call among them
+-- whether the seconds of a tick count
+unfoldable pub ticks_count : Bool
+ticks_count = TICKS_COUNT
+
+abbrev pub counted_seconds : ℕ → ℕ
+counted_seconds s = if ticks_count then s else 0
+
+-- the seconds that counted since the newest request, the call among them
 abbrev pub age : Trail → ℕ
 age [] = 0
 age (Called ∷ t) = 0
 age (Said m ∷ t) = age t
 age (Refused c ∷ t) = age t
 age (Asked m ∷ t) = if is_getheaders m then 0 else age t
-age (Passed s ∷ t) = age t + s
+age (Passed s ∷ t) = age t + counted_seconds s
 age (Lost w ∷ t) = age t
 
 -- something is open to it: the handshake, or a request

@@ -48,13 +48,15 @@ pub struct MemoryWires {
 }
 
 impl MemoryWires {
-    ghost use Rattle.cf_peer.specs.Memory.{script_of, log_of, failing_of, may_be_added, with_scripted, with_dial};
+    ghost use Rattle.cf_peer.specs.Memory.{script_of, log_of, failing_of, calls_of, faults_of, may_be_added, with_scripted, with_dial};
 
     /// Wires that were made to give nothing: each dial fails.
     pub fn new(alloc: Global) -> Result<MemoryWires, NoMemory>
         ensures log { IfOk result (λ w. log_of w ≡ []) }
         ensures script { IfOk result (λ w. script_of w ≡ record { dials = []; deliveries = [] }) }
         ensures failing { IfOk result (λ w. failing_of w ≡ []) }
+        ensures calls { IfOk result (λ w. calls_of w ≡ 0) }
+        ensures faults { IfOk result (λ w. faults_of w ≡ 0) }
     {
         Ok(MemoryWires {
             alloc,
@@ -77,6 +79,8 @@ impl MemoryWires {
         ensures script { OnOk result (script_of self.new ≡ with_scripted (script_of self.old) e) }
         ensures log { log_of self.new ≡ log_of self.old }
         ensures failing { failing_of self.new ≡ failing_of self.old }
+        ensures calls { calls_of self.new ≡ calls_of self.old }
+        ensures faults { faults_of self.new ≡ faults_of self.old }
         ensures err { OnErr result (script_of self.new ≡ script_of self.old) }
     {
         match e {
@@ -96,6 +100,8 @@ impl MemoryWires {
         ensures script { script_of self.new ≡ record { dials = dials.items; deliveries = deliveries.items } }
         ensures log { log_of self.new ≡ log_of self.old }
         ensures failing { failing_of self.new ≡ failing_of self.old }
+        ensures calls { calls_of self.new ≡ calls_of self.old }
+        ensures faults { faults_of self.new ≡ faults_of self.old }
     {
         self.dial_script = dials;
         self.script = deliveries;
@@ -108,6 +114,8 @@ impl MemoryWires {
         ensures script { OnOk result (script_of self.new ≡ with_dial (script_of self.old) (record { name = name; answered = answered })) }
         ensures log { log_of self.new ≡ log_of self.old }
         ensures failing { failing_of self.new ≡ failing_of self.old }
+        ensures calls { calls_of self.new ≡ calls_of self.old }
+        ensures faults { faults_of self.new ≡ faults_of self.old }
         ensures err { OnErr result (script_of self.new ≡ script_of self.old) }
     {
         self.dial_script.push(Dial { name, answered })?;
@@ -120,6 +128,8 @@ impl MemoryWires {
         ensures ok { OnOk result (failing_of self.new ≡ calls.now) }
         ensures script { script_of self.new ≡ script_of self.old }
         ensures log { log_of self.new ≡ log_of self.old }
+        ensures calls { calls_of self.new ≡ calls_of self.old }
+        ensures faults { faults_of self.new ≡ faults_of self.old }
         ensures err { OnErr result (failing_of self.new ≡ failing_of self.old) }
     {
         self.failing = Vec::from_slice(self.alloc, calls)?;

@@ -2,7 +2,7 @@
 ghost use Rattle.std.specs.Prelude.{◌≡◌, ◌∷◌, true, not};
 ghost use Rattle.cf_msg.specs.declared.msg.Msg.{Msg};
 ghost use Rattle.cf_msg.specs.declared.msg.Msg.TheVariants.{Headers};
-ghost use Rattle.cf_peer.specs.Trail.{Trail, Passed};
+ghost use Rattle.cf_peer.specs.Trail.{Trail, Passed, counted_seconds as seconds_that_count};
 ghost use Rattle.cf_peer.specs.Peer.{Holds, Hears, calm, called_peer, is_ready_peer, IsVersionOf, busy, wants, asked_peer, IsReplySendable};
 
 use cf_block::Header;
@@ -11,6 +11,9 @@ use cf_headers::{Accepted, accept_on_genesis};
 use cf_msg::Msg;
 use std::alloc::Global;
 use thiserror::Error;
+
+/// Whether the seconds of a tick count. They don't yet: a tick has no effect, so no request grows old, and no peer is `Overdue`.
+pub const TICKS_COUNT: bool = false;
 
 /// Why a peer is closed.
 #[derive(Clone, Copy, Debug, PartialEq, Eq, Error)]
@@ -36,12 +39,12 @@ pub enum Cause {
     /// A send to it failed.
     #[error("SendFailed")]
     SendFailed = 11,
-    /// It left a request open for 60 seconds or more.
+    /// It left a request open for 60 seconds that counted, or more.
     #[error("Overdue")]
     Overdue = 12,
 }
 
-/// The one request that is open to a peer, with the seconds that have passed since.
+/// The one request that is open to a peer, with the seconds that counted since.
 #[derive(Clone, Copy, Debug, PartialEq, Eq)]
 pub enum Request {
     /// Nothing is open.
@@ -162,20 +165,17 @@ impl Peer {
         }
     }
 
-    /// Adds to the age of the open request.
+    /// Adds the seconds that count to the age of the open request.
     pub fn pass(&mut self, seconds: u32)
         requires { calm self.old ≡ true }
         ensures holds { (t : Trail) → Holds self.old t → Holds self.new (Passed seconds ∷ t) }
         ensures waits { self.new.framer ≡ self.old.framer }
     {
+        let counted = u64::from(counted_seconds(seconds));
         match self.request {
             Request::Nothing => {}
-            Request::Handshake(age) => {
-                self.request = Request::Handshake(age + u64::from(seconds));
-            }
-            Request::Headers(age) => {
-                self.request = Request::Headers(age + u64::from(seconds));
-            }
+            Request::Handshake(age) => self.request = Request::Handshake(age + counted),
+            Request::Headers(age) => self.request = Request::Headers(age + counted),
         }
     }
 
@@ -210,4 +210,12 @@ impl Peer {
     {
         self.request = Request::Headers(0);
     }
+}
+
+// How many of a tick's seconds count.
+#[tactic(auto, unfolding(crate::specs::Trail::ticks_count))]
+fn counted_seconds(seconds: u32) -> u32
+    ensures { result ≡ seconds_that_count seconds }
+{
+    if TICKS_COUNT { seconds } else { 0 }
 }
