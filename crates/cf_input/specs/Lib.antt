@@ -1,0 +1,9 @@
+pub mod Commands
+pub mod LineLaws
+pub mod Lines
+pub mod Name
+pub mod Number
+pub mod SessionFile
+pub mod Sessions
+pub mod WatchFile
+pub mod Words

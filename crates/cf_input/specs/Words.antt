@@ -1,0 +1,134 @@
+-- The program's words, as clap reads them.
+use Rattle.std.specs.Prelude.{ℕ, ◌||◌, Bool, if◌then◌else◌, List, [], ◌∷◌, codes, Option, Some, None, true, option_and_then, false}
+use Rattle.std.specs.Str.{bytes_eq}
+use Rattle.clap.specs.Words.{App, Rule, Row, Text, new_app, new_rule, with_rule, with_subcommand, first_of, fault_of, subcommand_of, Kinds}
+use Rattle.clap.specs.declared.builder.ArgAction.TheVariants.{SetTrue}
+use Rattle.cf_input.specs.Number.{number_at_most, number_within}
+use Rattle.cf_input.specs.Name.{is_name}
+use Rattle.cf_input.specs.declared.words.Command.{Command}
+use Rattle.cf_input.specs.declared.words.Command.TheVariants.{Filter, Replay, Scan, Sync}
+
+abbrev pub needed : Rule → Rule
+needed r = record r { required = true }
+
+abbrev pub trace : Rule
+trace = record (new_rule (codes "trace")) { long = Some (codes "trace"); action = Some SetTrue }
+
+abbrev pub turns : Rule
+turns = record (new_rule (codes "turns")) { long = Some (codes "turns") }
+
+-- replay [--trace] WATCH SESSION
+abbrev pub replay_app : App
+replay_app = with_rule (with_rule (with_rule (new_app (codes "replay")) trace) (needed (new_rule (codes "watch")))) (needed (new_rule (codes "session")))
+
+-- sync [--turns N] WATCH PEER
+abbrev pub sync_app : App
+sync_app = with_rule (with_rule (with_rule (new_app (codes "sync")) turns) (needed (new_rule (codes "watch")))) (needed (new_rule (codes "peer")))
+
+-- a command of two words, both needed
+abbrev pub two_app : Text → Text → Text → App
+two_app name one two = with_rule (with_rule (new_app name) (needed (new_rule one))) (needed (new_rule two))
+
+-- scan FILE WATCH
+abbrev pub scan_app : App
+scan_app = two_app (codes "scan") (codes "file") (codes "watch")
+
+-- filter FILE HEIGHT
+abbrev pub filter_app : App
+filter_app = two_app (codes "filter") (codes "file") (codes "height")
+
+unfoldable pub with_sub : App → App → App
+with_sub a s = with_subcommand a s.top
+
+-- the command line, with the client's commands alone
+unfoldable pub client_app : App
+client_app = with_sub (with_sub (new_app (codes "cf")) sync_app) replay_app
+
+-- the whole command line: those over a block file come after them
+unfoldable pub cli_app : App
+cli_app = with_sub (with_sub client_app scan_app) filter_app
+
+-- the subcommand that was met, and what was found for its arguments
+abbrev pub Met : Type 0
+Met = Option (Text × List Row)
+
+abbrev pub is_met : Text → Met → Bool
+is_met name None = false
+is_met name (Some p) = bytes_eq p.0 name
+
+-- the text that was given for an argument
+abbrev pub text_of : Text → Met → Option Text
+text_of id met = option_and_then (λ p. first_of id p.1) met
+
+abbrev pub is_true : Option Text → Bool
+is_true None = false
+is_true (Some text) = bytes_eq text (codes "true")
+
+-- a flag that was given
+abbrev pub is_set : Text → Met → Bool
+is_set id met = is_true (text_of id met)
+
+-- at most this many deliveries are taken from the wires
+abbrev pub most_turns : ℕ
+most_turns = 10000000
+
+-- a number from 1 to the most, which stands also where none is given
+abbrev pub turns_of : Option Text → Option ℕ
+turns_of None = Some most_turns
+turns_of (Some text) = number_within most_turns text
+
+-- the greatest height that may be asked for
+abbrev pub most_height : ℕ
+most_height = 4294967295
+
+-- a number from 0 to the greatest height
+abbrev pub height_of : Text → Option ℕ
+height_of text = number_at_most most_height text
+
+abbrev pub replay_of : Met → Option Command
+replay_of met =
+    option_and_then (λ watch. option_and_then (λ session.
+    Some (Replay (is_set (codes "trace") met) watch session))
+    (text_of (codes "session") met)) (text_of (codes "watch") met)
+
+abbrev pub sync_of : Met → Option Command
+sync_of met =
+    option_and_then (λ turns. option_and_then (λ watch. option_and_then (λ peer.
+    if is_name peer then Some (Sync turns watch peer) else None)
+    (text_of (codes "peer") met)) (text_of (codes "watch") met)) (turns_of (text_of (codes "turns") met))
+
+abbrev pub scan_of : Met → Option Command
+scan_of met =
+    option_and_then (λ file. option_and_then (λ watch.
+    Some (Scan file watch))
+    (text_of (codes "watch") met)) (text_of (codes "file") met)
+
+abbrev pub filter_of : Met → Option Command
+filter_of met =
+    option_and_then (λ file. option_and_then (λ height.
+    Some (Filter file height))
+    (option_and_then height_of (text_of (codes "height") met))) (text_of (codes "file") met)
+
+abbrev pub asked_of : Met → Option Command
+asked_of met =
+    if is_met (codes "replay") met then replay_of met
+    else if is_met (codes "sync") met then sync_of met
+    else if is_met (codes "scan") met then scan_of met
+    else if is_met (codes "filter") met then filter_of met
+    else None
+
+-- clap finds no fault in the words
+abbrev pub is_faultless : Kinds → Bool
+is_faultless [] = true
+is_faultless (k ∷ ks) = false
+
+-- what the words ask for, where clap takes them and each number and name is in its range
+abbrev pub command_of : List Text → Option Command
+command_of words =
+    if is_faultless (fault_of cli_app words) then asked_of (subcommand_of cli_app words) else None
+
+abbrev pub is_help_word : Text → Bool
+is_help_word word = bytes_eq word (codes "help") || (bytes_eq word (codes "--help") || bytes_eq word (codes "-h"))
+
+abbrev pub is_version_word : Text → Bool
+is_version_word word = bytes_eq word (codes "--version") || bytes_eq word (codes "-V")

@@ -1,0 +1,73 @@
+//! The file of the scripts that are watched.
+ghost use Rattle.cf_input.specs.Lines.{GivesRead, GivesAfter};
+ghost use Rattle.cf_input.specs.WatchFile.{script_after, watch_of};
+
+use crate::lines::{cut_at, read_hex};
+use cf_block::Script;
+use cf_bytes::Refused;
+use cf_scan::{Watch, WatchKind};
+use std::alloc::Global;
+use thiserror::Error;
+
+/// Why a line isn't a script that can be watched.
+#[derive(Clone, Copy, Debug, PartialEq, Eq, Error)]
+pub enum WatchCause {
+    /// It has an odd number of digits, or another character.
+    #[error("the line isn't hexadecimal")]
+    NotHex,
+    #[error("{0}")]
+    Script(WatchKind),
+}
+
+/// The first line that is refused, counted from 1.
+#[derive(Clone, Copy, Debug, PartialEq, Eq, Error)]
+#[error("line {place}: {cause}")]
+pub struct WatchFileFault {
+    pub cause: WatchCause,
+    pub place: u32,
+}
+
+impl From<WatchFileFault> for Refused<WatchFileFault> {
+    ghost use Rattle.std.specs.Prelude.{◌≡◌};
+    ghost use Rattle.cf_bytes.specs.declared.memory.Refused.TheVariants.{No};
+
+    ghost from_gives = { λ fault e. e ≡ No fault };
+
+    fn from(fault: WatchFileFault) -> Refused<WatchFileFault> {
+        Refused::No(fault)
+    }
+}
+
+// Watches the script of one line more.
+fn add_line(alloc: Global, watch: &mut Watch, line: &[u8]) -> Result<(), Refused<WatchFileFault>>
+    ensures { GivesAfter (script_after watch.old line.now) result watch.new }
+{
+    let place = watch.len() as u32 + 1;
+    let Some(bytes) = read_hex(alloc, line)? else {
+        let cause = WatchCause::NotHex;
+        return Err(Refused::No(WatchFileFault { cause, place }));
+    };
+    match watch.add(alloc, Script::from_vec(bytes)) {
+        Ok(()) => Ok(()),
+        Err(Refused::No(kind)) => {
+            let cause = WatchCause::Script(kind);
+            Err(Refused::No(WatchFileFault { cause, place }))
+        }
+        Err(Refused::NoMemory) => Err(Refused::NoMemory),
+    }
+}
+
+/// The scripts of a file, one on each line in hexadecimal of either case, or the first line that is
+/// refused. Lines end with LF, which the last may lack. A line is judged whole before the next.
+pub fn read_watch(alloc: Global, bytes: &[u8]) -> Result<Watch, Refused<WatchFileFault>>
+    ensures { GivesRead (λ w. w) (watch_of bytes.now) result }
+{
+    let mut watch = Watch::empty(alloc);
+    let mut rest = bytes;
+    while !rest.is_empty() {
+        let (line, after) = cut_at(rest, b'\n');
+        add_line(alloc, &mut watch, line)?;
+        rest = after;
+    }
+    Ok(watch)
+}

@@ -1,0 +1,307 @@
+//! The program's words, read by clap.
+ghost use Rattle.std.specs.Prelude.{◌≡◌, ◌==◌, IfOk, IfErr, [], map, false, length, string_bytes, option_map};
+ghost use Rattle.std.specs.List.{list_any};
+ghost use Rattle.clap.specs.Words.{app_of, rule_of, subcommand_of, subcommand_rows_of, fault_of};
+ghost use Rattle.clap.specs.declared.builder.command.Command.TheViews.{out-Command as fields_of};
+ghost use Rattle.cf_input.specs.Words.{trace, turns, replay_app, sync_app, two_app, with_sub, client_app, cli_app, text_of, is_met, is_set, turns_of, height_of, replay_of, sync_of, scan_of, filter_of, is_faultless, command_of, is_help_word, is_version_word};
+ghost use Rattle.cf_input.specs.Commands.{GivesOrUsage, IfUsage, refusal_of};
+
+use crate::number::{number_at_most, number_within};
+use crate::text::{Word, is_name};
+use cf_bytes::{NoMemory, Refused};
+use clap::error::ErrorKind;
+use clap::{Arg, ArgAction, ArgMatches};
+use std::alloc::{AllocError, Global};
+
+/// The words ask for nothing that the program does.
+#[derive(Clone, Copy, Debug, PartialEq, Eq)]
+pub struct Usage;
+
+impl From<Usage> for Refused<Usage> {
+    ghost use Rattle.std.specs.Prelude.{◌≡◌};
+    ghost use Rattle.cf_bytes.specs.declared.memory.Refused.TheVariants.{No};
+
+    ghost from_gives = { λ fault e. e ≡ No fault };
+
+    fn from(fault: Usage) -> Refused<Usage> {
+        Refused::No(fault)
+    }
+}
+
+/// At most this many deliveries are taken from the wires.
+pub const MOST_TURNS: u32 = 10_000_000;
+
+/// The greatest height that may be asked for.
+pub const MOST_HEIGHT: u32 = 4_294_967_295;
+
+/// What the words ask for.
+#[derive(Drop)]
+pub enum Command {
+    /// The client over a session file; with `trace`, what it sends and closes is written too.
+    Replay {
+        trace: bool,
+        watch: Word,
+        session: Word,
+    },
+    /// The client over the wires that are handed in, which takes at most so many deliveries.
+    Sync {
+        turns: u32,
+        watch: Word,
+        peer: Word,
+    },
+    /// The history of the watched scripts in a block file.
+    Scan {
+        file: Word,
+        watch: Word,
+    },
+    /// The block, its filter and its filter header at a height of a block file.
+    Filter {
+        file: Word,
+        height: u32,
+    },
+}
+
+fn turns_arg<'a>(alloc: Global) -> Arg<'a>
+    ensures { (rule_of result ≡ turns) × (result.global ≡ false) }
+{
+    Arg::new(alloc, "turns").long("turns")
+}
+
+fn trace_arg<'a>(alloc: Global) -> Arg<'a>
+    ensures { (rule_of result ≡ trace) × (result.global ≡ false) }
+{
+    Arg::new(alloc, "trace")
+        .long("trace")
+        .action(ArgAction::SetTrue)
+}
+
+fn sync_command<'a>(alloc: Global) -> Result<clap::Command<'a>, AllocError>
+    ensures { IfOk result (λ c. (app_of c ≡ sync_app) × ((fields_of c).has_globals ≡ false)) }
+{
+    let watch = Arg::new(alloc, "watch").required(true);
+    let peer = Arg::new(alloc, "peer").required(true);
+    clap::Command::new(alloc, "sync")
+        .arg(turns_arg(alloc))?
+        .arg(watch)?
+        .arg(peer)
+}
+
+fn replay_command<'a>(alloc: Global) -> Result<clap::Command<'a>, AllocError>
+    ensures { IfOk result (λ c. (app_of c ≡ replay_app) × ((fields_of c).has_globals ≡ false)) }
+{
+    let watch = Arg::new(alloc, "watch").required(true);
+    let session = Arg::new(alloc, "session").required(true);
+    clap::Command::new(alloc, "replay")
+        .arg(trace_arg(alloc))?
+        .arg(watch)?
+        .arg(session)
+}
+
+// A command of two words.
+fn two_words<'a>(
+    alloc: Global,
+    name: &'a str,
+    one: &'a str,
+    two: &'a str,
+) -> Result<clap::Command<'a>, AllocError>
+    ensures { IfOk result (λ c. (app_of c ≡ two_app name.entry.now one.entry.now two.entry.now) × ((fields_of c).has_globals ≡ false)) }
+{
+    let one = Arg::new(alloc, one).required(true);
+    let two = Arg::new(alloc, two).required(true);
+    clap::Command::new(alloc, name).arg(one)?.arg(two)
+}
+
+// The command with one more subcommand.
+#[tactic(auto, unfolding(crate::specs::Words::with_sub))]
+fn with_one_more<'a>(
+    command: clap::Command<'a>,
+    sub: clap::Command<'a>,
+) -> Result<clap::Command<'a>, AllocError>
+    requires { ((fields_of command).has_globals ≡ false) × ((fields_of sub).has_globals ≡ false) }
+    ensures { IfOk result (λ c. (app_of c ≡ with_sub (app_of command.entry) (app_of sub.entry)) × ((fields_of c).has_globals ≡ false)) }
+{
+    command.subcommand(sub)
+}
+
+// The command line, with the client's commands alone.
+fn client_command<'a>(alloc: Global) -> Result<clap::Command<'a>, AllocError>
+    ensures { IfOk result (λ c. (app_of c ≡ client_app) × ((fields_of c).has_globals ≡ false)) }
+{
+    let command = clap::Command::new(alloc, "cf");
+    let command = with_one_more(command, sync_command(alloc)?)?;
+    with_one_more(command, replay_command(alloc)?)
+}
+
+// The whole command line: those over a block file come after them.
+fn cli_command<'a>(alloc: Global) -> Result<clap::Command<'a>, AllocError>
+    ensures { IfOk result (λ c. (app_of c ≡ cli_app) × ((fields_of c).has_globals ≡ false)) }
+{
+    let command = client_command(alloc)?;
+    let command = with_one_more(command, two_words(alloc, "scan", "file", "watch")?)?;
+    with_one_more(command, two_words(alloc, "filter", "file", "height")?)
+}
+
+// Clap refuses the words, or finds no memory.
+fn refusal(kind: ErrorKind) -> Refused<Usage>
+    ensures { result ≡ refusal_of kind }
+{
+    match kind {
+        ErrorKind::OutOfMemory => Refused::NoMemory,
+        _ => Refused::No(Usage),
+    }
+}
+
+// What clap makes of the words.
+fn matches_of_words<'a>(
+    alloc: Global,
+    words: &'a [String],
+) -> Result<ArgMatches<'a>, Refused<Usage>>
+    ensures ok { IfOk result (λ m. subcommand_rows_of m ≡ subcommand_of cli_app (map (λ s. string_bytes s) words.entry.now)) }
+    ensures passed { IfOk result (λ m. fault_of cli_app (map (λ s. string_bytes s) words.entry.now) ≡ []) }
+    ensures refused { IfErr result (λ e. IfUsage e (is_faultless (fault_of cli_app (map (λ s. string_bytes s) words.entry.now)) ≡ false)) }
+{
+    let command = cli_command(alloc)?;
+    match command.try_get_matches_from(words) {
+        Ok(matches) => Ok(matches),
+        Err(e) => Err(refusal(e.kind())),
+    }
+}
+
+// The text of an argument of the subcommand that was met.
+fn text_of<'a>(matches: &ArgMatches<'a>, id: &str) -> Option<&'a str>
+    ensures { option_map (λ s. s.now) result ≡ text_of id.now (subcommand_rows_of matches.now) }
+{
+    let (_, inner) = matches.subcommand()?;
+    inner.get_str(id)
+}
+
+// Whether this subcommand was met.
+fn is_met(matches: &ArgMatches, name: &str) -> bool
+    ensures { result ≡ is_met name.now (subcommand_rows_of matches.now) }
+{
+    match matches.subcommand() {
+        Some((met, _)) => met == name,
+        None => false,
+    }
+}
+
+// Whether this flag was given.
+fn is_set(matches: &ArgMatches, id: &str) -> bool
+    ensures { result ≡ is_set id.now (subcommand_rows_of matches.now) }
+{
+    match text_of(matches, id) {
+        Some(text) => text == "true",
+        None => false,
+    }
+}
+
+fn turns_of(text: Option<&str>) -> Option<u32>
+    ensures { result ≡ turns_of (option_map (λ s. s.now) text.entry) }
+{
+    match text {
+        Some(text) => number_within(text.as_bytes(), MOST_TURNS),
+        None => Some(MOST_TURNS),
+    }
+}
+
+fn height_of(text: &str) -> Option<u32>
+    ensures { result ≡ height_of text.now }
+{
+    number_at_most(text.as_bytes(), MOST_HEIGHT)
+}
+
+fn read_replay(alloc: Global, matches: &ArgMatches) -> Result<Command, Refused<Usage>>
+    ensures { GivesOrUsage (replay_of (subcommand_rows_of matches.now)) result }
+{
+    let watch = text_of(matches, "watch").ok_or(Usage)?;
+    let session = text_of(matches, "session").ok_or(Usage)?;
+    let trace = is_set(matches, "trace");
+    let watch = Word::new(alloc, watch)?;
+    let session = Word::new(alloc, session)?;
+    Ok(Command::Replay {
+        trace,
+        watch,
+        session,
+    })
+}
+
+fn read_sync(alloc: Global, matches: &ArgMatches) -> Result<Command, Refused<Usage>>
+    ensures { GivesOrUsage (sync_of (subcommand_rows_of matches.now)) result }
+{
+    let turns = turns_of(text_of(matches, "turns")).ok_or(Usage)?;
+    let watch = text_of(matches, "watch").ok_or(Usage)?;
+    let peer = text_of(matches, "peer").ok_or(Usage)?;
+    if !is_name(peer.as_bytes()) {
+        return Err(Refused::No(Usage));
+    }
+    let watch = Word::new(alloc, watch)?;
+    let peer = Word::new(alloc, peer)?;
+    Ok(Command::Sync { turns, watch, peer })
+}
+
+fn read_scan(alloc: Global, matches: &ArgMatches) -> Result<Command, Refused<Usage>>
+    ensures { GivesOrUsage (scan_of (subcommand_rows_of matches.now)) result }
+{
+    let file = text_of(matches, "file").ok_or(Usage)?;
+    let watch = text_of(matches, "watch").ok_or(Usage)?;
+    let file = Word::new(alloc, file)?;
+    let watch = Word::new(alloc, watch)?;
+    Ok(Command::Scan { file, watch })
+}
+
+fn read_filter(alloc: Global, matches: &ArgMatches) -> Result<Command, Refused<Usage>>
+    ensures { GivesOrUsage (filter_of (subcommand_rows_of matches.now)) result }
+{
+    let file = text_of(matches, "file").ok_or(Usage)?;
+    let height = text_of(matches, "height").ok_or(Usage)?;
+    let height = height_of(height).ok_or(Usage)?;
+    let file = Word::new(alloc, file)?;
+    Ok(Command::Filter { file, height })
+}
+
+/// What the words ask for; the first is the program's name. `Usage` exactly where clap refuses them
+/// for this command, a number isn't decimal and within its range, or a name isn't one.
+pub fn read_words(alloc: Global, words: &[String]) -> Result<Command, Refused<Usage>>
+    ensures { GivesOrUsage (command_of (map (λ s. string_bytes s) words.now)) result }
+{
+    let matches = matches_of_words(alloc, words)?;
+    if is_met(&matches, "replay") {
+        return read_replay(alloc, &matches);
+    }
+    if is_met(&matches, "sync") {
+        return read_sync(alloc, &matches);
+    }
+    if is_met(&matches, "scan") {
+        return read_scan(alloc, &matches);
+    }
+    if is_met(&matches, "filter") {
+        return read_filter(alloc, &matches);
+    }
+    Err(Refused::No(Usage))
+}
+
+fn is_help_word(word: &str) -> bool
+    ensures { result ≡ is_help_word word.now }
+{
+    word == "help" || word == "--help" || word == "-h"
+}
+
+/// Whether a word asks for the help text.
+pub fn is_help(words: &[String]) -> bool
+    ensures { result ≡ list_any (λ w. is_help_word (string_bytes w)) words.now }
+{
+    words.iter().any(|w| is_help_word(w.as_str()))
+}
+
+fn is_version_word(word: &str) -> bool
+    ensures { result ≡ is_version_word word.now }
+{
+    word == "--version" || word == "-V"
+}
+
+/// Whether a word asks for the version.
+pub fn is_version(words: &[String]) -> bool
+    ensures { result ≡ list_any (λ w. is_version_word (string_bytes w)) words.now }
+{
+    words.iter().any(|w| is_version_word(w.as_str()))
+}
