@@ -6,7 +6,8 @@ mod outside;
 mod texts;
 
 use cf_bytes::{StdFiles, WriterSink, put_all};
-use cf_cli::{Status, is_help, is_version, run};
+use cf_cli::{Status, run};
+use cf_input::{is_help, is_version};
 use cf_peer::MemoryWires;
 use std::io;
 use std::process::ExitCode;

@@ -24,6 +24,11 @@ fn the_help_tells_commands_files_and_statuses(rt: HostRuntime) -> Result<(), Fai
     let words = words_of(rt.alloc(), &["cf", "--help"])?;
     let text = own_text(&words).ok_or("no text")?;
     let parts = [
+        "cf scan FILE WATCH",
+        "cf filter FILE HEIGHT",
+        "  scan ",
+        "  filter ",
+        "FILE holds blocks",
         "cf replay [--trace] WATCH SESSION",
         "cf sync [--turns N] WATCH PEER",
         "  replay ",
@@ -38,6 +43,7 @@ fn the_help_tells_commands_files_and_statuses(rt: HostRuntime) -> Result<(), Fai
         let line = format!(in rt.alloc(); "\n  {status}  ")?;
         assert!(rt; text.contains(line.as_str()), "at {status}");
     }
+    assert!(rt; text.contains("\n 11  "));
     Ok(())
 }
 

@@ -1,5 +1,5 @@
 //! What the program says of itself and of what went wrong.
-use cf_cli::Status;
+use cf_cli::{Status, Which};
 use cf_client::PeerEnd;
 use std::io;
 
@@ -10,15 +10,21 @@ pub const VERSION: &str = "cf 0.1.0\n";
 pub const HELP: &str = "\
 cf: a light client for Bitcoin's regtest network.
 
-It greets a peer, follows the longest chain of valid block headers that the
-peer shows, and prints the tip of that chain as its last line:
+It tells the history of the scripts that you watch: from a file of blocks, or
+from a peer, whose longest chain of valid block headers it follows. The last
+line is the tip of the chain:
     synced HEIGHT HASH
 
-usage: cf replay [--trace] WATCH SESSION
+usage: cf scan FILE WATCH
+       cf filter FILE HEIGHT
+       cf replay [--trace] WATCH SESSION
        cf sync [--turns N] WATCH PEER
        cf --help
        cf --version
 
+  scan     checks the blocks of FILE, and prints the history of the scripts
+  filter   checks the blocks of FILE, and prints the hash, the basic filter
+           and the filter header of the block at HEIGHT (0 is genesis)
   replay   runs the client on what SESSION says that came from the peer
   sync     runs the client on the network, with the peer at PEER (HOST:PORT);
            this version opens no connection yet, so each dial fails
@@ -27,9 +33,16 @@ usage: cf replay [--trace] WATCH SESSION
            peer was closed, as `x P CAUSE`
   --turns  takes at most N deliveries, from 1 to 10000000 (else 10000000)
 
+A line of the history, in hundred millionths of a coin:
+    HEIGHT TXID +RECEIVED -SPENT BALANCE
+
+FILE holds blocks as nodes keep them, from height 1 upward: for each the bytes
+fabfb5da, its length in 4 bytes and the block. Genesis may stand first, and
+zeros at the end. The blocks must make a chain on which each may stand.
+
 WATCH is a text file of the scripts that are watched: one on each line, in
-hexadecimal, at most 1000. It may be empty. The scripts are checked, and not
-looked for in blocks yet.
+hexadecimal, at most 1000. It may be empty. The client has no blocks yet, so
+with replay and sync the history has no line.
 
 SESSION is a text file of what happens: first a line on the dial of the peer,
 and then one line for each delivery.
@@ -44,12 +57,14 @@ The exit status:
   0  done: the whole text was written
   1  there was not enough memory
   2  the words are no command
-  3  a file is not in its form; the message names its first wrong line
+  3  a file is not in its form; the message names its first wrong line or
+     record
   4  a file could not be read
   5  the text could not be written
   6  no peer is left: each was closed, has gone or was not reached
   7  N deliveries were taken, and an answer was still to come
   8  the session was at its end, and an answer was still to come
+ 11  HEIGHT is above the tip of FILE
 ";
 
 // Tells how each peer was lost.
@@ -72,6 +87,11 @@ pub fn tell_fault(rt: &HostRuntime, status: &Status) -> io::Result<()> {
             cause,
         } => eprintln!(rt; "cf: the {which}: {cause}"),
         Status::BadFile {
+            which: Which::Blocks,
+            place,
+            cause,
+        } => eprintln!(rt; "cf: the block file, record {place}: {cause}"),
+        Status::BadFile {
             which,
             place,
             cause,
@@ -90,5 +110,6 @@ pub fn tell_fault(rt: &HostRuntime, status: &Status) -> io::Result<()> {
         Status::Ended => {
             eprintln!(rt; "cf: the session was at its end, and an answer was still to come")
         }
+        Status::NoHeight => eprintln!(rt; "cf: the height is above the tip of the file"),
     }
 }

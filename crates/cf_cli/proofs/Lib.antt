@@ -1,10 +1,2 @@
-pub mod LineLawLemmas
-pub mod LineSteps
-pub mod NameLemmas
-pub mod NumberLaws
-pub mod Refusals
-pub mod Rows
-pub mod SessionSteps
-pub mod Simple
 pub mod Runs
 pub mod Plays

@@ -8,15 +8,15 @@ use Rattle.cf_bytes.specs.Files.{Named}
 use Rattle.cf_peer.specs.declared.event.Dial.{Dial}
 use Rattle.cf_peer.specs.declared.memory.MemoryWires.{MemoryWires}
 use Rattle.cf_peer.specs.Dials.{answered_at}
-use Rattle.cf_peer.specs.Log.{Log, tally_of, dials}
+use Rattle.cf_peer.specs.Log.{Log, Tally, tally_of, dials}
 use Rattle.cf_peer.specs.Memory.{script_of, log_of, failing_of}
 use Rattle.cf_peer.specs.Wires.{Script, Made}
-use Rattle.cf_cli.specs.declared.session.SessionFault.{SessionFault}
+use Rattle.cf_input.specs.declared.session.SessionFault.{SessionFault}
 use Rattle.cf_cli.specs.declared.status.Status.{Status}
-use Rattle.cf_cli.specs.declared.status.Status.TheVariants.{Done, NoMemory, Usage, BadFile, FileFault, OutFault, NoPeers, Tired, Ended}
-use Rattle.cf_cli.specs.declared.words.Command.{Command}
-use Rattle.cf_cli.specs.declared.words.Command.TheVariants.{Replay, Sync}
-use Rattle.cf_cli.specs.SessionFile.{session_of}
+use Rattle.cf_cli.specs.declared.status.Status.TheVariants.{Done, NoMemory, Usage, BadFile, FileFault, OutFault, NoPeers, Tired, Ended, NoHeight}
+use Rattle.cf_input.specs.declared.words.Command.{Command}
+use Rattle.cf_input.specs.declared.words.Command.TheVariants.{Replay, Sync}
+use Rattle.cf_input.specs.SessionFile.{session_of}
 use Rattle.cf_cli.specs.Statuses.{has_run, IsOfFile, IsJudged, verdict_of, and_then, watch_verdict, session_verdict}
 use Rattle.cf_cli.specs.Theorem.{Kept, IsKept, Plays, PlaysSession, Tallied}
 
@@ -85,6 +85,7 @@ no_run OutFault is = absurd is
 no_run (NoPeers ends) is = absurd is
 no_run Tired is = absurd is
 no_run Ended is = absurd is
+no_run NoHeight is = absurd is
 
 -- where no run is made nothing has passed, and nobody is honest
 pub early_kept : (status : Status) (trace : Bool) (b : Option (List ℕ)) (log : Log) → has_run status ≡ false → log ≡ [] → Kept status trace [] b b log
@@ -99,23 +100,30 @@ early_kept status trace b log off none = subst (λ (l : Log). Kept status trace 
 pub early_is_kept : (status : Status) (trace : Bool) (b : Option (List ℕ)) (log : Log) → IsOfFile status → log ≡ [] → IsKept status trace b b log
 early_is_kept status trace b log is none = ([], early_kept status trace b log (no_run status is) none)
 
+-- nothing is told of a run for which memory was wanting
+pub early_tallied : (turns : ℕ) (tally : Tally) → Tallied NoMemory turns tally
+early_tallied turns tally = record { no_peers = λ ends is. cc; somebody = λ is. cc; tired = λ is. cc; ended = λ is. cc; early = λ is. cc }
+
+pub same_command : (found : Option Command) (a b : Command) → found ≡ Some a → found ≡ Some b → a ≡ b
+same_command found a b e f = cc
+
 pub judged_for : (o : Option Named) (found : Option Command) (c : Command) (status : Status) → found ≡ Some c → IfSome o (λ m. IsJudged (verdict_of m c) status)
     → IfSome o (λ m. (other : Command) → found ≡ Some other → IsJudged (verdict_of m other) status)
 judged_for None found c status e judged = tt
-judged_for (Some m) found c status e judged = λ other is. subst (λ (x : Command). IsJudged (verdict_of m x) status) (same_command found c other e is) judged where
-  same_command : (found : Option Command) (a b : Command) → found ≡ Some a → found ≡ Some b → a ≡ b
-  same_command found a b e f = cc
+judged_for (Some m) found c status e judged = λ other is. subst (λ (x : Command). IsJudged (verdict_of m x) status) (same_command found c other e is) judged
 
-pub judged_replay : (o : Option Named) (found : Option Command) (trace : Bool) (watch session watch_name session_name : List ℕ) (status : Status) → watch_name ≡ watch → session_name ≡ session
-    → found ≡ Some (Replay trace watch session)
+pub judged_replay : (o : Option Named) (c : Command) (trace : Bool) (watch session watch_name session_name : List ℕ) (status : Status) → watch_name ≡ watch → session_name ≡ session
+    → c ≡ Replay trace watch session
     → IfSome o (λ m. IsJudged (and_then (watch_verdict (finite.get m watch_name)) (session_verdict (finite.get m session_name))) status)
-    → IfSome o (λ m. (other : Command) → found ≡ Some other → IsJudged (verdict_of m other) status)
-judged_replay o found trace watch session watch_name session_name status a b e judged =
+    → IfSome o (λ m. IsJudged (verdict_of m c) status)
+judged_replay o c trace watch session watch_name session_name status a b is judged =
     let one = subst (λ (w : List ℕ). IfSome o (λ m. IsJudged (and_then (watch_verdict (finite.get m w)) (session_verdict (finite.get m session_name))) status)) a judged in
-    judged_for o found (Replay trace watch session) status e (subst (λ (w : List ℕ). IfSome o (λ m. IsJudged (and_then (watch_verdict (finite.get m watch)) (session_verdict (finite.get m w))) status)) b one)
+    let two = subst (λ (w : List ℕ). IfSome o (λ m. IsJudged (and_then (watch_verdict (finite.get m watch)) (session_verdict (finite.get m w))) status)) b one in
+    subst (λ (x : Command). IfSome o (λ m. IsJudged (verdict_of m x) status)) (sym is) two
 
-pub judged_sync : (o : Option Named) (found : Option Command) (turns : ℕ) (watch peer watch_name : List ℕ) (status : Status) → watch_name ≡ watch → found ≡ Some (Sync turns watch peer)
+pub judged_sync : (o : Option Named) (c : Command) (turns : ℕ) (watch peer watch_name : List ℕ) (status : Status) → watch_name ≡ watch → c ≡ Sync turns watch peer
     → IfSome o (λ m. IsJudged (watch_verdict (finite.get m watch_name)) status)
-    → IfSome o (λ m. (other : Command) → found ≡ Some other → IsJudged (verdict_of m other) status)
-judged_sync o found turns watch peer watch_name status a e judged =
-    judged_for o found (Sync turns watch peer) status e (subst (λ (w : List ℕ). IfSome o (λ m. IsJudged (watch_verdict (finite.get m w)) status)) a judged)
+    → IfSome o (λ m. IsJudged (verdict_of m c) status)
+judged_sync o c turns watch peer watch_name status a is judged =
+    let one = subst (λ (w : List ℕ). IfSome o (λ m. IsJudged (watch_verdict (finite.get m w)) status)) a judged in
+    subst (λ (x : Command). IfSome o (λ m. IsJudged (verdict_of m x) status)) (sym is) one

@@ -15,7 +15,7 @@ use Rattle.cf_peer.specs.Log.{Log}
 use Rattle.cf_peer.specs.Trail.{trail, is_open}
 use Rattle.cf_scan.specs.HistoryText.{history_text}
 use Rattle.cf_cli.specs.declared.status.Status.{Status}
-use Rattle.cf_cli.specs.declared.status.Status.TheVariants.{Done, NoMemory, Usage, BadFile, FileFault, OutFault, NoPeers, Tired, Ended}
+use Rattle.cf_cli.specs.declared.status.Status.TheVariants.{Done, NoMemory, Usage, BadFile, FileFault, OutFault, NoPeers, Tired, Ended, NoHeight}
 use Rattle.cf_cli.specs.Texts.{run_text}
 use Rattle.cf_cli.specs.Theorem.{IsAnswerOf, Settles, IsComplete, Kept, AnswersTo}
 
@@ -42,6 +42,7 @@ settles end Ended before after text log answer why somebody quiet = absurd (ende
 settles end Usage before after text log answer why somebody quiet = absurd answer
 settles end (BadFile which place cause) before after text log answer why somebody quiet = absurd answer
 settles end FileFault before after text log answer why somebody quiet = absurd answer
+settles end NoHeight before after text log answer why somebody quiet = absurd answer
 
 completes : (end : End) (status : Status) (before after : Option (List ℕ)) (text : List ℕ) → IsAnswerOf end status before after text → end ≢ HasNoPeers → IsComplete status
 completes end Done before after text answer somebody = tt
@@ -53,6 +54,7 @@ completes end Ended before after text answer somebody = tt
 completes end Usage before after text answer somebody = absurd answer
 completes end (BadFile which place cause) before after text answer somebody = absurd answer
 completes end FileFault before after text answer somebody = absurd answer
+completes end NoHeight before after text answer somebody = absurd answer
 
 -- the text of a run that is synced, without a trace
 synced_text : (trace : Bool) (lines : List TraceLine) (end : End) (height : ℕ) (tip : Hash32) (n : ℕ) (hash : List ℕ) → trace ≡ false → end ≡ IsSynced → height ≡ n → tip.0 ≡ hash

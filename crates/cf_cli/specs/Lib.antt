@@ -1,12 +1,4 @@
-pub mod Commands
-pub mod LineLaws
-pub mod Lines
-pub mod Name
-pub mod Number
-pub mod SessionFile
-pub mod Sessions
-pub mod WatchFile
-pub mod Words
+pub mod Reading
 pub mod Statuses
 pub mod Texts
 pub mod Theorem

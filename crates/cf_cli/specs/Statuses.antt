@@ -4,19 +4,22 @@ use Rattle.std.specs.FinMap as finite
 use Rattle.cf_bytes.specs.Files.{Named}
 use Rattle.cf_bytes.specs.declared.files.FileFail.{FileFail}
 use Rattle.cf_bytes.specs.declared.files.FileFail.TheVariants.{Failed, TooBig as TooMuch, NoMemory as OutOfMemory}
+use Rattle.cf_block.specs.declared.tx.Block.{Block}
+use Rattle.cf_index.specs.declared.cause.BadBlock.{BadBlock}
+use Rattle.cf_index.specs.Files.{blocks_at}
 use Rattle.cf_peer.specs.Wires.{Script}
-use Rattle.cf_cli.specs.declared.session.SessionFault.{SessionFault}
+use Rattle.cf_input.specs.declared.session.SessionFault.{SessionFault}
 use Rattle.cf_cli.specs.declared.status.FileCause.{FileCause}
-use Rattle.cf_cli.specs.declared.status.FileCause.TheVariants.{TooBig, Watch as OfWatch, Session as OfSession}
+use Rattle.cf_cli.specs.declared.status.FileCause.TheVariants.{TooBig, Watch as OfWatch, Session as OfSession, Blocks as OfBlocks}
 use Rattle.cf_cli.specs.declared.status.Status.{Status}
-use Rattle.cf_cli.specs.declared.status.Status.TheVariants.{Done, NoMemory, Usage, BadFile, FileFault, OutFault, NoPeers, Tired, Ended}
+use Rattle.cf_cli.specs.declared.status.Status.TheVariants.{Done, NoMemory, Usage, BadFile, FileFault, OutFault, NoPeers, Tired, Ended, NoHeight}
 use Rattle.cf_cli.specs.declared.status.Which.{Which}
-use Rattle.cf_cli.specs.declared.status.Which.TheVariants.{Watch, Session}
-use Rattle.cf_cli.specs.declared.watch_file.WatchFileFault.{WatchFileFault}
-use Rattle.cf_cli.specs.declared.words.Command.{Command}
-use Rattle.cf_cli.specs.declared.words.Command.TheVariants.{Replay, Sync}
-use Rattle.cf_cli.specs.SessionFile.{session_of}
-use Rattle.cf_cli.specs.WatchFile.{watch_of}
+use Rattle.cf_cli.specs.declared.status.Which.TheVariants.{Watch, Session, Blocks}
+use Rattle.cf_input.specs.declared.watch_file.WatchFileFault.{WatchFileFault}
+use Rattle.cf_input.specs.declared.words.Command.{Command}
+use Rattle.cf_input.specs.declared.words.Command.TheVariants.{Replay, Sync, Scan, Filter}
+use Rattle.cf_input.specs.SessionFile.{session_of}
+use Rattle.cf_input.specs.WatchFile.{watch_of}
 
 abbrev pub code_of : Status → ℕ
 code_of Done = 0
@@ -28,13 +31,17 @@ code_of OutFault = 5
 code_of (NoPeers ends) = 6
 code_of Tired = 7
 code_of Ended = 8
+code_of NoHeight = 11
 
--- the most bytes that a watch file and a session file may have
+-- the most bytes that a watch file, a session file and a block file may have
 abbrev pub most_watch : ℕ
 most_watch = 33554432
 
 abbrev pub most_session : ℕ
 most_session = 1073741824
+
+abbrev pub most_blocks : ℕ
+most_blocks = 1073741824
 
 -- what stands under a name: no file, a file that is refused, or a good one
 pub data Verdict : Type 0 where
@@ -58,6 +65,14 @@ abbrev pub session_verdict : Option (List ℕ) → Verdict
 session_verdict None = Missing
 session_verdict (Some bytes) = if nat_lt most_session (length bytes) then Bad Session 0 TooBig else session_read (session_of bytes)
 
+abbrev pub blocks_read : Result (List Block) BadBlock → Verdict
+blocks_read (Ok blocks) = Good
+blocks_read (Err bad) = Bad Blocks bad.number (OfBlocks bad.cause)
+
+abbrev pub blocks_verdict : Option (List ℕ) → Verdict
+blocks_verdict None = Missing
+blocks_verdict (Some bytes) = if nat_lt most_blocks (length bytes) then Bad Blocks 0 TooBig else blocks_read (blocks_at bytes)
+
 -- the watch file is judged first
 abbrev pub and_then : Verdict → Verdict → Verdict
 and_then Missing later = Missing
@@ -67,6 +82,8 @@ and_then Good later = later
 abbrev pub verdict_of : Named → Command → Verdict
 verdict_of files (Replay trace watch session) = and_then (watch_verdict (finite.get files watch)) (session_verdict (finite.get files session))
 verdict_of files (Sync turns watch peer) = watch_verdict (finite.get files watch)
+verdict_of files (Scan file watch) = and_then (watch_verdict (finite.get files watch)) (blocks_verdict (finite.get files file))
+verdict_of files (Filter file height) = blocks_verdict (finite.get files file)
 
 -- a file that is missing or refused is answered so, and no other is; a read may fail, and memory may be wanting
 abbrev pub IsJudged : Verdict → Status → Type 0
@@ -98,6 +115,7 @@ has_run OutFault = true
 has_run (NoPeers ends) = true
 has_run Tired = true
 has_run Ended = true
+has_run NoHeight = false
 
 abbrev pub is_no_peers : Status → Bool
 is_no_peers (NoPeers ends) = true

@@ -14,9 +14,9 @@ use Rattle.cf_client.specs.Run.{Followed, NobodyLeft}
 use Rattle.cf_peer.specs.Log.{Log, Tally, deliveries, dials}
 use Rattle.cf_peer.specs.Wires.{Script}
 use Rattle.cf_scan.specs.HistoryText.{history_text}
-use Rattle.cf_cli.specs.declared.session.SessionFault.{SessionFault}
+use Rattle.cf_input.specs.declared.session.SessionFault.{SessionFault}
 use Rattle.cf_cli.specs.declared.status.Status.{Status}
-use Rattle.cf_cli.specs.declared.status.Status.TheVariants.{Done, NoMemory, Usage, BadFile, FileFault, OutFault, NoPeers, Tired, Ended}
+use Rattle.cf_cli.specs.declared.status.Status.TheVariants.{Done, NoMemory, Usage, BadFile, FileFault, OutFault, NoPeers, Tired, Ended, NoHeight}
 use Rattle.cf_cli.specs.Statuses.{has_run}
 use Rattle.cf_cli.specs.Texts.{run_text}
 
@@ -31,6 +31,7 @@ IsAnswerOf end NoMemory before after text = ⊥
 IsAnswerOf end Usage before after text = ⊥
 IsAnswerOf end (BadFile which place cause) before after text = ⊥
 IsAnswerOf end FileFault before after text = ⊥
+IsAnswerOf end NoHeight before after text = ⊥
 
 -- a run over a log: how it ended, by the log, and what was written of it
 pub record Ran (status : Status) (trace : Bool) (names : List (List ℕ)) (before after : Option (List ℕ)) (log : Log) : Type 0 where
@@ -94,6 +95,7 @@ abbrev pub IsOfRun : Status → Type 0
 IsOfRun Usage = ⊥
 IsOfRun (BadFile which place cause) = ⊥
 IsOfRun FileFault = ⊥
+IsOfRun NoHeight = ⊥
 IsOfRun status = Unit {0}
 
 -- the same for a log of which the names aren't told

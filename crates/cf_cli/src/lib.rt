@@ -1,25 +1,18 @@
-//! The program: its words, the files that it reads, its answers, and what is promised of its runs.
+//! The program: its answers, what it writes, and what is promised of its runs.
 #![tactic(auto)]
 
 mod following;
-mod laws;
-mod lines;
-mod number;
+mod loading;
 mod program;
-mod session;
+mod reading;
 mod status;
-mod text;
 mod texts;
-mod watch_file;
-mod words;
 
-pub use laws::{laws_of_lines, laws_of_numbers};
-pub use program::{MOST_SESSION, MOST_WATCH, run};
-pub use session::{MAX_DIALS, MOST_SECONDS, Session, SessionCause, SessionFault, read_session};
+pub use loading::{MOST_BLOCKS, MOST_SESSION, MOST_WATCH};
+pub use program::run;
 pub use status::{FileCause, Status, Which};
-pub use text::{Word, is_name};
-pub use watch_file::{WatchCause, WatchFileFault, read_watch};
-pub use words::{Command, MOST_TURNS, Usage, is_help, is_version, read_words};
 
+#[cfg(test)]
+mod reading_tests;
 #[cfg(test)]
 mod tests;

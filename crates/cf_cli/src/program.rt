@@ -6,90 +6,23 @@ ghost use Rattle.cf_client.specs.Names.{names_in};
 ghost use Rattle.std.specs.List.{list_all};
 ghost use Rattle.cf_peer.specs.Log.{Tells, tally_of, is_real};
 ghost use Rattle.cf_peer.specs.Memory.{log_of, failing_of};
-ghost use Rattle.cf_cli.specs.SessionFile.{session_of};
-ghost use Rattle.cf_cli.specs.Sessions.{script_in, AreNamed};
+ghost use Rattle.cf_input.specs.SessionFile.{session_of};
+ghost use Rattle.cf_input.specs.Sessions.{script_in, AreNamed};
 ghost use Rattle.cf_cli.specs.Statuses.{IsJudged, IsReadAs, IsUnread, IsOfFile, and_then, verdict_of, watch_verdict, session_verdict};
+ghost use Rattle.cf_cli.specs.Reading.{IsScanned, IsFiltered};
 ghost use Rattle.cf_cli.specs.Theorem.{Kept, IsKept, Tallied, PlaysSession};
-ghost use Rattle.cf_cli.specs.Words.{command_of};
-ghost use Rattle.cf_cli.specs.declared.words.Command.{Command};
-ghost use Rattle.cf_cli.specs.declared.words.Command.TheVariants.{Replay, Sync};
+ghost use Rattle.cf_input.specs.Words.{command_of};
+ghost use Rattle.cf_input.specs.declared.words.Command.{Command};
+ghost use Rattle.cf_input.specs.declared.words.Command.TheVariants.{Replay, Sync, Scan, Filter};
 
 use crate::following::follow;
-use crate::session::{Session, read_session};
-use crate::status::{FileCause, Status, Which};
-use crate::watch_file::read_watch;
-use crate::words::{Command, MOST_TURNS, read_words};
-use cf_bytes::{FileFail, Files, NoMemory, Refused, Sink};
+use crate::loading::{load_session, load_watch};
+use crate::reading::{filter, scan};
+use crate::status::Status;
+use cf_bytes::{Files, NoMemory, Refused, Sink};
+use cf_input::{Command, MOST_TURNS, read_words};
 use cf_peer::{MemoryWires, Wires};
-use cf_scan::Watch;
 use std::alloc::Global;
-
-/// The most bytes that a watch file may have.
-pub const MOST_WATCH: usize = 33_554_432;
-
-/// The most bytes that a session file may have.
-pub const MOST_SESSION: usize = 1_073_741_824;
-
-// The answer to a file that can't be read.
-fn unread(fail: FileFail, which: Which) -> Status
-    ensures { IsUnread which fail result }
-{
-    match fail {
-        FileFail::Failed => Status::FileFault,
-        FileFail::TooBig => Status::BadFile {
-            which,
-            place: 0,
-            cause: FileCause::TooBig,
-        },
-        FileFail::NoMemory => Status::NoMemory,
-    }
-}
-
-// Reads the scripts that are watched.
-fn load_watch<F: Files>(alloc: Global, files: &mut F, name: &str) -> Result<Watch, Status>
-    ensures answer { IfSome (F.files files.old) (λ m. IsReadAs (watch_verdict (finite.get m name.now)) result) }
-    ensures same { F.files files.new ≡ F.files files.old }
-    ensures fault { IsErrOf result Status.FileFault → HasRisen (F.faults files.old) (F.faults files.new) }
-    ensures kept { OnOk result (F.faults files.new ≡ F.faults files.old) }
-    ensures only { IfErr result IsOfFile }
-{
-    match files.read(alloc, name, MOST_WATCH) {
-        Ok(bytes) => match read_watch(alloc, &bytes) {
-            Ok(watch) => Ok(watch),
-            Err(Refused::No(fault)) => Err(Status::BadFile {
-                which: Which::Watch,
-                place: fault.place,
-                cause: FileCause::Watch(fault.cause),
-            }),
-            Err(Refused::NoMemory) => Err(Status::NoMemory),
-        },
-        Err(fail) => Err(unread(fail, Which::Watch)),
-    }
-}
-
-// Reads a session.
-fn load_session<F: Files>(alloc: Global, files: &mut F, name: &str) -> Result<Session, Status>
-    ensures answer { IfSome (F.files files.old) (λ m. IsReadAs (session_verdict (finite.get m name.now)) result) }
-    ensures script { IfOk result (λ s. IfSome (F.files files.old) (λ m. IfSome (finite.get m name.now) (λ bytes. session_of bytes ≡ Ok (script_in s)))) }
-    ensures named { IfOk result AreNamed }
-    ensures few { IfOk result (λ s. length s.dials.items ≤ 1) }
-    ensures real { IfOk result (λ s. list_all is_real s.deliveries.items ≡ true) }
-    ensures fault { IsErrOf result Status.FileFault → HasRisen (F.faults files.old) (F.faults files.new) }
-    ensures only { IfErr result IsOfFile }
-{
-    match files.read(alloc, name, MOST_SESSION) {
-        Ok(bytes) => match read_session(alloc, &bytes) {
-            Ok(session) => Ok(session),
-            Err(Refused::No(fault)) => Err(Status::BadFile {
-                which: Which::Session,
-                place: fault.place,
-                cause: FileCause::Session(fault.cause),
-            }),
-            Err(Refused::NoMemory) => Err(Status::NoMemory),
-        },
-        Err(fail) => Err(unread(fail, Which::Session)),
-    }
-}
 
 // Follows the session of a file, on the tape that is handed in.
 fn replay<F: Files, O: Sink>(
@@ -171,6 +104,62 @@ fn sync<F: Files, W: Wires, O: Sink>(
     follow(alloc, wires, &names, moment, nonce, turns, false, out)
 }
 
+// Does what a command asks.
+fn perform<F: Files, W: Wires, O: Sink>(
+    alloc: Global,
+    command: Command,
+    moment: i64,
+    nonce: u64,
+    files: &mut F,
+    wires: &mut W,
+    tape: &mut MemoryWires,
+    out: &mut O,
+) -> Status
+    requires wires { Tells [] (W.told wires.old) }
+    requires log { log_of tape.old ≡ [] }
+    requires failing { failing_of tape.old ≡ [] }
+    ensures judged { IfSome (F.files files.old) (λ m. IsJudged (verdict_of m command) result) }
+    ensures sync { (turns : ℕ) (watch peer : List ℕ) → command ≡ Sync turns watch peer → IfSome (W.told wires.new).log (λ log. Kept result false (peer ∷ []) (O.written out.old) (O.written out.new) log) × Tallied result turns (W.told wires.new).tally }
+    ensures replay { (trace : Bool) (watch session : List ℕ) → command ≡ Replay trace watch session → IsKept result trace (O.written out.old) (O.written out.new) (log_of tape.new) × Tallied result MOST_TURNS (tally_of (log_of tape.new)) }
+    ensures plays { (trace : Bool) (watch session : List ℕ) → command ≡ Replay trace watch session → IfSome (F.files files.old) (λ m. IfSome (finite.get m session) (λ bytes. PlaysSession result (session_of bytes) (log_of tape.new))) }
+    ensures scan { (file watch : List ℕ) → command ≡ Scan file watch → IsScanned result (F.files files.old) watch file (O.written out.old) (O.written out.new) }
+    ensures filter { (file : List ℕ) (height : ℕ) → command ≡ Filter file height → IsFiltered result (F.files files.old) file height (O.written out.old) (O.written out.new) }
+    ensures file_fault { result ≡ Status.FileFault → HasRisen (F.faults files.old) (F.faults files.new) }
+    ensures out_fault { result ≡ Status.OutFault → HasRisen (O.faults out.old) (O.faults out.new) }
+    ensures asked { result ≢ Status.Usage }
+{
+    match command {
+        Command::Replay {
+            trace,
+            watch,
+            session,
+        } => replay(
+            alloc,
+            files,
+            watch.as_str(),
+            session.as_str(),
+            trace,
+            moment,
+            nonce,
+            tape,
+            out,
+        ),
+        Command::Sync { turns, watch, peer } => sync(
+            alloc,
+            files,
+            watch.as_str(),
+            peer.as_str(),
+            moment,
+            nonce,
+            turns,
+            wires,
+            out,
+        ),
+        Command::Scan { file, watch } => scan(alloc, files, file.as_str(), watch.as_str(), out),
+        Command::Filter { file, height } => filter(alloc, files, file.as_str(), height, out),
+    }
+}
+
 /// All that the program does. The first word is the program's name; `moment` is the time in seconds since 1970 and `nonce` a random number, which
 /// the client's `version` tells. `sync` goes over `wires`, and `replay` over `tape`; both are new, nothing has passed them, and no call of `tape`
 /// is to fail. The text goes to `out`.
@@ -196,38 +185,13 @@ pub fn run<F: Files, W: Wires, O: Sink>(
     ensures sync { (turns : ℕ) (watch peer : List ℕ) → command_of (names_in words.now) ≡ Some (Sync turns watch peer) → IfSome (W.told wires.new).log (λ log. Kept result false (peer ∷ []) (O.written out.old) (O.written out.new) log) × Tallied result turns (W.told wires.new).tally }
     ensures replay { (trace : Bool) (watch session : List ℕ) → command_of (names_in words.now) ≡ Some (Replay trace watch session) → IsKept result trace (O.written out.old) (O.written out.new) (log_of tape.new) × Tallied result MOST_TURNS (tally_of (log_of tape.new)) }
     ensures plays { (trace : Bool) (watch session : List ℕ) → command_of (names_in words.now) ≡ Some (Replay trace watch session) → IfSome (F.files files.old) (λ m. IfSome (finite.get m session) (λ bytes. PlaysSession result (session_of bytes) (log_of tape.new))) }
+    ensures scan { (file watch : List ℕ) → command_of (names_in words.now) ≡ Some (Scan file watch) → IsScanned result (F.files files.old) watch file (O.written out.old) (O.written out.new) }
+    ensures filter { (file : List ℕ) (height : ℕ) → command_of (names_in words.now) ≡ Some (Filter file height) → IsFiltered result (F.files files.old) file height (O.written out.old) (O.written out.new) }
     ensures file_fault { result ≡ Status.FileFault → HasRisen (F.faults files.old) (F.faults files.new) }
     ensures out_fault { result ≡ Status.OutFault → HasRisen (O.faults out.old) (O.faults out.new) }
 {
     match read_words(alloc, words) {
-        Ok(
-            Command::Replay {
-                trace,
-                watch,
-                session,
-            },
-        ) => replay(
-            alloc,
-            files,
-            watch.as_str(),
-            session.as_str(),
-            trace,
-            moment,
-            nonce,
-            tape,
-            out,
-        ),
-        Ok(Command::Sync { turns, watch, peer }) => sync(
-            alloc,
-            files,
-            watch.as_str(),
-            peer.as_str(),
-            moment,
-            nonce,
-            turns,
-            wires,
-            out,
-        ),
+        Ok(command) => perform(alloc, command, moment, nonce, files, wires, tape, out),
         Err(Refused::No(_)) => Status::Usage,
         Err(Refused::NoMemory) => Status::NoMemory,
     }

@@ -2,9 +2,9 @@
 ghost use Rattle.std.specs.Prelude.{◌≡◌};
 ghost use Rattle.cf_cli.specs.Statuses.{code_of};
 
-use crate::session::SessionCause;
-use crate::watch_file::WatchCause;
 use cf_client::PeerEnd;
+use cf_index::RecordCause;
+use cf_input::{SessionCause, WatchCause};
 use thiserror::Error;
 
 /// A file that the program reads.
@@ -16,6 +16,9 @@ pub enum Which {
     /// The session file.
     #[error("session file")]
     Session,
+    /// The file of blocks.
+    #[error("block file")]
+    Blocks,
 }
 
 /// What is wrong with a file.
@@ -30,6 +33,9 @@ pub enum FileCause {
     /// A line of the session file.
     #[error("{0}")]
     Session(SessionCause),
+    /// A record of the block file.
+    #[error("{0}")]
+    Blocks(RecordCause),
 }
 
 /// What the program answers. `code` gives the process's exit status.
@@ -41,7 +47,7 @@ pub enum Status {
     NoMemory,
     /// The words ask for nothing that the program does.
     Usage,
-    /// A file isn't in its grammar: the first line that is refused, counted from 1, and why.
+    /// A file isn't in its grammar or profile: the first line or record that is refused, counted from 1, and why.
     BadFile {
         which: Which,
         place: u32,
@@ -59,6 +65,8 @@ pub enum Status {
     Tired,
     /// The session was at its end, and a request was open.
     Ended,
+    /// The height that was asked for is above the file's tip.
+    NoHeight,
 }
 
 impl Status {
@@ -76,6 +84,7 @@ impl Status {
             Status::NoPeers { .. } => 6,
             Status::Tired => 7,
             Status::Ended => 8,
+            Status::NoHeight => 11,
         }
     }
 }

@@ -3,9 +3,9 @@ ghost use Rattle.std.specs.Prelude.{◌≡◌, [], IfSome};
 ghost use Rattle.cf_peer.specs.Memory.{log_of};
 
 use super::*;
-use cf_bytes::{FileFail, Files, MapFiles, Refused, VecSink};
-use cf_peer::{Delivery, MemoryWires};
-use cf_scan::WatchKind;
+use cf_bytes::{FileFail, Files, MapFiles, VecSink};
+use cf_input::{SessionCause, WatchCause, read_session};
+use cf_peer::MemoryWires;
 use std::alloc::{AllocError, Global};
 use std::test::*;
 
@@ -16,132 +16,6 @@ fn words_of(alloc: Global, texts: &[&str]) -> Result<Vec<String>, AllocError> {
         words.push(word)?;
     }
     Ok(words)
-}
-
-fn asked(alloc: Global, texts: &[&str]) -> Result<Command, Refused<Usage>> {
-    let words = words_of(alloc, texts)?;
-    read_words(alloc, &words)
-}
-
-#[test]
-fn words_that_are_taken(rt: HostRuntime) -> Result<(), Fail> {
-    let alloc = rt.alloc();
-    match asked(alloc, &["cf", "replay", "--trace", "w", "s"]) {
-        Ok(
-            Command::Replay {
-                trace,
-                watch,
-                session,
-            },
-        ) => {
-            assert!(rt; trace);
-            assert_eq!(rt; watch.as_str(), "w");
-            assert_eq!(rt; session.as_str(), "s");
-        }
-        _ => panic!(&rt; "no replay"),
-    }
-    match asked(alloc, &["cf", "sync", "w", "[::1]:18444"]) {
-        Ok(Command::Sync { turns, watch, peer }) => {
-            assert_eq!(rt; turns, 10_000_000);
-            assert_eq!(rt; watch.as_str(), "w");
-            assert_eq!(rt; peer.as_str(), "[::1]:18444");
-        }
-        _ => panic!(&rt; "no sync"),
-    }
-    Ok(())
-}
-
-#[test]
-fn words_that_are_refused(rt: HostRuntime) {
-    let alloc = rt.alloc();
-    let usage = Some(Refused::No(Usage));
-    assert!(rt; asked(alloc, &["cf"]).err() == usage);
-    assert!(rt; asked(alloc, &["cf", "help"]).err() == usage);
-    assert!(rt; asked(alloc, &["cf", "replay", "w"]).err() == usage);
-    assert!(rt; asked(alloc, &["cf", "sync", "w"]).err() == usage);
-    assert!(rt; asked(alloc, &["cf", "sync", "w", "p", "q"]).err() == usage);
-    assert!(rt; asked(alloc, &["cf", "sync", "w", "a b"]).err() == usage);
-    for turns in ["007", "+7", "0", "10000001", "", "7x"] {
-        assert!(rt;
-            asked(alloc, &["cf", "sync", "--turns", turns, "w", "p"]).err() == usage,
-            "at {turns}"
-        );
-    }
-    assert!(rt; asked(alloc, &["cf", "sync", "--turns", "10000000", "w", "p"]).is_ok());
-}
-
-fn watch_fault(cause: WatchCause, place: u32) -> Option<Refused<WatchFileFault>> {
-    Some(Refused::No(WatchFileFault { cause, place }))
-}
-
-#[test]
-fn files_of_scripts(rt: HostRuntime) -> Result<(), Fail> {
-    let alloc = rt.alloc();
-    let odd = watch_fault(WatchCause::NotHex, 1);
-    assert!(rt; read_watch(alloc, b"0108755").err() == odd);
-    let empty = watch_fault(WatchCause::Script(WatchKind::Empty), 1);
-    assert!(rt; read_watch(alloc, b"\n").err() == empty);
-    let twice = watch_fault(WatchCause::Script(WatchKind::Twice), 3);
-    assert!(rt; read_watch(alloc, b"01\n02\n01\n03\nzz").err() == twice);
-    let none = read_watch(alloc, b"").ok().ok_or("refused")?;
-    assert!(rt; none.is_empty());
-    let two = read_watch(alloc, b"aB00\n01\n").ok().ok_or("refused")?;
-    assert!(rt; two.len() == 2);
-    assert!(rt; two.has(&[0xab, 0]));
-    Ok(())
-}
-
-fn session_fault(alloc: Global, bytes: &[u8]) -> Option<(SessionCause, u32)> {
-    if bytes.len() > 1000 {
-        return None;
-    }
-    match read_session(alloc, bytes) {
-        Err(Refused::No(fault)) => Some((fault.cause, fault.place)),
-        _ => None,
-    }
-}
-
-#[test]
-fn sessions_that_are_refused(rt: HostRuntime) {
-    let alloc = rt.alloc();
-    assert!(rt; session_fault(alloc, b"") == Some((SessionCause::NoDial, 1)));
-    assert!(rt; session_fault(alloc, b"dial ") == Some((SessionCause::NoDial, 1)));
-    assert!(rt; session_fault(alloc, b"dial a b\n") == Some((SessionCause::NoDial, 1)));
-    assert!(rt; session_fault(alloc, b"dial a\ndial b\n") == Some((SessionCause::ManyDials, 2)));
-    assert!(rt; session_fault(alloc, b"dial a\ngone 1\nnodial b") == Some((SessionCause::Late, 3)));
-    assert!(rt; session_fault(alloc, b"dial a\ngone 0\n") == Some((SessionCause::NoPeer, 2)));
-    assert!(rt;
-        session_fault(alloc, b"dial a\ngone 99999999999999999999\n")
-            == Some((SessionCause::NoPeer, 2))
-    );
-    assert!(rt; session_fault(alloc, b"dial a\ngot 2 00") == Some((SessionCause::NoPeer, 2)));
-    assert!(rt; session_fault(alloc, b"dial a\ngot 0 zz\n") == Some((SessionCause::BadLine, 2)));
-    assert!(rt; session_fault(alloc, b"dial a\ngot 1 \n") == Some((SessionCause::BadLine, 2)));
-    assert!(rt; session_fault(alloc, b"dial a\ngot 01 00\n") == Some((SessionCause::BadLine, 2)));
-    assert!(rt; session_fault(alloc, b"dial a\ntick 86401\n") == Some((SessionCause::BadLine, 2)));
-    assert!(rt; session_fault(alloc, b"dial a\n\n") == Some((SessionCause::BadLine, 2)));
-}
-
-#[test]
-fn a_session_that_is_read(rt: HostRuntime) -> Result<(), Fail> {
-    let alloc = rt.alloc();
-    let session = read_session(alloc, b"nodial x:1\ngot 1 00fF\ntick 86400\ngone 1")
-        .ok()
-        .ok_or("refused")?;
-    assert!(rt; session.names.len() == 1);
-    assert_eq!(rt; session.names[0].as_str(), "x:1");
-    assert!(rt; session.dials.len() == 1);
-    assert!(rt; !session.dials[0].answered);
-    assert!(rt; session.deliveries.len() == 3);
-    match &session.deliveries[0] {
-        Delivery::Got(peer, piece) => {
-            assert_eq!(rt; peer.0, 1);
-            assert!(rt; piece.as_slice() == [0u8, 255].as_slice());
-        }
-        _ => panic!(&rt; "no bytes"),
-    }
-    assert!(rt; matches!(session.deliveries[1], Delivery::Tick(86_400)));
-    Ok(())
 }
 
 // What a peer sends first: `version` of a peer that serves filters, `verack`, and `headers` without headers.
@@ -222,9 +96,9 @@ fn wires_of(alloc: Global, session: &str, failing: &[u64]) -> Option<MemoryWires
 
 // The exit status and the status of a call, and what it has written.
 #[derive(Drop)]
-struct Shown {
-    status: String,
-    text: String,
+pub(crate) struct Shown {
+    pub(crate) status: String,
+    pub(crate) text: String,
 }
 
 impl Shown {
@@ -251,7 +125,7 @@ fn answer_of(alloc: Global, status: &Status, written: &[u8]) -> Result<Shown, Fa
 }
 
 // The answer to these words, over these wires, into a sink with so much room.
-fn answered(
+pub(crate) fn answered(
     alloc: Global,
     words: &[&str],
     files: MapFiles,
@@ -368,12 +242,8 @@ fn sessions_that_end_early(rt: HostRuntime) -> Result<(), Fail> {
             "> 1 version\n",
         ),
         ("dial a", "8 Ended", "> 1 version\n"),
-        ("dial a\ntick 59", "8 Ended", "> 1 version\n"),
-        (
-            "dial a\ntick 60",
-            "6 NoPeers { ends: [Closed(Overdue)] }",
-            "> 1 version\nx 1 Overdue\n",
-        ),
+        ("dial a\ntick 60", "8 Ended", "> 1 version\n"),
+        ("dial a\ntick 1\ntick 86400", "8 Ended", "> 1 version\n"),
     ];
     for (session, status, text) in rows {
         let answer = traced(alloc, session)?;
@@ -389,6 +259,18 @@ fn sessions_that_end_early(rt: HostRuntime) -> Result<(), Fail> {
         )?,
     )?;
     assert!(rt; within.is("8 Ended", "> 1 version\n> 1 verack\n"));
+    Ok(())
+}
+
+#[test]
+fn ticks_change_nothing(rt: HostRuntime) -> Result<(), Fail> {
+    let alloc = rt.alloc();
+    let session = format!(in alloc;
+        "dial a\ntick 60\ngot 1 {VERSION}\ntick 86400\ngot 1 {VERACK}\ntick 59\ntick 1\ngot 1 {NO_HEADERS}"
+    )?;
+    let text = format!(in alloc; "> 1 version\n> 1 verack\n> 1 getheaders\n{SYNCED}")?;
+    let answer = traced(alloc, &session)?;
+    assert!(rt; answer.is("0 Done", &text));
     Ok(())
 }
 
@@ -488,10 +370,6 @@ fn words_that_ask_for_nothing(rt: HostRuntime) -> Result<(), Fail> {
     assert!(rt; answer(alloc, &["cf", "sync", "w"], &session)?.is("2 Usage", ""));
     assert!(rt; answer(alloc, &["cf", "--help"], &session)?.is("2 Usage", ""));
     assert!(rt; answer(alloc, &[], &session)?.is("2 Usage", ""));
-    let words = words_of(alloc, &["cf", "replay", "--help"])?;
-    assert!(rt; is_help(&words) && !is_version(&words));
-    let words = words_of(alloc, &["cf", "-V"])?;
-    assert!(rt; !is_help(&words) && is_version(&words));
     Ok(())
 }
 

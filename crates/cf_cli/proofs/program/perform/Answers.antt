@@ -1,0 +1,12 @@
+use Rattle.cf_cli.proofs.Plays.{judged_replay, judged_sync}
+use Rattle.cf_cli.proofs.program.perform.Goals as goal
+
+pub returns-in-Replay-clause-judged : goal.returns-in-Replay-clause-judged
+returns-in-Replay-clause-judged g c =
+    judged_replay (g.F.Files.files c.args.files.now) c.args.command c.in-Replay.trace c.in-Replay.watch c.in-Replay.session c.as_str.result.now c.as_str-in-Replay.result.now c.replay.result
+    c.as_str.ensures c.as_str-in-Replay.ensures c.in-Replay.is c.replay.ensures.judged
+
+pub returns-in-Sync-clause-judged : goal.returns-in-Sync-clause-judged
+returns-in-Sync-clause-judged g c =
+    judged_sync (g.F.Files.files c.args.files.now) c.args.command c.in-Sync.turns c.in-Sync.watch c.in-Sync.peer c.as_str-in-Sync.result.now c.sync.result
+    c.as_str-in-Sync.ensures c.in-Sync.is c.sync.ensures.judged

@@ -1,0 +1,99 @@
+-- What is promised of the commands that read a file of blocks.
+use Rattle.std.specs.Prelude.{◌≡◌, ℕ, ◌≤◌, nat_lt, Bool, true, false, List, [], ◌∷◌, ◌++◌, length, take, codes, Option, Some, None, IfSome, Result, Ok, Err}
+use Rattle.std.specs.FinMap as finite
+use Rattle.hex.specs.Hex.{encode_lower}
+use Rattle.cf_bytes.specs.Files.{Named}
+use Rattle.cf_bytes.specs.Hash.{shown}
+use Rattle.cf_bytes.specs.Outside.{with_more}
+use Rattle.cf_block.specs.declared.tx.Block.{Block}
+use Rattle.cf_headers.specs.Chain.{tip_hash}
+use Rattle.cf_chain.specs.Good.{headers_of}
+use Rattle.cf_chain.specs.Filters.{Filtered, filter_at}
+use Rattle.cf_index.specs.declared.cause.BadBlock.{BadBlock}
+use Rattle.cf_index.specs.Files.{blocks_at}
+use Rattle.cf_input.specs.WatchFile.{watch_of}
+use Rattle.cf_input.specs.declared.watch_file.WatchFileFault.{WatchFileFault}
+use Rattle.cf_scan.specs.HistoryText.{history_text}
+use Rattle.cf_scan.specs.Scan.{scan_of}
+use Rattle.cf_cli.specs.declared.status.Status.{Status}
+use Rattle.cf_cli.specs.declared.status.Status.TheVariants.{Done, NoMemory, Usage, BadFile, FileFault, OutFault, NoPeers, Tired, Ended, NoHeight}
+
+-- the history of these scripts by a plain scan of every block above genesis, and the chain's tip
+abbrev pub scan_text : List (List ℕ) → List Block → List ℕ
+scan_text scripts blocks = history_text (scan_of blocks scripts) (length blocks) (tip_hash (headers_of blocks))
+
+-- NAME VALUE, ended by LF
+abbrev pub named_line : List ℕ → List ℕ → List ℕ
+named_line name value = name ++ (32 ∷ (value ++ 10 ∷ []))
+
+-- a line each for a block's hash, its filter and its filter header
+abbrev pub filter_text : Filtered → List ℕ
+filter_text f = named_line (codes "block") (shown f.block) ++ (named_line (codes "filter") (encode_lower f.filter) ++ named_line (codes "header") (shown f.header))
+
+-- a command that has this text to write and no other answer: all of it was written, or the sink failed and a beginning of it was, or nothing
+abbrev pub IsWritten : Status → Option (List ℕ) → Option (List ℕ) → List ℕ → Type 0
+IsWritten Done before after text = after ≡ with_more before text
+IsWritten OutFault before after text = (n : ℕ) × (n ≤ length text) × (after ≡ with_more before (take n text))
+IsWritten NoMemory before after text = after ≡ before
+IsWritten FileFault before after text = after ≡ before
+IsWritten (BadFile which place cause) before after text = after ≡ before
+IsWritten status before after text = ⊥
+
+-- a command that was refused: nothing was written
+abbrev pub IsUnwritten : Status → Option (List ℕ) → Option (List ℕ) → Type 0
+IsUnwritten NoMemory before after = after ≡ before
+IsUnwritten FileFault before after = after ≡ before
+IsUnwritten (BadFile which place cause) before after = after ≡ before
+IsUnwritten status before after = ⊥
+
+-- `scan`, by its files as they are read
+abbrev pub Scans : Status → Option (List ℕ) → Option (List ℕ) → Result (List (List ℕ)) WatchFileFault → Result (List Block) BadBlock → Type 0
+Scans status before after (Ok scripts) (Ok blocks) = IsWritten status before after (scan_text scripts blocks)
+Scans status before after (Ok scripts) (Err bad) = IsUnwritten status before after
+Scans status before after (Err fault) blocks = IsUnwritten status before after
+
+-- no such height
+abbrev pub IsAbove : Status → Option (List ℕ) → Option (List ℕ) → Type 0
+IsAbove NoHeight before after = after ≡ before
+IsAbove status before after = IsUnwritten status before after
+
+-- the lines of a block that there is
+abbrev pub TellsFilter : Status → Option (List ℕ) → Option (List ℕ) → Option Filtered → Type 0
+TellsFilter status before after (Some f) = IsWritten status before after (filter_text f)
+TellsFilter status before after None = IsUnwritten status before after
+
+abbrev pub TellsHeight : Status → Option (List ℕ) → Option (List ℕ) → List Block → ℕ → Bool → Type 0
+TellsHeight status before after blocks height true = IsAbove status before after
+TellsHeight status before after blocks height false = TellsFilter status before after (filter_at blocks height)
+
+-- `filter`, by its file as it is read
+abbrev pub Filters : Status → Option (List ℕ) → Option (List ℕ) → ℕ → Result (List Block) BadBlock → Type 0
+Filters status before after height (Ok blocks) = TellsHeight status before after blocks height (nat_lt (length blocks) height)
+Filters status before after height (Err bad) = IsUnwritten status before after
+
+-- the answers once the files are read
+abbrev pub IsOfText : Status → Type 0
+IsOfText Done = Unit {0}
+IsOfText NoMemory = Unit {0}
+IsOfText OutFault = Unit {0}
+IsOfText status = ⊥
+
+-- the answers of `scan`, whether the files tell their bytes or not: nothing is written before the text
+abbrev pub IsOfScan : Status → Option (List ℕ) → Option (List ℕ) → Type 0
+IsOfScan Done before after = Unit {0}
+IsOfScan OutFault before after = Unit {0}
+IsOfScan status before after = IsUnwritten status before after
+
+abbrev pub IsOfFilter : Status → Option (List ℕ) → Option (List ℕ) → Type 0
+IsOfFilter NoHeight before after = after ≡ before
+IsOfFilter status before after = IsOfScan status before after
+
+-- all that is promised of `scan` over these files and this sink
+pub record IsScanned (status : Status) (files : Option Named) (watch file : List ℕ) (before after : Option (List ℕ)) : Type 0 where
+  pub answers : IsOfScan status before after
+  pub told : IfSome files (λ m. IfSome (finite.get m watch) (λ w. IfSome (finite.get m file) (λ b. Scans status before after (watch_of w) (blocks_at b))))
+
+-- all that is promised of `filter`
+pub record IsFiltered (status : Status) (files : Option Named) (file : List ℕ) (height : ℕ) (before after : Option (List ℕ)) : Type 0 where
+  pub answers : IsOfFilter status before after
+  pub told : IfSome files (λ m. IfSome (finite.get m file) (λ b. Filters status before after height (blocks_at b)))

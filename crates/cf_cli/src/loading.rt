@@ -1,0 +1,124 @@
+//! Files, read and judged.
+ghost use Rattle.std.specs.Prelude.{◌≡◌, ◌≤◌, true, length, IfOk, IfErr, IfSome, IsErrOf, OnOk, Ok};
+ghost use Rattle.std.specs.FinMap as finite;
+ghost use Rattle.std.specs.List.{list_all};
+ghost use Rattle.cf_bytes.specs.Outside.{HasRisen};
+ghost use Rattle.cf_chain.specs.Good.{IsGoodChain};
+ghost use Rattle.cf_index.specs.Files.{blocks_at};
+ghost use Rattle.cf_input.specs.SessionFile.{session_of};
+ghost use Rattle.cf_input.specs.Sessions.{script_in, AreNamed};
+ghost use Rattle.cf_input.specs.WatchFile.{watch_of};
+ghost use Rattle.cf_peer.specs.Log.{is_real};
+ghost use Rattle.cf_cli.specs.Statuses.{IsReadAs, IsUnread, IsOfFile, watch_verdict, session_verdict, blocks_verdict};
+
+use crate::status::{FileCause, Status, Which};
+use cf_bytes::{FileFail, Files, Refused};
+use cf_index::{Blocks, read_chain};
+use cf_input::{Session, read_session, read_watch};
+use cf_scan::Watch;
+use std::alloc::Global;
+
+/// The most bytes that a watch file may have.
+pub const MOST_WATCH: usize = 33_554_432;
+
+/// The most bytes that a session file may have.
+pub const MOST_SESSION: usize = 1_073_741_824;
+
+/// The most bytes that a block file may have.
+pub const MOST_BLOCKS: usize = 1_073_741_824;
+
+// The answer to a file that can't be read.
+fn unread(fail: FileFail, which: Which) -> Status
+    ensures { IsUnread which fail result }
+{
+    match fail {
+        FileFail::Failed => Status::FileFault,
+        FileFail::TooBig => Status::BadFile {
+            which,
+            place: 0,
+            cause: FileCause::TooBig,
+        },
+        FileFail::NoMemory => Status::NoMemory,
+    }
+}
+
+/// Reads the scripts that are watched.
+pub(crate) fn load_watch<F: Files>(
+    alloc: Global,
+    files: &mut F,
+    name: &str,
+) -> Result<Watch, Status>
+    ensures answer { IfSome (F.files files.old) (λ m. IsReadAs (watch_verdict (finite.get m name.now)) result) }
+    ensures scripts { IfOk result (λ w. IfSome (F.files files.old) (λ m. IfSome (finite.get m name.now) (λ bytes. watch_of bytes ≡ Ok w))) }
+    ensures same { F.files files.new ≡ F.files files.old }
+    ensures fault { IsErrOf result Status.FileFault → HasRisen (F.faults files.old) (F.faults files.new) }
+    ensures kept { OnOk result (F.faults files.new ≡ F.faults files.old) }
+    ensures only { IfErr result IsOfFile }
+{
+    match files.read(alloc, name, MOST_WATCH) {
+        Ok(bytes) => match read_watch(alloc, &bytes) {
+            Ok(watch) => Ok(watch),
+            Err(Refused::No(fault)) => Err(Status::BadFile {
+                which: Which::Watch,
+                place: fault.place,
+                cause: FileCause::Watch(fault.cause),
+            }),
+            Err(Refused::NoMemory) => Err(Status::NoMemory),
+        },
+        Err(fail) => Err(unread(fail, Which::Watch)),
+    }
+}
+
+/// Reads a session.
+pub(crate) fn load_session<F: Files>(
+    alloc: Global,
+    files: &mut F,
+    name: &str,
+) -> Result<Session, Status>
+    ensures answer { IfSome (F.files files.old) (λ m. IsReadAs (session_verdict (finite.get m name.now)) result) }
+    ensures script { IfOk result (λ s. IfSome (F.files files.old) (λ m. IfSome (finite.get m name.now) (λ bytes. session_of bytes ≡ Ok (script_in s)))) }
+    ensures named { IfOk result AreNamed }
+    ensures few { IfOk result (λ s. length s.dials.items ≤ 1) }
+    ensures real { IfOk result (λ s. list_all is_real s.deliveries.items ≡ true) }
+    ensures fault { IsErrOf result Status.FileFault → HasRisen (F.faults files.old) (F.faults files.new) }
+    ensures only { IfErr result IsOfFile }
+{
+    match files.read(alloc, name, MOST_SESSION) {
+        Ok(bytes) => match read_session(alloc, &bytes) {
+            Ok(session) => Ok(session),
+            Err(Refused::No(fault)) => Err(Status::BadFile {
+                which: Which::Session,
+                place: fault.place,
+                cause: FileCause::Session(fault.cause),
+            }),
+            Err(Refused::NoMemory) => Err(Status::NoMemory),
+        },
+        Err(fail) => Err(unread(fail, Which::Session)),
+    }
+}
+
+/// Reads a chain of blocks.
+pub(crate) fn load_blocks<F: Files>(
+    alloc: Global,
+    files: &mut F,
+    name: &str,
+) -> Result<Blocks, Status>
+    ensures answer { IfSome (F.files files.old) (λ m. IsReadAs (blocks_verdict (finite.get m name.now)) result) }
+    ensures blocks { IfOk result (λ b. IfSome (F.files files.old) (λ m. IfSome (finite.get m name.now) (λ bytes. blocks_at bytes ≡ Ok b))) }
+    ensures good { IfOk result (λ b. IsGoodChain b) }
+    ensures fault { IsErrOf result Status.FileFault → HasRisen (F.faults files.old) (F.faults files.new) }
+    ensures only { IfErr result IsOfFile }
+{
+    match files.read(alloc, name, MOST_BLOCKS) {
+        Ok(bytes) => match read_chain(alloc, &bytes) {
+            Ok(blocks) => Ok(blocks),
+            Err(Refused::No(bad)) => Err(Status::BadFile {
+                which: Which::Blocks,
+                place: bad.number,
+                cause: FileCause::Blocks(bad.cause),
+            }),
+            Err(Refused::NoMemory) => Err(Status::NoMemory),
+        },
+        Err(fail) => Err(unread(fail, Which::Blocks)),
+    }
+}
