@@ -1,0 +1,71 @@
+#!/usr/bin/env python3
+"""Writes a made chain as a block file: `made_chain.py SEED BLOCKS FILE`.
+
+Every block pays 50 coins to one of sixteen scripts, `01 k 75 51`. Where seed and height add up to a multiple of 3, a second transaction spends the
+block before's coin and pays two other scripts. Genesis is left out.
+"""
+import struct
+import sys
+from hashlib import sha256
+
+MAGIC = bytes.fromhex("fabfb5da")
+GENESIS_HASH = bytes.fromhex("06226e46111a0b59caaf126043eb5bbf28c34f3a5e332a1fc7b2b73cf188910f")
+
+
+def double(data):
+    return sha256(sha256(data).digest()).digest()
+
+
+def output(value, k):
+    return struct.pack("<q", value) + bytes([4, 1, k % 16, 0x75, 0x51])
+
+
+def coinbase(seed, height):
+    script = b"\x04" + struct.pack("<I", height) + b"\x08" + struct.pack("<Q", seed)
+    start = struct.pack("<i", 1) + b"\x01" + bytes(32) + b"\xff\xff\xff\xff" + bytes([len(script)]) + script + b"\xff\xff\xff\xff"
+    return start + b"\x01" + output(5_000_000_000, seed + height) + bytes(4)
+
+
+def spending(seed, height, coin):
+    t = seed + height
+    start = struct.pack("<i", 1) + b"\x01" + coin + bytes(4) + b"\x00" + b"\xff\xff\xff\xff"
+    return start + b"\x02" + output(2_000_000_000, t + 5) + output(3_000_000_000, t + 11) + bytes(4)
+
+
+def meets_target(block_hash):
+    return block_hash[::-1] <= b"\x7f\xff\xff" + bytes(29)
+
+
+def mined(fields):
+    for nonce in range(65_536):
+        header = fields + struct.pack("<I", nonce)
+        if meets_target(double(header)):
+            return header
+    raise SystemExit("no nonce")
+
+
+def records(seed, blocks):
+    previous = GENESIS_HASH
+    coin = None
+    for height in range(1, blocks + 1):
+        txs = [coinbase(seed, height)]
+        if height > 1 and (seed + height) % 3 == 0:
+            txs.append(spending(seed, height, coin))
+        txids = [double(tx) for tx in txs]
+        root = double(b"".join(txids)) if len(txids) == 2 else txids[0]
+        header = mined(struct.pack("<i", 4) + previous + root + struct.pack("<II", 1_296_688_602 + 600 * height, 0x207FFFFF))
+        previous = double(header)
+        coin = txids[0]
+        block = header + bytes([len(txs)]) + b"".join(txs)
+        yield MAGIC + struct.pack("<I", len(block)) + block
+
+
+def main():
+    seed, blocks, name = int(sys.argv[1]), int(sys.argv[2]), sys.argv[3]
+    with open(name, "wb") as file:
+        for record in records(seed, blocks):
+            file.write(record)
+
+
+if __name__ == "__main__":
+    main()

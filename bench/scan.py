@@ -1,0 +1,60 @@
+#!/usr/bin/env python3
+"""`scan` and `filter` of made chains beside a plain reader in C of the same files.
+
+For each command the program runs on a made chain of 10,000 blocks and on one of 100,000, and `plain.c`, compiled with `cc -O2`, on the larger one. The best of
+three runs counts. It prints seconds, the ratio to the plain reader, the growth from the smaller chain to the larger one (10 is linear), and the most memory
+that the program held, as a multiple of the file. Both must write the same text, or it stops. The program is built first where it is old.
+"""
+import os
+import subprocess
+import tempfile
+import time
+
+BENCH = os.path.dirname(os.path.abspath(__file__))
+ROOT = os.path.dirname(BENCH)
+PROGRAM = os.path.join(ROOT, ".build", "cf")
+SCRIPT = "01087551"
+
+
+def run(words):
+    """The text that one run writes, its seconds and its greatest size in bytes."""
+    start = time.monotonic()
+    child = subprocess.Popen(words, stdout=subprocess.PIPE)
+    text = child.stdout.read()
+    _, status, used = os.wait4(child.pid, 0)
+    child.returncode = os.waitstatus_to_exitcode(status)
+    if child.returncode:
+        raise SystemExit("%s ended with status %d" % (" ".join(words), child.returncode))
+    return text, time.monotonic() - start, used.ru_maxrss * 1024
+
+
+def best(words):
+    runs = [run(words) for _ in range(3)]
+    return runs[0][0], min(seconds for _, seconds, _ in runs), max(size for _, _, size in runs)
+
+
+def main():
+    subprocess.run([os.path.join(ROOT, "cf"), "--version"], check=True, stdout=subprocess.DEVNULL)
+    with tempfile.TemporaryDirectory() as folder:
+        plain, watch, small, large = (os.path.join(folder, name) for name in ("plain", "watch", "small", "large"))
+        subprocess.run(["cc", "-O2", "-o", plain, os.path.join(BENCH, "plain.c")], check=True)
+        with open(watch, "w") as file:
+            file.write(SCRIPT + "\n")
+        for name, blocks in ((small, "10000"), (large, "100000")):
+            subprocess.run([os.path.join(BENCH, "made_chain.py"), "7", blocks, name], check=True)
+        rows = [
+            ("scan", lambda name: [PROGRAM, "scan", name, watch], [plain, "scan", large, SCRIPT]),
+            ("filter, the last block's", lambda name: [PROGRAM, "filter", name, "10000" if name == small else "100000"], [plain, "filters", large]),
+        ]
+        print("%-26s %9s %9s %7s %7s %7s" % ("100,000 blocks", "program", "plain", "ratio", "growth", "memory"))
+        for name, program, other in rows:
+            text, seconds, size = best(program(large))
+            expected, base, _ = best(other)
+            if text != expected:
+                raise SystemExit("%s: the texts differ" % name)
+            few = best(program(small))[1]
+            print("%-26s %8.2fs %8.2fs %7.1f %7.1f %7.1f" % (name, seconds, base, seconds / base, seconds / few, size / os.path.getsize(large)))
+
+
+if __name__ == "__main__":
+    main()
