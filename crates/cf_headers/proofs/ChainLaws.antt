@@ -1,23 +1,34 @@
 -- Laws of chains.
-use Rattle.std.proofs.Common.{◌≡◌, suc, ◌<◌, ◌≤◌, Bool, true, false, nat_lt, List, [], ◌∷◌, length, Option, Some, None, refl, sym, subst, arith, lt-ltb}
+use Rattle.std.proofs.Common.{◌≡◌, suc, ◌<◌, ◌≤◌, Bool, true, false, nat_lt, List, [], ◌∷◌, ◌++◌, length, Option, Some, None, refl, sym, ap, subst, arith, lt-ltb}
 use Rattle.std.specs.Bool.{if◌then◌else◌}
+use Rattle.std.specs.Option.{option_or}
 use Rattle.std.proofs.lemmas.Bool.{ltb-false}
 use Rattle.cf_block.specs.declared.header.Header.{Header}
 use Rattle.cf_block.specs.Header.{block_hash_of, genesis_header}
 use Rattle.cf_headers.specs.Rules.{same}
-use Rattle.cf_headers.specs.Chain.{Hash, Chain, fits, laid_on, first_bad, height_limit, Longer, NoLonger, TooHigh, judged, accept_on, accept, back_to, IsValidChain, IsWithinLimit, IsRefusal}
+use Rattle.cf_headers.specs.Chain.{Hash, Chain, fits, laid_on, first_bad, height_limit, Longer, NoLonger, TooHigh, judged, accept_on, accept, ending_in, back_to, IsValidChain, IsWithinLimit, IsRefusal, IsPart}
 use Rattle.cf_headers.proofs.Judging.{height_limit_is}
 
+-- a part of a chain
+pub part_valid : (more part : Chain) → IsValidChain (more ++ part) → IsValidChain part
+part_valid [] part v = v
+part_valid (h ∷ more) part v = part_valid more part v.1
+
+-- what ends in a hash is a part
+ends_so : (chain base : Chain) (b : Bool) → (if b then Some chain else None) ≡ Some base → base ≡ chain
+ends_so chain base true e = cc
+ends_so chain base false e = cc
+
+pub back_in : (hash : Hash) (chain base : Chain) → back_to hash chain ≡ Some base → IsPart base chain
+back_in hash [] base e = ([], ends_so [] base (same (block_hash_of genesis_header) hash) e)
+back_in hash (h ∷ below) base e = back_one hash h below base (back_to hash below) e (λ f. back_in hash below base f) where
+  back_one : (hash : Hash) (h : Header) (below base : Chain) (o : Option Chain) → option_or o (ending_in hash (h ∷ below)) ≡ Some base
+      → (o ≡ Some base → IsPart base below) → IsPart base (h ∷ below)
+  back_one hash h below base (Some part) e before = (let p = before e in (h ∷ p.0, ap (λ (xs : Chain). h ∷ xs) p.1))
+  back_one hash h below base None e before = ([], ends_so (h ∷ below) base (same (block_hash_of h) hash) e)
+
 pub back_valid : (hash : Hash) (chain base : Chain) → back_to hash chain ≡ Some base → IsValidChain chain → IsValidChain base
-back_valid hash [] base e v = back_none hash base (same (block_hash_of genesis_header) hash) refl e where
-  back_none : (hash : Hash) (base : Chain) (b : Bool) → same (block_hash_of genesis_header) hash ≡ b → back_to hash [] ≡ Some base → IsValidChain base
-  back_none hash base true is e = (let f = rw is at e in let n : [] ≡ base = cc in subst IsValidChain n tt)
-  back_none hash base false is e = (let f = rw is at e in cc)
-back_valid hash (h ∷ below) base e v = back_one hash h below base (same (block_hash_of h) hash) refl e v (λ f. back_valid hash below base f v.1) where
-  back_one : (hash : Hash) (h : Header) (below base : Chain) (b : Bool) → same (block_hash_of h) hash ≡ b → back_to hash (h ∷ below) ≡ Some base → IsValidChain (h ∷ below)
-      → (back_to hash below ≡ Some base → IsValidChain base) → IsValidChain base
-  back_one hash h below base true is e v before = (let f = rw is at e in let n : h ∷ below ≡ base = cc in subst IsValidChain n v)
-  back_one hash h below base false is e v before = (let f = rw is at e in before f)
+back_valid hash chain base e v = let p = back_in hash chain base e in part_valid p.0 base (subst IsValidChain (sym p.1) v)
 
 pub laid_valid : (hs : List Header) (base next : Chain) → laid_on hs base ≡ Some next → IsValidChain base → IsValidChain next
 laid_valid [] base next e v = (let n : base ≡ next = cc in subst IsValidChain n v)

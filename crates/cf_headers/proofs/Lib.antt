@@ -1,3 +1,10 @@
 pub mod ChainLaws
 pub mod Judging
 pub mod OnGenesis
+pub mod Limit
+pub mod EntryLists
+pub mod Stacks
+pub mod Accepting
+pub mod Locators
+pub mod Places
+pub mod Longest

@@ -1,5 +1,6 @@
 -- Chains of headers. A chain is the list of its headers above genesis, the tip first, so its length is its height.
 use Rattle.std.specs.Prelude.{◌≡◌, ◌⊎◌, ℕ, zero, suc, ◌+◌, ◌-◌, ◌*◌, ◌≤◌, ◌==◌, Bool, true, not, ◌&&◌, nat_lt, if◌then◌else◌, List, [], ◌∷◌, ◌++◌, reverse, replicate, length, take, drop, Option, Some, None}
+use Rattle.std.specs.Option.{option_or}
 use Rattle.cf_bytes.specs.Hash.{hash_of}
 use Rattle.cf_block.specs.declared.header.Header.{Header}
 use Rattle.cf_block.specs.Header.{block_hash_of, genesis_header}
@@ -38,10 +39,14 @@ IsValidChain (h ∷ below) = (fits h below ≡ true) × IsValidChain below
 abbrev pub IsWithinLimit : Chain → Type 0
 IsWithinLimit chain = length chain ≤ height_limit
 
--- the part of a chain whose tip has this hash
+-- a chain, where its tip has this hash
+abbrev pub ending_in : Hash → Chain → Option Chain
+ending_in hash chain = if same (tip_hash chain) hash then Some chain else None
+
+-- the lowest part of a chain whose tip has this hash
 abbrev pub back_to : Hash → Chain → Option Chain
-back_to hash [] = if same (block_hash_of genesis_header) hash then Some [] else None
-back_to hash (h ∷ below) = if same (block_hash_of h) hash then Some (h ∷ below) else back_to hash below
+back_to hash [] = ending_in hash []
+back_to hash (h ∷ below) = option_or (back_to hash below) (ending_in hash (h ∷ below))
 
 -- the part of a list up to a height, and what stands above it, lowest first
 abbrev pub lower : {A : Type 0} → ℕ → List A → List A

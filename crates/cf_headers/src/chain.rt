@@ -1,7 +1,7 @@
 //! What a list of headers makes of a chain.
 ghost use Rattle.std.specs.Prelude.{◌≡◌, []};
 ghost use Rattle.cf_headers.specs.Rules.{bad_after};
-ghost use Rattle.cf_headers.specs.Chain.{accept};
+ghost use Rattle.cf_headers.specs.Chain.{height_limit, accept};
 ghost use Rattle.cf_headers.specs.Judged.{answer_of};
 
 use crate::rules::{HeaderFault, check_on};
@@ -10,6 +10,14 @@ use cf_bytes::Hash32;
 
 /// The greatest height that a chain may have.
 const HEIGHT_LIMIT: usize = 0;
+
+/// The greatest height that a chain may have.
+#[tactic(auto, unfolding(crate::specs::Chain::height_limit))]
+pub(crate) fn greatest_height() -> usize
+    ensures { result ≡ height_limit }
+{
+    HEIGHT_LIMIT
+}
 
 /// What came of a list of headers.
 #[derive(Clone, Copy, Debug, PartialEq, Eq)]

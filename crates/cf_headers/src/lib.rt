@@ -1,13 +1,24 @@
-//! The rules of headers, and chains of headers.
+//! The rules of headers, chains of headers, and stores of the chains that peers show.
 #![tactic(auto)]
 
 mod chain;
+mod change;
+mod check;
+mod entry;
+mod kept;
 mod laws;
+mod lists;
+mod locator;
 mod rules;
+mod slot;
+mod store;
 
 pub use chain::{Accepted, accept_on_genesis};
-pub use laws::laws_of_chains;
+pub use change::Change;
+pub use laws::{laws_of_chains, laws_of_kept_chains};
+pub use lists::Lists;
 pub use rules::{HeaderFault, check_header, check_on, meets_target};
+pub use store::HeaderStore;
 
 #[cfg(test)]
 mod tests;
