@@ -132,7 +132,7 @@ hash_taken bytes x rest fits h =
     let P : Hash32 × List ℕ → Type 0 = λ p. Takes bytes p.0.0 p.1 × IsHash p.0 in
     subst P both t
 
-hash_codec : Codec hash_at hash_spelling IsHash
+pub hash_codec : Codec hash_at hash_spelling IsHash
 hash_codec = record { again = hash_again; taken = hash_taken }
 
 pub hash_item_codec : Codec hash_item_at hash_spelling IsHash
@@ -174,7 +174,7 @@ of_header_ok : (r : Read Header BlockFault) (x : Header × List ℕ) → of_head
 of_header_ok (Ok y) x h = let made : Read Header Cause = Ok y in ap Ok (value_of y x made refl h)
 of_header_ok (Err e) x h = cc
 
-header_taken : (bytes : List ℕ) (h : Header) (rest : List ℕ) → IsBytes bytes → header_at bytes ≡ Ok (h, rest) → Takes bytes (header_spelling h) rest × IsHeader h
+pub header_taken : (bytes : List ℕ) (h : Header) (rest : List ℕ) → IsBytes bytes → header_at bytes ≡ Ok (h, rest) → Takes bytes (header_spelling h) rest × IsHeader h
 unfolding header_at
 header_taken bytes h rest fits e = fields_taken bytes h rest fits (whole_ok bytes (header_fields_at bytes) (h, rest) e)
 

@@ -1,4 +1,7 @@
+pub mod BlockTaken
 pub mod Codecs
+pub mod Fields
+pub mod FilterRows
 pub mod Rows
 pub mod Sizes
 pub mod Table

@@ -51,7 +51,7 @@ i32_cause = of_cut_codec (int_at w32) (λ z. to_le_bytes w32 (cast_unsigned w32 
 i64_cause : Codec (λ bytes. of_cut (int_at w64 bytes)) (λ z. to_le_bytes w64 (cast_unsigned w64 z)) (λ z. FitsSigned w64 z)
 i64_cause = of_cut_codec (int_at w64) (λ z. to_le_bytes w64 (cast_unsigned w64 z)) (λ z. FitsSigned w64 z) i64_codec
 
-u32_cause : Codec (λ bytes. of_cut (number_at w32 bytes)) (to_le_bytes w32) (λ n. n < 2 ^ 32)
+pub u32_cause : Codec (λ bytes. of_cut (number_at w32 bytes)) (to_le_bytes w32) (λ n. n < 2 ^ 32)
 u32_cause = of_cut_codec (number_at w32) (to_le_bytes w32) (λ n. n < 2 ^ 32) u32_codec
 
 u64_cause : Codec (λ bytes. of_cut (number_at w64 bytes)) (to_le_bytes w64) (λ n. n < 2 ^ 64)
@@ -60,7 +60,7 @@ u64_cause = of_cut_codec (number_at w64) (to_le_bytes w64) (λ n. n < 2 ^ 64) u6
 address_cause : Codec (λ bytes. of_cut (address_at bytes)) address_spelling IsAddress
 address_cause = of_cut_codec address_at address_spelling IsAddress address_codec
 
-counted_cause : Codec (λ bytes. of_cut (counted_bytes_at bytes)) counted_bytes (λ text. length text ≤ 33554432)
+pub counted_cause : Codec (λ bytes. of_cut (counted_bytes_at bytes)) counted_bytes (λ text. length text ≤ 33554432)
 counted_cause = of_cut_codec counted_bytes_at counted_bytes (λ text. length text ≤ 33554432) counted_bytes_codec
 
 relay_again : (relay : Option ℕ) → byte_or_none_at (byte_or_none relay) ≡ Ok (relay, [])

@@ -8,9 +8,10 @@ use Rattle.cf_bytes.specs.Lists.{counted_bytes}
 use Rattle.cf_block.specs.declared.header.Header.{Header}
 use Rattle.cf_block.specs.Header.{IsHash, IsHeader, header_spelling}
 use Rattle.cf_msg.specs.declared.msg.NetAddress.{NetAddress}
+use Rattle.cf_msg.specs.declared.msg.Entry.{Entry}
 use Rattle.cf_msg.specs.declared.msg.Msg.{Msg}
-use Rattle.cf_msg.specs.declared.msg.Msg.TheVariants.{Version, Verack, Ping, Pong, GetHeaders, Headers, Other}
-use Rattle.cf_msg.specs.Message.{IsAddress, HasSpelling, address_spelling, byte_or_none, hash_spelling, item_spelling, payload_of}
+use Rattle.cf_msg.specs.declared.msg.Msg.TheVariants.{Version, Verack, Ping, Pong, GetHeaders, Headers, GetData, Inv, Block, GetCfilters, Cfilter, GetCfheaders, Cfheaders, GetCfcheckpt, Cfcheckpt, Other}
+use Rattle.cf_msg.specs.Message.{IsAddress, IsEntry, HasSpelling, address_spelling, byte_or_none, counted_list, entry_spelling, hash_spelling, item_spelling, payload_of}
 
 compact_case : (n : ℕ) (a b c : Bool) → length (if a then n ∷ [] else if b then 253 ∷ to_le_bytes w16 n else if c then 254 ∷ to_le_bytes w32 n else 255 ∷ to_le_bytes w64 n) ≤ 9
 compact_case n true b c = omega arith
@@ -107,7 +108,48 @@ headers_size headers fits =
       length-flat_map item_spelling IsHeader 81 length-item headers fits,
     )
 
--- only an agent, and the payload of a message that isn't looked into, can make a payload too long for a frame
+length-entry : (e : Entry) → IsEntry e → length (entry_spelling e) ≡ 36
+length-entry e fits = omega (arith, length-append (to_le_bytes w32 e.kind) e.hash.0, fits.hash)
+
+pub entries_size : (entries : List Entry) → AllByRecursion IsEntry entries → length (counted_list entry_spelling entries) ≤ 9 + 36 * length entries
+entries_size entries fits =
+    omega (
+      arith,
+      length-append (compact (length entries)) (flat_map entry_spelling entries),
+      length-compact (length entries),
+      length-flat_map entry_spelling IsEntry 36 length-entry entries fits,
+    )
+
+pub hashes_size : (hashes : List Hash32) → AllByRecursion IsHash hashes → length (counted_list hash_spelling hashes) ≤ 9 + 32 * length hashes
+hashes_size hashes fits =
+    omega (
+      arith,
+      length-append (compact (length hashes)) (flat_map hash_spelling hashes),
+      length-compact (length hashes),
+      length-flat_map hash_spelling IsHash 32 (λ x h. h) hashes fits,
+    )
+
+pub range_size : (filter start : ℕ) (stop : Hash32) → IsHash stop → length (filter ∷ (to_le_bytes w32 start ++ stop.0)) ≡ 37
+range_size filter start stop fits = omega (arith, length-append (to_le_bytes w32 start) stop.0, fits)
+
+pub cfilter_size : (filter : ℕ) (block : Hash32) (bytes : List ℕ) → IsHash block → length (payload_of (Cfilter filter block bytes)) ≤ 42 + length bytes
+unfolding payload_of
+cfilter_size filter block bytes fits =
+    omega (arith, length-append block.0 (counted_bytes bytes), length-append (compact (length bytes)) bytes, length-compact (length bytes), fits)
+
+pub cfheaders_size : (filter : ℕ) (stop previous : Hash32) (hashes : List Hash32) → IsHash stop → IsHash previous → AllByRecursion IsHash hashes
+    → length (payload_of (Cfheaders filter stop previous hashes)) ≤ 74 + 32 * length hashes
+unfolding payload_of
+cfheaders_size filter stop previous hashes fits_stop fits_previous all =
+    let items = counted_list hash_spelling hashes in
+    omega (arith, length-append stop.0 (previous.0 ++ items), length-append previous.0 items, hashes_size hashes all, fits_stop, fits_previous)
+
+pub cfcheckpt_size : (filter : ℕ) (stop : Hash32) (headers : List Hash32) → IsHash stop → AllByRecursion IsHash headers
+    → length (payload_of (Cfcheckpt filter stop headers)) ≤ 42 + 32 * length headers
+unfolding payload_of
+cfcheckpt_size filter stop headers fits all = omega (arith, length-append stop.0 (counted_list hash_spelling headers), hashes_size headers all, fits)
+
+-- only an agent, a filter, and the payload of a message that isn't looked into, can make a payload too long for a frame
 abbrev pub IsSmall : Msg → Type 0
 IsSmall (Version version services time to from nonce agent height relay) = length agent ≤ 3999900
 IsSmall Verack = Unit {0}
@@ -115,6 +157,15 @@ IsSmall (Ping n) = Unit {0}
 IsSmall (Pong n) = Unit {0}
 IsSmall (GetHeaders version locator stop) = Unit {0}
 IsSmall (Headers headers) = Unit {0}
+IsSmall (GetData entries) = Unit {0}
+IsSmall (Inv entries) = Unit {0}
+IsSmall (Block block) = Unit {0}
+IsSmall (GetCfilters filter start stop) = Unit {0}
+IsSmall (Cfilter filter block bytes) = length bytes ≤ 3999900
+IsSmall (GetCfheaders filter start stop) = Unit {0}
+IsSmall (Cfheaders filter stop previous hashes) = Unit {0}
+IsSmall (GetCfcheckpt filter stop) = Unit {0}
+IsSmall (Cfcheckpt filter stop headers) = Unit {0}
 IsSmall (Other command payload) = length payload ≤ 4000000
 
 pub payload_fits : (m : Msg) → HasSpelling m → IsSmall m → length (payload_of m) ≤ 4000000
@@ -125,4 +176,13 @@ payload_fits (Ping n) h small = omega arith
 payload_fits (Pong n) h small = omega arith
 payload_fits (GetHeaders version locator stop) h small = omega (arith, getheaders_size version locator stop h.2 h.3, h.1)
 payload_fits (Headers headers) h small = omega (arith, headers_size headers h.1, h.0)
+payload_fits (GetData entries) h small = omega (arith, entries_size entries h.1, h.0)
+payload_fits (Inv entries) h small = omega (arith, entries_size entries h.1, h.0)
+payload_fits (Block block) h small = omega (arith, h.short)
+payload_fits (GetCfilters filter start stop) h small = omega (arith, range_size filter start stop h.2)
+payload_fits (Cfilter filter block bytes) h small = omega (arith, cfilter_size filter block bytes h.1, small)
+payload_fits (GetCfheaders filter start stop) h small = omega (arith, range_size filter start stop h.2)
+payload_fits (Cfheaders filter stop previous hashes) h small = omega (arith, cfheaders_size filter stop previous hashes h.1 h.2 h.4, h.3)
+payload_fits (GetCfcheckpt filter stop) h small = omega (arith, h.1)
+payload_fits (Cfcheckpt filter stop headers) h small = omega (arith, cfcheckpt_size filter stop headers h.1 h.3, h.2)
 payload_fits (Other command payload) h small = small

@@ -2,7 +2,7 @@
 use Rattle.std.specs.Prelude.{ℕ, List, [], ◌∷◌, ◌++◌, codes, if◌then◌else◌}
 use Rattle.std.specs.Str.{bytes_eq}
 use Rattle.cf_msg.specs.declared.command.Kind.{Kind}
-use Rattle.cf_msg.specs.declared.command.Kind.TheVariants.{Version, Verack, Ping, Pong, GetHeaders, Headers, Other}
+use Rattle.cf_msg.specs.declared.command.Kind.TheVariants.{Version, Verack, Ping, Pong, GetHeaders, Headers, GetData, Inv, Block, GetCfilters, Cfilter, GetCfheaders, Cfheaders, GetCfcheckpt, Cfcheckpt, Other}
 
 abbrev pub version_command : List ℕ
 version_command = codes "version" ++ 0 ∷ 0 ∷ 0 ∷ 0 ∷ 0 ∷ []
@@ -22,6 +22,33 @@ getheaders_command = codes "getheaders" ++ 0 ∷ 0 ∷ []
 abbrev pub headers_command : List ℕ
 headers_command = codes "headers" ++ 0 ∷ 0 ∷ 0 ∷ 0 ∷ 0 ∷ []
 
+abbrev pub getdata_command : List ℕ
+getdata_command = codes "getdata" ++ 0 ∷ 0 ∷ 0 ∷ 0 ∷ 0 ∷ []
+
+abbrev pub inv_command : List ℕ
+inv_command = codes "inv" ++ 0 ∷ 0 ∷ 0 ∷ 0 ∷ 0 ∷ 0 ∷ 0 ∷ 0 ∷ 0 ∷ []
+
+abbrev pub block_command : List ℕ
+block_command = codes "block" ++ 0 ∷ 0 ∷ 0 ∷ 0 ∷ 0 ∷ 0 ∷ 0 ∷ []
+
+abbrev pub getcfilters_command : List ℕ
+getcfilters_command = codes "getcfilters" ++ 0 ∷ []
+
+abbrev pub cfilter_command : List ℕ
+cfilter_command = codes "cfilter" ++ 0 ∷ 0 ∷ 0 ∷ 0 ∷ 0 ∷ []
+
+abbrev pub getcfheaders_command : List ℕ
+getcfheaders_command = codes "getcfheaders"
+
+abbrev pub cfheaders_command : List ℕ
+cfheaders_command = codes "cfheaders" ++ 0 ∷ 0 ∷ 0 ∷ []
+
+abbrev pub getcfcheckpt_command : List ℕ
+getcfcheckpt_command = codes "getcfcheckpt"
+
+abbrev pub cfcheckpt_command : List ℕ
+cfcheckpt_command = codes "cfcheckpt" ++ 0 ∷ 0 ∷ 0 ∷ []
+
 -- what a command announces
 unfoldable pub kind_of : List ℕ → Kind
 kind_of command =
@@ -31,4 +58,13 @@ kind_of command =
     else if bytes_eq command pong_command then Pong
     else if bytes_eq command getheaders_command then GetHeaders
     else if bytes_eq command headers_command then Headers
+    else if bytes_eq command getdata_command then GetData
+    else if bytes_eq command inv_command then Inv
+    else if bytes_eq command block_command then Block
+    else if bytes_eq command getcfilters_command then GetCfilters
+    else if bytes_eq command cfilter_command then Cfilter
+    else if bytes_eq command getcfheaders_command then GetCfheaders
+    else if bytes_eq command cfheaders_command then Cfheaders
+    else if bytes_eq command getcfcheckpt_command then GetCfcheckpt
+    else if bytes_eq command cfcheckpt_command then Cfcheckpt
     else Other

@@ -1,7 +1,7 @@
 -- Reading messages, field by field.
-use Rattle.std.specs.Prelude.{◌≡◌, ℕ, ◌-◌, ◌==◌, nat_lt, if◌then◌else◌, List, [], ◌∷◌, length, Option, Some, None, Result, Ok, Err}
+use Rattle.std.specs.Prelude.{◌≡◌, ℕ, ◌-◌, ◌==◌, nat_lt, if◌then◌else◌, List, [], ◌∷◌, drop, length, Option, Some, None, Result, Ok, Err}
 use Rattle.std.specs.Int.{w16, w32, w64, from_be_bytes}
-use Rattle.cf_bytes.specs.Cut.{Read, bytes_at, number_at, int_at, ◌>>=◌}
+use Rattle.cf_bytes.specs.Cut.{Read, byte_at, bytes_at, number_at, int_at, ◌>>=◌}
 use Rattle.cf_bytes.specs.Compact.{compact_at}
 use Rattle.cf_bytes.specs.Lists.{list_at, counted_bytes_at}
 use Rattle.cf_bytes.specs.declared.cut.CutFault.{CutFault}
@@ -11,15 +11,18 @@ use Rattle.cf_bytes.specs.declared.memory.Refused.{Refused}
 use Rattle.cf_bytes.specs.declared.memory.Refused.TheVariants.{No, NoMemory}
 use Rattle.cf_block.specs.declared.fault.BlockFault.{BlockFault}
 use Rattle.cf_block.specs.declared.header.Header.{Header}
+use Rattle.cf_block.specs.declared.tx.Block.{Block}
 use Rattle.cf_block.specs.Header.{hash_at, header_at}
+use Rattle.cf_block.specs.Reading.{block_at}
 use Rattle.cf_frame.specs.declared.frame.Frame.{Frame}
 use Rattle.cf_msg.specs.declared.command.Kind.{Kind}
-use Rattle.cf_msg.specs.declared.command.Kind.TheVariants.{Version as VersionKind, Verack as VerackKind, Ping as PingKind, Pong as PongKind, GetHeaders as GetHeadersKind, Headers as HeadersKind, Other as OtherKind}
+use Rattle.cf_msg.specs.declared.command.Kind.TheVariants.{Version as VersionKind, Verack as VerackKind, Ping as PingKind, Pong as PongKind, GetHeaders as GetHeadersKind, Headers as HeadersKind, GetData as GetDataKind, Inv as InvKind, Block as BlockKind, GetCfilters as GetCfiltersKind, Cfilter as CfilterKind, GetCfheaders as GetCfheadersKind, Cfheaders as CfheadersKind, GetCfcheckpt as GetCfcheckptKind, Cfcheckpt as CfcheckptKind, Other as OtherKind}
 use Rattle.cf_msg.specs.declared.msg.NetAddress.{NetAddress}
+use Rattle.cf_msg.specs.declared.msg.Entry.{Entry}
 use Rattle.cf_msg.specs.declared.msg.Msg.{Msg}
-use Rattle.cf_msg.specs.declared.msg.Msg.TheVariants.{Version, Verack, Ping, Pong, GetHeaders, Headers, Other}
+use Rattle.cf_msg.specs.declared.msg.Msg.TheVariants.{Version, Verack, Ping, Pong, GetHeaders, Headers, GetData, Inv, Block as BlockMessage, GetCfilters, Cfilter, GetCfheaders, Cfheaders, GetCfcheckpt, Cfcheckpt, Other}
 use Rattle.cf_msg.specs.declared.msg.Cause.{Cause}
-use Rattle.cf_msg.specs.declared.msg.Cause.TheVariants.{Cut, TooMany, NotZero, Rest}
+use Rattle.cf_msg.specs.declared.msg.Cause.TheVariants.{Cut, Block as OfBlock, TooMany, NotZero, Rest}
 use Rattle.cf_msg.specs.declared.msg.Malformed.{Malformed}
 use Rattle.cf_msg.specs.Command.{kind_of}
 
@@ -100,6 +103,79 @@ headers_at bytes = do
   headers ← list_at header_item_at count.0 count.1
   Ok (Headers headers.0, headers.1)
 
+-- a list with its count before it, which is at most the limit
+abbrev pub counted_list_at : {X : Type 0} → ℕ → (List ℕ → Read X Cause) → List ℕ → Read (List X) Cause
+counted_list_at limit item bytes = count_at limit bytes >>= λ n. list_at item n.0 n.1
+
+unfoldable pub entry_at : List ℕ → Read Entry Cause
+entry_at bytes = do
+  kind ← of_cut (number_at w32 bytes)
+  hash ← hash_item_at kind.1
+  Ok (record { kind = kind.0; hash = hash.0 }, hash.1)
+
+unfoldable pub entries_at : List ℕ → Read (List Entry) Cause
+entries_at bytes = counted_list_at 50000 entry_at bytes
+
+unfoldable pub getdata_at : List ℕ → Read Msg Cause
+getdata_at bytes = entries_at bytes >>= λ entries. Ok (GetData entries.0, entries.1)
+
+unfoldable pub inv_at : List ℕ → Read Msg Cause
+inv_at bytes = entries_at bytes >>= λ entries. Ok (Inv entries.0, entries.1)
+
+-- a block takes all the bytes, or is refused at the field that its fault names
+abbrev pub of_block : List ℕ → Read Block BlockFault → Read Msg Cause
+of_block bytes (Ok x) = Ok (BlockMessage x.0, x.1)
+of_block bytes (Err e) = Err (OfBlock e.0.kind, drop e.0.place bytes)
+
+unfoldable pub block_message_at : List ℕ → Read Msg Cause
+block_message_at bytes = of_block bytes (block_at bytes)
+
+-- the hashes of an answer about filters
+unfoldable pub filter_hashes_at : List ℕ → Read (List Hash32) Cause
+filter_hashes_at bytes = counted_list_at 2000 hash_item_at bytes
+
+unfoldable pub getcfilters_at : List ℕ → Read Msg Cause
+getcfilters_at bytes = do
+  filter ← of_cut (byte_at bytes)
+  start ← of_cut (number_at w32 filter.1)
+  stop ← hash_item_at start.1
+  Ok (GetCfilters filter.0 start.0 stop.0, stop.1)
+
+unfoldable pub cfilter_at : List ℕ → Read Msg Cause
+cfilter_at bytes = do
+  filter ← of_cut (byte_at bytes)
+  block ← hash_item_at filter.1
+  text ← of_cut (counted_bytes_at block.1)
+  Ok (Cfilter filter.0 block.0 text.0, text.1)
+
+unfoldable pub getcfheaders_at : List ℕ → Read Msg Cause
+getcfheaders_at bytes = do
+  filter ← of_cut (byte_at bytes)
+  start ← of_cut (number_at w32 filter.1)
+  stop ← hash_item_at start.1
+  Ok (GetCfheaders filter.0 start.0 stop.0, stop.1)
+
+unfoldable pub cfheaders_at : List ℕ → Read Msg Cause
+cfheaders_at bytes = do
+  filter ← of_cut (byte_at bytes)
+  stop ← hash_item_at filter.1
+  previous ← hash_item_at stop.1
+  hashes ← filter_hashes_at previous.1
+  Ok (Cfheaders filter.0 stop.0 previous.0 hashes.0, hashes.1)
+
+unfoldable pub getcfcheckpt_at : List ℕ → Read Msg Cause
+getcfcheckpt_at bytes = do
+  filter ← of_cut (byte_at bytes)
+  stop ← hash_item_at filter.1
+  Ok (GetCfcheckpt filter.0 stop.0, stop.1)
+
+unfoldable pub cfcheckpt_at : List ℕ → Read Msg Cause
+cfcheckpt_at bytes = do
+  filter ← of_cut (byte_at bytes)
+  stop ← hash_item_at filter.1
+  headers ← filter_hashes_at stop.1
+  Ok (Cfcheckpt filter.0 stop.0 headers.0, headers.1)
+
 -- the table: what each command's payload holds
 unfoldable pub fields_at : Kind → List ℕ → List ℕ → Read Msg Cause
 fields_at VersionKind command bytes = version_at bytes
@@ -108,6 +184,15 @@ fields_at PingKind command bytes = ping_at bytes
 fields_at PongKind command bytes = pong_at bytes
 fields_at GetHeadersKind command bytes = getheaders_at bytes
 fields_at HeadersKind command bytes = headers_at bytes
+fields_at GetDataKind command bytes = getdata_at bytes
+fields_at InvKind command bytes = inv_at bytes
+fields_at BlockKind command bytes = block_message_at bytes
+fields_at GetCfiltersKind command bytes = getcfilters_at bytes
+fields_at CfilterKind command bytes = cfilter_at bytes
+fields_at GetCfheadersKind command bytes = getcfheaders_at bytes
+fields_at CfheadersKind command bytes = cfheaders_at bytes
+fields_at GetCfcheckptKind command bytes = getcfcheckpt_at bytes
+fields_at CfcheckptKind command bytes = cfcheckpt_at bytes
 fields_at OtherKind command bytes = Ok (Other command bytes, [])
 
 -- no byte is left

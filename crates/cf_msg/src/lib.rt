@@ -3,14 +3,16 @@
 
 mod command;
 mod laws;
+mod lent;
 mod lists;
 mod msg;
 mod reader;
 mod writer;
 
 pub use laws::laws_of_messages;
-pub use lists::{Bytes, Hashes, Headers};
-pub use msg::{Cause, Malformed, Msg, NetAddress};
+pub use lent::frame_block;
+pub use lists::{Bytes, Entries, Hashes, Headers};
+pub use msg::{Cause, Entry, Malformed, Msg, NetAddress};
 pub use reader::read;
 pub use writer::write;
 

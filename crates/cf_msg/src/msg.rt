@@ -3,7 +3,8 @@ ghost use Rattle.std.specs.Prelude.{◌≡◌};
 ghost use Rattle.cf_bytes.specs.declared.memory.Refused.TheVariants.{No};
 ghost use Rattle.cf_msg.specs.declared.msg.Cause.TheVariants.{Cut as OfCut};
 
-use crate::lists::{Bytes, Hashes, Headers};
+use crate::lists::{Bytes, Entries, Hashes, Headers};
+use cf_block::{Block, BlockFaultKind};
 use cf_bytes::{CutFault, Hash32, Refused};
 use thiserror::Error;
 
@@ -16,6 +17,15 @@ pub struct NetAddress {
     pub ip: [u8; 16],
     /// The port, which is spelled with its high byte first.
     pub port: u16,
+}
+
+/// An entry of an inventory: 36 bytes.
+#[derive(Clone, Copy, Debug, PartialEq, Eq)]
+pub struct Entry {
+    /// The kind of the object: 1 a transaction, 2 a block. Any other is kept as it is.
+    pub kind: u32,
+    /// The hash of the object.
+    pub hash: Hash32,
 }
 
 /// A message, by the command of its frame.
@@ -56,6 +66,57 @@ pub enum Msg {
     },
     /// Headers in the order of their chain, at most 2000.
     Headers(Headers),
+    /// Asks for the objects of these entries, at most 50,000.
+    GetData(Entries),
+    /// Tells of objects that the sender has, at most 50,000.
+    Inv(Entries),
+    /// A block, in the form without witnesses.
+    Block(Block),
+    /// Asks for the filters of the blocks from a height to a hash (BIP 157).
+    GetCfilters {
+        /// The filters' type; 0 is the basic one.
+        filter: u8,
+        /// The height of the first block.
+        start: u32,
+        /// The hash of the last block.
+        stop: Hash32,
+    },
+    /// The filter of one block (BIP 157).
+    Cfilter {
+        filter: u8,
+        /// The hash of the block.
+        block: Hash32,
+        /// The filter, of at most 33,554,432 bytes.
+        bytes: Bytes,
+    },
+    /// Asks for the hashes of the filters from a height to a hash (BIP 157).
+    GetCfheaders {
+        filter: u8,
+        start: u32,
+        stop: Hash32,
+    },
+    /// Hashes of filters in the order of their blocks (BIP 157).
+    Cfheaders {
+        filter: u8,
+        /// The hash of the last block.
+        stop: Hash32,
+        /// The filter header before the first hash.
+        previous: Hash32,
+        /// At most 2000.
+        hashes: Hashes,
+    },
+    /// Asks for every thousandth filter header up to a block (BIP 157).
+    GetCfcheckpt {
+        filter: u8,
+        stop: Hash32,
+    },
+    /// Every thousandth filter header up to a block (BIP 157).
+    Cfcheckpt {
+        filter: u8,
+        stop: Hash32,
+        /// At most 2000.
+        headers: Hashes,
+    },
     /// A message that isn't looked into.
     Other {
         command: [u8; 12],
@@ -69,6 +130,9 @@ pub enum Cause {
     /// The field is cut off, or its number is badly spelled.
     #[error("a field is cut off or badly spelled")]
     Cut(CutFault),
+    /// A field of a block breaks a rule.
+    #[error("{0}")]
+    Block(BlockFaultKind),
     /// A count is above what the message may have.
     #[error("a count is too large")]
     TooMany,

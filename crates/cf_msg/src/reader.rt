@@ -2,12 +2,12 @@
 ghost use Rattle.std.specs.Prelude.{◌≡◌};
 ghost use Rattle.cf_bytes.specs.Cut.{Reads, Gives};
 ghost use Rattle.cf_bytes.specs.Lists.{list_at, counted_bytes_at};
-ghost use Rattle.cf_msg.specs.Reading.{Answers, of_cut, port_at, address_at, byte_or_none_at, count_at, hash_item_at, header_item_at, version_at, ping_at, pong_at, getheaders_at, headers_at, fields_at, whole_at, message_of};
+ghost use Rattle.cf_msg.specs.Reading.{Answers, of_cut, port_at, address_at, byte_or_none_at, count_at, hash_item_at, header_item_at, entry_at, entries_at, filter_hashes_at, version_at, ping_at, pong_at, getheaders_at, headers_at, getdata_at, inv_at, block_message_at, getcfilters_at, cfilter_at, getcfheaders_at, cfheaders_at, getcfcheckpt_at, cfcheckpt_at, fields_at, whole_at, message_of};
 
 use crate::command::{Kind, kind_of};
-use crate::lists::{Bytes, Hashes, Headers};
-use crate::msg::{Cause, Malformed, Msg, NetAddress};
-use cf_block::{Header, parse_header};
+use crate::lists::{Bytes, Entries, Hashes, Headers};
+use crate::msg::{Cause, Entry, Malformed, Msg, NetAddress};
+use cf_block::{Header, parse_block, parse_header};
 use cf_bytes::{Cut, CutFault, Hash32, Refused};
 use cf_frame::Frame;
 use std::alloc::Global;
@@ -17,6 +17,12 @@ const MAX_LOCATOR: u64 = 101;
 
 /// The most headers of one message.
 const MAX_HEADERS: u64 = 2000;
+
+/// The most entries of an inventory.
+const MAX_ENTRIES: u64 = 50_000;
+
+/// The most hashes or headers of filters in one message.
+const MAX_FILTER_HASHES: u64 = 2000;
 
 /// The message that a frame carries. It is refused at the first field that can't be read: with the number of
 /// payload bytes before that field.
@@ -68,6 +74,15 @@ fn fields_of(
         Kind::Pong => pong_of(cut),
         Kind::GetHeaders => getheaders_of(alloc, cut),
         Kind::Headers => headers_of(alloc, cut),
+        Kind::GetData => getdata_of(alloc, cut),
+        Kind::Inv => inv_of(alloc, cut),
+        Kind::Block => block_of(alloc, cut),
+        Kind::GetCfilters => getcfilters_of(cut),
+        Kind::Cfilter => cfilter_of(alloc, cut),
+        Kind::GetCfheaders => getcfheaders_of(cut),
+        Kind::Cfheaders => cfheaders_of(alloc, cut),
+        Kind::GetCfcheckpt => getcfcheckpt_of(cut),
+        Kind::Cfcheckpt => cfcheckpt_of(alloc, cut),
         Kind::Other => other_of(alloc, command, cut),
     }
 }
@@ -236,4 +251,156 @@ fn headers_of(alloc: Global, cut: &mut Cut) -> Result<Msg, Refused<Cause>>
     let count = count_of(MAX_HEADERS, cut)?;
     let headers = header_list_of(alloc, count, cut)?;
     Ok(Msg::Headers(headers))
+}
+
+#[tactic(auto, unfolding(crate::specs::Reading::entry_at))]
+fn entry_of(cut: &mut Cut) -> Result<Entry, Cause>
+    ensures { Reads (λ e. e) (entry_at cut.old) result cut.new }
+{
+    let kind = cut.u32()?;
+    let hash = hash_of(cut)?;
+    Ok(Entry { kind, hash })
+}
+
+fn entry_list_of(alloc: Global, count: u64, cut: &mut Cut) -> Result<Entries, Refused<Cause>>
+    ensures { Gives (λ e. e) (list_at entry_at count cut.old) result cut.new }
+{
+    let mut items = Vec::new(alloc);
+    for _ in 0..count {
+        let entry = entry_of(cut)?;
+        items.push(entry)?;
+    }
+    Ok(Entries::from_vec(items))
+}
+
+#[tactic(auto, unfolding(crate::specs::Reading::entries_at))]
+fn entries_of(alloc: Global, cut: &mut Cut) -> Result<Entries, Refused<Cause>>
+    ensures { Gives (λ e. e) (entries_at cut.old) result cut.new }
+{
+    let count = count_of(MAX_ENTRIES, cut)?;
+    entry_list_of(alloc, count, cut)
+}
+
+#[tactic(auto, unfolding(crate::specs::Reading::getdata_at))]
+fn getdata_of(alloc: Global, cut: &mut Cut) -> Result<Msg, Refused<Cause>>
+    ensures { Gives (λ m. m) (getdata_at cut.old) result cut.new }
+{
+    let entries = entries_of(alloc, cut)?;
+    Ok(Msg::GetData(entries))
+}
+
+#[tactic(auto, unfolding(crate::specs::Reading::inv_at))]
+fn inv_of(alloc: Global, cut: &mut Cut) -> Result<Msg, Refused<Cause>>
+    ensures { Gives (λ m. m) (inv_at cut.old) result cut.new }
+{
+    let entries = entries_of(alloc, cut)?;
+    Ok(Msg::Inv(entries))
+}
+
+// A block takes all the bytes. Where it is refused the reader then stands at the refused field.
+#[tactic(auto, unfolding(crate::specs::Reading::block_message_at), using(crate::proofs::BlockTaken::block_place))]
+fn block_of(alloc: Global, cut: &mut Cut) -> Result<Msg, Refused<Cause>>
+    ensures { Gives (λ m. m) (block_message_at cut.old) result cut.new }
+{
+    let bytes = cut.rest();
+    match parse_block(alloc, bytes) {
+        Ok(block) => {
+            *cut = Cut::new(&bytes[bytes.len()..]);
+            Ok(Msg::Block(block))
+        }
+        Err(Refused::NoMemory) => Err(Refused::NoMemory),
+        Err(Refused::No(fault)) => {
+            *cut = Cut::new(&bytes[fault.place as usize..]);
+            Err(Refused::No(Cause::Block(fault.kind)))
+        }
+    }
+}
+
+#[tactic(auto, unfolding(crate::specs::Reading::filter_hashes_at))]
+fn filter_hashes_of(alloc: Global, cut: &mut Cut) -> Result<Hashes, Refused<Cause>>
+    ensures { Gives (λ h. h) (filter_hashes_at cut.old) result cut.new }
+{
+    let count = count_of(MAX_FILTER_HASHES, cut)?;
+    hashes_of(alloc, count, cut)
+}
+
+#[tactic(auto, unfolding(crate::specs::Reading::getcfilters_at))]
+fn getcfilters_of(cut: &mut Cut) -> Result<Msg, Refused<Cause>>
+    ensures { Gives (λ m. m) (getcfilters_at cut.old) result cut.new }
+{
+    let filter = cut.u8().map_err(Cause::Cut)?;
+    let start = cut.u32().map_err(Cause::Cut)?;
+    let stop = hash_of(cut)?;
+    Ok(Msg::GetCfilters {
+        filter,
+        start,
+        stop,
+    })
+}
+
+#[tactic(auto, unfolding(crate::specs::Reading::cfilter_at))]
+fn cfilter_of(alloc: Global, cut: &mut Cut) -> Result<Msg, Refused<Cause>>
+    ensures { Gives (λ m. m) (cfilter_at cut.old) result cut.new }
+{
+    let filter = cut.u8().map_err(Cause::Cut)?;
+    let block = hash_of(cut)?;
+    let bytes = counted_of(alloc, cut)?;
+    Ok(Msg::Cfilter {
+        filter,
+        block,
+        bytes,
+    })
+}
+
+#[tactic(auto, unfolding(crate::specs::Reading::getcfheaders_at))]
+fn getcfheaders_of(cut: &mut Cut) -> Result<Msg, Refused<Cause>>
+    ensures { Gives (λ m. m) (getcfheaders_at cut.old) result cut.new }
+{
+    let filter = cut.u8().map_err(Cause::Cut)?;
+    let start = cut.u32().map_err(Cause::Cut)?;
+    let stop = hash_of(cut)?;
+    Ok(Msg::GetCfheaders {
+        filter,
+        start,
+        stop,
+    })
+}
+
+#[tactic(auto, unfolding(crate::specs::Reading::cfheaders_at))]
+fn cfheaders_of(alloc: Global, cut: &mut Cut) -> Result<Msg, Refused<Cause>>
+    ensures { Gives (λ m. m) (cfheaders_at cut.old) result cut.new }
+{
+    let filter = cut.u8().map_err(Cause::Cut)?;
+    let stop = hash_of(cut)?;
+    let previous = hash_of(cut)?;
+    let hashes = filter_hashes_of(alloc, cut)?;
+    Ok(Msg::Cfheaders {
+        filter,
+        stop,
+        previous,
+        hashes,
+    })
+}
+
+#[tactic(auto, unfolding(crate::specs::Reading::getcfcheckpt_at))]
+fn getcfcheckpt_of(cut: &mut Cut) -> Result<Msg, Refused<Cause>>
+    ensures { Gives (λ m. m) (getcfcheckpt_at cut.old) result cut.new }
+{
+    let filter = cut.u8().map_err(Cause::Cut)?;
+    let stop = hash_of(cut)?;
+    Ok(Msg::GetCfcheckpt { filter, stop })
+}
+
+#[tactic(auto, unfolding(crate::specs::Reading::cfcheckpt_at))]
+fn cfcheckpt_of(alloc: Global, cut: &mut Cut) -> Result<Msg, Refused<Cause>>
+    ensures { Gives (λ m. m) (cfcheckpt_at cut.old) result cut.new }
+{
+    let filter = cut.u8().map_err(Cause::Cut)?;
+    let stop = hash_of(cut)?;
+    let headers = filter_hashes_of(alloc, cut)?;
+    Ok(Msg::Cfcheckpt {
+        filter,
+        stop,
+        headers,
+    })
 }

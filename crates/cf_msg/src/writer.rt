@@ -1,20 +1,24 @@
 //! Writing messages.
-ghost use Rattle.std.specs.Prelude.{◌≡◌, ◌≤◌, ◌++◌, length, IfOk, OnOk};
+ghost use Rattle.std.specs.Prelude.{◌≡◌, ◌≤◌, ◌++◌, ◌∷◌, length, IfOk, OnOk};
 ghost use Rattle.std.specs.List.{flat_map};
 ghost use Rattle.std.specs.Int.{w32, w64, to_le_bytes};
 ghost use Rattle.cf_bytes.specs.Lists.{counted_bytes};
 ghost use Rattle.cf_frame.specs.Frame.{IsFrame};
-ghost use Rattle.cf_msg.specs.Message.{IsWithinLimits, address_spelling, byte_or_none, command_of as command_of_message, frame_of, hash_spelling, item_spelling, payload_of};
+ghost use Rattle.cf_msg.specs.Message.{IsWithinLimits, address_spelling, byte_or_none, command_of as command_of_message, counted_list, entry_spelling, frame_of, hash_spelling, item_spelling, payload_of};
 
-use crate::command::{GETHEADERS, HEADERS, PING, PONG, VERACK, VERSION};
-use crate::lists::{Bytes, Hashes, Headers};
-use crate::msg::{Msg, NetAddress};
-use cf_block::{Header, write_header};
-use cf_bytes::{NoMemory, put_compact};
+use crate::command::{
+    BLOCK, CFCHECKPT, CFHEADERS, CFILTER, GETCFCHECKPT, GETCFHEADERS, GETCFILTERS, GETDATA,
+    GETHEADERS, HEADERS, INV, PING, PONG, VERACK, VERSION,
+};
+use crate::lists::{Bytes, Entries, Hashes, Headers};
+use crate::msg::{Entry, Msg, NetAddress};
+use cf_block::{Header, write_block, write_header};
+use cf_bytes::{Hash32, NoMemory, put_compact};
 use cf_frame::{Frame, Payload};
 use std::alloc::Global;
 
-/// The frame that carries a message. The message's counts are within its limits; an `Other` has a command of
+/// The frame that carries a message. The message's counts are within its limits; a block keeps to the rules of its
+/// bytes; an `Other` has a command of
 /// printable characters and then NULs, and none of those that are looked into; the payload has at most 4,000,000
 /// bytes.
 pub fn write(alloc: Global, msg: &Msg) -> Result<Frame, NoMemory>
@@ -41,6 +45,15 @@ fn command_of(msg: &Msg) -> [u8; 12]
         Msg::Pong(_) => PONG,
         Msg::GetHeaders { .. } => GETHEADERS,
         Msg::Headers(_) => HEADERS,
+        Msg::GetData(_) => GETDATA,
+        Msg::Inv(_) => INV,
+        Msg::Block(_) => BLOCK,
+        Msg::GetCfilters { .. } => GETCFILTERS,
+        Msg::Cfilter { .. } => CFILTER,
+        Msg::GetCfheaders { .. } => GETCFHEADERS,
+        Msg::Cfheaders { .. } => CFHEADERS,
+        Msg::GetCfcheckpt { .. } => GETCFCHECKPT,
+        Msg::Cfcheckpt { .. } => CFCHECKPT,
         Msg::Other { command, .. } => *command,
     }
 }
@@ -88,6 +101,45 @@ fn put_payload(msg: &Msg, out: &mut Vec<u8>) -> Result<(), NoMemory>
         Msg::Headers(headers) => {
             put_compact(out, headers.len() as u64)?;
             put_headers(headers, out)
+        }
+        Msg::GetData(entries) | Msg::Inv(entries) => put_entries(entries, out),
+        Msg::Block(block) => write_block(block, out),
+        Msg::GetCfilters {
+            filter,
+            start,
+            stop,
+        } => put_range(*filter, *start, stop, out),
+        Msg::Cfilter {
+            filter,
+            block,
+            bytes,
+        } => {
+            put_typed(*filter, block, out)?;
+            put_counted(bytes, out)
+        }
+        Msg::GetCfheaders {
+            filter,
+            start,
+            stop,
+        } => put_range(*filter, *start, stop, out),
+        Msg::Cfheaders {
+            filter,
+            stop,
+            previous,
+            hashes,
+        } => {
+            put_typed(*filter, stop, out)?;
+            put_hash(previous, out)?;
+            put_counted_hashes(hashes, out)
+        }
+        Msg::GetCfcheckpt { filter, stop } => put_typed(*filter, stop, out),
+        Msg::Cfcheckpt {
+            filter,
+            stop,
+            headers,
+        } => {
+            put_typed(*filter, stop, out)?;
+            put_counted_hashes(headers, out)
         }
         Msg::Other { payload, .. } => {
             out.extend_from_slice(payload.as_slice())?;
@@ -203,4 +255,63 @@ fn put_headers(headers: &Headers, out: &mut Vec<u8>) -> Result<(), NoMemory>
         put_item(header, out)?;
     }
     Ok(())
+}
+
+fn put_hash(hash: &Hash32, out: &mut Vec<u8>) -> Result<(), NoMemory>
+    ensures { OnOk result (out.new.items ≡ out.old.items ++ hash_spelling hash.now) }
+{
+    out.extend_from_slice(&hash.0)?;
+    Ok(())
+}
+
+#[tactic(auto, using(std::proofs::Common::append_assoc))]
+fn put_counted_hashes(hashes: &Hashes, out: &mut Vec<u8>) -> Result<(), NoMemory>
+    ensures { OnOk result (out.new.items ≡ out.old.items ++ counted_list hash_spelling hashes.now) }
+{
+    put_compact(out, hashes.len() as u64)?;
+    put_hashes(hashes, out)
+}
+
+#[tactic(auto, using(std::proofs::Common::append_assoc))]
+fn put_entry(entry: &Entry, out: &mut Vec<u8>) -> Result<(), NoMemory>
+    ensures { OnOk result (out.new.items ≡ out.old.items ++ entry_spelling entry.now) }
+{
+    put_u32(entry.kind, out)?;
+    put_hash(&entry.hash, out)
+}
+
+fn put_entry_list(entries: &Entries, out: &mut Vec<u8>) -> Result<(), NoMemory>
+    ensures { OnOk result (out.new.items ≡ out.old.items ++ flat_map entry_spelling entries.now) }
+{
+    for entry in entries.as_slice() {
+        put_entry(entry, out)?;
+    }
+    Ok(())
+}
+
+#[tactic(auto, using(std::proofs::Common::append_assoc))]
+fn put_entries(entries: &Entries, out: &mut Vec<u8>) -> Result<(), NoMemory>
+    ensures { OnOk result (out.new.items ≡ out.old.items ++ counted_list entry_spelling entries.now) }
+{
+    put_compact(out, entries.len() as u64)?;
+    put_entry_list(entries, out)
+}
+
+// A filter's type and a hash.
+#[tactic(auto, using(std::proofs::Common::append_assoc))]
+fn put_typed(filter: u8, hash: &Hash32, out: &mut Vec<u8>) -> Result<(), NoMemory>
+    ensures { OnOk result (out.new.items ≡ out.old.items ++ filter ∷ hash_spelling hash.now) }
+{
+    out.push(filter)?;
+    put_hash(hash, out)
+}
+
+// The fields of a request about filters of several blocks.
+#[tactic(auto, using(std::proofs::Common::append_assoc))]
+fn put_range(filter: u8, start: u32, stop: &Hash32, out: &mut Vec<u8>) -> Result<(), NoMemory>
+    ensures { OnOk result (out.new.items ≡ out.old.items ++ filter ∷ (to_le_bytes w32 start ++ hash_spelling stop.now)) }
+{
+    out.push(filter)?;
+    put_u32(start, out)?;
+    put_hash(stop, out)
 }

@@ -14,7 +14,7 @@ use Rattle.cf_frame.specs.Stream.{StreamRead, read_stream}
 use Rattle.cf_frame.proofs.Streams.{stream_frame, stream_waits, stream_bad}
 use Rattle.cf_msg.specs.declared.msg.Malformed.{Malformed}
 use Rattle.cf_msg.specs.declared.msg.Msg.{Msg}
-use Rattle.cf_msg.specs.declared.msg.Msg.TheVariants.{Version, Verack, Ping, Pong, GetHeaders, Headers, Other}
+use Rattle.cf_msg.specs.declared.msg.Msg.TheVariants.{Version, Verack, Ping, Pong, GetHeaders, Headers, GetData, Inv, Block, GetCfilters, Cfilter, GetCfheaders, Cfheaders, GetCfcheckpt, Cfcheckpt, Other}
 use Rattle.cf_msg.specs.Reading.{message_of}
 use Rattle.cf_peer.specs.declared.act.Act.{Act}
 use Rattle.cf_peer.specs.declared.act.Act.TheVariants.{Send as SendTo}
@@ -130,6 +130,15 @@ reply_is (Ping number) r t e = elim (cases_Bool (met t)) [
 reply_is (Pong number) r t e = absurd (let none : [] ≡ r ∷ [] = e in cc)
 reply_is (GetHeaders version locator stop) r t e = absurd (let none : [] ≡ r ∷ [] = e in cc)
 reply_is (Headers hs) r t e = absurd (let none : [] ≡ r ∷ [] = e in cc)
+reply_is (GetData entries) r t e = absurd (let none : [] ≡ r ∷ [] = e in cc)
+reply_is (Inv entries) r t e = absurd (let none : [] ≡ r ∷ [] = e in cc)
+reply_is (Block block) r t e = absurd (let none : [] ≡ r ∷ [] = e in cc)
+reply_is (GetCfilters filter start stop) r t e = absurd (let none : [] ≡ r ∷ [] = e in cc)
+reply_is (Cfilter filter block bytes) r t e = absurd (let none : [] ≡ r ∷ [] = e in cc)
+reply_is (GetCfheaders filter start stop) r t e = absurd (let none : [] ≡ r ∷ [] = e in cc)
+reply_is (Cfheaders filter stop previous hashes) r t e = absurd (let none : [] ≡ r ∷ [] = e in cc)
+reply_is (GetCfcheckpt filter stop) r t e = absurd (let none : [] ≡ r ∷ [] = e in cc)
+reply_is (Cfcheckpt filter stop headers) r t e = absurd (let none : [] ≡ r ∷ [] = e in cc)
 reply_is (Other command payload) r t e = absurd (let none : [] ≡ r ∷ [] = e in cc)
 
 all_with : (rs : List Msg) (r : Msg) → AllByRecursion IsReply rs → IsReply r → AllByRecursion IsReply (rs ++ r ∷ [])

@@ -1,0 +1,27 @@
+//! Frames of what is lent: a message holds its block, and so can't be made of one that is only lent.
+ghost use Rattle.std.specs.Prelude.{◌≡◌, IfOk};
+ghost use Rattle.cf_block.specs.Tx.{IsBlock};
+ghost use Rattle.cf_frame.specs.Frame.{IsFrame};
+ghost use Rattle.cf_msg.specs.declared.msg.Msg.TheVariants.{Block as BlockMessage};
+ghost use Rattle.cf_msg.specs.Message.{frame_of};
+
+use crate::command::BLOCK;
+use cf_block::{Block, write_block};
+use cf_bytes::NoMemory;
+use cf_frame::{Frame, Payload};
+use std::alloc::Global;
+
+/// The frame that carries a block. The block keeps to the rules of its bytes.
+#[tactic(auto, unfolding(crate::specs::Message::payload_of))]
+pub fn frame_block(alloc: Global, block: &Block) -> Result<Frame, NoMemory>
+    requires { IsBlock block.now }
+    ensures exact { IfOk result (λ f. f ≡ frame_of (BlockMessage block.now)) }
+    ensures frame { IfOk result (λ f. IsFrame f) }
+{
+    let mut payload = Vec::new(alloc);
+    write_block(block, &mut payload)?;
+    Ok(Frame {
+        command: BLOCK,
+        payload: Payload::new(payload),
+    })
+}
