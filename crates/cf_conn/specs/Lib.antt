@@ -1,0 +1,5 @@
+pub mod MemoryConn
+pub mod ReadAll
+pub mod SliceSource
+pub mod Source
+pub mod Told

@@ -1,0 +1,37 @@
+-- A source in memory.
+use Rattle.std.specs.Prelude.{ℕ, min, Bool, true, ◌||◌, if◌then◌else◌, List, length, drop, Result, Ok, Err}
+use Rattle.cf_bytes.specs.Plan.{Script, is_refused, after_call}
+use Rattle.cf_bytes.specs.declared.outside.Failed.{Failed}
+use Rattle.cf_conn.specs.Source.{is_end}
+
+-- how bytes are given: the most for one read, whether their end was told, and which reads fail
+pub record Pace : Type 0 where
+  pub most : ℕ
+  pub ended : Bool
+  pub plan : Script
+
+-- the bytes left, and how they are given
+pub record Lent : Type 0 where
+  pub rest : List ℕ
+  pub most : ℕ
+  pub ended : Bool
+  pub plan : Script
+
+abbrev pub lent_at : Pace → List ℕ → Lent
+lent_at p rest = record { rest = rest; most = p.most; ended = p.ended; plan = p.plan }
+
+-- how many bytes a read gives that isn't refused
+abbrev pub given : Lent → ℕ → ℕ
+given s room = min (min (length s.rest) s.most) room
+
+abbrev pub read_answer : Lent → ℕ → Result ℕ Failed
+read_answer s room = if is_refused s.plan true then Err (record {}) else Ok (given s room)
+
+abbrev pub after_read : Lent → ℕ → Lent
+after_read s room =
+    if is_refused s.plan true then record s { plan = after_call s.plan true }
+    else record s {
+      rest = drop (given s room) s.rest;
+      ended = s.ended || is_end room (Ok (given s room));
+      plan = after_call s.plan true;
+    }

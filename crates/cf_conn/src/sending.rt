@@ -1,0 +1,24 @@
+//! Sending all of some bytes.
+ghost use Rattle.std.specs.Prelude.{◌≡◌, ℕ, ◌≤◌, length, take, OnOk, OnErr};
+ghost use Rattle.cf_bytes.specs.Outside.{HasRisen, with_more};
+
+use crate::duplex::Duplex;
+use cf_bytes::Failed;
+
+/// Sends all the bytes. Where the connection fails, it has got the first of them.
+#[tactic(auto, using(cf_bytes::proofs::Sent::sent_more, std::proofs::lemmas::List::take_rest, std::proofs::lemmas::Grind::common_steps))]
+pub fn send_all<C: Duplex>(conn: &mut C, bytes: &[u8]) -> Result<(), Failed>
+    ensures ok { OnOk result (C.written conn.new ≡ with_more (C.written conn.old) bytes.now) }
+    ensures err { OnErr result ((n : ℕ) × (n ≤ length bytes.now) × (C.written conn.new ≡ with_more (C.written conn.old) (take n bytes.now))) }
+    ensures kept { OnOk result (C.Sink.faults conn.new ≡ C.Sink.faults conn.old) }
+    ensures cause { OnErr result (HasRisen (C.Sink.faults conn.old) (C.Sink.faults conn.new)) }
+    ensures left { C.left conn.new ≡ C.left conn.old }
+    ensures ended { C.ended conn.new ≡ C.ended conn.old }
+    ensures read_faults { C.Source.faults conn.new ≡ C.Source.faults conn.old }
+{
+    let mut sent = 0;
+    while sent < bytes.len() {
+        sent += conn.send(&bytes[sent..])?;
+    }
+    Ok(())
+}
