@@ -170,7 +170,7 @@ answers_7 = record { spelled = tt; follows = ([], ((refl, refl), (refl, (sym (ap
 
 pub is_honest : IsHonest honest_run 1 []
 is_honest = record {
-  valid = tt;
+  good = record { headers = tt; height = omega arith; each = tt };
   low = omega arith;
   dialled = of_log (λ t. was_called t ≡ true) honest_run trail_7 part_7 refl;
   honest = (

@@ -1,9 +1,13 @@
 -- An honest peer is never closed, and what it shows is its chain.
-use Rattle.std.proofs.Common.{◌≡◌, inl, inr, ℕ, pos, zero, suc, ◌-◌, ◌<◌, List, [], ◌∷◌, ◌++◌, length, take, reverse, Option, Some, None, Ok, Err, Bool, true, false, not, ◌&&◌, ◌||◌, ◌==◌, if◌then◌else◌, refl, sym, ◌∙◌, ap, subst, arith}
+use Rattle.std.proofs.Common.{◌≡◌, inl, inr, ℕ, pos, zero, suc, ◌-◌, ◌<◌, List, [], ◌∷◌, ◌++◌, length, map, take, drop, reverse, Option, Some, None, Ok, Err, Bool, true, false, not, ◌&&◌, ◌||◌, ◌==◌, if◌then◌else◌, refl, sym, ◌∙◌, ap, subst, arith}
+use Rattle.std.proofs.lemmas.List.{length-reverse, length-map}
 use Rattle.std.proofs.lemmas.Bool.{cases_Bool, both_ways, false≢true, and_parts, eqb-true}
 use Rattle.cf_bytes.specs.declared.hash.Hash32.{Hash32}
 use Rattle.cf_block.specs.declared.header.Header.{Header}
-use Rattle.cf_chain.specs.Serve.{first_known, next_headers, reply_to, replies_to, replies, until, is_version}
+use Rattle.cf_block.specs.declared.tx.Block.{Block as ChainBlock}
+use Rattle.cf_chain.specs.Good.{headers_of}
+use Rattle.cf_chain.specs.Heights.{block_height}
+use Rattle.cf_chain.specs.Serve.{fork_height, most_headers, next_headers, reply_to, replies_to, replies, is_version}
 use Rattle.cf_frame.specs.declared.frame.Frame.{Frame}
 use Rattle.cf_frame.specs.declared.frame.FrameFault.{FrameFault}
 use Rattle.cf_frame.specs.Stream.{StreamRead, read_stream}
@@ -11,7 +15,7 @@ use Rattle.cf_headers.specs.Chain.{Chain, Accepted, Longer, NoLonger, Unlinked, 
 use Rattle.cf_headers.proofs.ChainLaws.{nothing_grows}
 use Rattle.cf_headers.proofs.Judging.{height_limit_is}
 use Rattle.cf_msg.specs.declared.msg.Msg.{Msg}
-use Rattle.cf_msg.specs.declared.msg.Msg.TheVariants.{Version, Verack, Ping, Pong, GetHeaders, Headers, Other}
+use Rattle.cf_msg.specs.declared.msg.Msg.TheVariants.{Version, Verack, Ping, Pong, GetHeaders, Headers, GetData, Inv, Block, GetCfilters, Cfilter, GetCfheaders, Cfheaders, GetCfcheckpt, Cfcheckpt, Other}
 use Rattle.cf_msg.specs.Reading.{message_of}
 use Rattle.cf_peer.specs.declared.event.Delivery.TheVariants.{Got, Gone, Tick, Ended}
 use Rattle.cf_peer.specs.declared.event.Event.{Event}
@@ -32,6 +36,15 @@ IsPlain Verack = Unit {0}
 IsPlain (Ping number) = Unit {0}
 IsPlain (Pong number) = Unit {0}
 IsPlain (GetHeaders version locator stop) = Unit {0}
+IsPlain (GetData entries) = Unit {0}
+IsPlain (Inv entries) = Unit {0}
+IsPlain (Block block) = Unit {0}
+IsPlain (GetCfilters filter start stop) = Unit {0}
+IsPlain (Cfilter filter block bytes) = Unit {0}
+IsPlain (GetCfheaders filter start stop) = Unit {0}
+IsPlain (Cfheaders filter stop previous hashes) = Unit {0}
+IsPlain (GetCfcheckpt filter stop) = Unit {0}
+IsPlain (Cfcheckpt filter stop headers) = Unit {0}
 IsPlain (Other command payload) = Unit {0}
 
 abbrev AllPlain : List Msg → Type 0
@@ -55,6 +68,15 @@ IsServed Verack = Unit {0}
 IsServed (Ping number) = Unit {0}
 IsServed (Pong number) = Unit {0}
 IsServed (GetHeaders version locator stop) = Unit {0}
+IsServed (GetData entries) = Unit {0}
+IsServed (Inv entries) = Unit {0}
+IsServed (Block block) = Unit {0}
+IsServed (GetCfilters filter start stop) = Unit {0}
+IsServed (Cfilter filter block bytes) = Unit {0}
+IsServed (GetCfheaders filter start stop) = Unit {0}
+IsServed (Cfheaders filter stop previous hashes) = Unit {0}
+IsServed (GetCfcheckpt filter stop) = Unit {0}
+IsServed (Cfcheckpt filter stop headers) = Unit {0}
 IsServed (Other command payload) = Unit {0}
 
 abbrev AllServed : List Msg → Type 0
@@ -70,6 +92,15 @@ IsModest Verack = Unit {0}
 IsModest (Ping number) = Unit {0}
 IsModest (Pong number) = Unit {0}
 IsModest (Headers hs) = Unit {0}
+IsModest (GetData entries) = ⊥
+IsModest (Inv entries) = Unit {0}
+IsModest (Block block) = Unit {0}
+IsModest (GetCfilters filter start stop) = ⊥
+IsModest (Cfilter filter block bytes) = Unit {0}
+IsModest (GetCfheaders filter start stop) = ⊥
+IsModest (Cfheaders filter stop previous hashes) = Unit {0}
+IsModest (GetCfcheckpt filter stop) = ⊥
+IsModest (Cfcheckpt filter stop headers) = Unit {0}
 IsModest (Other command payload) = Unit {0}
 
 abbrev AllModest : List Msg → Type 0
@@ -90,6 +121,13 @@ pub no_chain : (chain : Chain) → IsWithinLimit chain → chain ≡ []
 no_chain [] low = refl
 no_chain (h ∷ below) low = absurd (omega (arith, low, height_limit_is))
 
+length_headers : (blocks : List ChainBlock) → length (headers_of blocks) ≡ length blocks
+length_headers blocks = length-reverse (map (λ (b : ChainBlock). b.header) blocks) ∙ length-map blocks (λ (b : ChainBlock). b.header)
+
+no_blocks : (blocks : List ChainBlock) → IsWithinLimit (headers_of blocks) → blocks ≡ []
+no_blocks [] low = refl
+no_blocks (b ∷ bs) low = absurd (omega (arith, low, height_limit_is, length_headers (b ∷ bs)))
+
 refused_own : (a : Accepted) → IsRefusal a → longer_of a [] ≡ []
 refused_own (Longer next) refusal = absurd refusal
 refused_own NoLonger refusal = refl
@@ -105,6 +143,15 @@ own_after_none Verack = refl
 own_after_none (Ping number) = refl
 own_after_none (Pong number) = refl
 own_after_none (GetHeaders version locator stop) = refl
+own_after_none (GetData entries) = refl
+own_after_none (Inv entries) = refl
+own_after_none (Block block) = refl
+own_after_none (GetCfilters filter start stop) = refl
+own_after_none (Cfilter filter block bytes) = refl
+own_after_none (GetCfheaders filter start stop) = refl
+own_after_none (Cfheaders filter stop previous hashes) = refl
+own_after_none (GetCfcheckpt filter stop) = refl
+own_after_none (Cfcheckpt filter stop headers) = refl
 own_after_none (Other command payload) = refl
 
 own_step : (m : Msg) (b : Bool) (own : Chain) → own ≡ [] → (if b then own_after m own else own) ≡ []
@@ -128,11 +175,14 @@ take_none : (k : ℕ) → take k no_headers ≡ []
 take_none zero = refl
 take_none (suc k) = refl
 
-above_none : (k : ℕ) → above k no_headers ≡ []
-above_none k = ap reverse (take_none (0 - k))
+drop_none : (k : ℕ) → drop k no_headers ≡ []
+drop_none zero = refl
+drop_none (suc k) = refl
 
 pub none_next : (locator : List Hash32) (stop : Hash32) → next_headers locator stop [] ≡ []
-none_next locator stop = ap (λ (hs : List Header). until stop (take 2000 hs)) (above_none (length (first_known locator []))) ∙ ap (until stop) (take_none 2000)
+none_next locator stop =
+    ap (take (most_headers (fork_height locator []) (block_height stop []))) (drop_none (fork_height locator []))
+    ∙ take_none (most_headers (fork_height locator []) (block_height stop []))
 
 served_both : (ms ns : List Msg) → AllServed ms → AllServed ns → AllServed (ms ++ ns)
 served_both [] ns a b = b
@@ -146,6 +196,15 @@ reply_served Verack modest = tt
 reply_served (Ping number) modest = (tt, tt)
 reply_served (Pong number) modest = tt
 reply_served (Headers hs) modest = tt
+reply_served (GetData entries) modest = absurd modest
+reply_served (Inv entries) modest = tt
+reply_served (Block block) modest = tt
+reply_served (GetCfilters filter start stop) modest = absurd modest
+reply_served (Cfilter filter block bytes) modest = tt
+reply_served (GetCfheaders filter start stop) modest = absurd modest
+reply_served (Cfheaders filter stop previous hashes) modest = tt
+reply_served (GetCfcheckpt filter stop) modest = absurd modest
+reply_served (Cfcheckpt filter stop headers) modest = tt
 reply_served (Other command payload) modest = tt
 
 replies_served : (seen : Bool) (m : Msg) → IsModest m → AllServed (replies_to (pos 0) 0 [] seen m)
@@ -156,6 +215,15 @@ replies_served false Verack modest = tt
 replies_served false (Ping number) modest = tt
 replies_served false (Pong number) modest = tt
 replies_served false (Headers hs) modest = tt
+replies_served false (GetData entries) modest = tt
+replies_served false (Inv entries) modest = tt
+replies_served false (Block block) modest = tt
+replies_served false (GetCfilters filter start stop) modest = tt
+replies_served false (Cfilter filter block bytes) modest = tt
+replies_served false (GetCfheaders filter start stop) modest = tt
+replies_served false (Cfheaders filter stop previous hashes) modest = tt
+replies_served false (GetCfcheckpt filter stop) modest = tt
+replies_served false (Cfcheckpt filter stop headers) modest = tt
 replies_served false (Other command payload) modest = tt
 
 all_served : (seen : Bool) (ms : List Msg) → AllModest ms → AllServed (replies (pos 0) 0 [] seen ms)
@@ -170,6 +238,15 @@ answer_plain Verack n is served = tt
 answer_plain (Ping number) n is served = tt
 answer_plain (Pong number) n is served = tt
 answer_plain (GetHeaders version locator stop) n is served = tt
+answer_plain (GetData entries) n is served = tt
+answer_plain (Inv entries) n is served = tt
+answer_plain (Block block) n is served = tt
+answer_plain (GetCfilters filter start stop) n is served = tt
+answer_plain (Cfilter filter block bytes) n is served = tt
+answer_plain (GetCfheaders filter start stop) n is served = tt
+answer_plain (Cfheaders filter stop previous hashes) n is served = tt
+answer_plain (GetCfcheckpt filter stop) n is served = tt
+answer_plain (Cfcheckpt filter stop headers) n is served = tt
 answer_plain (Other command payload) n is served = tt
 
 leaves_plain : (ms ns rest : List Msg) → Leaves ms ns rest → AllServed ns → AllPlain ms
@@ -186,6 +263,15 @@ unplain (Headers hs ∷ ms) h = (h.0, unplain ms h.1)
 unplain (Ping number ∷ ms) h = (tt, unplain ms h)
 unplain (Pong number ∷ ms) h = (tt, unplain ms h)
 unplain (GetHeaders version locator stop ∷ ms) h = (tt, unplain ms h)
+unplain (GetData entries ∷ ms) h = (tt, unplain ms h)
+unplain (Inv entries ∷ ms) h = (tt, unplain ms h)
+unplain (Block block ∷ ms) h = (h.0, unplain ms h.1)
+unplain (GetCfilters filter start stop ∷ ms) h = (tt, unplain ms h)
+unplain (Cfilter filter block bytes ∷ ms) h = (h.0, unplain ms h.1)
+unplain (GetCfheaders filter start stop ∷ ms) h = (tt, unplain ms h)
+unplain (Cfheaders filter stop previous hashes ∷ ms) h = (h.0, unplain ms h.1)
+unplain (GetCfcheckpt filter stop ∷ ms) h = (tt, unplain ms h)
+unplain (Cfcheckpt filter stop headers ∷ ms) h = (tt, unplain ms h)
 unplain (Other command payload ∷ ms) h = (tt, unplain ms h)
 
 plain_left : (xs ys : List Msg) → AllPlain (xs ++ ys) → AllPlain xs
@@ -230,6 +316,15 @@ plain_fault Verack t h = refl
 plain_fault (Ping number) t h = refl
 plain_fault (Pong number) t h = refl
 plain_fault (GetHeaders version locator stop) t h = refl
+plain_fault (GetData entries) t h = refl
+plain_fault (Inv entries) t h = refl
+plain_fault (Block block) t h = refl
+plain_fault (GetCfilters filter start stop) t h = refl
+plain_fault (Cfilter filter block bytes) t h = refl
+plain_fault (GetCfheaders filter start stop) t h = refl
+plain_fault (Cfheaders filter stop previous hashes) t h = refl
+plain_fault (GetCfcheckpt filter stop) t h = refl
+plain_fault (Cfcheckpt filter stop headers) t h = refl
 plain_fault (Other command payload) t h = refl
 
 first_none : (a b : Option Cause) → a ≡ None → b ≡ None → first a b ≡ None
@@ -254,6 +349,15 @@ may_modest t Verack may = tt
 may_modest t (Ping number) may = tt
 may_modest t (Pong number) may = tt
 may_modest t (Headers hs) may = tt
+may_modest t (GetData entries) may = absurd may
+may_modest t (Inv entries) may = tt
+may_modest t (Block block) may = tt
+may_modest t (GetCfilters filter start stop) may = absurd may
+may_modest t (Cfilter filter block bytes) may = tt
+may_modest t (GetCfheaders filter start stop) may = absurd may
+may_modest t (Cfheaders filter stop previous hashes) may = tt
+may_modest t (GetCfcheckpt filter stop) may = absurd may
+may_modest t (Cfcheckpt filter stop headers) may = tt
 may_modest t (Other command payload) may = tt
 
 hears_modest : (fs : List Frame) (t : Trail) → IsModestTrail t → IsModestTrail (hears fs t)
@@ -370,6 +474,15 @@ good_asked Verack t good = record { on = good.on; clean = good.clean; young = go
 good_asked (Ping number) t good = record { on = good.on; clean = good.clean; young = good.young; whole = good.whole }
 good_asked (Pong number) t good = record { on = good.on; clean = good.clean; young = good.young; whole = good.whole }
 good_asked (Headers hs) t good = record { on = good.on; clean = good.clean; young = good.young; whole = good.whole }
+good_asked (GetData entries) t good = record { on = good.on; clean = good.clean; young = good.young; whole = good.whole }
+good_asked (Inv entries) t good = record { on = good.on; clean = good.clean; young = good.young; whole = good.whole }
+good_asked (Block block) t good = record { on = good.on; clean = good.clean; young = good.young; whole = good.whole }
+good_asked (GetCfilters filter start stop) t good = record { on = good.on; clean = good.clean; young = good.young; whole = good.whole }
+good_asked (Cfilter filter block bytes) t good = record { on = good.on; clean = good.clean; young = good.young; whole = good.whole }
+good_asked (GetCfheaders filter start stop) t good = record { on = good.on; clean = good.clean; young = good.young; whole = good.whole }
+good_asked (Cfheaders filter stop previous hashes) t good = record { on = good.on; clean = good.clean; young = good.young; whole = good.whole }
+good_asked (GetCfcheckpt filter stop) t good = record { on = good.on; clean = good.clean; young = good.young; whole = good.whole }
+good_asked (Cfcheckpt filter stop headers) t good = record { on = good.on; clean = good.clean; young = good.young; whole = good.whole }
 good_asked (Other command payload) t good = record { on = good.on; clean = good.clean; young = good.young; whole = good.whole }
 
 abbrev IsGoodPart : Part → Type 0
@@ -419,8 +532,8 @@ never_closed (Sent q bytes ∷ log) p right honest = never_closed log p right.1 
 never_closed (SendFailed q ∷ log) p right honest = never_closed log p right honest.3
 never_closed (Took d ∷ log) p right honest = never_closed log p right.1 honest.3
 
-honest_over : (log : Log) (p : ℕ) (chain : Chain) → IsHonest log p chain → IsHonestOver log p []
-honest_over log p chain peer = subst (λ (c : Chain). IsHonestOver log p c) (no_chain chain peer.low) peer.honest
+honest_over : (log : Log) (p : ℕ) (blocks : List ChainBlock) → IsHonest log p blocks → IsHonestOver log p []
+honest_over log p blocks peer = subst (λ (bs : List ChainBlock). IsHonestOver log p bs) (no_blocks blocks peer.low) peer.honest
 
 -- each best chain is genesis's
 best_none : (log : Log) (chain : Chain) → IsBest log chain → chain ≡ []
@@ -429,12 +542,12 @@ best_none log chain best = elim best.shown [ inl some ↦ sym some.1.1 ∙ no_ow
 pub sync_theorem_of : (end : End) (height : ℕ) (hash : Hash32) (lines : List TraceLine) (called : List (List ℕ)) (log : Log)
     → Followed end height hash lines called log → SyncTheorem end height hash log
 sync_theorem_of end height hash lines called log followed = record {
-  never = λ p chain peer. never_closed log p followed.rightly (honest_over log p chain peer);
-  somebody = λ p chain peer is.
-      let on = (honest_good log p followed.rightly (honest_over log p chain peer)).on peer.dialled in
+  never = λ p blocks peer. never_closed log p followed.rightly (honest_over log p blocks peer);
+  somebody = λ p blocks peer is.
+      let on = (honest_good log p followed.rightly (honest_over log p blocks peer)).on peer.dialled in
       let off = subst (λ (e : End). IsEnd e log) is followed.why in
       both_ways (connected (trail log p)) (off p) on;
-  exact = λ p chain peer none is.
-      let same : followed.tip.chain ≡ chain = best_none log followed.tip.chain followed.tip.best ∙ sym (no_chain chain peer.low) in
-      (followed.tip.height_is ∙ ap length same, followed.tip.hash_is ∙ ap tip_hash same);
+  exact = λ p blocks peer none is.
+      let same : followed.tip.chain ≡ headers_of blocks = best_none log followed.tip.chain followed.tip.best ∙ sym (no_chain (headers_of blocks) peer.low) in
+      (followed.tip.height_is ∙ ap length same ∙ length_headers blocks, followed.tip.hash_is ∙ ap tip_hash same);
 }

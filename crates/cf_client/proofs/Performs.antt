@@ -8,7 +8,7 @@ use Rattle.std.proofs.lemmas.List.{reverse-append, get_or-set_same, get_or-set_o
 use Rattle.std.proofs.Math.Seq.{drop-cons}
 use Rattle.cf_bytes.specs.declared.peer.PeerNo.{PeerNo}
 use Rattle.cf_msg.specs.declared.msg.Msg.{Msg}
-use Rattle.cf_msg.specs.declared.msg.Msg.TheVariants.{Version, Verack, Ping, Pong, GetHeaders, Headers, Other}
+use Rattle.cf_msg.specs.declared.msg.Msg.TheVariants.{Version, Verack, Ping, Pong, GetHeaders, Headers, GetData, Inv, Block, GetCfilters, Cfilter, GetCfheaders, Cfheaders, GetCfcheckpt, Cfcheckpt, Other}
 use Rattle.cf_msg.specs.Message.{command_of}
 use Rattle.cf_peer.specs.declared.act.Act.{Act}
 use Rattle.cf_peer.specs.declared.act.Act.TheVariants.{Send, Close}
@@ -103,6 +103,15 @@ asked_on t (Ping n) h = absurd h
 asked_on t (Pong n) h = h.0
 asked_on t (GetHeaders version locator stop) h = h.0.on
 asked_on t (Headers hs) h = absurd h
+asked_on t (GetData entries) h = absurd h
+asked_on t (Inv entries) h = absurd h
+asked_on t (Block block) h = absurd h
+asked_on t (GetCfilters filter start stop) h = absurd h
+asked_on t (Cfilter filter block bytes) h = absurd h
+asked_on t (GetCfheaders filter start stop) h = absurd h
+asked_on t (Cfheaders filter stop previous hashes) h = absurd h
+asked_on t (GetCfcheckpt filter stop) h = absurd h
+asked_on t (Cfcheckpt filter stop headers) h = absurd h
 asked_on t (Other command payload) h = absurd h
 
 pub skipped : (progress : Progress) (called : List (List ℕ)) (planned : Log) (t : Told) (p : ℕ) (e : Event)

@@ -9,7 +9,7 @@ use Rattle.cf_bytes.specs.declared.peer.PeerNo.{PeerNo}
 use Rattle.cf_bytes.specs.declared.hash.Hash32.{Hash32}
 use Rattle.cf_headers.specs.Chain.{Chain, locator_of}
 use Rattle.cf_msg.specs.declared.msg.Msg.{Msg}
-use Rattle.cf_msg.specs.declared.msg.Msg.TheVariants.{Version, Verack, Ping, Pong, GetHeaders, Headers, Other}
+use Rattle.cf_msg.specs.declared.msg.Msg.TheVariants.{Version, Verack, Ping, Pong, GetHeaders, Headers, GetData, Inv, Block, GetCfilters, Cfilter, GetCfheaders, Cfheaders, GetCfcheckpt, Cfcheckpt, Other}
 use Rattle.cf_peer.specs.declared.act.Act.{Act}
 use Rattle.cf_peer.specs.declared.act.Act.TheVariants.{Send, Close}
 use Rattle.cf_peer.specs.declared.event.Event.{Event}
@@ -154,6 +154,15 @@ question_may peer t Verack h is asks = absurd asks
 question_may peer t (Ping number) h is asks = absurd asks
 question_may peer t (Pong number) h is asks = absurd asks
 question_may peer t (Headers hs) h is asks = absurd asks
+question_may peer t (GetData entries) h is asks = absurd asks
+question_may peer t (Inv entries) h is asks = absurd asks
+question_may peer t (Block block) h is asks = absurd asks
+question_may peer t (GetCfilters filter start stop) h is asks = absurd asks
+question_may peer t (Cfilter filter block bytes) h is asks = absurd asks
+question_may peer t (GetCfheaders filter start stop) h is asks = absurd asks
+question_may peer t (Cfheaders filter stop previous hashes) h is asks = absurd asks
+question_may peer t (GetCfcheckpt filter stop) h is asks = absurd asks
+question_may peer t (Cfcheckpt filter stop headers) h is asks = absurd asks
 question_may peer t (Other command payload) h is asks = absurd asks
 
 question_keeps : (peer : Peer) (part : Part) (m : Msg) → Keeps peer part → wants peer ≡ true → AsksAbove [] m → Keeps (asked_peer peer) (with_item (Asked m) part)
@@ -181,6 +190,15 @@ question_keeps peer part Verack keeps is asks = absurd asks
 question_keeps peer part (Ping number) keeps is asks = absurd asks
 question_keeps peer part (Pong number) keeps is asks = absurd asks
 question_keeps peer part (Headers hs) keeps is asks = absurd asks
+question_keeps peer part (GetData entries) keeps is asks = absurd asks
+question_keeps peer part (Inv entries) keeps is asks = absurd asks
+question_keeps peer part (Block block) keeps is asks = absurd asks
+question_keeps peer part (GetCfilters filter start stop) keeps is asks = absurd asks
+question_keeps peer part (Cfilter filter block bytes) keeps is asks = absurd asks
+question_keeps peer part (GetCfheaders filter start stop) keeps is asks = absurd asks
+question_keeps peer part (Cfheaders filter stop previous hashes) keeps is asks = absurd asks
+question_keeps peer part (GetCfcheckpt filter stop) keeps is asks = absurd asks
+question_keeps peer part (Cfcheckpt filter stop headers) keeps is asks = absurd asks
 question_keeps peer part (Other command payload) keeps is asks = absurd asks
 
 asked_goes : (places : List Place) (acts : List Act) (log : Log) (i : ℕ) (peer : Peer) (m : Msg)
@@ -241,6 +259,15 @@ greeting_may t (Ping number) ours = absurd ours
 greeting_may t (Pong number) ours = absurd ours
 greeting_may t (GetHeaders version locator stop) ours = absurd ours
 greeting_may t (Headers hs) ours = absurd ours
+greeting_may t (GetData entries) ours = absurd ours
+greeting_may t (Inv entries) ours = absurd ours
+greeting_may t (Block block) ours = absurd ours
+greeting_may t (GetCfilters filter start stop) ours = absurd ours
+greeting_may t (Cfilter filter block bytes) ours = absurd ours
+greeting_may t (GetCfheaders filter start stop) ours = absurd ours
+greeting_may t (Cfheaders filter stop previous hashes) ours = absurd ours
+greeting_may t (GetCfcheckpt filter stop) ours = absurd ours
+greeting_may t (Cfcheckpt filter stop headers) ours = absurd ours
 greeting_may t (Other command payload) ours = absurd ours
 
 only_greeted : (t : Trail) (m n : Msg) → is_getheaders n ≡ true → is_getheaders m ≡ false → WasAsked (Asked m ∷ Called ∷ t) n → ⊥
@@ -269,6 +296,15 @@ greeting_keeps part (Ping number) ours = absurd ours
 greeting_keeps part (Pong number) ours = absurd ours
 greeting_keeps part (GetHeaders version locator stop) ours = absurd ours
 greeting_keeps part (Headers hs) ours = absurd ours
+greeting_keeps part (GetData entries) ours = absurd ours
+greeting_keeps part (Inv entries) ours = absurd ours
+greeting_keeps part (Block block) ours = absurd ours
+greeting_keeps part (GetCfilters filter start stop) ours = absurd ours
+greeting_keeps part (Cfilter filter block bytes) ours = absurd ours
+greeting_keeps part (GetCfheaders filter start stop) ours = absurd ours
+greeting_keeps part (Cfheaders filter stop previous hashes) ours = absurd ours
+greeting_keeps part (GetCfcheckpt filter stop) ours = absurd ours
+greeting_keeps part (Cfcheckpt filter stop headers) ours = absurd ours
 greeting_keeps part (Other command payload) ours = absurd ours
 
 -- the parts of a log with one message more

@@ -9,7 +9,7 @@ use Rattle.cf_frame.specs.declared.frame.Frame.{Frame}
 use Rattle.cf_frame.specs.declared.frame.FrameFault.{FrameFault}
 use Rattle.cf_frame.specs.Stream.{StreamRead, read_stream}
 use Rattle.cf_msg.specs.declared.msg.Msg.{Msg}
-use Rattle.cf_msg.specs.declared.msg.Msg.TheVariants.{Version, Verack, Ping, Pong, GetHeaders, Headers, Other}
+use Rattle.cf_msg.specs.declared.msg.Msg.TheVariants.{Version, Verack, Ping, Pong, GetHeaders, Headers, GetData, Inv, Block, GetCfilters, Cfilter, GetCfheaders, Cfheaders, GetCfcheckpt, Cfcheckpt, Other}
 use Rattle.cf_msg.specs.Reading.{message_of}
 use Rattle.cf_peer.specs.declared.act.Act.{Act}
 use Rattle.cf_peer.specs.declared.act.Act.TheVariants.{Send, Close}
@@ -116,6 +116,15 @@ reply_may (Version version services time to from nonce agent height relay) t is 
 reply_may (Ping number) t is on over = absurd is
 reply_may (GetHeaders version locator stop) t is on over = absurd is
 reply_may (Headers hs) t is on over = absurd is
+reply_may (GetData entries) t is on over = absurd is
+reply_may (Inv entries) t is on over = absurd is
+reply_may (Block block) t is on over = absurd is
+reply_may (GetCfilters filter start stop) t is on over = absurd is
+reply_may (Cfilter filter block bytes) t is on over = absurd is
+reply_may (GetCfheaders filter start stop) t is on over = absurd is
+reply_may (Cfheaders filter stop previous hashes) t is on over = absurd is
+reply_may (GetCfcheckpt filter stop) t is on over = absurd is
+reply_may (Cfcheckpt filter stop headers) t is on over = absurd is
 reply_may (Other command payload) t is on over = absurd is
 
 replies_done : (p : PeerNo) (rs : List Msg) (log : Log) → p.0 ≤ (tally_of log).dials → AllByRecursion IsReply rs → AreSendable rs
@@ -171,6 +180,15 @@ reply_holds (Version version services time to from nonce agent height relay) pee
 reply_holds (Ping number) peer t is h = absurd is
 reply_holds (GetHeaders version locator stop) peer t is h = absurd is
 reply_holds (Headers hs) peer t is h = absurd is
+reply_holds (GetData entries) peer t is h = absurd is
+reply_holds (Inv entries) peer t is h = absurd is
+reply_holds (Block block) peer t is h = absurd is
+reply_holds (GetCfilters filter start stop) peer t is h = absurd is
+reply_holds (Cfilter filter block bytes) peer t is h = absurd is
+reply_holds (GetCfheaders filter start stop) peer t is h = absurd is
+reply_holds (Cfheaders filter stop previous hashes) peer t is h = absurd is
+reply_holds (GetCfcheckpt filter stop) peer t is h = absurd is
+reply_holds (Cfcheckpt filter stop headers) peer t is h = absurd is
 reply_holds (Other command payload) peer t is h = absurd is
 
 as_itself : (r : Msg) → IsReply r → as_reply r ≡ r ∷ []
@@ -180,6 +198,15 @@ as_itself (Version version services time to from nonce agent height relay) is = 
 as_itself (Ping number) is = absurd is
 as_itself (GetHeaders version locator stop) is = absurd is
 as_itself (Headers hs) is = absurd is
+as_itself (GetData entries) is = absurd is
+as_itself (Inv entries) is = absurd is
+as_itself (Block block) is = absurd is
+as_itself (GetCfilters filter start stop) is = absurd is
+as_itself (Cfilter filter block bytes) is = absurd is
+as_itself (GetCfheaders filter start stop) is = absurd is
+as_itself (Cfheaders filter stop previous hashes) is = absurd is
+as_itself (GetCfcheckpt filter stop) is = absurd is
+as_itself (Cfcheckpt filter stop headers) is = absurd is
 as_itself (Other command payload) is = absurd is
 
 unchanged : (rs : List Msg) (part : Part) → AllByRecursion IsReply rs → Unchanged rs part

@@ -1,10 +1,12 @@
 -- A peer that answers as the serving machine of a chain does, and what it is promised.
 use Rattle.std.specs.Prelude.{◌≡◌, ◌≢◌, ℕ, ◌≤◌, ◌<◌, pos, Bool, true, false, List, [], ◌∷◌, ◌++◌, length}
 use Rattle.cf_bytes.specs.declared.hash.Hash32.{Hash32}
+use Rattle.cf_block.specs.declared.tx.Block.{Block}
+use Rattle.cf_chain.specs.Good.{IsGoodChain, headers_of}
 use Rattle.cf_chain.specs.Serve.{is_version, replies}
-use Rattle.cf_headers.specs.Chain.{Chain, tip_hash, IsValidChain, IsWithinLimit}
+use Rattle.cf_headers.specs.Chain.{Chain, tip_hash, IsWithinLimit}
 use Rattle.cf_msg.specs.declared.msg.Msg.{Msg}
-use Rattle.cf_msg.specs.declared.msg.Msg.TheVariants.{Version, Verack, Headers}
+use Rattle.cf_msg.specs.declared.msg.Msg.TheVariants.{Version, Verack, Headers, Block as BlockMessage, Cfilter, Cfheaders}
 use Rattle.cf_peer.specs.declared.event.Delivery.TheVariants.{Got, Gone, Tick, Ended}
 use Rattle.cf_peer.specs.declared.event.Event.{Event}
 use Rattle.cf_peer.specs.declared.event.Event.TheVariants.{Dialled, NotDialled, Sent, SendFailed, Closed, Took}
@@ -38,6 +40,9 @@ abbrev pub is_chatter : Msg → Bool
 is_chatter (Version version services time to from nonce agent height relay) = false
 is_chatter Verack = false
 is_chatter (Headers hs) = false
+is_chatter (BlockMessage b) = false
+is_chatter (Cfilter filter block bytes) = false
+is_chatter (Cfheaders filter stop previous hashes) = false
 is_chatter m = true
 
 abbrev pub with_message : Bool → Msg → List Msg → List Msg
@@ -74,9 +79,9 @@ IsSpelled (Passed s ∷ t) = IsSpelled t
 IsSpelled (Lost w ∷ t) = IsSpelled t
 
 -- what it has said without chatter is a prefix of the machine's answers to what it was asked
-pub record AnswersAs (chain : Chain) (t : Trail) : Type 0 where
+pub record AnswersAs (blocks : List Block) (t : Trail) : Type 0 where
   pub spelled : IsSpelled t
-  pub follows : IsPrefixOf (plain (said t)) (replies (pos 0) 0 chain false (asked t))
+  pub follows : IsPrefixOf (plain (said t)) (replies (pos 0) 0 blocks false (asked t))
 
 -- no tick finds a request open to p that is then 60 seconds old or more
 abbrev pub InTime : Event → Log → ℕ → Type 0
@@ -103,9 +108,9 @@ Stays (Sent q bytes) p = Unit {0}
 Stays (Closed q) p = Unit {0}
 
 -- at every moment of the log p has answered as the machine of this chain does, and in time
-abbrev pub IsHonestOver : Log → ℕ → Chain → Type 0
-IsHonestOver [] p chain = Unit {0}
-IsHonestOver (e ∷ log) p chain = AnswersAs chain (trail (e ∷ log) p) × InTime e log p × Stays e p × IsHonestOver log p chain
+abbrev pub IsHonestOver : Log → ℕ → List Block → Type 0
+IsHonestOver [] p blocks = Unit {0}
+IsHonestOver (e ∷ log) p blocks = AnswersAs blocks (trail (e ∷ log) p) × InTime e log p × Stays e p × IsHonestOver log p blocks
 
 -- it was dialled
 abbrev pub was_called : Trail → Bool
@@ -117,12 +122,12 @@ was_called (Asked m ∷ t) = was_called t
 was_called (Passed s ∷ t) = was_called t
 was_called (Lost w ∷ t) = was_called t
 
--- an honest peer on a chain
-pub record IsHonest (log : Log) (p : ℕ) (chain : Chain) : Type 0 where
-  pub valid : IsValidChain chain
-  pub low : IsWithinLimit chain
+-- an honest peer on a chain, which is its blocks above genesis, the lowest first
+pub record IsHonest (log : Log) (p : ℕ) (blocks : List Block) : Type 0 where
+  pub good : IsGoodChain blocks
+  pub low : IsWithinLimit (headers_of blocks)
   pub dialled : was_called (trail log p) ≡ true
-  pub honest : IsHonestOver log p chain
+  pub honest : IsHonestOver log p blocks
 
 -- no connected peer has shown another chain that is as long
 abbrev pub ShowsNoOther : Log → Chain → Type 0
@@ -141,6 +146,6 @@ IsNeverClosed (Took d ∷ log) p = IsNeverClosed log p
 -- The sync theorem: where p answers as the machine of a chain does, p is never closed, and the run doesn't end for want of peers; and where
 -- no connected peer has shown another chain as long, a run that ends with nothing open has that chain's tip.
 pub record SyncTheorem (end : End) (height : ℕ) (hash : Hash32) (log : Log) : Type 0 where
-  pub never : (p : ℕ) (chain : Chain) → IsHonest log p chain → IsNeverClosed log p
-  pub somebody : (p : ℕ) (chain : Chain) → IsHonest log p chain → end ≢ NoPeers
-  pub exact : (p : ℕ) (chain : Chain) → IsHonest log p chain → ShowsNoOther log chain → end ≡ Synced → (height ≡ length chain) × (hash.0 ≡ tip_hash chain)
+  pub never : (p : ℕ) (blocks : List Block) → IsHonest log p blocks → IsNeverClosed log p
+  pub somebody : (p : ℕ) (blocks : List Block) → IsHonest log p blocks → end ≢ NoPeers
+  pub exact : (p : ℕ) (blocks : List Block) → IsHonest log p blocks → ShowsNoOther log (headers_of blocks) → end ≡ Synced → (height ≡ length blocks) × (hash.0 ≡ tip_hash (headers_of blocks))
