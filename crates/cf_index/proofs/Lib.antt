@@ -8,3 +8,6 @@ pub mod RecordLaws
 pub mod Steps
 pub mod Bounds
 pub mod Walking
+pub mod Maps
+pub mod Lowest
+pub mod Indexes

@@ -1,6 +1,5 @@
 -- A good chain walked again, for its filters.
-use Rattle.std.proofs.Common.{◌≡◌, ℕ, suc, ◌+◌, ◌<◌, List, [], ◌∷◌, ◌++◌, map, length, get_or, drop, fold, Ok, Err, refl, sym, ◌∙◌, ap, subst, add-one}
-use Rattle.std.specs.Prelude.{slice_get}
+use Rattle.std.proofs.Common.{◌≡◌, ℕ, ◌+◌, ◌<◌, List, [], ◌∷◌, ◌++◌, map, length, get_or, drop, fold, Ok, Err, refl, sym, ◌∙◌, ap, subst, add-one}
 use Rattle.std.proofs.Math.Seq.{drop-cons}
 use Rattle.std.proofs.lemmas.List.{append_assoc}
 use Rattle.cf_bytes.specs.declared.memory.Refused.{Refused}
@@ -10,7 +9,7 @@ use Rattle.cf_chain.specs.Coins.{CoinMap, after_tx, after_block}
 use Rattle.cf_chain.specs.Filters.{Filtered, prevouts, filtered, filtered_on}
 use Rattle.cf_chain.specs.Good.{IsGoodBlock, AreGoodBlocks}
 use Rattle.cf_index.specs.declared.cause.CoinFault.{CoinFault}
-use Rattle.cf_index.specs.declared.filters.BlockFilter.{BlockFilter}
+use Rattle.cf_index.specs.declared.block_filter.BlockFilter.{BlockFilter}
 use Rattle.cf_index.specs.Filtering.{shown}
 use Rattle.cf_index.specs.Spending.{spend_txs, Refuses}
 use Rattle.cf_index.proofs.Steps.{passes}
@@ -29,15 +28,6 @@ block_more blocks i b lt is =
     step ∙ ap (λ (x : Block). x ∷ drop (i + 1) blocks) (sym is)
 
 -- one block more was walked
-pub walk_filter : (coins new : CoinMap) (latest next : Filtered) (blocks rest : List Block) (b : Block) (left less : ℕ)
-    → left ≡ suc less → blocks ≡ b ∷ rest → new ≡ after_block coins b → next ≡ filtered (prevouts coins b) latest.header b
-    → slice_get (latest ∷ filtered_on coins latest.header blocks) left ≡ slice_get (next ∷ filtered_on new next.header rest) less
-walk_filter coins new latest next blocks rest b left less more is coined told =
-    ap (λ (n : ℕ). slice_get (latest ∷ filtered_on coins latest.header blocks) n) more
-    ∙ ap (λ (bs : List Block). slice_get (filtered_on coins latest.header bs) less) is
-    ∙ ap (λ (n : Filtered). slice_get (n ∷ filtered_on (after_block coins b) n.header rest) less) (sym told)
-    ∙ ap (λ (m : CoinMap). slice_get (next ∷ filtered_on m next.header rest) less) (sym coined)
-
 pub walk_good : (coins new : CoinMap) (blocks rest : List Block) (b : Block) → blocks ≡ b ∷ rest → new ≡ after_block coins b → AreGoodBlocks coins blocks → AreGoodBlocks new rest
 walk_good coins new blocks rest b is coined good =
     let split : IsGoodBlock coins b × AreGoodBlocks (after_block coins b) rest = subst (AreGoodBlocks coins) is good in

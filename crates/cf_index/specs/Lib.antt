@@ -3,3 +3,6 @@ pub mod Records
 pub mod Files
 pub mod Progress
 pub mod Filtering
+pub mod HeightMap
+pub mod Indexed
+pub mod Loading

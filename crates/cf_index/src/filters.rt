@@ -1,12 +1,13 @@
 //! The basic filters of a chain's blocks.
-ghost use Rattle.std.specs.Prelude.{◌≡◌, ◌≤◌, ◌+◌, [], map, replicate, length, flat_map, IfOk, OnOk, Some};
+ghost use Rattle.std.specs.Prelude.{◌≡◌, ◌≤◌, ◌+◌, [], map, replicate, length, flat_map, IfOk, OnOk};
 ghost use Rattle.cf_block.specs.Genesis.{first_block};
 ghost use Rattle.cf_chain.specs.Coins.{after_block};
-ghost use Rattle.cf_chain.specs.Filters.{prevouts, filtered, first_filtered, filters_of, filter_at as filter_in};
+ghost use Rattle.cf_chain.specs.Filters.{prevouts, filtered, first_filtered, filters_of};
 ghost use Rattle.cf_chain.specs.Good.{IsGoodChain, IsGoodBlock};
 ghost use Rattle.cf_filter.specs.Items.{paid_scripts};
 ghost use Rattle.cf_index.specs.Filtering.{shown};
 
+use crate::block_filter::BlockFilter;
 use crate::chain::Blocks;
 use crate::coins::Coins;
 use crate::spend::{Spent, spend_block};
@@ -14,14 +15,6 @@ use cf_block::{Block, Listed, Script, block_hash, genesis};
 use cf_bytes::{Hash32, NoMemory, Refused};
 use cf_filter::{build, filter_hash, filter_header, items};
 use std::alloc::Global;
-
-/// A block's hash, its basic filter, and the filter's header, which stands for all filters up to it (BIP 157, "Filter Headers").
-#[derive(Drop, Debug)]
-pub struct BlockFilter {
-    pub block: Hash32,
-    pub filter: Listed<u8>,
-    pub header: Hash32,
-}
 
 // The scripts of outputs, in their order.
 fn scripts_of(alloc: Global, spent: &Spent) -> Result<Vec<Script>, NoMemory>
@@ -52,6 +45,7 @@ fn filter_block(
     Ok(BlockFilter {
         block: name,
         filter: Listed::from_vec(filter),
+        hash,
         header: filter_header(&hash, previous),
     })
 }
@@ -83,22 +77,6 @@ fn next_filter(
         Err(Refused::NoMemory) => Err(NoMemory),
         Err(Refused::No(_)) => unreachable!(),
     }
-}
-
-/// The filter of the block at a height of a good chain, which is at least so high. It walks the chain from genesis on, since a filter needs the
-/// outputs that its block spends, and its header needs the one before.
-pub fn filter_at(alloc: Global, blocks: &Blocks, height: u32) -> Result<BlockFilter, NoMemory>
-    requires good { IsGoodChain blocks.now }
-    requires stands { height ≤ length blocks.now }
-    ensures { IfOk result (λ f. filter_in blocks.now height ≡ Some (shown f)) }
-{
-    let blocks = blocks.as_slice();
-    let mut coins = Coins::new(alloc);
-    let mut latest = first_filter(alloc)?;
-    for i in 0..height as usize {
-        latest = next_filter(alloc, &mut coins, &blocks[i], &latest.header)?;
-    }
-    Ok(latest)
 }
 
 /// The filters of genesis and of each block of a good chain, in the order of their heights, from 0.

@@ -1,7 +1,7 @@
 use Rattle.std.proofs.Common.{◌+◌, ◌<◌, ◌++◌, List, map, length, get_or, drop, ◌∙◌, ap, arith}
 use Rattle.cf_block.specs.declared.tx.Block.{Block}
 use Rattle.cf_chain.specs.Filters.{filtered_on}
-use Rattle.cf_index.specs.declared.filters.BlockFilter.{BlockFilter}
+use Rattle.cf_index.specs.declared.block_filter.BlockFilter.{BlockFilter}
 use Rattle.cf_index.specs.Filtering.{shown}
 use Rattle.cf_index.proofs.Walking.{block_more, walk_all, walk_good}
 use Rattle.cf_index.proofs.filters.all_filters.Goals as goal

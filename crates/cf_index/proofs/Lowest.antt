@@ -1,0 +1,119 @@
+-- The height of each hash is the lowest.
+use Rattle.std.proofs.Common.{◌≡◌, ℕ, suc, ◌+◌, ◌<◌, Bool, true, false, cond, List, [], ◌∷◌, ◌++◌, map, length, take, get_or, refl, sym, ◌∙◌, ap, Option, Some, None, arith, length-take}
+use Rattle.std.specs.Prelude.{if◌then◌else◌, is_some}
+use Rattle.std.specs.declared.cmp.Ordering.{Ordering}
+use Rattle.std.specs.declared.cmp.Ordering.TheVariants.{Less, Equal, Greater}
+use Rattle.std.specs.List.{position, position_from}
+use Rattle.std.specs.Map.{lookup}
+use Rattle.std.specs.Ordering.{eq_by_cmp, is_eq}
+use Rattle.std.specs.Cmp.{IsTotalOrder, on_total, eq_by_cmp_equiv}
+use Rattle.std.specs.Cmp.Lexicographic.{nat_list_cmp_total}
+use Rattle.std.specs.FinMap.{IsAntisymmetric, get, insert, contains_key, from_entries, get-insert, get_tied, nat_cmp-IsAntisymmetric, slice_cmp-IsAntisymmetric}
+use Rattle.std.proofs.lemmas.List.{take_more}
+use Rattle.std.proofs.lemmas.Iterator.Adapters.{position_from-zero}
+use Rattle.std.proofs.lemmas.Map.Text.{is_eq-slice_cmp}
+use Rattle.cf_bytes.specs.declared.hash.Hash32.{Hash32}
+use Rattle.cf_headers.specs.Rules.{same}
+use Rattle.cf_index.specs.HeightMap.{hash_cmp, HeightMap, with_height}
+use Rattle.cf_index.proofs.Maps.{found, inserted}
+
+hash_total : IsTotalOrder hash_cmp
+hash_total = on_total (λ (h : Hash32). h.0) nat_list_cmp_total
+
+hash_same : IsAntisymmetric hash_cmp
+hash_same x y e = λ i. record { 0 = slice_cmp-IsAntisymmetric nat_cmp-IsAntisymmetric x.0 y.0 e i }
+
+-- the map, as the code keeps it
+pub got_height : {X : Type 0} (es : List (Hash32 × X)) (q : Hash32) → get (from_entries {R = hash_cmp} es) q ≡ lookup (λ k. is_eq (hash_cmp q k)) es
+got_height = found hash_total
+
+pub inserted_height : {X : Type 0} (es fs : List (Hash32 × X)) (k : Hash32) (v : X)
+    → ((q : Hash32) → lookup (λ x. is_eq (hash_cmp q x)) fs ≡ cond (is_eq (hash_cmp k q)) (Some v) (lookup (λ x. is_eq (hash_cmp q x)) es))
+    → from_entries {R = hash_cmp} fs ≡ insert (from_entries es) k v
+inserted_height = inserted hash_total hash_same
+
+-- ---- the first place that passes
+
+abbrev or_here : Option ℕ → Option ℕ → Option ℕ
+or_here None later = later
+or_here (Some i) later = Some i
+
+places_more : {X : Type 0} (p : X → Bool) (i : ℕ) (xs : List X) (x : X)
+    → position_from p i (xs ++ x ∷ []) ≡ or_here (position_from p i xs) (cond (p x) (Some (i + length xs)) None)
+places_more p i [] x = ap (λ (n : ℕ). cond (p x) (Some n) None) (omega arith)
+places_more p i (y ∷ ys) x =
+    let more = places_more p (i + 1) ys x ∙ ap (λ (n : ℕ). or_here (position_from p (i + 1) ys) (cond (p x) (Some n) None)) (omega arith) in
+    elim (p y) as (λ (b : Bool). cond b (Some i) (position_from p (i + 1) (ys ++ x ∷ [])) ≡ or_here (cond b (Some i) (position_from p (i + 1) ys)) (cond (p x) (Some (i + suc (length ys))) None)) [
+      | true ↦ refl
+      | false ↦ more
+    ]
+
+pub place_more : {X : Type 0} (p : X → Bool) (xs : List X) (x : X) → position p (xs ++ x ∷ []) ≡ or_here (position p xs) (cond (p x) (Some (length xs)) None)
+place_more p xs x =
+    position_from-zero p (xs ++ x ∷ []) ∙ places_more p 0 xs x
+    ∙ ap (λ (o : Option ℕ). or_here o (cond (p x) (Some (0 + length xs)) None)) (sym (position_from-zero p xs))
+    ∙ ap (λ (n : ℕ). or_here (position p xs) (cond (p x) (Some n) None)) (omega arith)
+
+places_of : {X Y : Type 0} (f : X → Y) (p : Y → Bool) (i : ℕ) (xs : List X) → position_from p i (map f xs) ≡ position_from (λ x. p (f x)) i xs
+places_of f p i [] = refl
+places_of f p i (x ∷ xs) = ap (cond (p (f x)) (Some i)) (places_of f p (i + 1) xs)
+
+pub place_of : {X Y : Type 0} (f : X → Y) (p : Y → Bool) (xs : List X) → position p (map f xs) ≡ position (λ x. p (f x)) xs
+place_of f p xs = position_from-zero p (map f xs) ∙ places_of f p 0 xs ∙ sym (position_from-zero (λ x. p (f x)) xs)
+
+-- ---- one height more
+
+tied : (q k : Hash32) → eq_by_cmp hash_cmp q k ≡ same k.0 q.0
+unfolding same
+tied q k = (eq_by_cmp_equiv hash_total).symm q k ∙ is_eq-slice_cmp k.0 q.0
+
+equal_by : (o : Ordering) → is_eq o ≡ true → o ≡ Equal
+equal_by Less e = cc
+equal_by Equal e = refl
+equal_by Greater e = cc
+
+height_of_same : (heights : HeightMap) (k q : Hash32) → same k.0 q.0 ≡ true → get heights q ≡ get heights k
+unfolding same
+height_of_same heights k q e = get_tied hash_total heights k q (equal_by (hash_cmp k q) (is_eq-slice_cmp k.0 q.0 ∙ e))
+
+or_none : (o : Option ℕ) → o ≡ or_here o None
+or_none None = refl
+or_none (Some i) = refl
+
+put_by : (b : Bool) (o : Option ℕ) (i : ℕ) → (b ≡ true → o ≡ None) → cond b (Some i) o ≡ or_here o (cond b (Some i) None)
+put_by true o i h = sym (ap (λ (x : Option ℕ). or_here x (Some i)) (h refl))
+put_by false o i h = or_none o
+
+kept_by : (b : Bool) (o : Option ℕ) (i j : ℕ) → (b ≡ true → o ≡ Some j) → o ≡ or_here o (cond b (Some i) None)
+kept_by true o i j h = h refl ∙ sym (ap (λ (x : Option ℕ). or_here x (Some i)) (h refl))
+kept_by false o i j h = or_none o
+
+kept_or_put : (heights : HeightMap) (k q : Hash32) (i : ℕ) (had : Option ℕ) → get heights k ≡ had
+    → get (if is_some had then heights else insert heights k i) q ≡ or_here (get heights q) (cond (same k.0 q.0) (Some i) None)
+kept_or_put heights k q i None is =
+    get-insert hash_total heights k i q ∙ ap (λ (b : Bool). cond b (Some i) (get heights q)) (tied q k)
+    ∙ put_by (same k.0 q.0) (get heights q) i (λ e. height_of_same heights k q e ∙ is)
+kept_or_put heights k q i (Some j) is = kept_by (same k.0 q.0) (get heights q) i j (λ e. height_of_same heights k q e ∙ is)
+
+pub with_height_gives : (heights : HeightMap) (k q : Hash32) (i : ℕ) → get (with_height heights k i) q ≡ or_here (get heights q) (cond (same k.0 q.0) (Some i) None)
+with_height_gives heights k q i = kept_or_put heights k q i (get heights k) refl
+
+pub kept : (heights : HeightMap) (k : Hash32) (i : ℕ) → contains_key heights k ≡ true → heights ≡ with_height heights k i
+kept heights k i is = sym (ap (λ (b : Bool). if b then heights else insert heights k i) is)
+
+pub put : (heights : HeightMap) (k : Hash32) (i : ℕ) → contains_key heights k ≡ false → insert heights k i ≡ with_height heights k i
+put heights k i is = sym (ap (λ (b : Bool). if b then heights else insert heights k i) is)
+
+-- the next block's height is put in
+pub height_more : {X : Type 0} (heights new : HeightMap) (hash : X → Hash32) (xs : List X) (i : ℕ) (x : X) (q : Hash32)
+    → i < length xs → x ≡ get_or xs i x → new ≡ with_height heights (hash x) i
+    → get heights q ≡ position (λ y. same (hash y).0 q.0) (take i xs)
+    → get new q ≡ position (λ y. same (hash y).0 q.0) (take (i + 1) xs)
+height_more {X} heights new hash xs i x q below at is so_far =
+    let p : X → Bool = λ y. same (hash y).0 q.0 in
+    let grown : take (i + 1) xs ≡ take i xs ++ x ∷ [] = take_more xs i x below ∙ ap (λ (y : X). take i xs ++ y ∷ []) (sym at) in
+    let long : length (take i xs) ≡ i = omega (arith, length-take i xs) in
+    ap (λ (m : HeightMap). get m q) is ∙ with_height_gives heights (hash x) q i
+    ∙ ap (λ (o : Option ℕ). or_here o (cond (p x) (Some i) None)) so_far
+    ∙ ap (λ (n : ℕ). or_here (position p (take i xs)) (cond (p x) (Some n) None)) (sym long)
+    ∙ sym (ap (position p) grown ∙ place_more p (take i xs) x)

@@ -1,0 +1,39 @@
+-- What loading an index answers.
+use Rattle.std.specs.Prelude.{◌≡◌, ℕ, ◌<◌, ◌≤◌, Bool, true, List, length, Option, IfSome, Result, Ok, Err}
+use Rattle.cf_bytes.specs.Outside.{HasRisen}
+use Rattle.cf_block.specs.declared.tx.Block.{Block}
+use Rattle.cf_index.specs.declared.cause.BadBlock.{BadBlock}
+use Rattle.cf_index.specs.declared.load.LoadFault.{LoadFault}
+use Rattle.cf_index.specs.declared.load.LoadFault.TheVariants as faults
+use Rattle.cf_index.specs.Files.{blocks_at}
+use Rattle.cf_conn.specs.declared.reading.ReadFail.{ReadFail}
+use Rattle.cf_conn.specs.declared.reading.ReadFail.TheVariants as fails
+
+-- the most bytes that a file of blocks may have
+abbrev pub most_bytes : ℕ
+most_bytes = 1073741824
+
+-- the bytes that were left, where they are told: few enough, and read as these blocks or refused for this record
+abbrev pub Holds : Option (List ℕ) → Result (List Block) BadBlock → Type 0
+Holds left answer = IfSome left (λ bytes. (length bytes ≤ most_bytes) × (blocks_at bytes ≡ answer))
+
+-- what is answered over a source, by the bytes that were left, by whether it has ended, and by its counts of faults before and after
+abbrev pub Loads : Result (List Block) LoadFault → Option (List ℕ) → Bool → ℕ → ℕ → Type 0
+Loads (Ok blocks) left ended before after = Holds left (Ok blocks) × (ended ≡ true) × (after ≡ before)
+Loads (Err (faults.BadBlock bad)) left ended before after = Holds left (Err bad) × (ended ≡ true) × (after ≡ before)
+Loads (Err faults.TooBig) left ended before after = IfSome left (λ bytes. most_bytes < length bytes) × (after ≡ before)
+Loads (Err faults.ReadFault) left ended before after = HasRisen before after
+Loads (Err faults.NoMemory) left ended before after = after ≡ before
+
+-- what reading the bytes answered, and what is told of it
+abbrev pub Indexes : Result (List Block) BadBlock → Result (List Block) LoadFault → Type 0
+Indexes read (Ok blocks) = read ≡ Ok blocks
+Indexes read (Err (faults.BadBlock bad)) = read ≡ Err bad
+Indexes read (Err faults.TooBig) = ⊥
+Indexes read (Err faults.ReadFault) = ⊥
+Indexes read (Err faults.NoMemory) = Unit {0}
+
+abbrev pub IsUnread : ReadFail → LoadFault → Type 0
+IsUnread fails.Failed fault = fault ≡ faults.ReadFault
+IsUnread fails.TooBig fault = fault ≡ faults.TooBig
+IsUnread fails.NoMemory fault = fault ≡ faults.NoMemory

@@ -1,0 +1,16 @@
+//! The filter of a block, and what goes with it.
+ghost use Rattle.std.specs.Prelude.{◌≡◌};
+ghost use Rattle.cf_filter.specs.Filter.{filter_hash_of};
+
+use cf_block::Listed;
+use cf_bytes::Hash32;
+
+/// A block's hash, its basic filter, the filter's hash, and the filter's header, which stands for all filters up to it (BIP 157, "Filter Headers").
+#[derive(Drop, Debug)]
+pub struct BlockFilter {
+    pub block: Hash32,
+    pub filter: Listed<u8>,
+    pub hash: Hash32,
+    pub header: Hash32,
+    ghost hashed: { hash.0 ≡ filter_hash_of filter },
+}

@@ -1,0 +1,140 @@
+//! The index of a checked chain: its blocks by their heights and their hashes, with their filters.
+ghost use Rattle.std.specs.Prelude.{◌≡◌, length, IfOk, option_map, option_copied, slice_get};
+ghost use Rattle.cf_block.specs.Header.{block_hash_of};
+ghost use Rattle.cf_chain.specs.Filters.{filter_at};
+ghost use Rattle.cf_chain.specs.Good.{IsGoodChain, headers_of};
+ghost use Rattle.cf_chain.specs.Heights.{all_blocks, block_height};
+ghost use Rattle.cf_filter.specs.Filter.{filter_hash_of};
+ghost use Rattle.cf_headers.specs.Chain.{tip_hash};
+ghost use Rattle.cf_index.specs.Filtering.{shown};
+
+use crate::block_filter::BlockFilter;
+use crate::chain::{Blocks, tip_of};
+use crate::filters::all_filters;
+use crate::heights::{Heights, heights_of};
+use cf_block::{Block, Header, Listed, genesis};
+use cf_bytes::{Hash32, NoMemory};
+use std::alloc::Global;
+use std::marker::Model;
+
+/// A checked chain with its filters, by height and by hash. Contracts see the list of its blocks above genesis, the lowest first.
+#[derive(Drop)]
+pub struct Index {
+    genesis: Block,
+    blocks: Blocks,
+    filters: Listed<BlockFilter>,
+    heights: Heights,
+}
+
+impl Model for Index {
+    ghost use Rattle.std.specs.Prelude.{List};
+    ghost use Rattle.cf_block.specs.declared.tx.Block.{Block};
+    ghost use Rattle.cf_index.specs.Indexed.{IsIndexed};
+
+    ghost Value = { List Block };
+
+    ghost view = { λ s. s.blocks };
+
+    ghost invariant = { λ s. IsIndexed s.genesis s.blocks s.filters s.heights };
+}
+
+impl Index {
+    /// The index of a chain that was checked.
+    pub fn of(alloc: Global, blocks: Blocks) -> Result<Index, NoMemory>
+        requires { IsGoodChain blocks }
+        ensures { IfOk result (λ index. index ≡ blocks) }
+    {
+        let genesis = genesis(alloc)?;
+        let filters = all_filters(alloc, &blocks)?;
+        let heights = heights_of(alloc, filters.as_slice())?;
+        Ok(Index {
+            genesis,
+            blocks,
+            filters,
+            heights,
+        })
+    }
+
+    /// The height of the chain.
+    pub fn tip(&self) -> u32
+        ensures height { result ≡ length self.now }
+        ensures good { IsGoodChain self.now }
+    {
+        self.blocks.len() as u32
+    }
+
+    /// The hash of the highest block.
+    pub fn tip_hash(&self) -> Hash32
+        ensures { result.0 ≡ tip_hash (headers_of self.now) }
+    {
+        tip_of(&self.blocks)
+    }
+
+    /// The blocks above genesis, the lowest first.
+    pub fn blocks(&self) -> &[Block]
+        ensures { result.now ≡ self.now }
+    {
+        self.blocks.as_slice()
+    }
+
+    /// The height of the block with this hash, where there is one. The time is that of a search in a tree.
+    pub fn height_of(&self, hash: &Hash32) -> Option<u32>
+        ensures { result ≡ block_height hash.now self.now }
+    {
+        self.heights.height(hash)
+    }
+
+    /// The block at a height, genesis at 0, where the chain is as high.
+    pub fn block(&self, height: u32) -> Option<&Block>
+        ensures { option_copied result ≡ slice_get (all_blocks self.now) height }
+    {
+        if height == 0 {
+            return Some(&self.genesis);
+        }
+        self.blocks.as_slice().get(height as usize - 1)
+    }
+
+    /// Its header.
+    pub fn header(&self, height: u32) -> Option<Header>
+        ensures { result ≡ option_map (λ b. b.header) (slice_get (all_blocks self.now) height) }
+    {
+        self.block(height).map(|block| block.header)
+    }
+
+    /// Its hash.
+    pub fn hash(&self, height: u32) -> Option<Hash32>
+        ensures block { result ≡ option_map (λ b. record { 0 = block_hash_of b.header }) (slice_get (all_blocks self.now) height) }
+        ensures filter { option_map (λ h. h.0) result ≡ option_map (λ f. f.block) (filter_at self.now height) }
+    {
+        self.filter_of(height).map(|filter| filter.block)
+    }
+
+    /// Its basic filter.
+    pub fn filter(&self, height: u32) -> Option<&[u8]>
+        ensures { option_copied result ≡ option_map (λ f. f.filter) (filter_at self.now height) }
+    {
+        self.filter_of(height)
+            .map(|filter| filter.filter.as_slice())
+    }
+
+    /// The hash of its filter.
+    pub fn filter_hash(&self, height: u32) -> Option<Hash32>
+        ensures { result ≡ option_map (λ f. record { 0 = filter_hash_of f.filter }) (filter_at self.now height) }
+    {
+        self.filter_of(height).map(|filter| filter.hash)
+    }
+
+    /// Its filter header.
+    pub fn filter_header(&self, height: u32) -> Option<Hash32>
+        ensures { result ≡ option_map (λ f. record { 0 = f.header }) (filter_at self.now height) }
+    {
+        self.filter_of(height).map(|filter| filter.header)
+    }
+
+    // The filter at a height, with its hashes.
+    fn filter_of(&self, height: u32) -> Option<&BlockFilter>
+        ensures { option_map (λ f. shown f.now) result ≡ filter_at self.now height }
+    {
+        self.filters.as_slice().get(height as usize)
+    }
+}
