@@ -5,6 +5,7 @@ use Rattle.std.proofs.lemmas.Bool.{both_ways}
 use Rattle.cf_bytes.specs.Outside.{with_more}
 use Rattle.cf_bytes.specs.declared.hash.Hash32.{Hash32}
 use Rattle.cf_headers.specs.Chain.{tip_hash}
+use Rattle.cf_chain.specs.Good.{headers_of}
 use Rattle.cf_client.specs.declared.outcome.End.{End}
 use Rattle.cf_client.specs.declared.outcome.End.TheVariants.{Synced as IsSynced, NoPeers as HasNoPeers, Tired as IsTired, Ended as HasEnded}
 use Rattle.cf_client.specs.declared.trace.TraceLine.{TraceLine}
@@ -69,13 +70,13 @@ pub kept_of : (end : End) (height : ℕ) (tip : Hash32) (lines : List TraceLine)
     → Followed end height tip lines names log → SyncTheorem end height tip log → IsAnswerOf end status before after (run_text trace lines end height tip)
     → Kept status trace names before after log
 kept_of end height tip lines names status trace before after log followed theorem answer = record {
-  writes = λ p chain honest none is off.
+  writes = λ p blocks honest none is off.
       let done = done_text status end before after (run_text trace lines end height tip) answer is in
-      let exact = theorem.exact p chain honest none done.0 in
-      done.1 ∙ ap (with_more before) (synced_text trace lines end height tip (length chain) (tip_hash chain) off done.0 exact.0 exact.1);
-  answers = λ p chain honest quiet. settles end status before after (run_text trace lines end height tip) log answer followed.why (theorem.somebody p chain honest) quiet;
-  complete = λ p chain honest. completes end status before after (run_text trace lines end height tip) answer (theorem.somebody p chain honest);
-  never = λ p chain honest ne. theorem.never p chain honest;
+      let exact = theorem.exact p blocks honest none done.0 in
+      done.1 ∙ ap (with_more before) (synced_text trace lines end height tip (length blocks) (tip_hash (headers_of blocks)) off done.0 exact.0 exact.1);
+  answers = λ p blocks honest quiet. settles end status before after (run_text trace lines end height tip) log answer followed.why (theorem.somebody p blocks honest) quiet;
+  complete = λ p blocks honest. completes end status before after (run_text trace lines end height tip) answer (theorem.somebody p blocks honest);
+  never = λ p blocks honest ne. theorem.never p blocks honest;
   ran = λ is. record { end = end; height = height; tip = tip; lines = lines; followed = followed; answered = answer };
 }
 

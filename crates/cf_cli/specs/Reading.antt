@@ -78,6 +78,10 @@ IsOfText NoMemory = Unit {0}
 IsOfText OutFault = Unit {0}
 IsOfText status = ⊥
 
+abbrev pub IsOfHeight : Status → Type 0
+IsOfHeight NoHeight = Unit {0}
+IsOfHeight status = IsOfText status
+
 -- the answers of `scan`, whether the files tell their bytes or not: nothing is written before the text
 abbrev pub IsOfScan : Status → Option (List ℕ) → Option (List ℕ) → Type 0
 IsOfScan Done before after = Unit {0}

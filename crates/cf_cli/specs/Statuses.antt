@@ -133,3 +133,9 @@ abbrev pub IsUnread : Which → FileFail → Status → Type 0
 IsUnread which Failed status = status ≡ FileFault
 IsUnread which TooMuch status = status ≡ BadFile which 0 TooBig
 IsUnread which OutOfMemory status = status ≡ NoMemory
+
+-- the answers to the bytes of a file
+abbrev pub IsRefusal : Status → Type 0
+IsRefusal NoMemory = Unit {0}
+IsRefusal (BadFile which place cause) = Unit {0}
+IsRefusal status = ⊥

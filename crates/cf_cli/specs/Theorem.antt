@@ -3,7 +3,9 @@ use Rattle.std.specs.Prelude.{◌≡◌, ◌≢◌, ◌<◌, ℕ, Bool, true, fa
 use Rattle.std.specs.Global.{Global}
 use Rattle.cf_bytes.specs.Outside.{with_more}
 use Rattle.cf_bytes.specs.declared.hash.Hash32.{Hash32}
-use Rattle.cf_headers.specs.Chain.{Chain, tip_hash}
+use Rattle.cf_block.specs.declared.tx.Block.{Block}
+use Rattle.cf_headers.specs.Chain.{tip_hash}
+use Rattle.cf_chain.specs.Good.{headers_of}
 use Rattle.cf_client.specs.declared.outcome.End.{End}
 use Rattle.cf_client.specs.declared.outcome.End.TheVariants.{Synced as IsSynced, NoPeers as HasNoPeers, Tired as IsTired, Ended as HasEnded}
 use Rattle.cf_client.specs.declared.place.PeerEnd.{PeerEnd}
@@ -62,11 +64,11 @@ IsComplete status = ⊥
 -- peer has shown another chain as long, a run that answers Done has written exactly that chain's history and tip; it answers Done as soon as
 -- no request is open, unless the sink fails or memory is wanting; and it never closes that peer.
 pub record Kept (status : Status) (trace : Bool) (names : List (List ℕ)) (before after : Option (List ℕ)) (log : Log) : Type 0 where
-  pub writes : (p : ℕ) (chain : Chain) → IsHonest log p chain → ShowsNoOther log chain → status ≡ Done → trace ≡ false
-      → after ≡ with_more before (history_text [] (length chain) (tip_hash chain))
-  pub answers : (p : ℕ) (chain : Chain) → IsHonest log p chain → IsQuiet log → Settles status
-  pub complete : (p : ℕ) (chain : Chain) → IsHonest log p chain → IsComplete status
-  pub never : (p : ℕ) (chain : Chain) → IsHonest log p chain → status ≢ NoMemory → IsNeverClosed log p
+  pub writes : (p : ℕ) (blocks : List Block) → IsHonest log p blocks → ShowsNoOther log (headers_of blocks) → status ≡ Done → trace ≡ false
+      → after ≡ with_more before (history_text [] (length blocks) (tip_hash (headers_of blocks)))
+  pub answers : (p : ℕ) (blocks : List Block) → IsHonest log p blocks → IsQuiet log → Settles status
+  pub complete : (p : ℕ) (blocks : List Block) → IsHonest log p blocks → IsComplete status
+  pub never : (p : ℕ) (blocks : List Block) → IsHonest log p blocks → status ≢ NoMemory → IsNeverClosed log p
   pub ran : has_run status ≡ true → Ran status trace names before after log
 
 -- the same by the tally alone, for wires that tell no log

@@ -9,11 +9,12 @@ ghost use Rattle.cf_input.specs.SessionFile.{session_of};
 ghost use Rattle.cf_input.specs.Sessions.{script_in, AreNamed};
 ghost use Rattle.cf_input.specs.WatchFile.{watch_of};
 ghost use Rattle.cf_peer.specs.Log.{is_real};
-ghost use Rattle.cf_cli.specs.Statuses.{IsReadAs, IsUnread, IsOfFile, watch_verdict, session_verdict, blocks_verdict};
+ghost use Rattle.cf_cli.specs.Statuses.{IsReadAs, IsUnread, IsOfFile, IsRefusal, most_blocks, watch_verdict, session_verdict, blocks_read, blocks_verdict};
 
+use crate::file_bytes::FileBytes;
 use crate::status::{FileCause, Status, Which};
 use cf_bytes::{FileFail, Files, Refused};
-use cf_index::{Blocks, read_chain};
+use cf_index::{Index, LoadFault};
 use cf_input::{Session, read_session, read_watch};
 use cf_scan::Watch;
 use std::alloc::Global;
@@ -97,12 +98,33 @@ pub(crate) fn load_session<F: Files>(
     }
 }
 
-/// Reads a chain of blocks.
-pub(crate) fn load_blocks<F: Files>(
+// The index of the chain in the bytes of a file.
+fn index_of(alloc: Global, bytes: &[u8]) -> Result<Index, Status>
+    requires { length bytes.now ≤ most_blocks }
+    ensures answer { IsReadAs (blocks_read (blocks_at bytes.now)) result }
+    ensures blocks { IfOk result (λ b. blocks_at bytes.now ≡ Ok b) }
+    ensures good { IfOk result (λ b. IsGoodChain b) }
+    ensures only { IfErr result IsRefusal }
+{
+    let mut source = FileBytes::new(alloc, bytes);
+    match Index::load(alloc, &mut source) {
+        Ok(index) => Ok(index),
+        Err(LoadFault::BadBlock(bad)) => Err(Status::BadFile {
+            which: Which::Blocks,
+            place: bad.number,
+            cause: FileCause::Blocks(bad.cause),
+        }),
+        Err(LoadFault::NoMemory) => Err(Status::NoMemory),
+        Err(LoadFault::TooBig | LoadFault::ReadFault) => unreachable!(),
+    }
+}
+
+/// Reads a chain of blocks, with its filters.
+pub(crate) fn load_index<F: Files>(
     alloc: Global,
     files: &mut F,
     name: &str,
-) -> Result<Blocks, Status>
+) -> Result<Index, Status>
     ensures answer { IfSome (F.files files.old) (λ m. IsReadAs (blocks_verdict (finite.get m name.now)) result) }
     ensures blocks { IfOk result (λ b. IfSome (F.files files.old) (λ m. IfSome (finite.get m name.now) (λ bytes. blocks_at bytes ≡ Ok b))) }
     ensures good { IfOk result (λ b. IsGoodChain b) }
@@ -110,15 +132,7 @@ pub(crate) fn load_blocks<F: Files>(
     ensures only { IfErr result IsOfFile }
 {
     match files.read(alloc, name, MOST_BLOCKS) {
-        Ok(bytes) => match read_chain(alloc, &bytes) {
-            Ok(blocks) => Ok(blocks),
-            Err(Refused::No(bad)) => Err(Status::BadFile {
-                which: Which::Blocks,
-                place: bad.number,
-                cause: FileCause::Blocks(bad.cause),
-            }),
-            Err(Refused::NoMemory) => Err(Status::NoMemory),
-        },
+        Ok(bytes) => index_of(alloc, &bytes),
         Err(fail) => Err(unread(fail, Which::Blocks)),
     }
 }

@@ -1,38 +1,34 @@
 //! The commands that read a file of blocks.
-ghost use Rattle.std.specs.Prelude.{◌≡◌, ◌≤◌, length, IfOk, IfSome, Some, string_bytes};
+ghost use Rattle.std.specs.Prelude.{◌≡◌, length, nat_lt, IfOk, IfSome, option_map, string_bytes};
 ghost use Rattle.std.specs.FinMap as finite;
 ghost use Rattle.hex.specs.Hex.{encode_lower};
 ghost use Rattle.cf_bytes.specs.Hash.{shown};
 ghost use Rattle.cf_bytes.specs.Outside.{HasRisen};
 ghost use Rattle.cf_chain.specs.Filters.{filter_at as filter_in};
-ghost use Rattle.cf_chain.specs.Good.{IsGoodChain};
-ghost use Rattle.cf_index.specs.Filtering.{shown as filter_shown};
-ghost use Rattle.cf_cli.specs.Reading.{scan_text, named_line, filter_text, IsWritten, IsScanned, IsFiltered, IsOfText, TellsFilter};
+ghost use Rattle.cf_cli.specs.Reading.{scan_text, named_line, filter_text, IsWritten, IsScanned, IsFiltered, IsOfText, IsOfFilter, IsOfHeight, TellsHeight};
 ghost use Rattle.cf_cli.specs.Statuses.{IsJudged, and_then, watch_verdict, blocks_verdict};
 
-use crate::loading::{load_blocks, load_watch};
+use crate::loading::{load_index, load_watch};
 use crate::status::Status;
-use cf_block::Listed;
 use cf_bytes::{Files, Hash32, NoMemory, Sink, put_all, show};
-use cf_index::{BlockFilter, Blocks, filter_at, height_of, tip_of};
+use cf_index::Index;
 use cf_scan::{Watch, scan as scan_blocks};
 use std::alloc::Global;
 
 // The history of the watched scripts, and the tip.
-fn text_of_scan(alloc: Global, blocks: &Blocks, watch: &Watch) -> Result<String, NoMemory>
-    requires { IsGoodChain blocks.now }
-    ensures { IfOk result (λ text. string_bytes text ≡ scan_text watch.now blocks.now) }
+fn text_of_scan(alloc: Global, index: &Index, watch: &Watch) -> Result<String, NoMemory>
+    ensures { IfOk result (λ text. string_bytes text ≡ scan_text watch.now index.now) }
 {
-    let history = scan_blocks(alloc, blocks.as_slice(), watch)?;
-    let tip = tip_of(blocks);
-    history.text(alloc, height_of(blocks) as u32, &tip)
+    let tip = index.tip();
+    let history = scan_blocks(alloc, index.blocks(), watch)?;
+    history.text(alloc, tip, &index.tip_hash())
 }
 
 // Bytes as lower-case hexadecimal digits.
-fn digits_of(alloc: Global, bytes: &Listed<u8>) -> Result<String, NoMemory>
+fn digits_of(alloc: Global, bytes: &[u8]) -> Result<String, NoMemory>
     ensures { IfOk result (λ text. string_bytes text ≡ encode_lower bytes.now) }
 {
-    Ok(hex::encode(alloc, bytes.as_slice())?)
+    Ok(hex::encode(alloc, bytes)?)
 }
 
 // A line of a name and a value.
@@ -49,7 +45,7 @@ fn hash_line(alloc: Global, name: &str, hash: &Hash32) -> Result<String, NoMemor
     line_of(alloc, name, value.as_str())
 }
 
-fn bytes_line(alloc: Global, name: &str, bytes: &Listed<u8>) -> Result<String, NoMemory>
+fn bytes_line(alloc: Global, name: &str, bytes: &[u8]) -> Result<String, NoMemory>
     ensures { IfOk result (λ text. string_bytes text ≡ named_line name.now (encode_lower bytes.now)) }
 {
     let value = digits_of(alloc, bytes)?;
@@ -57,13 +53,35 @@ fn bytes_line(alloc: Global, name: &str, bytes: &Listed<u8>) -> Result<String, N
 }
 
 // A block's hash, its filter and its filter header, one on each line.
-fn text_of_filter(alloc: Global, filter: &BlockFilter) -> Result<String, NoMemory>
-    ensures { IfOk result (λ text. string_bytes text ≡ filter_text (filter_shown filter.now)) }
+fn text_of_filter(
+    alloc: Global,
+    block: &Hash32,
+    filter: &[u8],
+    header: &Hash32,
+) -> Result<String, NoMemory>
+    ensures { IfOk result (λ text. string_bytes text ≡ filter_text (record { block = block.now.0; filter = filter.now; header = header.now.0 })) }
 {
-    let block = hash_line(alloc, "block", &filter.block)?;
-    let bytes = bytes_line(alloc, "filter", &filter.filter)?;
-    let header = hash_line(alloc, "header", &filter.header)?;
+    let block = hash_line(alloc, "block", block)?;
+    let bytes = bytes_line(alloc, "filter", filter)?;
+    let header = hash_line(alloc, "header", header)?;
     Ok(format!(in alloc; "{block}{bytes}{header}")?)
+}
+
+// The lines of the block at a height, where there is one.
+fn text_at(alloc: Global, index: &Index, height: u32) -> Result<Option<String>, NoMemory>
+    ensures { IfOk result (λ text. option_map string_bytes text ≡ option_map filter_text (filter_in index.now height)) }
+{
+    let Some(block) = index.hash(height) else {
+        return Ok(None);
+    };
+    let Some(filter) = index.filter(height) else {
+        return Ok(None);
+    };
+    let Some(header) = index.filter_header(height) else {
+        return Ok(None);
+    };
+    let text = text_of_filter(alloc, &block, filter, &header)?;
+    Ok(Some(text))
 }
 
 // Writes a whole text.
@@ -95,11 +113,11 @@ pub(crate) fn scan<F: Files, O: Sink>(
         Ok(watch) => watch,
         Err(status) => return status,
     };
-    let blocks = match load_blocks(alloc, files, file) {
-        Ok(blocks) => blocks,
+    let index = match load_index(alloc, files, file) {
+        Ok(index) => index,
         Err(status) => return status,
     };
-    match text_of_scan(alloc, &blocks, &watch) {
+    match text_of_scan(alloc, &index, &watch) {
         Ok(text) => write(text.as_bytes(), out),
         Err(NoMemory) => Status::NoMemory,
     }
@@ -118,29 +136,22 @@ pub(crate) fn filter<F: Files, O: Sink>(
     ensures file_fault { result ≡ Status.FileFault → HasRisen (F.faults files.old) (F.faults files.new) }
     ensures out_fault { result ≡ Status.OutFault → HasRisen (O.faults out.old) (O.faults out.new) }
 {
-    let blocks = match load_blocks(alloc, files, file) {
-        Ok(blocks) => blocks,
-        Err(status) => return status,
-    };
-    if height_of(&blocks) < height as usize {
-        return Status::NoHeight;
+    match load_index(alloc, files, file) {
+        Ok(index) => write_filter(alloc, &index, height, out),
+        Err(status) => status,
     }
-    write_filter(alloc, &blocks, height, out)
 }
 
-// Writes the lines of a block that there is.
-fn write_filter<O: Sink>(alloc: Global, blocks: &Blocks, height: u32, out: &mut O) -> Status
-    requires good { IsGoodChain blocks.now }
-    requires stands { height ≤ length blocks.now }
-    ensures told { TellsFilter result (O.written out.old) (O.written out.new) (filter_in blocks.now height) }
+// Writes the lines of the block at a height, or answers that there is none.
+fn write_filter<O: Sink>(alloc: Global, index: &Index, height: u32, out: &mut O) -> Status
+    ensures told { TellsHeight result (O.written out.old) (O.written out.new) index.now height (nat_lt (length index.now) height) }
+    ensures answers { IsOfFilter result (O.written out.old) (O.written out.new) }
     ensures fault { result ≡ Status.OutFault → HasRisen (O.faults out.old) (O.faults out.new) }
-    ensures ends { IsOfText result }
+    ensures ends { IsOfHeight result }
 {
-    let Ok(filter) = filter_at(alloc, blocks, height) else {
-        return Status::NoMemory;
-    };
-    match text_of_filter(alloc, &filter) {
-        Ok(text) => write(text.as_bytes(), out),
+    match text_at(alloc, index, height) {
+        Ok(Some(text)) => write(text.as_bytes(), out),
+        Ok(None) => Status::NoHeight,
         Err(NoMemory) => Status::NoMemory,
     }
 }

@@ -1,0 +1,63 @@
+-- What `filter` writes, by whether its height is within the chain.
+use Rattle.std.proofs.Common.{◌≡◌, ◌⊎◌, inl, inr, ℕ, suc, ◌<◌, ◌≤◌, Bool, true, false, nat_lt, List, length, get_or, refl, sym, ◌∙◌, subst, Option, Some, None, arith}
+use Rattle.std.specs.Prelude.{option_map}
+use Rattle.std.proofs.lemmas.Bool.Decides.{nat_tests}
+use Rattle.std.proofs.lemmas.Option.{slice_get_within, slice_get_cases}
+use Rattle.cf_block.specs.declared.tx.Block.{Block}
+use Rattle.cf_chain.specs.Filters.{Filtered, filters_of, filter_at}
+use Rattle.cf_index.proofs.Indexes.{filters_length}
+use Rattle.cf_cli.specs.declared.status.Status.{Status}
+use Rattle.cf_cli.specs.declared.status.Status.TheVariants.{NoMemory, NoHeight}
+use Rattle.cf_cli.specs.Reading.{filter_text, IsWritten, TellsFilter, TellsHeight}
+
+above_by : (blocks : List Block) (height : ℕ) → filter_at blocks height ≡ None
+    → ((x : Filtered) × (height < length (filters_of blocks)) × (filter_at blocks height ≡ Some x) × (get_or (filters_of blocks) height x ≡ x)) ⊎ ((length (filters_of blocks) ≤ height) × (filter_at blocks height ≡ None))
+    → nat_lt (length blocks) height ≡ true
+above_by blocks height none (inl h) = let both = sym none ∙ h.2 in cc
+above_by blocks height none (inr h) =
+    let long = filters_length blocks in
+    let high = h.0 in
+    grind (arith, nat_tests)
+
+above : (blocks : List Block) (height : ℕ) → filter_at blocks height ≡ None → nat_lt (length blocks) height ≡ true
+above blocks height none = above_by blocks height none (slice_get_cases (filters_of blocks) height).1
+
+within : (blocks : List Block) (height : ℕ) (f : Filtered) → filter_at blocks height ≡ Some f → nat_lt (length blocks) height ≡ false
+within blocks height f some =
+    let low = slice_get_within (filters_of blocks) height f some in
+    let long = filters_length blocks in
+    grind (arith, nat_tests)
+
+-- the lines of a block were written
+tells_by : (status : Status) (before after : Option (List ℕ)) (blocks : List Block) (height : ℕ) (text : List ℕ) (o : Option Filtered) → filter_at blocks height ≡ o
+    → Some text ≡ option_map filter_text o → IsWritten status before after text → TellsHeight status before after blocks height (nat_lt (length blocks) height)
+tells_by status before after blocks height text None at is written = cc
+tells_by status before after blocks height text (Some f) at is written =
+    let same : text ≡ filter_text f = cc in
+    let told : TellsFilter status before after (filter_at blocks height) = subst (TellsFilter status before after) (sym at) (subst (IsWritten status before after) same written) in
+    subst (TellsHeight status before after blocks height) (sym (within blocks height f at)) told
+
+pub tells : (status : Status) (before after : Option (List ℕ)) (blocks : List Block) (height : ℕ) (text : List ℕ) → Some text ≡ option_map filter_text (filter_at blocks height)
+    → IsWritten status before after text → TellsHeight status before after blocks height (nat_lt (length blocks) height)
+tells status before after blocks height text is written = tells_by status before after blocks height text (filter_at blocks height) refl is written
+
+-- there is no such block
+none_by : (o : Option Filtered) → None ≡ option_map filter_text o → o ≡ None
+none_by None is = refl
+none_by (Some f) is = cc
+
+pub is_above : (now : Option (List ℕ)) (blocks : List Block) (height : ℕ) → None ≡ option_map filter_text (filter_at blocks height)
+    → TellsHeight NoHeight now now blocks height (nat_lt (length blocks) height)
+is_above now blocks height is = subst (TellsHeight NoHeight now now blocks height) (sym (above blocks height (none_by (filter_at blocks height) is))) refl
+
+-- no memory was found
+no_text : (now : Option (List ℕ)) (o : Option Filtered) → TellsFilter NoMemory now now o
+no_text now None = refl
+no_text now (Some f) = refl
+
+no_text_by : (now : Option (List ℕ)) (blocks : List Block) (height : ℕ) (b : Bool) → TellsHeight NoMemory now now blocks height b
+no_text_by now blocks height true = refl
+no_text_by now blocks height false = no_text now (filter_at blocks height)
+
+pub is_untold : (now : Option (List ℕ)) (blocks : List Block) (height : ℕ) → TellsHeight NoMemory now now blocks height (nat_lt (length blocks) height)
+is_untold now blocks height = no_text_by now blocks height (nat_lt (length blocks) height)
