@@ -1,0 +1,5 @@
+pub mod Replies
+pub mod Plans
+pub mod Outcomes
+pub mod Serving
+pub mod Taking

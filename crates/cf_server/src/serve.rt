@@ -1,0 +1,170 @@
+//! Serving a connection.
+ghost use Rattle.std.specs.Prelude.{◌≡◌, ◌≤◌, ◌++◌, IfSome, IfErr, OnOk};
+ghost use Rattle.cf_msg.specs.Reading.{message_of as message_in};
+ghost use Rattle.cf_server.specs.Replies.{AreRepliesOf, messages_of};
+ghost use Rattle.cf_server.specs.Serving.{IsServed, Counts, Ends, text_of};
+ghost use Rattle.cf_server.specs.Taking.{Sends, CountsWrites, AnswersFrame, FindsFrame, TakesFrames, Idles, ComesInside};
+
+use crate::answering::{Served, answer};
+use crate::frames::write_reply;
+use crate::outcome::Outcome;
+use crate::reply::{Replies, Reply};
+use cf_bytes::Refused;
+use cf_conn::{Duplex, send_all};
+use cf_frame::{Frame, Framer};
+use cf_index::Index;
+use cf_msg::read;
+use std::alloc::Global;
+
+/// The most frames that are taken of one connection.
+const MOST_FRAMES: u32 = 1_000_000;
+
+/// The most bytes of one read.
+const PIECE: usize = 4096;
+
+// Writes the frames of replies, one after another.
+fn send_replies<C: Duplex>(
+    alloc: Global,
+    index: &Index,
+    conn: &mut C,
+    served: &Served,
+    replies: &[Reply],
+) -> Result<(), Outcome>
+    requires { AreRepliesOf index.now replies.now }
+    ensures sends { Sends result (C.written conn.old) (C.written conn.new) (text_of (messages_of served.now index.now replies.now)) }
+    ensures count { CountsWrites result (C.Sink.faults conn.old) (C.Sink.faults conn.new) }
+    ensures left { C.left conn.new ≡ C.left conn.old }
+    ensures ended { C.ended conn.new ≡ C.ended conn.old }
+    ensures read_faults { C.Source.faults conn.new ≡ C.Source.faults conn.old }
+{
+    for reply in replies {
+        let bytes = write_reply(alloc, index, served, *reply)?;
+        match send_all(conn, &bytes) {
+            Ok(()) => {}
+            Err(_) => return Err(Outcome::WriteFault),
+        }
+    }
+    Ok(())
+}
+
+// Reads a frame's message, and writes the replies to it.
+fn answer_frame<C: Duplex>(
+    alloc: Global,
+    index: &Index,
+    conn: &mut C,
+    served: &mut Served,
+    frame: &Frame,
+) -> Result<(), Outcome>
+    ensures answers { AnswersFrame result index.now (message_in frame.now) served.old served.new (C.written conn.old) (C.written conn.new) }
+    ensures count { CountsWrites result (C.Sink.faults conn.old) (C.Sink.faults conn.new) }
+    ensures left { C.left conn.new ≡ C.left conn.old }
+    ensures ended { C.ended conn.new ≡ C.ended conn.old }
+    ensures read_faults { C.Source.faults conn.new ≡ C.Source.faults conn.old }
+{
+    let msg = match read(alloc, frame) {
+        Ok(msg) => msg,
+        Err(Refused::No(fault)) => return Err(Outcome::Malformed(fault)),
+        Err(Refused::NoMemory) => return Err(Outcome::NoMemory),
+    };
+    let mut replies = Replies::new(alloc);
+    answer(index, served, &msg, &mut replies)?;
+    send_replies(alloc, index, conn, served, replies.as_slice())
+}
+
+// What is kept of a connection: the bytes that wait for the rest of their frame, what is known of the peer, and how many frames
+// may still come.
+#[derive(Drop)]
+struct Session {
+    framer: Framer,
+    served: Served,
+    left: u32,
+}
+
+// Takes the next whole frame, if one waits.
+fn next_frame(framer: &mut Framer) -> Result<Option<Frame>, Outcome>
+    ensures { FindsFrame result framer.old framer.new }
+{
+    match framer.next() {
+        Ok(frame) => Ok(frame),
+        Err(Refused::No(fault)) => Err(Outcome::BadFrame(fault)),
+        Err(Refused::NoMemory) => Err(Outcome::NoMemory),
+    }
+}
+
+// Takes and answers the whole frames that wait.
+fn take_frames<C: Duplex>(
+    alloc: Global,
+    index: &Index,
+    conn: &mut C,
+    session: &mut Session,
+) -> Result<(), Outcome>
+    requires { 1 ≤ session.old.left }
+    ensures takes { TakesFrames result index.now session.old.left session.new.left session.old.framer session.new.framer session.old.served session.new.served (C.written conn.old) (C.written conn.new) }
+    ensures idles { OnOk result (Idles session.old.left session.new.left session.old.framer session.new.framer) }
+    ensures inside { IfErr result ComesInside }
+    ensures count { CountsWrites result (C.Sink.faults conn.old) (C.Sink.faults conn.new) }
+    ensures left { C.left conn.new ≡ C.left conn.old }
+    ensures ended { C.ended conn.new ≡ C.ended conn.old }
+    ensures read_faults { C.Source.faults conn.new ≡ C.Source.faults conn.old }
+{
+    while let Some(frame) = next_frame(&mut session.framer)? {
+        answer_frame(alloc, index, conn, &mut session.served, &frame)?;
+        session.left -= 1;
+        if session.left == 0 {
+            return Err(Outcome::Tired);
+        }
+    }
+    Ok(())
+}
+
+// Takes the next piece of the connection's bytes.
+fn take_piece<C: Duplex>(
+    alloc: Global,
+    index: &Index,
+    conn: &mut C,
+    session: &mut Session,
+    piece: &[u8],
+) -> Result<(), Outcome>
+    requires { 1 ≤ session.old.left }
+    ensures takes { TakesFrames result index.now session.old.left session.new.left (session.old.framer ++ piece.now) session.new.framer session.old.served session.new.served (C.written conn.old) (C.written conn.new) }
+    ensures idles { OnOk result (Idles session.old.left session.new.left (session.old.framer ++ piece.now) session.new.framer) }
+    ensures inside { IfErr result ComesInside }
+    ensures count { CountsWrites result (C.Sink.faults conn.old) (C.Sink.faults conn.new) }
+    ensures left { C.left conn.new ≡ C.left conn.old }
+    ensures ended { C.ended conn.new ≡ C.ended conn.old }
+    ensures read_faults { C.Source.faults conn.new ≡ C.Source.faults conn.old }
+{
+    session.framer.feed(piece)?;
+    take_frames(alloc, index, conn, session)
+}
+
+/// Serves a connection: reads its bytes, and writes the replies to its messages in their order, until the source of bytes ends,
+/// the bytes are at fault, reading or writing fails, or 1,000,000 frames were taken. A last frame that is cut off is passed over.
+pub fn serve_one<C: Duplex>(
+    alloc: Global,
+    index: &Index,
+    conn: &mut C,
+    now: i64,
+    nonce: u64,
+) -> Outcome
+    ensures served { IfSome (C.left conn.old) (λ bytes. IsServed now nonce index.now result bytes (C.left conn.new) (C.written conn.old) (C.written conn.new)) }
+    ensures ends { Ends result (C.ended conn.new) (C.left conn.new) }
+    ensures counts { Counts result (C.Source.faults conn.old) (C.Source.faults conn.new) (C.Sink.faults conn.old) (C.Sink.faults conn.new) }
+{
+    let mut session = Session {
+        framer: Framer::new(alloc),
+        served: Served::new(now, nonce),
+        left: MOST_FRAMES,
+    };
+    let mut piece = [0u8; PIECE];
+    loop {
+        let n = match conn.receive(&mut piece) {
+            Ok(0) => return Outcome::Closed,
+            Ok(n) => n,
+            Err(_) => return Outcome::ReadFault,
+        };
+        if let Err(outcome) = take_piece(alloc, index, conn, &mut session, &piece[..n]) {
+            return outcome;
+        }
+    }
+}
