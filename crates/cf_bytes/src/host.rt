@@ -1,5 +1,5 @@
 //! The process's own files and writers behind the traits. They tell no bytes.
-ghost use Rattle.std.specs.Prelude.{◌≤◌, length, None, IfOk};
+ghost use Rattle.std.specs.Prelude.{◌≡◌, ◌≤◌, length, None, IfOk};
 
 use crate::files::{FileFail, Files};
 use crate::outside::{Failed, Sink};
@@ -16,7 +16,10 @@ pub struct StdFiles<R> {
 }
 
 impl<R: HostFiles> StdFiles<R> {
-    pub fn new(rt: R) -> StdFiles<R> {
+    /// The files that this handle reaches; no call has failed yet.
+    pub fn new(rt: R) -> StdFiles<R>
+        ensures { result.faults ≡ 0 }
+    {
         StdFiles { rt, faults: 0 }
     }
 }
@@ -79,7 +82,10 @@ pub struct WriterSink<W> {
 }
 
 impl<W: Write> WriterSink<W> {
-    pub fn new(writer: W) -> WriterSink<W> {
+    /// The sink of this writer; no write has failed yet.
+    pub fn new(writer: W) -> WriterSink<W>
+        ensures { result.faults ≡ 0 }
+    {
         WriterSink { writer, faults: 0 }
     }
 }

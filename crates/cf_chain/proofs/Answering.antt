@@ -1,6 +1,6 @@
 -- What the serving machine answers.
-use Rattle.std.proofs.Common.{◌≡◌, ◌≢◌, ℕ, ℤ, zero, suc, ◌+◌, ◌-◌, ◌<◌, ◌≤◌, min, Bool, true, false, List, [], ◌∷◌, length, map, take, drop, Option, Some, None, refl, sym, ap, ◌∙◌, arith, slice_get, length-take, length-drop}
-use Rattle.std.specs.Prelude.{nat_le, nat_lt, ◌&&◌, ◌==◌, if◌then◌else◌, option_map}
+use Rattle.std.proofs.Common.{◌≡◌, ◌≢◌, ℕ, ℤ, suc, ◌+◌, ◌-◌, ◌<◌, ◌≤◌, true, false, List, [], length, map, take, drop, Some, None, refl, ap, ◌∙◌, arith, slice_get, length-take, length-drop}
+use Rattle.std.specs.Prelude.{nat_lt, ◌&&◌, ◌==◌, if◌then◌else◌, option_map}
 use Rattle.std.proofs.lemmas.Bool.{le-leb, lt-leb, lt-ltb, le-ltb, ne_eqb}
 use Rattle.std.proofs.lemmas.List.{length-map, take_all, drop_all}
 use Rattle.std.proofs.lemmas.Option.{slice_get-map}
@@ -8,10 +8,10 @@ use Rattle.cf_bytes.specs.declared.hash.Hash32.{Hash32}
 use Rattle.cf_block.specs.declared.header.Header.{Header}
 use Rattle.cf_block.specs.declared.tx.Block.{Block}
 use Rattle.cf_msg.specs.declared.msg.Msg.{Msg}
-use Rattle.cf_msg.specs.declared.msg.Msg.TheVariants.{Version, GetHeaders, Headers, GetCfilters, GetCfheaders, GetCfcheckpt}
-use Rattle.cf_chain.specs.Filters.{Filtered, filters_of, filter_at}
+use Rattle.cf_msg.specs.declared.msg.Msg.TheVariants.{Version, GetCfilters, GetCfheaders, GetCfcheckpt}
+use Rattle.cf_chain.specs.Filters.{filters_of, filter_at}
 use Rattle.cf_chain.specs.Heights.{block_height}
-use Rattle.cf_chain.specs.Serve.{within, range_end, filters_between, cfilter_of, cfilters_reply, cfheaders_reply, cfcheckpt_reply, fork_height, most_headers, reply_to, replies_to, is_version}
+use Rattle.cf_chain.specs.Serve.{within, range_end, filters_between, cfilter_of, cfilters_reply, cfheaders_reply, cfcheckpt_reply, reply_to, replies_to, is_version}
 use Rattle.cf_chain.proofs.Places.{slice_get-take, slice_get-drop, height_within, length-filters_of}
 
 pub nothing_above : (most fork : ℕ) → take {A = Header} most (drop fork []) ≡ []

@@ -1,13 +1,12 @@
 -- Blocks and filters by their heights.
-use Rattle.std.proofs.Common.{◌≡◌, ℕ, zero, suc, ◌+◌, ◌-◌, ◌<◌, ◌≤◌, List, [], ◌∷◌, length, map, take, drop, Option, Some, None, refl, sym, ap, ◌∙◌, arith, slice_get}
-use Rattle.std.specs.List.{position}
+use Rattle.std.proofs.Common.{◌≡◌, ℕ, zero, suc, ◌+◌, ◌<◌, ◌≤◌, List, [], ◌∷◌, length, take, drop, Some, refl, sym, ap, ◌∙◌, arith, slice_get}
 use Rattle.std.proofs.lemmas.List.Quantifiers.{position-Some}
 use Rattle.std.specs.FinMap.{empty}
 use Rattle.cf_bytes.specs.declared.hash.Hash32.{Hash32}
 use Rattle.cf_block.specs.declared.tx.Block.{Block}
 use Rattle.cf_block.specs.Genesis.{first_block}
 use Rattle.cf_chain.specs.Coins.{CoinMap, after_block}
-use Rattle.cf_chain.specs.Filters.{Filtered, filtered, prevouts, first_filtered, filtered_on, filters_of}
+use Rattle.cf_chain.specs.Filters.{filtered, prevouts, first_filtered, filtered_on, filters_of}
 use Rattle.cf_chain.specs.Heights.{all_blocks, has_hash, block_height}
 
 pub slice_get-take : {X : Type 0} (xs : List X) (n i : ℕ) → i < n → slice_get (take n xs) i ≡ slice_get xs i
