@@ -1,6 +1,5 @@
 pub mod ChainLaws
 pub mod Judging
-pub mod OnGenesis
 pub mod Limit
 pub mod EntryLists
 pub mod Stacks
@@ -8,3 +7,5 @@ pub mod Accepting
 pub mod Locators
 pub mod Places
 pub mod Longest
+pub mod Commons
+pub mod Tables

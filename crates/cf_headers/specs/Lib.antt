@@ -1,6 +1,5 @@
 pub mod Rules
 pub mod Chain
-pub mod Judged
 pub mod Heights
 pub mod Changes
 pub mod Store

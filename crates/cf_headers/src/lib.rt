@@ -12,10 +12,10 @@ mod locator;
 mod rules;
 mod slot;
 mod store;
+mod table;
 
-pub use chain::{Accepted, accept_on_genesis};
 pub use change::Change;
-pub use laws::{laws_of_chains, laws_of_kept_chains};
+pub use laws::{laws_of_chains, laws_of_heights, laws_of_kept_chains};
 pub use lists::Lists;
 pub use rules::{HeaderFault, check_header, check_on, meets_target};
 pub use store::HeaderStore;

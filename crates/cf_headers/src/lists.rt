@@ -1,28 +1,32 @@
 //! A store that keeps each peer's chain as a list of its own.
-ghost use Rattle.std.specs.Prelude.{◌≡◌, ℕ, vec_len};
+ghost use Rattle.std.specs.Prelude.{◌≡◌, ℕ, ◌<◌, vec_len};
+ghost use Rattle.cf_headers.specs.Lists.{AreCommons};
 
 use crate::change::Change;
 use crate::kept::Kept;
 use crate::slot::Slot;
 use crate::store::HeaderStore;
+use crate::table::{PLACES, renew};
 use cf_block::Header;
 use cf_bytes::{Hash32, NoMemory, PeerNo};
 use std::alloc::Global;
 
-/// One place for each number from 0, which is nobody's, to 8.
-const PLACES: usize = 9;
-
-/// Each peer's chain as a list of its own. To look a hash up goes along the chain, to look a height up doesn't.
+/// Each peer's chain as a list of its own, and the common heights of each two. To look a hash up goes along the chain; to look
+/// a height or a common height up doesn't.
 #[derive(Drop)]
 pub struct Lists {
     alloc: Global,
     slots: Vec<Slot>,
+    commons: Vec<u32>,
     ghost nine: { vec_len slots ≡ 9 },
+    ghost all: { vec_len commons ≡ 81 },
+    ghost told: { AreCommons slots.items commons.items },
 }
 
 impl Lists {
-    ghost use Rattle.std.specs.Prelude.{IfOk, None};
+    ghost use Rattle.std.specs.Prelude.{IfOk, [], Some, None, if◌then◌else◌};
     ghost use Rattle.cf_headers.specs.Lists.{chains_in};
+    ghost use Rattle.cf_headers.specs.Store.{Puts};
 
     /// A store in which no peer is entered.
     pub fn new(alloc: Global) -> Result<Lists, NoMemory>
@@ -35,7 +39,23 @@ impl Lists {
                 chain: Kept::new(alloc),
             })?;
         }
-        Ok(Lists { alloc, slots })
+        let commons = vec![in alloc; 0; PLACES * PLACES]?;
+        Ok(Lists {
+            alloc,
+            slots,
+            commons,
+        })
+    }
+
+    // Gives a place the chain of genesis alone.
+    fn reset(&mut self, p: PeerNo, entered: bool)
+        requires { p.0 < 9 }
+        ensures { Puts (chains_in self.old.slots.items) (chains_in self.new.slots.items) p (if entered then Some [] else None) }
+    {
+        let place = p.0 as usize;
+        let chain = Kept::new(self.alloc);
+        self.slots[place] = Slot { entered, chain };
+        renew(&mut self.commons, &self.slots, place, 0);
     }
 }
 
@@ -45,18 +65,18 @@ impl HeaderStore for Lists {
     ghost chain = { λ s. chains_in s.slots.items };
 
     fn enter(&mut self, p: PeerNo) -> Result<(), NoMemory> {
-        let alloc = self.alloc;
-        let slot = &mut self.slots[p.0 as usize];
-        slot.entered = true;
-        slot.chain = Kept::new(alloc);
+        self.reset(p, true);
         Ok(())
     }
 
     #[tactic(auto, using(crate::proofs::Places::same_chain))]
     fn accept(&mut self, p: PeerNo, headers: &[Header]) -> Result<Change, NoMemory> {
         let alloc = self.alloc;
-        let slot = &mut self.slots[p.0 as usize];
-        let change = slot.chain.accept(alloc, headers)?;
+        let place = p.0 as usize;
+        let change = self.slots[place].chain.accept(alloc, headers)?;
+        if let Change::Longer(k) = change {
+            renew(&mut self.commons, &self.slots, place, k);
+        }
         Ok(change)
     }
 
@@ -73,9 +93,7 @@ impl HeaderStore for Lists {
     }
 
     fn common(&self, p: PeerNo, q: PeerNo) -> u32 {
-        self.slots[p.0 as usize]
-            .chain
-            .common(&self.slots[q.0 as usize].chain)
+        self.commons[PLACES * p.0 as usize + q.0 as usize]
     }
 
     #[tactic(auto, using(crate::proofs::Places::best_more, crate::proofs::Places::best_same, crate::proofs::Places::best_end))]
@@ -92,13 +110,8 @@ impl HeaderStore for Lists {
     }
 
     fn forget(&mut self, p: PeerNo) {
-        let place = p.0 as usize;
-        if place < self.slots.len() {
-            let alloc = self.alloc;
-            self.slots[place] = Slot {
-                entered: false,
-                chain: Kept::new(alloc),
-            };
+        if (p.0 as usize) < PLACES {
+            self.reset(p, false);
         }
     }
 }

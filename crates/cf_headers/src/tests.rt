@@ -30,35 +30,33 @@ fn the_target_is_met_up_to_its_last_hash(rt: HostRuntime) -> Result<(), Fail> {
     Ok(())
 }
 
-// A header on genesis whose hash, by another program, is above the target at the nonces 0 and 1, and not at 2.
-fn second(nonce: u32) -> Header {
-    let genesis = genesis_header();
+// A header on the block with this hash.
+fn header_on(previous: Hash32, root: u8, nonce: u32) -> Header {
     Header {
         version: 4,
-        previous: block_hash(&genesis),
-        root: Hash32([7; 32]),
+        previous,
+        root: Hash32([root; 32]),
         time: 1_296_689_202,
         bits: 0x207fffff,
         nonce,
     }
 }
 
+// A header on genesis whose hash, by another program, is above the target at the nonces 0 and 1, and not at 2.
+fn first(nonce: u32) -> Header {
+    header_on(block_hash(&genesis_header()), 7, nonce)
+}
+
 #[test]
 fn the_first_rule_broken_is_named(rt: HostRuntime) -> Result<(), Fail> {
     let genesis = genesis_header();
-    let good = second(2);
-    assert!(rt; check_header(&genesis, &good) == Ok(()));
-    let mut bad = second(1);
+    assert!(rt; check_header(&genesis, &first(2)) == Ok(()));
+    let mut bad = first(1);
     assert!(rt; check_header(&genesis, &bad) == Err(HeaderFault::Work));
-    assert!(rt; accept_on_genesis(&[bad]) == Accepted::Invalid(0, HeaderFault::Work));
     bad.bits = 0x1d00ffff;
     assert!(rt; check_header(&genesis, &bad) == Err(HeaderFault::Bits));
     bad.previous = Hash32([0; 32]);
     assert!(rt; check_header(&genesis, &bad) == Err(HeaderFault::Parent));
-    assert!(rt; accept_on_genesis(&[bad]) == Accepted::Unlinked);
-    assert!(rt; accept_on_genesis(&[]) == Accepted::NoLonger);
-    assert!(rt; accept_on_genesis(&[good]) == Accepted::TooHigh);
-    assert!(rt; accept_on_genesis(&[good, good]) == Accepted::Invalid(1, HeaderFault::Parent));
     Ok(())
 }
 
@@ -77,21 +75,46 @@ fn a_locator_has_ten_heights_and_then_wider_gaps(rt: HostRuntime) -> Result<(), 
     Ok(())
 }
 
-// What headers of an entered peer do to its chain.
-fn taken<H: HeaderStore>(store: &mut H, p: PeerNo, headers: &[Header]) -> Option<Change>
-    requires { IsSome (H.chain store.old p.0) }
-    ensures { IsSome (H.chain store.new p.0) }
+// Whether headers of the peer 1 or 2 do this to its chain, and then it is so high and the two chains have so much in common.
+#[tactic(auto, using(crate::proofs::Places::still_entered))]
+fn takes<H: HeaderStore>(
+    store: &mut H,
+    p: PeerNo,
+    headers: &[Header],
+    change: Change,
+    height: u32,
+    common: u32,
+) -> bool
+    requires one { IsSome (H.chain store.old 1) }
+    requires two { IsSome (H.chain store.old 2) }
+    requires own { IsSome (H.chain store.old p.0) }
+    ensures one { IsSome (H.chain store.new 1) }
+    ensures two { IsSome (H.chain store.new 2) }
 {
-    match store.accept(p, headers) {
-        Ok(change) => Some(change),
-        Err(_) => None,
-    }
+    let Ok(done) = store.accept(p, headers) else {
+        return false;
+    };
+    done == change
+        && store.height(p) == height
+        && store.common(p, p) == height
+        && store.common(PeerNo(1), PeerNo(2)) == common
+        && store.common(PeerNo(2), PeerNo(1)) == common
+}
+
+// Whether a hash stands at a height of an entered peer's chain.
+fn stands<H: HeaderStore>(store: &H, p: PeerNo, h: u32, hash: &Hash32) -> bool
+    requires { IsSome (H.chain store.now p.0) }
+{
+    h <= store.height(p) && store.hash_at(p, h) == *hash && store.place(p, hash) == Some(h)
 }
 
 #[test]
 fn a_store_of_two_peers(rt: HostRuntime) -> Result<(), Fail> {
     let genesis = block_hash(&genesis_header());
-    let good = second(2);
+    let one = first(2);
+    let two = header_on(block_hash(&one), 7, 2);
+    let three = header_on(block_hash(&two), 7, 0);
+    let other = header_on(block_hash(&one), 8, 5);
     let Ok(mut store) = Lists::new(rt.alloc()) else {
         return Err("no memory".into());
     };
@@ -104,28 +127,65 @@ fn a_store_of_two_peers(rt: HostRuntime) -> Result<(), Fail> {
     };
     assert!(rt; store.best() == Some(PeerNo(1)));
     assert!(rt; store.common(PeerNo(1), PeerNo(2)) == 0);
-    assert!(rt; taken(&mut store, PeerNo(1), &[]) == Some(Change::NoLonger));
-    assert!(rt; taken(&mut store, PeerNo(1), &[good]) == Some(Change::TooHigh));
+    let mut easy = one;
+    easy.bits = 0x1d00ffff;
+    let work = Change::Invalid(0, HeaderFault::Work);
+    let bits = Change::Invalid(0, HeaderFault::Bits);
+    let parent = Change::Invalid(1, HeaderFault::Parent);
+    assert!(rt; takes(&mut store, PeerNo(1), &[], Change::NoLonger, 0, 0));
+    assert!(rt; takes(&mut store, PeerNo(1), &[first(1)], work, 0, 0));
+    assert!(rt; takes(&mut store, PeerNo(1), &[easy], bits, 0, 0));
+    assert!(rt; takes(&mut store, PeerNo(1), &[one, one], parent, 0, 0));
+    assert!(rt; takes(&mut store, PeerNo(1), &[two], Change::Unlinked, 0, 0));
+    assert!(rt; takes(&mut store, PeerNo(1), &[one, two], Change::Longer(0), 2, 0));
+    assert!(rt; takes(&mut store, PeerNo(1), &[one, other], Change::NoLonger, 2, 0));
     assert!(rt;
-        taken(&mut store, PeerNo(1), &[second(1)]) == Some(Change::Invalid(0, HeaderFault::Work))
+        takes(
+            &mut store,
+            PeerNo(2),
+            &[one, other],
+            Change::Longer(0),
+            2,
+            1
+        )
     );
+    assert!(rt; takes(&mut store, PeerNo(2), &[two], Change::NoLonger, 2, 1));
     assert!(rt;
-        taken(&mut store, PeerNo(1), &[good, good]) == Some(Change::Invalid(1, HeaderFault::Parent))
+        takes(
+            &mut store,
+            PeerNo(2),
+            &[two, three],
+            Change::Longer(1),
+            3,
+            2
+        )
     );
-    let mut foreign = good;
-    foreign.previous = block_hash(&good);
-    assert!(rt; taken(&mut store, PeerNo(1), &[foreign]) == Some(Change::Unlinked));
-    assert!(rt; store.height(PeerNo(1)) == 0);
-    assert!(rt; store.hash_at(PeerNo(1), 0) == genesis);
-    assert!(rt; store.place(PeerNo(1), &genesis) == Some(0));
-    assert!(rt; store.place(PeerNo(1), &block_hash(&good)) == None);
-    let Ok(locator) = store.locator(rt.alloc(), PeerNo(1)) else {
+    assert!(rt; takes(&mut store, PeerNo(1), &[three], Change::Longer(2), 3, 3));
+    assert!(rt; stands(&store, PeerNo(2), 0, &genesis));
+    assert!(rt; stands(&store, PeerNo(2), 1, &block_hash(&one)));
+    assert!(rt; stands(&store, PeerNo(2), 2, &block_hash(&two)));
+    assert!(rt; stands(&store, PeerNo(2), 3, &block_hash(&three)));
+    assert!(rt; store.place(PeerNo(2), &block_hash(&other)) == None);
+    let Ok(locator) = store.locator(rt.alloc(), PeerNo(2)) else {
         return Err("no memory".into());
     };
-    assert_eq!(rt; locator.as_slice(), [genesis].as_slice());
+    let hashes = [
+        block_hash(&three),
+        block_hash(&two),
+        block_hash(&one),
+        genesis,
+    ];
+    assert_eq!(rt; locator.as_slice(), hashes.as_slice());
     store.forget(PeerNo(1));
     assert!(rt; store.best() == Some(PeerNo(2)));
     store.forget(PeerNo(2));
     assert!(rt; store.best() == None);
+    let Ok(()) = store.enter(PeerNo(2)) else {
+        return Err("no memory".into());
+    };
+    let Ok(()) = store.enter(PeerNo(1)) else {
+        return Err("no memory".into());
+    };
+    assert!(rt; store.common(PeerNo(1), PeerNo(2)) == 0);
     Ok(())
 }
