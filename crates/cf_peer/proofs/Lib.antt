@@ -1,2 +1,2 @@
-pub mod Hearing
 pub mod Stream
+pub mod Peers

@@ -1,7 +1,6 @@
 -- How dials go in memory.
 use Rattle.std.specs.Prelude.{◌≡◌, ℕ, ◌<◌, Bool, false, List, map, length, slice_index_or}
 use Rattle.cf_peer.specs.declared.event.Dial.{Dial}
-use Rattle.cf_peer.specs.Log.{Log, dials}
 
 -- whether the dial at a place is answered: none past the end of the list
 abbrev pub answered_at : List Dial → ℕ → Bool

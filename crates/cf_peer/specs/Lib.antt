@@ -2,7 +2,9 @@ pub mod Log
 pub mod Memory
 pub mod Dials
 pub mod Wires
+pub mod Session
 pub mod Trail
+pub mod Asking
 pub mod Peer
 pub mod Hearing
 pub mod Acts

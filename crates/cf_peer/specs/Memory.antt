@@ -1,8 +1,6 @@
 -- What wires in memory hold.
 use Rattle.std.specs.Prelude.{ℕ, Bool, true, false, List, [], ◌∷◌, ◌++◌, reverse}
-use Rattle.cf_peer.specs.declared.event.Delivery.{Delivery}
 use Rattle.cf_peer.specs.declared.event.Dial.{Dial}
-use Rattle.cf_peer.specs.declared.event.Event.{Event}
 use Rattle.cf_peer.specs.declared.memory.MemoryWires.{MemoryWires}
 use Rattle.cf_peer.specs.declared.memory.Scripted.{Scripted}
 use Rattle.cf_peer.specs.declared.memory.Scripted.TheVariants.{Dial as MadeDial, NoDial as MadeNoDial, Deliver}
@@ -25,6 +23,10 @@ calls_of w = w.calls
 
 abbrev pub faults_of : MemoryWires → ℕ
 faults_of w = w.faults
+
+-- whether the log is to be kept
+abbrev pub keeps_of : MemoryWires → Bool
+keeps_of w = w.keeps
 
 -- the end is told by itself, and not added
 abbrev pub may_be_added : Scripted → Bool

@@ -1,24 +1,21 @@
 -- One peer's part of a log, message by message, the newest first, and what can be said of it. Nothing here knows of the client.
-use Rattle.std.specs.Prelude.{◌≡◌, ◌⊎◌, ℕ, ℤ, pos, ◌+◌, ◌≤◌, ◌==◌, nat_lt, Bool, true, false, not, ◌&&◌, ◌||◌, if◌then◌else◌, List, [], ◌∷◌, ◌++◌, map, replicate, codes, length, Option, Some, None, is_none, Result, Ok, Err, bit_and}
-use Rattle.cf_bytes.specs.declared.hash.Hash32.{Hash32}
-use Rattle.cf_bytes.specs.declared.peer.PeerNo.{PeerNo}
+use Rattle.std.specs.Prelude.{◌≡◌, ◌⊎◌, ℕ, pos, ◌==◌, nat_lt, Bool, true, false, ◌&&◌, ◌||◌, if◌then◌else◌, List, [], ◌∷◌, ◌++◌, replicate, codes, length, Option, Some, None, Result, Ok, Err, bit_and}
 use Rattle.cf_frame.specs.declared.frame.Frame.{Frame}
 use Rattle.cf_frame.specs.declared.frame.FrameFault.{FrameFault}
 use Rattle.cf_frame.specs.Stream.{StreamRead, read_stream}
 use Rattle.cf_block.specs.declared.header.Header.{Header}
-use Rattle.cf_headers.specs.Chain.{Chain, Accepted, Longer, NoLonger, Unlinked, Invalid, TooHigh, accept, no_hash, locator_of, IsValidChain}
+use Rattle.cf_headers.specs.Chain.{Chain, Accepted, Longer, NoLonger, Unlinked, Invalid, TooHigh, accept}
 use Rattle.cf_msg.specs.declared.msg.Malformed.{Malformed}
 use Rattle.cf_msg.specs.declared.msg.Msg.{Msg}
-use Rattle.cf_msg.specs.declared.msg.Msg.TheVariants.{Version, Verack, Ping, Pong, GetHeaders, Headers, Other}
+use Rattle.cf_msg.specs.declared.msg.Msg.TheVariants.{Version, Verack, Ping, Pong, Headers}
 use Rattle.cf_msg.specs.declared.msg.NetAddress.{NetAddress}
 use Rattle.cf_msg.specs.Reading.{message_of}
 use Rattle.cf_peer.specs.declared.event.Delivery.{Delivery}
 use Rattle.cf_peer.specs.declared.event.Delivery.TheVariants.{Got, Gone, Tick, Ended}
 use Rattle.cf_peer.specs.declared.event.Event.{Event}
 use Rattle.cf_peer.specs.declared.event.Event.TheVariants.{Dialled, NotDialled, Sent, SendFailed, Closed, Took}
-use Rattle.cf_peer.specs.declared.peer.TheConstants.{TICKS_COUNT}
 use Rattle.cf_peer.specs.declared.peer.Cause.{Cause}
-use Rattle.cf_peer.specs.declared.peer.Cause.TheVariants.{BadFrame, Malformed as IsMalformed, NoFilters, Unlinked as NotLinked, InvalidHeader, TooHigh as AboveLimit, SendFailed as SendFault, Overdue}
+use Rattle.cf_peer.specs.declared.peer.Cause.TheVariants.{BadFrame, Malformed as IsMalformed, Unlinked as NotLinked, InvalidHeader, TooHigh as AboveLimit}
 use Rattle.cf_peer.specs.Log.{Log}
 
 -- how a peer is lost: it went, or was never there; a send to it failed; or it was closed
@@ -208,46 +205,7 @@ heard (Asked m ∷ t) = heard t
 heard (Passed s ∷ t) = heard t
 heard (Lost w ∷ t) = heard t
 
--- it was asked for headers, and none have come since
-abbrev pub is_getheaders : Msg → Bool
-is_getheaders (GetHeaders version locator stop) = true
-is_getheaders m = false
-
-abbrev pub is_headers : Msg → Bool
-is_headers (Headers hs) = true
-is_headers m = false
-
-abbrev pub headers_open : Trail → Bool
-headers_open [] = false
-headers_open (Called ∷ t) = false
-headers_open (Said m ∷ t) = not (is_headers m) && headers_open t
-headers_open (Refused c ∷ t) = headers_open t
-headers_open (Asked m ∷ t) = is_getheaders m || headers_open t
-headers_open (Passed s ∷ t) = headers_open t
-headers_open (Lost w ∷ t) = headers_open t
-
--- whether the seconds of a tick count
-unfoldable pub ticks_count : Bool
-ticks_count = TICKS_COUNT
-
-abbrev pub counted_seconds : ℕ → ℕ
-counted_seconds s = if ticks_count then s else 0
-
--- the seconds that counted since the newest request, the call among them
-abbrev pub age : Trail → ℕ
-age [] = 0
-age (Called ∷ t) = 0
-age (Said m ∷ t) = age t
-age (Refused c ∷ t) = age t
-age (Asked m ∷ t) = if is_getheaders m then 0 else age t
-age (Passed s ∷ t) = age t + counted_seconds s
-age (Lost w ∷ t) = age t
-
--- something is open to it: the handshake, or a request
-abbrev pub is_open : Trail → Bool
-is_open t = connected t && (not (ready t) || headers_open t)
-
--- the cause for which a message has a peer closed, after what passed before
+-- the cause for which headers have a peer closed
 abbrev pub fault_in : Accepted → Option Cause
 fault_in (Longer next) = None
 fault_in NoLonger = None
@@ -255,59 +213,9 @@ fault_in Unlinked = Some NotLinked
 fault_in (Invalid place fault) = Some InvalidHeader
 fault_in TooHigh = Some AboveLimit
 
-abbrev pub fault_of : Msg → Trail → Option Cause
-fault_of (Version version services time to from nonce agent height relay) t = if met t || has_filters services then None else Some NoFilters
-fault_of (Headers hs) t = if ready t then fault_in (accept hs (own t)) else None
-fault_of m t = None
-
 abbrev pub first : Option Cause → Option Cause → Option Cause
 first (Some c) later = Some c
 first None later = later
-
--- the first cause that its frames give
-abbrev pub verdict : Trail → Option Cause
-verdict [] = None
-verdict (Called ∷ t) = None
-verdict (Said m ∷ t) = first (verdict t) (fault_of m t)
-verdict (Refused c ∷ t) = first (verdict t) (Some c)
-verdict (Asked m ∷ t) = verdict t
-verdict (Passed s ∷ t) = verdict t
-verdict (Lost w ∷ t) = verdict t
-
--- the part that counts: what it said while it was connected and before the first frame that deserves a cause
-abbrev pub counts : Msg → Trail → Bool
-counts m t = connected t && is_none (verdict (Said m ∷ t))
-
-abbrev pub counted : Trail → Trail
-counted [] = []
-counted (Called ∷ t) = Called ∷ counted t
-counted (Said m ∷ t) = if counts m t then Said m ∷ counted t else counted t
-counted (Refused c ∷ t) = counted t
-counted (Asked m ∷ t) = Asked m ∷ counted t
-counted (Passed s ∷ t) = Passed s ∷ counted t
-counted (Lost w ∷ t) = Lost w ∷ counted t
-
--- the headers that it has shown, and the chains that they make
-abbrev pub headers_in : Msg → List Header
-headers_in (Headers hs) = hs
-headers_in m = []
-
-abbrev pub shown : Trail → List Header
-shown [] = []
-shown (Called ∷ t) = []
-shown (Said m ∷ t) = if ready t then headers_in m ++ shown t else shown t
-shown (Refused c ∷ t) = shown t
-shown (Asked m ∷ t) = shown t
-shown (Passed s ∷ t) = shown t
-shown (Lost w ∷ t) = shown t
-
-abbrev pub IsIn : {A : Type 0} → A → List A → Type 0
-IsIn x [] = ⊥
-IsIn x (y ∷ ys) = (x ≡ y) ⊎ IsIn x ys
-
-pub record Shows (t : Trail) (chain : Chain) : Type 0 where
-  pub valid : IsValidChain chain
-  pub told : (h : Header) → IsIn h chain → IsIn h (shown t)
 
 -- a send to it has failed
 abbrev pub is_failing : Why → Bool
@@ -323,13 +231,6 @@ failed (Refused c ∷ t) = failed t
 failed (Asked m ∷ t) = failed t
 failed (Passed s ∷ t) = failed t
 failed (Lost w ∷ t) = is_failing w || failed t
-
--- it deserves to be closed for this cause: by its words, by a send that failed, or by its silence
-abbrev pub Deserves : Trail → Cause → Type 0
-Deserves t cause =
-    ((connected t ≡ true) × (verdict t ≡ Some cause))
-    ⊎ ((cause ≡ SendFault) × (failed t ≡ true))
-    ⊎ ((cause ≡ Overdue) × (is_open t ≡ true) × (60 ≤ age t))
 
 -- what is owed to its messages: one verack to its version, and after that one pong to each ping
 abbrev pub reply_to : Msg → Trail → List Msg
@@ -379,20 +280,3 @@ WasAsked (Refused c ∷ t) m = WasAsked t m
 WasAsked (Asked n ∷ t) m = (m ≡ n) ⊎ WasAsked t m
 WasAsked (Passed s ∷ t) m = WasAsked t m
 WasAsked (Lost w ∷ t) m = WasAsked t m
-
--- it may be asked: it is ready, and nothing is open to it
-pub record IsFree (t : Trail) : Type 0 where
-  pub on : connected t ≡ true
-  pub over : ready t ≡ true
-  pub idle : headers_open t ≡ false
-
--- whether a message may be sent to it
-abbrev pub MayAsk : Trail → Msg → Type 0
-MayAsk t (Version version services time to from nonce agent height relay) =
-    (connected t ≡ true) × (greeted t ≡ false) × IsClientVersion (Version version services time to from nonce agent height relay)
-MayAsk t Verack = (connected t ≡ true) × (met t ≡ true)
-MayAsk t (Pong number) = (connected t ≡ true) × (met t ≡ true)
-MayAsk t (GetHeaders version locator stop) =
-    IsFree t × (heard t ≡ false) × (version ≡ 70016) × (map (λ (h : Hash32). h.0) locator ≡ locator_of (own t)) × (stop.0 ≡ no_hash)
-    × (WasAsked t (GetHeaders version locator stop) → ⊥)
-MayAsk t m = ⊥

@@ -1,5 +1,5 @@
 -- When a call on wires may say that the outside failed.
-use Rattle.std.specs.Prelude.{◌≡◌, ℕ, ◌≤◌, List, Option, Result, IsErrOf}
+use Rattle.std.specs.Prelude.{ℕ, ◌≤◌, List, Result, IsErrOf}
 use Rattle.cf_bytes.specs.Outside.{HasRisen}
 use Rattle.cf_peer.specs.declared.event.Delivery.{Delivery}
 use Rattle.cf_peer.specs.declared.wires.WireFail.{WireFail}

@@ -47,15 +47,15 @@ impl Piece {
 /// The name by which a peer is dialled, seen as the list of its bytes.
 #[derive(Drop, Debug)]
 pub struct Name {
-    bytes: Vec<u8>,
+    text: String,
 }
 
 impl Model for Name {
-    ghost use Rattle.std.specs.Prelude.{ℕ, List};
+    ghost use Rattle.std.specs.Prelude.{ℕ, List, string_bytes};
 
     ghost Value = { List ℕ };
 
-    ghost view = { λ n. n.bytes.items };
+    ghost view = { λ n. string_bytes n.text };
 }
 
 impl Name {
@@ -64,7 +64,7 @@ impl Name {
         ensures { IfOk result (λ n. n ≡ text.now) }
     {
         Ok(Name {
-            bytes: Vec::from_slice(alloc, text.as_bytes())?,
+            text: String::from_str(alloc, text)?,
         })
     }
 
@@ -72,7 +72,14 @@ impl Name {
     pub fn as_bytes(&self) -> &[u8]
         ensures { result.now ≡ self.now }
     {
-        &self.bytes
+        self.text.as_bytes()
+    }
+
+    /// The text itself.
+    pub fn as_str(&self) -> &str
+        ensures { result.now ≡ self.now }
+    {
+        self.text.as_str()
     }
 }
 

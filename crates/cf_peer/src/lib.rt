@@ -6,10 +6,15 @@ mod event;
 mod hear;
 mod memory;
 mod peer;
+mod session;
 mod wires;
 
 pub use act::Act;
 pub use event::{Delivery, Dial, Event, Mark, Name, Piece};
+pub use hear::Incoming;
 pub use memory::{MemoryWires, Scripted};
 pub use peer::{Cause, Peer, Reply, Request};
 pub use wires::{WireFail, Wires};
+
+#[cfg(test)]
+mod tests;

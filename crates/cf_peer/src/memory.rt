@@ -6,6 +6,7 @@ ghost use Rattle.cf_peer.specs.Log.{tally_of, deliveries, dials as dials_of, is_
 ghost use Rattle.cf_peer.specs.Dials.{WentAsMade, answered_at};
 
 use crate::event::{Delivery, Dial, Event, Name, Piece};
+use crate::session::{put_deliveries, put_dials};
 use crate::wires::{WireFail, Wires};
 use cf_bytes::{NoMemory, PeerNo};
 use std::alloc::Global;
@@ -36,6 +37,8 @@ pub struct MemoryWires {
     // Which peers were closed, by their numbers.
     closed: [bool; 9],
     log: Vec<Event>,
+    // Whether the log is to be kept.
+    keeps: bool,
     ghost dials_are: { (tally_of (reverse log.items)).dials ≡ dials },
     ghost closed_are: { (tally_of (reverse log.items)).closed ≡ closed },
     ghost played: { deliveries (reverse log.items) ≡ take at script.items },
@@ -48,7 +51,7 @@ pub struct MemoryWires {
 }
 
 impl MemoryWires {
-    ghost use Rattle.cf_peer.specs.Memory.{script_of, log_of, failing_of, calls_of, faults_of, may_be_added, with_scripted, with_dial};
+    ghost use Rattle.cf_peer.specs.Memory.{script_of, log_of, failing_of, calls_of, faults_of, keeps_of, may_be_added, with_scripted, with_dial};
 
     /// Wires that were made to give nothing: each dial fails.
     pub fn new(alloc: Global) -> Result<MemoryWires, NoMemory>
@@ -57,6 +60,7 @@ impl MemoryWires {
         ensures failing { IfOk result (λ w. failing_of w ≡ []) }
         ensures calls { IfOk result (λ w. calls_of w ≡ 0) }
         ensures faults { IfOk result (λ w. faults_of w ≡ 0) }
+        ensures keeps { IfOk result (λ w. keeps_of w ≡ false) }
     {
         Ok(MemoryWires {
             alloc,
@@ -69,6 +73,7 @@ impl MemoryWires {
             dials: 0,
             closed: [false; 9],
             log: Vec::with_capacity(alloc, 9)?,
+            keeps: false,
         })
     }
 
@@ -81,6 +86,7 @@ impl MemoryWires {
         ensures failing { failing_of self.new ≡ failing_of self.old }
         ensures calls { calls_of self.new ≡ calls_of self.old }
         ensures faults { faults_of self.new ≡ faults_of self.old }
+        ensures keeps { keeps_of self.new ≡ keeps_of self.old }
         ensures err { OnErr result (script_of self.new ≡ script_of self.old) }
     {
         match e {
@@ -102,6 +108,7 @@ impl MemoryWires {
         ensures failing { failing_of self.new ≡ failing_of self.old }
         ensures calls { calls_of self.new ≡ calls_of self.old }
         ensures faults { faults_of self.new ≡ faults_of self.old }
+        ensures keeps { keeps_of self.new ≡ keeps_of self.old }
     {
         self.dial_script = dials;
         self.script = deliveries;
@@ -116,6 +123,7 @@ impl MemoryWires {
         ensures failing { failing_of self.new ≡ failing_of self.old }
         ensures calls { calls_of self.new ≡ calls_of self.old }
         ensures faults { faults_of self.new ≡ faults_of self.old }
+        ensures keeps { keeps_of self.new ≡ keeps_of self.old }
         ensures err { OnErr result (script_of self.new ≡ script_of self.old) }
     {
         self.dial_script.push(Dial { name, answered })?;
@@ -130,6 +138,7 @@ impl MemoryWires {
         ensures log { log_of self.new ≡ log_of self.old }
         ensures calls { calls_of self.new ≡ calls_of self.old }
         ensures faults { faults_of self.new ≡ faults_of self.old }
+        ensures keeps { keeps_of self.new ≡ keeps_of self.old }
         ensures err { OnErr result (failing_of self.new ≡ failing_of self.old) }
     {
         self.failing = Vec::from_slice(self.alloc, calls)?;
@@ -155,6 +164,7 @@ impl MemoryWires {
         ensures dials { self.new.dials ≡ self.old.dials }
         ensures closed { self.new.closed ≡ self.old.closed }
         ensures faults { self.new.faults ≡ self.old.faults }
+        ensures keeps { self.new.keeps ≡ self.old.keeps }
         ensures none { self.old.failing.items ≡ [] → result ≡ false }
     {
         self.calls = self.calls.saturating_add(1);
@@ -168,6 +178,12 @@ impl Wires for MemoryWires {
     ghost faults = { λ w. w.faults };
 
     ghost script = { λ w. Some (record { script = record { dials = w.dial_script.items; deliveries = w.script.items }; failing = w.failing.items }) };
+
+    ghost keeps = { λ w. w.keeps };
+
+    fn keep_log(&mut self) {
+        self.keeps = true;
+    }
 
     fn dial(&mut self, name: &str) -> Result<PeerNo, WireFail> {
         let name = Name::from_text(self.alloc, name)?;
@@ -213,5 +229,16 @@ impl Wires for MemoryWires {
         self.log.push(Event::Took(kept)).unwrap();
         self.at += 1;
         Ok(d)
+    }
+
+    fn finish(&mut self) {}
+
+    fn session(&self) -> Result<String, NoMemory> {
+        let mut text = String::new(self.alloc);
+        if self.keeps {
+            put_dials(&self.log, &mut text)?;
+            put_deliveries(self.alloc, &self.log, &mut text)?;
+        }
+        Ok(text)
     }
 }

@@ -1,19 +1,23 @@
 //! What the client keeps of one peer.
-ghost use Rattle.std.specs.Prelude.{◌≡◌, ◌∷◌, true, not};
+ghost use Rattle.std.specs.Prelude.{◌≡◌, ℕ, List, true, false, not, None, Some, ◌∷◌, [], length};
+ghost use Rattle.cf_block.specs.declared.header.Header.{Header};
+ghost use Rattle.cf_block.specs.declared.tx.Block.{Block};
+ghost use Rattle.cf_block.specs.Header.{block_hash_of};
+ghost use Rattle.cf_block.specs.Commitment.{commit_fault};
+ghost use Rattle.cf_headers.specs.Chain.{accept};
+ghost use Rattle.cf_headers.specs.Changes.{link_height, change_of};
 ghost use Rattle.cf_msg.specs.declared.msg.Msg.{Msg};
-ghost use Rattle.cf_msg.specs.declared.msg.Msg.TheVariants.{Headers};
-ghost use Rattle.cf_peer.specs.Trail.{Trail, Passed, counted_seconds as seconds_that_count};
-ghost use Rattle.cf_peer.specs.Peer.{Holds, Hears, calm, called_peer, is_ready_peer, IsVersionOf, busy, wants, asked_peer, IsReplySendable};
+ghost use Rattle.cf_msg.specs.declared.msg.Msg.TheVariants.{Headers, Block as BlockMessage};
+ghost use Rattle.cf_peer.specs.Trail.{Trail, Said, Passed, Asked, own, reply_to};
+ghost use Rattle.cf_peer.specs.Asking.{request, verdict, fetched_by};
+ghost use Rattle.cf_peer.specs.Peer.{Holds, Hears, TakesHeaders, calm, called_peer, is_ready_peer, is_idle_peer, is_plain, IsVersionOf, busy, wants, awaits as awaits_block, is_fetching as fetches, asked_for_headers, asked_for_block, IsReplySendable};
 
-use cf_block::Header;
+use cf_bytes::Hash32;
 use cf_frame::Framer;
-use cf_headers::{Accepted, accept_on_genesis};
+use cf_headers::Change;
 use cf_msg::Msg;
 use std::alloc::Global;
 use thiserror::Error;
-
-/// Whether the seconds of a tick count. They don't yet: a tick has no effect, so no request grows old, and no peer is `Overdue`.
-pub const TICKS_COUNT: bool = false;
 
 /// Why a peer is closed.
 #[derive(Clone, Copy, Debug, PartialEq, Eq, Error)]
@@ -36,15 +40,18 @@ pub enum Cause {
     /// Its chain would be above the greatest height.
     #[error("TooHigh")]
     TooHigh = 6,
+    /// Its block has a header that doesn't stand for its transactions.
+    #[error("BadBlock")]
+    BadBlock = 10,
     /// A send to it failed.
     #[error("SendFailed")]
     SendFailed = 11,
-    /// It left a request open for 60 seconds that counted, or more.
+    /// It left a request open for 60 seconds or more.
     #[error("Overdue")]
     Overdue = 12,
 }
 
-/// The one request that is open to a peer, with the seconds that counted since.
+/// The one request that is open to a peer, with its age in seconds.
 #[derive(Clone, Copy, Debug, PartialEq, Eq)]
 pub enum Request {
     /// Nothing is open.
@@ -53,6 +60,8 @@ pub enum Request {
     Handshake(u64),
     /// `getheaders`.
     Headers(u64),
+    /// `getdata` of the block with this hash.
+    Block(Hash32, u64),
 }
 
 /// What a message has the client do.
@@ -95,9 +104,10 @@ impl Peer {
         !matches!(self.request, Request::Handshake(_))
     }
 
-    /// Takes one message.
+    /// Takes one message that is neither headers nor a block.
     #[tactic(auto, unfolding(cf_msg::specs::Message::payload_of))]
     pub fn hear(&mut self, message: &Msg) -> Reply
+        requires plain { is_plain message.now ≡ true }
         ensures sendable { IsReplySendable result }
         ensures heard { (t : Trail) → Holds self.old t → Hears self.new message.now t result }
         ensures waits { self.new.framer ≡ self.old.framer }
@@ -118,7 +128,6 @@ impl Peer {
                     Reply::Nothing
                 }
             }
-            Msg::Headers(headers) => self.hear_headers(headers.as_slice()),
             _ => Reply::Nothing,
         }
     }
@@ -141,41 +150,61 @@ impl Peer {
         Reply::Send(Msg::Verack)
     }
 
-    // Takes headers: those of a peer that isn't ready are read over.
-    fn hear_headers(&mut self, headers: &[Header]) -> Reply
-        ensures sendable { IsReplySendable result }
-        ensures heard { (t : Trail) → Holds self.old t → Hears self.new (Headers headers.now) t result }
+    /// Takes what so many headers did to the chain of a ready peer: the cause that they give, if they give one. Headers end an
+    /// open `getheaders`; where there were fewer than 2000, or they made no longer chain, the peer has no more to tell.
+    pub fn hear_headers(&mut self, change: &Change, count: usize) -> Option<Cause>
+        requires ready { is_ready_peer self.old ≡ true }
+        ensures heard { (t : Trail) (hs : List Header) → Holds self.old t → count ≡ length hs → change.now ≡ change_of (link_height hs (own t)) (accept hs (own t)) → TakesHeaders self.new hs t result }
         ensures waits { self.new.framer ≡ self.old.framer }
         ensures calm { calm self.old ≡ true → calm self.new ≡ true }
     {
-        if !self.is_ready() {
-            return Reply::Nothing;
+        match change {
+            Change::Unlinked => return Some(Cause::Unlinked),
+            Change::Invalid(_, _) => return Some(Cause::InvalidHeader),
+            Change::TooHigh => return Some(Cause::TooHigh),
+            Change::NoLonger => self.heard = true,
+            Change::Longer(_) => self.heard = self.heard || count < 2000,
         }
-        match accept_on_genesis(headers) {
-            Accepted::Unlinked => Reply::Close(Cause::Unlinked),
-            Accepted::Invalid(_, _) => Reply::Close(Cause::InvalidHeader),
-            Accepted::TooHigh => Reply::Close(Cause::TooHigh),
-            // No chain is longer than that of genesis alone.
-            Accepted::Longer => unreachable!(),
-            Accepted::NoLonger => {
-                self.heard = true;
-                self.request = Request::Nothing;
-                Reply::Nothing
-            }
+        if let Request::Headers(_) = self.request {
+            self.request = Request::Nothing;
+        }
+        None
+    }
+
+    /// Whether the block with this hash is open to it.
+    #[tactic(auto, unfolding(cf_headers::specs::Rules::same))]
+    pub fn awaits(&self, hash: &Hash32) -> bool
+        ensures awaits { result ≡ awaits_block self.now hash.now }
+    {
+        match &self.request {
+            Request::Block(wanted, _) => wanted == hash,
+            _ => false,
         }
     }
 
-    /// Adds the seconds that count to the age of the open request.
+    /// Takes the block that is open to it.
+    pub fn take_block(&mut self, hash: &Hash32)
+        requires { awaits_block self.old hash.now ≡ true }
+        ensures holds { (t : Trail) (b : Block) → Holds self.old t → block_hash_of b.header ≡ hash.now.0 → commit_fault b ≡ None → Holds self.new (Said (BlockMessage b) ∷ t) }
+        ensures brought { (t : Trail) (b : Block) → Holds self.old t → block_hash_of b.header ≡ hash.now.0 → commit_fault b ≡ None → fetched_by (BlockMessage b) (request t) ≡ b ∷ [] }
+        ensures waits { self.new.framer ≡ self.old.framer }
+        ensures calm { calm self.new ≡ true }
+    {
+        self.request = Request::Nothing;
+    }
+
+    /// Adds seconds to the age of the open request.
     pub fn pass(&mut self, seconds: u32)
         requires { calm self.old ≡ true }
         ensures holds { (t : Trail) → Holds self.old t → Holds self.new (Passed seconds ∷ t) }
         ensures waits { self.new.framer ≡ self.old.framer }
     {
-        let counted = u64::from(counted_seconds(seconds));
+        let seconds = u64::from(seconds);
         match self.request {
             Request::Nothing => {}
-            Request::Handshake(age) => self.request = Request::Handshake(age + counted),
-            Request::Headers(age) => self.request = Request::Headers(age + counted),
+            Request::Handshake(age) => self.request = Request::Handshake(age + seconds),
+            Request::Headers(age) => self.request = Request::Headers(age + seconds),
+            Request::Block(hash, age) => self.request = Request::Block(hash, age + seconds),
         }
     }
 
@@ -185,37 +214,44 @@ impl Peer {
     {
         match self.request {
             Request::Nothing => false,
-            Request::Handshake(age) | Request::Headers(age) => age >= 60,
+            Request::Handshake(age) | Request::Headers(age) | Request::Block(_, age) => age >= 60,
         }
     }
 
-    /// Whether something is open to it.
-    pub fn is_busy(&self) -> bool
-        ensures { result ≡ busy self.now }
+    /// Whether nothing is open to it.
+    pub fn is_idle(&self) -> bool
+        ensures { result ≡ is_idle_peer self.now }
     {
-        !matches!(self.request, Request::Nothing)
+        matches!(self.request, Request::Nothing)
+    }
+
+    /// Whether a block is open to it.
+    pub fn is_fetching(&self) -> bool
+        ensures { result ≡ fetches self.now }
+    {
+        matches!(self.request, Request::Block(_, _))
     }
 
     /// Whether it is to be asked for headers: nothing is open to it, and it has more to tell.
     pub fn wants_headers(&self) -> bool
         ensures { result ≡ wants self.now }
     {
-        !self.heard && matches!(self.request, Request::Nothing)
+        !self.heard && self.is_idle()
     }
 
     /// Opens a request for headers.
     pub fn ask_headers(&mut self)
         requires { wants self.old ≡ true }
-        ensures asked { self.new ≡ asked_peer self.old }
+        ensures asked { self.new ≡ asked_for_headers self.old }
     {
         self.request = Request::Headers(0);
     }
-}
 
-// How many of a tick's seconds count.
-#[tactic(auto, unfolding(crate::specs::Trail::ticks_count))]
-fn counted_seconds(seconds: u32) -> u32
-    ensures { result ≡ seconds_that_count seconds }
-{
-    if TICKS_COUNT { seconds } else { 0 }
+    /// Opens a request for a block.
+    pub fn ask_block(&mut self, hash: &Hash32)
+        requires { is_idle_peer self.old ≡ true }
+        ensures asked { self.new ≡ asked_for_block hash.now self.old }
+    {
+        self.request = Request::Block(*hash, 0);
+    }
 }

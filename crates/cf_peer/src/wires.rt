@@ -1,9 +1,10 @@
 //! The outside of a client: peers that are dialled, sent to, closed and heard.
-ghost use Rattle.std.specs.Prelude.{◌≡◌, ℕ, ◌+◌, ◌<◌, ◌≤◌, List, Option, IfOk, OnOk, IsErrOf, false};
+ghost use Rattle.std.specs.Prelude.{◌≡◌, ℕ, Bool, ◌+◌, ◌<◌, ◌≤◌, List, Option, [], IfOk, OnOk, IfSome, IsSome, IsErrOf, true, false, string_bytes};
 ghost use Rattle.cf_bytes.specs.declared.peer.PeerNo.{PeerNo};
 ghost use Rattle.cf_peer.specs.declared.event.Event.TheVariants.{Dialled, NotDialled, Sent, SendFailed, Closed, Took};
 ghost use Rattle.cf_peer.specs.declared.wires.WireFail.TheVariants.{NoMemory as WireNoMemory};
-ghost use Rattle.cf_peer.specs.Log.{Told, tell, was_closed};
+ghost use Rattle.cf_peer.specs.Log.{Told, Tells, tell, was_closed};
+ghost use Rattle.cf_peer.specs.Session.{session_text};
 ghost use Rattle.cf_peer.specs.Wires.{HasCause, Made};
 
 use crate::event::Delivery;
@@ -54,6 +55,17 @@ pub trait Wires {
     ghost faults: { Self → ℕ };
     /// What they are made to give, and which calls are to fail, where that is told. No call changes it.
     ghost script: { Self → Option Made };
+    /// Whether they were told to keep their log.
+    ghost keeps: { Self → Bool };
+
+    /// Makes the wires keep their log, of which `session` gives the lines. It is called before the first dial, and takes no memory.
+    fn keep_log(&mut self)
+        requires { Tells [] (told self.old) }
+        ensures told { Tells [] (told self.new) }
+        ensures log { IsSome (told self.new).log }
+        ensures keeps { keeps self.new ≡ true }
+        ensures later { faults self.old ≤ faults self.new }
+        ensures same { script self.new ≡ script self.old };
 
     /// Dials the next peer. At most eight are dialled.
     fn dial(&mut self, name: &str) -> Result<PeerNo, WireFail>
@@ -61,6 +73,7 @@ pub trait Wires {
         ensures dialled { IfOk result (λ p. (p.0 ≡ (told self.old).tally.dials + 1) × (told self.new ≡ tell (Dialled p name.now) (told self.old))) }
         ensures not_dialled { IsErrOf result WireFail.Failed → told self.new ≡ tell (NotDialled (record { 0 = (told self.old).tally.dials + 1 }) name.now) (told self.old) }
         ensures cause { HasCause (faults self.old) (faults self.new) result }
+        ensures keeps { keeps self.new ≡ keeps self.old }
         ensures same { script self.new ≡ script self.old };
 
     /// Sends bytes to a peer that was dialled. Where it fails none of them may be taken as sent.
@@ -68,6 +81,7 @@ pub trait Wires {
         ensures sent { OnOk result (told self.new ≡ tell (Sent p bytes.now) (told self.old)) }
         ensures not_sent { IsErrOf result WireFail.Failed → told self.new ≡ tell (SendFailed p) (told self.old) }
         ensures cause { HasCause (faults self.old) (faults self.new) result }
+        ensures keeps { keeps self.new ≡ keeps self.old }
         ensures same { script self.new ≡ script self.old };
 
     /// Closes the connection to a peer, which was dialled and not closed before. It takes no memory.
@@ -76,11 +90,27 @@ pub trait Wires {
         requires once { was_closed (told self.old).tally p.0 ≡ false }
         ensures closed { told self.new ≡ tell (Closed p) (told self.old) }
         ensures later { faults self.old ≤ faults self.new }
+        ensures keeps { keeps self.new ≡ keeps self.old }
         ensures same { script self.new ≡ script self.old };
 
     /// Takes the next delivery.
     fn next(&mut self) -> Result<Delivery, NoMemory>
         ensures took { IfOk result (λ d. told self.new ≡ tell (Took d) (told self.old)) }
         ensures later { faults self.old ≤ faults self.new }
+        ensures keeps { keeps self.new ≡ keeps self.old }
         ensures same { script self.new ≡ script self.old };
+
+    /// Ends the connections that are left. Nothing that comes after it is a delivery. It takes no memory.
+    fn finish(&mut self)
+        ensures told { told self.new ≡ told self.old }
+        ensures later { faults self.old ≤ faults self.new }
+        ensures keeps { keeps self.new ≡ keeps self.old }
+        ensures same { script self.new ≡ script self.old };
+
+    /// The session lines of the log that is kept, the dial lines first; an empty text where none is kept. Each line ends
+    /// with LF: `dial NAME` or `nodial NAME` for each dial, and then in the log's order `got P HEX`, `gone P` and
+    /// `tick SECONDS`. A failed send is told as `gone P`.
+    fn session(&self) -> Result<String, NoMemory>
+        ensures unkept { IfOk result (λ text. keeps self.now ≡ false → string_bytes text ≡ []) }
+        ensures kept { IfOk result (λ text. keeps self.now ≡ true → IfSome (told self.now).log (λ log. string_bytes text ≡ session_text log)) };
 }

@@ -41,7 +41,7 @@ extract_txs watch height s (t ∷ ts) =
     ap (λ n. fold (after_extract height) n (map (tx_extract_of watch) ts)) (extract_tx watch height s t)
     ∙ extract_txs watch height (after_tx watch height s t) ts
 
-extract_block : (watch : List (List ℕ)) (height : ℕ) (s : Scanned) (b : Block)
+pub extract_block : (watch : List (List ℕ)) (height : ℕ) (s : Scanned) (b : Block)
     → after_placed s (record { height = height; extract = extract_of b watch }) ≡ fold (after_tx watch height) s b.txs
 unfolding after_placed
 extract_block watch height s b = extract_txs watch height s b.txs
