@@ -1,0 +1,97 @@
+-- A table that holds what was fetched, with the extracts of more blocks.
+use Rattle.std.proofs.Common.{◌≡◌, ◌⊎◌, inl, inr, ℕ, List, [], ◌∷◌, ◌++◌, Some, None, false, ◌==◌, refl, sym, ◌∙◌, ap, subst}
+use Rattle.std.proofs.lemmas.Bool.{cases_Bool, eqb-true}
+use Rattle.cf_bytes.specs.declared.peer.PeerNo.{PeerNo}
+use Rattle.cf_block.specs.declared.tx.Block.{Block}
+use Rattle.cf_block.specs.Header.{block_hash_of}
+use Rattle.cf_headers.specs.Rules.{same}
+use Rattle.cf_headers.specs.Chain.{Hash, IsIn}
+use Rattle.cf_peer.specs.declared.event.Delivery.TheVariants.{Got}
+use Rattle.cf_peer.specs.declared.event.Event.{Event}
+use Rattle.cf_peer.specs.declared.event.Event.TheVariants.{Took}
+use Rattle.cf_peer.specs.Log.{Log}
+use Rattle.cf_peer.specs.Trail.{Part}
+use Rattle.cf_peer.specs.Asking.{counted, fetched}
+use Rattle.cf_scan.specs.declared.extracts.TxExtract.{TxExtract}
+use Rattle.cf_scan.specs.Extracts.{extract_of}
+use Rattle.cf_tracker.specs.Tables.{Table, with_blocks, IsSameTable}
+use Rattle.cf_sync.specs.Fetching.{counted_part, IsFetched, IsNoPiece, HoldsFetched}
+use Rattle.cf_sync.proofs.Listed.{in_left, in_right, in_either}
+use Rattle.cf_sync.proofs.Chains.{cases_same}
+use Rattle.cf_sync.proofs.SameFetched.{no_piece_brings, piece_of_another, same_fetched_back, same_holds}
+
+-- an extract with its block, one of these
+abbrev IsOfOne : List (List ℕ) → List Block → Hash → List TxExtract → Type 0
+IsOfOne watch blocks hash e = (b : Block) × IsIn b blocks × (block_hash_of b.header ≡ hash) × (e ≡ extract_of b watch)
+
+found_in : (watch : List (List ℕ)) (blocks : List Block) (table : Table) (hash : Hash) (e : List TxExtract) → with_blocks watch blocks table hash ≡ Some e
+    → IsOfOne watch blocks hash e ⊎ (table hash ≡ Some e)
+found_in watch [] table hash e is = inr is
+found_in watch (b ∷ blocks) table hash e is = elim (cases_same (block_hash_of b.header) hash) [
+  | inl here ↦ (let x = rw here.1 at is in let y : extract_of b watch ≡ e = cc in inl (b, inl refl, here.0, sym y))
+  | inr off ↦ (
+      let x = rw off.0 at is in
+      elim (found_in watch blocks table hash e x) [
+        | inl w ↦ inl (w.0, inr w.1, w.2, w.3)
+        | inr old ↦ inr old
+      ]
+      )
+]
+
+missing_in : (watch : List (List ℕ)) (blocks : List Block) (table : Table) (hash : Hash) → with_blocks watch blocks table hash ≡ None
+    → (table hash ≡ None) × ((b : Block) → IsIn b blocks → block_hash_of b.header ≡ hash → ⊥)
+missing_in watch [] table hash is = (is, λ b i e. i)
+missing_in watch (c ∷ blocks) table hash is = elim (cases_same (block_hash_of c.header) hash) [
+  | inl here ↦ (let x = rw here.1 at is in cc)
+  | inr off ↦ (
+      let x = rw off.0 at is in
+      let w = missing_in watch blocks table hash x in
+      (w.0, λ b i e. elim i [ inl one ↦ off.1 (sym (ap (λ (y : Block). block_hash_of y.header) one) ∙ e) | inr more ↦ w.1 b more e ])
+      )
+]
+
+-- where a later log has these blocks more of one peer, and of the others the same, the table is to get their extracts
+pub grown_holds : (watch : List (List ℕ)) (log later : Log) (p : ℕ) (news : List Block) (before after : Table) → fetched (counted_part later p) ≡ news ++ fetched (counted_part log p)
+    → ((q : ℕ) → (p == q) ≡ false → fetched (counted_part later q) ≡ fetched (counted_part log q)) → IsSameTable after (with_blocks watch news before)
+    → HoldsFetched watch log before → HoldsFetched watch later after
+grown_holds watch log later p news before after brings others same holds = record {
+  sound = λ hash e is. elim (found_in watch news before hash e (sym (same hash) ∙ is)) [
+    | inl w ↦ (w.0, (p, subst (λ (bs : List Block). IsIn w.0 bs) (sym brings) (in_left w.0 news (fetched (counted_part log p)) w.1)), w.2, w.3)
+    | inr old ↦ (let w = holds.sound hash e old in (w.0, stays w.0 w.1, w.2, w.3))
+  ];
+  complete = λ hash is got.
+      let w = missing_in watch news before hash (sym (same hash) ∙ is) in
+      elim (comes got.0 got.1) [
+        | inl old ↦ holds.complete hash w.0 (got.0, old, got.2)
+        | inr new ↦ w.1 got.0 new got.2
+      ];
+} where
+  stays : (b : Block) → IsFetched log b → IsFetched later b
+  stays b got = elim (cases_Bool (p == got.0)) [
+    | inl is ↦ (
+        let mine : IsIn b (fetched (counted_part log p)) = subst (λ (k : ℕ). IsIn b (fetched (counted_part log k))) (sym (eqb-true p got.0 is)) got.1 in
+        (p, subst (λ (bs : List Block). IsIn b bs) (sym brings) (in_right b news (fetched (counted_part log p)) mine))
+        )
+    | inr off ↦ (got.0, subst (λ (bs : List Block). IsIn b bs) (sym (others got.0 off)) got.1)
+  ]
+
+  comes : (b : Block) → IsFetched later b → IsFetched log b ⊎ IsIn b news
+  comes b got = elim (cases_Bool (p == got.0)) [
+    | inl is ↦ (
+        let mine : IsIn b (fetched (counted_part later p)) = subst (λ (k : ℕ). IsIn b (fetched (counted_part later k))) (sym (eqb-true p got.0 is)) got.1 in
+        elim (in_either b news (fetched (counted_part log p)) (subst (λ (bs : List Block). IsIn b bs) brings mine)) [ inl new ↦ inr new | inr old ↦ inl (p, old) ]
+        )
+    | inr off ↦ inl (got.0, subst (λ (bs : List Block). IsIn b bs) (others got.0 off) got.1)
+  ]
+
+-- an entry that is no piece
+pub holds_without : (watch : List (List ℕ)) (e : Event) (log : Log) (table : Table) → IsNoPiece e → HoldsFetched watch log table → HoldsFetched watch (e ∷ log) table
+holds_without watch e log table none holds = same_holds watch log (e ∷ log) table (same_fetched_back (e ∷ log) log (no_piece_brings e log none)) holds
+
+-- a piece
+pub holds_after_piece : (watch : List (List ℕ)) (p : PeerNo) (piece : List ℕ) (log : Log) (news : List Block) (before after : Table)
+    → fetched (counted_part (Took (Got p piece) ∷ log) p.0) ≡ news ++ fetched (counted_part log p.0) → IsSameTable after (with_blocks watch news before)
+    → HoldsFetched watch log before → HoldsFetched watch (Took (Got p piece) ∷ log) after
+holds_after_piece watch p piece log news before after brings same holds =
+    grown_holds watch log (Took (Got p piece) ∷ log) p.0 news before after brings
+    (λ q off. ap (λ (part : Part). fetched (counted part.trail)) (piece_of_another p piece log q off)) same holds

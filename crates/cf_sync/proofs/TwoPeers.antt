@@ -1,0 +1,748 @@
+-- The run with two peers, moment by moment: one is honest, all that was asked might be asked, and the history is the honest chain's.
+use Rattle.std.proofs.Common.{◌≡◌, ◌⊎◌, inl, inr, ℕ, ◌≤◌, List, [], ◌∷◌, ◌++◌, map, length, get_or, Option, Some, None, Bool, true, false, ◌||◌, ◌==◌, if◌then◌else◌, refl, sym, ◌∙◌, ap, subst, arith, length-append, eq-eqb, le-ltb}
+use Rattle.std.specs.Prelude.{nat_lt}
+use Rattle.std.specs.List.{flat_map}
+use Rattle.std.specs.FinMap.{empty, get-empty}
+use Rattle.std.proofs.Math.Facts.{sfits_lit}
+use Rattle.std.proofs.lemmas.Bool.{cases_Bool, false≢true, and_parts, eqb-true}
+use Rattle.std.proofs.lemmas.List.{append-nil}
+use Rattle.cf_bytes.specs.Compact.{compact}
+use Rattle.cf_bytes.specs.Hash.{hash_of}
+use Rattle.cf_bytes.specs.declared.peer.PeerNo.{PeerNo}
+use Rattle.cf_block.specs.declared.header.Header.{Header}
+use Rattle.cf_block.specs.declared.tx.Block.{Block}
+use Rattle.cf_block.specs.Header.{IsHeader, header_spelling, block_hash_of, genesis_header}
+use Rattle.cf_block.specs.Tx.{tx_spelling, txid_of}
+use Rattle.cf_block.specs.Outpoint.{outpoint_cmp, outpoint}
+use Rattle.cf_block.specs.Merkle.{nodes_within, hashed}
+use Rattle.cf_block.specs.Commitment.{spelled_txs, is_coinbase_tx}
+use Rattle.cf_block.proofs.HeaderLaws.{block_hash_length}
+use Rattle.cf_chain.specs.Good.{IsGoodTx, IsGoodChain}
+use Rattle.cf_chain.specs.Serve.{data_reply, headers_reply}
+use Rattle.cf_frame.specs.Stream.{StreamRead, read_stream}
+use Rattle.cf_frame.proofs.Streams.{stream_of_spelling}
+use Rattle.cf_headers.specs.Rules.{same, is_worked}
+use Rattle.cf_headers.specs.Chain.{Chain, no_hash, height_limit, fits, accept, Accepted, Longer, IsValidChain, IsIn, NoHashClash}
+use Rattle.cf_headers.specs.Shown.{IsShown, Shows, IsShownSpelling}
+use Rattle.cf_msg.specs.declared.msg.Msg.{Msg}
+use Rattle.cf_msg.specs.declared.msg.Msg.TheVariants.{Verack, Block as BlockMessage}
+use Rattle.cf_msg.specs.Message.{IsAddress, IsEntry, payload_of, frame_of}
+use Rattle.cf_msg.proofs.Table.{again, frame_fits}
+use Rattle.cf_msg.proofs.Sizes.{entries_size}
+use Rattle.cf_peer.specs.declared.event.Delivery.TheVariants.{Got}
+use Rattle.cf_peer.specs.declared.event.Event.TheVariants.{Dialled, Sent, Took}
+use Rattle.cf_peer.specs.Acts.{bytes_of, IsSendable}
+use Rattle.cf_peer.specs.Asking.{BlockOpen, request, is_wanted, is_committed, is_open, block_fault, verdict, counted, lists, fetched, fetched_by, block_entry, HasSaid, hashes_of, MayAsk, SameUse}
+use Rattle.cf_peer.specs.Log.{Log}
+use Rattle.cf_peer.specs.Trail.{Trail, Part, Called, Said, Asked, no_address, called_part, item_of_read, part_after, heard_part, message_in, one_message, spelled, asks, part_of, trail, connected, own, heard, longer_of, ends_by, fault_in, first}
+use Rattle.cf_scan.specs.Scan.{scan_of}
+use Rattle.cf_sync.specs.Example.{only_tx, only_header, only_block, only_hash, chain_of_one, honest_peer, liar, genesis_hash, no_stop, our_version, its_version, false_version, question, its_headers, false_headers, fetch, its_block, log_1, log_2, log_3, log_4, log_5, log_6, log_7, log_8, log_9, log_10, log_11, log_12, log_13, log_14, log_15, run_of_two}
+use Rattle.cf_sync.specs.Fetching.{IsQuiet, IsBusy, AreBytes, IsFetched, IsFetchedHash, Rightly}
+use Rattle.cf_sync.specs.Honesty.{Leaves, answers, AnswersAs, IsHonestOver, IsHonest, was_called, ShowsNoOther}
+use Rattle.cf_sync.specs.Sync.{strings_of, IsHashed, HasAsked}
+use Rattle.cf_sync.proofs.Chains.{same_from, same_self, same_true, heads, Setting}
+use Rattle.cf_sync.proofs.Serving.{next_reply, block_found}
+use Rattle.cf_sync.proofs.Counted.{same_use, said_counts, counted_said, fetched_said}
+use Rattle.cf_sync.proofs.Settles.{committed_is}
+use Rattle.cf_sync.proofs.Computed.{genesis_is, name_is, txid_is, header_fits_type, worked, previous_is_genesis, block_length, block_fits, committed, headers_size, small_bytes, version_small, false_version_small, verack_small, headers_small, false_headers_small, block_small}
+
+-- ---- bytes as they are read
+
+read_back : (m : Msg) → IsSendable m → read_stream (bytes_of m) ≡ record { frames = frame_of m ∷ []; rest = []; fault = None }
+read_back m good = stream_of_spelling (frame_of m) (frame_fits m good.spelled good.short)
+
+spelled_is : (m : Msg) → IsSendable m → spelled (bytes_of m) ≡ Some m
+spelled_is m good = ap (λ (r : StreamRead). one_message r.frames) (read_back m good) ∙ ap message_in (again m good.spelled)
+
+-- a part with no bytes that wait
+abbrev at_rest : Trail → Part
+at_rest t = record { trail = t; waits = [] }
+
+heard_is : (m : Msg) (t : Trail) → IsSendable m → heard_part (bytes_of m) (at_rest t) ≡ at_rest (Said m ∷ t)
+heard_is m t good = ap (λ (r : StreamRead). part_after r t) (read_back m good) ∙ ap (λ r. at_rest (item_of_read r ∷ t)) (again m good.spelled)
+
+sent_part : (p : PeerNo) (m : Msg) (log : Log) (t : Trail) → IsSendable m → part_of log p.0 ≡ at_rest t → part_of (Sent p (bytes_of m) ∷ log) p.0 ≡ at_rest (Asked m ∷ t)
+sent_part p m log t good e =
+    ap (λ (b : Bool). if b then record (part_of log p.0) { trail = asks (spelled (bytes_of m)) (trail log p.0) } else part_of log p.0) (eq-eqb p.0 p.0 refl)
+    ∙ ap (λ (part : Part). record part { trail = asks (spelled (bytes_of m)) part.trail }) e
+    ∙ ap (λ (o : Option Msg). at_rest (asks o t)) (spelled_is m good)
+
+got_part : (p : PeerNo) (m : Msg) (log : Log) (t : Trail) → IsSendable m → part_of log p.0 ≡ at_rest t → part_of (Took (Got p (bytes_of m)) ∷ log) p.0 ≡ at_rest (Said m ∷ t)
+got_part p m log t good e =
+    ap (λ (b : Bool). if b then heard_part (bytes_of m) (part_of log p.0) else part_of log p.0) (eq-eqb p.0 p.0 refl) ∙ ap (heard_part (bytes_of m)) e ∙ heard_is m t good
+
+-- ---- each message can be written
+
+address_fits : IsAddress no_address
+address_fits = record { services = omega arith; ip = refl; port = omega arith }
+
+our_length : length (payload_of our_version) ≡ 92
+unfolding payload_of compact
+our_length = refl
+
+our_sendable : IsSendable our_version
+our_sendable = record {
+  spelled = (sfits_lit tt, omega arith, sfits_lit tt, address_fits, address_fits, omega arith, omega arith, sfits_lit tt, omega arith);
+  short = omega (arith, our_length);
+}
+
+its_length : length (payload_of its_version) ≡ 92
+unfolding payload_of compact
+its_length = refl
+
+its_sendable : IsSendable its_version
+its_sendable = record {
+  spelled = (sfits_lit tt, omega arith, sfits_lit tt, address_fits, address_fits, omega arith, omega arith, sfits_lit tt, omega arith);
+  short = omega (arith, its_length);
+}
+
+false_length : length (payload_of false_version) ≡ 86
+unfolding payload_of compact
+false_length = refl
+
+false_sendable : IsSendable false_version
+false_sendable = record {
+  spelled = (sfits_lit tt, omega arith, sfits_lit tt, address_fits, address_fits, omega arith, omega arith, sfits_lit tt, omega arith);
+  short = omega (arith, false_length);
+}
+
+verack_sendable : IsSendable Verack
+unfolding payload_of
+verack_sendable = record { spelled = tt; short = omega arith }
+
+no_hash_32 : length no_hash ≡ 32
+unfolding no_hash
+no_hash_32 = refl
+
+question_length : length (payload_of question) ≡ 69
+unfolding payload_of compact
+question_length = omega (arith, length-append (block_hash_of genesis_header ++ []) no_hash, length-append (block_hash_of genesis_header) [], block_hash_length genesis_header, no_hash_32)
+
+question_sendable : IsSendable question
+question_sendable = record { spelled = (omega arith, omega arith, (block_hash_length genesis_header, tt), no_hash_32); short = omega (arith, question_length) }
+
+headers_sendable : IsSendable its_headers
+headers_sendable = record { spelled = (omega arith, (header_fits_type, tt)); short = omega (arith, headers_size) }
+
+none_length : length (payload_of false_headers) ≡ 1
+unfolding payload_of compact
+none_length = refl
+
+none_sendable : IsSendable false_headers
+none_sendable = record { spelled = (omega arith, tt); short = omega (arith, none_length) }
+
+entry_fits : IsEntry (block_entry only_hash)
+entry_fits = record { kind = omega arith; hash = block_hash_length only_header }
+
+fetch_sendable : IsSendable fetch
+unfolding payload_of
+fetch_sendable = record { spelled = (omega arith, (entry_fits, tt)); short = omega (arith, entries_size (block_entry only_hash ∷ []) (entry_fits, tt)) }
+
+block_sendable : IsSendable its_block
+unfolding payload_of
+block_sendable = record { spelled = block_fits; short = omega (arith, block_length) }
+
+-- ---- the parts, moment by moment
+
+abbrev t_1 : Trail
+t_1 = Called ∷ []
+
+abbrev t_2 : Trail
+t_2 = Asked our_version ∷ t_1
+
+abbrev t_3 : Trail
+t_3 = Said its_version ∷ t_2
+
+abbrev t_4 : Trail
+t_4 = Asked Verack ∷ t_3
+
+abbrev t_5 : Trail
+t_5 = Said Verack ∷ t_4
+
+abbrev t_6 : Trail
+t_6 = Asked question ∷ t_5
+
+abbrev t_7 : Trail
+t_7 = Said its_headers ∷ t_6
+
+abbrev t_8 : Trail
+t_8 = Asked fetch ∷ t_7
+
+abbrev t_9 : Trail
+t_9 = Said its_block ∷ t_8
+
+part_1 : part_of log_1 1 ≡ at_rest t_1
+part_1 = refl
+
+part_2 : part_of log_2 1 ≡ at_rest t_2
+part_2 = sent_part honest_peer our_version log_1 t_1 our_sendable part_1
+
+-- nothing passes of it while the other peer is heard
+part_9 : part_of log_9 1 ≡ at_rest t_2
+part_9 = part_2
+
+part_10 : part_of log_10 1 ≡ at_rest t_3
+part_10 = got_part honest_peer its_version log_9 t_2 its_sendable part_9
+
+part_11 : part_of log_11 1 ≡ at_rest t_4
+part_11 = sent_part honest_peer Verack log_10 t_3 verack_sendable part_10
+
+part_12 : part_of log_12 1 ≡ at_rest t_5
+part_12 = got_part honest_peer Verack log_11 t_4 verack_sendable part_11
+
+part_13 : part_of log_13 1 ≡ at_rest t_6
+part_13 = sent_part honest_peer question log_12 t_5 question_sendable part_12
+
+part_14 : part_of log_14 1 ≡ at_rest t_7
+part_14 = got_part honest_peer its_headers log_13 t_6 headers_sendable part_13
+
+part_15 : part_of log_15 1 ≡ at_rest t_8
+part_15 = sent_part honest_peer fetch log_14 t_7 fetch_sendable part_14
+
+part_16 : part_of run_of_two 1 ≡ at_rest t_9
+part_16 = got_part honest_peer its_block log_15 t_8 block_sendable part_15
+
+abbrev u_1 : Trail
+u_1 = Called ∷ []
+
+abbrev u_2 : Trail
+u_2 = Asked our_version ∷ u_1
+
+abbrev u_3 : Trail
+u_3 = Said false_version ∷ u_2
+
+abbrev u_4 : Trail
+u_4 = Asked Verack ∷ u_3
+
+abbrev u_5 : Trail
+u_5 = Said Verack ∷ u_4
+
+abbrev u_6 : Trail
+u_6 = Asked question ∷ u_5
+
+abbrev u_7 : Trail
+u_7 = Said false_headers ∷ u_6
+
+other_3 : part_of log_3 2 ≡ at_rest u_1
+other_3 = refl
+
+other_4 : part_of log_4 2 ≡ at_rest u_2
+other_4 = sent_part liar our_version log_3 u_1 our_sendable other_3
+
+other_5 : part_of log_5 2 ≡ at_rest u_3
+other_5 = got_part liar false_version log_4 u_2 false_sendable other_4
+
+other_6 : part_of log_6 2 ≡ at_rest u_4
+other_6 = sent_part liar Verack log_5 u_3 verack_sendable other_5
+
+other_7 : part_of log_7 2 ≡ at_rest u_5
+other_7 = got_part liar Verack log_6 u_4 verack_sendable other_6
+
+other_8 : part_of log_8 2 ≡ at_rest u_6
+other_8 = sent_part liar question log_7 u_5 question_sendable other_7
+
+other_9 : part_of log_9 2 ≡ at_rest u_7
+other_9 = got_part liar false_headers log_8 u_6 none_sendable other_8
+
+other_16 : part_of run_of_two 2 ≡ at_rest u_7
+other_16 = other_9
+
+-- what holds of a trail holds of the log
+of_part : (P : Trail → Type 0) (part : Part) (t : Trail) → part ≡ at_rest t → P t → P part.trail
+of_part P part t e h = subst (λ (x : Part). P x.trail) (sym e) h
+
+-- nobody else was there
+abbrev AreOfTwo : Log → Type 0
+AreOfTwo [] = Unit {0}
+AreOfTwo (Dialled q name ∷ log) = ((q.0 ≡ 1) ⊎ (q.0 ≡ 2)) × AreOfTwo log
+AreOfTwo (Sent q bytes ∷ log) = ((q.0 ≡ 1) ⊎ (q.0 ≡ 2)) × AreOfTwo log
+AreOfTwo (Took (Got q piece) ∷ log) = ((q.0 ≡ 1) ⊎ (q.0 ≡ 2)) × AreOfTwo log
+AreOfTwo (e ∷ log) = ⊥
+
+other_number : (q k : ℕ) → (1 == k) ≡ false → (2 == k) ≡ false → (q ≡ 1) ⊎ (q ≡ 2) → (q == k) ≡ false
+other_number q k a b (inl e) = ap (λ (n : ℕ). n == k) e ∙ a
+other_number q k a b (inr e) = ap (λ (n : ℕ). n == k) e ∙ b
+
+none_passes : (log : Log) (k : ℕ) → (1 == k) ≡ false → (2 == k) ≡ false → AreOfTwo log → part_of log k ≡ at_rest []
+none_passes [] k a b h = refl
+none_passes (Dialled q name ∷ log) k a b h =
+    ap (λ (x : Bool). if x then called_part (part_of log k) else part_of log k) (other_number q.0 k a b h.0) ∙ none_passes log k a b h.1
+none_passes (Sent q bytes ∷ log) k a b h =
+    ap (λ (x : Bool). if x then record (part_of log k) { trail = asks (spelled bytes) (trail log k) } else part_of log k) (other_number q.0 k a b h.0) ∙ none_passes log k a b h.1
+none_passes (Took (Got q piece) ∷ log) k a b h =
+    ap (λ (x : Bool). if x then heard_part piece (part_of log k) else part_of log k) (other_number q.0 k a b h.0) ∙ none_passes log k a b h.1
+none_passes (e ∷ log) k a b h = absurd h
+
+all_of_two : AreOfTwo run_of_two
+all_of_two = (inl refl, (inl refl, (inl refl, (inl refl, (inl refl, (inl refl, (inl refl, (inr refl, (inr refl, (inr refl, (inr refl, (inr refl, (inr refl, (inr refl, (inl refl, (inl refl, tt))))))))))))))))
+
+-- what holds of both peers at a moment, and of nobody, holds of each
+at_each : (P : Trail → Type 0) (log : Log) (here there : Trail) (p : ℕ) → part_of log 1 ≡ at_rest here → part_of log 2 ≡ at_rest there → AreOfTwo log → P here → P there → P [] → P (trail log p)
+at_each P log here there p one two all h t none = elim (cases_Bool (1 == p)) [
+  | inl is1 ↦ subst (λ (k : ℕ). P (trail log k)) (eqb-true 1 p is1) (of_part P (part_of log 1) here one h)
+  | inr off1 ↦ elim (cases_Bool (2 == p)) [
+    | inl is2 ↦ subst (λ (k : ℕ). P (trail log k)) (eqb-true 2 p is2) (of_part P (part_of log 2) there two t)
+    | inr off2 ↦ of_part P (part_of log p) [] (none_passes log p off1 off2 all) none
+  ]
+]
+
+-- and at the end
+of_each : (P : Trail → Type 0) (p : ℕ) → P t_9 → P u_7 → P [] → P (trail run_of_two p)
+of_each P p here there none = at_each P run_of_two t_9 u_7 p part_16 other_16 all_of_two here there none
+
+-- ---- the chain of one block
+
+linked : same only_header.previous.0 (block_hash_of genesis_header) ≡ true
+linked = same_from only_header.previous.0 (block_hash_of genesis_header) previous_is_genesis
+
+linked_back : same (block_hash_of genesis_header) only_header.previous.0 ≡ true
+linked_back = same_from (block_hash_of genesis_header) only_header.previous.0 (sym previous_is_genesis)
+
+only_fits : fits only_header [] ≡ true
+only_fits = rw (linked, worked) refl
+
+has_room : 1 ≤ height_limit
+unfolding height_limit
+has_room = omega arith
+
+accepted : accept (only_header ∷ []) [] ≡ Longer (only_header ∷ [])
+accepted = let low : nat_lt height_limit 1 ≡ false = le-ltb height_limit 1 has_room in rw (linked_back, linked, worked, low) refl
+
+makes_coins : is_coinbase_tx only_tx ≡ true
+unfolding only_tx
+makes_coins = refl
+
+good_tx : IsGoodTx empty only_tx
+unfolding only_tx
+good_tx = record { inputs = tt; fresh = (get-empty outpoint_cmp (outpoint (txid_of only_tx) 0), tt) }
+
+good_chain : IsGoodChain chain_of_one
+good_chain = record {
+  headers = (only_fits, tt);
+  height = omega arith;
+  each = (record { spelled = block_fits; committed = committed; coinbase = (makes_coins, tt); txs = (good_tx, tt) }, tt);
+}
+
+-- ---- the strings
+
+abbrev IsKnown : List ℕ → Type 0
+IsKnown bytes = (bytes ≡ header_spelling genesis_header) ⊎ ((bytes ≡ header_spelling only_header) ⊎ (bytes ≡ tx_spelling only_tx))
+
+abbrev first_byte : List ℕ → ℕ
+first_byte bytes = get_or bytes 0 0
+
+genesis_byte : first_byte (hash_of (header_spelling genesis_header)) ≡ 6
+unfolding block_hash_of
+genesis_byte = ap first_byte genesis_is
+
+header_byte : first_byte (hash_of (header_spelling only_header)) ≡ 191
+unfolding block_hash_of
+header_byte = ap first_byte name_is
+
+tx_byte : first_byte (hash_of (tx_spelling only_tx)) ≡ 60
+unfolding txid_of
+tx_byte = ap first_byte txid_is
+
+zero_byte : first_byte no_hash ≡ 0
+unfolding no_hash
+zero_byte = refl
+
+byte_known : (a : List ℕ) (s : List ℕ) (n : ℕ) → a ≡ s → first_byte (hash_of s) ≡ n → first_byte (hash_of a) ≡ n
+byte_known a s n e f = ap (λ x. first_byte (hash_of x)) e ∙ f
+
+no_clash : NoHashClash IsKnown
+no_clash = record { apart = apart; real = real } where
+  bytes_of_both : (a b s t : List ℕ) (m n : ℕ) → a ≡ s → b ≡ t → first_byte (hash_of s) ≡ m → first_byte (hash_of t) ≡ n → hash_of a ≡ hash_of b → m ≡ n
+  bytes_of_both a b s t m n ea eb fs ft e = sym (byte_known a s m ea fs) ∙ ap first_byte e ∙ byte_known b t n eb ft
+
+  apart : (a b : List ℕ) → IsKnown a → IsKnown b → hash_of a ≡ hash_of b → a ≡ b
+  apart a b (inl i) (inl j) e = i ∙ sym j
+  apart a b (inl i) (inr (inl j)) e = absurd (let f = bytes_of_both a b _ _ 6 191 i j genesis_byte header_byte e in omega (arith, f))
+  apart a b (inl i) (inr (inr j)) e = absurd (let f = bytes_of_both a b _ _ 6 60 i j genesis_byte tx_byte e in omega (arith, f))
+  apart a b (inr (inl i)) (inl j) e = absurd (let f = bytes_of_both a b _ _ 191 6 i j header_byte genesis_byte e in omega (arith, f))
+  apart a b (inr (inl i)) (inr (inl j)) e = i ∙ sym j
+  apart a b (inr (inl i)) (inr (inr j)) e = absurd (let f = bytes_of_both a b _ _ 191 60 i j header_byte tx_byte e in omega (arith, f))
+  apart a b (inr (inr i)) (inl j) e = absurd (let f = bytes_of_both a b _ _ 60 6 i j tx_byte genesis_byte e in omega (arith, f))
+  apart a b (inr (inr i)) (inr (inl j)) e = absurd (let f = bytes_of_both a b _ _ 60 191 i j tx_byte header_byte e in omega (arith, f))
+  apart a b (inr (inr i)) (inr (inr j)) e = i ∙ sym j
+
+  real : (a : List ℕ) → IsKnown a → hash_of a ≡ no_hash → ⊥
+  real a (inl i) e = (let f : 6 ≡ 0 = sym (byte_known a _ 6 i genesis_byte) ∙ ap first_byte e ∙ zero_byte in absurd (omega (arith, f)))
+  real a (inr (inl i)) e = (let f : 191 ≡ 0 = sym (byte_known a _ 191 i header_byte) ∙ ap first_byte e ∙ zero_byte in absurd (omega (arith, f)))
+  real a (inr (inr i)) e = (let f : 60 ≡ 0 = sym (byte_known a _ 60 i tx_byte) ∙ ap first_byte e ∙ zero_byte in absurd (omega (arith, f)))
+
+hashed_known : (bytes : List ℕ) → IsIn bytes (hashed (spelled_txs only_block)) → IsKnown bytes
+unfolding nodes_within
+hashed_known bytes (inl e) = inr (inr e)
+hashed_known bytes (inr none) = absurd none
+
+block_known : (bytes : List ℕ) → IsIn bytes (strings_of its_block) → IsKnown bytes
+block_known bytes (inl e) = inr (inl e)
+block_known bytes (inr i) = hashed_known bytes i
+
+headers_known : (bytes : List ℕ) → IsIn bytes (strings_of its_headers) → IsKnown bytes
+headers_known bytes (inl e) = inr (inl e)
+headers_known bytes (inr none) = absurd none
+
+abbrev SaysKnown : Trail → Type 0
+SaysKnown t = (m : Msg) (bytes : List ℕ) → HasSaid t m → IsIn bytes (strings_of m) → IsKnown bytes
+
+says_9 : SaysKnown t_9
+says_9 m bytes (inl e) i = block_known bytes (subst (λ (x : Msg). IsIn bytes (strings_of x)) e i)
+says_9 m bytes (inr (inl e)) i = headers_known bytes (subst (λ (x : Msg). IsIn bytes (strings_of x)) e i)
+says_9 m bytes (inr (inr (inl e))) i = absurd (subst (λ (x : Msg). IsIn bytes (strings_of x)) e i)
+says_9 m bytes (inr (inr (inr (inl e)))) i = absurd (subst (λ (x : Msg). IsIn bytes (strings_of x)) e i)
+says_9 m bytes (inr (inr (inr (inr none)))) i = absurd none
+
+says_7 : SaysKnown u_7
+says_7 m bytes (inl e) i = absurd (subst (λ (x : Msg). IsIn bytes (strings_of x)) e i)
+says_7 m bytes (inr (inl e)) i = absurd (subst (λ (x : Msg). IsIn bytes (strings_of x)) e i)
+says_7 m bytes (inr (inr (inl e))) i = absurd (subst (λ (x : Msg). IsIn bytes (strings_of x)) e i)
+says_7 m bytes (inr (inr (inr none))) i = absurd none
+
+run_known : (bytes : List ℕ) → IsHashed run_of_two chain_of_one bytes → IsKnown bytes
+run_known bytes (inl e) = inl e
+run_known bytes (inr (inl received)) = of_each SaysKnown received.0 says_9 says_7 (λ m b none i. absurd none) received.1.0 bytes received.1.1 received.1.2
+run_known bytes (inr (inr of_blocks)) = elim of_blocks.1 [
+  | inl e ↦ block_known bytes (subst (λ (x : Block). IsIn bytes (strings_of (BlockMessage x))) e of_blocks.2)
+  | inr none ↦ absurd none
+]
+
+pub run_apart : NoHashClash (IsHashed run_of_two chain_of_one)
+run_apart = record {
+  apart = λ a b i j e. no_clash.apart a b (run_known a i) (run_known b j) e;
+  real = λ a i e. no_clash.real a (run_known a i) e;
+}
+
+-- ---- what the machine of the chain answers
+
+only_one : (h : Header) → IsShown (heads chain_of_one ∷ []) h → h ≡ only_header
+only_one h (inl (inl e)) = e
+only_one h (inl (inr none)) = absurd none
+only_one h (inr none) = absurd none
+
+shown_known : (bytes : List ℕ) → IsShownSpelling (heads chain_of_one ∷ []) bytes → IsKnown bytes
+shown_known bytes s = elim s.known [
+  | inl e ↦ inl (s.is ∙ ap header_spelling e)
+  | inr i ↦ inr (inl (s.is ∙ ap header_spelling (only_one s.header i)))
+]
+
+setting : Setting chain_of_one
+setting = record {
+  valid = (only_fits, tt);
+  low = has_room;
+  committed = λ b i. elim i [ inl e ↦ subst (λ (x : Block). is_committed x ≡ true) (sym e) (committed_is only_block committed) | inr none ↦ absurd none ];
+  apart = record {
+    fit = λ h i. subst IsHeader (sym (only_one h i)) header_fits_type;
+    apart = record {
+      apart = λ a b i j e. no_clash.apart a b (shown_known a i) (shown_known b j) e;
+      real = λ a i e. no_clash.real a (shown_known a i) e;
+    };
+  };
+}
+
+headers_answer : headers_reply (genesis_hash ∷ []) no_stop chain_of_one ≡ its_headers ∷ []
+headers_answer = next_reply chain_of_one setting 0 (genesis_hash ∷ []) no_stop (omega arith) refl refl
+
+block_answer : flat_map (data_reply chain_of_one) (block_entry only_hash ∷ []) ≡ its_block ∷ []
+block_answer =
+    append-nil _ ∙ ap (map (λ (b : Block). BlockMessage b)) (block_found chain_of_one setting 0 only_hash (omega arith) refl)
+
+answers_6 : answers chain_of_one t_6 ≡ its_version ∷ Verack ∷ its_headers ∷ []
+answers_6 = ap (λ (x : List Msg). its_version ∷ Verack ∷ (x ++ [])) headers_answer
+
+answers_8 : answers chain_of_one t_8 ≡ its_version ∷ Verack ∷ its_headers ∷ its_block ∷ []
+answers_8 =
+    ap (λ (x : List Msg). its_version ∷ Verack ∷ (x ++ (flat_map (data_reply chain_of_one) (block_entry only_hash ∷ []) ++ []))) headers_answer
+    ∙ ap (λ (x : List Msg). its_version ∷ Verack ∷ its_headers ∷ (x ++ [])) block_answer
+
+says_1 : AnswersAs chain_of_one t_1
+says_1 = record { spelled = tt; follows = ([], refl) }
+
+says_2 : AnswersAs chain_of_one t_2
+says_2 = record { spelled = tt; follows = (its_version ∷ Verack ∷ [], refl) }
+
+says_3 : AnswersAs chain_of_one t_3
+says_3 = record { spelled = tt; follows = (Verack ∷ [], ((refl, refl), refl)) }
+
+says_4 : AnswersAs chain_of_one t_4
+says_4 = record { spelled = tt; follows = (Verack ∷ [], ((refl, refl), refl)) }
+
+says_5 : AnswersAs chain_of_one t_5
+says_5 = record { spelled = tt; follows = ([], ((refl, refl), (refl, refl))) }
+
+says_6 : AnswersAs chain_of_one t_6
+says_6 = record { spelled = tt; follows = (its_headers ∷ [], subst (λ (ns : List Msg). Leaves (its_version ∷ Verack ∷ []) ns (its_headers ∷ [])) (sym answers_6) ((refl, refl), (refl, refl))) }
+
+heard_7 : AnswersAs chain_of_one t_7
+heard_7 = record { spelled = tt; follows = ([], subst (λ (ns : List Msg). Leaves (its_version ∷ Verack ∷ its_headers ∷ []) ns []) (sym answers_6) ((refl, refl), (refl, (refl, refl)))) }
+
+heard_8 : AnswersAs chain_of_one t_8
+heard_8 = record { spelled = tt; follows = (its_block ∷ [], subst (λ (ns : List Msg). Leaves (its_version ∷ Verack ∷ its_headers ∷ []) ns (its_block ∷ [])) (sym answers_8) ((refl, refl), (refl, (refl, refl)))) }
+
+heard_9 : AnswersAs chain_of_one t_9
+heard_9 = record { spelled = tt; follows = ([], subst (λ (ns : List Msg). Leaves (its_version ∷ Verack ∷ its_headers ∷ its_block ∷ []) ns []) (sym answers_8) ((refl, refl), (refl, (refl, (refl, refl))))) }
+
+-- at a moment of the log
+at_log : (log : Log) (t : Trail) → part_of log 1 ≡ at_rest t → AnswersAs chain_of_one t → AnswersAs chain_of_one (trail log 1)
+at_log log t e h = of_part (AnswersAs chain_of_one) (part_of log 1) t e h
+
+honest_9 : IsHonestOver log_9 1 chain_of_one
+honest_9 = (
+  at_log log_9 t_2 part_2 says_2,
+  tt,
+  tt,
+  (
+    at_log log_8 t_2 part_2 says_2,
+    tt,
+    tt,
+    (
+      at_log log_7 t_2 part_2 says_2,
+      tt,
+      tt,
+      (
+        at_log log_6 t_2 part_2 says_2,
+        tt,
+        tt,
+        (
+          at_log log_5 t_2 part_2 says_2,
+          tt,
+          tt,
+          (
+            at_log log_4 t_2 part_2 says_2,
+            tt,
+            tt,
+            (
+              at_log log_3 t_2 part_2 says_2,
+              tt,
+              tt,
+              (at_log log_2 t_2 part_2 says_2, tt, tt, (at_log log_1 t_1 part_1 says_1, tt, tt, tt)),
+            ),
+          ),
+        ),
+      ),
+    ),
+  ),
+)
+
+pub is_honest : IsHonest run_of_two 1 chain_of_one
+is_honest = record {
+  good = good_chain;
+  low = has_room;
+  dialled = of_part (λ t. was_called t ≡ true) (part_of run_of_two 1) t_9 part_16 refl;
+  honest = (
+    at_log run_of_two t_9 part_16 heard_9,
+    tt,
+    tt,
+    (
+      at_log log_15 t_8 part_15 heard_8,
+      tt,
+      tt,
+      (
+        at_log log_14 t_7 part_14 heard_7,
+        tt,
+        tt,
+        (
+          at_log log_13 t_6 part_13 says_6,
+          tt,
+          tt,
+          (at_log log_12 t_5 part_12 says_5, tt, tt, (at_log log_11 t_4 part_11 says_4, tt, tt, (at_log log_10 t_3 part_10 says_3, tt, tt, honest_9))),
+        ),
+      ),
+    ),
+  );
+}
+
+-- ---- what was asked might be asked
+
+own_7 : own t_7 ≡ only_header ∷ []
+own_7 = ap (λ (a : Accepted). longer_of a []) accepted
+
+may_fetch : MayAsk t_7 fetch
+may_fetch = (
+  record { on = refl; over = refl; idle = refl },
+  (only_hash, refl, subst (λ (c : Chain). IsIn only_hash.0 (hashes_of c)) (sym own_7) (inl refl)),
+)
+
+-- before the block came none was fetched
+abbrev HasNone : Trail → Type 0
+HasNone t = (b : Block) → IsIn b (fetched (counted t)) → ⊥
+
+unsaid : (t : Trail) → ((b : Block) → HasSaid t (BlockMessage b) → ⊥) → HasNone t
+unsaid t none b i = none b (counted_said t (BlockMessage b) (fetched_said (counted t) b i).0)
+
+no_block_7 : (b : Block) → HasSaid t_7 (BlockMessage b) → ⊥
+no_block_7 b (inl e) = cc
+no_block_7 b (inr (inl e)) = cc
+no_block_7 b (inr (inr (inl e))) = cc
+no_block_7 b (inr (inr (inr none))) = none
+
+no_other_block : (b : Block) → HasSaid u_7 (BlockMessage b) → ⊥
+no_other_block b (inl e) = cc
+no_other_block b (inr (inl e)) = cc
+no_other_block b (inr (inr (inl e))) = cc
+no_other_block b (inr (inr (inr none))) = none
+
+none_fetched : (b : Block) → IsFetched log_14 b → ⊥
+none_fetched b got = at_each HasNone log_14 t_7 u_7 got.0 part_14 other_16 all_of_two.1.1 (unsaid t_7 no_block_7) (unsaid u_7 no_other_block) (λ c i. i) b got.1
+
+busy_1 : (log : Log) → part_of log 1 ≡ at_rest t_2 → IsBusy log
+busy_1 log e = (1, of_part (λ t. is_open t ≡ true) (part_of log 1) t_2 e refl)
+
+pub is_right : Rightly run_of_two
+is_right = (
+  (1, of_part (λ t. is_open t ≡ true) (part_of log_15 1) t_8 part_15 refl),
+  (
+    (fetch, spelled_is fetch fetch_sendable, record { of_its_part = of_part (λ t. MayAsk t fetch) (part_of log_14 1) t_7 part_14 may_fetch; wanted = λ entry i got. none_fetched got.0 got.1 }),
+    (
+      (1, of_part (λ t. is_open t ≡ true) (part_of log_13 1) t_6 part_13 refl),
+      (
+        (question, spelled_is question question_sendable, record { of_its_part = of_part (λ t. MayAsk t question) (part_of log_12 1) t_5 part_12 (record { on = refl; over = refl; idle = refl }, refl, refl, refl, refl); wanted = tt }),
+        (
+          (1, of_part (λ t. is_open t ≡ true) (part_of log_11 1) t_4 part_11 refl),
+          (
+            (Verack, spelled_is Verack verack_sendable, record { of_its_part = of_part (λ t. MayAsk t Verack) (part_of log_10 1) t_3 part_10 (refl, refl); wanted = tt }),
+            (busy_1 log_9 part_2, right_9),
+          ),
+        ),
+      ),
+    ),
+  ),
+) where
+  right_9 : Rightly log_9
+  right_9 = (
+    busy_1 log_8 part_2,
+    (
+      (question, spelled_is question question_sendable, record { of_its_part = of_part (λ t. MayAsk t question) (part_of log_7 2) u_5 other_7 (record { on = refl; over = refl; idle = refl }, refl, refl, refl, refl); wanted = tt }),
+      (
+        busy_1 log_6 part_2,
+        (
+          (Verack, spelled_is Verack verack_sendable, record { of_its_part = of_part (λ t. MayAsk t Verack) (part_of log_5 2) u_3 other_5 (refl, refl); wanted = tt }),
+          (
+            busy_1 log_4 part_2,
+            (
+              (our_version, spelled_is our_version our_sendable, record { of_its_part = of_part (λ t. MayAsk t our_version) (part_of log_3 2) u_1 other_3 (refl, refl, (refl, refl, refl, refl, refl, refl, refl)); wanted = tt }),
+              ((our_version, spelled_is our_version our_sendable, record { of_its_part = of_part (λ t. MayAsk t our_version) (part_of log_1 1) t_1 part_1 (refl, refl, (refl, refl, refl, refl, refl, refl, refl)); wanted = tt }), tt),
+            ),
+          ),
+        ),
+      ),
+    ),
+  )
+
+-- ---- the end
+
+clean_7 : verdict t_7 ≡ None
+clean_7 = ap fault_in accepted
+
+only_wanted : is_wanted only_block only_hash.0 ≡ true
+only_wanted = same_self (block_hash_of only_header)
+
+clean_9 : verdict t_9 ≡ None
+clean_9 = ap (λ x. first x (block_fault only_block (BlockOpen only_hash.0))) clean_7 ∙ rw (only_wanted, committed_is only_block committed) refl
+
+own_9 : own (counted t_9) ≡ only_header ∷ []
+own_9 = (same_use t_9 refl clean_9).chain ∙ own_7
+
+heard_out_7 : heard t_7 ≡ true
+heard_out_7 = ap (λ (a : Accepted). ends_by a (only_header ∷ [])) accepted
+
+heard_out_9 : heard (counted t_9) ≡ true
+heard_out_9 = (same_use t_9 refl clean_9).hearing ∙ ap (λ (b : Bool). b || false) heard_out_7
+
+lists_9 : lists (counted t_9) ≡ (only_header ∷ []) ∷ []
+lists_9 = (same_use t_9 refl clean_9).showing
+
+fetched_9 : IsIn only_block (fetched (counted t_9))
+fetched_9 =
+    let open_8 : request (counted t_8) ≡ BlockOpen only_hash.0 = (same_use t_8 refl clean_7).open_one in
+    let one : counted t_9 ≡ Said its_block ∷ counted t_8 = said_counts its_block t_8 refl clean_9 in
+    let by : fetched_by its_block (request (counted t_8)) ≡ only_block ∷ [] = ap (λ r. fetched_by its_block r) open_8 ∙ rw (only_wanted, committed_is only_block committed) refl in
+    subst (λ (t : Trail). IsIn only_block (fetched t)) (sym one) (subst (λ (bs : List Block). IsIn only_block (bs ++ fetched (counted t_8))) (sym by) (inl refl))
+
+clean_other : verdict u_7 ≡ None
+clean_other = refl
+
+same_other : SameUse u_7
+same_other = same_use u_7 refl clean_other
+
+is_fetched : IsFetched run_of_two only_block
+is_fetched = (1, of_part (λ t. IsIn only_block (fetched (counted t))) (part_of run_of_two 1) t_9 part_16 fetched_9)
+
+pub is_quiet : IsQuiet run_of_two
+is_quiet p = of_each (λ t. is_open t ≡ false) p (rw only_wanted refl) refl refl
+
+-- the only header makes one chain
+one_chain : (chain : Chain) → IsValidChain chain → ((h : Header) → IsIn h chain → h ≡ only_header) → 1 ≤ length chain → chain ≡ only_header ∷ []
+one_chain [] valid all long = absurd (omega (arith, long))
+one_chain (x ∷ []) valid all long = ap (λ (h : Header). h ∷ []) (all x (inl refl))
+one_chain (x ∷ y ∷ below) valid all long =
+    let up : x ≡ only_header = all x (inl refl) in
+    let down : y ≡ only_header = all y (inr (inl refl)) in
+    let link : x.previous.0 ≡ block_hash_of y = same_true x.previous.0 (block_hash_of y) (and_parts (same x.previous.0 (block_hash_of y)) (is_worked x) valid.0).0 in
+    let both : block_hash_of genesis_header ≡ block_hash_of only_header = sym previous_is_genesis ∙ ap (λ (h : Header). h.previous.0) (sym up) ∙ link ∙ ap block_hash_of down in
+    let f : 6 ≡ 191 = sym (ap first_byte genesis_is) ∙ ap first_byte both ∙ ap first_byte name_is in
+    absurd (omega (arith, f))
+
+abbrev ShowsOnly : Chain → Trail → Type 0
+ShowsOnly other t = connected t ≡ true → Shows (lists (counted t)) other → 1 ≤ length other → other ≡ only_header ∷ []
+
+none_shown : (other : Chain) (ls : List (List Header)) → ((h : Header) → IsShown ls h → ⊥) → Shows ls other → 1 ≤ length other → other ≡ only_header ∷ []
+none_shown [] ls none shows long = absurd (omega (arith, long))
+none_shown (h ∷ below) ls none shows long = absurd (none h (shows.told h (inl refl)))
+
+pub shows_no_other : ShowsNoOther run_of_two chain_of_one
+shows_no_other q other on shows long =
+    of_each (ShowsOnly other) q
+    (λ is1 s l. one_chain other s.valid (λ h i. told h (subst (λ (ls : List (List Header)). IsShown ls h) lists_9 (s.told h i))) l)
+    (λ is1 s l. none_shown other (lists (counted u_7)) (λ h i. nothing h (subst (λ (ls : List (List Header)). IsShown ls h) same_other.showing i)) s l)
+    (λ is1 s l. absurd (false≢true is1))
+    on shows long where
+      told : (h : Header) → IsShown ((only_header ∷ []) ∷ []) h → h ≡ only_header
+      told h (inl (inl e)) = e
+      told h (inl (inr none)) = absurd none
+      told h (inr none) = absurd none
+
+      nothing : (h : Header) → IsShown ([] ∷ []) h → ⊥
+      nothing h (inl none) = none
+      nothing h (inr none) = none
+
+are_bytes : AreBytes run_of_two
+are_bytes = (
+  small_bytes (bytes_of its_block) block_small,
+  (
+    small_bytes (bytes_of its_headers) headers_small,
+    (
+      small_bytes (bytes_of Verack) verack_small,
+      (
+        small_bytes (bytes_of its_version) version_small,
+        (small_bytes (bytes_of false_headers) false_headers_small, (small_bytes (bytes_of Verack) verack_small, (small_bytes (bytes_of false_version) false_version_small, tt))),
+      ),
+    ),
+  ),
+)
+
+settled : (block : List ℕ) → IsIn block (hashes_of (only_header ∷ [])) → IsFetchedHash run_of_two block
+settled block (inl e) = (only_block, is_fetched, sym e)
+settled block (inr none) = absurd none
+
+pub has_asked : (watch : List (List ℕ)) → HasAsked watch 1 only_hash (scan_of chain_of_one watch) run_of_two
+has_asked watch = record {
+  bytes = are_bytes;
+  rightly = is_right;
+  told = record {
+    chain = only_header ∷ [];
+    best = record {
+      longest = λ p on. of_each (λ t. length (own (counted t)) ≤ 1) p
+          (let e = ap (λ (c : Chain). length c) own_9 in omega (arith, e)) (let e = ap (λ (c : Chain). length c) same_other.chain in omega (arith, e)) (omega arith);
+      shown = inl (1, (of_part (λ t. connected t ≡ true) (part_of run_of_two 1) t_9 part_16 refl, of_part (λ t. own (counted t) ≡ only_header ∷ []) (part_of run_of_two 1) t_9 part_16 own_9));
+    };
+    height_is = refl;
+    hash_is = refl;
+    scanned = record { blocks = chain_of_one; taken = (inl (is_fetched, refl), tt); history = refl };
+  };
+  asked_out = λ p on idle. record {
+    heard_out = of_each (λ t. connected t ≡ true → heard (counted t) ≡ true) p (λ is1. heard_out_9) (λ is1. same_other.hearing) (λ is1. absurd (false≢true is1)) on;
+    settled = λ spare mine block i. settled block i;
+  };
+}

@@ -1,0 +1,4 @@
+pub mod Fetching
+pub mod Honesty
+pub mod Sync
+pub mod Example
