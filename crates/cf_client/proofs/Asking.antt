@@ -1,30 +1,74 @@
 -- The messages that the client sends of itself.
-use Rattle.std.proofs.Common.{◌≡◌, ◌<◌, ◌^◌, ℕ, ℤ, pos, List, [], ◌∷◌, length, replicate, codes, Some, refl, ◌∙◌, ap, arith, lit<, lit≤}
-use Rattle.std.specs.Prelude.{FitsSigned}
+use Rattle.std.proofs.Common.{◌≡◌, ◌<◌, ◌≤◌, ◌^◌, ℕ, ℤ, pos, suc, zero, nat_lt, Bool, true, false, if◌then◌else◌, List, [], ◌∷◌, length, map, replicate, codes, Some, refl, sym, ◌∙◌, ap, subst, arith, lit<}
+use Rattle.std.specs.Prelude.{FitsSigned, ◌+◌, ◌*◌, ◌-◌}
+use Rattle.std.specs.List.{AllByRecursion}
+use Rattle.std.proofs.lemmas.List.{length-map}
 use mir.Facts.{sfits_lit}
 use Rattle.std.specs.Int.{w64}
 use Rattle.cf_bytes.specs.declared.hash.Hash32.{Hash32}
 use Rattle.cf_bytes.proofs.HashLemmas.{length-hash_of}
-use Rattle.cf_block.specs.Header.{block_hash_of, genesis_header, header_spelling}
-use Rattle.cf_headers.specs.Chain.{no_hash}
-use Rattle.cf_msg.specs.declared.msg.Msg.TheVariants.{Version, GetHeaders}
-use Rattle.cf_msg.proofs.Sizes.{version_size, getheaders_size}
+use Rattle.cf_block.specs.declared.header.Header.{Header}
+use Rattle.cf_block.specs.Header.{block_hash_of, genesis_header, header_spelling, IsHash}
+use Rattle.cf_headers.specs.Chain.{Chain, no_hash, locator_from, locator_of, IsWithinLimit}
+use Rattle.cf_headers.proofs.Locators.{locator_fits}
+use Rattle.cf_msg.specs.declared.msg.Entry.{Entry}
+use Rattle.cf_msg.specs.declared.msg.Msg.TheVariants.{Version, GetHeaders, GetData}
+use Rattle.cf_msg.specs.Message.{payload_of, IsEntry}
+use Rattle.cf_msg.proofs.Sizes.{version_size, getheaders_size, entries_size}
+use Rattle.cf_peer.specs.Asking.{block_entry}
 use Rattle.cf_peer.specs.Trail.{no_address}
-use Rattle.cf_client.specs.Places.{IsGreeting, IsQuestion}
+use Rattle.cf_client.specs.Places.{IsGreeting, IsQuestion, IsFetch}
 
-genesis_length : (h : Hash32) → h.0 ≡ block_hash_of genesis_header → length h.0 ≡ 32
+-- the hashes of a locator have 32 bytes each
+abbrev IsLong : List ℕ → Type 0
+IsLong bytes = length bytes ≡ 32
+
+header_hash : (h : Header) → IsLong (block_hash_of h)
 unfolding block_hash_of
-genesis_length h e = ap length e ∙ length-hash_of (header_spelling genesis_header)
+header_hash h = length-hash_of (header_spelling h)
 
-pub question_is : (h stop : Hash32) → h.0 ≡ block_hash_of genesis_header → stop.0 ≡ replicate 32 0 → IsQuestion (GetHeaders 70016 (h ∷ []) stop)
+all_if : (b : Bool) (xs ys : List (List ℕ)) → AllByRecursion IsLong xs → AllByRecursion IsLong ys → AllByRecursion IsLong (if b then xs else ys)
+all_if true xs ys all other = all
+all_if false xs ys all other = other
+
+locator_hashes : (count gap skip : ℕ) (chain : Chain) → AllByRecursion IsLong (locator_from count gap skip chain)
+locator_hashes count gap skip [] = (header_hash genesis_header, tt)
+locator_hashes count gap (suc skip) (h ∷ below) = locator_hashes count gap skip below
+locator_hashes count gap zero (h ∷ below) = (
+  header_hash h,
+  all_if (nat_lt count 9) (locator_from (count + 1) 1 0 below) (locator_from (count + 1) (2 * gap) (2 * gap - 1) below)
+      (locator_hashes (count + 1) 1 0 below) (locator_hashes (count + 1) (2 * gap) (2 * gap - 1) below),
+)
+
+hashes_long : (hashes : List Hash32) → AllByRecursion IsLong (map (λ (h : Hash32). h.0) hashes) → AllByRecursion IsHash hashes
+hashes_long [] all = tt
+hashes_long (h ∷ hashes) all = (all.0, hashes_long hashes all.1)
+
+pub question_is : (chain : Chain) (hashes : List Hash32) (stop : Hash32) → IsWithinLimit chain → map (λ (h : Hash32). h.0) hashes ≡ locator_of chain → stop.0 ≡ replicate 32 0
+    → IsQuestion chain (GetHeaders 70016 hashes stop)
 unfolding no_hash
-question_is h stop e zeros =
-    let one : length h.0 ≡ 32 = genesis_length h e in
+question_is chain hashes stop low is zeros =
+    let all : AllByRecursion IsHash hashes = hashes_long hashes (subst (AllByRecursion IsLong) (sym is) (locator_hashes 0 1 0 chain)) in
+    let few : length hashes ≤ 101 = subst (λ (n : ℕ). n ≤ 101) (ap length (sym is) ∙ length-map hashes (λ (h : Hash32). h.0)) (locator_fits chain low) in
     let end : length stop.0 ≡ 32 = ap length zeros in
-    let size = getheaders_size 70016 (h ∷ []) stop (one, tt) end in
+    let size = getheaders_size 70016 hashes stop all end in
     record {
-      sendable = record { spelled = (lit< tt, lit≤ tt, (one, tt), end); short = omega (arith, size) };
-      asks = (refl, ap (λ (x : List ℕ). x ∷ []) e, zeros);
+      sendable = record { spelled = (lit< tt, few, all, end); short = omega (arith, size, few) };
+      asks = (refl, is, zeros);
+    }
+
+one_entry : (entries : List Entry) (hash : Hash32) → entries ≡ block_entry hash ∷ [] → length hash.0 ≡ 32 → AllByRecursion IsEntry entries
+one_entry entries hash is long = subst (AllByRecursion IsEntry) (sym is) (record { kind = lit< tt; hash = long }, tt)
+
+pub fetch_is : (hash : Hash32) (entries : List Entry) → entries ≡ block_entry hash ∷ [] → length hash.0 ≡ 32 → IsFetch hash (GetData entries)
+unfolding payload_of
+fetch_is hash entries is long =
+    let all : AllByRecursion IsEntry entries = one_entry entries hash is long in
+    let one : length entries ≡ 1 = ap length is in
+    let size = entries_size entries all in
+    record {
+      sendable = record { spelled = (omega (arith, one), all); short = omega (arith, size, one) };
+      asks = is;
     }
 
 pub greeting_is : (time : ℤ) (nonce : ℕ) (agent : List ℕ) → FitsSigned w64 time → nonce < 2 ^ 64 → agent ≡ codes "/cf:1/"

@@ -1,9 +1,13 @@
 pub mod Spelled
+pub mod Tracking
 pub mod Standing
+pub mod Settled
+pub mod Acting
+pub mod Hearing
 pub mod Taking
 pub mod Asking
-pub mod HonestLemmas
-pub mod Example
+pub mod Reporting
 pub mod Courses
 pub mod Performs
 pub mod Turns
+pub mod Innocent

@@ -17,7 +17,11 @@ use Rattle.cf_peer.specs.declared.event.Event.TheVariants.{Sent, SendFailed, Clo
 use Rattle.cf_peer.specs.declared.peer.Cause.{Cause}
 use Rattle.cf_peer.specs.Acts.{bytes_of}
 use Rattle.cf_peer.specs.Log.{Log, Told, Tells, tally_of, noted, tell, longer}
-use Rattle.cf_peer.specs.Trail.{Trail, Part, Why, Lost, Failing, Shutting, spelled, asks, with_item, part_of, trail, went_on, connected, is_open, failed, is_failing, Deserves, MayAsk}
+use Rattle.cf_peer.specs.Trail.{Trail, Part, Why, Lost, Failing, Shutting, spelled, asks, with_item, part_of, trail, went_on, connected, failed, is_failing}
+use Rattle.cf_peer.specs.Asking.{is_open, counted, fetched, Deserves, MayAsk}
+use Rattle.cf_headers.specs.declared.store.HeaderStore.{Ghosts}
+use Rattle.cf_sync.specs.Fetching.{counted_part}
+use Rattle.cf_client.specs.Tracks.{chain_kept}
 use Rattle.cf_client.specs.declared.client.Client.{Client}
 use Rattle.cf_client.specs.declared.place.Place.{Place}
 use Rattle.cf_client.specs.declared.place.Place.TheVariants.{Here, Lost as LostPlace}
@@ -29,6 +33,7 @@ use Rattle.cf_client.specs.declared.trace.TraceLine.TheVariants.{Sent as SentLin
 use Rattle.cf_client.specs.Places.{entry_of, MayAct, CutFor, Fits}
 use Rattle.cf_client.specs.Stands.{Reflects}
 use Rattle.cf_client.specs.Run.{Alike, Apart, Doing, ActsLeft, HoldsOver, state_at, is_pending, is_fine, IsTraceOf}
+use Rattle.cf_sync.proofs.SameFetched.{same_wanted, same_holds}
 use Rattle.cf_client.proofs.Spelled.{spelled_bytes}
 
 pub tells_more : (log : Log) (t : Told) (e : Event) → Tells log t → Tells (e ∷ log) (tell e t)
@@ -58,19 +63,49 @@ asked_failed true None part = refl
 asked_failed true (Some m) part = refl
 asked_failed false o part = refl
 
+asked_brought : (b : Bool) (o : Option Msg) (part : Part) → fetched (counted (if b then record part { trail = asks o part.trail } else part).trail) ≡ fetched (counted part.trail)
+asked_brought true None part = refl
+asked_brought true (Some m) part = refl
+asked_brought false o part = refl
+
 asked_alike : (b : Bool) (o : Option Msg) (t u : Part) → Alike t u
     → Alike (if b then record t { trail = asks o t.trail } else t) (if b then record u { trail = asks o u.trail } else u)
 asked_alike b o t u (inl same) = inl (ap (λ (x : Part). if b then record x { trail = asks o x.trail } else x) same)
-asked_alike b o t u (inr off) = inr (asked_connected b o t ∙ off.0, asked_connected b o u ∙ off.1, asked_failed b o t ∙ off.2 ∙ sym (asked_failed b o u))
+asked_alike b o t u (inr off) = inr (asked_connected b o t ∙ off.0, asked_connected b o u ∙ off.1, asked_failed b o t ∙ off.2 ∙ sym (asked_failed b o u), asked_brought b o t ∙ off.3 ∙ sym (asked_brought b o u))
 
 pub lost_off : (b : Bool) (w : Why) (part : Part) → connected part.trail ≡ false → connected (if b then with_item (Lost w) part else part).trail ≡ false
 lost_off true w part off = refl
 lost_off false w part off = off
 
+lost_brought : (b : Bool) (w : Why) (part : Part) → fetched (counted (if b then with_item (Lost w) part else part).trail) ≡ fetched (counted part.trail)
+lost_brought true w part = refl
+lost_brought false w part = refl
+
+alike_brought : (t u : Part) → Alike t u → fetched (counted t.trail) ≡ fetched (counted u.trail)
+alike_brought t u (inl same) = ap (λ (x : Part). fetched (counted x.trail)) same
+alike_brought t u (inr off) = off.3
+
 lost_alike : (b : Bool) (w : Why) (t u : Part) → Alike t u → Alike (if b then with_item (Lost w) t else t) (if b then with_item (Lost w) u else u)
 lost_alike true w t u (inl same) = inl (ap (with_item (Lost w)) same)
-lost_alike true w t u (inr off) = inr (refl, refl, ap (λ (x : Bool). is_failing w || x) off.2)
+lost_alike true w t u (inr off) = inr (refl, refl, ap (λ (x : Bool). is_failing w || x) off.2, off.3)
 lost_alike false w t u h = h
+
+-- what was brought is the same in the planned log and the actual one
+pub same_brought : (sends : List SendState) (planned actual : Log) → Apart sends planned actual → (q : ℕ) → fetched (counted_part planned q) ≡ fetched (counted_part actual q)
+same_brought sends planned actual apart q = elim (cases_Bool (is_pending (state_at sends q))) [
+  | inl is ↦ (apart.cut q is).2
+  | inr free ↦ alike_brought (part_of planned q) (part_of actual q) (apart.same q free)
+]
+
+-- an entry that brings nothing
+pub sent_brought : (p : PeerNo) (bytes : List ℕ) (log : Log) (q : ℕ) → fetched (counted_part (Sent p bytes ∷ log) q) ≡ fetched (counted_part log q)
+sent_brought p bytes log q = asked_brought (p.0 == q) (spelled bytes) (part_of log q)
+
+pub closed_brought : (p : PeerNo) (log : Log) (q : ℕ) → fetched (counted_part (Closed p ∷ log) q) ≡ fetched (counted_part log q)
+closed_brought p log q = lost_brought (p.0 == q) Shutting (part_of log q)
+
+pub failing_brought : (p : PeerNo) (log : Log) (q : ℕ) → fetched (counted_part (SendFailed p ∷ log) q) ≡ fetched (counted_part log q)
+failing_brought p log q = lost_brought (p.0 == q) Failing (part_of log q)
 
 pub sent_connected : (p : PeerNo) (bytes : List ℕ) (q : ℕ) (part : Part) → connected (went_on (Sent p bytes) q part).trail ≡ connected part.trail
 sent_connected p bytes q part = asked_connected (p.0 == q) (spelled bytes) part
@@ -103,7 +138,7 @@ asked_on t (Ping n) h = absurd h
 asked_on t (Pong n) h = h.0
 asked_on t (GetHeaders version locator stop) h = h.0.on
 asked_on t (Headers hs) h = absurd h
-asked_on t (GetData entries) h = absurd h
+asked_on t (GetData entries) h = h.0.on
 asked_on t (Inv entries) h = absurd h
 asked_on t (Block block) h = absurd h
 asked_on t (GetCfilters filter start stop) h = absurd h
@@ -118,8 +153,9 @@ pub skipped : (progress : Progress) (called : List (List ℕ)) (planned : Log) (
     → is_pending (state_at progress.sends p) ≡ true
     → ((q : ℕ) → q ≢ p → went_on e q (part_of planned q) ≡ part_of planned q)
     → (noted e (tally_of planned)).dials ≡ (tally_of planned).dials
+    → ((q : ℕ) → fetched (counted_part (e ∷ planned) q) ≡ fetched (counted_part planned q))
     → Doing progress called planned t → Doing progress called (e ∷ planned) t
-skipped progress called planned t p e is others dials doing = record {
+skipped progress called planned t p e is others dials brought doing = record {
   actual = doing.actual;
   notes = doing.notes;
   apart = record {
@@ -127,7 +163,7 @@ skipped progress called planned t p e is others dials doing = record {
       | inl here ↦ absurd (both_ways (is_pending (state_at progress.sends q)) free (ap (λ (k : ℕ). is_pending (state_at progress.sends k)) here ∙ is))
       | inr ne ↦ subst (λ (x : Part). Alike x (part_of doing.actual q)) (sym (others q ne)) (doing.apart.same q free)
     ];
-    cut = doing.apart.cut;
+    cut = λ q it. let c = doing.apart.cut q it in (c.0, c.1, brought q ∙ c.2);
     count = dials ∙ doing.apart.count;
   };
 }
@@ -143,12 +179,24 @@ pub sent_on : (progress : Progress) (trace : Vec TraceLine Global) (called : Lis
 sent_on progress trace called planned t p m command free line is may doing =
     let bytes = bytes_of m in
     let spells : spelled bytes ≡ Some m = spelled_bytes m may.1 in
-    let same : part_of planned p.0 ≡ part_of doing.actual p.0 = same_part progress.sends planned doing.actual p.0 doing.apart free (asked_on (trail planned p.0) m may.2) in
+    let same : part_of planned p.0 ≡ part_of doing.actual p.0 = same_part progress.sends planned doing.actual p.0 doing.apart free (asked_on (trail planned p.0) m may.2.of_its_part) in
     record {
       actual = Sent p bytes ∷ doing.actual;
       notes = record {
         tells = tells_more doing.actual t (Sent p bytes) doing.notes.tells;
-        rightly = ((m, spells, subst (λ (x : Part). MayAsk x.trail m) same may.2, (progress.sends, (planned, doing.apart, may))), doing.notes.rightly);
+        bytes = doing.notes.bytes;
+        rightly = (
+          (
+            m,
+            spells,
+            record {
+              of_its_part = subst (λ (x : Part). MayAsk x.trail m) same may.2.of_its_part;
+              wanted = same_wanted planned doing.actual (same_brought progress.sends planned doing.actual doing.apart) m may.2.wanted;
+            },
+          ),
+          doing.notes.rightly,
+        );
+        planned = ((m, spells, (progress.sends, (planned, doing.apart, may))), doing.notes.planned);
         traced = subst (λ (lines : List TraceLine). IsTraceOf (Sent p bytes ∷ doing.actual) lines) (sym (ap reverse line ∙ reverse_push progress.trace.items (SentLine p command)))
             ((refl, (m, spells, is)), doing.notes.traced);
         named = doing.notes.named;
@@ -159,8 +207,11 @@ sent_on progress trace called planned t p m command free line is may doing =
       };
       apart = record {
         same = λ q fine. asked_alike (p.0 == q) (spelled bytes) (part_of planned q) (part_of doing.actual q) (doing.apart.same q fine);
-        cut = λ q it. let c = doing.apart.cut q it in
-            (sent_connected p bytes q (part_of doing.actual q) ∙ c.0, asked_failed (p.0 == q) (spelled bytes) (part_of doing.actual q) ∙ c.1);
+        cut = λ q it. let c = doing.apart.cut q it in (
+          sent_connected p bytes q (part_of doing.actual q) ∙ c.0,
+          asked_failed (p.0 == q) (spelled bytes) (part_of doing.actual q) ∙ c.1,
+          sent_brought p bytes planned q ∙ c.2 ∙ sym (sent_brought p bytes doing.actual q),
+        );
         count = doing.apart.count;
       };
     }
@@ -183,7 +234,9 @@ closed_on progress trace called planned t p cause free line may doing =
       actual = Closed p ∷ doing.actual;
       notes = record {
         tells = tells_more doing.actual t (Closed p) doing.notes.tells;
+        bytes = doing.notes.bytes;
         rightly = ((cause, deserves), doing.notes.rightly);
+        planned = doing.notes.planned;
         traced = subst (λ (lines : List TraceLine). IsTraceOf (Closed p ∷ doing.actual) lines) (sym (ap reverse line ∙ reverse_push progress.trace.items (ClosedLine p cause)))
             ((refl, deserves), doing.notes.traced);
         named = doing.notes.named;
@@ -198,8 +251,11 @@ closed_on progress trace called planned t p cause free line may doing =
       };
       apart = record {
         same = λ q fine. lost_alike (p.0 == q) Shutting (part_of planned q) (part_of doing.actual q) (doing.apart.same q fine);
-        cut = λ q it. let c = doing.apart.cut q it in
-            (lost_off (p.0 == q) Shutting (part_of doing.actual q) c.0, closed_failed (p.0 == q) (part_of doing.actual q) ∙ c.1);
+        cut = λ q it. let c = doing.apart.cut q it in (
+          lost_off (p.0 == q) Shutting (part_of doing.actual q) c.0,
+          closed_failed (p.0 == q) (part_of doing.actual q) ∙ c.1,
+          closed_brought p planned q ∙ c.2 ∙ sym (closed_brought p doing.actual q),
+        );
         count = doing.apart.count;
       };
     } where
@@ -220,10 +276,11 @@ closed_again progress called planned t p free shut doing = record {
         ap (λ (x : Part). connected x.trail) (closed_here p q (part_of planned q) e),
         doing.notes.shut q (ap (λ (k : ℕ). get_or progress.closed k false) e ∙ shut),
         ap (λ (x : Part). failed x.trail) (closed_here p q (part_of planned q) e) ∙ alike_failed (part_of planned q) (part_of doing.actual q) (doing.apart.same q fine),
+        closed_brought p planned q ∙ alike_brought (part_of planned q) (part_of doing.actual q) (doing.apart.same q fine),
       )
       | inr ne ↦ subst (λ (x : Part). Alike x (part_of doing.actual q)) (sym (closed_others p q (part_of planned q) ne)) (doing.apart.same q fine)
     ];
-    cut = doing.apart.cut;
+    cut = λ q it. let c = doing.apart.cut q it in (c.0, c.1, closed_brought p planned q ∙ c.2);
     count = doing.apart.count;
   };
 } where
@@ -241,11 +298,15 @@ failed_on progress called planned t p m lt fine may doing =
     let here : state_at (set progress.sends p.0 Pending) p.0 ≡ Pending = get_or-set_same progress.sends p.0 Pending Fine lt in
     let there : (q : ℕ) → q ≢ p.0 → state_at (set progress.sends p.0 Pending) q ≡ state_at progress.sends q = λ q ne. get_or-set_other progress.sends p.0 q Pending Fine ne in
     let bytes = bytes_of m in
+    let brought : (q : ℕ) → fetched (counted_part (Sent p bytes ∷ planned) q) ≡ fetched (counted_part (SendFailed p ∷ doing.actual) q) =
+    λ q. sent_brought p bytes planned q ∙ same_brought progress.sends planned doing.actual doing.apart q ∙ sym (failing_brought p doing.actual q) in
     record {
       actual = SendFailed p ∷ doing.actual;
       notes = record {
         tells = tells_more doing.actual t (SendFailed p) doing.notes.tells;
+        bytes = doing.notes.bytes;
         rightly = doing.notes.rightly;
+        planned = doing.notes.planned;
         traced = doing.notes.traced;
         named = doing.notes.named;
         off = λ q not_it. elim (cases_eq q p.0) [
@@ -263,9 +324,16 @@ failed_on progress called planned t p m lt fine may doing =
             (subst (λ (x : Part). Alike (part_of planned q) x) (sym (failing_others p q (part_of doing.actual q) ne))
             (doing.apart.same q (sym (ap is_pending (there q ne)) ∙ none)));
         cut = λ q it. elim (cases_eq q p.0) [
-          | inl e ↦ (ap (λ (x : Part). connected x.trail) (failing_here p q (part_of doing.actual q) e), ap (λ (x : Part). failed x.trail) (failing_here p q (part_of doing.actual q) e))
-          | inr ne ↦ subst (λ (x : Part). (connected x.trail ≡ false) × (failed x.trail ≡ true)) (sym (failing_others p q (part_of doing.actual q) ne))
-              (doing.apart.cut q (sym (ap is_pending (there q ne)) ∙ it))
+          | inl e ↦ (
+            ap (λ (x : Part). connected x.trail) (failing_here p q (part_of doing.actual q) e),
+            ap (λ (x : Part). failed x.trail) (failing_here p q (part_of doing.actual q) e),
+            brought q,
+          )
+          | inr ne ↦ let c = doing.apart.cut q (sym (ap is_pending (there q ne)) ∙ it) in (
+            ap (λ (x : Part). connected x.trail) (failing_others p q (part_of doing.actual q) ne) ∙ c.0,
+            ap (λ (x : Part). failed x.trail) (failing_others p q (part_of doing.actual q) ne) ∙ c.1,
+            brought q,
+          )
         ];
         count = doing.apart.count;
       };
@@ -277,7 +345,7 @@ pub may_send : (progress : Progress) (called : List (List ℕ)) (planned : Log) 
 may_send progress called planned t p m free may doing = elim (cases_Bool (is_fine (state_at progress.sends p.0))) [
   | inl fine ↦ fine
   | inr not_it ↦
-      let on = asked_on (trail planned p.0) m may.2 in
+      let on = asked_on (trail planned p.0) m may.2.of_its_part in
       absurd (both_ways (connected (trail doing.actual p.0)) (doing.notes.off p.0 not_it)
       (ap (λ (x : Part). connected x.trail) (sym (same_part progress.sends planned doing.actual p.0 doing.apart free on)) ∙ on))
 ]
@@ -304,6 +372,7 @@ cut_for p log = record {
   others = λ q ne. failing_others p q (part_of log q) ne;
   off = ap (λ (x : Part). connected x.trail) (failing_here p p.0 (part_of log p.0) refl);
   broken = ap (λ (x : Part). failed x.trail) (failing_here p p.0 (part_of log p.0) refl);
+  brought = failing_brought p log p.0;
   dials = refl;
 }
 
@@ -319,7 +388,9 @@ told_one progress called planned t p lt is doing =
       actual = doing.actual;
       notes = record {
         tells = doing.notes.tells;
+        bytes = doing.notes.bytes;
         rightly = doing.notes.rightly;
+        planned = doing.notes.planned;
         traced = doing.notes.traced;
         named = doing.notes.named;
         off = λ q not_it. elim (cases_eq q p.0) [
@@ -339,12 +410,13 @@ told_one progress called planned t p lt is doing =
                 ap (λ (x : Part). connected x.trail) (failing_here p q (part_of planned q) e),
                 c.0,
                 ap (λ (x : Part). failed x.trail) (failing_here p q (part_of planned q) e) ∙ sym c.1,
+                failing_brought p planned q ∙ c.2,
               )
           | inr ne ↦ subst (λ (x : Part). Alike x (part_of doing.actual q)) (sym (failing_others p q (part_of planned q) ne)) (doing.apart.same q (sym (ap is_pending (there q ne)) ∙ free))
         ];
         cut = λ q it. elim (cases_eq q p.0) [
-          | inl e ↦ doing.apart.cut q (was q e)
-          | inr ne ↦ doing.apart.cut q (sym (ap is_pending (there q ne)) ∙ it)
+          | inl e ↦ let c = doing.apart.cut q (was q e) in (c.0, c.1, failing_brought p planned q ∙ c.2)
+          | inr ne ↦ let c = doing.apart.cut q (sym (ap is_pending (there q ne)) ∙ it) in (c.0, c.1, failing_brought p planned q ∙ c.2)
         ];
         count = doing.apart.count;
       };
@@ -355,8 +427,12 @@ fits_alike place t u (inl same) fits = subst (λ (x : Part). Fits place x) same 
 fits_alike (Here peer) t u (inr off) fits = absurd (both_ways (connected t.trail) off.0 fits.holds.on)
 fits_alike (LostPlace end) t u (inr off) fits = off.1
 
+chain_alike : (t u : Part) → Alike t u → chain_kept t.trail ≡ chain_kept u.trail
+chain_alike t u (inl same) = ap (λ (x : Part). chain_kept x.trail) same
+chain_alike t u (inr off) = rw (off.0, off.1) refl
+
 -- with no failure pending the client reflects the actual log
-pub all_told : (c : Client) (progress : Progress) (called : List (List ℕ)) (planned : Log) (t : Told) → ((q : ℕ) → is_pending (state_at progress.sends q) ≡ false)
+pub all_told : {H : Type 0} {g : Ghosts H} (c : Client H g) (progress : Progress) (called : List (List ℕ)) (planned : Log) (t : Told) → ((q : ℕ) → is_pending (state_at progress.sends q) ≡ false)
     → Reflects c planned → Doing progress called planned t → HoldsOver c progress called t
 all_told c progress called planned t none reflects doing = record {
   actual = doing.actual;
@@ -366,6 +442,10 @@ all_told c progress called planned t none reflects doing = record {
     places = record {
       count = reflects.places.count ∙ ap (λ (n : ℕ). n + 1) doing.apart.count;
       each = λ q. fits_alike _ (part_of planned q) (part_of doing.actual q) (doing.apart.same q (none q)) (reflects.places.each q);
+    };
+    tracks = record {
+      kept = λ q. reflects.tracks.kept q ∙ chain_alike (part_of planned q) (part_of doing.actual q) (doing.apart.same q (none q));
+      fetched = same_holds _ planned doing.actual _ (same_brought progress.sends planned doing.actual doing.apart) reflects.tracks.fetched;
     };
   };
   told_all = none;

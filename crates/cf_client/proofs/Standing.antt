@@ -1,31 +1,34 @@
 -- How the places go on with the log.
-use Rattle.std.proofs.Common.{◌≡◌, ◌≢◌, inl, inr, ℕ, zero, suc, ◌+◌, ◌<◌, ◌≤◌, List, [], ◌∷◌, ◌++◌, length, get_or, set, map, Option, Bool, true, false, refl, sym, ◌∙◌, ap, subst, arith}
+use Rattle.std.proofs.Common.{◌≡◌, ◌≢◌, inl, inr, ℕ, zero, suc, ◌+◌, ◌<◌, ◌≤◌, List, [], ◌∷◌, ◌++◌, length, get_or, set, Option, Bool, true, false, refl, sym, ◌∙◌, ap, subst, arith}
 use Rattle.std.proofs.lemmas.Grind.{common_steps}
-use Rattle.std.specs.Prelude.{◌||◌, not}
+use Rattle.std.specs.Prelude.{◌||◌}
 use Rattle.std.proofs.lemmas.Bool.{cases_eq, cases_Bool, or_cases, both_ways, false≢true}
 use Rattle.std.specs.List.{list_any}
 use Rattle.std.proofs.lemmas.List.{append-nil}
 use Rattle.cf_bytes.specs.declared.peer.PeerNo.{PeerNo}
 use Rattle.cf_bytes.specs.declared.hash.Hash32.{Hash32}
-use Rattle.cf_headers.specs.Chain.{Chain, locator_of}
+use Rattle.cf_headers.specs.Chain.{Chain, IsIn}
+use Rattle.cf_msg.specs.declared.msg.Entry.{Entry}
 use Rattle.cf_msg.specs.declared.msg.Msg.{Msg}
-use Rattle.cf_msg.specs.declared.msg.Msg.TheVariants.{Version, Verack, Ping, Pong, GetHeaders, Headers, GetData, Inv, Block, GetCfilters, Cfilter, GetCfheaders, Cfheaders, GetCfcheckpt, Cfcheckpt, Other}
+use Rattle.cf_msg.specs.declared.msg.Msg.TheVariants.{Version, GetHeaders, GetData}
 use Rattle.cf_peer.specs.declared.act.Act.{Act}
 use Rattle.cf_peer.specs.declared.act.Act.TheVariants.{Send, Close}
 use Rattle.cf_peer.specs.declared.event.Event.{Event}
 use Rattle.cf_peer.specs.declared.event.Event.TheVariants.{Dialled, NotDialled, Sent, Closed}
 use Rattle.cf_peer.specs.declared.peer.Cause.TheVariants.{Overdue}
 use Rattle.cf_peer.specs.declared.peer.Peer.{Peer}
-use Rattle.cf_peer.specs.declared.peer.Request.TheVariants.{Handshake, Headers as HeadersOpen}
 use Rattle.cf_peer.specs.Acts.{bytes_of, IsSendable}
 use Rattle.cf_peer.specs.Log.{Log, tally_of, noted}
-use Rattle.cf_peer.specs.Trail.{Trail, Part, Called, Asked, Lost as LostItem, Went, Shutting, part_of, trail, went_on, asks, spelled, with_item, called_part, connected, ready, heard, headers_open, age, is_open, replied, is_getheaders, MayAsk, IsClientVersion, WasAsked}
-use Rattle.cf_peer.specs.Peer.{Holds, calm, busy, wants, is_nothing, called_peer, asked_peer, WasAskedForHeaders}
+use Rattle.cf_peer.specs.Trail.{Trail, Part, Called, Asked, Lost as LostItem, Went, Shutting, part_of, trail, went_on, asks, spelled, with_item, called_part, connected, own, replied, IsClientVersion}
+use Rattle.cf_peer.specs.Asking.{age, is_open, MayAsk, IsFree, hashes_of}
+use Rattle.cf_peer.specs.Peer.{Holds, wants, is_idle_peer, called_peer, asked_for_headers, asked_for_block}
+use Rattle.cf_sync.specs.Fetching.{IsFetchedHash, MaySend}
+use Rattle.cf_peer.proofs.Peers.{open_by, idle_request, late_is, wants_is, asked_headers_holds, asked_block_holds, called_holds}
 use Rattle.cf_client.specs.declared.place.Place.{Place}
 use Rattle.cf_client.specs.declared.place.Place.TheVariants.{Here, Lost}
-use Rattle.cf_client.specs.declared.place.PeerEnd.{PeerEnd}
-use Rattle.cf_client.specs.declared.place.PeerEnd.TheVariants.{NotDialled as NeverCalled}
-use Rattle.cf_client.specs.Places.{Keeps, Fits, nobody, PlacesStand, entry_of, after, MayAct, Allowed, Goes, is_calm, is_busy, is_here, state_of, IsState, IsGreeting, IsQuestion, AsksAbove}
+use Rattle.cf_client.specs.declared.place.Loss.{Loss}
+use Rattle.cf_client.specs.declared.place.Loss.TheVariants.{NotDialled as NeverCalled}
+use Rattle.cf_client.specs.Places.{Keeps, Fits, nobody, PlacesStand, entry_of, after, MayAct, Allowed, Goes, is_calm, is_busy, is_here, state_of, IsState, IsGreeting, IsQuestion, IsFetch, AsksAbove, AsksFor}
 use Rattle.cf_client.proofs.Spelled.{spelled_bytes}
 
 pub after-append : (acts : List Act) (a : Act) (log : Log) → after (acts ++ a ∷ []) log ≡ entry_of a ∷ after acts log
@@ -44,7 +47,7 @@ set_is places i s lt = grind (arith, common_steps)
 pub any_default : (places : List Place) (i : ℕ) (a b : Place) → i < length places → get_or places i a ≡ get_or places i b
 any_default places i a b lt = grind (arith, common_steps)
 
-push_is : (places : List Place) (p : ℕ) (s : Place) → p ≡ length places → get_or (places ++ s ∷ []) p nobody ≡ s
+pub push_is : (places : List Place) (p : ℕ) (s : Place) → p ≡ length places → get_or (places ++ s ∷ []) p nobody ≡ s
 push_is places p s last = grind (arith, common_steps)
 
 -- one place and its peer's part of the log go on together
@@ -95,27 +98,12 @@ sent_here p m part sendable =
 pub number_within : (places : List Place) (log : Log) (i : ℕ) → PlacesStand places log → i < length places → i ≤ (tally_of log).dials
 number_within places log i stand lt = omega (arith, stand.count)
 
--- whose request is late, and whom to ask
-pub not_true : (b : Bool) → not b ≡ true → b ≡ false
-not_true true h = absurd (false≢true h)
-not_true false h = refl
-
-late_peer : (peer : Peer) (part : Part) → Keeps peer part → calm peer ≡ false → (is_open part.trail ≡ true) × (60 ≤ age part.trail)
-late_peer peer part keeps is =
-    let h = keeps.holds in
-    elim (cases_Bool (ready part.trail)) [
-      | inl over ↦ elim (cases_Bool (headers_open part.trail)) [
-        | inl asked ↦ grind (arith, common_steps, h.on, h.request, over, asked)
-        | inr idle ↦ grind (arith, common_steps, h.on, h.request, over, idle)
-      ]
-      | inr open_one ↦ grind (arith, common_steps, h.on, h.request, open_one)
-    ]
-
+-- whose request is late
 pub late_open : (place : Place) (part : Part) → Fits place part → is_calm place ≡ false → (is_open part.trail ≡ true) × (60 ≤ age part.trail)
-late_open (Here peer) part fits is = late_peer peer part fits is
-late_open (Lost end) part fits is = absurd (false≢true (sym is))
+late_open (Here peer) part keeps is = late_is peer part.trail is keeps.holds
+late_open (Lost end) part off is = absurd (false≢true (sym is))
 
-pub late_goes : (places : List Place) (acts : List Act) (log : Log) (i : ℕ) (end : PeerEnd)
+pub late_goes : (places : List Place) (acts : List Act) (log : Log) (i : ℕ) (end : Loss)
     → i < length places → Goes places acts log → is_calm (get_or places i nobody) ≡ false
     → Goes (set places i (Lost end)) (acts ++ Close (record { 0 = i }) Overdue ∷ []) log
 late_goes places acts log i end lt goes is =
@@ -126,96 +114,73 @@ late_goes places acts log i end lt goes is =
     (number_within places (after acts log) i goes.stand lt, inr (inr (refl, o.0, o.1)))
     (ap (λ (x : Part). connected x.trail) (closed_here p part))
 
--- a peer that is to be asked may be asked, and then has been
-wants_idle : (peer : Peer) (t : Trail) → Holds peer t → wants peer ≡ true → (ready t ≡ true) × (headers_open t ≡ false) × (heard t ≡ false)
-wants_idle peer t h is = elim (cases_Bool (ready t)) [
-  | inl over ↦ elim (cases_Bool (headers_open t)) [
-    | inl asked ↦ absurd (let r = h.request in let e : peer.request ≡ HeadersOpen (age t) = r ∙ rw (over, asked) refl in let b : is_nothing peer.request ≡ false = ap is_nothing e in grind (arith, common_steps))
-    | inr idle ↦ (over, idle, grind (arith, common_steps, h.hearing))
-  ]
-  | inr open_one ↦ absurd (let e : peer.request ≡ Handshake (age t) = h.request ∙ rw open_one refl in let b : is_nothing peer.request ≡ false = ap is_nothing e in grind (arith, common_steps))
-]
+-- a peer to which nothing is open may be asked
+pub idle_free : (peer : Peer) (t : Trail) → Holds peer t → is_idle_peer peer ≡ true → IsFree t
+idle_free peer t h is = let idle = idle_request peer t h is in record { on = h.on; over = idle.0; idle = idle.1 }
 
-was_asked_so : (t : Trail) (m : Msg) → is_getheaders m ≡ true → (WasAskedForHeaders t → ⊥) → WasAsked t m → ⊥
-was_asked_so t m is none was = none (m, is, was)
-
-question_may : (peer : Peer) (t : Trail) (m : Msg) → Holds peer t → wants peer ≡ true → AsksAbove [] m → MayAsk t m
-question_may peer t (GetHeaders version locator stop) h is asks =
-    let idle = wants_idle peer t h is in (
-      record { on = h.on; over = idle.0; idle = idle.1 },
-      idle.2,
-      asks.0,
-      subst (λ (c : Chain). map (λ (x : Hash32). x.0) locator ≡ locator_of c) (sym h.chain) asks.1,
-      asks.2,
-      was_asked_so t (GetHeaders version locator stop) refl (h.fresh idle.1 idle.2),
-    )
-question_may peer t (Version version services time to from nonce agent height relay) h is asks = absurd asks
-question_may peer t Verack h is asks = absurd asks
-question_may peer t (Ping number) h is asks = absurd asks
-question_may peer t (Pong number) h is asks = absurd asks
-question_may peer t (Headers hs) h is asks = absurd asks
-question_may peer t (GetData entries) h is asks = absurd asks
-question_may peer t (Inv entries) h is asks = absurd asks
-question_may peer t (Block block) h is asks = absurd asks
-question_may peer t (GetCfilters filter start stop) h is asks = absurd asks
-question_may peer t (Cfilter filter block bytes) h is asks = absurd asks
-question_may peer t (GetCfheaders filter start stop) h is asks = absurd asks
-question_may peer t (Cfheaders filter stop previous hashes) h is asks = absurd asks
-question_may peer t (GetCfcheckpt filter stop) h is asks = absurd asks
-question_may peer t (Cfcheckpt filter stop headers) h is asks = absurd asks
-question_may peer t (Other command payload) h is asks = absurd asks
-
-question_keeps : (peer : Peer) (part : Part) (m : Msg) → Keeps peer part → wants peer ≡ true → AsksAbove [] m → Keeps (asked_peer peer) (with_item (Asked m) part)
-question_keeps peer part (GetHeaders version locator stop) keeps is asks =
-    let h = keeps.holds in
-    let idle = wants_idle peer part.trail h is in
-    record {
-      holds = record {
-        on = h.on;
-        called = h.called;
-        meeting = h.meeting;
-        request = rw idle.0 refl;
-        hearing = h.hearing;
-        chain = h.chain;
-        clean = h.clean;
-        orderly = λ off. absurd (both_ways (ready part.trail) off idle.0);
-        acquainted = h.acquainted;
-        fresh = λ none. absurd (false≢true (sym none));
-      };
-      waits = keeps.waits;
-      answered = append-nil (replied part.trail) ∙ keeps.answered;
-    }
-question_keeps peer part (Version version services time to from nonce agent height relay) keeps is asks = absurd asks
-question_keeps peer part Verack keeps is asks = absurd asks
-question_keeps peer part (Ping number) keeps is asks = absurd asks
-question_keeps peer part (Pong number) keeps is asks = absurd asks
-question_keeps peer part (Headers hs) keeps is asks = absurd asks
-question_keeps peer part (GetData entries) keeps is asks = absurd asks
-question_keeps peer part (Inv entries) keeps is asks = absurd asks
-question_keeps peer part (Block block) keeps is asks = absurd asks
-question_keeps peer part (GetCfilters filter start stop) keeps is asks = absurd asks
-question_keeps peer part (Cfilter filter block bytes) keeps is asks = absurd asks
-question_keeps peer part (GetCfheaders filter start stop) keeps is asks = absurd asks
-question_keeps peer part (Cfheaders filter stop previous hashes) keeps is asks = absurd asks
-question_keeps peer part (GetCfcheckpt filter stop) keeps is asks = absurd asks
-question_keeps peer part (Cfcheckpt filter stop headers) keeps is asks = absurd asks
-question_keeps peer part (Other command payload) keeps is asks = absurd asks
-
-asked_goes : (places : List Place) (acts : List Act) (log : Log) (i : ℕ) (peer : Peer) (m : Msg)
-    → i < length places → Goes places acts log → Keeps peer (part_of (after acts log) i) → wants peer ≡ true → IsQuestion m
-    → Goes (set places i (Here (asked_peer peer))) (acts ++ Send (record { 0 = i }) m ∷ []) log
-asked_goes places acts log i peer m lt goes keeps is question =
+-- a message is sent, where it may be sent and the place then holds what it is to hold
+send_goes : (places : List Place) (acts : List Act) (log : Log) (i : ℕ) (now : Peer) (m : Msg)
+    → i < length places → Goes places acts log → IsSendable m → MaySend (after acts log) i m
+    → Keeps now (with_item (Asked m) (part_of (after acts log) i))
+    → Goes (set places i (Here now)) (acts ++ Send (record { 0 = i }) m ∷ []) log
+send_goes places acts log i now m lt goes sendable may keeps =
     let p : PeerNo = record { 0 = i } in
     let part = part_of (after acts log) i in
-    goes_act places acts log i (Here (asked_peer peer)) (Send p m) lt goes (λ q other. sent_others p (bytes_of m) q (part_of (after acts log) q) other) refl
-    (number_within places (after acts log) i goes.stand lt, question.sendable, question_may peer part.trail m keeps.holds is question.asks)
-    (subst (λ (x : Part). Keeps (asked_peer peer) x) (sym (sent_here p m part question.sendable)) (question_keeps peer part m keeps is question.asks))
+    goes_act places acts log i (Here now) (Send p m) lt goes (λ q other. sent_others p (bytes_of m) q (part_of (after acts log) q) other) refl
+    (number_within places (after acts log) i goes.stand lt, sendable, may)
+    (subst (λ (x : Part). Keeps now x) (sym (sent_here p m part sendable)) keeps)
 
-pub wants_goes : (places : List Place) (acts : List Act) (log : Log) (i : ℕ) (peer : Peer) (m : Msg)
-    → i < length places → Goes places acts log → get_or places i nobody ≡ Here peer → wants peer ≡ true → IsQuestion m
-    → Goes (set places i (Here (asked_peer peer))) (acts ++ Send (record { 0 = i }) m ∷ []) log
-wants_goes places acts log i peer m lt goes here is question =
-    asked_goes places acts log i peer m lt goes (subst (λ (x : Place). Fits x (part_of (after acts log) i)) here (goes.stand.each i)) is question
+-- headers
+question_may : (log : Log) (p : ℕ) (peer : Peer) (m : Msg) → Holds peer (trail log p) → wants peer ≡ true → AsksAbove (own (trail log p)) m → MaySend log p m
+question_may log p peer (GetHeaders version locator stop) h is asks = let w = wants_is peer (trail log p) h is in record { of_its_part = (w.0, w.1, asks.0, asks.1, asks.2); wanted = tt }
+question_may log p peer m h is asks = absurd asks
+
+question_keeps : (peer : Peer) (part : Part) (chain : Chain) (m : Msg) → Keeps peer part → wants peer ≡ true → AsksAbove chain m → Keeps (asked_for_headers peer) (with_item (Asked m) part)
+question_keeps peer part chain (GetHeaders version locator stop) keeps is asks = record {
+  holds = asked_headers_holds peer part.trail version locator stop keeps.holds is;
+  waits = keeps.waits;
+  answered = append-nil (replied part.trail) ∙ keeps.answered;
+}
+question_keeps peer part chain m keeps is asks = absurd asks
+
+pub wants_goes : (places : List Place) (acts : List Act) (log : Log) (i : ℕ) (peer : Peer) (chain : Chain) (m : Msg)
+    → i < length places → Goes places acts log → get_or places i nobody ≡ Here peer → wants peer ≡ true → chain ≡ own (trail (after acts log) i) → IsQuestion chain m
+    → Goes (set places i (Here (asked_for_headers peer))) (acts ++ Send (record { 0 = i }) m ∷ []) log
+wants_goes places acts log i peer chain m lt goes here is mine question =
+    let keeps : Keeps peer (part_of (after acts log) i) = subst (λ (x : Place). Fits x (part_of (after acts log) i)) here (goes.stand.each i) in
+    send_goes places acts log i (asked_for_headers peer) m lt goes question.sendable
+    (question_may (after acts log) i peer m keeps.holds is (subst (λ (c : Chain). AsksAbove c m) mine question.asks))
+    (question_keeps peer (part_of (after acts log) i) chain m keeps is question.asks)
+
+-- a block
+fetch_may : (log : Log) (p : ℕ) (hash : Hash32) (m : Msg) → IsFree (trail log p) → AsksFor hash m → IsIn hash.0 (hashes_of (own (trail log p)))
+    → (IsFetchedHash log hash.0 → ⊥) → MaySend log p m
+fetch_may log p hash (GetData entries) free asks is missing = record {
+  of_its_part = (free, (hash, asks, is));
+  wanted = λ entry among. elim (subst (λ (es : List Entry). IsIn entry es) asks among) [
+    | inl same ↦ subst (λ (e : Entry). IsFetchedHash log e.hash.0 → ⊥) (sym same) missing
+    | inr none ↦ absurd none
+  ];
+}
+fetch_may log p hash m free asks is missing = absurd asks
+
+fetch_keeps : (peer : Peer) (part : Part) (hash : Hash32) (m : Msg) → Keeps peer part → is_idle_peer peer ≡ true → AsksFor hash m → Keeps (asked_for_block hash peer) (with_item (Asked m) part)
+fetch_keeps peer part hash (GetData entries) keeps is asks = subst (λ (es : List Entry). Keeps (asked_for_block hash peer) (with_item (Asked (GetData es)) part)) (sym asks) (record {
+  holds = asked_block_holds peer part.trail hash keeps.holds is;
+  waits = keeps.waits;
+  answered = append-nil (replied part.trail) ∙ keeps.answered;
+})
+fetch_keeps peer part hash m keeps is asks = absurd asks
+
+pub fetch_goes : (places : List Place) (acts : List Act) (log : Log) (i : ℕ) (peer : Peer) (hash : Hash32) (m : Msg)
+    → i < length places → Goes places acts log → get_or places i nobody ≡ Here peer → is_idle_peer peer ≡ true → IsIn hash.0 (hashes_of (own (trail (after acts log) i)))
+    → (IsFetchedHash (after acts log) hash.0 → ⊥) → IsFetch hash m
+    → Goes (set places i (Here (asked_for_block hash peer))) (acts ++ Send (record { 0 = i }) m ∷ []) log
+fetch_goes places acts log i peer hash m lt goes here is within missing fetch =
+    let keeps : Keeps peer (part_of (after acts log) i) = subst (λ (x : Place). Fits x (part_of (after acts log) i)) here (goes.stand.each i) in
+    send_goes places acts log i (asked_for_block hash peer) m lt goes fetch.sendable
+    (fetch_may (after acts log) i hash m (idle_free peer (trail (after acts log) i) keeps.holds is) fetch.asks within missing)
+    (fetch_keeps peer (part_of (after acts log) i) hash m keeps is fetch.asks)
 
 -- an entry that changes nobody's place
 pub stand_same : (places : List Place) (log : Log) (e : Event)
@@ -252,60 +217,20 @@ dialled_others p name q part ne = grind (arith, common_steps)
 dialled_here : (p : PeerNo) (name : List ℕ) (part : Part) → went_on (Dialled p name) p.0 part ≡ called_part part
 dialled_here p name part = grind (arith, common_steps)
 
-greeting_may : (t : Trail) (m : Msg) → IsClientVersion m → MayAsk (Called ∷ t) m
-greeting_may t (Version version services time to from nonce agent height relay) ours = (refl, refl, ours)
-greeting_may t Verack ours = absurd ours
-greeting_may t (Ping number) ours = absurd ours
-greeting_may t (Pong number) ours = absurd ours
-greeting_may t (GetHeaders version locator stop) ours = absurd ours
-greeting_may t (Headers hs) ours = absurd ours
-greeting_may t (GetData entries) ours = absurd ours
-greeting_may t (Inv entries) ours = absurd ours
-greeting_may t (Block block) ours = absurd ours
-greeting_may t (GetCfilters filter start stop) ours = absurd ours
-greeting_may t (Cfilter filter block bytes) ours = absurd ours
-greeting_may t (GetCfheaders filter start stop) ours = absurd ours
-greeting_may t (Cfheaders filter stop previous hashes) ours = absurd ours
-greeting_may t (GetCfcheckpt filter stop) ours = absurd ours
-greeting_may t (Cfcheckpt filter stop headers) ours = absurd ours
-greeting_may t (Other command payload) ours = absurd ours
-
-only_greeted : (t : Trail) (m n : Msg) → is_getheaders n ≡ true → is_getheaders m ≡ false → WasAsked (Asked m ∷ Called ∷ t) n → ⊥
-only_greeted t m n is off (inl same) = both_ways (is_getheaders m) off (ap is_getheaders (sym same) ∙ is)
-only_greeted t m n is off (inr never) = never
+greeting_may : (log : Log) (p : ℕ) (t : Trail) (m : Msg) → trail log p ≡ Called ∷ t → IsClientVersion m → MaySend log p m
+greeting_may log p t (Version version services time to from nonce agent height relay) here ours = record {
+  of_its_part = subst (λ (x : Trail). MayAsk x (Version version services time to from nonce agent height relay)) (sym here) (refl, refl, ours);
+  wanted = tt;
+}
+greeting_may log p t m here ours = absurd ours
 
 greeting_keeps : (part : Part) (m : Msg) → IsClientVersion m → Keeps called_peer (with_item (Asked m) (called_part part))
 greeting_keeps part (Version version services time to from nonce agent height relay) ours = record {
-  holds = record {
-    on = refl;
-    called = refl;
-    meeting = refl;
-    request = refl;
-    hearing = refl;
-    chain = refl;
-    clean = refl;
-    orderly = λ _. refl;
-    acquainted = λ is. absurd (false≢true is);
-    fresh = λ _ _ was. only_greeted part.trail (Version version services time to from nonce agent height relay) was.0 was.1 refl was.2;
-  };
+  holds = called_holds (Version version services time to from nonce agent height relay) part.trail ours;
   waits = refl;
   answered = refl;
 }
-greeting_keeps part Verack ours = absurd ours
-greeting_keeps part (Ping number) ours = absurd ours
-greeting_keeps part (Pong number) ours = absurd ours
-greeting_keeps part (GetHeaders version locator stop) ours = absurd ours
-greeting_keeps part (Headers hs) ours = absurd ours
-greeting_keeps part (GetData entries) ours = absurd ours
-greeting_keeps part (Inv entries) ours = absurd ours
-greeting_keeps part (Block block) ours = absurd ours
-greeting_keeps part (GetCfilters filter start stop) ours = absurd ours
-greeting_keeps part (Cfilter filter block bytes) ours = absurd ours
-greeting_keeps part (GetCfheaders filter start stop) ours = absurd ours
-greeting_keeps part (Cfheaders filter stop previous hashes) ours = absurd ours
-greeting_keeps part (GetCfcheckpt filter stop) ours = absurd ours
-greeting_keeps part (Cfcheckpt filter stop headers) ours = absurd ours
-greeting_keeps part (Other command payload) ours = absurd ours
+greeting_keeps part m ours = absurd ours
 
 -- the parts of a log with one message more
 sent_part : (log : Log) (p : PeerNo) (m : Msg) (q : ℕ) → q ≢ p.0 → part_of (Sent p (bytes_of m) ∷ log) q ≡ part_of log q
@@ -329,7 +254,7 @@ called_goes places log p name m last stand greeting =
               (subst (λ t. Fits (get_or places q nobody) t) (sym (sent_part (Dialled p name ∷ log) p m q other ∙ dialled_others p name q (part_of log q) other)) (stand.each q))
         ];
       };
-      allowed = ((omega (arith, stand.count, last), greeting.sendable, subst (λ (x : Part). MayAsk x.trail m) (sym here) (greeting_may part.trail m greeting.ours)), tt);
+      allowed = ((omega (arith, stand.count, last), greeting.sendable, greeting_may (Dialled p name ∷ log) p.0 part.trail m (ap (λ (x : Part). x.trail) here) greeting.ours), tt);
     }
 
 missed_here : (p : PeerNo) (name : List ℕ) (part : Part) → went_on (NotDialled p name) p.0 part ≡ with_item (LostItem Went) part
@@ -342,28 +267,19 @@ refused_stand places log p name last stand =
     (ap (λ (x : Part). connected x.trail) (missed_here p name (part_of log p.0)))
 
 -- what the state that the places show says of the log
-any_at : (p : Place → Bool) (places : List Place) → list_any p places ≡ true → (i : ℕ) × (p (get_or places i nobody) ≡ true)
+pub any_at : (p : Place → Bool) (places : List Place) → list_any p places ≡ true → (i : ℕ) × (p (get_or places i nobody) ≡ true)
 any_at p [] h = absurd (false≢true h)
 any_at p (s ∷ places) h = elim (or_cases (p s) (list_any p places) h) [
   | inl here ↦ (0, here)
   | inr there ↦ let r = any_at p places there in (suc r.0, r.1)
 ]
 
-none_at : (p : Place → Bool) (places : List Place) → p nobody ≡ false → list_any p places ≡ false → (i : ℕ) → p (get_or places i nobody) ≡ false
+pub none_at : (p : Place → Bool) (places : List Place) → p nobody ≡ false → list_any p places ≡ false → (i : ℕ) → p (get_or places i nobody) ≡ false
 none_at p [] z h i = z
 none_at p (s ∷ places) z h zero = elim (cases_Bool (p s)) [ inl t ↦ absurd (both_ways _ h (rw t refl)) | inr f ↦ f ]
 none_at p (s ∷ places) z h (suc i) = elim (cases_Bool (p s)) [
   | inl t ↦ absurd (both_ways _ h (rw t refl))
   | inr f ↦ none_at p places z (let g : (p s || list_any p places) ≡ false = h in grind (arith, g)) i
-]
-
-open_by : (peer : Peer) (t : Trail) → Holds peer t → is_open t ≡ busy peer
-open_by peer t h = elim (cases_Bool (ready t)) [
-  | inl over ↦ elim (cases_Bool (headers_open t)) [
-    | inl asked ↦ rw (h.on, h.request, over, asked) refl
-    | inr idle ↦ rw (h.on, h.request, over, idle) refl
-  ]
-  | inr open_one ↦ rw (h.on, h.request, open_one) refl
 ]
 
 pub busy_open : (place : Place) (part : Part) → Fits place part → is_open part.trail ≡ is_busy place

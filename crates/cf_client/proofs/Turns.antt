@@ -10,7 +10,7 @@ use Rattle.cf_bytes.specs.declared.peer.PeerNo.{PeerNo}
 use Rattle.cf_frame.specs.declared.frame.Frame.{Frame}
 use Rattle.cf_frame.specs.declared.frame.FrameFault.{FrameFault}
 use Rattle.cf_frame.specs.Stream.{read_stream}
-use Rattle.cf_headers.specs.Chain.{tip_hash}
+use Rattle.cf_headers.specs.declared.store.HeaderStore.{Ghosts}
 use Rattle.cf_msg.specs.declared.msg.Malformed.{Malformed}
 use Rattle.cf_msg.specs.declared.msg.Msg.{Msg}
 use Rattle.cf_msg.specs.Reading.{message_of}
@@ -21,23 +21,25 @@ use Rattle.cf_peer.specs.declared.event.Event.{Event}
 use Rattle.cf_peer.specs.declared.event.Event.TheVariants.{Dialled, NotDialled, Sent, SendFailed, Closed, Took}
 use Rattle.cf_peer.specs.declared.event.Mark.{Mark}
 use Rattle.cf_peer.specs.declared.event.Mark.TheVariants.{NotYet, Called, Missed, Left, Shut, Broken}
-use Rattle.cf_peer.specs.declared.peer.Request.TheVariants.{Nothing, Handshake, Headers as HeadersOpen}
 use Rattle.cf_peer.specs.Log.{Log, Told, Tally, Tells, tally_of, tell, dials}
-use Rattle.cf_peer.specs.Peer.{calm, is_nothing}
-use Rattle.cf_peer.specs.Trail.{Trail, Part, Lost, Failing, Shutting, Went, item_of, item_of_read, hears, hears_fault, heard_part, called_part, with_item, part_of, trail, went_on, connected, ready, headers_open, heard, own, is_open, age}
+use Rattle.cf_peer.specs.Trail.{Trail, Part, Lost, Failing, Shutting, Went, item_of, item_of_read, hears, hears_fault, heard_part, called_part, with_item, part_of, trail, went_on, connected, ready}
+use Rattle.cf_peer.specs.Asking.{is_open, is_idle, request}
+use Rattle.cf_scan.specs.declared.history.Entry.{Entry}
+use Rattle.cf_sync.specs.Fetching.{IsBusy, IsConnected, AreBytes}
 use Rattle.cf_client.specs.declared.client.Client.{Client}
 use Rattle.cf_client.specs.declared.outcome.End.{End}
 use Rattle.cf_client.specs.declared.outcome.End.TheVariants.{Synced, NoPeers, Tired, Ended as EndedFirst}
 use Rattle.cf_client.specs.declared.place.Place.{Place}
-use Rattle.cf_client.specs.declared.place.Place.TheVariants.{Here, Lost as LostPlace}
 use Rattle.cf_client.specs.declared.progress.Progress.{Progress}
 use Rattle.cf_client.specs.declared.progress.SendState.{SendState}
 use Rattle.cf_client.specs.declared.progress.SendState.TheVariants.{Fine}
 use Rattle.cf_client.specs.declared.trace.TraceLine.{TraceLine}
 use Rattle.cf_client.specs.Names.{names_in}
-use Rattle.cf_client.specs.Places.{IsBusy, Fits, nobody, place_at, is_settled, IsConnected, AreHeardOut}
-use Rattle.cf_client.specs.Stands.{Reflects}
-use Rattle.cf_client.specs.Run.{Notes, Doing, HoldsOver, Stopped, Finished, IsEnd, IsEndTold, IsBest, IsTraceOf, names_of, is_called, NobodyLeft, state_at, is_pending, is_fine}
+use Rattle.cf_client.specs.Places.{Fits, nobody, place_at}
+use Rattle.cf_client.specs.Tracks.{Seen, Tracks}
+use Rattle.cf_client.specs.Stands.{Reflects, IsReportOf, seen_by, watch_by}
+use Rattle.cf_sync.proofs.TableGrows.{holds_without}
+use Rattle.cf_client.specs.Run.{Notes, Doing, HoldsOver, Stopped, Finished, AreBytesOf, IsEnd, IsEndTold, IsTraceOf, names_of, is_called, NobodyLeft, state_at, is_pending, is_fine}
 use Rattle.cf_client.proofs.Performs.{tells_more, lost_off, sent_connected}
 
 -- what a piece says connects nobody, and cuts nobody off
@@ -69,7 +71,7 @@ more_names : (log : Log) (d : Dial) (called : List (List ℕ)) → names_of log 
 more_names log d called is = map-append (λ (x : Dial). x.name) (dials log) (d ∷ []) ∙ ap (λ (xs : List (List ℕ)). xs ++ d.name ∷ []) is
 
 -- a peer is dialled
-pub dial_doing : (c : Client) (progress : Progress) (called : List (List ℕ)) (t : Told) (p : PeerNo) (name : List ℕ) (holds : HoldsOver c progress called t)
+pub dial_doing : {H : Type 0} {g : Ghosts H} (c : Client H g) (progress : Progress) (called : List (List ℕ)) (t : Told) (p : PeerNo) (name : List ℕ) (holds : HoldsOver c progress called t)
     → p.0 ≡ t.tally.dials + 1 → t.tally.dials < 8
     → Doing progress (called ++ name ∷ []) (Dialled p name ∷ holds.actual) (tell (Dialled p name) t)
 dial_doing c progress called t p name holds is room =
@@ -79,7 +81,9 @@ dial_doing c progress called t p name holds is room =
       actual = Dialled p name ∷ holds.actual;
       notes = record {
         tells = tells_more holds.actual t (Dialled p name) holds.notes.tells;
+        bytes = holds.notes.bytes;
         rightly = holds.notes.rightly;
+        planned = holds.notes.planned;
         traced = holds.notes.traced;
         named = more_names holds.actual (record { name = name; answered = true }) called holds.notes.named;
         off = λ q not_it. let ne : q ≢ p.0 = λ e. both_ways (is_fine (state_at progress.sends q)) not_it (holds.notes.new q (omega (arith, past, e))).0 in
@@ -93,7 +97,7 @@ dial_doing c progress called t p name holds is room =
     }
 
 -- a dial fails
-pub not_dialled_holds : (c d : Client) (progress : Progress) (called : List (List ℕ)) (t : Told) (p : PeerNo) (name : List ℕ) (holds : HoldsOver c progress called t)
+pub not_dialled_holds : {H : Type 0} {g : Ghosts H} (c d : Client H g) (progress : Progress) (called : List (List ℕ)) (t : Told) (p : PeerNo) (name : List ℕ) (holds : HoldsOver c progress called t)
     → p.0 ≡ t.tally.dials + 1 → t.tally.dials < 8
     → Reflects d (NotDialled p name ∷ holds.actual)
     → HoldsOver d progress (called ++ name ∷ []) (tell (NotDialled p name) t)
@@ -103,7 +107,9 @@ not_dialled_holds c d progress called t p name holds is room reflects =
       actual = NotDialled p name ∷ holds.actual;
       notes = record {
         tells = tells_more holds.actual t (NotDialled p name) holds.notes.tells;
+        bytes = holds.notes.bytes;
         rightly = holds.notes.rightly;
+        planned = holds.notes.planned;
         traced = holds.notes.traced;
         named = more_names holds.actual (record { name = name; answered = false }) called holds.notes.named;
         off = λ q not_it. lost_off (p.0 == q) Went (part_of holds.actual q) (holds.notes.off q not_it);
@@ -127,11 +133,19 @@ took_dials (Gone p) log = refl
 took_dials (Tick s) log = refl
 took_dials Ended log = refl
 
-took_notes : (progress : Progress) (called : List (List ℕ)) (log : Log) (t : Told) (d : Delivery) → Notes progress called log t → IsBusy log
+took_bytes : (d : Delivery) (log : Log) → AreBytesOf d → AreBytes log → AreBytes (Took d ∷ log)
+took_bytes (Got p piece) log is h = (is, h)
+took_bytes (Gone p) log is h = h
+took_bytes (Tick s) log is h = h
+took_bytes Ended log is h = h
+
+took_notes : (progress : Progress) (called : List (List ℕ)) (log : Log) (t : Told) (d : Delivery) → AreBytesOf d → Notes progress called log t → IsBusy log
     → Notes progress called (Took d ∷ log) (tell (Took d) t)
-took_notes progress called log t d notes busy = record {
+took_notes progress called log t d is notes busy = record {
   tells = tells_more log t (Took d) notes.tells;
+  bytes = took_bytes d log is notes.bytes;
   rightly = (busy, notes.rightly);
+  planned = notes.planned;
   traced = notes.traced;
   named = notes.named;
   off = λ q not_it. off_took d q (part_of log q) (notes.off q not_it);
@@ -141,56 +155,37 @@ took_notes progress called log t d notes busy = record {
 }
 
 -- a delivery is taken
-pub took_doing : (c : Client) (progress : Progress) (called : List (List ℕ)) (t : Told) (d : Delivery) (holds : HoldsOver c progress called t) → IsBusy holds.actual
+pub took_doing : {H : Type 0} {g : Ghosts H} (c : Client H g) (progress : Progress) (called : List (List ℕ)) (t : Told) (d : Delivery) → AreBytesOf d → (holds : HoldsOver c progress called t) → IsBusy holds.actual
     → Doing progress called (Took d ∷ holds.actual) (tell (Took d) t)
-took_doing c progress called t d holds busy = record {
+took_doing c progress called t d is holds busy = record {
   actual = Took d ∷ holds.actual;
-  notes = took_notes progress called holds.actual t d holds.notes busy;
+  notes = took_notes progress called holds.actual t d is holds.notes busy;
   apart = record { same = λ q free. inl refl; cut = λ q it. absurd (both_ways (is_pending (state_at progress.sends q)) (holds.told_all q) it); count = refl };
 }
 
+-- the end changes nothing that was seen
+ended_tracks : (s : Seen) (log : Log) → Tracks s log → Tracks s (Took Ended ∷ log)
+ended_tracks s log tracks = record {
+  kept = tracks.kept;
+  fetched = holds_without s.watch (Took Ended) log s.table tt tracks.fetched;
+}
+
 -- the wires have no more to give
-pub ended_stops : (c : Client) (progress : Progress) (called : List (List ℕ)) (t : Told) (holds : HoldsOver c progress called t) → IsBusy holds.actual
+pub ended_stops : {H : Type 0} {g : Ghosts H} (c : Client H g) (progress : Progress) (called : List (List ℕ)) (t : Told) (holds : HoldsOver c progress called t) → IsBusy holds.actual
     → Stopped EndedFirst c progress called (tell (Took Ended) t)
 ended_stops c progress called t holds busy = record {
   holds = record {
     actual = Took Ended ∷ holds.actual;
-    notes = took_notes progress called holds.actual t Ended holds.notes busy;
-    reflects = record { alive = holds.reflects.alive; places = record { count = holds.reflects.places.count; each = holds.reflects.places.each } };
+    notes = took_notes progress called holds.actual t Ended tt holds.notes busy;
+    reflects = record {
+      alive = holds.reflects.alive;
+      places = record { count = holds.reflects.places.count; each = holds.reflects.places.each };
+      tracks = ended_tracks (seen_by c) holds.actual holds.reflects.tracks;
+    };
     told_all = holds.told_all;
   };
   why = (holds.actual, (refl, busy));
 }
-
--- a connected peer to which nothing is open has been heard out
-open_parts : (c r h : Bool) → (c && (not r || h)) ≡ false → c ≡ true → (r ≡ true) × (h ≡ false)
-open_parts true true false e on = (refl, refl)
-open_parts true true true e on = absurd (both_ways true e refl)
-open_parts true false h e on = absurd (both_ways true e refl)
-open_parts false r h e on = absurd (false≢true on)
-
-wants_not : (a hd n : Bool) → (a && not (not hd && n)) ≡ true → n ≡ true → hd ≡ true
-wants_not a true n h is = refl
-wants_not true false true h is = absurd (false≢true h)
-wants_not false false true h is = absurd (false≢true h)
-wants_not a false false h is = absurd (false≢true is)
-
-request_nothing : (r h : Bool) (n : ℕ) → r ≡ true → h ≡ false → is_nothing (if r then (if h then HeadersOpen n else Nothing) else Handshake n) ≡ true
-request_nothing true false n er eh = refl
-request_nothing true true n er eh = absurd (both_ways true eh refl)
-request_nothing false h n er eh = absurd (false≢true er)
-
-settled_heard : (place : Place) (part : Part) → Fits place part → is_settled place ≡ true → connected part.trail ≡ true → is_open part.trail ≡ false → heard part.trail ≡ true
-settled_heard (Here peer) part keeps settled on quiet =
-    let t = part.trail in
-    let parts = open_parts (connected t) (ready t) (headers_open t) quiet on in
-    let nothing : is_nothing peer.request ≡ true = ap is_nothing keeps.holds.request ∙ request_nothing (ready t) (headers_open t) (age t) parts.0 parts.1 in
-    sym keeps.holds.hearing ∙ wants_not (calm peer) peer.heard (is_nothing peer.request) settled nothing
-settled_heard (LostPlace end) part off settled on quiet = absurd (both_ways (connected part.trail) off on)
-
-pub heard_out : (c : Client) (log : Log) → Reflects c log → AreHeardOut log
-heard_out c log reflects = λ p on quiet.
-    settled_heard (place_at c.places.items p) (part_of log p) (reflects.places.each p) (c.settled reflects.alive p) on quiet
 
 pub took_counts : (d : Delivery) (t : Told) → (d ≡ Ended → ⊥) → (tell (Took d) t).tally.taken ≡ t.tally.taken + 1
 took_counts (Got p piece) t ne = refl
@@ -205,7 +200,7 @@ took_closed (Tick s) t = refl
 took_closed Ended t = refl
 
 -- who is connected has a number that is in use
-pub within : (c : Client) (log : Log) → Reflects c log → (p : ℕ) → connected (trail log p) ≡ true → p < 9
+pub within : {H : Type 0} {g : Ghosts H} (c : Client H g) (log : Log) → Reflects c log → (p : ℕ) → connected (trail log p) ≡ true → p < 9
 within c log reflects p on = elim (cases_lt p (length c.places.items)) [
   | inl lt ↦ omega (arith, c.few)
   | inr le ↦
@@ -274,7 +269,7 @@ and_left true b h = refl
 and_left false b h = absurd (false≢true h)
 
 open_on : (t : Trail) → is_open t ≡ true → connected t ≡ true
-open_on t h = and_left (connected t) (not (ready t) || headers_open t) h
+open_on t h = and_left (connected t) (not (ready t) || not (is_idle (request t))) h
 
 somebody : (end : End) (log : Log) → IsEnd end log → ((p : ℕ) × IsConnected log p) ⊎ ((p : ℕ) → connected (trail log p) ≡ false)
 somebody Synced log why = inl why.1
@@ -284,41 +279,33 @@ somebody EndedFirst log why =
     let busy = why.1.1 in
     inl (busy.0, subst (λ (l : Log). connected (trail l busy.0) ≡ true) (sym why.1.0) (open_on (trail why.0 busy.0) busy.1))
 
-own_none : (place : Place) (part : Part) → Fits place part → connected part.trail ≡ true → own part.trail ≡ []
-own_none (Here peer) part keeps on = keeps.holds.chain
-own_none (LostPlace end) part off on = absurd (both_ways (connected part.trail) off on)
-
-best_none : (c : Client) (end : End) (log : Log) → Reflects c log → IsEnd end log → IsBest log []
-best_none c end log reflects why =
-    let none : (p : ℕ) → connected (trail log p) ≡ true → own (trail log p) ≡ [] = λ p on. own_none (place_at c.places.items p) (part_of log p) (reflects.places.each p) on in
-    record {
-      longest = λ p on. omega (arith, ap length (none p on));
-      shown = elim (somebody end log why) [
-        | inl one ↦ inl (one.0, (one.1, none one.0 one.1))
-        | inr nobody_on ↦ inr (nobody_on, refl)
-      ];
-    }
-
-pub finishes : (end : End) (c : Client) (progress : Progress) (called : List (List ℕ)) (t : Told) (hash : Hash32) → Stopped end c progress called t
-    → hash.0 ≡ tip_hash [] → Finished end 0 hash progress.trace.items called t
-finishes end c progress called t hash stopped is =
+-- what a run that stopped has done
+pub finishes : {H : Type 0} {g : Ghosts H} (end : End) (c : Client H g) (progress : Progress) (called : List (List ℕ)) (t : Told) (height : ℕ) (hash : Hash32) (entries : List Entry)
+    → Stopped end c progress called t → ((log : Log) → Reflects c log → IsReportOf (watch_by c) height hash entries log)
+    → Finished (watch_by c) end height hash entries progress.trace.items called t
+finishes end c progress called t height hash entries stopped told =
     let holds = stopped.holds in
+    let report = told holds.actual holds.reflects in
     record {
       actual = holds.actual;
       tells = holds.notes.tells;
       followed = record {
-        rightly = holds.notes.rightly;
+        asked = record {
+          bytes = holds.notes.bytes;
+          rightly = holds.notes.rightly;
+          told = report.told;
+          asked_out = report.asked_out;
+        };
+        planned = holds.notes.planned;
         traced = holds.notes.traced;
         named = holds.notes.named;
         why = stopped.why;
-        tip = record { chain = []; best = best_none c end holds.actual holds.reflects stopped.why; height_is = refl; hash_is = is };
-        heard_out = heard_out c holds.actual holds.reflects;
       };
       within = λ p on. within c holds.actual holds.reflects p on;
     }
 
 -- a run that ended so, by its client
-pub stops : (end : End) (c : Client) (progress : Progress) (called : List (List ℕ)) (t : Told) → HoldsOver c progress called t
+pub stops : {H : Type 0} {g : Ghosts H} (end : End) (c : Client H g) (progress : Progress) (called : List (List ℕ)) (t : Told) → HoldsOver c progress called t
     → ((log : Log) → Reflects c log → IsEnd end log) → Stopped end c progress called t
 stops end c progress called t holds why = record { holds = holds; why = why holds.actual holds.reflects }
 
@@ -340,9 +327,9 @@ ends_so EndedFirst log why off =
     absurd (not_open (trail why.0 busy.0) (subst (λ (l : Log). connected (trail l busy.0) ≡ false) why.1.0 (off busy.0)) busy.1)
 
 -- a run ends for want of peers exactly where the tally has nobody left
-pub no_peers : (end : End) (height : ℕ) (hash : Hash32) (lines : List TraceLine) (called : List (List ℕ)) (t : Told) → Finished end height hash lines called t
+pub no_peers : (watch : List (List ℕ)) (end : End) (height : ℕ) (hash : Hash32) (entries : List Entry) (lines : List TraceLine) (called : List (List ℕ)) (t : Told) → Finished watch end height hash entries lines called t
     → (end ≡ NoPeers) ↔ NobodyLeft t.tally
-no_peers end height hash lines called t f = (
+no_peers watch end height hash entries lines called t f = (
   (λ is p lt. let off = subst (λ (e : End). IsEnd e f.actual) is f.followed.why in
       subst (λ (y : Tally). is_called (get_or y.marks p NotYet) ≡ false) (sym f.tells.counts) ((marks_of f.actual p lt).says ∙ off p)),
   (λ none. ends_so end f.actual f.followed.why (nobody_left f.actual (subst NobodyLeft f.tells.counts none) f.within)),
@@ -364,7 +351,7 @@ open_all (suc k) zero = refl
 open_all (suc k) (suc q) = open_all k q
 
 -- nothing has passed
-pub starts : (c : Client) (progress : Progress) (t : Told) → Reflects c [] → progress.sends ≡ replicate 9 Fine → progress.closed ≡ replicate 9 false → progress.trace.items ≡ []
+pub starts : {H : Type 0} {g : Ghosts H} (c : Client H g) (progress : Progress) (t : Told) → Reflects c [] → progress.sends ≡ replicate 9 Fine → progress.closed ≡ replicate 9 false → progress.trace.items ≡ []
     → Tells [] t → HoldsOver c progress [] t
 starts c progress t reflects sends closed trace tells =
     let fine : (q : ℕ) → state_at progress.sends q ≡ Fine = λ q. ap (λ (xs : List SendState). get_or xs q Fine) sends ∙ fine_all 9 q in
@@ -373,7 +360,9 @@ starts c progress t reflects sends closed trace tells =
       actual = [];
       notes = record {
         tells = tells;
+        bytes = tt;
         rightly = tt;
+        planned = tt;
         traced = subst (λ (xs : List TraceLine). IsTraceOf [] (reverse xs)) (sym trace) tt;
         named = refl;
         off = λ q not_it. refl;

@@ -1,6 +1,6 @@
+pub mod Names
 pub mod Places
+pub mod Tracks
+pub mod Hearing
 pub mod Stands
 pub mod Run
-pub mod Honest
-pub mod Names
-pub mod Example

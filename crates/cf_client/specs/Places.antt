@@ -5,7 +5,7 @@ use Rattle.cf_bytes.specs.declared.peer.PeerNo.{PeerNo}
 use Rattle.cf_bytes.specs.declared.hash.Hash32.{Hash32}
 use Rattle.cf_headers.specs.Chain.{Chain, no_hash, locator_of}
 use Rattle.cf_msg.specs.declared.msg.Msg.{Msg}
-use Rattle.cf_msg.specs.declared.msg.Msg.TheVariants.{GetHeaders}
+use Rattle.cf_msg.specs.declared.msg.Msg.TheVariants.{GetHeaders, GetData}
 use Rattle.cf_peer.specs.declared.act.Act.{Act}
 use Rattle.cf_peer.specs.declared.act.Act.TheVariants.{Send, Close}
 use Rattle.cf_peer.specs.declared.event.Event.{Event}
@@ -13,12 +13,16 @@ use Rattle.cf_peer.specs.declared.event.Event.TheVariants.{Sent, Closed}
 use Rattle.cf_peer.specs.declared.peer.Peer.{Peer}
 use Rattle.cf_peer.specs.Acts.{bytes_of, IsSendable}
 use Rattle.cf_peer.specs.Log.{Log, tally_of}
-use Rattle.cf_peer.specs.Trail.{Part, part_of, trail, connected, heard, is_open, failed, owed, replied, Deserves, MayAsk, IsClientVersion}
-use Rattle.cf_peer.specs.Peer.{Holds, calm, busy, wants, is_ready_peer}
+use Rattle.cf_peer.specs.Trail.{Trail, Part, part_of, trail, connected, ready, failed, owed, replied, IsClientVersion}
+use Rattle.cf_peer.specs.Asking.{Deserves, block_entry, counted, fetched}
+use Rattle.cf_peer.specs.Peer.{Holds, calm, busy, wants, is_ready_peer, is_idle_peer, is_fetching}
+use Rattle.cf_sync.specs.Fetching.{IsBusy, IsQuiet, IsConnected, MaySend}
 use Rattle.cf_client.specs.declared.place.Place.{Place}
 use Rattle.cf_client.specs.declared.place.Place.TheVariants.{Here, Lost}
+use Rattle.cf_client.specs.declared.place.Loss.{Loss}
+use Rattle.cf_client.specs.declared.place.Loss.TheVariants.{NotDialled, Gone, Closed as ClosedFor}
 use Rattle.cf_client.specs.declared.place.PeerEnd.{PeerEnd}
-use Rattle.cf_client.specs.declared.place.PeerEnd.TheVariants.{NotDialled, Ready, Waiting}
+use Rattle.cf_client.specs.declared.place.PeerEnd.TheVariants.{Ready, Waiting, NotDialled as EndsNotDialled, Gone as EndsGone, Closed as EndsClosed}
 use Rattle.cf_client.specs.declared.state.State.{State}
 use Rattle.cf_client.specs.declared.state.State.TheVariants.{Working, Synced, NoPeers}
 
@@ -31,7 +35,7 @@ pub record Keeps (peer : Peer) (part : Part) : Type 0 where
 -- what is held of a peer
 abbrev pub Fits : Place → Part → Type 0
 Fits (Here peer) part = Keeps peer part
-Fits (Lost end) part = connected part.trail ≡ false
+Fits (Lost loss) part = connected part.trail ≡ false
 
 abbrev pub nobody : Place
 nobody = Lost NotDialled
@@ -56,7 +60,7 @@ after (a ∷ acts) log = after acts (entry_of a ∷ log)
 
 -- an act may be done
 abbrev pub MayAct : Act → Log → Type 0
-MayAct (Send p m) log = (p.0 ≤ (tally_of log).dials) × IsSendable m × MayAsk (trail log p.0) m
+MayAct (Send p m) log = (p.0 ≤ (tally_of log).dials) × IsSendable m × MaySend log p.0 m
 MayAct (Close p cause) log = (p.0 ≤ (tally_of log).dials) × Deserves (trail log p.0) cause
 
 -- each act may be done when the ones before it are
@@ -72,39 +76,36 @@ pub record Goes (places : List Place) (acts : List Act) (log : Log) : Type 0 whe
 -- no open request is 60 seconds old or more
 abbrev pub is_calm : Place → Bool
 is_calm (Here peer) = calm peer
-is_calm (Lost end) = true
+is_calm (Lost loss) = true
 
 abbrev pub AreCalm : List Place → Type 0
 AreCalm places = (p : ℕ) → is_calm (place_at places p) ≡ true
 
+-- nothing is open to a connected peer; a block is
+abbrev pub is_idle : Place → Bool
+is_idle (Here peer) = is_idle_peer peer
+is_idle (Lost loss) = false
+
+abbrev pub is_fetching_at : Place → Bool
+is_fetching_at (Here peer) = is_fetching peer
+is_fetching_at (Lost loss) = false
+
 -- it is to be asked for headers
 abbrev pub is_wanting : Place → Bool
 is_wanting (Here peer) = wants peer
-is_wanting (Lost end) = false
+is_wanting (Lost loss) = false
 
--- between two calls of the client no open request is late, and nobody is left to ask
+-- between two calls of the client no open request is late, and nobody is left to ask for headers
 abbrev pub is_settled : Place → Bool
 is_settled place = is_calm place && not (is_wanting place)
-
-abbrev pub AreSettled : List Place → Type 0
-AreSettled places = (p : ℕ) → is_settled (place_at places p) ≡ true
 
 -- the same log, but that a send to p failed: p's part alone differs, and p is cut off
 pub record CutFor (p : PeerNo) (log cut : Log) : Type 0 where
   pub others : (q : ℕ) → q ≢ p.0 → part_of cut q ≡ part_of log q
   pub off : connected (trail cut p.0) ≡ false
   pub broken : failed (trail cut p.0) ≡ true
+  pub brought : fetched (counted (trail cut p.0)) ≡ fetched (counted (trail log p.0))
   pub dials : (tally_of cut).dials ≡ (tally_of log).dials
-
--- nothing is open; something is
-abbrev pub IsQuiet : Log → Type 0
-IsQuiet log = (p : ℕ) → is_open (trail log p) ≡ false
-
-abbrev pub IsBusy : Log → Type 0
-IsBusy log = (p : ℕ) × (is_open (trail log p) ≡ true)
-
-abbrev pub IsConnected : Log → ℕ → Type 0
-IsConnected log p = connected (trail log p) ≡ true
 
 -- what the client says of its state
 abbrev pub IsState : State → Log → Type 0
@@ -115,34 +116,57 @@ IsState NoPeers log = (p : ℕ) → connected (trail log p) ≡ false
 -- something is open to the peer of this place; it is connected
 abbrev pub is_busy : Place → Bool
 is_busy (Here peer) = busy peer
-is_busy (Lost end) = false
+is_busy (Lost loss) = false
 
 abbrev pub is_here : Place → Bool
 is_here (Here peer) = true
-is_here (Lost end) = false
+is_here (Lost loss) = false
 
 abbrev pub state_of : List Place → State
 state_of places = if list_any is_busy places then Working else if list_any is_here places then Synced else NoPeers
-
--- between two calls: a connected peer with nothing open has been heard out
-abbrev pub AreHeardOut : Log → Type 0
-AreHeardOut log = (p : ℕ) → IsConnected log p → is_open (trail log p) ≡ false → heard (trail log p) ≡ true
 
 -- the question for headers above the tip of a chain
 abbrev pub AsksAbove : Chain → Msg → Type 0
 AsksAbove chain (GetHeaders version locator stop) = (version ≡ 70016) × (map (λ (h : Hash32). h.0) locator ≡ locator_of chain) × (stop.0 ≡ no_hash)
 AsksAbove chain m = ⊥
 
--- the version that is sent to a peer, and the question for headers above genesis alone
+-- the question for one block
+abbrev pub AsksFor : Hash32 → Msg → Type 0
+AsksFor hash (GetData entries) = entries ≡ block_entry hash ∷ []
+AsksFor hash m = ⊥
+
+-- the version that is sent to a peer, the question for headers above a chain, and that for a block
 pub record IsGreeting (m : Msg) : Type 0 where
   pub sendable : IsSendable m
   pub ours : IsClientVersion m
 
-pub record IsQuestion (m : Msg) : Type 0 where
+pub record IsQuestion (chain : Chain) (m : Msg) : Type 0 where
   pub sendable : IsSendable m
-  pub asks : AsksAbove [] m
+  pub asks : AsksAbove chain m
+
+pub record IsFetch (hash : Hash32) (m : Msg) : Type 0 where
+  pub sendable : IsSendable m
+  pub asks : AsksFor hash m
 
 -- how a peer stands
+abbrev pub end_by : Loss → PeerEnd
+end_by NotDialled = EndsNotDialled
+end_by Gone = EndsGone
+end_by (ClosedFor cause) = EndsClosed cause
+
 abbrev pub end_of : Place → PeerEnd
 end_of (Here peer) = if is_ready_peer peer then Ready else Waiting
-end_of (Lost end) = end
+end_of (Lost loss) = end_by loss
+
+-- what an end says of a peer's trail: connected with its handshake over, connected with its handshake open, or not connected
+abbrev pub EndTells : PeerEnd → Trail → Type 0
+EndTells Ready t = (connected t ≡ true) × (ready t ≡ true)
+EndTells Waiting t = (connected t ≡ true) × (ready t ≡ false)
+EndTells EndsNotDialled t = connected t ≡ false
+EndTells EndsGone t = connected t ≡ false
+EndTells (EndsClosed cause) t = connected t ≡ false
+
+-- there is an end for each peer that was dialled, in the order of their numbers, and each tells how its peer stands
+pub record EndsTell (ends : List PeerEnd) (log : Log) : Type 0 where
+  pub count : length ends ≡ (tally_of log).dials
+  pub each : (i : ℕ) → EndTells (slice_index_or ends i EndsNotDialled) (trail log (i + 1))

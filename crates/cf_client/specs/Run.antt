@@ -1,22 +1,29 @@
 -- A run of a client over wires.
-use Rattle.std.specs.Prelude.{◌≡◌, ◌⊎◌, ℕ, ◌+◌, ◌≤◌, ◌<◌, Bool, true, false, List, [], ◌∷◌, length, map, reverse, slice_index_or, Option, Some, None}
-use Rattle.std.specs.List.{sum_by}
+use Rattle.std.specs.Prelude.{◌≡◌, ◌⊎◌, ℕ, ◌+◌, ◌≤◌, ◌<◌, Bool, true, false, List, [], ◌∷◌, map, reverse, slice_index_or, Option, Some, None, IfSome}
+use Rattle.std.specs.List.{sum_by, list_any}
+use Rattle.cf_bytes.specs.Outside.{HasRisen}
 use Rattle.cf_bytes.specs.declared.hash.Hash32.{Hash32}
 use Rattle.cf_bytes.specs.declared.peer.PeerNo.{PeerNo}
-use Rattle.cf_headers.specs.Chain.{Chain, tip_hash}
+use Rattle.cf_headers.specs.declared.store.HeaderStore.{Ghosts}
 use Rattle.cf_msg.specs.declared.msg.Msg.{Msg}
 use Rattle.cf_msg.specs.Message.{command_of}
 use Rattle.cf_peer.specs.declared.act.Act.{Act}
 use Rattle.cf_peer.specs.declared.act.Act.TheVariants.{Send}
-use Rattle.cf_peer.specs.declared.event.Delivery.TheVariants.{Ended}
+use Rattle.cf_peer.specs.declared.event.Delivery.{Delivery}
+use Rattle.cf_peer.specs.declared.event.Delivery.TheVariants.{Got, Gone, Tick, Ended}
+use Rattle.cf_frame.specs.Stream.{IsBytes}
 use Rattle.cf_peer.specs.declared.event.Dial.{Dial}
+use Rattle.cf_peer.specs.declared.event.Event.{Event}
 use Rattle.cf_peer.specs.declared.event.Event.TheVariants.{Dialled, NotDialled, Sent, SendFailed, Closed, Took}
 use Rattle.cf_peer.specs.declared.event.Mark.{Mark}
 use Rattle.cf_peer.specs.declared.event.Mark.TheVariants.{NotYet, Called, Missed, Left, Shut, Broken}
-use Rattle.cf_peer.specs.declared.peer.Cause.{Cause}
 use Rattle.cf_peer.specs.Log.{Log, Told, Tally, Tells, tally_of, mark_of, dials}
 use Rattle.cf_peer.specs.Wires.{Made}
-use Rattle.cf_peer.specs.Trail.{Part, part_of, trail, spelled, connected, failed, own, Deserves, MayAsk}
+use Rattle.cf_peer.specs.Trail.{Part, part_of, trail, spelled, connected, failed}
+use Rattle.cf_peer.specs.Asking.{Deserves, counted, fetched}
+use Rattle.cf_scan.specs.declared.history.Entry.{Entry}
+use Rattle.cf_sync.specs.Fetching.{IsBusy, IsConnected, Rightly, AreBytes, counted_part}
+use Rattle.cf_sync.specs.Sync.{HasAsked}
 use Rattle.cf_client.specs.declared.client.Client.{Client}
 use Rattle.cf_client.specs.declared.outcome.End.{End}
 use Rattle.cf_client.specs.declared.outcome.End.TheVariants.{Synced, NoPeers, Tired, Ended as EndedFirst}
@@ -26,12 +33,14 @@ use Rattle.cf_client.specs.declared.progress.SendState.TheVariants.{Fine, Pendin
 use Rattle.cf_client.specs.declared.state.State.TheVariants.{Synced as IsSynced, NoPeers as HasNoPeers}
 use Rattle.cf_client.specs.declared.trace.TraceLine.{TraceLine}
 use Rattle.cf_client.specs.declared.trace.TraceLine.TheVariants.{Sent as SentLine, Closed as ClosedLine}
-use Rattle.cf_client.specs.Places.{after, MayAct, Allowed, IsBusy, IsState, IsConnected, AreHeardOut}
+use Rattle.cf_client.specs.Places.{after, MayAct, Allowed, IsState}
 use Rattle.cf_client.specs.Stands.{Reflects}
 
--- the same part, or both cut off
+-- the same part, or both cut off, with the same blocks brought
 abbrev pub Alike : Part → Part → Type 0
-Alike t u = (t ≡ u) ⊎ ((connected t.trail ≡ false) × (connected u.trail ≡ false) × (failed t.trail ≡ failed u.trail))
+Alike t u =
+    (t ≡ u)
+    ⊎ ((connected t.trail ≡ false) × (connected u.trail ≡ false) × (failed t.trail ≡ failed u.trail) × (fetched (counted t.trail) ≡ fetched (counted u.trail)))
 
 -- how the sends to a peer have gone
 abbrev pub state_at : List SendState → ℕ → SendState
@@ -60,22 +69,29 @@ trouble progress = sum_by weight progress.sends
 pub record Apart (sends : List SendState) (planned actual : Log) : Type 0 where
   pub same : (q : ℕ) → is_pending (state_at sends q) ≡ false → Alike (part_of planned q) (part_of actual q)
   pub cut : (q : ℕ) → is_pending (state_at sends q) ≡ true → (connected (trail actual q) ≡ false) × (failed (trail actual q) ≡ true)
+      × (fetched (counted_part planned q) ≡ fetched (counted_part actual q))
   pub count : (tally_of planned).dials ≡ (tally_of actual).dials
 
 -- the client, which knew of no pending failure yet, reflected a log in which p may be asked
 abbrev pub WasPlanned : Log → PeerNo → Msg → Type 0
 WasPlanned log p m = (sends : List SendState) × ((planned : Log) × Apart sends planned log × MayAct (Send p m) planned)
 
--- At each moment what was sent was permitted, what was closed deserved it, and a delivery was taken only while something was open.
--- Of what was sent: it was permitted by the peer's own part of the log, and by the log that the client reflected, with the acts before it.
-abbrev pub Rightly : Log → Type 0
-Rightly [] = Unit {0}
-Rightly (Dialled p name ∷ log) = Rightly log
-Rightly (NotDialled p name ∷ log) = Rightly log
-Rightly (Sent p bytes ∷ log) = ((m : Msg) × (spelled bytes ≡ Some m) × MayAsk (trail log p.0) m × WasPlanned log p m) × Rightly log
-Rightly (SendFailed p ∷ log) = Rightly log
-Rightly (Closed p ∷ log) = ((cause : Cause) × Deserves (trail log p.0) cause) × Rightly log
-Rightly (Took d ∷ log) = IsBusy log × Rightly log
+-- what was delivered are bytes
+abbrev pub AreBytesOf : Delivery → Type 0
+AreBytesOf (Got p piece) = IsBytes piece
+AreBytesOf (Gone p) = Unit {0}
+AreBytesOf (Tick s) = Unit {0}
+AreBytesOf Ended = Unit {0}
+
+-- what was sent was wanted by a client that knew of no pending failure yet
+abbrev pub ArePlanned : Log → Type 0
+ArePlanned [] = Unit {0}
+ArePlanned (Dialled p name ∷ log) = ArePlanned log
+ArePlanned (NotDialled p name ∷ log) = ArePlanned log
+ArePlanned (Sent p bytes ∷ log) = ((m : Msg) × (spelled bytes ≡ Some m) × WasPlanned log p m) × ArePlanned log
+ArePlanned (SendFailed p ∷ log) = ArePlanned log
+ArePlanned (Closed p ∷ log) = ArePlanned log
+ArePlanned (Took d ∷ log) = ArePlanned log
 
 -- a line of the trace tells what was sent, or why a peer was closed
 abbrev pub IsSentLine : PeerNo → List ℕ → TraceLine → Type 0
@@ -106,7 +122,9 @@ names_of log = map (λ (d : Dial). d.name) (dials log)
 -- what the run's own notes say of the log as it is
 pub record Notes (progress : Progress) (called : List (List ℕ)) (actual : Log) (t : Told) : Type 0 where
   pub tells : Tells actual t
+  pub bytes : AreBytes actual
   pub rightly : Rightly actual
+  pub planned : ArePlanned actual
   pub traced : IsTraceOf actual (reverse progress.trace.items)
   pub named : names_of actual ≡ called
   pub off : (q : ℕ) → is_fine (state_at progress.sends q) ≡ false → connected (trail actual q) ≡ false
@@ -125,7 +143,7 @@ pub record Doing (progress : Progress) (called : List (List ℕ)) (planned : Log
   pub apart : Apart progress.sends planned actual
 
 -- the client reflects the log that the wires tell, and no failure is pending
-pub record HoldsOver (c : Client) (progress : Progress) (called : List (List ℕ)) (t : Told) : Type 0 where
+pub record HoldsOver {H : Type 0} {g : Ghosts H} (c : Client H g) (progress : Progress) (called : List (List ℕ)) (t : Told) : Type 0 where
   pub actual : Log
   pub notes : Notes progress called actual t
   pub reflects : Reflects c actual
@@ -139,26 +157,31 @@ pub record ActsLeft (acts : List Act) (end : Log) (progress : Progress) (called 
   pub doing : Doing progress called planned t
 
 -- the client reflects a planned log, and waits to be told of pending failures
-pub record Waits (c : Client) (progress : Progress) (called : List (List ℕ)) (t : Told) : Type 0 where
+pub record Waits {H : Type 0} {g : Ghosts H} (c : Client H g) (progress : Progress) (called : List (List ℕ)) (t : Told) : Type 0 where
   pub planned : Log
   pub reflects : Reflects c planned
   pub doing : Doing progress called planned t
 
-abbrev pub is_fault : Mark → Bool
-is_fault NotYet = false
-is_fault Called = false
-is_fault Missed = true
-is_fault Left = false
-is_fault Shut = false
-is_fault Broken = true
+-- a dial or a send has failed
+abbrev pub is_failure : Event → Bool
+is_failure (Dialled p name) = false
+is_failure (NotDialled p name) = true
+is_failure (Sent p bytes) = false
+is_failure (SendFailed p) = true
+is_failure (Closed p) = false
+is_failure (Took d) = false
 
--- no dial and no send has failed
-abbrev pub NoFailure : Tally → Type 0
-NoFailure tally = (p : ℕ) → is_fault (mark_of tally p) ≡ false
+abbrev pub HasFailed : Log → Type 0
+HasFailed log = list_any is_failure log ≡ true
 
--- from one moment to a later one: the count of faults never falls, and the script stays
-pub record Course (f g : ℕ) (s r : Option Made) : Type 0 where
+-- no dial and no send has failed, where the log is told
+abbrev pub NoFailure : Told → Type 0
+NoFailure t = IfSome t.log (λ log. list_any is_failure log ≡ false)
+
+-- from one moment to a later one: the count of faults never falls, and where a dial or a send has failed in between it has risen; the script stays
+pub record Course (t u : Told) (f g : ℕ) (s r : Option Made) : Type 0 where
   pub later : f ≤ g
+  pub blamed : NoFailure t → NoFailure u ⊎ HasRisen f g
   pub script : r ≡ s
 
 -- acts change none of the counts
@@ -174,41 +197,28 @@ IsEnd NoPeers log = IsState HasNoPeers log
 IsEnd Tired log = IsBusy log
 IsEnd EndedFirst log = (before : Log) × ((log ≡ Took Ended ∷ before) × IsBusy before)
 
--- a chain that is the own chain of a connected peer, and none of them has a longer one; genesis's where nobody is connected
-pub record IsBest (log : Log) (chain : Chain) : Type 0 where
-  pub longest : (p : ℕ) → IsConnected log p → length (own (trail log p)) ≤ length chain
-  pub shown : ((p : ℕ) × (IsConnected log p × (own (trail log p) ≡ chain))) ⊎ (((p : ℕ) → connected (trail log p) ≡ false) × (chain ≡ []))
-
--- the height and the hash of the best chain's tip
-pub record IsTip (log : Log) (height : ℕ) (hash : Hash32) : Type 0 where
-  pub chain : Chain
-  pub best : IsBest log chain
-  pub height_is : height ≡ length chain
-  pub hash_is : hash.0 ≡ tip_hash chain
-
 -- what a run that ended so has done, by its log
-pub record Followed (end : End) (height : ℕ) (hash : Hash32) (lines : List TraceLine) (called : List (List ℕ)) (log : Log) : Type 0 where
-  pub rightly : Rightly log
+pub record Followed (watch : List (List ℕ)) (end : End) (height : ℕ) (hash : Hash32) (entries : List Entry) (lines : List TraceLine) (called : List (List ℕ)) (log : Log) : Type 0 where
+  pub asked : HasAsked watch height hash entries log
+  pub planned : ArePlanned log
   pub traced : IsTraceOf log (reverse lines)
   pub named : names_of log ≡ called
   pub why : IsEnd end log
-  pub tip : IsTip log height hash
-  pub heard_out : AreHeardOut log
 
 -- the same of some log that the wires tell, or their tally alone
-pub record Finished (end : End) (height : ℕ) (hash : Hash32) (lines : List TraceLine) (called : List (List ℕ)) (t : Told) : Type 0 where
+pub record Finished (watch : List (List ℕ)) (end : End) (height : ℕ) (hash : Hash32) (entries : List Entry) (lines : List TraceLine) (called : List (List ℕ)) (t : Told) : Type 0 where
   pub actual : Log
   pub tells : Tells actual t
-  pub followed : Followed end height hash lines called actual
+  pub followed : Followed watch end height hash entries lines called actual
   pub within : (p : ℕ) → IsConnected actual p → p < 9
 
 -- a run stops for this reason
-pub record Stopped (end : End) (c : Client) (progress : Progress) (called : List (List ℕ)) (t : Told) : Type 0 where
+pub record Stopped {H : Type 0} {g : Ghosts H} (end : End) (c : Client H g) (progress : Progress) (called : List (List ℕ)) (t : Told) : Type 0 where
   pub holds : HoldsOver c progress called t
   pub why : IsEnd end holds.actual
 
 -- a turn: the run goes on, or it ends
-abbrev pub Turned : Option End → Client → Progress → List (List ℕ) → Told → Type 0
+abbrev pub Turned : {H : Type 0} → {g : Ghosts H} → Option End → Client H g → Progress → List (List ℕ) → Told → Type 0
 Turned None c progress called t = HoldsOver c progress called t
 Turned (Some end) c progress called t = Stopped end c progress called t
 

@@ -1,20 +1,56 @@
 -- What a client holds of a log.
 use Rattle.std.specs.Prelude.{◌≡◌, ℕ, false, List, length}
+use Rattle.cf_bytes.specs.declared.hash.Hash32.{Hash32}
+use Rattle.cf_headers.specs.Chain.{Chain, tip_hash}
+use Rattle.cf_headers.specs.declared.store.HeaderStore.{Ghosts}
 use Rattle.cf_peer.specs.declared.act.Act.{Act}
 use Rattle.cf_peer.specs.Log.{Log}
+use Rattle.cf_peer.specs.Trail.{trail}
+use Rattle.cf_peer.specs.Asking.{is_open, Deserves}
+use Rattle.cf_peer.specs.declared.peer.Cause.{Cause}
+use Rattle.cf_scan.specs.declared.history.Entry.{Entry}
+use Rattle.cf_sync.specs.Fetching.{IsBest, IsConnected, IsAskedOut}
+use Rattle.cf_sync.specs.Sync.{IsToldOf}
 use Rattle.cf_client.specs.declared.client.Client.{Client}
 use Rattle.cf_client.specs.Places.{PlacesStand, after, Allowed}
+use Rattle.cf_tracker.specs.Tracker.{watch_of}
+use Rattle.cf_client.specs.Tracks.{Seen, Tracks, seen_of}
+
+-- what the client has seen, over its store's chains
+abbrev pub seen_by : {H : Type 0} → {g : Ghosts H} → Client H g → Seen
+seen_by c = seen_of c.tracker
 
 -- what the client keeps is a function of the log; after want of memory it reflects nothing
-pub record Reflects (c : Client) (log : Log) : Type 0 where
+pub record Reflects {H : Type 0} {g : Ghosts H} (c : Client H g) (log : Log) : Type 0 where
   pub alive : c.dead ≡ false
   pub places : PlacesStand c.places.items log
+  pub tracks : Tracks (seen_by c) log
 
 -- the client reflects the log with the acts, each of which was allowed
-pub record Answers (c : Client) (acts : List Act) (log : Log) : Type 0 where
+pub record Answers {H : Type 0} {g : Ghosts H} (c : Client H g) (acts : List Act) (log : Log) : Type 0 where
   pub stand : Reflects c (after acts log)
   pub allowed : Allowed acts log
 
+-- no connected peer deserves to be closed
+abbrev pub IsInnocent : Log → Type 0
+IsInnocent log = (p : ℕ) → IsConnected log p → (cause : Cause) → Deserves (trail log p) cause → ⊥
+
 -- how many numbers are in use, 0 among them
-abbrev pub count_of : Client → ℕ
+abbrev pub count_of : {H : Type 0} → {g : Ghosts H} → Client H g → ℕ
 count_of c = length c.places.items
+
+-- the scripts that it watches
+abbrev pub watch_by : {H : Type 0} → {g : Ghosts H} → Client H g → List (List ℕ)
+watch_by c = watch_of c.tracker
+
+-- the height and the hash of the best chain's tip
+pub record IsTip (height : ℕ) (hash : Hash32) (log : Log) : Type 0 where
+  pub chain : Chain
+  pub best : IsBest log chain
+  pub height_is : height ≡ length chain
+  pub hash_is : hash.0 ≡ tip_hash chain
+
+-- the best chain's tip and the history over it; whatever the rule of asking leaves true of that chain and a connected peer with nothing open is true
+pub record IsReportOf (watch : List (List ℕ)) (height : ℕ) (hash : Hash32) (entries : List Entry) (log : Log) : Type 0 where
+  pub told : IsToldOf watch height hash entries log
+  pub asked_out : (p : ℕ) → IsConnected log p → is_open (trail log p) ≡ false → IsAskedOut log told.chain p

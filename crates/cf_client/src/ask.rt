@@ -1,23 +1,28 @@
 //! Whom the client asks, and whom it closes for its silence.
-ghost use Rattle.std.specs.Prelude.{◌≡◌, ◌≢◌, ℕ, ◌<◌, ◌≤◌, ◌∷◌, OnOk, IfOk, true, length};
-ghost use Rattle.std.specs.List.{All};
+ghost use Rattle.std.specs.Prelude.{◌≡◌, ◌≢◌, ℕ, ◌<◌, ◌≤◌, ◌∷◌, OnOk, IfOk, IsSome, true, false, length, vec_len};
+ghost use Rattle.std.specs.List.{All, list_any};
+ghost use Rattle.cf_headers.specs.Store.{own_of};
 ghost use Rattle.cf_peer.specs.Acts.{IsDoable};
 ghost use Rattle.cf_peer.specs.Log.{Log};
 ghost use Rattle.cf_peer.specs.declared.event.Event.TheVariants.{Took};
 ghost use Rattle.cf_peer.specs.declared.event.Delivery.TheVariants.{Tick};
-ghost use Rattle.cf_client.specs.Places.{PlacesStand, Goes, AreCalm, is_calm, is_settled, place_at, IsQuestion};
+ghost use Rattle.cf_tracker.specs.Tracker.{chains_of, watch_of};
+ghost use Rattle.cf_client.specs.Places.{PlacesStand, Goes, AreCalm, after, is_calm, is_idle, is_wanting, is_settled, is_fetching_at, is_here, place_at, IsQuestion, IsFetch};
+ghost use Rattle.cf_client.specs.Tracks.{Tracks, IsSameSeen, AreEntered, IsFetchedOut, AreFetchedOut, seen_of};
 
-use crate::place::{PeerEnd, Place};
-use cf_block::{block_hash, genesis_header};
+use crate::place::{Loss, Place};
 use cf_bytes::{Hash32, NoMemory, PeerNo};
-use cf_msg::{Hashes, Msg};
+use cf_headers::HeaderStore;
+use cf_msg::{Entries, Entry, Hashes, Msg};
 use cf_peer::{Act, Cause};
+use cf_tracker::Tracker;
 use std::alloc::Global;
 
 /// Adds to the age of each open request.
 pub(crate) fn pass_all(places: &mut [Place], seconds: u32)
     requires { AreCalm places.old }
-    ensures { (log : Log) → PlacesStand places.old log → PlacesStand places.new (Took (Tick seconds) ∷ log) }
+    ensures stand { (log : Log) → PlacesStand places.old log → PlacesStand places.new (Took (Tick seconds) ∷ log) }
+    ensures here { (p : ℕ) → is_here (place_at places.new p) ≡ is_here (place_at places.old p) }
 {
     for place in places.iter_mut() {
         if let Place::Here(peer) = place {
@@ -27,42 +32,70 @@ pub(crate) fn pass_all(places: &mut [Place], seconds: u32)
 }
 
 // Closes the peer at this place if its request is 60 seconds old.
-fn close_if_late(places: &mut [Place], acts: &mut Vec<Act>, i: usize) -> Result<(), NoMemory>
+fn close_if_late<H: HeaderStore>(
+    tracker: &mut Tracker<H>,
+    places: &mut [Place],
+    acts: &mut Vec<Act>,
+    i: usize,
+) -> Result<(), NoMemory>
     requires few { length places.old ≤ 9 }
     requires here { i < length places.old }
+    requires entered { AreEntered places.old (seen_of tracker.old) }
     ensures goes { OnOk result ((log : Log) → Goes places.old acts.old.items log → Goes places.new acts.new.items log) }
+    ensures tracks { OnOk result ((log : Log) → Goes places.old acts.old.items log → Tracks (seen_of tracker.old) (after acts.old.items log) → Tracks (seen_of tracker.new) (after acts.new.items log)) }
+    ensures entered { OnOk result (AreEntered places.new (seen_of tracker.new)) }
+    ensures watch { OnOk result (watch_of tracker.new ≡ watch_of tracker.old) }
     ensures doable { OnOk result (All IsDoable acts.old.items → All IsDoable acts.new.items) }
     ensures done { OnOk result (is_calm (place_at places.new i) ≡ true) }
     ensures others { OnOk result ((p : ℕ) → p ≢ i → place_at places.new p ≡ place_at places.old p) }
 {
     if places[i].is_late() {
-        acts.push(Act::Close(PeerNo(i as u32), Cause::Overdue))?;
-        places[i] = Place::Lost(PeerEnd::Closed(Cause::Overdue));
+        let p = PeerNo(i as u32);
+        acts.push(Act::Close(p, Cause::Overdue))?;
+        tracker.forget(p);
+        places[i] = Place::Lost(Loss::Closed(Cause::Overdue));
         return Ok(());
     }
     Ok(())
 }
 
 /// Closes each peer whose request is 60 seconds old, the lowest number first.
-pub(crate) fn close_late(places: &mut [Place], acts: &mut Vec<Act>) -> Result<(), NoMemory>
-    requires { length places.old ≤ 9 }
+pub(crate) fn close_late<H: HeaderStore>(
+    tracker: &mut Tracker<H>,
+    places: &mut [Place],
+    acts: &mut Vec<Act>,
+) -> Result<(), NoMemory>
+    requires few { length places.old ≤ 9 }
+    requires entered { AreEntered places.old (seen_of tracker.old) }
     ensures goes { OnOk result ((log : Log) → Goes places.old acts.old.items log → Goes places.new acts.new.items log) }
+    ensures tracks { OnOk result ((log : Log) → Goes places.old acts.old.items log → Tracks (seen_of tracker.old) (after acts.old.items log) → Tracks (seen_of tracker.new) (after acts.new.items log)) }
+    ensures entered { OnOk result (AreEntered places.new (seen_of tracker.new)) }
+    ensures watch { OnOk result (watch_of tracker.new ≡ watch_of tracker.old) }
     ensures doable { OnOk result (All IsDoable acts.old.items → All IsDoable acts.new.items) }
     ensures calm { OnOk result (AreCalm places.new) }
 {
     for i in 0..places.len() {
-        close_if_late(places, acts, i)?;
+        close_if_late(tracker, places, acts, i)?;
     }
     Ok(())
 }
 
-// The question for headers above genesis alone.
-#[tactic(auto, unfolding(cf_msg::specs::Message::payload_of, cf_headers::specs::Chain::no_hash))]
-fn question(alloc: Global) -> Result<Msg, NoMemory>
-    ensures { IfOk result IsQuestion }
+// Whether a block is open to any of the peers.
+fn is_any_fetching(places: &[Place]) -> bool
+    ensures { result ≡ list_any is_fetching_at places.now }
 {
-    let mut locator = Vec::new(alloc);
-    locator.push(block_hash(&genesis_header()))?;
+    places.iter().any(|place| place.is_fetching())
+}
+
+// The question for headers above a tracked peer's chain.
+#[tactic(auto, unfolding(cf_msg::specs::Message::payload_of, cf_headers::specs::Chain::no_hash))]
+fn question<H: HeaderStore>(tracker: &Tracker<H>, p: PeerNo) -> Result<Msg, NoMemory>
+    requires { IsSome (chains_of tracker.now p.0) }
+    ensures { IfOk result (IsQuestion (own_of (chains_of tracker.now) p)) }
+{
+    // The chain is within the height limit, so that its locator is short enough.
+    let _height = tracker.height(p);
+    let locator = tracker.locator(p)?;
     Ok(Msg::GetHeaders {
         version: 70016,
         locator: Hashes::from_vec(locator),
@@ -70,9 +103,84 @@ fn question(alloc: Global) -> Result<Msg, NoMemory>
     })
 }
 
-// Asks the peer at this place if it is to be asked.
-fn ask_if_wanted(
+// The question for one block.
+#[tactic(auto, unfolding(cf_msg::specs::Message::payload_of))]
+fn fetch(alloc: Global, hash: Hash32) -> Result<Msg, NoMemory>
+    ensures { IfOk result (IsFetch hash) }
+{
+    let mut entries = Entries::new(alloc);
+    entries.push(Entry { kind: 2, hash })?;
+    Ok(Msg::GetData(entries))
+}
+
+// Asks the peer at this place for headers.
+fn ask_for_headers<H: HeaderStore>(
+    tracker: &Tracker<H>,
+    places: &mut [Place],
+    acts: &mut Vec<Act>,
+    i: usize,
+) -> Result<(), NoMemory>
+    requires few { length places.old ≤ 9 }
+    requires here { i < length places.old }
+    requires wanting { is_wanting (place_at places.old i) ≡ true }
+    requires entered { AreEntered places.old (seen_of tracker.now) }
+    ensures goes { OnOk result ((log : Log) → Goes places.old acts.old.items log → Tracks (seen_of tracker.now) (after acts.old.items log) → Goes places.new acts.new.items log) }
+    ensures tracks { OnOk result ((log : Log) → Goes places.old acts.old.items log → Tracks (seen_of tracker.now) (after acts.old.items log) → Tracks (seen_of tracker.now) (after acts.new.items log)) }
+    ensures entered { OnOk result (AreEntered places.new (seen_of tracker.now)) }
+    ensures doable { OnOk result (All IsDoable acts.old.items → All IsDoable acts.new.items) }
+    ensures done { OnOk result (is_settled (place_at places.new i) ≡ true) }
+    ensures busy { OnOk result (is_idle (place_at places.new i) ≡ false) }
+    ensures others { OnOk result ((p : ℕ) → p ≢ i → place_at places.new p ≡ place_at places.old p) }
+{
+    let p = PeerNo(i as u32);
+    acts.push(Act::Send(p, question(tracker, p)?))?;
+    if let Place::Here(peer) = &mut places[i] {
+        peer.ask_headers();
+    }
+    Ok(())
+}
+
+// Asks the peer at this place, to which nothing is open, for the lowest block that is missing of what it shares with the best chain.
+fn ask_for_block<H: HeaderStore>(
     alloc: Global,
+    tracker: &mut Tracker<H>,
+    places: &mut [Place],
+    acts: &mut Vec<Act>,
+    i: usize,
+) -> Result<(), NoMemory>
+    requires few { length places.old ≤ 9 }
+    requires here { i < length places.old }
+    requires idle { is_idle (place_at places.old i) ≡ true }
+    requires settled { is_settled (place_at places.old i) ≡ true }
+    requires entered { AreEntered places.old (seen_of tracker.old) }
+    ensures goes { OnOk result ((log : Log) → Goes places.old acts.old.items log → Tracks (seen_of tracker.old) (after acts.old.items log) → Goes places.new acts.new.items log) }
+    ensures tracks { OnOk result ((log : Log) → Goes places.old acts.old.items log → Tracks (seen_of tracker.old) (after acts.old.items log) → Tracks (seen_of tracker.new) (after acts.new.items log)) }
+    ensures seen { OnOk result (IsSameSeen (seen_of tracker.old) (seen_of tracker.new)) }
+    ensures entered { OnOk result (AreEntered places.new (seen_of tracker.new)) }
+    ensures doable { OnOk result (All IsDoable acts.old.items → All IsDoable acts.new.items) }
+    ensures done { OnOk result (is_settled (place_at places.new i) ≡ true) }
+    ensures fetched { OnOk result (is_fetching_at (place_at places.new i) ≡ false → IsFetchedOut (place_at places.new i) (seen_of tracker.new) i) }
+    ensures others { OnOk result ((p : ℕ) → p ≢ i → place_at places.new p ≡ place_at places.old p) }
+{
+    let p = PeerNo(i as u32);
+    let Some(best) = tracker.best() else {
+        return Ok(());
+    };
+    let Some(hash) = tracker.next_missing(p, best) else {
+        return Ok(());
+    };
+    acts.push(Act::Send(p, fetch(alloc, hash)?))?;
+    if let Place::Here(peer) = &mut places[i] {
+        peer.ask_block(&hash);
+    }
+    Ok(())
+}
+
+// Asks the peer at this place if it is to be asked: for headers while it has more to tell, and then for a block while none is open to
+// anybody.
+fn ask_if_wanted<H: HeaderStore>(
+    alloc: Global,
+    tracker: &mut Tracker<H>,
     places: &mut [Place],
     acts: &mut Vec<Act>,
     i: usize,
@@ -80,36 +188,49 @@ fn ask_if_wanted(
     requires few { length places.old ≤ 9 }
     requires here { i < length places.old }
     requires calm { AreCalm places.old }
-    ensures goes { OnOk result ((log : Log) → Goes places.old acts.old.items log → Goes places.new acts.new.items log) }
+    requires entered { AreEntered places.old (seen_of tracker.old) }
+    ensures goes { OnOk result ((log : Log) → Goes places.old acts.old.items log → Tracks (seen_of tracker.old) (after acts.old.items log) → Goes places.new acts.new.items log) }
+    ensures tracks { OnOk result ((log : Log) → Goes places.old acts.old.items log → Tracks (seen_of tracker.old) (after acts.old.items log) → Tracks (seen_of tracker.new) (after acts.new.items log)) }
+    ensures seen { OnOk result (IsSameSeen (seen_of tracker.old) (seen_of tracker.new)) }
+    ensures entered { OnOk result (AreEntered places.new (seen_of tracker.new)) }
     ensures calm { OnOk result (AreCalm places.new) }
     ensures doable { OnOk result (All IsDoable acts.old.items → All IsDoable acts.new.items) }
     ensures done { OnOk result (is_settled (place_at places.new i) ≡ true) }
+    ensures fetched { OnOk result (list_any is_fetching_at places.new ≡ false → IsFetchedOut (place_at places.new i) (seen_of tracker.new) i) }
+    ensures fetching { OnOk result (list_any is_fetching_at places.old ≡ true → list_any is_fetching_at places.new ≡ true) }
     ensures others { OnOk result ((p : ℕ) → p ≢ i → place_at places.new p ≡ place_at places.old p) }
 {
     if places[i].wants_headers() {
-        acts.push(Act::Send(PeerNo(i as u32), question(alloc)?))?;
-        if let Place::Here(peer) = &mut places[i] {
-            peer.ask_headers();
-        }
+        ask_for_headers(tracker, places, acts, i)?;
+        return Ok(());
+    }
+    if places[i].is_idle() && !is_any_fetching(places) {
+        ask_for_block(alloc, tracker, places, acts, i)?;
         return Ok(());
     }
     Ok(())
 }
 
 /// Asks each peer that is to be asked, the lowest number first.
-pub(crate) fn ask_all(
+pub(crate) fn ask_all<H: HeaderStore>(
     alloc: Global,
+    tracker: &mut Tracker<H>,
     places: &mut [Place],
     acts: &mut Vec<Act>,
 ) -> Result<(), NoMemory>
     requires few { length places.old ≤ 9 }
     requires calm { AreCalm places.old }
-    ensures goes { OnOk result ((log : Log) → Goes places.old acts.old.items log → Goes places.new acts.new.items log) }
+    requires entered { AreEntered places.old (seen_of tracker.old) }
+    ensures goes { OnOk result ((log : Log) → Goes places.old acts.old.items log → Tracks (seen_of tracker.old) (after acts.old.items log) → Goes places.new acts.new.items log) }
+    ensures tracks { OnOk result ((log : Log) → Goes places.old acts.old.items log → Tracks (seen_of tracker.old) (after acts.old.items log) → Tracks (seen_of tracker.new) (after acts.new.items log)) }
+    ensures entered { OnOk result (AreEntered places.new (seen_of tracker.new)) }
+    ensures watch { OnOk result (watch_of tracker.new ≡ watch_of tracker.old) }
     ensures doable { OnOk result (All IsDoable acts.old.items → All IsDoable acts.new.items) }
     ensures settled { OnOk result ((p : ℕ) → is_settled (place_at places.new p) ≡ true) }
+    ensures fetched { OnOk result (AreFetchedOut places.new (seen_of tracker.new)) }
 {
     for i in 0..places.len() {
-        ask_if_wanted(alloc, places, acts, i)?;
+        ask_if_wanted(alloc, tracker, places, acts, i)?;
     }
     Ok(())
 }

@@ -1,21 +1,25 @@
 //! The client: a machine that takes deliveries and says what is to be done.
-ghost use Rattle.std.specs.Prelude.{◌≡◌, ℕ, ◌<◌, ◌≤◌, ◌+◌, ◌∷◌, [], OnOk, IfOk, OnErr, true, false, length, vec_len, map, drop};
+ghost use Rattle.std.specs.Prelude.{◌≡◌, ℕ, ◌<◌, ◌≤◌, ◌+◌, ◌∷◌, [], OnOk, IfOk, OnErr, None, true, false, length, vec_len, map, drop};
 ghost use Rattle.std.specs.List.{list_any, All};
 ghost use Rattle.cf_peer.specs.Acts.{IsDoable};
-ghost use Rattle.cf_client.specs.Places.{state_of, is_busy, is_here, AreSettled, IsGreeting, end_of};
+ghost use Rattle.cf_client.specs.Places.{state_of, is_busy, is_here, IsGreeting, end_of};
+ghost use Rattle.cf_client.specs.Tracks.{AreSettled, seen_of};
 
 use crate::ask::ask_all;
 use crate::deliver::{cut_off, deliver};
-use crate::place::{PeerEnd, Place};
+use crate::place::{Loss, PeerEnd, Place};
 use crate::state::State;
-use cf_bytes::{NoMemory, PeerNo};
+use cf_bytes::{Hash32, NoMemory, PeerNo};
+use cf_headers::HeaderStore;
 use cf_msg::{Bytes, Msg, NetAddress};
 use cf_peer::{Act, Delivery, Peer};
+use cf_scan::Watch;
+use cf_tracker::{Report, Tracker};
 use std::alloc::Global;
 
-/// A client of up to eight peers.
+/// A client of up to eight peers, over a store of the chains that they show.
 #[derive(Drop)]
-pub struct Client {
+pub struct Client<H: HeaderStore> {
     alloc: Global,
     // The moment and the number that its `version` tells.
     moment: i64,
@@ -24,8 +28,10 @@ pub struct Client {
     dead: bool,
     // What is kept of each peer, by its number; place 0 is nobody's.
     places: Vec<Place>,
+    // The peers' chains, and what is kept of the blocks that were fetched.
+    tracker: Tracker<H>,
     ghost few: { vec_len places ≤ 9 },
-    ghost settled: { dead ≡ false → AreSettled places.items },
+    ghost settled: { dead ≡ false → AreSettled places.items (seen_of tracker) },
 }
 
 fn is_any_busy(places: &[Place]) -> bool
@@ -70,6 +76,16 @@ fn ends_of(alloc: Global, places: &[Place]) -> Result<Vec<PeerEnd>, NoMemory>
     Ok(ends)
 }
 
+// How the peers stand, whose places come after nobody's.
+fn ends_of_peers(alloc: Global, places: &[Place]) -> Result<Vec<PeerEnd>, NoMemory>
+    ensures { IfOk result (λ ends. ends.items ≡ map end_of (drop 1 places.now)) }
+{
+    match places {
+        [] => Ok(Vec::new(alloc)),
+        [_, peers @ ..] => ends_of(alloc, peers),
+    }
+}
+
 // The version that a client sends.
 fn greeting(alloc: Global, moment: i64, nonce: u64) -> Result<Msg, NoMemory>
     ensures { IfOk result IsGreeting }
@@ -88,25 +104,38 @@ fn greeting(alloc: Global, moment: i64, nonce: u64) -> Result<Msg, NoMemory>
     })
 }
 
-impl Client {
+impl<H: HeaderStore> Client<H> {
     ghost use Rattle.cf_peer.specs.Log.{Log};
     ghost use Rattle.cf_peer.specs.declared.event.Event.TheVariants.{Took, Dialled, NotDialled};
-    ghost use Rattle.cf_client.specs.Places.{CutFor, IsState};
-    ghost use Rattle.cf_client.specs.Stands.{Reflects, Answers, count_of};
+    ghost use Rattle.cf_client.specs.Places.{CutFor, IsState, EndsTell};
+    ghost use Rattle.cf_client.specs.Stands.{Reflects, Answers, IsTip, IsReportOf, IsInnocent, count_of, watch_by};
 
-    /// A client that knows of no peer yet. Its `version` tells this moment, in seconds since 1970, and this number.
-    pub fn new(alloc: Global, moment: i64, nonce: u64) -> Result<Client, NoMemory>
+    /// A client that knows of no peer yet, over a store in which no peer is entered. It watches these scripts. Its `version` tells
+    /// this moment, in seconds since 1970, and this number.
+    pub fn new(
+        alloc: Global,
+        watch: Watch,
+        store: H,
+        moment: i64,
+        nonce: u64,
+    ) -> Result<Client<H>, NoMemory>
+    where
+        H: Drop,
+        requires { (q : ℕ) → H.chain store q ≡ None }
         ensures reflects { IfOk result (λ c. Reflects c []) }
+        ensures watch { IfOk result (λ c. watch_by c ≡ watch) }
         ensures count { IfOk result (λ c. count_of c ≡ 1) }
     {
         let mut places = Vec::new(alloc);
-        places.push(Place::Lost(PeerEnd::NotDialled))?;
+        places.push(Place::Lost(Loss::NotDialled))?;
+        let tracker = Tracker::new(alloc, watch, store)?;
         Ok(Client {
             alloc,
             moment,
             nonce,
             dead: false,
             places,
+            tracker,
         })
     }
 
@@ -117,6 +146,7 @@ impl Client {
         ensures answers { IfOk result (λ acts. (log : Log) → Reflects self.old log → Answers self.new acts.items (Dialled p name.now ∷ log)) }
         ensures doable { IfOk result (λ acts. All IsDoable acts.items) }
         ensures count { OnOk result (count_of self.new ≡ count_of self.old + 1) }
+        ensures watch { OnOk result (watch_by self.new ≡ watch_by self.old) }
         ensures err { OnErr result (self.new.dead ≡ true) }
     {
         if self.dead {
@@ -125,6 +155,7 @@ impl Client {
         self.dead = true;
         let mut acts = Vec::new(self.alloc);
         acts.push(Act::Send(p, greeting(self.alloc, self.moment, self.nonce)?))?;
+        self.tracker.enter(p)?;
         self.places.push(Place::Here(Peer::called(self.alloc)))?;
         self.dead = false;
         Ok(acts)
@@ -136,13 +167,14 @@ impl Client {
         requires next { p.0 ≡ count_of self.old }
         ensures reflects { OnOk result ((log : Log) → Reflects self.old log → Reflects self.new (NotDialled p name.now ∷ log)) }
         ensures count { OnOk result (count_of self.new ≡ count_of self.old + 1) }
+        ensures watch { OnOk result (watch_by self.new ≡ watch_by self.old) }
         ensures err { OnErr result (self.new.dead ≡ true) }
     {
         if self.dead {
             return Err(NoMemory);
         }
         self.dead = true;
-        self.places.push(Place::Lost(PeerEnd::NotDialled))?;
+        self.places.push(Place::Lost(Loss::NotDialled))?;
         self.dead = false;
         Ok(())
     }
@@ -152,6 +184,7 @@ impl Client {
         ensures answers { IfOk result (λ acts. (log : Log) → Reflects self.old log → Answers self.new acts.items (Took d.now ∷ log)) }
         ensures doable { IfOk result (λ acts. All IsDoable acts.items) }
         ensures count { count_of self.new ≡ count_of self.old }
+        ensures watch { OnOk result (watch_by self.new ≡ watch_by self.old) }
         ensures err { OnErr result (self.new.dead ≡ true) }
     {
         if self.dead {
@@ -160,8 +193,8 @@ impl Client {
         self.dead = true;
         let mut acts = Vec::new(self.alloc);
         let places = self.places.as_mut_slice();
-        deliver(self.alloc, places, &mut acts, d)?;
-        ask_all(self.alloc, places, &mut acts)?;
+        deliver(self.alloc, &mut self.tracker, places, &mut acts, d)?;
+        ask_all(self.alloc, &mut self.tracker, places, &mut acts)?;
         self.dead = false;
         Ok(acts)
     }
@@ -171,6 +204,7 @@ impl Client {
         ensures answers { IfOk result (λ acts. (log cut : Log) → p.0 < count_of self.old → Reflects self.old log → CutFor p log cut → Answers self.new acts.items cut) }
         ensures doable { IfOk result (λ acts. All IsDoable acts.items) }
         ensures count { count_of self.new ≡ count_of self.old }
+        ensures watch { OnOk result (watch_by self.new ≡ watch_by self.old) }
         ensures err { OnErr result (self.new.dead ≡ true) }
     {
         if self.dead {
@@ -179,8 +213,8 @@ impl Client {
         self.dead = true;
         let mut acts = Vec::new(self.alloc);
         let places = self.places.as_mut_slice();
-        cut_off(places, &mut acts, p)?;
-        ask_all(self.alloc, places, &mut acts)?;
+        cut_off(&mut self.tracker, places, &mut acts, p)?;
+        ask_all(self.alloc, &mut self.tracker, places, &mut acts)?;
         self.dead = false;
         Ok(acts)
     }
@@ -192,20 +226,35 @@ impl Client {
         PeerNo(self.places.len() as u32)
     }
 
-    /// The state: `Working` where something is open, else `Synced` where a peer is connected, else `NoPeers`. It takes no memory.
+    /// The state: `Working` where something is open, else `Synced` where a peer is connected, else `NoPeers`. Between two calls no
+    /// connected peer deserves to be closed. It takes no memory.
     pub fn state(&self) -> State
-        ensures { (log : Log) → Reflects self.now log → IsState result log }
+        ensures state { (log : Log) → Reflects self.now log → IsState result log }
+        ensures nobody { (log : Log) → Reflects self.now log → IsInnocent log }
     {
         state_of_places(self.places.as_slice())
     }
 
+    /// The height and the hash of the best chain's tip. It takes no memory.
+    pub fn tip(&self) -> (u32, Hash32)
+        ensures { (log : Log) → Reflects self.now log → IsTip result.0 result.1 log }
+    {
+        self.tracker.tip()
+    }
+
+    /// The best chain's tip, and the history of its blocks that were fetched.
+    pub fn report(&self) -> Result<Report, NoMemory>
+        ensures { IfOk result (λ r. (log : Log) → Reflects self.now log → IsReportOf (watch_by self.now) r.height r.tip r.history log) }
+    {
+        self.tracker.report()
+    }
+
     /// How each peer stands, by its number from 1.
     pub fn ends(&self) -> Result<Vec<PeerEnd>, NoMemory>
-        ensures { IfOk result (λ ends. ends.items ≡ map end_of (drop 1 self.now.places.items)) }
+        ensures exact { IfOk result (λ ends. ends.items ≡ map end_of (drop 1 self.now.places.items)) }
+        ensures tell { IfOk result (λ ends. (log : Log) → Reflects self.now log → EndsTell ends.items log) }
     {
-        match self.places.as_slice() {
-            [] => Ok(Vec::new(self.alloc)),
-            [_, peers @ ..] => ends_of(self.alloc, peers),
-        }
+        let ends = ends_of_peers(self.alloc, self.places.as_slice())?;
+        Ok(ends)
     }
 }

@@ -4,7 +4,7 @@
 mod ask;
 mod client;
 mod deliver;
-mod laws;
+mod hear;
 mod outcome;
 mod over;
 mod place;
@@ -13,9 +13,8 @@ mod state;
 mod trace;
 
 pub use client::Client;
-pub use laws::{an_honest_run, laws_of_honest_peers};
 pub use outcome::{End, Outcome};
 pub use over::sync_over;
-pub use place::{PeerEnd, Place};
+pub use place::{Loss, PeerEnd, Place};
 pub use state::State;
 pub use trace::TraceLine;

@@ -2,6 +2,7 @@
 use crate::place::PeerEnd;
 use crate::trace::TraceLine;
 use cf_bytes::Hash32;
+use cf_scan::History;
 
 /// Why a run ended.
 #[derive(Clone, Copy, Debug, PartialEq, Eq)]
@@ -25,6 +26,8 @@ pub struct Outcome {
     pub height: u32,
     /// The hash of the best chain's tip.
     pub tip: Hash32,
+    /// The history of the best chain's blocks that were fetched.
+    pub history: History,
     /// What the run has done, in order.
     pub trace: Vec<TraceLine>,
     /// How each peer stands, by its number from 1.

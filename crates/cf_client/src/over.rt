@@ -1,12 +1,13 @@
 //! The run of a client over any wires: the dials, the turns, and the finish.
-ghost use Rattle.std.specs.Prelude.{◌≡◌, ◌≢◌, ◌↔◌, ℕ, ◌<◌, ◌≤◌, ◌+◌, ◌∷◌, ◌++◌, [], List, map, OnOk, IfOk, OnErr, IfNone, IfSome, IsErrOf, true, false, length, take};
-ghost use Rattle.cf_bytes.specs.declared.hash.Hash32.{Hash32};
+ghost use Rattle.std.specs.Prelude.{◌≡◌, ◌≢◌, ◌↔◌, ℕ, None, ◌<◌, ◌≤◌, ◌+◌, ◌∷◌, ◌++◌, [], List, map, OnOk, IfOk, OnErr, IfNone, IfSome, IsErrOf, true, false, length, take};
+ghost use Rattle.cf_bytes.specs.Outside.{HasRisen};
 ghost use Rattle.cf_client.specs.Names.{names_in};
-ghost use Rattle.cf_client.specs.Honest.{SyncTheorem};
-ghost use Rattle.cf_client.specs.Places.{MayAct, Allowed, after, entry_of};
-ghost use Rattle.cf_client.specs.Run.{Followed, NobodyLeft, Course, Doing, HoldsOver, trouble, SameCounts, Turned, Stopped, IsEnd, IsInStep, IsEndTold};
-ghost use Rattle.cf_client.specs.Stands.{Reflects, Answers, count_of};
+ghost use Rattle.cf_sync.specs.Sync.{SyncTheorem};
+ghost use Rattle.cf_client.specs.Places.{MayAct, Allowed, after, entry_of, EndsTell};
+ghost use Rattle.cf_client.specs.Run.{Followed, NobodyLeft, HasFailed, Course, Doing, HoldsOver, AreBytesOf, trouble, SameCounts, Turned, Stopped, IsEnd, IsInStep, IsEndTold};
+ghost use Rattle.cf_client.specs.Stands.{Reflects, Answers, IsReportOf, count_of, watch_by};
 ghost use Rattle.std.specs.List.{All};
+ghost use Rattle.cf_frame.specs.Stream.{IsBytes};
 ghost use Rattle.cf_msg.specs.Message.{command_of};
 ghost use Rattle.cf_peer.specs.declared.act.Act.TheVariants.{Send, Close};
 ghost use Rattle.cf_peer.specs.Acts.{IsDoable, IsSendable, bytes_of};
@@ -19,11 +20,12 @@ use crate::outcome::{End, Outcome};
 use crate::progress::{Progress, SendState};
 use crate::state::State;
 use crate::trace::TraceLine;
-use cf_block::{block_hash, genesis_header};
 use cf_bytes::{NoMemory, PeerNo};
 use cf_frame::encode;
+use cf_headers::HeaderStore;
 use cf_msg::{Msg, write};
 use cf_peer::{Act, Cause, Delivery, WireFail, Wires};
+use cf_scan::Watch;
 use std::alloc::Global;
 
 // Writes a message and sends it.
@@ -59,7 +61,7 @@ fn perform_send<W: Wires>(
     ensures doing { OnOk result ((called : List (List ℕ)) (planned : Log) → MayAct (Send p message.now) planned → Doing progress.old called planned (W.told wires.old) → Doing progress.new called (Sent p (bytes_of message.now) ∷ planned) (W.told wires.new)) }
     ensures fewer { OnOk result (trouble progress.new ≤ trouble progress.old) }
     ensures keeps { OnOk result (SameCounts (W.told wires.old) (W.told wires.new)) }
-    ensures course { OnOk result (Course (W.faults wires.old) (W.faults wires.new) (W.script wires.old) (W.script wires.new)) }
+    ensures course { OnOk result (Course (W.told wires.old) (W.told wires.new) (W.faults wires.old) (W.faults wires.new) (W.script wires.old) (W.script wires.new)) }
     ensures step { OnOk result (IsInStep (W.told wires.new) progress.new) }
 {
     if progress.is_pending(p) {
@@ -90,7 +92,7 @@ fn perform_close<W: Wires>(
     ensures doing { OnOk result ((called : List (List ℕ)) (planned : Log) → MayAct (Close p cause) planned → Doing progress.old called planned (W.told wires.old) → Doing progress.new called (Closed p ∷ planned) (W.told wires.new)) }
     ensures fewer { OnOk result (trouble progress.new ≤ trouble progress.old) }
     ensures keeps { OnOk result (SameCounts (W.told wires.old) (W.told wires.new)) }
-    ensures course { OnOk result (Course (W.faults wires.old) (W.faults wires.new) (W.script wires.old) (W.script wires.new)) }
+    ensures course { OnOk result (Course (W.told wires.old) (W.told wires.new) (W.faults wires.old) (W.faults wires.new) (W.script wires.old) (W.script wires.new)) }
     ensures step { OnOk result (IsInStep (W.told wires.new) progress.new) }
 {
     if progress.is_pending(p) || progress.is_closed(p) {
@@ -114,7 +116,7 @@ fn perform_one<W: Wires>(
     ensures doing { OnOk result ((called : List (List ℕ)) (planned : Log) → MayAct act.now planned → Doing progress.old called planned (W.told wires.old) → Doing progress.new called (entry_of act.now ∷ planned) (W.told wires.new)) }
     ensures fewer { OnOk result (trouble progress.new ≤ trouble progress.old) }
     ensures keeps { OnOk result (SameCounts (W.told wires.old) (W.told wires.new)) }
-    ensures course { OnOk result (Course (W.faults wires.old) (W.faults wires.new) (W.script wires.old) (W.script wires.new)) }
+    ensures course { OnOk result (Course (W.told wires.old) (W.told wires.new) (W.faults wires.old) (W.faults wires.new) (W.script wires.old) (W.script wires.new)) }
     ensures step { OnOk result (IsInStep (W.told wires.new) progress.new) }
 {
     match act {
@@ -141,7 +143,7 @@ fn perform<W: Wires>(
     ensures doing { OnOk result ((called : List (List ℕ)) (planned : Log) → Allowed acts.now planned → Doing progress.old called planned (W.told wires.old) → Doing progress.new called (after acts.now planned) (W.told wires.new)) }
     ensures fewer { OnOk result (trouble progress.new ≤ trouble progress.old) }
     ensures keeps { OnOk result (SameCounts (W.told wires.old) (W.told wires.new)) }
-    ensures course { OnOk result (Course (W.faults wires.old) (W.faults wires.new) (W.script wires.old) (W.script wires.new)) }
+    ensures course { OnOk result (Course (W.told wires.old) (W.told wires.new) (W.faults wires.old) (W.faults wires.new) (W.script wires.old) (W.script wires.new)) }
     ensures step { OnOk result (IsInStep (W.told wires.new) progress.new) }
 {
     for act in acts {
@@ -151,17 +153,18 @@ fn perform<W: Wires>(
 }
 
 // Tells the client of each failed send, the lowest number first, and does what it then wants.
-fn settle<W: Wires>(
+fn settle<W: Wires, H: HeaderStore>(
     alloc: Global,
     wires: &mut W,
-    client: &mut Client,
+    client: &mut Client<H>,
     progress: &mut Progress,
 ) -> Result<(), NoMemory>
     requires step { IsInStep (W.told wires.old) progress.old }
     ensures holds { OnOk result ((called : List (List ℕ)) (planned : Log) → Reflects client.old planned → Doing progress.old called planned (W.told wires.old) → HoldsOver client.new progress.new called (W.told wires.new)) }
     ensures count { OnOk result (count_of client.new ≡ count_of client.old) }
+    ensures watch { OnOk result (watch_by client.new ≡ watch_by client.old) }
     ensures keeps { OnOk result (SameCounts (W.told wires.old) (W.told wires.new)) }
-    ensures course { OnOk result (Course (W.faults wires.old) (W.faults wires.new) (W.script wires.old) (W.script wires.new)) }
+    ensures course { OnOk result (Course (W.told wires.old) (W.told wires.new) (W.faults wires.old) (W.faults wires.new) (W.script wires.old) (W.script wires.new)) }
     ensures step { OnOk result (IsInStep (W.told wires.new) progress.new) }
 {
     while let Some(p) = progress.next_pending() {
@@ -173,10 +176,10 @@ fn settle<W: Wires>(
 }
 
 // Does what the client wants, and tells it of what failed.
-fn carry_out<W: Wires>(
+fn carry_out<W: Wires, H: HeaderStore>(
     alloc: Global,
     wires: &mut W,
-    client: &mut Client,
+    client: &mut Client<H>,
     acts: &[Act],
     progress: &mut Progress,
 ) -> Result<(), NoMemory>
@@ -184,8 +187,9 @@ fn carry_out<W: Wires>(
     requires step { IsInStep (W.told wires.old) progress.old }
     ensures holds { OnOk result ((called : List (List ℕ)) (log : Log) → Answers client.old acts.now log → Doing progress.old called log (W.told wires.old) → HoldsOver client.new progress.new called (W.told wires.new)) }
     ensures count { OnOk result (count_of client.new ≡ count_of client.old) }
+    ensures watch { OnOk result (watch_by client.new ≡ watch_by client.old) }
     ensures keeps { OnOk result (SameCounts (W.told wires.old) (W.told wires.new)) }
-    ensures course { OnOk result (Course (W.faults wires.old) (W.faults wires.new) (W.script wires.old) (W.script wires.new)) }
+    ensures course { OnOk result (Course (W.told wires.old) (W.told wires.new) (W.faults wires.old) (W.faults wires.new) (W.script wires.old) (W.script wires.new)) }
     ensures step { OnOk result (IsInStep (W.told wires.new) progress.new) }
 {
     perform(alloc, wires, acts, progress)?;
@@ -194,10 +198,10 @@ fn carry_out<W: Wires>(
 }
 
 // Dials the next peer.
-fn dial_one<W: Wires>(
+fn dial_one<W: Wires, H: HeaderStore>(
     alloc: Global,
     wires: &mut W,
-    client: &mut Client,
+    client: &mut Client<H>,
     progress: &mut Progress,
     name: &str,
 ) -> Result<(), NoMemory>
@@ -206,10 +210,11 @@ fn dial_one<W: Wires>(
     requires step { IsInStep (W.told wires.old) progress.old }
     ensures holds { OnOk result ((called : List (List ℕ)) → HoldsOver client.old progress.old called (W.told wires.old) → HoldsOver client.new progress.new (called ++ name.now ∷ []) (W.told wires.new)) }
     ensures next { OnOk result (count_of client.new ≡ (W.told wires.new).tally.dials + 1) }
+    ensures watch { OnOk result (watch_by client.new ≡ watch_by client.old) }
     ensures dials { OnOk result ((W.told wires.new).tally.dials ≡ (W.told wires.old).tally.dials + 1) }
     ensures taken { OnOk result ((W.told wires.new).tally.taken ≡ (W.told wires.old).tally.taken) }
     ensures ended { OnOk result ((W.told wires.new).tally.ended ≡ (W.told wires.old).tally.ended) }
-    ensures course { OnOk result (Course (W.faults wires.old) (W.faults wires.new) (W.script wires.old) (W.script wires.new)) }
+    ensures course { OnOk result (Course (W.told wires.old) (W.told wires.new) (W.faults wires.old) (W.faults wires.new) (W.script wires.old) (W.script wires.new)) }
     ensures step { OnOk result (IsInStep (W.told wires.new) progress.new) }
 {
     match wires.dial(name) {
@@ -226,20 +231,35 @@ fn dial_one<W: Wires>(
     }
 }
 
+// What a slice of bytes holds are bytes: its type says so.
+fn are_bytes(piece: &[u8])
+    ensures { IsBytes piece.now }
+{}
+
+// What is delivered are bytes.
+fn note_bytes(d: &Delivery)
+    ensures { AreBytesOf d.now }
+{
+    if let Delivery::Got(_, piece) = d {
+        are_bytes(piece.as_slice());
+    }
+}
+
 // Takes one delivery, if something is open.
-fn take_turn<W: Wires>(
+fn take_turn<W: Wires, H: HeaderStore>(
     alloc: Global,
     wires: &mut W,
-    client: &mut Client,
+    client: &mut Client<H>,
     progress: &mut Progress,
 ) -> Result<Option<End>, NoMemory>
     requires step { IsInStep (W.told wires.old) progress.old }
     ensures turned { IfOk result (λ end. (called : List (List ℕ)) → HoldsOver client.old progress.old called (W.told wires.old) → Turned end client.new progress.new called (W.told wires.new)) }
+    ensures watch { OnOk result (watch_by client.new ≡ watch_by client.old) }
     ensures taken { IfOk result (λ end. IfNone end ((W.told wires.new).tally.taken ≡ (W.told wires.old).tally.taken + 1)) }
     ensures untaken { IfOk result (λ end. IfSome end (λ e. (W.told wires.new).tally.taken ≡ (W.told wires.old).tally.taken)) }
     ensures untired { IfOk result (λ end. end ≢ Some End.Tired) }
     ensures ended { IfOk result (λ end. IsEndTold end (W.told wires.old).tally (W.told wires.new).tally) }
-    ensures course { OnOk result (Course (W.faults wires.old) (W.faults wires.new) (W.script wires.old) (W.script wires.new)) }
+    ensures course { OnOk result (Course (W.told wires.old) (W.told wires.new) (W.faults wires.old) (W.faults wires.new) (W.script wires.old) (W.script wires.new)) }
     ensures step { OnOk result (IsInStep (W.told wires.new) progress.new) }
 {
     match client.state() {
@@ -251,16 +271,17 @@ fn take_turn<W: Wires>(
     if let Delivery::Ended = &d {
         return Ok(Some(End::Ended));
     }
+    note_bytes(&d);
     let acts = client.step(&d)?;
     carry_out(alloc, wires, client, &acts, progress)?;
     Ok(None)
 }
 
 // Dials the names in order.
-fn dial_all<W: Wires>(
+fn dial_all<W: Wires, H: HeaderStore>(
     alloc: Global,
     wires: &mut W,
-    client: &mut Client,
+    client: &mut Client<H>,
     progress: &mut Progress,
     names: &[String],
 ) -> Result<(), NoMemory>
@@ -271,9 +292,10 @@ fn dial_all<W: Wires>(
     requires next { count_of client.old ≡ 1 }
     requires step { IsInStep (W.told wires.old) progress.old }
     ensures holds { OnOk result (HoldsOver client.old progress.old [] (W.told wires.old) → HoldsOver client.new progress.new (names_in names.now) (W.told wires.new)) }
+    ensures watch { OnOk result (watch_by client.new ≡ watch_by client.old) }
     ensures taken { OnOk result ((W.told wires.new).tally.taken ≡ 0) }
     ensures unended { OnOk result ((W.told wires.new).tally.ended ≡ 0) }
-    ensures course { OnOk result (Course (W.faults wires.old) (W.faults wires.new) (W.script wires.old) (W.script wires.new)) }
+    ensures course { OnOk result (Course (W.told wires.old) (W.told wires.new) (W.faults wires.old) (W.faults wires.new) (W.script wires.old) (W.script wires.new)) }
     ensures step { OnOk result (IsInStep (W.told wires.new) progress.new) }
 {
     for name in names {
@@ -283,7 +305,7 @@ fn dial_all<W: Wires>(
 }
 
 // How a run ends once its turns are used up.
-fn last_end(client: &Client) -> End
+fn last_end<H: HeaderStore>(client: &Client<H>) -> End
     ensures end { (log : Log) → Reflects client.now log → IsEnd result log }
     ensures unended { result ≢ End.Ended }
 {
@@ -295,10 +317,10 @@ fn last_end(client: &Client) -> End
 }
 
 // Takes turns until the run ends.
-fn take_turns<W: Wires>(
+fn take_turns<W: Wires, H: HeaderStore>(
     alloc: Global,
     wires: &mut W,
-    client: &mut Client,
+    client: &mut Client<H>,
     progress: &mut Progress,
     turns: u32,
 ) -> Result<End, NoMemory>
@@ -306,10 +328,11 @@ fn take_turns<W: Wires>(
     requires unended { (W.told wires.old).tally.ended ≡ 0 }
     requires step { IsInStep (W.told wires.old) progress.old }
     ensures stopped { IfOk result (λ end. (called : List (List ℕ)) → HoldsOver client.old progress.old called (W.told wires.old) → Stopped end client.new progress.new called (W.told wires.new)) }
+    ensures watch { OnOk result (watch_by client.new ≡ watch_by client.old) }
     ensures tired { IfOk result (λ end. end ≡ End.Tired → (W.told wires.new).tally.taken ≡ turns) }
     ensures ended { IfOk result (λ end. end ≡ End.Ended → (W.told wires.new).tally.ended ≡ 1) }
     ensures early { IfOk result (λ end. end ≡ End.Ended → (W.told wires.new).tally.taken < turns) }
-    ensures course { OnOk result (Course (W.faults wires.old) (W.faults wires.new) (W.script wires.old) (W.script wires.new)) }
+    ensures course { OnOk result (Course (W.told wires.old) (W.told wires.new) (W.faults wires.old) (W.faults wires.new) (W.script wires.old) (W.script wires.new)) }
 {
     for _turn in 0..turns {
         if let Some(end) = take_turn(alloc, wires, client, progress)? {
@@ -319,36 +342,63 @@ fn take_turns<W: Wires>(
     Ok(last_end(client))
 }
 
-/// Dials the peers in order, at most eight, and follows the best chain that they show, until nothing is open, no peer is left,
-/// the stated number of deliveries was taken, or the wires give no more. The wires are new: nothing has passed them.
-pub fn sync_over<W: Wires>(
+// Ends the run: the connections that are left are ended, and what came of it is put together.
+fn finish<W: Wires, H: HeaderStore>(
+    wires: &mut W,
+    client: &Client<H>,
+    progress: Progress,
+    end: End,
+) -> Result<Outcome, NoMemory>
+    ensures end { IfOk result (λ o. o.end ≡ end) }
+    ensures trace { IfOk result (λ o. o.trace ≡ progress.trace) }
+    ensures report { IfOk result (λ o. (log : Log) → Reflects client.now log → IsReportOf (watch_by client.now) o.height o.tip o.history log) }
+    ensures ends { IfOk result (λ o. (log : Log) → Reflects client.now log → EndsTell o.ends.items log) }
+    ensures told { W.told wires.new ≡ W.told wires.old }
+    ensures course { Course (W.told wires.old) (W.told wires.new) (W.faults wires.old) (W.faults wires.new) (W.script wires.old) (W.script wires.new) }
+{
+    wires.finish();
+    let ends = client.ends()?;
+    let report = client.report()?;
+    Ok(Outcome {
+        end,
+        height: report.height,
+        tip: report.tip,
+        history: report.history,
+        trace: progress.trace,
+        ends,
+    })
+}
+
+/// Dials the peers in order, at most eight, follows the best chain that they show, and fetches its blocks, until nothing is open, no peer
+/// is left, the stated number of deliveries was taken, or the wires give no more. The wires are new: nothing has passed them. In the store
+/// no peer is entered.
+pub fn sync_over<W: Wires, H: HeaderStore + Drop>(
     alloc: Global,
     wires: &mut W,
     names: &[String],
+    watch: Watch,
+    store: H,
     moment: i64,
     nonce: u64,
     turns: u32,
 ) -> Result<Outcome, NoMemory>
     requires fresh { Tells [] (W.told wires.old) }
     requires few { length names.now ≤ 8 }
-    ensures followed { IfOk result (λ o. IfSome (W.told wires.new).log (λ log. Followed o.end o.height o.tip o.trace.items (names_in names.now) log)) }
-    ensures theorem { IfOk result (λ o. IfSome (W.told wires.new).log (λ log. SyncTheorem o.end o.height o.tip log)) }
+    requires empty { (q : ℕ) → H.chain store q ≡ None }
+    ensures followed { IfOk result (λ o. IfSome (W.told wires.new).log (λ log. Followed watch o.end o.height o.tip o.history o.trace.items (names_in names.now) log)) }
+    ensures ends { IfOk result (λ o. IfSome (W.told wires.new).log (λ log. EndsTell o.ends.items log)) }
+    ensures theorem { IfOk result (λ o. IfSome (W.told wires.new).log (λ log. SyncTheorem watch o.height o.tip o.history log)) }
     ensures no_peers { IfOk result (λ o. (o.end ≡ End.NoPeers) ↔ NobodyLeft (W.told wires.new).tally) }
     ensures tired { IfOk result (λ o. o.end ≡ End.Tired → (W.told wires.new).tally.taken ≡ turns) }
     ensures ended { IfOk result (λ o. o.end ≡ End.Ended → (W.told wires.new).tally.ended ≡ 1) }
     ensures early { IfOk result (λ o. o.end ≡ End.Ended → (W.told wires.new).tally.taken < turns) }
-    ensures course { OnOk result (Course (W.faults wires.old) (W.faults wires.new) (W.script wires.old) (W.script wires.new)) }
+    ensures course { OnOk result (Course (W.told wires.old) (W.told wires.new) (W.faults wires.old) (W.faults wires.new) (W.script wires.old) (W.script wires.new)) }
+    ensures failures { OnOk result (IfSome (W.told wires.new).log (λ log. HasFailed log → HasRisen (W.faults wires.old) (W.faults wires.new))) }
 {
-    let mut client = Client::new(alloc, moment, nonce)?;
+    let mut client = Client::new(alloc, watch, store, moment, nonce)?;
     let mut progress = Progress::new(alloc);
     dial_all(alloc, wires, &mut client, &mut progress, names)?;
     let end = take_turns(alloc, wires, &mut client, &mut progress, turns)?;
-    let ends = client.ends()?;
-    Ok(Outcome {
-        end,
-        height: 0,
-        tip: block_hash(&genesis_header()),
-        trace: progress.trace,
-        ends,
-    })
+    let outcome = finish(wires, &client, progress, end)?;
+    Ok(outcome)
 }

@@ -1,6 +1,6 @@
 //! What the client keeps of a peer's number.
 ghost use Rattle.std.specs.Prelude.{◌≡◌, not};
-ghost use Rattle.cf_client.specs.Places.{is_busy as busy_at, is_here as here_at, is_wanting, is_calm, end_of};
+ghost use Rattle.cf_client.specs.Places.{is_busy as busy_at, is_here as here_at, is_idle as idle_at, is_fetching_at, is_wanting, is_calm, end_by, end_of};
 
 use cf_peer::{Cause, Peer};
 use thiserror::Error;
@@ -25,13 +25,37 @@ pub enum PeerEnd {
     Waiting,
 }
 
+/// How a peer was lost.
+#[derive(Clone, Copy, Debug, PartialEq, Eq)]
+pub enum Loss {
+    /// Its dial failed.
+    NotDialled,
+    /// It has gone.
+    Gone,
+    /// It was closed for this cause.
+    Closed(Cause),
+}
+
 /// A connected peer, or how one was lost.
 #[derive(Drop)]
 pub enum Place {
     /// A connected peer.
     Here(Peer),
-    /// A peer that is connected no more.
-    Lost(PeerEnd),
+    /// A peer that isn't connected.
+    Lost(Loss),
+}
+
+impl Loss {
+    /// How a peer stands that was lost so.
+    pub fn end(self) -> PeerEnd
+        ensures { result ≡ end_by self }
+    {
+        match self {
+            Loss::NotDialled => PeerEnd::NotDialled,
+            Loss::Gone => PeerEnd::Gone,
+            Loss::Closed(cause) => PeerEnd::Closed(cause),
+        }
+    }
 }
 
 impl Place {
@@ -40,7 +64,7 @@ impl Place {
         ensures { result ≡ busy_at self.now }
     {
         match self {
-            Place::Here(peer) => peer.is_busy(),
+            Place::Here(peer) => !peer.is_idle(),
             Place::Lost(_) => false,
         }
     }
@@ -50,6 +74,26 @@ impl Place {
         ensures { result ≡ here_at self.now }
     {
         matches!(self, Place::Here(_))
+    }
+
+    /// Whether nothing is open to a connected peer.
+    pub fn is_idle(&self) -> bool
+        ensures { result ≡ idle_at self.now }
+    {
+        match self {
+            Place::Here(peer) => peer.is_idle(),
+            Place::Lost(_) => false,
+        }
+    }
+
+    /// Whether a block is open to a connected peer.
+    pub fn is_fetching(&self) -> bool
+        ensures { result ≡ is_fetching_at self.now }
+    {
+        match self {
+            Place::Here(peer) => peer.is_fetching(),
+            Place::Lost(_) => false,
+        }
     }
 
     /// Whether a connected peer is to be asked for headers.
@@ -84,7 +128,7 @@ impl Place {
                     PeerEnd::Waiting
                 }
             }
-            Place::Lost(end) => *end,
+            Place::Lost(loss) => loss.end(),
         }
     }
 }

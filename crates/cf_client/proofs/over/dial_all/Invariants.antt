@@ -1,6 +1,6 @@
 use Rattle.std.proofs.Common.{◌≡◌, ◌+◌, [], take}
 use Rattle.cf_client.specs.Names.{names_in}
-use Rattle.cf_client.specs.Stands.{count_of}
+use Rattle.cf_client.specs.Stands.{count_of, watch_by}
 use Rattle.cf_client.specs.Run.{HoldsOver, Course, IsInStep}
 use Rattle.cf_client.proofs.over.dial_all.Given as goal
 
@@ -10,7 +10,8 @@ invariant-loop-name g l = record {
   dials : (g.W.Wires.told l.wires).tally.dials ≡ l.name-index;
   taken : (g.W.Wires.told l.wires).tally.taken ≡ 0;
   unended : (g.W.Wires.told l.wires).tally.ended ≡ 0;
+  watch : watch_by l.client ≡ watch_by l.fn.client;
   next : count_of l.client ≡ (g.W.Wires.told l.wires).tally.dials + 1;
-  course : Course (g.W.Wires.faults l.fn.wires) (g.W.Wires.faults l.wires) (g.W.Wires.script l.fn.wires) (g.W.Wires.script l.wires);
+  course : Course (g.W.Wires.told l.fn.wires) (g.W.Wires.told l.wires) (g.W.Wires.faults l.fn.wires) (g.W.Wires.faults l.wires) (g.W.Wires.script l.fn.wires) (g.W.Wires.script l.wires);
   step : IsInStep (g.W.Wires.told l.wires) l.progress;
 }

@@ -1,8 +1,9 @@
-use Rattle.std.proofs.Common.{List, [], ◌∷◌, ◌++◌, sym, subst}
+use Rattle.std.proofs.Common.{List, [], ◌∷◌, ◌++◌, sym, subst, refl}
 use Rattle.cf_peer.specs.declared.act.Act.{Act}
 use Rattle.cf_peer.specs.declared.event.Event.TheVariants.{Dialled}
 use Rattle.cf_client.specs.Stands.{Answers}
 use Rattle.cf_client.proofs.Turns.{dial_doing}
+use Rattle.cf_client.proofs.Courses.{course_on, course_told}
 use Rattle.cf_client.proofs.over.dial_one.Goals as goal
 
 pub returns-in_ok-carry_out-in-Ok-clause-holds : goal.returns-in_ok-carry_out-in-Ok-clause-holds
@@ -15,3 +16,9 @@ returns-in_ok-carry_out-in-Ok-clause-holds g c = λ called holds.
     c.in_ok-carry_out-in-Ok.ensures.holds (called ++ name ∷ []) log
     (subst (λ (acts : List Act). Answers c.dialled.new.self acts log) (sym c.deref.ensures.value) a)
     (rw c.in-Ok.ensures.dialled.1 d)
+
+pub returns-in_ok-carry_out-in-Ok-clause-course : goal.returns-in_ok-carry_out-in-Ok-clause-course
+returns-in_ok-carry_out-in-Ok-clause-course g c =
+    course_on _ _ _ _ _ _ _ _ _
+    (course_told (Dialled c.in-Ok.p c.args.name.now) _ _ _ _ _ _ refl c.in-Ok.ensures.dialled.1 c.in-Ok.ensures.cause.later c.in-Ok.ensures.same)
+    c.in_ok-carry_out-in-Ok.ensures.course

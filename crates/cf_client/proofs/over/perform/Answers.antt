@@ -9,7 +9,7 @@ loop-act-preserved g c = record {
   doing = λ called planned allowed doing.
       acts_more c.args.acts.now c.loop-act.act-index c.act-item.result (after c.args.acts.now planned) _ _ called _ _ (omega arith) c.act-item.is (c.loop-act.invariant.doing called planned allowed doing) c.in_ok-perform_one.ensures.doing;
   keeps = counts_on _ _ _ c.loop-act.invariant.keeps c.in_ok-perform_one.ensures.keeps;
-  course = course_on _ _ _ _ _ _ c.loop-act.invariant.course c.in_ok-perform_one.ensures.course;
+  course = course_on _ _ _ _ _ _ _ _ _ c.loop-act.invariant.course c.in_ok-perform_one.ensures.course;
   fewer = omega (arith, c.in_ok-perform_one.ensures.fewer);
   step = c.in_ok-perform_one.ensures.step;
 }

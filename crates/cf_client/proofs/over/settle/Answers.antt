@@ -25,8 +25,9 @@ loop-p-preserved g c = record {
         doing = subst (λ (acts : List Act). Doing c.perform.new.progress called (after acts next) (g.W.Wires.told c.perform.new.wires)) c.deref.ensures.value done;
       };
   count = c.in_ok-acts.ensures.count ∙ c.loop-p.invariant.count;
+  watch = c.in_ok-acts.ensures.watch ∙ c.loop-p.invariant.watch;
   keeps = counts_on _ _ _ c.loop-p.invariant.keeps c.in_ok-perform.ensures.keeps;
-  course = course_on _ _ _ _ _ _ c.loop-p.invariant.course c.in_ok-perform.ensures.course;
+  course = course_on _ _ _ _ _ _ _ _ _ c.loop-p.invariant.course c.in_ok-perform.ensures.course;
   step = c.in_ok-perform.ensures.step;
 }
 

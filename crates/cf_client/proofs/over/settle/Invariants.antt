@@ -1,6 +1,6 @@
 use Rattle.std.proofs.Common.{◌≡◌, List, ℕ}
 use Rattle.cf_peer.specs.Log.{Log}
-use Rattle.cf_client.specs.Stands.{Reflects, count_of}
+use Rattle.cf_client.specs.Stands.{Reflects, count_of, watch_by}
 use Rattle.cf_client.specs.Run.{Doing, Waits, trouble, SameCounts, Course, IsInStep}
 use Rattle.cf_client.proofs.over.settle.Given as goal
 
@@ -9,8 +9,9 @@ invariant-loop-p g l = record {
   waits : (called : List (List ℕ)) (planned : Log) → Reflects l.fn.client planned → Doing l.fn.progress called planned (g.W.Wires.told l.fn.wires)
       → Waits l.client l.progress called (g.W.Wires.told l.wires);
   count : count_of l.client ≡ count_of l.fn.client;
+  watch : watch_by l.client ≡ watch_by l.fn.client;
   keeps : SameCounts (g.W.Wires.told l.fn.wires) (g.W.Wires.told l.wires);
-  course : Course (g.W.Wires.faults l.fn.wires) (g.W.Wires.faults l.wires) (g.W.Wires.script l.fn.wires) (g.W.Wires.script l.wires);
+  course : Course (g.W.Wires.told l.fn.wires) (g.W.Wires.told l.wires) (g.W.Wires.faults l.fn.wires) (g.W.Wires.faults l.wires) (g.W.Wires.script l.fn.wires) (g.W.Wires.script l.wires);
   step : IsInStep (g.W.Wires.told l.wires) l.progress;
 }
 

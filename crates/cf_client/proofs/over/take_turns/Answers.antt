@@ -12,16 +12,17 @@ returns-in-Some-clause-stopped g c = λ called holds.
     (c.in_ok-end.ensures.turned called (c.loop-turn.invariant.holds called holds))
 
 pub returns-in-Some-clause-course : goal.returns-in-Some-clause-course
-returns-in-Some-clause-course g c = course_on _ _ _ _ _ _ c.loop-turn.invariant.course c.in_ok-end.ensures.course
+returns-in-Some-clause-course g c = course_on _ _ _ _ _ _ _ _ _ c.loop-turn.invariant.course c.in_ok-end.ensures.course
 
 pub loop-turn-preserved : goal.loop-turn-preserved
 loop-turn-preserved g c = record {
   holds = λ called holds. subst (λ (o : Option End). Turned o c.take_turn.new.client c.take_turn.new.progress called (g.W.Wires.told c.take_turn.new.wires)) c.in_default.is
       (c.in_ok-end.ensures.turned called (c.loop-turn.invariant.holds called holds));
+  watch = c.in_ok-end.ensures.watch ∙ c.loop-turn.invariant.watch;
   taken = subst (λ (o : Option End). IfNone o ((g.W.Wires.told c.take_turn.new.wires).tally.taken ≡ (g.W.Wires.told c.loop-turn.wires).tally.taken + 1)) c.in_default.is c.in_ok-end.ensures.taken
       ∙ ap (λ (n : ℕ). n + 1) c.loop-turn.invariant.taken;
   unended = told_unended c.in_ok-end.field-0 (g.W.Wires.told c.loop-turn.wires).tally (g.W.Wires.told c.take_turn.new.wires).tally c.in_default.is c.in_ok-end.ensures.ended ∙ c.loop-turn.invariant.unended;
-  course = course_on _ _ _ _ _ _ c.loop-turn.invariant.course c.in_ok-end.ensures.course;
+  course = course_on _ _ _ _ _ _ _ _ _ c.loop-turn.invariant.course c.in_ok-end.ensures.course;
   step = c.in_ok-end.ensures.step;
 }
 

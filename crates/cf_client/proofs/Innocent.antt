@@ -1,0 +1,64 @@
+-- Between two calls of the client no connected peer deserves a cause.
+use Rattle.std.proofs.Common.{◌≡◌, inl, inr, ℕ, ◌≤◌, [], ◌∷◌, Some, None, Bool, true, false, refl, sym, ◌∙◌, ap, arith}
+use Rattle.std.specs.Prelude.{not, ◌&&◌, ◌||◌, nat_le}
+use Rattle.std.proofs.lemmas.Bool.{cases_Bool, both_ways, false≢true, and_parts}
+use Rattle.std.proofs.lemmas.Bool.Decides.{nat_tests}
+use Rattle.cf_headers.specs.declared.store.HeaderStore.{Ghosts}
+use Rattle.cf_peer.specs.declared.peer.Cause.{Cause}
+use Rattle.cf_peer.specs.declared.peer.Peer.{Peer}
+use Rattle.cf_peer.specs.Log.{Log}
+use Rattle.cf_peer.specs.Trail.{Trail, Part, Called, Said, Refused, Asked, Passed, Lost, part_of, connected, ready, failed}
+use Rattle.cf_peer.specs.Asking.{OpenRequest, NothingOpen, HeadersOpen, BlockOpen, request, is_idle as idle_request, is_open, age, Deserves}
+use Rattle.cf_peer.specs.Peer.{Holds, aged, age_in, calm}
+use Rattle.cf_client.specs.declared.client.Client.{Client}
+use Rattle.cf_client.specs.declared.place.Place.{Place}
+use Rattle.cf_client.specs.declared.place.Place.TheVariants.{Here, Lost as LostPlace}
+use Rattle.cf_client.specs.Places.{Fits, place_at, is_settled, is_calm, is_wanting}
+use Rattle.cf_client.specs.Stands.{Reflects, IsInnocent}
+
+-- no send to a connected peer has failed
+none_failed : (t : Trail) → connected t ≡ true → failed t ≡ false
+none_failed [] on = refl
+none_failed (Called ∷ t) on = refl
+none_failed (Said m ∷ t) on = none_failed t on
+none_failed (Refused c ∷ t) on = none_failed t on
+none_failed (Asked m ∷ t) on = none_failed t on
+none_failed (Passed s ∷ t) on = none_failed t on
+none_failed (Lost w ∷ t) on = absurd (false≢true on)
+
+-- what is open has the age that is kept with it
+aged_is : (r : OpenRequest) (n : ℕ) → idle_request r ≡ false → age_in (aged r n) ≡ n
+aged_is NothingOpen n is = absurd (false≢true (sym is))
+aged_is HeadersOpen n is = refl
+aged_is (BlockOpen block) n is = refl
+
+open_parts : (c rd i : Bool) → (c && (not rd || not i)) ≡ true → rd ≡ true → i ≡ false
+open_parts true true false h is = refl
+open_parts true true true h is = absurd (false≢true h)
+open_parts true false i h is = absurd (false≢true is)
+open_parts false rd i h is = absurd (false≢true h)
+
+age_kept : (peer : Peer) (t : Trail) → Holds peer t → is_open t ≡ true → age_in peer.request ≡ age t
+age_kept peer t h is = elim (cases_Bool (ready t)) [
+  | inl over ↦ ap age_in h.open_one ∙ rw over (aged_is (request t) (age t) (open_parts (connected t) (ready t) (idle_request (request t)) is over))
+  | inr not_yet ↦ ap age_in h.open_one ∙ rw not_yet refl
+]
+
+calm_young : (n : ℕ) → not (nat_le 60 n) ≡ true → 60 ≤ n → ⊥
+calm_young n is le = absurd (grind (arith, nat_tests, is, le))
+
+peer_innocent : (peer : Peer) (t : Trail) (cause : Cause) → Holds peer t → calm peer ≡ true → Deserves t cause → ⊥
+peer_innocent peer t cause h is (inl words) = (let e : None ≡ Some cause = sym h.clean ∙ words.1 in cc)
+peer_innocent peer t cause h is (inr (inl fault)) = both_ways (failed t) (none_failed t h.on) fault.1
+peer_innocent peer t cause h is (inr (inr late)) = calm_young (age_in peer.request) is (omega (arith, age_kept peer t h late.1, late.2))
+
+settled_calm : (place : Place) → is_settled place ≡ true → is_calm place ≡ true
+settled_calm place h = (and_parts (is_calm place) (not (is_wanting place)) h).0
+
+place_innocent : (place : Place) (part : Part) (cause : Cause) → Fits place part → is_calm place ≡ true → connected part.trail ≡ true → Deserves part.trail cause → ⊥
+place_innocent (Here peer) part cause fits is on deserves = peer_innocent peer part.trail cause fits.holds is deserves
+place_innocent (LostPlace end) part cause off is on deserves = both_ways (connected part.trail) off on
+
+pub innocent : {H : Type 0} {g : Ghosts H} (c : Client H g) (log : Log) → Reflects c log → IsInnocent log
+innocent c log reflects = λ p on cause deserves.
+    place_innocent (place_at c.places.items p) (part_of log p) cause (reflects.places.each p) (settled_calm (place_at c.places.items p) ((c.settled reflects.alive).each p)) on deserves
