@@ -6,3 +6,4 @@ pub mod Refusals
 pub mod Rows
 pub mod SessionSteps
 pub mod Simple
+pub mod TextLemmas

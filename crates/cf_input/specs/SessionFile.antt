@@ -17,7 +17,7 @@ use Rattle.cf_input.specs.declared.session.SessionFault.{SessionFault}
 
 -- how many peers a session may have
 abbrev pub max_dials : ℕ
-max_dials = 1
+max_dials = 8
 
 -- the greatest number of seconds in a tick
 abbrev pub most_seconds : ℕ

@@ -1,15 +1,22 @@
 -- The program's words, as clap reads them.
-use Rattle.std.specs.Prelude.{ℕ, ◌||◌, Bool, if◌then◌else◌, List, [], ◌∷◌, codes, Option, Some, None, true, option_and_then, false}
+use Rattle.std.specs.Prelude.{ℕ, ◌≤◌, ◌&&◌, ◌||◌, nat_lt, nat_le, Bool, if◌then◌else◌, List, [], ◌∷◌, length, codes, Option, Some, None, true, option_and_then, false}
+use Rattle.std.specs.List.{list_all}
 use Rattle.std.specs.Str.{bytes_eq}
-use Rattle.clap.specs.Words.{App, Rule, Row, Text, new_app, new_rule, with_rule, with_subcommand, first_of, fault_of, subcommand_of, Kinds}
+use Rattle.clap.specs.Words.{App, Rule, Row, Text, new_app, new_rule, with_rule, with_subcommand, all_of, first_of, fault_of, subcommand_of, Kinds}
+use Rattle.clap.specs.Lexer.{usize_max}
 use Rattle.clap.specs.declared.builder.ArgAction.TheVariants.{SetTrue}
 use Rattle.cf_input.specs.Number.{number_at_most, number_within}
 use Rattle.cf_input.specs.Name.{is_name}
+use Rattle.cf_input.specs.SessionFile.{max_dials}
 use Rattle.cf_input.specs.declared.words.Command.{Command}
 use Rattle.cf_input.specs.declared.words.Command.TheVariants.{Filter, Replay, Scan, Sync}
 
 abbrev pub needed : Rule → Rule
 needed r = record r { required = true }
+
+-- an argument of one word or more
+abbrev pub several : Rule → Rule
+several r = record r { range = Some (record { start_inclusive = 1; end_inclusive = usize_max }) }
 
 abbrev pub trace : Rule
 trace = record (new_rule (codes "trace")) { long = Some (codes "trace"); action = Some SetTrue }
@@ -21,9 +28,9 @@ turns = record (new_rule (codes "turns")) { long = Some (codes "turns") }
 abbrev pub replay_app : App
 replay_app = with_rule (with_rule (with_rule (new_app (codes "replay")) trace) (needed (new_rule (codes "watch")))) (needed (new_rule (codes "session")))
 
--- sync [--turns N] WATCH PEER
+-- sync [--turns N] WATCH PEER..
 abbrev pub sync_app : App
-sync_app = with_rule (with_rule (with_rule (new_app (codes "sync")) turns) (needed (new_rule (codes "watch")))) (needed (new_rule (codes "peer")))
+sync_app = with_rule (with_rule (with_rule (new_app (codes "sync")) turns) (needed (new_rule (codes "watch")))) (several (needed (new_rule (codes "peer"))))
 
 -- a command of two words, both needed
 abbrev pub two_app : Text → Text → Text → App
@@ -60,6 +67,10 @@ is_met name (Some p) = bytes_eq p.0 name
 abbrev pub text_of : Text → Met → Option Text
 text_of id met = option_and_then (λ p. first_of id p.1) met
 
+-- the texts that were given for an argument, in order
+abbrev pub texts_of : Text → Met → Option (List Text)
+texts_of id met = option_and_then (λ p. all_of id p.1) met
+
 abbrev pub is_true : Option Text → Bool
 is_true None = false
 is_true (Some text) = bytes_eq text (codes "true")
@@ -91,11 +102,20 @@ replay_of met =
     Some (Replay (is_set (codes "trace") met) watch session))
     (text_of (codes "session") met)) (text_of (codes "watch") met)
 
+-- the names of 1 to 8 peers
+abbrev pub are_names : List Text → Bool
+are_names texts = list_all is_name texts && (nat_lt 0 (length texts) && nat_le (length texts) max_dials)
+
 abbrev pub sync_of : Met → Option Command
 sync_of met =
-    option_and_then (λ turns. option_and_then (λ watch. option_and_then (λ peer.
-    if is_name peer then Some (Sync turns watch peer) else None)
-    (text_of (codes "peer") met)) (text_of (codes "watch") met)) (turns_of (text_of (codes "turns") met))
+    option_and_then (λ turns. option_and_then (λ watch. option_and_then (λ peers.
+    if are_names peers then Some (Sync turns watch peers) else None)
+    (texts_of (codes "peer") met)) (text_of (codes "watch") met)) (turns_of (text_of (codes "turns") met))
+
+-- a run has at most 8 peers
+abbrev pub HasFewPeers : Command → Type 0
+HasFewPeers (Sync _ _ peers) = length peers ≤ max_dials
+HasFewPeers _ = Unit {0}
 
 abbrev pub scan_of : Met → Option Command
 scan_of met =

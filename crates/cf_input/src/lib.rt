@@ -11,7 +11,7 @@ mod words;
 
 pub use laws::{laws_of_lines, laws_of_numbers};
 pub use session::{MAX_DIALS, MOST_SECONDS, Session, SessionCause, SessionFault, read_session};
-pub use text::{Word, is_name};
+pub use text::{PeerNames, Word, is_name};
 pub use watch_file::{WatchCause, WatchFileFault, read_watch};
 pub use words::{Command, MOST_HEIGHT, MOST_TURNS, Usage, is_help, is_version, read_words};
 

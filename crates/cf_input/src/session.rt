@@ -15,8 +15,8 @@ use cf_peer::{Delivery, Dial, Name, Piece};
 use std::alloc::Global;
 use thiserror::Error;
 
-/// How many peers a session may have.
-pub const MAX_DIALS: u32 = 1;
+/// How many peers a run may have: dial lines of a session file, or names in the words of `sync`.
+pub const MAX_DIALS: u32 = 8;
 
 /// The greatest number of seconds in a tick.
 pub const MOST_SECONDS: u32 = 86_400;
@@ -24,10 +24,10 @@ pub const MOST_SECONDS: u32 = 86_400;
 /// Why a line can't stand in a session file.
 #[derive(Clone, Copy, Debug, PartialEq, Eq, Error)]
 pub enum SessionCause {
-    /// The first line is no dial line, or there is none.
+    /// The first line is no dial line, or there is no line.
     #[error("the first line is no dial line")]
     NoDial,
-    /// There are as many dial lines before it as a session may have.
+    /// It is a ninth dial line.
     #[error("there are too many dial lines")]
     ManyDials,
     /// A dial line stands after a delivery.
@@ -243,9 +243,10 @@ fn add_line(alloc: Global, session: &mut Session, line: &[u8]) -> Result<(), Ref
 }
 
 /// The session of a file of fewer than 2^32 bytes, or the first line that is refused. Lines end
-/// with LF, which the last may lack. First come lines `dial NAME` or `nodial NAME`, then lines
-/// `got P HEX`, `gone P` or `tick SECONDS` in any number; numbers are decimal without leading
-/// zeros, and one space stands between the parts.
+/// with LF, which the last may lack. First come 1 to 8 lines `dial NAME` or `nodial NAME`, then
+/// lines `got P HEX`, `gone P` or `tick SECONDS` in any number, P being the number of a dial line
+/// counted from 1; numbers are decimal without leading zeros, and one space stands between the
+/// parts.
 pub fn read_session(alloc: Global, bytes: &[u8]) -> Result<Session, Refused<SessionFault>>
     requires { length bytes.now < 2 ^ 32 }
     ensures exact { GivesRead script_in (session_of bytes.now) result }

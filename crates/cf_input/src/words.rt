@@ -1,13 +1,13 @@
 //! The program's words, read by clap.
-ghost use Rattle.std.specs.Prelude.{◌≡◌, ◌==◌, IfOk, IfErr, [], map, false, length, string_bytes, option_map};
+ghost use Rattle.std.specs.Prelude.{◌≡◌, ◌==◌, IfOk, IfErr, [], map, false, length, codes, string_bytes, option_map};
 ghost use Rattle.std.specs.List.{list_any};
-ghost use Rattle.clap.specs.Words.{app_of, rule_of, subcommand_of, subcommand_rows_of, fault_of};
+ghost use Rattle.clap.specs.Words.{app_of, rule_of, new_rule, subcommand_of, subcommand_rows_of, fault_of};
 ghost use Rattle.clap.specs.declared.builder.command.Command.TheViews.{out-Command as fields_of};
-ghost use Rattle.cf_input.specs.Words.{trace, turns, replay_app, sync_app, two_app, with_sub, client_app, cli_app, text_of, is_met, is_set, turns_of, height_of, replay_of, sync_of, scan_of, filter_of, is_faultless, command_of, is_help_word, is_version_word};
+ghost use Rattle.cf_input.specs.Words.{trace, turns, several, needed, replay_app, sync_app, two_app, with_sub, client_app, cli_app, text_of, texts_of, is_met, is_set, turns_of, height_of, replay_of, sync_of, scan_of, filter_of, HasFewPeers, is_faultless, command_of, is_help_word, is_version_word};
 ghost use Rattle.cf_input.specs.Commands.{GivesOrUsage, IfUsage, refusal_of};
 
 use crate::number::{number_at_most, number_within};
-use crate::text::{Word, is_name};
+use crate::text::{PeerNames, Word, are_names};
 use cf_bytes::{NoMemory, Refused};
 use clap::error::ErrorKind;
 use clap::{Arg, ArgAction, ArgMatches};
@@ -43,11 +43,11 @@ pub enum Command {
         watch: Word,
         session: Word,
     },
-    /// The client over the wires that are handed in, which takes at most so many deliveries.
+    /// The client over the wires that are handed in, with 1 to 8 peers; it takes at most so many deliveries.
     Sync {
         turns: u32,
         watch: Word,
-        peer: Word,
+        peers: PeerNames,
     },
     /// The history of the watched scripts in a block file.
     Scan {
@@ -75,15 +75,20 @@ fn trace_arg<'a>(alloc: Global) -> Arg<'a>
         .action(ArgAction::SetTrue)
 }
 
+fn peers_arg<'a>(alloc: Global) -> Arg<'a>
+    ensures { (rule_of result ≡ several (needed (new_rule (codes "peer")))) × (result.global ≡ false) }
+{
+    Arg::new(alloc, "peer").required(true).num_args(1..)
+}
+
 fn sync_command<'a>(alloc: Global) -> Result<clap::Command<'a>, AllocError>
     ensures { IfOk result (λ c. (app_of c ≡ sync_app) × ((fields_of c).has_globals ≡ false)) }
 {
     let watch = Arg::new(alloc, "watch").required(true);
-    let peer = Arg::new(alloc, "peer").required(true);
     clap::Command::new(alloc, "sync")
         .arg(turns_arg(alloc))?
         .arg(watch)?
-        .arg(peer)
+        .arg(peers_arg(alloc))
 }
 
 fn replay_command<'a>(alloc: Global) -> Result<clap::Command<'a>, AllocError>
@@ -175,6 +180,14 @@ fn text_of<'a>(matches: &ArgMatches<'a>, id: &str) -> Option<&'a str>
     inner.get_str(id)
 }
 
+// The texts of an argument of the subcommand that was met, in order.
+fn texts_of<'m, 'a>(matches: &'m ArgMatches<'a>, id: &str) -> Option<&'m [&'a str]>
+    ensures { option_map (λ s. map (λ t. t.now) s.now) result ≡ texts_of id.now (subcommand_rows_of matches.now) }
+{
+    let (_, inner) = matches.subcommand()?;
+    inner.get_strs(id)
+}
+
 // Whether this subcommand was met.
 fn is_met(matches: &ArgMatches, name: &str) -> bool
     ensures { result ≡ is_met name.now (subcommand_rows_of matches.now) }
@@ -230,13 +243,17 @@ fn read_sync(alloc: Global, matches: &ArgMatches) -> Result<Command, Refused<Usa
 {
     let turns = turns_of(text_of(matches, "turns")).ok_or(Usage)?;
     let watch = text_of(matches, "watch").ok_or(Usage)?;
-    let peer = text_of(matches, "peer").ok_or(Usage)?;
-    if !is_name(peer.as_bytes()) {
+    let peers = texts_of(matches, "peer").ok_or(Usage)?;
+    if !are_names(peers) {
         return Err(Refused::No(Usage));
     }
     let watch = Word::new(alloc, watch)?;
-    let peer = Word::new(alloc, peer)?;
-    Ok(Command::Sync { turns, watch, peer })
+    let peers = PeerNames::new(alloc, peers)?;
+    Ok(Command::Sync {
+        turns,
+        watch,
+        peers,
+    })
 }
 
 fn read_scan(alloc: Global, matches: &ArgMatches) -> Result<Command, Refused<Usage>>
@@ -260,9 +277,11 @@ fn read_filter(alloc: Global, matches: &ArgMatches) -> Result<Command, Refused<U
 }
 
 /// What the words ask for; the first is the program's name. `Usage` exactly where clap refuses them
-/// for this command, a number isn't decimal and within its range, or a name isn't one.
+/// for this command, a number isn't decimal and within its range, a name isn't one, or there are more
+/// than 8 peers.
 pub fn read_words(alloc: Global, words: &[String]) -> Result<Command, Refused<Usage>>
-    ensures { GivesOrUsage (command_of (map (λ s. string_bytes s) words.now)) result }
+    ensures exact { GivesOrUsage (command_of (map (λ s. string_bytes s) words.now)) result }
+    ensures few { IfOk result HasFewPeers }
 {
     let matches = matches_of_words(alloc, words)?;
     if is_met(&matches, "replay") {
