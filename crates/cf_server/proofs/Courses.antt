@@ -1,5 +1,5 @@
 -- The course of bytes: the messages of the frames at their front, and what comes after.
-use Rattle.std.proofs.Common.{◌≡◌, ℕ, zero, suc, List, [], ◌∷◌, ◌++◌, Option, Some, None, Result, Ok, Err, refl, sym, ap, ◌∙◌, append_assoc}
+use Rattle.std.proofs.Common.{◌≡◌, ℕ, suc, List, ◌++◌, Some, None, Result, Ok, Err, refl, sym, ap, ◌∙◌, append_assoc}
 use Rattle.cf_frame.specs.declared.frame.Frame.{Frame}
 use Rattle.cf_frame.specs.declared.frame.FrameFault.{FrameFault}
 use Rattle.cf_frame.specs.Reading.{Front, front_of}
@@ -7,7 +7,7 @@ use Rattle.cf_frame.proofs.Fields.{grows}
 use Rattle.cf_msg.specs.declared.msg.Msg.{Msg}
 use Rattle.cf_msg.specs.declared.msg.Malformed.{Malformed}
 use Rattle.cf_msg.specs.Reading.{message_of}
-use Rattle.cf_server.specs.Serving.{Course, Stop, Waits, IsBad, IsMalformed, IsFull, stops, with_message, course_after, course_from, course}
+use Rattle.cf_server.specs.Serving.{Course, Waits, IsBad, IsFull, stops, course_after, course_from, course}
 use Rattle.cf_server.specs.Taking.{with_messages}
 
 pub course_step : (n : ℕ) (bytes : List ℕ) (r : Front) → front_of bytes ≡ r → course (suc n) bytes ≡ course_from (course n) r

@@ -1,6 +1,6 @@
 -- The steps of serving, one by one.
-use Rattle.std.proofs.Common.{◌≡◌, ℕ, ℤ, zero, suc, ◌+◌, ◌-◌, ◌*◌, ◌<◌, ◌≤◌, Bool, true, false, List, [], ◌∷◌, ◌++◌, length, map, take, drop, Option, Some, None, Result, Ok, Err, refl, sym, ap, ◌∙◌, subst, arith, inl, inr, append_assoc, get_or, length-take, length-append}
-use Rattle.std.specs.Prelude.{◌||◌, IfSome}
+use Rattle.std.proofs.Common.{◌≡◌, ℕ, ℤ, zero, suc, ◌+◌, ◌-◌, ◌*◌, ◌<◌, ◌≤◌, Bool, false, List, [], ◌∷◌, ◌++◌, length, take, drop, Option, Some, None, Result, Ok, Err, refl, sym, ap, ◌∙◌, subst, arith, inl, inr, get_or, length-append}
+use Rattle.std.specs.Prelude.{IfSome}
 use Rattle.std.proofs.lemmas.Bool.{cases_lt}
 use Rattle.std.proofs.lemmas.List.{append-nil, map-append, take_more, take-append-drop}
 use Rattle.cf_bytes.specs.Outside.{with_more}
@@ -22,8 +22,8 @@ use Rattle.cf_server.specs.declared.outcome.Outcome.{Outcome}
 use Rattle.cf_server.specs.declared.outcome.Outcome.TheVariants.{Closed, BadFrame, Malformed as MalformedFrame, ReadFault, WriteFault, Tired, NoMemory}
 use Rattle.cf_server.specs.Replies.{message_of, messages_of, Adds}
 use Rattle.cf_server.specs.Serving.{Stop, Waits, most_frames, text_of, Whole, Beginning, ComesAt, Writes, IsServed, Counts, Ends}
-use Rattle.cf_server.specs.Taking.{Sends, AnswersFrame, Answered, CountsWrites, FindsFrame, TakesFrames, Moves, Stops, Midway, ComesInside, served_on, text_for, frame_text}
-use Rattle.cf_server.proofs.Texts.{text-append, text-cons, text-nil, whole_on, beginning_on, beginning_more, beginning_whole, beginning_none, moves_none, moves_frame, moves_then, stops_then, stops_bad, stops_full, stops_frame, stops_waits, stops_without_memory, midway_start, midway_on, midway_stops}
+use Rattle.cf_server.specs.Taking.{Sends, AnswersFrame, Answered, CountsWrites, FindsFrame, Moves, Stops, Midway, ComesInside, served_on, text_for, frame_text}
+use Rattle.cf_server.proofs.Texts.{text-append, text-cons, text-nil, whole_on, beginning_on, beginning_more, beginning_whole, moves_frame, stops_then, stops_bad, stops_full, stops_frame, stops_waits, stops_without_memory, midway_start, midway_on, midway_stops}
 
 -- ---- replies, one after another
 

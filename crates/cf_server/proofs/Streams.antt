@@ -1,5 +1,5 @@
 -- The course of a stream.
-use Rattle.std.proofs.Common.{◌≡◌, ℕ, zero, suc, ◌+◌, ◌-◌, ◌<◌, ◌≤◌, List, [], ◌∷◌, ◌++◌, length, Option, Some, None, Result, Ok, Err, refl, sym, ap, ◌∙◌, subst, arith, append_assoc}
+use Rattle.std.proofs.Common.{◌≡◌, ℕ, suc, ◌+◌, ◌-◌, ◌<◌, List, [], ◌∷◌, ◌++◌, length, Some, None, Ok, Err, refl, sym, ap, ◌∙◌, subst, arith, append_assoc}
 use Rattle.std.specs.List.{flat_map, AllByRecursion}
 use Rattle.std.proofs.lemmas.List.{append-nil}
 use Rattle.std.proofs.lemmas.List.Concat.{flat_map-append}
@@ -15,9 +15,9 @@ use Rattle.cf_msg.specs.declared.msg.Msg.{Msg}
 use Rattle.cf_msg.specs.Message.{Spells, frame_of}
 use Rattle.cf_msg.specs.Reading.{message_of}
 use Rattle.cf_msg.proofs.Table.{again as message_again}
-use Rattle.cf_server.specs.Serving.{Course, Stop, Waits, IsBad as StopsBad, IsMalformed, IsFull, AreSpelled, stops, with_message, course_after, course, most_frames}
+use Rattle.cf_server.specs.Serving.{Stop, Waits, IsBad as StopsBad, IsMalformed, IsFull, AreSpelled, stops, with_message, course, most_frames}
 use Rattle.cf_server.specs.Taking.{with_messages}
-use Rattle.cf_server.proofs.Courses.{course_full, course_waits, course_bad, course_frame, course_frame_alone}
+use Rattle.cf_server.proofs.Courses.{course_full, course_waits, course_bad, course_frame_alone}
 
 -- what spells a message is read as it
 spelled_read : (m : Msg) (f : Frame) → Spells m f.command f.payload → message_of f ≡ Ok m

@@ -1,7 +1,7 @@
 -- What planned replies stand for.
-use Rattle.std.proofs.Common.{◌≡◌, ℕ, ℤ, zero, suc, ◌+◌, ◌-◌, ◌*◌, ◌<◌, ◌≤◌, min, Bool, true, false, List, [], ◌∷◌, ◌++◌, length, map, take, drop, Option, Some, None, refl, sym, ap, ◌∙◌, subst, arith, inl, inr, slice_get, get_or, length-drop, length-take}
-use Rattle.std.specs.Prelude.{◌==◌, nat_le, nat_lt, ◌&&◌, if◌then◌else◌, option_map}
-use Rattle.std.specs.List.{flat_map, range_with_len, AllByRecursion}
+use Rattle.std.proofs.Common.{◌≡◌, ℕ, zero, suc, ◌+◌, ◌-◌, ◌<◌, ◌≤◌, min, Bool, true, false, List, [], ◌∷◌, ◌++◌, length, map, take, drop, Option, Some, None, refl, sym, ap, ◌∙◌, arith, inl, inr, slice_get, get_or, length-drop}
+use Rattle.std.specs.Prelude.{◌==◌, nat_le, nat_lt, if◌then◌else◌}
+use Rattle.std.specs.List.{flat_map, range_with_len}
 use Rattle.std.specs.Option.{option_to_list}
 use Rattle.std.proofs.lemmas.Bool.{cases_Bool, leb-true, ltb-true}
 use Rattle.std.proofs.lemmas.List.{length-map, take-map, take_min}
@@ -13,14 +13,14 @@ use Rattle.cf_block.specs.Genesis.{first_block}
 use Rattle.cf_msg.specs.declared.msg.Entry.{Entry}
 use Rattle.cf_msg.specs.declared.msg.Msg.{Msg}
 use Rattle.cf_msg.specs.declared.msg.Msg.TheVariants.{Version, Ping, GetHeaders, Headers, GetData, Block as BlockMessage, GetCfilters, GetCfheaders, GetCfcheckpt}
-use Rattle.cf_chain.specs.Filters.{Filtered, first_filtered, filters_of}
+use Rattle.cf_chain.specs.Filters.{first_filtered, filters_of}
 use Rattle.cf_chain.specs.Heights.{all_blocks, block_height}
-use Rattle.cf_chain.specs.Serve.{fork_height, or_next, most_headers, block_in, block_with, headers_reply, data_reply, within, range_end, filters_between, cfilter_of, cfilters_reply, cfheaders_reply, cfcheckpt_reply, replies_to, reply_to}
+use Rattle.cf_chain.specs.Serve.{fork_height, or_next, most_headers, block_in, block_with, headers_reply, data_reply, within, range_end, cfilter_of, cfilters_reply, cfheaders_reply, cfcheckpt_reply, replies_to, reply_to}
 use Rattle.cf_chain.proofs.Places.{height_within, length-filters_of}
 use Rattle.cf_server.specs.declared.answering.Served.{Served}
 use Rattle.cf_server.specs.declared.reply.Reply.{Reply}
-use Rattle.cf_server.specs.declared.reply.Reply.TheVariants.{HeadersOf, BlockAt, CfilterAt, CfheadersOf, CfcheckptOf}
-use Rattle.cf_server.specs.Plans.{Begun, count_above, alone_plan, above_plan, headers_plan, data_plan, cfilters_plan, cfheaders_plan, cfcheckpt_plan, basic_height, plan_for, greeting_plan, plan_of}
+use Rattle.cf_server.specs.declared.reply.Reply.TheVariants.{BlockAt, CfilterAt}
+use Rattle.cf_server.specs.Plans.{Begun, alone_plan, above_plan, headers_plan, data_plan, cfilters_plan, cfheaders_plan, cfcheckpt_plan, basic_height, plan_for, greeting_plan, plan_of}
 use Rattle.cf_server.specs.Replies.{message_of, messages_of, IsReplyOf, AreRepliesOf, Adds}
 use Rattle.cf_server.proofs.Lists.{all-take, map-flat_map, flat_map-same, all-flat_map, take_next}
 

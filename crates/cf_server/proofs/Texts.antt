@@ -1,10 +1,9 @@
 -- What is written for messages, and how the steps of serving follow one another.
-use Rattle.std.proofs.Common.{◌≡◌, ℕ, ℤ, zero, suc, ◌+◌, ◌≤◌, Bool, true, false, List, [], ◌∷◌, ◌++◌, length, take, Option, Some, None, Result, Ok, Err, refl, sym, ap, ◌∙◌, subst, arith, append_assoc, length-append, length-take}
-use Rattle.std.specs.Prelude.{◌||◌, IfSome}
-use Rattle.std.specs.List.{flat_map}
-use Rattle.std.proofs.lemmas.List.{append-nil, take_all, take_at, take-append-le}
+use Rattle.std.proofs.Common.{◌≡◌, ℕ, ℤ, suc, ◌+◌, false, List, [], ◌∷◌, ◌++◌, length, take, Option, Some, None, Result, Ok, Err, refl, sym, ap, ◌∙◌, subst, arith, append_assoc, length-append}
+use Rattle.std.specs.Prelude.{◌||◌}
+use Rattle.std.proofs.lemmas.List.{append-nil, take_all, take-append-le}
 use Rattle.std.proofs.lemmas.List.Concat.{flat_map-append}
-use Rattle.cf_bytes.specs.Outside.{with_more, HasRisen}
+use Rattle.cf_bytes.specs.Outside.{with_more}
 use Rattle.cf_conn.specs.Source.{with_front}
 use Rattle.cf_block.specs.declared.tx.Block.{Block}
 use Rattle.cf_frame.specs.declared.frame.Frame.{Frame}
@@ -19,8 +18,8 @@ use Rattle.cf_chain.specs.Serve.{replies, replies_to, is_version}
 use Rattle.cf_server.specs.declared.answering.Served.{Served}
 use Rattle.cf_server.specs.declared.outcome.Outcome.{Outcome}
 use Rattle.cf_server.specs.declared.outcome.Outcome.TheVariants.{Closed, BadFrame, Malformed as MalformedFrame, ReadFault, WriteFault, Tired, NoMemory}
-use Rattle.cf_server.specs.Serving.{Course, Stop, Waits, IsBad as StopsBad, IsMalformed, IsFull, stops, course_after, course, most_frames, text_of, Whole, Beginning, ComesAt, Writes, IsServed}
-use Rattle.cf_server.specs.Taking.{Sends, AnswersFrame, Answered, TakesFrames, Moves, Stops, Midway, served_on, served_after, text_for, text_on, frame_text, with_messages}
+use Rattle.cf_server.specs.Serving.{Course, Stop, Waits, stops, course, most_frames, text_of, Whole, Beginning, ComesAt, Writes, IsServed}
+use Rattle.cf_server.specs.Taking.{AnswersFrame, Answered, Moves, Stops, Midway, served_on, served_after, text_for, text_on, frame_text, with_messages}
 use Rattle.cf_server.proofs.Courses.{course_full, course_waits, course_bad, course_frame, course_frame_alone, messages_joined}
 
 -- ---- bytes that are told

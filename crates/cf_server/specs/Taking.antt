@@ -1,5 +1,5 @@
 -- What the steps of serving a connection do.
-use Rattle.std.specs.Prelude.{◌≡◌, ℕ, ℤ, suc, ◌≤◌, ◌||◌, false, List, [], ◌∷◌, ◌++◌, Option, Some, None, Result, Ok, Err}
+use Rattle.std.specs.Prelude.{◌≡◌, ℕ, ◌≤◌, ◌||◌, List, [], ◌∷◌, ◌++◌, Option, Some, None, Result, Ok, Err}
 use Rattle.cf_bytes.specs.Outside.{HasRisen}
 use Rattle.cf_conn.specs.Source.{with_front}
 use Rattle.cf_block.specs.declared.tx.Block.{Block}
@@ -10,7 +10,7 @@ use Rattle.cf_msg.specs.declared.msg.Malformed.{Malformed}
 use Rattle.cf_chain.specs.Serve.{replies, replies_to, is_version}
 use Rattle.cf_server.specs.declared.answering.Served.{Served}
 use Rattle.cf_server.specs.declared.outcome.Outcome.{Outcome}
-use Rattle.cf_server.specs.declared.outcome.Outcome.TheVariants.{Closed, BadFrame, Malformed as MalformedFrame, ReadFault, WriteFault, Tired, NoMemory}
+use Rattle.cf_server.specs.declared.outcome.Outcome.TheVariants.{Closed, BadFrame, Malformed as MalformedFrame, ReadFault, WriteFault, NoMemory}
 use Rattle.cf_server.specs.Serving.{Course, course, most_frames, text_of, Whole, Beginning, ComesAt, Writes}
 
 -- what became of a text that was to be written

@@ -1,4 +1,4 @@
-use Rattle.std.proofs.Common.{ℕ, take, refl}
+use Rattle.std.proofs.Common.{ℕ, take}
 use Rattle.cf_chain.specs.Serve.{replies_to}
 use Rattle.cf_server.specs.Replies.{Adds}
 use Rattle.cf_server.proofs.Telling.{adds_plan, adds_begun}

@@ -1,12 +1,6 @@
-use Rattle.std.proofs.Common.{◌≡◌, ℕ, suc, ◌+◌, ◌-◌, ◌≤◌, map, take, drop, length, Some, sym, ◌∙◌, ap, subst, arith}
-use Rattle.std.specs.Prelude.{IfOk}
-use Rattle.cf_bytes.specs.declared.hash.Hash32.{Hash32}
-use Rattle.cf_frame.specs.Frame.{spelling}
-use Rattle.cf_msg.specs.declared.msg.Msg.TheVariants.{Cfheaders}
-use Rattle.cf_msg.specs.Message.{frame_of}
+use Rattle.std.proofs.Common.{◌≡◌, suc, ◌+◌, ◌-◌, map, take, drop, ◌∙◌, ap, arith}
 use Rattle.cf_filter.specs.Filter.{filter_hash_of}
 use Rattle.cf_chain.specs.Filters.{Filtered, filters_of}
-use Rattle.cf_chain.proofs.Places.{height_within}
 use Rattle.cf_server.proofs.Fitting.{cfheaders_small}
 use Rattle.cf_server.proofs.frames.cfheaders_bytes.Goals as goal
 

@@ -1,4 +1,4 @@
-use Rattle.std.proofs.Common.{◌≡◌, ◌≤◌, List, length, sym, ◌∙◌, ap, subst}
+use Rattle.std.proofs.Common.{◌≤◌, List, length, sym, subst}
 use Rattle.cf_block.specs.declared.header.Header.{Header}
 use Rattle.cf_msg.specs.declared.msg.Msg.TheVariants.{Headers}
 use Rattle.cf_msg.specs.Message.{payload_of}

@@ -1,4 +1,4 @@
-use Rattle.std.proofs.Common.{◌≡◌, ◌≤◌, length, refl, ◌∙◌, ap, arith, lit<}
+use Rattle.std.proofs.Common.{◌≤◌, length, refl, ◌∙◌, ap, arith, lit<}
 use Rattle.cf_msg.proofs.Sizes.{version_fits}
 use Rattle.cf_server.proofs.frames.own_version.Goals as goal
 

@@ -1,4 +1,4 @@
-use Rattle.std.proofs.Common.{arith, lit≤}
+use Rattle.std.proofs.Common.{lit≤}
 use Rattle.cf_msg.specs.Message.{payload_of}
 use Rattle.cf_server.proofs.frames.write_reply.Goals as goal
 

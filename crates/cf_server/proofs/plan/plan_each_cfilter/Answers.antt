@@ -1,6 +1,5 @@
-use Rattle.std.proofs.Common.{◌≡◌, ℕ, suc, ◌+◌, ◌-◌, ◌++◌, map, ◌∙◌, ap, arith}
+use Rattle.std.proofs.Common.{◌≡◌, suc, ◌+◌, ◌-◌, ◌++◌, map, ◌∙◌, ap, arith}
 use Rattle.std.specs.List.{range_with_len}
-use Rattle.cf_server.specs.declared.reply.Reply.{Reply}
 use Rattle.cf_server.specs.declared.reply.Reply.TheVariants.{CfilterAt}
 use Rattle.cf_server.specs.Plans.{Begun}
 use Rattle.cf_server.proofs.Walking.{on_err, range_on, range_begun}

@@ -1,7 +1,6 @@
-use Rattle.std.proofs.Common.{◌≡◌, Ok, Err, Result, refl, sym, ◌∙◌, ap, subst}
+use Rattle.std.proofs.Common.{Err, Result, refl, sym, ◌∙◌, ap, subst}
 use Rattle.std.proofs.lemmas.Result.{err_from_is_err_and}
 use Rattle.cf_server.specs.declared.outcome.Outcome.{Outcome}
-use Rattle.cf_server.specs.declared.outcome.Outcome.TheVariants.{NoMemory}
 use Rattle.cf_server.specs.declared.reply.Reply.TheVariants.{OwnVersion}
 use Rattle.cf_server.specs.Replies.{messages_of}
 use Rattle.cf_server.specs.Serving.{text_of}

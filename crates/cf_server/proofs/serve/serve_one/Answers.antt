@@ -1,4 +1,4 @@
-use Rattle.std.proofs.Common.{◌≡◌, List, [], ◌++◌, ℕ, zero, ◌+◌, ◌-◌, ◌<◌, ◌≤◌, length, take, false, Option, Some, None, Result, Ok, Err, refl, sym, ◌∙◌, ap, subst, arith, to_z, of_z, w64}
+use Rattle.std.proofs.Common.{◌≡◌, [], ◌<◌, take, false, refl, ◌∙◌, ap, arith, to_z, of_z, w64}
 use Rattle.std.proofs.lemmas.Int.{to_z-of_z}
 use Rattle.std.proofs.lemmas.List.{length-take-le}
 use Rattle.cf_frame.specs.Reading.{front_of}

@@ -1,4 +1,4 @@
-use Rattle.std.proofs.Common.{◌≡◌, ◌+◌, ◌-◌, ◌*◌, ◌≤◌, length, false, List, ℕ, None, Ok}
+use Rattle.std.proofs.Common.{◌≡◌, ◌+◌, ◌-◌, ◌*◌, ◌≤◌, length, false, None, Ok}
 use Rattle.std.specs.Prelude.{IfSome}
 use Rattle.cf_frame.specs.Reading.{front_of}
 use Rattle.cf_server.specs.Taking.{Midway}

@@ -1,0 +1,242 @@
+#!/usr/bin/env python3
+"""Prints a conversation with a serving machine over a block file, in hexadecimal: `conversation.py FILE`.
+
+The first line is what a peer sends: each request that a server of filters knows, some that aren't answered, and last a ping that is cut
+short. The second is what is sent back, written out from the layouts of the Bitcoin developer reference, BIP 157 and BIP 158. The tests of
+cf_server hold the same conversation, by the fields of its messages.
+"""
+import struct
+import sys
+from hashlib import sha256
+
+MASK = 2 ** 64 - 1
+MAGIC = bytes.fromhex("fabfb5da")
+GENESIS_TX = bytes.fromhex(
+    "01000000010000000000000000000000000000000000000000000000000000000000000000ffffffff4d04ffff001d0104455468652054696d65732030332f4a61"
+    "6e2f32303039204368616e63656c6c6f72206f6e206272696e6b206f66207365636f6e64206261696c6f757420666f722062616e6b73ffffffff0100f2052a0100"
+    "0000434104678afdb0fe5548271967f1a67130b7105cd6a828e03909a67962e0ea1f61deb649f6bc3f4cef38c4f35504e51ec112de5c384df7ba0b8d578a4c702b"
+    "6bf11d5fac00000000"
+)
+GENESIS_HEADER = (
+    struct.pack("<i", 1) + bytes(32) + bytes.fromhex("3ba3edfd7a7b12b27ac72c3e67768f617fc81bc3888a51323a9fb8aa4b1e5e4a")
+    + bytes.fromhex("dae5494d") + bytes.fromhex("ffff7f20") + struct.pack("<I", 2)
+)
+
+
+def double(data):
+    return sha256(sha256(data).digest()).digest()
+
+
+def compact(n):
+    if n < 253:
+        return bytes([n])
+    if n < 2 ** 16:
+        return b"\xfd" + struct.pack("<H", n)
+    return b"\xfe" + struct.pack("<I", n)
+
+
+# ---- blocks
+
+class Reader:
+    def __init__(self, data):
+        self.data, self.place = data, 0
+
+    def take(self, n):
+        part = self.data[self.place:self.place + n]
+        self.place += n
+        return part
+
+    def number(self, n):
+        return int.from_bytes(self.take(n), "little")
+
+    def count(self):
+        first = self.number(1)
+        return first if first < 253 else self.number({253: 2, 254: 4, 255: 8}[first])
+
+
+def transactions(block):
+    """Of each transaction its txid, the outpoints that it names and the scripts that it pays."""
+    r = Reader(block)
+    r.take(80)
+    found = []
+    for _ in range(r.count()):
+        start = r.place
+        r.take(4)
+        names = []
+        for _ in range(r.count()):
+            names.append((r.take(32), r.number(4)))
+            r.take(r.count())
+            r.take(4)
+        scripts = []
+        for _ in range(r.count()):
+            r.take(8)
+            scripts.append(r.take(r.count()))
+        r.take(4)
+        found.append((double(block[start:r.place]), names, scripts))
+    return found
+
+
+def records(data):
+    r = Reader(data)
+    while r.place < len(data):
+        assert r.take(4) == MAGIC
+        yield r.take(r.number(4))
+
+
+# ---- filters
+
+def rotl(x, b):
+    return ((x << b) | (x >> (64 - b))) & MASK
+
+
+def siphash(k0, k1, data):
+    v = [k0 ^ 0x736F6D6570736575, k1 ^ 0x646F72616E646F6D, k0 ^ 0x6C7967656E657261, k1 ^ 0x7465646279746573]
+
+    def rounds(n):
+        for _ in range(n):
+            v[0] = (v[0] + v[1]) & MASK
+            v[1] = rotl(v[1], 13) ^ v[0]
+            v[0] = rotl(v[0], 32)
+            v[2] = (v[2] + v[3]) & MASK
+            v[3] = rotl(v[3], 16) ^ v[2]
+            v[0] = (v[0] + v[3]) & MASK
+            v[3] = rotl(v[3], 21) ^ v[0]
+            v[2] = (v[2] + v[1]) & MASK
+            v[1] = rotl(v[1], 17) ^ v[2]
+            v[2] = rotl(v[2], 32)
+
+    whole = len(data) // 8 * 8
+    words = [data[i:i + 8] for i in range(0, whole, 8)]
+    words.append(data[whole:] + bytes(7 - len(data) % 8) + bytes([len(data) % 256]))
+    for word in words:
+        m = int.from_bytes(word, "little")
+        v[3] ^= m
+        rounds(2)
+        v[0] ^= m
+    v[2] ^= 0xFF
+    rounds(4)
+    return v[0] ^ v[1] ^ v[2] ^ v[3]
+
+
+def basic_filter(block_hash, items):
+    n = len(items)
+    k0, k1 = (int.from_bytes(block_hash[i:i + 8], "little") for i in (0, 8))
+    values = sorted(siphash(k0, k1, item) * (n * 784931) >> 64 for item in items)
+    bits, before = "", 0
+    for value in values:
+        d = value - before
+        bits += "1" * (d >> 19) + "0" + format(d % 2 ** 19, "019b")
+        before = value
+    bits += "0" * (-len(bits) % 8)
+    return compact(n) + bytes(int(bits[i:i + 8], 2) for i in range(0, len(bits), 8))
+
+
+def filters(blocks):
+    coins, previous, found = {}, bytes(32), []
+    for height, block in enumerate(blocks):
+        items = set()
+        for place, (txid, names, scripts) in enumerate(transactions(block)):
+            for script in scripts:
+                if script and script[0] != 0x6A:
+                    items.add(script)
+            if place > 0:
+                items.update(s for s in (coins.pop(name) for name in names) if s)
+            if height > 0:
+                coins.update(((txid, i), script) for i, script in enumerate(scripts))
+        text = basic_filter(double(block[:80]), items)
+        previous = double(double(text) + previous)
+        found.append((text, double(text), previous))
+    return found
+
+
+# ---- messages
+
+def frame(command, payload=b""):
+    name = command.encode()
+    return MAGIC + name + bytes(12 - len(name)) + struct.pack("<I", len(payload)) + double(payload)[:4] + payload
+
+
+def version(services, time, nonce, agent, height, relay):
+    no_address = bytes(26)
+    return frame("version", struct.pack("<iQq", 70016, services, time) + no_address + no_address
+                 + struct.pack("<Q", nonce) + compact(len(agent)) + agent + struct.pack("<i", height) + relay)
+
+
+def main():
+    with open(sys.argv[1], "rb") as file:
+        blocks = [GENESIS_HEADER + b"\x01" + GENESIS_TX] + list(records(file.read()))
+    hashes = [double(b[:80]) for b in blocks]
+    found = filters(blocks)
+    tip = len(blocks) - 1
+    unknown = bytes([7]) * 32
+    ask, told = b"", b""
+
+    def say(sent, *answers):
+        nonlocal ask, told
+        ask += sent
+        told += b"".join(answers)
+
+    def getheaders(locator, stop):
+        return frame("getheaders", struct.pack("<I", 70016) + compact(len(locator)) + b"".join(locator) + stop)
+
+    def headers(first, last):
+        chosen = blocks[first:last + 1]
+        return frame("headers", compact(len(chosen)) + b"".join(b[:80] + b"\0" for b in chosen))
+
+    def block(height):
+        return frame("block", blocks[height])
+
+    def cfilter(height):
+        text = found[height][0]
+        return frame("cfilter", b"\0" + hashes[height] + compact(len(text)) + text)
+
+    def cfheaders(first, last):
+        before = found[first - 1][2] if first else bytes(32)
+        return frame("cfheaders", b"\0" + hashes[last] + before + compact(last + 1 - first) + b"".join(f[1] for f in found[first:last + 1]))
+
+    def of_range(command, kind, start, stop):
+        return frame(command, bytes([kind]) + struct.pack("<I", start) + stop)
+
+    number = bytes(range(1, 9))
+    # Nothing is answered before a version, and no second version is.
+    say(getheaders([hashes[0]], bytes(32)))
+    say(frame("ping", number))
+    say(version(0, 5, 6, b"/other:2/", 9, b""), version(65, 1_700_000_000, 0x1122334455667788, b"/cf:1/", tip, b"\0"), frame("verack"))
+    say(frame("ping", number), frame("pong", number))
+    say(version(0, 5, 6, b"", 9, b"\x01"))
+    say(frame("verack"))
+    say(frame("pong", number))
+    say(frame("inv", compact(1) + struct.pack("<I", 2) + unknown))
+    # A command that isn't known.
+    say(frame("sendcmpct", b"\0" + struct.pack("<Q", 1)))
+    # Headers.
+    say(getheaders([unknown], bytes(32)), headers(1, tip))
+    say(getheaders([hashes[tip]], bytes(32)), headers(1, 0))
+    say(getheaders([hashes[0]], hashes[2]), headers(1, 2))
+    say(getheaders([unknown, hashes[1], hashes[0]], hashes[1]), headers(2, tip))
+    say(getheaders([], hashes[2]), headers(2, 2))
+    say(getheaders([], unknown))
+    # Blocks, genesis among them; a transaction, a block with its witness, and an unknown one get nothing.
+    entries = [(2, hashes[2]), (1, hashes[1]), (2, unknown), (0x40000002, hashes[1]), (2, hashes[0])]
+    say(frame("getdata", compact(len(entries)) + b"".join(struct.pack("<I", kind) + name for kind, name in entries)), block(2), block(0))
+    # Filters, their hashes, and checkpoints.
+    say(of_range("getcfilters", 0, 0, hashes[tip]), *(cfilter(h) for h in range(tip + 1)))
+    say(of_range("getcfilters", 0, 2, hashes[2]), cfilter(2))
+    say(of_range("getcfilters", 1, 0, hashes[tip]))
+    say(of_range("getcfilters", 0, 0, unknown))
+    say(of_range("getcfilters", 0, 3, hashes[2]))
+    say(of_range("getcfheaders", 0, 0, hashes[tip]), cfheaders(0, tip))
+    say(of_range("getcfheaders", 0, 2, hashes[tip]), cfheaders(2, tip))
+    say(of_range("getcfheaders", 1, 2, hashes[tip]))
+    say(of_range("getcfheaders", 0, 4, hashes[tip]))
+    say(frame("getcfcheckpt", b"\0" + hashes[tip]), frame("cfcheckpt", b"\0" + hashes[tip] + b"\0"))
+    say(frame("getcfcheckpt", b"\x01" + hashes[tip]))
+    say(frame("getcfcheckpt", b"\0" + unknown))
+    # A payload that is too short.
+    say(frame("ping", number[:7]))
+    print(ask.hex())
+    print(told.hex())
+
+
+if __name__ == "__main__":
+    main()
