@@ -1,5 +1,5 @@
 -- What `filter` writes, by whether its height is within the chain.
-use Rattle.std.proofs.Common.{◌≡◌, ◌⊎◌, inl, inr, ℕ, suc, ◌<◌, ◌≤◌, Bool, true, false, nat_lt, List, length, get_or, refl, sym, ◌∙◌, subst, Option, Some, None, arith}
+use Rattle.std.proofs.Common.{◌≡◌, ◌⊎◌, inl, inr, ℕ, ◌<◌, ◌≤◌, true, false, nat_lt, List, length, get_or, refl, sym, ◌∙◌, subst, Option, Some, None, arith}
 use Rattle.std.specs.Prelude.{option_map}
 use Rattle.std.proofs.lemmas.Bool.Decides.{nat_tests}
 use Rattle.std.proofs.lemmas.Option.{slice_get_within, slice_get_cases}
@@ -7,7 +7,7 @@ use Rattle.cf_block.specs.declared.tx.Block.{Block}
 use Rattle.cf_chain.specs.Filters.{Filtered, filters_of, filter_at}
 use Rattle.cf_index.proofs.Indexes.{filters_length}
 use Rattle.cf_cli.specs.declared.status.Status.{Status}
-use Rattle.cf_cli.specs.declared.status.Status.TheVariants.{NoMemory, NoHeight}
+use Rattle.cf_cli.specs.declared.status.Status.TheVariants.{NoHeight}
 use Rattle.cf_cli.specs.Reading.{filter_text, IsWritten, TellsFilter, TellsHeight}
 
 above_by : (blocks : List Block) (height : ℕ) → filter_at blocks height ≡ None
@@ -49,15 +49,3 @@ none_by (Some f) is = cc
 pub is_above : (now : Option (List ℕ)) (blocks : List Block) (height : ℕ) → None ≡ option_map filter_text (filter_at blocks height)
     → TellsHeight NoHeight now now blocks height (nat_lt (length blocks) height)
 is_above now blocks height is = subst (TellsHeight NoHeight now now blocks height) (sym (above blocks height (none_by (filter_at blocks height) is))) refl
-
--- no memory was found
-no_text : (now : Option (List ℕ)) (o : Option Filtered) → TellsFilter NoMemory now now o
-no_text now None = refl
-no_text now (Some f) = refl
-
-no_text_by : (now : Option (List ℕ)) (blocks : List Block) (height : ℕ) (b : Bool) → TellsHeight NoMemory now now blocks height b
-no_text_by now blocks height true = refl
-no_text_by now blocks height false = no_text now (filter_at blocks height)
-
-pub is_untold : (now : Option (List ℕ)) (blocks : List Block) (height : ℕ) → TellsHeight NoMemory now now blocks height (nat_lt (length blocks) height)
-is_untold now blocks height = no_text_by now blocks height (nat_lt (length blocks) height)

@@ -8,7 +8,7 @@ use Rattle.cf_bytes.specs.Files.{Named}
 use Rattle.cf_peer.specs.declared.event.Dial.{Dial}
 use Rattle.cf_peer.specs.declared.memory.MemoryWires.{MemoryWires}
 use Rattle.cf_peer.specs.Dials.{answered_at}
-use Rattle.cf_peer.specs.Log.{Log, Tally, tally_of, dials}
+use Rattle.cf_peer.specs.Log.{Log, Told, Tells, Tally, tally_of, dials}
 use Rattle.cf_peer.specs.Memory.{script_of, log_of, failing_of}
 use Rattle.cf_peer.specs.Wires.{Script, Made}
 use Rattle.cf_input.specs.declared.session.SessionFault.{SessionFault}
@@ -17,8 +17,9 @@ use Rattle.cf_cli.specs.declared.status.Status.TheVariants.{Done, NoMemory, Usag
 use Rattle.cf_input.specs.declared.words.Command.{Command}
 use Rattle.cf_input.specs.declared.words.Command.TheVariants.{Replay, Sync}
 use Rattle.cf_input.specs.SessionFile.{session_of}
+use Rattle.cf_input.specs.WatchFile.{watch_of}
 use Rattle.cf_cli.specs.Statuses.{has_run, IsOfFile, IsJudged, verdict_of, and_then, watch_verdict, session_verdict}
-use Rattle.cf_cli.specs.Theorem.{Kept, IsKept, Plays, PlaysSession, Tallied}
+use Rattle.cf_cli.specs.Theorem.{Kept, KeptOver, IsKept, Plays, PlaysSession, Tallied}
 
 -- dials of the same names that went alike are the same
 pub dials_same : (xs ys : List Dial) → map (λ (d : Dial). d.name) xs ≡ map (λ (d : Dial). d.name) ys → ((i : ℕ) → i < length xs → answered_at xs i ≡ answered_at ys i) → xs ≡ ys
@@ -39,10 +40,10 @@ made script failing = record { script = script; failing = failing }
 some_same : (a b : Made) → Some a ≡ Some b → a ≡ b
 some_same a b e = cc
 
-pub plays_of : (status : Status) (trace : Bool) (names : List (List ℕ)) (before after : Option (List ℕ)) (turns : ℕ) (script : Script) (tape : MemoryWires)
+pub plays_of : (status : Status) (trace : Bool) (scripts names : List (List ℕ)) (before after : Option (List ℕ)) (turns : ℕ) (script : Script) (tape : MemoryWires)
     → Some (made (script_of tape) (failing_of tape)) ≡ Some (made script []) → names ≡ map (λ (d : Dial). d.name) script.dials
-    → Kept status trace names before after (log_of tape) → Tallied status turns (tally_of (log_of tape)) → has_run status ≡ true → Plays status script (log_of tape)
-plays_of status trace names before after turns script tape is_made named kept tallied is =
+    → Kept status trace scripts names before after (log_of tape) → Tallied status turns (tally_of (log_of tape)) → has_run status ≡ true → Plays status script (log_of tape)
+plays_of status trace scripts names before after turns script tape is_made named kept tallied is =
     let same = some_same (made (script_of tape) (failing_of tape)) (made script []) is_made in
     let mine : script_of tape ≡ script = ap (λ (m : Made). m.script) same in
     let unfailing : failing_of tape ≡ [] = ap (λ (m : Made). m.failing) same in
@@ -88,17 +89,45 @@ no_run Ended is = absurd is
 no_run NoHeight is = absurd is
 
 -- where no run is made nothing has passed, and nobody is honest
-pub early_kept : (status : Status) (trace : Bool) (b : Option (List ℕ)) (log : Log) → has_run status ≡ false → log ≡ [] → Kept status trace [] b b log
-early_kept status trace b log off none = subst (λ (l : Log). Kept status trace [] b b l) (sym none) (record {
-  writes = λ p chain honest other is untraced. absurd (false≢true honest.dialled);
-  answers = λ p chain honest quiet. absurd (false≢true honest.dialled);
-  complete = λ p chain honest. absurd (false≢true honest.dialled);
-  never = λ p chain honest ne. tt;
+early_kept : (status : Status) (trace : Bool) (scripts names : List (List ℕ)) (b : Option (List ℕ)) (log : Log) → has_run status ≡ false → log ≡ [] → Kept status trace scripts names b b log
+early_kept status trace scripts names b log off none = subst (λ (l : Log). Kept status trace scripts names b b l) (sym none) (record {
+  writes = λ p blocks serves other is untraced. absurd (false≢true serves.honest.dialled);
+  answers = λ p blocks serves quiet. absurd (false≢true serves.honest.dialled);
+  complete = λ p blocks serves. absurd (false≢true serves.honest.dialled);
+  never = λ p blocks serves ne. tt;
   ran = λ is. absurd (false≢true (sym off ∙ is));
 })
 
-pub early_is_kept : (status : Status) (trace : Bool) (b : Option (List ℕ)) (log : Log) → IsOfFile status → log ≡ [] → IsKept status trace b b log
-early_is_kept status trace b log is none = ([], early_kept status trace b log (no_run status is) none)
+pub early_over : (status : Status) (trace : Bool) (files : Option Named) (watch : List ℕ) (names : List (List ℕ)) (b : Option (List ℕ)) (log : Log) → IsOfFile status → log ≡ []
+    → KeptOver status trace files watch names b b log
+early_over status trace files watch names b log is none = record {
+  scripts = [];
+  watched = λ made. absurd (false≢true (sym (no_run status is) ∙ made));
+  kept = early_kept status trace [] names b log (no_run status is) none;
+}
+
+pub early_is_kept : (status : Status) (trace : Bool) (files : Option Named) (watch : List ℕ) (b : Option (List ℕ)) (log : Log) → IsOfFile status → log ≡ [] → IsKept status trace files watch b b log
+early_is_kept status trace files watch b log is none = ([], early_over status trace files watch [] b log is none)
+
+-- the same for wires that are new, which may tell no log
+pub early_told : (t : Told) (status : Status) (trace : Bool) (files : Option Named) (watch : List ℕ) (names : List (List ℕ)) (b : Option (List ℕ)) → IsOfFile status → Tells [] t
+    → IfSome t.log (λ log. KeptOver status trace files watch names b b log)
+early_told t status trace files watch names b is fresh = told_over t.log fresh.content where
+  told_over : (o : Option Log) → IfSome o (λ l. l ≡ []) → IfSome o (λ log. KeptOver status trace files watch names b b log)
+  told_over None none = tt
+  told_over (Some log) none = early_over status trace files watch names b log is none
+
+-- with the scripts of the watch file
+pub over_watch : (status : Status) (trace : Bool) (files : Option Named) (watch : List ℕ) (scripts names : List (List ℕ)) (before after : Option (List ℕ)) (log : Log)
+    → IfSome files (λ m. IfSome (finite.get m watch) (λ bytes. watch_of bytes ≡ Ok scripts)) → Kept status trace scripts names before after log
+    → KeptOver status trace files watch names before after log
+over_watch status trace files watch scripts names before after log read kept = record { scripts = scripts; watched = λ made. read; kept = kept }
+
+pub told_over_watch : (o : Option Log) (status : Status) (trace : Bool) (files : Option Named) (watch : List ℕ) (scripts names : List (List ℕ)) (before after : Option (List ℕ))
+    → IfSome files (λ m. IfSome (finite.get m watch) (λ bytes. watch_of bytes ≡ Ok scripts)) → IfSome o (λ log. Kept status trace scripts names before after log)
+    → IfSome o (λ log. KeptOver status trace files watch names before after log)
+told_over_watch None status trace files watch scripts names before after read kept = tt
+told_over_watch (Some log) status trace files watch scripts names before after read kept = over_watch status trace files watch scripts names before after log read kept
 
 -- nothing is told of a run for which memory was wanting
 pub early_tallied : (turns : ℕ) (tally : Tally) → Tallied NoMemory turns tally
@@ -121,9 +150,9 @@ judged_replay o c trace watch session watch_name session_name status a b is judg
     let two = subst (λ (w : List ℕ). IfSome o (λ m. IsJudged (and_then (watch_verdict (finite.get m watch)) (session_verdict (finite.get m w))) status)) b one in
     subst (λ (x : Command). IfSome o (λ m. IsJudged (verdict_of m x) status)) (sym is) two
 
-pub judged_sync : (o : Option Named) (c : Command) (turns : ℕ) (watch peer watch_name : List ℕ) (status : Status) → watch_name ≡ watch → c ≡ Sync turns watch peer
+pub judged_sync : (o : Option Named) (c : Command) (turns : ℕ) (watch : List ℕ) (peers : List (List ℕ)) (watch_name : List ℕ) (status : Status) → watch_name ≡ watch → c ≡ Sync turns watch peers
     → IfSome o (λ m. IsJudged (watch_verdict (finite.get m watch_name)) status)
     → IfSome o (λ m. IsJudged (verdict_of m c) status)
-judged_sync o c turns watch peer watch_name status a is judged =
+judged_sync o c turns watch peers watch_name status a is judged =
     let one = subst (λ (w : List ℕ). IfSome o (λ m. IsJudged (watch_verdict (finite.get m w)) status)) a judged in
     subst (λ (x : Command). IfSome o (λ m. IsJudged (verdict_of m x) status)) (sym is) one

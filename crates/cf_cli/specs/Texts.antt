@@ -7,7 +7,8 @@ use Rattle.cf_client.specs.declared.outcome.End.TheVariants.{Synced, NoPeers, Ti
 use Rattle.cf_client.specs.declared.trace.TraceLine.{TraceLine}
 use Rattle.cf_client.specs.declared.trace.TraceLine.TheVariants.{Sent, Closed}
 use Rattle.cf_peer.specs.declared.peer.Cause.{Cause}
-use Rattle.cf_peer.specs.declared.peer.Cause.TheVariants.{BadFrame, Malformed, NoFilters, Unlinked, InvalidHeader, TooHigh, SendFailed, Overdue}
+use Rattle.cf_peer.specs.declared.peer.Cause.TheVariants.{BadFrame, Malformed, NoFilters, Unlinked, InvalidHeader, TooHigh, BadBlock, SendFailed, Overdue}
+use Rattle.cf_scan.specs.declared.history.Entry.{Entry}
 use Rattle.cf_scan.specs.HistoryText.{history_text}
 
 abbrev pub cause_name : Cause → List ℕ
@@ -17,6 +18,7 @@ cause_name NoFilters = codes "NoFilters"
 cause_name Unlinked = codes "Unlinked"
 cause_name InvalidHeader = codes "InvalidHeader"
 cause_name TooHigh = codes "TooHigh"
+cause_name BadBlock = codes "BadBlock"
 cause_name SendFailed = codes "SendFailed"
 cause_name Overdue = codes "Overdue"
 
@@ -32,14 +34,14 @@ trace_line (Closed p cause) = codes "x " ++ decimal p.0 ++ codes " " ++ cause_na
 abbrev pub trace_text : List TraceLine → List ℕ
 trace_text lines = flat_map trace_line lines
 
--- the history is written where the run is synced; at this stage every chain is genesis alone, and no history has a line
-abbrev pub end_text : End → ℕ → Hash32 → List ℕ
-end_text Synced height tip = history_text [] height tip.0
-end_text NoPeers height tip = []
-end_text Tired height tip = []
-end_text Ended height tip = []
+-- the history is written where the run is synced
+abbrev pub end_text : End → List Entry → ℕ → Hash32 → List ℕ
+end_text Synced entries height tip = history_text entries height tip.0
+end_text NoPeers entries height tip = []
+end_text Tired entries height tip = []
+end_text Ended entries height tip = []
 
 -- the trace comes first, where it is asked for
-abbrev pub run_text : Bool → List TraceLine → End → ℕ → Hash32 → List ℕ
-run_text true lines end height tip = trace_text lines ++ end_text end height tip
-run_text false lines end height tip = end_text end height tip
+abbrev pub run_text : Bool → List TraceLine → End → List Entry → ℕ → Hash32 → List ℕ
+run_text true lines end entries height tip = trace_text lines ++ end_text end entries height tip
+run_text false lines end entries height tip = end_text end entries height tip

@@ -1,21 +1,28 @@
 -- What is promised of a run of the program.
-use Rattle.std.specs.Prelude.{◌≡◌, ◌≢◌, ◌<◌, ℕ, Bool, true, false, List, [], length, take, Option, Vec, Result, Ok, Err}
+use Rattle.std.specs.Prelude.{◌≡◌, ◌≢◌, ◌<◌, ℕ, Bool, true, false, List, length, take, Option, IfSome, Vec, Result, Ok, Err}
+use Rattle.std.specs.FinMap as finite
 use Rattle.std.specs.Global.{Global}
+use Rattle.cf_bytes.specs.Files.{Named}
 use Rattle.cf_bytes.specs.Outside.{with_more}
 use Rattle.cf_bytes.specs.declared.hash.Hash32.{Hash32}
 use Rattle.cf_block.specs.declared.tx.Block.{Block}
-use Rattle.cf_headers.specs.Chain.{tip_hash}
+use Rattle.cf_headers.specs.Chain.{tip_hash, NoHashClash}
 use Rattle.cf_chain.specs.Good.{headers_of}
 use Rattle.cf_client.specs.declared.outcome.End.{End}
 use Rattle.cf_client.specs.declared.outcome.End.TheVariants.{Synced as IsSynced, NoPeers as HasNoPeers, Tired as IsTired, Ended as HasEnded}
 use Rattle.cf_client.specs.declared.place.PeerEnd.{PeerEnd}
 use Rattle.cf_client.specs.declared.trace.TraceLine.{TraceLine}
-use Rattle.cf_client.specs.Honest.{IsHonest, ShowsNoOther, IsNeverClosed}
-use Rattle.cf_client.specs.Places.{IsQuiet}
+use Rattle.cf_client.specs.Places.{EndsTell}
 use Rattle.cf_client.specs.Run.{Followed, NobodyLeft}
+use Rattle.cf_sync.specs.Fetching.{IsQuiet}
+use Rattle.cf_sync.specs.Honesty.{IsHonest, ShowsNoOther, IsNeverClosed}
+use Rattle.cf_sync.specs.Sync.{IsHashed}
 use Rattle.cf_peer.specs.Log.{Log, Tally, deliveries, dials}
 use Rattle.cf_peer.specs.Wires.{Script}
+use Rattle.cf_scan.specs.declared.history.Entry.{Entry}
 use Rattle.cf_scan.specs.HistoryText.{history_text}
+use Rattle.cf_scan.specs.Scan.{scan_of}
+use Rattle.cf_input.specs.WatchFile.{watch_of}
 use Rattle.cf_input.specs.declared.session.SessionFault.{SessionFault}
 use Rattle.cf_cli.specs.declared.status.Status.{Status}
 use Rattle.cf_cli.specs.declared.status.Status.TheVariants.{Done, NoMemory, Usage, BadFile, FileFault, OutFault, NoPeers, Tired, Ended, NoHeight}
@@ -35,14 +42,20 @@ IsAnswerOf end (BadFile which place cause) before after text = ⊥
 IsAnswerOf end FileFault before after text = ⊥
 IsAnswerOf end NoHeight before after text = ⊥
 
+-- where the answer tells how each peer stands, this is what the log says of it
+abbrev pub TellsEnds : Status → Log → Type 0
+TellsEnds status log = (ends : Vec PeerEnd Global) → status ≡ NoPeers ends → EndsTell ends.items log
+
 -- a run over a log: how it ended, by the log, and what was written of it
-pub record Ran (status : Status) (trace : Bool) (names : List (List ℕ)) (before after : Option (List ℕ)) (log : Log) : Type 0 where
+pub record Ran (status : Status) (trace : Bool) (scripts names : List (List ℕ)) (before after : Option (List ℕ)) (log : Log) : Type 0 where
   pub end : End
   pub height : ℕ
   pub tip : Hash32
+  pub entries : List Entry
   pub lines : List TraceLine
-  pub followed : Followed end height tip lines names log
-  pub answered : IsAnswerOf end status before after (run_text trace lines end height tip)
+  pub followed : Followed scripts end height tip entries lines names log
+  pub answered : IsAnswerOf end status before after (run_text trace lines end entries height tip)
+  pub stands : TellsEnds status log
 
 -- Done, or the answer of a sink that fails, or of want of memory
 abbrev pub Settles : Status → Type 0
@@ -60,21 +73,40 @@ IsComplete OutFault = Unit {0}
 IsComplete NoMemory = Unit {0}
 IsComplete status = ⊥
 
--- The sync theorem for the program. Whatever peers send: where one of them answers as the serving machine of a chain does, and no connected
--- peer has shown another chain as long, a run that answers Done has written exactly that chain's history and tip; it answers Done as soon as
--- no request is open, unless the sink fails or memory is wanting; and it never closes that peer.
-pub record Kept (status : Status) (trace : Bool) (names : List (List ℕ)) (before after : Option (List ℕ)) (log : Log) : Type 0 where
-  pub writes : (p : ℕ) (blocks : List Block) → IsHonest log p blocks → ShowsNoOther log (headers_of blocks) → status ≡ Done → trace ≡ false
-      → after ≡ with_more before (history_text [] (length blocks) (tip_hash (headers_of blocks)))
-  pub answers : (p : ℕ) (blocks : List Block) → IsHonest log p blocks → IsQuiet log → Settles status
-  pub complete : (p : ℕ) (blocks : List Block) → IsHonest log p blocks → IsComplete status
-  pub never : (p : ℕ) (blocks : List Block) → IsHonest log p blocks → status ≢ NoMemory → IsNeverClosed log p
-  pub ran : has_run status ≡ true → Ran status trace names before after log
+-- a peer that answers as the serving machine of these blocks does, over a log whose strings, with the blocks', don't clash
+pub record Serves (log : Log) (p : ℕ) (blocks : List Block) : Type 0 where
+  pub honest : IsHonest log p blocks
+  pub apart : NoHashClash (IsHashed log blocks)
+
+-- The sync theorem for the program. Whatever peers send: where one of them answers as the serving machine of a chain of blocks does, and no
+-- connected peer has shown another chain as long, a run that answers Done has written exactly the history that a plain scan of every block of
+-- that chain gives for the watched scripts, with its tip; it answers Done as soon as no request is open, unless the sink fails or memory is
+-- wanting; and it never closes that peer.
+pub record Kept (status : Status) (trace : Bool) (scripts names : List (List ℕ)) (before after : Option (List ℕ)) (log : Log) : Type 0 where
+  pub writes : (p : ℕ) (blocks : List Block) → Serves log p blocks → ShowsNoOther log blocks → status ≡ Done → trace ≡ false
+      → after ≡ with_more before (history_text (scan_of blocks scripts) (length blocks) (tip_hash (headers_of blocks)))
+  pub answers : (p : ℕ) (blocks : List Block) → Serves log p blocks → IsQuiet log → Settles status
+  pub complete : (p : ℕ) (blocks : List Block) → Serves log p blocks → IsComplete status
+  pub never : (p : ℕ) (blocks : List Block) → Serves log p blocks → status ≢ NoMemory → IsNeverClosed log p
+  pub ran : has_run status ≡ true → Ran status trace scripts names before after log
+
+-- the same with the scripts of the watch file
+pub record KeptOver (status : Status) (trace : Bool) (files : Option Named) (watch : List ℕ) (names : List (List ℕ)) (before after : Option (List ℕ)) (log : Log) : Type 0 where
+  pub scripts : List (List ℕ)
+  pub watched : has_run status ≡ true → IfSome files (λ m. IfSome (finite.get m watch) (λ bytes. watch_of bytes ≡ Ok scripts))
+  pub kept : Kept status trace scripts names before after log
+
+-- an answer that comes only where a peer is connected
+abbrev pub has_somebody : Status → Bool
+has_somebody Done = true
+has_somebody Tired = true
+has_somebody Ended = true
+has_somebody status = false
 
 -- the same by the tally alone, for wires that tell no log
 pub record Tallied (status : Status) (turns : ℕ) (tally : Tally) : Type 0 where
   pub no_peers : (ends : Vec PeerEnd Global) → status ≡ NoPeers ends → NobodyLeft tally
-  pub somebody : status ≡ Done → NobodyLeft tally → ⊥
+  pub somebody : has_somebody status ≡ true → NobodyLeft tally → ⊥
   pub tired : status ≡ Tired → tally.taken ≡ turns
   pub ended : status ≡ Ended → tally.ended ≡ 1
   pub early : status ≡ Ended → tally.taken < turns
@@ -85,12 +117,12 @@ pub record Plays (status : Status) (script : Script) (log : Log) : Type 0 where
   pub given : (n : ℕ) × (deliveries log ≡ take n script.deliveries)
   pub whole : status ≡ Ended → deliveries log ≡ script.deliveries
 
--- the answer that tells how a run ended
-abbrev pub AnswersTo : End → Status → Type 0
-AnswersTo IsSynced status = status ≡ Done
-AnswersTo HasNoPeers status = (ends : Vec PeerEnd Global) × (status ≡ NoPeers ends)
-AnswersTo IsTired status = status ≡ Tired
-AnswersTo HasEnded status = status ≡ Ended
+-- the answer that tells how a run ended, and how its peers stand where none is left
+abbrev pub AnswersTo : End → List PeerEnd → Status → Type 0
+AnswersTo IsSynced ends status = status ≡ Done
+AnswersTo HasNoPeers ends status = (told : Vec PeerEnd Global) × (status ≡ NoPeers told) × (told.items ≡ ends)
+AnswersTo IsTired ends status = status ≡ Tired
+AnswersTo HasEnded ends status = status ≡ Ended
 
 -- the answers of a run
 abbrev pub IsOfRun : Status → Type 0
@@ -101,8 +133,8 @@ IsOfRun NoHeight = ⊥
 IsOfRun status = Unit {0}
 
 -- the same for a log of which the names aren't told
-abbrev pub IsKept : Status → Bool → Option (List ℕ) → Option (List ℕ) → Log → Type 0
-IsKept status trace before after log = (names : List (List ℕ)) × Kept status trace names before after log
+abbrev pub IsKept : Status → Bool → Option Named → List ℕ → Option (List ℕ) → Option (List ℕ) → Log → Type 0
+IsKept status trace files watch before after log = (names : List (List ℕ)) × KeptOver status trace files watch names before after log
 
 -- a session that was read is played once the run is made
 abbrev pub PlaysSession : Status → Result Script SessionFault → Log → Type 0

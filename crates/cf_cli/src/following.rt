@@ -11,12 +11,14 @@ use crate::status::Status;
 use crate::texts::text_of;
 use cf_bytes::{Sink, put_all};
 use cf_client::{End, PeerEnd, sync_over};
+use cf_headers::Lists;
 use cf_peer::Wires;
+use cf_scan::Watch;
 use std::alloc::Global;
 
 // The answer to a run whose text was written.
 fn status_of(end: End, ends: Vec<PeerEnd>) -> Status
-    ensures { AnswersTo end result }
+    ensures { AnswersTo end ends.items result }
 {
     match end {
         End::Synced => Status::Done,
@@ -26,12 +28,13 @@ fn status_of(end: End, ends: Vec<PeerEnd>) -> Status
     }
 }
 
-/// Follows the chains that the peers of these names show, and writes the trace where it is asked for, and the history and the tip once nothing is
-/// open. The wires are new.
+/// Follows the chains that the peers of these names show, and writes the trace where it is asked for, and the history of the watched scripts and
+/// the tip once nothing is open. The wires are new.
 pub(crate) fn follow<W: Wires, O: Sink>(
     alloc: Global,
     wires: &mut W,
     names: &[String],
+    watch: Watch,
     moment: i64,
     nonce: u64,
     turns: u32,
@@ -40,13 +43,16 @@ pub(crate) fn follow<W: Wires, O: Sink>(
 ) -> Status
     requires fresh { Tells [] (W.told wires.old) }
     requires few { length names.now ≤ 8 }
-    ensures kept { IfSome (W.told wires.new).log (λ log. Kept result trace (names_in names.now) (O.written out.old) (O.written out.new) log) }
+    ensures kept { IfSome (W.told wires.new).log (λ log. Kept result trace watch (names_in names.now) (O.written out.old) (O.written out.new) log) }
     ensures tallied { Tallied result turns (W.told wires.new).tally }
     ensures same { has_run result ≡ true → W.script wires.new ≡ W.script wires.old }
     ensures out_fault { result ≡ Status.OutFault → HasRisen (O.faults out.old) (O.faults out.new) }
     ensures no_other { IsOfRun result }
 {
-    let Ok(outcome) = sync_over(alloc, wires, names, moment, nonce, turns) else {
+    let Ok(store) = Lists::new(alloc) else {
+        return Status::NoMemory;
+    };
+    let Ok(outcome) = sync_over(alloc, wires, names, watch, store, moment, nonce, turns) else {
         return Status::NoMemory;
     };
     let Ok(text) = text_of(alloc, &outcome, trace) else {

@@ -79,7 +79,7 @@ pub(crate) fn load_session<F: Files>(
     ensures answer { IfSome (F.files files.old) (λ m. IsReadAs (session_verdict (finite.get m name.now)) result) }
     ensures script { IfOk result (λ s. IfSome (F.files files.old) (λ m. IfSome (finite.get m name.now) (λ bytes. session_of bytes ≡ Ok (script_in s)))) }
     ensures named { IfOk result AreNamed }
-    ensures few { IfOk result (λ s. length s.dials.items ≤ 1) }
+    ensures few { IfOk result (λ s. length s.dials.items ≤ 8) }
     ensures real { IfOk result (λ s. list_all is_real s.deliveries.items ≡ true) }
     ensures fault { IsErrOf result Status.FileFault → HasRisen (F.faults files.old) (F.faults files.new) }
     ensures only { IfErr result IsOfFile }

@@ -10,8 +10,8 @@ ghost use Rattle.cf_input.specs.SessionFile.{session_of};
 ghost use Rattle.cf_input.specs.Sessions.{script_in, AreNamed};
 ghost use Rattle.cf_cli.specs.Statuses.{IsJudged, IsReadAs, IsUnread, IsOfFile, and_then, verdict_of, watch_verdict, session_verdict};
 ghost use Rattle.cf_cli.specs.Reading.{IsScanned, IsFiltered};
-ghost use Rattle.cf_cli.specs.Theorem.{Kept, IsKept, Tallied, PlaysSession};
-ghost use Rattle.cf_input.specs.Words.{command_of};
+ghost use Rattle.cf_cli.specs.Theorem.{KeptOver, IsKept, Tallied, PlaysSession};
+ghost use Rattle.cf_input.specs.Words.{command_of, HasFewPeers};
 ghost use Rattle.cf_input.specs.declared.words.Command.{Command};
 ghost use Rattle.cf_input.specs.declared.words.Command.TheVariants.{Replay, Sync, Scan, Filter};
 
@@ -19,7 +19,7 @@ use crate::following::follow;
 use crate::loading::{load_session, load_watch};
 use crate::reading::{filter, scan};
 use crate::status::Status;
-use cf_bytes::{Files, NoMemory, Refused, Sink};
+use cf_bytes::{Files, Refused, Sink};
 use cf_input::{Command, MOST_TURNS, read_words};
 use cf_peer::{MemoryWires, Wires};
 use std::alloc::Global;
@@ -39,16 +39,17 @@ fn replay<F: Files, O: Sink>(
     requires log { log_of tape.old ≡ [] }
     requires failing { failing_of tape.old ≡ [] }
     ensures judged { IfSome (F.files files.old) (λ m. IsJudged (and_then (watch_verdict (finite.get m watch.now)) (session_verdict (finite.get m session.now))) result) }
-    ensures kept { IsKept result trace (O.written out.old) (O.written out.new) (log_of tape.new) }
+    ensures kept { IsKept result trace (F.files files.old) watch.now (O.written out.old) (O.written out.new) (log_of tape.new) }
     ensures tallied { Tallied result MOST_TURNS (tally_of (log_of tape.new)) }
     ensures plays { IfSome (F.files files.old) (λ m. IfSome (finite.get m session.now) (λ bytes. PlaysSession result (session_of bytes) (log_of tape.new))) }
     ensures file_fault { result ≡ Status.FileFault → HasRisen (F.faults files.old) (F.faults files.new) }
     ensures out_fault { result ≡ Status.OutFault → HasRisen (O.faults out.old) (O.faults out.new) }
     ensures asked { result ≢ Status.Usage }
 {
-    if let Err(status) = load_watch(alloc, files, watch) {
-        return status;
-    }
+    let scripts = match load_watch(alloc, files, watch) {
+        Ok(scripts) => scripts,
+        Err(status) => return status,
+    };
     let session = match load_session(alloc, files, session) {
         Ok(session) => session,
         Err(status) => return status,
@@ -58,6 +59,7 @@ fn replay<F: Files, O: Sink>(
         alloc,
         tape,
         &session.names,
+        scripts,
         moment,
         nonce,
         MOST_TURNS,
@@ -66,42 +68,34 @@ fn replay<F: Files, O: Sink>(
     )
 }
 
-// A list of one name.
-fn one_name(alloc: Global, name: &str) -> Result<Vec<String>, NoMemory>
-    ensures { IfOk result (λ names. names_in names.items ≡ name.now ∷ []) }
-{
-    let mut names = Vec::new(alloc);
-    names.push(String::from_str(alloc, name)?)?;
-    Ok(names)
-}
-
-// Follows one peer over the wires that are handed in.
+// Follows the peers of these names, of one to eight, over the wires that are handed in.
 fn sync<F: Files, W: Wires, O: Sink>(
     alloc: Global,
     files: &mut F,
     watch: &str,
-    peer: &str,
+    peers: &[String],
     moment: i64,
     nonce: u64,
     turns: u32,
     wires: &mut W,
     out: &mut O,
 ) -> Status
-    requires { Tells [] (W.told wires.old) }
+    requires fresh { Tells [] (W.told wires.old) }
+    requires few { length peers.now ≤ 8 }
     ensures judged { IfSome (F.files files.old) (λ m. IsJudged (watch_verdict (finite.get m watch.now)) result) }
-    ensures kept { IfSome (W.told wires.new).log (λ log. Kept result false (peer.now ∷ []) (O.written out.old) (O.written out.new) log) }
+    ensures kept { IfSome (W.told wires.new).log (λ log. KeptOver result false (F.files files.old) watch.now (names_in peers.now) (O.written out.old) (O.written out.new) log) }
     ensures tallied { Tallied result turns (W.told wires.new).tally }
     ensures file_fault { result ≡ Status.FileFault → HasRisen (F.faults files.old) (F.faults files.new) }
     ensures out_fault { result ≡ Status.OutFault → HasRisen (O.faults out.old) (O.faults out.new) }
     ensures asked { result ≢ Status.Usage }
 {
-    if let Err(status) = load_watch(alloc, files, watch) {
-        return status;
-    }
-    let Ok(names) = one_name(alloc, peer) else {
-        return Status::NoMemory;
+    let scripts = match load_watch(alloc, files, watch) {
+        Ok(scripts) => scripts,
+        Err(status) => return status,
     };
-    follow(alloc, wires, &names, moment, nonce, turns, false, out)
+    follow(
+        alloc, wires, peers, scripts, moment, nonce, turns, false, out,
+    )
 }
 
 // Does what a command asks.
@@ -118,9 +112,10 @@ fn perform<F: Files, W: Wires, O: Sink>(
     requires wires { Tells [] (W.told wires.old) }
     requires log { log_of tape.old ≡ [] }
     requires failing { failing_of tape.old ≡ [] }
+    requires few { HasFewPeers command }
     ensures judged { IfSome (F.files files.old) (λ m. IsJudged (verdict_of m command) result) }
-    ensures sync { (turns : ℕ) (watch peer : List ℕ) → command ≡ Sync turns watch peer → IfSome (W.told wires.new).log (λ log. Kept result false (peer ∷ []) (O.written out.old) (O.written out.new) log) × Tallied result turns (W.told wires.new).tally }
-    ensures replay { (trace : Bool) (watch session : List ℕ) → command ≡ Replay trace watch session → IsKept result trace (O.written out.old) (O.written out.new) (log_of tape.new) × Tallied result MOST_TURNS (tally_of (log_of tape.new)) }
+    ensures sync { (turns : ℕ) (watch : List ℕ) (peers : List (List ℕ)) → command ≡ Sync turns watch peers → IfSome (W.told wires.new).log (λ log. KeptOver result false (F.files files.old) watch peers (O.written out.old) (O.written out.new) log) × Tallied result turns (W.told wires.new).tally }
+    ensures replay { (trace : Bool) (watch session : List ℕ) → command ≡ Replay trace watch session → IsKept result trace (F.files files.old) watch (O.written out.old) (O.written out.new) (log_of tape.new) × Tallied result MOST_TURNS (tally_of (log_of tape.new)) }
     ensures plays { (trace : Bool) (watch session : List ℕ) → command ≡ Replay trace watch session → IfSome (F.files files.old) (λ m. IfSome (finite.get m session) (λ bytes. PlaysSession result (session_of bytes) (log_of tape.new))) }
     ensures scan { (file watch : List ℕ) → command ≡ Scan file watch → IsScanned result (F.files files.old) watch file (O.written out.old) (O.written out.new) }
     ensures filter { (file : List ℕ) (height : ℕ) → command ≡ Filter file height → IsFiltered result (F.files files.old) file height (O.written out.old) (O.written out.new) }
@@ -144,11 +139,15 @@ fn perform<F: Files, W: Wires, O: Sink>(
             tape,
             out,
         ),
-        Command::Sync { turns, watch, peer } => sync(
+        Command::Sync {
+            turns,
+            watch,
+            peers,
+        } => sync(
             alloc,
             files,
             watch.as_str(),
-            peer.as_str(),
+            peers.as_slice(),
             moment,
             nonce,
             turns,
@@ -182,8 +181,8 @@ pub fn run<F: Files, W: Wires, O: Sink>(
     ensures usage { result ≡ Status.Usage → command_of (names_in words.now) ≡ None }
     ensures unasked { command_of (names_in words.now) ≡ None → (result ≡ Status.Usage) ⊎ (result ≡ Status.NoMemory) }
     ensures judged { IfSome (F.files files.old) (λ m. (c : Command) → command_of (names_in words.now) ≡ Some c → IsJudged (verdict_of m c) result) }
-    ensures sync { (turns : ℕ) (watch peer : List ℕ) → command_of (names_in words.now) ≡ Some (Sync turns watch peer) → IfSome (W.told wires.new).log (λ log. Kept result false (peer ∷ []) (O.written out.old) (O.written out.new) log) × Tallied result turns (W.told wires.new).tally }
-    ensures replay { (trace : Bool) (watch session : List ℕ) → command_of (names_in words.now) ≡ Some (Replay trace watch session) → IsKept result trace (O.written out.old) (O.written out.new) (log_of tape.new) × Tallied result MOST_TURNS (tally_of (log_of tape.new)) }
+    ensures sync { (turns : ℕ) (watch : List ℕ) (peers : List (List ℕ)) → command_of (names_in words.now) ≡ Some (Sync turns watch peers) → IfSome (W.told wires.new).log (λ log. KeptOver result false (F.files files.old) watch peers (O.written out.old) (O.written out.new) log) × Tallied result turns (W.told wires.new).tally }
+    ensures replay { (trace : Bool) (watch session : List ℕ) → command_of (names_in words.now) ≡ Some (Replay trace watch session) → IsKept result trace (F.files files.old) watch (O.written out.old) (O.written out.new) (log_of tape.new) × Tallied result MOST_TURNS (tally_of (log_of tape.new)) }
     ensures plays { (trace : Bool) (watch session : List ℕ) → command_of (names_in words.now) ≡ Some (Replay trace watch session) → IfSome (F.files files.old) (λ m. IfSome (finite.get m session) (λ bytes. PlaysSession result (session_of bytes) (log_of tape.new))) }
     ensures scan { (file watch : List ℕ) → command_of (names_in words.now) ≡ Some (Scan file watch) → IsScanned result (F.files files.old) watch file (O.written out.old) (O.written out.new) }
     ensures filter { (file : List ℕ) (height : ℕ) → command_of (names_in words.now) ≡ Some (Filter file height) → IsFiltered result (F.files files.old) file height (O.written out.old) (O.written out.new) }

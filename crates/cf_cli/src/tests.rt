@@ -242,8 +242,17 @@ fn sessions_that_end_early(rt: HostRuntime) -> Result<(), Fail> {
             "> 1 version\n",
         ),
         ("dial a", "8 Ended", "> 1 version\n"),
-        ("dial a\ntick 60", "8 Ended", "> 1 version\n"),
-        ("dial a\ntick 1\ntick 86400", "8 Ended", "> 1 version\n"),
+        ("dial a\ntick 59", "8 Ended", "> 1 version\n"),
+        (
+            "dial a\ntick 60",
+            "6 NoPeers { ends: [Closed(Overdue)] }",
+            "> 1 version\nx 1 Overdue\n",
+        ),
+        (
+            "dial a\ntick 1\ntick 59",
+            "6 NoPeers { ends: [Closed(Overdue)] }",
+            "> 1 version\nx 1 Overdue\n",
+        ),
     ];
     for (session, status, text) in rows {
         let answer = traced(alloc, session)?;
@@ -262,11 +271,12 @@ fn sessions_that_end_early(rt: HostRuntime) -> Result<(), Fail> {
     Ok(())
 }
 
+// The handshake and each question for headers have an age of their own.
 #[test]
-fn ticks_change_nothing(rt: HostRuntime) -> Result<(), Fail> {
+fn ticks_within_a_minute_change_nothing(rt: HostRuntime) -> Result<(), Fail> {
     let alloc = rt.alloc();
     let session = format!(in alloc;
-        "dial a\ntick 60\ngot 1 {VERSION}\ntick 86400\ngot 1 {VERACK}\ntick 59\ntick 1\ngot 1 {NO_HEADERS}"
+        "dial a\ntick 29\ngot 1 {VERSION}\ntick 30\ngot 1 {VERACK}\ntick 58\ntick 1\ngot 1 {NO_HEADERS}"
     )?;
     let text = format!(in alloc; "> 1 version\n> 1 verack\n> 1 getheaders\n{SYNCED}")?;
     let answer = traced(alloc, &session)?;

@@ -19,6 +19,7 @@ fn cause_name(cause: Cause) -> &'static [u8]
         Cause::Unlinked => b"Unlinked",
         Cause::InvalidHeader => b"InvalidHeader",
         Cause::TooHigh => b"TooHigh",
+        Cause::BadBlock => b"BadBlock",
         Cause::SendFailed => b"SendFailed",
         Cause::Overdue => b"Overdue",
     }
@@ -77,15 +78,16 @@ fn put_trace(alloc: Global, lines: &[TraceLine], out: &mut Vec<u8>) -> Result<()
 fn put_end(
     alloc: Global,
     end: End,
+    history: &History,
     height: u32,
     tip: &Hash32,
     out: &mut Vec<u8>,
 ) -> Result<(), NoMemory>
-    ensures { OnOk result (out.new.items ≡ out.old.items ++ end_text end height tip.now) }
+    ensures { OnOk result (out.new.items ≡ out.old.items ++ end_text end history.now height tip.now) }
 {
     match end {
         End::Synced => {
-            let text = History::empty(alloc).text(alloc, height, tip)?;
+            let text = history.text(alloc, height, tip)?;
             out.extend_from_slice(text.as_bytes())?;
             Ok(())
         }
@@ -95,12 +97,19 @@ fn put_end(
 
 /// The text of a run: its trace where it is asked for, and then, where it is synced, the history and the tip.
 pub(crate) fn text_of(alloc: Global, outcome: &Outcome, trace: bool) -> Result<Vec<u8>, NoMemory>
-    ensures { IfOk result (λ text. text.items ≡ run_text trace outcome.now.trace.items outcome.now.end outcome.now.height outcome.now.tip) }
+    ensures { IfOk result (λ text. text.items ≡ run_text trace outcome.now.trace.items outcome.now.end outcome.now.history outcome.now.height outcome.now.tip) }
 {
     let mut text = Vec::new(alloc);
     if trace {
         put_trace(alloc, &outcome.trace, &mut text)?;
     }
-    put_end(alloc, outcome.end, outcome.height, &outcome.tip, &mut text)?;
+    put_end(
+        alloc,
+        outcome.end,
+        &outcome.history,
+        outcome.height,
+        &outcome.tip,
+        &mut text,
+    )?;
     Ok(text)
 }

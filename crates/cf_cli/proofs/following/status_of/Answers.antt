@@ -5,4 +5,4 @@ use Rattle.cf_cli.specs.Theorem.{AnswersTo}
 use Rattle.cf_cli.proofs.following.status_of.Goals as goal
 
 pub returns-in-NoPeers : goal.returns-in-NoPeers
-returns-in-NoPeers c = subst (λ (end : End). AnswersTo end (NoPeers c.args.ends)) (sym c.in-NoPeers.is) (c.args.ends, refl)
+returns-in-NoPeers c = subst (λ (end : End). AnswersTo end c.args.ends.items (NoPeers c.args.ends)) (sym c.in-NoPeers.is) (c.args.ends, refl, refl)

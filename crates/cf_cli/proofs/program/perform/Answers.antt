@@ -8,5 +8,5 @@ returns-in-Replay-clause-judged g c =
 
 pub returns-in-Sync-clause-judged : goal.returns-in-Sync-clause-judged
 returns-in-Sync-clause-judged g c =
-    judged_sync (g.F.Files.files c.args.files.now) c.args.command c.in-Sync.turns c.in-Sync.watch c.in-Sync.peer c.as_str-in-Sync.result.now c.sync.result
+    judged_sync (g.F.Files.files c.args.files.now) c.args.command c.in-Sync.turns c.in-Sync.watch c.in-Sync.peers c.as_str-in-Sync.result.now c.sync.result
     c.as_str-in-Sync.ensures c.in-Sync.is c.sync.ensures.judged

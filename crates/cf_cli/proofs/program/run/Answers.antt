@@ -1,7 +1,8 @@
+use Rattle.std.proofs.Common.{false}
 use Rattle.cf_peer.specs.Log.{tally_of}
 use Rattle.cf_peer.specs.Memory.{log_of}
 use Rattle.cf_cli.specs.declared.status.Status.TheVariants.{NoMemory}
-use Rattle.cf_cli.proofs.Plays.{early_is_kept, early_tallied, same_command, judged_for}
+use Rattle.cf_cli.proofs.Plays.{early_is_kept, early_told, early_tallied, same_command, judged_for}
 use Rattle.cf_cli.proofs.program.run.Goals as goal
 
 pub returns-in-Ok-clause-usage : goal.returns-in-Ok-clause-usage
@@ -9,23 +10,27 @@ returns-in-Ok-clause-usage g c = λ is. absurd (c.perform.ensures.asked is)
 
 pub returns-in-Ok-clause-judged : goal.returns-in-Ok-clause-judged
 returns-in-Ok-clause-judged g c =
-    judged_for (g.F.Files.files c.args.files.now) _ c.in-Ok.command c.perform.result c.in-Ok.ensures c.perform.ensures.judged
+    judged_for (g.F.Files.files c.args.files.now) _ c.in-Ok.command c.perform.result c.in-Ok.ensures.exact c.perform.ensures.judged
 
 pub returns-in-Ok-clause-sync : goal.returns-in-Ok-clause-sync
-returns-in-Ok-clause-sync g c = λ turns watch peer asked. c.perform.ensures.sync turns watch peer (same_command _ c.in-Ok.command _ c.in-Ok.ensures asked)
+returns-in-Ok-clause-sync g c = λ turns watch peers asked. c.perform.ensures.sync turns watch peers (same_command _ c.in-Ok.command _ c.in-Ok.ensures.exact asked)
 
 pub returns-in-Ok-clause-replay : goal.returns-in-Ok-clause-replay
-returns-in-Ok-clause-replay g c = λ trace watch session asked. c.perform.ensures.replay trace watch session (same_command _ c.in-Ok.command _ c.in-Ok.ensures asked)
+returns-in-Ok-clause-replay g c = λ trace watch session asked. c.perform.ensures.replay trace watch session (same_command _ c.in-Ok.command _ c.in-Ok.ensures.exact asked)
 
 pub returns-in-Ok-clause-plays : goal.returns-in-Ok-clause-plays
-returns-in-Ok-clause-plays g c = λ trace watch session asked. c.perform.ensures.plays trace watch session (same_command _ c.in-Ok.command _ c.in-Ok.ensures asked)
+returns-in-Ok-clause-plays g c = λ trace watch session asked. c.perform.ensures.plays trace watch session (same_command _ c.in-Ok.command _ c.in-Ok.ensures.exact asked)
 
 pub returns-in-Err-NoMemory-clause-replay : goal.returns-in-Err-NoMemory-clause-replay
 returns-in-Err-NoMemory-clause-replay g c = λ trace watch session asked.
-    (early_is_kept NoMemory trace _ (log_of c.args.tape.now) tt c.requires.log, early_tallied _ (tally_of (log_of c.args.tape.now)))
+    (early_is_kept NoMemory trace _ watch _ (log_of c.args.tape.now) tt c.requires.log, early_tallied _ (tally_of (log_of c.args.tape.now)))
+
+pub returns-in-Err-NoMemory-clause-sync : goal.returns-in-Err-NoMemory-clause-sync
+returns-in-Err-NoMemory-clause-sync g c = λ turns watch peers asked.
+    (early_told _ NoMemory false _ watch peers _ tt c.requires.wires, early_tallied _ _)
 
 pub returns-in-Ok-clause-scan : goal.returns-in-Ok-clause-scan
-returns-in-Ok-clause-scan g c = λ file watch asked. c.perform.ensures.scan file watch (same_command _ c.in-Ok.command _ c.in-Ok.ensures asked)
+returns-in-Ok-clause-scan g c = λ file watch asked. c.perform.ensures.scan file watch (same_command _ c.in-Ok.command _ c.in-Ok.ensures.exact asked)
 
 pub returns-in-Ok-clause-filter : goal.returns-in-Ok-clause-filter
-returns-in-Ok-clause-filter g c = λ file height asked. c.perform.ensures.filter file height (same_command _ c.in-Ok.command _ c.in-Ok.ensures asked)
+returns-in-Ok-clause-filter g c = λ file height asked. c.perform.ensures.filter file height (same_command _ c.in-Ok.command _ c.in-Ok.ensures.exact asked)

@@ -1,0 +1,14 @@
+use Rattle.std.proofs.Common.{false}
+use Rattle.cf_client.specs.Names.{names_in}
+use Rattle.cf_cli.proofs.Plays.{early_told, told_over_watch}
+use Rattle.cf_cli.proofs.program.sync.Goals as goal
+
+pub returns-in-Err-clause-kept : goal.returns-in-Err-clause-kept
+returns-in-Err-clause-kept g c =
+    early_told (g.W.Wires.told c.args.wires.now) c.in-Err.status false (g.F.Files.files c.args.files.now) c.args.watch.now (names_in c.args.peers.now) (g.O.Sink.written c.args.out.now)
+    c.in-Err.ensures.only c.requires.fresh
+
+pub returns-clause-kept : goal.returns-clause-kept
+returns-clause-kept g c =
+    told_over_watch (g.W.Wires.told c.follow.new.wires).log c.follow.result false (g.F.Files.files c.args.files.now) c.args.watch.now c.in-Ok.scripts (names_in c.args.peers.now)
+    (g.O.Sink.written c.args.out.now) (g.O.Sink.written c.follow.new.out) c.in-Ok.ensures.scripts c.follow.ensures.kept
