@@ -2,6 +2,8 @@
 //! wrong is told on standard error, and the exit status says which way the call ended.
 #![tactic(auto)]
 
+ghost use Rattle.std.specs.Prelude.{◌≡◌, drop};
+
 mod outside;
 mod texts;
 
@@ -13,7 +15,9 @@ use std::io;
 use std::process::ExitCode;
 
 // What is asked for, behind the program's name.
-fn asked(words: &[String]) -> &[String] {
+fn asked(words: &[String]) -> &[String]
+    ensures { result.now ≡ drop 1 words.now }
+{
     if words.is_empty() { words } else { &words[1..] }
 }
 
@@ -72,5 +76,9 @@ fn main(rt: HostRuntime) -> ExitCode {
     ExitCode::from(status.code())
 }
 
+#[cfg(test)]
+mod peers_tests;
+#[cfg(test)]
+mod serving_tests;
 #[cfg(test)]
 mod tests;

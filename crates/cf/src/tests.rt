@@ -3,7 +3,7 @@ use super::*;
 use std::alloc::{AllocError, Global};
 use std::test::*;
 
-fn words_of(alloc: Global, texts: &[&str]) -> Result<Vec<String>, AllocError> {
+pub(crate) fn words_of(alloc: Global, texts: &[&str]) -> Result<Vec<String>, AllocError> {
     let mut words = Vec::new(alloc);
     for text in texts {
         let word = String::from_str(alloc, text)?;
@@ -30,7 +30,7 @@ fn the_help_tells_commands_files_and_statuses(rt: HostRuntime) -> Result<(), Fai
         "  filter ",
         "FILE holds blocks",
         "cf replay [--trace] WATCH SESSION",
-        "cf sync [--turns N] WATCH PEER",
+        "cf sync [--turns N] WATCH PEER..",
         "  replay ",
         "  sync ",
         "WATCH is a text file",

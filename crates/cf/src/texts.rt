@@ -11,22 +11,22 @@ pub const HELP: &str = "\
 cf: a light client for Bitcoin's regtest network.
 
 It tells the history of the scripts that you watch: from a file of blocks, or
-from a peer, whose longest chain of valid block headers it follows. The last
-line is the tip of the chain:
+from 1 to 8 peers, whose longest chain of valid block headers it follows, and
+whose blocks it fetches. The last line is the tip of the chain:
     synced HEIGHT HASH
 
 usage: cf scan FILE WATCH
        cf filter FILE HEIGHT
        cf replay [--trace] WATCH SESSION
-       cf sync [--turns N] WATCH PEER
+       cf sync [--turns N] WATCH PEER..
        cf --help
        cf --version
 
   scan     checks the blocks of FILE, and prints the history of the scripts
   filter   checks the blocks of FILE, and prints the hash, the basic filter
            and the filter header of the block at HEIGHT (0 is genesis)
-  replay   runs the client on what SESSION says that came from the peer
-  sync     runs the client on the network, with the peer at PEER (HOST:PORT);
+  replay   runs the client on what SESSION says that came from the peers
+  sync     runs the client on the network, with 1 to 8 peers, each HOST:PORT;
            this version opens no connection yet, so each dial fails
 
   --trace  prints first what was sent to peer P, as `> P COMMAND`, and which
@@ -41,13 +41,12 @@ fabfb5da, its length in 4 bytes and the block. Genesis may stand first, and
 zeros at the end. The blocks must make a chain on which each may stand.
 
 WATCH is a text file of the scripts that are watched: one on each line, in
-hexadecimal, at most 1000. It may be empty. The client has no blocks yet, so
-with replay and sync the history has no line.
+hexadecimal, at most 1000. It may be empty.
 
-SESSION is a text file of what happens: first a line on the dial of the peer,
-and then one line for each delivery.
+SESSION is a text file of what happens: first a line on the dial of each peer,
+1 to 8 of them, numbered from 1 in this order, and then one for each delivery.
     dial NAME      the dial is answered       nodial NAME   the dial fails
-    got 1 HEX      the peer sent these bytes  gone 1        the peer has gone
+    got P HEX      peer P sent these bytes    gone P        peer P has gone
     tick SECONDS   so much time has passed, from 1 to 86400
 
 Example, with the files of the folder data:
