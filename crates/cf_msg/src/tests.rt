@@ -102,17 +102,6 @@ fn versions_are_written(rt: HostRuntime) -> Result<(), Fail> {
 fn small_messages_are_read(rt: HostRuntime) -> Result<(), Fail> {
     let verack = frame_with(rt.alloc(), b"verack\0\0\0\0\0\0", &[])?;
     assert!(rt; matches!(read(rt.alloc(), &verack), Ok(Msg::Verack)));
-    let headers = frame_with(rt.alloc(), b"headers\0\0\0\0\0", &[0])?;
-    match read(rt.alloc(), &headers) {
-        Ok(Msg::Headers(headers)) => assert_eq!(rt; headers.len(), 0),
-        _ => return Err("another message")?,
-    }
-    let ping = frame_with(
-        rt.alloc(),
-        b"ping\0\0\0\0\0\0\0\0",
-        &[1, 2, 3, 4, 5, 6, 7, 8],
-    )?;
-    assert!(rt; matches!(read(rt.alloc(), &ping), Ok(Msg::Ping(0x0807060504030201))));
     let other = frame_with(rt.alloc(), b"sendcmpct\0\0\0", &[1, 2])?;
     match read(rt.alloc(), &other) {
         Ok(Msg::Other { command, payload }) => {
@@ -146,37 +135,6 @@ fn a_locator_is_read(rt: HostRuntime) -> Result<(), Fail> {
             assert_eq!(rt; locator.as_slice(), [Hash32([7; 32])].as_slice());
             assert_eq!(rt; stop.0[30], 7);
             assert_eq!(rt; stop.0[31], 0);
-        }
-        _ => return Err("another message")?,
-    }
-    Ok(())
-}
-
-#[test]
-#[tactic(auto, unfolding(crate::specs::Message::payload_of))]
-fn a_pong_is_written(rt: HostRuntime) -> Result<(), Fail> {
-    let frame = write(rt.alloc(), &Msg::Pong(0x0807060504030201))
-        .ok()
-        .ok_or("no memory")?;
-    assert_eq!(rt; frame.command, *b"pong\0\0\0\0\0\0\0\0");
-    assert_eq!(rt;
-        frame.payload.as_slice(),
-        [1, 2, 3, 4, 5, 6, 7, 8].as_slice()
-    );
-    Ok(())
-}
-
-#[test]
-fn a_header_is_read(rt: HostRuntime) -> Result<(), Fail> {
-    let mut payload = [0; 82];
-    payload[0] = 1;
-    payload[1] = 4;
-    let frame = frame_with(rt.alloc(), b"headers\0\0\0\0\0", &payload)?;
-    match read(rt.alloc(), &frame) {
-        Ok(Msg::Headers(headers)) => {
-            let headers = headers.into_vec();
-            assert_eq!(rt; headers.len(), 1);
-            assert_eq!(rt; headers[0].version, 4);
         }
         _ => return Err("another message")?,
     }
