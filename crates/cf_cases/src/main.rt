@@ -1,0 +1,47 @@
+//! `cf_cases`: reads rows `KIND REST`, and prints each row and what it comes to. `docs/GATE.md` says how rows and kinds are added.
+//! A row that begins with `#` is a remark, and is printed as it is. A row that can't be read, or for which no memory is found, comes to `?`.
+#![tactic(auto)]
+
+mod conversations;
+mod payloads;
+mod replays;
+
+use std::alloc::Global;
+use std::process::ExitCode;
+
+// What a row comes to.
+fn answer(alloc: Global, row: &str) -> Option<String> {
+    let (kind, rest) = row.split_once(' ')?;
+    match kind {
+        "payload" => payloads::answer(alloc, rest),
+        "replay" => replays::answer(alloc, rest),
+        "serve" => conversations::answer(alloc, rest),
+        _ => None,
+    }
+}
+
+// The lines that are printed for a row.
+fn shown(alloc: Global, row: &str) -> Option<String> {
+    if row.starts_with('#') {
+        return format!(in alloc; "{row}").ok();
+    }
+    match answer(alloc, row) {
+        Some(text) => format!(in alloc; "{row}\n{text}").ok(),
+        None => format!(in alloc; "{row}\n?").ok(),
+    }
+}
+
+fn main(rt: HostRuntime) -> ExitCode {
+    for row in rt.lines(rt.alloc()) {
+        let Ok(row) = row else {
+            return ExitCode::from(1);
+        };
+        let Some(text) = shown(rt.alloc(), &row) else {
+            return ExitCode::from(2);
+        };
+        if println!(&rt; "{text}").is_err() {
+            return ExitCode::from(3);
+        }
+    }
+    ExitCode::SUCCESS
+}

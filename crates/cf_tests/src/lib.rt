@@ -1,0 +1,7 @@
+//! Tests that are no rows of cf_cases: a file for each crate that is tested here, in each test one text of rows and one loop.
+#![tactic(auto)]
+
+#[cfg(test)]
+mod cf_server_tests;
+#[cfg(test)]
+mod cut_conn;
