@@ -1,5 +1,6 @@
 #!/usr/bin/env python3
-"""Writes a made chain as a block file: `made_chain.py SEED BLOCKS FILE`.
+"""Writes a made chain as a block file: `made_chain.py SEED BLOCKS FILE`, or `made_chain.py SEED BLOCKS SEED BLOCKS FILE`, whose later blocks
+are those of another seed.
 
 Every block pays 50 coins to one of sixteen scripts, `01 k 75 51`. Where seed and height add up to a multiple of 3, a second transaction spends the
 block before's coin and pays two other scripts. Genesis is left out.
@@ -44,10 +45,12 @@ def mined(fields):
     raise SystemExit("no nonce")
 
 
-def records(seed, blocks):
+def records(*parts):
+    """The records of the parts of a chain, each of which is a seed and a number of blocks."""
     previous = GENESIS_HASH
     coin = None
-    for height in range(1, blocks + 1):
+    seeds = [seed for seed, blocks in parts for _ in range(blocks)]
+    for height, seed in enumerate(seeds, 1):
         txs = [coinbase(seed, height)]
         if height > 1 and (seed + height) % 3 == 0:
             txs.append(spending(seed, height, coin))
@@ -61,9 +64,9 @@ def records(seed, blocks):
 
 
 def main():
-    seed, blocks, name = int(sys.argv[1]), int(sys.argv[2]), sys.argv[3]
-    with open(name, "wb") as file:
-        for record in records(seed, blocks):
+    numbers = [int(word) for word in sys.argv[1:-1]]
+    with open(sys.argv[-1], "wb") as file:
+        for record in records(*zip(numbers[::2], numbers[1::2])):
             file.write(record)
 
 

@@ -2,35 +2,14 @@
 //! wrong is told on standard error, and the exit status says which way the call ended.
 #![tactic(auto)]
 
-ghost use Rattle.std.specs.Prelude.{◌≡◌, drop};
-
 mod outside;
 mod texts;
 
 use cf_bytes::{StdFiles, WriterSink, put_all};
-use cf_cli::{Status, run};
-use cf_input::{is_help, is_version};
+use cf_cli::{Status, own_text, run};
 use cf_peer::MemoryWires;
 use std::io;
 use std::process::ExitCode;
-
-// What is asked for, behind the program's name.
-fn asked(words: &[String]) -> &[String]
-    ensures { result.now ≡ drop 1 words.now }
-{
-    if words.is_empty() { words } else { &words[1..] }
-}
-
-// The text that the program has of itself, where it is asked for.
-fn own_text(words: &[String]) -> Option<&'static str> {
-    if is_help(asked(words)) {
-        Some(texts::HELP)
-    } else if is_version(asked(words)) {
-        Some(texts::VERSION)
-    } else {
-        None
-    }
-}
 
 // Writes a whole text to standard output.
 fn say(rt: &HostRuntime, text: &str) -> Status {
@@ -75,10 +54,3 @@ fn main(rt: HostRuntime) -> ExitCode {
     let _told = texts::tell_fault(&rt, &status);
     ExitCode::from(status.code())
 }
-
-#[cfg(test)]
-mod peers_tests;
-#[cfg(test)]
-mod serving_tests;
-#[cfg(test)]
-mod tests;

@@ -2,9 +2,14 @@
 //! A row that begins with `#` is a remark, and is printed as it is. A row that can't be read, or for which no memory is found, comes to `?`.
 #![tactic(auto)]
 
+mod chains;
 mod conversations;
+mod fields;
+mod inputs;
 mod payloads;
-mod replays;
+mod runs;
+mod served;
+mod streams;
 
 use std::alloc::Global;
 use std::process::ExitCode;
@@ -13,9 +18,16 @@ use std::process::ExitCode;
 fn answer(alloc: Global, row: &str) -> Option<String> {
     let (kind, rest) = row.split_once(' ')?;
     match kind {
+        "chain" => chains::answer(alloc, rest),
+        "mine" => chains::mined(alloc, rest),
         "payload" => payloads::answer(alloc, rest),
-        "replay" => replays::answer(alloc, rest),
+        "run" => runs::answer(alloc, rest),
         "serve" => conversations::answer(alloc, rest),
+        "session" => inputs::session(alloc, rest),
+        "stream" => streams::answer(alloc, rest),
+        "text" => inputs::text(alloc, rest),
+        "watch" => inputs::watch(alloc, rest),
+        "words" => inputs::words(alloc, rest),
         _ => None,
     }
 }

@@ -4,16 +4,13 @@
 mod file_bytes;
 mod following;
 mod loading;
+mod own_texts;
 mod program;
 mod reading;
 mod status;
 mod texts;
 
 pub use loading::{MOST_BLOCKS, MOST_SESSION, MOST_WATCH};
+pub use own_texts::own_text;
 pub use program::run;
 pub use status::{FileCause, Status, Which};
-
-#[cfg(test)]
-mod reading_tests;
-#[cfg(test)]
-mod tests;

@@ -9,6 +9,3 @@ mod laws;
 pub use frame::{Frame, FrameFault, Payload, encode};
 pub use framer::Framer;
 pub use laws::{laws_of_frames, laws_of_streams};
-
-#[cfg(test)]
-mod tests;

@@ -14,6 +14,3 @@ pub use session::{MAX_DIALS, MOST_SECONDS, Session, SessionCause, SessionFault, 
 pub use text::{PeerNames, Word, is_name};
 pub use watch_file::{WatchCause, WatchFileFault, read_watch};
 pub use words::{Command, MOST_HEIGHT, MOST_TURNS, Usage, is_help, is_version, read_words};
-
-#[cfg(test)]
-mod tests;

@@ -14,6 +14,3 @@ pub use making::{AtHeight, Chain, chain, extend};
 pub use mining::{NoNonce, mine};
 pub use paying::script;
 pub use recording::records;
-
-#[cfg(test)]
-mod tests;

@@ -15,6 +15,3 @@ pub use lists::{Bytes, Entries, Hashes, Headers};
 pub use msg::{Cause, Entry, Malformed, Msg, NetAddress};
 pub use reader::read;
 pub use writer::write;
-
-#[cfg(test)]
-mod tests;

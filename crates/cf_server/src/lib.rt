@@ -15,8 +15,3 @@ pub use laws::laws_of_courses;
 pub use outcome::Outcome;
 pub use reply::{Replies, Reply};
 pub use serve::serve_one;
-
-#[cfg(test)]
-mod cutting;
-#[cfg(test)]
-mod tests;

@@ -1,0 +1,54 @@
+//! The fields of rows.
+use std::alloc::Global;
+
+/// The bytes that a field spells in hexadecimal. `-` is none.
+pub(crate) fn bytes_in(alloc: Global, field: &str) -> Option<Vec<u8>> {
+    hex::decode(alloc, field.trim_start_matches('-')).ok()
+}
+
+/// Bytes in hexadecimal, or `-` where there is none.
+pub(crate) fn digits_of(alloc: Global, bytes: &[u8]) -> Option<String> {
+    if bytes.is_empty() {
+        return String::from_str(alloc, "-").ok();
+    }
+    hex::encode(alloc, bytes).ok()
+}
+
+/// The numbers of a field, parted by commas. `-` is none.
+pub(crate) fn numbers_in(alloc: Global, field: &str) -> Option<Vec<u64>> {
+    let mut numbers = Vec::new(alloc);
+    if field == "-" {
+        return Some(numbers);
+    }
+    for text in field.split(',') {
+        let number: u64 = text.parse().ok()?;
+        numbers.push(number).ok()?;
+    }
+    Some(numbers)
+}
+
+/// The texts of a field, parted by this character. A field of no character has none.
+pub(crate) fn texts_in(alloc: Global, field: &str, mark: char) -> Option<Vec<String>> {
+    let mut texts = Vec::new(alloc);
+    if field.is_empty() {
+        return Some(texts);
+    }
+    for text in field.split(mark) {
+        texts.push(String::from_str(alloc, text).ok()?).ok()?;
+    }
+    Some(texts)
+}
+
+/// The lines of a file. Each ends at `;`.
+pub(crate) fn file_in(alloc: Global, field: &str) -> Option<String> {
+    field.replace(alloc, ";", "\n").ok()
+}
+
+/// The bytes of a command of this name: filled up with zeros.
+pub(crate) fn command_in(name: &str) -> [u8; 12] {
+    let mut command = [0u8; 12];
+    for (to, from) in command.iter_mut().zip(name.bytes()) {
+        *to = from;
+    }
+    command
+}

@@ -1,0 +1,87 @@
+//! What a user gives: words, watch files and sessions.
+use crate::fields::{file_in, texts_in};
+use cf_bytes::Refused;
+use cf_cli::own_text;
+use cf_input::{Command, PeerNames, Session, read_session, read_watch, read_words};
+use cf_scan::Watch;
+use std::alloc::Global;
+
+// The names of peers, each after a space.
+fn named(alloc: Global, peers: &PeerNames) -> Option<String> {
+    let mut text = String::new(alloc);
+    for name in peers.as_slice() {
+        text.push(' ').ok()?;
+        text.push_str(name.as_str()).ok()?;
+    }
+    Some(text)
+}
+
+// A command and its parts.
+fn told(alloc: Global, command: &Command) -> Option<String> {
+    match command {
+        Command::Replay {
+            trace,
+            watch,
+            session,
+        } => { format!(in alloc; "replay {trace} {} {}", watch.as_str(), session.as_str()).ok() }
+        Command::Sync {
+            turns,
+            watch,
+            peers,
+        } => { format!(in alloc; "sync {turns} {}{}", watch.as_str(), named(alloc, peers)?).ok() }
+        Command::Scan { file, watch } => {
+            format!(in alloc; "scan {} {}", file.as_str(), watch.as_str()).ok()
+        }
+        Command::Filter { file, height } => {
+            format!(in alloc; "filter {} {height}", file.as_str()).ok()
+        }
+    }
+}
+
+/// The text that the program has of itself for the words of a row. They are parted by `|`.
+pub(crate) fn text(alloc: Global, row: &str) -> Option<String> {
+    let words = texts_in(alloc, row, '|')?;
+    String::from_str(alloc, own_text(&words).unwrap_or("none\n")).ok()
+}
+
+/// What the words of a row ask for. They are parted by `|`.
+pub(crate) fn words(alloc: Global, row: &str) -> Option<String> {
+    let words = texts_in(alloc, row, '|')?;
+    match read_words(alloc, &words) {
+        Ok(command) => told(alloc, &command),
+        Err(Refused::No(fault)) => format!(in alloc; "No({fault:?})").ok(),
+        Err(Refused::NoMemory) => None,
+    }
+}
+
+// The scripts, in hexadecimal.
+fn scripts_of(alloc: Global, watch: &Watch) -> Option<String> {
+    let mut text = String::from_str(alloc, "scripts").ok()?;
+    for script in watch.scripts() {
+        text.push(' ').ok()?;
+        text.push_str(&hex::encode(alloc, script.as_slice()).ok()?)
+            .ok()?;
+    }
+    Some(text)
+}
+
+/// The scripts of a watch file, or its first fault.
+pub(crate) fn watch(alloc: Global, row: &str) -> Option<String> {
+    match read_watch(alloc, file_in(alloc, row)?.as_bytes()) {
+        Ok(watch) => scripts_of(alloc, &watch),
+        Err(fault) => format!(in alloc; "{fault:?}").ok(),
+    }
+}
+
+fn lines_of(alloc: Global, session: &Session) -> Option<String> {
+    let (names, dials, deliveries) = (&session.names, &session.dials, &session.deliveries);
+    format!(in alloc; "{names:?} {dials:?} {deliveries:?}").ok()
+}
+
+/// The dials and the deliveries of a session, or its first fault.
+pub(crate) fn session(alloc: Global, row: &str) -> Option<String> {
+    match read_session(alloc, file_in(alloc, row)?.as_bytes()) {
+        Ok(session) => lines_of(alloc, &session),
+        Err(fault) => format!(in alloc; "{fault:?}").ok(),
+    }
+}

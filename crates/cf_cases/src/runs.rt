@@ -1,0 +1,99 @@
+//! Whole calls of the program in memory.
+ghost use Rattle.std.specs.Prelude.{◌≡◌, [], IfSome};
+ghost use Rattle.cf_peer.specs.Memory.{log_of};
+
+use crate::fields::{bytes_in, file_in, numbers_in, texts_in};
+use crate::served::session_in;
+use cf_bytes::{Files, MapFiles, VecSink};
+use cf_cli::{Status, run};
+use cf_input::read_session;
+use cf_peer::MemoryWires;
+use std::alloc::Global;
+
+// The files of a row: `w`, `s` and `f`.
+fn files_of(alloc: Global, watch: &str, session: &str, blocks: &str) -> Option<MapFiles> {
+    let mut files = MapFiles::new(alloc);
+    let watch = file_in(alloc, watch)?;
+    files.write(alloc, "w", watch.as_bytes()).ok()?;
+    files.write(alloc, "s", session.as_bytes()).ok()?;
+    let blocks = bytes_in(alloc, blocks)?;
+    files.write(alloc, "f", &blocks).ok()?;
+    Some(files)
+}
+
+// Wires that give what a good session says, and else dial no one. These calls of theirs fail.
+fn wires_of(alloc: Global, session: &str, failing: &str) -> Option<MemoryWires>
+    ensures { IfSome result (λ w. log_of w ≡ []) }
+{
+    let mut wires = MemoryWires::new(alloc).ok()?;
+    if session.len() < 1_000_000 {
+        if let Ok(session) = read_session(alloc, session.as_bytes()) {
+            wires.load(session.dials, session.deliveries);
+        }
+    }
+    wires.failing(&numbers_in(alloc, failing)?).ok()?;
+    Some(wires)
+}
+
+// The exit status, the status, and what is wrong with a file, in words.
+fn told(alloc: Global, status: &Status) -> Option<String> {
+    let code = status.code();
+    match status {
+        Status::BadFile { which, cause, .. } => {
+            format!(in alloc; "{code} {status:?}: {which}: {cause}").ok()
+        }
+        _ => format!(in alloc; "{code} {status:?}").ok(),
+    }
+}
+
+fn shown(alloc: Global, status: &Status, written: &[u8]) -> Option<String> {
+    let text = str::from_utf8(written).ok()?;
+    let told = told(alloc, status)?;
+    format!(in alloc; "{told}\n{text}").ok()
+}
+
+// The answer to these words, over these wires, into a sink with so much room.
+fn answered(
+    alloc: Global,
+    words: &[String],
+    files: MapFiles,
+    wires: MemoryWires,
+    room: usize,
+) -> Option<String>
+    requires { log_of wires ≡ [] }
+{
+    let mut files = files;
+    let mut wires = wires;
+    let mut tape = MemoryWires::new(alloc).ok()?;
+    let mut out = VecSink::new(alloc, 7, room).ok()?;
+    let status = run(
+        alloc, words, 0, 0, &mut files, &mut wires, &mut tape, &mut out,
+    );
+    shown(alloc, &status, out.bytes())
+}
+
+// The call of a row's fields: the room, the calls of the wires that fail, the words, and the files.
+fn called(
+    alloc: Global,
+    limits: &str,
+    words: &str,
+    watch: &str,
+    session: &str,
+    blocks: &str,
+) -> Option<String> {
+    let (room, failing) = limits.split_once(' ')?;
+    let session = session_in(alloc, session)?;
+    let files = files_of(alloc, watch, &session, blocks)?;
+    let wires = wires_of(alloc, &session, failing)?;
+    let words = texts_in(alloc, words, ' ')?;
+    answered(alloc, &words, files, wires, room.parse().ok()?)
+}
+
+/// How the call of a row ends, and what it writes.
+pub(crate) fn answer(alloc: Global, row: &str) -> Option<String> {
+    let (limits, rest) = row.split_once('|')?;
+    let (words, rest) = rest.split_once('|')?;
+    let (watch, rest) = rest.split_once('|')?;
+    let (session, blocks) = rest.split_once('|')?;
+    called(alloc, limits, words, watch, session, blocks)
+}

@@ -1,0 +1,92 @@
+//! What the program says of itself.
+ghost use Rattle.std.specs.Prelude.{◌≡◌, drop, true, false, None, Some, string_bytes};
+ghost use Rattle.std.specs.List.{list_any};
+ghost use Rattle.cf_input.specs.Words.{is_help_word, is_version_word};
+
+use cf_input::{is_help, is_version};
+
+/// The answer to `--version`.
+pub const VERSION: &str = "cf 0.1.0\n";
+
+/// The answer to `--help`.
+pub const HELP: &str = "\
+cf: a light client for Bitcoin's regtest network.
+
+It tells the history of the scripts that you watch: from a file of blocks, or
+from 1 to 8 peers, whose longest chain of valid block headers it follows, and
+whose blocks it fetches. The last line is the tip of the chain:
+    synced HEIGHT HASH
+
+usage: cf scan FILE WATCH
+       cf filter FILE HEIGHT
+       cf replay [--trace] WATCH SESSION
+       cf sync [--turns N] WATCH PEER..
+       cf --help
+       cf --version
+
+  scan     checks the blocks of FILE, and prints the history of the scripts
+  filter   checks the blocks of FILE, and prints the hash, the basic filter
+           and the filter header of the block at HEIGHT (0 is genesis)
+  replay   runs the client on what SESSION says that came from the peers
+  sync     runs the client on the network, with 1 to 8 peers, each HOST:PORT;
+           this version opens no connection yet, so each dial fails
+
+  --trace  prints first what was sent to peer P, as `> P COMMAND`, and which
+           peer was closed, as `x P CAUSE`
+  --turns  takes at most N deliveries, from 1 to 10000000 (else 10000000)
+
+A line of the history, in hundred millionths of a coin:
+    HEIGHT TXID +RECEIVED -SPENT BALANCE
+
+FILE holds blocks as nodes keep them, from height 1 upward: for each the bytes
+fabfb5da, its length in 4 bytes and the block. Genesis may stand first, and
+zeros at the end. The blocks must make a chain on which each may stand.
+
+WATCH is a text file of the scripts that are watched: one on each line, in
+hexadecimal, at most 1000. It may be empty.
+
+SESSION is a text file of what happens: first a line on the dial of each peer,
+1 to 8 of them, numbered from 1 in this order, and then one for each delivery.
+    dial NAME      the dial is answered       nodial NAME   the dial fails
+    got P HEX      peer P sent these bytes    gone P        peer P has gone
+    tick SECONDS   so much time has passed, from 1 to 86400
+
+Example, with the files of the folder data:
+    cf replay --trace data/watch.txt data/session.txt
+
+The exit status:
+  0  done: the whole text was written
+  1  there was not enough memory
+  2  the words are no command
+  3  a file is not in its form; the message names its first wrong line or
+     record
+  4  a file could not be read
+  5  the text could not be written
+  6  no peer is left: each was closed, has gone or was not reached
+  7  N deliveries were taken, and an answer was still to come
+  8  the session was at its end, and an answer was still to come
+ 11  HEIGHT is above the tip of FILE
+";
+
+// What is asked for, behind the program's name.
+fn asked(words: &[String]) -> &[String]
+    ensures { result.now ≡ drop 1 words.now }
+{
+    if words.is_empty() { words } else { &words[1..] }
+}
+
+/// The text that a word behind the program's name asks for: the help, or else the version.
+pub fn own_text(words: &[String]) -> Option<&'static str>
+    ensures help { list_any (λ w. is_help_word (string_bytes w)) (drop 1 words.now) ≡ true → result ≡ Some HELP }
+    ensures version { list_any (λ w. is_help_word (string_bytes w)) (drop 1 words.now) ≡ false → list_any (λ w. is_version_word (string_bytes w)) (drop 1 words.now) ≡ true → result ≡ Some VERSION }
+    ensures none { list_any (λ w. is_help_word (string_bytes w)) (drop 1 words.now) ≡ false → list_any (λ w. is_version_word (string_bytes w)) (drop 1 words.now) ≡ false → result ≡ None }
+{
+    let asked = asked(words);
+    if is_help(asked) {
+        Some(HELP)
+    } else if is_version(asked) {
+        Some(VERSION)
+    } else {
+        None
+    }
+}
