@@ -1,9 +1,10 @@
 #!/usr/bin/env python3
-"""Prints a conversation with a serving machine over a block file, in hexadecimal: `conversation.py FILE`.
+"""Prints conversations with a serving machine over a block file, in hexadecimal: `conversation.py [--ranges] FILE`.
 
 The first line is what a peer sends: each request that a server of filters knows, some that aren't answered, and last a ping that is cut
-short. The second is what is sent back, written out from the layouts of the Bitcoin developer reference, BIP 157 and BIP 158. The tests of
-cf_server hold the same conversation, by the fields of its messages.
+short. The second is what is sent back, written out from the layouts of the Bitcoin developer reference, BIP 157 and BIP 158. With
+`--ranges` the file has more than 2000 blocks, and there are two such lines for each of several connections, on which the greatest ranges
+are asked for, and longer ones; of more than 10,000 bytes their number and their hash are printed. The rows `serve` of cf_cases hold both.
 """
 import struct
 import sys
@@ -162,13 +163,56 @@ def version(services, time, nonce, agent, height, relay):
                  + struct.pack("<Q", nonce) + compact(len(agent)) + agent + struct.pack("<i", height) + relay)
 
 
-def main():
-    with open(sys.argv[1], "rb") as file:
-        blocks = [GENESIS_HEADER + b"\x01" + GENESIS_TX] + list(records(file.read()))
-    hashes = [double(b[:80]) for b in blocks]
-    found = filters(blocks)
-    tip = len(blocks) - 1
-    unknown = bytes([7]) * 32
+NUMBER = bytes(range(1, 9))
+THEIR_VERSION = version(0, 5, 6, b"/other:2/", 9, b"")
+
+
+def greeting(tip):
+    return version(65, 1_700_000_000, 0x1122334455667788, b"/cf:1/", tip, b"\0") + frame("verack")
+
+
+class Served:
+    """A chain, and what is told of it."""
+
+    def __init__(self, name):
+        with open(name, "rb") as file:
+            self.blocks = [GENESIS_HEADER + b"\x01" + GENESIS_TX] + list(records(file.read()))
+        self.hashes = [double(b[:80]) for b in self.blocks]
+        self.filters = filters(self.blocks)
+        self.tip = len(self.blocks) - 1
+
+    def headers(self, first, last):
+        chosen = self.blocks[first:last + 1]
+        return frame("headers", compact(len(chosen)) + b"".join(b[:80] + b"\0" for b in chosen))
+
+    def block(self, height):
+        return frame("block", self.blocks[height])
+
+    def cfilter(self, height):
+        text = self.filters[height][0]
+        return frame("cfilter", b"\0" + self.hashes[height] + compact(len(text)) + text)
+
+    def cfheaders(self, first, last):
+        before = self.filters[first - 1][2] if first else bytes(32)
+        told = b"".join(f[1] for f in self.filters[first:last + 1])
+        return frame("cfheaders", b"\0" + self.hashes[last] + before + compact(last + 1 - first) + told)
+
+    def cfcheckpt(self, last):
+        told = [self.filters[height][2] for height in range(1000, last + 1, 1000)]
+        return frame("cfcheckpt", b"\0" + self.hashes[last] + compact(len(told)) + b"".join(told))
+
+
+def getheaders(locator, stop):
+    return frame("getheaders", struct.pack("<I", 70016) + compact(len(locator)) + b"".join(locator) + stop)
+
+
+def of_range(command, kind, start, stop):
+    return frame(command, bytes([kind]) + struct.pack("<I", start) + stop)
+
+
+def whole(c):
+    """The whole conversation: what is asked, and what is answered."""
+    hashes, tip, unknown = c.hashes, c.tip, bytes([7]) * 32
     ask, told = b"", b""
 
     def say(sent, *answers):
@@ -176,66 +220,71 @@ def main():
         ask += sent
         told += b"".join(answers)
 
-    def getheaders(locator, stop):
-        return frame("getheaders", struct.pack("<I", 70016) + compact(len(locator)) + b"".join(locator) + stop)
-
-    def headers(first, last):
-        chosen = blocks[first:last + 1]
-        return frame("headers", compact(len(chosen)) + b"".join(b[:80] + b"\0" for b in chosen))
-
-    def block(height):
-        return frame("block", blocks[height])
-
-    def cfilter(height):
-        text = found[height][0]
-        return frame("cfilter", b"\0" + hashes[height] + compact(len(text)) + text)
-
-    def cfheaders(first, last):
-        before = found[first - 1][2] if first else bytes(32)
-        return frame("cfheaders", b"\0" + hashes[last] + before + compact(last + 1 - first) + b"".join(f[1] for f in found[first:last + 1]))
-
-    def of_range(command, kind, start, stop):
-        return frame(command, bytes([kind]) + struct.pack("<I", start) + stop)
-
-    number = bytes(range(1, 9))
     # Nothing is answered before a version, and no second version is.
     say(getheaders([hashes[0]], bytes(32)))
-    say(frame("ping", number))
-    say(version(0, 5, 6, b"/other:2/", 9, b""), version(65, 1_700_000_000, 0x1122334455667788, b"/cf:1/", tip, b"\0"), frame("verack"))
-    say(frame("ping", number), frame("pong", number))
+    say(frame("ping", NUMBER))
+    say(THEIR_VERSION, greeting(tip))
+    say(frame("ping", NUMBER), frame("pong", NUMBER))
     say(version(0, 5, 6, b"", 9, b"\x01"))
     say(frame("verack"))
-    say(frame("pong", number))
+    say(frame("pong", NUMBER))
     say(frame("inv", compact(1) + struct.pack("<I", 2) + unknown))
     # A command that isn't known.
     say(frame("sendcmpct", b"\0" + struct.pack("<Q", 1)))
     # Headers.
-    say(getheaders([unknown], bytes(32)), headers(1, tip))
-    say(getheaders([hashes[tip]], bytes(32)), headers(1, 0))
-    say(getheaders([hashes[0]], hashes[2]), headers(1, 2))
-    say(getheaders([unknown, hashes[1], hashes[0]], hashes[1]), headers(2, tip))
-    say(getheaders([], hashes[2]), headers(2, 2))
+    say(getheaders([unknown], bytes(32)), c.headers(1, tip))
+    say(getheaders([hashes[tip]], bytes(32)), c.headers(1, 0))
+    say(getheaders([hashes[0]], hashes[2]), c.headers(1, 2))
+    say(getheaders([unknown, hashes[1], hashes[0]], hashes[1]), c.headers(2, tip))
+    say(getheaders([], hashes[2]), c.headers(2, 2))
     say(getheaders([], unknown))
     # Blocks, genesis among them; a transaction, a block with its witness, and an unknown one get nothing.
     entries = [(2, hashes[2]), (1, hashes[1]), (2, unknown), (0x40000002, hashes[1]), (2, hashes[0])]
-    say(frame("getdata", compact(len(entries)) + b"".join(struct.pack("<I", kind) + name for kind, name in entries)), block(2), block(0))
+    say(frame("getdata", compact(len(entries)) + b"".join(struct.pack("<I", kind) + name for kind, name in entries)), c.block(2), c.block(0))
     # Filters, their hashes, and checkpoints.
-    say(of_range("getcfilters", 0, 0, hashes[tip]), *(cfilter(h) for h in range(tip + 1)))
-    say(of_range("getcfilters", 0, 2, hashes[2]), cfilter(2))
+    say(of_range("getcfilters", 0, 0, hashes[tip]), *(c.cfilter(h) for h in range(tip + 1)))
+    say(of_range("getcfilters", 0, 2, hashes[2]), c.cfilter(2))
     say(of_range("getcfilters", 1, 0, hashes[tip]))
     say(of_range("getcfilters", 0, 0, unknown))
     say(of_range("getcfilters", 0, 3, hashes[2]))
-    say(of_range("getcfheaders", 0, 0, hashes[tip]), cfheaders(0, tip))
-    say(of_range("getcfheaders", 0, 2, hashes[tip]), cfheaders(2, tip))
+    say(of_range("getcfheaders", 0, 0, hashes[tip]), c.cfheaders(0, tip))
+    say(of_range("getcfheaders", 0, 2, hashes[tip]), c.cfheaders(2, tip))
     say(of_range("getcfheaders", 1, 2, hashes[tip]))
     say(of_range("getcfheaders", 0, 4, hashes[tip]))
-    say(frame("getcfcheckpt", b"\0" + hashes[tip]), frame("cfcheckpt", b"\0" + hashes[tip] + b"\0"))
+    say(frame("getcfcheckpt", b"\0" + hashes[tip]), c.cfcheckpt(tip))
     say(frame("getcfcheckpt", b"\x01" + hashes[tip]))
     say(frame("getcfcheckpt", b"\0" + unknown))
     # A payload that is too short.
-    say(frame("ping", number[:7]))
-    print(ask.hex())
-    print(told.hex())
+    say(frame("ping", NUMBER[:7]))
+    return ask, told
+
+
+def ranges(c):
+    """One request on each connection, and its answer."""
+    hashes = c.hashes
+    yield of_range("getcfheaders", 0, 1, hashes[2000]), c.cfheaders(1, 2000)
+    yield of_range("getcfheaders", 0, 1, hashes[2001]), b""
+    yield of_range("getcfilters", 0, 1, hashes[1000]), b"".join(c.cfilter(h) for h in range(1, 1001))
+    yield of_range("getcfilters", 0, 1, hashes[1001]), b""
+    yield of_range("getcfilters", 0, 5, hashes[4]), b""
+    for last in (999, 1000, 2001):
+        yield frame("getcfcheckpt", b"\0" + hashes[last]), c.cfcheckpt(last)
+    yield frame("getcfcheckpt", b"\x01" + hashes[1000]), b""
+
+
+def shown(data):
+    return data.hex() if len(data) <= 10_000 else "%d bytes %s" % (len(data), double(data)[::-1].hex())
+
+
+def main():
+    c = Served(sys.argv[-1])
+    if sys.argv[1] != "--ranges":
+        for text in whole(c):
+            print(text.hex())
+        return
+    for asked, told in ranges(c):
+        print((THEIR_VERSION + asked).hex())
+        print(shown(greeting(c.tip) + told))
 
 
 if __name__ == "__main__":
