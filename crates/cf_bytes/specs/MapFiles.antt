@@ -4,12 +4,12 @@ use Rattle.std.specs.Option.{is_some}
 use Rattle.std.specs.Coded.{Coded, code_by, coded×, coded_list, coded_ℕ}
 use Rattle.std.specs.FinMap as finite
 use Rattle.cf_bytes.specs.Files.{Named, named_code}
-use Rattle.cf_bytes.specs.Plan.{Script}
+use Rattle.cf_bytes.specs.Plan.{Calls}
 
 -- the files, and which calls fail
 pub record Held : Type 0 where
   pub files : Named
-  pub plan : Script
+  pub plan : Calls
 
 abbrev pub held_code : Coded Held
 held_code =

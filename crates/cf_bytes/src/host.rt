@@ -1,18 +1,22 @@
 //! The process's own files and writers behind the traits. They tell no bytes.
-ghost use Rattle.std.specs.Prelude.{◌≡◌, ◌≤◌, length, None, IfOk};
+ghost use Rattle.std.specs.Prelude.{◌≡◌, ◌≤◌, ◌<◌, ◌↔◌, length, None, IfOk, IsSome};
+ghost use Rattle.cf_bytes.specs.Outside.{HasRisen};
 
 use crate::files::{FileFail, Files};
 use crate::outside::{Failed, Sink};
-use std::alloc::Global;
-use std::fs;
+use std::alloc::{AllocError, AllocFailed, Global};
+use std::fs::OpenFile;
 use std::io::{Read, Write};
 use std::rt::Files as HostFiles;
+use std::{fs, io};
 
 /// The files of the system that the process runs on. A name is a path.
 #[derive(Drop)]
 pub struct StdFiles<R> {
     rt: R,
     faults: u64,
+    reason: Option<io::Error>,
+    ghost told: { IsSome reason ↔ (0 < faults) },
 }
 
 impl<R: HostFiles> StdFiles<R> {
@@ -20,7 +24,64 @@ impl<R: HostFiles> StdFiles<R> {
     pub fn new(rt: R) -> StdFiles<R>
         ensures { result.faults ≡ 0 }
     {
-        StdFiles { rt, faults: 0 }
+        StdFiles {
+            rt,
+            faults: 0,
+            reason: None,
+        }
+    }
+
+    /// Why the last of the calls that failed did, as the system says it; `None` exactly where none has
+    /// failed.
+    pub fn reason(&self) -> Option<io::Error>
+        ensures { IsSome result ↔ (0 < self.now.faults) }
+    {
+        self.reason
+    }
+
+    // Counts a call that failed, and keeps its reason.
+    fn failed(&mut self, reason: io::Error) -> FileFail
+        ensures answer { result ≡ FileFail.Failed }
+        ensures count { HasRisen self.old.faults self.new.faults }
+    {
+        self.faults = self.faults.saturating_add(1);
+        self.reason = Some(reason);
+        FileFail::Failed
+    }
+}
+
+// Why a file was not read.
+enum Unread {
+    // The system did not read it.
+    Failed(io::Error),
+    TooBig,
+    NoMemory,
+}
+
+impl From<io::Error> for Unread {
+    fn from(reason: io::Error) -> Unread {
+        Unread::Failed(reason)
+    }
+}
+
+impl From<AllocError> for Unread {
+    fn from(_e: AllocError) -> Unread {
+        Unread::NoMemory
+    }
+}
+
+impl<T: Drop> From<AllocFailed<T>> for Unread {
+    fn from(_e: AllocFailed<T>) -> Unread {
+        Unread::NoMemory
+    }
+}
+
+// How many bytes the system says that a file has, or 0 where it says nothing. A file may have more or
+// fewer: the number is a hint for the room to take.
+fn told_size<F: OpenFile>(file: &F) -> usize {
+    match file.metadata() {
+        Ok(data) => usize::try_from(data.len()).unwrap_or(usize::MAX),
+        Err(_) => 0,
     }
 }
 
@@ -30,23 +91,21 @@ fn read_file<R: HostFiles>(
     alloc: Global,
     name: &str,
     most: usize,
-) -> Result<Vec<u8>, FileFail>
+) -> Result<Vec<u8>, Unread>
     ensures { IfOk result (λ v. length v.items ≤ most) }
 {
-    let mut file = fs::open(rt, name).map_err(|_| FileFail::Failed)?;
-    let mut bytes = Vec::new(alloc);
-    let mut buffer = [0u8; 4096];
+    let mut file = fs::open(rt, name)?;
+    let mut bytes = Vec::with_capacity(alloc, told_size(&file).min(most))?;
+    let mut buffer = [0u8; 65_536];
     while bytes.len() <= most {
         let room = (most - bytes.len()).saturating_add(1).min(buffer.len());
-        let n = file
-            .read(&mut buffer[..room])
-            .map_err(|_| FileFail::Failed)?;
+        let n = file.read(&mut buffer[..room])?;
         if n == 0 {
             return Ok(bytes);
         }
         bytes.extend_from_slice(&buffer[..n])?;
     }
-    Err(FileFail::TooBig)
+    Err(Unread::TooBig)
 }
 
 impl<R: HostFiles> Files for StdFiles<R> {
@@ -55,20 +114,18 @@ impl<R: HostFiles> Files for StdFiles<R> {
     ghost faults = { λ f. f.faults };
 
     fn read(&mut self, alloc: Global, name: &str, most: usize) -> Result<Vec<u8>, FileFail> {
-        let answer = read_file(&self.rt, alloc, name, most);
-        if let Err(FileFail::Failed) = answer {
-            self.faults = self.faults.saturating_add(1);
+        match read_file(&self.rt, alloc, name, most) {
+            Ok(bytes) => Ok(bytes),
+            Err(Unread::Failed(reason)) => Err(self.failed(reason)),
+            Err(Unread::TooBig) => Err(FileFail::TooBig),
+            Err(Unread::NoMemory) => Err(FileFail::NoMemory),
         }
-        answer
     }
 
     fn write(&mut self, _alloc: Global, name: &str, bytes: &[u8]) -> Result<(), FileFail> {
         match fs::write(&self.rt, name, bytes) {
             Ok(()) => Ok(()),
-            Err(_) => {
-                self.faults = self.faults.saturating_add(1);
-                Err(FileFail::Failed)
-            }
+            Err(reason) => Err(self.failed(reason)),
         }
     }
 }
@@ -94,6 +151,8 @@ impl<W: Write> Sink for WriterSink<W> {
     ghost written = { λ _. None };
 
     ghost faults = { λ s. s.faults };
+
+    ghost writes = { λ _ _ _ _. Unit {0} };
 
     fn write(&mut self, from: &[u8]) -> Result<usize, Failed> {
         match self.writer.write(from) {

@@ -30,11 +30,18 @@ impl<T> Listed<T> {
         }
     }
 
-    /// The items of a vector.
+    /// The items of a vector; it takes no memory.
     pub fn from_vec(items: Vec<T>) -> Listed<T>
         ensures { result ≡ items.items }
     {
         Listed { items }
+    }
+
+    /// The items, given back as a vector.
+    pub fn into_vec(self) -> Vec<T>
+        ensures { result.items ≡ self }
+    {
+        self.items
     }
 
     /// The items.

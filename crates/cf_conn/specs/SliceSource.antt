@@ -1,6 +1,6 @@
 -- A source in memory.
 use Rattle.std.specs.Prelude.{ℕ, min, Bool, true, ◌||◌, if◌then◌else◌, List, length, drop, Result, Ok, Err}
-use Rattle.cf_bytes.specs.Plan.{Script, is_refused, after_call}
+use Rattle.cf_bytes.specs.Plan.{Calls, is_refused, after_call}
 use Rattle.cf_bytes.specs.declared.outside.Failed.{Failed}
 use Rattle.cf_conn.specs.Source.{is_end}
 
@@ -8,14 +8,14 @@ use Rattle.cf_conn.specs.Source.{is_end}
 pub record Pace : Type 0 where
   pub most : ℕ
   pub ended : Bool
-  pub plan : Script
+  pub plan : Calls
 
 -- the bytes left, and how they are given
 pub record Lent : Type 0 where
   pub rest : List ℕ
   pub most : ℕ
   pub ended : Bool
-  pub plan : Script
+  pub plan : Calls
 
 abbrev pub lent_at : Pace → List ℕ → Lent
 lent_at p rest = record { rest = rest; most = p.most; ended = p.ended; plan = p.plan }

@@ -37,7 +37,8 @@ pub trait Duplex: Source + Sink {
         ensures cause { OnErr result (HasRisen (Self.Sink.faults self.old) (Self.Sink.faults self.new)) }
         ensures left { Self.left self.new ≡ Self.left self.old }
         ensures ended { Self.ended self.new ≡ Self.ended self.old }
-        ensures read_faults { Self.Source.faults self.new ≡ Self.Source.faults self.old };
+        ensures read_faults { Self.Source.faults self.new ≡ Self.Source.faults self.old }
+        ensures exact { Self.writes self.old from.now result self.new };
 
     /// Closes the connection. The end tells what the connection told until then.
     fn close(self) -> Self::End

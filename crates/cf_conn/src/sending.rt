@@ -1,11 +1,12 @@
 //! Sending all of some bytes.
 ghost use Rattle.std.specs.Prelude.{◌≡◌, ℕ, ◌≤◌, length, take, OnOk, OnErr};
-ghost use Rattle.cf_bytes.specs.Outside.{HasRisen, with_more};
+ghost use Rattle.cf_bytes.specs.Outside.{HasRisen, with_more, WritesAll};
 
 use crate::duplex::Duplex;
 use cf_bytes::Failed;
 
-/// Sends all the bytes. Where the connection fails, it has got the first of them.
+/// Sends all the bytes by calls of `send`, each of which gets all that is left. It fails at the first call
+/// that fails; the connection has then got the first of the bytes.
 #[tactic(auto, using(cf_bytes::proofs::Sent::sent_more, std::proofs::lemmas::List::take_rest, std::proofs::lemmas::Grind::common_steps))]
 pub fn send_all<C: Duplex>(conn: &mut C, bytes: &[u8]) -> Result<(), Failed>
     ensures ok { OnOk result (C.written conn.new ≡ with_more (C.written conn.old) bytes.now) }
@@ -15,6 +16,7 @@ pub fn send_all<C: Duplex>(conn: &mut C, bytes: &[u8]) -> Result<(), Failed>
     ensures left { C.left conn.new ≡ C.left conn.old }
     ensures ended { C.ended conn.new ≡ C.ended conn.old }
     ensures read_faults { C.Source.faults conn.new ≡ C.Source.faults conn.old }
+    ensures exact { WritesAll C.writes bytes.now conn.old result conn.new }
 {
     let mut sent = 0;
     while sent < bytes.len() {

@@ -6,9 +6,9 @@ ghost use Rattle.cf_bytes.specs.Files.{ReadOf, Counts, named_of};
 ghost use Rattle.cf_bytes.specs.Plan.{is_refused, after_call};
 ghost use Rattle.cf_bytes.specs.MapFiles.{has_file};
 
-use super::plan::Plan;
 use crate::files::{FileFail, Files};
 use crate::memory::NoMemory;
+use crate::plan::Plan;
 use std::alloc::Global;
 use std::collections::VecDeque;
 use std::marker::Model;
@@ -16,7 +16,6 @@ use std::marker::Model;
 /// Keeps files in memory, with calls that are to fail.
 #[derive(Drop)]
 pub struct MapFiles {
-    alloc: Global,
     // As they were written, the newest first.
     log: VecDeque<(String, Vec<u8>)>,
     plan: Plan,
@@ -52,7 +51,6 @@ impl MapFiles {
         ensures { result ≡ record { files = named_of []; plan = record { calls = 0; failing = []; faults = 0 } } }
     {
         MapFiles {
-            alloc,
             log: VecDeque::new(alloc),
             plan: Plan::new(alloc),
         }
@@ -63,7 +61,7 @@ impl MapFiles {
         ensures ok { OnOk result (self.new ≡ record self.old { plan = record self.old.plan { failing = calls.now } }) }
         ensures err { OnErr result (self.new ≡ self.old) }
     {
-        self.plan.set(self.alloc, calls)
+        self.plan.set(calls)
     }
 }
 

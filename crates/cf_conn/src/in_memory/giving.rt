@@ -1,22 +1,19 @@
 //! How bytes in memory are given to reads.
-ghost use Rattle.std.specs.Prelude.{◌≡◌, ◌↔◌, ◌<◌, ◌||◌, true, false, [], length, take, drop, IfOk, IsErr, OnOk, OnErr, IsTrue};
-ghost use Rattle.cf_bytes.specs.Plan.{is_refused, after_call};
+ghost use Rattle.std.specs.Prelude.{◌≡◌, ◌<◌, ◌||◌, true, false, [], length, take, drop, IfOk, OnOk, OnErr};
+ghost use Rattle.cf_bytes.specs.Plan.{after_call};
 ghost use Rattle.cf_conn.specs.Source.{is_end};
 ghost use Rattle.cf_conn.specs.SliceSource.{lent_at, read_answer};
 
-use cf_bytes::{Failed, NoMemory};
+use cf_bytes::{Failed, NoMemory, Plan};
 use std::alloc::Global;
 use std::marker::Model;
 
 /// The most bytes that one read gives, whether a read has told their end, and which reads are to fail.
 #[derive(Drop)]
 pub(super) struct Giving {
-    alloc: Global,
     most: usize,
     ended: bool,
-    calls: u64,
-    failing: Vec<u64>,
-    faults: u64,
+    plan: Plan,
 }
 
 impl Model for Giving {
@@ -25,7 +22,7 @@ impl Model for Giving {
 
     ghost Value = { Pace };
 
-    ghost view = { λ g. record { most = g.most; ended = g.ended; plan = record { calls = g.calls; failing = g.failing.items; faults = g.faults } } };
+    ghost view = { λ g. record { most = g.most; ended = g.ended; plan = g.plan } };
 
     ghost invariant = { λ g. 0 < g.most };
 }
@@ -36,12 +33,9 @@ impl Giving {
         ensures { result ≡ record { most = most; ended = false; plan = record { calls = 0; failing = []; faults = 0 } } }
     {
         Giving {
-            alloc,
             most,
             ended: false,
-            calls: 0,
-            failing: Vec::new(alloc),
-            faults: 0,
+            plan: Plan::new(alloc),
         }
     }
 
@@ -50,8 +44,7 @@ impl Giving {
         ensures ok { OnOk result (self.new ≡ record self.old { plan = record self.old.plan { failing = calls.now } }) }
         ensures err { OnErr result (self.new ≡ self.old) }
     {
-        self.failing = Vec::from_slice(self.alloc, calls)?;
-        Ok(())
+        self.plan.set(calls)
     }
 
     pub(super) fn ended(&self) -> bool
@@ -63,20 +56,7 @@ impl Giving {
     pub(super) fn faults(&self) -> u64
         ensures { result ≡ self.now.plan.faults }
     {
-        self.faults
-    }
-
-    // Counts a read, and refuses it where it is to fail.
-    fn call(&mut self) -> Result<(), Failed>
-        ensures answer { IsErr result ↔ IsTrue (is_refused self.old.plan true) }
-        ensures after { self.new ≡ record self.old { plan = after_call self.old.plan true } }
-    {
-        self.calls = self.calls.saturating_add(1);
-        if self.failing.contains(&self.calls) {
-            self.faults = self.faults.saturating_add(1);
-            return Err(Failed);
-        }
-        Ok(())
+        self.plan.faults()
     }
 
     /// Gives the first of these bytes, and answers how many.
@@ -87,7 +67,7 @@ impl Giving {
         ensures end { IfOk result (λ n. 0 < length into.old → n ≡ 0 → bytes.now ≡ []) }
         ensures after { self.new ≡ record self.old { ended = self.old.ended || is_end (length into.old) result; plan = after_call self.old.plan true } }
     {
-        self.call()?;
+        self.plan.call(true)?;
         let n = bytes.len().min(self.most).min(into.len());
         into[..n].copy_from_slice(&bytes[..n]);
         if n == 0 && !into.is_empty() {

@@ -4,6 +4,7 @@ ghost use Rattle.cf_bytes.specs.Outside.{HasRisen, with_more};
 ghost use Rattle.cf_bytes.specs.VecSink.{write_answer, after_write};
 ghost use Rattle.cf_conn.specs.Source.{with_front, is_end};
 ghost use Rattle.cf_conn.specs.SliceSource.{read_answer, after_read};
+ghost use Rattle.cf_conn.specs.MemoryConn.{Writes};
 
 use super::giving::Giving;
 use crate::duplex::Duplex;
@@ -19,11 +20,10 @@ pub struct MemoryConn {
     start: usize,
     giving: Giving,
     sink: VecSink,
-    write_faults: u64,
 }
 
 impl Model for MemoryConn {
-    ghost use Rattle.std.specs.Prelude.{◌≡◌, ◌≤◌, drop, vec_len};
+    ghost use Rattle.std.specs.Prelude.{◌≤◌, drop, vec_len};
     ghost use Rattle.cf_conn.specs.SliceSource.{lent_at};
     ghost use Rattle.cf_conn.specs.MemoryConn.{BothWays};
 
@@ -31,14 +31,13 @@ impl Model for MemoryConn {
 
     ghost view = { λ c. record { source = lent_at c.giving (drop c.start c.bytes.items); sink = c.sink } };
 
-    ghost invariant = { λ c. (c.start ≤ vec_len c.bytes) × (c.write_faults ≡ c.sink.plan.faults) };
+    ghost invariant = { λ c. c.start ≤ vec_len c.bytes };
 }
 
 impl MemoryConn {
-    /// One read gives at most `most` of the bytes. The sink is one that has not failed.
+    /// One read gives at most `most` of the bytes.
     pub fn new(alloc: Global, bytes: Vec<u8>, most: usize, sink: VecSink) -> MemoryConn
-        requires some { 0 < most }
-        requires unfailed { sink.plan.faults ≡ 0 }
+        requires { 0 < most }
         ensures source { result.source ≡ record { rest = bytes.items; most = most; ended = false; plan = record { calls = 0; failing = []; faults = 0 } } }
         ensures sink { result.sink ≡ sink }
     {
@@ -47,7 +46,6 @@ impl MemoryConn {
             start: 0,
             giving: Giving::new(alloc, most),
             sink,
-            write_faults: 0,
         }
     }
 
@@ -106,6 +104,8 @@ impl Sink for MemoryConn {
 
     ghost faults = { λ c. c.sink.plan.faults };
 
+    ghost writes = { Writes };
+
     fn write(&mut self, from: &[u8]) -> Result<usize, Failed>
         ensures some { IfOk result (λ n. (n ≤ length from.now) × (0 < length from.now → 0 < n)) }
         ensures ok { IfOk result (λ n. Some self.new.sink.bytes ≡ with_more (Some self.old.sink.bytes) (take n from.now)) }
@@ -115,11 +115,7 @@ impl Sink for MemoryConn {
         ensures answer { result ≡ write_answer self.old.sink from.now }
         ensures after { self.new ≡ record self.old { sink = after_write self.old.sink from.now } }
     {
-        let answer = self.sink.write(from);
-        if answer.is_err() {
-            self.write_faults = self.write_faults.saturating_add(1);
-        }
-        answer
+        self.sink.write(from)
     }
 }
 
@@ -128,11 +124,30 @@ impl Duplex for MemoryConn {
 
     ghost tells = { λ end. end };
 
-    fn receive(&mut self, into: &mut [u8]) -> Result<usize, Failed> {
+    fn receive(&mut self, into: &mut [u8]) -> Result<usize, Failed>
+        ensures some { IfOk result (λ n. n ≤ length into.new) }
+        ensures rest { IfOk result (λ n. drop n into.new ≡ drop n into.old) }
+        ensures ok { IfOk result (λ n. Some self.old.source.rest ≡ with_front (take n into.new) (Some self.new.source.rest)) }
+        ensures end { IfOk result (λ n. 0 < length into.old → n ≡ 0 → self.old.source.rest ≡ []) }
+        ensures ended { self.new.source.ended ≡ (self.old.source.ended || is_end (length into.old) result) }
+        ensures err { OnErr result (Some self.new.source.rest ≡ Some self.old.source.rest) }
+        ensures kept { OnOk result (self.new.source.plan.faults ≡ self.old.source.plan.faults) }
+        ensures cause { OnErr result (HasRisen self.old.source.plan.faults self.new.source.plan.faults) }
+        ensures answer { result ≡ read_answer self.old.source (length into.old) }
+        ensures after { self.new ≡ record self.old { source = after_read self.old.source (length into.old) } }
+    {
         self.read(into)
     }
 
-    fn send(&mut self, from: &[u8]) -> Result<usize, Failed> {
+    fn send(&mut self, from: &[u8]) -> Result<usize, Failed>
+        ensures some { IfOk result (λ n. (n ≤ length from.now) × (0 < length from.now → 0 < n)) }
+        ensures ok { IfOk result (λ n. Some self.new.sink.bytes ≡ with_more (Some self.old.sink.bytes) (take n from.now)) }
+        ensures err { OnErr result (Some self.new.sink.bytes ≡ Some self.old.sink.bytes) }
+        ensures kept { OnOk result (self.new.sink.plan.faults ≡ self.old.sink.plan.faults) }
+        ensures cause { OnErr result (HasRisen self.old.sink.plan.faults self.new.sink.plan.faults) }
+        ensures answer { result ≡ write_answer self.old.sink from.now }
+        ensures after { self.new ≡ record self.old { sink = after_write self.old.sink from.now } }
+    {
         self.write(from)
     }
 
@@ -142,7 +157,6 @@ impl Duplex for MemoryConn {
         MemoryEnd {
             ended: self.giving.ended(),
             read_faults: self.giving.faults(),
-            write_faults: self.write_faults,
             start: self.start,
             bytes: self.bytes,
             sink: self.sink,
@@ -158,7 +172,6 @@ pub struct MemoryEnd {
     sink: VecSink,
     ended: bool,
     read_faults: u64,
-    write_faults: u64,
 }
 
 impl Model for MemoryEnd {
@@ -167,7 +180,7 @@ impl Model for MemoryEnd {
 
     ghost Value = { Told };
 
-    ghost view = { λ e. record { left = Some (drop e.start e.bytes.items); written = Some e.sink.bytes; ended = e.ended; read_faults = e.read_faults; write_faults = e.write_faults } };
+    ghost view = { λ e. record { left = Some (drop e.start e.bytes.items); written = Some e.sink.bytes; ended = e.ended; read_faults = e.read_faults; write_faults = e.sink.plan.faults } };
 
     ghost invariant = { λ e. e.start ≤ vec_len e.bytes };
 }
@@ -205,6 +218,6 @@ impl MemoryEnd {
     pub fn write_faults(&self) -> u64
         ensures { result ≡ self.now.write_faults }
     {
-        self.write_faults
+        self.sink.faults()
     }
 }
