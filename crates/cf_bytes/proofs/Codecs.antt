@@ -1,5 +1,5 @@
 -- A reader and a spelling are the two ways of one relation.
-use Rattle.std.proofs.Common.{◌≡◌, ℕ, ℤ, FitsSigned, zero, suc, ◌+◌, ◌<◌, ◌≤◌, ◌^◌, List, [], ◌∷◌, ◌++◌, length, take, drop, get_or, Result, Ok, Err, refl, sym, ap, ◌∙◌, append_assoc, arith, inl, inr, lt-ltb, le-ltb, length-take, length-append, subst}
+use Rattle.std.proofs.Common.{◌≡◌, ℕ, ℤ, FitsSigned, zero, suc, ◌+◌, ◌<◌, ◌≤◌, ◌^◌, List, [], ◌∷◌, ◌++◌, length, take, drop, Result, Ok, Err, refl, sym, ap, ◌∙◌, append_assoc, arith, inl, inr, lt-ltb, le-ltb, length-take, length-append, subst}
 use Rattle.std.proofs.lemmas.List.{places, take_at, drop_at, take-append-drop}
 use Rattle.std.proofs.lemmas.Bool.{cases_lt, le-leb, lt-leb}
 use Rattle.std.proofs.lemmas.Nat.{from_le_bytes-to_le_bytes_2, from_le_bytes-to_le_bytes_4, from_le_bytes-to_le_bytes_8, le_bytes_2, le_bytes_4, le_bytes_8}
@@ -9,13 +9,11 @@ use Rattle.std.specs.Int.{Width, w16, w32, w64, byte_len, to_le_bytes, from_le_b
 use Rattle.std.specs.List.{flat_map, AllByRecursion}
 use Rattle.cf_bytes.specs.declared.cut.CutFault.{CutFault}
 use Rattle.cf_bytes.specs.declared.cut.CutFault.TheVariants.{Short, NotShortest, TooLarge}
+pub use Rattle.cf_bytes.specs.Cut.{IsBytes}
 use Rattle.cf_bytes.specs.Cut.{Read, byte_at, bytes_at, number_at, int_at, as_one, ◌>>=◌}
 use Rattle.cf_bytes.specs.Compact.{compact, within, compact_tail, compact_ahead_at, compact_at}
 use Rattle.cf_bytes.specs.Lists.{list_at, counted_bytes, counted_bytes_at}
 use Rattle.cf_bytes.proofs.CompactLemmas.{compact_at-compact}
-
-abbrev pub IsBytes : List ℕ → Type 0
-IsBytes bytes = (i : ℕ) → get_or bytes i 0 < 256
 
 -- what a reader took from the front
 pub record Takes (bytes text after : List ℕ) : Type 0 where
