@@ -18,7 +18,7 @@ use Rattle.cf_golomb.specs.declared.fault.SetFault.TheVariants.{Cut, Ends}
 use Rattle.cf_golomb.specs.Bits.{unpack}
 use Rattle.cf_golomb.specs.Code.{HasSpelling, counted, values_at, end_at, head_at, body_at, set_at}
 use Rattle.cf_golomb.specs.Meets.{has, hits, answer_by, count_of}
-use Rattle.cf_golomb.proofs.OnlyLemmas.{values_only}
+use Rattle.cf_golomb.proofs.OnlyLemmas.{values_only, set_taken}
 use Rattle.cf_golomb.proofs.AgainLemmas.{set_again}
 use Rattle.cf_filter.specs.Items.{texts}
 use Rattle.cf_filter.specs.Filter.{value_under, value_of, values_of, ascending, basic_filter_of, has_value_of, match_of}
@@ -60,6 +60,11 @@ built_values hash vs items values sorted seen is moved up =
 pub filter_again : (hash : List ℕ) (items : List (List ℕ)) → length items ≤ 33554432 → set_at (basic_filter_of hash items) ≡ Ok (ascending (values_of hash (length items) items))
 unfolding basic_filter_of
 filter_again hash items few = set_again (ascending (values_of hash (length items) items)) (has_spelling hash items few)
+
+-- bytes that are read as the values of some items are the filter of those items
+pub filter_taken : (hash : List ℕ) (items : List (List ℕ)) (bytes : List ℕ) → IsBytes bytes → set_at bytes ≡ Ok (ascending (values_of hash (length items) items)) → bytes ≡ basic_filter_of hash items
+unfolding basic_filter_of
+filter_taken hash items bytes fits h = (set_taken bytes (ascending (values_of hash (length items) items)) fits h).1
 
 -- ---- the number at the front
 

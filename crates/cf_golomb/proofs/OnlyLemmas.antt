@@ -1,15 +1,16 @@
 -- What is read is what was spelled.
 use Rattle.std.proofs.Common.{◌≡◌, ℕ, suc, zero, ◌+◌, ◌*◌, ◌-◌, ◌/◌, ◌%◌, ◌^◌, ◌<◌, ◌≤◌, Bool, true, false, List, [], ◌∷◌, ◌++◌, length, get_or, refl, sym, ◌∙◌, ap, subst, arith, append_assoc, append-nil, length-append, Some, None, Result, Ok, Err}
-use Rattle.std.specs.Prelude.{replicate, ◌==◌, not, if◌then◌else◌, nat_le}
+use Rattle.std.specs.Prelude.{replicate, ◌==◌, not, if◌then◌else◌, nat_le, nat_lt}
 use Rattle.std.proofs.lemmas.Bool.{leb-false, eqb-true, eqb-false}
 use Rattle.std.proofs.lemmas.List.{length-replicate}
 use Rattle.std.proofs.Math.Nat.{two-pow-succ}
-use Rattle.cf_bytes.specs.Compact.{compact}
-use Rattle.cf_bytes.specs.Cut.{◌>>=◌}
+use Rattle.cf_bytes.specs.Compact.{compact, compact_at}
+use Rattle.cf_bytes.specs.Cut.{IsBytes, ◌>>=◌}
+use Rattle.cf_bytes.proofs.Codecs.{Takes, bind_ok, compact_taken}
 use Rattle.cf_golomb.specs.declared.fault.SetFault.{SetFault}
-use Rattle.cf_golomb.specs.declared.fault.SetFault.TheVariants.{Over, Padding, Excess}
+use Rattle.cf_golomb.specs.declared.fault.SetFault.TheVariants.{Ends, Over, Padding, Excess}
 use Rattle.cf_golomb.specs.Bits.{bits_of, unpack, pack_from, pack, number_from, number_at, unary_at, one_more}
-use Rattle.cf_golomb.specs.Code.{code, codes, spelling, IsSet, with_low, low_after, code_at, below, value_at, values_at, end_at, ending, body_at, HasSpelling}
+use Rattle.cf_golomb.specs.Code.{code, codes, spelling, IsSet, with_low, low_after, code_at, below, value_at, values_at, end_at, ending, counted, head_at, body_at, set_at, HasSpelling}
 use Rattle.cf_golomb.specs.Answers.{GivesAll}
 use Rattle.std.specs.Prelude.{IfOk}
 use Rattle.cf_bytes.specs.declared.memory.Refused.{Refused}
@@ -242,3 +243,26 @@ after_front (x ∷ front) body each i = after_front front body (λ j. each (suc 
 
 pub bytes_after : (bytes front body : List ℕ) → bytes ≡ front ++ body → ((i : ℕ) → get_or bytes i 0 < 256) → (i d : ℕ) → i < length body → get_or body i d < 256
 bytes_after bytes front body is each = in_body body (after_front front body (λ i. subst (λ (s : List ℕ). get_or s i 0 < 256) is (each i)))
+
+-- bytes whose head is read begin with the number of values
+head_taken : (bytes : List ℕ) (n : ℕ) (body : List ℕ) → IsBytes bytes → head_at bytes ≡ Ok (n, body) → Takes bytes (compact n) body × (n ≤ 33554432)
+unfolding head_at
+head_taken bytes n body fits h =
+    elim (compact_at bytes) as (λ r. compact_at bytes ≡ r → (counted r >>= λ x. (if nat_lt (length x.1 * 8) (x.0 * 20) then Err Ends else Ok (tt {0})) >>= λ room. Ok x) ≡ Ok (n, body) → Takes bytes (compact n) body × (n ≤ 33554432)) [
+      | Err e ↦ λ is h. cc
+      | Ok x ↦ λ is h.
+          let room = bind_ok (if nat_lt (length x.1 * 8) (x.0 * 20) then Err Ends else Ok (tt {0})) (λ room. Ok x) (n, body) h in
+          let both : x ≡ (n, body) = same_ok x (n, body) room.2 in
+          compact_taken bytes n body fits (is ∙ ap Ok both)
+    ] refl h
+
+-- bytes that are read as a list are its code
+pub set_taken : (bytes values : List ℕ) → IsBytes bytes → set_at bytes ≡ Ok values → HasSpelling values × (bytes ≡ spelling values)
+unfolding set_at
+set_taken bytes values fits h =
+    let head = bind_ok (head_at bytes) (λ head. body_at head.0 (unpack head.1)) values h in
+    let n : ℕ = head.0.0 in
+    let body : List ℕ = head.0.1 in
+    let taken = head_taken bytes n body fits head.1 in
+    let answer : Result (List ℕ) (Refused SetFault) = Ok values in
+    found_of (λ (vs : List ℕ). vs) n bytes body answer taken.1 taken.0.joined (bytes_after bytes (compact n) body taken.0.joined fits) head.2
