@@ -1,5 +1,5 @@
 -- Halving a level in place.
-use Rattle.std.proofs.Common.{◌≡◌, ℕ, suc, ◌+◌, ◌*◌, ◌-◌, ◌/◌, ◌%◌, ◌<◌, ◌≤◌, true, false, List, [], ◌∷◌, ◌++◌, length, take, drop, get_or, refl, sym, ◌∙◌, ap, arith, append_assoc, append-nil}
+use Rattle.std.proofs.Common.{◌≡◌, ℕ, Bool, suc, ◌+◌, ◌*◌, ◌-◌, ◌/◌, ◌%◌, ◌<◌, ◌≤◌, true, false, List, [], ◌∷◌, ◌++◌, length, take, drop, get_or, refl, sym, ◌∙◌, ap, arith, append_assoc, append-nil}
 use Rattle.std.proofs.Math.ListN.{set}
 use Rattle.std.specs.Prelude.{◌||◌, ◌≢◌}
 use Rattle.cf_block.proofs.Roots.{root_up, root_ends, mutated_up, mutated_ends}
@@ -81,19 +81,29 @@ pub root_alone : (level : List Hash32) (n : ℕ) (z : Hash32) → n ≡ 1 → n 
 root_alone [] n z one len = absurd (omega arith)
 root_alone (a ∷ level) n z one len = sym (ap (λ k. merkle_root_of (bytes_of (take k (a ∷ level)))) one ∙ root_ends (bytes_of (a ∷ [])) (omega arith))
 
-pub mutated_halved : (level new : List Hash32) (n n' : ℕ) → 1 < n → n ≤ length level → n' ≡ (n + 1) / 2 → has_twins (bytes_of (take n level)) ≡ false
-    → bytes_of (take ((n + 1) / 2) new) ≡ next_level (bytes_of (take n level)) → mutated (bytes_of (take n level)) ≡ mutated (bytes_of (take n' new))
-mutated_halved level new n n' two len next none is =
-    let size : length (bytes_of (take n level)) ≡ n = length-bytes_of (take n level) ∙ length-take-le n level len in
-    mutated_up (bytes_of (take n level)) (omega (arith, size)) ∙ ap (λ b. b || mutated (next_level (bytes_of (take n level)))) none
-    ∙ ap mutated (sym is) ∙ ap (λ k. mutated (bytes_of (take k new))) (sym next)
+or_assoc : (a b c : Bool) → (a || (b || c)) ≡ ((a || b) || c)
+or_assoc true b c = refl
+or_assoc false b c = refl
 
-pub mutated_here : (level : List Hash32) (n : ℕ) → 1 < n → n ≤ length level → has_twins (bytes_of (take n level)) ≡ true → mutated (bytes_of (take n level)) ≡ true
-mutated_here level n two len some =
-    let size : length (bytes_of (take n level)) ≡ n = length-bytes_of (take n level) ∙ length-take-le n level len in
-    mutated_up (bytes_of (take n level)) (omega (arith, size)) ∙ ap (λ b. b || mutated (next_level (bytes_of (take n level)))) some
+or_false : (b : Bool) → (b || false) ≡ b
+or_false true = refl
+or_false false = refl
 
-pub mutated_none : (level : List Hash32) (n : ℕ) → n ≤ 1 → n ≤ length level → mutated (bytes_of (take n level)) ≡ false
-mutated_none level n one len =
+-- a level's twins are noted, and the level above is left to look at
+pub doubled_more : (old level new : List Hash32) (n n' : ℕ) (noted twins : Bool) → 1 < n → n ≤ length level → n' ≡ (n + 1) / 2 → twins ≡ has_twins (bytes_of (take n level))
+    → bytes_of (take ((n + 1) / 2) new) ≡ next_level (bytes_of (take n level)) → mutated (bytes_of old) ≡ (noted || mutated (bytes_of (take n level)))
+    → mutated (bytes_of old) ≡ ((noted || twins) || mutated (bytes_of (take n' new)))
+doubled_more old level new n n' noted twins two len next is above so_far =
     let size : length (bytes_of (take n level)) ≡ n = length-bytes_of (take n level) ∙ length-take-le n level len in
-    mutated_ends (bytes_of (take n level)) (omega (arith, size))
+    let here : mutated (bytes_of (take n level)) ≡ (twins || mutated (bytes_of (take n' new))) =
+    mutated_up (bytes_of (take n level)) (omega (arith, size))
+    ∙ (λ i. (sym is) i || mutated ((sym above) i))
+    ∙ ap (λ k. twins || mutated (bytes_of (take k new))) (sym next) in
+    so_far ∙ ap (λ b. noted || b) here ∙ or_assoc noted twins (mutated (bytes_of (take n' new)))
+
+pub doubled_end : (old level : List Hash32) (n : ℕ) (noted : Bool) → n ≤ 1 → n ≤ length level → mutated (bytes_of old) ≡ (noted || mutated (bytes_of (take n level)))
+    → noted ≡ mutated (bytes_of old)
+doubled_end old level n noted one len so_far =
+    let size : length (bytes_of (take n level)) ≡ n = length-bytes_of (take n level) ∙ length-take-le n level len in
+    let none : mutated (bytes_of (take n level)) ≡ false = mutated_ends (bytes_of (take n level)) (omega (arith, size)) in
+    sym (so_far ∙ ap (λ b. noted || b) none ∙ or_false noted)

@@ -1,9 +1,13 @@
 pub mod Joins
 pub mod HeaderLaws
+pub mod HeaderTaken
 pub mod Refusals
 pub mod Roots
 pub mod Halving
 pub mod FedLemmas
 pub mod CommitLemmas
 pub mod Again
+pub mod Taken
+pub mod Sizes
+pub mod GenesisLaws
 pub mod Committed

@@ -1,6 +1,7 @@
 -- Which transactions a header stands for.
 use Rattle.std.specs.Prelude.{◌≡◌, ◌<◌, ◌==◌, ◌&&◌, ℕ, Bool, false, not, replicate, if◌then◌else◌, List, [], ◌∷◌, map, length, Option, Some, None, Result, Ok, Err, bytes_eq}
 use Rattle.std.specs.List.{list_any}
+use Rattle.cf_bytes.specs.declared.hash.Hash32.{Hash32}
 use Rattle.cf_bytes.specs.declared.memory.Refused.{Refused}
 use Rattle.cf_bytes.specs.declared.memory.Refused.TheVariants.{No, NoMemory}
 use Rattle.cf_block.specs.declared.commitment.CommitFault.{CommitFault}
@@ -8,8 +9,13 @@ use Rattle.cf_block.specs.declared.commitment.CommitFault.TheVariants.{Root, Mut
 use Rattle.cf_block.specs.declared.tx.TxIn.{TxIn}
 use Rattle.cf_block.specs.declared.tx.Tx.{Tx}
 use Rattle.cf_block.specs.declared.tx.Block.{Block}
-use Rattle.cf_block.specs.Tx.{tx_spelling}
+use Rattle.cf_block.specs.Tx.{tx_spelling, txid_of}
+use Rattle.cf_block.specs.Views.{bytes_of}
 use Rattle.cf_block.specs.Merkle.{merkle_root_of, mutated, txids, None64}
+
+-- these are the transactions' hashes, in order
+abbrev pub AreTxids : List Hash32 → List Tx → Type 0
+AreTxids ids txs = bytes_of ids ≡ map txid_of txs
 
 -- the bytes of a block's transactions
 abbrev pub spelled_txs : Block → List (List ℕ)

@@ -1,5 +1,5 @@
 -- Headers (Bitcoin developer reference, "Block Headers"): version, previous hash, Merkle root, time, bits and nonce, 80 bytes.
-use Rattle.std.specs.Prelude.{◌≡◌, ℕ, ◌^◌, ◌<◌, List, ◌++◌, length, Ok, Err, FitsSigned}
+use Rattle.std.specs.Prelude.{◌≡◌, ℕ, pos, ◌^◌, ◌<◌, List, [], ◌∷◌, ◌++◌, length, replicate, Ok, Err, FitsSigned}
 use Rattle.std.specs.Int.{w32, to_le_bytes, cast_unsigned}
 use Rattle.cf_bytes.specs.Cut.{Read, bytes_at, number_at, int_at, ◌>>=◌}
 use Rattle.cf_bytes.specs.Hash.{hash_of}
@@ -8,7 +8,6 @@ use Rattle.cf_bytes.specs.declared.hash.Hash32.{Hash32}
 use Rattle.cf_block.specs.declared.fault.BlockFault.{BlockFault}
 use Rattle.cf_block.specs.declared.fault.BlockFaultKind.TheVariants.{Short}
 use Rattle.cf_block.specs.declared.header.Header.{Header}
-use Rattle.cf_block.specs.declared.header.TheConstants.{GENESIS_HEADER}
 
 -- a hash has 32 bytes
 abbrev pub IsHash : Hash32 → Type 0
@@ -57,6 +56,17 @@ header_at bytes = whole_header bytes (header_fields_at bytes)
 unfoldable pub block_hash_of : Header → List ℕ
 block_hash_of h = hash_of (header_spelling h)
 
--- the first header of regtest's chain
+-- the first header of regtest's chain (Bitcoin Core, chainparams.cpp)
 unfoldable pub genesis_header : Header
-genesis_header = GENESIS_HEADER
+genesis_header = record {
+  version = pos 1;
+  previous = record { 0 = replicate 32 0 };
+  root = record {
+    0 =
+        0x3b ∷ 0xa3 ∷ 0xed ∷ 0xfd ∷ 0x7a ∷ 0x7b ∷ 0x12 ∷ 0xb2 ∷ 0x7a ∷ 0xc7 ∷ 0x2c ∷ 0x3e ∷ 0x67 ∷ 0x76 ∷ 0x8f ∷ 0x61
+        ∷ 0x7f ∷ 0xc8 ∷ 0x1b ∷ 0xc3 ∷ 0x88 ∷ 0x8a ∷ 0x51 ∷ 0x32 ∷ 0x3a ∷ 0x9f ∷ 0xb8 ∷ 0xaa ∷ 0x4b ∷ 0x1e ∷ 0x5e ∷ 0x4a ∷ [];
+  };
+  time = 1296688602;
+  bits = 0x207fffff;
+  nonce = 2;
+}

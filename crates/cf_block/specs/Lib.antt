@@ -3,6 +3,7 @@ pub mod Fed
 pub mod Header
 pub mod Output
 pub mod Reading
+pub mod Size
 pub mod Tx
 pub mod Merkle
 pub mod Views

@@ -3,15 +3,13 @@ ghost use Rattle.std.specs.Prelude.{◌≡◌, map, IfOk};
 ghost use Rattle.std.specs.List.{list_any};
 ghost use Rattle.cf_bytes.specs.declared.memory.Refused.TheVariants.{No};
 ghost use Rattle.cf_block.specs.Tx.{tx_spelling};
-ghost use Rattle.cf_block.specs.Merkle.{mutated, txids as txids_of};
-ghost use Rattle.cf_block.specs.Views.{bytes_of};
-ghost use Rattle.cf_block.specs.Commitment.{has_root as has_root_of, has_64 as is_64, spelled_txs, commit_fault, FindsFault, is_coinbase_tx};
+ghost use Rattle.cf_block.specs.Commitment.{AreTxids, has_64 as is_64, commit_fault, FindsFault, is_coinbase_tx};
 
 use crate::feeding::txid;
-use crate::merkle::{is_mutated, merkle_root};
+use crate::merkle::tree_over;
+use crate::size::tx_size;
 use crate::tx::{Block, Tx};
-use crate::write::put_tx;
-use cf_bytes::{Hash32, NoMemory, Refused};
+use cf_bytes::{Hash32, Listed, NoMemory, Refused};
 use std::alloc::Global;
 use thiserror::Error;
 
@@ -37,11 +35,21 @@ impl From<CommitFault> for Refused<CommitFault> {
     }
 }
 
-// The transactions' hashes, in order.
-fn txids(alloc: Global, txs: &[Tx]) -> Result<Vec<Hash32>, NoMemory>
-    ensures { IfOk result (λ v. bytes_of v.items ≡ txids_of (map tx_spelling txs.now)) }
+/// The hashes of transactions, in order.
+pub type TxIds = Listed<Hash32>;
+
+/// The hashes of the transactions' bytes, in order. Each transaction is hashed once.
+pub fn txids(alloc: Global, txs: &[Tx]) -> Result<TxIds, NoMemory>
+    ensures { IfOk result (λ ids. AreTxids ids txs.now) }
 {
-    let mut hashes = Vec::new(alloc);
+    let hashes = hashes(alloc, txs)?;
+    Ok(Listed::from_vec(hashes))
+}
+
+fn hashes(alloc: Global, txs: &[Tx]) -> Result<Vec<Hash32>, NoMemory>
+    ensures { IfOk result (λ v. AreTxids v.items txs.now) }
+{
+    let mut hashes = Vec::with_capacity(alloc, txs.len())?;
     for tx in txs {
         let hash = txid(tx);
         hashes.push(hash)?;
@@ -49,62 +57,66 @@ fn txids(alloc: Global, txs: &[Tx]) -> Result<Vec<Hash32>, NoMemory>
     Ok(hashes)
 }
 
-fn has_root(alloc: Global, b: &Block) -> Result<bool, NoMemory>
-    ensures { IfOk result (λ r. r ≡ has_root_of b.now) }
-{
-    let mut level = txids(alloc, b.txs.as_slice())?;
-    if level.is_empty() {
-        return Ok(false);
-    }
-    let root = merkle_root(level.as_mut_slice());
-    Ok(root == b.header.root)
-}
-
-fn has_twins(alloc: Global, txs: &[Tx]) -> Result<bool, NoMemory>
-    ensures { IfOk result (λ r. r ≡ mutated (txids_of (map tx_spelling txs.now))) }
-{
-    let mut level = txids(alloc, txs)?;
-    if level.is_empty() {
-        return Ok(false);
-    }
-    Ok(is_mutated(level.as_mut_slice()))
-}
-
-fn has_64_bytes(alloc: Global, t: &Tx) -> Result<bool, NoMemory>
-    ensures { IfOk result (λ r. r ≡ is_64 (tx_spelling t.now)) }
-{
-    let mut bytes = Vec::new(alloc);
-    put_tx(t, &mut bytes)?;
-    Ok(bytes.len() == 64)
-}
-
-fn has_64(alloc: Global, txs: &[Tx]) -> Result<bool, NoMemory>
-    ensures { IfOk result (λ r. r ≡ list_any is_64 (map tx_spelling txs.now)) }
+fn has_64(txs: &[Tx]) -> bool
+    ensures { result ≡ list_any is_64 (map tx_spelling txs.now) }
 {
     for tx in txs {
-        if has_64_bytes(alloc, tx)? {
-            return Ok(true);
+        if tx_size(tx) == 64 {
+            return true;
         }
     }
-    Ok(false)
+    false
+}
+
+// The first of the three that a block breaks. The level holds the hashes of its transactions, and is spent.
+#[tactic(auto, unfolding(crate::specs::Commitment::commit_fault))]
+fn first_fault(b: &Block, level: &mut [Hash32]) -> Option<CommitFault>
+    requires { AreTxids level.old b.now.txs }
+    ensures { result ≡ commit_fault b.now }
+{
+    if level.is_empty() {
+        return Some(CommitFault::Root);
+    }
+    let tree = tree_over(level);
+    if tree.root != b.header.root {
+        return Some(CommitFault::Root);
+    }
+    if tree.is_doubled {
+        return Some(CommitFault::Mutated);
+    }
+    if has_64(b.txs.as_slice()) {
+        return Some(CommitFault::Tx64);
+    }
+    None
+}
+
+/// Whether the header's root is that of the transactions, their list isn't doubled, and none has 64 bytes; looked for
+/// in this order. The transactions' hashes are given, as `txids` makes them.
+pub fn check_commitment_by(
+    alloc: Global,
+    b: &Block,
+    txids: &[Hash32],
+) -> Result<(), Refused<CommitFault>>
+    requires { AreTxids txids.now b.now.txs }
+    ensures { FindsFault (commit_fault b.now) result }
+{
+    let mut level = Vec::from_slice(alloc, txids)?;
+    match first_fault(b, level.as_mut_slice()) {
+        Some(fault) => Err(Refused::No(fault)),
+        None => Ok(()),
+    }
 }
 
 /// Whether the header's root is that of the transactions, their list isn't doubled, and none has 64 bytes; looked for
 /// in this order.
-#[tactic(auto, unfolding(crate::specs::Commitment::commit_fault))]
 pub fn check_commitment(alloc: Global, b: &Block) -> Result<(), Refused<CommitFault>>
     ensures { FindsFault (commit_fault b.now) result }
 {
-    if !has_root(alloc, b)? {
-        return Err(Refused::No(CommitFault::Root));
+    let mut level = hashes(alloc, b.txs.as_slice())?;
+    match first_fault(b, level.as_mut_slice()) {
+        Some(fault) => Err(Refused::No(fault)),
+        None => Ok(()),
     }
-    if has_twins(alloc, b.txs.as_slice())? {
-        return Err(Refused::No(CommitFault::Mutated));
-    }
-    if has_64(alloc, b.txs.as_slice())? {
-        return Err(Refused::No(CommitFault::Tx64));
-    }
-    Ok(())
 }
 
 /// Whether a transaction makes new coins: it has one input, which names the output 0xffffffff of the hash zero.

@@ -3,10 +3,9 @@ ghost use Rattle.std.specs.Prelude.{◌≡◌, IfOk};
 ghost use Rattle.cf_block.specs.Genesis.{signing_script, paid_script, first_input, first_output, first_block};
 
 use crate::header::genesis_header;
-use crate::listed::Listed;
 use crate::script::Script;
 use crate::tx::{Block, OutPoint, Tx, TxIn, TxOut};
-use cf_bytes::{Hash32, NoMemory};
+use cf_bytes::{Hash32, Listed, NoMemory};
 use std::alloc::Global;
 
 /// The bits of the first target, the number 4, and a headline of the day.

@@ -7,25 +7,24 @@ mod feeding;
 mod genesis_block;
 mod header;
 mod laws;
-mod listed;
 mod merkle;
 mod parse;
 mod script;
+mod size;
 mod tx;
 mod write;
 
-pub use commitment::{CommitFault, check_commitment, is_coinbase};
+pub use cf_bytes::Listed;
+pub use commitment::{
+    CommitFault, TxIds, check_commitment, check_commitment_by, is_coinbase, txids,
+};
 pub use fault::{BlockFault, BlockFaultKind};
 pub use feeding::txid;
 pub use genesis_block::genesis;
 pub use header::{Header, block_hash, genesis_header, parse_header, write_header};
-pub use laws::{laws_of_blocks, laws_of_headers, laws_of_transactions};
-pub use listed::Listed;
+pub use laws::{laws_of_blocks, laws_of_genesis, laws_of_headers, laws_of_transactions};
 pub use merkle::{is_mutated, merkle_root};
 pub use parse::{parse_block, parse_tx};
 pub use script::Script;
 pub use tx::{Block, OutPoint, Tx, TxIn, TxIns, TxOut, TxOuts, Txs};
 pub use write::{write_block, write_tx};
-
-#[cfg(test)]
-mod tests;

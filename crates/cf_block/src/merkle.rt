@@ -7,6 +7,14 @@ ghost use Rattle.cf_block.specs.Views.{bytes_of};
 use cf_bytes::Hash32;
 use sha2::{Digest, Sha256};
 
+// What one pass over a tree tells.
+#[derive(Clone, Copy)]
+pub(crate) struct Tree {
+    pub root: Hash32,
+    // Whether a level has a pair of equal hashes that are both really there.
+    pub is_doubled: bool,
+}
+
 /// The root of the Merkle tree over a level of hashes (Bitcoin developer reference, "Merkle Trees"): the hashes are
 /// joined in pairs, an odd last one with itself, and each pair is replaced by its hash, until one is left. The level
 /// holds at least one hash, and is spent. It takes no memory.
@@ -14,12 +22,7 @@ pub fn merkle_root(level: &mut [Hash32]) -> Hash32
     requires { 0 < length level.old }
     ensures { result.0 ≡ merkle_root_of (bytes_of level.old) }
 {
-    let mut n = level.len();
-    while n > 1 {
-        halve(level, n);
-        n = n.div_ceil(2);
-    }
-    level[0]
+    tree_over(level).root
 }
 
 /// Whether a level or one above it has a pair of equal hashes that are both really there, so that another list has
@@ -28,15 +31,26 @@ pub fn is_mutated(level: &mut [Hash32]) -> bool
     requires { 0 < length level.old }
     ensures { result ≡ mutated (bytes_of level.old) }
 {
+    tree_over(level).is_doubled
+}
+
+// Both at once: the root, and whether another list has it. The level is spent.
+pub(crate) fn tree_over(level: &mut [Hash32]) -> Tree
+    requires { 0 < length level.old }
+    ensures root { result.root.0 ≡ merkle_root_of (bytes_of level.old) }
+    ensures doubled { result.is_doubled ≡ mutated (bytes_of level.old) }
+{
     let mut n = level.len();
+    let mut is_doubled = false;
     while n > 1 {
-        if has_twins(&level[..n]) {
-            return true;
-        }
+        is_doubled |= has_twins(&level[..n]);
         halve(level, n);
         n = n.div_ceil(2);
     }
-    false
+    Tree {
+        root: level[0],
+        is_doubled,
+    }
 }
 
 // The first n hashes' next level takes their place.

@@ -1,5 +1,5 @@
 //! The readers of transactions and blocks.
-ghost use Rattle.std.specs.Prelude.{◌≡◌, ◌++◌, ◌<◌, ◌≤◌, ◌^◌, nat_abs, pos, ◌≤ℤ◌, length, [], IfOk, OnErr};
+ghost use Rattle.std.specs.Prelude.{◌≡◌, ◌/◌, ◌++◌, ◌<◌, ◌≤◌, min, ◌^◌, nat_abs, pos, ◌≤ℤ◌, length, [], IfOk, OnErr};
 ghost use Rattle.std.specs.Int.{w32, w64, to_le_bytes, cast_unsigned};
 ghost use Rattle.std.specs.List.{flat_map, AllByRecursion};
 ghost use Rattle.cf_bytes.specs.Cut.{Reads, Gives, int_at};
@@ -12,10 +12,9 @@ ghost use Rattle.cf_block.specs.Reading.{of_cut, of_header, u32_at, script_at, o
 
 use crate::fault::{BlockFault, BlockFaultKind};
 use crate::header::{Header, parse_header};
-use crate::listed::Listed;
 use crate::script::Script;
 use crate::tx::{Block, OutPoint, Tx, TxIn, TxIns, TxOut, TxOuts, Txs};
-use cf_bytes::{Cut, Hash32, Refused};
+use cf_bytes::{Cut, Hash32, Listed, Refused};
 use std::alloc::Global;
 
 /// The greatest value of an output.
@@ -23,6 +22,13 @@ const MAX_VALUE: u64 = 2_100_000_000_000_000;
 
 /// The most bytes of a block.
 const MAX_BLOCK: usize = 1_000_000;
+
+/// The fewest bytes of an input, of an output and of a transaction.
+const LEAST_INPUT: usize = 41;
+
+const LEAST_OUTPUT: usize = 9;
+
+const LEAST_TX: usize = 60;
 
 fn read_u32(cut: &mut Cut) -> Result<u32, BlockFaultKind>
     ensures exact { Reads (λ n. n) (u32_at cut.old) result cut.new }
@@ -63,8 +69,7 @@ fn read_script(alloc: Global, cut: &mut Cut) -> Result<Script, Refused<BlockFaul
     ensures fits { IfOk result (λ s. length s ≤ max_count) }
 {
     let bytes = read_counted(cut)?;
-    let mut script = Vec::new(alloc);
-    script.extend_from_slice(bytes)?;
+    let script = Vec::from_slice(alloc, bytes)?;
     Ok(Script::from_vec(script))
 }
 
@@ -158,12 +163,20 @@ fn read_count(none: BlockFaultKind, cut: &mut Cut) -> Result<u64, BlockFaultKind
     Ok(count)
 }
 
+// Room for as many items as the count says, and for no more than the bytes can hold: a count alone takes no memory.
+fn room(count: u64, rest: &[u8], least: usize) -> usize
+    requires { 1 ≤ least }
+    ensures { result ≡ min count (length rest.now / least) }
+{
+    usize::min(count as usize, rest.len() / least)
+}
+
 fn read_inputs(alloc: Global, count: u64, cut: &mut Cut) -> Result<TxIns, Refused<BlockFaultKind>>
     ensures exact { Gives (λ x. x) (list_at input_at count cut.old) result cut.new }
     ensures found { IfOk result (λ xs. cut.old ≡ flat_map input_spelling xs ++ cut.new) }
     ensures fits { IfOk result (λ xs. AllByRecursion IsInput xs × (length xs ≡ count)) }
 {
-    let mut items = Vec::new(alloc);
+    let mut items = Vec::with_capacity(alloc, room(count, cut.rest(), LEAST_INPUT))?;
     for _ in 0..count {
         let item = read_input(alloc, cut)?;
         items.push(item)?;
@@ -176,7 +189,7 @@ fn read_outputs(alloc: Global, count: u64, cut: &mut Cut) -> Result<TxOuts, Refu
     ensures found { IfOk result (λ xs. cut.old ≡ flat_map output_spelling xs ++ cut.new) }
     ensures fits { IfOk result (λ xs. AllByRecursion IsOutput xs × (length xs ≡ count)) }
 {
-    let mut items = Vec::new(alloc);
+    let mut items = Vec::with_capacity(alloc, room(count, cut.rest(), LEAST_OUTPUT))?;
     for _ in 0..count {
         let item = read_output(alloc, cut)?;
         items.push(item)?;
@@ -189,7 +202,7 @@ fn read_txs(alloc: Global, count: u64, cut: &mut Cut) -> Result<Txs, Refused<Blo
     ensures found { IfOk result (λ xs. cut.old ≡ flat_map tx_spelling xs ++ cut.new) }
     ensures fits { IfOk result (λ xs. AllByRecursion IsTx xs × (length xs ≡ count)) }
 {
-    let mut items = Vec::new(alloc);
+    let mut items = Vec::with_capacity(alloc, room(count, cut.rest(), LEAST_TX))?;
     for _ in 0..count {
         let item = read_tx(alloc, cut)?;
         items.push(item)?;

@@ -51,8 +51,7 @@ impl Script {
     pub fn copy(&self, alloc: Global) -> Result<Script, NoMemory>
         ensures { IfOk result (λ script. script ≡ self.now) }
     {
-        let mut bytes = Vec::new(alloc);
-        bytes.extend_from_slice(&self.bytes)?;
+        let bytes = Vec::from_slice(alloc, &self.bytes)?;
         Ok(Script { bytes })
     }
 }

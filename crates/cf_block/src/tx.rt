@@ -1,10 +1,10 @@
 //! Transactions and blocks, as values.
-ghost use Rattle.std.specs.Prelude.{◌≡◌, ◌≤◌};
+ghost use Rattle.std.specs.Prelude.{◌≡◌, ◌≤◌, IfOk};
 
 use crate::header::Header;
-use crate::listed::Listed;
 use crate::script::Script;
-use cf_bytes::Hash32;
+use cf_bytes::{Hash32, Listed, NoMemory};
+use std::alloc::Global;
 use std::marker::Model;
 
 /// An output, by the transaction's hash and its place there, counted from 0.
@@ -47,6 +47,17 @@ impl TxOut {
         ensures range { self.now.value ≤ 2100000000000000 }
     {
         self.value.unsigned_abs()
+    }
+
+    /// The same output again.
+    pub fn copy(&self, alloc: Global) -> Result<TxOut, NoMemory>
+        ensures { IfOk result (λ copy. copy ≡ self.now) }
+    {
+        let script = self.script.copy(alloc)?;
+        Ok(TxOut {
+            value: self.value,
+            script,
+        })
     }
 }
 

@@ -20,7 +20,7 @@ use Rattle.cf_msg.specs.Message.{IsEntry, HasSpelling, counted_list, entry_spell
 use Rattle.cf_msg.specs.Reading.{of_cut, hash_item_at, entry_at, entries_at, getdata_at, inv_at, of_block, block_message_at, filter_hashes_at, getcfilters_at, cfilter_at, getcfheaders_at, cfheaders_at, getcfcheckpt_at, cfcheckpt_at}
 use Rattle.cf_msg.proofs.Codecs.{of_cut_codec, hash_item_codec}
 use Rattle.cf_msg.proofs.Fields.{read_1, read_2, read_3, read_4, taken_1, taken_2, taken_3, taken_4, counted_codec}
-use Rattle.cf_msg.proofs.BlockTaken.{block_taken}
+use Rattle.cf_block.proofs.Taken.{block_taken}
 use Rattle.cf_msg.proofs.Rows.{IsRead, u32_cause, counted_cause}
 
 -- fields

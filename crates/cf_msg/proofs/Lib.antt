@@ -1,4 +1,3 @@
-pub mod BlockTaken
 pub mod Codecs
 pub mod Fields
 pub mod FilterRows

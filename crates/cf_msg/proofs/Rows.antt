@@ -10,6 +10,7 @@ use Rattle.cf_bytes.specs.Lists.{list_at, counted_bytes, counted_bytes_at}
 use Rattle.cf_bytes.proofs.Codecs.{IsBytes, Codec, bind_ok, bind_is, value_of, u32_codec, u64_codec, counted_bytes_codec, list_again, list_taken}
 use Rattle.cf_block.specs.declared.header.Header.{Header}
 use Rattle.cf_block.specs.Header.{IsHash, IsHeader}
+use Rattle.cf_block.proofs.HeaderTaken.{i32_codec, i64_codec}
 use Rattle.cf_msg.specs.declared.msg.NetAddress.{NetAddress}
 use Rattle.cf_msg.specs.declared.msg.Cause.{Cause}
 use Rattle.cf_msg.specs.declared.msg.Msg.{Msg}
@@ -17,7 +18,7 @@ use Rattle.cf_msg.specs.declared.msg.Msg.TheVariants.{Version, Ping, Pong, GetHe
 use Rattle.cf_msg.specs.Command.{version_command, ping_command, pong_command, getheaders_command, headers_command}
 use Rattle.cf_msg.specs.Message.{IsAddress, IsByteOrNone, HasSpelling, address_spelling, byte_or_none, hash_spelling, item_spelling, command_of, payload_of}
 use Rattle.cf_msg.specs.Reading.{of_cut, address_at, byte_or_none_at, version_at, ping_at, pong_at, count_at, hash_item_at, getheaders_at, header_item_at, headers_at}
-use Rattle.cf_msg.proofs.Codecs.{of_cut_codec, i32_codec, i64_codec, address_codec, hash_item_codec, item_codec, count_again, count_taken}
+use Rattle.cf_msg.proofs.Codecs.{of_cut_codec, address_codec, hash_item_codec, item_codec, count_again, count_taken}
 
 -- what is known where a row's payload was read
 pub record IsRead (name bytes : List ℕ) (m : Msg) (rest : List ℕ) : Type 0 where

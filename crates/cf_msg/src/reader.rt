@@ -298,7 +298,7 @@ fn inv_of(alloc: Global, cut: &mut Cut) -> Result<Msg, Refused<Cause>>
 }
 
 // A block takes all the bytes. Where it is refused the reader then stands at the refused field.
-#[tactic(auto, unfolding(crate::specs::Reading::block_message_at), using(crate::proofs::BlockTaken::block_place))]
+#[tactic(auto, unfolding(crate::specs::Reading::block_message_at), using(cf_block::proofs::Taken::block_place))]
 fn block_of(alloc: Global, cut: &mut Cut) -> Result<Msg, Refused<Cause>>
     ensures { Gives (λ m. m) (block_message_at cut.old) result cut.new }
 {

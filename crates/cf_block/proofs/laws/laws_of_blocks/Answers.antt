@@ -1,5 +1,6 @@
 use Rattle.cf_block.proofs.Again.{block_again}
 use Rattle.cf_block.proofs.Committed.{committed_one, passes, is_good}
+use Rattle.cf_block.proofs.Taken.{block_taken}
 use Rattle.cf_block.proofs.laws.laws_of_blocks.Goals as goal
 
 pub returns-clause-again : goal.returns-clause-again
@@ -13,3 +14,6 @@ returns-clause-passes c = passes
 
 pub returns-clause-good : goal.returns-clause-good
 returns-clause-good c = is_good
+
+pub returns-clause-taken : goal.returns-clause-taken
+returns-clause-taken c = block_taken

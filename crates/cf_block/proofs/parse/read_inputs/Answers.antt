@@ -24,5 +24,5 @@ returns-clause-exact c = rw c.from_vec.ensures (is_done input_at c.loop.items.it
 
 pub returns-in_err-item-clause-exact : goal.returns-in_err-item-clause-exact
 returns-in_err-item-clause-exact c =
-    let p = err_from_is_err_and c.from_residual.result c.from_residual.ensures.1 in
+    let p = err_from_is_err_and c.from_residual-in_err-item.result c.from_residual-in_err-item.ensures.1 in
     rw (p.1, p.2) (refused {X = TxIn} input_at c.loop.items.items c.args.count c.loop.counter c.loop.cut c.read_input.new.cut (list_at input_at c.args.count c.args.cut.now) c.in_err-item.field-0.0 c.loop-test.true c.in_err-item.ensures.exact c.loop.invariant.exact)

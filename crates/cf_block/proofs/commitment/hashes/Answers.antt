@@ -1,5 +1,5 @@
 use Rattle.cf_block.proofs.CommitLemmas.{one_txid}
-use Rattle.cf_block.proofs.commitment.txids.Goals as goal
+use Rattle.cf_block.proofs.commitment.hashes.Goals as goal
 
 pub loop-tx-preserved : goal.loop-tx-preserved
 loop-tx-preserved c = record {

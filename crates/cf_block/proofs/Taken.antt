@@ -1,4 +1,4 @@
--- A block that was read was spelled so, and the place of its fault.
+-- What is read as a transaction or a block was spelled so, and the place of a fault is within the bytes.
 use Rattle.std.proofs.Common.{◌≡◌, ℕ, FitsSigned, zero, suc, ◌<◌, ◌≤◌, ◌^◌, true, List, [], ◌∷◌, ◌++◌, length, nat_lt, Result, Ok, Err, refl, sym, ap, ◌∙◌, append_assoc, arith, inl, inr, lt-ltb, le-ltb, subst}
 use Rattle.std.proofs.lemmas.Bool.{cases_lt}
 use Rattle.std.proofs.lemmas.List.{append-nil}
@@ -6,7 +6,6 @@ use Rattle.std.proofs.Math.Dec.{eqb-suc-zero}
 use Rattle.std.specs.Int.{w32, w64, to_le_bytes, cast_unsigned}
 use Rattle.std.specs.List.{flat_map, AllByRecursion}
 use Rattle.cf_bytes.specs.declared.cut.CutFault.{CutFault}
-use Rattle.cf_bytes.specs.declared.hash.Hash32.{Hash32}
 use Rattle.cf_bytes.specs.Cut.{Read, number_at, int_at}
 use Rattle.cf_bytes.specs.Compact.{compact, compact_at}
 use Rattle.cf_bytes.specs.Lists.{list_at, counted_bytes, counted_bytes_at}
@@ -22,12 +21,10 @@ use Rattle.cf_block.specs.declared.tx.Block.{Block}
 use Rattle.cf_block.specs.Output.{Output, max_value}
 use Rattle.cf_block.specs.Header.{IsHash, IsHeader, hash_at, header_at, header_spelling}
 use Rattle.cf_block.specs.Tx.{IsInput, IsOutput, IsTx, IsBlock, max_count, max_block, input_spelling, output_spelling, tx_spelling, block_spelling}
-use Rattle.cf_block.specs.Reading.{of_cut, of_header, u32_at, script_at, outpoint_at, input_at, in_range, value_at, output_at, no_input, some_of, some_inputs, input_count_at, count_at, tx_fields_at, to_end, block_fields_at, short_block_at, placed, fault_at, block_at}
+use Rattle.cf_block.specs.Reading.{of_cut, of_header, u32_at, script_at, outpoint_at, input_at, in_range, value_at, output_at, no_input, some_of, some_inputs, input_count_at, count_at, tx_fields_at, to_end, block_fields_at, short_block_at, placed, fault_at, tx_at, block_at}
 use Rattle.cf_block.proofs.Again.{input_again, output_again, tx_fields_again}
 use Rattle.cf_block.proofs.Joins.{taken}
-use Rattle.cf_msg.specs.Message.{hash_spelling}
-use Rattle.cf_msg.proofs.Codecs.{i32_codec, hash_codec, header_taken}
-use Rattle.cf_msg.proofs.Fields.{taken_2}
+use Rattle.cf_block.proofs.HeaderTaken.{i32_codec, hash_codec, header_taken}
 
 -- fields of the reader, with their faults' names in a block
 
@@ -56,8 +53,8 @@ script_field = field_codec counted_bytes_at counted_bytes (λ text. length text 
 compact_field : Codec (λ bytes. of_cut (compact_at bytes)) compact (λ n. n ≤ max_count)
 compact_field = field_codec compact_at compact (λ n. n ≤ max_count) compact_codec
 
-hash_field : Codec (λ bytes. of_cut (hash_at bytes)) hash_spelling IsHash
-hash_field = field_codec hash_at hash_spelling IsHash hash_codec
+hash_field : Codec (λ bytes. of_cut (hash_at bytes)) (λ h. h.0) IsHash
+hash_field = field_codec hash_at (λ h. h.0) IsHash hash_codec
 
 -- inputs
 
@@ -70,9 +67,19 @@ IsOutpoint p = IsHash p.txid × (p.index < 2 ^ 32)
 outpoint_taken : (bytes : List ℕ) (p : OutPoint) (rest : List ℕ) → IsBytes bytes → outpoint_at bytes ≡ Ok (p, rest) → Takes bytes (outpoint_spelling p) rest × IsOutpoint p
 unfolding outpoint_at
 outpoint_taken bytes p rest fits e =
-    let make : Hash32 → ℕ → OutPoint = λ txid index. record { txid = txid; index = index } in
-    taken_2 hash_field u32_field make bytes p rest (λ q after. Takes bytes (outpoint_spelling q) after × IsOutpoint q) fits e
-    (λ txid index after t h i. (t, (h, i)))
+    let h = bind_ok (of_cut (hash_at bytes)) _ (p, rest) e in
+    let n = bind_ok (u32_at h.0.1) _ (p, rest) h.2 in
+    let th = hash_field.taken bytes h.0.0 h.0.1 fits h.1 in
+    let tn = u32_field.taken h.0.1 n.0.0 n.0.1 th.0.rest n.1 in
+    let read : OutPoint = record { txid = h.0.0; index = n.0.0 } in
+    let made : Read OutPoint BlockFaultKind = Ok (read, n.0.1) in
+    let both = value_of (read, n.0.1) (p, rest) made refl n.2 in
+    let P : OutPoint × List ℕ → Type 0 = λ q. Takes bytes (outpoint_spelling q.0) q.1 × IsOutpoint q.0 in
+    let txid = h.0.0.0 in
+    subst P both (
+      record { joined = th.0.joined ∙ ap (λ t. txid ++ t) tn.0.joined ∙ sym (append_assoc txid (to_le_bytes w32 n.0.0) n.0.1); rest = tn.0.rest },
+      (th.1, tn.1),
+    )
 
 input_joined : (b0 b1 b2 more a b c d : List ℕ) → b0 ≡ (a ++ b) ++ b1 → b1 ≡ c ++ b2 → b2 ≡ d ++ more → b0 ≡ (a ++ (b ++ (c ++ d))) ++ more
 input_joined b0 b1 b2 more a b c d e0 e1 e2 =
@@ -212,6 +219,14 @@ tx_taken bytes t rest fits e =
 tx_codec : Codec tx_fields_at tx_spelling IsTx
 tx_codec = record { again = tx_fields_again; taken = tx_taken }
 
+placed_ok : {X : Type 0} (bytes : List ℕ) (r : Read X BlockFaultKind) (x : X × List ℕ) → placed bytes r ≡ Ok x → r ≡ Ok x
+placed_ok {X} bytes (Ok y) x h = let made : Read X BlockFault = Ok y in ap Ok (value_of y x made refl h)
+placed_ok bytes (Err e) x h = cc
+
+pub tx_read : (bytes : List ℕ) (t : Tx) (rest : List ℕ) → IsBytes bytes → tx_at bytes ≡ Ok (t, rest) → (bytes ≡ tx_spelling t ++ rest) × IsTx t
+unfolding tx_at
+tx_read bytes t rest fits e = let x = tx_taken bytes t rest fits (placed_ok bytes (tx_fields_at bytes) (t, rest) e) in (x.0.joined, x.1)
+
 -- blocks
 
 header_ok : (r : Read Header BlockFault) (x : Header × List ℕ) → of_header r ≡ Ok x → r ≡ Ok x
@@ -258,10 +273,6 @@ fields_taken bytes b rest fits e =
       txs = tl.1;
     } in
     subst (λ (c : Block). IsBlockRead bytes c rest) end.0 whole
-
-placed_ok : (bytes : List ℕ) (r : Read Block BlockFaultKind) (x : Block × List ℕ) → placed bytes r ≡ Ok x → r ≡ Ok x
-placed_ok bytes (Ok y) x h = let made : Read Block BlockFault = Ok y in ap Ok (value_of y x made refl h)
-placed_ok bytes (Err e) x h = cc
 
 short_case : (bytes : List ℕ) (b : Block) (rest : List ℕ) → short_block_at bytes ≡ Ok (b, rest) → (block_fields_at bytes ≡ Ok (b, rest)) × (length bytes ≤ max_block)
 unfolding short_block_at
