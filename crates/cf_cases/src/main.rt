@@ -5,6 +5,8 @@
 mod chains;
 mod conversations;
 mod fields;
+mod filters;
+mod hashes;
 mod inputs;
 mod payloads;
 mod runs;
@@ -19,13 +21,23 @@ fn answer(alloc: Global, row: &str) -> Option<String> {
     let (kind, rest) = row.split_once(' ')?;
     match kind {
         "chain" => chains::answer(alloc, rest),
+        "compact" => hashes::compact(alloc, rest),
+        "fields" => hashes::fields(alloc, rest),
+        "filter" => filters::answer(alloc, rest),
+        "golomb" => filters::golomb(alloc, rest),
+        "hash" => hashes::answer(alloc, rest),
+        "items" => filters::items_left(alloc, rest),
+        "match" => filters::matched(alloc, rest),
+        "meets" => filters::met(alloc, rest),
         "mine" => chains::mined(alloc, rest),
         "payload" => payloads::answer(alloc, rest),
         "run" => runs::answer(alloc, rest),
         "serve" => conversations::answer(alloc, rest),
         "session" => inputs::session(alloc, rest),
+        "siphash" => filters::siphash(alloc, rest),
         "stream" => streams::answer(alloc, rest),
         "text" => inputs::text(alloc, rest),
+        "unhash" => hashes::unhash(alloc, rest),
         "watch" => inputs::watch(alloc, rest),
         "words" => inputs::words(alloc, rest),
         _ => None,

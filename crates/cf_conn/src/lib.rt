@@ -12,6 +12,3 @@ pub use in_memory::{MemoryConn, MemoryEnd, SliceSource};
 pub use reading::{ReadFail, read_all};
 pub use sending::send_all;
 pub use source::Source;
-
-#[cfg(test)]
-mod tests;

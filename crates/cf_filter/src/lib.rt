@@ -16,6 +16,3 @@ pub use hashes::{filter_hash, filter_header};
 pub use laws::{laws_of_filters, laws_of_items};
 pub use matching::matches;
 pub use set::Items;
-
-#[cfg(test)]
-mod tests;

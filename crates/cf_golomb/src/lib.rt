@@ -14,6 +14,3 @@ pub use laws::laws_of_sets;
 pub use meeting::meets;
 pub use reading::{count, decode};
 pub use writing::encode;
-
-#[cfg(test)]
-mod tests;

@@ -98,6 +98,3 @@ pub fn sip24(k0: u64, k1: u64, bytes: &[u8]) -> u64
     }
     state.absorb(last_word(bytes.len(), rest)).finish()
 }
-
-#[cfg(test)]
-mod tests;

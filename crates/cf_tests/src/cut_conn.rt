@@ -2,6 +2,7 @@
 ghost use Rattle.std.specs.Prelude.{◌≡◌, ℕ, ◌≤◌, ◌<◌, ◌||◌, [], length, take, drop, Some, IfOk, OnOk, OnErr};
 ghost use Rattle.cf_bytes.specs.Outside.{HasRisen, with_more};
 ghost use Rattle.cf_conn.specs.Source.{with_front, is_end};
+ghost use Rattle.cf_conn.specs.MemoryConn.{Writes};
 
 use cf_bytes::{Failed, Sink};
 use cf_conn::{Duplex, MemoryConn, MemoryEnd, Source};
@@ -67,6 +68,8 @@ impl Sink for CutConn {
     ghost written = { λ c. Some c.sink.bytes };
 
     ghost faults = { λ c. c.sink.plan.faults };
+
+    ghost writes = { Writes };
 
     fn write(&mut self, from: &[u8]) -> Result<usize, Failed> {
         self.send(from)

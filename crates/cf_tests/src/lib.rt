@@ -2,6 +2,10 @@
 #![tactic(auto)]
 
 #[cfg(test)]
+mod cf_bytes_tests;
+#[cfg(test)]
+mod cf_conn_tests;
+#[cfg(test)]
 mod cf_server_tests;
 #[cfg(test)]
 mod cut_conn;

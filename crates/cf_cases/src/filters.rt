@@ -1,0 +1,116 @@
+//! Hashes of items, codes of values, and filters.
+ghost use Rattle.cf_golomb.specs.Code.{HasSpelling};
+
+use crate::fields::{bytes_in, texts_in};
+use cf_block::{Block, Script, block_hash, parse_block};
+use cf_bytes::{Cut, Hash32, Refused};
+use cf_filter::{Items, build, filter_hash, filter_header, items, matches};
+use cf_golomb::{decode, encode, meets};
+use cf_siphash::sip24;
+use std::alloc::Global;
+
+/// SipHash-2-4 under the key of a row, of the bytes after it. The low byte comes first.
+pub(crate) fn siphash(alloc: Global, row: &str) -> Option<String> {
+    let (key, digits) = row.split_once(' ')?;
+    let key = bytes_in(alloc, key)?;
+    let mut cut = Cut::new(&key);
+    let (k0, k1) = (cut.u64().ok()?, cut.u64().ok()?);
+    let bytes = bytes_in(alloc, digits)?;
+    hex::encode(alloc, &sip24(k0, k1, &bytes).to_le_bytes()).ok()
+}
+
+// Values and their code.
+fn coded(alloc: Global, values: &[u64]) -> Option<String>
+    requires { HasSpelling values.now }
+{
+    let code = encode(alloc, values).ok()?;
+    let digits = hex::encode(alloc, &code).ok()?;
+    format!(in alloc; "{values:?} {digits}").ok()
+}
+
+/// The values that the bytes of a row are read as, and their code; or the first fault.
+pub(crate) fn golomb(alloc: Global, row: &str) -> Option<String> {
+    match decode(alloc, &bytes_in(alloc, row)?) {
+        Ok(values) => coded(alloc, &values),
+        Err(Refused::No(fault)) => format!(in alloc; "{fault:?}").ok(),
+        Err(Refused::NoMemory) => None,
+    }
+}
+
+/// Whether a number is among the values of the bytes of a row, or the first fault.
+pub(crate) fn met(alloc: Global, row: &str) -> Option<String> {
+    let (digits, number) = row.split_once(' ')?;
+    let query: u64 = number.parse().ok()?;
+    let answer = meets(&bytes_in(alloc, digits)?, &[query]);
+    format!(in alloc; "{answer:?}").ok()
+}
+
+// The scripts of a field, parted by commas. `none` is no script.
+fn scripts_in(alloc: Global, field: &str) -> Option<Vec<Script>> {
+    let mut scripts = Vec::new(alloc);
+    if field == "none" {
+        return Some(scripts);
+    }
+    for digits in &texts_in(alloc, field, ',')? {
+        scripts
+            .push(Script::from_vec(bytes_in(alloc, digits)?))
+            .ok()?;
+    }
+    Some(scripts)
+}
+
+// The scripts of a set, each after a space.
+fn shown(alloc: Global, set: &Items) -> Option<String> {
+    let mut text = String::from_str(alloc, "items").ok()?;
+    for script in set.as_slice() {
+        text.push(' ').ok()?;
+        text.push_str(&hex::encode(alloc, script).ok()?).ok()?;
+    }
+    Some(text)
+}
+
+/// The items of a block whose inputs spend these scripts, without the last scripts of the row.
+pub(crate) fn items_left(alloc: Global, row: &str) -> Option<String> {
+    let (block, scripts) = row.split_once(' ')?;
+    let (spent, left_out) = scripts.split_once(' ')?;
+    let block = parse_block(alloc, &bytes_in(alloc, block)?).ok()?;
+    let set = items(alloc, &block, &scripts_in(alloc, spent)?).ok()?;
+    let left = set.without(alloc, &scripts_in(alloc, left_out)?).ok()?;
+    shown(alloc, &left)
+}
+
+// The filter of a block, and its hash and its header after this one.
+fn filtered(alloc: Global, block: &Block, spent: &[Script], before: &Hash32) -> Option<String> {
+    let set = items(alloc, block, spent).ok()?;
+    if set.len() > 1000 {
+        return None;
+    }
+    let filter = build(alloc, &block_hash(&block.header), &set).ok()?;
+    let hash = filter_hash(&filter);
+    let header = filter_header(&hash, before);
+    let digits = hex::encode(alloc, &filter).ok()?;
+    let hash = hex::encode(alloc, &hash.0).ok()?;
+    let header = hex::encode(alloc, &header.0).ok()?;
+    format!(in alloc; "{digits} {hash} {header}").ok()
+}
+
+/// The filter of a block whose inputs spend these scripts, its hash, and its header after that of a row,
+/// all in wire order.
+pub(crate) fn answer(alloc: Global, row: &str) -> Option<String> {
+    let (block, scripts) = row.split_once(' ')?;
+    let (spent, before) = scripts.split_once(' ')?;
+    let block = parse_block(alloc, &bytes_in(alloc, block)?).ok()?;
+    let before = Hash32(Cut::new(&bytes_in(alloc, before)?).array().ok()?);
+    filtered(alloc, &block, &scripts_in(alloc, spent)?, &before)
+}
+
+/// Whether a filter under a block's hash matches one of the scripts of a row, or the first fault.
+pub(crate) fn matched(alloc: Global, row: &str) -> Option<String> {
+    let (hash, rest) = row.split_once(' ')?;
+    let (filter, scripts) = rest.split_once(' ')?;
+    let hash = Hash32(Cut::new(&bytes_in(alloc, hash)?).array().ok()?);
+    let scripts = scripts_in(alloc, scripts)?;
+    let mut scratch = vec![in alloc; 0u64; scripts.len()].ok()?;
+    let answer = matches(&hash, &bytes_in(alloc, filter)?, &scripts, &mut scratch);
+    format!(in alloc; "{answer:?}").ok()
+}
