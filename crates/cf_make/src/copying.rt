@@ -20,22 +20,12 @@ fn copy_inputs(alloc: Global, inputs: &[TxIn]) -> Result<TxIns, NoMemory>
     Ok(copy)
 }
 
-fn copy_output(alloc: Global, output: &TxOut) -> Result<TxOut, NoMemory>
-    ensures { IfOk result (λ copy. copy ≡ output.now) }
-{
-    let script = output.script.copy(alloc)?;
-    Ok(TxOut {
-        value: output.value,
-        script,
-    })
-}
-
 fn copy_outputs(alloc: Global, outputs: &[TxOut]) -> Result<TxOuts, NoMemory>
     ensures { IfOk result (λ copy. copy ≡ outputs.now) }
 {
     let mut copy = Listed::new(alloc);
     for output in outputs {
-        let one = copy_output(alloc, output)?;
+        let one = output.copy(alloc)?;
         copy.push(one)?;
     }
     Ok(copy)

@@ -2,12 +2,11 @@
 ghost use Rattle.std.specs.Prelude.{◌≡◌, ◌≤◌, ◌<◌, ◌+◌, ◌^◌, ◌∷◌, [], map, length, IfOk};
 ghost use Rattle.cf_block.specs.Tx.{tx_spelling};
 ghost use Rattle.cf_block.specs.Merkle.{merkle_root_of, txids as txids_of};
-ghost use Rattle.cf_block.specs.Views.{bytes_of};
 ghost use Rattle.cf_chain.specs.Good.{max_height};
 ghost use Rattle.cf_make.specs.Made.{seed_limit, mark_of, coinbase_of, second_of, seconds_of, made_txs};
 
 use crate::paying::pay;
-use cf_block::{Listed, OutPoint, Script, Tx, TxIn, TxIns, TxOuts, Txs, merkle_root, txid};
+use cf_block::{Listed, OutPoint, Script, Tx, TxIn, TxIns, TxOuts, Txs, merkle_root, txids};
 use cf_bytes::{Hash32, NoMemory};
 use std::alloc::Global;
 
@@ -106,23 +105,11 @@ pub(crate) fn make_txs(
     }
 }
 
-// The transactions' hashes, in order.
-fn txids(alloc: Global, txs: &[Tx]) -> Result<Vec<Hash32>, NoMemory>
-    ensures { IfOk result (λ v. bytes_of v.items ≡ txids_of (map tx_spelling txs.now)) }
-{
-    let mut hashes = Vec::new(alloc);
-    for tx in txs {
-        let hash = txid(tx);
-        hashes.push(hash)?;
-    }
-    Ok(hashes)
-}
-
 // The root of the tree over the transactions' hashes.
 pub(crate) fn root_of(alloc: Global, txs: &[Tx]) -> Result<Hash32, NoMemory>
     requires { 0 < length txs.now }
     ensures { IfOk result (λ r. r.0 ≡ merkle_root_of (txids_of (map tx_spelling txs.now))) }
 {
-    let mut level = txids(alloc, txs)?;
+    let mut level = txids(alloc, txs)?.into_vec();
     Ok(merkle_root(level.as_mut_slice()))
 }

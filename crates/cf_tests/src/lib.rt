@@ -2,6 +2,8 @@
 #![tactic(auto)]
 
 #[cfg(test)]
+mod cf_block_tests;
+#[cfg(test)]
 mod cf_bytes_tests;
 #[cfg(test)]
 mod cf_conn_tests;
