@@ -1,0 +1,4 @@
+pub mod AddressLemmas
+pub mod AlphabetLemmas
+pub mod BitLemmas
+pub mod ChecksumLemmas

@@ -1,0 +1,7 @@
+pub mod Address
+pub mod Alphabet
+pub mod Bits
+pub mod Checksum
+pub mod Faults
+pub mod Steps
+pub mod Witness
