@@ -51,7 +51,8 @@ fn files_of_the_system(rt: HostRuntime) -> Result<(), Fail> {
         .write(rt.alloc(), name, b"abc")
         .ok()
         .ok_or("not written")?;
-    let rows = "3 Ok([97, 98, 99]) false\n9 Ok([97, 98, 99]) false\n2 Err(TooBig) false\n0 Err(TooBig) false";
+    let rows =
+        "3 Ok([97, 98, 99]) false\n9 Ok([97, 98, 99]) false\n2 Err(TooBig) false\n0 Err(TooBig) false";
     for row in rows.lines() {
         let (most, wanted) = row.split_once(' ').ok_or("no row")?;
         let most: usize = most.parse().ok().ok_or("no number")?;
