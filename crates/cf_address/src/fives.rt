@@ -1,5 +1,5 @@
 //! Bits in groups of another size.
-ghost use Rattle.std.specs.Prelude.{◌≡◌, ◌++◌, ◌<◌, ◌≤◌, ◌^◌, ◌+◌, ◌-◌, ◌*◌, ◌/◌, IfOk};
+ghost use Rattle.std.specs.Prelude.{◌≡◌, ◌++◌, ◌<◌, ◌≤◌, ◌^◌, ◌+◌, ◌-◌, ◌*◌, ◌/◌, ◌⊎◌, MatchBool, IfOk};
 ghost use Rattle.cf_address.specs.Bits.{bits_of, all_bits, AreBelow, AreFivesOf};
 ghost use Rattle.cf_address.specs.Steps.{GivesBytes};
 
@@ -118,8 +118,15 @@ pub(crate) fn bytes_of(alloc: Global, fives: &[u8]) -> Result<Vec<u8>, Refused<A
     ensures { GivesBytes fives.now result }
 {
     let Regrouped { whole, word, n } = regroup(alloc, fives, 5, 8)?;
-    if n > 4 || word != 0 {
+    if !is_padding(word, n) {
         return Err(Refused::No(AddressFault::Padding));
     }
     Ok(whole)
+}
+
+// Whether n bits are left over as they may be: at most four, which are zeros.
+fn is_padding(word: u32, n: u32) -> bool
+    ensures { MatchBool result ((n ≤ 4) × (word ≡ 0)) ((4 < n) ⊎ (0 < word)) }
+{
+    n <= 4 && word == 0
 }

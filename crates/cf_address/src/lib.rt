@@ -13,7 +13,7 @@ mod writing;
 
 pub use fault::AddressFault;
 pub use laws::laws_of_addresses;
-pub use reading::read;
+pub use reading::{is_prefix, read};
 pub use scripts::{program, script};
 pub use witness::Program;
 pub use writing::write;

@@ -3,7 +3,7 @@ ghost use Rattle.std.specs.Prelude.{◌≡◌, ◌==◌, [], IsTrue, MatchOption
 ghost use Rattle.std.specs.List.{list_all, list_any};
 ghost use Rattle.std.specs.Char.{is_ascii_graphic, is_ascii_lowercase, is_ascii_uppercase};
 ghost use Rattle.cf_address.specs.Bits.{AreBelow};
-ghost use Rattle.cf_address.specs.Address.{is_prefix};
+ghost use Rattle.cf_address.specs.Address.{is_prefix as may_begin};
 ghost use Rattle.cf_address.specs.Faults.{text_fault as fault_of, data_after as letters_after, is_mixed as has_both, Reads};
 ghost use Rattle.cf_address.specs.Steps.{GivesValues, GivesProgram};
 
@@ -15,14 +15,28 @@ use crate::witness::Program;
 use cf_bytes::Refused;
 use std::alloc::Global;
 
-/// The program that a text is an address of, on the network whose addresses begin with this prefix: 1
-/// to 10 lower-case letters.
+/// Whether addresses of a network may begin with this text: 1 to 10 lower-case letters of ASCII.
+pub fn is_prefix(text: &str) -> bool
+    ensures { result ≡ may_begin text.now }
+{
+    let bytes = text.as_bytes();
+    !bytes.is_empty() && bytes.len() <= 10 && is_small(bytes)
+}
+
+fn is_small(text: &[u8]) -> bool
+    ensures { result ≡ list_all is_ascii_lowercase text.now }
+{
+    text.iter().all(|b| b.is_ascii_lowercase())
+}
+
+/// The program that a text is an address of, on the network whose addresses begin with this prefix
+/// (`is_prefix`).
 ///
 /// # Errors
 ///
 /// Where it is no address: the first of the faults that holds, in the order of `AddressFault`.
 pub fn read(alloc: Global, prefix: &str, text: &str) -> Result<Program, Refused<AddressFault>>
-    requires { IsTrue (is_prefix prefix.now) }
+    requires { IsTrue (may_begin prefix.now) }
     ensures { Reads prefix.now text.now result }
 {
     let text = text.as_bytes();

@@ -15,8 +15,8 @@ use crate::witness::Program;
 use cf_bytes::NoMemory;
 use std::alloc::Global;
 
-/// The address of a program, in lower case, on the network whose addresses begin with this prefix: 1 to
-/// 10 lower-case letters.
+/// The address of a program, in lower case, on the network whose addresses begin with this prefix
+/// (`is_prefix`).
 pub fn write(alloc: Global, prefix: &str, program: &Program) -> Result<String, NoMemory>
     requires { IsTrue (is_prefix prefix.now) }
     ensures address { IfOk result (λ text. IsAddressOf prefix.now program.now (string_bytes text)) }

@@ -2,6 +2,7 @@
 //! A row that begins with `#` is a remark, and is printed as it is. A row that can't be read, or for which no memory is found, comes to `?`.
 #![tactic(auto)]
 
+mod addresses;
 mod chains;
 mod conversations;
 mod fields;
@@ -20,6 +21,7 @@ use std::process::ExitCode;
 fn answer(alloc: Global, row: &str) -> Option<String> {
     let (kind, rest) = row.split_once(' ')?;
     match kind {
+        "address" => addresses::answer(alloc, rest),
         "chain" => chains::answer(alloc, rest),
         "compact" => hashes::compact(alloc, rest),
         "fields" => hashes::fields(alloc, rest),
