@@ -3,9 +3,9 @@
 #![tactic(auto)]
 
 use cf_block::Script;
-use cf_bytes::{Files, NoMemory, StdFiles};
+use cf_bytes::{Files, Hash32, NoMemory, StdFiles};
 use cf_filter::matches;
-use cf_index::{BlockFilter, all_filters, read_chain};
+use cf_index::{CheckedChain, Index, read_chain};
 use std::alloc::Global;
 use std::env;
 use std::process::ExitCode;
@@ -24,42 +24,44 @@ fn scripts_of(alloc: Global, count: u64) -> Result<Vec<Script>, NoMemory> {
     Ok(scripts)
 }
 
-// Whether a block's filter matches one of the scripts.
-fn is_match(alloc: Global, filter: &BlockFilter, scripts: &[Script]) -> Result<bool, NoMemory> {
+// Whether the filter of the block with this hash matches one of the scripts.
+fn is_match(
+    alloc: Global,
+    block: &Hash32,
+    filter: &[u8],
+    scripts: &[Script],
+) -> Result<bool, NoMemory> {
     let mut scratch = vec![in alloc; 0u64; scripts.len()]?;
-    Ok(
-        matches(
-            &filter.block,
-            filter.filter.as_slice(),
-            scripts,
-            &mut scratch,
-        ) == Ok(true),
-    )
+    Ok(matches(block, filter, scripts, &mut scratch) == Ok(true))
 }
 
-fn count_matches(
-    alloc: Global,
-    filters: &[BlockFilter],
-    scripts: &[Script],
-) -> Result<u64, NoMemory> {
+// How many of the filters match, from genesis's to the tip's.
+fn count_matches(alloc: Global, index: &Index, scripts: &[Script]) -> Result<u64, NoMemory> {
     let mut hits = 0u64;
-    for filter in filters {
-        if is_match(alloc, filter, scripts)? {
+    for height in 0..=index.tip() {
+        let (Some(block), Some(filter)) = (index.hash(height), index.filter(height)) else {
+            continue;
+        };
+        if is_match(alloc, &block, filter, scripts)? {
             hits = hits.saturating_add(1);
         }
     }
     Ok(hits)
 }
 
+// The chain in a file, whose bytes are let go then.
+fn load(alloc: Global, bytes: Vec<u8>) -> Option<CheckedChain> {
+    read_chain(alloc, &bytes).ok()
+}
+
 // The number of filters that match, and of all filters.
-fn measured(rt: &HostRuntime, name: &str, count: u64) -> Option<(u64, usize)> {
+fn measured(rt: &HostRuntime, name: &str, count: u64) -> Option<(u64, u64)> {
     let alloc = rt.alloc();
     let bytes = StdFiles::new(rt).read(alloc, name, MOST_BLOCKS).ok()?;
-    let blocks = read_chain(alloc, &bytes).ok()?;
-    let filters = all_filters(alloc, &blocks).ok()?;
+    let index = Index::of(alloc, load(alloc, bytes)?).ok()?;
     let scripts = scripts_of(alloc, count).ok()?;
-    let hits = count_matches(alloc, filters.as_slice(), &scripts).ok()?;
-    Some((hits, filters.len()))
+    let hits = count_matches(alloc, &index, &scripts).ok()?;
+    Some((hits, u64::from(index.tip()) + 1))
 }
 
 // The words behind the program's name.

@@ -1,7 +1,6 @@
 //! The program: its answers, what it writes, and what is promised of its runs.
 #![tactic(auto)]
 
-mod file_bytes;
 mod following;
 mod loading;
 mod own_texts;

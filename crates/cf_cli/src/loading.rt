@@ -9,12 +9,11 @@ ghost use Rattle.cf_input.specs.SessionFile.{session_of};
 ghost use Rattle.cf_input.specs.Sessions.{script_in, AreNamed};
 ghost use Rattle.cf_input.specs.WatchFile.{watch_of};
 ghost use Rattle.cf_peer.specs.Log.{is_real};
-ghost use Rattle.cf_cli.specs.Statuses.{IsReadAs, IsUnread, IsOfFile, IsRefusal, most_blocks, watch_verdict, session_verdict, blocks_read, blocks_verdict};
+ghost use Rattle.cf_cli.specs.Statuses.{IsReadAs, IsUnread, IsOfFile, IsRefusal, watch_verdict, session_verdict, blocks_read, blocks_verdict};
 
-use crate::file_bytes::FileBytes;
 use crate::status::{FileCause, Status, Which};
 use cf_bytes::{FileFail, Files, Refused};
-use cf_index::{Index, LoadFault};
+use cf_index::{CheckedChain, read_chain};
 use cf_input::{Session, read_session, read_watch};
 use cf_scan::Watch;
 use std::alloc::Global;
@@ -81,6 +80,7 @@ pub(crate) fn load_session<F: Files>(
     ensures named { IfOk result AreNamed }
     ensures few { IfOk result (λ s. length s.dials.items ≤ 8) }
     ensures real { IfOk result (λ s. list_all is_real s.deliveries.items ≡ true) }
+    ensures same { F.files files.new ≡ F.files files.old }
     ensures fault { IsErrOf result Status.FileFault → HasRisen (F.faults files.old) (F.faults files.new) }
     ensures only { IfErr result IsOfFile }
 {
@@ -98,41 +98,39 @@ pub(crate) fn load_session<F: Files>(
     }
 }
 
-// The index of the chain in the bytes of a file.
-fn index_of(alloc: Global, bytes: &[u8]) -> Result<Index, Status>
-    requires { length bytes.now ≤ most_blocks }
-    ensures answer { IsReadAs (blocks_read (blocks_at bytes.now)) result }
-    ensures blocks { IfOk result (λ b. blocks_at bytes.now ≡ Ok b) }
+// The chain in the bytes of a file, which are let go then.
+fn chain_of(alloc: Global, bytes: Vec<u8>) -> Result<CheckedChain, Status>
+    ensures answer { IsReadAs (blocks_read (blocks_at bytes.items)) result }
+    ensures blocks { IfOk result (λ b. blocks_at bytes.items ≡ Ok b) }
     ensures good { IfOk result (λ b. IsGoodChain b) }
     ensures only { IfErr result IsRefusal }
 {
-    let mut source = FileBytes::new(alloc, bytes);
-    match Index::load(alloc, &mut source) {
-        Ok(index) => Ok(index),
-        Err(LoadFault::BadBlock(bad)) => Err(Status::BadFile {
+    match read_chain(alloc, &bytes) {
+        Ok(chain) => Ok(chain),
+        Err(Refused::No(bad)) => Err(Status::BadFile {
             which: Which::Blocks,
             place: bad.number,
             cause: FileCause::Blocks(bad.cause),
         }),
-        Err(LoadFault::NoMemory) => Err(Status::NoMemory),
-        Err(LoadFault::TooBig | LoadFault::ReadFault) => unreachable!(),
+        Err(Refused::NoMemory) => Err(Status::NoMemory),
     }
 }
 
-/// Reads a chain of blocks, with its filters.
-pub(crate) fn load_index<F: Files>(
+/// Reads a chain of blocks, and checks it.
+pub(crate) fn load_chain<F: Files>(
     alloc: Global,
     files: &mut F,
     name: &str,
-) -> Result<Index, Status>
+) -> Result<CheckedChain, Status>
     ensures answer { IfSome (F.files files.old) (λ m. IsReadAs (blocks_verdict (finite.get m name.now)) result) }
     ensures blocks { IfOk result (λ b. IfSome (F.files files.old) (λ m. IfSome (finite.get m name.now) (λ bytes. blocks_at bytes ≡ Ok b))) }
     ensures good { IfOk result (λ b. IsGoodChain b) }
+    ensures same { F.files files.new ≡ F.files files.old }
     ensures fault { IsErrOf result Status.FileFault → HasRisen (F.faults files.old) (F.faults files.new) }
     ensures only { IfErr result IsOfFile }
 {
     match files.read(alloc, name, MOST_BLOCKS) {
-        Ok(bytes) => index_of(alloc, &bytes),
+        Ok(bytes) => chain_of(alloc, bytes),
         Err(fail) => Err(unread(fail, Which::Blocks)),
     }
 }

@@ -8,20 +8,20 @@ ghost use Rattle.cf_chain.specs.Filters.{filter_at as filter_in};
 ghost use Rattle.cf_cli.specs.Reading.{scan_text, named_line, filter_text, IsWritten, IsScanned, IsFiltered, IsOfText, IsOfFilter, IsOfHeight, TellsHeight};
 ghost use Rattle.cf_cli.specs.Statuses.{IsJudged, and_then, watch_verdict, blocks_verdict};
 
-use crate::loading::{load_index, load_watch};
+use crate::loading::{load_chain, load_watch};
 use crate::status::Status;
 use cf_bytes::{Files, Hash32, NoMemory, Sink, put_all, show};
-use cf_index::Index;
+use cf_index::{CheckedChain, Index};
 use cf_scan::{Watch, scan as scan_blocks};
 use std::alloc::Global;
 
 // The history of the watched scripts, and the tip.
-fn text_of_scan(alloc: Global, index: &Index, watch: &Watch) -> Result<String, NoMemory>
-    ensures { IfOk result (λ text. string_bytes text ≡ scan_text watch.now index.now) }
+fn text_of_scan(alloc: Global, chain: &CheckedChain, watch: &Watch) -> Result<String, NoMemory>
+    ensures { IfOk result (λ text. string_bytes text ≡ scan_text watch.now chain.now) }
 {
-    let tip = index.tip();
-    let history = scan_blocks(alloc, index.blocks(), watch)?;
-    history.text(alloc, tip, &index.tip_hash())
+    let tip = chain.tip();
+    let history = scan_blocks(alloc, chain.blocks(), watch)?;
+    history.text(alloc, tip, &chain.tip_hash())
 }
 
 // Bytes as lower-case hexadecimal digits.
@@ -113,11 +113,11 @@ pub(crate) fn scan<F: Files, O: Sink>(
         Ok(watch) => watch,
         Err(status) => return status,
     };
-    let index = match load_index(alloc, files, file) {
-        Ok(index) => index,
+    let chain = match load_chain(alloc, files, file) {
+        Ok(chain) => chain,
         Err(status) => return status,
     };
-    match text_of_scan(alloc, &index, &watch) {
+    match text_of_scan(alloc, &chain, &watch) {
         Ok(text) => write(text.as_bytes(), out),
         Err(NoMemory) => Status::NoMemory,
     }
@@ -136,9 +136,22 @@ pub(crate) fn filter<F: Files, O: Sink>(
     ensures file_fault { result ≡ Status.FileFault → HasRisen (F.faults files.old) (F.faults files.new) }
     ensures out_fault { result ≡ Status.OutFault → HasRisen (O.faults out.old) (O.faults out.new) }
 {
-    match load_index(alloc, files, file) {
-        Ok(index) => write_filter(alloc, &index, height, out),
+    match load_chain(alloc, files, file) {
+        Ok(chain) => filter_in(alloc, chain, height, out),
         Err(status) => status,
+    }
+}
+
+// Writes the lines of the block at a height of a chain, whose filters are built first.
+fn filter_in<O: Sink>(alloc: Global, chain: CheckedChain, height: u32, out: &mut O) -> Status
+    ensures told { TellsHeight result (O.written out.old) (O.written out.new) chain height (nat_lt (length chain) height) }
+    ensures answers { IsOfFilter result (O.written out.old) (O.written out.new) }
+    ensures fault { result ≡ Status.OutFault → HasRisen (O.faults out.old) (O.faults out.new) }
+    ensures ends { IsOfHeight result }
+{
+    match Index::of(alloc, chain) {
+        Ok(index) => write_filter(alloc, &index, height, out),
+        Err(NoMemory) => Status::NoMemory,
     }
 }
 

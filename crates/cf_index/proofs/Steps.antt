@@ -3,7 +3,7 @@ use Rattle.std.proofs.Common.{◌≡◌, ℕ, suc, ◌+◌, ◌<◌, true, false
 use Rattle.std.specs.Prelude.{fold, is_some, IsTrue, not, ◌||◌, if◌then◌else◌, option_to_list}
 use Rattle.std.specs.List.{list_any}
 use Rattle.std.proofs.Math.Seq.{drop-cons}
-use Rattle.std.proofs.lemmas.List.{append_assoc}
+use Rattle.std.proofs.lemmas.List.{append_assoc, map-append}
 use Rattle.std.specs.FinMap.{get, insert, remove}
 use Rattle.cf_bytes.specs.Cut.{◌>>=◌}
 use Rattle.cf_bytes.specs.declared.memory.Refused.{Refused}
@@ -19,7 +19,7 @@ use Rattle.cf_chain.specs.Coins.{CoinMap, without, with_outputs, after_tx, spent
 use Rattle.cf_chain.specs.Good.{AllStand, NoneStands, IsGoodTx, AreGoodTxs, NoCoinbases, HasOneCoinbase}
 use Rattle.cf_index.specs.declared.cause.CoinFault.{CoinFault}
 use Rattle.cf_index.specs.declared.cause.CoinFault.TheVariants.{NoCoinbase, SecondCoinbase, Exists}
-use Rattle.cf_index.specs.Spending.{prevs, found, take_all, put_all, spend, spend_all, coinbase_fault, unless_fault, spend_txs, Refuses}
+use Rattle.cf_index.specs.Spending.{prevs, scripts_of, found, take_all, put_all, spend, spend_all, coinbase_fault, unless_fault, spend_txs, Refuses}
 
 pub inputs_more : (coins : CoinMap) (ins : List TxIn) (i : ℕ) (d : TxIn) → i < length ins
     → take_all coins (prevs (drop i ins)) ≡ (found (get_or ins i d).prev (get coins (get_or ins i d).prev) (remove coins (get_or ins i d).prev) >>= λ c. take_all c (prevs (drop (i + 1) ins)))
@@ -168,25 +168,27 @@ spend_is coins c t h = ap (λ r. r >>= λ c. put_all (txid_of t) 0 c t.outputs) 
 
 -- ---- what was spent
 
-pub inputs_spent : (front all : List Output) (coins : CoinMap) (ins : List TxIn) (i : ℕ) (d : TxIn) (o : Output) → i < length ins → get coins (get_or ins i d).prev ≡ Some o
-    → front ++ spent_of coins (prevs (drop i ins)) ≡ all
-    → (front ++ o ∷ []) ++ spent_of (remove coins (get_or ins i d).prev) (prevs (drop (i + 1) ins)) ≡ all
+pub inputs_spent : (front all : List (List ℕ)) (coins : CoinMap) (ins : List TxIn) (i : ℕ) (d : TxIn) (o : Output) → i < length ins → get coins (get_or ins i d).prev ≡ Some o
+    → front ++ scripts_of (spent_of coins (prevs (drop i ins))) ≡ all
+    → (front ++ o.script ∷ []) ++ scripts_of (spent_of (remove coins (get_or ins i d).prev) (prevs (drop (i + 1) ins))) ≡ all
 inputs_spent front all coins ins i d o lt is so_far =
     let p : OutPoint = (get_or ins i d).prev in
     let rest : List Output = spent_of (remove coins p) (prevs (drop (i + 1) ins)) in
     let step : spent_of coins (prevs (drop i ins)) ≡ option_to_list (get coins p) ++ rest = rw (add-one, drop-cons ins i d) refl in
     let one : option_to_list (get coins p) ++ rest ≡ o ∷ rest = ap (λ x. option_to_list x ++ rest) is in
-    append_assoc front (o ∷ []) rest ∙ ap (λ l. front ++ l) (sym (step ∙ one)) ∙ so_far
+    append_assoc front (o.script ∷ []) (scripts_of rest) ∙ ap (λ l. front ++ scripts_of l) (sym (step ∙ one)) ∙ so_far
 
-pub txs_spent : (front more all : List Output) (coins new : CoinMap) (t : Tx) (ts : List Tx) (i : ℕ) → i < length ts → t ≡ get_or ts i t → spend coins t ≡ Ok new
-    → more ≡ front ++ spent_of coins (spends_of t)
-    → front ++ spent_by coins (drop i ts) ≡ all
-    → more ++ spent_by new (drop (i + 1) ts) ≡ all
+pub txs_spent : (front more all : List (List ℕ)) (coins new : CoinMap) (t : Tx) (ts : List Tx) (i : ℕ) → i < length ts → t ≡ get_or ts i t → spend coins t ≡ Ok new
+    → more ≡ front ++ scripts_of (spent_of coins (spends_of t))
+    → front ++ scripts_of (spent_by coins (drop i ts)) ≡ all
+    → more ++ scripts_of (spent_by new (drop (i + 1) ts)) ≡ all
 txs_spent front more all coins new t ts i lt is h e so_far =
     let step : spent_by coins (drop i ts) ≡ spent_of coins (spends_of (get_or ts i t)) ++ spent_by (after_tx coins (get_or ts i t)) (drop (i + 1) ts) = rw (add-one, drop-cons ts i t) refl in
     let same : spent_of coins (spends_of (get_or ts i t)) ++ spent_by (after_tx coins (get_or ts i t)) (drop (i + 1) ts) ≡ spent_of coins (spends_of t) ++ spent_by (after_tx coins t) (drop (i + 1) ts) =
     ap (λ (x : Tx). spent_of coins (spends_of x) ++ spent_by (after_tx coins x) (drop (i + 1) ts)) (sym is) in
     let after : spent_by new (drop (i + 1) ts) ≡ spent_by (after_tx coins t) (drop (i + 1) ts) = ap (λ (c : CoinMap). spent_by c (drop (i + 1) ts)) (spend_gave coins new t h).1 in
-    ap (λ l. l ++ spent_by new (drop (i + 1) ts)) e ∙ ap (λ l. (front ++ spent_of coins (spends_of t)) ++ l) after
-    ∙ append_assoc front (spent_of coins (spends_of t)) (spent_by (after_tx coins t) (drop (i + 1) ts))
-    ∙ ap (λ l. front ++ l) (sym (step ∙ same)) ∙ so_far
+    let rest : List Output = spent_by (after_tx coins t) (drop (i + 1) ts) in
+    ap (λ l. l ++ scripts_of (spent_by new (drop (i + 1) ts))) e ∙ ap (λ (l : List Output). (front ++ scripts_of (spent_of coins (spends_of t))) ++ scripts_of l) after
+    ∙ append_assoc front (scripts_of (spent_of coins (spends_of t))) (scripts_of rest)
+    ∙ ap (λ l. front ++ l) (sym (map-append (λ (o : Output). o.script) (spent_of coins (spends_of t)) rest))
+    ∙ ap (λ (l : List Output). front ++ scripts_of l) (sym (step ∙ same)) ∙ so_far

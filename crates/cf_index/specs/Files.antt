@@ -17,9 +17,8 @@ use Rattle.cf_headers.specs.Chain.{tip_hash}
 use Rattle.cf_chain.specs.Coins.{CoinMap, coins_after}
 use Rattle.cf_chain.specs.Good.{IsGoodChain, headers_of, max_height}
 use Rattle.cf_index.specs.declared.cause.CoinFault.{CoinFault}
-use Rattle.cf_index.specs.declared.cause.CoinFault.TheVariants.{NoCoinbase as NoFirst, SecondCoinbase as SecondFirst, Missing as MissingCoin, Exists as ExistingCoin}
 use Rattle.cf_index.specs.declared.cause.RecordCause.{RecordCause}
-use Rattle.cf_index.specs.declared.cause.RecordCause.TheVariants.{Block as InBlock, Header as InHeader, TooHigh, Commit, NoCoinbase, SecondCoinbase, Missing, Exists}
+use Rattle.cf_index.specs.declared.cause.RecordCause.TheVariants.{Block as InBlock, Header as InHeader, TooHigh, Commit, Coins as InCoins}
 use Rattle.cf_index.specs.declared.cause.BadBlock.{BadBlock}
 use Rattle.cf_index.specs.Records.{Taken, record_spelling, record_at}
 use Rattle.cf_index.specs.Spending.{spend_txs}
@@ -57,15 +56,9 @@ abbrev pub in_commitment : Option CommitFault → Option RecordCause
 in_commitment None = None
 in_commitment (Some fault) = Some (Commit fault)
 
-abbrev pub coin_cause : CoinFault → RecordCause
-coin_cause NoFirst = NoCoinbase
-coin_cause SecondFirst = SecondCoinbase
-coin_cause (MissingCoin name) = Missing name
-coin_cause (ExistingCoin name) = Exists name
-
 abbrev pub in_coins : Result CoinMap CoinFault → Option RecordCause
 in_coins (Ok coins) = None
-in_coins (Err fault) = Some (coin_cause fault)
+in_coins (Err fault) = Some (InCoins fault)
 
 abbrev pub or_else : Option RecordCause → Option RecordCause → Option RecordCause
 or_else (Some cause) later = Some cause

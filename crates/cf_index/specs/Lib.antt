@@ -1,6 +1,7 @@
 pub mod Spending
 pub mod Records
 pub mod Files
+pub mod Checked
 pub mod Progress
 pub mod Filtering
 pub mod HeightMap

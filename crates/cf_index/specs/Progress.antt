@@ -7,17 +7,18 @@ use Rattle.cf_bytes.specs.declared.memory.Refused.TheVariants.{No, NoMemory}
 use Rattle.cf_block.specs.declared.tx.Block.{Block}
 use Rattle.cf_headers.specs.Chain.{tip_hash}
 use Rattle.cf_chain.specs.Coins.{coins_after}
-use Rattle.cf_chain.specs.Good.{IsGoodChain, headers_of}
+use Rattle.cf_chain.specs.Good.{headers_of}
 use Rattle.cf_index.specs.declared.cause.RecordCause.{RecordCause}
 use Rattle.cf_index.specs.declared.chain.Chain.{Chain}
+use Rattle.cf_index.specs.Checked.{IsChecked}
 use Rattle.cf_index.specs.Records.{Taken, record_spelling}
 use Rattle.cf_index.specs.Files.{all_zeros}
 
 -- a good chain, the hash of its highest header, and the coins after it
 pub record Keeps (chain : Chain) : Type 0 where
+  pub checked : IsChecked chain.blocks chain.hashes chain.spent
   pub tip : chain.tip.0 ≡ tip_hash (headers_of chain.blocks)
   pub coins : chain.coins ≡ coins_after empty chain.blocks
-  pub good : IsGoodChain chain.blocks
 
 -- a cause that is found, or want of memory
 abbrev pub RefusesFor : Option RecordCause → Refused RecordCause → Type 0

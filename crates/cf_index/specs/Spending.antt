@@ -20,6 +20,9 @@ use Rattle.cf_index.specs.declared.cause.CoinFault.TheVariants.{NoCoinbase, Seco
 abbrev pub prevs : List TxIn → List OutPoint
 prevs inputs = map (λ i. i.prev) inputs
 
+abbrev pub scripts_of : List Output → List (List ℕ)
+scripts_of outputs = map (λ o. o.script) outputs
+
 -- these coins, where the named one was found
 abbrev pub found : OutPoint → Option Output → CoinMap → Result CoinMap CoinFault
 found name None coins = Err (Missing name)

@@ -7,7 +7,7 @@ use cf_bytes::Hash32;
 
 /// A block's hash, its basic filter, the filter's hash, and the filter's header, which stands for all filters up to it (BIP 157, "Filter Headers").
 #[derive(Drop, Debug)]
-pub struct BlockFilter {
+pub(crate) struct BlockFilter {
     pub block: Hash32,
     pub filter: Listed<u8>,
     pub hash: Hash32,

@@ -57,18 +57,9 @@ pub enum RecordCause {
     /// The header doesn't stand for the transactions.
     #[error("{0}")]
     Commit(CommitFault),
-    /// The first transaction is no coinbase.
-    #[error("the first transaction is no coinbase")]
-    NoCoinbase,
-    /// A transaction after the first is a coinbase.
-    #[error("a second transaction is a coinbase")]
-    SecondCoinbase,
-    /// An input names an output that isn't there, or isn't there any more.
-    #[error("an input spends an output that isn't there")]
-    Missing(OutPoint),
-    /// An output would be put over one that still stands.
-    #[error("an output has the name of one that is not spent")]
-    Exists(OutPoint),
+    /// The transactions don't fit the coins.
+    #[error("{0}")]
+    Coins(CoinFault),
 }
 
 impl From<RecordCause> for Refused<RecordCause> {

@@ -1,51 +1,36 @@
 //! Blocks that are put on a good chain one by one.
-ghost use Rattle.std.specs.Prelude.{◌≡◌, ◌++◌, ◌∷◌, [], length, IfOk, OnOk};
+ghost use Rattle.std.specs.Prelude.{◌≡◌, ◌++◌, ◌∷◌, [], IfOk, OnOk};
 ghost use Rattle.cf_block.specs.Tx.{IsBlock};
 ghost use Rattle.cf_headers.specs.Rules.{fault_with};
-ghost use Rattle.cf_headers.specs.Chain.{tip_hash};
 ghost use Rattle.cf_block.specs.Commitment.{commit_fault};
 ghost use Rattle.cf_block.specs.Header.{block_hash_of};
 ghost use Rattle.cf_chain.specs.Coins.{after_block};
-ghost use Rattle.cf_chain.specs.Good.{headers_of};
+ghost use Rattle.cf_chain.specs.Filters.{prevouts};
 ghost use Rattle.cf_index.specs.Spending.{spend_txs};
-ghost use Rattle.cf_index.specs.Files.{in_header, in_height, in_commitment, coin_cause, in_coins, cause_on};
+ghost use Rattle.cf_index.specs.Files.{in_header, in_height, in_commitment, in_coins, cause_on};
 ghost use Rattle.cf_index.specs.Progress.{Keeps, FindsCause};
 
-use crate::cause::{CoinFault, RecordCause};
+use crate::cause::RecordCause;
 use crate::coins::Coins;
-use crate::spend::spend_block;
+use crate::spend::{Spent, spend_block};
 use cf_block::{Block, Header, Listed, block_hash, check_commitment, genesis_header};
 use cf_bytes::{Hash32, NoMemory, Refused};
 use cf_headers::check_on;
 use std::alloc::Global;
 
-/// The blocks of a chain above genesis, the lowest first.
-pub type Blocks = Listed<Block>;
+// The blocks of a chain above genesis, the lowest first.
+pub(crate) type Blocks = Listed<Block>;
 
 // The greatest height of a chain.
 const MAX_HEIGHT: usize = 100_000;
 
-/// The height of the chain of these blocks.
-pub fn height_of(blocks: &Blocks) -> usize
-    ensures { result ≡ length blocks.now }
-{
-    blocks.len()
-}
-
-/// The hash of the highest header of the chain of these blocks: genesis's where there are none.
-pub fn tip_of(blocks: &Blocks) -> Hash32
-    ensures { result.0 ≡ tip_hash (headers_of blocks.now) }
-{
-    match blocks.as_slice().split_last() {
-        None => block_hash(&genesis_header()),
-        Some((last, _)) => block_hash(&last.header),
-    }
-}
-
-// A good chain: its blocks, and what the next one is judged by: the hash of the highest header, and the coins.
+// A good chain: its blocks, of each the hash and the scripts that it spends, and what the next one is judged by: the hash of the highest
+// header, and the coins.
 #[derive(Drop)]
 pub(crate) struct Chain {
     pub(crate) blocks: Blocks,
+    pub(crate) hashes: Listed<Hash32>,
+    pub(crate) spent: Listed<Spent>,
     pub(crate) tip: Hash32,
     pub(crate) coins: Coins,
 }
@@ -57,6 +42,8 @@ pub(crate) fn new_chain(alloc: Global) -> Chain
 {
     Chain {
         blocks: Listed::new(alloc),
+        hashes: Listed::new(alloc),
+        spent: Listed::new(alloc),
         tip: block_hash(&genesis_header()),
         coins: Coins::new(alloc),
     }
@@ -90,43 +77,40 @@ fn judge_commitment(alloc: Global, block: &Block) -> Result<(), Refused<RecordCa
     }
 }
 
-fn cause_of(fault: CoinFault) -> RecordCause
-    ensures { result ≡ coin_cause fault }
-{
-    match fault {
-        CoinFault::NoCoinbase => RecordCause::NoCoinbase,
-        CoinFault::SecondCoinbase => RecordCause::SecondCoinbase,
-        CoinFault::Missing(name) => RecordCause::Missing(name),
-        CoinFault::Exists(name) => RecordCause::Exists(name),
-    }
-}
-
-fn judge_coins(alloc: Global, coins: &mut Coins, block: &Block) -> Result<(), Refused<RecordCause>>
+fn judge_coins(
+    alloc: Global,
+    coins: &mut Coins,
+    block: &Block,
+) -> Result<Spent, Refused<RecordCause>>
     requires { IsBlock block.now }
     ensures exact { FindsCause (in_coins (spend_txs coins.old block.now.txs)) result }
     ensures after { OnOk result (coins.new ≡ after_block coins.old block.now) }
+    ensures spent { IfOk result (λ scripts. scripts ≡ prevouts coins.old block.now) }
 {
     match spend_block(alloc, coins, block) {
-        Ok(_) => Ok(()),
+        Ok(spent) => Ok(spent),
         Err(Refused::NoMemory) => Err(Refused::NoMemory),
-        Err(Refused::No(fault)) => Err(Refused::No(cause_of(fault))),
+        Err(Refused::No(fault)) => Err(Refused::No(RecordCause::Coins(fault))),
     }
 }
 
-// Judges a block against the chain that it is to stand on, and puts the chain's coins after it.
+// Judges a block against the chain that it is to stand on, puts the chain's coins after it, and answers the scripts that it spends.
 #[tactic(auto, unfolding(crate::specs::Files::cause_on))]
 fn judge(
     alloc: Global,
     chain: &mut Chain,
     block: &Block,
     hash: &Hash32,
-) -> Result<(), Refused<RecordCause>>
+) -> Result<Spent, Refused<RecordCause>>
     requires kept { Keeps chain.old }
     requires block { IsBlock block.now }
     requires hash { hash.now.0 ≡ block_hash_of block.now.header }
     ensures exact { FindsCause (cause_on chain.old.blocks block.now) result }
     ensures coins { OnOk result (chain.new.coins ≡ after_block chain.old.coins block.now) }
-    ensures same { chain.new.blocks ≡ chain.old.blocks }
+    ensures spent { IfOk result (λ scripts. scripts ≡ prevouts chain.old.coins block.now) }
+    ensures blocks { chain.new.blocks ≡ chain.old.blocks }
+    ensures hashes { chain.new.hashes ≡ chain.old.hashes }
+    ensures others { chain.new.spent ≡ chain.old.spent }
 {
     match judge_header(&chain.tip, &block.header, hash) {
         Ok(()) => {}
@@ -157,11 +141,13 @@ pub(crate) fn put_on_chain(
 {
     let mut chain = chain;
     let hash = block_hash(&block.header);
-    match judge(alloc, &mut chain, &block, &hash) {
-        Ok(()) => {}
+    let spent = match judge(alloc, &mut chain, &block, &hash) {
+        Ok(spent) => spent,
         Err(e) => return Err(e),
-    }
+    };
     chain.blocks.push(block)?;
+    chain.hashes.push(hash)?;
+    chain.spent.push(spent)?;
     chain.tip = hash;
     Ok(chain)
 }

@@ -1,5 +1,5 @@
 //! The coins of a chain: the outputs that nothing has spent yet.
-ghost use Rattle.std.specs.Prelude.{◌≡◌, OnOk, OnErr, is_some};
+ghost use Rattle.std.specs.Prelude.{◌≡◌, IfOk, OnOk, OnErr, is_some};
 ghost use Rattle.std.specs.FinMap.{get, insert, remove, empty};
 
 use cf_block::{OutPoint, TxOut};
@@ -10,7 +10,7 @@ use std::marker::Model;
 
 /// Outputs by their names. Contracts see a finite map.
 #[derive(Drop)]
-pub struct Coins {
+pub(crate) struct Coins {
     map: BTreeMap<OutPoint, TxOut>,
 }
 
@@ -27,7 +27,7 @@ impl Model for Coins {
 
 impl Coins {
     /// No coins; it takes no memory.
-    pub fn new(alloc: Global) -> Coins
+    pub(crate) fn new(alloc: Global) -> Coins
         ensures { result ≡ empty }
     {
         Coins {
@@ -35,27 +35,21 @@ impl Coins {
         }
     }
 
-    /// Whether an output stands under this name.
-    pub fn has(&self, name: OutPoint) -> bool
-        ensures { result ≡ is_some (get self.now name) }
-    {
-        self.map.contains_key(&name)
-    }
-
     /// Takes a coin out, where it is there.
-    pub fn take(&mut self, name: OutPoint) -> Option<TxOut>
+    pub(crate) fn take(&mut self, name: OutPoint) -> Option<TxOut>
         ensures value { result ≡ get self.old name }
         ensures after { self.new ≡ remove self.old name }
     {
         self.map.remove(&name)
     }
 
-    /// Puts a coin in, in the place of one of this name. Where no memory is found nothing has changed.
-    pub fn put(&mut self, name: OutPoint, output: TxOut) -> Result<(), NoMemory>
+    /// Puts a coin in, and answers whether it took the place of one of this name. Where no memory is found nothing has changed.
+    pub(crate) fn put(&mut self, name: OutPoint, output: TxOut) -> Result<bool, NoMemory>
+        ensures stood { IfOk result (λ stood. stood ≡ is_some (get self.old name)) }
         ensures ok { OnOk result (self.new ≡ insert self.old name output) }
         ensures err { OnErr result (self.new ≡ self.old) }
     {
-        self.map.insert(name, output)?;
-        Ok(())
+        let old = self.map.insert(name, output)?;
+        Ok(old.is_some())
     }
 }

@@ -8,6 +8,7 @@ ghost use Rattle.cf_index.specs.Progress.{Keeps, GivesBlock, GivesNext, HasRecor
 
 use crate::cause::{BadBlock, RecordCause};
 use crate::chain::{Blocks, Chain, new_chain, put_on_chain};
+use crate::checked::CheckedChain;
 use crate::record::{genesis_record, take_record};
 use cf_block::{Block, parse_block};
 use cf_bytes::{Cut, Refused};
@@ -58,8 +59,12 @@ fn number_after(before: u32, blocks: &Blocks) -> u32
     before + blocks.len() as u32 + 1
 }
 
-// The blocks of the records that stand here, after so many others.
-fn read_records(alloc: Global, before: u32, bytes: &[u8]) -> Result<Blocks, Refused<BadBlock>>
+// The chain of the records that stand here, after so many others.
+fn read_records(
+    alloc: Global,
+    before: u32,
+    bytes: &[u8],
+) -> Result<CheckedChain, Refused<BadBlock>>
     requires { before ≤ 1 }
     ensures exact { Answers (blocks_from before zero [] bytes.now) result }
     ensures good { IfOk result (λ blocks. IsGoodChain blocks) }
@@ -76,10 +81,10 @@ fn read_records(alloc: Global, before: u32, bytes: &[u8]) -> Result<Blocks, Refu
             Err(Refused::No(cause)) => return Err(Refused::No(BadBlock { number, cause })),
         }
     }
-    Ok(chain.blocks)
+    Ok(CheckedChain::of(chain))
 }
 
-/// The blocks of a file, above genesis, the lowest first. The file is a run of records, each of regtest's magic
+/// The chain of the blocks of a file, each of which is read, hashed and judged once. The file is a run of records, each of regtest's magic
 /// fa bf b5 da (hexadecimal), the block's length in 4 bytes, the low byte first, and the block; the genesis block's may
 /// stand first, and zeros alone may stand at the end.
 ///
@@ -88,7 +93,7 @@ fn read_records(alloc: Global, before: u32, bytes: &[u8]) -> Result<Blocks, Refu
 /// The first record that is no record, or whose block may not stand on those before it, with the first rule that it
 /// breaks, in the order of `RecordCause`.
 #[tactic(auto, unfolding(crate::specs::Files::blocks_at, crate::specs::Files::genesis_record))]
-pub fn read_chain(alloc: Global, bytes: &[u8]) -> Result<Blocks, Refused<BadBlock>>
+pub fn read_chain(alloc: Global, bytes: &[u8]) -> Result<CheckedChain, Refused<BadBlock>>
     ensures exact { Answers (blocks_at bytes.now) result }
     ensures found { IfOk result (λ blocks. IsGoodFile bytes.now blocks) }
     ensures bad { IfBad result (λ bad. IsBadFile bytes.now bad) }

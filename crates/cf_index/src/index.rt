@@ -2,14 +2,14 @@
 ghost use Rattle.std.specs.Prelude.{◌≡◌, length, IfOk, option_map, option_copied, slice_get};
 ghost use Rattle.cf_block.specs.Header.{block_hash_of};
 ghost use Rattle.cf_chain.specs.Filters.{filter_at};
-ghost use Rattle.cf_chain.specs.Good.{IsGoodChain, headers_of};
+ghost use Rattle.cf_chain.specs.Good.{IsGoodChain};
 ghost use Rattle.cf_chain.specs.Heights.{all_blocks, block_height};
 ghost use Rattle.cf_filter.specs.Filter.{filter_hash_of};
-ghost use Rattle.cf_headers.specs.Chain.{tip_hash};
 ghost use Rattle.cf_index.specs.Filtering.{shown};
 
 use crate::block_filter::BlockFilter;
-use crate::chain::{Blocks, tip_of};
+use crate::chain::Blocks;
+use crate::checked::CheckedChain;
 use crate::filters::all_filters;
 use crate::heights::{Heights, heights_of};
 use cf_block::{Block, Header, Listed, genesis};
@@ -39,13 +39,20 @@ impl Model for Index {
 }
 
 impl Index {
-    /// The index of a chain that was checked.
-    pub fn of(alloc: Global, blocks: Blocks) -> Result<Index, NoMemory>
-        requires { IsGoodChain blocks }
-        ensures { IfOk result (λ index. index ≡ blocks) }
+    /// The index of a chain that was checked: the filters of its blocks are built, and what the check has kept for them is let go.
+    pub fn of(alloc: Global, chain: CheckedChain) -> Result<Index, NoMemory>
+        ensures { IfOk result (λ index. index ≡ chain) }
     {
+        let CheckedChain {
+            blocks,
+            hashes,
+            spent,
+            tip: _,
+        } = chain;
         let genesis = genesis(alloc)?;
-        let filters = all_filters(alloc, &blocks)?;
+        let filters = all_filters(alloc, blocks.as_slice(), hashes.as_slice(), spent.as_slice())?;
+        drop(hashes);
+        drop(spent);
         let heights = heights_of(alloc, filters.as_slice())?;
         Ok(Index {
             genesis,
@@ -61,20 +68,6 @@ impl Index {
         ensures good { IsGoodChain self.now }
     {
         self.blocks.len() as u32
-    }
-
-    /// The hash of the highest block.
-    pub fn tip_hash(&self) -> Hash32
-        ensures { result.0 ≡ tip_hash (headers_of self.now) }
-    {
-        tip_of(&self.blocks)
-    }
-
-    /// The blocks above genesis, the lowest first.
-    pub fn blocks(&self) -> &[Block]
-        ensures { result.now ≡ self.now }
-    {
-        self.blocks.as_slice()
     }
 
     /// The height of the block with this hash, where there is one. The time is that of a search in a tree.

@@ -1,18 +1,8 @@
 //! Laws of the check: functions that do nothing, whose contracts say them.
-ghost use Rattle.std.specs.Prelude.{◌≡◌, ℕ, List, Ok, Err, fold};
+ghost use Rattle.std.specs.Prelude.{◌≡◌, ℕ, List, Ok, Err};
 ghost use Rattle.cf_block.specs.declared.tx.Block.{Block};
-ghost use Rattle.cf_block.specs.declared.tx.Tx.{Tx};
-ghost use Rattle.cf_chain.specs.Coins.{CoinMap, after_tx};
-ghost use Rattle.cf_chain.specs.Good.{HasOneCoinbase, AreGoodTxs};
 ghost use Rattle.cf_index.specs.declared.cause.BadBlock.{BadBlock};
-ghost use Rattle.cf_index.specs.Spending.{spend_txs};
 ghost use Rattle.cf_index.specs.Files.{IsGoodFile, IsBadFile, blocks_at};
-
-/// The check of a block's transactions passes exactly on good ones, and gives the coins after them.
-pub fn laws_of_spending()
-    ensures passes { (coins : CoinMap) (txs : List Tx) → HasOneCoinbase txs → AreGoodTxs coins txs → spend_txs coins txs ≡ Ok (fold after_tx coins txs) }
-    ensures good { (coins new : CoinMap) (txs : List Tx) → spend_txs coins txs ≡ Ok new → HasOneCoinbase txs × AreGoodTxs coins txs × (new ≡ fold after_tx coins txs) }
-{}
 
 /// A good file is read as its blocks, and so as no others; a bad one is refused for its first bad record; and no file is both.
 /// With `read_chain`'s clauses, a file is taken exactly where it is good, and refused exactly where it isn't.

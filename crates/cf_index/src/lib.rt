@@ -4,6 +4,7 @@
 mod block_filter;
 mod cause;
 mod chain;
+mod checked;
 mod coins;
 mod file;
 mod filters;
@@ -14,18 +15,10 @@ mod load;
 mod record;
 mod spend;
 
-pub use block_filter::BlockFilter;
 pub use cause::{BadBlock, CoinFault, RecordCause};
-pub use chain::{Blocks, height_of, tip_of};
-pub use coins::Coins;
+pub use checked::CheckedChain;
 pub use file::read_chain;
-pub use filters::all_filters;
 pub use index::Index;
-pub use laws::{laws_of_files, laws_of_spending};
+pub use laws::laws_of_files;
 pub use load::LoadFault;
-pub use spend::{Spent, spend_block};
 
-#[cfg(test)]
-mod index_tests;
-#[cfg(test)]
-mod tests;

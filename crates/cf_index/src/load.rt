@@ -43,17 +43,18 @@ fn fault_of(fail: ReadFail) -> LoadFault
     }
 }
 
-// The index of the chain in these bytes.
-fn index_at(alloc: Global, bytes: &[u8]) -> Result<Index, LoadFault>
-    ensures exact { Indexes (blocks_at bytes.now) result }
+// The index of the chain in these bytes, which are let go before the filters are built.
+fn index_at(alloc: Global, bytes: Vec<u8>) -> Result<Index, LoadFault>
+    ensures exact { Indexes (blocks_at bytes.items) result }
     ensures good { IfOk result (λ blocks. IsGoodChain blocks) }
 {
-    let blocks = match read_chain(alloc, bytes) {
-        Ok(blocks) => blocks,
+    let chain = match read_chain(alloc, &bytes) {
+        Ok(chain) => chain,
         Err(Refused::No(bad)) => return Err(LoadFault::BadBlock(bad)),
         Err(Refused::NoMemory) => return Err(LoadFault::NoMemory),
     };
-    match Index::of(alloc, blocks) {
+    drop(bytes);
+    match Index::of(alloc, chain) {
         Ok(index) => Ok(index),
         Err(NoMemory) => Err(LoadFault::NoMemory),
     }
@@ -70,7 +71,7 @@ impl Index {
         ensures good { IfOk result (λ blocks. IsGoodChain blocks) }
     {
         match read_all(alloc, source, MOST_BYTES) {
-            Ok(bytes) => index_at(alloc, &bytes),
+            Ok(bytes) => index_at(alloc, bytes),
             Err(fail) => Err(fault_of(fail)),
         }
     }

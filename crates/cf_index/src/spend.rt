@@ -5,21 +5,22 @@ ghost use Rattle.cf_block.specs.Commitment.{is_coinbase_tx};
 ghost use Rattle.cf_block.specs.Outpoint.{spends_of};
 ghost use Rattle.cf_block.specs.Tx.{IsBlock};
 ghost use Rattle.cf_chain.specs.Coins.{spent as spent_of, spent_by, after_tx, after_block};
-ghost use Rattle.cf_index.specs.Spending.{prevs, take_all, put_all, spend, spend_all, spend_txs, coinbase_fault as coinbase_fault_of, Gives};
+ghost use Rattle.cf_chain.specs.Filters.{prevouts};
+ghost use Rattle.cf_index.specs.Spending.{prevs, scripts_of, take_all, put_all, spend, spend_all, spend_txs, coinbase_fault as coinbase_fault_of, Gives};
 
 use crate::cause::CoinFault;
 use crate::coins::Coins;
-use cf_block::{Block, Listed, OutPoint, Tx, TxIn, TxOut, is_coinbase, txid};
+use cf_block::{Block, Listed, OutPoint, Script, Tx, TxIn, TxOut, is_coinbase, txid};
 use cf_bytes::{Hash32, NoMemory, Refused};
 use std::alloc::Global;
 
-/// The outputs that a block's transactions spend, in the order of their inputs.
-pub type Spent = Listed<TxOut>;
+// The scripts of the outputs that a block's transactions spend, in the order of their inputs.
+pub(crate) type Spent = Listed<Script>;
 
-/// Spends a block's inputs and puts its outputs in, transaction by transaction, and answers what was spent; or the first
-/// fault, after which nothing is said of the coins. The first transaction must be a coinbase and no other may be one;
-/// each input must name a coin as they stand when it comes; no output may be put over a standing one.
-pub fn spend_block(
+// Spends a block's inputs and puts its outputs in, transaction by transaction, and answers what was spent; or the first
+// fault, after which nothing is said of the coins. The first transaction must be a coinbase and no other may be one;
+// each input must name a coin as they stand when it comes; no output may be put over a standing one.
+pub(crate) fn spend_block(
     alloc: Global,
     coins: &mut Coins,
     block: &Block,
@@ -27,7 +28,7 @@ pub fn spend_block(
     requires { IsBlock block.now }
     ensures exact { Gives (spend_txs coins.old block.now.txs) result coins.new }
     ensures after { OnOk result (coins.new ≡ after_block coins.old block.now) }
-    ensures spent { IfOk result (λ outputs. outputs ≡ spent_by coins.old block.now.txs) }
+    ensures spent { IfOk result (λ scripts. scripts ≡ prevouts coins.old block.now) }
 {
     let mut spent = Vec::new(alloc);
     match check_txs(alloc, coins, block.txs.as_slice(), &mut spent) {
@@ -41,11 +42,11 @@ fn check_txs(
     alloc: Global,
     coins: &mut Coins,
     txs: &[Tx],
-    spent: &mut Vec<TxOut>,
+    spent: &mut Vec<Script>,
 ) -> Result<(), Refused<CoinFault>>
     requires { All (λ t. length t.outputs < 2 ^ 32) txs.now }
     ensures exact { Gives (spend_txs coins.old txs.now) result coins.new }
-    ensures spent { OnOk result (spent.new.items ≡ spent.old.items ++ spent_by coins.old txs.now) }
+    ensures spent { OnOk result (spent.new.items ≡ spent.old.items ++ scripts_of (spent_by coins.old txs.now)) }
 {
     match find_coinbase_fault(txs) {
         Some(fault) => Err(Refused::No(fault)),
@@ -80,11 +81,11 @@ fn spend_each(
     alloc: Global,
     coins: &mut Coins,
     txs: &[Tx],
-    spent: &mut Vec<TxOut>,
+    spent: &mut Vec<Script>,
 ) -> Result<(), Refused<CoinFault>>
     requires { All (λ t. length t.outputs < 2 ^ 32) txs.now }
     ensures exact { Gives (spend_all coins.old txs.now) result coins.new }
-    ensures spent { OnOk result (spent.new.items ≡ spent.old.items ++ spent_by coins.old txs.now) }
+    ensures spent { OnOk result (spent.new.items ≡ spent.old.items ++ scripts_of (spent_by coins.old txs.now)) }
 {
     for tx in txs {
         match spend_tx(alloc, coins, tx, spent) {
@@ -100,11 +101,11 @@ fn spend_tx(
     alloc: Global,
     coins: &mut Coins,
     tx: &Tx,
-    spent: &mut Vec<TxOut>,
+    spent: &mut Vec<Script>,
 ) -> Result<(), Refused<CoinFault>>
     requires { length tx.now.outputs < 2 ^ 32 }
     ensures exact { Gives (spend coins.old tx.now) result coins.new }
-    ensures spent { OnOk result (spent.new.items ≡ spent.old.items ++ spent_of coins.old (spends_of tx.now)) }
+    ensures spent { OnOk result (spent.new.items ≡ spent.old.items ++ scripts_of (spent_of coins.old (spends_of tx.now))) }
 {
     match spend_inputs(coins, tx, spent) {
         Ok(()) => {
@@ -118,10 +119,10 @@ fn spend_tx(
 fn spend_inputs(
     coins: &mut Coins,
     tx: &Tx,
-    spent: &mut Vec<TxOut>,
+    spent: &mut Vec<Script>,
 ) -> Result<(), Refused<CoinFault>>
     ensures exact { Gives (take_all coins.old (spends_of tx.now)) result coins.new }
-    ensures spent { OnOk result (spent.new.items ≡ spent.old.items ++ spent_of coins.old (spends_of tx.now)) }
+    ensures spent { OnOk result (spent.new.items ≡ spent.old.items ++ scripts_of (spent_of coins.old (spends_of tx.now))) }
 {
     if is_coinbase(tx) {
         return Ok(());
@@ -132,15 +133,15 @@ fn spend_inputs(
 fn take_inputs(
     coins: &mut Coins,
     inputs: &[TxIn],
-    spent: &mut Vec<TxOut>,
+    spent: &mut Vec<Script>,
 ) -> Result<(), Refused<CoinFault>>
     ensures exact { Gives (take_all coins.old (prevs inputs.now)) result coins.new }
-    ensures spent { OnOk result (spent.new.items ≡ spent.old.items ++ spent_of coins.old (prevs inputs.now)) }
+    ensures spent { OnOk result (spent.new.items ≡ spent.old.items ++ scripts_of (spent_of coins.old (prevs inputs.now))) }
 {
     for input in inputs {
         match coins.take(input.prev) {
             None => return Err(Refused::No(CoinFault::Missing(input.prev))),
-            Some(output) => spent.push(output)?,
+            Some(output) => spent.push(output.script)?,
         }
     }
     Ok(())
@@ -168,11 +169,10 @@ fn put_outputs(
     let mut index = 0u32;
     for output in outputs {
         let name = OutPoint { txid, index };
-        if coins.has(name) {
+        let copy = copy_of(alloc, output)?;
+        if coins.put(name, copy)? {
             return Err(Refused::No(CoinFault::Exists(name)));
         }
-        let copy = copy_of(alloc, output)?;
-        coins.put(name, copy)?;
         index += 1;
     }
     Ok(())

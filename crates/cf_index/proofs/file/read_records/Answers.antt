@@ -1,4 +1,4 @@
-use Rattle.std.proofs.Common.{◌≡◌, false, ◌∙◌, sym, ap, subst, Err}
+use Rattle.std.proofs.Common.{◌≡◌, false, ◌∙◌, sym, ap, subst, Ok, Err}
 use Rattle.cf_index.specs.Files.{all_zeros, next_at}
 use Rattle.cf_index.specs.Progress.{Stops}
 use Rattle.cf_index.proofs.FileSteps.{one_more, bad_here, ends, spelled_more, fewer}
@@ -30,7 +30,7 @@ returns-in-Err-No-clause-bad c =
     record {
       blocks = c.loop-cut.chain.blocks;
       rest = c.loop-cut.cut;
-      good = c.loop-cut.invariant.kept.good;
+      good = c.loop-cut.invariant.kept.checked.good;
       spelled = c.loop-cut.invariant.spelled;
       some = z;
       number = c.number_after-number.ensures;
@@ -39,3 +39,4 @@ returns-in-Err-No-clause-bad c =
 
 pub returns-clause-exact : goal.returns-clause-exact
 returns-clause-exact c = c.loop-cut.invariant.exact ∙ ends c.args.before c.loop-cut.chain.blocks c.loop-cut.cut (sym (ap all_zeros c.rest.ensures) ∙ sym c.loop-cut-test.ensures)
+    ∙ ap Ok (sym c.of.ensures)

@@ -1,22 +1,31 @@
-use Rattle.std.proofs.Common.{◌+◌, ◌<◌, ◌++◌, List, map, length, get_or, drop, ◌∙◌, ap, arith}
-use Rattle.cf_block.specs.declared.tx.Block.{Block}
+use Rattle.std.proofs.Common.{◌+◌, ◌<◌, ◌++◌, List, map, length, take, drop, ◌∙◌, ap, arith}
+use Rattle.std.specs.FinMap.{empty}
+use Rattle.cf_chain.specs.Coins.{coins_after}
 use Rattle.cf_chain.specs.Filters.{filtered_on}
 use Rattle.cf_index.specs.declared.block_filter.BlockFilter.{BlockFilter}
 use Rattle.cf_index.specs.Filtering.{shown}
-use Rattle.cf_index.proofs.Walking.{block_more, walk_all, walk_good}
+use Rattle.cf_index.proofs.Walking.{prevouts_length, few_at, took_at, walk_on}
 use Rattle.cf_index.proofs.filters.all_filters.Goals as goal
 
-pub loop-block-preserved : goal.loop-block-preserved
-loop-block-preserved c =
+pub bounds-spent-i : goal.bounds-spent-i
+bounds-spent-i c =
+    let long = ap length c.requires.taken in
+    let same = prevouts_length empty c.args.blocks.now in
+    omega (arith, long, same)
+
+pub filter_block-requires-clause-few : goal.filter_block-requires-clause-few
+filter_block-requires-clause-few c =
+    few_at c.args.blocks.now c.args.spent.now c.loop-i.i c.index-blocks-i.result _ c.as_slice.result.now _ (omega arith) c.requires.good.each c.requires.taken
+    c.index-blocks-i.is (c.as_slice.ensures ∙ c.index-spent-i.is)
+
+pub loop-i-preserved : goal.loop-i-preserved
+loop-i-preserved c =
     let all = c.args.blocks.now in
-    let i = c.loop-block.block-index in
-    let at = c.block-item.is ∙ ap (λ (bs : List Block). get_or bs i c.block-item.result) c.as_slice-block-items.ensures in
-    let long = ap length c.as_slice-block-items.ensures in
-    let below : i < length all = omega (arith, long) in
-    let more = block_more all i c.block-item.result below at in
+    let i = c.loop-i.i in
+    let below : i < length all = omega arith in
+    let took = took_at all c.args.spent.now i c.index-blocks-i.result _ c.as_slice.result.now _ below c.requires.taken c.index-blocks-i.is (c.as_slice.ensures ∙ c.index-spent-i.is) in
     record {
-      same = ap (λ (xs : List BlockFilter). map shown xs ++ filtered_on c.next_filter.new.coins c.in_ok-filter.filter.header.0 (drop (i + 1) all)) c.in_ok-push-2.ensures.items
-          ∙ walk_all c.loop-block.coins c.next_filter.new.coins c.loop-block.filters.items c.in_ok-filter.filter c.loop-block.previous.0 (drop i all) (drop (i + 1) all)
-          c.block-item.result _ more c.in_ok-filter.ensures.coins c.in_ok-filter.ensures.filter c.loop-block.invariant.same;
-      good = walk_good c.loop-block.coins c.next_filter.new.coins (drop i all) (drop (i + 1) all) c.block-item.result more c.in_ok-filter.ensures.coins c.loop-block.invariant.good;
+      same = ap (λ (xs : List BlockFilter). map shown xs ++ filtered_on (coins_after empty (take (i + 1) all)) c.in_ok-filter.filter.header.0 (drop (i + 1) all)) c.in_ok-push-2.ensures.items
+          ∙ walk_on c.loop-i.filters.items c.in_ok-filter.filter c.loop-i.previous.0 all i c.index-blocks-i.result _ c.as_slice.result.now _ below c.index-blocks-i.is took
+          c.in_ok-filter.ensures c.loop-i.invariant.same;
     }

@@ -6,5 +6,5 @@ pub build-requires : goal.build-requires
 build-requires c =
     let few = items_few c.args.block.now c.args.spent.now in
     let same = ap length c.in_ok-items.ensures in
-    let most = c.requires in
+    let most = c.requires.few in
     omega (arith, few, same, most)

@@ -1,0 +1,72 @@
+//! Chains that were checked.
+ghost use Rattle.std.specs.Prelude.{◌≡◌, length};
+ghost use Rattle.cf_chain.specs.Good.{IsGoodChain, headers_of};
+ghost use Rattle.cf_headers.specs.Chain.{tip_hash};
+ghost use Rattle.cf_index.specs.Progress.{Keeps};
+
+use crate::chain::{Blocks, Chain};
+use crate::spend::Spent;
+use cf_block::{Block, Listed};
+use cf_bytes::Hash32;
+use std::marker::Model;
+
+/// The blocks of a chain that was checked, with what the check has found of each: its hash, and the scripts that its inputs spend. Contracts see
+/// the list of the blocks above genesis, the lowest first.
+#[derive(Drop)]
+pub struct CheckedChain {
+    pub(crate) blocks: Blocks,
+    pub(crate) hashes: Listed<Hash32>,
+    pub(crate) spent: Listed<Spent>,
+    pub(crate) tip: Hash32,
+}
+
+impl Model for CheckedChain {
+    ghost use Rattle.std.specs.Prelude.{◌≡◌, List};
+    ghost use Rattle.cf_block.specs.declared.tx.Block.{Block};
+    ghost use Rattle.cf_headers.specs.Chain.{tip_hash};
+    ghost use Rattle.cf_chain.specs.Good.{headers_of};
+    ghost use Rattle.cf_index.specs.Checked.{IsChecked};
+
+    ghost Value = { List Block };
+
+    ghost view = { λ s. s.blocks };
+
+    ghost invariant = { λ s. IsChecked s.blocks s.hashes s.spent × (s.tip.0 ≡ tip_hash (headers_of s.blocks)) };
+}
+
+impl CheckedChain {
+    // A chain whose last block was put on it. Its coins are let go.
+    pub(crate) fn of(chain: Chain) -> CheckedChain
+        requires { Keeps chain }
+        ensures { result ≡ chain.blocks }
+    {
+        CheckedChain {
+            blocks: chain.blocks,
+            hashes: chain.hashes,
+            spent: chain.spent,
+            tip: chain.tip,
+        }
+    }
+
+    /// The height of the chain.
+    pub fn tip(&self) -> u32
+        ensures height { result ≡ length self.now }
+        ensures good { IsGoodChain self.now }
+    {
+        self.blocks.len() as u32
+    }
+
+    /// The hash of the highest block.
+    pub fn tip_hash(&self) -> Hash32
+        ensures { result.0 ≡ tip_hash (headers_of self.now) }
+    {
+        self.tip
+    }
+
+    /// The blocks above genesis, the lowest first.
+    pub fn blocks(&self) -> &[Block]
+        ensures { result.now ≡ self.now }
+    {
+        self.blocks.as_slice()
+    }
+}
