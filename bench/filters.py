@@ -2,13 +2,12 @@
 """Basic filters of a made chain of 100,000 blocks beside a plain reader in C: building them, and matching 1, 100 and 1000 scripts against all of them.
 
 `cf_bench` and `plain.c` (compiled with `cc -O2`) check the same file, build each filter and match the same scripts, which nothing pays. The first row has
-no scripts: reading, checking and building. The others are what matching takes beyond it. The best of three runs counts. Both must find the same number of
-filters, or it stops.
+no scripts: reading, checking and building. The others are what matching takes beyond it. Seconds are the processor's, and the best of five runs counts, which
+take turns. Both must find the same number of filters, or it stops.
 """
 import os
 import subprocess
 import tempfile
-import time
 
 BENCH = os.path.dirname(os.path.abspath(__file__))
 CRATE = os.path.join(os.path.dirname(BENCH), "crates", "cf_bench")
@@ -16,14 +15,18 @@ PROGRAM = os.path.join(CRATE, "out", "cf_bench")
 
 
 def run(words):
-    start = time.monotonic()
-    text = subprocess.run(words, check=True, stdout=subprocess.PIPE).stdout
-    return text, time.monotonic() - start
+    child = subprocess.Popen(words, stdout=subprocess.PIPE)
+    text = child.stdout.read()
+    _, status, used = os.wait4(child.pid, 0)
+    child.returncode = os.waitstatus_to_exitcode(status)
+    if child.returncode:
+        raise SystemExit("%s ended with status %d" % (" ".join(words), child.returncode))
+    return text, used.ru_utime + used.ru_stime
 
 
-def best(words):
-    runs = [run(words) for _ in range(3)]
-    return runs[0][0], min(seconds for _, seconds in runs)
+def best(*calls):
+    runs = [[run(words) for words in calls] for _ in range(5)]
+    return [(each[0][0], min(seconds for _, seconds in each)) for each in zip(*runs)]
 
 
 def main():
@@ -35,8 +38,7 @@ def main():
         print("%-26s %9s %9s %7s" % ("100,000 blocks", "program", "plain", "ratio"))
         before = (0.0, 0.0)
         for count, row in ((0, "building"), (1, "matching 1 script"), (100, "matching 100 scripts"), (1000, "matching 1000 scripts")):
-            text, seconds = best([PROGRAM, blocks, str(count)])
-            expected, base = best([plain, "match", blocks, str(count)])
+            (text, seconds), (expected, base) = best([PROGRAM, blocks, str(count)], [plain, "match", blocks, str(count)])
             if text != expected:
                 raise SystemExit("%s: %r and %r" % (row, text, expected))
             ours, other = seconds - before[0], base - before[1]

@@ -1,14 +1,14 @@
 #!/usr/bin/env python3
 """`scan` and `filter` of made chains beside a plain reader in C of the same files.
 
-For each command the program runs on a made chain of 10,000 blocks and on one of 100,000, and `plain.c`, compiled with `cc -O2`, on the larger one. The best of
-three runs counts. It prints seconds, the ratio to the plain reader, the growth from the smaller chain to the larger one (10 is linear), and the most memory
-that the program held, as a multiple of the file. Both must write the same text, or it stops. The program is built first where it is old.
+For each command the program runs on a made chain of 10,000 blocks and on one of 100,000, and `plain.c`, compiled with `cc -O2`, on the larger one, in turn. The
+best of five runs counts. It prints processor seconds (those of the program and of the system for it, which other work beside changes least), the ratio to the
+plain reader, the growth from the smaller chain to the larger one (10 is linear), and the most memory that the program held, as a multiple of the file. Both
+must write the same text, or it stops. The program is built first where it is old.
 """
 import os
 import subprocess
 import tempfile
-import time
 
 BENCH = os.path.dirname(os.path.abspath(__file__))
 ROOT = os.path.dirname(BENCH)
@@ -17,20 +17,20 @@ SCRIPT = "01087551"
 
 
 def run(words):
-    """The text that one run writes, its seconds and its greatest size in bytes."""
-    start = time.monotonic()
+    """The text that one run writes, its processor seconds and its greatest size in bytes."""
     child = subprocess.Popen(words, stdout=subprocess.PIPE)
     text = child.stdout.read()
     _, status, used = os.wait4(child.pid, 0)
     child.returncode = os.waitstatus_to_exitcode(status)
     if child.returncode:
         raise SystemExit("%s ended with status %d" % (" ".join(words), child.returncode))
-    return text, time.monotonic() - start, used.ru_maxrss * 1024
+    return text, used.ru_utime + used.ru_stime, used.ru_maxrss * 1024
 
 
-def best(words):
-    runs = [run(words) for _ in range(3)]
-    return runs[0][0], min(seconds for _, seconds, _ in runs), max(size for _, _, size in runs)
+def best(*calls):
+    """The same of the best of five runs of each call, which take turns."""
+    runs = [[run(words) for words in calls] for _ in range(5)]
+    return [(each[0][0], min(seconds for _, seconds, _ in each), max(size for _, _, size in each)) for each in zip(*runs)]
 
 
 def main():
@@ -48,11 +48,9 @@ def main():
         ]
         print("%-26s %9s %9s %7s %7s %7s" % ("100,000 blocks", "program", "plain", "ratio", "growth", "memory"))
         for name, program, other in rows:
-            text, seconds, size = best(program(large))
-            expected, base, _ = best(other)
+            (text, seconds, size), (expected, base, _), (_, few, _) = best(program(large), other, program(small))
             if text != expected:
                 raise SystemExit("%s: the texts differ" % name)
-            few = best(program(small))[1]
             print("%-26s %8.2fs %8.2fs %7.1f %7.1f %7.1f" % (name, seconds, base, seconds / base, seconds / few, size / os.path.getsize(large)))
 
 

@@ -6,8 +6,10 @@ mod addresses;
 mod chains;
 mod conversations;
 mod fields;
+mod files;
 mod filters;
 mod hashes;
+mod headers;
 mod inputs;
 mod payloads;
 mod runs;
@@ -22,6 +24,7 @@ fn answer(alloc: Global, row: &str) -> Option<String> {
     let (kind, rest) = row.split_once(' ')?;
     match kind {
         "address" => addresses::answer(alloc, rest),
+        "blocks" => files::answer(alloc, rest),
         "chain" => chains::answer(alloc, rest),
         "compact" => hashes::compact(alloc, rest),
         "fields" => hashes::fields(alloc, rest),
@@ -29,6 +32,7 @@ fn answer(alloc: Global, row: &str) -> Option<String> {
         "golomb" => filters::golomb(alloc, rest),
         "hash" => hashes::answer(alloc, rest),
         "items" => filters::items_left(alloc, rest),
+        "locator" => headers::locator(alloc, rest),
         "match" => filters::matched(alloc, rest),
         "meets" => filters::met(alloc, rest),
         "mine" => chains::mined(alloc, rest),
@@ -38,6 +42,7 @@ fn answer(alloc: Global, row: &str) -> Option<String> {
         "session" => inputs::session(alloc, rest),
         "siphash" => filters::siphash(alloc, rest),
         "stream" => streams::answer(alloc, rest),
+        "target" => headers::target(alloc, rest),
         "text" => inputs::text(alloc, rest),
         "unhash" => hashes::unhash(alloc, rest),
         "watch" => inputs::watch(alloc, rest),

@@ -20,7 +20,7 @@ fn text_of_scan(alloc: Global, chain: &CheckedChain, watch: &Watch) -> Result<St
     ensures { IfOk result (λ text. string_bytes text ≡ scan_text watch.now chain.now) }
 {
     let tip = chain.tip();
-    let history = scan_blocks(alloc, chain.blocks(), watch)?;
+    let history = scan_blocks(alloc, chain.blocks(), chain.txids(), watch)?;
     history.text(alloc, tip, &chain.tip_hash())
 }
 

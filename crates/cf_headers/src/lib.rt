@@ -19,6 +19,3 @@ pub use laws::{laws_of_chains, laws_of_heights, laws_of_kept_chains};
 pub use lists::Lists;
 pub use rules::{HeaderFault, check_header, check_on, meets_target};
 pub use store::HeaderStore;
-
-#[cfg(test)]
-mod tests;

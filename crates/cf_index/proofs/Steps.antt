@@ -40,13 +40,13 @@ unfolding spend_all
 txs_done coins [] is = refl
 txs_done coins (t ∷ ts) is = absurd (omega arith)
 
-pub txs_fault : (coins : CoinMap) (before : Result CoinMap CoinFault) (t : Tx) (ts : List Tx) (i : ℕ) (e : Refused CoinFault) → before ≡ spend_all coins (drop i ts) → i < length ts → t ≡ get_or ts i t
+pub txs_fault : (coins : CoinMap) (before : Result CoinMap CoinFault) (t d : Tx) (ts : List Tx) (i : ℕ) (e : Refused CoinFault) → before ≡ spend_all coins (drop i ts) → i < length ts → t ≡ get_or ts i d
     → Refuses (spend coins t) e → Refuses before e
-txs_fault coins before t ts i (No f) start lt is h = start ∙ txs_more coins ts i t lt ∙ ap (λ r. r >>= λ c. spend_all c (drop (i + 1) ts)) (ap (spend coins) (sym is) ∙ h)
-txs_fault coins before t ts i NoMemory start lt is h = tt
+txs_fault coins before t d ts i (No f) start lt is h = start ∙ txs_more coins ts i d lt ∙ ap (λ r. r >>= λ c. spend_all c (drop (i + 1) ts)) (ap (spend coins) (sym is) ∙ h)
+txs_fault coins before t d ts i NoMemory start lt is h = tt
 
-pub txs_next : (coins new : CoinMap) (t : Tx) (ts : List Tx) (i : ℕ) → i < length ts → t ≡ get_or ts i t → spend coins t ≡ Ok new → spend_all coins (drop i ts) ≡ spend_all new (drop (i + 1) ts)
-txs_next coins new t ts i lt is h = txs_more coins ts i t lt ∙ ap (λ r. r >>= λ c. spend_all c (drop (i + 1) ts)) (ap (spend coins) (sym is) ∙ h)
+pub txs_next : (coins new : CoinMap) (t d : Tx) (ts : List Tx) (i : ℕ) → i < length ts → t ≡ get_or ts i d → spend coins t ≡ Ok new → spend_all coins (drop i ts) ≡ spend_all new (drop (i + 1) ts)
+txs_next coins new t d ts i lt is h = txs_more coins ts i d lt ∙ ap (λ r. r >>= λ c. spend_all c (drop (i + 1) ts)) (ap (spend coins) (sym is) ∙ h)
 
 -- ---- what the check says
 
@@ -178,13 +178,13 @@ inputs_spent front all coins ins i d o lt is so_far =
     let one : option_to_list (get coins p) ++ rest ≡ o ∷ rest = ap (λ x. option_to_list x ++ rest) is in
     append_assoc front (o.script ∷ []) (scripts_of rest) ∙ ap (λ l. front ++ scripts_of l) (sym (step ∙ one)) ∙ so_far
 
-pub txs_spent : (front more all : List (List ℕ)) (coins new : CoinMap) (t : Tx) (ts : List Tx) (i : ℕ) → i < length ts → t ≡ get_or ts i t → spend coins t ≡ Ok new
+pub txs_spent : (front more all : List (List ℕ)) (coins new : CoinMap) (t d : Tx) (ts : List Tx) (i : ℕ) → i < length ts → t ≡ get_or ts i d → spend coins t ≡ Ok new
     → more ≡ front ++ scripts_of (spent_of coins (spends_of t))
     → front ++ scripts_of (spent_by coins (drop i ts)) ≡ all
     → more ++ scripts_of (spent_by new (drop (i + 1) ts)) ≡ all
-txs_spent front more all coins new t ts i lt is h e so_far =
-    let step : spent_by coins (drop i ts) ≡ spent_of coins (spends_of (get_or ts i t)) ++ spent_by (after_tx coins (get_or ts i t)) (drop (i + 1) ts) = rw (add-one, drop-cons ts i t) refl in
-    let same : spent_of coins (spends_of (get_or ts i t)) ++ spent_by (after_tx coins (get_or ts i t)) (drop (i + 1) ts) ≡ spent_of coins (spends_of t) ++ spent_by (after_tx coins t) (drop (i + 1) ts) =
+txs_spent front more all coins new t d ts i lt is h e so_far =
+    let step : spent_by coins (drop i ts) ≡ spent_of coins (spends_of (get_or ts i d)) ++ spent_by (after_tx coins (get_or ts i d)) (drop (i + 1) ts) = rw (add-one, drop-cons ts i d) refl in
+    let same : spent_of coins (spends_of (get_or ts i d)) ++ spent_by (after_tx coins (get_or ts i d)) (drop (i + 1) ts) ≡ spent_of coins (spends_of t) ++ spent_by (after_tx coins t) (drop (i + 1) ts) =
     ap (λ (x : Tx). spent_of coins (spends_of x) ++ spent_by (after_tx coins x) (drop (i + 1) ts)) (sym is) in
     let after : spent_by new (drop (i + 1) ts) ≡ spent_by (after_tx coins t) (drop (i + 1) ts) = ap (λ (c : CoinMap). spent_by c (drop (i + 1) ts)) (spend_gave coins new t h).1 in
     let rest : List Output = spent_by (after_tx coins t) (drop (i + 1) ts) in

@@ -7,7 +7,9 @@ use Rattle.std.proofs.lemmas.List.{append_assoc, map-append}
 use Rattle.cf_bytes.specs.declared.hash.Hash32.{Hash32}
 use Rattle.cf_block.specs.declared.tx.Block.{Block}
 use Rattle.cf_block.specs.Header.{block_hash_of}
-use Rattle.cf_block.specs.Tx.{IsBlock}
+use Rattle.cf_block.specs.Commitment.{AreTxids}
+use Rattle.cf_block.specs.Tx.{IsBlock, txid_of}
+use Rattle.cf_block.specs.Views.{bytes_of}
 use Rattle.cf_chain.specs.Coins.{CoinMap, after_block, coins_after}
 use Rattle.cf_chain.specs.Filters.{Filtered, prevouts, filtered, filtered_on}
 use Rattle.cf_chain.specs.Good.{AreGoodBlocks}
@@ -32,6 +34,13 @@ pub named_more : (hashes new : List Hash32) (blocks more : List Block) (b : Bloc
 named_more hashes new blocks more b h named is pushed grown =
     let one : h ≡ record { 0 = block_hash_of b.header } = λ i. record { 0 = is i } in
     pushed ∙ ap (λ (l : List Hash32). l ++ h ∷ []) named ∙ ap (λ (x : Hash32). hashes_of blocks ++ x ∷ []) one ∙ sym (hashes_more blocks b) ∙ ap hashes_of (sym grown)
+
+pub hashed_more : (ids new : List (List Hash32)) (blocks more : List Block) (b : Block) (l : List Hash32) → map bytes_of ids ≡ map (λ x. map txid_of x.txs) blocks → AreTxids l b.txs
+    → new ≡ ids ++ l ∷ [] → more ≡ blocks ++ b ∷ [] → map bytes_of new ≡ map (λ x. map txid_of x.txs) more
+hashed_more ids new blocks more b l hashed is pushed grown =
+    ap (map bytes_of) pushed ∙ map-append bytes_of ids (l ∷ []) ∙ ap (λ (x : List (List (List ℕ))). x ++ bytes_of l ∷ []) hashed
+    ∙ ap (λ (x : List (List ℕ)). map (λ (y : Block). map txid_of y.txs) blocks ++ x ∷ []) is
+    ∙ sym (map-append (λ (y : Block). map txid_of y.txs) blocks (b ∷ [])) ∙ ap (map (λ (y : Block). map txid_of y.txs)) (sym grown)
 
 pub taken_more : (spent new : List (List (List ℕ))) (blocks more : List Block) (b : Block) (scripts : List (List ℕ)) (coins : CoinMap) → spent ≡ prevouts_in empty blocks
     → coins ≡ coins_after empty blocks → scripts ≡ prevouts coins b → new ≡ spent ++ scripts ∷ [] → more ≡ blocks ++ b ∷ [] → new ≡ prevouts_in empty more

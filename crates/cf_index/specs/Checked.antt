@@ -4,6 +4,8 @@ use Rattle.std.specs.FinMap.{empty}
 use Rattle.cf_bytes.specs.declared.hash.Hash32.{Hash32}
 use Rattle.cf_block.specs.declared.tx.Block.{Block}
 use Rattle.cf_block.specs.Header.{block_hash_of}
+use Rattle.cf_block.specs.Tx.{txid_of}
+use Rattle.cf_block.specs.Views.{bytes_of}
 use Rattle.cf_chain.specs.Coins.{CoinMap, after_block}
 use Rattle.cf_chain.specs.Filters.{prevouts}
 use Rattle.cf_chain.specs.Good.{IsGoodChain}
@@ -17,8 +19,9 @@ abbrev pub prevouts_in : CoinMap → List Block → List (List (List ℕ))
 prevouts_in coins [] = []
 prevouts_in coins (b ∷ bs) = prevouts coins b ∷ prevouts_in (after_block coins b) bs
 
--- a good chain's blocks, their hashes, and the scripts that each spends
-pub record IsChecked (blocks : List Block) (hashes : List Hash32) (spent : List (List (List ℕ))) : Type 0 where
+-- a good chain's blocks, their hashes, those of their transactions, and the scripts that each spends
+pub record IsChecked (blocks : List Block) (hashes : List Hash32) (txids : List (List Hash32)) (spent : List (List (List ℕ))) : Type 0 where
   pub good : IsGoodChain blocks
   pub named : hashes ≡ hashes_of blocks
+  pub hashed : map bytes_of txids ≡ map (λ b. map txid_of b.txs) blocks
   pub taken : spent ≡ prevouts_in empty blocks

@@ -16,7 +16,7 @@ use Rattle.cf_index.specs.Files.{all_zeros}
 
 -- a good chain, the hash of its highest header, and the coins after it
 pub record Keeps (chain : Chain) : Type 0 where
-  pub checked : IsChecked chain.blocks chain.hashes chain.spent
+  pub checked : IsChecked chain.blocks chain.hashes chain.txids chain.spent
   pub tip : chain.tip.0 ≡ tip_hash (headers_of chain.blocks)
   pub coins : chain.coins ≡ coins_after empty chain.blocks
 

@@ -2,8 +2,7 @@
 ghost use Rattle.std.specs.Prelude.{◌≡◌};
 ghost use Rattle.cf_filter.specs.Filter.{filter_hash_of};
 
-use cf_block::Listed;
-use cf_bytes::Hash32;
+use cf_bytes::{Hash32, Listed};
 
 /// A block's hash, its basic filter, the filter's hash, and the filter's header, which stands for all filters up to it (BIP 157, "Filter Headers").
 #[derive(Drop, Debug)]

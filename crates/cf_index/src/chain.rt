@@ -2,7 +2,7 @@
 ghost use Rattle.std.specs.Prelude.{◌≡◌, ◌++◌, ◌∷◌, [], IfOk, OnOk};
 ghost use Rattle.cf_block.specs.Tx.{IsBlock};
 ghost use Rattle.cf_headers.specs.Rules.{fault_with};
-ghost use Rattle.cf_block.specs.Commitment.{commit_fault};
+ghost use Rattle.cf_block.specs.Commitment.{AreTxids, commit_fault};
 ghost use Rattle.cf_block.specs.Header.{block_hash_of};
 ghost use Rattle.cf_chain.specs.Coins.{after_block};
 ghost use Rattle.cf_chain.specs.Filters.{prevouts};
@@ -13,8 +13,10 @@ ghost use Rattle.cf_index.specs.Progress.{Keeps, FindsCause};
 use crate::cause::RecordCause;
 use crate::coins::Coins;
 use crate::spend::{Spent, spend_block};
-use cf_block::{Block, Header, Listed, block_hash, check_commitment, genesis_header};
-use cf_bytes::{Hash32, NoMemory, Refused};
+use cf_block::{
+    Block, Header, TxIds, block_hash, check_commitment_by, genesis_header, txids,
+};
+use cf_bytes::{Hash32, Listed, NoMemory, Refused};
 use cf_headers::check_on;
 use std::alloc::Global;
 
@@ -24,12 +26,13 @@ pub(crate) type Blocks = Listed<Block>;
 // The greatest height of a chain.
 const MAX_HEIGHT: usize = 100_000;
 
-// A good chain: its blocks, of each the hash and the scripts that it spends, and what the next one is judged by: the hash of the highest
+// A good chain: its blocks, of each the hash, those of its transactions and the scripts that it spends, and what the next one is judged by: the hash of the highest
 // header, and the coins.
 #[derive(Drop)]
 pub(crate) struct Chain {
     pub(crate) blocks: Blocks,
     pub(crate) hashes: Listed<Hash32>,
+    pub(crate) txids: Listed<TxIds>,
     pub(crate) spent: Listed<Spent>,
     pub(crate) tip: Hash32,
     pub(crate) coins: Coins,
@@ -43,6 +46,7 @@ pub(crate) fn new_chain(alloc: Global) -> Chain
     Chain {
         blocks: Listed::new(alloc),
         hashes: Listed::new(alloc),
+        txids: Listed::new(alloc),
         spent: Listed::new(alloc),
         tip: block_hash(&genesis_header()),
         coins: Coins::new(alloc),
@@ -67,11 +71,16 @@ fn judge_height(height: usize) -> Result<(), Refused<RecordCause>>
     Ok(())
 }
 
-fn judge_commitment(alloc: Global, block: &Block) -> Result<(), Refused<RecordCause>>
-    ensures { FindsCause (in_commitment (commit_fault block.now)) result }
+// Answers the hashes of the transactions, which are made here.
+fn judge_commitment(alloc: Global, block: &Block) -> Result<TxIds, Refused<RecordCause>>
+    ensures exact { FindsCause (in_commitment (commit_fault block.now)) result }
+    ensures hashes { IfOk result (λ ids. AreTxids ids block.now.txs) }
 {
-    match check_commitment(alloc, block) {
-        Ok(()) => Ok(()),
+    let Ok(ids) = txids(alloc, block.txs.as_slice()) else {
+        return Err(Refused::NoMemory);
+    };
+    match check_commitment_by(alloc, block, ids.as_slice()) {
+        Ok(()) => Ok(ids),
         Err(Refused::NoMemory) => Err(Refused::NoMemory),
         Err(Refused::No(fault)) => Err(Refused::No(RecordCause::Commit(fault))),
     }
@@ -81,35 +90,46 @@ fn judge_coins(
     alloc: Global,
     coins: &mut Coins,
     block: &Block,
+    txids: &[Hash32],
 ) -> Result<Spent, Refused<RecordCause>>
-    requires { IsBlock block.now }
+    requires block { IsBlock block.now }
+    requires hashes { AreTxids txids.now block.now.txs }
     ensures exact { FindsCause (in_coins (spend_txs coins.old block.now.txs)) result }
     ensures after { OnOk result (coins.new ≡ after_block coins.old block.now) }
     ensures spent { IfOk result (λ scripts. scripts ≡ prevouts coins.old block.now) }
 {
-    match spend_block(alloc, coins, block) {
+    match spend_block(alloc, coins, block, txids) {
         Ok(spent) => Ok(spent),
         Err(Refused::NoMemory) => Err(Refused::NoMemory),
         Err(Refused::No(fault)) => Err(Refused::No(RecordCause::Coins(fault))),
     }
 }
 
-// Judges a block against the chain that it is to stand on, puts the chain's coins after it, and answers the scripts that it spends.
+// What the check finds of a block: the hashes of its transactions, and the scripts that it spends.
+#[derive(Drop)]
+struct Found {
+    txids: TxIds,
+    spent: Spent,
+}
+
+// Judges a block against the chain that it is to stand on, and puts the chain's coins after it.
 #[tactic(auto, unfolding(crate::specs::Files::cause_on))]
 fn judge(
     alloc: Global,
     chain: &mut Chain,
     block: &Block,
     hash: &Hash32,
-) -> Result<Spent, Refused<RecordCause>>
+) -> Result<Found, Refused<RecordCause>>
     requires kept { Keeps chain.old }
     requires block { IsBlock block.now }
     requires hash { hash.now.0 ≡ block_hash_of block.now.header }
     ensures exact { FindsCause (cause_on chain.old.blocks block.now) result }
     ensures coins { OnOk result (chain.new.coins ≡ after_block chain.old.coins block.now) }
-    ensures spent { IfOk result (λ scripts. scripts ≡ prevouts chain.old.coins block.now) }
+    ensures hashed { IfOk result (λ found. AreTxids found.txids block.now.txs) }
+    ensures spent { IfOk result (λ found. found.spent ≡ prevouts chain.old.coins block.now) }
     ensures blocks { chain.new.blocks ≡ chain.old.blocks }
     ensures hashes { chain.new.hashes ≡ chain.old.hashes }
+    ensures txids { chain.new.txids ≡ chain.old.txids }
     ensures others { chain.new.spent ≡ chain.old.spent }
 {
     match judge_header(&chain.tip, &block.header, hash) {
@@ -120,14 +140,17 @@ fn judge(
         Ok(()) => {}
         Err(e) => return Err(e),
     }
-    match judge_commitment(alloc, block) {
-        Ok(()) => {}
+    let txids = match judge_commitment(alloc, block) {
+        Ok(txids) => txids,
         Err(e) => return Err(e),
+    };
+    match judge_coins(alloc, &mut chain.coins, block, txids.as_slice()) {
+        Ok(spent) => Ok(Found { txids, spent }),
+        Err(e) => Err(e),
     }
-    judge_coins(alloc, &mut chain.coins, block)
 }
 
-// Puts a block on the chain, or answers why it may not stand there. Its header is hashed once.
+// Puts a block on the chain, or answers why it may not stand there. Its header and each transaction are hashed once.
 pub(crate) fn put_on_chain(
     alloc: Global,
     chain: Chain,
@@ -141,13 +164,14 @@ pub(crate) fn put_on_chain(
 {
     let mut chain = chain;
     let hash = block_hash(&block.header);
-    let spent = match judge(alloc, &mut chain, &block, &hash) {
-        Ok(spent) => spent,
+    let found = match judge(alloc, &mut chain, &block, &hash) {
+        Ok(found) => found,
         Err(e) => return Err(e),
     };
     chain.blocks.push(block)?;
     chain.hashes.push(hash)?;
-    chain.spent.push(spent)?;
+    chain.txids.push(found.txids)?;
+    chain.spent.push(found.spent)?;
     chain.tip = hash;
     Ok(chain)
 }

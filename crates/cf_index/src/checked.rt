@@ -1,21 +1,24 @@
 //! Chains that were checked.
-ghost use Rattle.std.specs.Prelude.{◌≡◌, length};
+ghost use Rattle.std.specs.Prelude.{◌≡◌, length, map};
+ghost use Rattle.cf_block.specs.Tx.{txid_of};
+ghost use Rattle.cf_block.specs.Views.{bytes_of};
 ghost use Rattle.cf_chain.specs.Good.{IsGoodChain, headers_of};
 ghost use Rattle.cf_headers.specs.Chain.{tip_hash};
 ghost use Rattle.cf_index.specs.Progress.{Keeps};
 
 use crate::chain::{Blocks, Chain};
 use crate::spend::Spent;
-use cf_block::{Block, Listed};
-use cf_bytes::Hash32;
+use cf_block::{Block, TxIds};
+use cf_bytes::{Hash32, Listed};
 use std::marker::Model;
 
-/// The blocks of a chain that was checked, with what the check has found of each: its hash, and the scripts that its inputs spend. Contracts see
+/// The blocks of a chain that was checked, with what the check has found of each: its hash, those of its transactions, and the scripts that its inputs spend. Contracts see
 /// the list of the blocks above genesis, the lowest first.
 #[derive(Drop)]
 pub struct CheckedChain {
     pub(crate) blocks: Blocks,
     pub(crate) hashes: Listed<Hash32>,
+    pub(crate) txids: Listed<TxIds>,
     pub(crate) spent: Listed<Spent>,
     pub(crate) tip: Hash32,
 }
@@ -31,7 +34,7 @@ impl Model for CheckedChain {
 
     ghost view = { λ s. s.blocks };
 
-    ghost invariant = { λ s. IsChecked s.blocks s.hashes s.spent × (s.tip.0 ≡ tip_hash (headers_of s.blocks)) };
+    ghost invariant = { λ s. IsChecked s.blocks s.hashes s.txids s.spent × (s.tip.0 ≡ tip_hash (headers_of s.blocks)) };
 }
 
 impl CheckedChain {
@@ -43,6 +46,7 @@ impl CheckedChain {
         CheckedChain {
             blocks: chain.blocks,
             hashes: chain.hashes,
+            txids: chain.txids,
             spent: chain.spent,
             tip: chain.tip,
         }
@@ -68,5 +72,12 @@ impl CheckedChain {
         ensures { result.now ≡ self.now }
     {
         self.blocks.as_slice()
+    }
+
+    /// The hashes of the transactions of each of these blocks.
+    pub fn txids(&self) -> &[TxIds]
+        ensures { map bytes_of result.now ≡ map (λ b. map txid_of b.txs) self.now }
+    {
+        self.txids.as_slice()
     }
 }

@@ -1,16 +1,18 @@
 //! The basic filters of a chain's blocks.
+ghost use Rattle.std.specs.FinMap.{empty};
 ghost use Rattle.std.specs.Prelude.{◌≡◌, ◌≤◌, ◌+◌, [], map, replicate, length, flat_map, IfOk};
 ghost use Rattle.cf_block.specs.Genesis.{first_block};
 ghost use Rattle.cf_block.specs.Header.{block_hash_of};
 ghost use Rattle.cf_chain.specs.Filters.{filtered, first_filtered, filters_of};
 ghost use Rattle.cf_filter.specs.Items.{paid_scripts};
-ghost use Rattle.cf_index.specs.Checked.{IsChecked};
+ghost use Rattle.cf_chain.specs.Good.{IsGoodChain};
+ghost use Rattle.cf_index.specs.Checked.{hashes_of, prevouts_in};
 ghost use Rattle.cf_index.specs.Filtering.{shown};
 
 use crate::block_filter::BlockFilter;
 use crate::spend::Spent;
-use cf_block::{Block, Listed, Script, block_hash, genesis};
-use cf_bytes::{Hash32, NoMemory};
+use cf_block::{Block, Script, block_hash, genesis};
+use cf_bytes::{Hash32, Listed, NoMemory};
 use cf_filter::{build, filter_hash, filter_header, items};
 use std::alloc::Global;
 
@@ -53,7 +55,9 @@ pub(crate) fn all_filters(
     hashes: &[Hash32],
     spent: &[Spent],
 ) -> Result<Listed<BlockFilter>, NoMemory>
-    requires { IsChecked blocks.now hashes.now spent.now }
+    requires good { IsGoodChain blocks.now }
+    requires named { hashes.now ≡ hashes_of blocks.now }
+    requires taken { spent.now ≡ prevouts_in empty blocks.now }
     ensures { IfOk result (λ list. map shown list ≡ filters_of blocks.now) }
 {
     let first = first_filter(alloc)?;

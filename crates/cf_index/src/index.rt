@@ -12,8 +12,8 @@ use crate::chain::Blocks;
 use crate::checked::CheckedChain;
 use crate::filters::all_filters;
 use crate::heights::{Heights, heights_of};
-use cf_block::{Block, Header, Listed, genesis};
-use cf_bytes::{Hash32, NoMemory};
+use cf_block::{Block, Header, genesis};
+use cf_bytes::{Hash32, Listed, NoMemory};
 use std::alloc::Global;
 use std::marker::Model;
 
@@ -46,9 +46,11 @@ impl Index {
         let CheckedChain {
             blocks,
             hashes,
+            txids,
             spent,
             tip: _,
         } = chain;
+        drop(txids);
         let genesis = genesis(alloc)?;
         let filters = all_filters(alloc, blocks.as_slice(), hashes.as_slice(), spent.as_slice())?;
         drop(hashes);

@@ -1,17 +1,17 @@
 //! The transactions of a block against the coins.
 ghost use Rattle.std.specs.Prelude.{◌≡◌, ◌++◌, ◌<◌, ◌^◌, length, IfOk, OnOk, MatchResult, All, Ok, Err};
 ghost use Rattle.std.specs.List.{list_any};
-ghost use Rattle.cf_block.specs.Commitment.{is_coinbase_tx};
+ghost use Rattle.cf_block.specs.Commitment.{AreTxids, is_coinbase_tx};
 ghost use Rattle.cf_block.specs.Outpoint.{spends_of};
-ghost use Rattle.cf_block.specs.Tx.{IsBlock};
+ghost use Rattle.cf_block.specs.Tx.{IsBlock, txid_of};
 ghost use Rattle.cf_chain.specs.Coins.{spent as spent_of, spent_by, after_tx, after_block};
 ghost use Rattle.cf_chain.specs.Filters.{prevouts};
 ghost use Rattle.cf_index.specs.Spending.{prevs, scripts_of, take_all, put_all, spend, spend_all, spend_txs, coinbase_fault as coinbase_fault_of, Gives};
 
 use crate::cause::CoinFault;
 use crate::coins::Coins;
-use cf_block::{Block, Listed, OutPoint, Script, Tx, TxIn, TxOut, is_coinbase, txid};
-use cf_bytes::{Hash32, NoMemory, Refused};
+use cf_block::{Block, OutPoint, Script, Tx, TxIn, TxOut, is_coinbase};
+use cf_bytes::{Hash32, Listed, Refused};
 use std::alloc::Global;
 
 // The scripts of the outputs that a block's transactions spend, in the order of their inputs.
@@ -24,15 +24,20 @@ pub(crate) fn spend_block(
     alloc: Global,
     coins: &mut Coins,
     block: &Block,
+    txids: &[Hash32],
 ) -> Result<Spent, Refused<CoinFault>>
-    requires { IsBlock block.now }
+    requires block { IsBlock block.now }
+    requires hashes { AreTxids txids.now block.now.txs }
     ensures exact { Gives (spend_txs coins.old block.now.txs) result coins.new }
     ensures after { OnOk result (coins.new ≡ after_block coins.old block.now) }
     ensures spent { IfOk result (λ scripts. scripts ≡ prevouts coins.old block.now) }
 {
     let mut spent = Vec::new(alloc);
-    match check_txs(alloc, coins, block.txs.as_slice(), &mut spent) {
-        Ok(()) => Ok(Listed::from_vec(spent)),
+    match check_txs(alloc, coins, block.txs.as_slice(), txids, &mut spent) {
+        Ok(()) => {
+            spent.shrink_to_fit();
+            Ok(Listed::from_vec(spent))
+        }
         Err(e) => Err(e),
     }
 }
@@ -42,15 +47,17 @@ fn check_txs(
     alloc: Global,
     coins: &mut Coins,
     txs: &[Tx],
+    txids: &[Hash32],
     spent: &mut Vec<Script>,
 ) -> Result<(), Refused<CoinFault>>
-    requires { All (λ t. length t.outputs < 2 ^ 32) txs.now }
+    requires few { All (λ t. length t.outputs < 2 ^ 32) txs.now }
+    requires hashes { AreTxids txids.now txs.now }
     ensures exact { Gives (spend_txs coins.old txs.now) result coins.new }
     ensures spent { OnOk result (spent.new.items ≡ spent.old.items ++ scripts_of (spent_by coins.old txs.now)) }
 {
     match find_coinbase_fault(txs) {
         Some(fault) => Err(Refused::No(fault)),
-        None => spend_each(alloc, coins, txs, spent),
+        None => spend_each(alloc, coins, txs, txids, spent),
     }
 }
 
@@ -81,14 +88,16 @@ fn spend_each(
     alloc: Global,
     coins: &mut Coins,
     txs: &[Tx],
+    txids: &[Hash32],
     spent: &mut Vec<Script>,
 ) -> Result<(), Refused<CoinFault>>
-    requires { All (λ t. length t.outputs < 2 ^ 32) txs.now }
+    requires few { All (λ t. length t.outputs < 2 ^ 32) txs.now }
+    requires hashes { AreTxids txids.now txs.now }
     ensures exact { Gives (spend_all coins.old txs.now) result coins.new }
     ensures spent { OnOk result (spent.new.items ≡ spent.old.items ++ scripts_of (spent_by coins.old txs.now)) }
 {
-    for tx in txs {
-        match spend_tx(alloc, coins, tx, spent) {
+    for (i, tx) in txs.iter().enumerate() {
+        match spend_tx(alloc, coins, tx, txids[i], spent) {
             Ok(()) => {}
             Err(e) => return Err(e),
         }
@@ -96,22 +105,20 @@ fn spend_each(
     Ok(())
 }
 
-// The transaction's hash is computed once.
 fn spend_tx(
     alloc: Global,
     coins: &mut Coins,
     tx: &Tx,
+    txid: Hash32,
     spent: &mut Vec<Script>,
 ) -> Result<(), Refused<CoinFault>>
-    requires { length tx.now.outputs < 2 ^ 32 }
+    requires few { length tx.now.outputs < 2 ^ 32 }
+    requires hash { txid.0 ≡ txid_of tx.now }
     ensures exact { Gives (spend coins.old tx.now) result coins.new }
     ensures spent { OnOk result (spent.new.items ≡ spent.old.items ++ scripts_of (spent_of coins.old (spends_of tx.now))) }
 {
     match spend_inputs(coins, tx, spent) {
-        Ok(()) => {
-            let hash = txid(tx);
-            put_outputs(alloc, coins, hash, tx.outputs.as_slice())
-        }
+        Ok(()) => put_outputs(alloc, coins, txid, tx.outputs.as_slice()),
         Err(e) => Err(e),
     }
 }
@@ -147,16 +154,6 @@ fn take_inputs(
     Ok(())
 }
 
-fn copy_of(alloc: Global, output: &TxOut) -> Result<TxOut, NoMemory>
-    ensures { IfOk result (λ copy. copy ≡ output.now) }
-{
-    let script = output.script.copy(alloc)?;
-    Ok(TxOut {
-        value: output.value,
-        script,
-    })
-}
-
 fn put_outputs(
     alloc: Global,
     coins: &mut Coins,
@@ -169,7 +166,7 @@ fn put_outputs(
     let mut index = 0u32;
     for output in outputs {
         let name = OutPoint { txid, index };
-        let copy = copy_of(alloc, output)?;
+        let copy = output.copy(alloc)?;
         if coins.put(name, copy)? {
             return Err(Refused::No(CoinFault::Exists(name)));
         }

@@ -1,11 +1,13 @@
 //! What is kept of a block that was fetched.
 ghost use Rattle.std.specs.Prelude.{◌≡◌, IfOk, map};
+ghost use Rattle.cf_block.specs.Commitment.{AreTxids};
 ghost use Rattle.cf_block.specs.Outpoint.{spends_of};
+ghost use Rattle.cf_block.specs.Tx.{txid_of};
 ghost use Rattle.cf_scan.specs.Extracts.{pays_from, tx_extract_of, extract_of};
 
 use crate::watch::Watch;
-use cf_block::{Block, Listed, OutPoint, Tx, TxIn, TxOut, is_coinbase, txid};
-use cf_bytes::{Hash32, NoMemory};
+use cf_block::{Block, OutPoint, Tx, TxIn, TxOut, is_coinbase, txids};
+use cf_bytes::{Hash32, Listed, NoMemory};
 use std::alloc::Global;
 
 /// An output to a watched script.
@@ -47,20 +49,36 @@ pub struct Placed {
 pub fn extract(alloc: Global, block: &Block, watch: &Watch) -> Result<Extract, NoMemory>
     ensures { IfOk result (λ e. e ≡ extract_of block.now watch.now) }
 {
-    let mut out = Listed::new(alloc);
-    for tx in block.txs.as_slice() {
-        out.push(extract_tx(alloc, tx, watch)?)?;
-    }
-    Ok(out)
+    let ids = txids(alloc, block.txs.as_slice())?;
+    extract_by(alloc, block, ids.as_slice(), watch)
 }
 
-fn extract_tx(alloc: Global, tx: &Tx, watch: &Watch) -> Result<TxExtract, NoMemory>
+/// The same of a block whose transactions' hashes are given, in their order, as `cf_block::txids` makes them.
+pub fn extract_by(
+    alloc: Global,
+    block: &Block,
+    txids: &[Hash32],
+    watch: &Watch,
+) -> Result<Extract, NoMemory>
+    requires { AreTxids txids.now block.now.txs }
+    ensures { IfOk result (λ e. e ≡ extract_of block.now watch.now) }
+{
+    let mut out = Vec::with_capacity(alloc, txids.len())?;
+    for (i, tx) in block.txs.as_slice().iter().enumerate() {
+        let extract = extract_tx(alloc, tx, txids[i], watch)?;
+        out.push(extract)?;
+    }
+    Ok(Listed::from_vec(out))
+}
+
+fn extract_tx(alloc: Global, tx: &Tx, txid: Hash32, watch: &Watch) -> Result<TxExtract, NoMemory>
+    requires { txid.0 ≡ txid_of tx.now }
     ensures { IfOk result (λ e. e ≡ tx_extract_of watch.now tx.now) }
 {
     let spends = spent_outpoints(alloc, tx)?;
     let pays = watched_outputs(alloc, tx.outputs.as_slice(), watch)?;
     Ok(TxExtract {
-        txid: txid(tx),
+        txid,
         spends,
         pays,
     })
@@ -96,19 +114,9 @@ fn watched_outputs(
     for (place, output) in outputs.iter().enumerate() {
         if watch.has(output.script.as_slice()) {
             let index = u32::try_from(place).map_err(|_| NoMemory)?;
-            let output = copy_output(alloc, output)?;
+            let output = output.copy(alloc)?;
             pays.push(Paid { index, output })?;
         }
     }
     Ok(pays)
-}
-
-fn copy_output(alloc: Global, output: &TxOut) -> Result<TxOut, NoMemory>
-    ensures { IfOk result (λ copy. copy ≡ output.now) }
-{
-    let script = output.script.copy(alloc)?;
-    Ok(TxOut {
-        value: output.value,
-        script,
-    })
 }

@@ -9,12 +9,9 @@ mod ledger;
 mod scanning;
 mod watch;
 
-pub use extracts::{Extract, Paid, Placed, TxExtract, extract};
+pub use extracts::{Extract, Paid, Placed, TxExtract, extract, extract_by};
 pub use history::{Entry, History};
 pub use laws::{laws_of_histories, laws_of_watches};
 pub use ledger::Ledger;
 pub use scanning::scan;
 pub use watch::{Watch, WatchFault, WatchKind};
-
-#[cfg(test)]
-mod tests;

@@ -8,6 +8,8 @@ mod cf_bytes_tests;
 #[cfg(test)]
 mod cf_conn_tests;
 #[cfg(test)]
+mod cf_index_tests;
+#[cfg(test)]
 mod cf_server_tests;
 #[cfg(test)]
 mod cut_conn;

@@ -7,6 +7,3 @@ mod tracker;
 mod walk;
 
 pub use tracker::{Report, Tracker};
-
-#[cfg(test)]
-mod tests;

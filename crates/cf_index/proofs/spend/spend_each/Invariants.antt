@@ -3,8 +3,8 @@ use Rattle.cf_chain.specs.Coins.{spent_by}
 use Rattle.cf_index.specs.Spending.{spend_all, scripts_of}
 use Rattle.cf_index.proofs.spend.spend_each.Given as goal
 
-abbrev pub invariant-loop-tx : goal.invariant-loop-tx
-invariant-loop-tx l = record {
-  exact : spend_all l.fn.coins l.txs ≡ spend_all l.coins (drop l.tx-index l.txs);
-  taken : l.spent.items ++ scripts_of (spent_by l.coins (drop l.tx-index l.txs)) ≡ l.fn.spent.items ++ scripts_of (spent_by l.fn.coins l.txs);
+abbrev pub invariant-loop-i : goal.invariant-loop-i
+invariant-loop-i l = record {
+  exact : spend_all l.fn.coins l.txs ≡ spend_all l.coins (drop l.i l.txs);
+  taken : l.spent.items ++ scripts_of (spent_by l.coins (drop l.i l.txs)) ≡ l.fn.spent.items ++ scripts_of (spent_by l.fn.coins l.txs);
 }

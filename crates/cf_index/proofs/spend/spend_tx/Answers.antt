@@ -5,4 +5,4 @@ pub returns-in-Err-clause-exact : goal.returns-in-Err-clause-exact
 returns-in-Err-clause-exact c = spend_fault c.args.coins.now c.args.tx.now c.in-Err.e c.in-Err.ensures.exact
 
 pub returns-in-Ok-clause-exact : goal.returns-in-Ok-clause-exact
-returns-in-Ok-clause-exact c = rw (spend_is c.args.coins.now c.spend_inputs.new.coins c.args.tx.now c.in-Ok.ensures.exact, ← c.txid-hash.ensures, ← c.as_slice.ensures) c.put_outputs.ensures
+returns-in-Ok-clause-exact c = rw (spend_is c.args.coins.now c.spend_inputs.new.coins c.args.tx.now c.in-Ok.ensures.exact, ← c.requires.hash, ← c.as_slice.ensures) c.put_outputs.ensures

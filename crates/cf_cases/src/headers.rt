@@ -1,0 +1,71 @@
+//! The target of hashes, and the locators of chains of headers.
+ghost use Rattle.std.specs.Prelude.{IsSome};
+
+use crate::chains::chain_in;
+use cf_block::Header;
+use cf_bytes::{Hash32, PeerNo, read_hash};
+use cf_headers::{HeaderStore, Lists, meets_target};
+use std::alloc::Global;
+
+// The peer whose chain it is.
+const PEER: PeerNo = PeerNo(1);
+
+/// Whether the hash of a row meets the target.
+pub(crate) fn target(alloc: Global, row: &str) -> Option<String> {
+    let hash = read_hash(row)?;
+    format!(in alloc; "{}", meets_target(&hash)).ok()
+}
+
+// The headers of the made chain that a row tells.
+fn headers_of(alloc: Global, row: &str) -> Option<Vec<Header>> {
+    let chain = chain_in(alloc, row)?;
+    let mut headers = Vec::new(alloc);
+    for block in chain.as_slice() {
+        headers.push(block.header).ok()?;
+    }
+    Some(headers)
+}
+
+// The heights of hashes in the peer's chain.
+fn heights_of<H: HeaderStore>(alloc: Global, store: &H, hashes: &[Hash32]) -> Option<String>
+    requires { IsSome (H.chain store.now 1) }
+{
+    let mut text = format!(in alloc; "heights").ok()?;
+    for hash in hashes {
+        let height = store.place(PEER, hash)?;
+        let word = format!(in alloc; " {height}").ok()?;
+        text.push_str(word.as_str()).ok()?;
+    }
+    Some(text)
+}
+
+// The heights of the locator of the peer's chain.
+fn located<H: HeaderStore>(alloc: Global, store: &H) -> Option<String>
+    requires { IsSome (H.chain store.now 1) }
+{
+    let hashes = store.locator(alloc, PEER).ok()?;
+    heights_of(alloc, store, &hashes)
+}
+
+// The same, once it has shown these headers.
+#[tactic(auto, using(cf_headers::proofs::Places::still_entered))]
+fn located_on<H: HeaderStore>(alloc: Global, store: &mut H, headers: &[Header]) -> Option<String>
+    requires { IsSome (H.chain store.old 1) }
+{
+    match store.accept(PEER, headers) {
+        Ok(_) => located(alloc, store),
+        Err(_) => None,
+    }
+}
+
+/// The heights of the locator of the made chain that a row tells.
+pub(crate) fn locator(alloc: Global, row: &str) -> Option<String> {
+    let headers = headers_of(alloc, row)?;
+    let Ok(mut store) = Lists::new(alloc) else {
+        return None;
+    };
+    match store.enter(PEER) {
+        Ok(()) => located_on(alloc, &mut store, &headers),
+        Err(_) => None,
+    }
+}
