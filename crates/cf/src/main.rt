@@ -2,8 +2,8 @@
 //! wrong is told on standard error, and the exit status says which way the call ended.
 #![tactic(auto)]
 
+mod faults;
 mod outside;
-mod texts;
 
 use cf_bytes::{StdFiles, WriterSink, put_all};
 use cf_cli::{Status, own_text, run};
@@ -37,20 +37,30 @@ fn run_command(rt: &HostRuntime, words: &[String]) -> Status {
     )
 }
 
-fn answer(rt: &HostRuntime) -> Status {
-    let words = match outside::words(rt) {
-        Ok(words) => words,
-        Err(status) => return status,
-    };
-    match own_text(&words) {
+fn answer(rt: &HostRuntime, words: &[String]) -> Status {
+    match own_text(words) {
         Some(text) => say(rt, text),
-        None => run_command(rt, &words),
+        None => run_command(rt, words),
     }
 }
 
+// What a call comes to. Where standard error can't be written, the exit status alone tells what went wrong.
+fn call(rt: &HostRuntime, words: &[String]) -> Status {
+    let status = answer(rt, words);
+    let _told = faults::tell(rt, words, &status);
+    status
+}
+
+// The words can't be read.
+fn wordless(rt: &HostRuntime, status: Status) -> Status {
+    let _told = faults::tell(rt, &[], &status);
+    status
+}
+
 fn main(rt: HostRuntime) -> ExitCode {
-    let status = answer(&rt);
-    // Where standard error can't be written, the exit status alone tells.
-    let _told = texts::tell_fault(&rt, &status);
+    let status = match outside::words(&rt) {
+        Ok(words) => call(&rt, &words),
+        Err(status) => wordless(&rt, status),
+    };
     ExitCode::from(status.code())
 }

@@ -46,6 +46,6 @@ none_by : (o : Option Filtered) → None ≡ option_map filter_text o → o ≡ 
 none_by None is = refl
 none_by (Some f) is = cc
 
-pub is_above : (now : Option (List ℕ)) (blocks : List Block) (height : ℕ) → None ≡ option_map filter_text (filter_at blocks height)
-    → TellsHeight NoHeight now now blocks height (nat_lt (length blocks) height)
-is_above now blocks height is = subst (TellsHeight NoHeight now now blocks height) (sym (above blocks height (none_by (filter_at blocks height) is))) refl
+pub is_above : (tip : ℕ) (now : Option (List ℕ)) (blocks : List Block) (height : ℕ) → tip ≡ length blocks → None ≡ option_map filter_text (filter_at blocks height)
+    → TellsHeight (NoHeight tip) now now blocks height (nat_lt (length blocks) height)
+is_above tip now blocks height top is = subst (TellsHeight (NoHeight tip) now now blocks height) (sym (above blocks height (none_by (filter_at blocks height) is))) (top, refl)

@@ -18,8 +18,8 @@ use Rattle.cf_input.specs.declared.words.Command.{Command}
 use Rattle.cf_input.specs.declared.words.Command.TheVariants.{Replay, Sync}
 use Rattle.cf_input.specs.SessionFile.{session_of}
 use Rattle.cf_input.specs.WatchFile.{watch_of}
-use Rattle.cf_cli.specs.Statuses.{has_run, IsOfFile, IsJudged, verdict_of, and_then, watch_verdict, session_verdict}
-use Rattle.cf_cli.specs.Theorem.{Kept, KeptOver, IsKept, Plays, PlaysSession, Tallied}
+use Rattle.cf_cli.specs.Statuses.{has_run, may_dial, may_play, IsOfFile, IsJudged, verdict_of, and_then, watch_verdict, session_verdict}
+use Rattle.cf_cli.specs.Theorem.{Kept, KeptOver, IsKept, IsOfRun, Plays, PlaysSession, Tallied, has_somebody}
 
 -- dials of the same names that went alike are the same
 pub dials_same : (xs ys : List Dial) → map (λ (d : Dial). d.name) xs ≡ map (λ (d : Dial). d.name) ys → ((i : ℕ) → i < length xs → answered_at xs i ≡ answered_at ys i) → xs ≡ ys
@@ -86,7 +86,20 @@ no_run OutFault is = absurd is
 no_run (NoPeers ends) is = absurd is
 no_run Tired is = absurd is
 no_run Ended is = absurd is
-no_run NoHeight is = absurd is
+no_run (NoHeight tip) is = absurd is
+
+-- the answers to files are among those of `sync` and `replay`
+file_answers : (status : Status) → IsOfFile status → IsOfRun status
+file_answers NoMemory is = tt
+file_answers FileFault is = tt
+file_answers (BadFile which place cause) is = tt
+file_answers Done is = absurd is
+file_answers Usage is = absurd is
+file_answers OutFault is = absurd is
+file_answers (NoPeers ends) is = absurd is
+file_answers Tired is = absurd is
+file_answers Ended is = absurd is
+file_answers (NoHeight tip) is = absurd is
 
 -- where no run is made nothing has passed, and nobody is honest
 early_kept : (status : Status) (trace : Bool) (scripts names : List (List ℕ)) (b : Option (List ℕ)) (log : Log) → has_run status ≡ false → log ≡ [] → Kept status trace scripts names b b log
@@ -129,9 +142,31 @@ pub told_over_watch : (o : Option Log) (status : Status) (trace : Bool) (files :
 told_over_watch None status trace files watch scripts names before after read kept = tt
 told_over_watch (Some log) status trace files watch scripts names before after read kept = over_watch status trace files watch scripts names before after log read kept
 
--- nothing is told of a run for which memory was wanting
-pub early_tallied : (turns : ℕ) (tally : Tally) → Tallied NoMemory turns tally
-early_tallied turns tally = record { no_peers = λ ends is. cc; somebody = λ is. cc; tired = λ is. cc; ended = λ is. cc; early = λ is. cc }
+-- where no run was made the tally tells nothing
+has_nobody : (status : Status) → has_run status ≡ false → has_somebody status ≡ false
+has_nobody Done off = absurd (false≢true (sym off))
+has_nobody Tired off = absurd (false≢true (sym off))
+has_nobody Ended off = absurd (false≢true (sym off))
+has_nobody NoMemory off = refl
+has_nobody Usage off = refl
+has_nobody (BadFile which place cause) off = refl
+has_nobody FileFault off = refl
+has_nobody OutFault off = refl
+has_nobody (NoPeers ends) off = refl
+has_nobody (NoHeight tip) off = refl
+
+not_run : (status other : Status) → has_run status ≡ false → has_run other ≡ true → status ≡ other → ⊥
+not_run status other off on is = false≢true (sym off ∙ ap has_run is ∙ on)
+
+pub early_tallied : (status : Status) (turns : ℕ) (tally : Tally) → IsOfFile status → Tallied status turns tally
+early_tallied status turns tally is = let off = no_run status is in record {
+  answers = file_answers status is;
+  no_peers = λ ends same. absurd (not_run status (NoPeers ends) off refl same);
+  somebody = λ here. absurd (false≢true (sym (has_nobody status off) ∙ here));
+  tired = λ same. absurd (not_run status Tired off refl same);
+  ended = λ same. absurd (not_run status Ended off refl same);
+  early = λ same. absurd (not_run status Ended off refl same);
+}
 
 pub same_command : (found : Option Command) (a b : Command) → found ≡ Some a → found ≡ Some b → a ≡ b
 same_command found a b e f = cc
@@ -156,3 +191,12 @@ pub judged_sync : (o : Option Named) (c : Command) (turns : ℕ) (watch : List �
 judged_sync o c turns watch peers watch_name status a is judged =
     let one = subst (λ (w : List ℕ). IfSome o (λ m. IsJudged (watch_verdict (finite.get m w)) status)) a judged in
     subst (λ (x : Command). IfSome o (λ m. IsJudged (verdict_of m x) status)) (sym is) one
+
+-- the wires and the tape that a command doesn't use, told of its words
+pub unused_wires : (found : Option Command) (c : Command) (status : Status) (before after : Told) → found ≡ Some c → (may_dial (Some c) status ≡ false → after ≡ before)
+    → may_dial found status ≡ false → after ≡ before
+unused_wires found c status before after e unused = subst (λ (o : Option Command). may_dial o status ≡ false → after ≡ before) (sym e) unused
+
+pub unused_tape : (found : Option Command) (c : Command) (status : Status) (before after : Log) → found ≡ Some c → (may_play (Some c) status ≡ false → after ≡ before)
+    → may_play found status ≡ false → after ≡ before
+unused_tape found c status before after e unused = subst (λ (o : Option Command). may_play o status ≡ false → after ≡ before) (sym e) unused

@@ -53,7 +53,7 @@ settles end Ended before after text log answer why somebody quiet = absurd (ende
 settles end Usage before after text log answer why somebody quiet = absurd answer
 settles end (BadFile which place cause) before after text log answer why somebody quiet = absurd answer
 settles end FileFault before after text log answer why somebody quiet = absurd answer
-settles end NoHeight before after text log answer why somebody quiet = absurd answer
+settles end (NoHeight tip) before after text log answer why somebody quiet = absurd answer
 
 completes : (end : End) (status : Status) (before after : Option (List ℕ)) (text : List ℕ) → IsAnswerOf end status before after text → end ≢ HasNoPeers → IsComplete status
 completes end Done before after text answer somebody = tt
@@ -65,7 +65,7 @@ completes end Ended before after text answer somebody = tt
 completes end Usage before after text answer somebody = absurd answer
 completes end (BadFile which place cause) before after text answer somebody = absurd answer
 completes end FileFault before after text answer somebody = absurd answer
-completes end NoHeight before after text answer somebody = absurd answer
+completes end (NoHeight tip) before after text answer somebody = absurd answer
 
 -- the text of a run that is synced, without a trace
 synced_text : (trace : Bool) (lines : List TraceLine) (end : End) (entries history : List Entry) (height : ℕ) (tip : Hash32) (n : ℕ) (hash : List ℕ)

@@ -52,10 +52,10 @@ Scans status before after (Ok scripts) (Ok blocks) = IsWritten status before aft
 Scans status before after (Ok scripts) (Err bad) = IsUnwritten status before after
 Scans status before after (Err fault) blocks = IsUnwritten status before after
 
--- no such height
-abbrev pub IsAbove : Status → Option (List ℕ) → Option (List ℕ) → Type 0
-IsAbove NoHeight before after = after ≡ before
-IsAbove status before after = IsUnwritten status before after
+-- no such height: the tip is told
+abbrev pub IsAbove : Status → Option (List ℕ) → Option (List ℕ) → ℕ → Type 0
+IsAbove (NoHeight tip) before after top = (tip ≡ top) × (after ≡ before)
+IsAbove status before after top = IsUnwritten status before after
 
 -- the lines of a block that there is
 abbrev pub TellsFilter : Status → Option (List ℕ) → Option (List ℕ) → Option Filtered → Type 0
@@ -63,7 +63,7 @@ TellsFilter status before after (Some f) = IsWritten status before after (filter
 TellsFilter status before after None = IsUnwritten status before after
 
 abbrev pub TellsHeight : Status → Option (List ℕ) → Option (List ℕ) → List Block → ℕ → Bool → Type 0
-TellsHeight status before after blocks height true = IsAbove status before after
+TellsHeight status before after blocks height true = IsAbove status before after (length blocks)
 TellsHeight status before after blocks height false = TellsFilter status before after (filter_at blocks height)
 
 -- `filter`, by its file as it is read
@@ -79,7 +79,7 @@ IsOfText OutFault = Unit {0}
 IsOfText status = ⊥
 
 abbrev pub IsOfHeight : Status → Type 0
-IsOfHeight NoHeight = Unit {0}
+IsOfHeight (NoHeight tip) = Unit {0}
 IsOfHeight status = IsOfText status
 
 -- the answers of `scan`, whether the files tell their bytes or not: nothing is written before the text
@@ -89,7 +89,7 @@ IsOfScan OutFault before after = Unit {0}
 IsOfScan status before after = IsUnwritten status before after
 
 abbrev pub IsOfFilter : Status → Option (List ℕ) → Option (List ℕ) → Type 0
-IsOfFilter NoHeight before after = after ≡ before
+IsOfFilter (NoHeight tip) before after = after ≡ before
 IsOfFilter status before after = IsOfScan status before after
 
 -- all that is promised of `scan` over these files and this sink

@@ -1,5 +1,5 @@
 -- The answers of the program, and what each says of the files.
-use Rattle.std.specs.Prelude.{◌≡◌, ℕ, nat_lt, Bool, true, false, if◌then◌else◌, List, length, Option, Some, None, Result, Ok, Err}
+use Rattle.std.specs.Prelude.{◌≡◌, ℕ, nat_lt, Bool, true, false, not, if◌then◌else◌, List, length, Option, Some, None, Result, Ok, Err}
 use Rattle.std.specs.FinMap as finite
 use Rattle.cf_bytes.specs.Files.{Named}
 use Rattle.cf_bytes.specs.declared.files.FileFail.{FileFail}
@@ -31,7 +31,7 @@ code_of OutFault = 5
 code_of (NoPeers ends) = 6
 code_of Tired = 7
 code_of Ended = 8
-code_of NoHeight = 11
+code_of (NoHeight tip) = 11
 
 -- the most bytes that a watch file, a session file and a block file may have
 abbrev pub most_watch : ℕ
@@ -104,18 +104,30 @@ IsReadAs verdict (Err NoMemory) = Unit {0}
 IsReadAs verdict (Err (BadFile w p c)) = verdict ≡ Bad w p c
 IsReadAs verdict (Err status) = ⊥
 
--- the run was made, and its text was written or begun
+-- the words ask for nothing, or a file can't be read or is refused: nothing was begun
+abbrev pub was_refused : Status → Bool
+was_refused Usage = true
+was_refused (BadFile which place cause) = true
+was_refused FileFault = true
+was_refused status = false
+
+-- the command was carried out: every other answer but want of memory, those of later commands too, is judged as the end of its work
 abbrev pub has_run : Status → Bool
-has_run Done = true
 has_run NoMemory = false
 has_run Usage = false
 has_run (BadFile which place cause) = false
 has_run FileFault = false
-has_run OutFault = true
-has_run (NoPeers ends) = true
-has_run Tired = true
-has_run Ended = true
-has_run NoHeight = false
+has_run status = true
+
+-- whether a command that was answered so may have used the wires that were handed in: `sync` alone does
+abbrev pub may_dial : Option Command → Status → Bool
+may_dial (Some (Sync turns watch peers)) status = not (was_refused status)
+may_dial command status = false
+
+-- the same of the tape, which `replay` alone uses
+abbrev pub may_play : Option Command → Status → Bool
+may_play (Some (Replay trace watch session)) status = not (was_refused status)
+may_play command status = false
 
 abbrev pub is_no_peers : Status → Bool
 is_no_peers (NoPeers ends) = true

@@ -25,7 +25,7 @@ use Rattle.cf_scan.specs.Scan.{scan_of}
 use Rattle.cf_input.specs.WatchFile.{watch_of}
 use Rattle.cf_input.specs.declared.session.SessionFault.{SessionFault}
 use Rattle.cf_cli.specs.declared.status.Status.{Status}
-use Rattle.cf_cli.specs.declared.status.Status.TheVariants.{Done, NoMemory, Usage, BadFile, FileFault, OutFault, NoPeers, Tired, Ended, NoHeight}
+use Rattle.cf_cli.specs.declared.status.Status.TheVariants.{Done, NoMemory, BadFile, FileFault, OutFault, NoPeers, Tired, Ended}
 use Rattle.cf_cli.specs.Statuses.{has_run}
 use Rattle.cf_cli.specs.Texts.{run_text}
 
@@ -36,11 +36,7 @@ IsAnswerOf end (NoPeers ends) before after text = (end ≡ HasNoPeers) × (after
 IsAnswerOf end Tired before after text = (end ≡ IsTired) × (after ≡ with_more before text)
 IsAnswerOf end Ended before after text = (end ≡ HasEnded) × (after ≡ with_more before text)
 IsAnswerOf end OutFault before after text = (n : ℕ) × (after ≡ with_more before (take n text))
-IsAnswerOf end NoMemory before after text = ⊥
-IsAnswerOf end Usage before after text = ⊥
-IsAnswerOf end (BadFile which place cause) before after text = ⊥
-IsAnswerOf end FileFault before after text = ⊥
-IsAnswerOf end NoHeight before after text = ⊥
+IsAnswerOf end status before after text = ⊥
 
 -- where the answer tells how each peer stands, this is what the log says of it
 abbrev pub TellsEnds : Status → Log → Type 0
@@ -103,8 +99,21 @@ has_somebody Tired = true
 has_somebody Ended = true
 has_somebody status = false
 
--- the same by the tally alone, for wires that tell no log
+-- the answers of `sync` and `replay`
+abbrev pub IsOfRun : Status → Type 0
+IsOfRun Done = Unit {0}
+IsOfRun NoMemory = Unit {0}
+IsOfRun (BadFile which place cause) = Unit {0}
+IsOfRun FileFault = Unit {0}
+IsOfRun OutFault = Unit {0}
+IsOfRun (NoPeers ends) = Unit {0}
+IsOfRun Tired = Unit {0}
+IsOfRun Ended = Unit {0}
+IsOfRun status = ⊥
+
+-- what is promised over any wires, also those that tell no log
 pub record Tallied (status : Status) (turns : ℕ) (tally : Tally) : Type 0 where
+  pub answers : IsOfRun status
   pub no_peers : (ends : Vec PeerEnd Global) → status ≡ NoPeers ends → NobodyLeft tally
   pub somebody : has_somebody status ≡ true → NobodyLeft tally → ⊥
   pub tired : status ≡ Tired → tally.taken ≡ turns
@@ -123,14 +132,6 @@ AnswersTo IsSynced ends status = status ≡ Done
 AnswersTo HasNoPeers ends status = (told : Vec PeerEnd Global) × (status ≡ NoPeers told) × (told.items ≡ ends)
 AnswersTo IsTired ends status = status ≡ Tired
 AnswersTo HasEnded ends status = status ≡ Ended
-
--- the answers of a run
-abbrev pub IsOfRun : Status → Type 0
-IsOfRun Usage = ⊥
-IsOfRun (BadFile which place cause) = ⊥
-IsOfRun FileFault = ⊥
-IsOfRun NoHeight = ⊥
-IsOfRun status = Unit {0}
 
 -- the same for a log of which the names aren't told
 abbrev pub IsKept : Status → Bool → Option Named → List ℕ → Option (List ℕ) → Option (List ℕ) → Log → Type 0

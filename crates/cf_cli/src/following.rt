@@ -1,10 +1,10 @@
 //! A run of the client over any wires, and what is written of it.
-ghost use Rattle.std.specs.Prelude.{◌≡◌, ◌≤◌, [], length, IfSome, true};
+ghost use Rattle.std.specs.Prelude.{◌≡◌, ◌≤◌, [], length, IfSome, true, false};
 ghost use Rattle.cf_bytes.specs.Outside.{HasRisen};
 ghost use Rattle.cf_client.specs.Names.{names_in};
 ghost use Rattle.cf_client.specs.Run.{Course};
 ghost use Rattle.cf_peer.specs.Log.{Tells};
-ghost use Rattle.cf_cli.specs.Statuses.{has_run};
+ghost use Rattle.cf_cli.specs.Statuses.{has_run, was_refused};
 ghost use Rattle.cf_cli.specs.Theorem.{Kept, Tallied, AnswersTo, IsOfRun};
 
 use crate::status::Status;
@@ -18,7 +18,10 @@ use std::alloc::Global;
 
 // The answer to a run whose text was written.
 fn status_of(end: End, ends: Vec<PeerEnd>) -> Status
-    ensures { AnswersTo end ends.items result }
+    ensures answer { AnswersTo end ends.items result }
+    ensures answers { IsOfRun result }
+    ensures ran { has_run result ≡ true }
+    ensures unrefused { was_refused result ≡ false }
 {
     match end {
         End::Synced => Status::Done,
@@ -47,7 +50,8 @@ pub(crate) fn follow<W: Wires, O: Sink>(
     ensures tallied { Tallied result turns (W.told wires.new).tally }
     ensures same { has_run result ≡ true → W.script wires.new ≡ W.script wires.old }
     ensures out_fault { result ≡ Status.OutFault → HasRisen (O.faults out.old) (O.faults out.new) }
-    ensures no_other { IsOfRun result }
+    ensures unwritten { has_run result ≡ false → O.written out.new ≡ O.written out.old }
+    ensures unrefused { was_refused result ≡ false }
 {
     let Ok(store) = Lists::new(alloc) else {
         return Status::NoMemory;

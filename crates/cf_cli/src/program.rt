@@ -8,7 +8,7 @@ ghost use Rattle.cf_peer.specs.Log.{Tells, tally_of, is_real};
 ghost use Rattle.cf_peer.specs.Memory.{log_of, failing_of};
 ghost use Rattle.cf_input.specs.SessionFile.{session_of};
 ghost use Rattle.cf_input.specs.Sessions.{script_in, AreNamed};
-ghost use Rattle.cf_cli.specs.Statuses.{IsJudged, IsReadAs, IsUnread, IsOfFile, and_then, verdict_of, watch_verdict, session_verdict};
+ghost use Rattle.cf_cli.specs.Statuses.{IsJudged, IsReadAs, IsUnread, IsOfFile, has_run, was_refused, may_dial, may_play, and_then, verdict_of, watch_verdict, session_verdict};
 ghost use Rattle.cf_cli.specs.Reading.{IsScanned, IsFiltered};
 ghost use Rattle.cf_cli.specs.Theorem.{KeptOver, IsKept, Tallied, PlaysSession};
 ghost use Rattle.cf_input.specs.Words.{command_of, HasFewPeers};
@@ -44,6 +44,8 @@ fn replay<F: Files, O: Sink>(
     ensures plays { IfSome (F.files files.old) (λ m. IfSome (finite.get m session.now) (λ bytes. PlaysSession result (session_of bytes) (log_of tape.new))) }
     ensures file_fault { result ≡ Status.FileFault → HasRisen (F.faults files.old) (F.faults files.new) }
     ensures out_fault { result ≡ Status.OutFault → HasRisen (O.faults out.old) (O.faults out.new) }
+    ensures unwritten { has_run result ≡ false → O.written out.new ≡ O.written out.old }
+    ensures unplayed { was_refused result ≡ true → log_of tape.new ≡ log_of tape.old }
     ensures asked { result ≢ Status.Usage }
 {
     let scripts = match load_watch(alloc, files, watch) {
@@ -87,6 +89,8 @@ fn sync<F: Files, W: Wires, O: Sink>(
     ensures tallied { Tallied result turns (W.told wires.new).tally }
     ensures file_fault { result ≡ Status.FileFault → HasRisen (F.faults files.old) (F.faults files.new) }
     ensures out_fault { result ≡ Status.OutFault → HasRisen (O.faults out.old) (O.faults out.new) }
+    ensures unwritten { has_run result ≡ false → O.written out.new ≡ O.written out.old }
+    ensures undialled { was_refused result ≡ true → W.told wires.new ≡ W.told wires.old }
     ensures asked { result ≢ Status.Usage }
 {
     let scripts = match load_watch(alloc, files, watch) {
@@ -121,6 +125,9 @@ fn perform<F: Files, W: Wires, O: Sink>(
     ensures filter { (file : List ℕ) (height : ℕ) → command ≡ Filter file height → IsFiltered result (F.files files.old) file height (O.written out.old) (O.written out.new) }
     ensures file_fault { result ≡ Status.FileFault → HasRisen (F.faults files.old) (F.faults files.new) }
     ensures out_fault { result ≡ Status.OutFault → HasRisen (O.faults out.old) (O.faults out.new) }
+    ensures unwritten { has_run result ≡ false → O.written out.new ≡ O.written out.old }
+    ensures undialled { may_dial (Some command) result ≡ false → W.told wires.new ≡ W.told wires.old }
+    ensures unplayed { may_play (Some command) result ≡ false → log_of tape.new ≡ log_of tape.old }
     ensures asked { result ≢ Status.Usage }
 {
     match command {
@@ -164,7 +171,8 @@ fn perform<F: Files, W: Wires, O: Sink>(
 /// is to fail. The text goes to `out`.
 ///
 /// `NoMemory` may come in place of any other answer. `Usage` comes where the words ask for nothing. The watch file is judged first, then the session
-/// file: what is missing, refused or good is answered so. After that the run is made, and its text written.
+/// file: what is missing, refused or good is answered so. After that the run is made, and its text written. With `NoMemory`, `Usage`, `BadFile` and
+/// `FileFault` nothing was written; with the last three no wires were used, and `sync` alone uses `wires`, `replay` alone `tape`.
 pub fn run<F: Files, W: Wires, O: Sink>(
     alloc: Global,
     words: &[String],
@@ -188,6 +196,9 @@ pub fn run<F: Files, W: Wires, O: Sink>(
     ensures filter { (file : List ℕ) (height : ℕ) → command_of (names_in words.now) ≡ Some (Filter file height) → IsFiltered result (F.files files.old) file height (O.written out.old) (O.written out.new) }
     ensures file_fault { result ≡ Status.FileFault → HasRisen (F.faults files.old) (F.faults files.new) }
     ensures out_fault { result ≡ Status.OutFault → HasRisen (O.faults out.old) (O.faults out.new) }
+    ensures unwritten { has_run result ≡ false → O.written out.new ≡ O.written out.old }
+    ensures undialled { may_dial (command_of (names_in words.now)) result ≡ false → W.told wires.new ≡ W.told wires.old }
+    ensures unplayed { may_play (command_of (names_in words.now)) result ≡ false → log_of tape.new ≡ log_of tape.old }
 {
     match read_words(alloc, words) {
         Ok(command) => perform(alloc, command, moment, nonce, files, wires, tape, out),

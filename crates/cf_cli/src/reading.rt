@@ -1,12 +1,12 @@
 //! The commands that read a file of blocks.
-ghost use Rattle.std.specs.Prelude.{◌≡◌, length, nat_lt, IfOk, IfSome, option_map, string_bytes};
+ghost use Rattle.std.specs.Prelude.{◌≡◌, false, length, nat_lt, IfOk, IfSome, option_map, string_bytes};
 ghost use Rattle.std.specs.FinMap as finite;
 ghost use Rattle.hex.specs.Hex.{encode_lower};
 ghost use Rattle.cf_bytes.specs.Hash.{shown};
 ghost use Rattle.cf_bytes.specs.Outside.{HasRisen};
 ghost use Rattle.cf_chain.specs.Filters.{filter_at as filter_in};
 ghost use Rattle.cf_cli.specs.Reading.{scan_text, named_line, filter_text, IsWritten, IsScanned, IsFiltered, IsOfText, IsOfFilter, IsOfHeight, TellsHeight};
-ghost use Rattle.cf_cli.specs.Statuses.{IsJudged, and_then, watch_verdict, blocks_verdict};
+ghost use Rattle.cf_cli.specs.Statuses.{IsJudged, has_run, and_then, watch_verdict, blocks_verdict};
 
 use crate::loading::{load_chain, load_watch};
 use crate::status::Status;
@@ -87,6 +87,7 @@ fn text_at(alloc: Global, index: &Index, height: u32) -> Result<Option<String>, 
 // Writes a whole text.
 fn write<O: Sink>(text: &[u8], out: &mut O) -> Status
     ensures written { IsWritten result (O.written out.old) (O.written out.new) text.now }
+    ensures unwritten { has_run result ≡ false → O.written out.new ≡ O.written out.old }
     ensures fault { result ≡ Status.OutFault → HasRisen (O.faults out.old) (O.faults out.new) }
     ensures ends { IsOfText result }
 {
@@ -106,6 +107,7 @@ pub(crate) fn scan<F: Files, O: Sink>(
 ) -> Status
     ensures judged { IfSome (F.files files.old) (λ m. IsJudged (and_then (watch_verdict (finite.get m watch.now)) (blocks_verdict (finite.get m file.now))) result) }
     ensures scanned { IsScanned result (F.files files.old) watch.now file.now (O.written out.old) (O.written out.new) }
+    ensures unwritten { has_run result ≡ false → O.written out.new ≡ O.written out.old }
     ensures file_fault { result ≡ Status.FileFault → HasRisen (F.faults files.old) (F.faults files.new) }
     ensures out_fault { result ≡ Status.OutFault → HasRisen (O.faults out.old) (O.faults out.new) }
 {
@@ -133,6 +135,7 @@ pub(crate) fn filter<F: Files, O: Sink>(
 ) -> Status
     ensures judged { IfSome (F.files files.old) (λ m. IsJudged (blocks_verdict (finite.get m file.now)) result) }
     ensures filtered { IsFiltered result (F.files files.old) file.now height (O.written out.old) (O.written out.new) }
+    ensures unwritten { has_run result ≡ false → O.written out.new ≡ O.written out.old }
     ensures file_fault { result ≡ Status.FileFault → HasRisen (F.faults files.old) (F.faults files.new) }
     ensures out_fault { result ≡ Status.OutFault → HasRisen (O.faults out.old) (O.faults out.new) }
 {
@@ -159,12 +162,13 @@ fn filter_in<O: Sink>(alloc: Global, chain: CheckedChain, height: u32, out: &mut
 fn write_filter<O: Sink>(alloc: Global, index: &Index, height: u32, out: &mut O) -> Status
     ensures told { TellsHeight result (O.written out.old) (O.written out.new) index.now height (nat_lt (length index.now) height) }
     ensures answers { IsOfFilter result (O.written out.old) (O.written out.new) }
+    ensures unwritten { has_run result ≡ false → O.written out.new ≡ O.written out.old }
     ensures fault { result ≡ Status.OutFault → HasRisen (O.faults out.old) (O.faults out.new) }
     ensures ends { IsOfHeight result }
 {
     match text_at(alloc, index, height) {
         Ok(Some(text)) => write(text.as_bytes(), out),
-        Ok(None) => Status::NoHeight,
+        Ok(None) => Status::NoHeight { tip: index.tip() },
         Err(NoMemory) => Status::NoMemory,
     }
 }

@@ -5,6 +5,7 @@ ghost use Rattle.cf_cli.specs.Statuses.{code_of};
 use cf_client::PeerEnd;
 use cf_index::RecordCause;
 use cf_input::{SessionCause, WatchCause};
+use std::fmt;
 use thiserror::Error;
 
 /// A file that the program reads.
@@ -38,35 +39,64 @@ pub enum FileCause {
     Blocks(RecordCause),
 }
 
-/// What the program answers. `code` gives the process's exit status.
-#[derive(Drop, Debug)]
+// Where in a file the fault is: at a record of a block file, at a line of another, or nowhere, with 0.
+#[derive(Drop)]
+struct Spot {
+    which: Which,
+    place: u32,
+}
+
+impl fmt::Display for Spot {
+    fn fmt<W: fmt::Write>(&self, f: &mut fmt::Formatter<W>) -> fmt::Result {
+        match (self.which, self.place) {
+            (_, 0) => Ok(()),
+            (Which::Blocks, place) => write!(f, ", record {place}"),
+            (Which::Watch | Which::Session, place) => write!(f, ", line {place}"),
+        }
+    }
+}
+
+/// What the program answers. `code` gives the process's exit status, and `Display` says in one line what went wrong.
+#[derive(Drop, Debug, Error)]
 pub enum Status {
     /// The command's whole text was written.
+    #[error("done")]
     Done,
     /// No memory was found. It may come in place of any other answer.
+    #[error("there is not enough memory")]
     NoMemory,
     /// The words ask for nothing that the program does.
+    #[error("the words are no command")]
     Usage,
     /// A file isn't in its grammar or profile: the first line or record that is refused, counted from 1, and why.
+    #[error("the {which}{}: {cause}", Spot { which: *.which, place: *.place })]
     BadFile {
         which: Which,
         place: u32,
         cause: FileCause,
     },
     /// A file could not be read.
+    #[error("a file could not be read")]
     FileFault,
     /// The text could not be written. What was written is the beginning of it.
+    #[error("the text could not be written")]
     OutFault,
     /// Each peer was closed, has gone, or was not dialled; how each stands, by its number from 1.
+    #[error("no peer is left")]
     NoPeers {
         ends: Vec<PeerEnd>,
     },
     /// The stated number of deliveries was taken, and a request was open.
+    #[error("the greatest number of deliveries was taken, and an answer was still to come")]
     Tired,
-    /// The session was at its end, and a request was open.
+    /// The wires or the session had nothing more to give, and a request was open.
+    #[error("nothing more came, and an answer was still to come")]
     Ended,
-    /// The height that was asked for is above the file's tip.
-    NoHeight,
+    /// The height that was asked for is above the file's tip, which has this height.
+    #[error("the height is above the tip of the file, which is at {tip}")]
+    NoHeight {
+        tip: u32,
+    },
 }
 
 impl Status {
@@ -84,7 +114,7 @@ impl Status {
             Status::NoPeers { .. } => 6,
             Status::Tired => 7,
             Status::Ended => 8,
-            Status::NoHeight => 11,
+            Status::NoHeight { .. } => 11,
         }
     }
 }

@@ -3,6 +3,7 @@
 
 mod laws;
 mod lines;
+mod mistakes;
 mod number;
 mod session;
 mod text;
@@ -10,6 +11,7 @@ mod watch_file;
 mod words;
 
 pub use laws::{laws_of_lines, laws_of_numbers};
+pub use mistakes::mistake_text;
 pub use session::{MAX_DIALS, MOST_SECONDS, Session, SessionCause, SessionFault, read_session};
 pub use text::{PeerNames, Word, is_name};
 pub use watch_file::{WatchCause, WatchFileFault, read_watch};

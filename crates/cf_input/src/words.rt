@@ -137,8 +137,8 @@ fn client_command<'a>(alloc: Global) -> Result<clap::Command<'a>, AllocError>
     with_one_more(command, replay_command(alloc)?)
 }
 
-// The whole command line: those over a block file come after them.
-fn cli_command<'a>(alloc: Global) -> Result<clap::Command<'a>, AllocError>
+/// The whole command line: those over a block file come after them.
+pub(crate) fn cli_command<'a>(alloc: Global) -> Result<clap::Command<'a>, AllocError>
     ensures { IfOk result (λ c. (app_of c ≡ cli_app) × ((fields_of c).has_globals ≡ false)) }
 {
     let command = client_command(alloc)?;
@@ -172,24 +172,24 @@ fn matches_of_words<'a>(
     }
 }
 
-// The text of an argument of the subcommand that was met.
-fn text_of<'a>(matches: &ArgMatches<'a>, id: &str) -> Option<&'a str>
+/// The text of an argument of the subcommand that was met.
+pub(crate) fn text_of<'a>(matches: &ArgMatches<'a>, id: &str) -> Option<&'a str>
     ensures { option_map (λ s. s.now) result ≡ text_of id.now (subcommand_rows_of matches.now) }
 {
     let (_, inner) = matches.subcommand()?;
     inner.get_str(id)
 }
 
-// The texts of an argument of the subcommand that was met, in order.
-fn texts_of<'m, 'a>(matches: &'m ArgMatches<'a>, id: &str) -> Option<&'m [&'a str]>
+/// The texts of an argument of the subcommand that was met, in order.
+pub(crate) fn texts_of<'m, 'a>(matches: &'m ArgMatches<'a>, id: &str) -> Option<&'m [&'a str]>
     ensures { option_map (λ s. map (λ t. t.now) s.now) result ≡ texts_of id.now (subcommand_rows_of matches.now) }
 {
     let (_, inner) = matches.subcommand()?;
     inner.get_strs(id)
 }
 
-// Whether this subcommand was met.
-fn is_met(matches: &ArgMatches, name: &str) -> bool
+/// Whether this subcommand was met.
+pub(crate) fn is_met(matches: &ArgMatches, name: &str) -> bool
     ensures { result ≡ is_met name.now (subcommand_rows_of matches.now) }
 {
     match matches.subcommand() {
@@ -208,7 +208,8 @@ fn is_set(matches: &ArgMatches, id: &str) -> bool
     }
 }
 
-fn turns_of(text: Option<&str>) -> Option<u32>
+/// The number of `--turns`, or the greatest where none is given.
+pub(crate) fn turns_of(text: Option<&str>) -> Option<u32>
     ensures { result ≡ turns_of (option_map (λ s. s.now) text.entry) }
 {
     match text {

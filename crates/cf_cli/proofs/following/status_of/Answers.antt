@@ -4,5 +4,5 @@ use Rattle.cf_cli.specs.declared.status.Status.TheVariants.{NoPeers}
 use Rattle.cf_cli.specs.Theorem.{AnswersTo}
 use Rattle.cf_cli.proofs.following.status_of.Goals as goal
 
-pub returns-in-NoPeers : goal.returns-in-NoPeers
-returns-in-NoPeers c = subst (λ (end : End). AnswersTo end c.args.ends.items (NoPeers c.args.ends)) (sym c.in-NoPeers.is) (c.args.ends, refl, refl)
+pub returns-in-NoPeers-clause-answer : goal.returns-in-NoPeers-clause-answer
+returns-in-NoPeers-clause-answer c = subst (λ (end : End). AnswersTo end c.args.ends.items (NoPeers c.args.ends)) (sym c.in-NoPeers.is) (c.args.ends, refl, refl)

@@ -2,7 +2,7 @@ use Rattle.std.proofs.Common.{false}
 use Rattle.cf_peer.specs.Log.{tally_of}
 use Rattle.cf_peer.specs.Memory.{log_of}
 use Rattle.cf_cli.specs.declared.status.Status.TheVariants.{NoMemory}
-use Rattle.cf_cli.proofs.Plays.{early_is_kept, early_told, early_tallied, same_command, judged_for}
+use Rattle.cf_cli.proofs.Plays.{early_is_kept, early_told, early_tallied, same_command, judged_for, unused_wires, unused_tape}
 use Rattle.cf_cli.proofs.program.run.Goals as goal
 
 pub returns-in-Ok-clause-usage : goal.returns-in-Ok-clause-usage
@@ -23,14 +23,20 @@ returns-in-Ok-clause-plays g c = λ trace watch session asked. c.perform.ensures
 
 pub returns-in-Err-NoMemory-clause-replay : goal.returns-in-Err-NoMemory-clause-replay
 returns-in-Err-NoMemory-clause-replay g c = λ trace watch session asked.
-    (early_is_kept NoMemory trace _ watch _ (log_of c.args.tape.now) tt c.requires.log, early_tallied _ (tally_of (log_of c.args.tape.now)))
+    (early_is_kept NoMemory trace _ watch _ (log_of c.args.tape.now) tt c.requires.log, early_tallied NoMemory _ (tally_of (log_of c.args.tape.now)) tt)
 
 pub returns-in-Err-NoMemory-clause-sync : goal.returns-in-Err-NoMemory-clause-sync
 returns-in-Err-NoMemory-clause-sync g c = λ turns watch peers asked.
-    (early_told _ NoMemory false _ watch peers _ tt c.requires.wires, early_tallied _ _)
+    (early_told _ NoMemory false _ watch peers _ tt c.requires.wires, early_tallied NoMemory _ _ tt)
 
 pub returns-in-Ok-clause-scan : goal.returns-in-Ok-clause-scan
 returns-in-Ok-clause-scan g c = λ file watch asked. c.perform.ensures.scan file watch (same_command _ c.in-Ok.command _ c.in-Ok.ensures.exact asked)
 
 pub returns-in-Ok-clause-filter : goal.returns-in-Ok-clause-filter
 returns-in-Ok-clause-filter g c = λ file height asked. c.perform.ensures.filter file height (same_command _ c.in-Ok.command _ c.in-Ok.ensures.exact asked)
+
+pub returns-in-Ok-clause-undialled : goal.returns-in-Ok-clause-undialled
+returns-in-Ok-clause-undialled g c = unused_wires _ c.in-Ok.command c.perform.result _ _ c.in-Ok.ensures.exact c.perform.ensures.undialled
+
+pub returns-in-Ok-clause-unplayed : goal.returns-in-Ok-clause-unplayed
+returns-in-Ok-clause-unplayed g c = unused_tape _ c.in-Ok.command c.perform.result _ _ c.in-Ok.ensures.exact c.perform.ensures.unplayed

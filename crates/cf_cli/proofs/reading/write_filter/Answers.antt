@@ -11,5 +11,5 @@ returns-in-Ok-Some-clause-told g c =
 
 pub returns-in-Ok-None-clause-told : goal.returns-in-Ok-None-clause-told
 returns-in-Ok-None-clause-told g c =
-    is_above (g.O.Sink.written c.args.out.now) c.args.index.now c.args.height
+    is_above c.tip.result (g.O.Sink.written c.args.out.now) c.args.index.now c.args.height c.tip.ensures.height
     (ap (option_map string_bytes) (sym c.in-Ok-None.field-0-is) ∙ c.in-Ok-None.ensures)

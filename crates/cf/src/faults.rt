@@ -1,0 +1,108 @@
+//! What went wrong, told on standard error.
+use cf_cli::Status;
+use cf_client::PeerEnd;
+use cf_input::{Command, mistake_text, read_words};
+use std::io::{self, Read};
+use std::fs;
+
+// Why a file can't be read, as the system says now, or nothing where it can.
+fn reason(rt: &HostRuntime, name: &str) -> Option<io::Error> {
+    let mut file = match fs::open(rt, name) {
+        Ok(file) => file,
+        Err(e) => return Some(e),
+    };
+    let mut byte = [0u8; 1];
+    match file.read(&mut byte) {
+        Ok(_) => None,
+        Err(e) => Some(e),
+    }
+}
+
+// Tells why a file can't be read. Whether there was something to tell.
+fn tell_reason(rt: &HostRuntime, name: &str) -> io::Result<bool> {
+    match reason(rt, name) {
+        Some(e) => {
+            eprintln!(rt; "cf: {name} could not be read: {e}")?;
+            Ok(true)
+        }
+        None => Ok(false),
+    }
+}
+
+// The same for the first of two files that can't be read.
+fn tell_first(rt: &HostRuntime, one: &str, two: &str) -> io::Result<bool> {
+    if tell_reason(rt, one)? {
+        return Ok(true);
+    }
+    tell_reason(rt, two)
+}
+
+// The same for the files of a command, in the order in which it reads them.
+fn tell_file(rt: &HostRuntime, command: &Command) -> io::Result<bool> {
+    match command {
+        Command::Replay { watch, session, .. } => {
+            tell_first(rt, watch.as_str(), session.as_str())
+        }
+        Command::Sync { watch, .. } => tell_reason(rt, watch.as_str()),
+        Command::Scan { file, watch } => tell_first(rt, watch.as_str(), file.as_str()),
+        Command::Filter { file, .. } => tell_reason(rt, file.as_str()),
+    }
+}
+
+// Tells which file could not be read, and why.
+fn tell_unread(rt: &HostRuntime, words: &[String]) -> io::Result<()> {
+    if let Ok(command) = read_words(rt.alloc(), words) {
+        if tell_file(rt, &command)? {
+            return Ok(());
+        }
+    }
+    eprintln!(rt; "cf: {}", Status::FileFault)
+}
+
+// Tells what is wrong with the words.
+fn tell_mistake(rt: &HostRuntime, words: &[String]) -> io::Result<()> {
+    match mistake_text(rt.alloc(), words) {
+        Ok(text) => eprint!(rt; "{text}"),
+        Err(_) => eprintln!(rt; "cf: {}", Status::Usage),
+    }
+}
+
+// Tells how each peer was lost.
+fn tell_ends(rt: &HostRuntime, ends: &[PeerEnd]) -> io::Result<()> {
+    for (i, end) in ends.iter().enumerate() {
+        eprintln!(rt; "cf: peer {}: {end}", i.saturating_add(1))?;
+    }
+    Ok(())
+}
+
+// The command's name among the words.
+fn name_of(words: &[String]) -> &str {
+    match words.get(1) {
+        Some(word) => word.as_str(),
+        None => "",
+    }
+}
+
+// What a user of this command can do about the end of its run.
+fn hint(status: &Status, name: &str) -> &'static str {
+    match status {
+        Status::Tired if name == "sync" => "; --turns N sets that number",
+        Status::Ended if name == "replay" => "; the session is at its end",
+        _ => "",
+    }
+}
+
+/// Tells on standard error what went wrong, if anything has. The first word is the program's name; there is none where the
+/// words can't be read.
+pub fn tell(rt: &HostRuntime, words: &[String], status: &Status) -> io::Result<()> {
+    match status {
+        Status::Done => Ok(()),
+        Status::Usage if !words.is_empty() => tell_mistake(rt, words),
+        Status::FileFault => tell_unread(rt, words),
+        Status::NoPeers { ends } => {
+            eprintln!(rt; "cf: {status}")?;
+            tell_ends(rt, ends)
+        }
+        _ => eprintln!(rt; "cf: {status}{}", hint(status, name_of(words))),
+    }
+}

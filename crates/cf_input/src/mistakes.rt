@@ -1,0 +1,36 @@
+//! What is wrong with words that ask for nothing, told to the user.
+use crate::words::{cli_command, is_met, text_of, texts_of, turns_of};
+use cf_bytes::NoMemory;
+use clap::ArgMatches;
+use std::alloc::Global;
+
+// What is wrong with the peers of `sync`.
+fn peers_mistake(matches: &ArgMatches) -> &'static str {
+    match texts_of(matches, "peer") {
+        Some(peers) if peers.len() > 8 => "there are more than 8 peers",
+        _ => "the name of a peer has 1 to 255 characters, without spaces",
+    }
+}
+
+// What is out of its range in words that clap takes.
+fn range_mistake(matches: &ArgMatches) -> &'static str {
+    if is_met(matches, "filter") {
+        "HEIGHT is a number from 0 to 4294967295"
+    } else if !is_met(matches, "sync") {
+        "there is no command"
+    } else if turns_of(text_of(matches, "turns")).is_none() {
+        "N of --turns is a number from 1 to 10000000"
+    } else {
+        peers_mistake(matches)
+    }
+}
+
+/// What is wrong with words that ask for nothing: clap's own text where clap refuses them, else which number or name
+/// is out of its range. The first word is the program's name. Each line ends with LF.
+pub fn mistake_text(alloc: Global, words: &[String]) -> Result<String, NoMemory> {
+    let command = cli_command(alloc)?;
+    match command.try_get_matches_from(words) {
+        Ok(matches) => Ok(format!(in alloc; "error: {}\n", range_mistake(&matches))?),
+        Err(e) => Ok(format!(in alloc; "{e}")?),
+    }
+}
