@@ -54,6 +54,11 @@ pub(crate) fn words(alloc: Global, row: &str) -> Option<String> {
     }
 }
 
+/// What is wrong with the words of a row, in words for the user.
+pub(crate) fn mistake(alloc: Global, row: &str) -> Option<String> {
+    mistake_text(alloc, &texts_in(alloc, row, '|')?).ok()
+}
+
 // The scripts, in hexadecimal.
 fn scripts_of(alloc: Global, watch: &Watch) -> Option<String> {
     let mut text = String::from_str(alloc, "scripts").ok()?;

@@ -36,6 +36,7 @@ fn answer(alloc: Global, row: &str) -> Option<String> {
         "match" => filters::matched(alloc, rest),
         "meets" => filters::met(alloc, rest),
         "mine" => chains::mined(alloc, rest),
+        "mistake" => inputs::mistake(alloc, rest),
         "payload" => payloads::answer(alloc, rest),
         "run" => runs::answer(alloc, rest),
         "serve" => conversations::answer(alloc, rest),

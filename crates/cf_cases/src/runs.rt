@@ -1,6 +1,6 @@
 //! Whole calls of the program in memory.
-ghost use Rattle.std.specs.Prelude.{◌≡◌, [], IfSome};
-ghost use Rattle.cf_peer.specs.Memory.{log_of};
+ghost use Rattle.std.specs.Prelude.{◌≡◌, [], IfSome, false};
+ghost use Rattle.cf_peer.specs.Memory.{log_of, finished_of};
 
 use crate::fields::{bytes_in, file_in, numbers_in, texts_in};
 use crate::served::session_in;
@@ -23,7 +23,7 @@ fn files_of(alloc: Global, watch: &str, session: &str, blocks: &str) -> Option<M
 
 // Wires that give what a good session says, and else dial no one. These calls of theirs fail.
 fn wires_of(alloc: Global, session: &str, failing: &str) -> Option<MemoryWires>
-    ensures { IfSome result (λ w. log_of w ≡ []) }
+    ensures { IfSome result (λ w. (log_of w ≡ []) × (finished_of w ≡ false)) }
 {
     let mut wires = MemoryWires::new(alloc).ok()?;
     if session.len() < 1_000_000 {
@@ -35,14 +35,12 @@ fn wires_of(alloc: Global, session: &str, failing: &str) -> Option<MemoryWires>
     Some(wires)
 }
 
-// The exit status, the status, and what is wrong with a file, in words.
+// The exit status, the status, and what went wrong, in words.
 fn told(alloc: Global, status: &Status) -> Option<String> {
     let code = status.code();
     match status {
-        Status::BadFile { which, cause, .. } => {
-            format!(in alloc; "{code} {status:?}: {which}: {cause}").ok()
-        }
-        _ => format!(in alloc; "{code} {status:?}").ok(),
+        Status::Done => format!(in alloc; "{code} {status:?}").ok(),
+        _ => format!(in alloc; "{code} {status:?}: {status}").ok(),
     }
 }
 
@@ -60,7 +58,7 @@ fn answered(
     wires: MemoryWires,
     room: usize,
 ) -> Option<String>
-    requires { log_of wires ≡ [] }
+    requires { (log_of wires ≡ []) × (finished_of wires ≡ false) }
 {
     let mut files = files;
     let mut wires = wires;

@@ -1,15 +1,20 @@
 -- How a session is played, and what is said where no run is made.
-use Rattle.std.proofs.Common.{◌≡◌, ℕ, suc, ◌<◌, Bool, true, false, List, [], ◌∷◌, map, length, take, Option, Some, None, Result, Ok, refl, sym, ◌∙◌, ap, subst, arith}
-use Rattle.std.specs.Prelude.{IfSome, vec_len}
+use Rattle.std.proofs.Common.{◌≡◌, ◌⊎◌, inl, inr, ℕ, zero, suc, ◌<◌, ◌≤◌, Bool, true, false, List, [], ◌∷◌, map, length, take, Option, Some, None, Result, Ok, Err, refl, sym, ◌∙◌, ap, subst, arith}
+use Rattle.std.specs.Prelude.{◌↔◌, IfSome, vec_len}
 use Rattle.std.specs.FinMap as finite
 use Rattle.std.proofs.lemmas.Bool.{false≢true}
-use Rattle.std.proofs.lemmas.List.{take_all}
+use Rattle.std.proofs.lemmas.List.{take_all, length-map}
 use Rattle.cf_bytes.specs.Files.{Named}
+use Rattle.cf_bytes.specs.Outside.{HasRisen}
+use Rattle.cf_client.specs.declared.outcome.End.{End}
+use Rattle.cf_client.specs.declared.outcome.End.TheVariants.{Synced as IsSynced, NoPeers as HasNoPeers, Tired as IsTired, Ended as HasEnded}
+use Rattle.cf_client.specs.declared.place.PeerEnd.{PeerEnd}
+use Rattle.cf_client.specs.Run.{NobodyLeft, HasDialled, HasFailed, names_of}
 use Rattle.cf_peer.specs.declared.event.Dial.{Dial}
 use Rattle.cf_peer.specs.declared.memory.MemoryWires.{MemoryWires}
-use Rattle.cf_peer.specs.Dials.{answered_at}
+use Rattle.cf_peer.specs.Dials.{answered_at, goes_as_made}
 use Rattle.cf_peer.specs.Log.{Log, Told, Tells, Tally, tally_of, dials}
-use Rattle.cf_peer.specs.Memory.{script_of, log_of, failing_of}
+use Rattle.cf_peer.specs.Memory.{script_of, log_of, failing_of, told_of}
 use Rattle.cf_peer.specs.Wires.{Script, Made}
 use Rattle.cf_input.specs.declared.session.SessionFault.{SessionFault}
 use Rattle.cf_cli.specs.declared.status.Status.{Status}
@@ -19,63 +24,9 @@ use Rattle.cf_input.specs.declared.words.Command.TheVariants.{Replay, Sync}
 use Rattle.cf_input.specs.SessionFile.{session_of}
 use Rattle.cf_input.specs.WatchFile.{watch_of}
 use Rattle.cf_cli.specs.Statuses.{has_run, may_dial, may_play, IsOfFile, IsJudged, verdict_of, and_then, watch_verdict, session_verdict}
-use Rattle.cf_cli.specs.Theorem.{Kept, KeptOver, IsKept, IsOfRun, Plays, PlaysSession, Tallied, has_somebody}
+use Rattle.cf_cli.specs.Theorem.{AnswersTo, AreLeft, IsWhole, IsWithin, Kept, KeptOver, IsOfRun, IsReplayed, Plays, PlaysSession, Tallied, has_somebody}
 
--- dials of the same names that went alike are the same
-pub dials_same : (xs ys : List Dial) → map (λ (d : Dial). d.name) xs ≡ map (λ (d : Dial). d.name) ys → ((i : ℕ) → i < length xs → answered_at xs i ≡ answered_at ys i) → xs ≡ ys
-dials_same [] [] names alike = refl
-dials_same [] (y ∷ ys) names alike = absurd (let e : [] ≡ y.name ∷ map (λ (d : Dial). d.name) ys = names in cc)
-dials_same (x ∷ xs) [] names alike = absurd (let e : x.name ∷ map (λ (d : Dial). d.name) xs ≡ [] = names in cc)
-dials_same (x ∷ xs) (y ∷ ys) names alike =
-    let heads : x.name ≡ y.name = cc in
-    let tails : map (λ (d : Dial). d.name) xs ≡ map (λ (d : Dial). d.name) ys = cc in
-    let here : x.answered ≡ y.answered = alike 0 (omega arith) in
-    let more : xs ≡ ys = dials_same xs ys tails (λ i lt. alike (suc i) (omega arith)) in
-    let one : x ≡ y = ap (λ (p : List ℕ). record { name = p; answered = x.answered }) heads ∙ ap (λ (b : Bool). record { name = y.name; answered = b }) here in
-    ap (λ (d : Dial). d ∷ xs) one ∙ ap (λ (ds : List Dial). y ∷ ds) more
-
-abbrev pub made : Script → List ℕ → Made
-made script failing = record { script = script; failing = failing }
-
-some_same : (a b : Made) → Some a ≡ Some b → a ≡ b
-some_same a b e = cc
-
-pub plays_of : (status : Status) (trace : Bool) (scripts names : List (List ℕ)) (before after : Option (List ℕ)) (turns : ℕ) (script : Script) (tape : MemoryWires)
-    → Some (made (script_of tape) (failing_of tape)) ≡ Some (made script []) → names ≡ map (λ (d : Dial). d.name) script.dials
-    → Kept status trace scripts names before after (log_of tape) → Tallied status turns (tally_of (log_of tape)) → has_run status ≡ true → Plays status script (log_of tape)
-plays_of status trace scripts names before after turns script tape is_made named kept tallied is =
-    let same = some_same (made (script_of tape) (failing_of tape)) (made script []) is_made in
-    let mine : script_of tape ≡ script = ap (λ (m : Made). m.script) same in
-    let unfailing : failing_of tape ≡ [] = ap (λ (m : Made). m.failing) same in
-    let run = kept.ran is in
-    record {
-      dialled = dials_same (dials (log_of tape)) script.dials (run.followed.named ∙ named) (λ i lt. tape.went unfailing i lt ∙ ap (λ (s : Script). answered_at s.dials i) mine);
-      given = (tape.at, tape.played ∙ ap (λ (s : Script). take tape.at s.deliveries) mine);
-      whole = λ over.
-          let one = tallied.ended over in
-          let all = tape.spent (omega (arith, one)) in
-          tape.played ∙ ap (λ (n : ℕ). take n tape.script.items) all ∙ whole_of tape ∙ ap (λ (s : Script). s.deliveries) mine;
-    } where
-      whole_of : (tape : MemoryWires) → take (vec_len tape.script) tape.script.items ≡ tape.script.items
-      whole_of tape = let ok = tape.script.ok.0 in take_all (vec_len tape.script) tape.script.items (omega (arith, ok))
-
-plays_by : (status : Status) (r : Result Script SessionFault) (script : Script) (log : Log) → r ≡ Ok script → (has_run status ≡ true → Plays status script log) → PlaysSession status r log
-plays_by status r script log e plays = subst (λ (x : Result Script SessionFault). PlaysSession status x log) (sym e) plays
-
--- what is told stays the same file
-pub told_so : (o p : Option Named) (name : List ℕ) (script : Script) → o ≡ p → IfSome o (λ m. IfSome (finite.get m name) (λ bytes. session_of bytes ≡ Ok script))
-    → IfSome p (λ m. IfSome (finite.get m name) (λ bytes. session_of bytes ≡ Ok script))
-told_so o p name script same h = subst (λ (x : Option Named). IfSome x (λ m. IfSome (finite.get m name) (λ bytes. session_of bytes ≡ Ok script))) same h
-
-pub told_plays : (o : Option Named) (name : List ℕ) (status : Status) (script : Script) (log : Log)
-    → IfSome o (λ m. IfSome (finite.get m name) (λ bytes. session_of bytes ≡ Ok script)) → (has_run status ≡ true → Plays status script log)
-    → IfSome o (λ m. IfSome (finite.get m name) (λ bytes. PlaysSession status (session_of bytes) log))
-told_plays None name status script log read plays = tt
-told_plays (Some m) name status script log read plays = held_plays (finite.get m name) read where
-  held_plays : (held : Option (List ℕ)) → IfSome held (λ bytes. session_of bytes ≡ Ok script) → IfSome held (λ bytes. PlaysSession status (session_of bytes) log)
-  held_plays None h = tt
-  held_plays (Some bytes) h = plays_by status (session_of bytes) script log h plays
-
+-- no run is made where a file is answered for
 no_run : (status : Status) → IsOfFile status → has_run status ≡ false
 no_run NoMemory is = refl
 no_run FileFault is = refl
@@ -87,6 +38,91 @@ no_run (NoPeers ends) is = absurd is
 no_run Tired is = absurd is
 no_run Ended is = absurd is
 no_run (NoHeight tip) is = absurd is
+
+-- the dials that were made are the first of a list, in order: their names are its first, and each went as it says
+first_dials : (went made : List Dial) (n : ℕ) → map (λ (d : Dial). d.name) went ≡ take n (map (λ (d : Dial). d.name) made) → ((i : ℕ) → i < length went → answered_at went i ≡ answered_at made i)
+    → went ≡ take n made
+first_dials [] made zero names alike = refl
+first_dials (x ∷ xs) made zero names alike = absurd (let e : x.name ∷ map (λ (d : Dial). d.name) xs ≡ [] = names in cc)
+first_dials [] [] (suc n) names alike = refl
+first_dials [] (y ∷ ys) (suc n) names alike = absurd (let e : [] ≡ y.name ∷ take n (map (λ (d : Dial). d.name) ys) = names in cc)
+first_dials (x ∷ xs) [] (suc n) names alike = absurd (let e : x.name ∷ map (λ (d : Dial). d.name) xs ≡ [] = names in cc)
+first_dials (x ∷ xs) (y ∷ ys) (suc n) names alike =
+    let heads : x.name ≡ y.name = cc in
+    let tails : map (λ (d : Dial). d.name) xs ≡ take n (map (λ (d : Dial). d.name) ys) = cc in
+    let here : x.answered ≡ y.answered = alike 0 (omega arith) in
+    let more : xs ≡ take n ys = first_dials xs ys n tails (λ i lt. alike (suc i) (omega arith)) in
+    let one : x ≡ y = ap (λ (p : List ℕ). record { name = p; answered = x.answered }) heads ∙ ap (λ (b : Bool). record { name = y.name; answered = b }) here in
+    ap (λ (d : Dial). d ∷ xs) one ∙ ap (λ (ds : List Dial). y ∷ ds) more
+
+abbrev pub made : Script → List ℕ → Made
+made script failing = record { script = script; failing = failing }
+
+some_same : (a b : Made) → Some a ≡ Some b → a ≡ b
+some_same a b e = cc
+
+-- the log of a tape that plays this script
+pub plays_of : (status : Status) (names : List (List ℕ)) (script : Script) (tape : MemoryWires)
+    → Some (made (script_of tape) (failing_of tape)) ≡ Some (made script []) → names ≡ map (λ (d : Dial). d.name) script.dials → HasDialled names (told_of tape)
+    → (has_run status ≡ true → IsWhole (length names) (told_of tape)) → Plays status script (log_of tape)
+plays_of status names script tape is_made named dialled whole =
+    let same = some_same (made (script_of tape) (failing_of tape)) (made script []) is_made in
+    let mine : script_of tape ≡ script = ap (λ (m : Made). m.script) same in
+    let unfailing : failing_of tape ≡ [] = ap (λ (m : Made). m.failing) same in
+    let n = (tally_of (log_of tape)).dials in
+    let went : (i : ℕ) → i < length (dials (log_of tape)) → answered_at (dials (log_of tape)) i ≡ answered_at script.dials i =
+        λ i lt. tape.went unfailing i lt ∙ ap (λ (s : Script). answered_at s.dials i) mine in
+    let first : dials (log_of tape) ≡ take n script.dials = first_dials (dials (log_of tape)) script.dials n (dialled.first ∙ ap (take n) named) went in
+    record {
+      dialled = (n, first);
+      given = (tape.at, tape.played ∙ ap (λ (s : Script). take tape.at s.deliveries) mine);
+      all = λ is. first ∙ ap (λ (k : ℕ). take k script.dials) ((whole is).dialled ∙ ap length named ∙ length-map script.dials (λ (d : Dial). d.name)) ∙ take_all (length script.dials) script.dials (omega arith);
+      whole = λ over.
+          let all = tape.spent over in
+          tape.played ∙ ap (λ (k : ℕ). take k tape.script.items) all ∙ whole_of tape ∙ ap (λ (s : Script). s.deliveries) mine;
+      went = subst (λ (m : Made). goes_as_made m (log_of tape) ≡ true) same tape.made;
+    } where
+      whole_of : (tape : MemoryWires) → take (vec_len tape.script) tape.script.items ≡ tape.script.items
+      whole_of tape = let ok = tape.script.ok.0 in take_all (vec_len tape.script) tape.script.items (omega (arith, ok))
+
+-- where nothing has passed, nothing is amiss
+nothing_plays : (status : Status) (script : Script) → has_run status ≡ false → Plays status script []
+nothing_plays status script off = record {
+  dialled = (0, refl);
+  given = (0, refl);
+  all = λ is. absurd (false≢true (sym off ∙ is));
+  whole = λ over. absurd (let e : 0 < 0 = over in omega (arith, e));
+  went = refl;
+}
+
+early_session : (status : Status) (r : Result Script SessionFault) (log : Log) → has_run status ≡ false → log ≡ [] → PlaysSession status r log
+early_session status (Ok script) log off none = subst (λ (l : Log). Plays status script l) (sym none) (nothing_plays status script off)
+early_session status (Err fault) log off none = none
+
+pub early_plays : (o : Option Named) (name : List ℕ) (status : Status) (log : Log) → IsOfFile status → log ≡ []
+    → IfSome o (λ m. IfSome (finite.get m name) (λ bytes. PlaysSession status (session_of bytes) log))
+early_plays None name status log is none = tt
+early_plays (Some m) name status log is none = by (finite.get m name) where
+  by : (held : Option (List ℕ)) → IfSome held (λ bytes. PlaysSession status (session_of bytes) log)
+  by None = tt
+  by (Some bytes) = early_session status (session_of bytes) log (no_run status is) none
+
+plays_by : (status : Status) (r : Result Script SessionFault) (script : Script) (log : Log) → r ≡ Ok script → Plays status script log → PlaysSession status r log
+plays_by status r script log e plays = subst (λ (x : Result Script SessionFault). PlaysSession status x log) (sym e) plays
+
+-- what is told stays the same file
+pub told_so : (o p : Option Named) (name : List ℕ) (script : Script) → o ≡ p → IfSome o (λ m. IfSome (finite.get m name) (λ bytes. session_of bytes ≡ Ok script))
+    → IfSome p (λ m. IfSome (finite.get m name) (λ bytes. session_of bytes ≡ Ok script))
+told_so o p name script same h = subst (λ (x : Option Named). IfSome x (λ m. IfSome (finite.get m name) (λ bytes. session_of bytes ≡ Ok script))) same h
+
+pub told_plays : (o : Option Named) (name : List ℕ) (status : Status) (script : Script) (log : Log)
+    → IfSome o (λ m. IfSome (finite.get m name) (λ bytes. session_of bytes ≡ Ok script)) → Plays status script log
+    → IfSome o (λ m. IfSome (finite.get m name) (λ bytes. PlaysSession status (session_of bytes) log))
+told_plays None name status script log read plays = tt
+told_plays (Some m) name status script log read plays = held_plays (finite.get m name) read where
+  held_plays : (held : Option (List ℕ)) → IfSome held (λ bytes. session_of bytes ≡ Ok script) → IfSome held (λ bytes. PlaysSession status (session_of bytes) log)
+  held_plays None h = tt
+  held_plays (Some bytes) h = plays_by status (session_of bytes) script log h plays
 
 -- the answers to files are among those of `sync` and `replay`
 file_answers : (status : Status) → IsOfFile status → IsOfRun status
@@ -118,9 +154,6 @@ early_over status trace files watch names b log is none = record {
   watched = λ made. absurd (false≢true (sym (no_run status is) ∙ made));
   kept = early_kept status trace [] names b log (no_run status is) none;
 }
-
-pub early_is_kept : (status : Status) (trace : Bool) (files : Option Named) (watch : List ℕ) (b : Option (List ℕ)) (log : Log) → IsOfFile status → log ≡ [] → IsKept status trace files watch b b log
-early_is_kept status trace files watch b log is none = ([], early_over status trace files watch [] b log is none)
 
 -- the same for wires that are new, which may tell no log
 pub early_told : (t : Told) (status : Status) (trace : Bool) (files : Option Named) (watch : List ℕ) (names : List (List ℕ)) (b : Option (List ℕ)) → IsOfFile status → Tells [] t
@@ -158,15 +191,121 @@ has_nobody (NoHeight tip) off = refl
 not_run : (status other : Status) → has_run status ≡ false → has_run other ≡ true → status ≡ other → ⊥
 not_run status other off on is = false≢true (sym off ∙ ap has_run is ∙ on)
 
-pub early_tallied : (status : Status) (turns : ℕ) (tally : Tally) → IsOfFile status → Tallied status turns tally
-early_tallied status turns tally is = let off = no_run status is in record {
-  answers = file_answers status is;
+-- new wires are within any bounds
+new_within : (turns names : ℕ) (t : Told) → Tells [] t → IsWithin turns names t.tally
+new_within turns names t fresh = subst (λ (tally : Tally). IsWithin turns names tally) (sym fresh.counts) (record { taken = omega arith; dialled = omega arith; ended = omega arith })
+
+-- nothing more is told where no run is made
+tallied_early : (status : Status) (turns names : ℕ) (was now : Told) → has_run status ≡ false → IsOfRun status → IsWithin turns names now.tally → AreLeft was now → Tallied status turns names was now
+tallied_early status turns names was now off answers within left = record {
+  answers = answers;
+  within = within;
+  whole = λ is. absurd (false≢true (sym off ∙ is));
+  left = left;
   no_peers = λ ends same. absurd (not_run status (NoPeers ends) off refl same);
   somebody = λ here. absurd (false≢true (sym (has_nobody status off) ∙ here));
   tired = λ same. absurd (not_run status Tired off refl same);
   ended = λ same. absurd (not_run status Ended off refl same);
   early = λ same. absurd (not_run status Ended off refl same);
 }
+
+-- the wires weren't used
+pub early_tallied : (status : Status) (turns names : ℕ) (t : Told) → IsOfFile status → Tells [] t → Tallied status turns names t t
+early_tallied status turns names t is fresh = tallied_early status turns names t t (no_run status is) (file_answers status is) (new_within turns names t fresh) (inl refl)
+
+-- memory was wanting once they were used
+pub spent_tallied : (turns names : ℕ) (was now : Told) → IsWithin turns names now.tally → now.finished ≡ true → Tallied NoMemory turns names was now
+spent_tallied turns names was now within finished = tallied_early NoMemory turns names was now refl tt within (inr finished)
+
+-- the sink has failed
+pub unwritten_tallied : (turns names : ℕ) (was now : Told) → IsWithin turns names now.tally → IsWhole names now → Tallied OutFault turns names was now
+unwritten_tallied turns names was now within whole = record {
+  answers = tt;
+  within = within;
+  whole = λ is. whole;
+  left = inr whole.finished;
+  no_peers = λ ends same. cc;
+  somebody = λ here. absurd (false≢true here);
+  tired = λ same. cc;
+  ended = λ same. cc;
+  early = λ same. cc;
+}
+
+-- the run was made, and ended so
+pub run_tallied : (end : End) (ends : List PeerEnd) (status : Status) (turns names : ℕ) (was now : Told) → AnswersTo end ends status → IsWithin turns names now.tally → IsWhole names now
+    → (end ≡ HasNoPeers) ↔ NobodyLeft now.tally → (end ≡ IsTired → now.tally.taken ≡ turns) → (end ≡ HasEnded → now.tally.ended ≡ 1) → (end ≡ HasEnded → now.tally.taken < turns)
+    → Tallied status turns names was now
+run_tallied IsSynced ends status turns names was now is within whole nobody tired ended early = subst (λ (s : Status). Tallied s turns names was now) (sym is) (record {
+  answers = tt;
+  within = within;
+  whole = λ made. whole;
+  left = inr whole.finished;
+  no_peers = λ told same. cc;
+  somebody = λ here left. absurd (let e : IsSynced ≡ HasNoPeers = nobody.1 left in cc);
+  tired = λ same. cc;
+  ended = λ same. cc;
+  early = λ same. cc;
+})
+run_tallied HasNoPeers ends status turns names was now is within whole nobody tired ended early = subst (λ (s : Status). Tallied s turns names was now) (sym is.1) (record {
+  answers = tt;
+  within = within;
+  whole = λ made. whole;
+  left = inr whole.finished;
+  no_peers = λ told same. nobody.0 refl;
+  somebody = λ here. absurd (false≢true here);
+  tired = λ same. cc;
+  ended = λ same. cc;
+  early = λ same. cc;
+})
+run_tallied IsTired ends status turns names was now is within whole nobody tired ended early = subst (λ (s : Status). Tallied s turns names was now) (sym is) (record {
+  answers = tt;
+  within = within;
+  whole = λ made. whole;
+  left = inr whole.finished;
+  no_peers = λ told same. cc;
+  somebody = λ here left. absurd (let e : IsTired ≡ HasNoPeers = nobody.1 left in cc);
+  tired = λ same. tired refl;
+  ended = λ same. cc;
+  early = λ same. cc;
+})
+run_tallied HasEnded ends status turns names was now is within whole nobody tired ended early = subst (λ (s : Status). Tallied s turns names was now) (sym is) (record {
+  answers = tt;
+  within = within;
+  whole = λ made. whole;
+  left = inr whole.finished;
+  no_peers = λ told same. cc;
+  somebody = λ here left. absurd (let e : HasEnded ≡ HasNoPeers = nobody.1 left in cc);
+  tired = λ same. cc;
+  ended = λ same. ended refl;
+  early = λ same. early refl;
+})
+
+-- what is promised of `replay` where the tape wasn't used
+pub early_replayed : (status : Status) (turns : ℕ) (trace : Bool) (files : Option Named) (watch : List ℕ) (b : Option (List ℕ)) (t : Told) (log : Log)
+    → IsOfFile status → Tells [] t → log ≡ [] → IsReplayed status turns trace files watch b b t t log
+early_replayed status turns trace files watch b t log is fresh none = ([], early_over status trace files watch [] b log is none, early_tallied status turns 0 t is fresh)
+
+-- nothing has passed a new tape
+pub new_tape : (tape : MemoryWires) → log_of tape ≡ [] → Tells [] (told_of tape)
+new_tape tape none = record { content = none; counts = ap tally_of none }
+
+-- nobody was dialled
+pub new_dialled : (names : List (List ℕ)) (t : Told) → Tells [] t → HasDialled names t
+new_dialled names t fresh = record { most = most_of; first = first_by t.log fresh.content } where
+  none : t.tally.dials ≡ 0
+  none = ap (λ (y : Tally). y.dials) fresh.counts
+  most_of : t.tally.dials ≤ length names
+  most_of = let n = none in omega (arith, n)
+  first_by : (o : Option Log) → IfSome o (λ l. l ≡ []) → IfSome o (λ log. names_of log ≡ take t.tally.dials names)
+  first_by None h = tt
+  first_by (Some log) h = subst (λ (l : Log). names_of l ≡ take t.tally.dials names) (sym h) (subst (λ (n : ℕ). [] ≡ take n names) (sym none) refl)
+
+-- and no call has failed
+pub new_unfailed : (t : Told) (f g : ℕ) → Tells [] t → IfSome t.log (λ log. HasFailed log → HasRisen f g)
+new_unfailed t f g fresh = by t.log fresh.content where
+  by : (o : Option Log) → IfSome o (λ l. l ≡ []) → IfSome o (λ log. HasFailed log → HasRisen f g)
+  by None h = tt
+  by (Some log) h = subst (λ (l : Log). HasFailed l → HasRisen f g) (sym h) (λ failed. absurd (false≢true failed))
 
 pub same_command : (found : Option Command) (a b : Command) → found ≡ Some a → found ≡ Some b → a ≡ b
 same_command found a b e f = cc

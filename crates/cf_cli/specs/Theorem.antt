@@ -1,5 +1,5 @@
 -- What is promised of a run of the program.
-use Rattle.std.specs.Prelude.{◌≡◌, ◌≢◌, ◌<◌, ℕ, Bool, true, false, List, length, take, Option, IfSome, Vec, Result, Ok, Err}
+use Rattle.std.specs.Prelude.{◌≡◌, ◌≢◌, ◌⊎◌, ◌<◌, ◌≤◌, ℕ, Bool, true, false, List, [], length, take, Option, IfSome, Vec, Result, Ok, Err}
 use Rattle.std.specs.FinMap as finite
 use Rattle.std.specs.Global.{Global}
 use Rattle.cf_bytes.specs.Files.{Named}
@@ -17,7 +17,8 @@ use Rattle.cf_client.specs.Run.{Followed, NobodyLeft}
 use Rattle.cf_sync.specs.Fetching.{IsQuiet}
 use Rattle.cf_sync.specs.Honesty.{IsHonest, ShowsNoOther, IsNeverClosed}
 use Rattle.cf_sync.specs.Sync.{IsHashed}
-use Rattle.cf_peer.specs.Log.{Log, Tally, deliveries, dials}
+use Rattle.cf_peer.specs.Dials.{goes_as_made}
+use Rattle.cf_peer.specs.Log.{Log, Told, Tally, tally_of, deliveries, dials}
 use Rattle.cf_peer.specs.Wires.{Script}
 use Rattle.cf_scan.specs.declared.history.Entry.{Entry}
 use Rattle.cf_scan.specs.HistoryText.{history_text}
@@ -111,20 +112,41 @@ IsOfRun Tired = Unit {0}
 IsOfRun Ended = Unit {0}
 IsOfRun status = ⊥
 
--- what is promised over any wires, also those that tell no log
-pub record Tallied (status : Status) (turns : ℕ) (tally : Tally) : Type 0 where
-  pub answers : IsOfRun status
-  pub no_peers : (ends : Vec PeerEnd Global) → status ≡ NoPeers ends → NobodyLeft tally
-  pub somebody : has_somebody status ≡ true → NobodyLeft tally → ⊥
-  pub tired : status ≡ Tired → tally.taken ≡ turns
-  pub ended : status ≡ Ended → tally.ended ≡ 1
-  pub early : status ≡ Ended → tally.taken < turns
+-- At most so many deliveries were taken, at most so many peers dialled, and the end was told at most once.
+pub record IsWithin (turns names : ℕ) (tally : Tally) : Type 0 where
+  pub taken : tally.taken ≤ turns
+  pub dialled : tally.dials ≤ names
+  pub ended : tally.ended ≤ 1
 
--- what the log of a session says: its dials and deliveries are the session's, in order, and all of them where the end came
+-- wires that were used are finished
+abbrev pub AreLeft : Told → Told → Type 0
+AreLeft was now = (now ≡ was) ⊎ (now.finished ≡ true)
+
+-- once a run is made, each peer was dialled, and the wires are finished
+pub record IsWhole (names : ℕ) (now : Told) : Type 0 where
+  pub dialled : now.tally.dials ≡ names
+  pub finished : now.finished ≡ true
+
+-- what is promised over any wires, also those that tell no log: by what they told before the call, and after it
+pub record Tallied (status : Status) (turns names : ℕ) (was now : Told) : Type 0 where
+  pub answers : IsOfRun status
+  pub within : IsWithin turns names now.tally
+  pub whole : has_run status ≡ true → IsWhole names now
+  pub left : AreLeft was now
+  pub no_peers : (ends : Vec PeerEnd Global) → status ≡ NoPeers ends → NobodyLeft now.tally
+  pub somebody : has_somebody status ≡ true → NobodyLeft now.tally → ⊥
+  pub tired : status ≡ Tired → now.tally.taken ≡ turns
+  pub ended : status ≡ Ended → now.tally.ended ≡ 1
+  pub early : status ≡ Ended → now.tally.taken < turns
+
+-- What the log of a session says, whatever the answer: its dials and its deliveries are the first of the session's, in order. All deliveries are
+-- there once the end was told, and all dials once the run is made. Each dial went as the session says, and no send failed.
 pub record Plays (status : Status) (script : Script) (log : Log) : Type 0 where
-  pub dialled : dials log ≡ script.dials
+  pub dialled : (n : ℕ) × (dials log ≡ take n script.dials)
   pub given : (n : ℕ) × (deliveries log ≡ take n script.deliveries)
-  pub whole : status ≡ Ended → deliveries log ≡ script.deliveries
+  pub all : has_run status ≡ true → dials log ≡ script.dials
+  pub whole : 0 < (tally_of log).ended → deliveries log ≡ script.deliveries
+  pub went : goes_as_made (record { script = script; failing = [] }) log ≡ true
 
 -- the answer that tells how a run ended, and how its peers stand where none is left
 abbrev pub AnswersTo : End → List PeerEnd → Status → Type 0
@@ -133,11 +155,12 @@ AnswersTo HasNoPeers ends status = (told : Vec PeerEnd Global) × (status ≡ No
 AnswersTo IsTired ends status = status ≡ Tired
 AnswersTo HasEnded ends status = status ≡ Ended
 
--- the same for a log of which the names aren't told
-abbrev pub IsKept : Status → Bool → Option Named → List ℕ → Option (List ℕ) → Option (List ℕ) → Log → Type 0
-IsKept status trace files watch before after log = (names : List (List ℕ)) × KeptOver status trace files watch names before after log
+-- what is promised of `replay` over a tape: the same, of a log whose names aren't told
+abbrev pub IsReplayed : Status → ℕ → Bool → Option Named → List ℕ → Option (List ℕ) → Option (List ℕ) → Told → Told → Log → Type 0
+IsReplayed status turns trace files watch before after was now log =
+    (names : List (List ℕ)) × KeptOver status trace files watch names before after log × Tallied status turns (length names) was now
 
--- a session that was read is played once the run is made
+-- what the log says of a session that was read
 abbrev pub PlaysSession : Status → Result Script SessionFault → Log → Type 0
-PlaysSession status (Ok script) log = has_run status ≡ true → Plays status script log
-PlaysSession status (Err fault) log = Unit {0}
+PlaysSession status (Ok script) log = Plays status script log
+PlaysSession status (Err fault) log = log ≡ []

@@ -2,7 +2,7 @@
 ghost use Rattle.std.specs.Prelude.{◌≡◌, ◌≤◌, [], length, IfSome, true, false};
 ghost use Rattle.cf_bytes.specs.Outside.{HasRisen};
 ghost use Rattle.cf_client.specs.Names.{names_in};
-ghost use Rattle.cf_client.specs.Run.{Course};
+ghost use Rattle.cf_client.specs.Run.{Course, HasDialled, HasFailed};
 ghost use Rattle.cf_peer.specs.Log.{Tells};
 ghost use Rattle.cf_cli.specs.Statuses.{has_run, was_refused};
 ghost use Rattle.cf_cli.specs.Theorem.{Kept, Tallied, AnswersTo, IsOfRun};
@@ -32,7 +32,7 @@ fn status_of(end: End, ends: Vec<PeerEnd>) -> Status
 }
 
 /// Follows the chains that the peers of these names show, and writes the trace where it is asked for, and the history of the watched scripts and
-/// the tip once nothing is open. The wires are new.
+/// the tip once nothing is open. The wires are new, and not finished.
 pub(crate) fn follow<W: Wires, O: Sink>(
     alloc: Global,
     wires: &mut W,
@@ -45,10 +45,13 @@ pub(crate) fn follow<W: Wires, O: Sink>(
     out: &mut O,
 ) -> Status
     requires fresh { Tells [] (W.told wires.old) }
+    requires open { (W.told wires.old).finished ≡ false }
     requires few { length names.now ≤ 8 }
     ensures kept { IfSome (W.told wires.new).log (λ log. Kept result trace watch (names_in names.now) (O.written out.old) (O.written out.new) log) }
-    ensures tallied { Tallied result turns (W.told wires.new).tally }
-    ensures same { has_run result ≡ true → W.script wires.new ≡ W.script wires.old }
+    ensures tallied { Tallied result turns (length (names_in names.now)) (W.told wires.old) (W.told wires.new) }
+    ensures dialled { HasDialled (names_in names.now) (W.told wires.new) }
+    ensures same { W.script wires.new ≡ W.script wires.old }
+    ensures failures { IfSome (W.told wires.new).log (λ log. HasFailed log → HasRisen (W.faults wires.old) (W.faults wires.new)) }
     ensures out_fault { result ≡ Status.OutFault → HasRisen (O.faults out.old) (O.faults out.new) }
     ensures unwritten { has_run result ≡ false → O.written out.new ≡ O.written out.old }
     ensures unrefused { was_refused result ≡ false }

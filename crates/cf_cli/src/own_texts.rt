@@ -1,5 +1,5 @@
 //! What the program says of itself.
-ghost use Rattle.std.specs.Prelude.{◌≡◌, drop, true, false, None, Some, string_bytes};
+ghost use Rattle.std.specs.Prelude.{◌≡◌, drop, true, false, None, Some, option_map, string_bytes};
 ghost use Rattle.std.specs.List.{list_any};
 ghost use Rattle.cf_input.specs.Words.{is_help_word, is_version_word};
 
@@ -77,8 +77,8 @@ fn asked(words: &[String]) -> &[String]
 
 /// The text that a word behind the program's name asks for: the help, or else the version.
 pub fn own_text(words: &[String]) -> Option<&'static str>
-    ensures help { list_any (λ w. is_help_word (string_bytes w)) (drop 1 words.now) ≡ true → result ≡ Some HELP }
-    ensures version { list_any (λ w. is_help_word (string_bytes w)) (drop 1 words.now) ≡ false → list_any (λ w. is_version_word (string_bytes w)) (drop 1 words.now) ≡ true → result ≡ Some VERSION }
+    ensures help { list_any (λ w. is_help_word (string_bytes w)) (drop 1 words.now) ≡ true → option_map (λ text. text.now) result ≡ Some HELP.now }
+    ensures version { list_any (λ w. is_help_word (string_bytes w)) (drop 1 words.now) ≡ false → list_any (λ w. is_version_word (string_bytes w)) (drop 1 words.now) ≡ true → option_map (λ text. text.now) result ≡ Some VERSION.now }
     ensures none { list_any (λ w. is_help_word (string_bytes w)) (drop 1 words.now) ≡ false → list_any (λ w. is_version_word (string_bytes w)) (drop 1 words.now) ≡ false → result ≡ None }
 {
     let asked = asked(words);

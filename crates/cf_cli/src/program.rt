@@ -4,13 +4,14 @@ ghost use Rattle.std.specs.FinMap as finite;
 ghost use Rattle.cf_bytes.specs.Outside.{HasRisen};
 ghost use Rattle.cf_client.specs.Names.{names_in};
 ghost use Rattle.std.specs.List.{list_all};
-ghost use Rattle.cf_peer.specs.Log.{Tells, tally_of, is_real};
-ghost use Rattle.cf_peer.specs.Memory.{log_of, failing_of};
+ghost use Rattle.cf_client.specs.Run.{HasFailed};
+ghost use Rattle.cf_peer.specs.Log.{Tells, is_real};
+ghost use Rattle.cf_peer.specs.Memory.{log_of, failing_of, finished_of, told_of};
 ghost use Rattle.cf_input.specs.SessionFile.{session_of};
 ghost use Rattle.cf_input.specs.Sessions.{script_in, AreNamed};
 ghost use Rattle.cf_cli.specs.Statuses.{IsJudged, IsReadAs, IsUnread, IsOfFile, has_run, was_refused, may_dial, may_play, and_then, verdict_of, watch_verdict, session_verdict};
 ghost use Rattle.cf_cli.specs.Reading.{IsScanned, IsFiltered};
-ghost use Rattle.cf_cli.specs.Theorem.{KeptOver, IsKept, Tallied, PlaysSession};
+ghost use Rattle.cf_cli.specs.Theorem.{KeptOver, IsReplayed, Tallied, PlaysSession};
 ghost use Rattle.cf_input.specs.Words.{command_of, HasFewPeers};
 ghost use Rattle.cf_input.specs.declared.words.Command.{Command};
 ghost use Rattle.cf_input.specs.declared.words.Command.TheVariants.{Replay, Sync, Scan, Filter};
@@ -38,14 +39,14 @@ fn replay<F: Files, O: Sink>(
 ) -> Status
     requires log { log_of tape.old ≡ [] }
     requires failing { failing_of tape.old ≡ [] }
+    requires open { finished_of tape.old ≡ false }
     ensures judged { IfSome (F.files files.old) (λ m. IsJudged (and_then (watch_verdict (finite.get m watch.now)) (session_verdict (finite.get m session.now))) result) }
-    ensures kept { IsKept result trace (F.files files.old) watch.now (O.written out.old) (O.written out.new) (log_of tape.new) }
-    ensures tallied { Tallied result MOST_TURNS (tally_of (log_of tape.new)) }
+    ensures replayed { IsReplayed result MOST_TURNS trace (F.files files.old) watch.now (O.written out.old) (O.written out.new) (told_of tape.old) (told_of tape.new) (log_of tape.new) }
     ensures plays { IfSome (F.files files.old) (λ m. IfSome (finite.get m session.now) (λ bytes. PlaysSession result (session_of bytes) (log_of tape.new))) }
     ensures file_fault { result ≡ Status.FileFault → HasRisen (F.faults files.old) (F.faults files.new) }
     ensures out_fault { result ≡ Status.OutFault → HasRisen (O.faults out.old) (O.faults out.new) }
     ensures unwritten { has_run result ≡ false → O.written out.new ≡ O.written out.old }
-    ensures unplayed { was_refused result ≡ true → log_of tape.new ≡ log_of tape.old }
+    ensures unplayed { was_refused result ≡ true → told_of tape.new ≡ told_of tape.old }
     ensures asked { result ≢ Status.Usage }
 {
     let scripts = match load_watch(alloc, files, watch) {
@@ -83,10 +84,12 @@ fn sync<F: Files, W: Wires, O: Sink>(
     out: &mut O,
 ) -> Status
     requires fresh { Tells [] (W.told wires.old) }
+    requires open { (W.told wires.old).finished ≡ false }
     requires few { length peers.now ≤ 8 }
     ensures judged { IfSome (F.files files.old) (λ m. IsJudged (watch_verdict (finite.get m watch.now)) result) }
     ensures kept { IfSome (W.told wires.new).log (λ log. KeptOver result false (F.files files.old) watch.now (names_in peers.now) (O.written out.old) (O.written out.new) log) }
-    ensures tallied { Tallied result turns (W.told wires.new).tally }
+    ensures tallied { Tallied result turns (length (names_in peers.now)) (W.told wires.old) (W.told wires.new) }
+    ensures failures { IfSome (W.told wires.new).log (λ log. HasFailed log → HasRisen (W.faults wires.old) (W.faults wires.new)) }
     ensures file_fault { result ≡ Status.FileFault → HasRisen (F.faults files.old) (F.faults files.new) }
     ensures out_fault { result ≡ Status.OutFault → HasRisen (O.faults out.old) (O.faults out.new) }
     ensures unwritten { has_run result ≡ false → O.written out.new ≡ O.written out.old }
@@ -114,20 +117,23 @@ fn perform<F: Files, W: Wires, O: Sink>(
     out: &mut O,
 ) -> Status
     requires wires { Tells [] (W.told wires.old) }
+    requires unfinished { (W.told wires.old).finished ≡ false }
     requires log { log_of tape.old ≡ [] }
     requires failing { failing_of tape.old ≡ [] }
+    requires open { finished_of tape.old ≡ false }
     requires few { HasFewPeers command }
     ensures judged { IfSome (F.files files.old) (λ m. IsJudged (verdict_of m command) result) }
-    ensures sync { (turns : ℕ) (watch : List ℕ) (peers : List (List ℕ)) → command ≡ Sync turns watch peers → IfSome (W.told wires.new).log (λ log. KeptOver result false (F.files files.old) watch peers (O.written out.old) (O.written out.new) log) × Tallied result turns (W.told wires.new).tally }
-    ensures replay { (trace : Bool) (watch session : List ℕ) → command ≡ Replay trace watch session → IsKept result trace (F.files files.old) watch (O.written out.old) (O.written out.new) (log_of tape.new) × Tallied result MOST_TURNS (tally_of (log_of tape.new)) }
+    ensures sync { (turns : ℕ) (watch : List ℕ) (peers : List (List ℕ)) → command ≡ Sync turns watch peers → IfSome (W.told wires.new).log (λ log. KeptOver result false (F.files files.old) watch peers (O.written out.old) (O.written out.new) log) × Tallied result turns (length peers) (W.told wires.old) (W.told wires.new) }
+    ensures replay { (trace : Bool) (watch session : List ℕ) → command ≡ Replay trace watch session → IsReplayed result MOST_TURNS trace (F.files files.old) watch (O.written out.old) (O.written out.new) (told_of tape.old) (told_of tape.new) (log_of tape.new) }
     ensures plays { (trace : Bool) (watch session : List ℕ) → command ≡ Replay trace watch session → IfSome (F.files files.old) (λ m. IfSome (finite.get m session) (λ bytes. PlaysSession result (session_of bytes) (log_of tape.new))) }
     ensures scan { (file watch : List ℕ) → command ≡ Scan file watch → IsScanned result (F.files files.old) watch file (O.written out.old) (O.written out.new) }
     ensures filter { (file : List ℕ) (height : ℕ) → command ≡ Filter file height → IsFiltered result (F.files files.old) file height (O.written out.old) (O.written out.new) }
     ensures file_fault { result ≡ Status.FileFault → HasRisen (F.faults files.old) (F.faults files.new) }
     ensures out_fault { result ≡ Status.OutFault → HasRisen (O.faults out.old) (O.faults out.new) }
     ensures unwritten { has_run result ≡ false → O.written out.new ≡ O.written out.old }
+    ensures failures { IfSome (W.told wires.new).log (λ log. HasFailed log → HasRisen (W.faults wires.old) (W.faults wires.new)) }
     ensures undialled { may_dial (Some command) result ≡ false → W.told wires.new ≡ W.told wires.old }
-    ensures unplayed { may_play (Some command) result ≡ false → log_of tape.new ≡ log_of tape.old }
+    ensures unplayed { may_play (Some command) result ≡ false → told_of tape.new ≡ told_of tape.old }
     ensures asked { result ≢ Status.Usage }
 {
     match command {
@@ -167,8 +173,8 @@ fn perform<F: Files, W: Wires, O: Sink>(
 }
 
 /// All that the program does. The first word is the program's name; `moment` is the time in seconds since 1970 and `nonce` a random number, which
-/// the client's `version` tells. `sync` goes over `wires`, and `replay` over `tape`; both are new, nothing has passed them, and no call of `tape`
-/// is to fail. The text goes to `out`.
+/// the client's `version` tells. `sync` goes over `wires`, and `replay` over `tape`; both are new, nothing has passed them, they aren't finished, and
+/// no call of `tape` is to fail. The text goes to `out`.
 ///
 /// `NoMemory` may come in place of any other answer. `Usage` comes where the words ask for nothing. The watch file is judged first, then the session
 /// file: what is missing, refused or good is answered so. After that the run is made, and its text written. With `NoMemory`, `Usage`, `BadFile` and
@@ -184,21 +190,24 @@ pub fn run<F: Files, W: Wires, O: Sink>(
     out: &mut O,
 ) -> Status
     requires wires { Tells [] (W.told wires.old) }
+    requires unfinished { (W.told wires.old).finished ≡ false }
     requires log { log_of tape.old ≡ [] }
     requires failing { failing_of tape.old ≡ [] }
+    requires open { finished_of tape.old ≡ false }
     ensures usage { result ≡ Status.Usage → command_of (names_in words.now) ≡ None }
     ensures unasked { command_of (names_in words.now) ≡ None → (result ≡ Status.Usage) ⊎ (result ≡ Status.NoMemory) }
     ensures judged { IfSome (F.files files.old) (λ m. (c : Command) → command_of (names_in words.now) ≡ Some c → IsJudged (verdict_of m c) result) }
-    ensures sync { (turns : ℕ) (watch : List ℕ) (peers : List (List ℕ)) → command_of (names_in words.now) ≡ Some (Sync turns watch peers) → IfSome (W.told wires.new).log (λ log. KeptOver result false (F.files files.old) watch peers (O.written out.old) (O.written out.new) log) × Tallied result turns (W.told wires.new).tally }
-    ensures replay { (trace : Bool) (watch session : List ℕ) → command_of (names_in words.now) ≡ Some (Replay trace watch session) → IsKept result trace (F.files files.old) watch (O.written out.old) (O.written out.new) (log_of tape.new) × Tallied result MOST_TURNS (tally_of (log_of tape.new)) }
+    ensures sync { (turns : ℕ) (watch : List ℕ) (peers : List (List ℕ)) → command_of (names_in words.now) ≡ Some (Sync turns watch peers) → IfSome (W.told wires.new).log (λ log. KeptOver result false (F.files files.old) watch peers (O.written out.old) (O.written out.new) log) × Tallied result turns (length peers) (W.told wires.old) (W.told wires.new) }
+    ensures replay { (trace : Bool) (watch session : List ℕ) → command_of (names_in words.now) ≡ Some (Replay trace watch session) → IsReplayed result MOST_TURNS trace (F.files files.old) watch (O.written out.old) (O.written out.new) (told_of tape.old) (told_of tape.new) (log_of tape.new) }
     ensures plays { (trace : Bool) (watch session : List ℕ) → command_of (names_in words.now) ≡ Some (Replay trace watch session) → IfSome (F.files files.old) (λ m. IfSome (finite.get m session) (λ bytes. PlaysSession result (session_of bytes) (log_of tape.new))) }
     ensures scan { (file watch : List ℕ) → command_of (names_in words.now) ≡ Some (Scan file watch) → IsScanned result (F.files files.old) watch file (O.written out.old) (O.written out.new) }
     ensures filter { (file : List ℕ) (height : ℕ) → command_of (names_in words.now) ≡ Some (Filter file height) → IsFiltered result (F.files files.old) file height (O.written out.old) (O.written out.new) }
     ensures file_fault { result ≡ Status.FileFault → HasRisen (F.faults files.old) (F.faults files.new) }
     ensures out_fault { result ≡ Status.OutFault → HasRisen (O.faults out.old) (O.faults out.new) }
     ensures unwritten { has_run result ≡ false → O.written out.new ≡ O.written out.old }
+    ensures failures { IfSome (W.told wires.new).log (λ log. HasFailed log → HasRisen (W.faults wires.old) (W.faults wires.new)) }
     ensures undialled { may_dial (command_of (names_in words.now)) result ≡ false → W.told wires.new ≡ W.told wires.old }
-    ensures unplayed { may_play (command_of (names_in words.now)) result ≡ false → log_of tape.new ≡ log_of tape.old }
+    ensures unplayed { may_play (command_of (names_in words.now)) result ≡ false → told_of tape.new ≡ told_of tape.old }
 {
     match read_words(alloc, words) {
         Ok(command) => perform(alloc, command, moment, nonce, files, wires, tape, out),

@@ -1,8 +1,11 @@
-use Rattle.std.proofs.Common.{List, ℕ, take, ◌∙◌, ap}
+use Rattle.std.proofs.Common.{List, ℕ, take, sym, ◌∙◌, ap}
+use Rattle.std.specs.Prelude.{string_bytes}
+use Rattle.std.proofs.lemmas.List.{length-map}
 use Rattle.cf_bytes.specs.Outside.{with_more}
 use Rattle.cf_client.specs.Names.{names_in}
-use Rattle.cf_cli.specs.declared.status.Status.TheVariants.{OutFault}
+use Rattle.cf_cli.specs.declared.status.Status.TheVariants.{NoMemory, OutFault}
 use Rattle.cf_cli.proofs.Runs.{answered, kept_told, kept_without, stands_told, stands_unsaid}
+use Rattle.cf_cli.proofs.Plays.{early_tallied, spent_tallied, unwritten_tallied, run_tallied, new_dialled, new_unfailed}
 use Rattle.cf_cli.proofs.following.follow.Goals as goal
 
 pub returns-in-Ok-put_all-clause-kept : goal.returns-in-Ok-put_all-clause-kept
@@ -12,8 +15,8 @@ returns-in-Ok-put_all-clause-kept g c =
     let text = c.deref.ensures.value ∙ c.in-Ok-text_of.ensures in
     kept_told (g.W.Wires.told c.sync_over.new.wires).log c.args.watch o.end o.height o.tip o.history o.trace.items (names_in c.args.names.now) c.status_of.result c.args.trace before (g.O.Sink.written c.put_all.new.sink)
     c.in-Ok-sync_over.ensures.followed c.in-Ok-sync_over.ensures.theorem
-    (answered o.end o.ends.items c.status_of.result before (g.O.Sink.written c.put_all.new.sink) _ c.status_of.ensures (c.in-Ok-put_all.ensures.ok ∙ ap (with_more before) text))
-    (stands_told (g.W.Wires.told c.sync_over.new.wires).log o.end o.ends.items c.status_of.result c.status_of.ensures c.in-Ok-sync_over.ensures.ends)
+    (answered o.end o.ends.items c.status_of.result before (g.O.Sink.written c.put_all.new.sink) _ c.status_of.ensures.answer (c.in-Ok-put_all.ensures.ok ∙ ap (with_more before) text))
+    (stands_told (g.W.Wires.told c.sync_over.new.wires).log o.end o.ends.items c.status_of.result c.status_of.ensures.answer c.in-Ok-sync_over.ensures.ends)
 
 pub returns-in-Err-clause-kept : goal.returns-in-Err-clause-kept
 returns-in-Err-clause-kept g c =
@@ -28,3 +31,36 @@ returns-in-Err-clause-kept g c =
 pub returns-in_default-text_of-clause-kept : goal.returns-in_default-text_of-clause-kept
 returns-in_default-text_of-clause-kept g c =
     kept_without (g.W.Wires.told c.sync_over.new.wires).log c.args.watch (names_in c.args.names.now) c.args.trace (g.O.Sink.written c.args.out.now) (g.O.Sink.written c.args.out.now)
+
+pub returns-in_default-clause-tallied : goal.returns-in_default-clause-tallied
+returns-in_default-clause-tallied g c = early_tallied NoMemory _ _ _ tt c.requires.fresh
+
+pub returns-in_default-clause-dialled : goal.returns-in_default-clause-dialled
+returns-in_default-clause-dialled g c = new_dialled _ _ c.requires.fresh
+
+pub returns-in_default-clause-failures : goal.returns-in_default-clause-failures
+returns-in_default-clause-failures g c = new_unfailed _ _ _ c.requires.fresh
+
+pub returns-in_default-sync_over-clause-tallied : goal.returns-in_default-sync_over-clause-tallied
+returns-in_default-sync_over-clause-tallied g c =
+    let told = c.sync_over.ensures in
+    spent_tallied _ _ _ _ (record { taken = told.most; dialled = told.first.most; ended = told.once }) told.finished
+
+pub returns-in_default-text_of-clause-tallied : goal.returns-in_default-text_of-clause-tallied
+returns-in_default-text_of-clause-tallied g c =
+    let told = c.sync_over.ensures in
+    spent_tallied _ _ _ _ (record { taken = told.most; dialled = told.first.most; ended = told.once }) told.finished
+
+pub returns-in-Err-clause-tallied : goal.returns-in-Err-clause-tallied
+returns-in-Err-clause-tallied g c =
+    let told = c.sync_over.ensures in
+    unwritten_tallied _ _ _ _ (record { taken = told.most; dialled = told.first.most; ended = told.once })
+    (record { dialled = c.in-Ok-sync_over.ensures.dialled ∙ sym (length-map c.args.names.now string_bytes); finished = told.finished })
+
+pub returns-in-Ok-put_all-clause-tallied : goal.returns-in-Ok-put_all-clause-tallied
+returns-in-Ok-put_all-clause-tallied g c =
+    let told = c.sync_over.ensures in
+    let ok = c.in-Ok-sync_over.ensures in
+    run_tallied c.in-Ok-sync_over.outcome.end _ c.status_of.result _ _ _ _ c.status_of.ensures.answer (record { taken = told.most; dialled = told.first.most; ended = told.once })
+    (record { dialled = ok.dialled ∙ sym (length-map c.args.names.now string_bytes); finished = told.finished })
+    ok.no_peers ok.tired ok.ended ok.early

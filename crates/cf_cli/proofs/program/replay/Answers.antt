@@ -1,36 +1,42 @@
-use Rattle.std.proofs.Common.{List, Some, ◌∙◌, ap, subst}
-use Rattle.std.specs.Prelude.{String}
-use Rattle.std.specs.Global.{Global}
+use Rattle.std.proofs.Common.{List, Some, ◌∙◌, ap}
 use Rattle.cf_client.specs.Names.{names_in}
-use Rattle.cf_peer.specs.Memory.{log_of, failing_of}
+use Rattle.cf_peer.specs.Memory.{log_of, failing_of, told_of}
 use Rattle.cf_peer.specs.Wires.{Script}
-use Rattle.cf_cli.specs.Theorem.{Kept}
-use Rattle.cf_cli.proofs.Plays.{made, plays_of, told_so, told_plays, early_is_kept, over_watch}
+use Rattle.cf_cli.proofs.Plays.{made, plays_of, told_so, told_plays, early_replayed, early_plays, new_tape, over_watch}
 use Rattle.cf_cli.proofs.program.replay.Goals as goal
 
-pub returns-in-Err-clause-kept : goal.returns-in-Err-clause-kept
-returns-in-Err-clause-kept g c = early_is_kept c.in-Err.status c.args.trace (g.F.Files.files c.args.files.now) c.args.watch.now _ _ c.in-Err.ensures.only c.requires.log
+pub returns-in-Err-clause-replayed : goal.returns-in-Err-clause-replayed
+returns-in-Err-clause-replayed g c =
+    early_replayed c.in-Err.status _ c.args.trace (g.F.Files.files c.args.files.now) c.args.watch.now _ _ _ c.in-Err.ensures.only (new_tape c.args.tape.now c.requires.log) c.requires.log
 
-pub returns-in-Err-load_session-clause-kept : goal.returns-in-Err-load_session-clause-kept
-returns-in-Err-load_session-clause-kept g c =
-    early_is_kept c.in-Err-load_session.status c.args.trace (g.F.Files.files c.args.files.now) c.args.watch.now _ _ c.in-Err-load_session.ensures.only c.requires.log
+pub returns-in-Err-load_session-clause-replayed : goal.returns-in-Err-load_session-clause-replayed
+returns-in-Err-load_session-clause-replayed g c =
+    early_replayed c.in-Err-load_session.status _ c.args.trace (g.F.Files.files c.args.files.now) c.args.watch.now _ _ _ c.in-Err-load_session.ensures.only
+    (new_tape c.args.tape.now c.requires.log) c.requires.log
 
-pub returns-clause-kept : goal.returns-clause-kept
-returns-clause-kept g c =
+pub returns-clause-replayed : goal.returns-clause-replayed
+returns-clause-replayed g c =
     let names = names_in c.deref.result.now in (
       names,
       over_watch c.follow.result c.args.trace (g.F.Files.files c.args.files.now) c.args.watch.now c.in-Ok.scripts names (g.O.Sink.written c.args.out.now) (g.O.Sink.written c.follow.new.out)
           (log_of c.follow.new.wires) c.in-Ok.ensures.scripts c.follow.ensures.kept,
+      c.follow.ensures.tallied,
     )
+
+pub returns-in-Err-clause-plays : goal.returns-in-Err-clause-plays
+returns-in-Err-clause-plays g c = early_plays (g.F.Files.files c.args.files.now) c.args.session.now c.in-Err.status _ c.in-Err.ensures.only c.requires.log
+
+pub returns-in-Err-load_session-clause-plays : goal.returns-in-Err-load_session-clause-plays
+returns-in-Err-load_session-clause-plays g c =
+    early_plays (g.F.Files.files c.args.files.now) c.args.session.now c.in-Err-load_session.status _ c.in-Err-load_session.ensures.only c.requires.log
 
 pub returns-clause-plays : goal.returns-clause-plays
 returns-clause-plays g c =
     let s = c.in-Ok-load_session.session in
     let script : Script = record { dials = s.dials.items; deliveries = s.deliveries.items } in
-    let names = names_in s.names.items in
     told_plays (g.F.Files.files c.args.files.now) c.args.session.now c.follow.result script (log_of c.follow.new.wires)
     (told_so (g.F.Files.files c.load_watch.new.files) (g.F.Files.files c.args.files.now) c.args.session.now script c.load_watch.ensures.same c.in-Ok-load_session.ensures.script)
-    (λ is. plays_of c.follow.result c.args.trace c.in-Ok.scripts names (g.O.Sink.written c.args.out.now) (g.O.Sink.written c.follow.new.out) 10000000 script c.follow.new.wires
-    (c.follow.ensures.same is ∙ ap Some (ap (λ (x : Script). made x (failing_of c.load.new.self)) c.load.ensures.script ∙ ap (made script) (c.load.ensures.failing ∙ c.requires.failing)))
-    c.in-Ok-load_session.ensures.named
-    (subst (λ (xs : List (String Global)). Kept c.follow.result c.args.trace c.in-Ok.scripts (names_in xs) (g.O.Sink.written c.args.out.now) (g.O.Sink.written c.follow.new.out) (log_of c.follow.new.wires)) c.deref.ensures.value c.follow.ensures.kept) c.follow.ensures.tallied is)
+    (plays_of c.follow.result (names_in c.deref.result.now) script c.follow.new.wires
+    (c.follow.ensures.same ∙ ap Some (ap (λ (x : Script). made x (failing_of c.load.new.self)) c.load.ensures.script ∙ ap (made script) (c.load.ensures.failing ∙ c.requires.failing)))
+    (ap names_in c.deref.ensures.value ∙ c.in-Ok-load_session.ensures.named)
+    c.follow.ensures.dialled c.follow.ensures.tallied.whole)

@@ -1,8 +1,6 @@
 use Rattle.std.proofs.Common.{false}
-use Rattle.cf_peer.specs.Log.{tally_of}
-use Rattle.cf_peer.specs.Memory.{log_of}
 use Rattle.cf_cli.specs.declared.status.Status.TheVariants.{NoMemory}
-use Rattle.cf_cli.proofs.Plays.{early_is_kept, early_told, early_tallied, same_command, judged_for, unused_wires, unused_tape}
+use Rattle.cf_cli.proofs.Plays.{early_replayed, early_plays, early_told, early_tallied, new_tape, new_unfailed, same_command, judged_for, unused_wires, unused_tape}
 use Rattle.cf_cli.proofs.program.run.Goals as goal
 
 pub returns-in-Ok-clause-usage : goal.returns-in-Ok-clause-usage
@@ -23,11 +21,20 @@ returns-in-Ok-clause-plays g c = λ trace watch session asked. c.perform.ensures
 
 pub returns-in-Err-NoMemory-clause-replay : goal.returns-in-Err-NoMemory-clause-replay
 returns-in-Err-NoMemory-clause-replay g c = λ trace watch session asked.
-    (early_is_kept NoMemory trace _ watch _ (log_of c.args.tape.now) tt c.requires.log, early_tallied NoMemory _ (tally_of (log_of c.args.tape.now)) tt)
+    early_replayed NoMemory _ trace _ watch _ _ _ tt (new_tape c.args.tape.now c.requires.log) c.requires.log
+
+pub returns-in-Err-NoMemory-clause-plays : goal.returns-in-Err-NoMemory-clause-plays
+returns-in-Err-NoMemory-clause-plays g c = λ trace watch session asked. early_plays (g.F.Files.files c.args.files.now) session NoMemory _ tt c.requires.log
 
 pub returns-in-Err-NoMemory-clause-sync : goal.returns-in-Err-NoMemory-clause-sync
 returns-in-Err-NoMemory-clause-sync g c = λ turns watch peers asked.
-    (early_told _ NoMemory false _ watch peers _ tt c.requires.wires, early_tallied NoMemory _ _ tt)
+    (early_told _ NoMemory false _ watch peers _ tt c.requires.wires, early_tallied NoMemory _ _ _ tt c.requires.wires)
+
+pub returns-in-Err-NoMemory-clause-failures : goal.returns-in-Err-NoMemory-clause-failures
+returns-in-Err-NoMemory-clause-failures g c = new_unfailed _ _ _ c.requires.wires
+
+pub returns-in-Err-No-clause-failures : goal.returns-in-Err-No-clause-failures
+returns-in-Err-No-clause-failures g c = new_unfailed _ _ _ c.requires.wires
 
 pub returns-in-Ok-clause-scan : goal.returns-in-Ok-clause-scan
 returns-in-Ok-clause-scan g c = λ file watch asked. c.perform.ensures.scan file watch (same_command _ c.in-Ok.command _ c.in-Ok.ensures.exact asked)

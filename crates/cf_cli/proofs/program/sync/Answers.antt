@@ -1,6 +1,6 @@
 use Rattle.std.proofs.Common.{false}
 use Rattle.cf_client.specs.Names.{names_in}
-use Rattle.cf_cli.proofs.Plays.{early_told, told_over_watch}
+use Rattle.cf_cli.proofs.Plays.{early_told, early_tallied, new_unfailed, told_over_watch}
 use Rattle.cf_cli.proofs.program.sync.Goals as goal
 
 pub returns-in-Err-clause-kept : goal.returns-in-Err-clause-kept
@@ -12,3 +12,9 @@ pub returns-clause-kept : goal.returns-clause-kept
 returns-clause-kept g c =
     told_over_watch (g.W.Wires.told c.follow.new.wires).log c.follow.result false (g.F.Files.files c.args.files.now) c.args.watch.now c.in-Ok.scripts (names_in c.args.peers.now)
     (g.O.Sink.written c.args.out.now) (g.O.Sink.written c.follow.new.out) c.in-Ok.ensures.scripts c.follow.ensures.kept
+
+pub returns-in-Err-clause-tallied : goal.returns-in-Err-clause-tallied
+returns-in-Err-clause-tallied g c = early_tallied c.in-Err.status _ _ _ c.in-Err.ensures.only c.requires.fresh
+
+pub returns-in-Err-clause-failures : goal.returns-in-Err-clause-failures
+returns-in-Err-clause-failures g c = new_unfailed _ _ _ c.requires.fresh
