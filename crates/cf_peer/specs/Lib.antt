@@ -1,7 +1,7 @@
 pub mod Log
-pub mod Memory
-pub mod Dials
 pub mod Wires
+pub mod Dials
+pub mod Memory
 pub mod Session
 pub mod Trail
 pub mod Asking

@@ -54,10 +54,11 @@ mark_of t p = slice_index_or t.marks p NotYet
 abbrev pub was_closed : Tally → ℕ → Bool
 was_closed t p = slice_index_or t.closed p false
 
--- what wires tell: the log, or nothing of it, and always the tally
+-- what wires tell: the log, or nothing of it, and always the tally and whether they are finished
 pub record Told : Type 0 where
   pub log : Option Log
   pub tally : Tally
+  pub finished : Bool
 
 abbrev pub longer : Event → Option Log → Option Log
 longer e None = None
@@ -65,7 +66,11 @@ longer e (Some log) = Some (e ∷ log)
 
 -- what is told after one more entry
 abbrev pub tell : Event → Told → Told
-tell e t = record { log = longer e t.log; tally = noted e t.tally }
+tell e t = record { log = longer e t.log; tally = noted e t.tally; finished = t.finished }
+
+-- what is told once the wires are finished
+abbrev pub told_finished : Told → Told
+told_finished t = record t { finished = true }
 
 -- what the wires tell is this log, or its tally alone
 pub record Tells (log : Log) (t : Told) : Type 0 where

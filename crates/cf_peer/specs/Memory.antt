@@ -1,11 +1,11 @@
 -- What wires in memory hold.
-use Rattle.std.specs.Prelude.{ℕ, Bool, true, false, List, [], ◌∷◌, ◌++◌, reverse}
+use Rattle.std.specs.Prelude.{ℕ, Bool, true, false, List, [], ◌∷◌, ◌++◌, reverse, Some}
 use Rattle.cf_peer.specs.declared.event.Dial.{Dial}
 use Rattle.cf_peer.specs.declared.memory.MemoryWires.{MemoryWires}
 use Rattle.cf_peer.specs.declared.memory.Scripted.{Scripted}
 use Rattle.cf_peer.specs.declared.memory.Scripted.TheVariants.{Dial as MadeDial, NoDial as MadeNoDial, Deliver}
-use Rattle.cf_peer.specs.Log.{Log, is_real}
-use Rattle.cf_peer.specs.Wires.{Script}
+use Rattle.cf_peer.specs.Log.{Log, Told, tally_of, is_real}
+use Rattle.cf_peer.specs.Wires.{Script, Made}
 
 abbrev pub script_of : MemoryWires → Script
 script_of w = record { dials = w.dial_script.items; deliveries = w.script.items }
@@ -17,6 +17,10 @@ log_of w = reverse w.log.items
 abbrev pub failing_of : MemoryWires → List ℕ
 failing_of w = w.failing.items
 
+-- what they are made to give, and which calls are to fail
+abbrev pub made_of : MemoryWires → Made
+made_of w = record { script = script_of w; failing = failing_of w }
+
 -- how many dials and sends there were, and how many of them failed
 abbrev pub calls_of : MemoryWires → ℕ
 calls_of w = w.calls
@@ -27,6 +31,14 @@ faults_of w = w.faults
 -- whether the log is to be kept
 abbrev pub keeps_of : MemoryWires → Bool
 keeps_of w = w.keeps
+
+-- whether they are finished
+abbrev pub finished_of : MemoryWires → Bool
+finished_of w = w.finished
+
+-- what they tell
+abbrev pub told_of : MemoryWires → Told
+told_of w = record { log = Some (log_of w); tally = tally_of (log_of w); finished = w.finished }
 
 -- the end is told by itself, and not added
 abbrev pub may_be_added : Scripted → Bool

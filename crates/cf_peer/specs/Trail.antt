@@ -64,18 +64,25 @@ part_after r t = record { trail = hears_fault r.fault (hears r.frames t); waits 
 abbrev pub heard_part : List ℕ → Part → Part
 heard_part piece part = part_after (read_stream (part.waits ++ piece)) part.trail
 
--- the message that the bytes of one send spell
+-- the message that the bytes of one send spell: they are one frame, and nothing more
 abbrev pub message_in : Result Msg Malformed → Option Msg
 message_in (Ok m) = Some m
 message_in (Err e) = None
 
-abbrev pub one_message : List Frame → Option Msg
-one_message [] = None
-one_message (f ∷ []) = message_in (message_of f)
-one_message (f ∷ g ∷ fs) = None
+abbrev pub alone : List ℕ → Option Msg → Option Msg
+alone [] m = m
+alone (b ∷ rest) m = None
+
+abbrev pub one_message : List Frame → List ℕ → Option Msg
+one_message [] rest = None
+one_message (f ∷ []) rest = alone rest (message_in (message_of f))
+one_message (f ∷ g ∷ fs) rest = None
+
+abbrev pub message_of_stream : StreamRead → Option Msg
+message_of_stream r = one_message r.frames r.rest
 
 abbrev pub spelled : List ℕ → Option Msg
-spelled bytes = one_message (read_stream bytes).frames
+spelled bytes = message_of_stream (read_stream bytes)
 
 abbrev pub asks : Option Msg → Trail → Trail
 asks None t = t

@@ -15,6 +15,3 @@ pub use hear::Incoming;
 pub use memory::{MemoryWires, Scripted};
 pub use peer::{Cause, Peer, Reply, Request};
 pub use wires::{WireFail, Wires};
-
-#[cfg(test)]
-mod tests;

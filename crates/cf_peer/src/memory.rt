@@ -2,8 +2,8 @@
 ghost use Rattle.std.specs.Prelude.{◌≡◌, ◌≤◌, ◌<◌, ◌+◌, ℕ, Some, reverse, length, [], ◌∷◌, ◌++◌, OnOk, OnErr, IfOk, IsErrOf, true, false, not, take, vec_len, vec_capacity};
 ghost use Rattle.std.specs.List.{list_all, count_by};
 ghost use Rattle.cf_bytes.specs.Outside.{HasRisen};
-ghost use Rattle.cf_peer.specs.Log.{tally_of, deliveries, dials as dials_of, is_real};
-ghost use Rattle.cf_peer.specs.Dials.{WentAsMade, answered_at};
+ghost use Rattle.cf_peer.specs.Log.{tally_of, tell, deliveries, dials as dials_of, is_real};
+ghost use Rattle.cf_peer.specs.Dials.{WentAsMade, answered_at, calls_in, is_to_fail, fails_after, answers_after, goes_as_made};
 
 use crate::event::{Delivery, Dial, Event, Name, Piece};
 use crate::session::{put_deliveries, put_dials};
@@ -31,6 +31,7 @@ pub struct MemoryWires {
     // How many deliveries were given.
     at: usize,
     failing: Vec<u64>,
+    // How many dials and sends there were.
     calls: u64,
     faults: u64,
     dials: u32,
@@ -39,6 +40,8 @@ pub struct MemoryWires {
     log: Vec<Event>,
     // Whether the log is to be kept.
     keeps: bool,
+    // Whether they are finished.
+    finished: bool,
     ghost dials_are: { (tally_of (reverse log.items)).dials ≡ dials },
     ghost closed_are: { (tally_of (reverse log.items)).closed ≡ closed },
     ghost played: { deliveries (reverse log.items) ≡ take at script.items },
@@ -48,10 +51,13 @@ pub struct MemoryWires {
     ghost room: { vec_len log + count_by not closed ≤ vec_capacity log },
     ghost went: { failing.items ≡ [] → WentAsMade dial_script.items (dials_of (reverse log.items)) },
     ghost many: { length (dials_of (reverse log.items)) ≡ dials },
+    ghost counted: { calls_in (reverse log.items) ≡ calls },
+    ghost few: { calls ≤ vec_len log },
+    ghost made: { goes_as_made (record { script = record { dials = dial_script.items; deliveries = script.items }; failing = failing.items }) (reverse log.items) ≡ true },
 }
 
 impl MemoryWires {
-    ghost use Rattle.cf_peer.specs.Memory.{script_of, log_of, failing_of, calls_of, faults_of, keeps_of, may_be_added, with_scripted, with_dial};
+    ghost use Rattle.cf_peer.specs.Memory.{script_of, log_of, failing_of, calls_of, faults_of, keeps_of, finished_of, may_be_added, with_scripted, with_dial};
 
     /// Wires that were made to give nothing: each dial fails.
     pub fn new(alloc: Global) -> Result<MemoryWires, NoMemory>
@@ -61,6 +67,7 @@ impl MemoryWires {
         ensures calls { IfOk result (λ w. calls_of w ≡ 0) }
         ensures faults { IfOk result (λ w. faults_of w ≡ 0) }
         ensures keeps { IfOk result (λ w. keeps_of w ≡ false) }
+        ensures finished { IfOk result (λ w. finished_of w ≡ false) }
     {
         Ok(MemoryWires {
             alloc,
@@ -74,6 +81,7 @@ impl MemoryWires {
             closed: [false; 9],
             log: Vec::with_capacity(alloc, 9)?,
             keeps: false,
+            finished: false,
         })
     }
 
@@ -87,6 +95,7 @@ impl MemoryWires {
         ensures calls { calls_of self.new ≡ calls_of self.old }
         ensures faults { faults_of self.new ≡ faults_of self.old }
         ensures keeps { keeps_of self.new ≡ keeps_of self.old }
+        ensures finished { finished_of self.new ≡ finished_of self.old }
         ensures err { OnErr result (script_of self.new ≡ script_of self.old) }
     {
         match e {
@@ -109,6 +118,7 @@ impl MemoryWires {
         ensures calls { calls_of self.new ≡ calls_of self.old }
         ensures faults { faults_of self.new ≡ faults_of self.old }
         ensures keeps { keeps_of self.new ≡ keeps_of self.old }
+        ensures finished { finished_of self.new ≡ finished_of self.old }
     {
         self.dial_script = dials;
         self.script = deliveries;
@@ -124,6 +134,7 @@ impl MemoryWires {
         ensures calls { calls_of self.new ≡ calls_of self.old }
         ensures faults { faults_of self.new ≡ faults_of self.old }
         ensures keeps { keeps_of self.new ≡ keeps_of self.old }
+        ensures finished { finished_of self.new ≡ finished_of self.old }
         ensures err { OnErr result (script_of self.new ≡ script_of self.old) }
     {
         self.dial_script.push(Dial { name, answered })?;
@@ -139,13 +150,14 @@ impl MemoryWires {
         ensures calls { calls_of self.new ≡ calls_of self.old }
         ensures faults { faults_of self.new ≡ faults_of self.old }
         ensures keeps { keeps_of self.new ≡ keeps_of self.old }
+        ensures finished { finished_of self.new ≡ finished_of self.old }
         ensures err { OnErr result (failing_of self.new ≡ failing_of self.old) }
     {
         self.failing = Vec::from_slice(self.alloc, calls)?;
         Ok(())
     }
 
-    // Whether the next dial is answered.
+    // Whether the script has the next dial answered.
     fn is_answered(&self) -> bool
         ensures { result ≡ answered_at self.now.dial_script.items self.now.dials }
     {
@@ -155,25 +167,21 @@ impl MemoryWires {
         }
     }
 
-    // Whether this call is one of those that fail.
-    fn fails(&mut self) -> bool
-        ensures log { self.new.log ≡ self.old.log }
-        ensures script { self.new.script ≡ self.old.script }
-        ensures dial_script { self.new.dial_script ≡ self.old.dial_script }
-        ensures failing { self.new.failing ≡ self.old.failing }
-        ensures dials { self.new.dials ≡ self.old.dials }
-        ensures closed { self.new.closed ≡ self.old.closed }
-        ensures faults { self.new.faults ≡ self.old.faults }
-        ensures keeps { self.new.keeps ≡ self.old.keeps }
-        ensures none { self.old.failing.items ≡ [] → result ≡ false }
+    // Whether the next dial or send is one of those that are to fail.
+    fn fails(&self) -> bool
+        ensures { result ≡ is_to_fail self.now.failing.items (calls_in (reverse self.now.log.items) + 1) }
     {
-        self.calls = self.calls.saturating_add(1);
-        self.failing.contains(&self.calls)
+        let number = self.calls + 1;
+        self.failing.contains(&number)
     }
 }
 
 impl Wires for MemoryWires {
-    ghost told = { λ w. record { log = Some (reverse w.log.items); tally = tally_of (reverse w.log.items) } };
+    ghost use Rattle.cf_peer.specs.declared.event.Event.TheVariants.{Dialled, NotDialled, Sent, SendFailed};
+    ghost use Rattle.cf_peer.specs.Wires.{HasCause};
+    ghost use Rattle.cf_peer.specs.Memory.{log_of, made_of, told_of};
+
+    ghost told = { λ w. record { log = Some (reverse w.log.items); tally = tally_of (reverse w.log.items); finished = w.finished } };
 
     ghost faults = { λ w. w.faults };
 
@@ -185,30 +193,55 @@ impl Wires for MemoryWires {
         self.keeps = true;
     }
 
-    fn dial(&mut self, name: &str) -> Result<PeerNo, WireFail> {
+    /// Fails where the call is to fail, and where the script has no answer for it or is used up.
+    fn dial(&mut self, name: &str) -> Result<PeerNo, WireFail>
+        requires { (told_of self.old).tally.dials < 8 }
+        ensures dialled { IfOk result (λ p. (p.0 ≡ (told_of self.old).tally.dials + 1) × (told_of self.new ≡ tell (Dialled p name.now) (told_of self.old))) }
+        ensures not_dialled { IsErrOf result WireFail.Failed → told_of self.new ≡ tell (NotDialled (record { 0 = (told_of self.old).tally.dials + 1 }) name.now) (told_of self.old) }
+        ensures no_memory { IsErrOf result WireFail.NoMemory → told_of self.new ≡ told_of self.old }
+        ensures cause { HasCause self.old.faults self.new.faults result }
+        ensures keeps { self.new.keeps ≡ self.old.keeps }
+        ensures same { Some (made_of self.new) ≡ Some (made_of self.old) }
+        ensures answered { OnOk result (answers_after (made_of self.old) (log_of self.old) ≡ true) }
+        ensures unanswered { IsErrOf result WireFail.Failed → answers_after (made_of self.old) (log_of self.old) ≡ false }
+    {
         let name = Name::from_text(self.alloc, name)?;
         self.log.reserve(10)?;
         let p = PeerNo(self.dials + 1);
         if self.fails() || !self.is_answered() {
             self.log.push(Event::NotDialled(p, name)).unwrap();
+            self.calls += 1;
             self.dials += 1;
             self.faults = self.faults.saturating_add(1);
             return Err(WireFail::Failed);
         }
         self.log.push(Event::Dialled(p, name)).unwrap();
+        self.calls += 1;
         self.dials += 1;
         Ok(p)
     }
 
-    fn send(&mut self, p: PeerNo, bytes: &[u8]) -> Result<(), WireFail> {
+    /// Fails where the call is to fail.
+    fn send(&mut self, p: PeerNo, bytes: &[u8]) -> Result<(), WireFail>
+        ensures sent { OnOk result (told_of self.new ≡ tell (Sent p bytes.now) (told_of self.old)) }
+        ensures not_sent { IsErrOf result WireFail.Failed → told_of self.new ≡ tell (SendFailed p) (told_of self.old) }
+        ensures no_memory { IsErrOf result WireFail.NoMemory → told_of self.new ≡ told_of self.old }
+        ensures cause { HasCause self.old.faults self.new.faults result }
+        ensures keeps { self.new.keeps ≡ self.old.keeps }
+        ensures same { Some (made_of self.new) ≡ Some (made_of self.old) }
+        ensures went { OnOk result (fails_after (made_of self.old) (log_of self.old) ≡ false) }
+        ensures failed { IsErrOf result WireFail.Failed → fails_after (made_of self.old) (log_of self.old) ≡ true }
+    {
         let piece = Piece::from_slice(self.alloc, bytes)?;
         self.log.reserve(10)?;
         if self.fails() {
             self.log.push(Event::SendFailed(p)).unwrap();
+            self.calls += 1;
             self.faults = self.faults.saturating_add(1);
             return Err(WireFail::Failed);
         }
         self.log.push(Event::Sent(p, piece)).unwrap();
+        self.calls += 1;
         Ok(())
     }
 
@@ -231,7 +264,9 @@ impl Wires for MemoryWires {
         Ok(d)
     }
 
-    fn finish(&mut self) {}
+    fn finish(&mut self) {
+        self.finished = true;
+    }
 
     fn session(&self) -> Result<String, NoMemory> {
         let mut text = String::new(self.alloc);

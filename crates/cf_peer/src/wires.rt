@@ -1,9 +1,9 @@
 //! The outside of a client: peers that are dialled, sent to, closed and heard.
-ghost use Rattle.std.specs.Prelude.{◌≡◌, ℕ, Bool, ◌+◌, ◌<◌, ◌≤◌, List, Option, [], IfOk, OnOk, IfSome, IsSome, IsErrOf, true, false, string_bytes};
+ghost use Rattle.std.specs.Prelude.{◌≡◌, ℕ, Bool, ◌+◌, ◌<◌, ◌≤◌, List, Option, [], IfOk, OnOk, OnErr, IfSome, IsSome, IsErrOf, true, false, string_bytes};
 ghost use Rattle.cf_bytes.specs.declared.peer.PeerNo.{PeerNo};
 ghost use Rattle.cf_peer.specs.declared.event.Event.TheVariants.{Dialled, NotDialled, Sent, SendFailed, Closed, Took};
 ghost use Rattle.cf_peer.specs.declared.wires.WireFail.TheVariants.{NoMemory as WireNoMemory};
-ghost use Rattle.cf_peer.specs.Log.{Told, Tells, tell, was_closed};
+ghost use Rattle.cf_peer.specs.Log.{Told, Tells, tell, told_finished, was_closed};
 ghost use Rattle.cf_peer.specs.Session.{session_text};
 ghost use Rattle.cf_peer.specs.Wires.{HasCause, Made};
 
@@ -49,7 +49,7 @@ impl<T: Drop> From<AllocFailed<T>> for WireFail {
 
 /// Connections to peers, which are numbered from 1 in the order in which they are dialled.
 pub trait Wires {
-    /// The log, where it is told, and the tally.
+    /// The log, where it is told, the tally, and whether they are finished.
     ghost told: { Self → Told };
     /// How often the outside has failed. The count stands still at the greatest u64.
     ghost faults: { Self → ℕ };
@@ -63,23 +63,27 @@ pub trait Wires {
         requires { Tells [] (told self.old) }
         ensures told { Tells [] (told self.new) }
         ensures log { IsSome (told self.new).log }
+        ensures finished { (told self.new).finished ≡ (told self.old).finished }
         ensures keeps { keeps self.new ≡ true }
         ensures later { faults self.old ≤ faults self.new }
         ensures same { script self.new ≡ script self.old };
 
-    /// Dials the next peer. At most eight are dialled.
+    /// Dials the next peer. At most eight are dialled. Where no memory is found nothing was dialled.
     fn dial(&mut self, name: &str) -> Result<PeerNo, WireFail>
         requires { (told self.old).tally.dials < 8 }
         ensures dialled { IfOk result (λ p. (p.0 ≡ (told self.old).tally.dials + 1) × (told self.new ≡ tell (Dialled p name.now) (told self.old))) }
         ensures not_dialled { IsErrOf result WireFail.Failed → told self.new ≡ tell (NotDialled (record { 0 = (told self.old).tally.dials + 1 }) name.now) (told self.old) }
+        ensures no_memory { IsErrOf result WireFail.NoMemory → told self.new ≡ told self.old }
         ensures cause { HasCause (faults self.old) (faults self.new) result }
         ensures keeps { keeps self.new ≡ keeps self.old }
         ensures same { script self.new ≡ script self.old };
 
-    /// Sends bytes to a peer that was dialled. Where it fails none of them may be taken as sent.
+    /// Sends bytes to a peer that was dialled. Where it fails none of them may be taken as sent, and where no memory is found none was
+    /// sent.
     fn send(&mut self, p: PeerNo, bytes: &[u8]) -> Result<(), WireFail>
         ensures sent { OnOk result (told self.new ≡ tell (Sent p bytes.now) (told self.old)) }
         ensures not_sent { IsErrOf result WireFail.Failed → told self.new ≡ tell (SendFailed p) (told self.old) }
+        ensures no_memory { IsErrOf result WireFail.NoMemory → told self.new ≡ told self.old }
         ensures cause { HasCause (faults self.old) (faults self.new) result }
         ensures keeps { keeps self.new ≡ keeps self.old }
         ensures same { script self.new ≡ script self.old };
@@ -93,16 +97,18 @@ pub trait Wires {
         ensures keeps { keeps self.new ≡ keeps self.old }
         ensures same { script self.new ≡ script self.old };
 
-    /// Takes the next delivery.
+    /// Takes the next delivery. Where no memory is found none was taken.
     fn next(&mut self) -> Result<Delivery, NoMemory>
         ensures took { IfOk result (λ d. told self.new ≡ tell (Took d) (told self.old)) }
+        ensures err { OnErr result (told self.new ≡ told self.old) }
         ensures later { faults self.old ≤ faults self.new }
         ensures keeps { keeps self.new ≡ keeps self.old }
         ensures same { script self.new ≡ script self.old };
 
-    /// Ends the connections that are left. Nothing that comes after it is a delivery. It takes no memory.
+    /// Ends the connections that are left. Nothing that comes after it is a delivery. It is called once, and takes no memory.
     fn finish(&mut self)
-        ensures told { told self.new ≡ told self.old }
+        requires { (told self.old).finished ≡ false }
+        ensures told { told self.new ≡ told_finished (told self.old) }
         ensures later { faults self.old ≤ faults self.new }
         ensures keeps { keeps self.new ≡ keeps self.old }
         ensures same { script self.new ≡ script self.old };

@@ -34,7 +34,7 @@ use Rattle.cf_peer.specs.declared.event.Event.TheVariants.{Dialled, Sent, Took}
 use Rattle.cf_peer.specs.Acts.{bytes_of, IsSendable}
 use Rattle.cf_peer.specs.Asking.{BlockOpen, request, is_wanted, is_committed, is_open, block_fault, verdict, counted, lists, fetched, fetched_by, block_entry, HasSaid, hashes_of, MayAsk, SameUse}
 use Rattle.cf_peer.specs.Log.{Log}
-use Rattle.cf_peer.specs.Trail.{Trail, Part, Called, Said, Asked, no_address, called_part, item_of_read, part_after, heard_part, message_in, one_message, spelled, asks, part_of, trail, connected, own, heard, longer_of, ends_by, fault_in, first}
+use Rattle.cf_peer.specs.Trail.{Trail, Part, Called, Said, Asked, no_address, called_part, item_of_read, part_after, heard_part, message_in, message_of_stream, spelled, asks, part_of, trail, connected, own, heard, longer_of, ends_by, fault_in, first}
 use Rattle.cf_scan.specs.Scan.{scan_of}
 use Rattle.cf_sync.specs.Example.{only_tx, only_header, only_block, only_hash, chain_of_one, honest_peer, liar, genesis_hash, no_stop, our_version, its_version, false_version, question, its_headers, false_headers, fetch, its_block, log_1, log_2, log_3, log_4, log_5, log_6, log_7, log_8, log_9, log_10, log_11, log_12, log_13, log_14, log_15, run_of_two}
 use Rattle.cf_sync.specs.Fetching.{IsQuiet, IsBusy, AreBytes, IsFetched, IsFetchedHash, Rightly}
@@ -52,7 +52,7 @@ read_back : (m : Msg) → IsSendable m → read_stream (bytes_of m) ≡ record {
 read_back m good = stream_of_spelling (frame_of m) (frame_fits m good.spelled good.short)
 
 spelled_is : (m : Msg) → IsSendable m → spelled (bytes_of m) ≡ Some m
-spelled_is m good = ap (λ (r : StreamRead). one_message r.frames) (read_back m good) ∙ ap message_in (again m good.spelled)
+spelled_is m good = ap message_of_stream (read_back m good) ∙ ap message_in (again m good.spelled)
 
 -- a part with no bytes that wait
 abbrev at_rest : Trail → Part
@@ -735,7 +735,11 @@ has_asked watch = record {
     best = record {
       longest = λ p on. of_each (λ t. length (own (counted t)) ≤ 1) p
           (let e = ap (λ (c : Chain). length c) own_9 in omega (arith, e)) (let e = ap (λ (c : Chain). length c) same_other.chain in omega (arith, e)) (omega arith);
-      shown = inl (1, (of_part (λ t. connected t ≡ true) (part_of run_of_two 1) t_9 part_16 refl, of_part (λ t. own (counted t) ≡ only_header ∷ []) (part_of run_of_two 1) t_9 part_16 own_9));
+      shown = inl (1, (
+        of_part (λ t. connected t ≡ true) (part_of run_of_two 1) t_9 part_16 refl,
+        of_part (λ t. own (counted t) ≡ only_header ∷ []) (part_of run_of_two 1) t_9 part_16 own_9,
+        (λ q below on. let none : q ≡ 0 = omega (arith, below) in absurd (false≢true (subst (λ (k : ℕ). connected (trail run_of_two k) ≡ true) none on))),
+      ));
     };
     height_is = refl;
     hash_is = refl;

@@ -1,5 +1,5 @@
 -- What a log says of blocks: which were fetched, which chain is the best, and the history over its fetched blocks.
-use Rattle.std.specs.Prelude.{◌≡◌, ◌⊎◌, ℕ, ◌≤◌, Bool, true, false, List, [], ◌∷◌, length, reverse, Some, None}
+use Rattle.std.specs.Prelude.{◌≡◌, ◌⊎◌, ℕ, ◌≤◌, ◌<◌, Bool, true, false, List, [], ◌∷◌, length, reverse, Some, None}
 use Rattle.cf_block.specs.declared.header.Header.{Header}
 use Rattle.cf_block.specs.declared.tx.Block.{Block}
 use Rattle.cf_block.specs.Header.{block_hash_of}
@@ -114,10 +114,16 @@ Rightly (Took d ∷ log) = IsBusy log × Rightly log
 
 -- ---- the best chain
 
--- a chain that is the own chain of a connected peer, by what counts, and none of them has a longer one; genesis's where nobody is connected
+-- each connected peer with a smaller number than this has a chain of its own that is shorter
+abbrev pub AreShorterBefore : Log → Chain → ℕ → Type 0
+AreShorterBefore log chain p = (q : ℕ) → q < p → IsConnected log q → length (own (counted_part log q)) < length chain
+
+-- A chain that is the own chain of a connected peer, by what counts, and none of them has a longer one. Of several as long it is the one of the
+-- peer with the smallest number. It is genesis's where nobody is connected.
 pub record IsBest (log : Log) (chain : Chain) : Type 0 where
   pub longest : (p : ℕ) → IsConnected log p → length (own (counted_part log p)) ≤ length chain
-  pub shown : ((p : ℕ) × (IsConnected log p × (own (counted_part log p) ≡ chain))) ⊎ (((p : ℕ) → connected (trail log p) ≡ false) × (chain ≡ []))
+  pub shown : ((p : ℕ) × (IsConnected log p × (own (counted_part log p) ≡ chain) × AreShorterBefore log chain p))
+      ⊎ (((p : ℕ) → connected (trail log p) ≡ false) × (chain ≡ []))
 
 -- no block is open to it
 abbrev pub is_spare : OpenRequest → Bool
