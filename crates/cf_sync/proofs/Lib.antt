@@ -12,6 +12,7 @@ pub mod Settles
 pub mod Tables
 pub mod SameFetched
 pub mod TableGrows
+pub mod Planning
 pub mod Remembers
 pub mod Fresh
 pub mod Computed

@@ -735,11 +735,14 @@ has_asked watch = record {
     best = record {
       longest = λ p on. of_each (λ t. length (own (counted t)) ≤ 1) p
           (let e = ap (λ (c : Chain). length c) own_9 in omega (arith, e)) (let e = ap (λ (c : Chain). length c) same_other.chain in omega (arith, e)) (omega arith);
-      shown = inl (1, (
-        of_part (λ t. connected t ≡ true) (part_of run_of_two 1) t_9 part_16 refl,
-        of_part (λ t. own (counted t) ≡ only_header ∷ []) (part_of run_of_two 1) t_9 part_16 own_9,
-        (λ q below on. let none : q ≡ 0 = omega (arith, below) in absurd (false≢true (subst (λ (k : ℕ). connected (trail run_of_two k) ≡ true) none on))),
-      ));
+      shown = inl (
+        1,
+        (
+          of_part (λ t. connected t ≡ true) (part_of run_of_two 1) t_9 part_16 refl,
+          of_part (λ t. own (counted t) ≡ only_header ∷ []) (part_of run_of_two 1) t_9 part_16 own_9,
+          (λ q below on. let none : q ≡ 0 = omega (arith, below) in absurd (false≢true (subst (λ (k : ℕ). connected (trail run_of_two k) ≡ true) none on))),
+        ),
+      );
     };
     height_is = refl;
     hash_is = refl;

@@ -1,4 +1,5 @@
 pub mod Fetching
+pub mod Planned
 pub mod Honesty
 pub mod Sync
 pub mod Example

@@ -1,0 +1,61 @@
+-- The log as a client knew it that wasn't told yet of some failed sends.
+use Rattle.std.specs.Prelude.{◌≡◌, ◌⊎◌, ℕ, ◌==◌, Bool, true, false, not, ◌&&◌, ◌||◌, if◌then◌else◌, List, [], ◌∷◌, ◌++◌, Some}
+use Rattle.cf_msg.specs.declared.msg.Msg.{Msg}
+use Rattle.cf_peer.specs.declared.event.Event.TheVariants.{Dialled, NotDialled, Sent, SendFailed, Closed, Took}
+use Rattle.cf_peer.specs.Log.{Log, tally_of}
+use Rattle.cf_peer.specs.Trail.{Trail, Part, Called, Said, Refused, Asked, Passed, Lost, part_of, trail, spelled, connected, failed}
+use Rattle.cf_peer.specs.Asking.{counted, fetched}
+use Rattle.cf_sync.specs.Fetching.{MaySend}
+
+-- a send to this peer has failed since the last delivery, and the peer wasn't closed for it yet, so the client isn't told
+abbrev pub is_untold : Log → ℕ → Bool
+is_untold [] q = false
+is_untold (SendFailed p ∷ log) q = (p.0 == q) || is_untold log q
+is_untold (Closed p ∷ log) q = not (p.0 == q) && is_untold log q
+is_untold (Took d ∷ log) q = false
+is_untold (Dialled p name ∷ log) q = is_untold log q
+is_untold (NotDialled p name ∷ log) q = is_untold log q
+is_untold (Sent p bytes ∷ log) q = is_untold log q
+
+-- the log just before the newest send to this peer that failed
+abbrev pub before_failure : Log → ℕ → Log
+before_failure [] q = []
+before_failure (SendFailed p ∷ log) q = if p.0 == q then log else before_failure log q
+before_failure (Closed p ∷ log) q = before_failure log q
+before_failure (Took d ∷ log) q = before_failure log q
+before_failure (Dialled p name ∷ log) q = before_failure log q
+before_failure (NotDialled p name ∷ log) q = before_failure log q
+before_failure (Sent p bytes ∷ log) q = before_failure log q
+
+-- what was planned on top: messages to the peer, and its close
+abbrev pub IsMeant : Trail → Type 0
+IsMeant [] = Unit {0}
+IsMeant (Called ∷ t) = ⊥
+IsMeant (Said m ∷ t) = ⊥
+IsMeant (Refused c ∷ t) = ⊥
+IsMeant (Asked m ∷ t) = IsMeant t
+IsMeant (Passed s ∷ t) = ⊥
+IsMeant (Lost w ∷ t) = IsMeant t
+
+-- the same part; or of both a send has failed and cut them off, and the same blocks were brought
+abbrev pub Alike : Part → Part → Type 0
+Alike t u =
+    (t ≡ u)
+    ⊎ ((connected t.trail ≡ false) × (connected u.trail ≡ false) × (failed t.trail ≡ true) × (failed u.trail ≡ true) × (fetched (counted t.trail) ≡ fetched (counted u.trail)))
+
+-- of a peer whose failed send isn't told its part just before that send, with what was planned on top; of all others the actual part
+pub record IsPlanned (planned log : Log) : Type 0 where
+  pub told : (q : ℕ) → is_untold log q ≡ false → Alike (part_of planned q) (part_of log q)
+  pub untold : (q : ℕ) → is_untold log q ≡ true
+      → (more : Trail) × (IsMeant more × (part_of planned q ≡ record (part_of (before_failure log q) q) { trail = more ++ trail (before_failure log q) q }))
+  pub dials : (tally_of planned).dials ≡ (tally_of log).dials
+
+-- what was sent was wanted by a client that knew of no failure that it wasn't told of yet
+abbrev pub ArePlanned : Log → Type 0
+ArePlanned [] = Unit {0}
+ArePlanned (Dialled p name ∷ log) = ArePlanned log
+ArePlanned (NotDialled p name ∷ log) = ArePlanned log
+ArePlanned (Sent p bytes ∷ log) = ((m : Msg) × (spelled bytes ≡ Some m) × ((planned : Log) × (IsPlanned planned log × MaySend planned p.0 m))) × ArePlanned log
+ArePlanned (SendFailed p ∷ log) = ArePlanned log
+ArePlanned (Closed p ∷ log) = ArePlanned log
+ArePlanned (Took d ∷ log) = ArePlanned log
