@@ -1,6 +1,7 @@
 -- One act of the client of itself: what it does to the places, to what was seen and to the log.
-use Rattle.std.proofs.Common.{◌≡◌, ℕ, ◌<◌, ◌≤◌, if◌then◌else◌, List, [], ◌∷◌, ◌++◌, length, get_or, set, Option, Some, None, true, refl, sym, ◌∙◌, ap, subst, arith}
+use Rattle.std.proofs.Common.{◌≡◌, ℕ, ◌<◌, ◌≤◌, if◌then◌else◌, List, [], ◌∷◌, ◌++◌, length, get_or, set, Option, Some, None, true, false, refl, sym, ◌∙◌, ap, subst, arith}
 use Rattle.std.specs.Prelude.{unwrap_or}
+use Rattle.std.specs.List.{list_any}
 use Rattle.cf_bytes.specs.declared.hash.Hash32.{Hash32}
 use Rattle.cf_bytes.specs.declared.peer.PeerNo.{PeerNo}
 use Rattle.cf_headers.specs.Chain.{Hash, Chain, IsIn}
@@ -21,7 +22,7 @@ use Rattle.cf_tracker.specs.Tables.{IsSameTable}
 use Rattle.cf_tracker.specs.Missing.{IsMissing}
 use Rattle.cf_client.specs.declared.place.Place.{Place}
 use Rattle.cf_client.specs.declared.place.Place.TheVariants.{Here}
-use Rattle.cf_client.specs.Places.{Fits, nobody, after as done, Goes, IsQuestion, IsFetch}
+use Rattle.cf_client.specs.Places.{Fits, nobody, after as done, Goes, is_fetching_at, IsQuestion, IsFetch}
 use Rattle.cf_client.specs.Tracks.{Seen, Tracks, IsPut, IsSameSeen, chain_at}
 use Rattle.cf_client.proofs.Standing.{after-append, wants_goes, fetch_goes}
 use Rattle.cf_client.proofs.Tracking.{same_tracks, tracks_sent, tracks_closed}
@@ -70,12 +71,12 @@ headers_goes places acts log s i peer m lt goes here is tracks question =
 -- for the lowest block that is missing of what its chain shares with another
 pub block_goes : (places : List Place) (acts : List Act) (log : Log) (s : Seen) (i : ℕ) (peer : Peer) (other : Chain) (hash : Hash32) (m : Msg)
     → i < length places → Goes places acts log → get_or places i nobody ≡ Here peer → is_idle_peer peer ≡ true → Tracks s (done acts log) → IsMissing s.table (chain_at s i) other hash
-    → IsFetch hash m
+    → list_any is_fetching_at places ≡ false → IsFetch hash m
     → Goes (set places i (Here (asked_for_block hash peer))) (acts ++ Send (record { 0 = i }) m ∷ []) log
-block_goes places acts log s i peer other hash m lt goes here idle tracks missing fetch =
+block_goes places acts log s i peer other hash m lt goes here idle tracks missing none fetch =
     let chain : Chain = chain_at s i in
     let mine : chain ≡ own (trail (done acts log) i) = own_tracked s (done acts log) i tracks (on_here places acts log i peer goes here) in
     let low : missing.height ≤ length chain = omega (arith, missing.within, (common_low chain other).0) in
     let among : IsIn hash.0 (hashes_of chain) = subst (λ (h : Hash). IsIn h (hashes_of chain)) (sym missing.is) (hash_in chain missing.height missing.above low) in
     fetch_goes places acts log i peer hash m lt goes here idle (subst (λ (c : Chain). IsIn hash.0 (hashes_of c)) mine among)
-    (tracks.fetched.complete hash.0 missing.none) fetch
+    (tracks.fetched.complete hash.0 missing.none) none fetch

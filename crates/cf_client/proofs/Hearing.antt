@@ -28,7 +28,7 @@ use Rattle.cf_scan.specs.declared.extracts.TxExtract.{TxExtract}
 use Rattle.cf_tracker.specs.Tables.{Table, IsSameTable, with_block, with_blocks}
 use Rattle.cf_sync.proofs.Grows.{said_brings}
 use Rattle.cf_client.specs.Tracks.{Seen, IsSameSeen}
-use Rattle.cf_client.specs.Hearing.{Gains, Retains, HearsSeen, HearsNext, Moves, Stops, Brings, Midway, HeardWhole, HeardFault}
+use Rattle.cf_client.specs.Hearing.{Gains, Retains, HearsSeen, HearsNext, Advances, Stops, Brings, Midway, HeardWhole, HeardFault}
 
 -- ---- what was seen
 
@@ -150,7 +150,7 @@ midway_start p peer seen acts piece start holds e chain = record {
 }
 
 pub midway_quiet : (p : PeerNo) (old new : Peer) (seen now next : Seen) (before acts : List Act) (start end : Part) (midway : Midway p old seen now before acts start end)
-    → Moves now next p old new midway.so_far [] → Midway p new seen next before acts start end
+    → Advances now next p old new midway.so_far [] → Midway p new seen next before acts start end
 midway_quiet p old new seen now next before acts start end midway moves = record {
   so_far = Said moves.message ∷ midway.so_far;
   replies = midway.replies;
@@ -165,7 +165,7 @@ midway_quiet p old new seen now next before acts start end midway moves = record
 }
 
 pub midway_reply : (p : PeerNo) (old new : Peer) (seen now next : Seen) (before acts more : List Act) (start end : Part) (r : Msg) (midway : Midway p old seen now before acts start end)
-    → Moves now next p old new midway.so_far (r ∷ []) → more ≡ acts ++ SendTo p r ∷ [] → Midway p new seen next before more start end
+    → Advances now next p old new midway.so_far (r ∷ []) → more ≡ acts ++ SendTo p r ∷ [] → Midway p new seen next before more start end
 midway_reply p old new seen now next before acts more start end r midway moves e =
     let is = reply_is moves.message r midway.so_far moves.owes in
     record {

@@ -1,4 +1,4 @@
--- Between two calls of the client no connected peer deserves a cause.
+-- Between two calls of the client no connected peer deserves a cause, and each has what is owed to it.
 use Rattle.std.proofs.Common.{◌≡◌, inl, inr, ℕ, ◌≤◌, [], ◌∷◌, Some, None, Bool, true, false, refl, sym, ◌∙◌, ap, arith}
 use Rattle.std.specs.Prelude.{not, ◌&&◌, ◌||◌, nat_le}
 use Rattle.std.proofs.lemmas.Bool.{cases_Bool, both_ways, false≢true, and_parts}
@@ -13,8 +13,8 @@ use Rattle.cf_peer.specs.Peer.{Holds, aged, age_in, calm}
 use Rattle.cf_client.specs.declared.client.Client.{Client}
 use Rattle.cf_client.specs.declared.place.Place.{Place}
 use Rattle.cf_client.specs.declared.place.Place.TheVariants.{Here, Lost as LostPlace}
-use Rattle.cf_client.specs.Places.{Fits, place_at, is_settled, is_calm, is_wanting}
-use Rattle.cf_client.specs.Stands.{Reflects, IsInnocent}
+use Rattle.cf_client.specs.Places.{IsAnswered, Fits, place_at, is_settled, is_calm, is_wanting}
+use Rattle.cf_client.specs.Stands.{Reflects, IsInnocent, AreAnswered}
 
 -- no send to a connected peer has failed
 none_failed : (t : Trail) → connected t ≡ true → failed t ≡ false
@@ -62,3 +62,10 @@ place_innocent (LostPlace end) part cause off is on deserves = both_ways (connec
 pub innocent : {H : Type 0} {g : Ghosts H} (c : Client H g) (log : Log) → Reflects c log → IsInnocent log
 innocent c log reflects = λ p on cause deserves.
     place_innocent (place_at c.places.items p) (part_of log p) cause (reflects.places.each p) (settled_calm (place_at c.places.items p) ((c.settled reflects.alive).each p)) on deserves
+
+place_answered : (place : Place) (part : Part) → Fits place part → connected part.trail ≡ true → IsAnswered part.trail
+place_answered (Here peer) part keeps on = keeps.answered
+place_answered (LostPlace end) part off on = absurd (both_ways (connected part.trail) off on)
+
+pub answered : {H : Type 0} {g : Ghosts H} (c : Client H g) (log : Log) → Reflects c log → AreAnswered log
+answered c log reflects = λ p on. place_answered (place_at c.places.items p) (part_of log p) (reflects.places.each p) on

@@ -6,8 +6,10 @@ pub mod Acting
 pub mod Hearing
 pub mod Taking
 pub mod Asking
+pub mod Steps
 pub mod Reporting
 pub mod Courses
 pub mod Performs
 pub mod Turns
 pub mod Innocent
+pub mod Counting

@@ -18,9 +18,9 @@ use Rattle.cf_peer.specs.declared.peer.Cause.{Cause}
 use Rattle.cf_peer.specs.Acts.{bytes_of}
 use Rattle.cf_peer.specs.Log.{Log, Told, Tells, tally_of, noted, tell, longer}
 use Rattle.cf_peer.specs.Trail.{Trail, Part, Why, Lost, Failing, Shutting, spelled, asks, with_item, part_of, trail, went_on, connected, failed, is_failing}
-use Rattle.cf_peer.specs.Asking.{is_open, counted, fetched, Deserves, MayAsk}
+use Rattle.cf_peer.specs.Asking.{request, is_open, counted, fetched, Deserves, MayAsk}
 use Rattle.cf_headers.specs.declared.store.HeaderStore.{Ghosts}
-use Rattle.cf_sync.specs.Fetching.{counted_part}
+use Rattle.cf_sync.specs.Fetching.{IsNoBlockOpen, IsAlone, counted_part, is_spare}
 use Rattle.cf_client.specs.Tracks.{chain_kept}
 use Rattle.cf_client.specs.declared.client.Client.{Client}
 use Rattle.cf_client.specs.declared.place.Place.{Place}
@@ -149,6 +149,34 @@ asked_on t (GetCfcheckpt filter stop) h = absurd h
 asked_on t (Cfcheckpt filter stop headers) h = absurd h
 asked_on t (Other command payload) h = absurd h
 
+-- where no block is open to anybody as planned, none is indeed: who is connected has no failed send pending
+none_open_too : (sends : List SendState) (planned actual : Log) → Apart sends planned actual → IsNoBlockOpen planned → IsNoBlockOpen actual
+none_open_too sends planned actual apart none q on = elim (cases_Bool (is_pending (state_at sends q))) [
+  | inl is ↦ absurd (both_ways (connected (trail actual q)) (apart.cut q is).0 on)
+  | inr free ↦ elim (apart.same q free) [
+    | inl same ↦ subst (λ (x : Part). is_spare (request x.trail) ≡ true) same (none q (ap (λ (x : Part). connected x.trail) same ∙ on))
+    | inr off ↦ absurd (both_ways (connected (trail actual q)) off.1 on)
+  ]
+]
+
+same_alone : (sends : List SendState) (planned actual : Log) → Apart sends planned actual → (m : Msg) → IsAlone planned m → IsAlone actual m
+same_alone sends planned actual apart (GetData entries) alone = none_open_too sends planned actual apart alone
+same_alone sends planned actual apart (Version version services time to from nonce agent height relay) alone = tt
+same_alone sends planned actual apart Verack alone = tt
+same_alone sends planned actual apart (Ping number) alone = tt
+same_alone sends planned actual apart (Pong number) alone = tt
+same_alone sends planned actual apart (GetHeaders version locator stop) alone = tt
+same_alone sends planned actual apart (Headers hs) alone = tt
+same_alone sends planned actual apart (Inv entries) alone = tt
+same_alone sends planned actual apart (Block block) alone = tt
+same_alone sends planned actual apart (GetCfilters filter start stop) alone = tt
+same_alone sends planned actual apart (Cfilter filter block bytes) alone = tt
+same_alone sends planned actual apart (GetCfheaders filter start stop) alone = tt
+same_alone sends planned actual apart (Cfheaders filter stop previous hashes) alone = tt
+same_alone sends planned actual apart (GetCfcheckpt filter stop) alone = tt
+same_alone sends planned actual apart (Cfcheckpt filter stop headers) alone = tt
+same_alone sends planned actual apart (Other command payload) alone = tt
+
 pub skipped : (progress : Progress) (called : List (List ℕ)) (planned : Log) (t : Told) (p : ℕ) (e : Event)
     → is_pending (state_at progress.sends p) ≡ true
     → ((q : ℕ) → q ≢ p → went_on e q (part_of planned q) ≡ part_of planned q)
@@ -192,6 +220,7 @@ sent_on progress trace called planned t p m command free line is may doing =
             record {
               of_its_part = subst (λ (x : Part). MayAsk x.trail m) same may.2.of_its_part;
               wanted = same_wanted planned doing.actual (same_brought progress.sends planned doing.actual doing.apart) m may.2.wanted;
+              alone = same_alone progress.sends planned doing.actual doing.apart m may.2.alone;
             },
           ),
           doing.notes.rightly,

@@ -1,10 +1,11 @@
 -- How the places go on with the log.
-use Rattle.std.proofs.Common.{◌≡◌, ◌≢◌, inl, inr, ℕ, zero, suc, ◌+◌, ◌<◌, ◌≤◌, List, [], ◌∷◌, ◌++◌, length, get_or, set, Option, Bool, true, false, refl, sym, ◌∙◌, ap, subst, arith}
+use Rattle.std.proofs.Common.{◌≡◌, ◌≢◌, inl, inr, ℕ, zero, suc, ◌+◌, ◌<◌, ◌≤◌, List, [], ◌∷◌, ◌++◌, length, get_or, set, Option, Bool, true, false, if◌then◌else◌, refl, sym, ◌∙◌, ap, subst, arith}
 use Rattle.std.proofs.lemmas.Grind.{common_steps}
 use Rattle.std.specs.Prelude.{◌||◌}
 use Rattle.std.proofs.lemmas.Bool.{cases_eq, cases_Bool, or_cases, both_ways, false≢true}
 use Rattle.std.specs.List.{list_any}
 use Rattle.std.proofs.lemmas.List.{append-nil}
+use Rattle.std.proofs.lemmas.List.Folds.{list_any-append}
 use Rattle.cf_bytes.specs.declared.peer.PeerNo.{PeerNo}
 use Rattle.cf_bytes.specs.declared.hash.Hash32.{Hash32}
 use Rattle.cf_headers.specs.Chain.{Chain, IsIn}
@@ -19,16 +20,18 @@ use Rattle.cf_peer.specs.declared.peer.Cause.TheVariants.{Overdue}
 use Rattle.cf_peer.specs.declared.peer.Peer.{Peer}
 use Rattle.cf_peer.specs.Acts.{bytes_of, IsSendable}
 use Rattle.cf_peer.specs.Log.{Log, tally_of, noted}
-use Rattle.cf_peer.specs.Trail.{Trail, Part, Called, Asked, Lost as LostItem, Went, Shutting, part_of, trail, went_on, asks, spelled, with_item, called_part, connected, own, replied, IsClientVersion}
-use Rattle.cf_peer.specs.Asking.{age, is_open, MayAsk, IsFree, hashes_of}
-use Rattle.cf_peer.specs.Peer.{Holds, wants, is_idle_peer, called_peer, asked_for_headers, asked_for_block}
-use Rattle.cf_sync.specs.Fetching.{IsFetchedHash, MaySend}
+use Rattle.cf_peer.specs.Trail.{Trail, Part, Called, Asked, Lost as LostItem, Went, Shutting, part_of, trail, went_on, asks, spelled, with_item, called_part, connected, ready, own, replied, as_reply, is_version, IsClientVersion}
+use Rattle.cf_peer.specs.Asking.{OpenRequest, NothingOpen, HeadersOpen, BlockOpen, request, age, is_open, MayAsk, IsFree, block_entry, hashes_of}
+use Rattle.cf_peer.specs.declared.peer.Request.TheVariants.{Handshake}
+use Rattle.cf_peer.specs.Peer.{Holds, aged, wants, is_idle_peer, is_block, is_fetching, called_peer, asked_for_headers, asked_for_block}
+use Rattle.cf_sync.specs.Fetching.{IsFetchedHash, IsNoBlockOpen, MaySend, is_spare}
+use Rattle.cf_sync.specs.Honesty.{asked}
 use Rattle.cf_peer.proofs.Peers.{open_by, idle_request, late_is, wants_is, asked_headers_holds, asked_block_holds, called_holds}
 use Rattle.cf_client.specs.declared.place.Place.{Place}
 use Rattle.cf_client.specs.declared.place.Place.TheVariants.{Here, Lost}
 use Rattle.cf_client.specs.declared.place.Loss.{Loss}
 use Rattle.cf_client.specs.declared.place.Loss.TheVariants.{NotDialled as NeverCalled}
-use Rattle.cf_client.specs.Places.{Keeps, Fits, nobody, PlacesStand, entry_of, after, MayAct, Allowed, Goes, is_calm, is_busy, is_here, state_of, IsState, IsGreeting, IsQuestion, IsFetch, AsksAbove, AsksFor}
+use Rattle.cf_client.specs.Places.{IsGreetedBy, IsAnswered, Keeps, Fits, nobody, PlacesStand, entry_of, after, MayAct, Allowed, Goes, is_calm, is_busy, is_here, is_fetching_at, state_of, IsState, IsGreeting, IsQuestion, IsFetch, AsksAbove, AsksFor}
 use Rattle.cf_client.proofs.Spelled.{spelled_bytes}
 
 pub after-append : (acts : List Act) (a : Act) (log : Log) → after (acts ++ a ∷ []) log ≡ entry_of a ∷ after acts log
@@ -130,16 +133,43 @@ send_goes places acts log i now m lt goes sendable may keeps =
     (number_within places (after acts log) i goes.stand lt, sendable, may)
     (subst (λ (x : Part). Keeps now x) (sym (sent_here p m part sendable)) keeps)
 
+-- what is true of some place, or of none
+pub any_at : (p : Place → Bool) (places : List Place) → list_any p places ≡ true → (i : ℕ) × (p (get_or places i nobody) ≡ true)
+any_at p [] h = absurd (false≢true h)
+any_at p (s ∷ places) h = elim (or_cases (p s) (list_any p places) h) [
+  | inl here ↦ (0, here)
+  | inr there ↦ let r = any_at p places there in (suc r.0, r.1)
+]
+
+pub none_at : (p : Place → Bool) (places : List Place) → p nobody ≡ false → list_any p places ≡ false → (i : ℕ) → p (get_or places i nobody) ≡ false
+none_at p [] z h i = z
+none_at p (s ∷ places) z h zero = elim (cases_Bool (p s)) [ inl t ↦ absurd (both_ways _ h (rw t refl)) | inr f ↦ f ]
+none_at p (s ∷ places) z h (suc i) = elim (cases_Bool (p s)) [
+  | inl t ↦ absurd (both_ways _ h (rw t refl))
+  | inr f ↦ none_at p places z (let g : (p s || list_any p places) ≡ false = h in grind (arith, g)) i
+]
+
+-- a peer that is sent a question was greeted and answered before
+pub greeted_more : (ms : List Msg) (m : Msg) → is_version m ≡ false → IsGreetedBy ms → IsGreetedBy (ms ++ m ∷ [])
+greeted_more [] m other greeted = absurd greeted
+greeted_more (n ∷ ms) m other greeted = (greeted.0, list_any-append is_version ms (m ∷ []) ∙ rw (greeted.1, other) refl)
+
+asked_answered : (t : Trail) (m : Msg) → IsAnswered t → is_version m ≡ false → as_reply m ≡ [] → IsAnswered (Asked m ∷ t)
+asked_answered t m answered other none = record {
+  greeted = greeted_more (asked t) m other answered.greeted;
+  replies = ap (λ (rs : List Msg). replied t ++ rs) none ∙ append-nil (replied t) ∙ answered.replies;
+}
+
 -- headers
 question_may : (log : Log) (p : ℕ) (peer : Peer) (m : Msg) → Holds peer (trail log p) → wants peer ≡ true → AsksAbove (own (trail log p)) m → MaySend log p m
-question_may log p peer (GetHeaders version locator stop) h is asks = let w = wants_is peer (trail log p) h is in record { of_its_part = (w.0, w.1, asks.0, asks.1, asks.2); wanted = tt }
+question_may log p peer (GetHeaders version locator stop) h is asks = let w = wants_is peer (trail log p) h is in record { of_its_part = (w.0, w.1, asks.0, asks.1, asks.2); wanted = tt; alone = tt }
 question_may log p peer m h is asks = absurd asks
 
 question_keeps : (peer : Peer) (part : Part) (chain : Chain) (m : Msg) → Keeps peer part → wants peer ≡ true → AsksAbove chain m → Keeps (asked_for_headers peer) (with_item (Asked m) part)
 question_keeps peer part chain (GetHeaders version locator stop) keeps is asks = record {
   holds = asked_headers_holds peer part.trail version locator stop keeps.holds is;
   waits = keeps.waits;
-  answered = append-nil (replied part.trail) ∙ keeps.answered;
+  answered = asked_answered part.trail (GetHeaders version locator stop) keeps.answered refl refl;
 }
 question_keeps peer part chain m keeps is asks = absurd asks
 
@@ -152,34 +182,51 @@ wants_goes places acts log i peer chain m lt goes here is mine question =
     (question_may (after acts log) i peer m keeps.holds is (subst (λ (c : Chain). AsksAbove c m) mine question.asks))
     (question_keeps peer (part_of (after acts log) i) chain m keeps is question.asks)
 
--- a block
+-- a block: none is open to anybody
+spare_by : (over : Bool) (r : OpenRequest) (age : ℕ) → is_block (if over then aged r age else Handshake age) ≡ false → (over ≡ false → r ≡ NothingOpen) → is_spare r ≡ true
+spare_by false r age off orderly = ap is_spare (orderly refl)
+spare_by true NothingOpen age off orderly = refl
+spare_by true HeadersOpen age off orderly = refl
+spare_by true (BlockOpen block) age off orderly = absurd (false≢true (sym off))
+
+spare_is : (peer : Peer) (t : Trail) → Holds peer t → is_fetching peer ≡ false → is_spare (request t) ≡ true
+spare_is peer t h off = spare_by (ready t) (request t) (age t) (sym (ap is_block h.open_one) ∙ off) h.orderly
+
+spare_at : (place : Place) (part : Part) → Fits place part → is_fetching_at place ≡ false → connected part.trail ≡ true → is_spare (request part.trail) ≡ true
+spare_at (Here peer) part keeps off on = spare_is peer part.trail keeps.holds off
+spare_at (Lost end) part gone off on = absurd (both_ways (connected part.trail) gone on)
+
+none_open : (places : List Place) (log : Log) → PlacesStand places log → list_any is_fetching_at places ≡ false → IsNoBlockOpen log
+none_open places log stand none q on = spare_at (get_or places q nobody) (part_of log q) (stand.each q) (none_at is_fetching_at places refl none q) on
+
 fetch_may : (log : Log) (p : ℕ) (hash : Hash32) (m : Msg) → IsFree (trail log p) → AsksFor hash m → IsIn hash.0 (hashes_of (own (trail log p)))
-    → (IsFetchedHash log hash.0 → ⊥) → MaySend log p m
-fetch_may log p hash (GetData entries) free asks is missing = record {
+    → (IsFetchedHash log hash.0 → ⊥) → IsNoBlockOpen log → MaySend log p m
+fetch_may log p hash (GetData entries) free asks is missing spare = record {
   of_its_part = (free, (hash, asks, is));
   wanted = λ entry among. elim (subst (λ (es : List Entry). IsIn entry es) asks among) [
     | inl same ↦ subst (λ (e : Entry). IsFetchedHash log e.hash.0 → ⊥) (sym same) missing
     | inr none ↦ absurd none
   ];
+  alone = spare;
 }
-fetch_may log p hash m free asks is missing = absurd asks
+fetch_may log p hash m free asks is missing spare = absurd asks
 
 fetch_keeps : (peer : Peer) (part : Part) (hash : Hash32) (m : Msg) → Keeps peer part → is_idle_peer peer ≡ true → AsksFor hash m → Keeps (asked_for_block hash peer) (with_item (Asked m) part)
 fetch_keeps peer part hash (GetData entries) keeps is asks = subst (λ (es : List Entry). Keeps (asked_for_block hash peer) (with_item (Asked (GetData es)) part)) (sym asks) (record {
   holds = asked_block_holds peer part.trail hash keeps.holds is;
   waits = keeps.waits;
-  answered = append-nil (replied part.trail) ∙ keeps.answered;
+  answered = asked_answered part.trail (GetData (block_entry hash ∷ [])) keeps.answered refl refl;
 })
 fetch_keeps peer part hash m keeps is asks = absurd asks
 
 pub fetch_goes : (places : List Place) (acts : List Act) (log : Log) (i : ℕ) (peer : Peer) (hash : Hash32) (m : Msg)
     → i < length places → Goes places acts log → get_or places i nobody ≡ Here peer → is_idle_peer peer ≡ true → IsIn hash.0 (hashes_of (own (trail (after acts log) i)))
-    → (IsFetchedHash (after acts log) hash.0 → ⊥) → IsFetch hash m
+    → (IsFetchedHash (after acts log) hash.0 → ⊥) → list_any is_fetching_at places ≡ false → IsFetch hash m
     → Goes (set places i (Here (asked_for_block hash peer))) (acts ++ Send (record { 0 = i }) m ∷ []) log
-fetch_goes places acts log i peer hash m lt goes here is within missing fetch =
+fetch_goes places acts log i peer hash m lt goes here is within missing none fetch =
     let keeps : Keeps peer (part_of (after acts log) i) = subst (λ (x : Place). Fits x (part_of (after acts log) i)) here (goes.stand.each i) in
     send_goes places acts log i (asked_for_block hash peer) m lt goes fetch.sendable
-    (fetch_may (after acts log) i hash m (idle_free peer (trail (after acts log) i) keeps.holds is) fetch.asks within missing)
+    (fetch_may (after acts log) i hash m (idle_free peer (trail (after acts log) i) keeps.holds is) fetch.asks within missing (none_open places (after acts log) goes.stand none))
     (fetch_keeps peer (part_of (after acts log) i) hash m keeps is fetch.asks)
 
 -- an entry that changes nobody's place
@@ -221,6 +268,7 @@ greeting_may : (log : Log) (p : ℕ) (t : Trail) (m : Msg) → trail log p ≡ C
 greeting_may log p t (Version version services time to from nonce agent height relay) here ours = record {
   of_its_part = subst (λ (x : Trail). MayAsk x (Version version services time to from nonce agent height relay)) (sym here) (refl, refl, ours);
   wanted = tt;
+  alone = tt;
 }
 greeting_may log p t m here ours = absurd ours
 
@@ -228,7 +276,7 @@ greeting_keeps : (part : Part) (m : Msg) → IsClientVersion m → Keeps called_
 greeting_keeps part (Version version services time to from nonce agent height relay) ours = record {
   holds = called_holds (Version version services time to from nonce agent height relay) part.trail ours;
   waits = refl;
-  answered = refl;
+  answered = record { greeted = (ours, refl); replies = refl };
 }
 greeting_keeps part m ours = absurd ours
 
@@ -267,21 +315,6 @@ refused_stand places log p name last stand =
     (ap (λ (x : Part). connected x.trail) (missed_here p name (part_of log p.0)))
 
 -- what the state that the places show says of the log
-pub any_at : (p : Place → Bool) (places : List Place) → list_any p places ≡ true → (i : ℕ) × (p (get_or places i nobody) ≡ true)
-any_at p [] h = absurd (false≢true h)
-any_at p (s ∷ places) h = elim (or_cases (p s) (list_any p places) h) [
-  | inl here ↦ (0, here)
-  | inr there ↦ let r = any_at p places there in (suc r.0, r.1)
-]
-
-pub none_at : (p : Place → Bool) (places : List Place) → p nobody ≡ false → list_any p places ≡ false → (i : ℕ) → p (get_or places i nobody) ≡ false
-none_at p [] z h i = z
-none_at p (s ∷ places) z h zero = elim (cases_Bool (p s)) [ inl t ↦ absurd (both_ways _ h (rw t refl)) | inr f ↦ f ]
-none_at p (s ∷ places) z h (suc i) = elim (cases_Bool (p s)) [
-  | inl t ↦ absurd (both_ways _ h (rw t refl))
-  | inr f ↦ none_at p places z (let g : (p s || list_any p places) ≡ false = h in grind (arith, g)) i
-]
-
 pub busy_open : (place : Place) (part : Part) → Fits place part → is_open part.trail ≡ is_busy place
 busy_open (Here peer) part fits = open_by peer part.trail fits.holds
 busy_open (Lost end) part off = rw off refl

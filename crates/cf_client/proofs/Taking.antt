@@ -1,77 +1,80 @@
 -- How a piece of a peer's bytes, its going, and a tick change the places, and what is seen of them.
 use Rattle.std.proofs.Common.{◌≡◌, ◌≢◌, ◌⊎◌, inl, inr, ℕ, zero, suc, ◌<◌, ◌≤◌, List, [], ◌∷◌, ◌++◌, length, get_or, set, map, Option, Some, None, Ok, Err, Bool, true, false, if◌then◌else◌, refl, sym, ◌∙◌, ap, subst, arith, append_assoc}
 use Rattle.std.proofs.lemmas.Grind.{common_steps}
-use Rattle.std.specs.Prelude.{◌&&◌, is_none}
-use Rattle.std.proofs.lemmas.Bool.{cases_eq}
+use Rattle.std.specs.Prelude.{◌&&◌, is_none, is_some}
+use Rattle.std.specs.Option.{IsSome}
+use Rattle.std.proofs.lemmas.Bool.{cases_eq, false≢true}
 use Rattle.std.proofs.lemmas.List.{append-nil}
+use Rattle.std.proofs.lemmas.List.Elements.{All-push}
 use Rattle.std.specs.List.{All, AllByRecursion}
 use Rattle.cf_bytes.specs.declared.peer.PeerNo.{PeerNo}
 use Rattle.cf_frame.specs.declared.frame.Frame.{Frame}
 use Rattle.cf_frame.specs.declared.frame.FrameFault.{FrameFault}
-use Rattle.cf_frame.specs.Stream.{StreamRead, read_stream}
+use Rattle.cf_frame.specs.Stream.{read_stream}
 use Rattle.cf_msg.specs.declared.msg.Msg.{Msg}
-use Rattle.cf_msg.specs.declared.msg.Msg.TheVariants.{Version, Verack, Ping, Pong, GetHeaders, Headers, GetData, Inv, Block as BlockMessage, GetCfilters, Cfilter, GetCfheaders, Cfheaders, GetCfcheckpt, Cfcheckpt, Other}
+use Rattle.cf_msg.specs.declared.msg.Msg.TheVariants.{Verack, Pong}
 use Rattle.cf_msg.specs.Reading.{message_of}
 use Rattle.cf_peer.specs.declared.act.Act.{Act}
 use Rattle.cf_peer.specs.declared.act.Act.TheVariants.{Send, Close}
-use Rattle.cf_peer.specs.declared.event.Delivery.TheVariants.{Got, Gone}
+use Rattle.cf_peer.specs.declared.event.Delivery.TheVariants.{Got, Gone, Tick}
 use Rattle.cf_peer.specs.declared.event.Event.TheVariants.{Sent, Closed, Took}
 use Rattle.cf_peer.specs.declared.peer.Cause.{Cause}
+use Rattle.cf_peer.specs.declared.peer.Cause.TheVariants.{SendFailed}
 use Rattle.cf_peer.specs.declared.peer.Peer.{Peer}
 use Rattle.cf_peer.specs.Acts.{bytes_of, IsSendable, IsDoable}
 use Rattle.cf_peer.specs.Log.{Log, tally_of}
-use Rattle.cf_peer.specs.Trail.{Trail, Part, Said, Asked, item_of, item_of_read, hears, hears_fault, part_after, heard_part, part_of, trail, went_on, with_item, connected, met, own, heard, owed, replied, as_reply}
-use Rattle.cf_peer.specs.Asking.{verdict, counted, fetched, MayAsk}
-use Rattle.cf_peer.specs.Peer.{Holds}
+use Rattle.cf_peer.specs.Trail.{Trail, Part, Said, Asked, item_of, item_of_read, hears, hears_fault, heard_part, part_of, trail, went_on, with_item, connected, met, own, heard, owed, replied, as_reply, is_version}
+use Rattle.cf_peer.specs.Asking.{verdict, counted, fetched}
+use Rattle.cf_peer.specs.Peer.{Holds, calm}
 use Rattle.cf_peer.specs.Hearing.{IsReply}
 use Rattle.cf_headers.specs.Store.{Puts}
 use Rattle.cf_block.specs.declared.tx.Block.{Block}
 use Rattle.cf_tracker.specs.Tables.{IsSameTable, with_blocks}
-use Rattle.cf_sync.specs.Fetching.{IsWanted, MaySend, HoldsFetched}
+use Rattle.cf_sync.specs.Fetching.{MaySend, HoldsFetched}
+use Rattle.cf_sync.specs.Honesty.{asked}
 use Rattle.cf_sync.proofs.TableGrows.{holds_after_piece}
 use Rattle.cf_client.specs.declared.place.Place.{Place}
 use Rattle.cf_client.specs.declared.place.Place.TheVariants.{Here, Lost}
 use Rattle.cf_client.specs.declared.place.Loss.{Loss}
-use Rattle.cf_client.specs.Places.{Keeps, Fits, nobody, PlacesStand, after, Allowed, Goes, CutFor}
+use Rattle.cf_client.specs.Places.{IsGreetedBy, IsAnswered, Keeps, Fits, nobody, PlacesStand, after, Allowed, Goes, CutFor, AreCalm, is_calm, is_here}
 use Rattle.cf_client.specs.Tracks.{Seen, Tracks, IsPut, chain_kept}
+use Rattle.cf_client.specs.Steps.{Desk, Stands, IsInOrder, Taking, CutOff, Same, Moves}
 use Rattle.cf_client.specs.Hearing.{HeardWhole, HeardFault}
-use Rattle.cf_client.proofs.Standing.{after-append, allowed-append, set_is, stand_same, goes_start, sent_others, sent_here, closed_others, closed_here, number_within}
-use Rattle.cf_client.proofs.Tracking.{tracks_sent, tracks_closed, tracks_gone, tracks_cut}
+use Rattle.cf_client.proofs.Standing.{greeted_more, after-append, allowed-append, set_is, stand_at, stand_same, here_on, goes_start, sent_others, sent_here, closed_others, closed_here, number_within}
+use Rattle.cf_client.proofs.Tracking.{tracks_sent, tracks_closed, tracks_gone, tracks_tick, tracks_cut, gone_here, gone_others}
+use Rattle.cf_client.proofs.Settled.{set_other}
+use Rattle.cf_client.proofs.Steps.{extends_self, extends_none, extends_one, stands_start, start_places, start_tracks, stay_moves, set_moves, taken}
 
--- what bytes say loses nobody, and is no reply to anybody
-item_connected : (f : Frame) (t : Trail) → connected (item_of f ∷ t) ≡ connected t
-item_connected f t = elim (message_of f) as (λ r. connected (item_of_read r ∷ t) ≡ connected t) [ Ok m ↦ refl | Err e ↦ refl ]
+-- what a peer says loses nobody, and nothing is sent by it
+record SaysOnly (after before : Trail) : Type 0 where
+  on : connected after ≡ connected before
+  replies : replied after ≡ replied before
+  asks : asked after ≡ asked before
 
-hears_connected : (fs : List Frame) (t : Trail) → connected (hears fs t) ≡ connected t
-hears_connected [] t = refl
-hears_connected (f ∷ fs) t = hears_connected fs (item_of f ∷ t) ∙ item_connected f t
+says_nothing : (t : Trail) → SaysOnly t t
+says_nothing t = record { on = refl; replies = refl; asks = refl }
 
-fault_connected : (o : Option FrameFault) (t : Trail) → connected (hears_fault o t) ≡ connected t
-fault_connected None t = refl
-fault_connected (Some fault) t = refl
+says_more : (a b c : Trail) → SaysOnly b a → SaysOnly c b → SaysOnly c a
+says_more a b c one two = record { on = two.on ∙ one.on; replies = two.replies ∙ one.replies; asks = two.asks ∙ one.asks }
 
-part_connected : (r : StreamRead) (t : Trail) → connected (part_after r t).trail ≡ connected t
-part_connected r t = fault_connected r.fault (hears r.frames t) ∙ hears_connected r.frames t
+item_says : (f : Frame) (t : Trail) → SaysOnly (item_of f ∷ t) t
+item_says f t = elim (message_of f) as (λ r. SaysOnly (item_of_read r ∷ t) t) [ Ok m ↦ record { on = refl; replies = refl; asks = refl } | Err e ↦ record { on = refl; replies = refl; asks = refl } ]
 
-item_replied : (f : Frame) (t : Trail) → replied (item_of f ∷ t) ≡ replied t
-item_replied f t = elim (message_of f) as (λ r. replied (item_of_read r ∷ t) ≡ replied t) [ Ok m ↦ refl | Err e ↦ refl ]
+hears_says : (fs : List Frame) (t : Trail) → SaysOnly (hears fs t) t
+hears_says [] t = says_nothing t
+hears_says (f ∷ fs) t = says_more t (item_of f ∷ t) (hears fs (item_of f ∷ t)) (item_says f t) (hears_says fs (item_of f ∷ t))
 
-hears_replied : (fs : List Frame) (t : Trail) → replied (hears fs t) ≡ replied t
-hears_replied [] t = refl
-hears_replied (f ∷ fs) t = hears_replied fs (item_of f ∷ t) ∙ item_replied f t
+fault_says : (o : Option FrameFault) (t : Trail) → SaysOnly (hears_fault o t) t
+fault_says None t = says_nothing t
+fault_says (Some fault) t = record { on = refl; replies = refl; asks = refl }
 
-fault_replied : (o : Option FrameFault) (t : Trail) → replied (hears_fault o t) ≡ replied t
-fault_replied None t = refl
-fault_replied (Some fault) t = refl
-
-part_replied : (r : StreamRead) (t : Trail) → replied (part_after r t).trail ≡ replied t
-part_replied r t = fault_replied r.fault (hears r.frames t) ∙ hears_replied r.frames t
+heard_says : (piece : List ℕ) (part : Part) → SaysOnly (heard_part piece part).trail part.trail
+heard_says piece part =
+    let r = read_stream (part.waits ++ piece) in
+    says_more part.trail (hears r.frames part.trail) (hears_fault r.fault (hears r.frames part.trail)) (hears_says r.frames part.trail) (fault_says r.fault (hears r.frames part.trail))
 
 pub heard_connected : (piece : List ℕ) (part : Part) → connected (heard_part piece part).trail ≡ connected part.trail
-heard_connected piece part = part_connected (read_stream (part.waits ++ piece)) part.trail
-
-heard_replied : (piece : List ℕ) (part : Part) → replied (heard_part piece part).trail ≡ replied part.trail
-heard_replied piece part = part_replied (read_stream (part.waits ++ piece)) part.trail
+heard_connected piece part = (heard_says piece part).on
 
 -- a piece that a peer sends is its own part alone
 got_here : (p : PeerNo) (piece : List ℕ) (part : Part) → went_on (Took (Got p piece)) p.0 part ≡ heard_part piece part
@@ -94,7 +97,7 @@ got_fits (Here peer) p piece q part lost fits = elim (cases_eq q p.0) [
 ]
 got_fits (Lost end) p piece q part lost off = deaf_fits (Lost end) p piece q part off
 
-pub deaf_goes : (places : List Place) (acts : List Act) (log : Log) (p : PeerNo) (piece : List ℕ) (end : Loss)
+deaf_goes : (places : List Place) (acts : List Act) (log : Log) (p : PeerNo) (piece : List ℕ) (end : Loss)
     → acts ≡ [] → get_or places p.0 nobody ≡ Lost end → PlacesStand places log → Goes places acts (Took (Got p piece) ∷ log)
 deaf_goes places acts log p piece end none lost stand =
     goes_start places acts (Took (Got p piece) ∷ log) none (stand_same places log (Took (Got p piece)) stand
@@ -109,7 +112,7 @@ item_deaf f t off = elim (message_of f) as (λ r. fetched (counted (item_of_read
 
 hears_deaf : (fs : List Frame) (t : Trail) → connected t ≡ false → fetched (counted (hears fs t)) ≡ fetched (counted t)
 hears_deaf [] t off = refl
-hears_deaf (f ∷ fs) t off = hears_deaf fs (item_of f ∷ t) (item_connected f t ∙ off) ∙ item_deaf f t off
+hears_deaf (f ∷ fs) t off = hears_deaf fs (item_of f ∷ t) ((item_says f t).on ∙ off) ∙ item_deaf f t off
 
 fault_deaf : (o : Option FrameFault) (t : Trail) → fetched (counted (hears_fault o t)) ≡ fetched (counted t)
 fault_deaf None t = refl
@@ -124,7 +127,7 @@ deaf_brings piece part off =
 off_kept : (t : Trail) → connected t ≡ false → chain_kept t ≡ None
 off_kept t off = ap (λ (b : Bool). if b then Some (own t) else None) off
 
-pub deaf_tracks : (places : List Place) (acts : List Act) (log : Log) (p : PeerNo) (piece : List ℕ) (end : Loss) (seen : Seen)
+deaf_tracks : (places : List Place) (acts : List Act) (log : Log) (p : PeerNo) (piece : List ℕ) (end : Loss) (seen : Seen)
     → acts ≡ [] → get_or places p.0 nobody ≡ Lost end → PlacesStand places log → Tracks seen log → Tracks seen (after acts (Took (Got p piece) ∷ log))
 deaf_tracks places acts log p piece end seen none lost stand tracks =
     let next = Took (Got p piece) ∷ log in
@@ -157,44 +160,15 @@ abbrev AreSendable : List Msg → Type 0
 AreSendable [] = Unit {0}
 AreSendable (r ∷ rs) = IsSendable r × AreSendable rs
 
-reply_may : (r : Msg) (t : Trail) → IsReply r → connected t ≡ true → met t ≡ true → MayAsk t r
-reply_may Verack t is on over = (on, over)
-reply_may (Pong number) t is on over = (on, over)
-reply_may (Version version services time to from nonce agent height relay) t is on over = absurd is
-reply_may (Ping number) t is on over = absurd is
-reply_may (GetHeaders version locator stop) t is on over = absurd is
-reply_may (Headers hs) t is on over = absurd is
-reply_may (GetData entries) t is on over = absurd is
-reply_may (Inv entries) t is on over = absurd is
-reply_may (BlockMessage block) t is on over = absurd is
-reply_may (GetCfilters filter start stop) t is on over = absurd is
-reply_may (Cfilter filter block bytes) t is on over = absurd is
-reply_may (GetCfheaders filter start stop) t is on over = absurd is
-reply_may (Cfheaders filter stop previous hashes) t is on over = absurd is
-reply_may (GetCfcheckpt filter stop) t is on over = absurd is
-reply_may (Cfcheckpt filter stop headers) t is on over = absurd is
-reply_may (Other command payload) t is on over = absurd is
-
-reply_wanted : (r : Msg) (log : Log) → IsReply r → IsWanted log r
-reply_wanted Verack log is = tt
-reply_wanted (Pong number) log is = tt
-reply_wanted (Version version services time to from nonce agent height relay) log is = absurd is
-reply_wanted (Ping number) log is = absurd is
-reply_wanted (GetHeaders version locator stop) log is = absurd is
-reply_wanted (Headers hs) log is = absurd is
-reply_wanted (GetData entries) log is = absurd is
-reply_wanted (Inv entries) log is = absurd is
-reply_wanted (BlockMessage block) log is = absurd is
-reply_wanted (GetCfilters filter start stop) log is = absurd is
-reply_wanted (Cfilter filter block bytes) log is = absurd is
-reply_wanted (GetCfheaders filter start stop) log is = absurd is
-reply_wanted (Cfheaders filter stop previous hashes) log is = absurd is
-reply_wanted (GetCfcheckpt filter stop) log is = absurd is
-reply_wanted (Cfcheckpt filter stop headers) log is = absurd is
-reply_wanted (Other command payload) log is = absurd is
+-- a reply is a verack or a pong
+by_reply : (P : Msg → Type 0) → P Verack → ((number : ℕ) → P (Pong number)) → (r : Msg) → IsReply r → P r
+by_reply P verack pong Verack is = verack
+by_reply P verack pong (Pong number) is = pong number
+by_reply P verack pong m is = absurd is
 
 reply_sent : (r : Msg) (log : Log) (p : ℕ) → IsReply r → connected (trail log p) ≡ true → met (trail log p) ≡ true → MaySend log p r
-reply_sent r log p is on over = record { of_its_part = reply_may r (trail log p) is on over; wanted = reply_wanted r log is }
+reply_sent r log p is on over =
+    by_reply (MaySend log p) (record { of_its_part = (on, over); wanted = tt; alone = tt }) (λ number. record { of_its_part = (on, over); wanted = tt; alone = tt }) r is
 
 replies_done : (p : PeerNo) (rs : List Msg) (log : Log) → p.0 ≤ (tally_of log).dials → AllByRecursion IsReply rs → AreSendable rs
     → connected (trail log p.0) ≡ true → (rs ≡ []) ⊎ (met (trail log p.0) ≡ true) → RepliesDone p rs log
@@ -218,64 +192,22 @@ record Unchanged (rs : List Msg) (part : Part) : Type 0 where
   first : verdict (asked_all rs part).trail ≡ verdict part.trail
   owes : owed (asked_all rs part).trail ≡ owed part.trail
   replies : replied (asked_all rs part).trail ≡ replied part.trail ++ rs
+  greets : IsGreetedBy (asked part.trail) → IsGreetedBy (asked (asked_all rs part).trail)
   holds : (peer : Peer) → Holds peer part.trail → Holds peer (asked_all rs part).trail
 
-reply_holds : (r : Msg) (peer : Peer) (t : Trail) → IsReply r → Holds peer t → Holds peer (Asked r ∷ t)
-reply_holds Verack peer t is h = record {
-  on = h.on;
-  called = h.called;
-  meeting = h.meeting;
-  open_one = h.open_one;
-  hearing = h.hearing;
-  clean = h.clean;
-  orderly = h.orderly;
-  acquainted = h.acquainted;
-}
-reply_holds (Pong number) peer t is h = record {
-  on = h.on;
-  called = h.called;
-  meeting = h.meeting;
-  open_one = h.open_one;
-  hearing = h.hearing;
-  clean = h.clean;
-  orderly = h.orderly;
-  acquainted = h.acquainted;
-}
-reply_holds (Version version services time to from nonce agent height relay) peer t is h = absurd is
-reply_holds (Ping number) peer t is h = absurd is
-reply_holds (GetHeaders version locator stop) peer t is h = absurd is
-reply_holds (Headers hs) peer t is h = absurd is
-reply_holds (GetData entries) peer t is h = absurd is
-reply_holds (Inv entries) peer t is h = absurd is
-reply_holds (BlockMessage block) peer t is h = absurd is
-reply_holds (GetCfilters filter start stop) peer t is h = absurd is
-reply_holds (Cfilter filter block bytes) peer t is h = absurd is
-reply_holds (GetCfheaders filter start stop) peer t is h = absurd is
-reply_holds (Cfheaders filter stop previous hashes) peer t is h = absurd is
-reply_holds (GetCfcheckpt filter stop) peer t is h = absurd is
-reply_holds (Cfcheckpt filter stop headers) peer t is h = absurd is
-reply_holds (Other command payload) peer t is h = absurd is
+holds_asked : (r : Msg) (peer : Peer) (t : Trail) → IsReply r → Holds peer t → Holds peer (Asked r ∷ t)
+holds_asked r peer t is h = by_reply (λ (m : Msg). Holds peer (Asked m ∷ t))
+    (record { on = h.on; called = h.called; meeting = h.meeting; open_one = h.open_one; hearing = h.hearing; clean = h.clean; orderly = h.orderly; acquainted = h.acquainted })
+    (λ number. record { on = h.on; called = h.called; meeting = h.meeting; open_one = h.open_one; hearing = h.hearing; clean = h.clean; orderly = h.orderly; acquainted = h.acquainted }) r is
 
 as_itself : (r : Msg) → IsReply r → as_reply r ≡ r ∷ []
-as_itself Verack is = refl
-as_itself (Pong number) is = refl
-as_itself (Version version services time to from nonce agent height relay) is = absurd is
-as_itself (Ping number) is = absurd is
-as_itself (GetHeaders version locator stop) is = absurd is
-as_itself (Headers hs) is = absurd is
-as_itself (GetData entries) is = absurd is
-as_itself (Inv entries) is = absurd is
-as_itself (BlockMessage block) is = absurd is
-as_itself (GetCfilters filter start stop) is = absurd is
-as_itself (Cfilter filter block bytes) is = absurd is
-as_itself (GetCfheaders filter start stop) is = absurd is
-as_itself (Cfheaders filter stop previous hashes) is = absurd is
-as_itself (GetCfcheckpt filter stop) is = absurd is
-as_itself (Cfcheckpt filter stop headers) is = absurd is
-as_itself (Other command payload) is = absurd is
+as_itself r is = by_reply (λ (m : Msg). as_reply m ≡ m ∷ []) refl (λ number. refl) r is
+
+no_version : (r : Msg) → IsReply r → is_version r ≡ false
+no_version r is = by_reply (λ (m : Msg). is_version m ≡ false) refl (λ number. refl) r is
 
 unchanged : (rs : List Msg) (part : Part) → AllByRecursion IsReply rs → Unchanged rs part
-unchanged [] part are = record { waits = refl; on = refl; first = refl; owes = refl; replies = sym (append-nil (replied part.trail)); holds = λ peer h. h }
+unchanged [] part are = record { waits = refl; on = refl; first = refl; owes = refl; replies = sym (append-nil (replied part.trail)); greets = λ greeted. greeted; holds = λ peer h. h }
 unchanged (r ∷ rs) part are =
     let more = unchanged rs (with_item (Asked r) part) are.1 in
     record {
@@ -284,7 +216,8 @@ unchanged (r ∷ rs) part are =
       first = more.first;
       owes = more.owes;
       replies = more.replies ∙ ap (λ (xs : List Msg). (replied part.trail ++ xs) ++ rs) (as_itself r are.0) ∙ append_assoc (replied part.trail) (r ∷ []) rs;
-      holds = λ peer h. more.holds peer (reply_holds r peer part.trail are.0 h);
+      greets = λ greeted. more.greets (greeted_more (asked part.trail) r (no_version r are.0) greeted);
+      holds = λ peer h. more.holds peer (holds_asked r peer part.trail are.0 h);
     }
 
 -- replies and what they leave, after a piece
@@ -312,7 +245,7 @@ set_same (x ∷ places) (suc i) a lt e = ap (λ (xs : List Place). x ∷ xs) (se
 
 -- a piece of a connected peer, all of which is taken
 whole_at : (places : List Place) (log : Log) (p : PeerNo) (piece : List ℕ) (peer : Peer) (seen now : Seen) (acts : List Act)
-    → p.0 < length places → PlacesStand places log → connected (trail log p.0) ≡ true → replied (trail log p.0) ≡ owed (trail log p.0)
+    → p.0 < length places → PlacesStand places log → connected (trail log p.0) ≡ true → IsAnswered (trail log p.0)
     → (whole : HeardWhole p peer seen now [] acts (part_of log p.0) (heard_part piece (part_of log p.0))) → AreSendable whole.replies
     → Goes (set places p.0 (Here peer)) acts (Took (Got p piece) ∷ log)
 whole_at places log p piece peer seen now acts lt stand on answered whole sendable =
@@ -327,7 +260,10 @@ whole_at places log p piece peer seen now acts lt stand on answered whole sendab
     let keeps : Keeps peer (asked_all rs part) = record {
       holds = same.holds peer whole.holds;
       waits = whole.waits ∙ sym same.waits;
-      answered = same.replies ∙ ap (λ (xs : List Msg). xs ++ rs) (heard_replied piece (part_of log p.0) ∙ answered) ∙ sym whole.owes ∙ sym same.owes;
+      answered = record {
+        greeted = same.greets (subst IsGreetedBy (sym (heard_says piece (part_of log p.0)).asks) answered.greeted);
+        replies = same.replies ∙ ap (λ (xs : List Msg). xs ++ rs) ((heard_says piece (part_of log p.0)).replies ∙ answered.replies) ∙ sym whole.owes ∙ sym same.owes;
+      };
     } in
     let mine : Fits (Here peer) (part_of (after (sends p rs) next) p.0) = subst (λ (x : Part). Keeps peer x) (sym at_end) keeps in
     subst (λ (xs : List Act). Goes (set places p.0 (Here peer)) xs next) (sym whole.acts) (record {
@@ -367,7 +303,7 @@ whole_of places log p piece old peer seen now before acts none here stand tracks
     subst (λ (xs : List Act). HeardWhole p peer seen now xs acts (part_of log p.0) (heard_part piece (part_of log p.0))) none
     (heard (part_of log p.0) keeps.holds keeps.waits (chain_is seen log p.0 tracks keeps.holds.on))
 
-pub heard_goes : (places : List Place) (log : Log) (p : PeerNo) (piece : List ℕ) (old peer : Peer) (seen now : Seen) (before acts : List Act)
+heard_goes : (places : List Place) (log : Log) (p : PeerNo) (piece : List ℕ) (old peer : Peer) (seen now : Seen) (before acts : List Act)
     → p.0 < length places → before ≡ [] → get_or places p.0 nobody ≡ Here old → PlacesStand places log → Tracks seen log
     → HearsWhole p piece old peer seen now before acts → All IsDoable acts
     → Goes (set places p.0 (Here peer)) acts (Took (Got p piece) ∷ log)
@@ -390,7 +326,7 @@ piece_holds seen now log p piece news holds brings watch table =
     (holds_after_piece seen.watch p piece log news seen.table now.table (ap (λ (x : Part). fetched (counted x.trail)) (heard_log p piece log) ∙ brings) table holds)
 
 -- a piece all of which was taken
-pub whole_tracks : (places : List Place) (log : Log) (p : PeerNo) (piece : List ℕ) (old peer : Peer) (seen now : Seen) (before acts : List Act)
+whole_tracks : (places : List Place) (log : Log) (p : PeerNo) (piece : List ℕ) (old peer : Peer) (seen now : Seen) (before acts : List Act)
     → before ≡ [] → get_or places p.0 nobody ≡ Here old → PlacesStand places log → Tracks seen log
     → HearsWhole p piece old peer seen now before acts → Tracks now (after acts (Took (Got p piece) ∷ log))
 whole_tracks places log p piece old peer seen now before acts none here stand tracks heard =
@@ -448,7 +384,7 @@ fault_of places log p piece old cause seen now before acts none here stand track
     subst (λ (xs : List Act). HeardFault p seen now xs acts (part_of log p.0) (heard_part piece (part_of log p.0)) cause) none
     (heard (part_of log p.0) keeps.holds keeps.waits (chain_is seen log p.0 tracks keeps.holds.on))
 
-pub faulty_goes : (places : List Place) (log : Log) (p : PeerNo) (piece : List ℕ) (old : Peer) (end : Loss) (cause : Cause) (seen now : Seen) (before acts : List Act)
+faulty_goes : (places : List Place) (log : Log) (p : PeerNo) (piece : List ℕ) (old : Peer) (end : Loss) (cause : Cause) (seen now : Seen) (before acts : List Act)
     → p.0 < length places → before ≡ [] → get_or places p.0 nobody ≡ Here old → PlacesStand places log → Tracks seen log
     → HearsFault p piece old seen now before acts cause → All IsDoable acts
     → Goes (set places p.0 (Lost end)) (acts ++ Close p cause ∷ []) (Took (Got p piece) ∷ log)
@@ -458,7 +394,7 @@ faulty_goes places log p piece old end cause seen now before acts lt none here s
     fault_at places log p piece end cause seen now acts lt stand keeps.holds.on fault (sendable_by p fault.replies (subst (All IsDoable) fault.acts doable))
 
 -- a piece in which a frame deserves a cause, and p's chain given up
-pub faulty_tracks : (places : List Place) (log : Log) (p : PeerNo) (piece : List ℕ) (old : Peer) (cause : Cause) (seen now last : Seen) (before acts : List Act)
+faulty_tracks : (places : List Place) (log : Log) (p : PeerNo) (piece : List ℕ) (old : Peer) (cause : Cause) (seen now last : Seen) (before acts : List Act)
     → before ≡ [] → get_or places p.0 nobody ≡ Here old → PlacesStand places log → Tracks seen log
     → HearsFault p piece old seen now before acts cause → IsPut now last p.0 None → Tracks last (after (acts ++ Close p cause ∷ []) (Took (Got p piece) ∷ log))
 faulty_tracks places log p piece old cause seen now last before acts none here stand tracks heard put =
@@ -480,14 +416,114 @@ faulty_tracks places log p piece old cause seen now last before acts none here s
     (subst (λ (x : Log). Tracks last x) (sym (after-append (sends p rs) (Close p cause) next)) (tracks_closed mid last p (after (sends p rs) next) closed (sends_track p rs mid next at_read)))
 
 -- a failed send cuts a peer off
-pub cut_tracks : (log cut : Log) (p : PeerNo) (seen last : Seen) → Tracks seen log → CutFor p log cut → IsPut seen last p.0 None → Tracks last (Closed p ∷ cut)
+cut_tracks : (log cut : Log) (p : PeerNo) (seen last : Seen) → Tracks seen log → CutFor p log cut → IsPut seen last p.0 None → Tracks last (Closed p ∷ cut)
 cut_tracks log cut p seen last tracks is put =
     tracks_closed last last p cut (record { watch = refl; here = put.here; others = λ q ne. refl; table = λ hash. refl }) (tracks_cut seen last p log cut is put tracks)
 
 -- the going of one that isn't connected
-pub gone_before : (log : Log) (p : PeerNo) (seen : Seen) → connected (trail log p.0) ≡ false → Tracks seen log → Tracks seen (Took (Gone p) ∷ log)
+gone_before : (log : Log) (p : PeerNo) (seen : Seen) → connected (trail log p.0) ≡ false → Tracks seen log → Tracks seen (Took (Gone p) ∷ log)
 gone_before log p seen off tracks = tracks_gone seen seen p log (record { watch = refl; here = tracks.kept p.0 ∙ off_kept (trail log p.0) off; others = λ q ne. refl; table = λ hash. refl }) tracks
 
 -- whom the tracker knows
 pub put_none : (before last : Seen) (p : PeerNo) → Puts before.chains last.chains p None → IsSameTable before.table last.table → last.watch ≡ before.watch → IsPut before last p.0 None
 put_none before last p puts table watch = record { watch = watch; here = puts.here; others = puts.others; table = λ hash. sym (table hash) }
+
+-- ---- deliveries, as steps
+
+-- a piece of a peer that isn't connected
+pub deaf_moves : (d : Desk) (p : PeerNo) (piece : List ℕ) (end : Loss) → d.acts ≡ [] → IsInOrder d → get_or d.places p.0 nobody ≡ Lost end → Moves (Taking (Got p piece)) d d
+deaf_moves d p piece end none order lost = stay_moves order (taken (λ log stood. record {
+  goes = deaf_goes d.places d.acts log p piece end none lost (start_places d log none stood);
+  tracks = deaf_tracks d.places d.acts log p piece end d.seen none lost (start_places d log none stood) (start_tracks d log none stood);
+}))
+
+-- a piece all of which is taken
+pub heard_moves : (d : Desk) (p : PeerNo) (piece : List ℕ) (old peer : Peer) (now : Seen) (acts : List Act)
+    → p.0 < length d.places → d.acts ≡ [] → IsInOrder d → get_or d.places p.0 nobody ≡ Here old → HearsWhole p piece old peer d.seen now d.acts acts
+    → ((q : ℕ) → q ≢ p.0 → now.chains q ≡ d.seen.chains q) → IsSome (now.chains p.0) → now.watch ≡ d.seen.watch → All IsDoable acts → (calm old ≡ true → calm peer ≡ true)
+    → Moves (Taking (Got p piece)) d (record { places = set d.places p.0 (Here peer); seen = now; acts = acts })
+heard_moves d p piece old peer now acts lt none order here heard others known watch doable calms =
+    set_moves p.0 (Here peer) lt order others (sym known) watch (extends_none d.acts acts none) (λ all. doable) (λ was. calms (subst (λ (y : Place). is_calm y ≡ true) here was))
+    (taken (λ log stood. record {
+      goes = heard_goes d.places log p piece old peer d.seen now d.acts acts lt none here (start_places d log none stood) (start_tracks d log none stood) heard doable;
+      tracks = whole_tracks d.places log p piece old peer d.seen now d.acts acts none here (start_places d log none stood) (start_tracks d log none stood) heard;
+    }))
+
+-- a piece in which a frame deserves a cause, for which its peer is closed and forgotten
+pub faulty_moves : (d : Desk) (p : PeerNo) (piece : List ℕ) (old : Peer) (end : Loss) (cause : Cause) (now last : Seen) (acts : List Act)
+    → p.0 < length d.places → d.acts ≡ [] → IsInOrder d → get_or d.places p.0 nobody ≡ Here old → HearsFault p piece old d.seen now d.acts acts cause
+    → ((q : ℕ) → q ≢ p.0 → now.chains q ≡ d.seen.chains q) → now.watch ≡ d.seen.watch → All IsDoable acts → IsPut now last p.0 None
+    → Moves (Taking (Got p piece)) d (record { places = set d.places p.0 (Lost end); seen = last; acts = acts ++ Close p cause ∷ [] })
+faulty_moves d p piece old end cause now last acts lt none order here heard others watch doable put =
+    set_moves p.0 (Lost end) lt order (λ q other. put.others q other ∙ others q other) (sym (ap is_some put.here)) (put.watch ∙ watch) (extends_none d.acts (acts ++ Close p cause ∷ []) none)
+    (λ all. All-push IsDoable acts (Close p cause) doable (omega (arith, lt, order.few))) (λ was. refl)
+    (taken (λ log stood. record {
+      goes = faulty_goes d.places log p piece old end cause d.seen now d.acts acts lt none here (start_places d log none stood) (start_tracks d log none stood) heard doable;
+      tracks = faulty_tracks d.places log p piece old cause d.seen now last d.acts acts none here (start_places d log none stood) (start_tracks d log none stood) heard put;
+    }))
+
+-- a peer has gone: one that is connected, or another
+gone_fits : (place : Place) (p : PeerNo) (q : ℕ) (part : Part) → (q ≡ p.0 → is_here place ≡ false) → Fits place part → Fits place (went_on (Took (Gone p)) q part)
+gone_fits (Here peer) p q part away fits = elim (cases_eq q p.0) [
+  | inl same ↦ absurd (false≢true (sym (away same)))
+  | inr other ↦ subst (Keeps peer) (sym (gone_others p q part other)) fits
+]
+gone_fits (Lost end) p q part away off = elim (cases_eq q p.0) [
+  | inl same ↦ subst (λ (k : ℕ). connected (went_on (Took (Gone p)) k part).trail ≡ false) (sym same) (ap (λ (x : Part). connected x.trail) (gone_here p part))
+  | inr other ↦ ap (λ (x : Part). connected x.trail) (gone_others p q part other) ∙ off
+]
+
+pub gone_moves : (d : Desk) (p : PeerNo) (end : Loss) (after : Seen) → d.acts ≡ [] → p.0 < length d.places → IsInOrder d → IsPut d.seen after p.0 None
+    → Moves (Taking (Gone p)) d (record { places = set d.places p.0 (Lost end); seen = after; acts = d.acts })
+gone_moves d p end after none lt order put =
+    set_moves p.0 (Lost end) lt order put.others (sym (ap is_some put.here)) put.watch (extends_self d.acts) (λ all. all) (λ was. refl)
+    (taken (λ log stood. stands_start (set d.places p.0 (Lost end)) after d.acts (Took (Gone p) ∷ log) none
+    (stand_at d.places log p.0 (Lost end) (Took (Gone p)) lt (start_places d log none stood) (λ q other. gone_others p q (part_of log q) other) refl
+    (ap (λ (x : Part). connected x.trail) (gone_here p (part_of log p.0))))
+    (tracks_gone d.seen after p log put (start_tracks d log none stood))))
+
+pub away_moves : (d : Desk) (p : PeerNo) → d.acts ≡ [] → IsInOrder d → is_here (get_or d.places p.0 nobody) ≡ false → Moves (Taking (Gone p)) d d
+away_moves d p none order away = stay_moves order (taken (λ log stood.
+    let stand = start_places d log none stood in
+    stands_start d.places d.seen d.acts (Took (Gone p) ∷ log) none
+    (stand_same d.places log (Took (Gone p)) stand (λ q fits. gone_fits (get_or d.places q nobody) p q (part_of log q) (λ same. ap (λ (k : ℕ). is_here (get_or d.places k nobody)) same ∙ away) fits) refl)
+    (gone_before log p d.seen (here_on (get_or d.places p.0 nobody) (part_of log p.0) (stand.each p.0) ∙ away) (start_tracks d log none stood))))
+
+-- the send to a peer has failed, and it is closed
+cut_goes : (places : List Place) (log cut : Log) (p : PeerNo) (end : Loss) → p.0 < length places → PlacesStand places log → CutFor p log cut → Goes (set places p.0 (Lost end)) (Close p SendFailed ∷ []) cut
+cut_goes places log cut p end lt stand is = record {
+  stand = record {
+    count = grind (arith, common_steps, stand.count, is.dials);
+    each = λ q. elim (cases_eq q p.0) [
+      | inl same ↦ subst (λ k. Fits (get_or (set places p.0 (Lost end)) k nobody) (part_of (Closed p ∷ cut) k)) (sym same)
+          (subst (λ x. Fits x (part_of (Closed p ∷ cut) p.0)) (sym (set_is places p.0 (Lost end) lt)) (ap (λ (x : Part). connected x.trail) (closed_here p (part_of cut p.0))))
+      | inr other ↦ subst (λ x. Fits x (part_of (Closed p ∷ cut) q)) (sym (set_other places p.0 q (Lost end) other))
+          (subst (λ t. Fits (get_or places q nobody) t) (sym (closed_others p q (part_of cut q) other ∙ is.others q other)) (stand.each q))
+    ];
+  };
+  allowed = ((omega (arith, number_within places log p.0 stand lt, is.dials), grind (arith, common_steps, is.off, is.broken)), tt);
+}
+
+pub cut_moves : (d : Desk) (p : PeerNo) (end : Loss) (after : Seen) → d.acts ≡ [] → p.0 < length d.places → IsInOrder d → IsPut d.seen after p.0 None
+    → Moves (CutOff p d.places) d (record { places = set d.places p.0 (Lost end); seen = after; acts = d.acts ++ Close p SendFailed ∷ [] })
+cut_moves d p end after none lt order put =
+    set_moves p.0 (Lost end) lt order put.others (sym (ap is_some put.here)) put.watch (extends_one d.acts (Close p SendFailed)) (λ all. All-push IsDoable d.acts (Close p SendFailed) all (omega (arith, lt, order.few))) (λ was. refl)
+    (λ log cut is stood.
+    subst (λ (xs : List Act). Stands (record { places = set d.places p.0 (Lost end); seen = after; acts = xs ++ Close p SendFailed ∷ [] }) cut) (sym none) (record {
+      goes = cut_goes d.places log cut p end is.0 (start_places d log none stood) is.1;
+      tracks = cut_tracks log cut p d.seen after (start_tracks d log none stood) is.1 put;
+    }))
+
+-- time has passed, and then whoever was late was closed
+pub tick_moves : (d : Desk) (places : List Place) (seconds : ℕ) (now : Desk) → d.acts ≡ [] → ((log : Log) → PlacesStand d.places log → PlacesStand places (Took (Tick seconds) ∷ log))
+    → Moves Same (record { places = places; seen = d.seen; acts = d.acts }) now → AreCalm now.places → Moves (Taking (Tick seconds)) d now
+tick_moves d places seconds now none passed closed calm = record {
+  stands = λ log next is stood.
+      let ticked = stands_start places d.seen d.acts (Took (Tick seconds) ∷ log) none (passed log (start_places d log none stood)) (tracks_tick d.seen seconds log (start_tracks d log none stood)) in
+      closed.stands (Took (Tick seconds) ∷ log) next is ticked;
+  order = closed.order;
+  watch = closed.watch;
+  more = closed.more;
+  doable = closed.doable;
+  calm = λ was. calm;
+}

@@ -32,7 +32,7 @@ HearsSeen before after p peer m t (Send r) = Hears peer m t (Send r) × Gains be
 HearsSeen before after p peer m t (Close cause) = Hears peer m t (Close cause) × IsSameSeen before after
 
 -- one frame was taken, with one message, and these replies are owed to it
-pub record Moves (before after : Seen) (p : PeerNo) (old new : Peer) (t : Trail) (replies : List Msg) : Type 0 where
+pub record Advances (before after : Seen) (p : PeerNo) (old new : Peer) (t : Trail) (replies : List Msg) : Type 0 where
   pub message : Msg
   pub leads : part_after (read_stream old.framer) t ≡ part_after (read_stream new.framer) (Said message ∷ t)
   pub holds : Holds new (Said message ∷ t)
@@ -47,8 +47,8 @@ pub record Stops (before after : Seen) (old : Peer) (t : Trail) (cause : Cause) 
 -- what the next frame does, if one waits
 abbrev pub HearsNext : Seen → Seen → PeerNo → Peer → Peer → Trail → Option Reply → Type 0
 HearsNext before after p old new t None = Holds new t × (part_after (read_stream old.framer) t ≡ record { trail = t; waits = new.framer }) × IsSameSeen before after
-HearsNext before after p old new t (Some NoReply) = Moves before after p old new t []
-HearsNext before after p old new t (Some (Send r)) = Moves before after p old new t (r ∷ [])
+HearsNext before after p old new t (Some NoReply) = Advances before after p old new t []
+HearsNext before after p old new t (Some (Send r)) = Advances before after p old new t (r ∷ [])
 HearsNext before after p old new t (Some (Close cause)) = Stops before after old t cause
 
 abbrev pub goes_on : Option Reply → Bool

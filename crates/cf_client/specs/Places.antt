@@ -13,10 +13,11 @@ use Rattle.cf_peer.specs.declared.event.Event.TheVariants.{Sent, Closed}
 use Rattle.cf_peer.specs.declared.peer.Peer.{Peer}
 use Rattle.cf_peer.specs.Acts.{bytes_of, IsSendable}
 use Rattle.cf_peer.specs.Log.{Log, tally_of}
-use Rattle.cf_peer.specs.Trail.{Trail, Part, part_of, trail, connected, ready, failed, owed, replied, IsClientVersion}
+use Rattle.cf_peer.specs.Trail.{Trail, Part, part_of, trail, connected, ready, failed, owed, replied, is_version, IsClientVersion}
 use Rattle.cf_peer.specs.Asking.{Deserves, block_entry, counted, fetched}
 use Rattle.cf_peer.specs.Peer.{Holds, calm, busy, wants, is_ready_peer, is_idle_peer, is_fetching}
 use Rattle.cf_sync.specs.Fetching.{IsBusy, IsQuiet, IsConnected, MaySend}
+use Rattle.cf_sync.specs.Honesty.{asked}
 use Rattle.cf_client.specs.declared.place.Place.{Place}
 use Rattle.cf_client.specs.declared.place.Place.TheVariants.{Here, Lost}
 use Rattle.cf_client.specs.declared.place.Loss.{Loss}
@@ -26,11 +27,22 @@ use Rattle.cf_client.specs.declared.place.PeerEnd.TheVariants.{Ready, Waiting, N
 use Rattle.cf_client.specs.declared.state.State.{State}
 use Rattle.cf_client.specs.declared.state.State.TheVariants.{Working, Synced, NoPeers}
 
+-- the first of the messages is the client's version, and no other is a version
+abbrev pub IsGreetedBy : List Msg → Type 0
+IsGreetedBy [] = ⊥
+IsGreetedBy (m ∷ more) = IsClientVersion m × (list_any is_version more ≡ false)
+
+-- A peer was sent the client's version before all else, and no other version; and what is owed to its messages: a verack, and a pong for
+-- each ping after its version, in order.
+pub record IsAnswered (t : Trail) : Type 0 where
+  pub greeted : IsGreetedBy (asked t)
+  pub replies : replied t ≡ owed t
+
 -- a connected peer: what is kept of it, the bytes that wait, and all that was owed to it was sent
 pub record Keeps (peer : Peer) (part : Part) : Type 0 where
   pub holds : Holds peer part.trail
   pub waits : peer.framer ≡ part.waits
-  pub answered : replied part.trail ≡ owed part.trail
+  pub answered : IsAnswered part.trail
 
 -- what is held of a peer
 abbrev pub Fits : Place → Part → Type 0

@@ -1,10 +1,10 @@
 -- What a client holds of a log.
-use Rattle.std.specs.Prelude.{◌≡◌, ℕ, false, List, length}
+use Rattle.std.specs.Prelude.{◌≡◌, ℕ, zero, suc, ◌+◌, Bool, false, if◌then◌else◌, List, length}
 use Rattle.cf_bytes.specs.declared.hash.Hash32.{Hash32}
 use Rattle.cf_headers.specs.Chain.{Chain, tip_hash}
 use Rattle.cf_headers.specs.declared.store.HeaderStore.{Ghosts}
 use Rattle.cf_peer.specs.declared.act.Act.{Act}
-use Rattle.cf_peer.specs.Log.{Log}
+use Rattle.cf_peer.specs.Log.{Log, tally_of}
 use Rattle.cf_peer.specs.Trail.{trail}
 use Rattle.cf_peer.specs.Asking.{is_open, Deserves}
 use Rattle.cf_peer.specs.declared.peer.Cause.{Cause}
@@ -12,7 +12,7 @@ use Rattle.cf_scan.specs.declared.history.Entry.{Entry}
 use Rattle.cf_sync.specs.Fetching.{IsBest, IsConnected, IsAskedOut}
 use Rattle.cf_sync.specs.Sync.{IsToldOf}
 use Rattle.cf_client.specs.declared.client.Client.{Client}
-use Rattle.cf_client.specs.Places.{PlacesStand, after, Allowed}
+use Rattle.cf_client.specs.Places.{IsAnswered, PlacesStand, after, Allowed}
 use Rattle.cf_tracker.specs.Tracker.{watch_of}
 use Rattle.cf_client.specs.Tracks.{Seen, Tracks, seen_of}
 
@@ -31,9 +31,26 @@ pub record Answers {H : Type 0} {g : Ghosts H} (c : Client H g) (acts : List Act
   pub stand : Reflects c (after acts log)
   pub allowed : Allowed acts log
 
+-- it found no memory once, and answers so from then on
+abbrev pub is_dead : {H : Type 0} → {g : Ghosts H} → Client H g → Bool
+is_dead c = c.dead
+
 -- no connected peer deserves to be closed
 abbrev pub IsInnocent : Log → Type 0
 IsInnocent log = (p : ℕ) → IsConnected log p → (cause : Cause) → Deserves (trail log p) cause → ⊥
+
+-- each connected peer was sent the client's version, and what is owed to its messages
+abbrev pub AreAnswered : Log → Type 0
+AreAnswered log = (p : ℕ) → IsConnected log p → IsAnswered (trail log p)
+
+-- how many numbers below this pass a test
+abbrev pub count_below : (ℕ → Bool) → ℕ → ℕ
+count_below test zero = 0
+count_below test (suc p) = count_below test p + (if test p then 1 else 0)
+
+-- how many requests are open: to each peer that was dialled at most one, its handshake or another
+abbrev pub open_count : Log → ℕ
+open_count log = count_below (λ (p : ℕ). is_open (trail log p)) ((tally_of log).dials + 1)
 
 -- how many numbers are in use, 0 among them
 abbrev pub count_of : {H : Type 0} → {g : Ghosts H} → Client H g → ℕ
@@ -54,3 +71,7 @@ pub record IsTip (height : ℕ) (hash : Hash32) (log : Log) : Type 0 where
 pub record IsReportOf (watch : List (List ℕ)) (height : ℕ) (hash : Hash32) (entries : List Entry) (log : Log) : Type 0 where
   pub told : IsToldOf watch height hash entries log
   pub asked_out : (p : ℕ) → IsConnected log p → is_open (trail log p) ≡ false → IsAskedOut log told.chain p
+
+-- the history alone, over the chain of which the tip is told
+abbrev pub IsHistoryOf : List (List ℕ) → List Entry → Log → Type 0
+IsHistoryOf watch entries log = (height : ℕ) × ((hash : Hash32) × IsReportOf watch height hash entries log)

@@ -1,14 +1,14 @@
 //! Whom the client asks, and whom it closes for its silence.
-ghost use Rattle.std.specs.Prelude.{◌≡◌, ◌≢◌, ℕ, ◌<◌, ◌≤◌, ◌∷◌, OnOk, IfOk, IsSome, true, false, length, vec_len};
-ghost use Rattle.std.specs.List.{All, list_any};
+ghost use Rattle.std.specs.Prelude.{◌≡◌, ◌≢◌, ℕ, ◌<◌, ◌∷◌, OnOk, IfOk, IsSome, true, false, length};
+ghost use Rattle.std.specs.List.{list_any};
 ghost use Rattle.cf_headers.specs.Store.{own_of};
-ghost use Rattle.cf_peer.specs.Acts.{IsDoable};
 ghost use Rattle.cf_peer.specs.Log.{Log};
 ghost use Rattle.cf_peer.specs.declared.event.Event.TheVariants.{Took};
 ghost use Rattle.cf_peer.specs.declared.event.Delivery.TheVariants.{Tick};
-ghost use Rattle.cf_tracker.specs.Tracker.{chains_of, watch_of};
-ghost use Rattle.cf_client.specs.Places.{PlacesStand, Goes, AreCalm, after, is_calm, is_idle, is_wanting, is_settled, is_fetching_at, is_here, place_at, IsQuestion, IsFetch};
-ghost use Rattle.cf_client.specs.Tracks.{Tracks, IsSameSeen, AreEntered, IsFetchedOut, AreFetchedOut, seen_of};
+ghost use Rattle.cf_tracker.specs.Tracker.{chains_of};
+ghost use Rattle.cf_client.specs.Places.{PlacesStand, AreCalm, is_calm, is_idle, is_wanting, is_settled, is_fetching_at, is_here, place_at, IsQuestion, IsFetch};
+ghost use Rattle.cf_client.specs.Tracks.{IsFetchedOut, AreFetchedOut, seen_of};
+ghost use Rattle.cf_client.specs.Steps.{desk, IsInOrder, Same, Moves, Asks};
 
 use crate::place::{Loss, Place};
 use cf_bytes::{Hash32, NoMemory, PeerNo};
@@ -38,14 +38,9 @@ fn close_if_late<H: HeaderStore>(
     acts: &mut Vec<Act>,
     i: usize,
 ) -> Result<(), NoMemory>
-    requires few { length places.old ≤ 9 }
     requires here { i < length places.old }
-    requires entered { AreEntered places.old (seen_of tracker.old) }
-    ensures goes { OnOk result ((log : Log) → Goes places.old acts.old.items log → Goes places.new acts.new.items log) }
-    ensures tracks { OnOk result ((log : Log) → Goes places.old acts.old.items log → Tracks (seen_of tracker.old) (after acts.old.items log) → Tracks (seen_of tracker.new) (after acts.new.items log)) }
-    ensures entered { OnOk result (AreEntered places.new (seen_of tracker.new)) }
-    ensures watch { OnOk result (watch_of tracker.new ≡ watch_of tracker.old) }
-    ensures doable { OnOk result (All IsDoable acts.old.items → All IsDoable acts.new.items) }
+    requires order { IsInOrder (desk tracker.old places.old acts.old.items) }
+    ensures moves { OnOk result (Moves Same (desk tracker.old places.old acts.old.items) (desk tracker.new places.new acts.new.items)) }
     ensures done { OnOk result (is_calm (place_at places.new i) ≡ true) }
     ensures others { OnOk result ((p : ℕ) → p ≢ i → place_at places.new p ≡ place_at places.old p) }
 {
@@ -65,13 +60,8 @@ pub(crate) fn close_late<H: HeaderStore>(
     places: &mut [Place],
     acts: &mut Vec<Act>,
 ) -> Result<(), NoMemory>
-    requires few { length places.old ≤ 9 }
-    requires entered { AreEntered places.old (seen_of tracker.old) }
-    ensures goes { OnOk result ((log : Log) → Goes places.old acts.old.items log → Goes places.new acts.new.items log) }
-    ensures tracks { OnOk result ((log : Log) → Goes places.old acts.old.items log → Tracks (seen_of tracker.old) (after acts.old.items log) → Tracks (seen_of tracker.new) (after acts.new.items log)) }
-    ensures entered { OnOk result (AreEntered places.new (seen_of tracker.new)) }
-    ensures watch { OnOk result (watch_of tracker.new ≡ watch_of tracker.old) }
-    ensures doable { OnOk result (All IsDoable acts.old.items → All IsDoable acts.new.items) }
+    requires { IsInOrder (desk tracker.old places.old acts.old.items) }
+    ensures moves { OnOk result (Moves Same (desk tracker.old places.old acts.old.items) (desk tracker.new places.new acts.new.items)) }
     ensures calm { OnOk result (AreCalm places.new) }
 {
     for i in 0..places.len() {
@@ -120,17 +110,11 @@ fn ask_for_headers<H: HeaderStore>(
     acts: &mut Vec<Act>,
     i: usize,
 ) -> Result<(), NoMemory>
-    requires few { length places.old ≤ 9 }
     requires here { i < length places.old }
     requires wanting { is_wanting (place_at places.old i) ≡ true }
-    requires entered { AreEntered places.old (seen_of tracker.now) }
-    ensures goes { OnOk result ((log : Log) → Goes places.old acts.old.items log → Tracks (seen_of tracker.now) (after acts.old.items log) → Goes places.new acts.new.items log) }
-    ensures tracks { OnOk result ((log : Log) → Goes places.old acts.old.items log → Tracks (seen_of tracker.now) (after acts.old.items log) → Tracks (seen_of tracker.now) (after acts.new.items log)) }
-    ensures entered { OnOk result (AreEntered places.new (seen_of tracker.now)) }
-    ensures doable { OnOk result (All IsDoable acts.old.items → All IsDoable acts.new.items) }
-    ensures done { OnOk result (is_settled (place_at places.new i) ≡ true) }
+    requires order { IsInOrder (desk tracker.now places.old acts.old.items) }
+    ensures asks { OnOk result (Asks i (desk tracker.now places.old acts.old.items) (desk tracker.now places.new acts.new.items)) }
     ensures busy { OnOk result (is_idle (place_at places.new i) ≡ false) }
-    ensures others { OnOk result ((p : ℕ) → p ≢ i → place_at places.new p ≡ place_at places.old p) }
 {
     let p = PeerNo(i as u32);
     acts.push(Act::Send(p, question(tracker, p)?))?;
@@ -140,7 +124,8 @@ fn ask_for_headers<H: HeaderStore>(
     Ok(())
 }
 
-// Asks the peer at this place, to which nothing is open, for the lowest block that is missing of what it shares with the best chain.
+// Asks the peer at this place, to which nothing is open, for the lowest block that is missing of what it shares with the best chain. No
+// block is open to anybody.
 fn ask_for_block<H: HeaderStore>(
     alloc: Global,
     tracker: &mut Tracker<H>,
@@ -148,19 +133,13 @@ fn ask_for_block<H: HeaderStore>(
     acts: &mut Vec<Act>,
     i: usize,
 ) -> Result<(), NoMemory>
-    requires few { length places.old ≤ 9 }
     requires here { i < length places.old }
     requires idle { is_idle (place_at places.old i) ≡ true }
     requires settled { is_settled (place_at places.old i) ≡ true }
-    requires entered { AreEntered places.old (seen_of tracker.old) }
-    ensures goes { OnOk result ((log : Log) → Goes places.old acts.old.items log → Tracks (seen_of tracker.old) (after acts.old.items log) → Goes places.new acts.new.items log) }
-    ensures tracks { OnOk result ((log : Log) → Goes places.old acts.old.items log → Tracks (seen_of tracker.old) (after acts.old.items log) → Tracks (seen_of tracker.new) (after acts.new.items log)) }
-    ensures seen { OnOk result (IsSameSeen (seen_of tracker.old) (seen_of tracker.new)) }
-    ensures entered { OnOk result (AreEntered places.new (seen_of tracker.new)) }
-    ensures doable { OnOk result (All IsDoable acts.old.items → All IsDoable acts.new.items) }
-    ensures done { OnOk result (is_settled (place_at places.new i) ≡ true) }
+    requires spare { list_any is_fetching_at places.old ≡ false }
+    requires order { IsInOrder (desk tracker.old places.old acts.old.items) }
+    ensures asks { OnOk result (Asks i (desk tracker.old places.old acts.old.items) (desk tracker.new places.new acts.new.items)) }
     ensures fetched { OnOk result (is_fetching_at (place_at places.new i) ≡ false → IsFetchedOut (place_at places.new i) (seen_of tracker.new) i) }
-    ensures others { OnOk result ((p : ℕ) → p ≢ i → place_at places.new p ≡ place_at places.old p) }
 {
     let p = PeerNo(i as u32);
     let Some(best) = tracker.best() else {
@@ -185,20 +164,12 @@ fn ask_if_wanted<H: HeaderStore>(
     acts: &mut Vec<Act>,
     i: usize,
 ) -> Result<(), NoMemory>
-    requires few { length places.old ≤ 9 }
     requires here { i < length places.old }
     requires calm { AreCalm places.old }
-    requires entered { AreEntered places.old (seen_of tracker.old) }
-    ensures goes { OnOk result ((log : Log) → Goes places.old acts.old.items log → Tracks (seen_of tracker.old) (after acts.old.items log) → Goes places.new acts.new.items log) }
-    ensures tracks { OnOk result ((log : Log) → Goes places.old acts.old.items log → Tracks (seen_of tracker.old) (after acts.old.items log) → Tracks (seen_of tracker.new) (after acts.new.items log)) }
-    ensures seen { OnOk result (IsSameSeen (seen_of tracker.old) (seen_of tracker.new)) }
-    ensures entered { OnOk result (AreEntered places.new (seen_of tracker.new)) }
-    ensures calm { OnOk result (AreCalm places.new) }
-    ensures doable { OnOk result (All IsDoable acts.old.items → All IsDoable acts.new.items) }
-    ensures done { OnOk result (is_settled (place_at places.new i) ≡ true) }
+    requires order { IsInOrder (desk tracker.old places.old acts.old.items) }
+    ensures asks { OnOk result (Asks i (desk tracker.old places.old acts.old.items) (desk tracker.new places.new acts.new.items)) }
     ensures fetched { OnOk result (list_any is_fetching_at places.new ≡ false → IsFetchedOut (place_at places.new i) (seen_of tracker.new) i) }
     ensures fetching { OnOk result (list_any is_fetching_at places.old ≡ true → list_any is_fetching_at places.new ≡ true) }
-    ensures others { OnOk result ((p : ℕ) → p ≢ i → place_at places.new p ≡ place_at places.old p) }
 {
     if places[i].wants_headers() {
         ask_for_headers(tracker, places, acts, i)?;
@@ -218,14 +189,9 @@ pub(crate) fn ask_all<H: HeaderStore>(
     places: &mut [Place],
     acts: &mut Vec<Act>,
 ) -> Result<(), NoMemory>
-    requires few { length places.old ≤ 9 }
     requires calm { AreCalm places.old }
-    requires entered { AreEntered places.old (seen_of tracker.old) }
-    ensures goes { OnOk result ((log : Log) → Goes places.old acts.old.items log → Tracks (seen_of tracker.old) (after acts.old.items log) → Goes places.new acts.new.items log) }
-    ensures tracks { OnOk result ((log : Log) → Goes places.old acts.old.items log → Tracks (seen_of tracker.old) (after acts.old.items log) → Tracks (seen_of tracker.new) (after acts.new.items log)) }
-    ensures entered { OnOk result (AreEntered places.new (seen_of tracker.new)) }
-    ensures watch { OnOk result (watch_of tracker.new ≡ watch_of tracker.old) }
-    ensures doable { OnOk result (All IsDoable acts.old.items → All IsDoable acts.new.items) }
+    requires order { IsInOrder (desk tracker.old places.old acts.old.items) }
+    ensures moves { OnOk result (Moves Same (desk tracker.old places.old acts.old.items) (desk tracker.new places.new acts.new.items)) }
     ensures settled { OnOk result ((p : ℕ) → is_settled (place_at places.new p) ≡ true) }
     ensures fetched { OnOk result (AreFetchedOut places.new (seen_of tracker.new)) }
 {

@@ -1,6 +1,6 @@
 //! The client: a machine that takes deliveries and says what is to be done.
-ghost use Rattle.std.specs.Prelude.{◌≡◌, ℕ, ◌<◌, ◌≤◌, ◌+◌, ◌∷◌, [], OnOk, IfOk, OnErr, None, true, false, length, vec_len, map, drop};
-ghost use Rattle.std.specs.List.{list_any, All};
+ghost use Rattle.std.specs.Prelude.{◌≡◌, ℕ, ◌<◌, ◌≤◌, ◌+◌, ◌∷◌, [], OnOk, IfOk, OnErr, IsErr, None, true, false, length, vec_len, map, drop};
+ghost use Rattle.std.specs.List.{list_any, All, count_by};
 ghost use Rattle.cf_peer.specs.Acts.{IsDoable};
 ghost use Rattle.cf_client.specs.Places.{state_of, is_busy, is_here, IsGreeting, end_of};
 ghost use Rattle.cf_client.specs.Tracks.{AreSettled, seen_of};
@@ -13,7 +13,7 @@ use cf_bytes::{Hash32, NoMemory, PeerNo};
 use cf_headers::HeaderStore;
 use cf_msg::{Bytes, Msg, NetAddress};
 use cf_peer::{Act, Delivery, Peer};
-use cf_scan::Watch;
+use cf_scan::{History, Watch};
 use cf_tracker::{Report, Tracker};
 use std::alloc::Global;
 
@@ -44,6 +44,13 @@ fn is_any_here(places: &[Place]) -> bool
     ensures { result ≡ list_any is_here places.now }
 {
     places.iter().any(|place| place.is_here())
+}
+
+// At how many places something is open.
+fn count_busy(places: &[Place]) -> usize
+    ensures { result ≡ count_by is_busy places.now }
+{
+    places.iter().filter(|place| place.is_busy()).count()
 }
 
 // The state that the places show.
@@ -107,8 +114,11 @@ fn greeting(alloc: Global, moment: i64, nonce: u64) -> Result<Msg, NoMemory>
 impl<H: HeaderStore> Client<H> {
     ghost use Rattle.cf_peer.specs.Log.{Log};
     ghost use Rattle.cf_peer.specs.declared.event.Event.TheVariants.{Took, Dialled, NotDialled};
+    ghost use Rattle.cf_peer.specs.declared.act.Act.TheVariants.{Close};
+    ghost use Rattle.cf_peer.specs.declared.peer.Cause.TheVariants.{SendFailed};
     ghost use Rattle.cf_client.specs.Places.{CutFor, IsState, EndsTell};
-    ghost use Rattle.cf_client.specs.Stands.{Reflects, Answers, IsTip, IsReportOf, IsInnocent, count_of, watch_by};
+    ghost use Rattle.cf_client.specs.Steps.{Extends};
+    ghost use Rattle.cf_client.specs.Stands.{Reflects, Answers, IsTip, IsReportOf, IsHistoryOf, IsInnocent, AreAnswered, is_dead, open_count, count_of, watch_by};
 
     /// A client that knows of no peer yet, over a store in which no peer is entered. It watches these scripts. Its `version` tells
     /// this moment, in seconds since 1970, and this number.
@@ -139,7 +149,8 @@ impl<H: HeaderStore> Client<H> {
         })
     }
 
-    /// A peer was dialled: the next in order, of at most eight.
+    /// A peer was dialled: the next in order, of at most eight. Here and in each call below, a client that has found no memory once
+    /// answers so for good.
     pub fn dialled(&mut self, p: PeerNo, name: &str) -> Result<Vec<Act>, NoMemory>
         requires room { p.0 ≤ 8 }
         requires next { p.0 ≡ count_of self.old }
@@ -147,7 +158,8 @@ impl<H: HeaderStore> Client<H> {
         ensures doable { IfOk result (λ acts. All IsDoable acts.items) }
         ensures count { OnOk result (count_of self.new ≡ count_of self.old + 1) }
         ensures watch { OnOk result (watch_by self.new ≡ watch_by self.old) }
-        ensures err { OnErr result (self.new.dead ≡ true) }
+        ensures dead { is_dead self.old ≡ true → IsErr result }
+        ensures err { OnErr result (is_dead self.new ≡ true) }
     {
         if self.dead {
             return Err(NoMemory);
@@ -168,7 +180,8 @@ impl<H: HeaderStore> Client<H> {
         ensures reflects { OnOk result ((log : Log) → Reflects self.old log → Reflects self.new (NotDialled p name.now ∷ log)) }
         ensures count { OnOk result (count_of self.new ≡ count_of self.old + 1) }
         ensures watch { OnOk result (watch_by self.new ≡ watch_by self.old) }
-        ensures err { OnErr result (self.new.dead ≡ true) }
+        ensures dead { is_dead self.old ≡ true → IsErr result }
+        ensures err { OnErr result (is_dead self.new ≡ true) }
     {
         if self.dead {
             return Err(NoMemory);
@@ -179,13 +192,14 @@ impl<H: HeaderStore> Client<H> {
         Ok(())
     }
 
-    /// Takes a delivery, and says what is to be done. After want of memory it answers so for good.
+    /// Takes a delivery, and says what is to be done.
     pub fn step(&mut self, d: &Delivery) -> Result<Vec<Act>, NoMemory>
         ensures answers { IfOk result (λ acts. (log : Log) → Reflects self.old log → Answers self.new acts.items (Took d.now ∷ log)) }
         ensures doable { IfOk result (λ acts. All IsDoable acts.items) }
         ensures count { count_of self.new ≡ count_of self.old }
         ensures watch { OnOk result (watch_by self.new ≡ watch_by self.old) }
-        ensures err { OnErr result (self.new.dead ≡ true) }
+        ensures dead { is_dead self.old ≡ true → IsErr result }
+        ensures err { OnErr result (is_dead self.new ≡ true) }
     {
         if self.dead {
             return Err(NoMemory);
@@ -199,13 +213,15 @@ impl<H: HeaderStore> Client<H> {
         Ok(acts)
     }
 
-    /// A send to a peer has failed.
+    /// A send to a peer has failed. The first that is to be done is to close it.
     pub fn send_failed(&mut self, p: PeerNo) -> Result<Vec<Act>, NoMemory>
         ensures answers { IfOk result (λ acts. (log cut : Log) → p.0 < count_of self.old → Reflects self.old log → CutFor p log cut → Answers self.new acts.items cut) }
+        ensures first { IfOk result (λ acts. p.0 < count_of self.old → Extends (Close p SendFailed ∷ []) acts.items) }
         ensures doable { IfOk result (λ acts. All IsDoable acts.items) }
         ensures count { count_of self.new ≡ count_of self.old }
         ensures watch { OnOk result (watch_by self.new ≡ watch_by self.old) }
-        ensures err { OnErr result (self.new.dead ≡ true) }
+        ensures dead { is_dead self.old ≡ true → IsErr result }
+        ensures err { OnErr result (is_dead self.new ≡ true) }
     {
         if self.dead {
             return Err(NoMemory);
@@ -227,10 +243,11 @@ impl<H: HeaderStore> Client<H> {
     }
 
     /// The state: `Working` where something is open, else `Synced` where a peer is connected, else `NoPeers`. Between two calls no
-    /// connected peer deserves to be closed. It takes no memory.
+    /// connected peer deserves to be closed, and each was sent the client's version and what is owed to its messages. It takes no memory.
     pub fn state(&self) -> State
         ensures state { (log : Log) → Reflects self.now log → IsState result log }
         ensures nobody { (log : Log) → Reflects self.now log → IsInnocent log }
+        ensures answered { (log : Log) → Reflects self.now log → AreAnswered log }
     {
         state_of_places(self.places.as_slice())
     }
@@ -242,19 +259,59 @@ impl<H: HeaderStore> Client<H> {
         self.tracker.tip()
     }
 
-    /// The best chain's tip, and the history of its blocks that were fetched.
-    pub fn report(&self) -> Result<Report, NoMemory>
-        ensures { IfOk result (λ r. (log : Log) → Reflects self.now log → IsReportOf (watch_by self.now) r.height r.tip r.history log) }
+    /// How many requests are open: to each connected peer at most one is, the handshake or another. It takes no memory.
+    pub fn open_requests(&self) -> u32
+        ensures { (log : Log) → Reflects self.now log → result ≡ open_count log }
     {
-        self.tracker.report()
+        count_busy(self.places.as_slice()) as u32
+    }
+
+    /// The best chain's tip, and the history of its blocks that were fetched, both of one moment.
+    pub fn report(&mut self) -> Result<Report, NoMemory>
+        ensures report { IfOk result (λ r. (log : Log) → Reflects self.old log → IsReportOf (watch_by self.old) r.height r.tip r.history log) }
+        ensures same { OnOk result (self.new ≡ self.old) }
+        ensures dead { is_dead self.old ≡ true → IsErr result }
+        ensures err { OnErr result (is_dead self.new ≡ true) }
+    {
+        if self.dead {
+            return Err(NoMemory);
+        }
+        match self.tracker.report() {
+            Ok(report) => Ok(report),
+            Err(NoMemory) => {
+                self.dead = true;
+                Err(NoMemory)
+            }
+        }
+    }
+
+    /// The history of the best chain's blocks that were fetched.
+    pub fn history(&mut self) -> Result<History, NoMemory>
+        ensures history { IfOk result (λ entries. (log : Log) → Reflects self.old log → IsHistoryOf (watch_by self.old) entries log) }
+        ensures same { OnOk result (self.new ≡ self.old) }
+        ensures dead { is_dead self.old ≡ true → IsErr result }
+        ensures err { OnErr result (is_dead self.new ≡ true) }
+    {
+        let report = self.report()?;
+        Ok(report.history)
     }
 
     /// How each peer stands, by its number from 1.
-    pub fn ends(&self) -> Result<Vec<PeerEnd>, NoMemory>
-        ensures exact { IfOk result (λ ends. ends.items ≡ map end_of (drop 1 self.now.places.items)) }
-        ensures tell { IfOk result (λ ends. (log : Log) → Reflects self.now log → EndsTell ends.items log) }
+    pub fn ends(&mut self) -> Result<Vec<PeerEnd>, NoMemory>
+        ensures tell { IfOk result (λ ends. (log : Log) → Reflects self.old log → EndsTell ends.items log) }
+        ensures same { OnOk result (self.new ≡ self.old) }
+        ensures dead { is_dead self.old ≡ true → IsErr result }
+        ensures err { OnErr result (is_dead self.new ≡ true) }
     {
-        let ends = ends_of_peers(self.alloc, self.places.as_slice())?;
-        Ok(ends)
+        if self.dead {
+            return Err(NoMemory);
+        }
+        match ends_of_peers(self.alloc, self.places.as_slice()) {
+            Ok(ends) => Ok(ends),
+            Err(NoMemory) => {
+                self.dead = true;
+                Err(NoMemory)
+            }
+        }
     }
 }

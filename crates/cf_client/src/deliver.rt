@@ -1,13 +1,10 @@
 //! What a delivery does.
-ghost use Rattle.std.specs.Prelude.{◌≡◌, ◌<◌, ◌≤◌, ◌∷◌, [], OnOk, length};
-ghost use Rattle.std.specs.List.{All};
-ghost use Rattle.cf_peer.specs.Acts.{IsDoable};
-ghost use Rattle.cf_peer.specs.Log.{Log};
-ghost use Rattle.cf_peer.specs.declared.event.Event.TheVariants.{Took};
+ghost use Rattle.std.specs.Prelude.{◌≡◌, ◌<◌, [], ◌∷◌, OnOk, length};
+ghost use Rattle.cf_peer.specs.declared.act.Act.TheVariants.{Close};
+ghost use Rattle.cf_peer.specs.declared.peer.Cause.TheVariants.{SendFailed};
 ghost use Rattle.cf_peer.specs.declared.event.Delivery.TheVariants.{Got, Gone};
-ghost use Rattle.cf_tracker.specs.Tracker.{watch_of};
-ghost use Rattle.cf_client.specs.Places.{PlacesStand, Goes, AreCalm, CutFor, after};
-ghost use Rattle.cf_client.specs.Tracks.{Tracks, AreEntered, seen_of};
+ghost use Rattle.cf_client.specs.Places.{AreCalm};
+ghost use Rattle.cf_client.specs.Steps.{desk, IsInOrder, Taking, CutOff, Moves};
 
 use crate::ask::{close_late, pass_all};
 use crate::hear::hear_piece;
@@ -28,16 +25,9 @@ fn hear_from<H: HeaderStore>(
     p: PeerNo,
     piece: &[u8],
 ) -> Result<(), NoMemory>
-    requires few { length places.old ≤ 9 }
-    requires calm { AreCalm places.old }
     requires none { acts.old.items ≡ [] }
-    requires entered { AreEntered places.old (seen_of tracker.old) }
-    ensures goes { OnOk result ((log : Log) → PlacesStand places.old log → Tracks (seen_of tracker.old) log → Goes places.new acts.new.items (Took (Got p piece.now) ∷ log)) }
-    ensures tracks { OnOk result ((log : Log) → PlacesStand places.old log → Tracks (seen_of tracker.old) log → Tracks (seen_of tracker.new) (after acts.new.items (Took (Got p piece.now) ∷ log))) }
-    ensures entered { OnOk result (AreEntered places.new (seen_of tracker.new)) }
-    ensures watch { OnOk result (watch_of tracker.new ≡ watch_of tracker.old) }
-    ensures doable { OnOk result (All IsDoable acts.new.items) }
-    ensures calm { OnOk result (AreCalm places.new) }
+    requires order { IsInOrder (desk tracker.old places.old acts.old.items) }
+    ensures { OnOk result (Moves (Taking (Got p piece.now)) (desk tracker.old places.old acts.old.items) (desk tracker.new places.new acts.new.items)) }
 {
     let i = p.0 as usize;
     if i >= places.len() {
@@ -66,13 +56,8 @@ fn hear_from<H: HeaderStore>(
 
 // A peer has gone.
 fn lose<H: HeaderStore>(tracker: &mut Tracker<H>, places: &mut [Place], p: PeerNo)
-    requires calm { AreCalm places.old }
-    requires entered { AreEntered places.old (seen_of tracker.old) }
-    ensures stand { (log : Log) → PlacesStand places.old log → PlacesStand places.new (Took (Gone p) ∷ log) }
-    ensures tracks { (log : Log) → PlacesStand places.old log → Tracks (seen_of tracker.old) log → Tracks (seen_of tracker.new) (Took (Gone p) ∷ log) }
-    ensures entered { AreEntered places.new (seen_of tracker.new) }
-    ensures watch { watch_of tracker.new ≡ watch_of tracker.old }
-    ensures calm { AreCalm places.new }
+    requires { IsInOrder (desk tracker.old places.old []) }
+    ensures { Moves (Taking (Gone p)) (desk tracker.old places.old []) (desk tracker.new places.new []) }
 {
     let i = p.0 as usize;
     if i < places.len() && places[i].is_here() {
@@ -88,16 +73,10 @@ pub(crate) fn cut_off<H: HeaderStore>(
     acts: &mut Vec<Act>,
     p: PeerNo,
 ) -> Result<(), NoMemory>
-    requires few { length places.old ≤ 9 }
-    requires calm { AreCalm places.old }
     requires none { acts.old.items ≡ [] }
-    requires entered { AreEntered places.old (seen_of tracker.old) }
-    ensures goes { OnOk result ((log cut : Log) → p.0 < length places.old → PlacesStand places.old log → CutFor p log cut → Goes places.new acts.new.items cut) }
-    ensures tracks { OnOk result ((log cut : Log) → p.0 < length places.old → PlacesStand places.old log → Tracks (seen_of tracker.old) log → CutFor p log cut → Tracks (seen_of tracker.new) (after acts.new.items cut)) }
-    ensures entered { OnOk result (AreEntered places.new (seen_of tracker.new)) }
-    ensures watch { OnOk result (watch_of tracker.new ≡ watch_of tracker.old) }
-    ensures doable { OnOk result (All IsDoable acts.new.items) }
-    ensures calm { OnOk result (AreCalm places.new) }
+    requires order { IsInOrder (desk tracker.old places.old acts.old.items) }
+    ensures moves { OnOk result (Moves (CutOff p places.old) (desk tracker.old places.old acts.old.items) (desk tracker.new places.new acts.new.items)) }
+    ensures first { OnOk result (p.0 < length places.old → acts.new.items ≡ Close p SendFailed ∷ []) }
 {
     let i = p.0 as usize;
     if i >= places.len() {
@@ -117,16 +96,10 @@ pub(crate) fn deliver<H: HeaderStore>(
     acts: &mut Vec<Act>,
     d: &Delivery,
 ) -> Result<(), NoMemory>
-    requires few { length places.old ≤ 9 }
     requires calm { AreCalm places.old }
     requires none { acts.old.items ≡ [] }
-    requires entered { AreEntered places.old (seen_of tracker.old) }
-    ensures goes { OnOk result ((log : Log) → PlacesStand places.old log → Tracks (seen_of tracker.old) log → Goes places.new acts.new.items (Took d.now ∷ log)) }
-    ensures tracks { OnOk result ((log : Log) → PlacesStand places.old log → Tracks (seen_of tracker.old) log → Tracks (seen_of tracker.new) (after acts.new.items (Took d.now ∷ log))) }
-    ensures entered { OnOk result (AreEntered places.new (seen_of tracker.new)) }
-    ensures watch { OnOk result (watch_of tracker.new ≡ watch_of tracker.old) }
-    ensures doable { OnOk result (All IsDoable acts.new.items) }
-    ensures calm { OnOk result (AreCalm places.new) }
+    requires order { IsInOrder (desk tracker.old places.old acts.old.items) }
+    ensures { OnOk result (Moves (Taking d.now) (desk tracker.old places.old acts.old.items) (desk tracker.new places.new acts.new.items)) }
 {
     match d {
         Delivery::Got(p, piece) => {

@@ -345,14 +345,14 @@ fn take_turns<W: Wires, H: HeaderStore>(
 // Ends the run: the connections that are left are ended, and what came of it is put together.
 fn finish<W: Wires, H: HeaderStore>(
     wires: &mut W,
-    client: &Client<H>,
+    client: &mut Client<H>,
     progress: Progress,
     end: End,
 ) -> Result<Outcome, NoMemory>
     ensures end { IfOk result (λ o. o.end ≡ end) }
     ensures trace { IfOk result (λ o. o.trace ≡ progress.trace) }
-    ensures report { IfOk result (λ o. (log : Log) → Reflects client.now log → IsReportOf (watch_by client.now) o.height o.tip o.history log) }
-    ensures ends { IfOk result (λ o. (log : Log) → Reflects client.now log → EndsTell o.ends.items log) }
+    ensures report { IfOk result (λ o. (log : Log) → Reflects client.old log → IsReportOf (watch_by client.old) o.height o.tip o.history log) }
+    ensures ends { IfOk result (λ o. (log : Log) → Reflects client.old log → EndsTell o.ends.items log) }
     ensures told { W.told wires.new ≡ W.told wires.old }
     ensures course { Course (W.told wires.old) (W.told wires.new) (W.faults wires.old) (W.faults wires.new) (W.script wires.old) (W.script wires.new) }
 {
@@ -399,6 +399,6 @@ pub fn sync_over<W: Wires, H: HeaderStore + Drop>(
     let mut progress = Progress::new(alloc);
     dial_all(alloc, wires, &mut client, &mut progress, names)?;
     let end = take_turns(alloc, wires, &mut client, &mut progress, turns)?;
-    let outcome = finish(wires, &client, progress, end)?;
+    let outcome = finish(wires, &mut client, progress, end)?;
     Ok(outcome)
 }

@@ -37,7 +37,7 @@ use Rattle.cf_peer.specs.Log.{Log}
 use Rattle.cf_peer.specs.Trail.{Trail, Part, Called, Said, Asked, no_address, called_part, item_of_read, part_after, heard_part, message_in, message_of_stream, spelled, asks, part_of, trail, connected, own, heard, longer_of, ends_by, fault_in, first}
 use Rattle.cf_scan.specs.Scan.{scan_of}
 use Rattle.cf_sync.specs.Example.{only_tx, only_header, only_block, only_hash, chain_of_one, honest_peer, liar, genesis_hash, no_stop, our_version, its_version, false_version, question, its_headers, false_headers, fetch, its_block, log_1, log_2, log_3, log_4, log_5, log_6, log_7, log_8, log_9, log_10, log_11, log_12, log_13, log_14, log_15, run_of_two}
-use Rattle.cf_sync.specs.Fetching.{IsQuiet, IsBusy, AreBytes, IsFetched, IsFetchedHash, Rightly}
+use Rattle.cf_sync.specs.Fetching.{IsQuiet, IsBusy, AreBytes, IsFetched, IsFetchedHash, IsNoBlockOpen, Rightly, is_spare}
 use Rattle.cf_sync.specs.Honesty.{Leaves, answers, AnswersAs, IsHonestOver, IsHonest, was_called, ShowsNoOther}
 use Rattle.cf_sync.specs.Sync.{strings_of, IsHashed, HasAsked}
 use Rattle.cf_sync.proofs.Chains.{same_from, same_self, same_true, heads, Setting}
@@ -586,6 +586,13 @@ no_other_block b (inr (inr (inr none))) = none
 none_fetched : (b : Block) → IsFetched log_14 b → ⊥
 none_fetched b got = at_each HasNone log_14 t_7 u_7 got.0 part_14 other_16 all_of_two.1.1 (unsaid t_7 no_block_7) (unsaid u_7 no_other_block) (λ c i. i) b got.1
 
+-- nor was one open to anybody
+abbrev IsSpare : Trail → Type 0
+IsSpare t = connected t ≡ true → is_spare (request t) ≡ true
+
+no_block_open : IsNoBlockOpen log_14
+no_block_open q = at_each IsSpare log_14 t_7 u_7 q part_14 other_16 all_of_two.1.1 (λ on. refl) (λ on. refl) (λ on. refl)
+
 busy_1 : (log : Log) → part_of log 1 ≡ at_rest t_2 → IsBusy log
 busy_1 log e = (1, of_part (λ t. is_open t ≡ true) (part_of log 1) t_2 e refl)
 
@@ -593,15 +600,15 @@ pub is_right : Rightly run_of_two
 is_right = (
   (1, of_part (λ t. is_open t ≡ true) (part_of log_15 1) t_8 part_15 refl),
   (
-    (fetch, spelled_is fetch fetch_sendable, record { of_its_part = of_part (λ t. MayAsk t fetch) (part_of log_14 1) t_7 part_14 may_fetch; wanted = λ entry i got. none_fetched got.0 got.1 }),
+    (fetch, spelled_is fetch fetch_sendable, record { of_its_part = of_part (λ t. MayAsk t fetch) (part_of log_14 1) t_7 part_14 may_fetch; wanted = λ entry i got. none_fetched got.0 got.1; alone = no_block_open }),
     (
       (1, of_part (λ t. is_open t ≡ true) (part_of log_13 1) t_6 part_13 refl),
       (
-        (question, spelled_is question question_sendable, record { of_its_part = of_part (λ t. MayAsk t question) (part_of log_12 1) t_5 part_12 (record { on = refl; over = refl; idle = refl }, refl, refl, refl, refl); wanted = tt }),
+        (question, spelled_is question question_sendable, record { of_its_part = of_part (λ t. MayAsk t question) (part_of log_12 1) t_5 part_12 (record { on = refl; over = refl; idle = refl }, refl, refl, refl, refl); wanted = tt; alone = tt }),
         (
           (1, of_part (λ t. is_open t ≡ true) (part_of log_11 1) t_4 part_11 refl),
           (
-            (Verack, spelled_is Verack verack_sendable, record { of_its_part = of_part (λ t. MayAsk t Verack) (part_of log_10 1) t_3 part_10 (refl, refl); wanted = tt }),
+            (Verack, spelled_is Verack verack_sendable, record { of_its_part = of_part (λ t. MayAsk t Verack) (part_of log_10 1) t_3 part_10 (refl, refl); wanted = tt; alone = tt }),
             (busy_1 log_9 part_2, right_9),
           ),
         ),
@@ -613,16 +620,16 @@ is_right = (
   right_9 = (
     busy_1 log_8 part_2,
     (
-      (question, spelled_is question question_sendable, record { of_its_part = of_part (λ t. MayAsk t question) (part_of log_7 2) u_5 other_7 (record { on = refl; over = refl; idle = refl }, refl, refl, refl, refl); wanted = tt }),
+      (question, spelled_is question question_sendable, record { of_its_part = of_part (λ t. MayAsk t question) (part_of log_7 2) u_5 other_7 (record { on = refl; over = refl; idle = refl }, refl, refl, refl, refl); wanted = tt; alone = tt }),
       (
         busy_1 log_6 part_2,
         (
-          (Verack, spelled_is Verack verack_sendable, record { of_its_part = of_part (λ t. MayAsk t Verack) (part_of log_5 2) u_3 other_5 (refl, refl); wanted = tt }),
+          (Verack, spelled_is Verack verack_sendable, record { of_its_part = of_part (λ t. MayAsk t Verack) (part_of log_5 2) u_3 other_5 (refl, refl); wanted = tt; alone = tt }),
           (
             busy_1 log_4 part_2,
             (
-              (our_version, spelled_is our_version our_sendable, record { of_its_part = of_part (λ t. MayAsk t our_version) (part_of log_3 2) u_1 other_3 (refl, refl, (refl, refl, refl, refl, refl, refl, refl)); wanted = tt }),
-              ((our_version, spelled_is our_version our_sendable, record { of_its_part = of_part (λ t. MayAsk t our_version) (part_of log_1 1) t_1 part_1 (refl, refl, (refl, refl, refl, refl, refl, refl, refl)); wanted = tt }), tt),
+              (our_version, spelled_is our_version our_sendable, record { of_its_part = of_part (λ t. MayAsk t our_version) (part_of log_3 2) u_1 other_3 (refl, refl, (refl, refl, refl, refl, refl, refl, refl)); wanted = tt; alone = tt }),
+              ((our_version, spelled_is our_version our_sendable, record { of_its_part = of_part (λ t. MayAsk t our_version) (part_of log_1 1) t_1 part_1 (refl, refl, (refl, refl, refl, refl, refl, refl, refl)); wanted = tt; alone = tt }), tt),
             ),
           ),
         ),

@@ -96,10 +96,25 @@ abbrev pub IsWanted : Log → Msg → Type 0
 IsWanted log (GetData entries) = (entry : Wanted) → IsIn entry entries → IsFetchedHash log entry.hash.0 → ⊥
 IsWanted log m = Unit {0}
 
+-- no block is open to a peer; to no connected one
+abbrev pub is_spare : OpenRequest → Bool
+is_spare NothingOpen = true
+is_spare HeadersOpen = true
+is_spare (BlockOpen block) = false
+
+abbrev pub IsNoBlockOpen : Log → Type 0
+IsNoBlockOpen log = (q : ℕ) → IsConnected log q → is_spare (request (trail log q)) ≡ true
+
+-- a block is asked for only while none is open to anybody: one at a time
+abbrev pub IsAlone : Log → Msg → Type 0
+IsAlone log (GetData entries) = IsNoBlockOpen log
+IsAlone log m = Unit {0}
+
 -- a message may be sent to p, by all that the log holds
 pub record MaySend (log : Log) (p : ℕ) (m : Msg) : Type 0 where
   pub of_its_part : MayAsk (trail log p) m
   pub wanted : IsWanted log m
+  pub alone : IsAlone log m
 
 -- At each moment what was sent might be sent to that peer, what was closed deserved it, and a delivery was taken only while something
 -- was open.
@@ -124,15 +139,6 @@ pub record IsBest (log : Log) (chain : Chain) : Type 0 where
   pub longest : (p : ℕ) → IsConnected log p → length (own (counted_part log p)) ≤ length chain
   pub shown : ((p : ℕ) × (IsConnected log p × (own (counted_part log p) ≡ chain) × AreShorterBefore log chain p))
       ⊎ (((p : ℕ) → connected (trail log p) ≡ false) × (chain ≡ []))
-
--- no block is open to it
-abbrev pub is_spare : OpenRequest → Bool
-is_spare NothingOpen = true
-is_spare HeadersOpen = true
-is_spare (BlockOpen block) = false
-
-abbrev pub IsNoBlockOpen : Log → Type 0
-IsNoBlockOpen log = (q : ℕ) → IsConnected log q → is_spare (request (trail log q)) ≡ true
 
 -- What the rule of asking leaves true of a connected peer with nothing open to it: it was heard out; and where its own chain is the best
 -- one and no block is open to anybody, each block of that chain is settled.

@@ -2,6 +2,8 @@ use Rattle.std.proofs.Common.{◌<◌, List, length, refl, sym, subst, ap, arith
 use Rattle.std.proofs.lemmas.List.{with_items_is}
 use Rattle.cf_client.specs.declared.place.Place.{Place}
 use Rattle.cf_client.specs.Places.{PlacesStand, after}
+use Rattle.cf_client.specs.Tracks.{seen_of}
+use Rattle.cf_client.proofs.Steps.{stands_start}
 use Rattle.cf_client.proofs.client.Client.send_failed.Goals as goal
 
 pub returns-clause-answers : goal.returns-clause-answers
@@ -9,16 +11,15 @@ returns-clause-answers g c = λ log cut lt reflects is.
     let kept = c.args.self.now.places in
     let here = subst (λ (places : List Place). c.args.p.0 < length places) (sym c.as_mut_slice-places.ensures.value) lt in
     let stand = subst (λ (places : List Place). PlacesStand places log) (sym c.as_mut_slice-places.ensures.value) reflects.places in
-    let goes = c.in_ok-cut_off.ensures.goes log cut here stand is in
-    let tracks = c.in_ok-cut_off.ensures.tracks log cut here stand reflects.tracks is in
-    let asked = c.in_ok-ask_all.ensures.goes cut goes tracks in
+    let start = stands_start c.as_mut_slice-places.result.now (seen_of c.args.self.now.tracker) c.new-acts.result.items log c.new-acts.ensures.items stand reflects.tracks in
+    let asked = c.in_ok-ask_all.ensures.moves.stands cut cut refl (c.in_ok-cut_off.ensures.moves.stands log cut (here, is) start) in
     let whole = with_items_is kept c.ask_all.new.places
     (omega (arith, c.ask_all.auto.places, c.cut_off.auto.places, c.as_mut_slice-places.ensures.len, ap (λ (places : List Place). length places) c.as_mut_slice-places.ensures.value, kept.ok.0)) in
     record {
       stand = record {
         alive = refl;
-        places = subst (λ (places : List Place). PlacesStand places (after c.ask_all.new.acts.items cut)) (sym whole) asked.stand;
-        tracks = c.in_ok-ask_all.ensures.tracks cut goes tracks;
+        places = subst (λ (places : List Place). PlacesStand places (after c.ask_all.new.acts.items cut)) (sym whole) asked.goes.stand;
+        tracks = asked.tracks;
       };
-      allowed = asked.allowed;
+      allowed = asked.goes.allowed;
     }

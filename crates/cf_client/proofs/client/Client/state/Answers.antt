@@ -1,4 +1,4 @@
-use Rattle.cf_client.proofs.Innocent.{innocent}
+use Rattle.cf_client.proofs.Innocent.{innocent, answered}
 use Rattle.cf_client.proofs.Standing.{state_is}
 use Rattle.cf_client.proofs.client.Client.state.Goals as goal
 
@@ -7,3 +7,6 @@ returns-clause-state g c = λ log reflects. rw (c.state_of_places.ensures, c.as_
 
 pub returns-clause-nobody : goal.returns-clause-nobody
 returns-clause-nobody g c = λ log reflects. innocent c.args.self.now log reflects
+
+pub returns-clause-answered : goal.returns-clause-answered
+returns-clause-answered g c = λ log reflects. answered c.args.self.now log reflects

@@ -1,0 +1,66 @@
+-- What each step of the client keeps.
+use Rattle.std.specs.Prelude.{◌≡◌, ◌≢◌, ℕ, ◌<◌, ◌≤◌, true, List, ◌∷◌, ◌++◌, length}
+use Rattle.std.specs.List.{All}
+use Rattle.cf_bytes.specs.declared.peer.PeerNo.{PeerNo}
+use Rattle.cf_headers.specs.declared.store.HeaderStore.{Ghosts}
+use Rattle.cf_peer.specs.declared.act.Act.{Act}
+use Rattle.cf_peer.specs.declared.event.Delivery.{Delivery}
+use Rattle.cf_peer.specs.declared.event.Event.TheVariants.{Took}
+use Rattle.cf_peer.specs.Acts.{IsDoable}
+use Rattle.cf_peer.specs.Log.{Log}
+use Rattle.cf_tracker.specs.declared.tracker.Tracker.{Tracker}
+use Rattle.cf_client.specs.declared.place.Place.{Place}
+use Rattle.cf_client.specs.Places.{Goes, AreCalm, CutFor, after, is_settled, place_at}
+use Rattle.cf_client.specs.Tracks.{Seen, Tracks, IsSameSeen, AreEntered, seen_of}
+
+-- what a step works on: the places, what was seen, and the acts so far
+pub record Desk : Type 0 where
+  pub places : List Place
+  pub seen : Seen
+  pub acts : List Act
+
+abbrev pub desk : {H : Type 0} → {g : Ghosts H} → Tracker H g → List Place → List Act → Desk
+desk tracker places acts = record { places = places; seen = seen_of tracker; acts = acts }
+
+-- the desk stands for the log with the acts, each of which was allowed
+pub record Stands (d : Desk) (log : Log) : Type 0 where
+  pub goes : Goes d.places d.acts log
+  pub tracks : Tracks d.seen (after d.acts log)
+
+-- at most nine places, and tracked are the peers that are connected
+pub record IsInOrder (d : Desk) : Type 0 where
+  pub few : length d.places ≤ 9
+  pub entered : AreEntered d.places d.seen
+
+-- how the log itself goes on: not at all, by a delivery, or as the send to a peer in use fails
+abbrev pub Way : Type 1
+Way = Log → Log → Type 0
+
+abbrev pub Same : Way
+Same log next = next ≡ log
+
+abbrev pub Taking : Delivery → Way
+Taking d log next = next ≡ Took d ∷ log
+
+abbrev pub CutOff : PeerNo → List Place → Way
+CutOff p places log next = (p.0 < length places) × CutFor p log next
+
+-- acts to which others were added
+abbrev pub Extends : List Act → List Act → Type 0
+Extends before now = (rest : List Act) × (now ≡ before ++ rest)
+
+-- one step of the client, as the log goes on this way
+pub record Moves (way : Way) (before now : Desk) : Type 0 where
+  pub stands : (log next : Log) → way log next → Stands before log → Stands now next
+  pub order : IsInOrder now
+  pub watch : now.seen.watch ≡ before.seen.watch
+  pub more : Extends before.acts now.acts
+  pub doable : All IsDoable before.acts → All IsDoable now.acts
+  pub calm : AreCalm before.places → AreCalm now.places
+
+-- the peer at this place is asked, if it is to be, and is settled; nobody else's place changes, nor what was seen
+pub record Asks (i : ℕ) (before now : Desk) : Type 0 where
+  pub moves : Moves Same before now
+  pub seen : IsSameSeen before.seen now.seen
+  pub settled : is_settled (place_at now.places i) ≡ true
+  pub others : (p : ℕ) → p ≢ i → place_at now.places p ≡ place_at before.places p
