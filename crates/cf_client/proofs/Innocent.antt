@@ -1,5 +1,5 @@
 -- Between two calls of the client no connected peer deserves a cause, and each has what is owed to it.
-use Rattle.std.proofs.Common.{◌≡◌, inl, inr, ℕ, ◌≤◌, [], ◌∷◌, Some, None, Bool, true, false, refl, sym, ◌∙◌, ap, arith}
+use Rattle.std.proofs.Common.{◌≡◌, inl, inr, ℕ, ◌≤◌, Some, None, Bool, true, false, refl, sym, ◌∙◌, ap, arith}
 use Rattle.std.specs.Prelude.{not, ◌&&◌, ◌||◌, nat_le}
 use Rattle.std.proofs.lemmas.Bool.{cases_Bool, both_ways, false≢true, and_parts}
 use Rattle.std.proofs.lemmas.Bool.Decides.{nat_tests}
@@ -7,7 +7,7 @@ use Rattle.cf_headers.specs.declared.store.HeaderStore.{Ghosts}
 use Rattle.cf_peer.specs.declared.peer.Cause.{Cause}
 use Rattle.cf_peer.specs.declared.peer.Peer.{Peer}
 use Rattle.cf_peer.specs.Log.{Log}
-use Rattle.cf_peer.specs.Trail.{Trail, Part, Called, Said, Refused, Asked, Passed, Lost, part_of, connected, ready, failed}
+use Rattle.cf_peer.specs.Trail.{Trail, Part, part_of, connected, ready, failed}
 use Rattle.cf_peer.specs.Asking.{OpenRequest, NothingOpen, HeadersOpen, BlockOpen, request, is_idle as idle_request, is_open, age, Deserves}
 use Rattle.cf_peer.specs.Peer.{Holds, aged, age_in, calm}
 use Rattle.cf_client.specs.declared.client.Client.{Client}
@@ -15,16 +15,7 @@ use Rattle.cf_client.specs.declared.place.Place.{Place}
 use Rattle.cf_client.specs.declared.place.Place.TheVariants.{Here, Lost as LostPlace}
 use Rattle.cf_client.specs.Places.{IsAnswered, Fits, place_at, is_settled, is_calm, is_wanting}
 use Rattle.cf_client.specs.Stands.{Reflects, IsInnocent, AreAnswered}
-
--- no send to a connected peer has failed
-none_failed : (t : Trail) → connected t ≡ true → failed t ≡ false
-none_failed [] on = refl
-none_failed (Called ∷ t) on = refl
-none_failed (Said m ∷ t) on = none_failed t on
-none_failed (Refused c ∷ t) on = none_failed t on
-none_failed (Asked m ∷ t) on = none_failed t on
-none_failed (Passed s ∷ t) on = none_failed t on
-none_failed (Lost w ∷ t) on = absurd (false≢true on)
+use Rattle.cf_client.proofs.Losing.{none_failed}
 
 -- what is open has the age that is kept with it
 aged_is : (r : OpenRequest) (n : ℕ) → idle_request r ≡ false → age_in (aged r n) ≡ n
@@ -57,7 +48,7 @@ settled_calm place h = (and_parts (is_calm place) (not (is_wanting place)) h).0
 
 place_innocent : (place : Place) (part : Part) (cause : Cause) → Fits place part → is_calm place ≡ true → connected part.trail ≡ true → Deserves part.trail cause → ⊥
 place_innocent (Here peer) part cause fits is on deserves = peer_innocent peer part.trail cause fits.holds is deserves
-place_innocent (LostPlace end) part cause off is on deserves = both_ways (connected part.trail) off on
+place_innocent (LostPlace end) part cause lost is on deserves = both_ways (connected part.trail) lost.off on
 
 pub innocent : {H : Type 0} {g : Ghosts H} (c : Client H g) (log : Log) → Reflects c log → IsInnocent log
 innocent c log reflects = λ p on cause deserves.
@@ -65,7 +56,7 @@ innocent c log reflects = λ p on cause deserves.
 
 place_answered : (place : Place) (part : Part) → Fits place part → connected part.trail ≡ true → IsAnswered part.trail
 place_answered (Here peer) part keeps on = keeps.answered
-place_answered (LostPlace end) part off on = absurd (both_ways (connected part.trail) off on)
+place_answered (LostPlace end) part lost on = absurd (both_ways (connected part.trail) lost.off on)
 
 pub answered : {H : Type 0} {g : Ghosts H} (c : Client H g) (log : Log) → Reflects c log → AreAnswered log
 answered c log reflects = λ p on. place_answered (place_at c.places.items p) (part_of log p) (reflects.places.each p) on

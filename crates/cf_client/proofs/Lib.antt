@@ -1,5 +1,6 @@
 pub mod Spelled
 pub mod Tracking
+pub mod Losing
 pub mod Standing
 pub mod Settled
 pub mod Acting

@@ -33,7 +33,7 @@ use Rattle.cf_client.specs.declared.place.PeerEnd.{PeerEnd}
 use Rattle.cf_client.specs.declared.place.PeerEnd.TheVariants.{Ready, Waiting, NotDialled as EndsNotDialled}
 use Rattle.cf_client.specs.declared.place.Place.{Place}
 use Rattle.cf_client.specs.declared.place.Place.TheVariants.{Here, Lost}
-use Rattle.cf_client.specs.Places.{Keeps, Fits, nobody, PlacesStand, EndTells, EndsTell, end_by, end_of, is_idle, is_fetching_at, is_settled}
+use Rattle.cf_client.specs.Places.{IsLost, Keeps, Fits, nobody, PlacesStand, EndTells, EndsTell, end_by, end_of, is_idle, is_fetching_at, is_settled}
 use Rattle.cf_client.specs.Stands.{IsTip, IsReportOf}
 use Rattle.cf_client.specs.Tracks.{Seen, Tracks, AreSettled, chain_kept, chain_at}
 use Rattle.cf_client.proofs.Standing.{any_at}
@@ -54,7 +54,7 @@ on_kept t on = ap (λ b. if b then Some (own t) else None) on
 
 pub here_of : (place : Place) (part : Part) → Fits place part → connected part.trail ≡ true → (peer : Peer) × (place ≡ Here peer) × Keeps peer part
 here_of (Here peer) part keeps on = (peer, refl, keeps)
-here_of (Lost end) part off on = absurd (both_ways (connected part.trail) off on)
+here_of (Lost end) part lost on = absurd (both_ways (connected part.trail) lost.off on)
 
 -- all that it said counts
 use_of : (places : List Place) (log : Log) (p : ℕ) → PlacesStand places log → IsConnected log p → SameUse (trail log p)
@@ -73,7 +73,18 @@ best_is places log s chain stand tracks (inl best) = record {
       omega (arith, mine, most, same, best.1.1 p);
   shown = (
       let both = kept_by (connected (trail log best.0.0)) (own (trail log best.0.0)) chain (sym (tracks.kept best.0.0) ∙ best.2) in
-      inl (best.0.0, (both.0, (use_of places log best.0.0 stand both.0).chain ∙ both.1)));
+      inl (
+        best.0.0,
+        (
+          both.0,
+          (use_of places log best.0.0 stand both.0).chain ∙ both.1,
+          (λ q lt on.
+              let here : rank (s.chains q) ≡ length (own (trail log q)) + 1 = ap rank (tracks.kept q ∙ on_kept (trail log q) on) in
+              let most : rank (s.chains best.0.0) ≡ length chain + 1 = ap rank best.2 in
+              let same : length (own (counted_part log q)) ≡ length (own (trail log q)) = ap (λ (c : Chain). length c) (use_of places log q stand on).chain in
+              omega (arith, here, most, same, best.1.2 q lt)),
+        ),
+      ));
 }
 best_is places log s chain stand tracks (inr none) = record {
   longest = λ p on. absurd (none-some (own (trail log p)) (sym (none.0 p) ∙ tracks.kept p ∙ on_kept (trail log p) on));
@@ -168,14 +179,14 @@ end_here : (b : Bool) (t : Trail) → connected t ≡ true → ready t ≡ b →
 end_here true t on over = (on, over)
 end_here false t on over = (on, over)
 
-end_lost : (loss : Loss) (t : Trail) → connected t ≡ false → EndTells (end_by loss) t
-end_lost NotDialled t off = off
-end_lost Gone t off = off
-end_lost (ClosedFor cause) t off = off
+end_lost : (loss : Loss) (t : Trail) → IsLost loss t → EndTells (end_by loss) t
+end_lost NotDialled t lost = lost
+end_lost Gone t lost = lost
+end_lost (ClosedFor cause) t lost = lost
 
 end_tells : (place : Place) (part : Part) → Fits place part → EndTells (end_of place) part.trail
 end_tells (Here peer) part keeps = end_here (is_ready_peer peer) part.trail keeps.holds.on (sym (ready_is peer part.trail keeps.holds))
-end_tells (Lost loss) part off = end_lost loss part.trail off
+end_tells (Lost loss) part lost = end_lost loss part.trail lost
 
 pub ends_tell : (places : List Place) (log : Log) → PlacesStand places log → EndsTell (map end_of (drop 1 places)) log
 ends_tell places log stand = record {

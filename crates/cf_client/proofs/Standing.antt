@@ -2,7 +2,7 @@
 use Rattle.std.proofs.Common.{◌≡◌, ◌≢◌, inl, inr, ℕ, zero, suc, ◌+◌, ◌<◌, ◌≤◌, List, [], ◌∷◌, ◌++◌, length, get_or, set, Option, Bool, true, false, if◌then◌else◌, refl, sym, ◌∙◌, ap, subst, arith}
 use Rattle.std.proofs.lemmas.Grind.{common_steps}
 use Rattle.std.specs.Prelude.{◌||◌}
-use Rattle.std.proofs.lemmas.Bool.{cases_eq, cases_Bool, or_cases, both_ways, false≢true}
+use Rattle.std.proofs.lemmas.Bool.{cases_eq, cases_Bool, or_cases, and_parts, both_ways, false≢true}
 use Rattle.std.specs.List.{list_any}
 use Rattle.std.proofs.lemmas.List.{append-nil}
 use Rattle.std.proofs.lemmas.List.Folds.{list_any-append}
@@ -29,10 +29,10 @@ use Rattle.cf_sync.specs.Honesty.{asked}
 use Rattle.cf_peer.proofs.Peers.{open_by, idle_request, late_is, wants_is, asked_headers_holds, asked_block_holds, called_holds}
 use Rattle.cf_client.specs.declared.place.Place.{Place}
 use Rattle.cf_client.specs.declared.place.Place.TheVariants.{Here, Lost}
-use Rattle.cf_client.specs.declared.place.Loss.{Loss}
-use Rattle.cf_client.specs.declared.place.Loss.TheVariants.{NotDialled as NeverCalled}
-use Rattle.cf_client.specs.Places.{IsGreetedBy, IsAnswered, Keeps, Fits, nobody, PlacesStand, entry_of, after, MayAct, Allowed, Goes, is_calm, is_busy, is_here, is_fetching_at, state_of, IsState, IsGreeting, IsQuestion, IsFetch, AsksAbove, AsksFor}
+use Rattle.cf_client.specs.declared.place.Loss.TheVariants.{NotDialled as NeverCalled, Closed as ClosedFor}
+use Rattle.cf_client.specs.Places.{IsGreetedBy, IsAnswered, IsLost, Keeps, Fits, nobody, PlacesStand, entry_of, after, MayAct, Allowed, Goes, is_calm, is_busy, is_here, is_fetching_at, state_of, IsState, IsGreeting, IsQuestion, IsFetch, AsksAbove, AsksFor}
 use Rattle.cf_client.proofs.Spelled.{spelled_bytes}
+use Rattle.cf_client.proofs.Losing.{lost_went, shut_now}
 
 pub after-append : (acts : List Act) (a : Act) (log : Log) → after (acts ++ a ∷ []) log ≡ entry_of a ∷ after acts log
 after-append [] a log = refl
@@ -106,16 +106,16 @@ pub late_open : (place : Place) (part : Part) → Fits place part → is_calm pl
 late_open (Here peer) part keeps is = late_is peer part.trail is keeps.holds
 late_open (Lost end) part off is = absurd (false≢true (sym is))
 
-pub late_goes : (places : List Place) (acts : List Act) (log : Log) (i : ℕ) (end : Loss)
+pub late_goes : (places : List Place) (acts : List Act) (log : Log) (i : ℕ)
     → i < length places → Goes places acts log → is_calm (get_or places i nobody) ≡ false
-    → Goes (set places i (Lost end)) (acts ++ Close (record { 0 = i }) Overdue ∷ []) log
-late_goes places acts log i end lt goes is =
+    → Goes (set places i (Lost (ClosedFor Overdue))) (acts ++ Close (record { 0 = i }) Overdue ∷ []) log
+late_goes places acts log i lt goes is =
     let p : PeerNo = record { 0 = i } in
     let part = part_of (after acts log) i in
     let o = late_open (get_or places i nobody) part (goes.stand.each i) is in
-    goes_act places acts log i (Lost end) (Close p Overdue) lt goes (λ q other. closed_others p q (part_of (after acts log) q) other) refl
+    goes_act places acts log i (Lost (ClosedFor Overdue)) (Close p Overdue) lt goes (λ q other. closed_others p q (part_of (after acts log) q) other) refl
     (number_within places (after acts log) i goes.stand lt, inr (inr (refl, o.0, o.1)))
-    (ap (λ (x : Part). connected x.trail) (closed_here p part))
+    (subst (λ (x : Part). IsLost (ClosedFor Overdue) x.trail) (sym (closed_here p part)) (shut_now part.trail Overdue (and_parts (connected part.trail) _ o.0).0 (inr (inr (refl, o.0, o.1)))))
 
 -- a peer to which nothing is open may be asked
 pub idle_free : (peer : Peer) (t : Trail) → Holds peer t → is_idle_peer peer ≡ true → IsFree t
@@ -194,7 +194,7 @@ spare_is peer t h off = spare_by (ready t) (request t) (age t) (sym (ap is_block
 
 spare_at : (place : Place) (part : Part) → Fits place part → is_fetching_at place ≡ false → connected part.trail ≡ true → is_spare (request part.trail) ≡ true
 spare_at (Here peer) part keeps off on = spare_is peer part.trail keeps.holds off
-spare_at (Lost end) part gone off on = absurd (both_ways (connected part.trail) gone on)
+spare_at (Lost end) part lost off on = absurd (both_ways (connected part.trail) lost.off on)
 
 none_open : (places : List Place) (log : Log) → PlacesStand places log → list_any is_fetching_at places ≡ false → IsNoBlockOpen log
 none_open places log stand none q on = spare_at (get_or places q nobody) (part_of log q) (stand.each q) (none_at is_fetching_at places refl none q) on
@@ -311,17 +311,19 @@ missed_here p name part = grind (arith, common_steps)
 pub refused_stand : (places : List Place) (log : Log) (p : PeerNo) (name : List ℕ) → p.0 ≡ length places → PlacesStand places log
     → PlacesStand (places ++ Lost NeverCalled ∷ []) (NotDialled p name ∷ log)
 refused_stand places log p name last stand =
+    let past : get_or places p.0 nobody ≡ nobody = grind (arith, common_steps) in
+    let before : IsLost NeverCalled (trail log p.0) = subst (λ (x : Place). Fits x (part_of log p.0)) past (stand.each p.0) in
     stand_push places log p.0 (Lost NeverCalled) (NotDialled p name) last stand (λ q other. grind (arith, common_steps)) refl
-    (ap (λ (x : Part). connected x.trail) (missed_here p name (part_of log p.0)))
+    (subst (λ (x : Part). IsLost NeverCalled x.trail) (sym (missed_here p name (part_of log p.0))) (lost_went NeverCalled (trail log p.0) before))
 
 -- what the state that the places show says of the log
 pub busy_open : (place : Place) (part : Part) → Fits place part → is_open part.trail ≡ is_busy place
 busy_open (Here peer) part fits = open_by peer part.trail fits.holds
-busy_open (Lost end) part off = rw off refl
+busy_open (Lost end) part lost = rw lost.off refl
 
 pub here_on : (place : Place) (part : Part) → Fits place part → connected part.trail ≡ is_here place
 here_on (Here peer) part fits = fits.holds.on
-here_on (Lost end) part off = off
+here_on (Lost end) part lost = lost.off
 
 pub state_is : (places : List Place) (log : Log) → PlacesStand places log → IsState (state_of places) log
 state_is places log stand = elim (cases_Bool (list_any is_busy places)) [

@@ -21,7 +21,7 @@ use Rattle.cf_peer.specs.Peer.{wants, is_idle_peer, asked_for_headers, asked_for
 use Rattle.cf_tracker.specs.Missing.{IsMissing}
 use Rattle.cf_client.specs.declared.place.Place.{Place}
 use Rattle.cf_client.specs.declared.place.Place.TheVariants.{Here, Lost}
-use Rattle.cf_client.specs.declared.place.Loss.{Loss}
+use Rattle.cf_client.specs.declared.place.Loss.TheVariants.{Closed as ClosedFor}
 use Rattle.cf_client.specs.Places.{PlacesStand, after as done, nobody, is_calm, is_here, is_fetching_at, is_settled, IsQuestion, IsFetch}
 use Rattle.cf_client.specs.Tracks.{Seen, Tracks, IsPut, IsSameSeen, AreEntered, chain_at}
 use Rattle.cf_client.specs.Steps.{Desk, Stands, IsInOrder, Way, Same, Taking, Extends, Moves, Asks}
@@ -112,12 +112,12 @@ pub moves_self : (d : Desk) → IsInOrder d → Moves Same d d
 moves_self d order = stay_moves order (same (λ log stood. stood))
 
 -- a peer is closed for its silence
-pub late_moves : (d : Desk) (i : ℕ) (end : Loss) (after : Seen) → i < length d.places → IsInOrder d → is_calm (get_or d.places i nobody) ≡ false → IsPut d.seen after i None
-    → Moves Same d (acted d i (Lost end) after (Close (record { 0 = i }) Overdue))
-late_moves d i end after lt order late put =
-    set_moves i (Lost end) lt order put.others (sym (ap is_some put.here)) put.watch (extends_one d.acts (Close (record { 0 = i }) Overdue)) (λ all. All-push IsDoable d.acts (Close (record { 0 = i }) Overdue) all (omega (arith, lt, order.few))) (λ was. refl)
+pub late_moves : (d : Desk) (i : ℕ) (after : Seen) → i < length d.places → IsInOrder d → is_calm (get_or d.places i nobody) ≡ false → IsPut d.seen after i None
+    → Moves Same d (acted d i (Lost (ClosedFor Overdue)) after (Close (record { 0 = i }) Overdue))
+late_moves d i after lt order late put =
+    set_moves i (Lost (ClosedFor Overdue)) lt order put.others (sym (ap is_some put.here)) put.watch (extends_one d.acts (Close (record { 0 = i }) Overdue)) (λ all. All-push IsDoable d.acts (Close (record { 0 = i }) Overdue) all (omega (arith, lt, order.few))) (λ was. refl)
     (same (λ log stood. record {
-      goes = late_goes d.places d.acts log i end lt stood.goes late;
+      goes = late_goes d.places d.acts log i lt stood.goes late;
       tracks = closed_tracks d.seen after d.acts log (record { 0 = i }) Overdue put stood.tracks;
     }))
 

@@ -36,11 +36,13 @@ use Rattle.cf_sync.proofs.TableGrows.{holds_after_piece}
 use Rattle.cf_client.specs.declared.place.Place.{Place}
 use Rattle.cf_client.specs.declared.place.Place.TheVariants.{Here, Lost}
 use Rattle.cf_client.specs.declared.place.Loss.{Loss}
-use Rattle.cf_client.specs.Places.{IsGreetedBy, IsAnswered, Keeps, Fits, nobody, PlacesStand, after, Allowed, Goes, CutFor, AreCalm, is_calm, is_here}
+use Rattle.cf_client.specs.declared.place.Loss.TheVariants.{Gone as HasGone, Closed as ClosedFor}
+use Rattle.cf_client.specs.Places.{IsGreetedBy, IsAnswered, IsLost, Keeps, Fits, nobody, PlacesStand, after, Allowed, Goes, CutFor, AreCalm, is_calm, is_here}
 use Rattle.cf_client.specs.Tracks.{Seen, Tracks, IsPut, chain_kept}
 use Rattle.cf_client.specs.Steps.{Desk, Stands, IsInOrder, Taking, CutOff, Same, Moves}
 use Rattle.cf_client.specs.Hearing.{HeardWhole, HeardFault}
 use Rattle.cf_client.proofs.Standing.{greeted_more, after-append, allowed-append, set_is, stand_at, stand_same, here_on, goes_start, sent_others, sent_here, closed_others, closed_here, number_within}
+use Rattle.cf_client.proofs.Losing.{lost_said, lost_refused, lost_went, goes_now, shut_now, cut_now}
 use Rattle.cf_client.proofs.Tracking.{tracks_sent, tracks_closed, tracks_gone, tracks_tick, tracks_cut, gone_here, gone_others}
 use Rattle.cf_client.proofs.Settled.{set_other}
 use Rattle.cf_client.proofs.Steps.{extends_self, extends_none, extends_one, stands_start, start_places, start_tracks, stay_moves, set_moves, taken}
@@ -50,15 +52,19 @@ record SaysOnly (after before : Trail) : Type 0 where
   on : connected after ≡ connected before
   replies : replied after ≡ replied before
   asks : asked after ≡ asked before
+  lost : (loss : Loss) → IsLost loss before → IsLost loss after
 
 says_nothing : (t : Trail) → SaysOnly t t
-says_nothing t = record { on = refl; replies = refl; asks = refl }
+says_nothing t = record { on = refl; replies = refl; asks = refl; lost = λ loss lost. lost }
 
 says_more : (a b c : Trail) → SaysOnly b a → SaysOnly c b → SaysOnly c a
-says_more a b c one two = record { on = two.on ∙ one.on; replies = two.replies ∙ one.replies; asks = two.asks ∙ one.asks }
+says_more a b c one two = record { on = two.on ∙ one.on; replies = two.replies ∙ one.replies; asks = two.asks ∙ one.asks; lost = λ loss lost. two.lost loss (one.lost loss lost) }
 
 item_says : (f : Frame) (t : Trail) → SaysOnly (item_of f ∷ t) t
-item_says f t = elim (message_of f) as (λ r. SaysOnly (item_of_read r ∷ t) t) [ Ok m ↦ record { on = refl; replies = refl; asks = refl } | Err e ↦ record { on = refl; replies = refl; asks = refl } ]
+item_says f t = elim (message_of f) as (λ r. SaysOnly (item_of_read r ∷ t) t) [
+  | Ok m ↦ record { on = refl; replies = refl; asks = refl; lost = λ loss lost. lost_said loss m t lost }
+  | Err e ↦ record { on = refl; replies = refl; asks = refl; lost = λ loss lost. lost_refused loss _ t lost }
+]
 
 hears_says : (fs : List Frame) (t : Trail) → SaysOnly (hears fs t) t
 hears_says [] t = says_nothing t
@@ -66,7 +72,7 @@ hears_says (f ∷ fs) t = says_more t (item_of f ∷ t) (hears fs (item_of f ∷
 
 fault_says : (o : Option FrameFault) (t : Trail) → SaysOnly (hears_fault o t) t
 fault_says None t = says_nothing t
-fault_says (Some fault) t = record { on = refl; replies = refl; asks = refl }
+fault_says (Some fault) t = record { on = refl; replies = refl; asks = refl; lost = λ loss lost. lost_refused loss _ t lost }
 
 heard_says : (piece : List ℕ) (part : Part) → SaysOnly (heard_part piece part).trail part.trail
 heard_says piece part =
@@ -84,10 +90,11 @@ pub got_others : (p : PeerNo) (piece : List ℕ) (q : ℕ) (part : Part) → q �
 got_others p piece q part ne = grind (arith, common_steps)
 
 -- a place that isn't connected fits whatever its peer still says
-deaf_fits : (place : Place) (p : PeerNo) (piece : List ℕ) (q : ℕ) (part : Part) → connected part.trail ≡ false → connected (went_on (Took (Got p piece)) q part).trail ≡ false
-deaf_fits place p piece q part off = elim (cases_eq q p.0) [
-  | inl same ↦ subst (λ k. connected (went_on (Took (Got p piece)) k part).trail ≡ false) (sym same) (ap (λ (x : Part). connected x.trail) (got_here p piece part) ∙ heard_connected piece part ∙ off)
-  | inr other ↦ ap (λ (x : Part). connected x.trail) (got_others p piece q part other) ∙ off
+deaf_fits : (loss : Loss) (p : PeerNo) (piece : List ℕ) (q : ℕ) (part : Part) → IsLost loss part.trail → IsLost loss (went_on (Took (Got p piece)) q part).trail
+deaf_fits loss p piece q part lost = elim (cases_eq q p.0) [
+  | inl same ↦ subst (λ k. IsLost loss (went_on (Took (Got p piece)) k part).trail) (sym same)
+      (subst (λ (x : Part). IsLost loss x.trail) (sym (got_here p piece part)) ((heard_says piece part).lost loss lost))
+  | inr other ↦ subst (λ (x : Part). IsLost loss x.trail) (sym (got_others p piece q part other)) lost
 ]
 
 got_fits : (place : Place) (p : PeerNo) (piece : List ℕ) (q : ℕ) (part : Part) → (q ≡ p.0 → (end : Loss) × (place ≡ Lost end)) → Fits place part → Fits place (went_on (Took (Got p piece)) q part)
@@ -95,7 +102,7 @@ got_fits (Here peer) p piece q part lost fits = elim (cases_eq q p.0) [
   | inl same ↦ absurd (let is = (lost same).1 in cc)
   | inr other ↦ subst (λ (x : Part). Keeps peer x) (sym (got_others p piece q part other)) fits
 ]
-got_fits (Lost end) p piece q part lost off = deaf_fits (Lost end) p piece q part off
+got_fits (Lost end) p piece q part lost fits = deaf_fits end p piece q part fits
 
 deaf_goes : (places : List Place) (acts : List Act) (log : Log) (p : PeerNo) (piece : List ℕ) (end : Loss)
     → acts ≡ [] → get_or places p.0 nobody ≡ Lost end → PlacesStand places log → Goes places acts (Took (Got p piece) ∷ log)
@@ -131,7 +138,8 @@ deaf_tracks : (places : List Place) (acts : List Act) (log : Log) (p : PeerNo) (
     → acts ≡ [] → get_or places p.0 nobody ≡ Lost end → PlacesStand places log → Tracks seen log → Tracks seen (after acts (Took (Got p piece) ∷ log))
 deaf_tracks places acts log p piece end seen none lost stand tracks =
     let next = Took (Got p piece) ∷ log in
-    let off : connected (trail log p.0) ≡ false = subst (λ (x : Place). Fits x (part_of log p.0)) lost (stand.each p.0) in
+    let fits : IsLost end (trail log p.0) = subst (λ (x : Place). Fits x (part_of log p.0)) lost (stand.each p.0) in
+    let off : connected (trail log p.0) ≡ false = fits.off in
     let here : part_of next p.0 ≡ heard_part piece (part_of log p.0) = got_here p piece (part_of log p.0) in
     let still : connected (trail next p.0) ≡ false = ap (λ (x : Part). connected x.trail) here ∙ heard_connected piece (part_of log p.0) ∙ off in
     subst (λ (xs : List Act). Tracks seen (after xs next)) (sym none) (record {
@@ -344,11 +352,11 @@ whole_tracks places log p piece old peer seen now before acts none here stand tr
     }))
 
 -- a piece in which a frame deserves a cause: the peer is closed
-fault_at : (places : List Place) (log : Log) (p : PeerNo) (piece : List ℕ) (end : Loss) (cause : Cause) (seen now : Seen) (acts : List Act)
+fault_at : (places : List Place) (log : Log) (p : PeerNo) (piece : List ℕ) (cause : Cause) (seen now : Seen) (acts : List Act)
     → p.0 < length places → PlacesStand places log → connected (trail log p.0) ≡ true
     → (fault : HeardFault p seen now [] acts (part_of log p.0) (heard_part piece (part_of log p.0)) cause) → AreSendable fault.replies
-    → Goes (set places p.0 (Lost end)) (acts ++ Close p cause ∷ []) (Took (Got p piece) ∷ log)
-fault_at places log p piece end cause seen now acts lt stand on fault sendable =
+    → Goes (set places p.0 (Lost (ClosedFor cause))) (acts ++ Close p cause ∷ []) (Took (Got p piece) ∷ log)
+fault_at places log p piece cause seen now acts lt stand on fault sendable =
     let next = Took (Got p piece) ∷ log in
     let rs = fault.replies in
     let here = heard_log p piece log in
@@ -361,14 +369,16 @@ fault_at places log p piece end cause seen now acts lt stand on fault sendable =
     let at_end : part_of later p.0 ≡ asked_all rs part = done.here ∙ ap (asked_all rs) here in
     let up : connected (trail later p.0) ≡ true = ap (λ (x : Part). connected x.trail) at_end ∙ same.on ∙ heard_connected piece (part_of log p.0) ∙ on in
     let guilty : verdict (trail later p.0) ≡ Some cause = ap (λ (x : Part). verdict x.trail) at_end ∙ same.first ∙ fault.first in
-    let off : connected (part_of (Closed p ∷ later) p.0).trail ≡ false = ap (λ (x : Part). connected x.trail) (closed_here p (part_of later p.0)) in
+    let end = ClosedFor cause in
+    let mine : IsLost end (part_of (Closed p ∷ later) p.0).trail =
+    subst (λ (x : Part). IsLost end x.trail) (sym (closed_here p (part_of later p.0))) (shut_now (trail later p.0) cause up (inl (up, guilty))) in
     let count : p.0 ≤ (tally_of later).dials = omega (arith, number, done.count) in
     subst (λ (xs : List Act). Goes (set places p.0 (Lost end)) (xs ++ Close p cause ∷ []) next) (sym fault.acts) (record {
       stand = subst (PlacesStand (set places p.0 (Lost end))) (sym (after-append (sends p rs) (Close p cause) next)) (record {
         count = grind (arith, common_steps, stand.count, done.count);
         each = λ q. elim (cases_eq q p.0) [
           | inl is ↦ subst (λ k. Fits (get_or (set places p.0 (Lost end)) k nobody) (part_of (Closed p ∷ later) k)) (sym is)
-              (subst (λ x. Fits x (part_of (Closed p ∷ later) p.0)) (sym (set_is places p.0 (Lost end) lt)) off)
+              (subst (λ x. Fits x (part_of (Closed p ∷ later) p.0)) (sym (set_is places p.0 (Lost end) lt)) mine)
           | inr other ↦ subst (λ x. Fits x (part_of (Closed p ∷ later) q)) (grind (arith, common_steps))
               (subst (λ t. Fits (get_or places q nobody) t) (sym (closed_others p q (part_of later q) other ∙ done.others q other ∙ got_others p piece q (part_of log q) other)) (stand.each q))
         ];
@@ -384,14 +394,14 @@ fault_of places log p piece old cause seen now before acts none here stand track
     subst (λ (xs : List Act). HeardFault p seen now xs acts (part_of log p.0) (heard_part piece (part_of log p.0)) cause) none
     (heard (part_of log p.0) keeps.holds keeps.waits (chain_is seen log p.0 tracks keeps.holds.on))
 
-faulty_goes : (places : List Place) (log : Log) (p : PeerNo) (piece : List ℕ) (old : Peer) (end : Loss) (cause : Cause) (seen now : Seen) (before acts : List Act)
+faulty_goes : (places : List Place) (log : Log) (p : PeerNo) (piece : List ℕ) (old : Peer) (cause : Cause) (seen now : Seen) (before acts : List Act)
     → p.0 < length places → before ≡ [] → get_or places p.0 nobody ≡ Here old → PlacesStand places log → Tracks seen log
     → HearsFault p piece old seen now before acts cause → All IsDoable acts
-    → Goes (set places p.0 (Lost end)) (acts ++ Close p cause ∷ []) (Took (Got p piece) ∷ log)
-faulty_goes places log p piece old end cause seen now before acts lt none here stand tracks heard doable =
+    → Goes (set places p.0 (Lost (ClosedFor cause))) (acts ++ Close p cause ∷ []) (Took (Got p piece) ∷ log)
+faulty_goes places log p piece old cause seen now before acts lt none here stand tracks heard doable =
     let keeps = place_keeps places log p old here stand in
     let fault = fault_of places log p piece old cause seen now before acts none here stand tracks heard in
-    fault_at places log p piece end cause seen now acts lt stand keeps.holds.on fault (sendable_by p fault.replies (subst (All IsDoable) fault.acts doable))
+    fault_at places log p piece cause seen now acts lt stand keeps.holds.on fault (sendable_by p fault.replies (subst (All IsDoable) fault.acts doable))
 
 -- a piece in which a frame deserves a cause, and p's chain given up
 faulty_tracks : (places : List Place) (log : Log) (p : PeerNo) (piece : List ℕ) (old : Peer) (cause : Cause) (seen now last : Seen) (before acts : List Act)
@@ -450,15 +460,15 @@ heard_moves d p piece old peer now acts lt none order here heard others known wa
     }))
 
 -- a piece in which a frame deserves a cause, for which its peer is closed and forgotten
-pub faulty_moves : (d : Desk) (p : PeerNo) (piece : List ℕ) (old : Peer) (end : Loss) (cause : Cause) (now last : Seen) (acts : List Act)
+pub faulty_moves : (d : Desk) (p : PeerNo) (piece : List ℕ) (old : Peer) (cause : Cause) (now last : Seen) (acts : List Act)
     → p.0 < length d.places → d.acts ≡ [] → IsInOrder d → get_or d.places p.0 nobody ≡ Here old → HearsFault p piece old d.seen now d.acts acts cause
     → ((q : ℕ) → q ≢ p.0 → now.chains q ≡ d.seen.chains q) → now.watch ≡ d.seen.watch → All IsDoable acts → IsPut now last p.0 None
-    → Moves (Taking (Got p piece)) d (record { places = set d.places p.0 (Lost end); seen = last; acts = acts ++ Close p cause ∷ [] })
-faulty_moves d p piece old end cause now last acts lt none order here heard others watch doable put =
-    set_moves p.0 (Lost end) lt order (λ q other. put.others q other ∙ others q other) (sym (ap is_some put.here)) (put.watch ∙ watch) (extends_none d.acts (acts ++ Close p cause ∷ []) none)
+    → Moves (Taking (Got p piece)) d (record { places = set d.places p.0 (Lost (ClosedFor cause)); seen = last; acts = acts ++ Close p cause ∷ [] })
+faulty_moves d p piece old cause now last acts lt none order here heard others watch doable put =
+    set_moves p.0 (Lost (ClosedFor cause)) lt order (λ q other. put.others q other ∙ others q other) (sym (ap is_some put.here)) (put.watch ∙ watch) (extends_none d.acts (acts ++ Close p cause ∷ []) none)
     (λ all. All-push IsDoable acts (Close p cause) doable (omega (arith, lt, order.few))) (λ was. refl)
     (taken (λ log stood. record {
-      goes = faulty_goes d.places log p piece old end cause d.seen now d.acts acts lt none here (start_places d log none stood) (start_tracks d log none stood) heard doable;
+      goes = faulty_goes d.places log p piece old cause d.seen now d.acts acts lt none here (start_places d log none stood) (start_tracks d log none stood) heard doable;
       tracks = faulty_tracks d.places log p piece old cause d.seen now last d.acts acts none here (start_places d log none stood) (start_tracks d log none stood) heard put;
     }))
 
@@ -468,18 +478,20 @@ gone_fits (Here peer) p q part away fits = elim (cases_eq q p.0) [
   | inl same ↦ absurd (false≢true (sym (away same)))
   | inr other ↦ subst (Keeps peer) (sym (gone_others p q part other)) fits
 ]
-gone_fits (Lost end) p q part away off = elim (cases_eq q p.0) [
-  | inl same ↦ subst (λ (k : ℕ). connected (went_on (Took (Gone p)) k part).trail ≡ false) (sym same) (ap (λ (x : Part). connected x.trail) (gone_here p part))
-  | inr other ↦ ap (λ (x : Part). connected x.trail) (gone_others p q part other) ∙ off
+gone_fits (Lost end) p q part away lost = elim (cases_eq q p.0) [
+  | inl same ↦ subst (λ (k : ℕ). IsLost end (went_on (Took (Gone p)) k part).trail) (sym same)
+      (subst (λ (x : Part). IsLost end x.trail) (sym (gone_here p part)) (lost_went end part.trail lost))
+  | inr other ↦ subst (λ (x : Part). IsLost end x.trail) (sym (gone_others p q part other)) lost
 ]
 
-pub gone_moves : (d : Desk) (p : PeerNo) (end : Loss) (after : Seen) → d.acts ≡ [] → p.0 < length d.places → IsInOrder d → IsPut d.seen after p.0 None
-    → Moves (Taking (Gone p)) d (record { places = set d.places p.0 (Lost end); seen = after; acts = d.acts })
-gone_moves d p end after none lt order put =
-    set_moves p.0 (Lost end) lt order put.others (sym (ap is_some put.here)) put.watch (extends_self d.acts) (λ all. all) (λ was. refl)
-    (taken (λ log stood. stands_start (set d.places p.0 (Lost end)) after d.acts (Took (Gone p) ∷ log) none
-    (stand_at d.places log p.0 (Lost end) (Took (Gone p)) lt (start_places d log none stood) (λ q other. gone_others p q (part_of log q) other) refl
-    (ap (λ (x : Part). connected x.trail) (gone_here p (part_of log p.0))))
+pub gone_moves : (d : Desk) (p : PeerNo) (after : Seen) → d.acts ≡ [] → p.0 < length d.places → IsInOrder d → is_here (get_or d.places p.0 nobody) ≡ true → IsPut d.seen after p.0 None
+    → Moves (Taking (Gone p)) d (record { places = set d.places p.0 (Lost HasGone); seen = after; acts = d.acts })
+gone_moves d p after none lt order here put =
+    set_moves p.0 (Lost HasGone) lt order put.others (sym (ap is_some put.here)) put.watch (extends_self d.acts) (λ all. all) (λ was. refl)
+    (taken (λ log stood. stands_start (set d.places p.0 (Lost HasGone)) after d.acts (Took (Gone p) ∷ log) none
+    (stand_at d.places log p.0 (Lost HasGone) (Took (Gone p)) lt (start_places d log none stood) (λ q other. gone_others p q (part_of log q) other) refl
+    (subst (λ (x : Part). IsLost HasGone x.trail) (sym (gone_here p (part_of log p.0)))
+    (goes_now (trail log p.0) (here_on (get_or d.places p.0 nobody) (part_of log p.0) ((start_places d log none stood).each p.0) ∙ here))))
     (tracks_gone d.seen after p log put (start_tracks d log none stood))))
 
 pub away_moves : (d : Desk) (p : PeerNo) → d.acts ≡ [] → IsInOrder d → is_here (get_or d.places p.0 nobody) ≡ false → Moves (Taking (Gone p)) d d
@@ -490,27 +502,28 @@ away_moves d p none order away = stay_moves order (taken (λ log stood.
     (gone_before log p d.seen (here_on (get_or d.places p.0 nobody) (part_of log p.0) (stand.each p.0) ∙ away) (start_tracks d log none stood))))
 
 -- the send to a peer has failed, and it is closed
-cut_goes : (places : List Place) (log cut : Log) (p : PeerNo) (end : Loss) → p.0 < length places → PlacesStand places log → CutFor p log cut → Goes (set places p.0 (Lost end)) (Close p SendFailed ∷ []) cut
-cut_goes places log cut p end lt stand is = record {
+cut_goes : (places : List Place) (log cut : Log) (p : PeerNo) → p.0 < length places → PlacesStand places log → CutFor p log cut → Goes (set places p.0 (Lost (ClosedFor SendFailed))) (Close p SendFailed ∷ []) cut
+cut_goes places log cut p lt stand is = record {
   stand = record {
     count = grind (arith, common_steps, stand.count, is.dials);
     each = λ q. elim (cases_eq q p.0) [
-      | inl same ↦ subst (λ k. Fits (get_or (set places p.0 (Lost end)) k nobody) (part_of (Closed p ∷ cut) k)) (sym same)
-          (subst (λ x. Fits x (part_of (Closed p ∷ cut) p.0)) (sym (set_is places p.0 (Lost end) lt)) (ap (λ (x : Part). connected x.trail) (closed_here p (part_of cut p.0))))
-      | inr other ↦ subst (λ x. Fits x (part_of (Closed p ∷ cut) q)) (sym (set_other places p.0 q (Lost end) other))
+      | inl same ↦ subst (λ k. Fits (get_or (set places p.0 (Lost (ClosedFor SendFailed))) k nobody) (part_of (Closed p ∷ cut) k)) (sym same)
+          (subst (λ x. Fits x (part_of (Closed p ∷ cut) p.0)) (sym (set_is places p.0 (Lost (ClosedFor SendFailed)) lt))
+          (subst (λ (x : Part). IsLost (ClosedFor SendFailed) x.trail) (sym (closed_here p (part_of cut p.0))) (cut_now (trail cut p.0) is.broken)))
+      | inr other ↦ subst (λ x. Fits x (part_of (Closed p ∷ cut) q)) (sym (set_other places p.0 q (Lost (ClosedFor SendFailed)) other))
           (subst (λ t. Fits (get_or places q nobody) t) (sym (closed_others p q (part_of cut q) other ∙ is.others q other)) (stand.each q))
     ];
   };
   allowed = ((omega (arith, number_within places log p.0 stand lt, is.dials), grind (arith, common_steps, is.off, is.broken)), tt);
 }
 
-pub cut_moves : (d : Desk) (p : PeerNo) (end : Loss) (after : Seen) → d.acts ≡ [] → p.0 < length d.places → IsInOrder d → IsPut d.seen after p.0 None
-    → Moves (CutOff p d.places) d (record { places = set d.places p.0 (Lost end); seen = after; acts = d.acts ++ Close p SendFailed ∷ [] })
-cut_moves d p end after none lt order put =
-    set_moves p.0 (Lost end) lt order put.others (sym (ap is_some put.here)) put.watch (extends_one d.acts (Close p SendFailed)) (λ all. All-push IsDoable d.acts (Close p SendFailed) all (omega (arith, lt, order.few))) (λ was. refl)
+pub cut_moves : (d : Desk) (p : PeerNo) (after : Seen) → d.acts ≡ [] → p.0 < length d.places → IsInOrder d → IsPut d.seen after p.0 None
+    → Moves (CutOff p d.places) d (record { places = set d.places p.0 (Lost (ClosedFor SendFailed)); seen = after; acts = d.acts ++ Close p SendFailed ∷ [] })
+cut_moves d p after none lt order put =
+    set_moves p.0 (Lost (ClosedFor SendFailed)) lt order put.others (sym (ap is_some put.here)) put.watch (extends_one d.acts (Close p SendFailed)) (λ all. All-push IsDoable d.acts (Close p SendFailed) all (omega (arith, lt, order.few))) (λ was. refl)
     (λ log cut is stood.
-    subst (λ (xs : List Act). Stands (record { places = set d.places p.0 (Lost end); seen = after; acts = xs ++ Close p SendFailed ∷ [] }) cut) (sym none) (record {
-      goes = cut_goes d.places log cut p end is.0 (start_places d log none stood) is.1;
+    subst (λ (xs : List Act). Stands (record { places = set d.places p.0 (Lost (ClosedFor SendFailed)); seen = after; acts = xs ++ Close p SendFailed ∷ [] }) cut) (sym none) (record {
+      goes = cut_goes d.places log cut p is.0 (start_places d log none stood) is.1;
       tracks = cut_tracks log cut p d.seen after (start_tracks d log none stood) is.1 put;
     }))
 

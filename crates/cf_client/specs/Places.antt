@@ -1,5 +1,5 @@
 -- What the places of a client hold of a log.
-use Rattle.std.specs.Prelude.{◌≡◌, ◌≢◌, ℕ, ◌+◌, ◌≤◌, Bool, true, false, not, ◌&&◌, if◌then◌else◌, List, [], ◌∷◌, map, length, slice_index_or}
+use Rattle.std.specs.Prelude.{◌≡◌, ◌≢◌, ◌⊎◌, ℕ, ◌+◌, ◌≤◌, Bool, true, false, not, ◌&&◌, if◌then◌else◌, List, [], ◌∷◌, map, length, slice_index_or}
 use Rattle.std.specs.List.{list_any}
 use Rattle.cf_bytes.specs.declared.peer.PeerNo.{PeerNo}
 use Rattle.cf_bytes.specs.declared.hash.Hash32.{Hash32}
@@ -10,14 +10,16 @@ use Rattle.cf_peer.specs.declared.act.Act.{Act}
 use Rattle.cf_peer.specs.declared.act.Act.TheVariants.{Send, Close}
 use Rattle.cf_peer.specs.declared.event.Event.{Event}
 use Rattle.cf_peer.specs.declared.event.Event.TheVariants.{Sent, Closed}
+use Rattle.cf_peer.specs.declared.peer.Cause.{Cause}
+use Rattle.cf_peer.specs.declared.peer.Cause.TheVariants.{SendFailed}
 use Rattle.cf_peer.specs.declared.peer.Peer.{Peer}
 use Rattle.cf_peer.specs.Acts.{bytes_of, IsSendable}
 use Rattle.cf_peer.specs.Log.{Log, tally_of}
-use Rattle.cf_peer.specs.Trail.{Trail, Part, part_of, trail, connected, ready, failed, owed, replied, is_version, IsClientVersion}
+use Rattle.cf_peer.specs.Trail.{Why, Went, Failing, Shutting, Trail, Called, Said, Refused, Asked, Passed, Lost as LostItem, Part, part_of, trail, connected, ready, failed, owed, replied, is_version, IsClientVersion}
 use Rattle.cf_peer.specs.Asking.{Deserves, block_entry, counted, fetched}
 use Rattle.cf_peer.specs.Peer.{Holds, calm, busy, wants, is_ready_peer, is_idle_peer, is_fetching}
 use Rattle.cf_sync.specs.Fetching.{IsBusy, IsQuiet, IsConnected, MaySend}
-use Rattle.cf_sync.specs.Honesty.{asked}
+use Rattle.cf_sync.specs.Honesty.{asked, was_called}
 use Rattle.cf_client.specs.declared.place.Place.{Place}
 use Rattle.cf_client.specs.declared.place.Place.TheVariants.{Here, Lost}
 use Rattle.cf_client.specs.declared.place.Loss.{Loss}
@@ -44,10 +46,41 @@ pub record Keeps (peer : Peer) (part : Part) : Type 0 where
   pub waits : peer.framer ≡ part.waits
   pub answered : IsAnswered part.trail
 
+-- the first loss since a peer was dialled, by how it was lost and what had passed before
+abbrev pub FirstLost : (Why → Trail → Type 0) → Trail → Type 0
+FirstLost P [] = ⊥
+FirstLost P (Called ∷ t) = ⊥
+FirstLost P (Said m ∷ t) = FirstLost P t
+FirstLost P (Refused c ∷ t) = FirstLost P t
+FirstLost P (Asked m ∷ t) = FirstLost P t
+FirstLost P (Passed s ∷ t) = FirstLost P t
+FirstLost P (LostItem why ∷ t) = ((connected t ≡ true) × P why t) ⊎ ((connected t ≡ false) × FirstLost P t)
+
+-- it went; it was closed, and deserved this cause then
+abbrev pub IsGoing : Why → Trail → Type 0
+IsGoing Went t = Unit {0}
+IsGoing Failing t = ⊥
+IsGoing Shutting t = ⊥
+
+abbrev pub IsShutFor : Cause → Why → Trail → Type 0
+IsShutFor cause Went t = ⊥
+IsShutFor cause Failing t = ⊥
+IsShutFor cause Shutting t = Deserves t cause
+
+-- how a peer was lost: it was never called; a send to it failed; or none did, and before all else it went or was closed
+abbrev pub LostBy : Loss → Trail → Type 0
+LostBy NotDialled t = (was_called t ≡ false) × (failed t ≡ false)
+LostBy Gone t = (failed t ≡ false) × FirstLost IsGoing t
+LostBy (ClosedFor cause) t = ((cause ≡ SendFailed) × (failed t ≡ true)) ⊎ ((failed t ≡ false) × FirstLost (IsShutFor cause) t)
+
+pub record IsLost (loss : Loss) (t : Trail) : Type 0 where
+  pub off : connected t ≡ false
+  pub by : LostBy loss t
+
 -- what is held of a peer
 abbrev pub Fits : Place → Part → Type 0
 Fits (Here peer) part = Keeps peer part
-Fits (Lost loss) part = connected part.trail ≡ false
+Fits (Lost loss) part = IsLost loss part.trail
 
 abbrev pub nobody : Place
 nobody = Lost NotDialled
@@ -170,13 +203,13 @@ abbrev pub end_of : Place → PeerEnd
 end_of (Here peer) = if is_ready_peer peer then Ready else Waiting
 end_of (Lost loss) = end_by loss
 
--- what an end says of a peer's trail: connected with its handshake over, connected with its handshake open, or not connected
+-- what an end says of a peer's trail: connected with its handshake over, connected with its handshake open, or how it was lost
 abbrev pub EndTells : PeerEnd → Trail → Type 0
 EndTells Ready t = (connected t ≡ true) × (ready t ≡ true)
 EndTells Waiting t = (connected t ≡ true) × (ready t ≡ false)
-EndTells EndsNotDialled t = connected t ≡ false
-EndTells EndsGone t = connected t ≡ false
-EndTells (EndsClosed cause) t = connected t ≡ false
+EndTells EndsNotDialled t = IsLost NotDialled t
+EndTells EndsGone t = IsLost Gone t
+EndTells (EndsClosed cause) t = IsLost (ClosedFor cause) t
 
 -- there is an end for each peer that was dialled, in the order of their numbers, and each tells how its peer stands
 pub record EndsTell (ends : List PeerEnd) (log : Log) : Type 0 where

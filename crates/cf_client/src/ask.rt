@@ -6,7 +6,8 @@ ghost use Rattle.cf_peer.specs.Log.{Log};
 ghost use Rattle.cf_peer.specs.declared.event.Event.TheVariants.{Took};
 ghost use Rattle.cf_peer.specs.declared.event.Delivery.TheVariants.{Tick};
 ghost use Rattle.cf_tracker.specs.Tracker.{chains_of};
-ghost use Rattle.cf_client.specs.Places.{PlacesStand, AreCalm, is_calm, is_idle, is_wanting, is_settled, is_fetching_at, is_here, place_at, IsQuestion, IsFetch};
+ghost use Rattle.cf_peer.specs.Trail.{Part, Passed, with_item};
+ghost use Rattle.cf_client.specs.Places.{Fits, PlacesStand, AreCalm, is_calm, is_idle, is_wanting, is_settled, is_fetching_at, is_here, place_at, IsQuestion, IsFetch};
 ghost use Rattle.cf_client.specs.Tracks.{IsFetchedOut, AreFetchedOut, seen_of};
 ghost use Rattle.cf_client.specs.Steps.{desk, IsInOrder, Same, Moves, Asks};
 
@@ -18,6 +19,18 @@ use cf_peer::{Act, Cause};
 use cf_tracker::Tracker;
 use std::alloc::Global;
 
+// Adds to the age of what is open to the peer at a place.
+#[tactic(auto, using(crate::proofs::Losing::lost_passed))]
+fn pass_at(place: &mut Place, seconds: u32)
+    requires { is_calm place.old ≡ true }
+    ensures fits { (part : Part) → Fits place.old part → Fits place.new (with_item (Passed seconds) part) }
+    ensures here { is_here place.new ≡ is_here place.old }
+{
+    if let Place::Here(peer) = place {
+        peer.pass(seconds);
+    }
+}
+
 /// Adds to the age of each open request.
 pub(crate) fn pass_all(places: &mut [Place], seconds: u32)
     requires { AreCalm places.old }
@@ -25,9 +38,7 @@ pub(crate) fn pass_all(places: &mut [Place], seconds: u32)
     ensures here { (p : ℕ) → is_here (place_at places.new p) ≡ is_here (place_at places.old p) }
 {
     for place in places.iter_mut() {
-        if let Place::Here(peer) = place {
-            peer.pass(seconds);
-        }
+        pass_at(place, seconds);
     }
 }
 

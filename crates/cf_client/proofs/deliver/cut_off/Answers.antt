@@ -7,5 +7,5 @@ use Rattle.cf_client.proofs.deliver.cut_off.Goals as goal
 pub returns-clause-moves : goal.returns-clause-moves
 returns-clause-moves g c =
     rw c.in_ok-push.ensures.items
-    (cut_moves (desk c.args.tracker.now c.args.places.now c.args.acts.now.items) c.args.p _ (seen_of c.forget.new.self) c.requires.none (omega arith) c.requires.order
+    (cut_moves (desk c.args.tracker.now c.args.places.now c.args.acts.now.items) c.args.p (seen_of c.forget.new.self) c.requires.none (omega arith) c.requires.order
     (put_none (seen_of c.args.tracker.now) (seen_of c.forget.new.self) c.args.p c.forget.ensures.chains c.forget.ensures.table c.forget.ensures.watch))
