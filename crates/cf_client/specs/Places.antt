@@ -1,11 +1,11 @@
 -- What the places of a client hold of a log.
-use Rattle.std.specs.Prelude.{◌≡◌, ◌≢◌, ◌⊎◌, ℕ, ◌+◌, ◌≤◌, Bool, true, false, not, ◌&&◌, if◌then◌else◌, List, [], ◌∷◌, map, length, slice_index_or}
+use Rattle.std.specs.Prelude.{◌≡◌, ◌≢◌, ◌⊎◌, ℕ, ℤ, ◌+◌, ◌≤◌, Bool, true, false, not, ◌&&◌, if◌then◌else◌, List, [], ◌∷◌, map, length, slice_index_or}
 use Rattle.std.specs.List.{list_any}
 use Rattle.cf_bytes.specs.declared.peer.PeerNo.{PeerNo}
 use Rattle.cf_bytes.specs.declared.hash.Hash32.{Hash32}
 use Rattle.cf_headers.specs.Chain.{Chain, no_hash, locator_of}
 use Rattle.cf_msg.specs.declared.msg.Msg.{Msg}
-use Rattle.cf_msg.specs.declared.msg.Msg.TheVariants.{GetHeaders, GetData}
+use Rattle.cf_msg.specs.declared.msg.Msg.TheVariants.{Version, GetHeaders, GetData}
 use Rattle.cf_peer.specs.declared.act.Act.{Act}
 use Rattle.cf_peer.specs.declared.act.Act.TheVariants.{Send, Close}
 use Rattle.cf_peer.specs.declared.event.Event.{Event}
@@ -184,6 +184,22 @@ AsksFor hash m = ⊥
 pub record IsGreeting (m : Msg) : Type 0 where
   pub sendable : IsSendable m
   pub ours : IsClientVersion m
+
+-- what a version tells of the client: its moment and its number
+pub record Words : Type 0 where
+  pub moment : ℤ
+  pub number : ℕ
+
+abbrev pub TellsWords : Words → Msg → Type 0
+TellsWords words (Version version services time to from nonce agent height relay) = (time ≡ words.moment) × (nonce ≡ words.number)
+TellsWords words m = Unit {0}
+
+-- the one act is to send the client's version, which tells this
+pub record Greets (words : Words) (p : PeerNo) (acts : List Act) : Type 0 where
+  pub message : Msg
+  pub alone : acts ≡ Send p message ∷ []
+  pub greeting : IsGreeting message
+  pub tells : TellsWords words message
 
 pub record IsQuestion (chain : Chain) (m : Msg) : Type 0 where
   pub sendable : IsSendable m

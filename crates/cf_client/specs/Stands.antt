@@ -12,7 +12,7 @@ use Rattle.cf_scan.specs.declared.history.Entry.{Entry}
 use Rattle.cf_sync.specs.Fetching.{IsBest, IsConnected, IsAskedOut}
 use Rattle.cf_sync.specs.Sync.{IsToldOf}
 use Rattle.cf_client.specs.declared.client.Client.{Client}
-use Rattle.cf_client.specs.Places.{IsAnswered, PlacesStand, after, Allowed}
+use Rattle.cf_client.specs.Places.{Words, IsAnswered, PlacesStand, after, Allowed}
 use Rattle.cf_tracker.specs.Tracker.{watch_of}
 use Rattle.cf_client.specs.Tracks.{Seen, Tracks, seen_of}
 
@@ -59,6 +59,10 @@ count_of c = length c.places.items
 -- the scripts that it watches
 abbrev pub watch_by : {H : Type 0} → {g : Ghosts H} → Client H g → List (List ℕ)
 watch_by c = watch_of c.tracker
+
+-- what its version tells
+abbrev pub words_by : {H : Type 0} → {g : Ghosts H} → Client H g → Words
+words_by c = record { moment = c.moment; number = c.nonce }
 
 -- the height and the hash of the best chain's tip
 pub record IsTip (height : ℕ) (hash : Hash32) (log : Log) : Type 0 where

@@ -2,7 +2,7 @@
 ghost use Rattle.std.specs.Prelude.{◌≡◌, ℕ, ◌<◌, ◌≤◌, ◌+◌, ◌∷◌, [], OnOk, IfOk, OnErr, IsErr, None, true, false, length, vec_len, map, drop};
 ghost use Rattle.std.specs.List.{list_any, All, count_by};
 ghost use Rattle.cf_peer.specs.Acts.{IsDoable};
-ghost use Rattle.cf_client.specs.Places.{state_of, is_busy, is_here, IsGreeting, end_of};
+ghost use Rattle.cf_client.specs.Places.{state_of, is_busy, is_here, IsGreeting, TellsWords, end_of};
 ghost use Rattle.cf_client.specs.Tracks.{AreSettled, seen_of};
 
 use crate::ask::ask_all;
@@ -95,7 +95,8 @@ fn ends_of_peers(alloc: Global, places: &[Place]) -> Result<Vec<PeerEnd>, NoMemo
 
 // The version that a client sends.
 fn greeting(alloc: Global, moment: i64, nonce: u64) -> Result<Msg, NoMemory>
-    ensures { IfOk result IsGreeting }
+    ensures greeting { IfOk result IsGreeting }
+    ensures tells { IfOk result (TellsWords (record { moment = moment; number = nonce })) }
 {
     let agent = Vec::from_slice(alloc, b"/cf:1/")?;
     Ok(Msg::Version {
@@ -116,9 +117,9 @@ impl<H: HeaderStore> Client<H> {
     ghost use Rattle.cf_peer.specs.declared.event.Event.TheVariants.{Took, Dialled, NotDialled};
     ghost use Rattle.cf_peer.specs.declared.act.Act.TheVariants.{Close};
     ghost use Rattle.cf_peer.specs.declared.peer.Cause.TheVariants.{SendFailed};
-    ghost use Rattle.cf_client.specs.Places.{CutFor, IsState, EndsTell};
+    ghost use Rattle.cf_client.specs.Places.{CutFor, Greets, IsState, EndsTell};
     ghost use Rattle.cf_client.specs.Steps.{Extends};
-    ghost use Rattle.cf_client.specs.Stands.{Reflects, Answers, IsTip, IsReportOf, IsHistoryOf, IsInnocent, AreAnswered, is_dead, open_count, count_of, watch_by};
+    ghost use Rattle.cf_client.specs.Stands.{Reflects, Answers, IsTip, IsReportOf, IsHistoryOf, IsInnocent, AreAnswered, is_dead, open_count, count_of, watch_by, words_by};
 
     /// A client that knows of no peer yet, over a store in which no peer is entered. It watches these scripts. Its `version` tells
     /// this moment, in seconds since 1970, and this number.
@@ -134,6 +135,7 @@ impl<H: HeaderStore> Client<H> {
         requires { (q : ℕ) → H.chain store q ≡ None }
         ensures reflects { IfOk result (λ c. Reflects c []) }
         ensures watch { IfOk result (λ c. watch_by c ≡ watch) }
+        ensures words { IfOk result (λ c. words_by c ≡ record { moment = moment; number = nonce }) }
         ensures count { IfOk result (λ c. count_of c ≡ 1) }
     {
         let mut places = Vec::new(alloc);
@@ -155,9 +157,11 @@ impl<H: HeaderStore> Client<H> {
         requires room { p.0 ≤ 8 }
         requires next { p.0 ≡ count_of self.old }
         ensures answers { IfOk result (λ acts. (log : Log) → Reflects self.old log → Answers self.new acts.items (Dialled p name.now ∷ log)) }
+        ensures greets { IfOk result (λ acts. Greets (words_by self.old) p acts.items) }
         ensures doable { IfOk result (λ acts. All IsDoable acts.items) }
         ensures count { OnOk result (count_of self.new ≡ count_of self.old + 1) }
         ensures watch { OnOk result (watch_by self.new ≡ watch_by self.old) }
+        ensures words { words_by self.new ≡ words_by self.old }
         ensures dead { is_dead self.old ≡ true → IsErr result }
         ensures err { OnErr result (is_dead self.new ≡ true) }
     {
@@ -180,6 +184,7 @@ impl<H: HeaderStore> Client<H> {
         ensures reflects { OnOk result ((log : Log) → Reflects self.old log → Reflects self.new (NotDialled p name.now ∷ log)) }
         ensures count { OnOk result (count_of self.new ≡ count_of self.old + 1) }
         ensures watch { OnOk result (watch_by self.new ≡ watch_by self.old) }
+        ensures words { words_by self.new ≡ words_by self.old }
         ensures dead { is_dead self.old ≡ true → IsErr result }
         ensures err { OnErr result (is_dead self.new ≡ true) }
     {
@@ -198,6 +203,7 @@ impl<H: HeaderStore> Client<H> {
         ensures doable { IfOk result (λ acts. All IsDoable acts.items) }
         ensures count { count_of self.new ≡ count_of self.old }
         ensures watch { OnOk result (watch_by self.new ≡ watch_by self.old) }
+        ensures words { words_by self.new ≡ words_by self.old }
         ensures dead { is_dead self.old ≡ true → IsErr result }
         ensures err { OnErr result (is_dead self.new ≡ true) }
     {
@@ -220,6 +226,7 @@ impl<H: HeaderStore> Client<H> {
         ensures doable { IfOk result (λ acts. All IsDoable acts.items) }
         ensures count { count_of self.new ≡ count_of self.old }
         ensures watch { OnOk result (watch_by self.new ≡ watch_by self.old) }
+        ensures words { words_by self.new ≡ words_by self.old }
         ensures dead { is_dead self.old ≡ true → IsErr result }
         ensures err { OnErr result (is_dead self.new ≡ true) }
     {

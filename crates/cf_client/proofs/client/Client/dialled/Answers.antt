@@ -21,7 +21,7 @@ returns-clause-answers g c = λ log reflects.
     let before = seen_of c.args.self.now.tracker in
     let now = seen_of c.enter.new.self in
     let m = c.in_ok-greeting.field-0 in
-    let goes = called_goes c.args.self.now.places.items log c.args.p c.args.name.now m c.requires.next reflects.places c.in_ok-greeting.ensures in
+    let goes = called_goes c.args.self.now.places.items log c.args.p c.args.name.now m c.requires.next reflects.places c.in_ok-greeting.ensures.greeting in
     let put = put_is before now c.args.p (Some []) c.in_ok-enter.ensures.ok c.in_ok-enter.ensures.table c.in_ok-enter.ensures.watch in
     let tracks = tracks_sent now c.args.p (bytes_of m) (Dialled c.args.p c.args.name.now ∷ log) (tracks_dialled before now c.args.p c.args.name.now log put reflects.tracks) in
     record {
