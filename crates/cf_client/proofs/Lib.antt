@@ -14,3 +14,4 @@ pub mod Performs
 pub mod Turns
 pub mod Innocent
 pub mod Counting
+pub mod Greeting

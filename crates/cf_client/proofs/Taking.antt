@@ -23,7 +23,7 @@ use Rattle.cf_peer.specs.declared.peer.Cause.TheVariants.{SendFailed}
 use Rattle.cf_peer.specs.declared.peer.Peer.{Peer}
 use Rattle.cf_peer.specs.Acts.{bytes_of, IsSendable, IsDoable}
 use Rattle.cf_peer.specs.Log.{Log, tally_of}
-use Rattle.cf_peer.specs.Trail.{Trail, Part, Said, Asked, item_of, item_of_read, hears, hears_fault, heard_part, part_of, trail, went_on, with_item, connected, met, own, heard, owed, replied, as_reply, is_version}
+use Rattle.cf_peer.specs.Trail.{Trail, Part, Said, Asked, item_of, item_of_read, hears, hears_fault, heard_part, part_of, trail, went_on, with_item, connected, greeted, met, own, heard, owed, replied, as_reply, is_version}
 use Rattle.cf_peer.specs.Asking.{verdict, counted, fetched}
 use Rattle.cf_peer.specs.Peer.{Holds, calm}
 use Rattle.cf_peer.specs.Hearing.{IsReply}
@@ -48,22 +48,23 @@ use Rattle.cf_client.proofs.Settled.{set_other}
 use Rattle.cf_client.proofs.Steps.{extends_self, extends_none, extends_one, stands_start, start_places, start_tracks, stay_moves, set_moves, taken}
 
 -- what a peer says loses nobody, and nothing is sent by it
-record SaysOnly (after before : Trail) : Type 0 where
-  on : connected after ≡ connected before
-  replies : replied after ≡ replied before
-  asks : asked after ≡ asked before
-  lost : (loss : Loss) → IsLost loss before → IsLost loss after
+pub record SaysOnly (after before : Trail) : Type 0 where
+  pub on : connected after ≡ connected before
+  pub replies : replied after ≡ replied before
+  pub asks : asked after ≡ asked before
+  pub greets : greeted after ≡ greeted before
+  pub lost : (loss : Loss) → IsLost loss before → IsLost loss after
 
 says_nothing : (t : Trail) → SaysOnly t t
-says_nothing t = record { on = refl; replies = refl; asks = refl; lost = λ loss lost. lost }
+says_nothing t = record { on = refl; replies = refl; asks = refl; greets = refl; lost = λ loss lost. lost }
 
 says_more : (a b c : Trail) → SaysOnly b a → SaysOnly c b → SaysOnly c a
-says_more a b c one two = record { on = two.on ∙ one.on; replies = two.replies ∙ one.replies; asks = two.asks ∙ one.asks; lost = λ loss lost. two.lost loss (one.lost loss lost) }
+says_more a b c one two = record { on = two.on ∙ one.on; replies = two.replies ∙ one.replies; asks = two.asks ∙ one.asks; greets = two.greets ∙ one.greets; lost = λ loss lost. two.lost loss (one.lost loss lost) }
 
 item_says : (f : Frame) (t : Trail) → SaysOnly (item_of f ∷ t) t
 item_says f t = elim (message_of f) as (λ r. SaysOnly (item_of_read r ∷ t) t) [
-  | Ok m ↦ record { on = refl; replies = refl; asks = refl; lost = λ loss lost. lost_said loss m t lost }
-  | Err e ↦ record { on = refl; replies = refl; asks = refl; lost = λ loss lost. lost_refused loss _ t lost }
+  | Ok m ↦ record { on = refl; replies = refl; asks = refl; greets = refl; lost = λ loss lost. lost_said loss m t lost }
+  | Err e ↦ record { on = refl; replies = refl; asks = refl; greets = refl; lost = λ loss lost. lost_refused loss _ t lost }
 ]
 
 hears_says : (fs : List Frame) (t : Trail) → SaysOnly (hears fs t) t
@@ -72,9 +73,9 @@ hears_says (f ∷ fs) t = says_more t (item_of f ∷ t) (hears fs (item_of f ∷
 
 fault_says : (o : Option FrameFault) (t : Trail) → SaysOnly (hears_fault o t) t
 fault_says None t = says_nothing t
-fault_says (Some fault) t = record { on = refl; replies = refl; asks = refl; lost = λ loss lost. lost_refused loss _ t lost }
+fault_says (Some fault) t = record { on = refl; replies = refl; asks = refl; greets = refl; lost = λ loss lost. lost_refused loss _ t lost }
 
-heard_says : (piece : List ℕ) (part : Part) → SaysOnly (heard_part piece part).trail part.trail
+pub heard_says : (piece : List ℕ) (part : Part) → SaysOnly (heard_part piece part).trail part.trail
 heard_says piece part =
     let r = read_stream (part.waits ++ piece) in
     says_more part.trail (hears r.frames part.trail) (hears_fault r.fault (hears r.frames part.trail)) (hears_says r.frames part.trail) (fault_says r.fault (hears r.frames part.trail))

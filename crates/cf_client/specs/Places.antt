@@ -194,6 +194,10 @@ abbrev pub TellsWords : Words → Msg → Type 0
 TellsWords words (Version version services time to from nonce agent height relay) = (time ≡ words.moment) × (nonce ≡ words.number)
 TellsWords words m = Unit {0}
 
+abbrev pub ActTells : Words → Act → Type 0
+ActTells words (Send p m) = TellsWords words m
+ActTells words (Close p cause) = Unit {0}
+
 -- the one act is to send the client's version, which tells this
 pub record Greets (words : Words) (p : PeerNo) (acts : List Act) : Type 0 where
   pub message : Msg

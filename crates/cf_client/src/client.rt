@@ -117,7 +117,7 @@ impl<H: HeaderStore> Client<H> {
     ghost use Rattle.cf_peer.specs.declared.event.Event.TheVariants.{Took, Dialled, NotDialled};
     ghost use Rattle.cf_peer.specs.declared.act.Act.TheVariants.{Close};
     ghost use Rattle.cf_peer.specs.declared.peer.Cause.TheVariants.{SendFailed};
-    ghost use Rattle.cf_client.specs.Places.{CutFor, Greets, IsState, EndsTell};
+    ghost use Rattle.cf_client.specs.Places.{ActTells, CutFor, Greets, IsState, EndsTell};
     ghost use Rattle.cf_client.specs.Steps.{Extends};
     ghost use Rattle.cf_client.specs.Stands.{Reflects, Answers, IsTip, IsReportOf, IsHistoryOf, IsInnocent, AreAnswered, is_dead, open_count, count_of, watch_by, words_by};
 
@@ -200,6 +200,7 @@ impl<H: HeaderStore> Client<H> {
     /// Takes a delivery, and says what is to be done.
     pub fn step(&mut self, d: &Delivery) -> Result<Vec<Act>, NoMemory>
         ensures answers { IfOk result (λ acts. (log : Log) → Reflects self.old log → Answers self.new acts.items (Took d.now ∷ log)) }
+        ensures tells { IfOk result (λ acts. (log : Log) → Reflects self.old log → All (ActTells (words_by self.old)) acts.items) }
         ensures doable { IfOk result (λ acts. All IsDoable acts.items) }
         ensures count { count_of self.new ≡ count_of self.old }
         ensures watch { OnOk result (watch_by self.new ≡ watch_by self.old) }
@@ -222,6 +223,7 @@ impl<H: HeaderStore> Client<H> {
     /// A send to a peer has failed. The first that is to be done is to close it.
     pub fn send_failed(&mut self, p: PeerNo) -> Result<Vec<Act>, NoMemory>
         ensures answers { IfOk result (λ acts. (log cut : Log) → p.0 < count_of self.old → Reflects self.old log → CutFor p log cut → Answers self.new acts.items cut) }
+        ensures tells { IfOk result (λ acts. (log cut : Log) → p.0 < count_of self.old → Reflects self.old log → CutFor p log cut → All (ActTells (words_by self.old)) acts.items) }
         ensures first { IfOk result (λ acts. p.0 < count_of self.old → Extends (Close p SendFailed ∷ []) acts.items) }
         ensures doable { IfOk result (λ acts. All IsDoable acts.items) }
         ensures count { count_of self.new ≡ count_of self.old }

@@ -3,7 +3,9 @@ use Rattle.std.proofs.lemmas.List.{with_items_is}
 use Rattle.cf_client.specs.declared.place.Place.{Place}
 use Rattle.cf_client.specs.Places.{PlacesStand, after}
 use Rattle.cf_client.specs.Tracks.{seen_of}
+use Rattle.cf_client.specs.Stands.{words_by}
 use Rattle.cf_client.proofs.Steps.{stands_start}
+use Rattle.cf_client.proofs.Greeting.{reflects_cut, acts_tell}
 use Rattle.cf_client.proofs.client.Client.send_failed.Goals as goal
 
 pub returns-clause-answers : goal.returns-clause-answers
@@ -23,3 +25,7 @@ returns-clause-answers g c = λ log cut lt reflects is.
       };
       allowed = asked.goes.allowed;
     }
+
+pub returns-clause-tells : goal.returns-clause-tells
+returns-clause-tells g c = λ log cut lt reflects is.
+    acts_tell (words_by c.args.self.now) c.ask_all.new.acts.items cut (reflects_cut c.args.self.now c.args.p log cut is reflects) (returns-clause-answers g c log cut lt reflects is).allowed
