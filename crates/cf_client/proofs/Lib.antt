@@ -12,6 +12,7 @@ pub mod Reporting
 pub mod Courses
 pub mod Performs
 pub mod Turns
+pub mod Dialling
 pub mod Innocent
 pub mod Counting
 pub mod Greeting

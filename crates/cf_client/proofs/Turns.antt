@@ -1,9 +1,9 @@
 -- How what holds of a client and its wires goes on from turn to turn.
-use Rattle.std.proofs.Common.{◌≡◌, ◌≢◌, ◌⊎◌, inl, inr, ℕ, zero, suc, ◌+◌, ◌<◌, List, [], ◌∷◌, ◌++◌, length, map, take, get_or, String, string_bytes, set, replicate, reverse, Option, Some, None, Result, Ok, Err, Bool, true, false, refl, sym, ◌∙◌, ap, subst, arith, if◌then◌else◌}
+use Rattle.std.proofs.Common.{◌≡◌, ◌≢◌, ◌⊎◌, inl, inr, ℕ, zero, suc, ◌+◌, ◌<◌, ◌≤◌, List, [], ◌∷◌, ◌++◌, length, map, take, get_or, String, string_bytes, set, replicate, reverse, Option, Some, None, Result, Ok, Err, Bool, true, false, refl, sym, ◌∙◌, ap, subst, arith, if◌then◌else◌}
 use Rattle.std.specs.Prelude.{◌↔◌, ◌==◌, ◌&&◌, ◌||◌, not, IfSome}
 use Rattle.std.proofs.lemmas.Grind.{common_steps}
 use Rattle.std.proofs.lemmas.Bool.{cases_eq, cases_Bool, cases_lt, both_ways, false≢true}
-use Rattle.std.proofs.lemmas.List.{map-append, take_more}
+use Rattle.std.proofs.lemmas.List.{map-append, take_more, get_or-set_same, get_or-set_other}
 use Rattle.std.specs.declared.alloc.Global.{Global}
 use Rattle.cf_bytes.specs.declared.hash.Hash32.{Hash32}
 use Rattle.cf_bytes.specs.declared.peer.PeerNo.{PeerNo}
@@ -22,7 +22,7 @@ use Rattle.cf_peer.specs.declared.event.Event.TheVariants.{Dialled, NotDialled, 
 use Rattle.cf_peer.specs.declared.event.Mark.{Mark}
 use Rattle.cf_peer.specs.declared.event.Mark.TheVariants.{NotYet, Called, Missed, Left, Shut, Broken}
 use Rattle.cf_peer.specs.Log.{Log, Told, Tally, Tells, tally_of, tell, dials}
-use Rattle.cf_peer.specs.Trail.{Trail, Part, Lost, Failing, Shutting, Went, item_of, item_of_read, hears, hears_fault, heard_part, called_part, with_item, part_of, trail, went_on, connected, ready}
+use Rattle.cf_peer.specs.Trail.{Trail, Part, Why, Lost, Failing, Shutting, Went, item_of, item_of_read, hears, hears_fault, heard_part, called_part, with_item, part_of, trail, went_on, connected, ready}
 use Rattle.cf_peer.specs.Asking.{is_open, is_idle, request}
 use Rattle.cf_scan.specs.declared.history.Entry.{Entry}
 use Rattle.cf_sync.specs.Fetching.{IsBusy, IsConnected, AreBytes}
@@ -39,8 +39,12 @@ use Rattle.cf_client.specs.Places.{Fits, nobody, place_at}
 use Rattle.cf_client.specs.Tracks.{Seen, Tracks}
 use Rattle.cf_client.specs.Stands.{Reflects, IsReportOf, seen_by, watch_by}
 use Rattle.cf_sync.proofs.TableGrows.{holds_without}
-use Rattle.cf_client.specs.Run.{Notes, Doing, HoldsOver, Stopped, Finished, AreBytesOf, IsEnd, IsEndTold, IsTraceOf, names_of, is_called, NobodyLeft, state_at, is_pending, is_fine}
-use Rattle.cf_client.proofs.Performs.{tells_more, lost_off, sent_connected}
+use Rattle.cf_client.specs.Run.{IsOrderly, WasOrderly, AreNumbered, Notes, Doing, HoldsOver, Stopped, Finished, AreBytesOf, IsEnd, IsEndTold, IsTraceOf, names_of, is_lost, NobodyLeft, state_at, is_pending, is_fine}
+use Rattle.cf_peer.specs.declared.act.Act.{Act}
+use Rattle.cf_sync.specs.Planned.{is_untold}
+use Rattle.cf_sync.proofs.Planning.{own_plan}
+use Rattle.cf_client.proofs.Innocent.{innocent, answered}
+use Rattle.cf_client.proofs.Performs.{tells_more, lost_off, sent_connected, untold_failing_here, untold_failing_others, untold_closed_others}
 
 -- what a piece says connects nobody, and cuts nobody off
 item_connected : (r : Result Msg Malformed) (t : Trail) → connected (item_of_read r ∷ t) ≡ connected t
@@ -70,31 +74,53 @@ dialled_others p name q part ne = grind (arith, common_steps)
 more_names : (log : Log) (d : Dial) (called : List (List ℕ)) → names_of log ≡ called → map (λ (x : Dial). x.name) (dials log ++ d ∷ []) ≡ called ++ d.name ∷ []
 more_names log d called is = map-append (λ (x : Dial). x.name) (dials log) (d ∷ []) ∙ ap (λ (xs : List (List ℕ)). xs ++ d.name ∷ []) is
 
+-- with every failed send told, the client's log is as it is, whatever is to be done
+same_doing : {H : Type 0} {g : Ghosts H} (c : Client H g) (acts : List Act) (progress : Progress) (called : List (List ℕ)) (names : List (List ℕ)) (t u : Told) (holds : HoldsOver c progress called t) (e : Event)
+    → Notes progress names (e ∷ holds.actual) u → ((q : ℕ) → is_untold (e ∷ holds.actual) q ≡ false) → Doing acts progress names (e ∷ holds.actual) u
+same_doing c acts progress called names t u holds e notes told = record {
+  actual = e ∷ holds.actual;
+  notes = notes;
+  plan = own_plan (e ∷ holds.actual) told;
+  brought = λ q. refl;
+  pending = λ q it. absurd (both_ways (is_pending (state_at progress.sends q)) (holds.none q) it);
+  due = λ q untold. absurd (both_ways (is_untold (e ∷ holds.actual) q) (told q) untold);
+  broken = λ q untold. absurd (both_ways (is_untold (e ∷ holds.actual) q) (told q) untold);
+  known = λ q untold free. absurd (both_ways (is_untold (e ∷ holds.actual) q) (told q) untold);
+}
+
+-- between two calls of the client its log is in order
+pub orderly : {H : Type 0} {g : Ghosts H} (c : Client H g) (progress : Progress) (called : List (List ℕ)) (t : Told) (holds : HoldsOver c progress called t) → IsOrderly holds.actual
+orderly c progress called t holds = record {
+  innocent = innocent c holds.actual holds.reflects;
+  answered = answered c holds.actual holds.reflects;
+  told = holds.told_all;
+}
+
 -- a peer is dialled
-pub dial_doing : {H : Type 0} {g : Ghosts H} (c : Client H g) (progress : Progress) (called : List (List ℕ)) (t : Told) (p : PeerNo) (name : List ℕ) (holds : HoldsOver c progress called t)
+pub dial_doing : {H : Type 0} {g : Ghosts H} (c : Client H g) (acts : List Act) (progress : Progress) (called : List (List ℕ)) (t : Told) (p : PeerNo) (name : List ℕ) (holds : HoldsOver c progress called t)
     → p.0 ≡ t.tally.dials + 1 → t.tally.dials < 8
-    → Doing progress (called ++ name ∷ []) (Dialled p name ∷ holds.actual) (tell (Dialled p name) t)
-dial_doing c progress called t p name holds is room =
+    → Doing acts progress (called ++ name ∷ []) (Dialled p name ∷ holds.actual) (tell (Dialled p name) t)
+dial_doing c acts progress called t p name holds is room =
     let count : t.tally.dials ≡ (tally_of holds.actual).dials = ap (λ (x : Tally). x.dials) holds.notes.tells.counts in
     let past : (tally_of holds.actual).dials < p.0 = omega (arith, count, is) in
-    record {
-      actual = Dialled p name ∷ holds.actual;
-      notes = record {
-        tells = tells_more holds.actual t (Dialled p name) holds.notes.tells;
-        bytes = holds.notes.bytes;
-        rightly = holds.notes.rightly;
-        planned = holds.notes.planned;
-        traced = holds.notes.traced;
-        named = more_names holds.actual (record { name = name; answered = true }) called holds.notes.named;
-        off = λ q not_it. let ne : q ≢ p.0 = λ e. both_ways (is_fine (state_at progress.sends q)) not_it (holds.notes.new q (omega (arith, past, e))).0 in
-            ap (λ (x : Part). connected x.trail) (dialled_others p name q (part_of holds.actual q) ne) ∙ holds.notes.off q not_it;
-        shut = λ q it. let ne : q ≢ p.0 = λ e. both_ways (get_or progress.closed q false) (holds.notes.new q (omega (arith, past, e))).1 it in
-            ap (λ (x : Part). connected x.trail) (dialled_others p name q (part_of holds.actual q) ne) ∙ holds.notes.shut q it;
-        new = λ q le. holds.notes.new q (omega (arith, le));
-        few = omega (arith, count, room);
-      };
-      apart = record { same = λ q free. inl refl; cut = λ q it. absurd (both_ways (is_pending (state_at progress.sends q)) (holds.told_all q) it); count = refl };
-    }
+    same_doing c acts progress called (called ++ name ∷ []) t (tell (Dialled p name) t) holds (Dialled p name)
+    (record {
+      tells = tells_more holds.actual t (Dialled p name) holds.notes.tells;
+      bytes = holds.notes.bytes;
+      rightly = holds.notes.rightly;
+      planned = holds.notes.planned;
+      order = holds.notes.order;
+      numbered = (is ∙ ap (λ (n : ℕ). n + 1) count, holds.notes.numbered);
+      traced = holds.notes.traced;
+      named = more_names holds.actual (record { name = name; answered = true }) called holds.notes.named;
+      off = λ q not_it. let ne : q ≢ p.0 = λ e. both_ways (is_fine (state_at progress.sends q)) not_it (holds.notes.new q (omega (arith, past, e))).0 in
+          ap (λ (x : Part). connected x.trail) (dialled_others p name q (part_of holds.actual q) ne) ∙ holds.notes.off q not_it;
+      shut = λ q it. let ne : q ≢ p.0 = λ e. both_ways (get_or progress.closed q false) (holds.notes.new q (omega (arith, past, e))).1 it in
+          (ap (λ (x : Part). connected x.trail) (dialled_others p name q (part_of holds.actual q) ne) ∙ (holds.notes.shut q it).0, holds.told_all q);
+      new = λ q le. holds.notes.new q (omega (arith, le));
+      few = omega (arith, count, room);
+    })
+    holds.told_all
 
 -- a dial fails
 pub not_dialled_holds : {H : Type 0} {g : Ghosts H} (c d : Client H g) (progress : Progress) (called : List (List ℕ)) (t : Told) (p : PeerNo) (name : List ℕ) (holds : HoldsOver c progress called t)
@@ -110,15 +136,18 @@ not_dialled_holds c d progress called t p name holds is room reflects =
         bytes = holds.notes.bytes;
         rightly = holds.notes.rightly;
         planned = holds.notes.planned;
+        order = holds.notes.order;
+        numbered = (is ∙ ap (λ (n : ℕ). n + 1) count, holds.notes.numbered);
         traced = holds.notes.traced;
         named = more_names holds.actual (record { name = name; answered = false }) called holds.notes.named;
         off = λ q not_it. lost_off (p.0 == q) Went (part_of holds.actual q) (holds.notes.off q not_it);
-        shut = λ q it. lost_off (p.0 == q) Went (part_of holds.actual q) (holds.notes.shut q it);
+        shut = λ q it. (lost_off (p.0 == q) Went (part_of holds.actual q) (holds.notes.shut q it).0, holds.told_all q);
         new = λ q le. holds.notes.new q (omega (arith, le));
         few = omega (arith, count, room);
       };
       reflects = reflects;
       told_all = holds.told_all;
+      none = holds.none;
     }
 
 off_took : (d : Delivery) (q : ℕ) (part : Part) → connected part.trail ≡ false → connected (went_on (Took d) q part).trail ≡ false
@@ -139,29 +168,31 @@ took_bytes (Gone p) log is h = h
 took_bytes (Tick s) log is h = h
 took_bytes Ended log is h = h
 
-took_notes : (progress : Progress) (called : List (List ℕ)) (log : Log) (t : Told) (d : Delivery) → AreBytesOf d → Notes progress called log t → IsBusy log
+took_numbered : (d : Delivery) (log : Log) → AreNumbered log → AreNumbered (Took d ∷ log)
+took_numbered d log h = h
+
+took_notes : (progress : Progress) (called : List (List ℕ)) (log : Log) (t : Told) (d : Delivery) → AreBytesOf d → Notes progress called log t → IsBusy log → IsOrderly log
     → Notes progress called (Took d ∷ log) (tell (Took d) t)
-took_notes progress called log t d is notes busy = record {
+took_notes progress called log t d is notes busy in_order = record {
   tells = tells_more log t (Took d) notes.tells;
   bytes = took_bytes d log is notes.bytes;
   rightly = (busy, notes.rightly);
   planned = notes.planned;
+  order = (in_order, notes.order);
+  numbered = notes.numbered;
   traced = notes.traced;
   named = notes.named;
   off = λ q not_it. off_took d q (part_of log q) (notes.off q not_it);
-  shut = λ q it. off_took d q (part_of log q) (notes.shut q it);
+  shut = λ q it. (off_took d q (part_of log q) (notes.shut q it).0, refl);
   new = λ q le. notes.new q (omega (arith, took_dials d log, le));
   few = omega (arith, took_dials d log, notes.few);
 }
 
 -- a delivery is taken
-pub took_doing : {H : Type 0} {g : Ghosts H} (c : Client H g) (progress : Progress) (called : List (List ℕ)) (t : Told) (d : Delivery) → AreBytesOf d → (holds : HoldsOver c progress called t) → IsBusy holds.actual
-    → Doing progress called (Took d ∷ holds.actual) (tell (Took d) t)
-took_doing c progress called t d is holds busy = record {
-  actual = Took d ∷ holds.actual;
-  notes = took_notes progress called holds.actual t d is holds.notes busy;
-  apart = record { same = λ q free. inl refl; cut = λ q it. absurd (both_ways (is_pending (state_at progress.sends q)) (holds.told_all q) it); count = refl };
-}
+pub took_doing : {H : Type 0} {g : Ghosts H} (c : Client H g) (acts : List Act) (progress : Progress) (called : List (List ℕ)) (t : Told) (d : Delivery) → AreBytesOf d → (holds : HoldsOver c progress called t) → IsBusy holds.actual
+    → Doing acts progress called (Took d ∷ holds.actual) (tell (Took d) t)
+took_doing c acts progress called t d is holds busy =
+    same_doing c acts progress called called t (tell (Took d) t) holds (Took d) (took_notes progress called holds.actual t d is holds.notes busy (orderly c progress called t holds)) (λ q. refl)
 
 -- the end changes nothing that was seen
 ended_tracks : (s : Seen) (log : Log) → Tracks s log → Tracks s (Took Ended ∷ log)
@@ -176,13 +207,14 @@ pub ended_stops : {H : Type 0} {g : Ghosts H} (c : Client H g) (progress : Progr
 ended_stops c progress called t holds busy = record {
   holds = record {
     actual = Took Ended ∷ holds.actual;
-    notes = took_notes progress called holds.actual t Ended tt holds.notes busy;
+    notes = took_notes progress called holds.actual t Ended tt holds.notes busy (orderly c progress called t holds);
     reflects = record {
       alive = holds.reflects.alive;
       places = record { count = holds.reflects.places.count; each = holds.reflects.places.each };
       tracks = ended_tracks (seen_by c) holds.actual holds.reflects.tracks;
     };
-    told_all = holds.told_all;
+    told_all = λ q. refl;
+    none = holds.none;
   };
   why = (holds.actual, (refl, busy));
 }
@@ -199,16 +231,47 @@ took_closed (Gone p) t = refl
 took_closed (Tick s) t = refl
 took_closed Ended t = refl
 
--- who is connected has a number that is in use
-pub within : {H : Type 0} {g : Ghosts H} (c : Client H g) (log : Log) → Reflects c log → (p : ℕ) → connected (trail log p) ≡ true → p < 9
-within c log reflects p on = elim (cases_lt p (length c.places.items)) [
-  | inl lt ↦ omega (arith, c.few)
-  | inr le ↦
-      let past : place_at c.places.items p ≡ nobody = grind (arith, common_steps) in
-      absurd (both_ways (connected (trail log p)) (subst (λ (x : Place). Fits x (part_of log p)) past (reflects.places.each p)) on)
-]
-
 -- the tally says who is connected
+is_called : Mark → Bool
+is_called NotYet = false
+is_called Called = true
+is_called Missed = false
+is_called Left = false
+is_called Shut = false
+is_called Broken = false
+
+is_not_yet : Mark → Bool
+is_not_yet NotYet = true
+is_not_yet Called = false
+is_not_yet Missed = false
+is_not_yet Left = false
+is_not_yet Shut = false
+is_not_yet Broken = false
+
+is_broken : Mark → Bool
+is_broken NotYet = false
+is_broken Called = false
+is_broken Missed = false
+is_broken Left = false
+is_broken Shut = false
+is_broken Broken = true
+
+lost_by : (m : Mark) → is_not_yet m ≡ false → is_called m ≡ false → is_broken m ≡ false → is_lost m ≡ true
+lost_by NotYet n c b = absurd (false≢true (sym n))
+lost_by Called n c b = absurd (false≢true (sym c))
+lost_by Missed n c b = refl
+lost_by Left n c b = refl
+lost_by Shut n c b = refl
+lost_by Broken n c b = absurd (false≢true (sym b))
+
+called_not : (m : Mark) → is_lost m ≡ true → is_called m ≡ false
+called_not NotYet h = refl
+called_not Called h = absurd (false≢true h)
+called_not Missed h = refl
+called_not Left h = refl
+called_not Shut h = refl
+called_not Broken h = refl
+
 fresh_mark : (k p : ℕ) → get_or (replicate k NotYet) p NotYet ≡ NotYet
 fresh_mark zero p = refl
 fresh_mark (suc k) zero = refl
@@ -297,11 +360,14 @@ finishes end c progress called t height hash entries stopped told =
           asked_out = report.asked_out;
         };
         planned = holds.notes.planned;
+        was_orderly = holds.notes.order;
+        orderly = orderly c progress called t holds;
+        numbered = holds.notes.numbered;
         traced = holds.notes.traced;
         named = holds.notes.named;
         why = stopped.why;
       };
-      within = λ p on. within c holds.actual holds.reflects p on;
+      few = holds.notes.few;
     }
 
 -- a run that ended so, by its client
@@ -309,9 +375,102 @@ pub stops : {H : Type 0} {g : Ghosts H} (end : End) (c : Client H g) (progress :
     → ((log : Log) → Reflects c log → IsEnd end log) → Stopped end c progress called t
 stops end c progress called t holds why = record { holds = holds; why = why holds.actual holds.reflects }
 
-nobody_left : (log : Log) → NobodyLeft (tally_of log) → ((p : ℕ) → connected (trail log p) ≡ true → p < 9) → (p : ℕ) → connected (trail log p) ≡ false
-nobody_left log none inside p = elim (cases_Bool (connected (trail log p))) [
-  | inl on ↦ let lt = inside p on in absurd (both_ways (connected (trail log p)) (sym (marks_of log p lt).says ∙ none p lt) on)
+-- whoever is connected was dialled, and so has a number
+lost_on : (b : Bool) (w : Why) (part : Part) → connected (if b then with_item (Lost w) part else part).trail ≡ true → connected part.trail ≡ true
+lost_on true w part on = absurd (false≢true on)
+lost_on false w part on = on
+
+numbered_on : (log : Log) (p : ℕ) → AreNumbered log → connected (trail log p) ≡ true → (1 ≤ p) × (p ≤ (tally_of log).dials)
+numbered_on [] p n on = absurd (false≢true on)
+numbered_on (Dialled q name ∷ log) p n on = elim (cases_eq p q.0) [
+  | inl e ↦ (omega (arith, e, n.0), omega (arith, e, n.0))
+  | inr ne ↦
+      let old = numbered_on log p n.1 (sym (ap (λ (x : Part). connected x.trail) (dialled_others q name p (part_of log p) ne)) ∙ on) in
+      (old.0, omega (arith, old.1))
+]
+numbered_on (NotDialled q name ∷ log) p n on = let old = numbered_on log p n.1 (lost_on (q.0 == p) Went (part_of log p) on) in (old.0, omega (arith, old.1))
+numbered_on (Sent q bytes ∷ log) p n on = numbered_on log p n (sym (sent_connected q bytes p (part_of log p)) ∙ on)
+numbered_on (SendFailed q ∷ log) p n on = numbered_on log p n (lost_on (q.0 == p) Failing (part_of log p) on)
+numbered_on (Closed q ∷ log) p n on = numbered_on log p n (lost_on (q.0 == p) Shutting (part_of log p) on)
+numbered_on (Took (Got q piece) ∷ log) p n on = numbered_on log p n (sym (got_connected (q.0 == p) piece (part_of log p)) ∙ on)
+numbered_on (Took (Gone q) ∷ log) p n on = numbered_on log p n (lost_on (q.0 == p) Went (part_of log p) on)
+numbered_on (Took (Tick s) ∷ log) p n on = numbered_on log p n on
+numbered_on (Took Ended ∷ log) p n on = numbered_on log p n on
+
+-- whoever was dialled has a mark of his own
+not_yet_set : (marks : List Mark) (i p : ℕ) (m : Mark) → p < 9 → length marks ≡ 9 → is_not_yet m ≡ false → (p ≢ i → is_not_yet (get_or marks p NotYet) ≡ false)
+    → is_not_yet (get_or (set marks i m) p NotYet) ≡ false
+not_yet_set marks i p m lt size is old = elim (cases_eq p i) [
+  | inl e ↦ ap is_not_yet (ap (λ (k : ℕ). get_or (set marks i m) k NotYet) e ∙ get_or-set_same marks i m NotYet (omega (arith, e, size, lt))) ∙ is
+  | inr ne ↦ ap is_not_yet (get_or-set_other marks i p m NotYet ne) ∙ old ne
+]
+
+below : (p n k : ℕ) → p ≤ n + 1 → k ≡ n + 1 → p ≢ k → p ≤ n
+below p n k le is ne = elim (cases_lt p (n + 1)) [ inl lt ↦ omega (arith, lt) | inr ge ↦ absurd (ne (omega (arith, ge, le, is))) ]
+
+dialled_mark : (log : Log) (p : ℕ) → AreNumbered log → 1 ≤ p → p ≤ (tally_of log).dials → p < 9 → is_not_yet (get_or (tally_of log).marks p NotYet) ≡ false
+dialled_mark [] p n one le lt = absurd (omega (arith, one, le))
+dialled_mark (Dialled q name ∷ log) p n one le lt =
+    not_yet_set (tally_of log).marks q.0 p Called lt (marks_of log p lt).size refl (λ ne. dialled_mark log p n.1 one (below p (tally_of log).dials q.0 le n.0 ne) lt)
+dialled_mark (NotDialled q name ∷ log) p n one le lt =
+    not_yet_set (tally_of log).marks q.0 p Missed lt (marks_of log p lt).size refl (λ ne. dialled_mark log p n.1 one (below p (tally_of log).dials q.0 le n.0 ne) lt)
+dialled_mark (Sent q bytes ∷ log) p n one le lt = dialled_mark log p n one le lt
+dialled_mark (SendFailed q ∷ log) p n one le lt = not_yet_set (tally_of log).marks q.0 p Broken lt (marks_of log p lt).size refl (λ ne. dialled_mark log p n one le lt)
+dialled_mark (Closed q ∷ log) p n one le lt = not_yet_set (tally_of log).marks q.0 p Shut lt (marks_of log p lt).size refl (λ ne. dialled_mark log p n one le lt)
+dialled_mark (Took (Got q piece) ∷ log) p n one le lt = dialled_mark log p n one le lt
+dialled_mark (Took (Gone q) ∷ log) p n one le lt = not_yet_set (tally_of log).marks q.0 p Left lt (marks_of log p lt).size refl (λ ne. dialled_mark log p n one le lt)
+dialled_mark (Took (Tick s) ∷ log) p n one le lt = dialled_mark log p n one le lt
+dialled_mark (Took Ended ∷ log) p n one le lt = dialled_mark log p n one le lt
+
+-- whose mark is that of a failed send, of him it isn't told yet
+broken_set : (marks : List Mark) (i p : ℕ) (m : Mark) → p < 9 → length marks ≡ 9 → is_broken (get_or (set marks i m) p NotYet) ≡ true
+    → ((p ≡ i) × (is_broken m ≡ true)) ⊎ ((p ≢ i) × (is_broken (get_or marks p NotYet) ≡ true))
+broken_set marks i p m lt size is = elim (cases_eq p i) [
+  | inl e ↦ inl (e, sym (ap is_broken (ap (λ (k : ℕ). get_or (set marks i m) k NotYet) e ∙ get_or-set_same marks i m NotYet (omega (arith, e, size, lt)))) ∙ is)
+  | inr ne ↦ inr (ne, sym (ap is_broken (get_or-set_other marks i p m NotYet ne)) ∙ is)
+]
+
+broken_mark : (log : Log) (p : ℕ) → p < 9 → WasOrderly log → is_broken (get_or (tally_of log).marks p NotYet) ≡ true → is_untold log p ≡ true
+broken_mark [] p lt w is = absurd (false≢true (sym (ap is_broken (fresh_mark 9 p)) ∙ is))
+broken_mark (Dialled q name ∷ log) p lt w is = elim (broken_set (tally_of log).marks q.0 p Called lt (marks_of log p lt).size is) [
+  | inl x ↦ absurd (false≢true x.1)
+  | inr x ↦ broken_mark log p lt w x.1
+]
+broken_mark (NotDialled q name ∷ log) p lt w is = elim (broken_set (tally_of log).marks q.0 p Missed lt (marks_of log p lt).size is) [
+  | inl x ↦ absurd (false≢true x.1)
+  | inr x ↦ broken_mark log p lt w x.1
+]
+broken_mark (Sent q bytes ∷ log) p lt w is = broken_mark log p lt w is
+broken_mark (SendFailed q ∷ log) p lt w is = elim (broken_set (tally_of log).marks q.0 p Broken lt (marks_of log p lt).size is) [
+  | inl x ↦ untold_failing_here q log p x.0
+  | inr x ↦ untold_failing_others q log p x.0 ∙ broken_mark log p lt w.1 x.1
+]
+broken_mark (Closed q ∷ log) p lt w is = elim (broken_set (tally_of log).marks q.0 p Shut lt (marks_of log p lt).size is) [
+  | inl x ↦ absurd (false≢true x.1)
+  | inr x ↦ untold_closed_others q log p x.0 ∙ broken_mark log p lt w x.1
+]
+broken_mark (Took (Got q piece) ∷ log) p lt w is = absurd (both_ways (is_untold log p) (w.0.told p) (broken_mark log p lt w.1 is))
+broken_mark (Took (Gone q) ∷ log) p lt w is = elim (broken_set (tally_of log).marks q.0 p Left lt (marks_of log p lt).size is) [
+  | inl x ↦ absurd (false≢true x.1)
+  | inr x ↦ absurd (both_ways (is_untold log p) (w.0.told p) (broken_mark log p lt w.1 x.1))
+]
+broken_mark (Took (Tick s) ∷ log) p lt w is = absurd (both_ways (is_untold log p) (w.0.told p) (broken_mark log p lt w.1 is))
+broken_mark (Took Ended ∷ log) p lt w is = absurd (both_ways (is_untold log p) (w.0.told p) (broken_mark log p lt w.1 is))
+
+lost_mark : (log : Log) (p : ℕ) → AreNumbered log → WasOrderly log → IsOrderly log → connected (trail log p) ≡ false → 1 ≤ p → p ≤ (tally_of log).dials → p < 9
+    → is_lost (get_or (tally_of log).marks p NotYet) ≡ true
+lost_mark log p n was now off one le lt = lost_by (get_or (tally_of log).marks p NotYet) (dialled_mark log p n one le lt) ((marks_of log p lt).says ∙ off)
+    (elim (cases_Bool (is_broken (get_or (tally_of log).marks p NotYet))) [
+      | inl broken ↦ absurd (both_ways (is_untold log p) (now.told p) (broken_mark log p lt was broken))
+      | inr sound ↦ sound
+    ])
+
+nobody_left : (log : Log) → NobodyLeft (tally_of log) → AreNumbered log → (tally_of log).dials ≤ 8 → (p : ℕ) → connected (trail log p) ≡ false
+nobody_left log none numbered few p = elim (cases_Bool (connected (trail log p))) [
+  | inl on ↦
+      let r = numbered_on log p numbered on in
+      let lt : p < 9 = omega (arith, r.1, few) in
+      absurd (both_ways (connected (trail log p)) (sym (marks_of log p lt).says ∙ called_not (get_or (tally_of log).marks p NotYet) (none p r.0 r.1)) on)
   | inr off ↦ off
 ]
 
@@ -330,9 +489,10 @@ ends_so EndedFirst log why off =
 pub no_peers : (watch : List (List ℕ)) (end : End) (height : ℕ) (hash : Hash32) (entries : List Entry) (lines : List TraceLine) (called : List (List ℕ)) (t : Told) → Finished watch end height hash entries lines called t
     → (end ≡ NoPeers) ↔ NobodyLeft t.tally
 no_peers watch end height hash entries lines called t f = (
-  (λ is p lt. let off = subst (λ (e : End). IsEnd e f.actual) is f.followed.why in
-      subst (λ (y : Tally). is_called (get_or y.marks p NotYet) ≡ false) (sym f.tells.counts) ((marks_of f.actual p lt).says ∙ off p)),
-  (λ none. ends_so end f.actual f.followed.why (nobody_left f.actual (subst NobodyLeft f.tells.counts none) f.within)),
+  (λ is. let off = subst (λ (e : End). IsEnd e f.actual) is f.followed.why in
+      subst NobodyLeft (sym f.tells.counts)
+      (λ p one le. lost_mark f.actual p f.followed.numbered f.followed.was_orderly f.followed.orderly (off p) one le (omega (arith, le, f.few)))),
+  (λ none. ends_so end f.actual f.followed.why (nobody_left f.actual (subst NobodyLeft f.tells.counts none) f.followed.numbered f.few)),
 )
 
 -- what holds of the log, holds of it where it is told
@@ -363,15 +523,18 @@ starts c progress t reflects sends closed trace tells =
         bytes = tt;
         rightly = tt;
         planned = tt;
+        order = tt;
+        numbered = tt;
         traced = subst (λ (xs : List TraceLine). IsTraceOf [] (reverse xs)) (sym trace) tt;
         named = refl;
         off = λ q not_it. refl;
-        shut = λ q it. refl;
+        shut = λ q it. (refl, refl);
         new = λ q le. (ap is_fine (fine q), unshut q);
         few = omega arith;
       };
       reflects = reflects;
-      told_all = λ q. ap is_pending (fine q);
+      told_all = λ q. refl;
+      none = λ q. ap is_pending (fine q);
     }
 
 -- one more name

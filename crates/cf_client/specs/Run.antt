@@ -1,5 +1,5 @@
 -- A run of a client over wires.
-use Rattle.std.specs.Prelude.{◌≡◌, ◌⊎◌, ℕ, ◌+◌, ◌≤◌, ◌<◌, Bool, true, false, List, [], ◌∷◌, map, reverse, slice_index_or, Option, Some, None, IfSome}
+use Rattle.std.specs.Prelude.{◌≡◌, ◌⊎◌, ℕ, ◌+◌, ◌≤◌, ◌<◌, ◌==◌, ◌||◌, Bool, true, false, List, [], ◌∷◌, ◌++◌, length, map, take, reverse, slice_index_or, Option, Some, None, IfSome}
 use Rattle.std.specs.List.{sum_by, list_any}
 use Rattle.cf_bytes.specs.Outside.{HasRisen}
 use Rattle.cf_bytes.specs.declared.hash.Hash32.{Hash32}
@@ -8,7 +8,7 @@ use Rattle.cf_headers.specs.declared.store.HeaderStore.{Ghosts}
 use Rattle.cf_msg.specs.declared.msg.Msg.{Msg}
 use Rattle.cf_msg.specs.Message.{command_of}
 use Rattle.cf_peer.specs.declared.act.Act.{Act}
-use Rattle.cf_peer.specs.declared.act.Act.TheVariants.{Send}
+use Rattle.cf_peer.specs.declared.act.Act.TheVariants.{Send, Close}
 use Rattle.cf_peer.specs.declared.event.Delivery.{Delivery}
 use Rattle.cf_peer.specs.declared.event.Delivery.TheVariants.{Got, Gone, Tick, Ended}
 use Rattle.cf_frame.specs.Stream.{IsBytes}
@@ -19,10 +19,11 @@ use Rattle.cf_peer.specs.declared.event.Mark.{Mark}
 use Rattle.cf_peer.specs.declared.event.Mark.TheVariants.{NotYet, Called, Missed, Left, Shut, Broken}
 use Rattle.cf_peer.specs.Log.{Log, Told, Tally, Tells, tally_of, mark_of, dials}
 use Rattle.cf_peer.specs.Wires.{Made}
-use Rattle.cf_peer.specs.Trail.{Part, part_of, trail, spelled, connected, failed}
-use Rattle.cf_peer.specs.Asking.{Deserves, counted, fetched}
+use Rattle.cf_peer.specs.Trail.{trail, spelled, connected, failed}
+use Rattle.cf_peer.specs.Asking.{Deserves}
 use Rattle.cf_scan.specs.declared.history.Entry.{Entry}
-use Rattle.cf_sync.specs.Fetching.{IsBusy, IsConnected, Rightly, AreBytes, counted_part}
+use Rattle.cf_sync.specs.Fetching.{IsBusy, IsConnected, IsSameFetched, Rightly, AreBytes}
+use Rattle.cf_sync.specs.Planned.{is_untold, IsPlanned, ArePlanned}
 use Rattle.cf_sync.specs.Sync.{HasAsked}
 use Rattle.cf_client.specs.declared.client.Client.{Client}
 use Rattle.cf_client.specs.declared.outcome.End.{End}
@@ -33,14 +34,8 @@ use Rattle.cf_client.specs.declared.progress.SendState.TheVariants.{Fine, Pendin
 use Rattle.cf_client.specs.declared.state.State.TheVariants.{Synced as IsSynced, NoPeers as HasNoPeers}
 use Rattle.cf_client.specs.declared.trace.TraceLine.{TraceLine}
 use Rattle.cf_client.specs.declared.trace.TraceLine.TheVariants.{Sent as SentLine, Closed as ClosedLine}
-use Rattle.cf_client.specs.Places.{after, MayAct, Allowed, IsState}
-use Rattle.cf_client.specs.Stands.{Reflects}
-
--- the same part, or both cut off, with the same blocks brought
-abbrev pub Alike : Part → Part → Type 0
-Alike t u =
-    (t ≡ u)
-    ⊎ ((connected t.trail ≡ false) × (connected u.trail ≡ false) × (failed t.trail ≡ failed u.trail) × (fetched (counted t.trail) ≡ fetched (counted u.trail)))
+use Rattle.cf_client.specs.Places.{after, Allowed, IsState}
+use Rattle.cf_client.specs.Stands.{Reflects, IsInnocent, AreAnswered}
 
 -- how the sends to a peer have gone
 abbrev pub state_at : List SendState → ℕ → SendState
@@ -65,17 +60,6 @@ weight Known = 0
 abbrev pub trouble : Progress → ℕ
 trouble progress = sum_by weight progress.sends
 
--- the log as the client knows it, and as it is, while some peers' failed sends are not yet told to the client
-pub record Apart (sends : List SendState) (planned actual : Log) : Type 0 where
-  pub same : (q : ℕ) → is_pending (state_at sends q) ≡ false → Alike (part_of planned q) (part_of actual q)
-  pub cut : (q : ℕ) → is_pending (state_at sends q) ≡ true → (connected (trail actual q) ≡ false) × (failed (trail actual q) ≡ true)
-      × (fetched (counted_part planned q) ≡ fetched (counted_part actual q))
-  pub count : (tally_of planned).dials ≡ (tally_of actual).dials
-
--- the client, which knew of no pending failure yet, reflected a log in which p may be asked
-abbrev pub WasPlanned : Log → PeerNo → Msg → Type 0
-WasPlanned log p m = (sends : List SendState) × ((planned : Log) × Apart sends planned log × MayAct (Send p m) planned)
-
 -- what was delivered are bytes
 abbrev pub AreBytesOf : Delivery → Type 0
 AreBytesOf (Got p piece) = IsBytes piece
@@ -83,15 +67,32 @@ AreBytesOf (Gone p) = Unit {0}
 AreBytesOf (Tick s) = Unit {0}
 AreBytesOf Ended = Unit {0}
 
--- what was sent was wanted by a client that knew of no pending failure yet
-abbrev pub ArePlanned : Log → Type 0
-ArePlanned [] = Unit {0}
-ArePlanned (Dialled p name ∷ log) = ArePlanned log
-ArePlanned (NotDialled p name ∷ log) = ArePlanned log
-ArePlanned (Sent p bytes ∷ log) = ((m : Msg) × (spelled bytes ≡ Some m) × WasPlanned log p m) × ArePlanned log
-ArePlanned (SendFailed p ∷ log) = ArePlanned log
-ArePlanned (Closed p ∷ log) = ArePlanned log
-ArePlanned (Took d ∷ log) = ArePlanned log
+-- At a moment between two calls of the client: nobody who is connected deserves a cause; each was sent the client's version first, and what is
+-- owed to its messages; and each peer to which a send has failed was closed.
+pub record IsOrderly (log : Log) : Type 0 where
+  pub innocent : IsInnocent log
+  pub answered : AreAnswered log
+  pub told : (p : ℕ) → is_untold log p ≡ false
+
+-- so it was whenever a delivery was taken; and a send was tried to a connected peer alone
+abbrev pub WasOrderly : Log → Type 0
+WasOrderly [] = Unit {0}
+WasOrderly (Dialled p name ∷ log) = WasOrderly log
+WasOrderly (NotDialled p name ∷ log) = WasOrderly log
+WasOrderly (Sent p bytes ∷ log) = WasOrderly log
+WasOrderly (SendFailed p ∷ log) = IsConnected log p.0 × WasOrderly log
+WasOrderly (Closed p ∷ log) = WasOrderly log
+WasOrderly (Took d ∷ log) = IsOrderly log × WasOrderly log
+
+-- the peers are numbered from 1 in the order in which they were dialled
+abbrev pub AreNumbered : Log → Type 0
+AreNumbered [] = Unit {0}
+AreNumbered (Dialled p name ∷ log) = (p.0 ≡ (tally_of log).dials + 1) × AreNumbered log
+AreNumbered (NotDialled p name ∷ log) = (p.0 ≡ (tally_of log).dials + 1) × AreNumbered log
+AreNumbered (Sent p bytes ∷ log) = AreNumbered log
+AreNumbered (SendFailed p ∷ log) = AreNumbered log
+AreNumbered (Closed p ∷ log) = AreNumbered log
+AreNumbered (Took d ∷ log) = AreNumbered log
 
 -- a line of the trace tells what was sent, or why a peer was closed
 abbrev pub IsSentLine : PeerNo → List ℕ → TraceLine → Type 0
@@ -119,16 +120,22 @@ IsTraceOf (Took d ∷ log) lines = IsTraceOf log lines
 abbrev pub names_of : Log → List (List ℕ)
 names_of log = map (λ (d : Dial). d.name) (dials log)
 
+-- the same, where the log is told
+abbrev pub HasNames : List (List ℕ) → Told → Type 0
+HasNames called t = IfSome t.log (λ log. names_of log ≡ called)
+
 -- what the run's own notes say of the log as it is
 pub record Notes (progress : Progress) (called : List (List ℕ)) (actual : Log) (t : Told) : Type 0 where
   pub tells : Tells actual t
   pub bytes : AreBytes actual
   pub rightly : Rightly actual
   pub planned : ArePlanned actual
+  pub order : WasOrderly actual
+  pub numbered : AreNumbered actual
   pub traced : IsTraceOf actual (reverse progress.trace.items)
   pub named : names_of actual ≡ called
   pub off : (q : ℕ) → is_fine (state_at progress.sends q) ≡ false → connected (trail actual q) ≡ false
-  pub shut : (q : ℕ) → slice_index_or progress.closed q false ≡ true → connected (trail actual q) ≡ false
+  pub shut : (q : ℕ) → slice_index_or progress.closed q false ≡ true → (connected (trail actual q) ≡ false) × (is_untold actual q ≡ false)
   pub new : (q : ℕ) → (tally_of actual).dials < q → (is_fine (state_at progress.sends q) ≡ true) × (slice_index_or progress.closed q false ≡ false)
   pub few : (tally_of actual).dials ≤ 8
 
@@ -136,31 +143,50 @@ pub record Notes (progress : Progress) (called : List (List ℕ)) (actual : Log)
 abbrev pub IsInStep : Told → Progress → Type 0
 IsInStep t progress = t.tally.closed ≡ progress.closed
 
--- some log that the wires tell is the planned one, but for the peers whose failed sends are pending
-pub record Doing (progress : Progress) (called : List (List ℕ)) (planned : Log) (t : Told) : Type 0 where
+-- an act closes this peer
+abbrev pub closes : ℕ → Act → Bool
+closes q (Send p m) = false
+closes q (Close p cause) = p.0 == q
+
+-- a failed send that isn't told is pending, or the peer's close is among the acts that are left
+abbrev pub is_due : Progress → List Act → ℕ → Bool
+is_due progress acts q = is_pending (state_at progress.sends q) || list_any (closes q) acts
+
+-- cut off by a send that failed
+abbrev pub IsBroken : Log → ℕ → Type 0
+IsBroken log q = (connected (trail log q) ≡ false) × (failed (trail log q) ≡ true)
+
+-- with these acts left to be done, some log that the wires tell is the planned one, but for the peers whose failed sends aren't told
+pub record Doing (acts : List Act) (progress : Progress) (called : List (List ℕ)) (planned : Log) (t : Told) : Type 0 where
   pub actual : Log
   pub notes : Notes progress called actual t
-  pub apart : Apart progress.sends planned actual
+  pub plan : IsPlanned planned actual
+  pub brought : IsSameFetched planned actual
+  pub pending : (q : ℕ) → is_pending (state_at progress.sends q) ≡ true → is_untold actual q ≡ true
+  pub due : (q : ℕ) → is_untold actual q ≡ true → is_due progress acts q ≡ true
+  pub broken : (q : ℕ) → is_untold actual q ≡ true → IsBroken actual q
+  pub known : (q : ℕ) → is_untold actual q ≡ true → is_pending (state_at progress.sends q) ≡ false → IsBroken planned q
 
--- the client reflects the log that the wires tell, and no failure is pending
+-- the client reflects the log that the wires tell, and every failure is told
 pub record HoldsOver {H : Type 0} {g : Ghosts H} (c : Client H g) (progress : Progress) (called : List (List ℕ)) (t : Told) : Type 0 where
   pub actual : Log
   pub notes : Notes progress called actual t
   pub reflects : Reflects c actual
-  pub told_all : (q : ℕ) → is_pending (state_at progress.sends q) ≡ false
+  pub told_all : (q : ℕ) → is_untold actual q ≡ false
+  pub none : (q : ℕ) → is_pending (state_at progress.sends q) ≡ false
 
 -- what is left of the acts leads from here to where all of them lead
 pub record ActsLeft (acts : List Act) (end : Log) (progress : Progress) (called : List (List ℕ)) (t : Told) : Type 0 where
   pub planned : Log
   pub allowed : Allowed acts planned
   pub leads : after acts planned ≡ end
-  pub doing : Doing progress called planned t
+  pub doing : Doing acts progress called planned t
 
 -- the client reflects a planned log, and waits to be told of pending failures
 pub record Waits {H : Type 0} {g : Ghosts H} (c : Client H g) (progress : Progress) (called : List (List ℕ)) (t : Told) : Type 0 where
   pub planned : Log
   pub reflects : Reflects c planned
-  pub doing : Doing progress called planned t
+  pub doing : Doing [] progress called planned t
 
 -- a dial or a send has failed
 abbrev pub is_failure : Event → Bool
@@ -184,11 +210,64 @@ pub record Course (t u : Told) (f g : ℕ) (s r : Option Made) : Type 0 where
   pub blamed : NoFailure t → NoFailure u ⊎ HasRisen f g
   pub script : r ≡ s
 
--- acts change none of the counts
+-- no count changes, and nobody is dialled
 pub record SameCounts (t u : Told) : Type 0 where
   pub dials : u.tally.dials ≡ t.tally.dials
   pub taken : u.tally.taken ≡ t.tally.taken
   pub ended : u.tally.ended ≡ t.tally.ended
+  pub named : (called : List (List ℕ)) → HasNames called t → HasNames called u
+
+-- the run at a moment: what its wires told, how often what is outside has failed, their script, whether they keep their log, and the run's own notes
+pub record Moment : Type 0 where
+  pub told : Told
+  pub faults : ℕ
+  pub script : Option Made
+  pub keeps : Bool
+  pub progress : Progress
+
+abbrev pub moment : Told → ℕ → Option Made → Bool → Progress → Moment
+moment told faults script keeps progress = record { told = told; faults = faults; script = script; keeps = keeps; progress = progress }
+
+-- from one moment to a later one, whatever was answered
+pub record Runs (a b : Moment) : Type 0 where
+  pub course : Course a.told b.told a.faults b.faults a.script b.script
+  pub keeps : b.keeps ≡ a.keeps
+  pub finished : b.told.finished ≡ a.told.finished
+  pub step : IsInStep b.told b.progress
+
+-- acts were done: no count changed, and no more failures are to be told than before
+pub record Performs (a b : Moment) : Type 0 where
+  pub runs : Runs a b
+  pub counts : SameCounts a.told b.told
+  pub fewer : trouble b.progress ≤ trouble a.progress
+
+-- one more was dialled, by this name; none was
+pub record IsOneMore (name : List ℕ) (t u : Told) : Type 0 where
+  pub dials : u.tally.dials ≡ t.tally.dials + 1
+  pub named : (called : List (List ℕ)) → HasNames called t → HasNames (called ++ name ∷ []) u
+
+pub record IsNoMore (t u : Told) : Type 0 where
+  pub dials : u.tally.dials ≡ t.tally.dials
+  pub named : (called : List (List ℕ)) → HasNames called t → HasNames called u
+
+-- a name was dialled, or no memory was found before it
+pub record Dials (name : List ℕ) (a b : Moment) : Type 0 where
+  pub runs : Runs a b
+  pub taken : b.told.tally.taken ≡ a.told.tally.taken
+  pub ended : b.told.tally.ended ≡ a.told.tally.ended
+  pub most : IsOneMore name a.told b.told ⊎ IsNoMore a.told b.told
+
+-- a turn was begun: at most one delivery was taken, or the end told, and nobody was dialled
+pub record Turns (a b : Moment) : Type 0 where
+  pub runs : Runs a b
+  pub same : IsNoMore a.told b.told
+  pub taken : b.told.tally.taken ≤ a.told.tally.taken + 1
+  pub ended : b.told.tally.ended ≤ a.told.tally.ended + 1
+
+-- so many of the names were dialled, the first of them in order
+pub record HasDialled (names : List (List ℕ)) (t : Told) : Type 0 where
+  pub most : t.tally.dials ≤ length names
+  pub first : HasNames (take t.tally.dials names) t
 
 -- why a run ends
 abbrev pub IsEnd : End → Log → Type 0
@@ -201,6 +280,9 @@ IsEnd EndedFirst log = (before : Log) × ((log ≡ Took Ended ∷ before) × IsB
 pub record Followed (watch : List (List ℕ)) (end : End) (height : ℕ) (hash : Hash32) (entries : List Entry) (lines : List TraceLine) (called : List (List ℕ)) (log : Log) : Type 0 where
   pub asked : HasAsked watch height hash entries log
   pub planned : ArePlanned log
+  pub was_orderly : WasOrderly log
+  pub orderly : IsOrderly log
+  pub numbered : AreNumbered log
   pub traced : IsTraceOf log (reverse lines)
   pub named : names_of log ≡ called
   pub why : IsEnd end log
@@ -210,7 +292,7 @@ pub record Finished (watch : List (List ℕ)) (end : End) (height : ℕ) (hash :
   pub actual : Log
   pub tells : Tells actual t
   pub followed : Followed watch end height hash entries lines called actual
-  pub within : (p : ℕ) → IsConnected actual p → p < 9
+  pub few : (tally_of actual).dials ≤ 8
 
 -- a run stops for this reason
 pub record Stopped {H : Type 0} {g : Ghosts H} (end : End) (c : Client H g) (progress : Progress) (called : List (List ℕ)) (t : Told) : Type 0 where
@@ -222,17 +304,18 @@ abbrev pub Turned : {H : Type 0} → {g : Ghosts H} → Option End → Client H 
 Turned None c progress called t = HoldsOver c progress called t
 Turned (Some end) c progress called t = Stopped end c progress called t
 
-abbrev pub is_called : Mark → Bool
-is_called NotYet = false
-is_called Called = true
-is_called Missed = false
-is_called Left = false
-is_called Shut = false
-is_called Broken = false
+-- not dialled, gone or closed
+abbrev pub is_lost : Mark → Bool
+is_lost NotYet = false
+is_lost Called = false
+is_lost Missed = true
+is_lost Left = true
+is_lost Shut = true
+is_lost Broken = false
 
--- each peer was not dialled, has gone, was closed, or failed a send
+-- each peer that was dialled could not be dialled, has gone or was closed
 abbrev pub NobodyLeft : Tally → Type 0
-NobodyLeft tally = (p : ℕ) → p < 9 → is_called (mark_of tally p) ≡ false
+NobodyLeft tally = (p : ℕ) → 1 ≤ p → p ≤ tally.dials → is_lost (mark_of tally p) ≡ true
 
 -- a turn tells the end once where the run ends for it, and else not at all
 abbrev pub IsEndTold : Option End → Tally → Tally → Type 0

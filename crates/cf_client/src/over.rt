@@ -4,11 +4,12 @@ ghost use Rattle.cf_bytes.specs.Outside.{HasRisen};
 ghost use Rattle.cf_client.specs.Names.{names_in};
 ghost use Rattle.cf_sync.specs.Sync.{SyncTheorem};
 ghost use Rattle.cf_client.specs.Places.{MayAct, Allowed, after, entry_of, EndsTell};
-ghost use Rattle.cf_client.specs.Run.{Followed, NobodyLeft, HasFailed, Course, Doing, HoldsOver, AreBytesOf, trouble, SameCounts, Turned, Stopped, IsEnd, IsInStep, IsEndTold};
+ghost use Rattle.cf_client.specs.Run.{Followed, NobodyLeft, HasFailed, Course, Doing, HoldsOver, AreBytesOf, moment, Runs, Performs, Dials, Turns, IsOneMore, IsNoMore, HasDialled, HasNames, Turned, Stopped, IsEnd, IsInStep, IsEndTold};
 ghost use Rattle.cf_client.specs.Stands.{Reflects, Answers, IsReportOf, count_of, watch_by};
 ghost use Rattle.std.specs.List.{All};
 ghost use Rattle.cf_frame.specs.Stream.{IsBytes};
 ghost use Rattle.cf_msg.specs.Message.{command_of};
+ghost use Rattle.cf_peer.specs.declared.act.Act.{Act};
 ghost use Rattle.cf_peer.specs.declared.act.Act.TheVariants.{Send, Close};
 ghost use Rattle.cf_peer.specs.Acts.{IsDoable, IsSendable, bytes_of};
 ghost use Rattle.cf_peer.specs.Log.{Log, Tells, tell};
@@ -17,7 +18,7 @@ ghost use Rattle.cf_peer.specs.declared.event.Event.TheVariants.{Sent, SendFaile
 
 use crate::client::Client;
 use crate::outcome::{End, Outcome};
-use crate::progress::{Progress, SendState};
+use crate::progress::Progress;
 use crate::state::State;
 use crate::trace::TraceLine;
 use cf_bytes::{NoMemory, PeerNo};
@@ -38,7 +39,9 @@ fn send_message<W: Wires>(
     requires { IsSendable message.now }
     ensures sent { IfOk result (λ command. (command ≡ command_of message.now) × (W.told wires.new ≡ tell (Sent p (bytes_of message.now)) (W.told wires.old))) }
     ensures not_sent { IsErrOf result WireFail.Failed → W.told wires.new ≡ tell (SendFailed p) (W.told wires.old) }
+    ensures no_memory { IsErrOf result WireFail.NoMemory → W.told wires.new ≡ W.told wires.old }
     ensures cause { HasCause (W.faults wires.old) (W.faults wires.new) result }
+    ensures keeps { W.keeps wires.new ≡ W.keeps wires.old }
     ensures same { W.script wires.new ≡ W.script wires.old }
 {
     let frame = write(alloc, message)?;
@@ -58,11 +61,8 @@ fn perform_send<W: Wires>(
     requires number { p.0 < 9 }
     requires sendable { IsSendable message.now }
     requires step { IsInStep (W.told wires.old) progress.old }
-    ensures doing { OnOk result ((called : List (List ℕ)) (planned : Log) → MayAct (Send p message.now) planned → Doing progress.old called planned (W.told wires.old) → Doing progress.new called (Sent p (bytes_of message.now) ∷ planned) (W.told wires.new)) }
-    ensures fewer { OnOk result (trouble progress.new ≤ trouble progress.old) }
-    ensures keeps { OnOk result (SameCounts (W.told wires.old) (W.told wires.new)) }
-    ensures course { OnOk result (Course (W.told wires.old) (W.told wires.new) (W.faults wires.old) (W.faults wires.new) (W.script wires.old) (W.script wires.new)) }
-    ensures step { OnOk result (IsInStep (W.told wires.new) progress.new) }
+    ensures doing { OnOk result ((more : List Act) (called : List (List ℕ)) (planned : Log) → MayAct (Send p message.now) planned → Doing (Send p message.now ∷ more) progress.old called planned (W.told wires.old) → Doing more progress.new called (Sent p (bytes_of message.now) ∷ planned) (W.told wires.new)) }
+    ensures performs { Performs (moment (W.told wires.old) (W.faults wires.old) (W.script wires.old) (W.keeps wires.old) progress.old) (moment (W.told wires.new) (W.faults wires.new) (W.script wires.new) (W.keeps wires.new) progress.new) }
 {
     if progress.is_pending(p) {
         return Ok(());
@@ -89,13 +89,13 @@ fn perform_close<W: Wires>(
 ) -> Result<(), NoMemory>
     requires number { p.0 < 9 }
     requires step { IsInStep (W.told wires.old) progress.old }
-    ensures doing { OnOk result ((called : List (List ℕ)) (planned : Log) → MayAct (Close p cause) planned → Doing progress.old called planned (W.told wires.old) → Doing progress.new called (Closed p ∷ planned) (W.told wires.new)) }
-    ensures fewer { OnOk result (trouble progress.new ≤ trouble progress.old) }
-    ensures keeps { OnOk result (SameCounts (W.told wires.old) (W.told wires.new)) }
-    ensures course { OnOk result (Course (W.told wires.old) (W.told wires.new) (W.faults wires.old) (W.faults wires.new) (W.script wires.old) (W.script wires.new)) }
-    ensures step { OnOk result (IsInStep (W.told wires.new) progress.new) }
+    ensures doing { OnOk result ((more : List Act) (called : List (List ℕ)) (planned : Log) → MayAct (Close p cause) planned → Doing (Close p cause ∷ more) progress.old called planned (W.told wires.old) → Doing more progress.new called (Closed p ∷ planned) (W.told wires.new)) }
+    ensures performs { Performs (moment (W.told wires.old) (W.faults wires.old) (W.script wires.old) (W.keeps wires.old) progress.old) (moment (W.told wires.new) (W.faults wires.new) (W.script wires.new) (W.keeps wires.new) progress.new) }
 {
-    if progress.is_pending(p) || progress.is_closed(p) {
+    if progress.is_pending(p) {
+        return Ok(());
+    }
+    if progress.is_closed(p) {
         return Ok(());
     }
     progress.trace.push(TraceLine::Closed(p, cause))?;
@@ -113,11 +113,8 @@ fn perform_one<W: Wires>(
 ) -> Result<(), NoMemory>
     requires doable { IsDoable act.now }
     requires step { IsInStep (W.told wires.old) progress.old }
-    ensures doing { OnOk result ((called : List (List ℕ)) (planned : Log) → MayAct act.now planned → Doing progress.old called planned (W.told wires.old) → Doing progress.new called (entry_of act.now ∷ planned) (W.told wires.new)) }
-    ensures fewer { OnOk result (trouble progress.new ≤ trouble progress.old) }
-    ensures keeps { OnOk result (SameCounts (W.told wires.old) (W.told wires.new)) }
-    ensures course { OnOk result (Course (W.told wires.old) (W.told wires.new) (W.faults wires.old) (W.faults wires.new) (W.script wires.old) (W.script wires.new)) }
-    ensures step { OnOk result (IsInStep (W.told wires.new) progress.new) }
+    ensures doing { OnOk result ((more : List Act) (called : List (List ℕ)) (planned : Log) → MayAct act.now planned → Doing (act.now ∷ more) progress.old called planned (W.told wires.old) → Doing more progress.new called (entry_of act.now ∷ planned) (W.told wires.new)) }
+    ensures performs { Performs (moment (W.told wires.old) (W.faults wires.old) (W.script wires.old) (W.keeps wires.old) progress.old) (moment (W.told wires.new) (W.faults wires.new) (W.script wires.new) (W.keeps wires.new) progress.new) }
 {
     match act {
         Act::Send(p, message) => {
@@ -140,11 +137,8 @@ fn perform<W: Wires>(
 ) -> Result<(), NoMemory>
     requires doable { All IsDoable acts.now }
     requires step { IsInStep (W.told wires.old) progress.old }
-    ensures doing { OnOk result ((called : List (List ℕ)) (planned : Log) → Allowed acts.now planned → Doing progress.old called planned (W.told wires.old) → Doing progress.new called (after acts.now planned) (W.told wires.new)) }
-    ensures fewer { OnOk result (trouble progress.new ≤ trouble progress.old) }
-    ensures keeps { OnOk result (SameCounts (W.told wires.old) (W.told wires.new)) }
-    ensures course { OnOk result (Course (W.told wires.old) (W.told wires.new) (W.faults wires.old) (W.faults wires.new) (W.script wires.old) (W.script wires.new)) }
-    ensures step { OnOk result (IsInStep (W.told wires.new) progress.new) }
+    ensures doing { OnOk result ((called : List (List ℕ)) (planned : Log) → Allowed acts.now planned → Doing acts.now progress.old called planned (W.told wires.old) → Doing [] progress.new called (after acts.now planned) (W.told wires.new)) }
+    ensures performs { Performs (moment (W.told wires.old) (W.faults wires.old) (W.script wires.old) (W.keeps wires.old) progress.old) (moment (W.told wires.new) (W.faults wires.new) (W.script wires.new) (W.keeps wires.new) progress.new) }
 {
     for act in acts {
         perform_one(alloc, wires, act, progress)?;
@@ -152,7 +146,7 @@ fn perform<W: Wires>(
     Ok(())
 }
 
-// Tells the client of each failed send, the lowest number first, and does what it then wants.
+// Tells the client of each failed send, the lowest number first, and does what it then wants, which begins with the peer's close.
 fn settle<W: Wires, H: HeaderStore>(
     alloc: Global,
     wires: &mut W,
@@ -160,15 +154,13 @@ fn settle<W: Wires, H: HeaderStore>(
     progress: &mut Progress,
 ) -> Result<(), NoMemory>
     requires step { IsInStep (W.told wires.old) progress.old }
-    ensures holds { OnOk result ((called : List (List ℕ)) (planned : Log) → Reflects client.old planned → Doing progress.old called planned (W.told wires.old) → HoldsOver client.new progress.new called (W.told wires.new)) }
+    ensures holds { OnOk result ((called : List (List ℕ)) (planned : Log) → Reflects client.old planned → Doing [] progress.old called planned (W.told wires.old) → HoldsOver client.new progress.new called (W.told wires.new)) }
     ensures count { OnOk result (count_of client.new ≡ count_of client.old) }
     ensures watch { OnOk result (watch_by client.new ≡ watch_by client.old) }
-    ensures keeps { OnOk result (SameCounts (W.told wires.old) (W.told wires.new)) }
-    ensures course { OnOk result (Course (W.told wires.old) (W.told wires.new) (W.faults wires.old) (W.faults wires.new) (W.script wires.old) (W.script wires.new)) }
-    ensures step { OnOk result (IsInStep (W.told wires.new) progress.new) }
+    ensures performs { Performs (moment (W.told wires.old) (W.faults wires.old) (W.script wires.old) (W.keeps wires.old) progress.old) (moment (W.told wires.new) (W.faults wires.new) (W.script wires.new) (W.keeps wires.new) progress.new) }
 {
     while let Some(p) = progress.next_pending() {
-        progress.sends[p.0 as usize] = SendState::Known;
+        progress.note_told(p);
         let acts = client.send_failed(p)?;
         perform(alloc, wires, &acts, progress)?;
     }
@@ -185,12 +177,10 @@ fn carry_out<W: Wires, H: HeaderStore>(
 ) -> Result<(), NoMemory>
     requires doable { All IsDoable acts.now }
     requires step { IsInStep (W.told wires.old) progress.old }
-    ensures holds { OnOk result ((called : List (List ℕ)) (log : Log) → Answers client.old acts.now log → Doing progress.old called log (W.told wires.old) → HoldsOver client.new progress.new called (W.told wires.new)) }
+    ensures holds { OnOk result ((called : List (List ℕ)) (log : Log) → Answers client.old acts.now log → Doing acts.now progress.old called log (W.told wires.old) → HoldsOver client.new progress.new called (W.told wires.new)) }
     ensures count { OnOk result (count_of client.new ≡ count_of client.old) }
     ensures watch { OnOk result (watch_by client.new ≡ watch_by client.old) }
-    ensures keeps { OnOk result (SameCounts (W.told wires.old) (W.told wires.new)) }
-    ensures course { OnOk result (Course (W.told wires.old) (W.told wires.new) (W.faults wires.old) (W.faults wires.new) (W.script wires.old) (W.script wires.new)) }
-    ensures step { OnOk result (IsInStep (W.told wires.new) progress.new) }
+    ensures performs { Performs (moment (W.told wires.old) (W.faults wires.old) (W.script wires.old) (W.keeps wires.old) progress.old) (moment (W.told wires.new) (W.faults wires.new) (W.script wires.new) (W.keeps wires.new) progress.new) }
 {
     perform(alloc, wires, acts, progress)?;
     settle(alloc, wires, client, progress)?;
@@ -211,11 +201,8 @@ fn dial_one<W: Wires, H: HeaderStore>(
     ensures holds { OnOk result ((called : List (List ℕ)) → HoldsOver client.old progress.old called (W.told wires.old) → HoldsOver client.new progress.new (called ++ name.now ∷ []) (W.told wires.new)) }
     ensures next { OnOk result (count_of client.new ≡ (W.told wires.new).tally.dials + 1) }
     ensures watch { OnOk result (watch_by client.new ≡ watch_by client.old) }
-    ensures dials { OnOk result ((W.told wires.new).tally.dials ≡ (W.told wires.old).tally.dials + 1) }
-    ensures taken { OnOk result ((W.told wires.new).tally.taken ≡ (W.told wires.old).tally.taken) }
-    ensures ended { OnOk result ((W.told wires.new).tally.ended ≡ (W.told wires.old).tally.ended) }
-    ensures course { OnOk result (Course (W.told wires.old) (W.told wires.new) (W.faults wires.old) (W.faults wires.new) (W.script wires.old) (W.script wires.new)) }
-    ensures step { OnOk result (IsInStep (W.told wires.new) progress.new) }
+    ensures one { OnOk result (IsOneMore name.now (W.told wires.old) (W.told wires.new)) }
+    ensures dials { Dials name.now (moment (W.told wires.old) (W.faults wires.old) (W.script wires.old) (W.keeps wires.old) progress.old) (moment (W.told wires.new) (W.faults wires.new) (W.script wires.new) (W.keeps wires.new) progress.new) }
 {
     match wires.dial(name) {
         Ok(p) => {
@@ -259,8 +246,7 @@ fn take_turn<W: Wires, H: HeaderStore>(
     ensures untaken { IfOk result (λ end. IfSome end (λ e. (W.told wires.new).tally.taken ≡ (W.told wires.old).tally.taken)) }
     ensures untired { IfOk result (λ end. end ≢ Some End.Tired) }
     ensures ended { IfOk result (λ end. IsEndTold end (W.told wires.old).tally (W.told wires.new).tally) }
-    ensures course { OnOk result (Course (W.told wires.old) (W.told wires.new) (W.faults wires.old) (W.faults wires.new) (W.script wires.old) (W.script wires.new)) }
-    ensures step { OnOk result (IsInStep (W.told wires.new) progress.new) }
+    ensures turns { Turns (moment (W.told wires.old) (W.faults wires.old) (W.script wires.old) (W.keeps wires.old) progress.old) (moment (W.told wires.new) (W.faults wires.new) (W.script wires.new) (W.keeps wires.new) progress.new) }
 {
     match client.state() {
         State::Synced => return Ok(Some(End::Synced)),
@@ -293,10 +279,11 @@ fn dial_all<W: Wires, H: HeaderStore>(
     requires step { IsInStep (W.told wires.old) progress.old }
     ensures holds { OnOk result (HoldsOver client.old progress.old [] (W.told wires.old) → HoldsOver client.new progress.new (names_in names.now) (W.told wires.new)) }
     ensures watch { OnOk result (watch_by client.new ≡ watch_by client.old) }
-    ensures taken { OnOk result ((W.told wires.new).tally.taken ≡ 0) }
-    ensures unended { OnOk result ((W.told wires.new).tally.ended ≡ 0) }
-    ensures course { OnOk result (Course (W.told wires.old) (W.told wires.new) (W.faults wires.old) (W.faults wires.new) (W.script wires.old) (W.script wires.new)) }
-    ensures step { OnOk result (IsInStep (W.told wires.new) progress.new) }
+    ensures dialled { OnOk result ((W.told wires.new).tally.dials ≡ length names.now) }
+    ensures first { HasNames [] (W.told wires.old) → HasDialled (names_in names.now) (W.told wires.new) }
+    ensures taken { (W.told wires.new).tally.taken ≡ 0 }
+    ensures unended { (W.told wires.new).tally.ended ≡ 0 }
+    ensures runs { Runs (moment (W.told wires.old) (W.faults wires.old) (W.script wires.old) (W.keeps wires.old) progress.old) (moment (W.told wires.new) (W.faults wires.new) (W.script wires.new) (W.keeps wires.new) progress.new) }
 {
     for name in names {
         dial_one(alloc, wires, client, progress, name.as_str())?;
@@ -332,7 +319,10 @@ fn take_turns<W: Wires, H: HeaderStore>(
     ensures tired { IfOk result (λ end. end ≡ End.Tired → (W.told wires.new).tally.taken ≡ turns) }
     ensures ended { IfOk result (λ end. end ≡ End.Ended → (W.told wires.new).tally.ended ≡ 1) }
     ensures early { IfOk result (λ end. end ≡ End.Ended → (W.told wires.new).tally.taken < turns) }
-    ensures course { OnOk result (Course (W.told wires.old) (W.told wires.new) (W.faults wires.old) (W.faults wires.new) (W.script wires.old) (W.script wires.new)) }
+    ensures most { (W.told wires.new).tally.taken ≤ turns }
+    ensures once { (W.told wires.new).tally.ended ≤ 1 }
+    ensures same { IsNoMore (W.told wires.old) (W.told wires.new) }
+    ensures runs { Runs (moment (W.told wires.old) (W.faults wires.old) (W.script wires.old) (W.keeps wires.old) progress.old) (moment (W.told wires.new) (W.faults wires.new) (W.script wires.new) (W.keeps wires.new) progress.new) }
 {
     for _turn in 0..turns {
         if let Some(end) = take_turn(alloc, wires, client, progress)? {
@@ -342,9 +332,8 @@ fn take_turns<W: Wires, H: HeaderStore>(
     Ok(last_end(client))
 }
 
-// Ends the run: the connections that are left are ended, and what came of it is put together.
-fn finish<W: Wires, H: HeaderStore>(
-    wires: &mut W,
+// What came of a run that ended so.
+fn outcome_of<H: HeaderStore>(
     client: &mut Client<H>,
     progress: Progress,
     end: End,
@@ -353,10 +342,7 @@ fn finish<W: Wires, H: HeaderStore>(
     ensures trace { IfOk result (λ o. o.trace ≡ progress.trace) }
     ensures report { IfOk result (λ o. (log : Log) → Reflects client.old log → IsReportOf (watch_by client.old) o.height o.tip o.history log) }
     ensures ends { IfOk result (λ o. (log : Log) → Reflects client.old log → EndsTell o.ends.items log) }
-    ensures told { W.told wires.new ≡ W.told wires.old }
-    ensures course { Course (W.told wires.old) (W.told wires.new) (W.faults wires.old) (W.faults wires.new) (W.script wires.old) (W.script wires.new) }
 {
-    wires.finish();
     let ends = client.ends()?;
     let report = client.report()?;
     Ok(Outcome {
@@ -369,10 +355,8 @@ fn finish<W: Wires, H: HeaderStore>(
     })
 }
 
-/// Dials the peers in order, at most eight, follows the best chain that they show, and fetches its blocks, until nothing is open, no peer
-/// is left, the stated number of deliveries was taken, or the wires give no more. The wires are new: nothing has passed them. In the store
-/// no peer is entered.
-pub fn sync_over<W: Wires, H: HeaderStore + Drop>(
+// Dials the peers and takes turns, and puts together what came of it.
+fn follow<W: Wires, H: HeaderStore + Drop>(
     alloc: Global,
     wires: &mut W,
     names: &[String],
@@ -387,18 +371,60 @@ pub fn sync_over<W: Wires, H: HeaderStore + Drop>(
     requires empty { (q : ℕ) → H.chain store q ≡ None }
     ensures followed { IfOk result (λ o. IfSome (W.told wires.new).log (λ log. Followed watch o.end o.height o.tip o.history o.trace.items (names_in names.now) log)) }
     ensures ends { IfOk result (λ o. IfSome (W.told wires.new).log (λ log. EndsTell o.ends.items log)) }
-    ensures theorem { IfOk result (λ o. IfSome (W.told wires.new).log (λ log. SyncTheorem watch o.height o.tip o.history log)) }
     ensures no_peers { IfOk result (λ o. (o.end ≡ End.NoPeers) ↔ NobodyLeft (W.told wires.new).tally) }
     ensures tired { IfOk result (λ o. o.end ≡ End.Tired → (W.told wires.new).tally.taken ≡ turns) }
     ensures ended { IfOk result (λ o. o.end ≡ End.Ended → (W.told wires.new).tally.ended ≡ 1) }
     ensures early { IfOk result (λ o. o.end ≡ End.Ended → (W.told wires.new).tally.taken < turns) }
-    ensures course { OnOk result (Course (W.told wires.old) (W.told wires.new) (W.faults wires.old) (W.faults wires.new) (W.script wires.old) (W.script wires.new)) }
-    ensures failures { OnOk result (IfSome (W.told wires.new).log (λ log. HasFailed log → HasRisen (W.faults wires.old) (W.faults wires.new))) }
+    ensures dialled { OnOk result ((W.told wires.new).tally.dials ≡ length names.now) }
+    ensures first { HasDialled (names_in names.now) (W.told wires.new) }
+    ensures most { (W.told wires.new).tally.taken ≤ turns }
+    ensures once { (W.told wires.new).tally.ended ≤ 1 }
+    ensures finished { (W.told wires.new).finished ≡ (W.told wires.old).finished }
+    ensures keeps { W.keeps wires.new ≡ W.keeps wires.old }
+    ensures course { Course (W.told wires.old) (W.told wires.new) (W.faults wires.old) (W.faults wires.new) (W.script wires.old) (W.script wires.new) }
 {
     let mut client = Client::new(alloc, watch, store, moment, nonce)?;
     let mut progress = Progress::new(alloc);
     dial_all(alloc, wires, &mut client, &mut progress, names)?;
     let end = take_turns(alloc, wires, &mut client, &mut progress, turns)?;
-    let outcome = finish(wires, &mut client, progress, end)?;
+    let outcome = outcome_of(&mut client, progress, end)?;
     Ok(outcome)
+}
+
+/// Dials the peers in order, at most eight, follows the best chain that they show, and fetches its blocks, until nothing is open, no peer
+/// is left, the stated number of deliveries was taken, or the wires give no more. The wires are new: nothing has passed them, and they
+/// aren't finished. They are finished once, whatever is answered. In the store no peer is entered.
+pub fn sync_over<W: Wires, H: HeaderStore + Drop>(
+    alloc: Global,
+    wires: &mut W,
+    names: &[String],
+    watch: Watch,
+    store: H,
+    moment: i64,
+    nonce: u64,
+    turns: u32,
+) -> Result<Outcome, NoMemory>
+    requires fresh { Tells [] (W.told wires.old) }
+    requires open { (W.told wires.old).finished ≡ false }
+    requires few { length names.now ≤ 8 }
+    requires empty { (q : ℕ) → H.chain store q ≡ None }
+    ensures followed { IfOk result (λ o. IfSome (W.told wires.new).log (λ log. Followed watch o.end o.height o.tip o.history o.trace.items (names_in names.now) log)) }
+    ensures ends { IfOk result (λ o. IfSome (W.told wires.new).log (λ log. EndsTell o.ends.items log)) }
+    ensures theorem { IfOk result (λ o. IfSome (W.told wires.new).log (λ log. SyncTheorem watch o.height o.tip o.history log)) }
+    ensures no_peers { IfOk result (λ o. (o.end ≡ End.NoPeers) ↔ NobodyLeft (W.told wires.new).tally) }
+    ensures tired { IfOk result (λ o. o.end ≡ End.Tired → (W.told wires.new).tally.taken ≡ turns) }
+    ensures ended { IfOk result (λ o. o.end ≡ End.Ended → (W.told wires.new).tally.ended ≡ 1) }
+    ensures early { IfOk result (λ o. o.end ≡ End.Ended → (W.told wires.new).tally.taken < turns) }
+    ensures dialled { OnOk result ((W.told wires.new).tally.dials ≡ length names.now) }
+    ensures first { HasDialled (names_in names.now) (W.told wires.new) }
+    ensures most { (W.told wires.new).tally.taken ≤ turns }
+    ensures once { (W.told wires.new).tally.ended ≤ 1 }
+    ensures finished { (W.told wires.new).finished ≡ true }
+    ensures keeps { W.keeps wires.new ≡ W.keeps wires.old }
+    ensures course { Course (W.told wires.old) (W.told wires.new) (W.faults wires.old) (W.faults wires.new) (W.script wires.old) (W.script wires.new) }
+    ensures failures { IfSome (W.told wires.new).log (λ log. HasFailed log → HasRisen (W.faults wires.old) (W.faults wires.new)) }
+{
+    let outcome = follow(alloc, wires, names, watch, store, moment, nonce, turns);
+    wires.finish();
+    outcome
 }

@@ -1,5 +1,5 @@
 //! What a run notes beside the client: how the sends have gone, who was closed, and the trace.
-ghost use Rattle.std.specs.Prelude.{◌≡◌, ℕ, ◌<◌, ◌≤◌, IfSome, IfNone, true, false, [], replicate, slice_set, slice_index_or};
+ghost use Rattle.std.specs.Prelude.{◌≡◌, ℕ, ◌<◌, ◌≤◌, IfSome, IfNone, true, false, [], length, replicate, slice_set, slice_index_or};
 ghost use Rattle.cf_client.specs.Run.{state_at, is_pending as pending_at, is_fine, trouble};
 
 use crate::trace::TraceLine;
@@ -65,6 +65,17 @@ impl Progress {
         if self.sends[p.0 as usize] == SendState::Fine {
             self.sends[p.0 as usize] = SendState::Pending;
         }
+    }
+
+    // Notes that the client is told of a failed send.
+    pub(crate) fn note_told(&mut self, p: PeerNo)
+        requires number { p.0 < 9 }
+        requires pending { pending_at (state_at self.old.sends p.0) ≡ true }
+        ensures told { self.new ≡ record self.old { sends = slice_set self.old.sends p.0 SendState.Known } }
+        ensures fewer { trouble self.new < trouble self.old }
+        ensures within { p.0 < length self.old.sends }
+    {
+        self.sends[p.0 as usize] = SendState::Known;
     }
 
     /// The lowest peer whose failed send is still to be told.

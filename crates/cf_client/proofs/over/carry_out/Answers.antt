@@ -1,10 +1,10 @@
 use Rattle.cf_client.specs.Places.{after}
-use Rattle.cf_client.proofs.Courses.{course_on}
+use Rattle.cf_client.proofs.Courses.{performs_then}
 use Rattle.cf_client.proofs.over.carry_out.Goals as goal
 
 pub returns-clause-holds : goal.returns-clause-holds
 returns-clause-holds g c = λ called log answers doing.
     c.in_ok-settle.ensures.holds called (after c.args.acts.now log) answers.stand (c.in_ok-perform.ensures.doing called log answers.allowed doing)
 
-pub returns-clause-course : goal.returns-clause-course
-returns-clause-course g c = course_on _ _ _ _ _ _ _ _ _ c.in_ok-perform.ensures.course c.in_ok-settle.ensures.course
+pub returns-clause-performs : goal.returns-clause-performs
+returns-clause-performs g c = performs_then c.in_ok-perform.ensures.performs c.in_ok-settle.ensures.performs

@@ -1,9 +1,12 @@
-use Rattle.std.proofs.Common.{List, ◌∷◌, ◌<◌, length, sym, ◌∙◌, subst, arith}
+use Rattle.std.proofs.Common.{List, ◌≡◌, ◌∷◌, ◌++◌, ◌<◌, [], length, set, sym, ◌∙◌, ap, subst, arith}
 use Rattle.cf_peer.specs.declared.act.Act.{Act}
 use Rattle.cf_peer.specs.declared.event.Event.TheVariants.{SendFailed}
+use Rattle.cf_peer.specs.declared.peer.Cause.TheVariants.{SendFailed as SendFault}
+use Rattle.cf_client.specs.declared.progress.Progress.{Progress}
+use Rattle.cf_client.specs.declared.progress.SendState.TheVariants.{Known}
 use Rattle.cf_client.specs.Places.{Allowed, after}
 use Rattle.cf_client.specs.Run.{Doing}
-use Rattle.cf_client.proofs.Courses.{course_on, counts_on}
+use Rattle.cf_client.proofs.Courses.{noted_performs, performs_then}
 use Rattle.cf_client.proofs.Performs.{cut_for, told_one, all_told, in_use}
 use Rattle.cf_client.proofs.over.settle.Goals as goal
 
@@ -13,22 +16,24 @@ loop-p-preserved g c = record {
       let p = c.in-Some.p in
       let w = c.loop-p.invariant.waits called planned reflects doing in
       let next = SendFailed p ∷ w.planned in
-      let lt : p.0 < length c.loop-p.progress.sends = omega (arith, c.in-Some.ensures.some.0) in
-      let used = in_use c.loop-p.progress called w.planned (g.W.Wires.told c.loop-p.wires) p.0 c.in-Some.ensures.some.1 w.doing in
+      let lt : p.0 < length c.loop-p.progress.sends = c.note_told.ensures.within in
+      let used = in_use [] c.loop-p.progress called w.planned (g.W.Wires.told c.loop-p.wires) p.0 c.in-Some.ensures.some.1 w.doing in
       let a = c.in_ok-acts.ensures.answers w.planned next (omega (arith, used, w.reflects.places.count)) w.reflects (cut_for p w.planned) in
-      let told = told_one c.loop-p.progress called w.planned (g.W.Wires.told c.loop-p.wires) p lt c.in-Some.ensures.some.1 w.doing in
+      let first = c.in_ok-acts.ensures.first (omega (arith, used, w.reflects.places.count)) in
+      let told = told_one first.0 c.loop-p.progress called w.planned (g.W.Wires.told c.loop-p.wires) p SendFault lt c.in-Some.ensures.some.1 w.doing in
+      let begun = subst (λ (acts : List Act). Doing acts (record c.loop-p.progress { sends = set c.loop-p.progress.sends p.0 Known }) called next (g.W.Wires.told c.loop-p.wires)) (sym first.1 ∙ sym c.deref.ensures.value) told in
+      let noted = subst (λ (x : Progress). Doing c.deref.result.now x called next (g.W.Wires.told c.loop-p.wires)) (sym c.note_told.ensures.told) begun in
       let allowed = subst (λ (acts : List Act). Allowed acts next) (sym c.deref.ensures.value) a.allowed in
-      let done = c.in_ok-perform.ensures.doing called next allowed told in
+      let done = c.in_ok-perform.ensures.doing called next allowed noted in
       record {
         planned = after c.in_ok-acts.acts.items next;
         reflects = a.stand;
-        doing = subst (λ (acts : List Act). Doing c.perform.new.progress called (after acts next) (g.W.Wires.told c.perform.new.wires)) c.deref.ensures.value done;
+        doing = subst (λ (acts : List Act). Doing [] c.perform.new.progress called (after acts next) (g.W.Wires.told c.perform.new.wires)) c.deref.ensures.value done;
       };
   count = c.in_ok-acts.ensures.count ∙ c.loop-p.invariant.count;
   watch = c.in_ok-acts.ensures.watch ∙ c.loop-p.invariant.watch;
-  keeps = counts_on _ _ _ c.loop-p.invariant.keeps c.in_ok-perform.ensures.keeps;
-  course = course_on _ _ _ _ _ _ _ _ _ c.loop-p.invariant.course c.in_ok-perform.ensures.course;
-  step = c.in_ok-perform.ensures.step;
+  performs = performs_then c.loop-p.invariant.performs
+      (performs_then (noted_performs _ _ _ _ c.loop-p.progress _ (ap (λ (x : Progress). x.closed) c.note_told.ensures.told) c.note_told.ensures.fewer c.loop-p.invariant.performs.runs.step) c.in_ok-perform.ensures.performs);
 }
 
 pub returns-clause-holds : goal.returns-clause-holds

@@ -1,18 +1,16 @@
-use Rattle.std.proofs.Common.{◌≡◌, List, ℕ}
+use Rattle.std.proofs.Common.{◌≡◌, List, [], ℕ}
 use Rattle.cf_peer.specs.Log.{Log}
 use Rattle.cf_client.specs.Stands.{Reflects, count_of, watch_by}
-use Rattle.cf_client.specs.Run.{Doing, Waits, trouble, SameCounts, Course, IsInStep}
+use Rattle.cf_client.specs.Run.{Doing, Waits, trouble, moment, Performs}
 use Rattle.cf_client.proofs.over.settle.Given as goal
 
 abbrev pub invariant-loop-p : goal.invariant-loop-p
 invariant-loop-p g l = record {
-  waits : (called : List (List ℕ)) (planned : Log) → Reflects l.fn.client planned → Doing l.fn.progress called planned (g.W.Wires.told l.fn.wires)
+  waits : (called : List (List ℕ)) (planned : Log) → Reflects l.fn.client planned → Doing [] l.fn.progress called planned (g.W.Wires.told l.fn.wires)
       → Waits l.client l.progress called (g.W.Wires.told l.wires);
   count : count_of l.client ≡ count_of l.fn.client;
   watch : watch_by l.client ≡ watch_by l.fn.client;
-  keeps : SameCounts (g.W.Wires.told l.fn.wires) (g.W.Wires.told l.wires);
-  course : Course (g.W.Wires.told l.fn.wires) (g.W.Wires.told l.wires) (g.W.Wires.faults l.fn.wires) (g.W.Wires.faults l.wires) (g.W.Wires.script l.fn.wires) (g.W.Wires.script l.wires);
-  step : IsInStep (g.W.Wires.told l.wires) l.progress;
+  performs : Performs (moment (g.W.Wires.told l.fn.wires) (g.W.Wires.faults l.fn.wires) (g.W.Wires.script l.fn.wires) (g.W.Wires.keeps l.fn.wires) l.fn.progress) (moment (g.W.Wires.told l.wires) (g.W.Wires.faults l.wires) (g.W.Wires.script l.wires) (g.W.Wires.keeps l.wires) l.progress);
 }
 
 abbrev pub decreases-loop-p : goal.decreases-loop-p

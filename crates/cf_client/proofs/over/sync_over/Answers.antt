@@ -1,67 +1,9 @@
-use Rattle.std.proofs.Common.{List, ℕ, ◌∙◌, subst}
-use Rattle.std.specs.Prelude.{IfSome}
-use Rattle.cf_sync.proofs.Settles.{sync_theorem_of}
-use Rattle.cf_sync.specs.Sync.{SyncTheorem}
 use Rattle.cf_client.specs.Names.{names_in}
-use Rattle.cf_client.specs.Places.{EndsTell}
-use Rattle.cf_client.specs.Run.{Followed}
-use Rattle.cf_client.specs.Stands.{watch_by}
-use Rattle.cf_client.proofs.Turns.{starts, finishes, no_peers, told_so}
-use Rattle.cf_client.proofs.Courses.{course_on, failures_blamed}
+use Rattle.cf_client.proofs.Dialling.{theorem_in}
 use Rattle.cf_client.proofs.over.sync_over.Goals as goal
 
-pub returns-clause-followed : goal.returns-clause-followed
-returns-clause-followed g c =
-    let t = g.W.Wires.told c.take_turns.new.wires in
-    let called = names_in c.args.names.now in
-    let start = starts c.in_ok-client.client c.new-progress.result (g.W.Wires.told c.args.wires.now) c.in_ok-client.ensures.reflects c.new-progress.ensures.sends c.new-progress.ensures.closed c.new-progress.ensures.trace c.requires.fresh in
-    let stopped = c.in_ok-end.ensures.stopped called (c.in_ok-dial_all.ensures.holds start) in
-    let o = c.in_ok-outcome.outcome in
-    let end = finishes c.in_ok-end.end c.take_turns.new.client c.take_turns.new.progress called t o.height o.tip o.history stopped c.in_ok-outcome.ensures.report in
-    let watched = c.in_ok-end.ensures.watch ∙ c.in_ok-dial_all.ensures.watch ∙ c.in_ok-client.ensures.watch in
-    rw (c.finish.ensures.told, c.in_ok-outcome.ensures.end, c.in_ok-outcome.ensures.trace) (
-    subst (λ (watch : List (List ℕ)). IfSome t.log (Followed watch c.in_ok-end.end o.height o.tip o.history c.take_turns.new.progress.trace.items called)) watched
-    (told_so t.log end.actual (Followed (watch_by c.take_turns.new.client) c.in_ok-end.end o.height o.tip o.history c.take_turns.new.progress.trace.items called) end.tells.content end.followed))
-
-pub returns-clause-ends : goal.returns-clause-ends
-returns-clause-ends g c =
-    let t = g.W.Wires.told c.take_turns.new.wires in
-    let called = names_in c.args.names.now in
-    let start = starts c.in_ok-client.client c.new-progress.result (g.W.Wires.told c.args.wires.now) c.in_ok-client.ensures.reflects c.new-progress.ensures.sends c.new-progress.ensures.closed c.new-progress.ensures.trace c.requires.fresh in
-    let stopped = c.in_ok-end.ensures.stopped called (c.in_ok-dial_all.ensures.holds start) in
-    let holds = stopped.holds in
-    rw c.finish.ensures.told
-    (told_so t.log holds.actual (EndsTell c.in_ok-outcome.outcome.ends.items) holds.notes.tells.content (c.in_ok-outcome.ensures.ends holds.actual holds.reflects))
-
 pub returns-clause-theorem : goal.returns-clause-theorem
-returns-clause-theorem g c =
-    let t = g.W.Wires.told c.take_turns.new.wires in
-    let called = names_in c.args.names.now in
-    let start = starts c.in_ok-client.client c.new-progress.result (g.W.Wires.told c.args.wires.now) c.in_ok-client.ensures.reflects c.new-progress.ensures.sends c.new-progress.ensures.closed c.new-progress.ensures.trace c.requires.fresh in
-    let stopped = c.in_ok-end.ensures.stopped called (c.in_ok-dial_all.ensures.holds start) in
-    let o = c.in_ok-outcome.outcome in
-    let end = finishes c.in_ok-end.end c.take_turns.new.client c.take_turns.new.progress called t o.height o.tip o.history stopped c.in_ok-outcome.ensures.report in
-    let watched = c.in_ok-end.ensures.watch ∙ c.in_ok-dial_all.ensures.watch ∙ c.in_ok-client.ensures.watch in
-    rw c.finish.ensures.told (
-    subst (λ (watch : List (List ℕ)). IfSome t.log (SyncTheorem watch o.height o.tip o.history)) watched
-    (told_so t.log end.actual (SyncTheorem (watch_by c.take_turns.new.client) o.height o.tip o.history) end.tells.content
-    (sync_theorem_of (watch_by c.take_turns.new.client) o.height o.tip o.history end.actual end.followed.asked)))
+returns-clause-theorem g c = rw c.finish.ensures.told (theorem_in c.args.watch (names_in c.args.names.now) _ _ c.follow.ensures.followed)
 
 pub returns-clause-no_peers : goal.returns-clause-no_peers
-returns-clause-no_peers g c =
-    let t = g.W.Wires.told c.take_turns.new.wires in
-    let called = names_in c.args.names.now in
-    let start = starts c.in_ok-client.client c.new-progress.result (g.W.Wires.told c.args.wires.now) c.in_ok-client.ensures.reflects c.new-progress.ensures.sends c.new-progress.ensures.closed c.new-progress.ensures.trace c.requires.fresh in
-    let stopped = c.in_ok-end.ensures.stopped called (c.in_ok-dial_all.ensures.holds start) in
-    let o = c.in_ok-outcome.outcome in
-    let end = finishes c.in_ok-end.end c.take_turns.new.client c.take_turns.new.progress called t o.height o.tip o.history stopped c.in_ok-outcome.ensures.report in
-    rw (c.finish.ensures.told, c.in_ok-outcome.ensures.end) (no_peers (watch_by c.take_turns.new.client) c.in_ok-end.end o.height o.tip o.history c.take_turns.new.progress.trace.items called t end)
-
-pub returns-clause-course : goal.returns-clause-course
-returns-clause-course g c =
-    course_on _ _ _ _ _ _ _ _ _ (course_on _ _ _ _ _ _ _ _ _ c.in_ok-dial_all.ensures.course c.in_ok-end.ensures.course) c.finish.ensures.course
-
-pub returns-clause-failures : goal.returns-clause-failures
-returns-clause-failures g c =
-    failures_blamed _ _ _ _ _ _ c.requires.fresh
-    (course_on _ _ _ _ _ _ _ _ _ (course_on _ _ _ _ _ _ _ _ _ c.in_ok-dial_all.ensures.course c.in_ok-end.ensures.course) c.finish.ensures.course)
+returns-clause-no_peers g c = rw c.finish.ensures.told c.follow.ensures.no_peers

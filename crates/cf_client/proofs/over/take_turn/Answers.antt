@@ -4,8 +4,8 @@ use Rattle.cf_peer.specs.declared.event.Delivery.{Delivery}
 use Rattle.cf_peer.specs.declared.event.Event.TheVariants.{Took}
 use Rattle.cf_peer.specs.Log.{tell, Told}
 use Rattle.cf_client.specs.Stands.{Answers}
-use Rattle.cf_client.proofs.Turns.{took_doing, ended_stops, took_counts}
-use Rattle.cf_client.proofs.Courses.{course_on, course_told}
+use Rattle.cf_client.proofs.Turns.{took_doing, ended_stops, took_counts, took_closed}
+use Rattle.cf_client.proofs.Courses.{told_runs, turns_took, turns_then}
 use Rattle.cf_client.proofs.over.take_turn.Goals as goal
 
 pub returns-in-Synced-clause-turned : goal.returns-in-Synced-clause-turned
@@ -23,20 +23,19 @@ pub returns-clause-turned : goal.returns-clause-turned
 returns-clause-turned g c = λ called holds.
     let d = c.in_ok-d.d in
     let log = Took d ∷ holds.actual in
-    let doing = took_doing c.args.client.now c.args.progress.now called (g.W.Wires.told c.args.wires.now) d c.note_bytes.ensures holds (c.in-Working.ensures.state holds.actual holds.reflects) in
+    let doing = took_doing c.args.client.now c.deref.result.now c.args.progress.now called (g.W.Wires.told c.args.wires.now) d c.note_bytes.ensures holds (c.in-Working.ensures.state holds.actual holds.reflects) in
     let a = c.in_ok-acts.ensures.answers holds.actual holds.reflects in
     c.in_ok-carry_out.ensures.holds called log
     (subst (λ (acts : List Act). Answers c.step.new.self acts log) (sym c.deref.ensures.value) a)
     (rw c.in_ok-d.ensures.took doing)
 
 pub returns-clause-taken : goal.returns-clause-taken
-returns-clause-taken g c = c.in_ok-carry_out.ensures.keeps.taken ∙ ap (λ (t : Told). t.tally.taken) c.in_ok-d.ensures.took ∙ took_counts c.in_ok-d.d (g.W.Wires.told c.args.wires.now) c.in_default.not-Ended
+returns-clause-taken g c = c.in_ok-carry_out.ensures.performs.counts.taken ∙ ap (λ (t : Told). t.tally.taken) c.in_ok-d.ensures.took ∙ took_counts c.in_ok-d.d (g.W.Wires.told c.args.wires.now) c.in_default.not-Ended
 
-pub returns-in-Ended-clause-course : goal.returns-in-Ended-clause-course
-returns-in-Ended-clause-course g c = course_told (Took c.in_ok-d.d) _ _ _ _ _ _ refl c.in_ok-d.ensures.took c.in_ok-d.ensures.later c.in_ok-d.ensures.same
-
-pub returns-clause-course : goal.returns-clause-course
-returns-clause-course g c =
-    course_on _ _ _ _ _ _ _ _ _
-    (course_told (Took c.in_ok-d.d) _ _ _ _ _ _ refl c.in_ok-d.ensures.took c.in_ok-d.ensures.later c.in_ok-d.ensures.same)
-    c.in_ok-carry_out.ensures.course
+pub returns-clause-turns : goal.returns-clause-turns
+returns-clause-turns g c =
+    turns_then
+    (turns_took c.in_ok-d.d _ _
+    (told_runs (Took c.in_ok-d.d) _ _ refl c.in_ok-d.ensures.took c.in_ok-d.ensures.later c.in_ok-d.ensures.same c.in_ok-d.ensures.keeps (took_closed c.in_ok-d.d (g.W.Wires.told c.args.wires.now)) refl c.requires.step)
+    c.in_ok-d.ensures.took)
+    c.in_ok-carry_out.ensures.performs

@@ -1,5 +1,5 @@
 use Rattle.std.proofs.Common.{◌≡◌, List, ℕ}
-use Rattle.cf_client.specs.Run.{HoldsOver, Course, IsInStep}
+use Rattle.cf_client.specs.Run.{HoldsOver, moment, Runs, IsNoMore}
 use Rattle.cf_client.specs.Stands.{watch_by}
 use Rattle.cf_client.proofs.over.take_turns.Given as goal
 
@@ -9,6 +9,6 @@ invariant-loop-turn g l = record {
   watch : watch_by l.client ≡ watch_by l.fn.client;
   taken : (g.W.Wires.told l.wires).tally.taken ≡ l._turn;
   unended : (g.W.Wires.told l.wires).tally.ended ≡ 0;
-  course : Course (g.W.Wires.told l.fn.wires) (g.W.Wires.told l.wires) (g.W.Wires.faults l.fn.wires) (g.W.Wires.faults l.wires) (g.W.Wires.script l.fn.wires) (g.W.Wires.script l.wires);
-  step : IsInStep (g.W.Wires.told l.wires) l.progress;
+  same : IsNoMore (g.W.Wires.told l.fn.wires) (g.W.Wires.told l.wires);
+  runs : Runs (moment (g.W.Wires.told l.fn.wires) (g.W.Wires.faults l.fn.wires) (g.W.Wires.script l.fn.wires) (g.W.Wires.keeps l.fn.wires) l.fn.progress) (moment (g.W.Wires.told l.wires) (g.W.Wires.faults l.wires) (g.W.Wires.script l.wires) (g.W.Wires.keeps l.wires) l.progress);
 }

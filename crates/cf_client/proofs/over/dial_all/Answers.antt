@@ -1,0 +1,28 @@
+use Rattle.std.proofs.Common.{ℕ, ◌+◌, List, take, ◌∙◌, ap, subst, arith}
+use Rattle.cf_client.specs.Names.{names_in}
+use Rattle.cf_client.specs.Run.{HoldsOver}
+use Rattle.cf_client.proofs.Courses.{runs_then}
+use Rattle.cf_client.proofs.Dialling.{names_more_as, one_dialled, most_dialled}
+use Rattle.cf_client.proofs.over.dial_all.Goals as goal
+
+pub returns-in_err-dial_one-clause-first : goal.returns-in_err-dial_one-clause-first
+returns-in_err-dial_one-clause-first g c = λ none.
+    most_dialled c.args.names.now c.loop-name.name-index c.name-item.result c.as_str.result.now _ _ (omega arith) c.name-item.is c.as_str.ensures.value c.loop-name.invariant.dials
+    (c.loop-name.invariant.named none) c.in_err-dial_one.ensures.dials
+
+pub loop-name-preserved : goal.loop-name-preserved
+loop-name-preserved g c = record {
+  holds = λ start.
+      subst (λ (called : List (List ℕ)). HoldsOver c.dial_one.new.client c.dial_one.new.progress called (g.W.Wires.told c.dial_one.new.wires))
+      (names_more_as c.args.names.now c.loop-name.name-index c.name-item.result c.as_str.result.now (omega arith) c.name-item.is c.as_str.ensures.value)
+      (c.in_ok-dial_one.ensures.holds (names_in (take c.loop-name.name-index c.args.names.now)) (c.loop-name.invariant.holds start));
+  named = λ none.
+      one_dialled c.args.names.now c.loop-name.name-index c.name-item.result c.as_str.result.now _ _ (omega arith) c.name-item.is c.as_str.ensures.value
+      (c.loop-name.invariant.named none) c.in_ok-dial_one.ensures.one;
+  dials = c.in_ok-dial_one.ensures.one.dials ∙ ap (λ (n : ℕ). n + 1) c.loop-name.invariant.dials;
+  taken = c.in_ok-dial_one.ensures.dials.taken ∙ c.loop-name.invariant.taken;
+  unended = c.in_ok-dial_one.ensures.dials.ended ∙ c.loop-name.invariant.unended;
+  watch = c.in_ok-dial_one.ensures.watch ∙ c.loop-name.invariant.watch;
+  next = c.in_ok-dial_one.ensures.next;
+  runs = runs_then c.loop-name.invariant.runs c.in_ok-dial_one.ensures.dials.runs;
+}
