@@ -22,7 +22,7 @@ use Rattle.cf_peer.specs.Trail.{Trail, Part, Said, part_after, heard_part, ready
 use Rattle.cf_peer.specs.Asking.{request, counted, fetched, fetched_by}
 use Rattle.cf_peer.specs.Hearing.{IsReply, Faulty}
 use Rattle.cf_peer.specs.Peer.{Holds, awaits}
-use Rattle.cf_peer.proofs.Peers.{other_block, reply_is}
+use Rattle.cf_peer.proofs.Peers.{other_block, reply_is, same_holds}
 use Rattle.cf_peer.proofs.Stream.{faulty_said, said_met}
 use Rattle.cf_scan.specs.declared.extracts.TxExtract.{TxExtract}
 use Rattle.cf_tracker.specs.Tables.{Table, IsSameTable, with_block, with_blocks}
@@ -134,7 +134,7 @@ brings_said : (peer : Peer) (m : Msg) (start t : Trail) (news : List Block) → 
 brings_said peer m start t news h is =
     said_brings m t h.on h.clean ∙ ap (λ (bs : List Block). fetched_by m (request t) ++ bs) is ∙ sym (append_assoc (fetched_by m (request t)) news (fetched (counted start)))
 
-pub midway_start : (p : PeerNo) (peer : Peer) (seen : Seen) (acts : List Act) (piece : List ℕ) (start : Part) → Holds peer start.trail → peer.framer ≡ start.waits ++ piece
+midway_start : (p : PeerNo) (peer : Peer) (seen : Seen) (acts : List Act) (piece : List ℕ) (start : Part) → Holds peer start.trail → peer.framer ≡ start.waits ++ piece
     → seen.chains p.0 ≡ Some (own start.trail) → Midway p peer seen seen acts acts start (heard_part piece start)
 midway_start p peer seen acts piece start holds e chain = record {
   so_far = start.trail;
@@ -148,6 +148,13 @@ midway_start p peer seen acts piece start holds e chain = record {
   brings = refl;
   gains = gains_none seen p start.trail chain;
 }
+
+-- the piece is added to the bytes that wait
+pub midway_fed : (p : PeerNo) (old peer : Peer) (seen : Seen) (acts : List Act) (piece : List ℕ) (start : Part) → peer ≡ record old { framer = old.framer ++ piece } → Holds old start.trail → old.framer ≡ start.waits
+    → seen.chains p.0 ≡ Some (own start.trail) → Midway p peer seen seen acts acts start (heard_part piece start)
+midway_fed p old peer seen acts piece start fed holds waits chain =
+    midway_start p peer seen acts piece start (subst (λ (x : Peer). Holds x start.trail) (sym fed) (same_holds old (old.framer ++ piece) start.trail holds))
+    (ap (λ (x : Peer). x.framer) fed ∙ ap (λ (w : List ℕ). w ++ piece) waits) chain
 
 pub midway_quiet : (p : PeerNo) (old new : Peer) (seen now next : Seen) (before acts : List Act) (start end : Part) (midway : Midway p old seen now before acts start end)
     → Advances now next p old new midway.so_far [] → Midway p new seen next before acts start end

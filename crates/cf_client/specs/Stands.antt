@@ -77,5 +77,5 @@ pub record IsReportOf (watch : List (List ℕ)) (height : ℕ) (hash : Hash32) (
   pub asked_out : (p : ℕ) → IsConnected log p → is_open (trail log p) ≡ false → IsAskedOut log told.chain p
 
 -- the history alone, over the chain of which the tip is told
-abbrev pub IsHistoryOf : List (List ℕ) → List Entry → Log → Type 0
-IsHistoryOf watch entries log = (height : ℕ) × ((hash : Hash32) × IsReportOf watch height hash entries log)
+abbrev pub IsHistoryTold : List (List ℕ) → List Entry → Log → Type 0
+IsHistoryTold watch entries log = (height : ℕ) × ((hash : Hash32) × IsReportOf watch height hash entries log)

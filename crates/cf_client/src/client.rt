@@ -119,7 +119,7 @@ impl<H: HeaderStore> Client<H> {
     ghost use Rattle.cf_peer.specs.declared.peer.Cause.TheVariants.{SendFailed};
     ghost use Rattle.cf_client.specs.Places.{ActTells, CutFor, Greets, IsState, EndsTell};
     ghost use Rattle.cf_client.specs.Steps.{Extends};
-    ghost use Rattle.cf_client.specs.Stands.{Reflects, Answers, IsTip, IsReportOf, IsHistoryOf, IsInnocent, AreAnswered, is_dead, open_count, count_of, watch_by, words_by};
+    ghost use Rattle.cf_client.specs.Stands.{Reflects, Answers, IsTip, IsReportOf, IsHistoryTold, IsInnocent, AreAnswered, is_dead, open_count, count_of, watch_by, words_by};
 
     /// A client that knows of no peer yet, over a store in which no peer is entered. It watches these scripts. Its `version` tells
     /// this moment, in seconds since 1970, and this number.
@@ -296,7 +296,7 @@ impl<H: HeaderStore> Client<H> {
 
     /// The history of the best chain's blocks that were fetched.
     pub fn history(&mut self) -> Result<History, NoMemory>
-        ensures history { IfOk result (λ entries. (log : Log) → Reflects self.old log → IsHistoryOf (watch_by self.old) entries log) }
+        ensures history { IfOk result (λ entries. (log : Log) → Reflects self.old log → IsHistoryTold (watch_by self.old) entries log) }
         ensures same { OnOk result (self.new ≡ self.old) }
         ensures dead { is_dead self.old ≡ true → IsErr result }
         ensures err { OnErr result (is_dead self.new ≡ true) }

@@ -7,16 +7,13 @@ use Rattle.cf_peer.specs.Peer.{Holds, calm, IsReplySendable}
 use Rattle.cf_peer.proofs.Peers.{same_holds}
 use Rattle.cf_client.specs.Tracks.{seen_of}
 use Rattle.cf_client.specs.Hearing.{HearsNext}
-use Rattle.cf_client.proofs.Hearing.{midway_start, midway_quiet, midway_reply, doable_with}
+use Rattle.cf_client.proofs.Hearing.{midway_fed, midway_quiet, midway_reply, doable_with}
 use Rattle.cf_client.proofs.hear.hear_piece.Goals as goal
 
 pub loop-reply-init : goal.loop-reply-init
 loop-reply-init g c = record {
   midway = λ part holds waits chain.
-      let fed = c.in_ok-feed.ensures.fed in
-      midway_start c.args.p c.feed.new.self (seen_of c.args.tracker.now) c.args.acts.now.items c.args.piece.now part
-      (subst (λ (x : Peer). Holds x part.trail) (sym fed) (same_holds c.args.peer.now (c.args.peer.now.framer ++ c.args.piece.now) part.trail holds))
-      (ap (λ (x : Peer). x.framer) fed ∙ ap (λ (w : List ℕ). w ++ c.args.piece.now) waits) chain;
+      midway_fed c.args.p c.args.peer.now c.feed.new.self (seen_of c.args.tracker.now) c.args.acts.now.items c.args.piece.now part c.in_ok-feed.ensures.fed holds waits chain;
   doable = λ number all. all;
   entered = c.requires;
   others = λ q ne. refl;
