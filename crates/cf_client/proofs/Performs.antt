@@ -263,18 +263,18 @@ pub skipped_send : (acts : List Act) (progress : Progress) (called : List (List 
     → Doing (Send p m ∷ acts) progress called planned t → Doing acts progress called (Sent p (bytes_of m) ∷ planned) t
 skipped_send acts progress called planned t p m is may doing =
     skipped (Send p m) acts progress called planned t p.0 (Sent p (bytes_of m)) (Asked m) is
-        (λ q ne. sent_others p (bytes_of m) q (part_of planned q) ne)
-        (λ q e. sent_here p (bytes_of m) m q (part_of planned q) e (spelled_bytes m may.1))
-        (λ more meant. meant) (λ q ne. refl) refl (λ q. sent_brought p (bytes_of m) planned q) doing
+    (λ q ne. sent_others p (bytes_of m) q (part_of planned q) ne)
+    (λ q e. sent_here p (bytes_of m) m q (part_of planned q) e (spelled_bytes m may.1))
+    (λ more meant. meant) (λ q ne. refl) refl (λ q. sent_brought p (bytes_of m) planned q) doing
 
 pub skipped_close : (acts : List Act) (progress : Progress) (called : List (List ℕ)) (planned : Log) (t : Told) (p : PeerNo) (cause : Cause)
     → is_pending (state_at progress.sends p.0) ≡ true
     → Doing (Close p cause ∷ acts) progress called planned t → Doing acts progress called (Closed p ∷ planned) t
 skipped_close acts progress called planned t p cause is doing =
     skipped (Close p cause) acts progress called planned t p.0 (Closed p) (Lost Shutting) is
-        (λ q ne. closed_others p q (part_of planned q) ne)
-        (λ q e. closed_here p q (part_of planned q) e)
-        (λ more meant. meant) (λ q ne. closes_others p cause acts q ne) refl (λ q. closed_brought p planned q) doing
+    (λ q ne. closed_others p q (part_of planned q) ne)
+    (λ q e. closed_here p q (part_of planned q) e)
+    (λ more meant. meant) (λ q ne. closes_others p cause acts q ne) refl (λ q. closed_brought p planned q) doing
 
 reverse_push : (xs : List TraceLine) (x : TraceLine) → reverse (xs ++ x ∷ []) ≡ x ∷ reverse xs
 reverse_push xs x = reverse-append xs (x ∷ [])
@@ -512,18 +512,17 @@ failed_on acts progress called planned t p m lt free may doing =
             (
               tt,
               sent_here p bytes m q (part_of planned q) e spells
-              ∙ ap (with_item (Asked m)) (subst (λ (k : ℕ). part_of planned k ≡ part_of doing.actual k) (sym e) same)
-              ∙ ap (λ (log : Log). with_item (Asked m) (part_of log q)) (sym (before_failing_here p doing.actual q e)),
+                  ∙ ap (with_item (Asked m)) (subst (λ (k : ℕ). part_of planned k ≡ part_of doing.actual k) (sym e) same)
+                  ∙ ap (λ (log : Log). with_item (Asked m) (part_of log q)) (sym (before_failing_here p doing.actual q e)),
             ),
           )
           | inr ne ↦
-              let more = doing.plan.untold q (before q ne untold) in
-              (
+              let more = doing.plan.untold q (before q ne untold) in (
                 more.0,
                 (
                   more.1.0,
                   sent_others p bytes q (part_of planned q) ne ∙ more.1.1
-                  ∙ ap (λ (log : Log). record (part_of log q) { trail = more.0 ++ trail log q }) (sym (before_failing_others p doing.actual q ne)),
+                      ∙ ap (λ (log : Log). record (part_of log q) { trail = more.0 ++ trail log q }) (sym (before_failing_others p doing.actual q ne)),
                 ),
               )
         ];
