@@ -63,8 +63,20 @@ pub fn extract_by(
     requires { AreTxids txids.now block.now.txs }
     ensures { IfOk result (λ e. e ≡ extract_of block.now watch.now) }
 {
-    let mut out = Vec::with_capacity(alloc, txids.len())?;
-    for (i, tx) in block.txs.as_slice().iter().enumerate() {
+    extract_txs(alloc, block.txs.as_slice(), txids, watch)
+}
+
+fn extract_txs(
+    alloc: Global,
+    txs: &[Tx],
+    txids: &[Hash32],
+    watch: &Watch,
+) -> Result<Extract, NoMemory>
+    requires { AreTxids txids.now txs.now }
+    ensures { IfOk result (λ e. e ≡ map (tx_extract_of watch.now) txs.now) }
+{
+    let mut out = Vec::with_capacity(alloc, txs.len())?;
+    for (i, tx) in txs.iter().enumerate() {
         let extract = extract_tx(alloc, tx, txids[i], watch)?;
         out.push(extract)?;
     }
