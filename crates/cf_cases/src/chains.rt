@@ -21,7 +21,7 @@ fn made(alloc: Global, text: &str) -> Option<Chain> {
 
 fn extended(alloc: Global, base: &Chain, height: u32, text: &str) -> Option<Chain> {
     let (seed, blocks) = numbers_of(text)?;
-    if seed > 1000 || blocks > 10_000 || height as usize > base.len() {
+    if seed > 1000 || height > 10_000 || blocks > 10_000 || height as usize > base.len() {
         return None;
     }
     extend(alloc, base, height, seed, blocks).ok()

@@ -41,7 +41,10 @@ fn told(alloc: Global, command: &Command) -> Option<String> {
 /// The text that the program has of itself for the words of a row. They are parted by `|`.
 pub(crate) fn text(alloc: Global, row: &str) -> Option<String> {
     let words = texts_in(alloc, row, '|')?;
-    String::from_str(alloc, own_text(&words).unwrap_or("none\n")).ok()
+    match own_text(&words) {
+        Some(own) => String::from_str(alloc, own).ok(),
+        None => String::from_str(alloc, "none\n").ok(),
+    }
 }
 
 /// What the words of a row ask for. They are parted by `|`.

@@ -1,4 +1,6 @@
 //! Streams of frames.
+ghost use Rattle.cf_frame.specs.Frame.{IsFrame};
+
 use crate::fields::{bytes_in, digits_of};
 use cf_frame::{Frame, Framer, encode};
 use std::alloc::Global;
@@ -7,7 +9,9 @@ use std::alloc::Global;
 const MOST: usize = 100;
 
 // A line of a frame: its command, its payload, and its spelling.
-fn line_of(alloc: Global, frame: &Frame) -> Option<String> {
+fn line_of(alloc: Global, frame: &Frame) -> Option<String>
+    requires { IsFrame frame.now }
+{
     let command = str::from_utf8(&frame.command).ok()?.trim_end_matches('\0');
     let payload = digits_of(alloc, frame.payload.as_slice())?;
     let spelled = encode(alloc, &frame.command, frame.payload.as_slice()).ok()?;
