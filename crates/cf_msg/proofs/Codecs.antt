@@ -1,23 +1,19 @@
 -- Each field and each row of the table: what is spelled is read again, and what is read was spelled so.
-use Rattle.std.proofs.Common.{◌≡◌, ℕ, ℤ, FitsSigned, zero, suc, ◌<◌, ◌≤◌, ◌^◌, List, [], ◌∷◌, ◌++◌, nat_lt, true, Result, Ok, Err, refl, sym, ap, ◌∙◌, append_assoc, arith, inl, inr, lt-ltb, le-ltb, subst}
+use Rattle.std.proofs.Common.{◌≡◌, ℕ, zero, suc, ◌<◌, ◌≤◌, ◌^◌, List, [], ◌∷◌, ◌++◌, nat_lt, true, Result, Ok, Err, refl, sym, ap, ◌∙◌, append_assoc, arith, inl, inr, lt-ltb, le-ltb, subst}
 use Rattle.std.proofs.lemmas.List.{places}
 use Rattle.std.proofs.lemmas.Bool.{cases_lt}
 use Rattle.std.proofs.lemmas.Nat.{be_bytes_2, from_be_bytes-to_be_bytes_2}
-use Rattle.std.proofs.lemmas.Int.{of_z-to_z}
-use Rattle.std.proofs.Math.Facts.{sfits_to_z}
 use Rattle.std.proofs.Math.Dec.{eqb-suc-zero}
-use Rattle.std.specs.Int.{Width, w16, w32, w64, to_le_bytes, to_be_bytes, from_be_bytes, cast_signed, cast_unsigned}
+use Rattle.std.specs.Int.{w16, w64, to_le_bytes, to_be_bytes, from_be_bytes}
 use Rattle.cf_bytes.specs.declared.cut.CutFault.{CutFault}
-use Rattle.cf_bytes.specs.declared.hash.Hash32.{Hash32}
-use Rattle.cf_bytes.specs.Cut.{Read, bytes_at, number_at, int_at}
+use Rattle.cf_bytes.specs.Cut.{Read, bytes_at, number_at}
 use Rattle.cf_bytes.specs.Compact.{compact, compact_at}
-use Rattle.cf_bytes.proofs.Codecs.{IsBytes, Takes, Codec, bind_ok, bind_is, value_of, int_number, bytes_taken, bytes_again, u64_codec, u32_taken, u64_taken, i32_again, i64_again, compact_codec}
+use Rattle.cf_bytes.proofs.Codecs.{IsBytes, Takes, Codec, bind_ok, bind_is, value_of, bytes_taken, bytes_again, u64_codec, u64_taken, compact_codec}
 use Rattle.cf_block.specs.declared.header.Header.{Header}
 use Rattle.cf_block.specs.declared.fault.BlockFault.{BlockFault}
-use Rattle.cf_block.specs.Header.{IsHash, IsHeader, hash_at, header_at, header_fields_at, header_spelling, whole_header}
+use Rattle.cf_block.specs.Header.{IsHash, IsHeader, hash_at, header_at, header_spelling}
 use Rattle.cf_block.proofs.HeaderLaws.{header_again}
 use Rattle.cf_block.proofs.HeaderTaken.{hash_codec, header_taken}
-use Rattle.cf_block.proofs.Joins.{taken}
 use Rattle.cf_msg.specs.declared.msg.NetAddress.{NetAddress}
 use Rattle.cf_msg.specs.declared.msg.Cause.{Cause}
 use Rattle.cf_msg.specs.declared.msg.Cause.TheVariants.{NotZero}
@@ -86,7 +82,8 @@ address_taken bytes a rest fits h =
     let ti = bytes_taken 16 s.0.1 i.0.0 i.0.1 ts.0.rest i.1 in
     let tp = port_taken i.0.1 p.0.0 p.0.1 ti.0.rest p.1 in
     let read : NetAddress = record { services = s.0.0; ip = i.0.0; port = p.0.0 } in
-    let both = value_of (read, p.0.1) (a, rest) _ refl p.2 in
+    let made : Read NetAddress CutFault = Ok (read, p.0.1) in
+    let both = value_of (read, p.0.1) (a, rest) made refl p.2 in
     let P : NetAddress × List ℕ → Type 0 = λ q. Takes bytes (address_spelling q.0) q.1 × IsAddress q.0 in
     subst P both (
       record {
