@@ -13,9 +13,7 @@ ghost use Rattle.cf_index.specs.Progress.{Keeps, FindsCause};
 use crate::cause::RecordCause;
 use crate::coins::Coins;
 use crate::spend::{Spent, spend_block};
-use cf_block::{
-    Block, Header, TxIds, block_hash, check_commitment_by, genesis_header, txids,
-};
+use cf_block::{Block, Header, TxIds, block_hash, check_commitment_by, genesis_header, txids};
 use cf_bytes::{Hash32, Listed, NoMemory, Refused};
 use cf_headers::check_on;
 use std::alloc::Global;

@@ -60,11 +60,7 @@ fn number_after(before: u32, blocks: &Blocks) -> u32
 }
 
 // The chain of the records that stand here, after so many others.
-fn read_records(
-    alloc: Global,
-    before: u32,
-    bytes: &[u8],
-) -> Result<CheckedChain, Refused<BadBlock>>
+fn read_records(alloc: Global, before: u32, bytes: &[u8]) -> Result<CheckedChain, Refused<BadBlock>>
     requires { before ≤ 1 }
     ensures exact { Answers (blocks_from before zero [] bytes.now) result }
     ensures good { IfOk result (λ blocks. IsGoodChain blocks) }

@@ -52,7 +52,12 @@ impl Index {
         } = chain;
         drop(txids);
         let genesis = genesis(alloc)?;
-        let filters = all_filters(alloc, blocks.as_slice(), hashes.as_slice(), spent.as_slice())?;
+        let filters = all_filters(
+            alloc,
+            blocks.as_slice(),
+            hashes.as_slice(),
+            spent.as_slice(),
+        )?;
         drop(hashes);
         drop(spent);
         let heights = heights_of(alloc, filters.as_slice())?;

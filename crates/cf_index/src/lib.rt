@@ -21,4 +21,3 @@ pub use file::read_chain;
 pub use index::Index;
 pub use laws::laws_of_files;
 pub use load::LoadFault;
-

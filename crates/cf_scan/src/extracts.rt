@@ -89,11 +89,7 @@ fn extract_tx(alloc: Global, tx: &Tx, txid: Hash32, watch: &Watch) -> Result<TxE
 {
     let spends = spent_outpoints(alloc, tx)?;
     let pays = watched_outputs(alloc, tx.outputs.as_slice(), watch)?;
-    Ok(TxExtract {
-        txid,
-        spends,
-        pays,
-    })
+    Ok(TxExtract { txid, spends, pays })
 }
 
 fn spent_outpoints(alloc: Global, tx: &Tx) -> Result<Listed<OutPoint>, NoMemory>
