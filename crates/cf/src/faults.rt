@@ -46,6 +46,7 @@ fn tell_file(rt: &HostRuntime, command: &Command) -> io::Result<bool> {
         Command::Sync { watch, .. } => tell_reason(rt, watch.as_str()),
         Command::Scan { file, watch } => tell_first(rt, watch.as_str(), file.as_str()),
         Command::Filter { file, .. } => tell_reason(rt, file.as_str()),
+        Command::Address { .. } => Ok(false),
     }
 }
 

@@ -136,7 +136,7 @@ unfolding AllStand
 prefix_stands [] h = tt
 prefix_stands (c ∷ prefix) h = let parts = and_parts (is_ascii_lowercase c) (list_all is_ascii_lowercase prefix) h in (Stands-small c parts.0, prefix_stands prefix parts.1)
 
-letters_stand : (vs : List ℕ) → AreBelow 32 vs → AllStand (map letter_of vs)
+pub letters_stand : (vs : List ℕ) → AreBelow 32 vs → AllStand (map letter_of vs)
 unfolding AllStand
 letters_stand [] below = tt
 letters_stand (v ∷ vs) below = (Stands-letter v (below 0 0 (omega arith)), letters_stand vs (λ k d lt. below (suc k) d (omega arith)))
@@ -215,12 +215,12 @@ text_fine : (text : List ℕ) → length text ≤ 90 → list_all is_ascii_graph
 text_fine text few graphic unmixed =
     (λ i. if le-ltb 90 (length text) few i then Some Long else if not (graphic i) then Some Byte else if unmixed i then Some Mixed else None)
 
-data_again : (prefix letters : List ℕ) → AllStand letters → data_after prefix (prefix ++ 49 ∷ letters) ≡ Some letters
+pub data_again : (prefix letters : List ℕ) → AllStand letters → data_after prefix (prefix ++ 49 ∷ letters) ≡ Some letters
 data_again [] letters l = ap (λ b. if not b then Some letters else None) (none_passes (λ b. b == 49) letters (λ c h. h.no_one) l)
 data_again (p ∷ prefix) letters l = ap (λ b. if b then data_after prefix (prefix ++ 49 ∷ letters) else None) (eq-eqb p p refl) ∙ data_again prefix letters l
 
 -- the values of an address have no fault
-values_below : (prefix : List ℕ) (program : WitnessProgram) (values : List ℕ) → IsProgram program → AreValuesOf prefix program values → AreBelow 32 values
+pub values_below : (prefix : List ℕ) (program : WitnessProgram) (values : List ℕ) → IsProgram program → AreValuesOf prefix program values → AreBelow 32 values
 values_below prefix program values is v =
     let version : program.version ≤ 16 = is.version in
     rw v.whole (All-cons (λ n. n < 32) program.version (v.fives ++ v.check) (omega arith) (All-append (λ n. n < 32) v.fives v.check v.padded.small v.small))
@@ -267,7 +267,7 @@ taken prefix text program known address =
     ]
 
 -- the lower-case text of an address
-lower_is : (prefix text : List ℕ) (program : WitnessProgram) → IsTrue (is_prefix prefix) → (address : IsAddressOf prefix program text) → map to_ascii_lowercase text ≡ address_with prefix address.values
+pub lower_is : (prefix text : List ℕ) (program : WitnessProgram) → IsTrue (is_prefix prefix) → (address : IsAddressOf prefix program text) → map to_ascii_lowercase text ≡ address_with prefix address.values
 lower_is prefix text program known address =
     let values : List ℕ = address.values in
     let p : AllStand prefix = prefix_stands prefix (prefix_parts prefix known).2 in

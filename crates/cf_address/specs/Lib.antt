@@ -3,5 +3,6 @@ pub mod Alphabet
 pub mod Bits
 pub mod Checksum
 pub mod Faults
+pub mod Scripts
 pub mod Steps
 pub mod Witness

@@ -35,6 +35,7 @@ fn told(alloc: Global, command: &Command) -> Option<String> {
         Command::Filter { file, height } => {
             format!(in alloc; "filter {} {height}", file.as_str()).ok()
         }
+        Command::Address { text } => format!(in alloc; "address {}", text.as_str()).ok(),
     }
 }
 

@@ -14,11 +14,11 @@ use Rattle.cf_peer.specs.declared.event.Dial.{Dial}
 use Rattle.cf_peer.specs.declared.memory.MemoryWires.{MemoryWires}
 use Rattle.cf_peer.specs.Dials.{answered_at, goes_as_made}
 use Rattle.cf_peer.specs.Log.{Log, Told, Tells, Tally, tally_of, dials}
-use Rattle.cf_peer.specs.Memory.{script_of, log_of, failing_of, told_of}
+use Rattle.cf_peer.specs.Memory.{script_of, log_of, failing_of, finished_of, told_of}
 use Rattle.cf_peer.specs.Wires.{Script, Made}
 use Rattle.cf_input.specs.declared.session.SessionFault.{SessionFault}
 use Rattle.cf_cli.specs.declared.status.Status.{Status}
-use Rattle.cf_cli.specs.declared.status.Status.TheVariants.{Done, NoMemory, Usage, BadFile, FileFault, OutFault, NoPeers, Tired, Ended, NoHeight}
+use Rattle.cf_cli.specs.declared.status.Status.TheVariants.{Done, NoMemory, Usage, BadFile, FileFault, OutFault, NoPeers, Tired, Ended, NoHeight, NotAddress}
 use Rattle.cf_input.specs.declared.words.Command.{Command}
 use Rattle.cf_input.specs.declared.words.Command.TheVariants.{Replay, Sync}
 use Rattle.cf_input.specs.SessionFile.{session_of}
@@ -38,6 +38,10 @@ no_run (NoPeers ends) is = absurd is
 no_run Tired is = absurd is
 no_run Ended is = absurd is
 no_run (NoHeight tip) is = absurd is
+no_run (NotAddress cause) is = absurd is
+
+dial_same : (x y : Dial) → x.name ≡ y.name → x.answered ≡ y.answered → x ≡ y
+dial_same x y name answered = λ i. record { name = name i; answered = answered i }
 
 -- the dials that were made are the first of a list, in order: their names are its first, and each went as it says
 first_dials : (went made : List Dial) (n : ℕ) → map (λ (d : Dial). d.name) went ≡ take n (map (λ (d : Dial). d.name) made) → ((i : ℕ) → i < length went → answered_at went i ≡ answered_at made i)
@@ -52,8 +56,8 @@ first_dials (x ∷ xs) (y ∷ ys) (suc n) names alike =
     let tails : map (λ (d : Dial). d.name) xs ≡ take n (map (λ (d : Dial). d.name) ys) = cc in
     let here : x.answered ≡ y.answered = alike 0 (omega arith) in
     let more : xs ≡ take n ys = first_dials xs ys n tails (λ i lt. alike (suc i) (omega arith)) in
-    let one : x ≡ y = ap (λ (p : List ℕ). record { name = p; answered = x.answered }) heads ∙ ap (λ (b : Bool). record { name = y.name; answered = b }) here in
-    ap (λ (d : Dial). d ∷ xs) one ∙ ap (λ (ds : List Dial). y ∷ ds) more
+    let one : x ≡ y = dial_same x y heads here in
+    λ i. one i ∷ more i
 
 abbrev pub made : Script → List ℕ → Made
 made script failing = record { script = script; failing = failing }
@@ -136,6 +140,7 @@ file_answers (NoPeers ends) is = absurd is
 file_answers Tired is = absurd is
 file_answers Ended is = absurd is
 file_answers (NoHeight tip) is = absurd is
+file_answers (NotAddress cause) is = absurd is
 
 -- where no run is made nothing has passed, and nobody is honest
 early_kept : (status : Status) (trace : Bool) (scripts names : List (List ℕ)) (b : Option (List ℕ)) (log : Log) → has_run status ≡ false → log ≡ [] → Kept status trace scripts names b b log
@@ -187,6 +192,7 @@ has_nobody FileFault off = refl
 has_nobody OutFault off = refl
 has_nobody (NoPeers ends) off = refl
 has_nobody (NoHeight tip) off = refl
+has_nobody (NotAddress cause) off = refl
 
 not_run : (status other : Status) → has_run status ≡ false → has_run other ≡ true → status ≡ other → ⊥
 not_run status other off on is = false≢true (sym off ∙ ap has_run is ∙ on)
@@ -289,6 +295,11 @@ early_replayed status turns trace files watch b t log is fresh none = ([], early
 pub new_tape : (tape : MemoryWires) → log_of tape ≡ [] → Tells [] (told_of tape)
 new_tape tape none = record { content = none; counts = ap tally_of none }
 
+-- two tapes with one log, both finished or neither, tell the same
+pub same_told : (a b : MemoryWires) → log_of a ≡ log_of b → finished_of a ≡ finished_of b → told_of a ≡ told_of b
+same_told a b logs ends =
+    ap (λ (l : Log). record { log = Some l; tally = tally_of l; finished = finished_of a }) logs ∙ ap (λ (f : Bool). record { log = Some (log_of b); tally = tally_of (log_of b); finished = f }) ends
+
 -- nobody was dialled
 pub new_dialled : (names : List (List ℕ)) (t : Told) → Tells [] t → HasDialled names t
 new_dialled names t fresh = record { most = most_of; first = first_by t.log fresh.content } where
@@ -336,6 +347,6 @@ pub unused_wires : (found : Option Command) (c : Command) (status : Status) (bef
     → may_dial found status ≡ false → after ≡ before
 unused_wires found c status before after e unused = subst (λ (o : Option Command). may_dial o status ≡ false → after ≡ before) (sym e) unused
 
-pub unused_tape : (found : Option Command) (c : Command) (status : Status) (before after : Log) → found ≡ Some c → (may_play (Some c) status ≡ false → after ≡ before)
+pub unused_tape : (found : Option Command) (c : Command) (status : Status) (before after : Told) → found ≡ Some c → (may_play (Some c) status ≡ false → after ≡ before)
     → may_play found status ≡ false → after ≡ before
 unused_tape found c status before after e unused = subst (λ (o : Option Command). may_play o status ≡ false → after ≡ before) (sym e) unused

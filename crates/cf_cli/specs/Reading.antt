@@ -1,4 +1,4 @@
--- What is promised of the commands that read a file of blocks.
+-- What is promised of the commands that write a text of a file of blocks, or of an address.
 use Rattle.std.specs.Prelude.{◌≡◌, ℕ, ◌≤◌, nat_lt, Bool, true, false, List, [], ◌∷◌, ◌++◌, length, take, codes, Option, Some, None, IfSome, Result, Ok, Err}
 use Rattle.std.specs.FinMap as finite
 use Rattle.hex.specs.Hex.{encode_lower}
@@ -11,12 +11,13 @@ use Rattle.cf_chain.specs.Good.{headers_of}
 use Rattle.cf_chain.specs.Filters.{Filtered, filter_at}
 use Rattle.cf_index.specs.declared.cause.BadBlock.{BadBlock}
 use Rattle.cf_index.specs.Files.{blocks_at}
+use Rattle.cf_input.specs.Addresses.{IsOtherForm, HasNoForm}
 use Rattle.cf_input.specs.WatchFile.{watch_of}
 use Rattle.cf_input.specs.declared.watch_file.WatchFileFault.{WatchFileFault}
 use Rattle.cf_scan.specs.HistoryText.{history_text}
 use Rattle.cf_scan.specs.Scan.{scan_of}
 use Rattle.cf_cli.specs.declared.status.Status.{Status}
-use Rattle.cf_cli.specs.declared.status.Status.TheVariants.{Done, NoMemory, BadFile, FileFault, OutFault, NoHeight}
+use Rattle.cf_cli.specs.declared.status.Status.TheVariants.{Done, NoMemory, BadFile, FileFault, OutFault, NoHeight, NotAddress}
 
 -- the history of these scripts by a plain scan of every block above genesis, and the chain's tip
 abbrev pub scan_text : List (List ℕ) → List Block → List ℕ
@@ -101,3 +102,15 @@ pub record IsScanned (status : Status) (files : Option Named) (watch file : List
 pub record IsFiltered (status : Status) (files : Option Named) (file : List ℕ) (height : ℕ) (before after : Option (List ℕ)) : Type 0 where
   pub answers : IsOfFilter status before after
   pub told : IfSome files (λ m. IfSome (finite.get m file) (λ b. Filters status before after height (blocks_at b)))
+
+-- the line with the other form of a text was written, or a beginning of it
+abbrev pub WritesForm : Status → List ℕ → Option (List ℕ) → Option (List ℕ) → Type 0
+WritesForm status text before after = (line : List ℕ) × IsOtherForm text line × IsWritten status before after (line ++ 10 ∷ [])
+
+-- all that is promised of `address`: the other form of the text is written, or it has none, for this cause
+abbrev pub IsAddressed : Status → List ℕ → Option (List ℕ) → Option (List ℕ) → Type 0
+IsAddressed Done text before after = WritesForm Done text before after
+IsAddressed OutFault text before after = WritesForm OutFault text before after
+IsAddressed NoMemory text before after = after ≡ before
+IsAddressed (NotAddress cause) text before after = HasNoForm cause text × (after ≡ before)
+IsAddressed status text before after = ⊥

@@ -12,12 +12,12 @@ use Rattle.cf_input.specs.declared.session.SessionFault.{SessionFault}
 use Rattle.cf_cli.specs.declared.status.FileCause.{FileCause}
 use Rattle.cf_cli.specs.declared.status.FileCause.TheVariants.{TooBig, Watch as OfWatch, Session as OfSession, Blocks as OfBlocks}
 use Rattle.cf_cli.specs.declared.status.Status.{Status}
-use Rattle.cf_cli.specs.declared.status.Status.TheVariants.{Done, NoMemory, Usage, BadFile, FileFault, OutFault, NoPeers, Tired, Ended, NoHeight}
+use Rattle.cf_cli.specs.declared.status.Status.TheVariants.{Done, NoMemory, Usage, BadFile, FileFault, OutFault, NoPeers, Tired, Ended, NoHeight, NotAddress}
 use Rattle.cf_cli.specs.declared.status.Which.{Which}
 use Rattle.cf_cli.specs.declared.status.Which.TheVariants.{Watch, Session, Blocks}
 use Rattle.cf_input.specs.declared.watch_file.WatchFileFault.{WatchFileFault}
 use Rattle.cf_input.specs.declared.words.Command.{Command}
-use Rattle.cf_input.specs.declared.words.Command.TheVariants.{Replay, Sync, Scan, Filter}
+use Rattle.cf_input.specs.declared.words.Command.TheVariants.{Replay, Sync, Scan, Filter, Address}
 use Rattle.cf_input.specs.SessionFile.{session_of}
 use Rattle.cf_input.specs.WatchFile.{watch_of}
 
@@ -32,6 +32,7 @@ code_of (NoPeers ends) = 6
 code_of Tired = 7
 code_of Ended = 8
 code_of (NoHeight tip) = 11
+code_of (NotAddress cause) = 13
 
 -- the most bytes that a watch file, a session file and a block file may have
 abbrev pub most_watch : ℕ
@@ -79,11 +80,16 @@ and_then Missing later = Missing
 and_then (Bad which place cause) later = Bad which place cause
 and_then Good later = later
 
+-- a command that reads no file
+abbrev pub no_file : Verdict
+no_file = Good
+
 abbrev pub verdict_of : Named → Command → Verdict
 verdict_of files (Replay trace watch session) = and_then (watch_verdict (finite.get files watch)) (session_verdict (finite.get files session))
 verdict_of files (Sync turns watch peer) = watch_verdict (finite.get files watch)
 verdict_of files (Scan file watch) = and_then (watch_verdict (finite.get files watch)) (blocks_verdict (finite.get files file))
 verdict_of files (Filter file height) = blocks_verdict (finite.get files file)
+verdict_of files (Address text) = no_file
 
 -- a file that is missing or refused is answered so, and no other is; a read may fail, and memory may be wanting
 abbrev pub IsJudged : Verdict → Status → Type 0

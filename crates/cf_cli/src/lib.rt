@@ -1,6 +1,7 @@
 //! The program: its answers, what it writes, and what is promised of its runs.
 #![tactic(auto)]
 
+mod addressing;
 mod following;
 mod loading;
 mod own_texts;

@@ -21,6 +21,7 @@ usage: cf scan FILE WATCH
        cf filter FILE HEIGHT
        cf replay [--trace] WATCH SESSION
        cf sync [--turns N] WATCH PEER..
+       cf address TEXT
        cf --help
        cf --version
 
@@ -30,6 +31,8 @@ usage: cf scan FILE WATCH
   replay   runs the client on what SESSION says that came from the peers
   sync     runs the client on the network, with 1 to 8 peers, each HOST:PORT;
            this version opens no connection yet, so each dial fails
+  address  prints the script of an address of regtest, in hexadecimal, or the
+           address of a script in hexadecimal
 
   --trace  prints first what was sent to peer P, as `> P COMMAND`, and which
            peer was closed, as `x P CAUSE`
@@ -43,7 +46,7 @@ fabfb5da, its length in 4 bytes and the block. Genesis may stand first, and
 zeros at the end. The blocks must make a chain on which each may stand.
 
 WATCH is a text file of the scripts that are watched: one on each line, in
-hexadecimal, at most 1000. It may be empty.
+hexadecimal or by its address (bcrt1..), at most 1000. It may be empty.
 
 SESSION is a text file of what happens: first a line on the dial of each peer,
 1 to 8 of them, numbered from 1 in this order, and then one for each delivery.
@@ -66,6 +69,7 @@ The exit status:
   7  N deliveries were taken, and an answer was still to come
   8  the session was at its end, and an answer was still to come
  11  HEIGHT is above the tip of FILE
+ 13  TEXT is neither an address of regtest nor the script of one
 ";
 
 // What is asked for, behind the program's name.

@@ -10,12 +10,13 @@ ghost use Rattle.cf_peer.specs.Memory.{log_of, failing_of, finished_of, told_of}
 ghost use Rattle.cf_input.specs.SessionFile.{session_of};
 ghost use Rattle.cf_input.specs.Sessions.{script_in, AreNamed};
 ghost use Rattle.cf_cli.specs.Statuses.{IsJudged, IsReadAs, IsUnread, IsOfFile, has_run, was_refused, may_dial, may_play, and_then, verdict_of, watch_verdict, session_verdict};
-ghost use Rattle.cf_cli.specs.Reading.{IsScanned, IsFiltered};
+ghost use Rattle.cf_cli.specs.Reading.{IsScanned, IsFiltered, IsAddressed};
 ghost use Rattle.cf_cli.specs.Theorem.{KeptOver, IsReplayed, Tallied, PlaysSession};
 ghost use Rattle.cf_input.specs.Words.{command_of, HasFewPeers};
 ghost use Rattle.cf_input.specs.declared.words.Command.{Command};
-ghost use Rattle.cf_input.specs.declared.words.Command.TheVariants.{Replay, Sync, Scan, Filter};
+ghost use Rattle.cf_input.specs.declared.words.Command.TheVariants.{Replay, Sync, Scan, Filter, Address};
 
+use crate::addressing::address;
 use crate::following::follow;
 use crate::loading::{load_session, load_watch};
 use crate::reading::{filter, scan};
@@ -128,6 +129,7 @@ fn perform<F: Files, W: Wires, O: Sink>(
     ensures plays { (trace : Bool) (watch session : List ℕ) → command ≡ Replay trace watch session → IfSome (F.files files.old) (λ m. IfSome (finite.get m session) (λ bytes. PlaysSession result (session_of bytes) (log_of tape.new))) }
     ensures scan { (file watch : List ℕ) → command ≡ Scan file watch → IsScanned result (F.files files.old) watch file (O.written out.old) (O.written out.new) }
     ensures filter { (file : List ℕ) (height : ℕ) → command ≡ Filter file height → IsFiltered result (F.files files.old) file height (O.written out.old) (O.written out.new) }
+    ensures address { (text : List ℕ) → command ≡ Address text → IsAddressed result text (O.written out.old) (O.written out.new) }
     ensures file_fault { result ≡ Status.FileFault → HasRisen (F.faults files.old) (F.faults files.new) }
     ensures out_fault { result ≡ Status.OutFault → HasRisen (O.faults out.old) (O.faults out.new) }
     ensures unwritten { has_run result ≡ false → O.written out.new ≡ O.written out.old }
@@ -169,6 +171,7 @@ fn perform<F: Files, W: Wires, O: Sink>(
         ),
         Command::Scan { file, watch } => scan(alloc, files, file.as_str(), watch.as_str(), out),
         Command::Filter { file, height } => filter(alloc, files, file.as_str(), height, out),
+        Command::Address { text } => address(alloc, text.as_str(), out),
     }
 }
 
@@ -202,6 +205,7 @@ pub fn run<F: Files, W: Wires, O: Sink>(
     ensures plays { (trace : Bool) (watch session : List ℕ) → command_of (names_in words.now) ≡ Some (Replay trace watch session) → IfSome (F.files files.old) (λ m. IfSome (finite.get m session) (λ bytes. PlaysSession result (session_of bytes) (log_of tape.new))) }
     ensures scan { (file watch : List ℕ) → command_of (names_in words.now) ≡ Some (Scan file watch) → IsScanned result (F.files files.old) watch file (O.written out.old) (O.written out.new) }
     ensures filter { (file : List ℕ) (height : ℕ) → command_of (names_in words.now) ≡ Some (Filter file height) → IsFiltered result (F.files files.old) file height (O.written out.old) (O.written out.new) }
+    ensures address { (text : List ℕ) → command_of (names_in words.now) ≡ Some (Address text) → IsAddressed result text (O.written out.old) (O.written out.new) }
     ensures file_fault { result ≡ Status.FileFault → HasRisen (F.faults files.old) (F.faults files.new) }
     ensures out_fault { result ≡ Status.OutFault → HasRisen (O.faults out.old) (O.faults out.new) }
     ensures unwritten { has_run result ≡ false → O.written out.new ≡ O.written out.old }

@@ -84,8 +84,8 @@ fn text_at(alloc: Global, index: &Index, height: u32) -> Result<Option<String>, 
     Ok(Some(text))
 }
 
-// Writes a whole text.
-fn write<O: Sink>(text: &[u8], out: &mut O) -> Status
+/// Writes a whole text.
+pub(crate) fn write<O: Sink>(text: &[u8], out: &mut O) -> Status
     ensures written { IsWritten result (O.written out.old) (O.written out.new) text.now }
     ensures unwritten { has_run result ≡ false → O.written out.new ≡ O.written out.old }
     ensures fault { result ≡ Status.OutFault → HasRisen (O.faults out.old) (O.faults out.new) }

@@ -4,7 +4,7 @@ ghost use Rattle.cf_cli.specs.Statuses.{code_of};
 
 use cf_client::PeerEnd;
 use cf_index::RecordCause;
-use cf_input::{SessionCause, WatchCause};
+use cf_input::{AddressCause, SessionCause, WatchCause};
 use std::fmt;
 use thiserror::Error;
 
@@ -97,6 +97,11 @@ pub enum Status {
     NoHeight {
         tip: u32,
     },
+    /// The text is neither an address of regtest nor the script of one.
+    #[error("{cause}")]
+    NotAddress {
+        cause: AddressCause,
+    },
 }
 
 impl Status {
@@ -115,6 +120,7 @@ impl Status {
             Status::Tired => 7,
             Status::Ended => 8,
             Status::NoHeight { .. } => 11,
+            Status::NotAddress { .. } => 13,
         }
     }
 }

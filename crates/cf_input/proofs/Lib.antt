@@ -1,3 +1,4 @@
+pub mod AddressLemmas
 pub mod LineLawLemmas
 pub mod LineSteps
 pub mod NameLemmas

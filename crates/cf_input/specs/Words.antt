@@ -9,7 +9,7 @@ use Rattle.cf_input.specs.Number.{number_at_most, number_within}
 use Rattle.cf_input.specs.Name.{is_name}
 use Rattle.cf_input.specs.SessionFile.{max_dials}
 use Rattle.cf_input.specs.declared.words.Command.{Command}
-use Rattle.cf_input.specs.declared.words.Command.TheVariants.{Filter, Replay, Scan, Sync}
+use Rattle.cf_input.specs.declared.words.Command.TheVariants.{Address, Filter, Replay, Scan, Sync}
 
 abbrev pub needed : Rule → Rule
 needed r = record r { required = true }
@@ -36,6 +36,10 @@ sync_app = with_rule (with_rule (with_rule (new_app (codes "sync")) turns) (need
 abbrev pub two_app : Text → Text → Text → App
 two_app name one two = with_rule (with_rule (new_app name) (needed (new_rule one))) (needed (new_rule two))
 
+-- a command of one word, which is needed
+abbrev pub one_app : Text → Text → App
+one_app name one = with_rule (new_app name) (needed (new_rule one))
+
 -- scan FILE WATCH
 abbrev pub scan_app : App
 scan_app = two_app (codes "scan") (codes "file") (codes "watch")
@@ -44,6 +48,10 @@ scan_app = two_app (codes "scan") (codes "file") (codes "watch")
 abbrev pub filter_app : App
 filter_app = two_app (codes "filter") (codes "file") (codes "height")
 
+-- address TEXT
+abbrev pub address_app : App
+address_app = one_app (codes "address") (codes "text")
+
 unfoldable pub with_sub : App → App → App
 with_sub a s = with_subcommand a s.top
 
@@ -51,9 +59,9 @@ with_sub a s = with_subcommand a s.top
 unfoldable pub client_app : App
 client_app = with_sub (with_sub (new_app (codes "cf")) sync_app) replay_app
 
--- the whole command line: those over a block file come after them
+-- the whole command line: those over a block file come after them, and then that over an address
 unfoldable pub cli_app : App
-cli_app = with_sub (with_sub client_app scan_app) filter_app
+cli_app = with_sub (with_sub (with_sub client_app scan_app) filter_app) address_app
 
 -- the subcommand that was met, and what was found for its arguments
 abbrev pub Met : Type 0
@@ -129,12 +137,16 @@ filter_of met =
     Some (Filter file height))
     (option_and_then height_of (text_of (codes "height") met))) (text_of (codes "file") met)
 
+abbrev pub address_of : Met → Option Command
+address_of met = option_and_then (λ text. Some (Address text)) (text_of (codes "text") met)
+
 abbrev pub asked_of : Met → Option Command
 asked_of met =
     if is_met (codes "replay") met then replay_of met
     else if is_met (codes "sync") met then sync_of met
     else if is_met (codes "scan") met then scan_of met
     else if is_met (codes "filter") met then filter_of met
+    else if is_met (codes "address") met then address_of met
     else None
 
 -- clap finds no fault in the words

@@ -1,6 +1,7 @@
 //! What a user gives the program: the words of a command, numbers, the watch file and the session file.
 #![tactic(auto)]
 
+mod addresses;
 mod laws;
 mod lines;
 mod mistakes;
@@ -10,6 +11,7 @@ mod text;
 mod watch_file;
 mod words;
 
+pub use addresses::{AddressCause, other_form};
 pub use laws::{laws_of_lines, laws_of_numbers};
 pub use mistakes::mistake_text;
 pub use session::{MAX_DIALS, MOST_SECONDS, Session, SessionCause, SessionFault, read_session};

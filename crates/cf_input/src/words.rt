@@ -3,7 +3,7 @@ ghost use Rattle.std.specs.Prelude.{◌≡◌, ◌==◌, IfOk, IfErr, [], map, f
 ghost use Rattle.std.specs.List.{list_any};
 ghost use Rattle.clap.specs.Words.{app_of, rule_of, new_rule, subcommand_of, subcommand_rows_of, fault_of};
 ghost use Rattle.clap.specs.declared.builder.command.Command.TheViews.{out-Command as fields_of};
-ghost use Rattle.cf_input.specs.Words.{trace, turns, several, needed, replay_app, sync_app, two_app, with_sub, client_app, cli_app, text_of, texts_of, is_met, is_set, turns_of, height_of, replay_of, sync_of, scan_of, filter_of, HasFewPeers, is_faultless, command_of, is_help_word, is_version_word};
+ghost use Rattle.cf_input.specs.Words.{trace, turns, several, needed, replay_app, sync_app, one_app, two_app, with_sub, client_app, cli_app, text_of, texts_of, is_met, is_set, turns_of, height_of, replay_of, sync_of, scan_of, filter_of, address_of, HasFewPeers, is_faultless, command_of, is_help_word, is_version_word};
 ghost use Rattle.cf_input.specs.Commands.{GivesOrUsage, IfUsage, refusal_of};
 
 use crate::number::{number_at_most, number_within};
@@ -58,6 +58,10 @@ pub enum Command {
     Filter {
         file: Word,
         height: u32,
+    },
+    /// The script of an address, or the address of a script.
+    Address {
+        text: Word,
     },
 }
 
@@ -116,6 +120,18 @@ fn two_words<'a>(
     clap::Command::new(alloc, name).arg(one)?.arg(two)
 }
 
+// A command of one word.
+fn one_word<'a>(
+    alloc: Global,
+    name: &'a str,
+    one: &'a str,
+) -> Result<clap::Command<'a>, AllocError>
+    ensures { IfOk result (λ c. (app_of c ≡ one_app name.entry.now one.entry.now) × ((fields_of c).has_globals ≡ false)) }
+{
+    let one = Arg::new(alloc, one).required(true);
+    clap::Command::new(alloc, name).arg(one)
+}
+
 // The command with one more subcommand.
 #[tactic(auto, unfolding(crate::specs::Words::with_sub))]
 fn with_one_more<'a>(
@@ -137,13 +153,14 @@ fn client_command<'a>(alloc: Global) -> Result<clap::Command<'a>, AllocError>
     with_one_more(command, replay_command(alloc)?)
 }
 
-/// The whole command line: those over a block file come after them.
+/// The whole command line: those over a block file come after them, and then that over an address.
 pub(crate) fn cli_command<'a>(alloc: Global) -> Result<clap::Command<'a>, AllocError>
     ensures { IfOk result (λ c. (app_of c ≡ cli_app) × ((fields_of c).has_globals ≡ false)) }
 {
     let command = client_command(alloc)?;
     let command = with_one_more(command, two_words(alloc, "scan", "file", "watch")?)?;
-    with_one_more(command, two_words(alloc, "filter", "file", "height")?)
+    let command = with_one_more(command, two_words(alloc, "filter", "file", "height")?)?;
+    with_one_more(command, one_word(alloc, "address", "text")?)
 }
 
 // Clap refuses the words, or finds no memory.
@@ -277,6 +294,14 @@ fn read_filter(alloc: Global, matches: &ArgMatches) -> Result<Command, Refused<U
     Ok(Command::Filter { file, height })
 }
 
+fn read_address(alloc: Global, matches: &ArgMatches) -> Result<Command, Refused<Usage>>
+    ensures { GivesOrUsage (address_of (subcommand_rows_of matches.now)) result }
+{
+    let text = text_of(matches, "text").ok_or(Usage)?;
+    let text = Word::new(alloc, text)?;
+    Ok(Command::Address { text })
+}
+
 /// What the words ask for; the first is the program's name. `Usage` exactly where clap refuses them
 /// for this command, a number isn't decimal and within its range, a name isn't one, or there are more
 /// than 8 peers.
@@ -296,6 +321,9 @@ pub fn read_words(alloc: Global, words: &[String]) -> Result<Command, Refused<Us
     }
     if is_met(&matches, "filter") {
         return read_filter(alloc, &matches);
+    }
+    if is_met(&matches, "address") {
+        return read_address(alloc, &matches);
     }
     Err(Refused::No(Usage))
 }

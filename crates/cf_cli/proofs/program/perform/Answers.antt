@@ -19,3 +19,6 @@ returns-in-Scan-clause-failures g c = new_unfailed _ _ _ c.requires.wires
 
 pub returns-in-Filter-clause-failures : goal.returns-in-Filter-clause-failures
 returns-in-Filter-clause-failures g c = new_unfailed _ _ _ c.requires.wires
+
+pub returns-in-Address-clause-failures : goal.returns-in-Address-clause-failures
+returns-in-Address-clause-failures g c = new_unfailed _ _ _ c.requires.wires

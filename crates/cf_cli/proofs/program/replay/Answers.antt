@@ -1,8 +1,10 @@
-use Rattle.std.proofs.Common.{List, Some, ◌∙◌, ap}
+use Rattle.std.proofs.Common.{List, Some, length, ◌∙◌, ap, subst}
 use Rattle.cf_client.specs.Names.{names_in}
+use Rattle.cf_peer.specs.Log.{Told}
 use Rattle.cf_peer.specs.Memory.{log_of, failing_of, told_of}
 use Rattle.cf_peer.specs.Wires.{Script}
-use Rattle.cf_cli.proofs.Plays.{made, plays_of, told_so, told_plays, early_replayed, early_plays, new_tape, over_watch}
+use Rattle.cf_cli.proofs.Plays.{made, plays_of, told_so, told_plays, early_replayed, early_plays, new_tape, same_told, over_watch}
+use Rattle.cf_cli.specs.Theorem.{Tallied}
 use Rattle.cf_cli.proofs.program.replay.Goals as goal
 
 pub returns-in-Err-clause-replayed : goal.returns-in-Err-clause-replayed
@@ -20,7 +22,8 @@ returns-clause-replayed g c =
       names,
       over_watch c.follow.result c.args.trace (g.F.Files.files c.args.files.now) c.args.watch.now c.in-Ok.scripts names (g.O.Sink.written c.args.out.now) (g.O.Sink.written c.follow.new.out)
           (log_of c.follow.new.wires) c.in-Ok.ensures.scripts c.follow.ensures.kept,
-      c.follow.ensures.tallied,
+      subst (λ (t : Told). Tallied c.follow.result 10000000 (length names) t (told_of c.follow.new.wires)) (same_told c.load.new.self c.args.tape.now c.load.ensures.log c.load.ensures.finished)
+          c.follow.ensures.tallied,
     )
 
 pub returns-in-Err-clause-plays : goal.returns-in-Err-clause-plays

@@ -47,3 +47,6 @@ returns-in-Ok-clause-undialled g c = unused_wires _ c.in-Ok.command c.perform.re
 
 pub returns-in-Ok-clause-unplayed : goal.returns-in-Ok-clause-unplayed
 returns-in-Ok-clause-unplayed g c = unused_tape _ c.in-Ok.command c.perform.result _ _ c.in-Ok.ensures.exact c.perform.ensures.unplayed
+
+pub returns-in-Ok-clause-address : goal.returns-in-Ok-clause-address
+returns-in-Ok-clause-address g c = λ text asked. c.perform.ensures.address text (same_command _ c.in-Ok.command _ c.in-Ok.ensures.exact asked)

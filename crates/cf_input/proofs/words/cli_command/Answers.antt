@@ -7,4 +7,5 @@ use Rattle.cf_input.proofs.words.cli_command.Goals as goal
 pub returns : goal.returns
 returns c =
     let one = c.in_ok-command-2.ensures.0 ∙ ap₂ with_sub c.in_ok-command.ensures.0 c.in_ok-two_words.ensures.0 in
-    IfOk-weaker c.with_one_more-2.result _ _ (λ k h. (h.0 ∙ ap₂ with_sub one c.in_ok-two_words-2.ensures.0 ∙ sym cli_is, h.1)) c.with_one_more-2.ensures
+    let two = c.in_ok-command-3.ensures.0 ∙ ap₂ with_sub one c.in_ok-two_words-2.ensures.0 in
+    IfOk-weaker c.with_one_more-3.result _ _ (λ k h. (h.0 ∙ ap₂ with_sub two c.in_ok-one_word.ensures.0 ∙ sym cli_is, h.1)) c.with_one_more-3.ensures
