@@ -9,7 +9,7 @@ ghost use Rattle.cf_tracker.specs.Tracker.{chains_of, watch_of};
 ghost use Rattle.cf_client.specs.Tracks.{seen_of};
 ghost use Rattle.cf_client.specs.Hearing.{HearsSeen, HearsNext, HeardPiece, goes_on};
 
-use cf_block::{Block, Header, block_hash, check_commitment};
+use cf_block::{Block, Header, block_hash, check_commitment_by, txids};
 use cf_bytes::{NoMemory, PeerNo, Refused};
 use cf_headers::HeaderStore;
 use cf_msg::Msg;
@@ -63,12 +63,13 @@ fn hear_block<H: HeaderStore>(
     if !peer.awaits(&hash) {
         return Ok(Reply::Nothing);
     }
-    match check_commitment(alloc, block) {
+    let hashes = txids(alloc, block.txs.as_slice())?;
+    match check_commitment_by(alloc, block, hashes.as_slice()) {
         Ok(()) => {}
         Err(Refused::No(_)) => return Ok(Reply::Close(Cause::BadBlock)),
         Err(Refused::NoMemory) => return Err(NoMemory),
     }
-    tracker.keep(&hash, block)?;
+    tracker.keep(&hash, block, hashes.as_slice())?;
     peer.take_block(&hash);
     Ok(Reply::Nothing)
 }

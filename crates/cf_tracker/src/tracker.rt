@@ -2,6 +2,7 @@
 ghost use Rattle.std.specs.Prelude.{◌≡◌, ◌≤◌, ℕ, List, [], Some, None, IsSome, IfOk, OnOk, OnErr, length, map};
 ghost use Rattle.std.proofs.Props.{props};
 ghost use Rattle.cf_bytes.specs.declared.hash.Hash32.{Hash32};
+ghost use Rattle.cf_block.specs.Commitment.{AreTxids};
 ghost use Rattle.cf_block.specs.Header.{block_hash_of};
 ghost use Rattle.cf_headers.specs.Chain.{Chain, IsValidChain, IsWithinLimit, accept, locator_of, tip_hash};
 ghost use Rattle.cf_headers.specs.Changes.{link_height, change_of, chain_after};
@@ -17,7 +18,7 @@ use crate::walk::{climb, history_over, tip_of};
 use cf_block::{Block, Header};
 use cf_bytes::{Hash32, NoMemory, PeerNo};
 use cf_headers::{Change, HeaderStore};
-use cf_scan::{History, Watch, extract};
+use cf_scan::{History, Watch, extract_by};
 use std::alloc::Global;
 
 /// The best chain and the history over it.
@@ -102,15 +103,16 @@ impl<H: HeaderStore> Tracker<H> {
         Ok(change)
     }
 
-    /// Keeps what a history needs of a block with this hash. Where no memory is found nothing has changed.
-    pub fn keep(&mut self, hash: &Hash32, block: &Block) -> Result<(), NoMemory>
-        requires { hash.now.0 ≡ block_hash_of block.now.header }
+    /// Keeps what a history needs of a block with this hash, whose transactions have these hashes. Where no memory is found nothing has changed.
+    pub fn keep(&mut self, hash: &Hash32, block: &Block, txids: &[Hash32]) -> Result<(), NoMemory>
+        requires hash { hash.now.0 ≡ block_hash_of block.now.header }
+        requires txids { AreTxids txids.now block.now.txs }
         ensures ok { OnOk result (IsSameTable (table_of self.new) (with_block (watch_of self.old) block.now (table_of self.old))) }
         ensures err { OnErr result (IsSameTable (table_of self.old) (table_of self.new)) }
         ensures chains { Stays (chains_of self.old) (chains_of self.new) }
         ensures watch { watch_of self.new ≡ watch_of self.old }
     {
-        let extract = extract(self.alloc, block, &self.watch)?;
+        let extract = extract_by(self.alloc, block, txids, &self.watch)?;
         self.extracts.put(*hash, extract)?;
         Ok(())
     }
