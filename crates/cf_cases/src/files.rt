@@ -8,9 +8,7 @@ use std::alloc::Global;
 fn joined(alloc: Global, row: &str) -> Option<Vec<u8>> {
     let mut bytes = Vec::new(alloc);
     for field in row.split(' ') {
-        bytes
-            .extend_from_slice(&bytes_in(alloc, field)?)
-            .ok()?;
+        bytes.extend_from_slice(&bytes_in(alloc, field)?).ok()?;
     }
     Some(bytes)
 }
@@ -33,7 +31,8 @@ fn told(alloc: Global, chain: CheckedChain) -> Option<String> {
     let mut text = format!(in alloc; "{} {tip} {}", chain.tip(), chain.blocks().len()).ok()?;
     let index = Index::of(alloc, chain).ok()?;
     for height in 0..=index.tip() {
-        text.push_str(told_at(alloc, &index, height)?.as_str()).ok()?;
+        text.push_str(told_at(alloc, &index, height)?.as_str())
+            .ok()?;
     }
     Some(text)
 }

@@ -2,7 +2,7 @@
 use crate::fields::{file_in, texts_in};
 use cf_bytes::Refused;
 use cf_cli::own_text;
-use cf_input::{Command, PeerNames, Session, read_session, read_watch, read_words};
+use cf_input::{Command, PeerNames, Session, mistake_text, read_session, read_watch, read_words};
 use cf_scan::Watch;
 use std::alloc::Global;
 
