@@ -2,8 +2,8 @@
 use cf_cli::Status;
 use cf_client::PeerEnd;
 use cf_input::{Command, mistake_text, read_words};
-use std::io::{self, Read};
 use std::fs;
+use std::io::{self, Read};
 
 // Why a file can't be read, as the system says now, or nothing where it can.
 fn reason(rt: &HostRuntime, name: &str) -> Option<io::Error> {

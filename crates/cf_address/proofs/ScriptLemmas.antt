@@ -57,7 +57,7 @@ bytes_again (b ∷ bytes) rest below =
     let others : drop 8 (bits_of 8 b ++ (all_bits 8 bytes ++ rest)) ≡ all_bits 8 bytes ++ rest = drop_at (bits_of 8 b) (all_bits 8 bytes ++ rest) 8 (length-bits_of 8 b) in
     let head : number_of_bits (take 8 (bits_of 8 b ++ (all_bits 8 bytes ++ rest))) ≡ b = ap number_of_bits first ∙ byte_again b here in
     let tail : bytes_of_bits (length bytes) (drop 8 (bits_of 8 b ++ (all_bits 8 bytes ++ rest))) ≡ bytes =
-        ap (bytes_of_bits (length bytes)) others ∙ bytes_again bytes rest (λ k d lt. below (suc k) d (omega arith)) in
+    ap (bytes_of_bits (length bytes)) others ∙ bytes_again bytes rest (λ k d lt. below (suc k) d (omega arith)) in
     ap (bytes_of_bits (suc (length bytes))) order ∙ (λ i. head i ∷ tail i)
 
 values_script : (program : WitnessProgram) (fives check : List ℕ) → IsProgram program → AreFivesOf program.bytes fives → length check ≡ 6 → script_of_values (program.version ∷ (fives ++ check)) ≡ script_of program
@@ -66,7 +66,7 @@ values_script program fives check is padded six =
     let front : take (suc (length (fives ++ check)) - 7) (fives ++ check) ≡ fives = take_at fives check (suc (length (fives ++ check)) - 7) (omega arith) in
     let passed = fives_pass program.bytes fives padded in
     let bytes : bytes_of_bits (length (all_bits 5 fives) / 8) (all_bits 5 fives) ≡ program.bytes =
-        ap (λ n. bytes_of_bits n (all_bits 5 fives)) passed.1 ∙ ap (bytes_of_bits (length program.bytes)) padded.same ∙ bytes_again program.bytes (replicate padded.zeros false) is.bytes in
+    ap (λ n. bytes_of_bits n (all_bits 5 fives)) passed.1 ∙ ap (bytes_of_bits (length program.bytes)) padded.same ∙ bytes_again program.bytes (replicate padded.zeros false) is.bytes in
     ap (λ f. script_of (record { version = program.version; bytes = bytes_of_bits (length (all_bits 5 f) / 8) (all_bits 5 f) })) front
     ∙ ap (λ b. script_of (record { version = program.version; bytes = b })) bytes
 

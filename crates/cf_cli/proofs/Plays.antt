@@ -75,7 +75,7 @@ plays_of status names script tape is_made named dialled whole =
     let unfailing : failing_of tape ≡ [] = ap (λ (m : Made). m.failing) same in
     let n = (tally_of (log_of tape)).dials in
     let went : (i : ℕ) → i < length (dials (log_of tape)) → answered_at (dials (log_of tape)) i ≡ answered_at script.dials i =
-        λ i lt. tape.went unfailing i lt ∙ ap (λ (s : Script). answered_at s.dials i) mine in
+    λ i lt. tape.went unfailing i lt ∙ ap (λ (s : Script). answered_at s.dials i) mine in
     let first : dials (log_of tape) ≡ take n script.dials = first_dials (dials (log_of tape)) script.dials n (dialled.first ∙ ap (take n) named) went in
     record {
       dialled = (n, first);
@@ -305,8 +305,10 @@ pub new_dialled : (names : List (List ℕ)) (t : Told) → Tells [] t → HasDia
 new_dialled names t fresh = record { most = most_of; first = first_by t.log fresh.content } where
   none : t.tally.dials ≡ 0
   none = ap (λ (y : Tally). y.dials) fresh.counts
+
   most_of : t.tally.dials ≤ length names
   most_of = let n = none in omega (arith, n)
+
   first_by : (o : Option Log) → IfSome o (λ l. l ≡ []) → IfSome o (λ log. names_of log ≡ take t.tally.dials names)
   first_by None h = tt
   first_by (Some log) h = subst (λ (l : Log). names_of l ≡ take t.tally.dials names) (sym h) (subst (λ (n : ℕ). [] ≡ take n names) (sym none) refl)

@@ -69,7 +69,7 @@ pub enum Status {
     #[error("the words are no command")]
     Usage,
     /// A file isn't in its grammar or profile: the first line or record that is refused, counted from 1, and why.
-    #[error("the {which}{}: {cause}", Spot { which: *.which, place: *.place })]
+    #[error("the {which}{}: {cause}", Spot {which: *.which, place: *.place})]
     BadFile {
         which: Which,
         place: u32,

@@ -121,11 +121,7 @@ fn two_words<'a>(
 }
 
 // A command of one word.
-fn one_word<'a>(
-    alloc: Global,
-    name: &'a str,
-    one: &'a str,
-) -> Result<clap::Command<'a>, AllocError>
+fn one_word<'a>(alloc: Global, name: &'a str, one: &'a str) -> Result<clap::Command<'a>, AllocError>
     ensures { IfOk result (λ c. (app_of c ≡ one_app name.entry.now one.entry.now) × ((fields_of c).has_globals ≡ false)) }
 {
     let one = Arg::new(alloc, one).required(true);

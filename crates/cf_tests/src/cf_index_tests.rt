@@ -12,8 +12,7 @@ const FILE: &str =
 
 // How many of its bytes there are, the most that one read gives, the read that fails, counted from 1 (0: none), and what the load comes to: the
 // height of the tip, or why there is no index.
-const ROWS: &str =
-    "578 1 0 tip 3
+const ROWS: &str = "578 1 0 tip 3
 578 3 0 tip 3
 578 4096 0 tip 3
 578 100 3 the blocks can't be read
