@@ -232,7 +232,7 @@ took_closed (Tick s) t = refl
 took_closed Ended t = refl
 
 -- the tally says who is connected
-is_called : Mark → Bool
+abbrev is_called : Mark → Bool
 is_called NotYet = false
 is_called Called = true
 is_called Missed = false
@@ -240,7 +240,7 @@ is_called Left = false
 is_called Shut = false
 is_called Broken = false
 
-is_not_yet : Mark → Bool
+abbrev is_not_yet : Mark → Bool
 is_not_yet NotYet = true
 is_not_yet Called = false
 is_not_yet Missed = false
@@ -248,7 +248,7 @@ is_not_yet Left = false
 is_not_yet Shut = false
 is_not_yet Broken = false
 
-is_broken : Mark → Bool
+abbrev is_broken : Mark → Bool
 is_broken NotYet = false
 is_broken Called = false
 is_broken Missed = false
