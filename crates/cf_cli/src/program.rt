@@ -44,6 +44,7 @@ fn replay<F: Files, O: Sink>(
     ensures judged { IfSome (F.files files.old) (λ m. IsJudged (and_then (watch_verdict (finite.get m watch.now)) (session_verdict (finite.get m session.now))) result) }
     ensures replayed { IsReplayed result MOST_TURNS trace (F.files files.old) watch.now (O.written out.old) (O.written out.new) (told_of tape.old) (told_of tape.new) (log_of tape.new) }
     ensures plays { IfSome (F.files files.old) (λ m. IfSome (finite.get m session.now) (λ bytes. PlaysSession result (session_of bytes) (log_of tape.new))) }
+    ensures unchanged { F.files files.new ≡ F.files files.old }
     ensures file_fault { result ≡ Status.FileFault → HasRisen (F.faults files.old) (F.faults files.new) }
     ensures out_fault { result ≡ Status.OutFault → HasRisen (O.faults out.old) (O.faults out.new) }
     ensures unwritten { has_run result ≡ false → O.written out.new ≡ O.written out.old }
@@ -91,6 +92,7 @@ fn sync<F: Files, W: Wires, O: Sink>(
     ensures kept { IfSome (W.told wires.new).log (λ log. KeptOver result false (F.files files.old) watch.now (names_in peers.now) (O.written out.old) (O.written out.new) log) }
     ensures tallied { Tallied result turns (length (names_in peers.now)) (W.told wires.old) (W.told wires.new) }
     ensures failures { IfSome (W.told wires.new).log (λ log. HasFailed log → HasRisen (W.faults wires.old) (W.faults wires.new)) }
+    ensures unchanged { F.files files.new ≡ F.files files.old }
     ensures file_fault { result ≡ Status.FileFault → HasRisen (F.faults files.old) (F.faults files.new) }
     ensures out_fault { result ≡ Status.OutFault → HasRisen (O.faults out.old) (O.faults out.new) }
     ensures unwritten { has_run result ≡ false → O.written out.new ≡ O.written out.old }
@@ -130,6 +132,7 @@ fn perform<F: Files, W: Wires, O: Sink>(
     ensures scan { (file watch : List ℕ) → command ≡ Scan file watch → IsScanned result (F.files files.old) watch file (O.written out.old) (O.written out.new) }
     ensures filter { (file : List ℕ) (height : ℕ) → command ≡ Filter file height → IsFiltered result (F.files files.old) file height (O.written out.old) (O.written out.new) }
     ensures address { (text : List ℕ) → command ≡ Address text → IsAddressed result text (O.written out.old) (O.written out.new) }
+    ensures unchanged { F.files files.new ≡ F.files files.old }
     ensures file_fault { result ≡ Status.FileFault → HasRisen (F.faults files.old) (F.faults files.new) }
     ensures out_fault { result ≡ Status.OutFault → HasRisen (O.faults out.old) (O.faults out.new) }
     ensures unwritten { has_run result ≡ false → O.written out.new ≡ O.written out.old }
@@ -206,6 +209,7 @@ pub fn run<F: Files, W: Wires, O: Sink>(
     ensures scan { (file watch : List ℕ) → command_of (names_in words.now) ≡ Some (Scan file watch) → IsScanned result (F.files files.old) watch file (O.written out.old) (O.written out.new) }
     ensures filter { (file : List ℕ) (height : ℕ) → command_of (names_in words.now) ≡ Some (Filter file height) → IsFiltered result (F.files files.old) file height (O.written out.old) (O.written out.new) }
     ensures address { (text : List ℕ) → command_of (names_in words.now) ≡ Some (Address text) → IsAddressed result text (O.written out.old) (O.written out.new) }
+    ensures unchanged { F.files files.new ≡ F.files files.old }
     ensures file_fault { result ≡ Status.FileFault → HasRisen (F.faults files.old) (F.faults files.new) }
     ensures out_fault { result ≡ Status.OutFault → HasRisen (O.faults out.old) (O.faults out.new) }
     ensures unwritten { has_run result ≡ false → O.written out.new ≡ O.written out.old }

@@ -107,6 +107,7 @@ pub(crate) fn scan<F: Files, O: Sink>(
 ) -> Status
     ensures judged { IfSome (F.files files.old) (λ m. IsJudged (and_then (watch_verdict (finite.get m watch.now)) (blocks_verdict (finite.get m file.now))) result) }
     ensures scanned { IsScanned result (F.files files.old) watch.now file.now (O.written out.old) (O.written out.new) }
+    ensures unchanged { F.files files.new ≡ F.files files.old }
     ensures unwritten { has_run result ≡ false → O.written out.new ≡ O.written out.old }
     ensures file_fault { result ≡ Status.FileFault → HasRisen (F.faults files.old) (F.faults files.new) }
     ensures out_fault { result ≡ Status.OutFault → HasRisen (O.faults out.old) (O.faults out.new) }
@@ -135,6 +136,7 @@ pub(crate) fn filter<F: Files, O: Sink>(
 ) -> Status
     ensures judged { IfSome (F.files files.old) (λ m. IsJudged (blocks_verdict (finite.get m file.now)) result) }
     ensures filtered { IsFiltered result (F.files files.old) file.now height (O.written out.old) (O.written out.new) }
+    ensures unchanged { F.files files.new ≡ F.files files.old }
     ensures unwritten { has_run result ≡ false → O.written out.new ≡ O.written out.old }
     ensures file_fault { result ≡ Status.FileFault → HasRisen (F.faults files.old) (F.faults files.new) }
     ensures out_fault { result ≡ Status.OutFault → HasRisen (O.faults out.old) (O.faults out.new) }
@@ -149,6 +151,7 @@ pub(crate) fn filter<F: Files, O: Sink>(
 fn filter_in<O: Sink>(alloc: Global, chain: CheckedChain, height: u32, out: &mut O) -> Status
     ensures told { TellsHeight result (O.written out.old) (O.written out.new) chain height (nat_lt (length chain) height) }
     ensures answers { IsOfFilter result (O.written out.old) (O.written out.new) }
+    ensures unwritten { has_run result ≡ false → O.written out.new ≡ O.written out.old }
     ensures fault { result ≡ Status.OutFault → HasRisen (O.faults out.old) (O.faults out.new) }
     ensures ends { IsOfHeight result }
 {
