@@ -1,0 +1,5 @@
+pub mod Levels
+pub mod Passing
+pub mod Sound
+pub mod TreeLemmas
+pub mod WalkLemmas

@@ -1,0 +1,5 @@
+use Rattle.cf_proof.proofs.Passing.{proves}
+use Rattle.cf_proof.proofs.laws.laws_of_proofs.Goals as goal
+
+pub returns : goal.returns
+returns c = proves

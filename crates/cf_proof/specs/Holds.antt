@@ -1,0 +1,22 @@
+-- What a proof that passes says of a block.
+use Rattle.std.specs.Prelude.{◌≡◌, ℕ, Bool, true, List, ◌∷◌, ◌++◌, Some}
+use Rattle.cf_bytes.specs.Hash.{hash_of}
+use Rattle.cf_block.specs.declared.tx.Tx.{Tx}
+use Rattle.cf_block.specs.declared.tx.Block.{Block}
+use Rattle.cf_block.specs.Tx.{tx_spelling, txid_of}
+use Rattle.cf_block.specs.Merkle.{merkle_root_of, txids, hashed, NoClash, Among}
+use Rattle.cf_block.specs.Commitment.{spelled_txs, IsCommitted}
+use Rattle.cf_proof.specs.Walk.{Walked}
+use Rattle.cf_proof.specs.declared.proof.Proof.{Proof}
+use Rattle.cf_proof.specs.Checks.{Passes, walk_of}
+
+-- a header's root is that of a list of hashes, which has this one
+pub record HoldsTransaction (root : List ℕ) (hashes : List (List ℕ)) (txid : List ℕ) : Type 0 where
+  pub root_is : root ≡ merkle_root_of hashes
+  pub among : Among hashes txid
+
+-- A transaction that a proof passes for stands in each block with the proof's header whose header stands for its transactions, where no two
+-- different strings have one hash, of those that are hashed in the block, those that were hashed in the walk, and the transaction's own bytes.
+abbrev pub Proves : List ℕ → Tx → Type 0
+Proves bytes tx = (p : Proof) (w : Walked) (b : Block) → Passes bytes (tx_spelling tx) p → walk_of p ≡ Some w → IsCommitted b → b.header ≡ p.header
+    → NoClash (hashed (spelled_txs b) ++ (tx_spelling tx ∷ w.nodes)) → HoldsTransaction b.header.root.0 (txids (spelled_txs b)) (txid_of tx)
