@@ -12,6 +12,7 @@ mod hashes;
 mod headers;
 mod inputs;
 mod payloads;
+mod proofs;
 mod runs;
 mod served;
 mod streams;
@@ -38,6 +39,7 @@ fn answer(alloc: Global, row: &str) -> Option<String> {
         "mine" => chains::mined(alloc, rest),
         "mistake" => inputs::mistake(alloc, rest),
         "payload" => payloads::answer(alloc, rest),
+        "proof" => proofs::answer(alloc, rest),
         "run" => runs::answer(alloc, rest),
         "serve" => conversations::answer(alloc, rest),
         "session" => inputs::session(alloc, rest),

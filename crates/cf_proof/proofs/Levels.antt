@@ -1,10 +1,10 @@
 -- The levels of a tree, and the strings that are hashed in it.
-use Rattle.std.proofs.Common.{◌≡◌, ℕ, zero, suc, ◌+◌, ◌-◌, ◌*◌, ◌/◌, ◌<◌, ◌≤◌, Bool, true, false, List, [], ◌∷◌, ◌++◌, length, map, get_or, ◌⊎◌, inl, inr, refl, sym, ◌∙◌, ap, subst, arith}
+use Rattle.std.proofs.Common.{◌≡◌, ℕ, zero, suc, ◌+◌, ◌*◌, ◌/◌, ◌<◌, ◌≤◌, Bool, true, false, List, [], ◌∷◌, ◌++◌, length, get_or, inl, inr, refl, sym, ◌∙◌, ap, subst, arith}
 use Rattle.std.specs.Prelude.{nat_le, if◌then◌else◌}
-use Rattle.std.proofs.lemmas.Bool.{lt-leb, le-leb, leb-true, leb-false}
+use Rattle.std.proofs.lemmas.Bool.{lt-leb, leb-true, leb-false}
 use Rattle.std.proofs.lemmas.List.{length-map}
 use Rattle.cf_bytes.specs.Hash.{hash_of}
-use Rattle.cf_block.specs.Merkle.{joined_pairs, next_level, first_of, root_within, merkle_root_of, nodes_within, nodes, Among}
+use Rattle.cf_block.specs.Merkle.{joined_pairs, next_level, first_of, root_within, merkle_root_of, nodes_within, Among}
 use Rattle.cf_proof.specs.Tree.{height_within, height_of, level_at, node_at}
 
 -- the level above the next one
@@ -31,6 +31,7 @@ root_at (suc n) l = at (nat_le (length l) 1) refl (root_at n (next_level l))
     first : (l : List (List ℕ)) → first_of l ≡ get_or l 0 []
     first [] = refl
     first (a ∷ l) = refl
+
     at : (b : Bool) → nat_le (length l) 1 ≡ b → root_within n (next_level l) ≡ get_or (level_at (height_within n (length (next_level l))) (next_level l)) 0 []
         → (if b then first_of l else root_within n (next_level l)) ≡ get_or (level_at (if b then zero else suc (height_within n ((length l + 1) / 2))) l) 0 []
     at true is below = first l
@@ -114,4 +115,4 @@ joined_among (suc m) (suc n) l s few two h = at (nat_le (length l) 1) refl
     at false is below =
         let many : 1 < length l = leb-false (length l) 1 is in
         among_right (joined_pairs l) (nodes_within n (next_level l)) s
-          (below (omega (arith, length_next l)) (subst (λ t. 2 ≤ length t) (sym (level_shift m l)) two) (subst (λ t. Among (joined_pairs t) s) (sym (level_shift m l)) h))
+        (below (omega (arith, length_next l)) (subst (λ t. 2 ≤ length t) (sym (level_shift m l)) two) (subst (λ t. Among (joined_pairs t) s) (sym (level_shift m l)) h))

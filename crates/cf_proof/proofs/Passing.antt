@@ -1,8 +1,7 @@
 -- A transaction that a proof passes for stands in the block.
-use Rattle.std.proofs.Common.{◌≡◌, ℕ, zero, suc, ◌+◌, ◌*◌, ◌/◌, ◌<◌, ◌≤◌, Bool, true, false, List, [], ◌∷◌, ◌++◌, length, take, drop, map, get_or, Option, Some, None, Result, Ok, Err, ◌⊎◌, inl, inr, refl, sym, ◌∙◌, ap, subst, arith}
+use Rattle.std.proofs.Common.{◌≡◌, ℕ, zero, suc, ◌*◌, ◌<◌, Bool, true, false, List, [], ◌∷◌, ◌++◌, length, take, drop, Option, Some, None, Result, Ok, Err, inl, inr, refl, sym, ◌∙◌, ap, subst, arith}
 use Rattle.std.specs.Prelude.{◌≢◌, ◌==◌, ◌||◌, nat_lt, nat_le, nat_eq, not, if◌then◌else◌}
 use Rattle.std.specs.Int.{w32}
-use Rattle.std.specs.List.{list_any}
 use Rattle.std.specs.Cmp.Lexicographic.{pointwise, same_text}
 use Rattle.std.proofs.lemmas.Bool.{or_cases, ltb-false, eq-eqb}
 use Rattle.std.proofs.lemmas.List.{length-take-le, length-map}
@@ -10,33 +9,27 @@ use Rattle.cf_bytes.specs.Cut.{Read, number_at, bytes_at, ◌>>=◌}
 use Rattle.cf_bytes.specs.Compact.{compact_at}
 use Rattle.cf_bytes.specs.Lists.{list_at, counted_bytes_at}
 use Rattle.cf_bytes.specs.Hash.{hash_of}
+use Rattle.cf_bytes.proofs.Codecs.{bind_ok}
 use Rattle.cf_bytes.specs.declared.cut.CutFault.{CutFault}
 use Rattle.cf_bytes.specs.declared.cut.CutFault.TheVariants.{Short as CutShort}
 use Rattle.cf_bytes.specs.declared.hash.Hash32.{Hash32}
-use Rattle.cf_block.specs.declared.header.Header.{Header}
 use Rattle.cf_block.specs.declared.tx.Tx.{Tx}
-use Rattle.cf_block.specs.declared.tx.Block.{Block}
 use Rattle.cf_block.specs.Header.{hash_at}
 use Rattle.cf_block.specs.Tx.{tx_spelling, txid_of}
 use Rattle.cf_block.specs.Views.{bytes_of}
-use Rattle.cf_block.specs.Merkle.{merkle_root_of, txids, nodes, hashed, NoClash, Among}
-use Rattle.cf_block.specs.Commitment.{spelled_txs, IsCommitted}
+use Rattle.cf_block.specs.Merkle.{txids, nodes, hashed, Among}
+use Rattle.cf_block.specs.Commitment.{spelled_txs}
 use Rattle.cf_proof.specs.declared.fault.ProofFault.{ProofFault}
-use Rattle.cf_proof.specs.declared.fault.ProofFault.TheVariants.{Rest, Total, Hashes, Tx64, Bits, Ends, Same, Left, Root, Absent}
+use Rattle.cf_proof.specs.declared.fault.ProofFault.TheVariants.{Rest, Total, Hashes, Tx64, Bits, Same, Left, Root, Absent}
 use Rattle.cf_proof.specs.declared.proof.Proof.{Proof}
 use Rattle.cf_proof.specs.Tree.{height_of, level_at, node_at}
-use Rattle.cf_proof.specs.Walk.{Walked, walk}
 use Rattle.cf_proof.specs.Proof.{flags_of, field_at, header_field_at, hash_field_at, fields_at, all_of, proof_at}
-use Rattle.cf_proof.specs.Checks.{Passes, walk_of, walk_fault, root_fault, sized_fault, has}
-use Rattle.cf_proof.specs.Holds.{HoldsTransaction, Proves}
+use Rattle.cf_proof.specs.Checks.{walk_of, walk_fault, root_fault, has}
+use Rattle.cf_proof.specs.Holds.{Proves}
 use Rattle.cf_proof.proofs.Levels.{root_is, two_below, length_next, among_left, among_right}
 use Rattle.cf_proof.proofs.Sound.{Are32, HasBlock, sound}
 
 -- ---- the hashes of a proof that was read have 32 bytes
-
-bind_ok : {A B E : Type 0} (r : Result A E) (f : A → Result B E) (y : B) → (r >>= f) ≡ Ok y → (x : A) × (r ≡ Ok x) × (f x ≡ Ok y)
-bind_ok (Ok x) f y h = (x, refl, h)
-bind_ok (Err e) f y h = cc
 
 field_ok : {X : Type 0} (r : Read X CutFault) (x : X × List ℕ) → field_at r ≡ Ok x → r ≡ Ok x
 field_ok (Ok y) x h = cc
@@ -51,9 +44,11 @@ hash_32 bytes x h =
     first_in : Result (Hash32 × List ℕ) (CutFault × List ℕ) → List ℕ
     first_in (Ok y) = y.0.0
     first_in (Err e) = x.0.0
+
     bytes_in : List ℕ → Read (List ℕ) CutFault → List ℕ
     bytes_in other (Ok y) = y.0
     bytes_in other (Err e) = other
+
     at : (t : Bool) → nat_lt (length bytes) 32 ≡ t → (y : List ℕ × List ℕ) → ◌≡◌ {A = Read (List ℕ) CutFault} (if t then Err (CutShort, bytes) else Ok (take 32 bytes, drop 32 bytes)) (Ok y) → length y.0 ≡ 32
     at true is y h = cc
     at false is y h = ap length (ap (λ r. bytes_in y.0 r) (sym h)) ∙ length-take-le 32 bytes (ltb-false (length bytes) 32 is)
@@ -157,5 +152,5 @@ proves bytes tx p w b passes walk_is committed header_is apart =
     record {
       root_is = committed.root;
       among = sound p.total (height_of p.total) 0 (flags_of p.flags) (bytes_of p.hashes) w text strings spelled block (among_right (hashed spelled) (text ∷ w.nodes) text (inl refl)) (not_64 (length text) sized.0)
-        (proof_32 bytes p passes.read) walk_is (λ s a. among_right (hashed spelled) (text ∷ w.nodes) s (inr a)) (height_of (length ids)) 0 (some_above (height_of (length ids)) ids some) (λ k lt. two_below k (length ids) ids lt) top found;
+          (proof_32 bytes p passes.read) walk_is (λ s a. among_right (hashed spelled) (text ∷ w.nodes) s (inr a)) (height_of (length ids)) 0 (some_above (height_of (length ids)) ids some) (λ k lt. two_below k (length ids) ids lt) top found;
     }

@@ -2,13 +2,13 @@
 use Rattle.std.proofs.Common.{◌≡◌, ℕ, zero, suc, ◌+◌, ◌*◌, ◌<◌, ◌≤◌, Bool, true, false, List, [], ◌∷◌, ◌++◌, length, take, map, get_or, Option, Some, None, ◌⊎◌, inl, inr, refl, sym, ◌∙◌, ap, subst, arith}
 use Rattle.std.specs.Prelude.{◌≢◌, if◌then◌else◌}
 use Rattle.std.specs.Option.{option_and_then, option_map}
-use Rattle.std.proofs.lemmas.List.{length-append, append_cancel_left, take_at, length-map}
+use Rattle.std.proofs.lemmas.List.{length-append, append_cancel_left, take_at}
 use Rattle.cf_bytes.specs.Hash.{hash_of}
 use Rattle.cf_block.proofs.Roots.{length-hash_of}
-use Rattle.cf_block.specs.Merkle.{joined_pairs, next_level, txids, nodes, Among, NoClash, None64}
+use Rattle.cf_block.specs.Merkle.{joined_pairs, txids, nodes, Among, NoClash, None64}
 use Rattle.cf_proof.specs.Tree.{is_there, level_at, node_at}
 use Rattle.cf_proof.specs.Walk.{Walked, with_hash, with_both, with_left, walk}
-use Rattle.cf_proof.proofs.Levels.{HasChildren, children, joined_among, among_left, among_right}
+use Rattle.cf_proof.proofs.Levels.{children, joined_among, among_left, among_right}
 
 -- hashes have 32 bytes
 unfoldable pub Are32 : List (List ℕ) → Type 0
@@ -30,6 +30,7 @@ opened total n place bits hashes w h = at_left (walk total n (2 * place) bits ha
     at_right left true None is right_is h = cc
     at_right left true (Some right) is right_is h = record { left = left; left_is = is; rest = inr (right, right_is, cc) }
     at_right left false o is right_is h = record { left = left; left_is = is; rest = inl (cc) }
+
     at_left : (o : Option Walked) → walk total n (2 * place) bits hashes ≡ o
         → option_and_then (λ left. if is_there total n (2 * place + 1) then option_map (λ right. with_both left right) (walk total n (2 * place + 1) left.bits left.hashes) else Some (with_left left)) o ≡ Some w → HasLeft total n place bits hashes w
     at_left None is h = cc
@@ -47,6 +48,7 @@ hash_taken b bits (x ∷ hashes) w h are =
     hash_in : Option Walked → List ℕ
     hash_in None = x
     hash_in (Some v) = v.hash
+
     hashes_in : Option Walked → List (List ℕ)
     hashes_in None = hashes
     hashes_in (Some v) = v.hashes
@@ -62,7 +64,7 @@ walk_32 total (suc n) place (true ∷ bits) hashes w h are =
     let o = opened total n place bits hashes w h in
     let left = walk_32 total n (2 * place) bits hashes o.left o.left_is are in
     elim o.rest [
-      inl is ↦ subst (λ v. (length v.hash ≡ 32) × Are32 v.hashes) (sym is) (length-hash_of (o.left.hash ++ o.left.hash), left.1)
+      | inl is ↦ subst (λ v. (length v.hash ≡ 32) × Are32 v.hashes) (sym is) (length-hash_of (o.left.hash ++ o.left.hash), left.1)
       | inr r ↦ subst (λ v. (length v.hash ≡ 32) × Are32 v.hashes) (sym r.2) (length-hash_of (o.left.hash ++ r.0.hash), (walk_32 total n (2 * place + 1) o.left.bits o.left.hashes r.0 r.1 left.1).1)
     ]
 
@@ -189,6 +191,7 @@ leaf_matched bits (y ∷ hashes) w x h m =
     matched_in : Option Walked → List (List ℕ)
     matched_in None = []
     matched_in (Some v) = v.matched
+
     hash_in : Option Walked → List ℕ
     hash_in None = y
     hash_in (Some v) = v.hash
@@ -208,19 +211,19 @@ sound total (suc n) place (true ∷ bits) hashes w tx strings spelled has tx_in 
     let o = opened total n place bits hashes w h in
     let left_32 = walk_32 total n (2 * place) bits hashes o.left o.left_is are in
     elim o.rest [
-      inl w_is ↦ (
-        let nodes_is : w.nodes ≡ (o.left.hash ++ o.left.hash) ∷ o.left.nodes = ap (λ v. v.nodes) w_is in
-        let in_all : (s : List ℕ) → Among ((o.left.hash ++ o.left.hash) ∷ o.left.nodes) s → Among strings s = λ s a. inside s (subst (λ l. Among l s) (sym nodes_is) a) in
-        let c = same_children strings spelled has o.left.hash o.left.hash (in_all (o.left.hash ++ o.left.hash) (inl refl)) left_32.0 left_32.0 m q lt many (is ∙ ap (λ v. v.hash) w_is) in
-        sound total n (2 * place) bits hashes o.left tx strings spelled has tx_in other are o.left_is (λ s a. in_all s (inr a)) c.m c.left_place c.left_there c.many c.left_is (subst (λ v. Among v.matched (hash_of tx)) w_is found))
+      | inl w_is ↦ (
+          let nodes_is : w.nodes ≡ (o.left.hash ++ o.left.hash) ∷ o.left.nodes = ap (λ v. v.nodes) w_is in
+          let in_all : (s : List ℕ) → Among ((o.left.hash ++ o.left.hash) ∷ o.left.nodes) s → Among strings s = λ s a. inside s (subst (λ l. Among l s) (sym nodes_is) a) in
+          let c = same_children strings spelled has o.left.hash o.left.hash (in_all (o.left.hash ++ o.left.hash) (inl refl)) left_32.0 left_32.0 m q lt many (is ∙ ap (λ v. v.hash) w_is) in
+          sound total n (2 * place) bits hashes o.left tx strings spelled has tx_in other are o.left_is (λ s a. in_all s (inr a)) c.m c.left_place c.left_there c.many c.left_is (subst (λ v. Among v.matched (hash_of tx)) w_is found))
       | inr r ↦ (
-        let right : Walked = r.0 in
-        let right_32 = walk_32 total n (2 * place + 1) o.left.bits o.left.hashes right r.1 left_32.1 in
-        let nodes_is : w.nodes ≡ (o.left.hash ++ right.hash) ∷ (o.left.nodes ++ right.nodes) = ap (λ v. v.nodes) r.2 in
-        let in_all : (s : List ℕ) → Among ((o.left.hash ++ right.hash) ∷ (o.left.nodes ++ right.nodes)) s → Among strings s = λ s a. inside s (subst (λ l. Among l s) (sym nodes_is) a) in
-        let c = same_children strings spelled has o.left.hash right.hash (in_all (o.left.hash ++ right.hash) (inl refl)) left_32.0 right_32.0 m q lt many (is ∙ ap (λ v. v.hash) r.2) in
-        elim (among_parts o.left.matched right.matched (hash_of tx) (subst (λ v. Among v.matched (hash_of tx)) r.2 found)) [
-          inl in_left ↦ sound total n (2 * place) bits hashes o.left tx strings spelled has tx_in other are o.left_is (λ s a. in_all s (inr (among_left o.left.nodes right.nodes s a))) c.m c.left_place c.left_there c.many c.left_is in_left
-          | inr in_right ↦ sound total n (2 * place + 1) o.left.bits o.left.hashes right tx strings spelled has tx_in other left_32.1 r.1 (λ s a. in_all s (inr (among_right o.left.nodes right.nodes s a))) c.m c.right_place c.right_there c.many c.right_is in_right
-        ])
+          let right : Walked = r.0 in
+          let right_32 = walk_32 total n (2 * place + 1) o.left.bits o.left.hashes right r.1 left_32.1 in
+          let nodes_is : w.nodes ≡ (o.left.hash ++ right.hash) ∷ (o.left.nodes ++ right.nodes) = ap (λ v. v.nodes) r.2 in
+          let in_all : (s : List ℕ) → Among ((o.left.hash ++ right.hash) ∷ (o.left.nodes ++ right.nodes)) s → Among strings s = λ s a. inside s (subst (λ l. Among l s) (sym nodes_is) a) in
+          let c = same_children strings spelled has o.left.hash right.hash (in_all (o.left.hash ++ right.hash) (inl refl)) left_32.0 right_32.0 m q lt many (is ∙ ap (λ v. v.hash) r.2) in
+          elim (among_parts o.left.matched right.matched (hash_of tx) (subst (λ v. Among v.matched (hash_of tx)) r.2 found)) [
+            | inl in_left ↦ sound total n (2 * place) bits hashes o.left tx strings spelled has tx_in other are o.left_is (λ s a. in_all s (inr (among_left o.left.nodes right.nodes s a))) c.m c.left_place c.left_there c.many c.left_is in_left
+            | inr in_right ↦ sound total n (2 * place + 1) o.left.bits o.left.hashes right tx strings spelled has tx_in other left_32.1 r.1 (λ s a. in_all s (inr (among_right o.left.nodes right.nodes s a))) c.m c.right_place c.right_there c.many c.right_is in_right
+          ])
     ]

@@ -1,17 +1,14 @@
 -- Steps of the walk.
-use Rattle.std.proofs.Common.{◌≡◌, ℕ, zero, suc, ◌+◌, ◌-◌, ◌*◌, ◌<◌, ◌≤◌, Bool, true, false, List, [], ◌∷◌, ◌++◌, length, take, drop, get_or, Some, None, Option, refl, sym, ◌∙◌, ap, arith}
-use Rattle.std.specs.Prelude.{◌||◌, nat_eq, if◌then◌else◌}
-use Rattle.std.specs.List.{list_any, flat_map}
-use Rattle.std.specs.Option.{option_and_then, option_map}
+use Rattle.std.proofs.Common.{◌≡◌, ℕ, zero, suc, ◌+◌, ◌-◌, ◌*◌, ◌<◌, ◌≤◌, Bool, true, false, List, [], ◌∷◌, ◌++◌, length, take, drop, get_or, Some, None, refl, sym, ◌∙◌, ap, arith}
+use Rattle.std.specs.Prelude.{◌||◌, nat_eq}
 use Rattle.std.specs.Cmp.Lexicographic.{pointwise}
 use Rattle.std.proofs.lemmas.List.{take_more, take_all}
 use Rattle.std.proofs.lemmas.List.Folds.{list_any-append}
 use Rattle.std.proofs.lemmas.Grind.{flat_map-append}
 use Rattle.cf_bytes.specs.Hash.{hash_of}
 use Rattle.cf_proof.specs.Tree.{is_there}
-use Rattle.cf_proof.specs.Walk.{Walked, with_hash, with_both, with_left, walk}
+use Rattle.cf_proof.specs.Walk.{with_hash, with_both, with_left, walk}
 use Rattle.cf_proof.specs.Proof.{flags_of, flags_of_byte}
-use Rattle.cf_proof.specs.Checks.{has}
 use Rattle.cf_proof.specs.Steps.{IsNodeOf}
 
 pub flags_more : (bytes : List ℕ) (i : ℕ) (old new : List Bool) → i < length bytes → old ≡ flags_of (take i bytes) → new ≡ old ++ flags_of_byte (get_or bytes i 0) → new ≡ flags_of (take (i + 1) bytes)

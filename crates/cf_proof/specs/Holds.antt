@@ -1,6 +1,5 @@
 -- What a proof that passes says of a block.
-use Rattle.std.specs.Prelude.{◌≡◌, ℕ, Bool, true, List, ◌∷◌, ◌++◌, Some}
-use Rattle.cf_bytes.specs.Hash.{hash_of}
+use Rattle.std.specs.Prelude.{◌≡◌, ℕ, List, ◌∷◌, ◌++◌, Some}
 use Rattle.cf_block.specs.declared.tx.Tx.{Tx}
 use Rattle.cf_block.specs.declared.tx.Block.{Block}
 use Rattle.cf_block.specs.Tx.{tx_spelling, txid_of}

@@ -1,4 +1,4 @@
-//! Proofs that a transaction stands in a block: partial Merkle trees of BIP 37, made and checked.
+//! Proofs that a transaction stands in a block: partial Merkle trees of BIP 37, read and checked.
 #![tactic(auto)]
 
 mod checking;

@@ -78,7 +78,11 @@ fn hash_of(cut: &mut Cut) -> Result<Hash32, ProofFault>
     Ok(cut.hash()?)
 }
 
-fn hashes_of(alloc: Global, count: u64, cut: &mut Cut) -> Result<Listed<Hash32>, Refused<ProofFault>>
+fn hashes_of(
+    alloc: Global,
+    count: u64,
+    cut: &mut Cut,
+) -> Result<Listed<Hash32>, Refused<ProofFault>>
     ensures { Gives (λ h. h) (list_at hash_field_at count cut.old) result cut.new }
 {
     let mut items = Vec::new(alloc);

@@ -38,9 +38,7 @@ pub(crate) fn walk<'a>(
     requires there { place * 2 ^ height < total }
     ensures { MatchOption result (walk_from total height place bits.now (bytes_of hashes.now) ≡ None) (λ n. IsNodeOf txid.now.0 (walk_from total height place bits.now (bytes_of hashes.now)) n.hash.0 n.twins n.found n.bits.now (bytes_of n.hashes.now)) }
 {
-    let [bit, bits @ ..] = bits else {
-        return None
-    };
+    let [bit, bits @ ..] = bits else { return None };
     if height == 0 {
         return with_hash(txid, *bit, bits, hashes);
     }
@@ -54,14 +52,21 @@ pub(crate) fn walk<'a>(
     if !is_there(total, height - 1, 2 * place + 1) {
         return Some(with_left(left));
     }
-    match walk(total, txid, height - 1, 2 * place + 1, left.bits, left.hashes) {
+    match walk(
+        total,
+        txid,
+        height - 1,
+        2 * place + 1,
+        left.bits,
+        left.hashes,
+    ) {
         None => None,
         Some(right) => Some(with_both(left, right)),
     }
 }
 
 // Whether a leaf stands below a node.
-fn is_there(total: u32, height: u32, place: u32) -> bool
+pub(crate) fn is_there(total: u32, height: u32, place: u32) -> bool
     requires low { height ≤ 15 }
     requires few { place ≤ 65536 }
     ensures { result ≡ is_node total height place }

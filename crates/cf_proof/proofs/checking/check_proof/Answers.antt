@@ -1,4 +1,4 @@
-use Rattle.std.proofs.Common.{◌≡◌, ◌∙◌, ap, sym, length}
+use Rattle.std.proofs.Common.{◌≡◌, ◌∙◌, ap, sym}
 use Rattle.cf_bytes.specs.Hash.{hash_of}
 use Rattle.cf_block.specs.Tx.{tx_spelling, txid_of}
 use Rattle.cf_proof.specs.Checks.{fault_of, sized_fault}
