@@ -1,0 +1,4 @@
+pub mod PutIn
+pub mod Ats
+pub mod Seats
+pub mod Genesis
