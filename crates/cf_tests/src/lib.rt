@@ -9,6 +9,7 @@ mod cf_bytes_tests;
 mod cf_conn_tests;
 #[cfg(test)]
 mod cf_index_tests;
+#[cfg(test)]
 mod cf_peer_tests;
 #[cfg(test)]
 mod cf_server_tests;
