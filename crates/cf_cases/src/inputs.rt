@@ -89,7 +89,11 @@ fn lines_of(alloc: Global, session: &Session) -> Option<String> {
 
 /// The dials and the deliveries of a session, or its first fault.
 pub(crate) fn session(alloc: Global, row: &str) -> Option<String> {
-    match read_session(alloc, file_in(alloc, row)?.as_bytes()) {
+    let text = file_in(alloc, row)?;
+    if text.len() > 1_000_000 {
+        return None;
+    }
+    match read_session(alloc, text.as_bytes()) {
         Ok(session) => lines_of(alloc, &session),
         Err(fault) => format!(in alloc; "{fault:?}").ok(),
     }
