@@ -1,4 +1,5 @@
 pub mod Levels
+pub mod MakeLemmas
 pub mod Passing
 pub mod Sound
 pub mod TreeLemmas

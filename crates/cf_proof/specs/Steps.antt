@@ -1,5 +1,6 @@
 -- What the steps of a check answer.
-use Rattle.std.specs.Prelude.{◌≡◌, ℕ, Bool, List, Option, Some, None, Result, Ok, Err}
+use Rattle.std.specs.Int.{bit_at}
+use Rattle.std.specs.Prelude.{◌≡◌, ℕ, zero, suc, ◌==◌, ◌++◌, ◌∷◌, [], Bool, List, Option, Some, None, Result, Ok, Err}
 use Rattle.cf_bytes.specs.declared.memory.Refused.{Refused}
 use Rattle.cf_bytes.specs.declared.memory.Refused.TheVariants.{No, NoMemory}
 use Rattle.cf_proof.specs.declared.fault.ProofFault.{ProofFault}
@@ -27,3 +28,8 @@ GivesProof read (Err NoMemory) = Unit {0}
 abbrev pub GivesFault : Option ProofFault → Result (Unit {0}) ProofFault → Type 0
 GivesFault fault (Ok u) = fault ≡ None
 GivesFault fault (Err e) = fault ≡ Some e
+
+-- the low n bits of a byte, the least significant first
+unfoldable pub low_bits : ℕ → ℕ → List Bool
+low_bits zero b = []
+low_bits (suc n) b = low_bits n b ++ (bit_at b n == 1) ∷ []
