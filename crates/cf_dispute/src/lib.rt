@@ -4,8 +4,10 @@
 mod claim;
 mod claims;
 mod first;
+mod laws;
 mod tables;
 
 pub use claim::{At, Claim, ClaimFault};
 pub use claims::Claims;
 pub use first::genesis_filter_header;
+pub use laws::laws_of_claims;
