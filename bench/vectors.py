@@ -1,5 +1,6 @@
 #!/usr/bin/env python3
-"""Writes the rows of cf_cases for hashes, numbers, SipHash, Golomb codes and basic filters: `vectors.py ROWS ANSWERS`.
+"""Writes the rows of cf_cases for hashes, numbers, SipHash, Golomb codes, basic filters, claims of their hashes and verdicts on them:
+`vectors.py ROWS ANSWERS`.
 
 Everything is computed here, apart from the programs, and first compared with what is published: FIPS 180-4's digest of "abc", the table of
 SipHash-2-4's reference code, and BIP 158's vectors of testnet's blocks 0 and 2.
@@ -105,6 +106,8 @@ TESTNET_2 = bytes.fromhex(
     "588aa53fa860128077c9e6c11e6830f4d7ee4e763a56b7718fac00000000"
 )
 PAID_0, PAID_2 = TESTNET_0[-71:-4], TESTNET_2[-39:-4]
+# The first block of regtest has testnet's transaction.
+REGTEST_0 = bytes.fromhex("01000000" + "00" * 32) + TESTNET_0[36:68] + bytes.fromhex("dae5494dffff7f2002000000") + TESTNET_0[80:]
 BEFORE_2 = bytes.fromhex("d7bdac13a59d745b1add0d2ce852f1a0442e8945fc1bf3848d3cbffd88c24fe1")[::-1]
 KEY = bytes(range(16))
 
@@ -118,6 +121,7 @@ def published():
     hash_0, hash_2 = double(TESTNET_0[:80]), double(TESTNET_2[:80])
     assert hash_0[::-1].hex() == "000000000933ea01ad0ee984209779baaec3ced90fa3f408719526f8d77f4943"
     assert hash_2[::-1].hex() == "000000006c02c8ea6e4ff69651f7fcde348fb9d557a06e6957b65552002a7820"
+    assert double(REGTEST_0[:80])[::-1].hex() == "0f9188f13cb7b2c71f2a335e3a4fc328bf5beb436012afca590b1a11466e2206"
     code_0, code_2 = basic_filter(hash_0, [PAID_0]), basic_filter(hash_2, [PAID_2])
     assert code_0.hex() == "019dfca8" and code_2.hex() == "0174a170"
     assert header_after(code_0, bytes(32))[::-1].hex() == "21584579b7eb08997773e5aeff3a7f932700042d0ed2a6129012b7d7ae81b750"
@@ -233,6 +237,52 @@ def rows():
     yield f"match {name.hex()} 019dfca8 51", "Ok(false)"
     for bad, fault in (("01000001", "Padding"), ("0100000000", "Excess"), ("-", "Cut(Short)")):
         yield f"match {bytes(32).hex()} {bad} 51", f"Err({fault})"
+    yield from claim_rows()
+    yield from verdict_rows()
+
+
+def claim_rows():
+    """What peers claim. A hash of one byte is that byte 32 times."""
+    yield "# claims FIRST;STEP;..: what each step comes to, where FIRST is the filter header of the first block. A hash is 32 bytes in wire order, a byte that stands 32", None
+    yield "# times, or the first block's hash (`genesis`) or filter header (`first`). `give PEER BLOCKS PREVIOUS HASHES`: the peer claims these hashes of blocks on the first", None
+    yield "# one, and what it claimed before is forgotten; `forget PEER`; `at BLOCK`: what all claim; `of PEER BLOCK`: the filter hash and filter header that a peer claims.", None
+    first = header_after(basic_filter(double(REGTEST_0[:80]), [PAID_0]), bytes(32))
+    x, y, z = (bytes([b]) * 32 for b in (0xB1, 0xB2, 0xB3))
+    after_x = double(x + first)
+    after_y = double(y + after_x)
+    yield "claims first;give 1 a1,a2,a3 first b1,b2;at a1;of 1 genesis", f"Count 3 2;Nobody;no hash header {first.hex()}"
+    yield "claims first;give 1 a1,a2 first b1,b2,b3;at a1", "Count 2 3;Nobody"
+    yield "claims first;give 1 a1,a2,a3 00 b1,b2", "Count 3 2"
+    yield "claims first;give 1 a1 00 b1;of 1 a1", f"Previous {first.hex()} {bytes(32).hex()};no hash no header"
+    taken = f"taken;hash {x.hex()} header {after_x.hex()};hash {y.hex()} header {after_y.hex()};no hash no header;no hash no header"
+    yield "claims first;give 1 a1,a2 first b1,b2;of 1 a1;of 1 a2;of 1 a3;of 2 a1", taken
+    yield "claims first;give 1 a1 first b1;give 2 a1 first b2;at a1;forget 2;at a1;forget 1;at a1", f"taken;taken;Differ;forgotten;One {x.hex()};forgotten;Nobody"
+    one_of_three = f"taken;taken;taken;Differ;forgotten;Differ;forgotten;One {z.hex()}"
+    yield "claims first;give 8 a1 first b1;give 2 a1 first b3;give 5 a1 first b3;at a1;forget 5;at a1;forget 8;at a1", one_of_three
+    yield "claims first;give 1 a1 first b1;give 2 a1 first b1;at a1;at a2", f"taken;taken;One {x.hex()};Nobody"
+    yield "# The filter header of testnet's block 2, as BIP 158's vectors have it, on that of block 1.", None
+    name, code = double(TESTNET_2[:80]), basic_filter(double(TESTNET_2[:80]), [PAID_2])
+    header = header_after(code, BEFORE_2)
+    row = f"claims {BEFORE_2.hex()};give 1 {name.hex()} {BEFORE_2.hex()} {double(code).hex()};of 1 {name.hex()}"
+    yield row, f"taken;hash {double(code).hex()} header {header.hex()}"
+
+
+def verdict_rows():
+    """What filters say of watched scripts."""
+    yield "# verdicts SCRIPTS BLOCK:FILTER..: the verdicts on filters for blocks, where these scripts are watched. `none` is no script, or no filter.", None
+    zeros = bytes(32).hex()
+    yield f"verdicts 51 {zeros}:00 {zeros}:01000001", "[Miss, Hit]"
+    yield f"verdicts 51 {zeros}:01000001 {zeros}:0100000000 {zeros}:- {zeros}:00", "[Hit, Hit, Hit, Miss]"
+    yield "verdicts 51 none", "[]"
+    yield f"verdicts none {zeros}:00 {zeros}:01000001", "[Miss, Hit]"
+    yield "# The filter of testnet's block 0, of BIP 158's vectors, under its own hash and under another.", None
+    name = double(TESTNET_0[:80])
+    value = siphash(name[:16], PAID_0) * M >> 64
+    blocks = (name, name[::-1])
+    filters = " ".join(f"{block.hex()}:019dfca8" for block in blocks)
+    for scripts in ([PAID_0], [b"\x51", PAID_0, b"\x52"], [b"\x51"]):
+        verdicts = ("Hit" if any(siphash(block[:16], s) * M >> 64 == value for s in scripts) else "Miss" for block in blocks)
+        yield f"verdicts {listed(scripts)} {filters}", f"[{', '.join(verdicts)}]"
 
 
 def main():

@@ -45,8 +45,8 @@ pub(crate) fn met(alloc: Global, row: &str) -> Option<String> {
     format!(in alloc; "{answer:?}").ok()
 }
 
-// The scripts of a field, parted by commas. `none` is no script.
-fn scripts_in(alloc: Global, field: &str) -> Option<Vec<Script>> {
+/// The scripts of a field, parted by commas. `none` is no script.
+pub(crate) fn scripts_in(alloc: Global, field: &str) -> Option<Vec<Script>> {
     let mut scripts = Vec::new(alloc);
     if field == "none" {
         return Some(scripts);

@@ -4,6 +4,7 @@
 
 mod addresses;
 mod chains;
+mod claims;
 mod conversations;
 mod fields;
 mod files;
@@ -16,6 +17,7 @@ mod proofs;
 mod runs;
 mod served;
 mod streams;
+mod verdicts;
 
 use std::alloc::Global;
 use std::process::ExitCode;
@@ -27,6 +29,7 @@ fn answer(alloc: Global, row: &str) -> Option<String> {
         "address" => addresses::answer(alloc, rest),
         "blocks" => files::answer(alloc, rest),
         "chain" => chains::answer(alloc, rest),
+        "claims" => claims::answer(alloc, rest),
         "compact" => hashes::compact(alloc, rest),
         "fields" => hashes::fields(alloc, rest),
         "filter" => filters::answer(alloc, rest),
@@ -48,6 +51,7 @@ fn answer(alloc: Global, row: &str) -> Option<String> {
         "target" => headers::target(alloc, rest),
         "text" => inputs::text(alloc, rest),
         "unhash" => hashes::unhash(alloc, rest),
+        "verdicts" => verdicts::answer(alloc, rest),
         "watch" => inputs::watch(alloc, rest),
         "words" => inputs::words(alloc, rest),
         _ => None,

@@ -1,0 +1,139 @@
+//! What peers claim of the filters of blocks.
+ghost use Rattle.std.specs.Prelude.{◌≤◌};
+
+use crate::fields::{bytes_in, texts_in};
+use cf_block::{block_hash, genesis_header};
+use cf_bytes::{Cut, Hash32, PeerNo, Refused};
+use cf_dispute::{At, ClaimFault, Claims, genesis_filter_header};
+use std::alloc::Global;
+
+// A hash: 32 bytes, one byte that stands 32 times, or the first block's hash (`genesis`) or filter header (`first`).
+fn hash_in(alloc: Global, field: &str) -> Option<Hash32> {
+    if field == "genesis" {
+        return Some(block_hash(&genesis_header()));
+    }
+    if field == "first" {
+        return Some(genesis_filter_header());
+    }
+    let bytes = bytes_in(alloc, field)?;
+    if bytes.len() == 1 {
+        return Some(Hash32([bytes[0]; 32]));
+    }
+    Some(Hash32(Cut::new(&bytes).array().ok()?))
+}
+
+// Hashes, parted by commas.
+fn hashes_in(alloc: Global, field: &str) -> Option<Vec<Hash32>> {
+    let mut hashes = Vec::new(alloc);
+    for text in &texts_in(alloc, field, ',')? {
+        hashes.push(hash_in(alloc, text)?).ok()?;
+    }
+    Some(hashes)
+}
+
+// A word and hashes after it, in wire order.
+fn with_hashes(alloc: Global, word: &str, hashes: &[Hash32]) -> Option<String> {
+    let mut text = String::from_str(alloc, word).ok()?;
+    for hash in hashes {
+        text.push(' ').ok()?;
+        text.push_str(&hex::encode(alloc, &hash.0).ok()?).ok()?;
+    }
+    Some(text)
+}
+
+fn fault_text(alloc: Global, fault: ClaimFault) -> Option<String> {
+    match fault {
+        ClaimFault::Count { wanted, got } => format!(in alloc; "Count {wanted} {got}").ok(),
+        ClaimFault::Previous { expected, got } => with_hashes(alloc, "Previous", &[expected, got]),
+    }
+}
+
+// What a peer, whose claims are forgotten before, gives for blocks on the first one.
+fn given(
+    alloc: Global,
+    claims: &mut Claims,
+    p: PeerNo,
+    blocks: &[Hash32],
+    previous: &Hash32,
+    hashes: &[Hash32],
+) -> Option<String>
+    requires { p.0 ≤ 8 }
+{
+    let parent = block_hash(&genesis_header());
+    claims.forget(p);
+    let _first = claims.header(p, &parent)?;
+    match claims.add(p, &parent, blocks, previous, hashes) {
+        Ok(()) => String::from_str(alloc, "taken").ok(),
+        Err(Refused::No(fault)) => fault_text(alloc, fault),
+        Err(Refused::NoMemory) => None,
+    }
+}
+
+fn give(alloc: Global, claims: &mut Claims, fields: &str) -> Option<String> {
+    let (peer, rest) = fields.split_once(' ')?;
+    let (blocks, rest) = rest.split_once(' ')?;
+    let (previous, hashes) = rest.split_once(' ')?;
+    let peer: u32 = peer.parse().ok()?;
+    if peer > 8 {
+        return None;
+    }
+    let blocks = hashes_in(alloc, blocks)?;
+    let previous = hash_in(alloc, previous)?;
+    let hashes = hashes_in(alloc, hashes)?;
+    given(alloc, claims, PeerNo(peer), &blocks, &previous, &hashes)
+}
+
+fn forget(alloc: Global, claims: &mut Claims, peer: &str) -> Option<String> {
+    claims.forget(PeerNo(peer.parse().ok()?));
+    String::from_str(alloc, "forgotten").ok()
+}
+
+fn at(alloc: Global, claims: &Claims, block: &str) -> Option<String> {
+    match claims.at(&hash_in(alloc, block)?) {
+        At::Nobody => String::from_str(alloc, "Nobody").ok(),
+        At::One(hash) => with_hashes(alloc, "One", &[hash]),
+        At::Differ => String::from_str(alloc, "Differ").ok(),
+    }
+}
+
+// The filter hash and the filter header that a peer claims at a block.
+fn of(alloc: Global, claims: &Claims, fields: &str) -> Option<String> {
+    let (peer, block) = fields.split_once(' ')?;
+    let peer = PeerNo(peer.parse().ok()?);
+    let block = hash_in(alloc, block)?;
+    let hash = match claims.claim(peer, &block) {
+        Some(claim) => with_hashes(alloc, "hash", &[claim.hash]),
+        None => String::from_str(alloc, "no hash").ok(),
+    };
+    let header = match claims.header(peer, &block) {
+        Some(header) => with_hashes(alloc, "header", &[header]),
+        None => String::from_str(alloc, "no header").ok(),
+    };
+    let (hash, header) = (hash?, header?);
+    format!(in alloc; "{hash} {header}").ok()
+}
+
+fn step(alloc: Global, claims: &mut Claims, text: &str) -> Option<String> {
+    let (word, fields) = text.split_once(' ')?;
+    match word {
+        "give" => give(alloc, claims, fields),
+        "forget" => forget(alloc, claims, fields),
+        "at" => at(alloc, claims, fields),
+        "of" => of(alloc, claims, fields),
+        _ => None,
+    }
+}
+
+/// What each step of a row comes to, over claims with this filter header of the first block. All are parted by `;`.
+pub(crate) fn answer(alloc: Global, row: &str) -> Option<String> {
+    let (first, steps) = row.split_once(';')?;
+    let mut claims = Claims::new(alloc, &hash_in(alloc, first)?).ok()?;
+    let mut text = String::new(alloc);
+    for words in &texts_in(alloc, steps, ';')? {
+        if !text.is_empty() {
+            text.push(';').ok()?;
+        }
+        text.push_str(&step(alloc, &mut claims, words)?).ok()?;
+    }
+    Some(text)
+}
