@@ -95,7 +95,7 @@ pub among_right : (xs ys : List (List ℕ)) (s : List ℕ) → Among ys s → Am
 among_right [] ys s h = h
 among_right (x ∷ xs) ys s h = inr (among_right xs ys s h)
 
-few_above : (m : ℕ) (l : List (List ℕ)) → length l ≤ 1 → length (level_at m l) ≤ 1
+pub few_above : (m : ℕ) (l : List (List ℕ)) → length l ≤ 1 → length (level_at m l) ≤ 1
 unfolding level_at
 few_above zero l few = few
 few_above (suc m) l few = let below : length (level_at m l) ≤ 1 = few_above m l few in omega (arith, length_next (level_at m l))

@@ -1,3 +1,5 @@
+pub mod Again
+pub mod Complete
 pub mod Levels
 pub mod MakeLemmas
 pub mod Passing

@@ -21,21 +21,21 @@ use Rattle.cf_proof.specs.Proof.{flags_of, flags_of_byte, proof_spelling}
 use Rattle.cf_proof.specs.Steps.{low_bits}
 use Rattle.cf_proof.proofs.Levels.{length_next}
 
-twice : (p n : ℕ) → p * 2 ^ suc n ≡ 2 * p * 2 ^ n
+pub twice : (p n : ℕ) → p * 2 ^ suc n ≡ 2 * p * 2 ^ n
 twice p n = omega (arith, ap (λ x. p * x) (two-pow-succ n))
 
 -- a place above a leaf is one of its level, and no other
-level_there : (n p : ℕ) (l : List (List ℕ)) → p * 2 ^ n < length l → p < length (level_at n l)
+pub level_there : (n p : ℕ) (l : List (List ℕ)) → p * 2 ^ n < length l → p < length (level_at n l)
 unfolding level_at
 level_there zero p l lt = omega arith
 level_there (suc n) p l lt = let below : 2 * p < length (level_at n l) = level_there n (2 * p) l (omega (arith, twice p n)) in omega (arith, length_next (level_at n l))
 
-level_over : (n p : ℕ) (l : List (List ℕ)) → length l ≤ p * 2 ^ n → length (level_at n l) ≤ p
+pub level_over : (n p : ℕ) (l : List (List ℕ)) → length l ≤ p * 2 ^ n → length (level_at n l) ≤ p
 unfolding level_at
 level_over zero p l le = omega arith
 level_over (suc n) p l le = let below : length (level_at n l) ≤ 2 * p = level_over n (2 * p) l (omega (arith, twice p n)) in omega (arith, length_next (level_at n l))
 
-next_both : (l : List (List ℕ)) (p : ℕ) → 2 * p + 1 < length l → get_or (next_level l) p [] ≡ hash_of (get_or l (2 * p) [] ++ get_or l (2 * p + 1) [])
+pub next_both : (l : List (List ℕ)) (p : ℕ) → 2 * p + 1 < length l → get_or (next_level l) p [] ≡ hash_of (get_or l (2 * p) [] ++ get_or l (2 * p + 1) [])
 next_both [] p lt = absurd (omega arith)
 next_both (a ∷ []) p lt = absurd (omega arith)
 next_both (a ∷ b ∷ rest) zero lt = refl
@@ -44,7 +44,7 @@ next_both (a ∷ b ∷ rest) (suc p) lt =
     let right : 2 * suc p + 1 ≡ suc (suc (2 * p + 1)) = omega arith in
     next_both rest p (omega arith) ∙ (λ i. hash_of (get_or (a ∷ b ∷ rest) (sym left i) [] ++ get_or (a ∷ b ∷ rest) (sym right i) []))
 
-next_left : (l : List (List ℕ)) (p : ℕ) → 2 * p < length l → length l ≤ 2 * p + 1 → get_or (next_level l) p [] ≡ hash_of (get_or l (2 * p) [] ++ get_or l (2 * p) [])
+pub next_left : (l : List (List ℕ)) (p : ℕ) → 2 * p < length l → length l ≤ 2 * p + 1 → get_or (next_level l) p [] ≡ hash_of (get_or l (2 * p) [] ++ get_or l (2 * p) [])
 next_left [] p lt le = absurd (omega arith)
 next_left (a ∷ []) zero lt le = refl
 next_left (a ∷ []) (suc p) lt le = absurd (omega arith)
@@ -53,7 +53,7 @@ next_left (a ∷ b ∷ rest) (suc p) lt le =
     let left : 2 * suc p ≡ suc (suc (2 * p)) = omega arith in
     next_left rest p (omega arith) (omega arith) ∙ (λ i. hash_of (get_or (a ∷ b ∷ rest) (sym left i) [] ++ get_or (a ∷ b ∷ rest) (sym left i) []))
 
-at_suc : (h n p : ℕ) (l : List (List ℕ)) → h ≡ suc n → node_at h p l ≡ get_or (next_level (level_at n l)) p []
+pub at_suc : (h n p : ℕ) (l : List (List ℕ)) → h ≡ suc n → node_at h p l ≡ get_or (next_level (level_at n l)) p []
 unfolding level_at
 at_suc h n p l is = ap (λ k. get_or (level_at k l) p []) is
 

@@ -99,7 +99,7 @@ mapped_32 [] i lt = absurd (omega arith)
 mapped_32 (s ∷ strings) zero lt = length-hash_of s
 mapped_32 (s ∷ strings) (suc i) lt = mapped_32 strings i (omega arith)
 
-node_32 : (spelled : List (List ℕ)) (m q : ℕ) → q < length (level_at m (txids spelled)) → length (node_at m q (txids spelled)) ≡ 32
+pub node_32 : (spelled : List (List ℕ)) (m q : ℕ) → q < length (level_at m (txids spelled)) → length (node_at m q (txids spelled)) ≡ 32
 unfolding level_at
 node_32 spelled zero q lt = mapped_32 spelled q lt
 node_32 spelled (suc m) q lt = mapped_32 (joined_pairs (level_at m (txids spelled))) q lt
