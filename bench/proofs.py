@@ -1,9 +1,9 @@
 #!/usr/bin/env python3
-"""Makes proofs of transactions by BIP 37, "Constructing a partial merkle tree object", and prints rows of the kind `proof` and what each comes
-to: `proofs.py FILE`, over a file of blocks such as data/blocks.dat.
+"""Makes proofs of transactions by BIP 37, "Constructing a partial merkle tree object", and prints rows of the kinds `proof` and `prove` and
+what each comes to: `proofs.py [--made] FILE`, over a file of blocks such as data/blocks.dat.
 
-A row has the bytes of a proof and of a transaction. Where the proof is whole it comes to the hash of the header, in wire order; else to the
-fault that the row was made for.
+A row `proof` has the bytes of a proof and of a transaction. Where the proof is whole it comes to the hash of the header, in wire order; else
+to the fault that the row was made for. With `--made` the rows are `prove`: the bytes of a block and a place come to the proof of that place.
 """
 import struct
 import sys
@@ -93,26 +93,43 @@ def row(proof, tx, comes):
     print(comes)
 
 
+def trees(blocks):
+    """Blocks of several transactions, each under a header of its root, and a place of each."""
+    base = blocks[0][0]
+    kinds = [blocks[1][1][0][:-4] + struct.pack("<I", i) for i in range(9)]
+    for total, place in ((3, 2), (5, 4), (7, 6), (9, 8), (7, 4)):
+        ids = [double(t) for t in kinds[:total]]
+        height = 0
+        while width(total, height) > 1:
+            height += 1
+        yield base[:36] + node(ids, height, 0) + base[68:], kinds[:total], place
+
+
+def made(blocks):
+    places = [(header, txs, place) for header, txs in blocks for place in range(len(txs))]
+    for header, txs, place in places + list(trees(blocks)):
+        ids = [double(tx) for tx in txs]
+        print("prove", (header + bytes([len(txs)]) + b"".join(txs)).hex(), place)
+        print(spelled(header, len(ids), *parts(ids, place)).hex())
+
+
 def main():
-    blocks = list(blocks_of(open(sys.argv[1], "rb").read()))
+    blocks = list(blocks_of(open(sys.argv[-1], "rb").read()))
+    if sys.argv[1] == "--made":
+        made(blocks)
+        return
     print("# Each transaction of three blocks.")
     for header, txs in blocks:
         ids = [double(tx) for tx in txs]
         for place, tx in enumerate(txs):
             row(spelled(header, len(ids), *parts(ids, place)), tx, double(header).hex())
     print("# Trees over 3, 5, 7 and 9 transactions, with the last one proved, and the fifth of seven, under headers of their roots.")
-    base, tx = blocks[0][0], blocks[1][1][1]
-    kinds = [blocks[1][1][0][:-4] + struct.pack("<I", i) for i in range(9)]
-    for total, place in ((3, 2), (5, 4), (7, 6), (9, 8), (7, 4)):
-        txs = kinds[:total]
+    for header, txs, place in trees(blocks):
         ids = [double(t) for t in txs]
-        height = 0
-        while width(total, height) > 1:
-            height += 1
-        header = base[:36] + node(ids, height, 0) + base[68:]
-        row(spelled(header, total, *parts(ids, place)), txs[place], double(header).hex())
+        row(spelled(header, len(ids), *parts(ids, place)), txs[place], double(header).hex())
     print("# Faults, in their order.")
     header, txs = blocks[1]
+    tx = txs[1]
     ids = [double(t) for t in txs]
     hashes, flags = parts(ids, 1)
     whole = spelled(header, 2, hashes, flags)

@@ -43,6 +43,7 @@ fn answer(alloc: Global, row: &str) -> Option<String> {
         "mistake" => inputs::mistake(alloc, rest),
         "payload" => payloads::answer(alloc, rest),
         "proof" => proofs::answer(alloc, rest),
+        "prove" => proofs::made(alloc, rest),
         "run" => runs::answer(alloc, rest),
         "serve" => conversations::answer(alloc, rest),
         "session" => inputs::session(alloc, rest),

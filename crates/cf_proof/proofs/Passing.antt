@@ -80,6 +80,9 @@ all_ok (Ok x) p h = at (length x.1 == 0) h
     at false h = cc
 all_ok (Err e) p h = cc
 
+same_hashes : (q p : Proof) (r rest : List ℕ) → ◌≡◌ {A = Read Proof ProofFault} (Ok (q, r)) (Ok (p, rest)) → p.hashes ≡ q.hashes
+same_hashes q p r rest h = let both : ◌≡◌ {A = Proof × List ℕ} (q, r) (p, rest) = cc in ap (λ x. x.0.hashes) (sym both)
+
 proof_32 : (bytes : List ℕ) (p : Proof) → proof_at bytes ≡ Ok p → Are32 (bytes_of p.hashes)
 unfolding proof_at fields_at
 proof_32 bytes p h =
@@ -89,12 +92,8 @@ proof_32 bytes p h =
     let count = bind_ok (field_at (compact_at total.0.1)) _ (p, all.0) total.2 in
     let hashes = bind_ok (list_at hash_field_at count.0.0 count.0.1) _ (p, all.0) count.2 in
     let flags = bind_ok (field_at (counted_bytes_at hashes.0.1)) _ (p, all.0) hashes.2 in
-    let same : p.hashes ≡ hashes.0.0 = ap (λ r. hashes_in r) (sym flags.2) in
+    let same : p.hashes ≡ hashes.0.0 = same_hashes (record { header = header.0.0; total = total.0.0; hashes = hashes.0.0; flags = flags.0.0 }) p flags.0.1 all.0 flags.2 in
     subst (λ l. Are32 (bytes_of l)) (sym same) (list_32 count.0.0 count.0.1 hashes.0 hashes.1)
-  where
-    hashes_in : Read Proof ProofFault → List Hash32
-    hashes_in (Ok y) = y.0.hashes
-    hashes_in (Err e) = p.hashes
 
 -- ---- what no fault says
 
