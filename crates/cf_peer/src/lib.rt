@@ -14,4 +14,5 @@ pub use event::{Delivery, Dial, Event, Mark, Name, Piece};
 pub use hear::Incoming;
 pub use memory::{MemoryWires, Scripted};
 pub use peer::{Cause, Peer, Reply, Request};
+pub use session::{put_deliveries, put_dials};
 pub use wires::{WireFail, Wires};

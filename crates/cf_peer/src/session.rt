@@ -29,7 +29,7 @@ fn put_dial(event: &Event, text: &mut String) -> Result<(), NoMemory>
 }
 
 /// Writes the lines of the dials among the events, the oldest first, at the end of a text.
-pub(crate) fn put_dials(events: &[Event], text: &mut String) -> Result<(), NoMemory>
+pub fn put_dials(events: &[Event], text: &mut String) -> Result<(), NoMemory>
     ensures { OnOk result (string_bytes text.new ≡ string_bytes text.old ++ flat_map dial_line (dials (reverse events.now))) }
 {
     for event in events {
@@ -77,11 +77,7 @@ fn write_event(alloc: Global, event: &Event) -> Result<String, NoMemory>
 }
 
 /// Writes the lines of the deliveries and the failed sends among the events, the oldest first, at the end of a text.
-pub(crate) fn put_deliveries(
-    alloc: Global,
-    events: &[Event],
-    text: &mut String,
-) -> Result<(), NoMemory>
+pub fn put_deliveries(alloc: Global, events: &[Event], text: &mut String) -> Result<(), NoMemory>
     ensures { OnOk result (string_bytes text.new ≡ string_bytes text.old ++ delivery_lines (reverse events.now)) }
 {
     for event in events {
