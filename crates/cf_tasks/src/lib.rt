@@ -1,0 +1,8 @@
+//! Tasks that are run once, and what runs them in threads of their own.
+#![tactic(auto)]
+
+mod task;
+mod threads;
+
+pub use task::Task;
+pub use threads::{Choice, InThreads, Running, Spawner, joined, run_here};
