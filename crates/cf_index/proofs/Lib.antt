@@ -11,3 +11,4 @@ pub mod Walking
 pub mod Maps
 pub mod Lowest
 pub mod Indexes
+pub mod Finding

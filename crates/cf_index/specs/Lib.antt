@@ -6,4 +6,5 @@ pub mod Progress
 pub mod Filtering
 pub mod HeightMap
 pub mod Indexed
+pub mod Finding
 pub mod Loading

@@ -12,6 +12,7 @@ mod heights;
 mod index;
 mod laws;
 mod load;
+mod places;
 mod record;
 mod spend;
 
