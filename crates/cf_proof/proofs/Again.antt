@@ -1,7 +1,7 @@
 -- A proof that was made is read again, and passes.
 use Rattle.std.proofs.Common.{◌≡◌, ℕ, zero, suc, ◌+◌, ◌*◌, ◌/◌, ◌^◌, ◌<◌, ◌≤◌, Bool, true, false, List, [], ◌∷◌, ◌++◌, length, map, get_or, Option, Some, None, Result, Ok, Err, inl, inr, refl, sym, ◌∙◌, ap, subst, arith}
 use Rattle.std.specs.Prelude.{◌≢◌, ◌==◌, ◌||◌, nat_eq, nat_lt, nat_le, not, if◌then◌else◌, replicate}
-use Rattle.std.specs.Int.{w32, to_le_bytes}
+use Rattle.std.specs.Int.{w32, to_le_bytes, cast_unsigned}
 use Rattle.std.specs.List.{flat_map, AllByRecursion}
 use Rattle.std.specs.Cmp.Lexicographic.{pointwise, nat_list_eq_equiv}
 use Rattle.std.proofs.lemmas.Bool.{or_from, le-ltb, lt-leb, ne_eqb, leb-true, ltb-true, cases_lt}
@@ -24,7 +24,9 @@ use Rattle.cf_block.specs.Tx.{tx_spelling}
 use Rattle.cf_block.specs.Views.{bytes_of}
 use Rattle.cf_block.specs.Merkle.{next_level, txids, Among, None64}
 use Rattle.cf_block.specs.Commitment.{spelled_txs, IsCommitted}
+use Rattle.cf_block.specs.declared.header.Header.{Header}
 use Rattle.cf_block.proofs.HeaderLaws.{hash_again, header_again}
+use Rattle.cf_block.proofs.Sizes.{one_byte, three_bytes}
 use Rattle.cf_proof.specs.declared.fault.ProofFault.{ProofFault}
 use Rattle.cf_proof.specs.declared.fault.ProofFault.TheVariants.{Total, Hashes, Tx64, Bits, Same, Left, Root, Absent}
 use Rattle.cf_proof.specs.declared.proof.Proof.{Proof}
@@ -112,6 +114,9 @@ root_low l few = elim (cases_lt 15 (height_of (length l))) [
   | inr low ↦ low
 ]
 
+pow_low : (n : ℕ) → n ≤ 15 → 2 ^ suc n ≤ 65536
+pow_low n le = elim (cases_lt n 15) [ inl less ↦ (let lt : 2 ^ suc n < 2 ^ 16 = pow_below (suc n) 16 (omega arith) in omega arith) | inr more ↦ (let same : n ≡ 15 = omega arith in rw same (omega arith)) ]
+
 -- ---- the transaction
 
 get_id : (txs : List Tx) (place : ℕ) (t : Tx) → place < length txs → t ≡ get_or txs place t → get_or (txids (map tx_spelling txs)) place [] ≡ hash_of (tx_spelling t)
@@ -178,9 +183,6 @@ made_passes b place bytes tx committed header few there is made =
     (λ i. if t1 i then Some Total else if t2 i then Some Hashes else if t3 i then Some Tx64 else if t4 i then Some Bits else walk_fault p.header.root.0 (hash_of (tx_spelling tx)) (walk_is i)) ∙ at_root in
     (p, record { read = read; fine = fine }, made.header)
   where
-    pow_low : (n : ℕ) → n ≤ 15 → 2 ^ suc n ≤ 65536
-    pow_low n le = elim (cases_lt n 15) [ inl less ↦ (let lt : 2 ^ suc n < 2 ^ 16 = pow_below (suc n) 16 (omega arith) in omega arith) | inr more ↦ (let same : n ≡ 15 = omega arith in rw same (omega arith)) ]
-
     small_div : (x y : ℕ) → 0 < y → x < y → x / y ≡ 0
     small_div x y some lt = let under : x / y < 1 = (div-lt_iff_lt-mul {k = y} {x = x} {y = 1} some).1 (omega arith) in omega arith
 
@@ -198,3 +200,63 @@ answered b place bytes tx (Err (No fault)) committed header few there is made an
     some_none : (fault : ProofFault) → ◌≡◌ {A = Option ProofFault} None (Some fault) → ⊥
     some_none fault h = cc
 answered b place bytes tx (Err NoMemory) committed header few there is made answers = tt
+
+-- ---- how many bytes it has
+
+hashes_long : (hs : List Hash32) → AllByRecursion IsHash hs → length (flat_map (λ h. h.0) hs) ≡ 32 * length hs
+hashes_long [] all = refl
+hashes_long (h ∷ hs) all =
+    let one : length h.0 ≡ 32 = all.0 in
+    omega (arith, length-append h.0 (flat_map (λ x. x.0) hs), one, hashes_long hs all.1)
+
+compact_short : (n : ℕ) → n < 2 ^ 16 → length (compact n) ≤ 3
+compact_short n small = elim (cases_lt n 253) [ inl low ↦ omega (arith, one_byte n low) | inr high ↦ omega (arith, three_bytes n high small) ]
+
+header_long : (h : Header) → IsHeader h → length (header_spelling h) ≡ 80
+unfolding header_spelling
+header_long h is =
+    let z = to_le_bytes w32 h.time ++ (to_le_bytes w32 h.bits ++ to_le_bytes w32 h.nonce) in
+    let a = length-append h.previous.0 (h.root.0 ++ z) in
+    let b = length-append h.root.0 z in
+    let c : length z ≡ 12 = refl in
+    let d = length-append (to_le_bytes w32 (cast_unsigned w32 h.version)) (h.previous.0 ++ (h.root.0 ++ z)) in
+    let e : length (to_le_bytes w32 (cast_unsigned w32 h.version)) ≡ 4 = refl in
+    let previous : length h.previous.0 ≡ 32 = is.previous in
+    let root : length h.root.0 ≡ 32 = is.root in
+    omega (arith, a, b, c, d, e)
+
+spelling_long : (p : Proof) → IsHeader p.header → AllByRecursion IsHash p.hashes → length p.hashes < 2 ^ 16 → length p.flags < 2 ^ 16 → length (proof_spelling p) ≤ 90 + 32 * length p.hashes + length p.flags
+unfolding proof_spelling
+spelling_long p header each hashes flags =
+    let z1 = counted_bytes p.flags in
+    let z2 = flat_map (λ h. h.0) p.hashes ++ z1 in
+    let z3 = compact (length p.hashes) ++ z2 in
+    let a = length-append (header_spelling p.header) (to_le_bytes w32 p.total ++ z3) in
+    let b = length-append (to_le_bytes w32 p.total) z3 in
+    let four : length (to_le_bytes w32 p.total) ≡ 4 = refl in
+    let c = length-append (compact (length p.hashes)) z2 in
+    let d = length-append (flat_map (λ h. h.0) p.hashes) z1 in
+    let e = length-append (compact (length p.flags)) p.flags in
+    omega (arith, a, b, four, c, d, e, header_long p.header header, compact_short (length p.hashes) hashes, compact_short (length p.flags) flags, hashes_long p.hashes each)
+
+pub made_short : (b : Block) (place : ℕ) (bytes : List ℕ) → 0 < length b.txs → IsHeader b.header → length b.txs ≤ 16666 → IsProofOf b place bytes → length bytes ≤ 600000
+made_short b place bytes some header few made =
+    let p : Proof = made.proof in
+    let spelled : List (List ℕ) = spelled_txs b in
+    let l : List (List ℕ) = txids spelled in
+    let n : ℕ = height_of (length l) in
+    let count : length l ≡ length b.txs = length-map spelled hash_of ∙ length-map b.txs tx_spelling in
+    let at_top : 0 * 2 ^ n < length l = omega arith in
+    let sizes = parts_few l place n 0 at_top in
+    let parts : Parts = parts_of l place n 0 in
+    let within : 0 * 2 ^ n + length parts.hashes ≤ length l = sizes.within in
+    let few_bits : length parts.bits + 1 ≤ 2 ^ suc n = sizes.few_bits in
+    let bound : 2 ^ suc n ≤ 65536 = pow_low n (root_low l (omega arith)) in
+    let f : AreFlagsOf parts.bits p.flags = made.flags in
+    let zeros : f.zeros < 8 = f.few in
+    let flag_count : 8 * length p.flags ≡ length parts.bits + f.zeros = sym (length_flags p.flags) ∙ ap length f.same ∙ length-append parts.bits (replicate f.zeros false) ∙ ap (λ k. length parts.bits + k) (length-replicate f.zeros false) in
+    let hash_count : length p.hashes ≡ length parts.hashes = sym (length-map p.hashes (λ h. h.0)) ∙ ap length made.hashes in
+    let each : AllByRecursion IsHash p.hashes = hashes_fit p.hashes (subst Are32 (sym made.hashes) (parts_32 spelled place n 0 at_top)) in
+    let long = spelling_long p (subst IsHeader (sym made.header) header) each (omega arith) (omega arith) in
+    let same : length bytes ≡ length (proof_spelling p) = ap length made.spelled in
+    omega (arith, long, same)
