@@ -8,3 +8,4 @@ pub mod Rows
 pub mod SessionSteps
 pub mod Simple
 pub mod TextLemmas
+pub mod ProofFiles

@@ -12,16 +12,16 @@ one_more k = omega arith
 two_more : (k : ℕ) → 1 + k + 1 ≡ suc (k + 1)
 two_more k = omega arith
 
-before_true : (p : ℕ → Bool) (b : ℕ) (rest : List ℕ) → p b ≡ true → before_first p (b ∷ rest) ≡ []
+pub before_true : (p : ℕ → Bool) (b : ℕ) (rest : List ℕ) → p b ≡ true → before_first p (b ∷ rest) ≡ []
 before_true p b rest h = rw h refl
 
-before_false : (p : ℕ → Bool) (b : ℕ) (rest : List ℕ) → p b ≡ false → before_first p (b ∷ rest) ≡ b ∷ before_first p rest
+pub before_false : (p : ℕ → Bool) (b : ℕ) (rest : List ℕ) → p b ≡ false → before_first p (b ∷ rest) ≡ b ∷ before_first p rest
 before_false p b rest h = rw (h, one_more) refl
 
-after_true : (p : ℕ → Bool) (b : ℕ) (rest : List ℕ) → p b ≡ true → after_first p (b ∷ rest) ≡ rest
+pub after_true : (p : ℕ → Bool) (b : ℕ) (rest : List ℕ) → p b ≡ true → after_first p (b ∷ rest) ≡ rest
 after_true p b rest h = rw h refl
 
-after_false : (p : ℕ → Bool) (b : ℕ) (rest : List ℕ) → p b ≡ false → after_first p (b ∷ rest) ≡ after_first p rest
+pub after_false : (p : ℕ → Bool) (b : ℕ) (rest : List ℕ) → p b ≡ false → after_first p (b ∷ rest) ≡ after_first p rest
 after_false p b rest h = rw (h, two_more) refl
 
 -- a text that isn't empty is its first line, and the lines after it

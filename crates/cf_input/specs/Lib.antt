@@ -8,3 +8,4 @@ pub mod SessionFile
 pub mod Sessions
 pub mod WatchFile
 pub mod Words
+pub mod ProofFile

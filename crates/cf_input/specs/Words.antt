@@ -1,15 +1,17 @@
 -- The program's words, as clap reads them.
-use Rattle.std.specs.Prelude.{ℕ, ◌≤◌, ◌&&◌, ◌||◌, nat_lt, nat_le, Bool, if◌then◌else◌, List, [], ◌∷◌, length, codes, Option, Some, None, true, option_and_then, false}
+use Rattle.std.specs.Prelude.{ℕ, ◌≤◌, ◌==◌, ◌&&◌, ◌||◌, nat_lt, nat_le, Bool, if◌then◌else◌, List, [], ◌∷◌, length, reverse, codes, Option, Some, None, true, option_and_then, option_map, false}
 use Rattle.std.specs.List.{list_all}
 use Rattle.std.specs.Str.{bytes_eq}
 use Rattle.clap.specs.Words.{App, Rule, Row, Text, new_app, new_rule, with_rule, with_subcommand, all_of, first_of, fault_of, subcommand_of, Kinds}
 use Rattle.clap.specs.Lexer.{usize_max}
 use Rattle.clap.specs.declared.builder.ArgAction.TheVariants.{SetTrue}
+use Rattle.cf_bytes.specs.declared.hash.Hash32.{Hash32}
+use Rattle.cf_input.specs.Lines.{bytes_of_hex}
 use Rattle.cf_input.specs.Number.{number_at_most, number_within}
 use Rattle.cf_input.specs.Name.{is_name}
 use Rattle.cf_input.specs.SessionFile.{max_dials}
 use Rattle.cf_input.specs.declared.words.Command.{Command}
-use Rattle.cf_input.specs.declared.words.Command.TheVariants.{Address, Filter, Replay, Scan, Sync}
+use Rattle.cf_input.specs.declared.words.Command.TheVariants.{Address, Check, Filter, Prove, Replay, Scan, Sync}
 
 abbrev pub needed : Rule → Rule
 needed r = record r { required = true }
@@ -52,6 +54,14 @@ filter_app = two_app (codes "filter") (codes "file") (codes "height")
 abbrev pub address_app : App
 address_app = one_app (codes "address") (codes "text")
 
+-- prove FILE TXID
+abbrev pub prove_app : App
+prove_app = two_app (codes "prove") (codes "file") (codes "txid")
+
+-- check FILE
+abbrev pub check_app : App
+check_app = one_app (codes "check") (codes "file")
+
 unfoldable pub with_sub : App → App → App
 with_sub a s = with_subcommand a s.top
 
@@ -59,9 +69,9 @@ with_sub a s = with_subcommand a s.top
 unfoldable pub client_app : App
 client_app = with_sub (with_sub (new_app (codes "cf")) sync_app) replay_app
 
--- the whole command line: those over a block file come after them, and then that over an address
+-- the whole command line: those over a block file come after them, then that over an address, and then those over proofs
 unfoldable pub cli_app : App
-cli_app = with_sub (with_sub (with_sub client_app scan_app) filter_app) address_app
+cli_app = with_sub (with_sub (with_sub (with_sub (with_sub client_app scan_app) filter_app) address_app) prove_app) check_app
 
 -- the subcommand that was met, and what was found for its arguments
 abbrev pub Met : Type 0
@@ -140,6 +150,19 @@ filter_of met =
 abbrev pub address_of : Met → Option Command
 address_of met = option_and_then (λ text. Some (Address text)) (text_of (codes "text") met)
 
+-- the hash that a text shows, its last byte first: 64 hexadecimal digits
+abbrev pub hash_in : Text → Option Hash32
+hash_in text = if length text == 64 then option_map (λ bytes. record { 0 = reverse bytes }) (bytes_of_hex text) else None
+
+abbrev pub prove_of : Met → Option Command
+prove_of met =
+    option_and_then (λ file. option_and_then (λ txid.
+    Some (Prove file txid))
+    (option_and_then hash_in (text_of (codes "txid") met))) (text_of (codes "file") met)
+
+abbrev pub check_of : Met → Option Command
+check_of met = option_and_then (λ file. Some (Check file)) (text_of (codes "file") met)
+
 abbrev pub asked_of : Met → Option Command
 asked_of met =
     if is_met (codes "replay") met then replay_of met
@@ -147,6 +170,8 @@ asked_of met =
     else if is_met (codes "scan") met then scan_of met
     else if is_met (codes "filter") met then filter_of met
     else if is_met (codes "address") met then address_of met
+    else if is_met (codes "prove") met then prove_of met
+    else if is_met (codes "check") met then check_of met
     else None
 
 -- clap finds no fault in the words

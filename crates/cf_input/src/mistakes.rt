@@ -16,6 +16,8 @@ fn peers_mistake(matches: &ArgMatches) -> &'static str {
 fn range_mistake(matches: &ArgMatches) -> &'static str {
     if is_met(matches, "filter") {
         "HEIGHT is a number from 0 to 4294967295"
+    } else if is_met(matches, "prove") {
+        "TXID is a transaction's hash, of 64 hexadecimal digits"
     } else if !is_met(matches, "sync") {
         "there is no command"
     } else if turns_of(text_of(matches, "turns")).is_none() {

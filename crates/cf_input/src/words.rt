@@ -3,12 +3,12 @@ ghost use Rattle.std.specs.Prelude.{◌≡◌, ◌==◌, IfOk, IfErr, [], map, f
 ghost use Rattle.std.specs.List.{list_any};
 ghost use Rattle.clap.specs.Words.{app_of, rule_of, new_rule, subcommand_of, subcommand_rows_of, fault_of};
 ghost use Rattle.clap.specs.declared.builder.command.Command.TheViews.{out-Command as fields_of};
-ghost use Rattle.cf_input.specs.Words.{trace, turns, several, needed, replay_app, sync_app, one_app, two_app, with_sub, client_app, cli_app, text_of, texts_of, is_met, is_set, turns_of, height_of, replay_of, sync_of, scan_of, filter_of, address_of, HasFewPeers, is_faultless, command_of, is_help_word, is_version_word};
+ghost use Rattle.cf_input.specs.Words.{trace, turns, several, needed, replay_app, sync_app, one_app, two_app, with_sub, client_app, cli_app, text_of, texts_of, is_met, is_set, turns_of, height_of, replay_of, sync_of, scan_of, filter_of, address_of, hash_in, prove_of, check_of, HasFewPeers, is_faultless, command_of, is_help_word, is_version_word};
 ghost use Rattle.cf_input.specs.Commands.{GivesOrUsage, IfUsage, refusal_of};
 
 use crate::number::{number_at_most, number_within};
 use crate::text::{PeerNames, Word, are_names};
-use cf_bytes::{NoMemory, Refused};
+use cf_bytes::{Hash32, NoMemory, Refused, read_hash};
 use clap::error::ErrorKind;
 use clap::{Arg, ArgAction, ArgMatches};
 use std::alloc::{AllocError, Global};
@@ -62,6 +62,15 @@ pub enum Command {
     /// The script of an address, or the address of a script.
     Address {
         text: Word,
+    },
+    /// The transaction with this hash in a block file, and a proof that it stands in its block.
+    Prove {
+        file: Word,
+        txid: Hash32,
+    },
+    /// What the file of a proof proves.
+    Check {
+        file: Word,
     },
 }
 
@@ -149,14 +158,16 @@ fn client_command<'a>(alloc: Global) -> Result<clap::Command<'a>, AllocError>
     with_one_more(command, replay_command(alloc)?)
 }
 
-/// The whole command line: those over a block file come after them, and then that over an address.
+/// The whole command line: those over a block file come after them, then that over an address, and then those over proofs.
 pub(crate) fn cli_command<'a>(alloc: Global) -> Result<clap::Command<'a>, AllocError>
     ensures { IfOk result (λ c. (app_of c ≡ cli_app) × ((fields_of c).has_globals ≡ false)) }
 {
     let command = client_command(alloc)?;
     let command = with_one_more(command, two_words(alloc, "scan", "file", "watch")?)?;
     let command = with_one_more(command, two_words(alloc, "filter", "file", "height")?)?;
-    with_one_more(command, one_word(alloc, "address", "text")?)
+    let command = with_one_more(command, one_word(alloc, "address", "text")?)?;
+    let command = with_one_more(command, two_words(alloc, "prove", "file", "txid")?)?;
+    with_one_more(command, one_word(alloc, "check", "file")?)
 }
 
 // Clap refuses the words, or finds no memory.
@@ -298,9 +309,34 @@ fn read_address(alloc: Global, matches: &ArgMatches) -> Result<Command, Refused<
     Ok(Command::Address { text })
 }
 
+// The hash that a text shows.
+fn hash_in(text: &str) -> Option<Hash32>
+    ensures { result ≡ hash_in text.now }
+{
+    read_hash(text)
+}
+
+fn read_prove(alloc: Global, matches: &ArgMatches) -> Result<Command, Refused<Usage>>
+    ensures { GivesOrUsage (prove_of (subcommand_rows_of matches.now)) result }
+{
+    let file = text_of(matches, "file").ok_or(Usage)?;
+    let txid = text_of(matches, "txid").ok_or(Usage)?;
+    let txid = hash_in(txid).ok_or(Usage)?;
+    let file = Word::new(alloc, file)?;
+    Ok(Command::Prove { file, txid })
+}
+
+fn read_check(alloc: Global, matches: &ArgMatches) -> Result<Command, Refused<Usage>>
+    ensures { GivesOrUsage (check_of (subcommand_rows_of matches.now)) result }
+{
+    let file = text_of(matches, "file").ok_or(Usage)?;
+    let file = Word::new(alloc, file)?;
+    Ok(Command::Check { file })
+}
+
 /// What the words ask for; the first is the program's name. `Usage` exactly where clap refuses them
-/// for this command, a number isn't decimal and within its range, a name isn't one, or there are more
-/// than 8 peers.
+/// for this command, a number isn't decimal and within its range, a name isn't one, there are more
+/// than 8 peers, or a hash isn't 64 hexadecimal digits.
 pub fn read_words(alloc: Global, words: &[String]) -> Result<Command, Refused<Usage>>
     ensures exact { GivesOrUsage (command_of (map (λ s. string_bytes s) words.now)) result }
     ensures few { IfOk result HasFewPeers }
@@ -320,6 +356,12 @@ pub fn read_words(alloc: Global, words: &[String]) -> Result<Command, Refused<Us
     }
     if is_met(&matches, "address") {
         return read_address(alloc, &matches);
+    }
+    if is_met(&matches, "prove") {
+        return read_prove(alloc, &matches);
+    }
+    if is_met(&matches, "check") {
+        return read_check(alloc, &matches);
     }
     Err(Refused::No(Usage))
 }
