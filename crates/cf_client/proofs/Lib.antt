@@ -16,3 +16,4 @@ pub mod Dialling
 pub mod Innocent
 pub mod Counting
 pub mod Greeting
+pub mod Versions

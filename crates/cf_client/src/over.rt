@@ -3,9 +3,10 @@ ghost use Rattle.std.specs.Prelude.{◌≡◌, ◌≢◌, ◌↔◌, ℕ, None, 
 ghost use Rattle.cf_bytes.specs.Outside.{HasRisen};
 ghost use Rattle.cf_client.specs.Names.{names_in};
 ghost use Rattle.cf_sync.specs.Sync.{SyncTheorem};
-ghost use Rattle.cf_client.specs.Places.{MayAct, Allowed, after, entry_of, EndsTell};
+ghost use Rattle.cf_client.specs.Places.{MayAct, Allowed, after, entry_of, EndsTell, Words, TellsWords, ActTells};
 ghost use Rattle.cf_client.specs.Run.{Followed, NobodyLeft, HasFailed, Course, Doing, HoldsOver, AreBytesOf, moment, Runs, Performs, Dials, Turns, IsOneMore, IsNoMore, HasDialled, HasNames, Turned, Stopped, IsEnd, IsInStep, IsEndTold};
-ghost use Rattle.cf_client.specs.Stands.{Reflects, Answers, IsReportOf, count_of, watch_by};
+ghost use Rattle.cf_client.specs.Stands.{Reflects, Answers, IsReportOf, count_of, watch_by, words_by};
+ghost use Rattle.cf_client.specs.Versions.{KeepsWords, HasWords};
 ghost use Rattle.std.specs.List.{All};
 ghost use Rattle.cf_frame.specs.Stream.{IsBytes};
 ghost use Rattle.cf_msg.specs.Message.{command_of};
@@ -62,6 +63,7 @@ fn perform_send<W: Wires>(
     requires sendable { IsSendable message.now }
     requires step { IsInStep (W.told wires.old) progress.old }
     ensures doing { OnOk result ((more : List Act) (called : List (List ℕ)) (planned : Log) → MayAct (Send p message.now) planned → Doing (Send p message.now ∷ more) progress.old called planned (W.told wires.old) → Doing more progress.new called (Sent p (bytes_of message.now) ∷ planned) (W.told wires.new)) }
+    ensures versions { (words : Words) → TellsWords words message.now → KeepsWords words (W.told wires.old) (W.told wires.new) }
     ensures performs { Performs (moment (W.told wires.old) (W.faults wires.old) (W.script wires.old) (W.keeps wires.old) progress.old) (moment (W.told wires.new) (W.faults wires.new) (W.script wires.new) (W.keeps wires.new) progress.new) }
 {
     if progress.is_pending(p) {
@@ -90,6 +92,7 @@ fn perform_close<W: Wires>(
     requires number { p.0 < 9 }
     requires step { IsInStep (W.told wires.old) progress.old }
     ensures doing { OnOk result ((more : List Act) (called : List (List ℕ)) (planned : Log) → MayAct (Close p cause) planned → Doing (Close p cause ∷ more) progress.old called planned (W.told wires.old) → Doing more progress.new called (Closed p ∷ planned) (W.told wires.new)) }
+    ensures versions { (words : Words) → KeepsWords words (W.told wires.old) (W.told wires.new) }
     ensures performs { Performs (moment (W.told wires.old) (W.faults wires.old) (W.script wires.old) (W.keeps wires.old) progress.old) (moment (W.told wires.new) (W.faults wires.new) (W.script wires.new) (W.keeps wires.new) progress.new) }
 {
     if progress.is_pending(p) {
@@ -114,6 +117,7 @@ fn perform_one<W: Wires>(
     requires doable { IsDoable act.now }
     requires step { IsInStep (W.told wires.old) progress.old }
     ensures doing { OnOk result ((more : List Act) (called : List (List ℕ)) (planned : Log) → MayAct act.now planned → Doing (act.now ∷ more) progress.old called planned (W.told wires.old) → Doing more progress.new called (entry_of act.now ∷ planned) (W.told wires.new)) }
+    ensures versions { (words : Words) → ActTells words act.now → KeepsWords words (W.told wires.old) (W.told wires.new) }
     ensures performs { Performs (moment (W.told wires.old) (W.faults wires.old) (W.script wires.old) (W.keeps wires.old) progress.old) (moment (W.told wires.new) (W.faults wires.new) (W.script wires.new) (W.keeps wires.new) progress.new) }
 {
     match act {
@@ -138,6 +142,7 @@ fn perform<W: Wires>(
     requires doable { All IsDoable acts.now }
     requires step { IsInStep (W.told wires.old) progress.old }
     ensures doing { OnOk result ((called : List (List ℕ)) (planned : Log) → Allowed acts.now planned → Doing acts.now progress.old called planned (W.told wires.old) → Doing [] progress.new called (after acts.now planned) (W.told wires.new)) }
+    ensures versions { (words : Words) → All (ActTells words) acts.now → KeepsWords words (W.told wires.old) (W.told wires.new) }
     ensures performs { Performs (moment (W.told wires.old) (W.faults wires.old) (W.script wires.old) (W.keeps wires.old) progress.old) (moment (W.told wires.new) (W.faults wires.new) (W.script wires.new) (W.keeps wires.new) progress.new) }
 {
     for act in acts {
@@ -155,8 +160,10 @@ fn settle<W: Wires, H: HeaderStore>(
 ) -> Result<(), NoMemory>
     requires step { IsInStep (W.told wires.old) progress.old }
     ensures holds { OnOk result ((called : List (List ℕ)) (planned : Log) → Reflects client.old planned → Doing [] progress.old called planned (W.told wires.old) → HoldsOver client.new progress.new called (W.told wires.new)) }
+    ensures versions { (called : List (List ℕ)) (planned : Log) → Reflects client.old planned → Doing [] progress.old called planned (W.told wires.old) → KeepsWords (words_by client.old) (W.told wires.old) (W.told wires.new) }
     ensures count { OnOk result (count_of client.new ≡ count_of client.old) }
     ensures watch { OnOk result (watch_by client.new ≡ watch_by client.old) }
+    ensures words { words_by client.new ≡ words_by client.old }
     ensures performs { Performs (moment (W.told wires.old) (W.faults wires.old) (W.script wires.old) (W.keeps wires.old) progress.old) (moment (W.told wires.new) (W.faults wires.new) (W.script wires.new) (W.keeps wires.new) progress.new) }
 {
     while let Some(p) = progress.next_pending() {
@@ -178,8 +185,10 @@ fn carry_out<W: Wires, H: HeaderStore>(
     requires doable { All IsDoable acts.now }
     requires step { IsInStep (W.told wires.old) progress.old }
     ensures holds { OnOk result ((called : List (List ℕ)) (log : Log) → Answers client.old acts.now log → Doing acts.now progress.old called log (W.told wires.old) → HoldsOver client.new progress.new called (W.told wires.new)) }
+    ensures versions { (called : List (List ℕ)) (log : Log) → Answers client.old acts.now log → Doing acts.now progress.old called log (W.told wires.old) → All (ActTells (words_by client.old)) acts.now → KeepsWords (words_by client.old) (W.told wires.old) (W.told wires.new) }
     ensures count { OnOk result (count_of client.new ≡ count_of client.old) }
     ensures watch { OnOk result (watch_by client.new ≡ watch_by client.old) }
+    ensures words { words_by client.new ≡ words_by client.old }
     ensures performs { Performs (moment (W.told wires.old) (W.faults wires.old) (W.script wires.old) (W.keeps wires.old) progress.old) (moment (W.told wires.new) (W.faults wires.new) (W.script wires.new) (W.keeps wires.new) progress.new) }
 {
     perform(alloc, wires, acts, progress)?;
@@ -199,8 +208,10 @@ fn dial_one<W: Wires, H: HeaderStore>(
     requires next { count_of client.old ≡ (W.told wires.old).tally.dials + 1 }
     requires step { IsInStep (W.told wires.old) progress.old }
     ensures holds { OnOk result ((called : List (List ℕ)) → HoldsOver client.old progress.old called (W.told wires.old) → HoldsOver client.new progress.new (called ++ name.now ∷ []) (W.told wires.new)) }
+    ensures versions { (called : List (List ℕ)) → HoldsOver client.old progress.old called (W.told wires.old) → KeepsWords (words_by client.old) (W.told wires.old) (W.told wires.new) }
     ensures next { OnOk result (count_of client.new ≡ (W.told wires.new).tally.dials + 1) }
     ensures watch { OnOk result (watch_by client.new ≡ watch_by client.old) }
+    ensures words { words_by client.new ≡ words_by client.old }
     ensures one { OnOk result (IsOneMore name.now (W.told wires.old) (W.told wires.new)) }
     ensures dials { Dials name.now (moment (W.told wires.old) (W.faults wires.old) (W.script wires.old) (W.keeps wires.old) progress.old) (moment (W.told wires.new) (W.faults wires.new) (W.script wires.new) (W.keeps wires.new) progress.new) }
 {
@@ -241,7 +252,9 @@ fn take_turn<W: Wires, H: HeaderStore>(
 ) -> Result<Option<End>, NoMemory>
     requires step { IsInStep (W.told wires.old) progress.old }
     ensures turned { IfOk result (λ end. (called : List (List ℕ)) → HoldsOver client.old progress.old called (W.told wires.old) → Turned end client.new progress.new called (W.told wires.new)) }
+    ensures versions { (called : List (List ℕ)) → HoldsOver client.old progress.old called (W.told wires.old) → KeepsWords (words_by client.old) (W.told wires.old) (W.told wires.new) }
     ensures watch { OnOk result (watch_by client.new ≡ watch_by client.old) }
+    ensures words { words_by client.new ≡ words_by client.old }
     ensures taken { IfOk result (λ end. IfNone end ((W.told wires.new).tally.taken ≡ (W.told wires.old).tally.taken + 1)) }
     ensures untaken { IfOk result (λ end. IfSome end (λ e. (W.told wires.new).tally.taken ≡ (W.told wires.old).tally.taken)) }
     ensures untired { IfOk result (λ end. end ≢ Some End.Tired) }
@@ -278,7 +291,9 @@ fn dial_all<W: Wires, H: HeaderStore>(
     requires next { count_of client.old ≡ 1 }
     requires step { IsInStep (W.told wires.old) progress.old }
     ensures holds { OnOk result (HoldsOver client.old progress.old [] (W.told wires.old) → HoldsOver client.new progress.new (names_in names.now) (W.told wires.new)) }
+    ensures versions { HoldsOver client.old progress.old [] (W.told wires.old) → KeepsWords (words_by client.old) (W.told wires.old) (W.told wires.new) }
     ensures watch { OnOk result (watch_by client.new ≡ watch_by client.old) }
+    ensures words { words_by client.new ≡ words_by client.old }
     ensures dialled { OnOk result ((W.told wires.new).tally.dials ≡ length names.now) }
     ensures first { HasNames [] (W.told wires.old) → HasDialled (names_in names.now) (W.told wires.new) }
     ensures taken { (W.told wires.new).tally.taken ≡ 0 }
@@ -315,7 +330,9 @@ fn take_turns<W: Wires, H: HeaderStore>(
     requires unended { (W.told wires.old).tally.ended ≡ 0 }
     requires step { IsInStep (W.told wires.old) progress.old }
     ensures stopped { IfOk result (λ end. (called : List (List ℕ)) → HoldsOver client.old progress.old called (W.told wires.old) → Stopped end client.new progress.new called (W.told wires.new)) }
+    ensures versions { (called : List (List ℕ)) → HoldsOver client.old progress.old called (W.told wires.old) → KeepsWords (words_by client.old) (W.told wires.old) (W.told wires.new) }
     ensures watch { OnOk result (watch_by client.new ≡ watch_by client.old) }
+    ensures words { words_by client.new ≡ words_by client.old }
     ensures tired { IfOk result (λ end. end ≡ End.Tired → (W.told wires.new).tally.taken ≡ turns) }
     ensures ended { IfOk result (λ end. end ≡ End.Ended → (W.told wires.new).tally.ended ≡ 1) }
     ensures early { IfOk result (λ end. end ≡ End.Ended → (W.told wires.new).tally.taken < turns) }
@@ -371,6 +388,7 @@ fn follow<W: Wires, H: HeaderStore + Drop>(
     requires empty { (q : ℕ) → H.chain store q ≡ None }
     ensures followed { IfOk result (λ o. IfSome (W.told wires.new).log (λ log. Followed watch o.end o.height o.tip o.history o.trace.items (names_in names.now) log)) }
     ensures ends { IfOk result (λ o. IfSome (W.told wires.new).log (λ log. EndsTell o.ends.items log)) }
+    ensures versions { HasWords (record { moment = moment; number = nonce }) (W.told wires.new) }
     ensures no_peers { IfOk result (λ o. (o.end ≡ End.NoPeers) ↔ NobodyLeft (W.told wires.new).tally) }
     ensures tired { IfOk result (λ o. o.end ≡ End.Tired → (W.told wires.new).tally.taken ≡ turns) }
     ensures ended { IfOk result (λ o. o.end ≡ End.Ended → (W.told wires.new).tally.ended ≡ 1) }
@@ -410,6 +428,7 @@ pub fn sync_over<W: Wires, H: HeaderStore + Drop>(
     requires empty { (q : ℕ) → H.chain store q ≡ None }
     ensures followed { IfOk result (λ o. IfSome (W.told wires.new).log (λ log. Followed watch o.end o.height o.tip o.history o.trace.items (names_in names.now) log)) }
     ensures ends { IfOk result (λ o. IfSome (W.told wires.new).log (λ log. EndsTell o.ends.items log)) }
+    ensures versions { HasWords (record { moment = moment; number = nonce }) (W.told wires.new) }
     ensures theorem { IfOk result (λ o. IfSome (W.told wires.new).log (λ log. SyncTheorem watch o.height o.tip o.history log)) }
     ensures no_peers { IfOk result (λ o. (o.end ≡ End.NoPeers) ↔ NobodyLeft (W.told wires.new).tally) }
     ensures tired { IfOk result (λ o. o.end ≡ End.Tired → (W.told wires.new).tally.taken ≡ turns) }

@@ -1,9 +1,12 @@
-use Rattle.std.proofs.Common.{List, ℕ, ◌∙◌, subst}
+use Rattle.std.proofs.Common.{List, ℕ, ◌∙◌, subst, rules}
+use Rattle.std.proofs.Math.Facts.{to_z-of_z}
+use Rattle.std.specs.Int.{w64}
 use Rattle.std.specs.Prelude.{IfSome}
 use Rattle.cf_client.specs.Names.{names_in}
 use Rattle.cf_client.specs.Places.{EndsTell}
 use Rattle.cf_client.specs.Run.{Followed}
-use Rattle.cf_client.specs.Stands.{watch_by}
+use Rattle.cf_client.specs.Stands.{watch_by, words_by}
+use Rattle.cf_client.proofs.Versions.{new_words, has_so, words_then, words_so}
 use Rattle.cf_client.proofs.Turns.{starts, finishes, no_peers, told_so}
 use Rattle.cf_client.proofs.over.follow.Goals as goal
 
@@ -38,3 +41,36 @@ returns-clause-no_peers g c =
     let o = c.in_ok-outcome.outcome in
     let end = finishes c.in_ok-end.end c.take_turns.new.client c.take_turns.new.progress called t o.height o.tip o.history stopped c.in_ok-outcome.ensures.report in
     rw c.in_ok-outcome.ensures.end (no_peers (watch_by c.take_turns.new.client) c.in_ok-end.end o.height o.tip o.history c.take_turns.new.progress.trace.items called t end)
+
+pub returns-in_err-client-clause-versions : goal.returns-in_err-client-clause-versions
+returns-in_err-client-clause-versions g c = new_words _ (g.W.Wires.told c.args.wires.now) c.requires.fresh
+
+pub returns-in_err-dial_all-clause-versions : goal.returns-in_err-dial_all-clause-versions
+returns-in_err-dial_all-clause-versions g c =
+    let words = words_so _ _ c.args.moment c.args.nonce c.in_ok-client.ensures.words (to_z-of_z {w = w64} {z = c.args.moment} (search rules)) in
+    let start = starts c.in_ok-client.client c.new-progress.result (g.W.Wires.told c.args.wires.now) c.in_ok-client.ensures.reflects c.new-progress.ensures.sends c.new-progress.ensures.closed c.new-progress.ensures.trace c.requires.fresh in
+    has_so (words_by c.in_ok-client.client) _ (g.W.Wires.told c.dial_all.new.wires) words (c.in_err-dial_all.ensures.versions start (new_words (words_by c.in_ok-client.client) (g.W.Wires.told c.args.wires.now) c.requires.fresh))
+
+pub returns-in_err-end-clause-versions : goal.returns-in_err-end-clause-versions
+returns-in_err-end-clause-versions g c =
+    let words = words_so _ _ c.args.moment c.args.nonce c.in_ok-client.ensures.words (to_z-of_z {w = w64} {z = c.args.moment} (search rules)) in
+    let start = starts c.in_ok-client.client c.new-progress.result (g.W.Wires.told c.args.wires.now) c.in_ok-client.ensures.reflects c.new-progress.ensures.sends c.new-progress.ensures.closed c.new-progress.ensures.trace c.requires.fresh in
+    let dialled = c.in_ok-dial_all.ensures.versions start (new_words (words_by c.in_ok-client.client) (g.W.Wires.told c.args.wires.now) c.requires.fresh) in
+    words_then (words_by c.in_ok-client.client) (words_by c.dial_all.new.client) _ (g.W.Wires.told c.dial_all.new.wires) (g.W.Wires.told c.take_turns.new.wires) words c.in_ok-dial_all.ensures.words dialled
+    (c.in_err-end.ensures.versions (names_in c.args.names.now) (c.in_ok-dial_all.ensures.holds start))
+
+pub returns-in_err-outcome-clause-versions : goal.returns-in_err-outcome-clause-versions
+returns-in_err-outcome-clause-versions g c =
+    let words = words_so _ _ c.args.moment c.args.nonce c.in_ok-client.ensures.words (to_z-of_z {w = w64} {z = c.args.moment} (search rules)) in
+    let start = starts c.in_ok-client.client c.new-progress.result (g.W.Wires.told c.args.wires.now) c.in_ok-client.ensures.reflects c.new-progress.ensures.sends c.new-progress.ensures.closed c.new-progress.ensures.trace c.requires.fresh in
+    let dialled = c.in_ok-dial_all.ensures.versions start (new_words (words_by c.in_ok-client.client) (g.W.Wires.told c.args.wires.now) c.requires.fresh) in
+    words_then (words_by c.in_ok-client.client) (words_by c.dial_all.new.client) _ (g.W.Wires.told c.dial_all.new.wires) (g.W.Wires.told c.take_turns.new.wires) words c.in_ok-dial_all.ensures.words dialled
+    (c.in_ok-end.ensures.versions (names_in c.args.names.now) (c.in_ok-dial_all.ensures.holds start))
+
+pub returns-clause-versions : goal.returns-clause-versions
+returns-clause-versions g c =
+    let words = words_so _ _ c.args.moment c.args.nonce c.in_ok-client.ensures.words (to_z-of_z {w = w64} {z = c.args.moment} (search rules)) in
+    let start = starts c.in_ok-client.client c.new-progress.result (g.W.Wires.told c.args.wires.now) c.in_ok-client.ensures.reflects c.new-progress.ensures.sends c.new-progress.ensures.closed c.new-progress.ensures.trace c.requires.fresh in
+    let dialled = c.in_ok-dial_all.ensures.versions start (new_words (words_by c.in_ok-client.client) (g.W.Wires.told c.args.wires.now) c.requires.fresh) in
+    words_then (words_by c.in_ok-client.client) (words_by c.dial_all.new.client) _ (g.W.Wires.told c.dial_all.new.wires) (g.W.Wires.told c.take_turns.new.wires) words c.in_ok-dial_all.ensures.words dialled
+    (c.in_ok-end.ensures.versions (names_in c.args.names.now) (c.in_ok-dial_all.ensures.holds start))

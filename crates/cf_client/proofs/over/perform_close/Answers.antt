@@ -1,6 +1,8 @@
-use Rattle.std.proofs.Common.{◌≡◌, true, false, get_or, sym, ◌∙◌, refl}
+use Rattle.std.proofs.Common.{◌≡◌, true, false, get_or, sym, ◌∙◌}
 use Rattle.cf_client.specs.Run.{is_pending, state_at}
 use Rattle.cf_client.proofs.Performs.{skipped_close, closed_again, closed_on}
+use Rattle.cf_peer.specs.declared.event.Event.TheVariants.{Closed}
+use Rattle.cf_client.proofs.Versions.{entry_keeps}
 use Rattle.cf_client.proofs.over.perform_close.Goals as goal
 
 pub returns-then-is_pending-clause-doing : goal.returns-then-is_pending-clause-doing
@@ -19,3 +21,6 @@ returns-clause-doing g c = λ more called planned may doing.
     let free : is_pending (state_at c.args.progress.now.sends c.args.p.0) ≡ false = sym c.is_pending.ensures ∙ c.if-is_pending.false in
     rw c.close.ensures.closed
     (closed_on more c.args.progress.now c.push.new.self called planned _ c.args.p c.args.cause free c.in_ok-push.ensures.items may doing)
+
+pub returns-clause-versions : goal.returns-clause-versions
+returns-clause-versions g c = λ words. entry_keeps words (Closed c.args.p) _ _ c.close.ensures.closed tt

@@ -1,6 +1,8 @@
-use Rattle.std.proofs.Common.{◌≡◌, ◌<◌, length, Err, true, false, sym, ◌∙◌, ap, arith, refl}
+use Rattle.std.proofs.Common.{◌≡◌, ◌<◌, length, Err, true, false, sym, ◌∙◌, ap, arith}
 use Rattle.cf_client.specs.Run.{is_pending, state_at}
 use Rattle.cf_client.proofs.Performs.{skipped_send, sent_on, failed_on, may_send}
+use Rattle.cf_peer.specs.declared.event.Event.TheVariants.{SendFailed}
+use Rattle.cf_client.proofs.Versions.{sent_keeps, entry_keeps, same_keeps}
 use Rattle.cf_client.proofs.over.perform_send.Goals as goal
 
 pub returns-then-is_pending-clause-doing : goal.returns-then-is_pending-clause-doing
@@ -22,3 +24,15 @@ returns-in-Err-Failed-clause-doing g c = λ more called planned may doing.
     let lt : c.args.p.0 < length progress.sends = omega arith in
     rw (c.in-Err-Failed.ensures.not_sent (ap Err c.in-Err-Failed.field-0-is), c.note_failure.ensures.noted fine)
     (failed_on more progress called planned _ c.args.p c.args.message.now lt free may doing)
+
+pub returns-in_ok-push-in-Ok-clause-versions : goal.returns-in_ok-push-in-Ok-clause-versions
+returns-in_ok-push-in-Ok-clause-versions g c = λ words tells. sent_keeps words c.args.p c.args.message.now _ _ c.requires.sendable c.in-Ok.ensures.sent.1 tells
+
+pub returns-in_err-push-in-Ok-clause-versions : goal.returns-in_err-push-in-Ok-clause-versions
+returns-in_err-push-in-Ok-clause-versions g c = λ words tells. sent_keeps words c.args.p c.args.message.now _ _ c.requires.sendable c.in-Ok.ensures.sent.1 tells
+
+pub returns-in-Err-Failed-clause-versions : goal.returns-in-Err-Failed-clause-versions
+returns-in-Err-Failed-clause-versions g c = λ words tells. entry_keeps words (SendFailed c.args.p) _ _ (c.in-Err-Failed.ensures.not_sent (ap Err c.in-Err-Failed.field-0-is)) tt
+
+pub returns-in-Err-NoMemory-clause-versions : goal.returns-in-Err-NoMemory-clause-versions
+returns-in-Err-NoMemory-clause-versions g c = λ words tells. same_keeps words _ _ (c.in-Err-NoMemory.ensures.no_memory (ap Err c.in-Err-NoMemory.field-0-is))

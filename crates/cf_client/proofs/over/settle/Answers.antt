@@ -1,4 +1,4 @@
-use Rattle.std.proofs.Common.{List, ◌≡◌, ◌∷◌, ◌++◌, ◌<◌, [], length, set, sym, ◌∙◌, ap, subst, arith}
+use Rattle.std.proofs.Common.{List, ◌∷◌, ◌<◌, [], length, set, sym, ◌∙◌, ap, subst, arith}
 use Rattle.cf_peer.specs.declared.act.Act.{Act}
 use Rattle.cf_peer.specs.declared.event.Event.TheVariants.{SendFailed}
 use Rattle.cf_peer.specs.declared.peer.Cause.TheVariants.{SendFailed as SendFault}
@@ -8,6 +8,8 @@ use Rattle.cf_client.specs.Places.{Allowed, after}
 use Rattle.cf_client.specs.Run.{Doing}
 use Rattle.cf_client.proofs.Courses.{noted_performs, performs_then}
 use Rattle.cf_client.proofs.Performs.{cut_for, told_one, all_told, in_use}
+use Rattle.cf_client.specs.Stands.{words_by}
+use Rattle.cf_client.proofs.Versions.{acts_tell_so}
 use Rattle.cf_client.proofs.over.settle.Goals as goal
 
 pub loop-p-preserved : goal.loop-p-preserved
@@ -22,7 +24,9 @@ loop-p-preserved g c = record {
       let first = c.in_ok-acts.ensures.first (omega (arith, used, w.reflects.places.count)) in
       let told = told_one first.0 c.loop-p.progress called w.planned (g.W.Wires.told c.loop-p.wires) p SendFault lt c.in-Some.ensures.some.1 w.doing in
       let begun = subst (λ (acts : List Act). Doing acts (record c.loop-p.progress { sends = set c.loop-p.progress.sends p.0 Known }) called next (g.W.Wires.told c.loop-p.wires)) (sym first.1 ∙ sym c.deref.ensures.value) told in
-      let noted = subst (λ (x : Progress). Doing c.deref.result.now x called next (g.W.Wires.told c.loop-p.wires)) (sym c.note_told.ensures.told) begun in
+      let noted =
+      subst (λ (x : Progress). Doing c.deref.result.now x called next (g.W.Wires.told c.loop-p.wires)) {x = record c.loop-p.progress { sends = set c.loop-p.progress.sends c.in-Some.p.0 Known }}
+      (sym c.note_told.ensures.told) begun in
       let allowed = subst (λ (acts : List Act). Allowed acts next) (sym c.deref.ensures.value) a.allowed in
       let done = c.in_ok-perform.ensures.doing called next allowed noted in
       record {
@@ -30,8 +34,16 @@ loop-p-preserved g c = record {
         reflects = a.stand;
         doing = subst (λ (acts : List Act). Doing [] c.perform.new.progress called (after acts next) (g.W.Wires.told c.perform.new.wires)) c.deref.ensures.value done;
       };
+  versions = λ called planned reflects doing has.
+      let p = c.in-Some.p in
+      let w = c.loop-p.invariant.waits called planned reflects doing in
+      let used = in_use [] c.loop-p.progress called w.planned (g.W.Wires.told c.loop-p.wires) p.0 c.in-Some.ensures.some.1 w.doing in
+      let tells = c.in_ok-acts.ensures.tells w.planned (SendFailed p ∷ w.planned) (omega (arith, used, w.reflects.places.count)) w.reflects (cut_for p w.planned) in
+      c.in_ok-perform.ensures.versions (words_by c.args.client.now) (acts_tell_so _ _ c.in_ok-acts.acts.items _ c.loop-p.invariant.words c.deref.ensures.value tells)
+      (c.loop-p.invariant.versions called planned reflects doing has);
   count = c.in_ok-acts.ensures.count ∙ c.loop-p.invariant.count;
   watch = c.in_ok-acts.ensures.watch ∙ c.loop-p.invariant.watch;
+  words = c.in_ok-acts.ensures.words ∙ c.loop-p.invariant.words;
   performs = performs_then c.loop-p.invariant.performs
       (performs_then (noted_performs _ _ _ _ c.loop-p.progress _ (ap (λ (x : Progress). x.closed) c.note_told.ensures.told) c.note_told.ensures.fewer c.loop-p.invariant.performs.runs.step) c.in_ok-perform.ensures.performs);
 }
@@ -40,3 +52,12 @@ pub returns-clause-holds : goal.returns-clause-holds
 returns-clause-holds g c = λ called planned reflects doing.
     let w = c.loop-p.invariant.waits called planned reflects doing in
     all_told c.loop-p.client c.loop-p.progress called w.planned (g.W.Wires.told c.loop-p.wires) c.in_default.ensures.none w.reflects w.doing
+
+pub returns-in_err-perform-clause-versions : goal.returns-in_err-perform-clause-versions
+returns-in_err-perform-clause-versions g c = λ called planned reflects doing has.
+    let p = c.in-Some.p in
+    let w = c.loop-p.invariant.waits called planned reflects doing in
+    let used = in_use [] c.loop-p.progress called w.planned (g.W.Wires.told c.loop-p.wires) p.0 c.in-Some.ensures.some.1 w.doing in
+    let tells = c.in_ok-acts.ensures.tells w.planned (SendFailed p ∷ w.planned) (omega (arith, used, w.reflects.places.count)) w.reflects (cut_for p w.planned) in
+    c.in_err-perform.ensures.versions (words_by c.args.client.now) (acts_tell_so _ _ c.in_ok-acts.acts.items _ c.loop-p.invariant.words c.deref.ensures.value tells)
+    (c.loop-p.invariant.versions called planned reflects doing has)
