@@ -9,24 +9,11 @@ import os
 import subprocess
 import tempfile
 
+from runs import best
+
 BENCH = os.path.dirname(os.path.abspath(__file__))
 CRATE = os.path.join(os.path.dirname(BENCH), "crates", "cf_bench")
 PROGRAM = os.path.join(CRATE, "out", "cf_bench")
-
-
-def run(words):
-    child = subprocess.Popen(words, stdout=subprocess.PIPE)
-    text = child.stdout.read()
-    _, status, used = os.wait4(child.pid, 0)
-    child.returncode = os.waitstatus_to_exitcode(status)
-    if child.returncode:
-        raise SystemExit("%s ended with status %d" % (" ".join(words), child.returncode))
-    return text, used.ru_utime + used.ru_stime
-
-
-def best(*calls):
-    runs = [[run(words) for words in calls] for _ in range(5)]
-    return [(each[0][0], min(seconds for _, seconds in each)) for each in zip(*runs)]
 
 
 def main():
@@ -38,7 +25,7 @@ def main():
         print("%-26s %9s %9s %7s" % ("100,000 blocks", "program", "plain", "ratio"))
         before = (0.0, 0.0)
         for count, row in ((0, "building"), (1, "matching 1 script"), (100, "matching 100 scripts"), (1000, "matching 1000 scripts")):
-            (text, seconds), (expected, base) = best([PROGRAM, blocks, str(count)], [plain, "match", blocks, str(count)])
+            (text, seconds, _), (expected, base, _) = best([PROGRAM, blocks, str(count)], [plain, "match", blocks, str(count)])
             if text != expected:
                 raise SystemExit("%s: %r and %r" % (row, text, expected))
             ours, other = seconds - before[0], base - before[1]

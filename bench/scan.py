@@ -10,27 +10,12 @@ import os
 import subprocess
 import tempfile
 
+from runs import best
+
 BENCH = os.path.dirname(os.path.abspath(__file__))
 ROOT = os.path.dirname(BENCH)
 PROGRAM = os.path.join(ROOT, ".build", "cf")
 SCRIPT = "01087551"
-
-
-def run(words):
-    """The text that one run writes, its processor seconds and its greatest size in bytes."""
-    child = subprocess.Popen(words, stdout=subprocess.PIPE)
-    text = child.stdout.read()
-    _, status, used = os.wait4(child.pid, 0)
-    child.returncode = os.waitstatus_to_exitcode(status)
-    if child.returncode:
-        raise SystemExit("%s ended with status %d" % (" ".join(words), child.returncode))
-    return text, used.ru_utime + used.ru_stime, used.ru_maxrss * 1024
-
-
-def best(*calls):
-    """The same of the best of five runs of each call, which take turns."""
-    runs = [[run(words) for words in calls] for _ in range(5)]
-    return [(each[0][0], min(seconds for _, seconds, _ in each), max(size for _, _, size in each)) for each in zip(*runs)]
 
 
 def main():
