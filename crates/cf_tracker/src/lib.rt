@@ -2,8 +2,14 @@
 #![tactic(auto)]
 
 mod cursors;
+mod ends;
 mod extracts;
+mod judged;
+mod kind;
+mod spans;
 mod tracker;
 mod walk;
+mod want;
 
+pub use spans::{Span, Wish};
 pub use tracker::{Report, Tracker};
