@@ -2,7 +2,9 @@
 #![tactic(auto)]
 
 mod act;
+mod claims;
 mod event;
+mod filters;
 mod hear;
 mod memory;
 mod peer;
@@ -11,8 +13,10 @@ mod wires;
 
 pub use act::Act;
 pub use event::{Delivery, Dial, Event, Mark, Name, Piece};
+pub use claims::cause_of;
+pub use filters::Heard;
 pub use hear::Incoming;
 pub use memory::{MemoryWires, Scripted};
-pub use peer::{Cause, Peer, Reply, Request};
+pub use peer::{Batch, Cause, Peer, Range, Reply, Request};
 pub use session::{put_deliveries, put_dials};
 pub use wires::{WireFail, Wires};

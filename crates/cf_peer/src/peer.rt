@@ -4,18 +4,21 @@ ghost use Rattle.cf_block.specs.declared.header.Header.{Header};
 ghost use Rattle.cf_block.specs.declared.tx.Block.{Block};
 ghost use Rattle.cf_block.specs.Header.{block_hash_of};
 ghost use Rattle.cf_block.specs.Commitment.{commit_fault};
+ghost use Rattle.cf_dispute.specs.Claims.{Table};
 ghost use Rattle.cf_headers.specs.Chain.{accept};
 ghost use Rattle.cf_headers.specs.Changes.{link_height, change_of};
 ghost use Rattle.cf_msg.specs.declared.msg.Msg.{Msg};
 ghost use Rattle.cf_msg.specs.declared.msg.Msg.TheVariants.{Headers, Block as BlockMessage};
 ghost use Rattle.cf_peer.specs.Trail.{Trail, Said, Passed, Asked, own, reply_to};
 ghost use Rattle.cf_peer.specs.Asking.{request, verdict, fetched_by};
-ghost use Rattle.cf_peer.specs.Peer.{Holds, Hears, TakesHeaders, calm, called_peer, is_ready_peer, is_idle_peer, is_plain, IsVersionOf, busy, wants, awaits as awaits_block, is_fetching as fetches, asked_for_headers, asked_for_block, IsReplySendable};
+ghost use Rattle.cf_peer.specs.Peer.{Holds, Hears, IsRight, TakesHeaders, calm, called_peer, is_ready_peer, is_idle_peer, is_plain, IsVersionOf, busy, wants, awaits as awaits_block, is_fetching as fetches, asked_for_headers, asked_for_block, IsReplySendable};
 
+use cf_bytes::Listed;
 use cf_bytes::Hash32;
 use cf_frame::Framer;
 use cf_headers::Change;
-use cf_msg::Msg;
+use cf_match::Job;
+use cf_msg::{Hashes, Msg};
 use std::alloc::Global;
 use thiserror::Error;
 
@@ -40,6 +43,15 @@ pub enum Cause {
     /// Its chain would be above the greatest height.
     #[error("TooHigh")]
     TooHigh = 6,
+    /// Its claims are of another number of filters than it was asked for.
+    #[error("WrongCount")]
+    WrongCount = 7,
+    /// Its claims stand on another filter header than it claimed below them.
+    #[error("WrongPrevious")]
+    WrongPrevious = 8,
+    /// Its filter isn't the one that it claimed.
+    #[error("OtherFilter")]
+    OtherFilter = 9,
     /// Its block has a header that doesn't stand for its transactions.
     #[error("BadBlock")]
     BadBlock = 10,
@@ -51,8 +63,28 @@ pub enum Cause {
     Overdue = 12,
 }
 
+/// A run of blocks whose filters' hashes were asked for.
+#[derive(Drop, Debug)]
+pub struct Range {
+    /// The last of them.
+    pub stop: Hash32,
+    /// The block below the first.
+    pub parent: Hash32,
+    /// Their hashes, the lowest first.
+    pub blocks: Hashes,
+}
+
+/// A run of blocks whose filters were asked for.
+#[derive(Drop, Debug)]
+pub struct Batch {
+    /// Their hashes, the lowest first.
+    pub blocks: Hashes,
+    /// The filters that came, each for the next of them.
+    pub came: Listed<Job>,
+}
+
 /// The one request that is open to a peer, with its age in seconds.
-#[derive(Clone, Copy, Debug, PartialEq, Eq)]
+#[derive(Drop, Debug)]
 pub enum Request {
     /// Nothing is open.
     Nothing,
@@ -60,6 +92,10 @@ pub enum Request {
     Handshake(u64),
     /// `getheaders`.
     Headers(u64),
+    /// `getcfheaders`.
+    Claims(Range, u64),
+    /// `getcfilters`.
+    Filters(Batch, u64),
     /// `getdata` of the block with this hash.
     Block(Hash32, u64),
 }
@@ -104,12 +140,13 @@ impl Peer {
         !matches!(self.request, Request::Handshake(_))
     }
 
-    /// Takes one message that is neither headers nor a block.
+    /// Takes one message that is neither headers nor claims, a filter or a block.
     #[tactic(auto, unfolding(cf_msg::specs::Message::payload_of))]
     pub fn hear(&mut self, message: &Msg) -> Reply
         requires plain { is_plain message.now ≡ true }
         ensures sendable { IsReplySendable result }
         ensures heard { (t : Trail) → Holds self.old t → Hears self.new message.now t result }
+        ensures right { (table : Table) → IsRight self.old.request table → IsRight self.new.request table }
         ensures waits { self.new.framer ≡ self.old.framer }
         ensures calm { calm self.old ≡ true → calm self.new ≡ true }
     {
@@ -137,6 +174,7 @@ impl Peer {
     fn hear_version(&mut self, services: u64) -> Reply
         ensures sendable { IsReplySendable result }
         ensures heard { (t : Trail) (m : Msg) → Holds self.old t → IsVersionOf services m → Hears self.new m t result }
+        ensures right { (table : Table) → IsRight self.old.request table → IsRight self.new.request table }
         ensures waits { self.new.framer ≡ self.old.framer }
         ensures calm { calm self.old ≡ true → calm self.new ≡ true }
     {
@@ -155,6 +193,7 @@ impl Peer {
     pub fn hear_headers(&mut self, change: &Change, count: usize) -> Option<Cause>
         requires ready { is_ready_peer self.old ≡ true }
         ensures heard { (t : Trail) (hs : List Header) → Holds self.old t → count ≡ length hs → change.now ≡ change_of (link_height hs (own t)) (accept hs (own t)) → TakesHeaders self.new hs t result }
+        ensures right { (table : Table) → IsRight self.old.request table → IsRight self.new.request table }
         ensures waits { self.new.framer ≡ self.old.framer }
         ensures calm { calm self.old ≡ true → calm self.new ≡ true }
     {
@@ -187,6 +226,7 @@ impl Peer {
         requires { awaits_block self.old hash.now ≡ true }
         ensures holds { (t : Trail) (b : Block) → Holds self.old t → block_hash_of b.header ≡ hash.now.0 → commit_fault b ≡ None → Holds self.new (Said (BlockMessage b) ∷ t) }
         ensures brought { (t : Trail) (b : Block) → Holds self.old t → block_hash_of b.header ≡ hash.now.0 → commit_fault b ≡ None → fetched_by (BlockMessage b) (request t) ≡ b ∷ [] }
+        ensures right { (table : Table) → IsRight self.new.request table }
         ensures waits { self.new.framer ≡ self.old.framer }
         ensures calm { calm self.new ≡ true }
     {
@@ -197,14 +237,17 @@ impl Peer {
     pub fn pass(&mut self, seconds: u32)
         requires { calm self.old ≡ true }
         ensures holds { (t : Trail) → Holds self.old t → Holds self.new (Passed seconds ∷ t) }
+        ensures right { (table : Table) → IsRight self.old.request table → IsRight self.new.request table }
         ensures waits { self.new.framer ≡ self.old.framer }
     {
         let seconds = u64::from(seconds);
-        match self.request {
+        match &mut self.request {
             Request::Nothing => {}
-            Request::Handshake(age) => self.request = Request::Handshake(age + seconds),
-            Request::Headers(age) => self.request = Request::Headers(age + seconds),
-            Request::Block(hash, age) => self.request = Request::Block(hash, age + seconds),
+            Request::Handshake(age) => *age += seconds,
+            Request::Headers(age) => *age += seconds,
+            Request::Claims(_, age) => *age += seconds,
+            Request::Filters(_, age) => *age += seconds,
+            Request::Block(_, age) => *age += seconds,
         }
     }
 
@@ -212,9 +255,13 @@ impl Peer {
     pub fn is_late(&self) -> bool
         ensures { result ≡ not (calm self.now) }
     {
-        match self.request {
+        match &self.request {
             Request::Nothing => false,
-            Request::Handshake(age) | Request::Headers(age) | Request::Block(_, age) => age >= 60,
+            Request::Handshake(age)
+            | Request::Headers(age)
+            | Request::Claims(_, age)
+            | Request::Filters(_, age)
+            | Request::Block(_, age) => *age >= 60,
         }
     }
 
@@ -225,11 +272,11 @@ impl Peer {
         matches!(self.request, Request::Nothing)
     }
 
-    /// Whether a block is open to it.
+    /// Whether filters or a block are open to it.
     pub fn is_fetching(&self) -> bool
         ensures { result ≡ fetches self.now }
     {
-        matches!(self.request, Request::Block(_, _))
+        matches!(self.request, Request::Filters(_, _) | Request::Block(_, _))
     }
 
     /// Whether it is to be asked for headers: nothing is open to it, and it has more to tell.
