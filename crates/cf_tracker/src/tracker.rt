@@ -19,13 +19,13 @@ ghost use Rattle.cf_tracker.specs.Tracking.{AreMarked, IsBestChain, IsReport};
 ghost use Rattle.cf_tracker.specs.Wanting.{ForgetsClaims, IsSameTables};
 
 use crate::cursors::Cursors;
+use crate::ends::{claims_end, filters_end};
 use crate::extracts::Extracts;
 use crate::judged::Judged;
-use crate::ends::{claims_end, filters_end};
 use crate::kind::is_any_disputed;
 use crate::spans::{Wish, span_of};
-use crate::want::{Want, next_want};
 use crate::walk::{history_over, tip_of};
+use crate::want::{Want, next_want};
 use cf_block::{Block, Header};
 use cf_bytes::{Hash32, NoMemory, PeerNo, Refused};
 use cf_dispute::{ClaimFault, Claims};
@@ -45,9 +45,8 @@ pub struct Report {
     pub history: History,
 }
 
-/// The chains that peers show, and what is kept of fetched blocks. What peers claim of filters, and the verdicts
-/// on those that came. For each peer marks tell up to where nothing is to be asked for of the blocks of its chain, so that the next question is
-/// found without going along the chain.
+/// The chains that peers show, what they claim of filters, the verdicts on the filters that came, and what is kept of fetched blocks. For each peer
+/// marks tell up to where nothing is to be asked for of the blocks of its chain, so that the next question is found without going along the chain.
 #[derive(Drop)]
 pub struct Tracker<H: HeaderStore> {
     alloc: Global,
@@ -64,8 +63,14 @@ pub struct Tracker<H: HeaderStore> {
 impl<H: HeaderStore> Tracker<H> {
     ghost use Rattle.cf_tracker.specs.Tracker.{chains_of, claims_of, table_of, verdicts_of, watch_of};
 
-    /// Nothing is known yet. No peer is entered in the store that is handed in, and the filter header is genesis's.
-    pub fn new(alloc: Global, watch: Watch, store: H, first: &Hash32) -> Result<Tracker<H>, NoMemory>
+    /// Nothing is known yet. No peer is entered in the store that is handed in, and the filter header is that of the first block
+    /// (`genesis_filter_header` in cf_dispute).
+    pub fn new(
+        alloc: Global,
+        watch: Watch,
+        store: H,
+        first: &Hash32,
+    ) -> Result<Tracker<H>, NoMemory>
     where
         H: Drop,
         requires none { (q : ℕ) → H.chain store q ≡ None }
@@ -200,7 +205,7 @@ impl<H: HeaderStore> Tracker<H> {
         Ok(())
     }
 
-    /// Keeps the verdicts on filters, each where none stands.
+    /// Keeps the verdicts on filters, one for each in their order, where none stands. Where no memory is found some may be kept.
     pub fn judge(&mut self, jobs: &[Job], verdicts: &[Verdict]) -> Result<(), NoMemory>
         requires { verdicts.now ≡ map (verdict_of (watch_of self.old)) jobs.now }
         ensures ok { OnOk result (AreSameVerdicts (verdicts_of self.new) (with_verdicts (watch_of self.old) jobs.now (verdicts_of self.old))) }
@@ -213,8 +218,10 @@ impl<H: HeaderStore> Tracker<H> {
         Ok(())
     }
 
-    /// What an entered peer is to be asked for next, of the blocks that it shares with another. Where it may be asked for claims alone, it isn't
-    /// to be asked for filters or a block. It goes on from where the last call for the peer stopped.
+    /// What an entered peer is to be asked for next, of the blocks that it shares with another: claims from the lowest block that it doesn't claim; else
+    /// filters from the lowest block whose one claimed filter has no verdict; else the lowest block of which different filters are claimed, or whose
+    /// filter hits. Where `spare` is false it may be asked for claims alone. A call goes on from where the last one for the peer stopped, and goes
+    /// along the chain only for what it answers. Where no memory is found nothing has changed.
     pub fn next(&mut self, p: PeerNo, other: PeerNo, spare: bool) -> Result<Wish, NoMemory>
         requires first { IsSome (chains_of self.old p.0) }
         requires second { IsSome (chains_of self.old other.0) }
