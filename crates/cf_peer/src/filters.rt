@@ -1,4 +1,4 @@
-//! The filters of a batch, as they come.
+//! The filters of a batch, as they come (BIP 157, "cfilter").
 ghost use Rattle.std.specs.Prelude.{◌≡◌, ◌<◌, ℕ, List, nat_le, IfOk, OnOk, true, length, slice_index_or};
 ghost use Rattle.cf_bytes.specs.declared.hash.Hash32.{Hash32};
 ghost use Rattle.cf_msg.specs.declared.msg.Msg.TheVariants.{Cfilter};
@@ -12,8 +12,7 @@ ghost use Rattle.cf_peer.specs.Peer.{Holds, calm, IsPut, IsRight, TakesFilter, n
 
 use crate::claims::is_answer;
 use crate::peer::{Batch, Cause, Peer, Request};
-use cf_bytes::Listed;
-use cf_bytes::{Hash32, NoMemory, PeerNo};
+use cf_bytes::{Hash32, Listed, NoMemory, PeerNo};
 use cf_dispute::Claims;
 use cf_filter::filter_hash;
 use cf_match::Job;
@@ -25,7 +24,7 @@ use std::mem;
 pub enum Heard {
     /// Nothing more.
     Nothing,
-    /// It was the last of its batch: all filters of the batch.
+    /// It was the last of its batch: all filters of the batch, the lowest block's first.
     Whole(Listed<Job>),
     /// The peer is closed.
     Close(Cause),
@@ -73,7 +72,9 @@ impl Batch {
 }
 
 impl Peer {
-    /// Takes a filter that the peer sent. One that isn't the next of what is open to it is read over. The last of a batch ends the open request.
+    /// Takes a filter that the peer sent: its type, its block's hash in wire order, and its bytes. One that isn't the next of what is open to it is
+    /// read over, and one of another hash than the peer claims has it closed for `OtherFilter`. The last of a batch ends the open request. Where no
+    /// memory is found what came of the batch may be lost.
     pub fn hear_filter(
         &mut self,
         alloc: Global,
@@ -103,12 +104,7 @@ impl Peer {
     }
 
     // Puts the next filter of the open batch, and gives the filters back where it was the last.
-    fn put_filter(
-        &mut self,
-        alloc: Global,
-        block: &Hash32,
-        bytes: &[u8],
-    ) -> Result<Heard, NoMemory>
+    fn put_filter(&mut self, alloc: Global, block: &Hash32, bytes: &[u8]) -> Result<Heard, NoMemory>
         ensures put { IfOk result (λ o. (batch : Batch) (age : ℕ) → self.old.request ≡ Filters batch age → IsPut self.old self.new (with_filter batch (filter_of block.now bytes.now)) age o) }
         ensures waits { self.new.framer ≡ self.old.framer }
         ensures calm { calm self.old ≡ true → calm self.new ≡ true }

@@ -12,8 +12,8 @@ mod session;
 mod wires;
 
 pub use act::Act;
-pub use event::{Delivery, Dial, Event, Mark, Name, Piece};
 pub use claims::cause_of;
+pub use event::{Delivery, Dial, Event, Mark, Name, Piece};
 pub use filters::Heard;
 pub use hear::Incoming;
 pub use memory::{MemoryWires, Scripted};

@@ -13,8 +13,7 @@ ghost use Rattle.cf_peer.specs.Trail.{Trail, Said, Passed, Asked, own, reply_to}
 ghost use Rattle.cf_peer.specs.Asking.{request, verdict, fetched_by};
 ghost use Rattle.cf_peer.specs.Peer.{Holds, Hears, IsRight, TakesHeaders, calm, called_peer, is_ready_peer, is_idle_peer, is_plain, IsVersionOf, busy, wants, awaits as awaits_block, is_fetching as fetches, asked_for_headers, asked_for_block, IsReplySendable};
 
-use cf_bytes::Listed;
-use cf_bytes::Hash32;
+use cf_bytes::{Hash32, Listed};
 use cf_frame::Framer;
 use cf_headers::Change;
 use cf_match::Job;
@@ -43,13 +42,13 @@ pub enum Cause {
     /// Its chain would be above the greatest height.
     #[error("TooHigh")]
     TooHigh = 6,
-    /// Its claims are of another number of filters than it was asked for.
+    /// Its answer to `getcfheaders` has another number of hashes than blocks were asked for.
     #[error("WrongCount")]
     WrongCount = 7,
-    /// Its claims stand on another filter header than it claimed below them.
+    /// Its answer to `getcfheaders` gives another filter header before them than it claims at the block below.
     #[error("WrongPrevious")]
     WrongPrevious = 8,
-    /// Its filter isn't the one that it claimed.
+    /// The filter that it was asked for hasn't the hash that it claims.
     #[error("OtherFilter")]
     OtherFilter = 9,
     /// Its block has a header that doesn't stand for its transactions.
@@ -63,21 +62,21 @@ pub enum Cause {
     Overdue = 12,
 }
 
-/// A run of blocks whose filters' hashes were asked for.
+/// A run of blocks whose filters' hashes were asked for. Hashes are in wire order.
 #[derive(Drop, Debug)]
 pub struct Range {
-    /// The last of them.
+    /// The hash of the last of them.
     pub stop: Hash32,
-    /// The block below the first.
+    /// The hash of the block below the first.
     pub parent: Hash32,
-    /// Their hashes, the lowest first.
+    /// Their hashes, the lowest first, at most 2000.
     pub blocks: Hashes,
 }
 
-/// A run of blocks whose filters were asked for.
+/// A run of blocks whose filters were asked for. Hashes are in wire order.
 #[derive(Drop, Debug)]
 pub struct Batch {
-    /// Their hashes, the lowest first.
+    /// Their hashes, the lowest first, at most 1000.
     pub blocks: Hashes,
     /// The filters that came, each for the next of them.
     pub came: Listed<Job>,
