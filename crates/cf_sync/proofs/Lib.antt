@@ -3,8 +3,11 @@ pub mod Entries
 pub mod Spelled
 pub mod Chains
 pub mod Serving
+pub mod Ranges
 pub mod Serves
 pub mod Asks
+pub mod Bounds
+pub mod Untouched
 pub mod HonestLemmas
 pub mod Counted
 pub mod Grows
@@ -15,5 +18,10 @@ pub mod TableGrows
 pub mod Planning
 pub mod Remembers
 pub mod Fresh
+pub mod FreshClaims
 pub mod Computed
+pub mod Filters
+pub mod Kept
+pub mod Stops
+pub mod VerdictsGrow
 pub mod TwoPeers

@@ -1,5 +1,5 @@
 -- The run with two peers, moment by moment: one is honest, all that was asked might be asked, and the history is the honest chain's.
-use Rattle.std.proofs.Common.{◌≡◌, ◌⊎◌, inl, inr, ℕ, ◌≤◌, List, [], ◌∷◌, ◌++◌, map, length, get_or, Option, Some, None, Bool, true, false, ◌||◌, ◌==◌, if◌then◌else◌, refl, sym, ◌∙◌, ap, subst, arith, length-append, eq-eqb, le-ltb}
+use Rattle.std.proofs.Common.{◌≡◌, ◌⊎◌, inl, inr, ℕ, ◌<◌, ◌≤◌, List, [], ◌∷◌, ◌++◌, map, length, get_or, Option, Some, None, Bool, true, false, not, ◌||◌, ◌==◌, if◌then◌else◌, refl, sym, ◌∙◌, ap, subst, arith, length-append, eq-eqb, le-ltb}
 use Rattle.std.specs.Prelude.{nat_lt}
 use Rattle.std.specs.List.{flat_map}
 use Rattle.std.specs.FinMap.{empty, get-empty}
@@ -17,34 +17,51 @@ use Rattle.cf_block.specs.Outpoint.{outpoint_cmp, outpoint}
 use Rattle.cf_block.specs.Merkle.{nodes_within, hashed}
 use Rattle.cf_block.specs.Commitment.{spelled_txs, is_coinbase_tx}
 use Rattle.cf_block.proofs.HeaderLaws.{block_hash_length}
+use Rattle.std.specs.Prelude.{option_map}
+use Rattle.cf_block.specs.Output.{Output}
+use Rattle.cf_block.specs.declared.tx.TxIn.{TxIn}
+use Rattle.cf_bytes.specs.declared.hash.Hash32.{Hash32}
+use Rattle.cf_chain.specs.Coins.{spent}
+use Rattle.cf_chain.specs.Filters.{Filtered, prevouts, first_filtered}
 use Rattle.cf_chain.specs.Good.{IsGoodTx, IsGoodChain}
-use Rattle.cf_chain.specs.Serve.{data_reply, headers_reply}
+use Rattle.cf_dispute.specs.declared.claim.Claim.{Claim}
+use Rattle.cf_dispute.specs.Claims.{Table, no_claims, claim_of, with_claim, first_header}
+use Rattle.cf_filter.specs.Items.{items_of}
+use Rattle.cf_filter.specs.Filter.{basic_filter_of, filter_hash_of, match_of}
+use Rattle.cf_match.specs.declared.job.Job.{Job}
+use Rattle.cf_match.specs.Verdicts.{is_miss}
+use Rattle.cf_chain.specs.Serve.{data_reply, headers_reply, range_end, cfheaders_reply, cfilters_reply}
 use Rattle.cf_frame.specs.Stream.{StreamRead, read_stream}
 use Rattle.cf_frame.proofs.Streams.{stream_of_spelling}
 use Rattle.cf_headers.specs.Rules.{same, is_worked}
-use Rattle.cf_headers.specs.Chain.{Chain, no_hash, height_limit, fits, accept, Accepted, Longer, IsValidChain, IsIn, NoHashClash}
+use Rattle.cf_headers.specs.Chain.{Chain, no_hash, height_limit, fits, back_to, accept, Accepted, Longer, IsValidChain, IsIn, NoHashClash}
 use Rattle.cf_headers.specs.Shown.{IsShown, Shows, IsShownSpelling}
 use Rattle.cf_msg.specs.declared.msg.Msg.{Msg}
-use Rattle.cf_msg.specs.declared.msg.Msg.TheVariants.{Verack, Block as BlockMessage}
+use Rattle.cf_msg.specs.declared.msg.Msg.TheVariants.{Verack, Block as BlockMessage, GetCfheaders, Cfheaders, Cfilter}
 use Rattle.cf_msg.specs.Message.{IsAddress, IsEntry, payload_of, frame_of}
 use Rattle.cf_msg.proofs.Table.{again, frame_fits}
 use Rattle.cf_msg.proofs.Sizes.{entries_size}
 use Rattle.cf_peer.specs.declared.event.Delivery.TheVariants.{Got}
 use Rattle.cf_peer.specs.declared.event.Event.TheVariants.{Dialled, Sent, Took}
 use Rattle.cf_peer.specs.Acts.{bytes_of, IsSendable}
-use Rattle.cf_peer.specs.Asking.{BlockOpen, request, is_wanted, is_committed, is_open, block_fault, verdict, counted, lists, fetched, fetched_by, block_entry, HasSaid, hashes_of, MayAsk, SameUse}
+use Rattle.cf_peer.specs.Asking.{OpenRequest, is_spare, NothingOpen, ClaimsOpen, FiltersOpen, BlockOpen, claims_asked, filters_asked, filter_of, claims, claims_after, hash_claimed, claims_fault, filter_fault, fault_of, request_after, is_idle, given, given_by, HasHeader, IsRange, request, is_wanted, is_committed, is_open, block_fault, verdict, counted, lists, fetched, fetched_by, block_entry, HasSaid, hashes_of, MayAsk, SameUse}
 use Rattle.cf_peer.specs.Log.{Log}
-use Rattle.cf_peer.specs.Trail.{Trail, Part, Called, Said, Asked, no_address, called_part, item_of_read, part_after, heard_part, message_in, message_of_stream, spelled, asks, part_of, trail, connected, own, heard, longer_of, ends_by, fault_in, first}
+use Rattle.cf_peer.specs.Trail.{Trail, Part, Called, Said, Asked, no_address, called_part, item_of_read, part_after, heard_part, message_in, message_of_stream, spelled, asks, part_of, trail, connected, ready, own, heard, longer_of, ends_by, fault_in, first}
 use Rattle.cf_scan.specs.Scan.{scan_of}
-use Rattle.cf_sync.specs.Example.{only_tx, only_header, only_block, only_hash, chain_of_one, honest_peer, liar, genesis_hash, no_stop, our_version, its_version, false_version, question, its_headers, false_headers, fetch, its_block, log_1, log_2, log_3, log_4, log_5, log_6, log_7, log_8, log_9, log_10, log_11, log_12, log_13, log_14, log_15, run_of_two}
-use Rattle.cf_sync.specs.Fetching.{IsQuiet, IsBusy, AreBytes, IsFetched, IsFetchedHash, IsNoBlockOpen, Rightly, is_spare}
-use Rattle.cf_sync.specs.Honesty.{Leaves, answers, AnswersAs, IsHonestOver, IsHonest, was_called, ShowsNoOther}
-use Rattle.cf_sync.specs.Sync.{strings_of, IsHashed, HasAsked}
-use Rattle.cf_sync.proofs.Chains.{same_from, same_self, same_true, heads, Setting}
+use Rattle.cf_scan.specs.Watching.{IsWatch}
+use Rattle.cf_sync.specs.Example.{only_tx, only_header, only_block, only_hash, chain_of_one, honest_peer, liar, genesis_hash, no_stop, our_version, its_version, false_version, question, its_headers, false_headers, fetch, its_block, log_1, log_2, log_3, log_4, log_5, log_6, log_7, log_8, log_9, log_10, log_11, log_12, log_13, log_14, log_15, log_16, log_17, log_18, log_19, run_of_two, cleared_run, other_watch, only_filter, only_filter_hash, genesis_filter_header, ask_claims, its_claims, ask_filter, its_filter}
+use Rattle.cf_sync.specs.Fetching.{IsQuiet, IsBusy, AreBytes, IsFetched, IsFetchedHash, IsGiven, IsCleared, IsConnected, IsNoneFetching, Rightly}
+use Rattle.cf_sync.specs.Honesty.{Leaves, answers, AnswersAs, IsHonestOver, IsHonest, was_called, ShowsNoOther, filters_above}
+use Rattle.cf_sync.specs.Sync.{strings_of, IsOfBlocks, IsHashed, HasAsked}
+use Rattle.cf_dispute.proofs.Genesis.{first_header_is}
+use Rattle.cf_sync.proofs.Asks.{first_is}
+use Rattle.cf_sync.proofs.Ranges.{filters_in, hashes_in, claims_reply, filters_reply}
+use Rattle.cf_sync.proofs.Filters.{only_items, only_filter_by_name, only_filter_hash_is, only_misses}
+use Rattle.cf_sync.proofs.Chains.{same_from, same_self, same_true, cases_same, heads, Setting}
 use Rattle.cf_sync.proofs.Serving.{next_reply, block_found}
 use Rattle.cf_sync.proofs.Counted.{same_use, said_counts, counted_said, fetched_said}
 use Rattle.cf_sync.proofs.Settles.{committed_is}
-use Rattle.cf_sync.proofs.Computed.{genesis_is, name_is, txid_is, header_fits_type, worked, previous_is_genesis, block_length, block_fits, committed, headers_size, small_bytes, version_small, false_version_small, verack_small, headers_small, false_headers_small, block_small}
+use Rattle.cf_sync.proofs.Computed.{genesis_is, name_is, txid_is, header_fits_type, worked, previous_is_genesis, block_length, block_fits, committed, headers_size, small_bytes, version_small, false_version_small, verack_small, headers_small, false_headers_small, claims_small, filter_small, block_small}
 
 -- ---- bytes as they are read
 
@@ -131,12 +148,43 @@ none_length = refl
 none_sendable : IsSendable false_headers
 none_sendable = record { spelled = (omega arith, tt); short = omega (arith, none_length) }
 
+name_length : length only_hash.0 ≡ 32
+name_length = block_hash_length only_header
+
+claims_length : length (payload_of its_claims) ≡ 98
+unfolding payload_of compact
+claims_length = ap (λ (x : List ℕ). length (payload_of (Cfheaders 0 (record { 0 = x }) (record { 0 = genesis_filter_header }) (record { 0 = only_filter_hash } ∷ [])))) name_is
+
+filter_length : length (payload_of its_filter) ≡ 38
+unfolding payload_of compact
+filter_length = ap (λ (x : List ℕ). length (payload_of (Cfilter 0 (record { 0 = x }) only_filter))) name_is
+
+range_length : length (payload_of ask_claims) ≡ 37
+unfolding payload_of
+range_length = ap (λ (x : List ℕ). length (payload_of (GetCfheaders 0 1 (record { 0 = x })))) name_is
+
 entry_fits : IsEntry (block_entry only_hash)
 entry_fits = record { kind = omega arith; hash = block_hash_length only_header }
 
 fetch_sendable : IsSendable fetch
 unfolding payload_of
 fetch_sendable = record { spelled = (omega arith, (entry_fits, tt)); short = omega (arith, entries_size (block_entry only_hash ∷ []) (entry_fits, tt)) }
+
+claims_sendable : IsSendable its_claims
+unfolding payload_of compact
+claims_sendable = record { spelled = (omega arith, name_length, refl, omega arith, (refl, tt)); short = omega (arith, claims_length) }
+
+filter_sendable : IsSendable its_filter
+unfolding payload_of compact
+filter_sendable = record { spelled = (omega arith, name_length, omega arith); short = omega (arith, filter_length) }
+
+ask_claims_sendable : IsSendable ask_claims
+unfolding payload_of
+ask_claims_sendable = record { spelled = (omega arith, omega arith, name_length); short = omega (arith, range_length) }
+
+ask_filter_sendable : IsSendable ask_filter
+unfolding payload_of
+ask_filter_sendable = record { spelled = (omega arith, omega arith, name_length); short = omega (arith, range_length) }
 
 block_sendable : IsSendable its_block
 unfolding payload_of
@@ -166,10 +214,22 @@ abbrev t_7 : Trail
 t_7 = Said its_headers ∷ t_6
 
 abbrev t_8 : Trail
-t_8 = Asked fetch ∷ t_7
+t_8 = Asked ask_claims ∷ t_7
 
 abbrev t_9 : Trail
-t_9 = Said its_block ∷ t_8
+t_9 = Said its_claims ∷ t_8
+
+abbrev t_10 : Trail
+t_10 = Asked ask_filter ∷ t_9
+
+abbrev t_11 : Trail
+t_11 = Said its_filter ∷ t_10
+
+abbrev t_12 : Trail
+t_12 = Asked fetch ∷ t_11
+
+abbrev t_13 : Trail
+t_13 = Said its_block ∷ t_12
 
 part_1 : part_of log_1 1 ≡ at_rest t_1
 part_1 = refl
@@ -197,10 +257,22 @@ part_14 : part_of log_14 1 ≡ at_rest t_7
 part_14 = got_part honest_peer its_headers log_13 t_6 headers_sendable part_13
 
 part_15 : part_of log_15 1 ≡ at_rest t_8
-part_15 = sent_part honest_peer fetch log_14 t_7 fetch_sendable part_14
+part_15 = sent_part honest_peer ask_claims log_14 t_7 ask_claims_sendable part_14
 
-part_16 : part_of run_of_two 1 ≡ at_rest t_9
-part_16 = got_part honest_peer its_block log_15 t_8 block_sendable part_15
+part_16 : part_of log_16 1 ≡ at_rest t_9
+part_16 = got_part honest_peer its_claims log_15 t_8 claims_sendable part_15
+
+part_17 : part_of log_17 1 ≡ at_rest t_10
+part_17 = sent_part honest_peer ask_filter log_16 t_9 ask_filter_sendable part_16
+
+part_18 : part_of log_18 1 ≡ at_rest t_11
+part_18 = got_part honest_peer its_filter log_17 t_10 filter_sendable part_17
+
+part_19 : part_of log_19 1 ≡ at_rest t_12
+part_19 = sent_part honest_peer fetch log_18 t_11 fetch_sendable part_18
+
+part_20 : part_of run_of_two 1 ≡ at_rest t_13
+part_20 = got_part honest_peer its_block log_19 t_12 block_sendable part_19
 
 abbrev u_1 : Trail
 u_1 = Called ∷ []
@@ -244,8 +316,8 @@ other_8 = sent_part liar question log_7 u_5 question_sendable other_7
 other_9 : part_of log_9 2 ≡ at_rest u_7
 other_9 = got_part liar false_headers log_8 u_6 none_sendable other_8
 
-other_16 : part_of run_of_two 2 ≡ at_rest u_7
-other_16 = other_9
+other_20 : part_of run_of_two 2 ≡ at_rest u_7
+other_20 = other_9
 
 -- what holds of a trail holds of the log
 of_part : (P : Trail → Type 0) (part : Part) (t : Trail) → part ≡ at_rest t → P t → P part.trail
@@ -274,7 +346,7 @@ none_passes (Took (Got q piece) ∷ log) k a b h =
 none_passes (e ∷ log) k a b h = absurd h
 
 all_of_two : AreOfTwo run_of_two
-all_of_two = (inl refl, (inl refl, (inl refl, (inl refl, (inl refl, (inl refl, (inl refl, (inr refl, (inr refl, (inr refl, (inr refl, (inr refl, (inr refl, (inr refl, (inl refl, (inl refl, tt))))))))))))))))
+all_of_two = (inl refl, (inl refl, (inl refl, (inl refl, (inl refl, (inl refl, (inl refl, (inl refl, (inl refl, (inl refl, (inl refl, (inr refl, (inr refl, (inr refl, (inr refl, (inr refl, (inr refl, (inr refl, (inl refl, (inl refl, tt))))))))))))))))))))
 
 -- what holds of both peers at a moment, and of nobody, holds of each
 at_each : (P : Trail → Type 0) (log : Log) (here there : Trail) (p : ℕ) → part_of log 1 ≡ at_rest here → part_of log 2 ≡ at_rest there → AreOfTwo log → P here → P there → P [] → P (trail log p)
@@ -287,8 +359,12 @@ at_each P log here there p one two all h t none = elim (cases_Bool (1 == p)) [
 ]
 
 -- and at the end
-of_each : (P : Trail → Type 0) (p : ℕ) → P t_9 → P u_7 → P [] → P (trail run_of_two p)
-of_each P p here there none = at_each P run_of_two t_9 u_7 p part_16 other_16 all_of_two here there none
+of_each : (P : Trail → Type 0) (p : ℕ) → P t_13 → P u_7 → P [] → P (trail run_of_two p)
+of_each P p here there none = at_each P run_of_two t_13 u_7 p part_20 other_20 all_of_two here there none
+
+-- and in the run in which the block is cleared
+of_cleared : (P : Trail → Type 0) (p : ℕ) → P t_11 → P u_7 → P [] → P (trail cleared_run p)
+of_cleared P p here there none = at_each P cleared_run t_11 u_7 p part_18 other_20 all_of_two.1.1 here there none
 
 -- ---- the chain of one block
 
@@ -326,7 +402,7 @@ good_chain = record {
 -- ---- the strings
 
 abbrev IsKnown : List ℕ → Type 0
-IsKnown bytes = (bytes ≡ header_spelling genesis_header) ⊎ ((bytes ≡ header_spelling only_header) ⊎ (bytes ≡ tx_spelling only_tx))
+IsKnown bytes = (bytes ≡ header_spelling genesis_header) ⊎ ((bytes ≡ header_spelling only_header) ⊎ ((bytes ≡ tx_spelling only_tx) ⊎ (bytes ≡ only_filter)))
 
 abbrev first_byte : List ℕ → ℕ
 first_byte bytes = get_or bytes 0 0
@@ -343,6 +419,10 @@ tx_byte : first_byte (hash_of (tx_spelling only_tx)) ≡ 60
 unfolding txid_of
 tx_byte = ap first_byte txid_is
 
+filter_byte : first_byte (hash_of only_filter) ≡ 164
+unfolding filter_hash_of
+filter_byte = ap first_byte only_filter_hash_is
+
 zero_byte : first_byte no_hash ≡ 0
 unfolding no_hash
 zero_byte = refl
@@ -358,22 +438,30 @@ no_clash = record { apart = apart; real = real } where
   apart : (a b : List ℕ) → IsKnown a → IsKnown b → hash_of a ≡ hash_of b → a ≡ b
   apart a b (inl i) (inl j) e = i ∙ sym j
   apart a b (inl i) (inr (inl j)) e = absurd (let f = bytes_of_both a b _ _ 6 191 i j genesis_byte header_byte e in omega (arith, f))
-  apart a b (inl i) (inr (inr j)) e = absurd (let f = bytes_of_both a b _ _ 6 60 i j genesis_byte tx_byte e in omega (arith, f))
+  apart a b (inl i) (inr (inr (inl j))) e = absurd (let f = bytes_of_both a b _ _ 6 60 i j genesis_byte tx_byte e in omega (arith, f))
+  apart a b (inl i) (inr (inr (inr j))) e = absurd (let f = bytes_of_both a b _ _ 6 164 i j genesis_byte filter_byte e in omega (arith, f))
   apart a b (inr (inl i)) (inl j) e = absurd (let f = bytes_of_both a b _ _ 191 6 i j header_byte genesis_byte e in omega (arith, f))
   apart a b (inr (inl i)) (inr (inl j)) e = i ∙ sym j
-  apart a b (inr (inl i)) (inr (inr j)) e = absurd (let f = bytes_of_both a b _ _ 191 60 i j header_byte tx_byte e in omega (arith, f))
-  apart a b (inr (inr i)) (inl j) e = absurd (let f = bytes_of_both a b _ _ 60 6 i j tx_byte genesis_byte e in omega (arith, f))
-  apart a b (inr (inr i)) (inr (inl j)) e = absurd (let f = bytes_of_both a b _ _ 60 191 i j tx_byte header_byte e in omega (arith, f))
-  apart a b (inr (inr i)) (inr (inr j)) e = i ∙ sym j
+  apart a b (inr (inl i)) (inr (inr (inl j))) e = absurd (let f = bytes_of_both a b _ _ 191 60 i j header_byte tx_byte e in omega (arith, f))
+  apart a b (inr (inl i)) (inr (inr (inr j))) e = absurd (let f = bytes_of_both a b _ _ 191 164 i j header_byte filter_byte e in omega (arith, f))
+  apart a b (inr (inr (inl i))) (inl j) e = absurd (let f = bytes_of_both a b _ _ 60 6 i j tx_byte genesis_byte e in omega (arith, f))
+  apart a b (inr (inr (inl i))) (inr (inl j)) e = absurd (let f = bytes_of_both a b _ _ 60 191 i j tx_byte header_byte e in omega (arith, f))
+  apart a b (inr (inr (inl i))) (inr (inr (inl j))) e = i ∙ sym j
+  apart a b (inr (inr (inl i))) (inr (inr (inr j))) e = absurd (let f = bytes_of_both a b _ _ 60 164 i j tx_byte filter_byte e in omega (arith, f))
+  apart a b (inr (inr (inr i))) (inl j) e = absurd (let f = bytes_of_both a b _ _ 164 6 i j filter_byte genesis_byte e in omega (arith, f))
+  apart a b (inr (inr (inr i))) (inr (inl j)) e = absurd (let f = bytes_of_both a b _ _ 164 191 i j filter_byte header_byte e in omega (arith, f))
+  apart a b (inr (inr (inr i))) (inr (inr (inl j))) e = absurd (let f = bytes_of_both a b _ _ 164 60 i j filter_byte tx_byte e in omega (arith, f))
+  apart a b (inr (inr (inr i))) (inr (inr (inr j))) e = i ∙ sym j
 
   real : (a : List ℕ) → IsKnown a → hash_of a ≡ no_hash → ⊥
   real a (inl i) e = (let f : 6 ≡ 0 = sym (byte_known a _ 6 i genesis_byte) ∙ ap first_byte e ∙ zero_byte in absurd (omega (arith, f)))
   real a (inr (inl i)) e = (let f : 191 ≡ 0 = sym (byte_known a _ 191 i header_byte) ∙ ap first_byte e ∙ zero_byte in absurd (omega (arith, f)))
-  real a (inr (inr i)) e = (let f : 60 ≡ 0 = sym (byte_known a _ 60 i tx_byte) ∙ ap first_byte e ∙ zero_byte in absurd (omega (arith, f)))
+  real a (inr (inr (inl i))) e = (let f : 60 ≡ 0 = sym (byte_known a _ 60 i tx_byte) ∙ ap first_byte e ∙ zero_byte in absurd (omega (arith, f)))
+  real a (inr (inr (inr i))) e = (let f : 164 ≡ 0 = sym (byte_known a _ 164 i filter_byte) ∙ ap first_byte e ∙ zero_byte in absurd (omega (arith, f)))
 
 hashed_known : (bytes : List ℕ) → IsIn bytes (hashed (spelled_txs only_block)) → IsKnown bytes
 unfolding nodes_within
-hashed_known bytes (inl e) = inr (inr e)
+hashed_known bytes (inl e) = inr (inr (inl e))
 hashed_known bytes (inr none) = absurd none
 
 block_known : (bytes : List ℕ) → IsIn bytes (strings_of its_block) → IsKnown bytes
@@ -387,12 +475,21 @@ headers_known bytes (inr none) = absurd none
 abbrev SaysKnown : Trail → Type 0
 SaysKnown t = (m : Msg) (bytes : List ℕ) → HasSaid t m → IsIn bytes (strings_of m) → IsKnown bytes
 
-says_9 : SaysKnown t_9
-says_9 m bytes (inl e) i = block_known bytes (subst (λ (x : Msg). IsIn bytes (strings_of x)) e i)
-says_9 m bytes (inr (inl e)) i = headers_known bytes (subst (λ (x : Msg). IsIn bytes (strings_of x)) e i)
-says_9 m bytes (inr (inr (inl e))) i = absurd (subst (λ (x : Msg). IsIn bytes (strings_of x)) e i)
-says_9 m bytes (inr (inr (inr (inl e)))) i = absurd (subst (λ (x : Msg). IsIn bytes (strings_of x)) e i)
-says_9 m bytes (inr (inr (inr (inr none)))) i = absurd none
+filter_known : (bytes : List ℕ) → IsIn bytes (strings_of its_filter) → IsKnown bytes
+filter_known bytes (inl e) = inr (inr (inr e))
+filter_known bytes (inr none) = absurd none
+
+says_11 : SaysKnown t_11
+says_11 m bytes (inl e) i = filter_known bytes (subst (λ (x : Msg). IsIn bytes (strings_of x)) e i)
+says_11 m bytes (inr (inl e)) i = absurd (subst (λ (x : Msg). IsIn bytes (strings_of x)) e i)
+says_11 m bytes (inr (inr (inl e))) i = headers_known bytes (subst (λ (x : Msg). IsIn bytes (strings_of x)) e i)
+says_11 m bytes (inr (inr (inr (inl e)))) i = absurd (subst (λ (x : Msg). IsIn bytes (strings_of x)) e i)
+says_11 m bytes (inr (inr (inr (inr (inl e))))) i = absurd (subst (λ (x : Msg). IsIn bytes (strings_of x)) e i)
+says_11 m bytes (inr (inr (inr (inr (inr none))))) i = absurd none
+
+says_13 : SaysKnown t_13
+says_13 m bytes (inl e) i = block_known bytes (subst (λ (x : Msg). IsIn bytes (strings_of x)) e i)
+says_13 m bytes (inr said) i = says_11 m bytes said i
 
 says_7 : SaysKnown u_7
 says_7 m bytes (inl e) i = absurd (subst (λ (x : Msg). IsIn bytes (strings_of x)) e i)
@@ -400,18 +497,45 @@ says_7 m bytes (inr (inl e)) i = absurd (subst (λ (x : Msg). IsIn bytes (string
 says_7 m bytes (inr (inr (inl e))) i = absurd (subst (λ (x : Msg). IsIn bytes (strings_of x)) e i)
 says_7 m bytes (inr (inr (inr none))) i = absurd none
 
-run_known : (bytes : List ℕ) → IsHashed run_of_two chain_of_one bytes → IsKnown bytes
-run_known bytes (inl e) = inl e
-run_known bytes (inr (inl received)) = of_each SaysKnown received.0 says_9 says_7 (λ m b none i. absurd none) received.1.0 bytes received.1.1 received.1.2
-run_known bytes (inr (inr of_blocks)) = elim of_blocks.1 [
+none_spent : prevouts empty only_block ≡ []
+none_spent = ap (λ (b : Bool). map (λ (o : Output). o.script) (spent empty (if b then [] else map (λ (i : TxIn). i.prev) only_tx.inputs) ++ [])) makes_coins
+
+-- its filter
+filter_is : (get_or (filters_above chain_of_one) 0 first_filtered).filter ≡ only_filter
+filter_is =
+    ap (λ (x : List (List ℕ)). basic_filter_of (block_hash_of only_header) (items_of only_block x)) none_spent
+    ∙ ap (λ (x : List (List ℕ)). basic_filter_of (block_hash_of only_header) x) only_items ∙ ap (λ (x : List ℕ). basic_filter_of x ((0x51 ∷ []) ∷ [])) name_is ∙ only_filter_by_name
+
+chain_known : (bytes : List ℕ) → IsOfBlocks chain_of_one bytes → IsKnown bytes
+chain_known bytes (inl of_blocks) = elim of_blocks.1 [
   | inl e ↦ block_known bytes (subst (λ (x : Block). IsIn bytes (strings_of (BlockMessage x))) e of_blocks.2)
   | inr none ↦ absurd none
 ]
+chain_known bytes (inr of_filters) = elim of_filters.1 [
+  | inl e ↦ inr (inr (inr (of_filters.2 ∙ ap (λ (f : Filtered). f.filter) e ∙ filter_is)))
+  | inr none ↦ absurd none
+]
+
+run_known : (bytes : List ℕ) → IsHashed run_of_two chain_of_one bytes → IsKnown bytes
+run_known bytes (inl e) = inl e
+run_known bytes (inr (inl received)) = of_each SaysKnown received.0 says_13 says_7 (λ m b none i. absurd none) received.1.0 bytes received.1.1 received.1.2
+run_known bytes (inr (inr of_blocks)) = chain_known bytes of_blocks
+
+cleared_known : (bytes : List ℕ) → IsHashed cleared_run chain_of_one bytes → IsKnown bytes
+cleared_known bytes (inl e) = inl e
+cleared_known bytes (inr (inl received)) = of_cleared SaysKnown received.0 says_11 says_7 (λ m b none i. absurd none) received.1.0 bytes received.1.1 received.1.2
+cleared_known bytes (inr (inr of_blocks)) = chain_known bytes of_blocks
 
 pub run_apart : NoHashClash (IsHashed run_of_two chain_of_one)
 run_apart = record {
   apart = λ a b i j e. no_clash.apart a b (run_known a i) (run_known b j) e;
   real = λ a i e. no_clash.real a (run_known a i) e;
+}
+
+pub cleared_apart : NoHashClash (IsHashed cleared_run chain_of_one)
+cleared_apart = record {
+  apart = λ a b i j e. no_clash.apart a b (cleared_known a i) (cleared_known b j) e;
+  real = λ a i e. no_clash.real a (cleared_known a i) e;
 }
 
 -- ---- what the machine of the chain answers
@@ -451,10 +575,43 @@ block_answer =
 answers_6 : answers chain_of_one t_6 ≡ its_version ∷ Verack ∷ its_headers ∷ []
 answers_6 = ap (λ (x : List Msg). its_version ∷ Verack ∷ (x ++ [])) headers_answer
 
-answers_8 : answers chain_of_one t_8 ≡ its_version ∷ Verack ∷ its_headers ∷ its_block ∷ []
+abbrev claims_said : List Msg
+claims_said = cfheaders_reply 1 (range_end 2000 0 1 only_hash chain_of_one) only_hash chain_of_one
+
+abbrev filters_said : List Msg
+filters_said = cfilters_reply 1 (range_end 1000 0 1 only_hash chain_of_one) chain_of_one
+
+abbrev blocks_said : List Msg
+blocks_said = flat_map (data_reply chain_of_one) (block_entry only_hash ∷ [])
+
+claims_answer : claims_said ≡ its_claims ∷ []
+claims_answer =
+    claims_reply chain_of_one setting 0 1 1 only_hash refl (omega arith) (omega arith) refl (omega arith) (omega arith)
+    ∙ ap (λ (x : List ℕ). Cfheaders 0 only_hash (record { 0 = x }) (hashes_in (filters_in 0 1 chain_of_one)) ∷ []) (sym first_is ∙ ap (λ (h : Hash32). h.0) first_header_is)
+    ∙ ap (λ (x : List ℕ). Cfheaders 0 only_hash (record { 0 = genesis_filter_header }) (record { 0 = filter_hash_of x } ∷ []) ∷ []) filter_is
+    ∙ ap (λ (x : List ℕ). Cfheaders 0 only_hash (record { 0 = genesis_filter_header }) (record { 0 = x } ∷ []) ∷ []) only_filter_hash_is
+
+filter_answer : filters_said ≡ its_filter ∷ []
+filter_answer =
+    filters_reply chain_of_one setting 0 1 1 only_hash refl (omega arith) (omega arith) refl (omega arith) (omega arith)
+    ∙ ap (λ (x : List ℕ). Cfilter 0 only_hash x ∷ []) filter_is
+
+answers_8 : answers chain_of_one t_8 ≡ its_version ∷ Verack ∷ its_headers ∷ its_claims ∷ []
 answers_8 =
-    ap (λ (x : List Msg). its_version ∷ Verack ∷ (x ++ (flat_map (data_reply chain_of_one) (block_entry only_hash ∷ []) ++ []))) headers_answer
-    ∙ ap (λ (x : List Msg). its_version ∷ Verack ∷ its_headers ∷ (x ++ [])) block_answer
+    ap (λ (x : List Msg). its_version ∷ Verack ∷ (x ++ (claims_said ++ []))) headers_answer ∙ ap (λ (x : List Msg). its_version ∷ Verack ∷ its_headers ∷ (x ++ [])) claims_answer
+
+answers_10 : answers chain_of_one t_10 ≡ its_version ∷ Verack ∷ its_headers ∷ its_claims ∷ its_filter ∷ []
+answers_10 =
+    ap (λ (x : List Msg). its_version ∷ Verack ∷ (x ++ (claims_said ++ (filters_said ++ [])))) headers_answer
+    ∙ ap (λ (x : List Msg). its_version ∷ Verack ∷ its_headers ∷ (x ++ (filters_said ++ []))) claims_answer
+    ∙ ap (λ (x : List Msg). its_version ∷ Verack ∷ its_headers ∷ its_claims ∷ (x ++ [])) filter_answer
+
+answers_12 : answers chain_of_one t_12 ≡ its_version ∷ Verack ∷ its_headers ∷ its_claims ∷ its_filter ∷ its_block ∷ []
+answers_12 =
+    ap (λ (x : List Msg). its_version ∷ Verack ∷ (x ++ (claims_said ++ (filters_said ++ (blocks_said ++ []))))) headers_answer
+    ∙ ap (λ (x : List Msg). its_version ∷ Verack ∷ its_headers ∷ (x ++ (filters_said ++ (blocks_said ++ [])))) claims_answer
+    ∙ ap (λ (x : List Msg). its_version ∷ Verack ∷ its_headers ∷ its_claims ∷ (x ++ (blocks_said ++ []))) filter_answer
+    ∙ ap (λ (x : List Msg). its_version ∷ Verack ∷ its_headers ∷ its_claims ∷ its_filter ∷ (x ++ [])) block_answer
 
 says_1 : AnswersAs chain_of_one t_1
 says_1 = record { spelled = tt; follows = ([], refl) }
@@ -478,10 +635,22 @@ heard_7 : AnswersAs chain_of_one t_7
 heard_7 = record { spelled = tt; follows = ([], subst (λ (ns : List Msg). Leaves (its_version ∷ Verack ∷ its_headers ∷ []) ns []) (sym answers_6) ((refl, refl), (refl, (refl, refl)))) }
 
 heard_8 : AnswersAs chain_of_one t_8
-heard_8 = record { spelled = tt; follows = (its_block ∷ [], subst (λ (ns : List Msg). Leaves (its_version ∷ Verack ∷ its_headers ∷ []) ns (its_block ∷ [])) (sym answers_8) ((refl, refl), (refl, (refl, refl)))) }
+heard_8 = record { spelled = tt; follows = (its_claims ∷ [], subst (λ (ns : List Msg). Leaves (its_version ∷ Verack ∷ its_headers ∷ []) ns (its_claims ∷ [])) (sym answers_8) ((refl, refl), (refl, (refl, refl)))) }
 
 heard_9 : AnswersAs chain_of_one t_9
-heard_9 = record { spelled = tt; follows = ([], subst (λ (ns : List Msg). Leaves (its_version ∷ Verack ∷ its_headers ∷ its_block ∷ []) ns []) (sym answers_8) ((refl, refl), (refl, (refl, (refl, refl))))) }
+heard_9 = record { spelled = tt; follows = ([], subst (λ (ns : List Msg). Leaves (its_version ∷ Verack ∷ its_headers ∷ its_claims ∷ []) ns ([])) (sym answers_8) ((refl, refl), (refl, (refl, (refl, refl))))) }
+
+heard_10 : AnswersAs chain_of_one t_10
+heard_10 = record { spelled = tt; follows = (its_filter ∷ [], subst (λ (ns : List Msg). Leaves (its_version ∷ Verack ∷ its_headers ∷ its_claims ∷ []) ns (its_filter ∷ [])) (sym answers_10) ((refl, refl), (refl, (refl, (refl, refl))))) }
+
+heard_11 : AnswersAs chain_of_one t_11
+heard_11 = record { spelled = tt; follows = ([], subst (λ (ns : List Msg). Leaves (its_version ∷ Verack ∷ its_headers ∷ its_claims ∷ its_filter ∷ []) ns ([])) (sym answers_10) ((refl, refl), (refl, (refl, (refl, (refl, refl)))))) }
+
+heard_12 : AnswersAs chain_of_one t_12
+heard_12 = record { spelled = tt; follows = (its_block ∷ [], subst (λ (ns : List Msg). Leaves (its_version ∷ Verack ∷ its_headers ∷ its_claims ∷ its_filter ∷ []) ns (its_block ∷ [])) (sym answers_12) ((refl, refl), (refl, (refl, (refl, (refl, refl)))))) }
+
+heard_13 : AnswersAs chain_of_one t_13
+heard_13 = record { spelled = tt; follows = ([], subst (λ (ns : List Msg). Leaves (its_version ∷ Verack ∷ its_headers ∷ its_claims ∷ its_filter ∷ its_block ∷ []) ns ([])) (sym answers_12) ((refl, refl), (refl, (refl, (refl, (refl, (refl, refl))))))) }
 
 -- at a moment of the log
 at_log : (log : Log) (t : Trail) → part_of log 1 ≡ at_rest t → AnswersAs chain_of_one t → AnswersAs chain_of_one (trail log 1)
@@ -525,42 +694,120 @@ honest_9 = (
   ),
 )
 
+honest_14 : IsHonestOver log_14 1 chain_of_one
+honest_14 = (
+  at_log log_14 t_7 part_14 heard_7,
+  tt,
+  tt,
+  (
+    at_log log_13 t_6 part_13 says_6,
+    tt,
+    tt,
+    (at_log log_12 t_5 part_12 says_5, tt, tt, (at_log log_11 t_4 part_11 says_4, tt, tt, (at_log log_10 t_3 part_10 says_3, tt, tt, honest_9))),
+  ),
+)
+
+honest_18 : IsHonestOver log_18 1 chain_of_one
+honest_18 = (
+  at_log log_18 t_11 part_18 heard_11,
+  tt,
+  tt,
+  (
+    at_log log_17 t_10 part_17 heard_10,
+    tt,
+    tt,
+    (at_log log_16 t_9 part_16 heard_9, tt, tt, (at_log log_15 t_8 part_15 heard_8, tt, tt, honest_14)),
+  ),
+)
+
 pub is_honest : IsHonest run_of_two 1 chain_of_one
 is_honest = record {
   good = good_chain;
   low = has_room;
-  dialled = of_part (λ t. was_called t ≡ true) (part_of run_of_two 1) t_9 part_16 refl;
-  honest = (
-    at_log run_of_two t_9 part_16 heard_9,
-    tt,
-    tt,
-    (
-      at_log log_15 t_8 part_15 heard_8,
-      tt,
-      tt,
-      (
-        at_log log_14 t_7 part_14 heard_7,
-        tt,
-        tt,
-        (
-          at_log log_13 t_6 part_13 says_6,
-          tt,
-          tt,
-          (at_log log_12 t_5 part_12 says_5, tt, tt, (at_log log_11 t_4 part_11 says_4, tt, tt, (at_log log_10 t_3 part_10 says_3, tt, tt, honest_9))),
-        ),
-      ),
-    ),
-  );
+  dialled = of_part (λ t. was_called t ≡ true) (part_of run_of_two 1) t_13 part_20 refl;
+  honest = (at_log run_of_two t_13 part_20 heard_13, tt, tt, (at_log log_19 t_12 part_19 heard_12, tt, tt, honest_18));
 }
+
+pub cleared_honest : IsHonest cleared_run 1 chain_of_one
+cleared_honest = record { good = good_chain; low = has_room; dialled = of_part (λ t. was_called t ≡ true) (part_of cleared_run 1) t_11 part_18 refl; honest = honest_18 }
 
 -- ---- what was asked might be asked
 
 own_7 : own t_7 ≡ only_header ∷ []
 own_7 = ap (λ (a : Accepted). longer_of a []) accepted
 
-may_fetch : MayAsk t_7 fetch
+clean_7 : verdict t_7 ≡ None
+clean_7 = ap fault_in accepted
+
+other_hash : same (block_hash_of genesis_header) only_hash.0 ≡ false
+other_hash = elim (cases_same (block_hash_of genesis_header) only_hash.0) [
+  | inl is1 ↦ (let f : 6 ≡ 191 = sym (ap first_byte genesis_is) ∙ ap first_byte is1.0 ∙ ap first_byte name_is in absurd (omega (arith, f)))
+  | inr off ↦ off.0
+]
+
+self_hash : same only_hash.0 only_hash.0 ≡ true
+self_hash = same_self only_hash.0
+
+back_only : back_to only_hash.0 (own t_7) ≡ Some (only_header ∷ [])
+back_only = ap (λ (c : Chain). back_to only_hash.0 c) own_7 ∙ rw (other_hash, self_hash) refl
+
+range_of_one : (few : ℕ) (t : Trail) → 0 < few → own t ≡ own t_7 → IsRange t 0 1 only_hash.0 few
+range_of_one few t some e = record { basic = refl; part = only_header ∷ []; tip = ap (λ (c : Chain). back_to only_hash.0 c) e ∙ back_only; low = omega arith; high = omega arith; bound = omega (arith, some) }
+
+may_ask_claims : MayAsk t_7 ask_claims
+unfolding range_of_one
+may_ask_claims = (record { on = refl; over = refl; idle = refl }, (range_of_one 2000 t_7 (omega arith) refl, (λ block i. absurd i), λ block i c. let none : None ≡ Some c.0 = c.1 in cc))
+
+request_8 : request t_8 ≡ ClaimsOpen only_hash.0 (block_hash_of genesis_header) (only_hash.0 ∷ [])
+request_8 = ap (λ o. claims_asked 1 only_hash.0 o) back_only
+
+-- what it claims
+abbrev only_claim : Claim
+only_claim = claim_of (record { 0 = only_filter_hash }) (record { 0 = genesis_filter_header })
+
+claims_9 : claims t_9 ≡ with_claim only_hash.0 only_claim no_claims
+claims_9 = ap (λ r. claims_after its_claims r no_claims) request_8 ∙ rw self_hash refl
+
+claim_found : claims t_9 only_hash.0 ≡ Some only_claim
+claim_found = ap (λ (c : Table). c only_hash.0) claims_9 ∙ rw self_hash refl
+
+request_9 : request t_9 ≡ NothingOpen
+request_9 = ap (λ r. request_after its_claims r) request_8 ∙ rw self_hash refl
+
+first_same : same first_header.0 genesis_filter_header ≡ true
+first_same = same_from first_header.0 genesis_filter_header (ap (λ (h : Hash32). h.0) first_header_is)
+
+claims_fine : fault_of its_claims t_8 ≡ None
+claims_fine = ap (λ r. claims_fault 0 only_hash.0 genesis_filter_header (record { 0 = only_filter_hash } ∷ []) r no_claims) request_8 ∙ rw (self_hash, same_self (block_hash_of genesis_header), first_same) refl
+
+clean_9 : verdict t_9 ≡ None
+clean_9 = ap (λ x. first x (fault_of its_claims t_8)) clean_7 ∙ claims_fine
+
+may_ask_filter : MayAsk t_9 ask_filter
+unfolding range_of_one
+may_ask_filter = (
+  record { on = refl; over = refl; idle = request_9 },
+  (range_of_one 1000 t_9 (omega arith) refl, λ block i. elim i [ inl e ↦ (only_claim, ap (λ (x : List ℕ). claims t_9 x) e ∙ claim_found) | inr none ↦ absurd none ]),
+)
+
+request_10 : request t_10 ≡ FiltersOpen (only_hash.0 ∷ []) []
+request_10 = ap (λ o. filters_asked 1 o) back_only
+
+hash_same : same only_filter_hash (filter_hash_of only_filter) ≡ true
+hash_same = same_from only_filter_hash (filter_hash_of only_filter) (sym only_filter_hash_is)
+
+filter_fine : fault_of its_filter t_10 ≡ None
+filter_fine = ap (λ r. filter_fault 0 only_hash.0 only_filter r (claims t_9)) request_10 ∙ rw (self_hash, claim_found, hash_same) refl
+
+clean_11 : verdict t_11 ≡ None
+clean_11 = ap (λ x. first x (fault_of its_filter t_10)) clean_9 ∙ filter_fine
+
+request_11 : request t_11 ≡ NothingOpen
+request_11 = ap (λ r. request_after its_filter r) request_10 ∙ rw self_hash refl
+
+may_fetch : MayAsk t_11 fetch
 may_fetch = (
-  record { on = refl; over = refl; idle = refl },
+  record { on = refl; over = refl; idle = request_11 },
   (only_hash, refl, subst (λ (c : Chain). IsIn only_hash.0 (hashes_of c)) (sym own_7) (inl refl)),
 )
 
@@ -571,11 +818,13 @@ HasNone t = (b : Block) → IsIn b (fetched (counted t)) → ⊥
 unsaid : (t : Trail) → ((b : Block) → HasSaid t (BlockMessage b) → ⊥) → HasNone t
 unsaid t none b i = none b (counted_said t (BlockMessage b) (fetched_said (counted t) b i).0)
 
-no_block_7 : (b : Block) → HasSaid t_7 (BlockMessage b) → ⊥
-no_block_7 b (inl e) = cc
-no_block_7 b (inr (inl e)) = cc
-no_block_7 b (inr (inr (inl e))) = cc
-no_block_7 b (inr (inr (inr none))) = none
+no_block_11 : (b : Block) → HasSaid t_11 (BlockMessage b) → ⊥
+no_block_11 b (inl e) = cc
+no_block_11 b (inr (inl e)) = cc
+no_block_11 b (inr (inr (inl e))) = cc
+no_block_11 b (inr (inr (inr (inl e)))) = cc
+no_block_11 b (inr (inr (inr (inr (inl e))))) = cc
+no_block_11 b (inr (inr (inr (inr (inr none))))) = none
 
 no_other_block : (b : Block) → HasSaid u_7 (BlockMessage b) → ⊥
 no_other_block b (inl e) = cc
@@ -583,35 +832,32 @@ no_other_block b (inr (inl e)) = cc
 no_other_block b (inr (inr (inl e))) = cc
 no_other_block b (inr (inr (inr none))) = none
 
-none_fetched : (b : Block) → IsFetched log_14 b → ⊥
-none_fetched b got = at_each HasNone log_14 t_7 u_7 got.0 part_14 other_16 all_of_two.1.1 (unsaid t_7 no_block_7) (unsaid u_7 no_other_block) (λ c i. i) b got.1
+none_fetched : (b : Block) → IsFetched log_18 b → ⊥
+none_fetched b got = at_each HasNone log_18 t_11 u_7 got.0 part_18 other_20 all_of_two.1.1 (unsaid t_11 no_block_11) (unsaid u_7 no_other_block) (λ c i. i) b got.1
 
--- nor was one open to anybody
+-- nor were filters or a block open to anybody
 abbrev IsSpare : Trail → Type 0
 IsSpare t = connected t ≡ true → is_spare (request t) ≡ true
 
-no_block_open : IsNoBlockOpen log_14
-no_block_open q = at_each IsSpare log_14 t_7 u_7 q part_14 other_16 all_of_two.1.1 (λ on. refl) (λ on. refl) (λ on. refl)
+none_open_16 : IsNoneFetching log_16
+none_open_16 q = at_each IsSpare log_16 t_9 u_7 q part_16 other_20 all_of_two.1.1.1.1 (λ on. ap (λ r. is_spare r) request_9) (λ on. refl) (λ on. refl)
+
+none_open_18 : IsNoneFetching log_18
+none_open_18 q = at_each IsSpare log_18 t_11 u_7 q part_18 other_20 all_of_two.1.1 (λ on. ap (λ r. is_spare r) request_11) (λ on. refl) (λ on. refl)
 
 busy_1 : (log : Log) → part_of log 1 ≡ at_rest t_2 → IsBusy log
 busy_1 log e = (1, of_part (λ t. is_open t ≡ true) (part_of log 1) t_2 e refl)
 
-pub is_right : Rightly run_of_two
-is_right = (
-  (1, of_part (λ t. is_open t ≡ true) (part_of log_15 1) t_8 part_15 refl),
+right_14 : Rightly log_14
+right_14 = (
+  (1, of_part (λ t. is_open t ≡ true) (part_of log_13 1) t_6 part_13 refl),
   (
-    (fetch, spelled_is fetch fetch_sendable, record { of_its_part = of_part (λ t. MayAsk t fetch) (part_of log_14 1) t_7 part_14 may_fetch; wanted = λ entry i got. none_fetched got.0 got.1; alone = no_block_open }),
+    (question, spelled_is question question_sendable, record { of_its_part = of_part (λ t. MayAsk t question) (part_of log_12 1) t_5 part_12 (record { on = refl; over = refl; idle = refl }, refl, refl, refl, refl); wanted = tt; alone = tt }),
     (
-      (1, of_part (λ t. is_open t ≡ true) (part_of log_13 1) t_6 part_13 refl),
+      (1, of_part (λ t. is_open t ≡ true) (part_of log_11 1) t_4 part_11 refl),
       (
-        (question, spelled_is question question_sendable, record { of_its_part = of_part (λ t. MayAsk t question) (part_of log_12 1) t_5 part_12 (record { on = refl; over = refl; idle = refl }, refl, refl, refl, refl); wanted = tt; alone = tt }),
-        (
-          (1, of_part (λ t. is_open t ≡ true) (part_of log_11 1) t_4 part_11 refl),
-          (
-            (Verack, spelled_is Verack verack_sendable, record { of_its_part = of_part (λ t. MayAsk t Verack) (part_of log_10 1) t_3 part_10 (refl, refl); wanted = tt; alone = tt }),
-            (busy_1 log_9 part_2, right_9),
-          ),
-        ),
+        (Verack, spelled_is Verack verack_sendable, record { of_its_part = of_part (λ t. MayAsk t Verack) (part_of log_10 1) t_3 part_10 (refl, refl); wanted = tt; alone = tt }),
+        (busy_1 log_9 part_2, right_9),
       ),
     ),
   ),
@@ -637,47 +883,101 @@ is_right = (
     ),
   )
 
--- ---- the end
+open_where : (t : Trail) (r : OpenRequest) → connected t ≡ true → request t ≡ r → is_idle r ≡ false → is_open t ≡ true
+open_where t r on e busy = rw (on, e, busy) (or_true (not (ready t))) where
+  or_true : (b : Bool) → (b || true) ≡ true
+  or_true true = refl
+  or_true false = refl
 
-clean_7 : verdict t_7 ≡ None
-clean_7 = ap fault_in accepted
+pub cleared_right : Rightly cleared_run
+cleared_right = (
+  (1, of_part (λ t. is_open t ≡ true) (part_of log_17 1) t_10 part_17 (open_where t_10 (FiltersOpen (only_hash.0 ∷ []) []) refl request_10 refl)),
+  (
+    (ask_filter, spelled_is ask_filter ask_filter_sendable, record { of_its_part = of_part (λ t. MayAsk t ask_filter) (part_of log_16 1) t_9 part_16 may_ask_filter; wanted = tt; alone = none_open_16 }),
+    (
+      (1, of_part (λ t. is_open t ≡ true) (part_of log_15 1) t_8 part_15 (open_where t_8 (ClaimsOpen only_hash.0 (block_hash_of genesis_header) (only_hash.0 ∷ [])) refl request_8 refl)),
+      ((ask_claims, spelled_is ask_claims ask_claims_sendable, record { of_its_part = of_part (λ t. MayAsk t ask_claims) (part_of log_14 1) t_7 part_14 may_ask_claims; wanted = tt; alone = tt }), right_14),
+    ),
+  ),
+)
+
+pub is_right : Rightly run_of_two
+is_right = (
+  (1, of_part (λ t. is_open t ≡ true) (part_of log_19 1) t_12 part_19 refl),
+  (
+    (fetch, spelled_is fetch fetch_sendable, record { of_its_part = of_part (λ t. MayAsk t fetch) (part_of log_18 1) t_11 part_18 may_fetch; wanted = λ entry i got. none_fetched got.0 got.1; alone = none_open_18 }),
+    cleared_right,
+  ),
+)
+
+-- ---- the end
 
 only_wanted : is_wanted only_block only_hash.0 ≡ true
 only_wanted = same_self (block_hash_of only_header)
 
-clean_9 : verdict t_9 ≡ None
-clean_9 = ap (λ x. first x (block_fault only_block (BlockOpen only_hash.0))) clean_7 ∙ rw (only_wanted, committed_is only_block committed) refl
-
-own_9 : own (counted t_9) ≡ only_header ∷ []
-own_9 = (same_use t_9 refl clean_9).chain ∙ own_7
+clean_13 : verdict t_13 ≡ None
+clean_13 = ap (λ x. first x (block_fault only_block (BlockOpen only_hash.0))) clean_11 ∙ rw (only_wanted, committed_is only_block committed) refl
 
 heard_out_7 : heard t_7 ≡ true
 heard_out_7 = ap (λ (a : Accepted). ends_by a (only_header ∷ [])) accepted
 
-heard_out_9 : heard (counted t_9) ≡ true
-heard_out_9 = (same_use t_9 refl clean_9).hearing ∙ ap (λ (b : Bool). b || false) heard_out_7
+still_true : (b : Bool) → b ≡ true → (b || false) ≡ true
+still_true b e = ap (λ (x : Bool). x || false) e
 
-lists_9 : lists (counted t_9) ≡ (only_header ∷ []) ∷ []
-lists_9 = (same_use t_9 refl clean_9).showing
+heard_out_11 : heard t_11 ≡ true
+heard_out_11 = still_true (heard t_9) (still_true (heard t_7) heard_out_7)
 
-fetched_9 : IsIn only_block (fetched (counted t_9))
-fetched_9 =
-    let open_8 : request (counted t_8) ≡ BlockOpen only_hash.0 = (same_use t_8 refl clean_7).open_one in
-    let one : counted t_9 ≡ Said its_block ∷ counted t_8 = said_counts its_block t_8 refl clean_9 in
-    let by : fetched_by its_block (request (counted t_8)) ≡ only_block ∷ [] = ap (λ r. fetched_by its_block r) open_8 ∙ rw (only_wanted, committed_is only_block committed) refl in
-    subst (λ (t : Trail). IsIn only_block (fetched t)) (sym one) (subst (λ (bs : List Block). IsIn only_block (bs ++ fetched (counted t_8))) (sym by) (inl refl))
+-- what counts of the honest peer's part, in the run and in the one that is cleared
+record Counts (t : Trail) : Type 0 where
+  same : SameUse t
+  chain : own (counted t) ≡ only_header ∷ []
+  heard_out : heard (counted t) ≡ true
+  showing : lists (counted t) ≡ (only_header ∷ []) ∷ []
+  claimed : claims (counted t) only_hash.0 ≡ Some only_claim
 
-clean_other : verdict u_7 ≡ None
-clean_other = refl
+counts_of : (t : Trail) → connected t ≡ true → verdict t ≡ None → own t ≡ own t_7 → heard t ≡ true → lists t ≡ (only_header ∷ []) ∷ [] → claims t ≡ claims t_9 → Counts t
+counts_of t on clean chain whole shown claimed = let u = same_use t on clean in record {
+  same = u;
+  chain = u.chain ∙ chain ∙ own_7;
+  heard_out = u.hearing ∙ whole;
+  showing = u.showing ∙ shown;
+  claimed = ap (λ (c : Table). c only_hash.0) (u.claiming ∙ claimed) ∙ claim_found;
+}
+
+counts_13 : Counts t_13
+counts_13 = counts_of t_13 refl clean_13 refl (still_true (heard t_11) heard_out_11) refl refl
+
+counts_11 : Counts t_11
+counts_11 = counts_of t_11 refl clean_11 refl heard_out_11 refl refl
+
+fetched_13 : IsIn only_block (fetched (counted t_13))
+fetched_13 =
+    let open_12 : request (counted t_12) ≡ BlockOpen only_hash.0 = (same_use t_12 refl clean_11).open_one in
+    let one : counted t_13 ≡ Said its_block ∷ counted t_12 = said_counts its_block t_12 refl clean_13 in
+    let by : fetched_by its_block (request (counted t_12)) ≡ only_block ∷ [] = ap (λ r. fetched_by its_block r) open_12 ∙ rw (only_wanted, committed_is only_block committed) refl in
+    subst (λ (t : Trail). IsIn only_block (fetched t)) (sym one) (subst (λ (bs : List Block). IsIn only_block (bs ++ fetched (counted t_12))) (sym by) (inl refl))
+
+given_11 : IsIn (filter_of only_hash only_filter) (given (counted t_11))
+given_11 =
+    let open_10 : request (counted t_10) ≡ FiltersOpen (only_hash.0 ∷ []) [] = (same_use t_10 refl clean_9).open_one ∙ request_10 in
+    let one : counted t_11 ≡ Said its_filter ∷ counted t_10 = said_counts its_filter t_10 refl clean_11 in
+    let by : given_by its_filter (request (counted t_10)) ≡ filter_of only_hash only_filter ∷ [] = ap (λ r. given_by its_filter r) open_10 ∙ rw self_hash refl in
+    subst (λ (t : Trail). IsIn (filter_of only_hash only_filter) (given t)) (sym one) (subst (λ (js : List Job). IsIn (filter_of only_hash only_filter) (js ++ given (counted t_10))) (sym by) (inl refl))
 
 same_other : SameUse u_7
-same_other = same_use u_7 refl clean_other
+same_other = same_use u_7 refl refl
 
 is_fetched : IsFetched run_of_two only_block
-is_fetched = (1, of_part (λ t. IsIn only_block (fetched (counted t))) (part_of run_of_two 1) t_9 part_16 fetched_9)
+is_fetched = (1, of_part (λ t. IsIn only_block (fetched (counted t))) (part_of run_of_two 1) t_13 part_20 fetched_13)
+
+is_given : IsGiven cleared_run (filter_of only_hash only_filter)
+is_given = (1, of_part (λ t. IsIn (filter_of only_hash only_filter) (given (counted t))) (part_of cleared_run 1) t_11 part_18 given_11)
 
 pub is_quiet : IsQuiet run_of_two
 is_quiet p = of_each (λ t. is_open t ≡ false) p (rw only_wanted refl) refl refl
+
+pub cleared_quiet : IsQuiet cleared_run
+cleared_quiet p = of_cleared (λ t. is_open t ≡ false) p (ap (λ r. not (is_idle r)) request_11) refl refl
 
 -- the only header makes one chain
 one_chain : (chain : Chain) → IsValidChain chain → ((h : Header) → IsIn h chain → h ≡ only_header) → 1 ≤ length chain → chain ≡ only_header ∷ []
@@ -698,56 +998,86 @@ none_shown : (other : Chain) (ls : List (List Header)) → ((h : Header) → IsS
 none_shown [] ls none shows long = absurd (omega (arith, long))
 none_shown (h ∷ below) ls none shows long = absurd (none h (shows.told h (inl refl)))
 
+only_of : (other : Chain) (t : Trail) → Counts t → ShowsOnly other t
+only_of other t c is1 shows l = one_chain other shows.valid (λ h i. told h (subst (λ (ls : List (List Header)). IsShown ls h) c.showing (shows.told h i))) l where
+  told : (h : Header) → IsShown ((only_header ∷ []) ∷ []) h → h ≡ only_header
+  told h (inl (inl e)) = e
+  told h (inl (inr none)) = absurd none
+  told h (inr none) = absurd none
+
+none_of : (other : Chain) → ShowsOnly other u_7
+none_of other is1 shows l = none_shown other (lists (counted u_7)) (λ h i. nothing h (subst (λ (ls : List (List Header)). IsShown ls h) same_other.showing i)) shows l where
+  nothing : (h : Header) → IsShown ([] ∷ []) h → ⊥
+  nothing h (inl none) = none
+  nothing h (inr none) = none
+
 pub shows_no_other : ShowsNoOther run_of_two chain_of_one
-shows_no_other q other on shows long =
-    of_each (ShowsOnly other) q
-    (λ is1 s l. one_chain other s.valid (λ h i. told h (subst (λ (ls : List (List Header)). IsShown ls h) lists_9 (s.told h i))) l)
-    (λ is1 s l. none_shown other (lists (counted u_7)) (λ h i. nothing h (subst (λ (ls : List (List Header)). IsShown ls h) same_other.showing i)) s l)
-    (λ is1 s l. absurd (false≢true is1))
-    on shows long where
-      told : (h : Header) → IsShown ((only_header ∷ []) ∷ []) h → h ≡ only_header
-      told h (inl (inl e)) = e
-      told h (inl (inr none)) = absurd none
-      told h (inr none) = absurd none
+shows_no_other q other on shows long = of_each (ShowsOnly other) q (only_of other t_13 counts_13) (none_of other) (λ is1 s l. absurd (false≢true is1)) on shows long
 
-      nothing : (h : Header) → IsShown ([] ∷ []) h → ⊥
-      nothing h (inl none) = none
-      nothing h (inr none) = none
+pub cleared_shows_no_other : ShowsNoOther cleared_run chain_of_one
+cleared_shows_no_other q other on shows long = of_cleared (ShowsOnly other) q (only_of other t_11 counts_11) (none_of other) (λ is1 s l. absurd (false≢true is1)) on shows long
 
-are_bytes : AreBytes run_of_two
-are_bytes = (
-  small_bytes (bytes_of its_block) block_small,
+bytes_14 : AreBytes log_14
+bytes_14 = (
+  small_bytes (bytes_of its_headers) headers_small,
   (
-    small_bytes (bytes_of its_headers) headers_small,
+    small_bytes (bytes_of Verack) verack_small,
     (
-      small_bytes (bytes_of Verack) verack_small,
-      (
-        small_bytes (bytes_of its_version) version_small,
-        (small_bytes (bytes_of false_headers) false_headers_small, (small_bytes (bytes_of Verack) verack_small, (small_bytes (bytes_of false_version) false_version_small, tt))),
-      ),
+      small_bytes (bytes_of its_version) version_small,
+      (small_bytes (bytes_of false_headers) false_headers_small, (small_bytes (bytes_of Verack) verack_small, (small_bytes (bytes_of false_version) false_version_small, tt))),
     ),
   ),
 )
+
+cleared_bytes : AreBytes cleared_run
+cleared_bytes = (small_bytes (bytes_of its_filter) filter_small, (small_bytes (bytes_of its_claims) claims_small, bytes_14))
+
+are_bytes : AreBytes run_of_two
+are_bytes = (small_bytes (bytes_of its_block) block_small, cleared_bytes)
 
 settled : (block : List ℕ) → IsIn block (hashes_of (only_header ∷ [])) → IsFetchedHash run_of_two block
 settled block (inl e) = (only_block, is_fetched, sym e)
 settled block (inr none) = absurd none
 
-pub has_asked : (watch : List (List ℕ)) → HasAsked watch 1 only_hash (scan_of chain_of_one watch) run_of_two
-has_asked watch = record {
+-- a peer with this chain claims its block
+abbrev ClaimsIt : Trail → Type 0
+ClaimsIt t = own (counted t) ≡ only_header ∷ [] → (block : List ℕ) → IsIn block (hashes_of (only_header ∷ [])) → HasHeader (counted t) block
+
+claims_it : (t : Trail) → Counts t → ClaimsIt t
+claims_it t c mine block (inl e) = subst (λ (x : List ℕ). HasHeader (counted t) x) (sym e) (rw (other_hash, c.claimed) refl)
+claims_it t c mine block (inr none) = absurd none
+
+other_claims : ClaimsIt u_7
+other_claims mine block i = absurd (let none : [] ≡ only_header ∷ [] = sym same_other.chain ∙ mine in cc)
+
+nobody_claims : ClaimsIt []
+nobody_claims mine block i = absurd (let none : [] ≡ only_header ∷ [] = mine in cc)
+
+one_long : (t : Trail) → Counts t → length (own (counted t)) ≤ 1
+one_long t c = let e = ap (λ (x : Chain). length x) c.chain in omega (arith, e)
+
+other_long : length (own (counted u_7)) ≤ 1
+other_long = let e = ap (λ (c : Chain). length c) same_other.chain in omega (arith, e)
+
+-- nobody has a number below the honest peer's
+nobody_below : (log : Log) (q : ℕ) → connected (trail log 0) ≡ false → q < 1 → IsConnected log q → ⊥
+nobody_below log q off below on = let none : q ≡ 0 = omega (arith, below) in false≢true (sym off ∙ subst (λ (k : ℕ). connected (trail log k) ≡ true) none on)
+
+pub has_asked : (watch : List (List ℕ)) → IsWatch watch → HasAsked watch 1 only_hash (scan_of chain_of_one watch) run_of_two
+has_asked watch fits = record {
+  watchable = fits;
   bytes = are_bytes;
   rightly = is_right;
   told = record {
     chain = only_header ∷ [];
     best = record {
-      longest = λ p on. of_each (λ t. length (own (counted t)) ≤ 1) p
-          (let e = ap (λ (c : Chain). length c) own_9 in omega (arith, e)) (let e = ap (λ (c : Chain). length c) same_other.chain in omega (arith, e)) (omega arith);
+      longest = λ p on. of_each (λ t. length (own (counted t)) ≤ 1) p (one_long t_13 counts_13) other_long (omega arith);
       shown = inl (
         1,
         (
-          of_part (λ t. connected t ≡ true) (part_of run_of_two 1) t_9 part_16 refl,
-          of_part (λ t. own (counted t) ≡ only_header ∷ []) (part_of run_of_two 1) t_9 part_16 own_9,
-          (λ q below on. let none : q ≡ 0 = omega (arith, below) in absurd (false≢true (subst (λ (k : ℕ). connected (trail run_of_two k) ≡ true) none on))),
+          of_part (λ t. connected t ≡ true) (part_of run_of_two 1) t_13 part_20 refl,
+          of_part (λ t. own (counted t) ≡ only_header ∷ []) (part_of run_of_two 1) t_13 part_20 counts_13.chain,
+          λ q below on. nobody_below run_of_two q refl below on,
         ),
       );
     };
@@ -756,7 +1086,72 @@ has_asked watch = record {
     scanned = record { blocks = chain_of_one; taken = (inl (is_fetched, refl), tt); history = refl };
   };
   asked_out = λ p on idle. record {
-    heard_out = of_each (λ t. connected t ≡ true → heard (counted t) ≡ true) p (λ is1. heard_out_9) (λ is1. same_other.hearing) (λ is1. absurd (false≢true is1)) on;
-    settled = λ spare mine block i. settled block i;
+    heard_out = of_each (λ t. connected t ≡ true → heard (counted t) ≡ true) p (λ is1. counts_13.heard_out) (λ is1. same_other.hearing) (λ is1. absurd (false≢true is1)) on;
+    claimed = of_each ClaimsIt p (claims_it t_13 counts_13) other_claims nobody_claims;
+    settled = λ spare mine block i above. inl (settled block i);
+  };
+}
+
+-- ---- the run in which the block is cleared
+
+only_header_known : (hash : Hash32) → hash_claimed (with_claim only_hash.0 only_claim no_claims) only_hash.0 ≡ Some hash → hash ≡ record { 0 = only_filter_hash }
+only_header_known hash e = (let f : Some (record { 0 = only_filter_hash }) ≡ Some hash = sym (rw self_hash refl) ∙ e in let g : record { 0 = only_filter_hash } ≡ hash = cc in sym g)
+
+abbrev AgreesWithIt : Trail → Type 0
+AgreesWithIt t = (hash : Hash32) → hash_claimed (claims (counted t)) only_hash.0 ≡ Some hash → hash ≡ record { 0 = only_filter_hash }
+
+cleared : IsCleared other_watch cleared_run only_hash.0
+cleared = record {
+  hash = record { 0 = only_filter_hash };
+  agreed = record {
+    who = 1;
+    there = of_part (λ t. connected t ≡ true) (part_of cleared_run 1) t_11 part_18 refl;
+    claims = of_part (λ t. hash_claimed (claims (counted t)) only_hash.0 ≡ Some (record { 0 = only_filter_hash })) (part_of cleared_run 1) t_11 part_18
+        (ap (λ o. option_map (λ (c : Claim). c.hash) o) counts_11.claimed);
+    alone = λ p other on is. of_cleared AgreesWithIt p
+        (λ hash e. let f : Some (record { 0 = only_filter_hash }) ≡ Some hash = sym (ap (λ o. option_map (λ (c : Claim). c.hash) o) counts_11.claimed) ∙ e in let g : record { 0 = only_filter_hash } ≡ hash = cc in sym g)
+        (λ hash e. absurd (let f : None ≡ Some hash = sym (ap (λ (c : Table). hash_claimed c only_hash.0) same_other.claiming) ∙ e in cc))
+        (λ hash e. absurd (let f : None ≡ Some hash = e in cc)) other is;
+  };
+  filter = filter_of only_hash only_filter;
+  given = is_given;
+  of_block = refl;
+  this = only_filter_hash_is;
+  verdict = ap (λ (x : List ℕ). is_miss (match_of x other_watch only_filter)) name_is ∙ ap is_miss only_misses;
+}
+
+cleared_settled : (block : List ℕ) → IsIn block (hashes_of (only_header ∷ [])) → IsCleared other_watch cleared_run block
+cleared_settled block (inl e) = subst (λ (x : List ℕ). IsCleared other_watch cleared_run x) (sym e) cleared
+cleared_settled block (inr none) = absurd none
+
+watch_fits : IsWatch other_watch
+watch_fits = refl
+
+pub cleared_asked : HasAsked other_watch 1 only_hash [] cleared_run
+cleared_asked = record {
+  watchable = watch_fits;
+  bytes = cleared_bytes;
+  rightly = cleared_right;
+  told = record {
+    chain = only_header ∷ [];
+    best = record {
+      longest = λ p on. of_cleared (λ t. length (own (counted t)) ≤ 1) p (one_long t_11 counts_11) other_long (omega arith);
+      shown = inl (
+        1,
+        (
+          of_part (λ t. connected t ≡ true) (part_of cleared_run 1) t_11 part_18 refl,
+          of_part (λ t. own (counted t) ≡ only_header ∷ []) (part_of cleared_run 1) t_11 part_18 counts_11.chain,
+          λ q below on. nobody_below cleared_run q refl below on,
+        ),
+      );
+    };
+    height_is = refl;
+    hash_is = refl;
+    scanned = record { blocks = record { header = only_header; txs = [] } ∷ []; taken = (inr ((λ got. none_fetched got.0 got.1), refl), tt); history = refl };
+  };
+  asked_out = λ p on idle. record {
+    heard_out = of_cleared (λ t. connected t ≡ true → heard (counted t) ≡ true) p (λ is1. counts_11.heard_out) (λ is1. same_other.hearing) (λ is1. absurd (false≢true is1)) on;
+    claimed = of_cleared ClaimsIt p (claims_it t_11 counts_11) other_claims nobody_claims;
+    settled = λ spare mine block i above. inr (cleared_settled block i);
   };
 }

@@ -1,13 +1,17 @@
--- What a log says of blocks: which were fetched, which chain is the best, and the history over its fetched blocks.
-use Rattle.std.specs.Prelude.{◌≡◌, ◌⊎◌, ℕ, ◌≤◌, ◌<◌, Bool, true, false, List, [], ◌∷◌, length, reverse, Some, None}
+-- What a log says of blocks: which were fetched, what is claimed of them and which filters were given, which chain is the best, and the history over its fetched blocks.
+use Rattle.std.specs.Prelude.{◌≡◌, ◌≢◌, ◌⊎◌, ℕ, ◌≤◌, ◌<◌, Bool, true, false, List, [], ◌∷◌, length, reverse, Option, Some, None}
+use Rattle.cf_bytes.specs.declared.hash.Hash32.{Hash32}
 use Rattle.cf_block.specs.declared.header.Header.{Header}
 use Rattle.cf_block.specs.declared.tx.Block.{Block}
-use Rattle.cf_block.specs.Header.{block_hash_of}
+use Rattle.cf_block.specs.Header.{block_hash_of, genesis_header}
 use Rattle.cf_frame.specs.Stream.{IsBytes}
-use Rattle.cf_headers.specs.Chain.{Hash, Chain, IsIn}
+use Rattle.cf_filter.specs.Filter.{filter_hash_of}
+use Rattle.cf_headers.specs.Chain.{Hash, Chain, back_to, IsIn}
+use Rattle.cf_match.specs.declared.job.Job.{Job}
+use Rattle.cf_match.specs.Verdicts.{misses}
 use Rattle.cf_msg.specs.declared.msg.Entry.{Entry as Wanted}
 use Rattle.cf_msg.specs.declared.msg.Msg.{Msg}
-use Rattle.cf_msg.specs.declared.msg.Msg.TheVariants.{GetData}
+use Rattle.cf_msg.specs.declared.msg.Msg.TheVariants.{GetData, GetCfilters}
 use Rattle.cf_peer.specs.declared.event.Delivery.TheVariants.{Got, Gone, Tick, Ended}
 use Rattle.cf_peer.specs.declared.event.Event.{Event}
 use Rattle.cf_peer.specs.declared.event.Event.TheVariants.{Dialled, NotDialled, Sent, SendFailed, Closed, Took}
@@ -19,7 +23,7 @@ use Rattle.cf_scan.specs.declared.history.Entry.{Entry}
 use Rattle.cf_scan.specs.Extracts.{extract_of}
 use Rattle.cf_scan.specs.Scan.{scan_of}
 use Rattle.cf_tracker.specs.Tables.{Table}
-use Rattle.cf_peer.specs.Asking.{OpenRequest, NothingOpen, HeadersOpen, BlockOpen, request, is_open, counted, fetched, hashes_of, Deserves, MayAsk}
+use Rattle.cf_peer.specs.Asking.{is_spare, request, is_open, counted, claims, hash_claimed, HasHeader, fetched, given, blocks_from, hashes_of, Deserves, MayAsk}
 
 -- ---- peers
 
@@ -59,6 +63,50 @@ IsFetched log block = (p : ℕ) × IsIn block (fetched (counted_part log p))
 abbrev pub IsFetchedHash : Log → Hash → Type 0
 IsFetchedHash log hash = (block : Block) × IsFetched log block × (block_hash_of block.header ≡ hash)
 
+-- ---- claims and filters
+
+-- p claims this filter hash of a block
+abbrev pub Claims : Log → ℕ → Hash → Hash32 → Type 0
+Claims log p block hash = hash_claimed (claims (counted_part log p)) block ≡ Some hash
+
+-- a connected peer claims this of a block, and none claims another thing
+pub record IsAgreed (log : Log) (block : Hash) (hash : Hash32) : Type 0 where
+  pub who : ℕ
+  pub there : IsConnected log who
+  pub claims : Claims log who block hash
+  pub alone : (p : ℕ) → (other : Hash32) → IsConnected log p → Claims log p block other → other ≡ hash
+
+-- two connected peers claim different things of it
+pub record IsDisputed (log : Log) (block : Hash) : Type 0 where
+  pub one : ℕ
+  pub other : ℕ
+  pub there : IsConnected log one × IsConnected log other
+  pub mine : Hash32
+  pub yours : Hash32
+  pub claims : Claims log one block mine × Claims log other block yours
+  pub apart : mine ≢ yours
+
+-- a filter came in a whole answer, before the first frame by which its peer deserved a cause
+abbrev pub IsGiven : Log → Job → Type 0
+IsGiven log job = (p : ℕ) × IsIn job (given (counted_part log p))
+
+-- one of this block, with this hash
+abbrev pub IsGivenWith : Log → Hash → Hash32 → Type 0
+IsGivenWith log block hash = (job : Job) × IsGiven log job × (job.block.0 ≡ block) × (filter_hash_of job.filter ≡ hash.0)
+
+-- the connected peers agree on a filter that was given, and it has no watched script's value; or it has one, or is no filter
+pub record IsJudged (watch : List (List ℕ)) (log : Log) (block : Hash) (miss : Bool) : Type 0 where
+  pub hash : Hash32
+  pub agreed : IsAgreed log block hash
+  pub filter : Job
+  pub given : IsGiven log filter
+  pub of_block : filter.block.0 ≡ block
+  pub this : filter_hash_of filter.filter ≡ hash.0
+  pub verdict : misses watch filter ≡ miss
+
+abbrev pub IsCleared : List (List ℕ) → Log → Hash → Type 0
+IsCleared watch log block = IsJudged watch log block true
+
 -- the block is among what the peer had brought that said this piece
 abbrev pub IsBroughtBy : Event → Log → Block → Type 0
 IsBroughtBy (Took (Got q piece)) log b = IsIn b (fetched (counted_part (Took (Got q piece) ∷ log) q.0))
@@ -87,27 +135,37 @@ IsNoPiece (Sent q bytes) = Unit {0}
 IsNoPiece (SendFailed q) = Unit {0}
 IsNoPiece (Closed q) = Unit {0}
 
--- a block is settled where it was fetched
-abbrev pub IsSettled : Log → Hash → Type 0
-IsSettled log hash = IsFetchedHash log hash
+-- a block is settled where it was fetched, or cleared
+abbrev pub IsSettled : List (List ℕ) → Log → Hash → Type 0
+IsSettled watch log hash = IsFetchedHash log hash ⊎ IsCleared watch log hash
+
+-- the connected peers, p among them, agree on a filter of a block that wasn't fetched, and that filter hasn't come
+abbrev pub IsFilterWanted : Log → ℕ → Hash → Type 0
+IsFilterWanted log p block =
+    (IsFetchedHash log block → ⊥) × ((hash : Hash32) × (IsAgreed log block hash × Claims log p block hash × (IsGivenWith log block hash → ⊥)))
+
+-- a block that wasn't fetched: they differ on its filter, or agree on one that has come and isn't a miss
+abbrev pub IsBlockWanted : List (List ℕ) → Log → Hash → Type 0
+IsBlockWanted watch log block = (IsFetchedHash log block → ⊥) × (IsDisputed log block ⊎ IsJudged watch log block false)
+
+-- the blocks of a range of a chain, the lowest first
+abbrev pub blocks_in : ℕ → Option Chain → List Hash
+blocks_in start None = []
+blocks_in start (Some part) = blocks_from start part
 
 -- what depends on all peers: a block that was fetched is asked of nobody
 abbrev pub IsWanted : Log → Msg → Type 0
 IsWanted log (GetData entries) = (entry : Wanted) → IsIn entry entries → IsFetchedHash log entry.hash.0 → ⊥
 IsWanted log m = Unit {0}
 
--- no block is open to a peer; to no connected one
-abbrev pub is_spare : OpenRequest → Bool
-is_spare NothingOpen = true
-is_spare HeadersOpen = true
-is_spare (BlockOpen block) = false
+-- neither filters nor a block are open to a connected peer
+abbrev pub IsNoneFetching : Log → Type 0
+IsNoneFetching log = (q : ℕ) → IsConnected log q → is_spare (request (trail log q)) ≡ true
 
-abbrev pub IsNoBlockOpen : Log → Type 0
-IsNoBlockOpen log = (q : ℕ) → IsConnected log q → is_spare (request (trail log q)) ≡ true
-
--- a block is asked for only while none is open to anybody: one at a time
+-- filters and blocks are asked for only while none are open to anybody: of one peer at a time
 abbrev pub IsAlone : Log → Msg → Type 0
-IsAlone log (GetData entries) = IsNoBlockOpen log
+IsAlone log (GetCfilters filter start stop) = IsNoneFetching log
+IsAlone log (GetData entries) = IsNoneFetching log
 IsAlone log m = Unit {0}
 
 -- a message may be sent to p, by all that the log holds
@@ -115,6 +173,13 @@ pub record MaySend (log : Log) (p : ℕ) (m : Msg) : Type 0 where
   pub of_its_part : MayAsk (trail log p) m
   pub wanted : IsWanted log m
   pub alone : IsAlone log m
+
+-- What a client is to ask for that stands for this log: filters that are wanted of p, and blocks that are wanted. It depends on who is
+-- connected, so that of a log with a failed send that the client isn't told of yet it need not hold.
+abbrev pub IsNeeded : List (List ℕ) → Log → ℕ → Msg → Type 0
+IsNeeded watch log p (GetCfilters filter start stop) = (block : Hash) → IsIn block (blocks_in start (back_to stop.0 (own (trail log p)))) → IsFilterWanted log p block
+IsNeeded watch log p (GetData entries) = (entry : Wanted) → IsIn entry entries → IsBlockWanted watch log entry.hash.0
+IsNeeded watch log p m = Unit {0}
 
 -- At each moment what was sent might be sent to that peer, what was closed deserved it, and a delivery was taken only while something
 -- was open.
@@ -140,11 +205,17 @@ pub record IsBest (log : Log) (chain : Chain) : Type 0 where
   pub shown : ((p : ℕ) × (IsConnected log p × (own (counted_part log p) ≡ chain) × AreShorterBefore log chain p))
       ⊎ (((p : ℕ) → connected (trail log p) ≡ false) × (chain ≡ []))
 
--- What the rule of asking leaves true of a connected peer with nothing open to it: it was heard out; and where its own chain is the best
--- one and no block is open to anybody, each block of that chain is settled.
-pub record IsAskedOut (log : Log) (chain : Chain) (p : ℕ) : Type 0 where
+-- it isn't genesis
+abbrev pub IsAbove : Hash → Type 0
+IsAbove block = block ≡ block_hash_of genesis_header → ⊥
+
+-- What the rule of asking leaves true of a connected peer with nothing open to it: it was heard out; where its own chain is the best one,
+-- the filter header is known at each block of that chain; and where besides neither filters nor a block are open to anybody, each block of that chain
+-- is settled. (A block with genesis's hash would never be asked about. Where no hashes clash there is none.)
+pub record IsAskedOut (watch : List (List ℕ)) (log : Log) (chain : Chain) (p : ℕ) : Type 0 where
   pub heard_out : heard (counted_part log p) ≡ true
-  pub settled : IsNoBlockOpen log → own (counted_part log p) ≡ chain → (block : Hash) → IsIn block (hashes_of chain) → IsSettled log block
+  pub claimed : own (counted_part log p) ≡ chain → (block : Hash) → IsIn block (hashes_of chain) → HasHeader (counted_part log p) block
+  pub settled : IsNoneFetching log → own (counted_part log p) ≡ chain → (block : Hash) → IsIn block (hashes_of chain) → IsAbove block → IsSettled watch log block
 
 -- ---- the history
 

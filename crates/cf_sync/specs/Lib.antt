@@ -3,3 +3,5 @@ pub mod Planned
 pub mod Honesty
 pub mod Sync
 pub mod Example
+pub mod Kept
+pub mod Planned

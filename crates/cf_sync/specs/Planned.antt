@@ -4,8 +4,8 @@ use Rattle.cf_msg.specs.declared.msg.Msg.{Msg}
 use Rattle.cf_peer.specs.declared.event.Event.TheVariants.{Dialled, NotDialled, Sent, SendFailed, Closed, Took}
 use Rattle.cf_peer.specs.Log.{Log, tally_of}
 use Rattle.cf_peer.specs.Trail.{Trail, Part, Called, Said, Refused, Asked, Passed, Lost, part_of, trail, spelled, connected, failed}
-use Rattle.cf_peer.specs.Asking.{counted, fetched}
-use Rattle.cf_sync.specs.Fetching.{MaySend}
+use Rattle.cf_peer.specs.Asking.{counted, fetched, given}
+use Rattle.cf_sync.specs.Fetching.{MaySend, IsNeeded}
 
 -- a send to this peer has failed since the last delivery, and the peer wasn't closed for it yet, so the client isn't told
 abbrev pub is_untold : Log → ℕ → Bool
@@ -37,11 +37,11 @@ IsMeant (Asked m ∷ t) = IsMeant t
 IsMeant (Passed s ∷ t) = ⊥
 IsMeant (Lost w ∷ t) = IsMeant t
 
--- the same part; or of both a send has failed and cut them off, and the same blocks were brought
+-- the same part; or of both a send has failed and cut them off, and the same blocks and filters were brought
 abbrev pub Alike : Part → Part → Type 0
 Alike t u =
     (t ≡ u)
-    ⊎ ((connected t.trail ≡ false) × (connected u.trail ≡ false) × (failed t.trail ≡ true) × (failed u.trail ≡ true) × (fetched (counted t.trail) ≡ fetched (counted u.trail)))
+    ⊎ ((connected t.trail ≡ false) × (connected u.trail ≡ false) × (failed t.trail ≡ true) × (failed u.trail ≡ true) × (fetched (counted t.trail) ≡ fetched (counted u.trail)) × (given (counted t.trail) ≡ given (counted u.trail)))
 
 -- of a peer whose failed send isn't told its part just before that send, with what was planned on top; of all others the actual part
 pub record IsPlanned (planned log : Log) : Type 0 where
@@ -50,12 +50,12 @@ pub record IsPlanned (planned log : Log) : Type 0 where
       → (more : Trail) × (IsMeant more × (part_of planned q ≡ record (part_of (before_failure log q) q) { trail = more ++ trail (before_failure log q) q }))
   pub dials : (tally_of planned).dials ≡ (tally_of log).dials
 
--- what was sent was wanted by a client that knew of no failure that it wasn't told of yet
-abbrev pub ArePlanned : Log → Type 0
-ArePlanned [] = Unit {0}
-ArePlanned (Dialled p name ∷ log) = ArePlanned log
-ArePlanned (NotDialled p name ∷ log) = ArePlanned log
-ArePlanned (Sent p bytes ∷ log) = ((m : Msg) × (spelled bytes ≡ Some m) × ((planned : Log) × (IsPlanned planned log × MaySend planned p.0 m))) × ArePlanned log
-ArePlanned (SendFailed p ∷ log) = ArePlanned log
-ArePlanned (Closed p ∷ log) = ArePlanned log
-ArePlanned (Took d ∷ log) = ArePlanned log
+-- what was sent was wanted and needed by a client that knew of no failure that it wasn't told of yet
+abbrev pub ArePlanned : List (List ℕ) → Log → Type 0
+ArePlanned watch [] = Unit {0}
+ArePlanned watch (Dialled p name ∷ log) = ArePlanned watch log
+ArePlanned watch (NotDialled p name ∷ log) = ArePlanned watch log
+ArePlanned watch (Sent p bytes ∷ log) = ((m : Msg) × (spelled bytes ≡ Some m) × ((planned : Log) × (IsPlanned planned log × (MaySend planned p.0 m × IsNeeded watch planned p.0 m)))) × ArePlanned watch log
+ArePlanned watch (SendFailed p ∷ log) = ArePlanned watch log
+ArePlanned watch (Closed p ∷ log) = ArePlanned watch log
+ArePlanned watch (Took d ∷ log) = ArePlanned watch log

@@ -1,0 +1,142 @@
+-- Verdicts that hold what was given, with those on more filters.
+use Rattle.std.proofs.Common.{◌≡◌, ◌⊎◌, inl, inr, ℕ, List, [], ◌∷◌, ◌++◌, Option, Some, None, Bool, true, false, ◌==◌, if◌then◌else◌, refl, sym, ◌∙◌, ap, subst}
+use Rattle.std.proofs.lemmas.Bool.{cases_Bool, and_parts, and_from, both_ways, eqb-true}
+use Rattle.cf_filter.specs.Filter.{filter_hash_of}
+use Rattle.cf_headers.specs.Chain.{Hash, IsIn}
+use Rattle.cf_headers.specs.Rules.{same}
+use Rattle.cf_match.specs.declared.job.Job.{Job}
+use Rattle.cf_match.specs.declared.job.Verdict.{Verdict}
+use Rattle.cf_match.specs.Verdicts.{Verdicts, verdict_of, kept_or, is_of, with_verdict, with_verdicts, AreSameVerdicts}
+use Rattle.cf_msg.specs.declared.msg.Msg.{Msg}
+use Rattle.cf_peer.specs.Asking.{request, fault_of, verdict, counted, given, given_by}
+use Rattle.cf_peer.specs.Log.{Log}
+use Rattle.cf_peer.specs.Trail.{Trail, Said, connected}
+use Rattle.cf_sync.specs.Fetching.{counted_part, IsGiven}
+use Rattle.cf_sync.specs.Kept.{HoldsGiven}
+use Rattle.cf_sync.proofs.Listed.{in_left, in_right, in_either}
+use Rattle.cf_sync.proofs.Chains.{same_true, same_from}
+use Rattle.cf_sync.proofs.Counted.{same_use, said_counts, first_none}
+
+-- what one message gives
+pub said_gives : (m : Msg) (t : Trail) → connected t ≡ true → verdict (Said m ∷ t) ≡ None → given (counted (Said m ∷ t)) ≡ given_by m (request t) ++ given (counted t)
+said_gives m t on clean =
+    ap given (said_counts m t on clean)
+    ∙ ap (λ r. given_by m r ++ given (counted t)) (same_use t on (first_none (verdict t) (fault_of m t) clean).0).open_one
+
+-- a verdict on one of these filters, or one that stood before
+abbrev IsOfOne : List (List ℕ) → List Job → Hash → Hash → Verdict → Type 0
+IsOfOne watch jobs block hash v = (job : Job) × IsIn job jobs × (job.block.0 ≡ block) × (filter_hash_of job.filter ≡ hash) × (v ≡ verdict_of watch job)
+
+this_or_old : (watch : List (List ℕ)) (job : Job) (verdicts : Verdicts) (block hash : Hash) (v : Verdict) → with_verdict watch job verdicts block hash ≡ Some v
+    → ((is_of job block hash ≡ true) × (v ≡ verdict_of watch job)) ⊎ (verdicts block hash ≡ Some v)
+this_or_old watch job verdicts block hash v e = by (is_of job block hash) (verdicts block hash) refl e where
+  by : (b : Bool) (o : Option Verdict) → is_of job block hash ≡ b → (if b then Some (kept_or o (verdict_of watch job)) else o) ≡ Some v → ((is_of job block hash ≡ true) × (v ≡ verdict_of watch job)) ⊎ (o ≡ Some v)
+  by true None is f = inl (is, (let one : verdict_of watch job ≡ v = cc in sym one))
+  by true (Some w) is f = inr f
+  by false o is f = inr f
+
+found_in : (watch : List (List ℕ)) (jobs : List Job) (verdicts : Verdicts) (block hash : Hash) (v : Verdict) → with_verdicts watch jobs verdicts block hash ≡ Some v
+    → IsOfOne watch jobs block hash v ⊎ (verdicts block hash ≡ Some v)
+found_in watch [] verdicts block hash v e = inr e
+found_in watch (job ∷ jobs) verdicts block hash v e = elim (found_in watch jobs (with_verdict watch job verdicts) block hash v e) [
+  | inl w ↦ inl (w.0, inr w.1, w.2, w.3, w.4)
+  | inr now ↦ elim (this_or_old watch job verdicts block hash v now) [
+    | inl this ↦ (
+        let parts = and_parts (same job.block.0 block) (same (filter_hash_of job.filter) hash) this.0 in
+        inl (job, inl refl, same_true job.block.0 block parts.0, same_true (filter_hash_of job.filter) hash parts.1, this.1)
+        )
+    | inr old ↦ inr old
+  ]
+]
+
+none_now : (watch : List (List ℕ)) (job : Job) (verdicts : Verdicts) (block hash : Hash) → with_verdict watch job verdicts block hash ≡ None → (verdicts block hash ≡ None) × (is_of job block hash ≡ false)
+none_now watch job verdicts block hash e = by (is_of job block hash) (verdicts block hash) refl e where
+  by : (b : Bool) (o : Option Verdict) → is_of job block hash ≡ b → (if b then Some (kept_or o (verdict_of watch job)) else o) ≡ None → (o ≡ None) × (is_of job block hash ≡ false)
+  by true o is f = cc
+  by false o is f = (f, is)
+
+missing_in : (watch : List (List ℕ)) (jobs : List Job) (verdicts : Verdicts) (block hash : Hash) → with_verdicts watch jobs verdicts block hash ≡ None
+    → (verdicts block hash ≡ None) × ((job : Job) → IsIn job jobs → job.block.0 ≡ block → filter_hash_of job.filter ≡ hash → ⊥)
+missing_in watch [] verdicts block hash e = (e, λ job i f g. i)
+missing_in watch (first ∷ jobs) verdicts block hash e =
+    let w = missing_in watch jobs (with_verdict watch first verdicts) block hash e in
+    let n = none_now watch first verdicts block hash w.0 in (
+      n.0,
+      λ job i f g. elim i [
+        | inl one ↦ both_ways (is_of first block hash) n.1
+            (and_from (same first.block.0 block) (same (filter_hash_of first.filter) hash)
+            (same_from first.block.0 block (sym (ap (λ (j : Job). j.block.0) one) ∙ f)) (same_from (filter_hash_of first.filter) hash (sym (ap (λ (j : Job). filter_hash_of j.filter) one) ∙ g)))
+        | inr later ↦ w.1 job later f g
+      ],
+    )
+
+-- where a later log has these filters more of one peer, and of the others the same, the verdicts are to be those with these filters'
+pub grown_given : (watch : List (List ℕ)) (log later : Log) (p : ℕ) (jobs : List Job) (before after : Verdicts) → given (counted_part later p) ≡ jobs ++ given (counted_part log p)
+    → ((q : ℕ) → (p == q) ≡ false → given (counted_part later q) ≡ given (counted_part log q)) → AreSameVerdicts after (with_verdicts watch jobs before)
+    → HoldsGiven watch log before → HoldsGiven watch later after
+grown_given watch log later p jobs before after brings others alike holds = record {
+  sound = λ block hash v e. elim (found_in watch jobs before block hash v (sym (alike block hash) ∙ e)) [
+    | inl w ↦ (w.0, (p, subst (λ (js : List Job). IsIn w.0 js) (sym brings) (in_left w.0 jobs (given (counted_part log p)) w.1)), w.2, w.3, w.4)
+    | inr old ↦ (let w = holds.sound block hash v old in (w.0, stays w.0 w.1, w.2, w.3, w.4))
+  ];
+  complete = λ block hash e got.
+      let w = missing_in watch jobs before block.0 hash.0 (sym (alike block.0 hash.0) ∙ e) in
+      elim (comes got.0 got.1) [
+        | inl old ↦ holds.complete block hash w.0 (got.0, old, got.2, got.3)
+        | inr new ↦ w.1 got.0 new got.2 got.3
+      ];
+} where
+  stays : (job : Job) → IsGiven log job → IsGiven later job
+  stays job got = elim (cases_Bool (p == got.0)) [
+    | inl is ↦ (
+        let mine : IsIn job (given (counted_part log p)) = subst (λ (k : ℕ). IsIn job (given (counted_part log k))) (sym (eqb-true p got.0 is)) got.1 in
+        (p, subst (λ (js : List Job). IsIn job js) (sym brings) (in_right job jobs (given (counted_part log p)) mine))
+        )
+    | inr off ↦ (got.0, subst (λ (js : List Job). IsIn job js) (sym (others got.0 off)) got.1)
+  ]
+
+  comes : (job : Job) → IsGiven later job → IsGiven log job ⊎ IsIn job jobs
+  comes job got = elim (cases_Bool (p == got.0)) [
+    | inl is ↦ (
+        let mine : IsIn job (given (counted_part later p)) = subst (λ (k : ℕ). IsIn job (given (counted_part later k))) (sym (eqb-true p got.0 is)) got.1 in
+        elim (in_either job jobs (given (counted_part log p)) (subst (λ (js : List Job). IsIn job js) brings mine)) [ inl new ↦ inr new | inr old ↦ inl (p, old) ]
+        )
+    | inr off ↦ inl (got.0, subst (λ (js : List Job). IsIn job js) (others got.0 off) got.1)
+  ]
+
+-- the same, where it is said by membership what came of one peer
+pub grown_between : (watch : List (List ℕ)) (log later : Log) (p : ℕ) (jobs : List Job) (before after : Verdicts) → ((job : Job) → IsIn job jobs → IsIn job (given (counted_part later p)))
+    → ((job : Job) → IsIn job (given (counted_part log p)) → IsIn job (given (counted_part later p))) → ((job : Job) → IsIn job (given (counted_part later p)) → IsIn job jobs ⊎ IsIn job (given (counted_part log p)))
+    → ((q : ℕ) → (p == q) ≡ false → given (counted_part later q) ≡ given (counted_part log q)) → AreSameVerdicts after (with_verdicts watch jobs before)
+    → HoldsGiven watch log before → HoldsGiven watch later after
+grown_between watch log later p jobs before after fresh kept only others alike holds = record {
+  sound = λ block hash v e. elim (found_in watch jobs before block hash v (sym (alike block hash) ∙ e)) [
+    | inl w ↦ (w.0, (p, fresh w.0 w.1), w.2, w.3, w.4)
+    | inr old ↦ (let w = holds.sound block hash v old in (w.0, stays w.0 w.1, w.2, w.3, w.4))
+  ];
+  complete = λ block hash e got.
+      let w = missing_in watch jobs before block.0 hash.0 (sym (alike block.0 hash.0) ∙ e) in
+      elim (comes got.0 got.1) [
+        | inl old ↦ holds.complete block hash w.0 (got.0, old, got.2, got.3)
+        | inr new ↦ w.1 got.0 new got.2 got.3
+      ];
+} where
+  stays : (job : Job) → IsGiven log job → IsGiven later job
+  stays job got = elim (cases_Bool (p == got.0)) [
+    | inl is ↦ (p, kept job (subst (λ (k : ℕ). IsIn job (given (counted_part log k))) (sym (eqb-true p got.0 is)) got.1))
+    | inr off ↦ (got.0, subst (λ (js : List Job). IsIn job js) (sym (others got.0 off)) got.1)
+  ]
+
+  comes : (job : Job) → IsGiven later job → IsGiven log job ⊎ IsIn job jobs
+  comes job got = elim (cases_Bool (p == got.0)) [
+    | inl is ↦ elim (only job (subst (λ (k : ℕ). IsIn job (given (counted_part later k))) (sym (eqb-true p got.0 is)) got.1)) [ inl new ↦ inr new | inr old ↦ inl (p, old) ]
+    | inr off ↦ inl (got.0, subst (λ (js : List Job). IsIn job js) (others got.0 off) got.1)
+  ]
+
+-- the same filters were given of each peer
+pub same_given : (watch : List (List ℕ)) (log later : Log) (before after : Verdicts) → ((q : ℕ) → given (counted_part later q) ≡ given (counted_part log q)) → AreSameVerdicts after before
+    → HoldsGiven watch log before → HoldsGiven watch later after
+same_given watch log later before after same alike holds = record {
+  sound = λ block hash v e. (let w = holds.sound block hash v (sym (alike block hash) ∙ e) in (w.0, (w.1.0, subst (λ (js : List Job). IsIn w.0 js) (sym (same w.1.0)) w.1.1), w.2, w.3, w.4));
+  complete = λ block hash e got. holds.complete block hash (sym (alike block.0 hash.0) ∙ e) (got.0, (got.1.0, subst (λ (js : List Job). IsIn got.0 js) (same got.1.0) got.1.1), got.2, got.3);
+}
