@@ -1,0 +1,367 @@
+-- What is taken of a piece of a peer's bytes, message by message.
+use Rattle.std.proofs.Common.{◌≡◌, ◌≢◌, ◌⊎◌, inl, inr, ℕ, List, [], ◌∷◌, ◌++◌, map, Option, Some, None, ◌<◌, Bool, true, false, if◌then◌else◌, refl, sym, ◌∙◌, ap, subst, append_assoc}
+use Rattle.std.specs.List.{All, AllByRecursion}
+use Rattle.std.proofs.lemmas.List.{append-nil}
+use Rattle.std.proofs.lemmas.List.Elements.{All-append, All-nil, All-cons}
+use Rattle.cf_bytes.specs.declared.hash.Hash32.{Hash32}
+use Rattle.cf_bytes.specs.declared.peer.PeerNo.{PeerNo}
+use Rattle.cf_block.specs.declared.tx.Block.{Block}
+use Rattle.cf_block.specs.Header.{block_hash_of}
+use Rattle.cf_frame.specs.Stream.{read_stream}
+use Rattle.cf_headers.specs.Chain.{Hash, Chain, IsIn}
+use Rattle.cf_msg.specs.declared.msg.Msg.{Msg}
+use Rattle.cf_msg.specs.declared.msg.Msg.TheVariants.{Block as BlockMessage, Cfheaders, Cfilter}
+use Rattle.cf_peer.specs.declared.act.Act.{Act}
+use Rattle.cf_peer.specs.declared.act.Act.TheVariants.{Send as SendTo}
+use Rattle.cf_peer.specs.declared.peer.Cause.{Cause}
+use Rattle.cf_peer.specs.declared.peer.Peer.{Peer}
+use Rattle.cf_peer.specs.declared.peer.Reply.{Reply}
+use Rattle.cf_peer.specs.declared.peer.Reply.TheVariants.{Nothing as NoReply, Send, Close}
+use Rattle.cf_peer.specs.Acts.{IsSendable, IsDoable}
+use Rattle.cf_peer.specs.Trail.{Trail, Part, Said, part_after, heard_part, ready, met, own, owed}
+use Rattle.cf_peer.specs.Asking.{request, claims, counted, fetched, fetched_by, given, given_by}
+use Rattle.cf_peer.specs.Hearing.{IsReply, Faulty}
+use Rattle.cf_peer.specs.Peer.{Holds, IsRight, TakesClaims, awaits}
+use Rattle.cf_peer.proofs.Peers.{other_block, reply_is, same_holds}
+use Rattle.cf_peer.proofs.Stream.{faulty_said, said_met}
+use Rattle.cf_scan.specs.declared.extracts.TxExtract.{TxExtract}
+use Rattle.cf_tracker.specs.Tables.{Table, IsSameTable, with_block, with_blocks}
+use Rattle.cf_sync.proofs.Grows.{said_brings}
+use Rattle.cf_sync.proofs.Listed.{in_left, in_right, in_either}
+use Rattle.cf_sync.proofs.VerdictsGrow.{said_gives}
+use Rattle.cf_tracker.specs.Wanting.{IsSameTables}
+use Rattle.cf_match.specs.declared.job.Job.{Job}
+use Rattle.cf_match.specs.declared.job.Verdict.{Verdict}
+use Rattle.cf_match.specs.Verdicts.{Verdicts, AreSameVerdicts, is_of, kept_or, verdict_of, with_verdict, with_verdicts}
+use Rattle.std.specs.Prelude.{IsSome, option_map}
+use Rattle.cf_block.specs.Header.{genesis_header}
+use Rattle.cf_dispute.specs.declared.claim.Claim.{Claim}
+use Rattle.cf_dispute.specs.Claims.{first_header}
+use Rattle.cf_dispute.specs.Claims as dispute
+use Rattle.cf_headers.specs.Rules.{same as same_bytes}
+use Rattle.cf_peer.specs.declared.peer.Request.{Request}
+use Rattle.cf_peer.specs.declared.peer.Request.TheVariants.{Nothing, Handshake, Headers as HeadersAsked, Claims as ClaimsAsked, Filters as FiltersAsked, Block as BlockAsked}
+use Rattle.cf_hear.specs.Seen.{Seen, IsSameSeen, Follows}
+use Rattle.cf_hear.specs.Hearing.{Gains, IsGivenBetween, Retains, HearsSeen, HearsNext, Advances, Stops, Brings, Midway, HeardWhole, HeardFault}
+
+-- ---- what was seen
+
+pub same_seen : (s : Seen) → IsSameSeen s s
+same_seen s = record { watch = refl; chains = λ q. refl; claims = λ q block. refl; table = λ hash. refl; verdicts = λ block hash. refl }
+
+-- nothing came, and p's chain and claims are those of this trail
+pub gains_none : (s : Seen) (p : PeerNo) (t : Trail) → Follows s p.0 t → Gains s s p t [] []
+gains_none s p t is = record { watch = refl; follows = is; others = λ q ne. refl; claims = λ q ne block. refl; table = λ hash. refl; verdicts = λ block hash. refl }
+
+-- the extracts of blocks, put in after those of others
+blocks_append : (watch : List (List ℕ)) (more news : List Block) (now before : Table) → IsSameTable now (with_blocks watch news before) → IsSameTable (with_blocks watch more now) (with_blocks watch (more ++ news) before)
+blocks_append watch [] news now before is = is
+blocks_append watch (b ∷ more) news now before is =
+    λ hash. ap (λ (o : Option (List TxExtract)). with_block watch b (λ (h : Hash). o) hash) (blocks_append watch more news now before is hash)
+
+-- the verdicts on filters, after those on others
+same_one : (watch : List (List ℕ)) (job : Job) (a b : Verdicts) → AreSameVerdicts a b → AreSameVerdicts (with_verdict watch job a) (with_verdict watch job b)
+same_one watch job a b is block hash = ap (λ (o : Option Verdict). if is_of job block hash then Some (kept_or o (verdict_of watch job)) else o) (is block hash)
+
+same_all : (watch : List (List ℕ)) (jobs : List Job) (a b : Verdicts) → AreSameVerdicts a b → AreSameVerdicts (with_verdicts watch jobs a) (with_verdicts watch jobs b)
+same_all watch [] a b is = is
+same_all watch (job ∷ jobs) a b is = same_all watch jobs (with_verdict watch job a) (with_verdict watch job b) (same_one watch job a b is)
+
+verdicts_append : (watch : List (List ℕ)) (jobs more : List Job) (before : Verdicts) → AreSameVerdicts (with_verdicts watch more (with_verdicts watch jobs before)) (with_verdicts watch (jobs ++ more) before)
+verdicts_append watch [] more before block hash = refl
+verdicts_append watch (job ∷ jobs) more before block hash = verdicts_append watch jobs more (with_verdict watch job before) block hash
+
+pub gains_then : (a b c : Seen) (p : PeerNo) (t u : Trail) (news more : List Block) (jobs later : List Job) → Gains a b p t news jobs → Gains b c p u more later → Gains a c p u (more ++ news) (jobs ++ later)
+gains_then a b c p t u news more jobs later x y = record {
+  watch = y.watch ∙ x.watch;
+  follows = y.follows;
+  others = λ q ne. y.others q ne ∙ x.others q ne;
+  claims = λ q ne block. y.claims q ne block ∙ x.claims q ne block;
+  table = λ hash. y.table hash ∙ ap (λ (w : List (List ℕ)). with_blocks w more b.table hash) x.watch ∙ blocks_append a.watch more news b.table a.table x.table hash;
+  verdicts = λ block hash. y.verdicts block hash ∙ ap (λ (w : List (List ℕ)). with_verdicts w later b.verdicts block hash) x.watch
+      ∙ same_all a.watch later b.verdicts (with_verdicts a.watch jobs a.verdicts) x.verdicts block hash ∙ verdicts_append a.watch jobs later a.verdicts block hash;
+}
+
+-- p's chain and claims may be any after a fault
+pub gains_retains : (a b c : Seen) (p : PeerNo) (t : Trail) (news : List Block) (jobs : List Job) → Gains a b p t news jobs → IsSameSeen b c → Retains a c p news jobs
+gains_retains a b c p t news jobs x y = record {
+  watch = y.watch ∙ x.watch;
+  others = λ q ne. y.chains q ∙ x.others q ne;
+  claims = λ q ne block. y.claims q block ∙ x.claims q ne block;
+  table = λ hash. y.table hash ∙ x.table hash;
+  verdicts = λ block hash. y.verdicts block hash ∙ x.verdicts block hash;
+}
+
+-- ---- one message
+
+-- a block changes no chain
+block_own : (b : Block) (t : Trail) → own (Said (BlockMessage b) ∷ t) ≡ own t
+block_own b t = alike (ready t) (own t) where
+  alike : (x : Bool) (chain : Chain) → (if x then chain else chain) ≡ chain
+  alike true chain = refl
+  alike false chain = refl
+
+-- it follows a trail that one more message leaves with the same chain and claims
+pub follows_on : (s : Seen) (p : ℕ) (m : Msg) (t : Trail) → own (Said m ∷ t) ≡ own t → ((block : Hash) → claims (Said m ∷ t) block ≡ claims t block) → Follows s p t → Follows s p (Said m ∷ t)
+follows_on s p m t chain same f = record { chain = f.chain ∙ ap Some (sym chain); claims = λ block. f.claims block ∙ sym (same block) }
+
+-- a block that isn't open to p
+pub other_hears : (seen : Seen) (p : PeerNo) (peer : Peer) (b : Block) (hash : Hash32) (t : Trail) → Holds peer t → awaits peer hash ≡ false → hash.0 ≡ block_hash_of b.header
+    → Follows seen p.0 t → HearsSeen seen seen p peer (BlockMessage b) t NoReply
+other_hears seen p peer b hash t h off is f =
+    let o = other_block peer b hash t h off (sym is) in (
+      (o.0, refl),
+      subst (λ (bs : List Block). Gains seen seen p (Said (BlockMessage b) ∷ t) bs []) (sym o.1) (gains_none seen p (Said (BlockMessage b) ∷ t) (follows_on seen p.0 (BlockMessage b) t (block_own b t) (λ block. refl) f)),
+    )
+
+-- the block that is open to it, once its extract is kept
+pub taken_hears : (before after : Seen) (p : PeerNo) (peer : Peer) (b : Block) (t : Trail) → Holds peer (Said (BlockMessage b) ∷ t) → fetched_by (BlockMessage b) (request t) ≡ b ∷ []
+    → Follows before p.0 t → after.watch ≡ before.watch → ((q : ℕ) → after.chains q ≡ before.chains q) → IsSameTables before.claims after.claims → IsSameTable after.table (with_block before.watch b before.table)
+    → AreSameVerdicts after.verdicts before.verdicts → HearsSeen before after p peer (BlockMessage b) t NoReply
+taken_hears before after p peer b t h brought f watch chains claims table verdicts = (
+  (h, refl),
+  subst (λ (bs : List Block). Gains before after p (Said (BlockMessage b) ∷ t) bs []) (sym brought) (record {
+    watch = watch;
+    follows = record { chain = chains p.0 ∙ f.chain ∙ ap Some (sym (block_own b t)); claims = λ block. claims p.0 block ∙ f.claims block };
+    others = λ q ne. chains q;
+    claims = λ q ne block. claims q block;
+    table = table;
+    verdicts = verdicts;
+  }),
+)
+
+-- claims change no chain, nor does a filter
+claims_own : (filter : ℕ) (stop previous : Hash32) (hashes : List Hash32) (t : Trail) → own (Said (Cfheaders filter stop previous hashes) ∷ t) ≡ own t
+claims_own filter stop previous hashes t = alike (ready t) (own t) where
+  alike : (x : Bool) (chain : Chain) → (if x then chain else chain) ≡ chain
+  alike true chain = refl
+  alike false chain = refl
+
+filter_own : (filter : ℕ) (block : Hash32) (bytes : List ℕ) (t : Trail) → own (Said (Cfilter filter block bytes) ∷ t) ≡ own t
+filter_own filter block bytes t = alike (ready t) (own t) where
+  alike : (x : Bool) (chain : Chain) → (if x then chain else chain) ≡ chain
+  alike true chain = refl
+  alike false chain = refl
+
+-- what is asked of an open request asks for the claims alone
+pub right_same : (r : Request) (a b : dispute.Table) → ((block : Hash) → b block ≡ a block) → IsRight r a → IsRight r b
+right_same Nothing a b is h = tt
+right_same (Handshake age) a b is h = tt
+right_same (HeadersAsked age) a b is h = tt
+right_same (ClaimsAsked range age) a b is h = (
+  subst IsSome (ap (λ (o : Option Claim). if same_bytes (block_hash_of genesis_header) range.parent.0 then Some first_header else option_map (λ (c : Claim). c.header) o) (sym (is range.parent.0))) h.0,
+  λ block i. is block ∙ h.1 block i,
+)
+right_same (FiltersAsked batch age) a b is h = h
+right_same (BlockAsked block age) a b is h = tt
+
+-- claims that were taken
+pub claims_hears : (before after : Seen) (p : PeerNo) (peer : Peer) (filter : ℕ) (stop previous : Hash32) (hashes : List Hash32) (t : Trail)
+    → TakesClaims peer (after.claims p.0) (Cfheaders filter stop previous hashes) t None → Follows before p.0 t → after.watch ≡ before.watch → ((q : ℕ) → after.chains q ≡ before.chains q)
+    → ((q : ℕ) → q ≢ p.0 → (block : Hash) → after.claims q block ≡ before.claims q block) → IsSameTable after.table before.table → AreSameVerdicts after.verdicts before.verdicts
+    → HearsSeen before after p peer (Cfheaders filter stop previous hashes) t NoReply
+claims_hears before after p peer filter stop previous hashes t takes f watch chains others table verdicts = (
+  (takes.0, refl),
+  record {
+    watch = watch;
+    follows = record { chain = chains p.0 ∙ f.chain ∙ ap Some (sym (claims_own filter stop previous hashes t)); claims = takes.1 };
+    others = λ q ne. chains q;
+    claims = others;
+    table = table;
+    verdicts = verdicts;
+  },
+)
+
+-- a filter that was taken
+pub filter_hears : (before after : Seen) (p : PeerNo) (peer : Peer) (filter : ℕ) (block : Hash32) (bytes : List ℕ) (jobs : List Job) (t : Trail)
+    → Holds peer (Said (Cfilter filter block bytes) ∷ t) → given_by (Cfilter filter block bytes) (request t) ≡ jobs → Follows before p.0 t → after.watch ≡ before.watch → ((q : ℕ) → after.chains q ≡ before.chains q)
+    → IsSameTables before.claims after.claims → IsSameTable after.table before.table → AreSameVerdicts after.verdicts (with_verdicts before.watch jobs before.verdicts)
+    → HearsSeen before after p peer (Cfilter filter block bytes) t NoReply
+filter_hears before after p peer filter block bytes jobs t h gives f watch chains claims table verdicts = (
+  (h, refl),
+  subst (λ (js : List Job). Gains before after p (Said (Cfilter filter block bytes) ∷ t) [] js) (sym gives) (record {
+    watch = watch;
+    follows = record { chain = chains p.0 ∙ f.chain ∙ ap Some (sym (filter_own filter block bytes t)); claims = λ b. claims p.0 b ∙ f.claims b };
+    others = λ q ne. chains q;
+    claims = λ q ne b. claims q b;
+    table = table;
+    verdicts = verdicts;
+  }),
+)
+
+-- what a message that was read does to the peer and to what was seen
+pub hears_next : (before after : Seen) (p : PeerNo) (old new : Peer) (waits : List ℕ) (m : Msg) (t : Trail) (r : Reply)
+    → part_after (read_stream old.framer) t ≡ part_after (read_stream waits) (Said m ∷ t) → new.framer ≡ waits → HearsSeen before after p new m t r → HearsNext before after p old new t (Some r)
+hears_next before after p old new waits m t NoReply leads same h = record {
+  message = m;
+  leads = leads ∙ ap (λ (w : List ℕ). part_after (read_stream w) (Said m ∷ t)) (sym same);
+  holds = h.0.0;
+  owes = h.0.1;
+  gains = h.1;
+}
+hears_next before after p old new waits m t (Send reply) leads same h = record {
+  message = m;
+  leads = leads ∙ ap (λ (w : List ℕ). part_after (read_stream w) (Said m ∷ t)) (sym same);
+  holds = h.0.0;
+  owes = h.0.1;
+  gains = h.1;
+}
+hears_next before after p old new waits m t (Close cause) leads same h = record {
+  faulty = subst (λ (x : Part). Faulty t x.trail cause) (sym leads) (faulty_said (read_stream waits) m cause t h.0);
+  same = h.1;
+}
+
+-- ---- a piece
+
+all_with : (rs : List Msg) (r : Msg) → AllByRecursion IsReply rs → IsReply r → AllByRecursion IsReply (rs ++ r ∷ [])
+all_with [] r h is = (is, tt)
+all_with (x ∷ rs) r h is = (h.0, all_with rs r h.1 is)
+
+met_after : (m : Msg) (rs : List Msg) (t : Trail) → (rs ≡ []) ⊎ (met t ≡ true) → (rs ≡ []) ⊎ (met (Said m ∷ t) ≡ true)
+met_after m rs t (inl none) = inl none
+met_after m rs t (inr is) = inr (said_met m t is)
+
+map_with : (p : PeerNo) (rs : List Msg) (r : Msg) → map (λ (m : Msg). SendTo p m) (rs ++ r ∷ []) ≡ map (λ (m : Msg). SendTo p m) rs ++ SendTo p r ∷ []
+map_with p [] r = refl
+map_with p (x ∷ rs) r = ap (λ (acts : List Act). SendTo p x ∷ acts) (map_with p rs r)
+
+-- the blocks that a message brought, and those before it
+brings_said : (peer : Peer) (m : Msg) (start t : Trail) (news : List Block) → Holds peer (Said m ∷ t) → Brings start t news → Brings start (Said m ∷ t) (fetched_by m (request t) ++ news)
+brings_said peer m start t news h is =
+    said_brings m t h.on h.clean ∙ ap (λ (bs : List Block). fetched_by m (request t) ++ bs) is ∙ sym (append_assoc (fetched_by m (request t)) news (fetched (counted start)))
+
+-- the filters that a message gave, and those before it
+gives_said : (peer : Peer) (m : Msg) (start t : Trail) (jobs : List Job) → Holds peer (Said m ∷ t) → IsGivenBetween start t jobs → IsGivenBetween start (Said m ∷ t) (jobs ++ given_by m (request t))
+gives_said peer m start t jobs h is =
+    let e : given (counted (Said m ∷ t)) ≡ given_by m (request t) ++ given (counted t) = said_gives m t h.on h.clean in
+    record {
+      new = λ job i. subst (λ (js : List Job). IsIn job js) (sym e) (elim (in_either job jobs (given_by m (request t)) i) [
+        | inl before ↦ in_right job (given_by m (request t)) (given (counted t)) (is.new job before)
+        | inr now ↦ in_left job (given_by m (request t)) (given (counted t)) now
+      ]);
+      old = λ job i. subst (λ (js : List Job). IsIn job js) (sym e) (in_right job (given_by m (request t)) (given (counted t)) (is.old job i));
+      only = λ job i. elim (in_either job (given_by m (request t)) (given (counted t)) (subst (λ (js : List Job). IsIn job js) e i)) [
+        | inl now ↦ inl (in_right job jobs (given_by m (request t)) now)
+        | inr before ↦ elim (is.only job before) [ inl j ↦ inl (in_left job jobs (given_by m (request t)) j) | inr old ↦ inr old ]
+      ];
+    }
+
+midway_start : (p : PeerNo) (peer : Peer) (seen : Seen) (acts : List Act) (piece : List ℕ) (start : Part) → Holds peer start.trail → peer.framer ≡ start.waits ++ piece
+    → Follows seen p.0 start.trail → Midway p peer seen seen acts acts start (heard_part piece start)
+midway_start p peer seen acts piece start holds e f = record {
+  so_far = start.trail;
+  replies = [];
+  acts = sym (append-nil acts);
+  are = record { each = tt; after_version = inl refl };
+  holds = holds;
+  leads = ap (λ (w : List ℕ). part_after (read_stream w) start.trail) e;
+  owes = sym (append-nil (owed start.trail));
+  news = [];
+  brings = refl;
+  jobs = [];
+  gives = record { new = λ job i. absurd i; old = λ job i. i; only = λ job i. inr i };
+  gains = gains_none seen p start.trail f;
+}
+
+-- the piece is added to the bytes that wait
+pub midway_fed : (p : PeerNo) (old peer : Peer) (seen : Seen) (acts : List Act) (piece : List ℕ) (start : Part) → peer ≡ record old { framer = old.framer ++ piece } → Holds old start.trail → old.framer ≡ start.waits
+    → Follows seen p.0 start.trail → Midway p peer seen seen acts acts start (heard_part piece start)
+midway_fed p old peer seen acts piece start fed holds waits f =
+    midway_start p peer seen acts piece start (subst (λ (x : Peer). Holds x start.trail) (sym fed) (same_holds old (old.framer ++ piece) start.trail holds))
+    (ap (λ (x : Peer). x.framer) fed ∙ ap (λ (w : List ℕ). w ++ piece) waits) f
+
+pub midway_quiet : (p : PeerNo) (old new : Peer) (seen now next : Seen) (before acts : List Act) (start end : Part) (midway : Midway p old seen now before acts start end)
+    → Advances now next p old new midway.so_far [] → Midway p new seen next before acts start end
+midway_quiet p old new seen now next before acts start end midway moves = record {
+  so_far = Said moves.message ∷ midway.so_far;
+  replies = midway.replies;
+  acts = midway.acts;
+  are = record { each = midway.are.each; after_version = met_after moves.message midway.replies midway.so_far midway.are.after_version };
+  holds = moves.holds;
+  leads = sym moves.leads ∙ midway.leads;
+  owes = ap (λ (rs : List Msg). owed midway.so_far ++ rs) moves.owes ∙ append-nil (owed midway.so_far) ∙ midway.owes;
+  news = fetched_by moves.message (request midway.so_far) ++ midway.news;
+  brings = brings_said new moves.message start.trail midway.so_far midway.news moves.holds midway.brings;
+  jobs = midway.jobs ++ given_by moves.message (request midway.so_far);
+  gives = gives_said new moves.message start.trail midway.so_far midway.jobs moves.holds midway.gives;
+  gains = gains_then seen now next p midway.so_far (Said moves.message ∷ midway.so_far) midway.news (fetched_by moves.message (request midway.so_far)) midway.jobs (given_by moves.message (request midway.so_far)) midway.gains moves.gains;
+}
+
+pub midway_reply : (p : PeerNo) (old new : Peer) (seen now next : Seen) (before acts more : List Act) (start end : Part) (r : Msg) (midway : Midway p old seen now before acts start end)
+    → Advances now next p old new midway.so_far (r ∷ []) → more ≡ acts ++ SendTo p r ∷ [] → Midway p new seen next before more start end
+midway_reply p old new seen now next before acts more start end r midway moves e =
+    let is = reply_is moves.message r midway.so_far moves.owes in
+    record {
+      so_far = Said moves.message ∷ midway.so_far;
+      replies = midway.replies ++ r ∷ [];
+      acts = e ∙ ap (λ (xs : List Act). xs ++ SendTo p r ∷ []) midway.acts ∙ append_assoc before (map (λ (m : Msg). SendTo p m) midway.replies) (SendTo p r ∷ []) ∙ ap (λ (xs : List Act). before ++ xs) (sym (map_with p midway.replies r));
+      are = record { each = all_with midway.replies r midway.are.each is.0; after_version = inr is.1 };
+      holds = moves.holds;
+      leads = sym moves.leads ∙ midway.leads;
+      owes = ap (λ (rs : List Msg). owed midway.so_far ++ rs) moves.owes ∙ ap (λ (rs : List Msg). rs ++ r ∷ []) midway.owes ∙ append_assoc (owed start.trail) midway.replies (r ∷ []);
+      news = fetched_by moves.message (request midway.so_far) ++ midway.news;
+      brings = brings_said new moves.message start.trail midway.so_far midway.news moves.holds midway.brings;
+      jobs = midway.jobs ++ given_by moves.message (request midway.so_far);
+      gives = gives_said new moves.message start.trail midway.so_far midway.jobs moves.holds midway.gives;
+      gains = gains_then seen now next p midway.so_far (Said moves.message ∷ midway.so_far) midway.news (fetched_by moves.message (request midway.so_far)) midway.jobs (given_by moves.message (request midway.so_far)) midway.gains moves.gains;
+    }
+
+-- nothing changed in what was gained
+gains_same : (a b c : Seen) (p : PeerNo) (t : Trail) (news : List Block) (jobs : List Job) → Gains a b p t news jobs → IsSameSeen b c → Gains a c p t news jobs
+gains_same a b c p t news jobs x y = record {
+  watch = y.watch ∙ x.watch;
+  follows = record { chain = y.chains p.0 ∙ x.follows.chain; claims = λ block. y.claims p.0 block ∙ x.follows.claims block };
+  others = λ q ne. y.chains q ∙ x.others q ne;
+  claims = λ q ne block. y.claims q block ∙ x.claims q ne block;
+  table = λ hash. y.table hash ∙ x.table hash;
+  verdicts = λ block hash. y.verdicts block hash ∙ x.verdicts block hash;
+}
+
+pub midway_whole : (p : PeerNo) (old new : Peer) (seen now next : Seen) (before acts : List Act) (start end : Part) (midway : Midway p old seen now before acts start end)
+    → HearsNext now next p old new midway.so_far None → HeardWhole p new seen next before acts start end
+midway_whole p old new seen now next before acts start end midway answer =
+    let is : record { trail = midway.so_far; waits = new.framer } ≡ end = sym answer.1 ∙ midway.leads in
+    subst (λ (e : Part). HeardWhole p new seen next before acts start e) is (record {
+      replies = midway.replies;
+      acts = midway.acts;
+      are = record { each = midway.are.each; after_version = midway.are.after_version };
+      holds = answer.0;
+      waits = refl;
+      owes = midway.owes;
+      news = midway.news;
+      brings = midway.brings;
+      jobs = midway.jobs;
+      gives = midway.gives;
+      gains = gains_same seen now next p midway.so_far midway.news midway.jobs midway.gains answer.2;
+    })
+
+met_end : (rs : List Msg) (t end : Trail) → (met t ≡ true → met end ≡ true) → (rs ≡ []) ⊎ (met t ≡ true) → (rs ≡ []) ⊎ (met end ≡ true)
+met_end rs t end known (inl none) = inl none
+met_end rs t end known (inr is) = inr (known is)
+
+gives_late : (t end start : Trail) (jobs : List Job) → given (counted end) ≡ given (counted t) → IsGivenBetween start t jobs → IsGivenBetween start end jobs
+gives_late t end start jobs e is = record {
+  new = λ job i. subst (λ (js : List Job). IsIn job js) (sym e) (is.new job i);
+  old = λ job i. subst (λ (js : List Job). IsIn job js) (sym e) (is.old job i);
+  only = λ job i. is.only job (subst (λ (js : List Job). IsIn job js) e i);
+}
+
+pub midway_fault : (p : PeerNo) (old : Peer) (seen now next : Seen) (before acts : List Act) (start end : Part) (cause : Cause) (midway : Midway p old seen now before acts start end)
+    → Stops now next old midway.so_far cause → HeardFault p seen next before acts start end cause
+midway_fault p old seen now next before acts start end cause midway stops =
+    let faulty = subst (λ (x : Part). Faulty midway.so_far x.trail cause) midway.leads stops.faulty in
+    record {
+      replies = midway.replies;
+      acts = midway.acts;
+      are = record { each = midway.are.each; after_version = met_end midway.replies midway.so_far end.trail faulty.known midway.are.after_version };
+      first = faulty.first;
+      news = midway.news;
+      brings = faulty.same ∙ midway.brings;
+      jobs = midway.jobs;
+      gives = gives_late midway.so_far end.trail start.trail midway.jobs faulty.same_given midway.gives;
+      kept = gains_retains seen now next p midway.so_far midway.news midway.jobs midway.gains stops.same;
+    }
+
+-- one act more that can be done
+pub doable_with : (p : PeerNo) (m : Msg) (acts more : List Act) → p.0 < 9 → All IsDoable acts → IsSendable m → more ≡ acts ++ SendTo p m ∷ [] → All IsDoable more
+doable_with p m acts more number all sendable e = subst (All IsDoable) (sym e) (All-append IsDoable acts (SendTo p m ∷ []) all (All-cons IsDoable (SendTo p m) [] (number, sendable) (All-nil IsDoable)))

@@ -1,0 +1,204 @@
+-- What is to be asked for by what was seen is needed by the log.
+use Rattle.std.proofs.Common.{◌≡◌, inl, inr, ℕ, suc, ◌+◌, ◌-◌, ◌<◌, ◌≤◌, zero, List, [], ◌∷◌, map, length, get_or, take, drop, reverse, Option, Some, None, Bool, true, if◌then◌else◌, refl, sym, ◌∙◌, ap, subst, arith}
+use Rattle.std.specs.Prelude.{pred, IsSome, option_map}
+use Rattle.cf_dispute.specs.Claims.{first_header, no_claims}
+use Rattle.cf_dispute.specs.Claims as dispute
+use Rattle.cf_dispute.proofs.PutIn.{same_from}
+use Rattle.cf_headers.specs.Rules.{same}
+use Rattle.cf_sync.proofs.Counted.{same_use}
+use Rattle.std.proofs.lemmas.Grind.{common_steps}
+use Rattle.std.proofs.lemmas.List.{length-reverse, length-drop}
+use Rattle.cf_bytes.specs.declared.hash.Hash32.{Hash32}
+use Rattle.cf_block.specs.declared.header.Header.{Header}
+use Rattle.cf_block.specs.Header.{block_hash_of, genesis_header}
+use Rattle.cf_dispute.specs.declared.claim.Claim.{Claim}
+use Rattle.cf_headers.specs.Chain.{Hash, Chain, above, back_to, lower, tip_hash, IsIn}
+use Rattle.cf_headers.specs.Heights.{hash_at}
+use Rattle.cf_msg.specs.declared.msg.Entry.{Entry}
+use Rattle.cf_msg.specs.declared.msg.Msg.TheVariants.{GetCfheaders, GetCfilters, GetData}
+use Rattle.cf_peer.specs.Asking.{HasHeader, IsFree, MayAsk, block_entry, claims, counted, verdict}
+use Rattle.cf_peer.specs.Log.{Log}
+use Rattle.cf_peer.specs.Trail.{Trail, trail, connected, own}
+use Rattle.cf_sync.specs.Fetching.{IsNeeded, IsBlockWanted, blocks_in}
+use Rattle.cf_sync.proofs.Kept.{filter_by, block_by}
+use Rattle.cf_tracker.specs.declared.spans.Span.{Span}
+use Rattle.cf_tracker.specs.declared.spans.Wish.TheVariants.{Claims, Filters, Block}
+use Rattle.cf_tracker.specs.Spans.{IsWish}
+use Rattle.cf_tracker.specs.Wanting.{IsAbove, IsUnjudged}
+use Rattle.cf_tracker.proofs.Along.{hash_of_next}
+use Rattle.std.proofs.lemmas.Bool.{cases_lt, cases_Bool, both_ways}
+use Rattle.cf_tracker.proofs.Stops.{above_part, lower_on, parent_is}
+use Rattle.cf_hear.specs.Seen.{Seen}
+use Rattle.cf_hear.specs.Tracks.{Tracks}
+
+-- a block of a list, by its place
+in_at : (f : Header → Hash) (xs : List Header) (y : Hash) (d : Header) → IsIn y (map f xs) → (i : ℕ) × (i < length xs) × (y ≡ f (get_or xs i d))
+in_at f [] y d i = absurd i
+in_at f (x ∷ xs) y d (inl e) = (0, omega arith, e)
+in_at f (x ∷ xs) y d (inr later) = (let w = in_at f xs y d later in (suc w.0, omega (arith, w.1), w.2))
+
+-- a block of a range stands at one of its heights
+pub in_span : (chain part : Chain) (top k : ℕ) (block : Hash) → part ≡ lower top chain → top ≤ length chain → IsIn block (map block_hash_of (above k part)) → (h : ℕ) × (k < h) × (h ≤ top) × (block ≡ hash_at chain h)
+in_span chain part top k block is low i =
+    let rs : List Header = reverse chain in
+    let d : Header = genesis_header in
+    let e : above k part ≡ drop k (take top rs) = ap (λ (c : Chain). above k c) is ∙ above_part chain top k in
+    let w = in_at block_hash_of (drop k (take top rs)) block d (subst (λ (xs : List Header). IsIn block (map block_hash_of xs)) e i) in
+    let long : length (drop k (take top rs)) ≡ top - k = length-drop k (take top rs) ∙ ap (λ (n : ℕ). n - k) (length_taken rs top (omega (arith, low, length-reverse chain))) in
+    let lt : k + w.0 < top = (let v = w.1 in omega (arith, v, long)) in
+    let at : get_or (drop k (take top rs)) w.0 d ≡ get_or rs (k + w.0) d = grind (arith, common_steps) in
+    (k + w.0 + 1, omega arith, omega (arith, lt), w.2 ∙ ap block_hash_of at ∙ sym (hash_of_next chain (k + w.0) d (omega (arith, lt, low)))) where
+      length_taken : (xs : List Header) (n : ℕ) → n ≤ length xs → length (take n xs) ≡ n
+      length_taken xs n le = grind (arith, common_steps)
+
+some_is : (o : Option Claim) → IsSome o → (c : Claim) × (o ≡ Some c)
+some_is None s = cc s
+some_is (Some c) s = (c, refl)
+
+-- filters that are asked for are wanted of p
+pub filters_needed : (s : Seen) (log : Log) (p common : ℕ) (spare : Bool) (span : Span) (chain : Chain) → Tracks s log → chain ≡ own (trail log p) → common ≤ length chain
+    → IsWish s.table s.claims s.verdicts p chain common spare (Filters span) → IsNeeded s.watch log p (GetCfilters 0 span.start span.stop)
+filters_needed s log p common spare span chain tracks is low wish block i =
+    let end = wish.1.0 in
+    let sp = wish.1.1.0 in
+    let tip : blocks_in span.start (back_to_own) ≡ map block_hash_of (above (pred span.start) sp.part) = ap (blocks_in span.start) (sym (ap (λ (c : Chain). back_to span.stop.0 c) is) ∙ sp.tip) in
+    let high = sp.high in
+    let le = wish.1.1.1 in
+    let w = in_span chain sp.part (length sp.part) (pred span.start) block sp.is (omega (arith, high, le, low)) (subst (λ (xs : List Hash). IsIn block xs) tip i) in
+    let up : span.start ≤ w.0 = (let v = w.1 in up_from span.start w.0 v) in
+    let un = wish.1.1.3 w.0 up (let v = w.2 in omega (arith, v, high)) in
+    let mine = some_is (s.claims p (hash_at chain w.0)) (wish.0.1 w.0 (let v = w.1 in omega (arith, v)) (let v = w.2 in omega (arith, v, high, le)) un.0) in
+    filter_by s.watch log s.table s.claims s.verdicts tracks.fetched tracks.claimed tracks.given p (record { 0 = block }) mine.0
+    (subst (IsUnjudged s.table s.claims s.verdicts) (sym w.3) un.1) (ap (s.claims p) w.3 ∙ mine.1) where
+      back_to_own : Option Chain
+      back_to_own = back_to span.stop.0 (own (trail log p))
+
+      up_from : (n h : ℕ) → pred n < h → n ≤ h
+      up_from zero h lt = omega arith
+      up_from (suc n) h lt = omega (arith, lt)
+
+-- a block that is asked for is wanted
+pub block_needed : (s : Seen) (log : Log) (p common : ℕ) (spare : Bool) (hash : Hash32) (chain : Chain) → Tracks s log
+    → IsWish s.table s.claims s.verdicts p chain common spare (Block hash) → IsNeeded s.watch log p (GetData (block_entry hash ∷ []))
+block_needed s log p common spare hash chain tracks wish entry (inr none) = absurd none
+block_needed s log p common spare hash chain tracks wish entry (inl e) =
+    let w : IsBlockWanted s.watch log hash.0 = subst (IsBlockWanted s.watch log) (sym wish.1.1) (block_by s.watch log s.table s.claims s.verdicts tracks.fetched tracks.claimed tracks.given (hash_at chain wish.0) wish.1.0.7) in
+    subst (λ (x : Entry). IsBlockWanted s.watch log x.hash.0) (sym e) w
+
+-- a block of the lower part of a chain stands at one of its heights
+nothing_in : (n k : ℕ) (block : Hash) → IsIn block (map block_hash_of (drop {A = Header} n [])) → ⊥
+nothing_in zero k block i = i
+nothing_in (suc n) k block i = i
+
+whole : (x : Header) (below : Chain) (k : ℕ) → k ≡ length (x ∷ below) → lower k (x ∷ below) ≡ x ∷ below
+whole x below k e = (let n : length (x ∷ below) - k ≡ 0 = omega (arith, e) in ap (λ (m : ℕ). drop m (x ∷ below)) n)
+
+whole_of : (chain : Chain) → lower (length chain) chain ≡ chain
+whole_of chain = (let n : length chain - length chain ≡ 0 = omega arith in ap (λ (m : ℕ). drop m chain) n)
+
+pub in_low : (chain : Chain) (k : ℕ) (block : Hash) → k ≤ length chain → IsIn block (map block_hash_of (lower k chain)) → (h : ℕ) × (1 ≤ h) × (h ≤ k) × (block ≡ hash_at chain h)
+in_low [] k block le i = absurd (nothing_in (0 - k) k block i)
+in_low (x ∷ below) k block le i = elim (cases_lt (length below) k) [
+  | inr low ↦ (
+      let e = lower_on x below k low in
+      let w = in_low below k block low (subst (λ (c : Chain). IsIn block (map block_hash_of c)) e i) in
+      (w.0, w.1, w.2, w.3 ∙ sym (ap tip_hash (lower_on x below w.0 (let v = w.2 in omega (arith, v, low)))))
+      )
+  | inl high ↦ (
+      let all : k ≡ length (x ∷ below) = omega (arith, le, high) in
+      elim (subst (λ (c : Chain). IsIn block (map block_hash_of c)) (whole x below k all) i) [
+        | inl e ↦ (k, omega (arith, high), omega arith, e ∙ sym (ap tip_hash (whole x below k all)))
+        | inr later ↦ (
+            let w = in_low below (length below) block (omega arith) (subst (λ (c : Chain). IsIn block (map block_hash_of c)) (sym (whole_of below)) later) in
+            (w.0, w.1, (let v = w.2 in omega (arith, v, high)), w.3 ∙ sym (ap tip_hash (lower_on x below w.0 w.2)))
+            )
+      ]
+      )
+]
+
+-- ---- and may be asked for
+
+-- a connected peer's claims, as they are kept
+claims_are : (s : Seen) (log : Log) (p : ℕ) → Tracks s log → connected (trail log p) ≡ true → verdict (trail log p) ≡ None → (block : Hash) → s.claims p block ≡ claims (trail log p) block
+claims_are s log p tracks on clean block =
+    let t = trail log p in
+    tracks.claimed p block ∙ ap (λ (b : Bool). (if b then claims (counted t) else no_claims) block) on ∙ ap (λ (c : dispute.Table). c block) (same_use t on clean).claiming
+
+has_header : (t : Trail) (block : Hash) → (IsAbove block → IsSome (claims t block)) → HasHeader t block
+has_header t block above1 = elim (cases_Bool (same (block_hash_of genesis_header) block)) [
+  | inl is ↦ subst IsSome (sym (ap (λ (b : Bool). if b then Some first_header else option_map (λ (c : Claim). c.header) (claims t block)) is)) refl
+  | inr off ↦ (
+      let c = some_is (claims t block) (above1 (λ e. both_ways (same (block_hash_of genesis_header) block) off (same_from (block_hash_of genesis_header) block (sym e)))) in
+      subst IsSome (sym (ap (λ (b : Bool). if b then Some first_header else option_map (λ (c : Claim). c.header) (claims t block)) off ∙ ap (option_map (λ (c : Claim). c.header)) c.1)) refl
+      )
+]
+
+part_at : (chain part : Chain) (top h : ℕ) → part ≡ lower top chain → h < top → top ≤ length chain → hash_at part h ≡ hash_at chain h
+part_at chain part top h is lt low = (let e : suc h - 1 ≡ h = omega arith in sym (parent_is chain top (suc h) part is (omega (arith, lt)) low) ∙ ap (hash_at chain) e)
+
+pub claims_may : (s : Seen) (log : Log) (p common : ℕ) (spare : Bool) (span : Span) (chain : Chain) → Tracks s log → chain ≡ own (trail log p) → common ≤ length chain
+    → IsFree (trail log p) → verdict (trail log p) ≡ None → IsWish s.table s.claims s.verdicts p chain common spare (Claims span) → MayAsk (trail log p) (GetCfheaders 0 span.start span.stop)
+claims_may s log p common spare span chain tracks is low free clean wish =
+    let t = trail log p in
+    let sp = wish.1.1.0 in
+    let le = wish.1.1.1 in
+    let few = wish.1.1.2 in
+    let un = wish.1.1.3 in
+    let start = sp.low in
+    let high = sp.high in
+    let one = wish.0.0 in
+    let cl = claims_are s log p tracks free.on clean in (
+      free,
+      (
+        record { basic = refl; part = sp.part; tip = ap (λ (c : Chain). back_to span.stop.0 c) (sym is) ∙ sp.tip; low = one; high = start; bound = omega (arith, few, high, start) },
+        λ block i. (
+            let w = in_low sp.part (pred span.start) block (let v = below_start span.start in omega (arith, v, start)) i in
+            let under : w.0 < length sp.part = (let v = w.2 in let u = start_less span.start one in omega (arith, v, u, start)) in
+            let at : block ≡ hash_at chain w.0 = w.3 ∙ part_at chain sp.part (length sp.part) w.0 sp.is under (omega (arith, high, le, low)) in
+            has_header t block (λ up. subst IsSome (cl block) (subst (λ (x : Hash). IsSome (s.claims p x)) (sym at)
+            (wish.0.2 w.0 w.1 (let v = w.2 in let u = start_less span.start one in omega (arith, v, u)) (subst IsAbove at up))))
+            ),
+        λ block i claimed. (
+            let w = in_span chain sp.part (length sp.part) (pred span.start) block sp.is (omega (arith, high, le, low)) i in
+            let u = un w.0 (let v = w.1 in up_to_start span.start w.0 v) (let v = w.2 in omega (arith, v, high)) in
+            let none : s.claims p block ≡ None = ap (s.claims p) w.3 ∙ u.1 in
+            let no : None ≡ Some claimed.0 = sym none ∙ cl block ∙ claimed.1 in cc no
+            ),
+      ),
+    ) where
+      below_start : (n : ℕ) → pred n ≤ n
+      below_start zero = omega arith
+      below_start (suc n) = omega arith
+
+      start_less : (n : ℕ) → 1 ≤ n → pred n + 1 ≡ n
+      start_less zero le = absurd (omega (arith, le))
+      start_less (suc n) le = omega arith
+
+      up_to_start : (n h : ℕ) → pred n < h → n ≤ h
+      up_to_start zero h lt = omega arith
+      up_to_start (suc n) h lt = omega (arith, lt)
+
+pub filters_may : (s : Seen) (log : Log) (p common : ℕ) (spare : Bool) (span : Span) (chain : Chain) → Tracks s log → chain ≡ own (trail log p) → common ≤ length chain
+    → IsFree (trail log p) → verdict (trail log p) ≡ None → IsWish s.table s.claims s.verdicts p chain common spare (Filters span) → MayAsk (trail log p) (GetCfilters 0 span.start span.stop)
+filters_may s log p common spare span chain tracks is low free clean wish =
+    let sp = wish.1.1.0 in
+    let le = wish.1.1.1 in
+    let few = wish.1.1.2 in
+    let un = wish.1.1.3 in
+    let start = sp.low in
+    let high = sp.high in
+    let cl = claims_are s log p tracks free.on clean in (
+      free,
+      (
+        record { basic = refl; part = sp.part; tip = ap (λ (c : Chain). back_to span.stop.0 c) (sym is) ∙ sp.tip; low = wish.0.2; high = start; bound = omega (arith, few, high, start) },
+        λ block i. (
+            let w = in_span chain sp.part (length sp.part) (pred span.start) block sp.is (omega (arith, high, le, low)) i in
+            let u = un w.0 (let v = w.1 in up_to_start span.start w.0 v) (let v = w.2 in omega (arith, v, high)) in
+            let mine = some_is (s.claims p (hash_at chain w.0)) (wish.0.1 w.0 (let v = w.1 in omega (arith, v)) (let v = w.2 in omega (arith, v, high, le)) u.0) in
+            (mine.0, sym (cl block) ∙ ap (s.claims p) w.3 ∙ mine.1)
+            ),
+      ),
+    ) where
+      up_to_start : (n h : ℕ) → pred n < h → n ≤ h
+      up_to_start zero h lt = omega arith
+      up_to_start (suc n) h lt = omega (arith, lt)

@@ -1,0 +1,58 @@
+use Rattle.std.proofs.Common.{◌≡◌, List, Some, None, Err, refl, sym, ◌∙◌, ap, subst}
+use Rattle.std.specs.Prelude.{length, option_map}
+use Rattle.cf_bytes.specs.declared.hash.Hash32.{Hash32}
+use Rattle.cf_bytes.specs.declared.memory.Refused.{Refused}
+use Rattle.cf_dispute.specs.declared.claim.ClaimFault.{ClaimFault}
+use Rattle.cf_dispute.specs.Claims.{with_claims, header_at, first_header}
+use Rattle.cf_dispute.specs.Tables.{GivesFault, blocks_of, claim_fault}
+use Rattle.cf_msg.specs.declared.msg.Msg.TheVariants.{Cfheaders}
+use Rattle.cf_peer.specs.declared.peer.Peer.{Peer}
+use Rattle.cf_peer.specs.declared.peer.Request.{Request}
+use Rattle.cf_peer.specs.Peer.{IsRight, TakesClaims, cause_of_claims}
+use Rattle.cf_peer.proofs.Claiming.{answer_fault, answer_holds}
+use Rattle.cf_tracker.specs.Tracker.{claims_of}
+use Rattle.cf_tracker.proofs.Marked.{all_same}
+use Rattle.cf_hear.specs.Seen.{seen_of}
+use Rattle.cf_hear.proofs.Hearing.{claims_hears}
+use Rattle.cf_hear.proofs.hear.hear_claims.Goals as goal
+
+pub returns-in_default-clause-heard : goal.returns-in_default-clause-heard
+returns-in_default-clause-heard g c = λ t holds f.
+    let seen = seen_of c.args.tracker.now in
+    claims_hears seen seen c.args.p c.take_range.new.self c.args.filter c.args.stop.now c.args.previous.now c.args.hashes.now t
+    (c.in_default.ensures.took.1 c.args.previous.now c.args.hashes.now t (claims_of c.args.tracker.now c.args.p.0) holds f.claims) f refl (λ q. refl) (λ q ne block. refl) (λ hash. refl) (λ block hash. refl)
+
+pub returns-in-Ok-clause-heard : goal.returns-in-Ok-clause-heard
+returns-in-Ok-clause-heard g c = λ t holds f.
+    let table = claims_of c.args.tracker.now c.args.p.0 in
+    let range = c.in-Some.range in
+    let took = c.in-Some.ensures.took in
+    let right = subst (λ (r : Request). IsRight r table) took.0.1 c.requires.right in
+    let none : claim_fault (header_at first_header table range.parent.0) (length range.blocks) c.args.previous.now (length c.args.hashes.now) ≡ None =
+    subst (λ (bs : List Hash32). claim_fault (header_at first_header table range.parent.0) (length bs) c.args.previous.now (length c.args.hashes.now) ≡ None) c.as_slice.ensures c.in-Ok.ensures.answer in
+    let after = claims_of c.add_claims.new.self c.args.p.0 in
+    let takes = answer_holds c.args.peer.now range took.0.0 c.args.filter c.args.stop.now c.args.previous.now c.args.hashes.now t table after took.0.1 took.1 right.0 none
+    (λ block. c.in-Ok.ensures.ok block ∙ ap (λ (bs : List Hash32). with_claims c.args.previous.now (blocks_of bs) c.args.hashes.now table block) c.as_slice.ensures) holds f.claims in
+    claims_hears (seen_of c.args.tracker.now) (seen_of c.add_claims.new.self) c.args.p c.take_range.new.self c.args.filter c.args.stop.now c.args.previous.now c.args.hashes.now t
+    (subst (λ (x : Peer). TakesClaims x after (Cfheaders c.args.filter c.args.stop.now c.args.previous.now c.args.hashes.now) t None) (sym took.2) takes)
+    f c.in-Ok.ensures.watch c.in-Ok.ensures.chains c.in-Ok.ensures.others (λ hash. sym (c.in-Ok.ensures.table hash)) c.in-Ok.ensures.verdicts
+
+pub returns-in-Err-No-clause-heard : goal.returns-in-Err-No-clause-heard
+returns-in-Err-No-clause-heard g c = λ t holds f.
+    let table = claims_of c.args.tracker.now c.args.p.0 in
+    let range = c.in-Some.range in
+    let took = c.in-Some.ensures.took in
+    let right = subst (λ (r : Request). IsRight r table) took.0.1 c.requires.right in
+    let fault = subst (λ (e : Refused ClaimFault). GivesFault {A = Unit {0}} (Err e) (claim_fault (header_at first_header table range.parent.0) (length c.as_slice.result.now) c.args.previous.now (length c.args.hashes.now))) c.in-Err-No.field-0-is c.in-Err-No.ensures.answer in
+    let is : claim_fault (header_at first_header table range.parent.0) (length range.blocks) c.args.previous.now (length c.args.hashes.now) ≡ Some c.in-Err-No.fault =
+    ap (λ (bs : List Hash32). claim_fault (header_at first_header table range.parent.0) (length bs) c.args.previous.now (length c.args.hashes.now)) (sym c.as_slice.ensures) ∙ fault in (
+      answer_fault c.args.peer.now range took.0.0 c.args.filter c.args.stop.now c.args.previous.now c.args.hashes.now t table took.0.1 took.1 right.0 holds f.claims
+          ∙ ap (option_map cause_of_claims) is ∙ ap (λ x. Some x) (sym c.cause_of.ensures),
+      record {
+        watch = c.in-Err-No.ensures.watch;
+        chains = c.in-Err-No.ensures.chains;
+        claims = all_same (claims_of c.args.tracker.now) (claims_of c.add_claims.new.self) c.args.p.0 c.in-Err-No.ensures.err c.in-Err-No.ensures.others;
+        table = λ hash. sym (c.in-Err-No.ensures.table hash);
+        verdicts = c.in-Err-No.ensures.verdicts;
+      },
+    )

@@ -1,0 +1,131 @@
+-- What is taken of a piece of a peer's bytes.
+use Rattle.std.specs.Prelude.{◌≡◌, ◌≢◌, ◌⊎◌, ℕ, Bool, true, false, List, [], ◌∷◌, ◌++◌, map, Option, Some, None}
+use Rattle.std.specs.List.{AllByRecursion}
+use Rattle.cf_bytes.specs.declared.peer.PeerNo.{PeerNo}
+use Rattle.cf_block.specs.declared.tx.Block.{Block}
+use Rattle.cf_frame.specs.Stream.{read_stream}
+use Rattle.cf_msg.specs.declared.msg.Msg.{Msg}
+use Rattle.cf_peer.specs.declared.act.Act.{Act}
+use Rattle.cf_peer.specs.declared.act.Act.TheVariants.{Send as SendTo}
+use Rattle.cf_peer.specs.declared.peer.Cause.{Cause}
+use Rattle.cf_peer.specs.declared.peer.Peer.{Peer}
+use Rattle.cf_peer.specs.declared.peer.Reply.{Reply}
+use Rattle.cf_peer.specs.declared.peer.Reply.TheVariants.{Nothing as NoReply, Send, Close}
+use Rattle.cf_peer.specs.Trail.{Trail, Part, Said, part_after, met, owed, reply_to}
+use Rattle.cf_peer.specs.Asking.{request, verdict, counted, fetched, fetched_by, given, given_by}
+use Rattle.cf_peer.specs.Hearing.{IsReply, Faulty}
+use Rattle.cf_peer.specs.Peer.{Holds, Hears}
+use Rattle.cf_tracker.specs.Tables.{IsSameTable, with_blocks}
+use Rattle.cf_match.specs.declared.job.Job.{Job}
+use Rattle.cf_match.specs.Verdicts.{AreSameVerdicts, with_verdicts}
+use Rattle.cf_headers.specs.Chain.{Hash, IsIn}
+use Rattle.cf_hear.specs.Seen.{Seen, IsSameSeen, Follows}
+
+-- p's chain and claims are now those of this trail, the extracts of these blocks came, the last of them first, and the verdicts on these filters, the first of
+-- them first
+pub record Gains (before after : Seen) (p : PeerNo) (t : Trail) (news : List Block) (jobs : List Job) : Type 0 where
+  pub watch : after.watch ≡ before.watch
+  pub follows : Follows after p.0 t
+  pub others : (q : ℕ) → q ≢ p.0 → after.chains q ≡ before.chains q
+  pub claims : (q : ℕ) → q ≢ p.0 → (block : Hash) → after.claims q block ≡ before.claims q block
+  pub table : IsSameTable after.table (with_blocks before.watch news before.table)
+  pub verdicts : AreSameVerdicts after.verdicts (with_verdicts before.watch jobs before.verdicts)
+
+-- what one message does to the peer and to what was seen: the reply that is owed to it, or the cause that it gives
+abbrev pub HearsSeen : Seen → Seen → PeerNo → Peer → Msg → Trail → Reply → Type 0
+HearsSeen before after p peer m t NoReply = Hears peer m t NoReply × Gains before after p (Said m ∷ t) (fetched_by m (request t)) (given_by m (request t))
+HearsSeen before after p peer m t (Send r) = Hears peer m t (Send r) × Gains before after p (Said m ∷ t) (fetched_by m (request t)) (given_by m (request t))
+HearsSeen before after p peer m t (Close cause) = Hears peer m t (Close cause) × IsSameSeen before after
+
+-- one frame was taken, with one message, and these replies are owed to it
+pub record Advances (before after : Seen) (p : PeerNo) (old new : Peer) (t : Trail) (replies : List Msg) : Type 0 where
+  pub message : Msg
+  pub leads : part_after (read_stream old.framer) t ≡ part_after (read_stream new.framer) (Said message ∷ t)
+  pub holds : Holds new (Said message ∷ t)
+  pub owes : reply_to message t ≡ replies
+  pub gains : Gains before after p (Said message ∷ t) (fetched_by message (request t)) (given_by message (request t))
+
+-- the stream deserves a cause, and what was seen stays
+pub record Stops (before after : Seen) (old : Peer) (t : Trail) (cause : Cause) : Type 0 where
+  pub faulty : Faulty t (part_after (read_stream old.framer) t).trail cause
+  pub same : IsSameSeen before after
+
+-- what the next frame does, if one waits
+abbrev pub HearsNext : Seen → Seen → PeerNo → Peer → Peer → Trail → Option Reply → Type 0
+HearsNext before after p old new t None = Holds new t × (part_after (read_stream old.framer) t ≡ record { trail = t; waits = new.framer }) × IsSameSeen before after
+HearsNext before after p old new t (Some NoReply) = Advances before after p old new t []
+HearsNext before after p old new t (Some (Send r)) = Advances before after p old new t (r ∷ [])
+HearsNext before after p old new t (Some (Close cause)) = Stops before after old t cause
+
+abbrev pub goes_on : Option Reply → Bool
+goes_on None = false
+goes_on (Some NoReply) = true
+goes_on (Some (Send r)) = true
+goes_on (Some (Close cause)) = false
+
+-- replies are veracks and pongs, and none comes before the peer's version
+pub record AreReplies (replies : List Msg) (t : Trail) : Type 0 where
+  pub each : AllByRecursion IsReply replies
+  pub after_version : (replies ≡ []) ⊎ (met t ≡ true)
+
+-- what the blocks were that a trail brought since another
+abbrev pub Brings : Trail → Trail → List Block → Type 0
+Brings start end news = fetched (counted end) ≡ news ++ fetched (counted start)
+
+-- what the filters were that a trail was given since another
+pub record IsGivenBetween (start end : Trail) (jobs : List Job) : Type 0 where
+  pub new : (job : Job) → IsIn job jobs → IsIn job (given (counted end))
+  pub old : (job : Job) → IsIn job (given (counted start)) → IsIn job (given (counted end))
+  pub only : (job : Job) → IsIn job (given (counted end)) → IsIn job jobs ⊎ IsIn job (given (counted start))
+
+-- a piece was taken whole, or up to the first frame that deserves a cause
+pub record HeardWhole (p : PeerNo) (new : Peer) (seen now : Seen) (before after : List Act) (start end : Part) : Type 0 where
+  pub replies : List Msg
+  pub acts : after ≡ before ++ map (λ (m : Msg). SendTo p m) replies
+  pub are : AreReplies replies end.trail
+  pub holds : Holds new end.trail
+  pub waits : new.framer ≡ end.waits
+  pub owes : owed end.trail ≡ owed start.trail ++ replies
+  pub news : List Block
+  pub brings : Brings start.trail end.trail news
+  pub jobs : List Job
+  pub gives : IsGivenBetween start.trail end.trail jobs
+  pub gains : Gains seen now p end.trail news jobs
+
+-- what came before a fault: p's chain and claims don't matter any more
+pub record Retains (before after : Seen) (p : PeerNo) (news : List Block) (jobs : List Job) : Type 0 where
+  pub watch : after.watch ≡ before.watch
+  pub others : (q : ℕ) → q ≢ p.0 → after.chains q ≡ before.chains q
+  pub claims : (q : ℕ) → q ≢ p.0 → (block : Hash) → after.claims q block ≡ before.claims q block
+  pub table : IsSameTable after.table (with_blocks before.watch news before.table)
+  pub verdicts : AreSameVerdicts after.verdicts (with_verdicts before.watch jobs before.verdicts)
+
+pub record HeardFault (p : PeerNo) (seen now : Seen) (before after : List Act) (start end : Part) (cause : Cause) : Type 0 where
+  pub replies : List Msg
+  pub acts : after ≡ before ++ map (λ (m : Msg). SendTo p m) replies
+  pub are : AreReplies replies end.trail
+  pub first : verdict end.trail ≡ Some cause
+  pub news : List Block
+  pub brings : Brings start.trail end.trail news
+  pub jobs : List Job
+  pub gives : IsGivenBetween start.trail end.trail jobs
+  pub kept : Retains seen now p news jobs
+
+abbrev pub HeardPiece : PeerNo → Peer → Seen → Seen → List Act → List Act → Part → Part → Option Cause → Type 0
+HeardPiece p new seen now before after start end None = HeardWhole p new seen now before after start end
+HeardPiece p new seen now before after start end (Some cause) = HeardFault p seen now before after start end cause
+
+-- on the way through a piece: what is left of it leads to its end
+pub record Midway (p : PeerNo) (peer : Peer) (seen now : Seen) (before after : List Act) (start end : Part) : Type 0 where
+  pub so_far : Trail
+  pub replies : List Msg
+  pub acts : after ≡ before ++ map (λ (m : Msg). SendTo p m) replies
+  pub are : AreReplies replies so_far
+  pub holds : Holds peer so_far
+  pub leads : part_after (read_stream peer.framer) so_far ≡ end
+  pub owes : owed so_far ≡ owed start.trail ++ replies
+  pub news : List Block
+  pub brings : Brings start.trail so_far news
+  pub jobs : List Job
+  pub gives : IsGivenBetween start.trail so_far jobs
+  pub gains : Gains seen now p so_far news jobs
