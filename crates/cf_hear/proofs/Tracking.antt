@@ -1,29 +1,37 @@
 -- How what was seen goes on with the log.
-use Rattle.std.proofs.Common.{◌≡◌, ◌≢◌, inl, inr, ℕ, List, [], ◌∷◌, Option, Some, None, Bool, true, false, ◌==◌, if◌then◌else◌, refl, sym, ◌∙◌, ap, subst, arith}
+use Rattle.std.proofs.Common.{◌≡◌, ◌≢◌, inl, inr, ℕ, List, [], ◌∷◌, ◌++◌, Option, Some, None, Ok, Err, Bool, true, false, ◌==◌, if◌then◌else◌, refl, sym, ◌∙◌, ap, subst, arith}
+use Rattle.std.specs.Prelude.{◌&&◌, is_none}
 use Rattle.std.proofs.lemmas.Grind.{common_steps}
 use Rattle.std.proofs.lemmas.Bool.{cases_eq}
 use Rattle.cf_bytes.specs.declared.peer.PeerNo.{PeerNo}
 use Rattle.cf_block.specs.declared.tx.Block.{Block}
 use Rattle.cf_dispute.specs.Claims.{no_claims}
 use Rattle.cf_dispute.specs.Claims as dispute
-use Rattle.cf_headers.specs.Chain.{Chain, IsIn}
+use Rattle.cf_frame.specs.declared.frame.Frame.{Frame}
+use Rattle.cf_frame.specs.declared.frame.FrameFault.{FrameFault}
+use Rattle.cf_frame.specs.Stream.{read_stream}
+use Rattle.cf_headers.specs.Chain.{Hash, Chain, IsIn}
+use Rattle.cf_headers.specs.Store.{Puts}
 use Rattle.cf_match.specs.declared.job.Job.{Job}
-use Rattle.cf_match.specs.Verdicts.{AreSameVerdicts}
+use Rattle.cf_match.specs.Verdicts.{Verdicts, AreSameVerdicts, with_verdicts}
 use Rattle.cf_msg.specs.declared.msg.Msg.{Msg}
+use Rattle.cf_msg.specs.Reading.{message_of}
 use Rattle.cf_peer.specs.declared.act.Act.{Act}
+use Rattle.cf_peer.specs.declared.peer.Cause.{Cause}
 use Rattle.cf_peer.specs.declared.peer.Peer.{Peer}
-use Rattle.cf_peer.specs.declared.event.Delivery.TheVariants.{Got, Gone, Tick}
-use Rattle.cf_peer.specs.declared.event.Event.TheVariants.{Dialled, Sent, Closed, Took}
+use Rattle.cf_peer.specs.declared.event.Delivery.TheVariants.{Got, Gone, Tick, Ended}
+use Rattle.cf_peer.specs.declared.event.Event.TheVariants.{Dialled, NotDialled, Sent, Closed, Took}
 use Rattle.cf_peer.specs.Log.{Log}
-use Rattle.cf_peer.specs.Trail.{Trail, Part, Lost, Went, Shutting, part_of, trail, went_on, asks, spelled, with_item, called_part, heard_part, connected, own}
-use Rattle.cf_peer.specs.Asking.{claims, counted, fetched, given, SameUse}
+use Rattle.cf_peer.specs.Trail.{Trail, Part, Said, Lost, Went, Shutting, part_of, trail, went_on, asks, spelled, with_item, called_part, heard_part, hears, hears_fault, item_of, item_of_read, connected, own}
+use Rattle.cf_peer.specs.Asking.{claims, counted, verdict, fetched, given, SameUse}
 use Rattle.cf_sync.specs.Fetching.{HoldsFetched, IsFetched}
 use Rattle.cf_sync.specs.Kept.{HoldsClaims, HoldsGiven, claims_kept}
 use Rattle.cf_sync.proofs.Counted.{same_use}
 use Rattle.cf_sync.proofs.TableGrows.{holds_after_piece}
 use Rattle.cf_sync.proofs.VerdictsGrow.{grown_between, same_given}
 use Rattle.cf_tracker.specs.Tables.{Table, IsSameTable}
-use Rattle.cf_hear.specs.Hearing.{HeardWhole}
+use Rattle.cf_tracker.specs.Wanting.{ForgetsClaims, IsSameTables}
+use Rattle.cf_hear.specs.Hearing.{HeardWhole, HeardFault, IsGivenBetween}
 use Rattle.cf_hear.specs.Seen.{Seen, IsSameSeen}
 use Rattle.cf_hear.specs.Tracks.{Tracks, IsPut, chain_kept}
 
@@ -79,6 +87,31 @@ tracks_put before after p own table log next put here claims others same tracks 
       | inl is ↦ subst (λ (k : ℕ). after.claims k block ≡ claims_kept (trail next k) block) (sym is) (put.claims block ∙ ap (λ (t : dispute.Table). t block) claims)
       | inr other ↦ put.claims_others q other block ∙ tracks.claimed q block ∙ sym (ap (λ (x : Part). claims_kept x.trail block) (others q other))
     ]) same tracks
+
+-- by what a tracker's calls say: a peer is forgotten; one that claims nothing is entered
+pub put_forgotten : (before last : Seen) (p : PeerNo) → Puts before.chains last.chains p None → IsSameTable before.table last.table → ForgetsClaims before.claims last.claims p.0
+    → AreSameVerdicts last.verdicts before.verdicts → last.watch ≡ before.watch → IsPut before last p.0 None no_claims
+put_forgotten before last p puts table claims verdicts watch = record {
+  watch = watch;
+  here = puts.here;
+  others = puts.others;
+  claims = claims.gone;
+  claims_others = claims.others;
+  table = λ hash. sym (table hash);
+  verdicts = verdicts;
+}
+
+pub put_entered : (before last : Seen) (p : PeerNo) → Puts before.chains last.chains p (Some []) → IsSameTable before.table last.table → IsSameTables before.claims last.claims
+    → AreSameVerdicts last.verdicts before.verdicts → last.watch ≡ before.watch → ((block : Hash) → before.claims p.0 block ≡ None) → IsPut before last p.0 (Some []) no_claims
+put_entered before last p puts table claims verdicts watch none = record {
+  watch = watch;
+  here = puts.here;
+  others = puts.others;
+  claims = λ block. claims p.0 block ∙ none block;
+  claims_others = λ q ne block. claims q block;
+  table = λ hash. sym (table hash);
+  verdicts = verdicts;
+}
 
 -- ---- the entries
 
@@ -163,14 +196,105 @@ tracks_sent s p bytes log tracks =
 pub tracks_tick : (s : Seen) (seconds : ℕ) (log : Log) → Tracks s log → Tracks s (Took (Tick seconds) ∷ log)
 tracks_tick s seconds log tracks = tracks_same s log (Took (Tick seconds) ∷ log) (λ q. refl) (λ q. refl) (record { blocks = λ q. refl; filters = λ q. refl }) tracks
 
--- ---- a piece that was taken whole
+pub tracks_ended : (s : Seen) (log : Log) → Tracks s log → Tracks s (Took Ended ∷ log)
+tracks_ended s log tracks = tracks_same s log (Took Ended ∷ log) (λ q. refl) (λ q. refl) (record { blocks = λ q. refl; filters = λ q. refl }) tracks
 
-got_here : (p : PeerNo) (piece : List ℕ) (part : Part) → went_on (Took (Got p piece)) p.0 part ≡ heard_part piece part
+-- ---- a peer that isn't connected
+
+-- what is kept of it is nothing
+off_chain : (t : Trail) → connected t ≡ false → chain_kept t ≡ None
+off_chain t off = ap (λ (b : Bool). if b then Some (own t) else None) off
+
+off_claims : (t : Trail) (block : Hash) → connected t ≡ false → claims_kept t block ≡ None
+off_claims t block off = ap (λ (b : Bool). (if b then claims (counted t) else no_claims) block) off
+
+pub none_claimed : (s : Seen) (log : Log) (p : ℕ) → connected (trail log p) ≡ false → Tracks s log → (block : Hash) → s.claims p block ≡ None
+none_claimed s log p off tracks block = tracks.claimed p block ∙ off_claims (trail log p) block off
+
+pub put_off : (s : Seen) (log : Log) (p : ℕ) → connected (trail log p) ≡ false → Tracks s log → IsPut s s p None no_claims
+put_off s log p off tracks = record {
+  watch = refl;
+  here = tracks.kept p ∙ off_chain (trail log p) off;
+  others = λ q ne. refl;
+  claims = none_claimed s log p off tracks;
+  claims_others = λ q ne block. refl;
+  table = λ hash. refl;
+  verdicts = λ block hash. refl;
+}
+
+-- it goes once more
+pub tracks_away : (s : Seen) (p : PeerNo) (log : Log) → connected (trail log p.0) ≡ false → Tracks s log → Tracks s (Took (Gone p) ∷ log)
+tracks_away s p log off tracks = tracks_gone s s p log (put_off s log p.0 off tracks) tracks
+
+-- it couldn't be dialled
+missed_here : (p : PeerNo) (name : List ℕ) (part : Part) → went_on (NotDialled p name) p.0 part ≡ with_item (Lost Went) part
+missed_here p name part = grind (arith, common_steps)
+
+missed_others : (p : PeerNo) (name : List ℕ) (q : ℕ) (part : Part) → q ≢ p.0 → went_on (NotDialled p name) q part ≡ part
+missed_others p name q part ne = grind (arith, common_steps)
+
+pub tracks_missed : (s : Seen) (p : PeerNo) (name : List ℕ) (log : Log) → connected (trail log p.0) ≡ false → Tracks s log → Tracks s (NotDialled p name ∷ log)
+tracks_missed s p name log off tracks =
+    let here = missed_here p name (part_of log p.0) in
+    tracks_lost s s p log (NotDialled p name ∷ log) (put_off s log p.0 off tracks) (ap (λ (x : Part). connected x.trail) here) (λ q other. missed_others p name q (part_of log q) other)
+    (ap (λ (x : Part). fetched (counted x.trail)) here) (ap (λ (x : Part). given (counted x.trail)) here) tracks
+
+-- what it says doesn't count
+pub got_here : (p : PeerNo) (piece : List ℕ) (part : Part) → went_on (Took (Got p piece)) p.0 part ≡ heard_part piece part
 got_here p piece part = grind (arith, common_steps)
 
-got_others : (p : PeerNo) (piece : List ℕ) (q : ℕ) (part : Part) → q ≢ p.0 → went_on (Took (Got p piece)) q part ≡ part
+pub got_others : (p : PeerNo) (piece : List ℕ) (q : ℕ) (part : Part) → q ≢ p.0 → went_on (Took (Got p piece)) q part ≡ part
 got_others p piece q part ne = grind (arith, common_steps)
 
+item_on : (f : Frame) (t : Trail) → connected (item_of f ∷ t) ≡ connected t
+item_on f t = elim (message_of f) as (λ r. connected (item_of_read r ∷ t) ≡ connected t) [ Ok m ↦ refl | Err e ↦ refl ]
+
+item_deaf : (f : Frame) (t : Trail) → connected t ≡ false → counted (item_of f ∷ t) ≡ counted t
+item_deaf f t off = elim (message_of f) as (λ r. counted (item_of_read r ∷ t) ≡ counted t) [
+  | Ok m ↦ ap (λ (b : Bool). if b && is_none (verdict (Said m ∷ t)) then Said m ∷ counted t else counted t) off
+  | Err e ↦ refl
+]
+
+hears_on : (fs : List Frame) (t : Trail) → connected (hears fs t) ≡ connected t
+hears_on [] t = refl
+hears_on (f ∷ fs) t = hears_on fs (item_of f ∷ t) ∙ item_on f t
+
+hears_deaf : (fs : List Frame) (t : Trail) → connected t ≡ false → counted (hears fs t) ≡ counted t
+hears_deaf [] t off = refl
+hears_deaf (f ∷ fs) t off = hears_deaf fs (item_of f ∷ t) (item_on f t ∙ off) ∙ item_deaf f t off
+
+fault_on : (o : Option FrameFault) (t : Trail) → (connected (hears_fault o t) ≡ connected t) × (counted (hears_fault o t) ≡ counted t)
+fault_on None t = (refl, refl)
+fault_on (Some fault) t = (refl, refl)
+
+pub heard_on : (piece : List ℕ) (part : Part) → connected (heard_part piece part).trail ≡ connected part.trail
+heard_on piece part = (let r = read_stream (part.waits ++ piece) in (fault_on r.fault (hears r.frames part.trail)).0 ∙ hears_on r.frames part.trail)
+
+pub heard_deaf : (piece : List ℕ) (part : Part) → connected part.trail ≡ false → counted (heard_part piece part).trail ≡ counted part.trail
+heard_deaf piece part off = (let r = read_stream (part.waits ++ piece) in (fault_on r.fault (hears r.frames part.trail)).1 ∙ hears_deaf r.frames part.trail off)
+
+pub tracks_deaf : (s : Seen) (p : PeerNo) (piece : List ℕ) (log : Log) → connected (trail log p.0) ≡ false → Tracks s log → Tracks s (Took (Got p piece) ∷ log)
+tracks_deaf s p piece log off tracks =
+    let here = got_here p piece (part_of log p.0) in
+    let deaf = heard_deaf piece (part_of log p.0) off in
+    tracks_lost s s p log (Took (Got p piece) ∷ log) (put_off s log p.0 off tracks) (ap (λ (x : Part). connected x.trail) here ∙ heard_on piece (part_of log p.0) ∙ off)
+    (λ q other. got_others p piece q (part_of log q) other)
+    (ap (λ (x : Part). fetched (counted x.trail)) here ∙ ap fetched deaf) (ap (λ (x : Part). given (counted x.trail)) here ∙ ap given deaf) tracks
+
+-- ---- a piece of a connected peer
+
+-- the verdicts once a piece came
+got_given : (p : PeerNo) (piece : List ℕ) (log : Log) (watch : List (List ℕ)) (jobs : List Job) (before after : Verdicts) → IsGivenBetween (trail log p.0) (heard_part piece (part_of log p.0)).trail jobs
+    → AreSameVerdicts after (with_verdicts watch jobs before) → HoldsGiven watch log before → HoldsGiven watch (Took (Got p piece) ∷ log) after
+got_given p piece log watch jobs before after gives alike holds =
+    let t : trail (Took (Got p piece) ∷ log) p.0 ≡ (heard_part piece (part_of log p.0)).trail = ap (λ (x : Part). x.trail) (got_here p piece (part_of log p.0)) in
+    grown_between watch log (Took (Got p piece) ∷ log) p.0 jobs before after
+    (λ job i. subst (λ (x : Trail). IsIn job (given (counted x))) (sym t) (gives.new job i))
+    (λ job i. subst (λ (x : Trail). IsIn job (given (counted x))) (sym t) (gives.old job i))
+    (λ job i. gives.only job (subst (λ (x : Trail). IsIn job (given (counted x))) t i))
+    (λ q off. ap (λ (b : Bool). given (counted (if b then heard_part piece (part_of log q) else part_of log q).trail)) off) alike holds
+
+-- taken whole
 pub tracks_heard : (p : PeerNo) (peer : Peer) (seen now : Seen) (before after : List Act) (piece : List ℕ) (log : Log) → HeardWhole p peer seen now before after (part_of log p.0) (heard_part piece (part_of log p.0))
     → Tracks seen log → Tracks now (Took (Got p piece) ∷ log)
 tracks_heard p peer seen now before after piece log heard tracks =
@@ -195,12 +319,35 @@ tracks_heard p peer seen now before after piece log heard tracks =
       fetched = subst (λ (w : List (List ℕ)). HoldsFetched w next now.table) (sym heard.gains.watch)
           (holds_after_piece seen.watch p piece log heard.news seen.table now.table (ap (λ (x : Trail). fetched (counted x)) t ∙ heard.brings) heard.gains.table tracks.fetched);
       given = subst (λ (w : List (List ℕ)). HoldsGiven w next now.verdicts) (sym heard.gains.watch)
-          (grown_between seen.watch log next p.0 heard.jobs seen.verdicts now.verdicts
-          (λ job i. subst (λ (x : Trail). IsIn job (given (counted x))) (sym t) (heard.gives.new job i))
-          (λ job i. subst (λ (x : Trail). IsIn job (given (counted x))) (sym t) (heard.gives.old job i))
-          (λ job i. heard.gives.only job (subst (λ (x : Trail). IsIn job (given (counted x))) t i))
-          (λ q off. ap (λ (x : Part). given (counted x.trail)) (got_off p piece q (part_of log q) off))
-          heard.gains.verdicts tracks.given);
-    } where
-      got_off : (p : PeerNo) (piece : List ℕ) (q : ℕ) (part : Part) → (p.0 == q) ≡ false → went_on (Took (Got p piece)) q part ≡ part
-      got_off p piece q part off = ap (λ (b : Bool). if b then heard_part piece part else part) off
+          (got_given p piece log seen.watch heard.jobs seen.verdicts now.verdicts heard.gives heard.gains.verdicts tracks.given);
+    }
+
+-- One in which a frame deserves a cause: what was seen stands for the log with the piece, but for p's chain and claims, which are given up with it.
+-- `mid` is what would be seen then if they weren't.
+pub tracks_faulty : (p : PeerNo) (seen now last : Seen) (before acts : List Act) (piece : List ℕ) (log : Log) (cause : Cause) → HeardFault p seen now before acts (part_of log p.0) (heard_part piece (part_of log p.0)) cause
+    → IsPut now last p.0 None no_claims → Tracks seen log → (mid : Seen) × (Tracks mid (Took (Got p piece) ∷ log) × IsPut mid last p.0 None no_claims)
+tracks_faulty p seen now last before acts piece log cause fault put tracks =
+    let next = Took (Got p piece) ∷ log in
+    let others : (q : ℕ) → q ≢ p.0 → part_of next q ≡ part_of log q = λ q ne. got_others p piece q (part_of log q) ne in
+    let t : trail next p.0 ≡ (heard_part piece (part_of log p.0)).trail = ap (λ (x : Part). x.trail) (got_here p piece (part_of log p.0)) in (
+      record { watch = last.watch; chains = λ q. chain_kept (trail next q); claims = λ q. claims_kept (trail next q); table = last.table; verdicts = last.verdicts },
+      (
+        record {
+          kept = λ q. refl;
+          claimed = λ q block. refl;
+          fetched = subst (λ (w : List (List ℕ)). HoldsFetched w next last.table) (sym (put.watch ∙ fault.kept.watch))
+              (holds_after_piece seen.watch p piece log fault.news seen.table last.table (ap (λ (x : Trail). fetched (counted x)) t ∙ fault.brings) (λ hash. put.table hash ∙ fault.kept.table hash) tracks.fetched);
+          given = subst (λ (w : List (List ℕ)). HoldsGiven w next last.verdicts) (sym (put.watch ∙ fault.kept.watch))
+              (got_given p piece log seen.watch fault.jobs seen.verdicts last.verdicts fault.gives (λ block hash. put.verdicts block hash ∙ fault.kept.verdicts block hash) tracks.given);
+        },
+        record {
+          watch = refl;
+          here = put.here;
+          others = λ q other. put.others q other ∙ fault.kept.others q other ∙ tracks.kept q ∙ sym (ap (λ (x : Part). chain_kept x.trail) (others q other));
+          claims = put.claims;
+          claims_others = λ q other block. put.claims_others q other block ∙ fault.kept.claims q other block ∙ tracks.claimed q block ∙ sym (ap (λ (x : Part). claims_kept x.trail block) (others q other));
+          table = λ hash. refl;
+          verdicts = λ block hash. refl;
+        },
+      ),
+    )

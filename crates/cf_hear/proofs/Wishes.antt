@@ -14,12 +14,13 @@ use Rattle.cf_block.specs.Header.{block_hash_of, genesis_header}
 use Rattle.cf_dispute.specs.declared.claim.Claim.{Claim}
 use Rattle.cf_headers.specs.Chain.{Hash, Chain, above, back_to, lower, tip_hash, IsIn}
 use Rattle.cf_headers.specs.Heights.{hash_at}
+use Rattle.cf_headers.proofs.Locators.{hash_in}
 use Rattle.cf_msg.specs.declared.msg.Entry.{Entry}
 use Rattle.cf_msg.specs.declared.msg.Msg.TheVariants.{GetCfheaders, GetCfilters, GetData}
-use Rattle.cf_peer.specs.Asking.{HasHeader, IsFree, MayAsk, block_entry, claims, counted, verdict}
+use Rattle.cf_peer.specs.Asking.{HasHeader, IsFree, MayAsk, block_entry, claims, counted, hashes_of, verdict}
 use Rattle.cf_peer.specs.Log.{Log}
 use Rattle.cf_peer.specs.Trail.{Trail, trail, connected, own}
-use Rattle.cf_sync.specs.Fetching.{IsNeeded, IsBlockWanted, blocks_in}
+use Rattle.cf_sync.specs.Fetching.{IsNeeded, IsNoneFetching, IsBlockWanted, MaySend, blocks_in}
 use Rattle.cf_sync.proofs.Kept.{filter_by, block_by}
 use Rattle.cf_tracker.specs.declared.spans.Span.{Span}
 use Rattle.cf_tracker.specs.declared.spans.Wish.TheVariants.{Claims, Filters, Block}
@@ -202,3 +203,34 @@ filters_may s log p common spare span chain tracks is low free clean wish =
       up_to_start : (n h : ℕ) → pred n < h → n ≤ h
       up_to_start zero h lt = omega arith
       up_to_start (suc n) h lt = omega (arith, lt)
+
+pub block_may : (log : Log) (p common : ℕ) (spare : Bool) (s : Seen) (hash : Hash32) (chain : Chain) → chain ≡ own (trail log p) → common ≤ length chain → IsFree (trail log p)
+    → IsWish s.table s.claims s.verdicts p chain common spare (Block hash) → MayAsk (trail log p) (GetData (block_entry hash ∷ []))
+block_may log p common spare s hash chain is low free wish =
+    let le = wish.1.0.3 in
+    let among : IsIn (hash_at chain wish.0) (hashes_of chain) = hash_in chain wish.0 wish.1.0.2 (omega (arith, le, low)) in
+    (free, (hash, refl, subst (λ (c : Chain). IsIn hash.0 (hashes_of c)) is (subst (λ (h : Hash). IsIn h (hashes_of chain)) (sym wish.1.1) among)))
+
+-- ---- and so may be sent, and is needed; filters and a block while none are open to anybody
+
+pub claims_send : (s : Seen) (log : Log) (p common : ℕ) (spare : Bool) (span : Span) (chain : Chain) → Tracks s log → chain ≡ own (trail log p) → common ≤ length chain
+    → IsFree (trail log p) → verdict (trail log p) ≡ None → IsWish s.table s.claims s.verdicts p chain common spare (Claims span)
+    → MaySend log p (GetCfheaders 0 span.start span.stop) × IsNeeded s.watch log p (GetCfheaders 0 span.start span.stop)
+claims_send s log p common spare span chain tracks is low free clean wish = (record { of_its_part = claims_may s log p common spare span chain tracks is low free clean wish; wanted = tt; alone = tt }, tt)
+
+pub filters_send : (s : Seen) (log : Log) (p common : ℕ) (spare : Bool) (span : Span) (chain : Chain) → Tracks s log → chain ≡ own (trail log p) → common ≤ length chain
+    → IsFree (trail log p) → verdict (trail log p) ≡ None → (spare ≡ true → IsNoneFetching log) → IsWish s.table s.claims s.verdicts p chain common spare (Filters span)
+    → MaySend log p (GetCfilters 0 span.start span.stop) × IsNeeded s.watch log p (GetCfilters 0 span.start span.stop)
+filters_send s log p common spare span chain tracks is low free clean none wish = (
+  record { of_its_part = filters_may s log p common spare span chain tracks is low free clean wish; wanted = tt; alone = none wish.0.0 },
+  filters_needed s log p common spare span chain tracks is low wish,
+)
+
+pub block_send : (s : Seen) (log : Log) (p common : ℕ) (spare : Bool) (hash : Hash32) (chain : Chain) → Tracks s log → chain ≡ own (trail log p) → common ≤ length chain
+    → IsFree (trail log p) → (spare ≡ true → IsNoneFetching log) → IsWish s.table s.claims s.verdicts p chain common spare (Block hash)
+    → MaySend log p (GetData (block_entry hash ∷ [])) × IsNeeded s.watch log p (GetData (block_entry hash ∷ []))
+block_send s log p common spare hash chain tracks is low free none wish =
+    let needed = block_needed s log p common spare hash chain tracks wish in (
+      record { of_its_part = block_may log p common spare s hash chain is low free wish; wanted = λ entry i. (needed entry i).0; alone = none wish.1.0.0 },
+      needed,
+    )

@@ -1,5 +1,5 @@
 //! How a peer's bytes are taken.
-ghost use Rattle.std.specs.Prelude.{◌≡◌, ◌≢◌, ◌<◌, ◌≤◌, ℕ, true, Some, None, IsSome, IfOk, IfSome, OnOk, length};
+ghost use Rattle.std.specs.Prelude.{◌≡◌, ◌≢◌, ◌<◌, ◌≤◌, ℕ, List, true, Some, None, IsSome, IfOk, IfSome, OnOk, length};
 ghost use Rattle.std.specs.List.{All};
 ghost use Rattle.cf_msg.specs.declared.msg.Msg.TheVariants.{Headers, Block as BlockMessage, Cfheaders, Cfilter};
 ghost use Rattle.cf_peer.specs.Acts.{IsDoable};
@@ -32,6 +32,7 @@ fn hear_headers<H: HeaderStore>(
     ensures entered { OnOk result (IsSome (chains_of tracker.new p.0)) }
     ensures right { OnOk result (IsRight peer.new.request (claims_of tracker.new p.0)) }
     ensures others { OnOk result ((q : ℕ) → q ≢ p.0 → chains_of tracker.new q ≡ chains_of tracker.old q) }
+    ensures claims { OnOk result ((q : ℕ) → q ≢ p.0 → (block : List ℕ) → claims_of tracker.new q block ≡ claims_of tracker.old q block) }
     ensures watch { OnOk result (watch_of tracker.new ≡ watch_of tracker.old) }
     ensures waits { peer.new.framer ≡ peer.old.framer }
     ensures calm { calm peer.old ≡ true → calm peer.new ≡ true }
@@ -60,6 +61,7 @@ fn hear_block<H: HeaderStore>(
     ensures sendable { IfOk result IsReplySendable }
     ensures right { OnOk result (IsRight peer.new.request (claims_of tracker.new p.0)) }
     ensures chains { OnOk result ((q : ℕ) → chains_of tracker.new q ≡ chains_of tracker.old q) }
+    ensures claims { OnOk result ((q : ℕ) → q ≢ p.0 → (block : List ℕ) → claims_of tracker.new q block ≡ claims_of tracker.old q block) }
     ensures watch { OnOk result (watch_of tracker.new ≡ watch_of tracker.old) }
     ensures waits { peer.new.framer ≡ peer.old.framer }
     ensures calm { calm peer.old ≡ true → calm peer.new ≡ true }
@@ -96,6 +98,7 @@ fn hear_claims<H: HeaderStore>(
     ensures sendable { IfOk result IsReplySendable }
     ensures right { OnOk result (IsRight peer.new.request (claims_of tracker.new p.0)) }
     ensures chains { OnOk result ((q : ℕ) → chains_of tracker.new q ≡ chains_of tracker.old q) }
+    ensures claims { OnOk result ((q : ℕ) → q ≢ p.0 → (block : List ℕ) → claims_of tracker.new q block ≡ claims_of tracker.old q block) }
     ensures watch { OnOk result (watch_of tracker.new ≡ watch_of tracker.old) }
     ensures waits { peer.new.framer ≡ peer.old.framer }
     ensures calm { calm peer.old ≡ true → calm peer.new ≡ true }
@@ -127,6 +130,7 @@ fn hear_filter<H: HeaderStore, M: Matcher>(
     ensures sendable { IfOk result IsReplySendable }
     ensures right { OnOk result (IsRight peer.new.request (claims_of tracker.new p.0)) }
     ensures chains { OnOk result ((q : ℕ) → chains_of tracker.new q ≡ chains_of tracker.old q) }
+    ensures claims { OnOk result ((q : ℕ) → q ≢ p.0 → (block : List ℕ) → claims_of tracker.new q block ≡ claims_of tracker.old q block) }
     ensures watch { OnOk result (watch_of tracker.new ≡ watch_of tracker.old) }
     ensures waits { peer.new.framer ≡ peer.old.framer }
     ensures calm { calm peer.old ≡ true → calm peer.new ≡ true }
@@ -159,6 +163,7 @@ fn hear<H: HeaderStore, M: Matcher>(
     ensures entered { OnOk result (IsSome (chains_of tracker.new p.0)) }
     ensures right { OnOk result (IsRight peer.new.request (claims_of tracker.new p.0)) }
     ensures others { OnOk result ((q : ℕ) → q ≢ p.0 → chains_of tracker.new q ≡ chains_of tracker.old q) }
+    ensures claims { OnOk result ((q : ℕ) → q ≢ p.0 → (block : List ℕ) → claims_of tracker.new q block ≡ claims_of tracker.old q block) }
     ensures watch { OnOk result (watch_of tracker.new ≡ watch_of tracker.old) }
     ensures waits { peer.new.framer ≡ peer.old.framer }
     ensures calm { calm peer.old ≡ true → calm peer.new ≡ true }
@@ -219,6 +224,7 @@ fn hear_next<H: HeaderStore, M: Matcher>(
     ensures entered { OnOk result (IsSome (chains_of tracker.new p.0)) }
     ensures right { OnOk result (IsRight peer.new.request (claims_of tracker.new p.0)) }
     ensures others { OnOk result ((q : ℕ) → q ≢ p.0 → chains_of tracker.new q ≡ chains_of tracker.old q) }
+    ensures claims { OnOk result ((q : ℕ) → q ≢ p.0 → (block : List ℕ) → claims_of tracker.new q block ≡ claims_of tracker.old q block) }
     ensures watch { OnOk result (watch_of tracker.new ≡ watch_of tracker.old) }
     ensures calm { calm peer.old ≡ true → calm peer.new ≡ true }
 {
@@ -251,6 +257,7 @@ pub fn hear_piece<H: HeaderStore, M: Matcher>(
     ensures entered { OnOk result (IsSome (chains_of tracker.new p.0)) }
     ensures right { OnOk result (IsRight peer.new.request (claims_of tracker.new p.0)) }
     ensures others { OnOk result ((q : ℕ) → q ≢ p.0 → chains_of tracker.new q ≡ chains_of tracker.old q) }
+    ensures claims { OnOk result ((q : ℕ) → q ≢ p.0 → (block : List ℕ) → claims_of tracker.new q block ≡ claims_of tracker.old q block) }
     ensures watch { OnOk result (watch_of tracker.new ≡ watch_of tracker.old) }
     ensures calm { OnOk result (calm peer.old ≡ true → calm peer.new ≡ true) }
 {

@@ -19,6 +19,7 @@ loop-reply-init g c = record {
   entered = c.requires.entered;
   right = subst (λ (x : Peer). IsRight x.request (claims_of c.args.tracker.now c.args.p.0)) (sym c.in_ok-feed.ensures.fed) c.requires.right;
   others = λ q ne. refl;
+  claims = λ q ne block. refl;
   watch = refl;
   quiet = λ is. ap (λ (x : Peer). calm x) c.in_ok-feed.ensures.fed ∙ is;
 }
@@ -35,6 +36,7 @@ loop-reply-preserved-in-Nothing g c = record {
   entered = c.in_ok-reply.ensures.entered;
   right = c.in_ok-reply.ensures.right;
   others = λ q ne. c.in_ok-reply.ensures.others q ne ∙ c.loop-reply.invariant.others q ne;
+  claims = λ q ne block. c.in_ok-reply.ensures.claims q ne block ∙ c.loop-reply.invariant.claims q ne block;
   watch = c.in_ok-reply.ensures.watch ∙ c.loop-reply.invariant.watch;
   quiet = λ is. c.in_ok-reply.ensures.calm (c.loop-reply.invariant.quiet is);
 }
@@ -52,6 +54,7 @@ loop-reply-preserved g c = record {
   entered = c.in_ok-reply.ensures.entered;
   right = c.in_ok-reply.ensures.right;
   others = λ q ne. c.in_ok-reply.ensures.others q ne ∙ c.loop-reply.invariant.others q ne;
+  claims = λ q ne block. c.in_ok-reply.ensures.claims q ne block ∙ c.loop-reply.invariant.claims q ne block;
   watch = c.in_ok-reply.ensures.watch ∙ c.loop-reply.invariant.watch;
   quiet = λ is. c.in_ok-reply.ensures.calm (c.loop-reply.invariant.quiet is);
 }
