@@ -165,7 +165,7 @@ pred_low : (start n : ℕ) → 1 ≤ start → start ≤ n → pred start < n
 pred_low zero n low high = absurd (omega (arith, low))
 pred_low (suc k) n low high = omega (arith, high)
 
-some_block : (start : ℕ) (part : Chain) → 1 ≤ start → start ≤ length part → (block : Hash) × IsIn block (blocks_from start part)
+pub some_block : (start : ℕ) (part : Chain) → 1 ≤ start → start ≤ length part → (block : Hash) × IsIn block (blocks_from start part)
 some_block start part low high = by (blocks_from start part) count where
   count : 1 ≤ length (blocks_from start part)
   count =
@@ -180,7 +180,7 @@ some_block start part low high = by (blocks_from start part) count where
   by (x ∷ xs) some = (x, inl refl)
 
 -- two parts of shown chains with one tip are one
-one_part : (t : Trail) (a b p q : Chain) (stop : Hash) → AreApart (lists t) → Shows (lists t) a → Shows (lists t) b → back_to stop a ≡ Some p → back_to stop b ≡ Some q → p ≡ q
+pub one_part : (t : Trail) (a b p q : Chain) (stop : Hash) → AreApart (lists t) → Shows (lists t) a → Shows (lists t) b → back_to stop a ≡ Some p → back_to stop b ≡ Some q → p ≡ q
 one_part t a b p q stop apart sa sb e f =
     let x = back_in stop a p e in
     let y = back_in stop b q f in

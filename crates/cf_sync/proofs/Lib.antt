@@ -24,4 +24,6 @@ pub mod Filters
 pub mod Kept
 pub mod Stops
 pub mod VerdictsGrow
+pub mod FreshFilters
 pub mod TwoPeers
+pub mod Dispute

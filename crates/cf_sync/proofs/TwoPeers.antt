@@ -50,7 +50,7 @@ use Rattle.cf_peer.specs.Trail.{Trail, Part, Called, Said, Asked, no_address, ca
 use Rattle.cf_scan.specs.Scan.{scan_of}
 use Rattle.cf_scan.specs.Watching.{IsWatch}
 use Rattle.cf_sync.specs.Example.{only_tx, only_header, only_block, only_hash, chain_of_one, honest_peer, liar, genesis_hash, no_stop, our_version, its_version, false_version, question, its_headers, false_headers, fetch, its_block, log_1, log_2, log_3, log_4, log_5, log_6, log_7, log_8, log_9, log_10, log_11, log_12, log_13, log_14, log_15, log_16, log_17, log_18, log_19, run_of_two, cleared_run, other_watch, only_filter, only_filter_hash, genesis_filter_header, ask_claims, its_claims, ask_filter, its_filter}
-use Rattle.cf_sync.specs.Fetching.{IsQuiet, IsBusy, AreBytes, IsFetched, IsFetchedHash, IsGiven, IsCleared, IsConnected, IsNoneFetching, Rightly}
+use Rattle.cf_sync.specs.Fetching.{IsQuiet, IsBusy, AreBytes, IsFetched, IsFetchedHash, IsCleared, IsConnected, IsNoneFetching, Rightly}
 use Rattle.cf_sync.specs.Honesty.{Leaves, answers, AnswersAs, IsHonestOver, IsHonest, was_called, ShowsNoOther, filters_above}
 use Rattle.cf_sync.specs.Sync.{strings_of, IsOfBlocks, IsHashed, HasAsked}
 use Rattle.cf_dispute.proofs.Genesis.{first_header_is}
@@ -68,23 +68,23 @@ use Rattle.cf_sync.proofs.Computed.{genesis_is, name_is, txid_is, header_fits_ty
 read_back : (m : Msg) → IsSendable m → read_stream (bytes_of m) ≡ record { frames = frame_of m ∷ []; rest = []; fault = None }
 read_back m good = stream_of_spelling (frame_of m) (frame_fits m good.spelled good.short)
 
-spelled_is : (m : Msg) → IsSendable m → spelled (bytes_of m) ≡ Some m
+pub spelled_is : (m : Msg) → IsSendable m → spelled (bytes_of m) ≡ Some m
 spelled_is m good = ap message_of_stream (read_back m good) ∙ ap message_in (again m good.spelled)
 
 -- a part with no bytes that wait
-abbrev at_rest : Trail → Part
+abbrev pub at_rest : Trail → Part
 at_rest t = record { trail = t; waits = [] }
 
 heard_is : (m : Msg) (t : Trail) → IsSendable m → heard_part (bytes_of m) (at_rest t) ≡ at_rest (Said m ∷ t)
 heard_is m t good = ap (λ (r : StreamRead). part_after r t) (read_back m good) ∙ ap (λ r. at_rest (item_of_read r ∷ t)) (again m good.spelled)
 
-sent_part : (p : PeerNo) (m : Msg) (log : Log) (t : Trail) → IsSendable m → part_of log p.0 ≡ at_rest t → part_of (Sent p (bytes_of m) ∷ log) p.0 ≡ at_rest (Asked m ∷ t)
+pub sent_part : (p : PeerNo) (m : Msg) (log : Log) (t : Trail) → IsSendable m → part_of log p.0 ≡ at_rest t → part_of (Sent p (bytes_of m) ∷ log) p.0 ≡ at_rest (Asked m ∷ t)
 sent_part p m log t good e =
     ap (λ (b : Bool). if b then record (part_of log p.0) { trail = asks (spelled (bytes_of m)) (trail log p.0) } else part_of log p.0) (eq-eqb p.0 p.0 refl)
     ∙ ap (λ (part : Part). record part { trail = asks (spelled (bytes_of m)) part.trail }) e
     ∙ ap (λ (o : Option Msg). at_rest (asks o t)) (spelled_is m good)
 
-got_part : (p : PeerNo) (m : Msg) (log : Log) (t : Trail) → IsSendable m → part_of log p.0 ≡ at_rest t → part_of (Took (Got p (bytes_of m)) ∷ log) p.0 ≡ at_rest (Said m ∷ t)
+pub got_part : (p : PeerNo) (m : Msg) (log : Log) (t : Trail) → IsSendable m → part_of log p.0 ≡ at_rest t → part_of (Took (Got p (bytes_of m)) ∷ log) p.0 ≡ at_rest (Said m ∷ t)
 got_part p m log t good e =
     ap (λ (b : Bool). if b then heard_part (bytes_of m) (part_of log p.0) else part_of log p.0) (eq-eqb p.0 p.0 refl) ∙ ap (heard_part (bytes_of m)) e ∙ heard_is m t good
 
@@ -107,7 +107,7 @@ its_length : length (payload_of its_version) ≡ 92
 unfolding payload_of compact
 its_length = refl
 
-its_sendable : IsSendable its_version
+pub its_sendable : IsSendable its_version
 its_sendable = record {
   spelled = (sfits_lit tt, omega arith, sfits_lit tt, address_fits, address_fits, omega arith, omega arith, sfits_lit tt, omega arith);
   short = omega (arith, its_length);
@@ -123,7 +123,7 @@ false_sendable = record {
   short = omega (arith, false_length);
 }
 
-verack_sendable : IsSendable Verack
+pub verack_sendable : IsSendable Verack
 unfolding payload_of
 verack_sendable = record { spelled = tt; short = omega arith }
 
@@ -135,10 +135,10 @@ question_length : length (payload_of question) ≡ 69
 unfolding payload_of compact
 question_length = omega (arith, length-append (block_hash_of genesis_header ++ []) no_hash, length-append (block_hash_of genesis_header) [], block_hash_length genesis_header, no_hash_32)
 
-question_sendable : IsSendable question
+pub question_sendable : IsSendable question
 question_sendable = record { spelled = (omega arith, omega arith, (block_hash_length genesis_header, tt), no_hash_32); short = omega (arith, question_length) }
 
-headers_sendable : IsSendable its_headers
+pub headers_sendable : IsSendable its_headers
 headers_sendable = record { spelled = (omega arith, (header_fits_type, tt)); short = omega (arith, headers_size) }
 
 none_length : length (payload_of false_headers) ≡ 1
@@ -148,7 +148,7 @@ none_length = refl
 none_sendable : IsSendable false_headers
 none_sendable = record { spelled = (omega arith, tt); short = omega (arith, none_length) }
 
-name_length : length only_hash.0 ≡ 32
+pub name_length : length only_hash.0 ≡ 32
 name_length = block_hash_length only_header
 
 claims_length : length (payload_of its_claims) ≡ 98
@@ -166,75 +166,75 @@ range_length = ap (λ (x : List ℕ). length (payload_of (GetCfheaders 0 1 (reco
 entry_fits : IsEntry (block_entry only_hash)
 entry_fits = record { kind = omega arith; hash = block_hash_length only_header }
 
-fetch_sendable : IsSendable fetch
+pub fetch_sendable : IsSendable fetch
 unfolding payload_of
 fetch_sendable = record { spelled = (omega arith, (entry_fits, tt)); short = omega (arith, entries_size (block_entry only_hash ∷ []) (entry_fits, tt)) }
 
-claims_sendable : IsSendable its_claims
+pub claims_sendable : IsSendable its_claims
 unfolding payload_of compact
 claims_sendable = record { spelled = (omega arith, name_length, refl, omega arith, (refl, tt)); short = omega (arith, claims_length) }
 
-filter_sendable : IsSendable its_filter
+pub filter_sendable : IsSendable its_filter
 unfolding payload_of compact
 filter_sendable = record { spelled = (omega arith, name_length, omega arith); short = omega (arith, filter_length) }
 
-ask_claims_sendable : IsSendable ask_claims
+pub ask_claims_sendable : IsSendable ask_claims
 unfolding payload_of
 ask_claims_sendable = record { spelled = (omega arith, omega arith, name_length); short = omega (arith, range_length) }
 
-ask_filter_sendable : IsSendable ask_filter
+pub ask_filter_sendable : IsSendable ask_filter
 unfolding payload_of
 ask_filter_sendable = record { spelled = (omega arith, omega arith, name_length); short = omega (arith, range_length) }
 
-block_sendable : IsSendable its_block
+pub block_sendable : IsSendable its_block
 unfolding payload_of
 block_sendable = record { spelled = block_fits; short = omega (arith, block_length) }
 
 -- ---- the parts, moment by moment
 
-abbrev t_1 : Trail
+abbrev pub t_1 : Trail
 t_1 = Called ∷ []
 
-abbrev t_2 : Trail
+abbrev pub t_2 : Trail
 t_2 = Asked our_version ∷ t_1
 
-abbrev t_3 : Trail
+abbrev pub t_3 : Trail
 t_3 = Said its_version ∷ t_2
 
-abbrev t_4 : Trail
+abbrev pub t_4 : Trail
 t_4 = Asked Verack ∷ t_3
 
-abbrev t_5 : Trail
+abbrev pub t_5 : Trail
 t_5 = Said Verack ∷ t_4
 
-abbrev t_6 : Trail
+abbrev pub t_6 : Trail
 t_6 = Asked question ∷ t_5
 
-abbrev t_7 : Trail
+abbrev pub t_7 : Trail
 t_7 = Said its_headers ∷ t_6
 
-abbrev t_8 : Trail
+abbrev pub t_8 : Trail
 t_8 = Asked ask_claims ∷ t_7
 
-abbrev t_9 : Trail
+abbrev pub t_9 : Trail
 t_9 = Said its_claims ∷ t_8
 
-abbrev t_10 : Trail
+abbrev pub t_10 : Trail
 t_10 = Asked ask_filter ∷ t_9
 
-abbrev t_11 : Trail
+abbrev pub t_11 : Trail
 t_11 = Said its_filter ∷ t_10
 
-abbrev t_12 : Trail
+abbrev pub t_12 : Trail
 t_12 = Asked fetch ∷ t_11
 
-abbrev t_13 : Trail
+abbrev pub t_13 : Trail
 t_13 = Said its_block ∷ t_12
 
 part_1 : part_of log_1 1 ≡ at_rest t_1
 part_1 = refl
 
-part_2 : part_of log_2 1 ≡ at_rest t_2
+pub part_2 : part_of log_2 1 ≡ at_rest t_2
 part_2 = sent_part honest_peer our_version log_1 t_1 our_sendable part_1
 
 -- nothing passes of it while the other peer is heard
@@ -274,25 +274,25 @@ part_19 = sent_part honest_peer fetch log_18 t_11 fetch_sendable part_18
 part_20 : part_of run_of_two 1 ≡ at_rest t_13
 part_20 = got_part honest_peer its_block log_19 t_12 block_sendable part_19
 
-abbrev u_1 : Trail
+abbrev pub u_1 : Trail
 u_1 = Called ∷ []
 
-abbrev u_2 : Trail
+abbrev pub u_2 : Trail
 u_2 = Asked our_version ∷ u_1
 
-abbrev u_3 : Trail
+abbrev pub u_3 : Trail
 u_3 = Said false_version ∷ u_2
 
-abbrev u_4 : Trail
+abbrev pub u_4 : Trail
 u_4 = Asked Verack ∷ u_3
 
-abbrev u_5 : Trail
+abbrev pub u_5 : Trail
 u_5 = Said Verack ∷ u_4
 
-abbrev u_6 : Trail
+abbrev pub u_6 : Trail
 u_6 = Asked question ∷ u_5
 
-abbrev u_7 : Trail
+abbrev pub u_7 : Trail
 u_7 = Said false_headers ∷ u_6
 
 other_3 : part_of log_3 2 ≡ at_rest u_1
@@ -310,7 +310,7 @@ other_6 = sent_part liar Verack log_5 u_3 verack_sendable other_5
 other_7 : part_of log_7 2 ≡ at_rest u_5
 other_7 = got_part liar Verack log_6 u_4 verack_sendable other_6
 
-other_8 : part_of log_8 2 ≡ at_rest u_6
+pub other_8 : part_of log_8 2 ≡ at_rest u_6
 other_8 = sent_part liar question log_7 u_5 question_sendable other_7
 
 other_9 : part_of log_9 2 ≡ at_rest u_7
@@ -320,11 +320,11 @@ other_20 : part_of run_of_two 2 ≡ at_rest u_7
 other_20 = other_9
 
 -- what holds of a trail holds of the log
-of_part : (P : Trail → Type 0) (part : Part) (t : Trail) → part ≡ at_rest t → P t → P part.trail
+pub of_part : (P : Trail → Type 0) (part : Part) (t : Trail) → part ≡ at_rest t → P t → P part.trail
 of_part P part t e h = subst (λ (x : Part). P x.trail) (sym e) h
 
 -- nobody else was there
-abbrev AreOfTwo : Log → Type 0
+abbrev pub AreOfTwo : Log → Type 0
 AreOfTwo [] = Unit {0}
 AreOfTwo (Dialled q name ∷ log) = ((q.0 ≡ 1) ⊎ (q.0 ≡ 2)) × AreOfTwo log
 AreOfTwo (Sent q bytes ∷ log) = ((q.0 ≡ 1) ⊎ (q.0 ≡ 2)) × AreOfTwo log
@@ -349,7 +349,7 @@ all_of_two : AreOfTwo run_of_two
 all_of_two = (inl refl, (inl refl, (inl refl, (inl refl, (inl refl, (inl refl, (inl refl, (inl refl, (inl refl, (inl refl, (inl refl, (inr refl, (inr refl, (inr refl, (inr refl, (inr refl, (inr refl, (inr refl, (inl refl, (inl refl, tt))))))))))))))))))))
 
 -- what holds of both peers at a moment, and of nobody, holds of each
-at_each : (P : Trail → Type 0) (log : Log) (here there : Trail) (p : ℕ) → part_of log 1 ≡ at_rest here → part_of log 2 ≡ at_rest there → AreOfTwo log → P here → P there → P [] → P (trail log p)
+pub at_each : (P : Trail → Type 0) (log : Log) (here there : Trail) (p : ℕ) → part_of log 1 ≡ at_rest here → part_of log 2 ≡ at_rest there → AreOfTwo log → P here → P there → P [] → P (trail log p)
 at_each P log here there p one two all h t none = elim (cases_Bool (1 == p)) [
   | inl is1 ↦ subst (λ (k : ℕ). P (trail log k)) (eqb-true 1 p is1) (of_part P (part_of log 1) here one h)
   | inr off1 ↦ elim (cases_Bool (2 == p)) [
@@ -377,11 +377,11 @@ linked_back = same_from (block_hash_of genesis_header) only_header.previous.0 (s
 only_fits : fits only_header [] ≡ true
 only_fits = rw (linked, worked) refl
 
-has_room : 1 ≤ height_limit
+pub has_room : 1 ≤ height_limit
 unfolding height_limit
 has_room = omega arith
 
-accepted : accept (only_header ∷ []) [] ≡ Longer (only_header ∷ [])
+pub accepted : accept (only_header ∷ []) [] ≡ Longer (only_header ∷ [])
 accepted = let low : nat_lt height_limit 1 ≡ false = le-ltb height_limit 1 has_room in rw (linked_back, linked, worked, low) refl
 
 makes_coins : is_coinbase_tx only_tx ≡ true
@@ -392,7 +392,7 @@ good_tx : IsGoodTx empty only_tx
 unfolding only_tx
 good_tx = record { inputs = tt; fresh = (get-empty outpoint_cmp (outpoint (txid_of only_tx) 0), tt) }
 
-good_chain : IsGoodChain chain_of_one
+pub good_chain : IsGoodChain chain_of_one
 good_chain = record {
   headers = (only_fits, tt);
   height = omega arith;
@@ -401,10 +401,10 @@ good_chain = record {
 
 -- ---- the strings
 
-abbrev IsKnown : List ℕ → Type 0
+abbrev pub IsKnown : List ℕ → Type 0
 IsKnown bytes = (bytes ≡ header_spelling genesis_header) ⊎ ((bytes ≡ header_spelling only_header) ⊎ ((bytes ≡ tx_spelling only_tx) ⊎ (bytes ≡ only_filter)))
 
-abbrev first_byte : List ℕ → ℕ
+abbrev pub first_byte : List ℕ → ℕ
 first_byte bytes = get_or bytes 0 0
 
 genesis_byte : first_byte (hash_of (header_spelling genesis_header)) ≡ 6
@@ -430,7 +430,7 @@ zero_byte = refl
 byte_known : (a : List ℕ) (s : List ℕ) (n : ℕ) → a ≡ s → first_byte (hash_of s) ≡ n → first_byte (hash_of a) ≡ n
 byte_known a s n e f = ap (λ x. first_byte (hash_of x)) e ∙ f
 
-no_clash : NoHashClash IsKnown
+pub no_clash : NoHashClash IsKnown
 no_clash = record { apart = apart; real = real } where
   bytes_of_both : (a b s t : List ℕ) (m n : ℕ) → a ≡ s → b ≡ t → first_byte (hash_of s) ≡ m → first_byte (hash_of t) ≡ n → hash_of a ≡ hash_of b → m ≡ n
   bytes_of_both a b s t m n ea eb fs ft e = sym (byte_known a s m ea fs) ∙ ap first_byte e ∙ byte_known b t n eb ft
@@ -468,11 +468,11 @@ block_known : (bytes : List ℕ) → IsIn bytes (strings_of its_block) → IsKno
 block_known bytes (inl e) = inr (inl e)
 block_known bytes (inr i) = hashed_known bytes i
 
-headers_known : (bytes : List ℕ) → IsIn bytes (strings_of its_headers) → IsKnown bytes
+pub headers_known : (bytes : List ℕ) → IsIn bytes (strings_of its_headers) → IsKnown bytes
 headers_known bytes (inl e) = inr (inl e)
 headers_known bytes (inr none) = absurd none
 
-abbrev SaysKnown : Trail → Type 0
+abbrev pub SaysKnown : Trail → Type 0
 SaysKnown t = (m : Msg) (bytes : List ℕ) → HasSaid t m → IsIn bytes (strings_of m) → IsKnown bytes
 
 filter_known : (bytes : List ℕ) → IsIn bytes (strings_of its_filter) → IsKnown bytes
@@ -487,7 +487,7 @@ says_11 m bytes (inr (inr (inr (inl e)))) i = absurd (subst (λ (x : Msg). IsIn 
 says_11 m bytes (inr (inr (inr (inr (inl e))))) i = absurd (subst (λ (x : Msg). IsIn bytes (strings_of x)) e i)
 says_11 m bytes (inr (inr (inr (inr (inr none))))) i = absurd none
 
-says_13 : SaysKnown t_13
+pub says_13 : SaysKnown t_13
 says_13 m bytes (inl e) i = block_known bytes (subst (λ (x : Msg). IsIn bytes (strings_of x)) e i)
 says_13 m bytes (inr said) i = says_11 m bytes said i
 
@@ -506,7 +506,7 @@ filter_is =
     ap (λ (x : List (List ℕ)). basic_filter_of (block_hash_of only_header) (items_of only_block x)) none_spent
     ∙ ap (λ (x : List (List ℕ)). basic_filter_of (block_hash_of only_header) x) only_items ∙ ap (λ (x : List ℕ). basic_filter_of x ((0x51 ∷ []) ∷ [])) name_is ∙ only_filter_by_name
 
-chain_known : (bytes : List ℕ) → IsOfBlocks chain_of_one bytes → IsKnown bytes
+pub chain_known : (bytes : List ℕ) → IsOfBlocks chain_of_one bytes → IsKnown bytes
 chain_known bytes (inl of_blocks) = elim of_blocks.1 [
   | inl e ↦ block_known bytes (subst (λ (x : Block). IsIn bytes (strings_of (BlockMessage x))) e of_blocks.2)
   | inr none ↦ absurd none
@@ -616,47 +616,47 @@ answers_12 =
 says_1 : AnswersAs chain_of_one t_1
 says_1 = record { spelled = tt; follows = ([], refl) }
 
-says_2 : AnswersAs chain_of_one t_2
+pub says_2 : AnswersAs chain_of_one t_2
 says_2 = record { spelled = tt; follows = (its_version ∷ Verack ∷ [], refl) }
 
-says_3 : AnswersAs chain_of_one t_3
+pub says_3 : AnswersAs chain_of_one t_3
 says_3 = record { spelled = tt; follows = (Verack ∷ [], ((refl, refl), refl)) }
 
-says_4 : AnswersAs chain_of_one t_4
+pub says_4 : AnswersAs chain_of_one t_4
 says_4 = record { spelled = tt; follows = (Verack ∷ [], ((refl, refl), refl)) }
 
-says_5 : AnswersAs chain_of_one t_5
+pub says_5 : AnswersAs chain_of_one t_5
 says_5 = record { spelled = tt; follows = ([], ((refl, refl), (refl, refl))) }
 
-says_6 : AnswersAs chain_of_one t_6
+pub says_6 : AnswersAs chain_of_one t_6
 says_6 = record { spelled = tt; follows = (its_headers ∷ [], subst (λ (ns : List Msg). Leaves (its_version ∷ Verack ∷ []) ns (its_headers ∷ [])) (sym answers_6) ((refl, refl), (refl, refl))) }
 
-heard_7 : AnswersAs chain_of_one t_7
+pub heard_7 : AnswersAs chain_of_one t_7
 heard_7 = record { spelled = tt; follows = ([], subst (λ (ns : List Msg). Leaves (its_version ∷ Verack ∷ its_headers ∷ []) ns []) (sym answers_6) ((refl, refl), (refl, (refl, refl)))) }
 
-heard_8 : AnswersAs chain_of_one t_8
+pub heard_8 : AnswersAs chain_of_one t_8
 heard_8 = record { spelled = tt; follows = (its_claims ∷ [], subst (λ (ns : List Msg). Leaves (its_version ∷ Verack ∷ its_headers ∷ []) ns (its_claims ∷ [])) (sym answers_8) ((refl, refl), (refl, (refl, refl)))) }
 
-heard_9 : AnswersAs chain_of_one t_9
+pub heard_9 : AnswersAs chain_of_one t_9
 heard_9 = record { spelled = tt; follows = ([], subst (λ (ns : List Msg). Leaves (its_version ∷ Verack ∷ its_headers ∷ its_claims ∷ []) ns ([])) (sym answers_8) ((refl, refl), (refl, (refl, (refl, refl))))) }
 
-heard_10 : AnswersAs chain_of_one t_10
+pub heard_10 : AnswersAs chain_of_one t_10
 heard_10 = record { spelled = tt; follows = (its_filter ∷ [], subst (λ (ns : List Msg). Leaves (its_version ∷ Verack ∷ its_headers ∷ its_claims ∷ []) ns (its_filter ∷ [])) (sym answers_10) ((refl, refl), (refl, (refl, (refl, refl))))) }
 
-heard_11 : AnswersAs chain_of_one t_11
+pub heard_11 : AnswersAs chain_of_one t_11
 heard_11 = record { spelled = tt; follows = ([], subst (λ (ns : List Msg). Leaves (its_version ∷ Verack ∷ its_headers ∷ its_claims ∷ its_filter ∷ []) ns ([])) (sym answers_10) ((refl, refl), (refl, (refl, (refl, (refl, refl)))))) }
 
-heard_12 : AnswersAs chain_of_one t_12
+pub heard_12 : AnswersAs chain_of_one t_12
 heard_12 = record { spelled = tt; follows = (its_block ∷ [], subst (λ (ns : List Msg). Leaves (its_version ∷ Verack ∷ its_headers ∷ its_claims ∷ its_filter ∷ []) ns (its_block ∷ [])) (sym answers_12) ((refl, refl), (refl, (refl, (refl, (refl, refl)))))) }
 
-heard_13 : AnswersAs chain_of_one t_13
+pub heard_13 : AnswersAs chain_of_one t_13
 heard_13 = record { spelled = tt; follows = ([], subst (λ (ns : List Msg). Leaves (its_version ∷ Verack ∷ its_headers ∷ its_claims ∷ its_filter ∷ its_block ∷ []) ns ([])) (sym answers_12) ((refl, refl), (refl, (refl, (refl, (refl, (refl, refl))))))) }
 
 -- at a moment of the log
-at_log : (log : Log) (t : Trail) → part_of log 1 ≡ at_rest t → AnswersAs chain_of_one t → AnswersAs chain_of_one (trail log 1)
+pub at_log : (log : Log) (t : Trail) → part_of log 1 ≡ at_rest t → AnswersAs chain_of_one t → AnswersAs chain_of_one (trail log 1)
 at_log log t e h = of_part (AnswersAs chain_of_one) (part_of log 1) t e h
 
-honest_9 : IsHonestOver log_9 1 chain_of_one
+pub honest_9 : IsHonestOver log_9 1 chain_of_one
 honest_9 = (
   at_log log_9 t_2 part_2 says_2,
   tt,
@@ -733,36 +733,36 @@ cleared_honest = record { good = good_chain; low = has_room; dialled = of_part (
 
 -- ---- what was asked might be asked
 
-own_7 : own t_7 ≡ only_header ∷ []
+pub own_7 : own t_7 ≡ only_header ∷ []
 own_7 = ap (λ (a : Accepted). longer_of a []) accepted
 
 clean_7 : verdict t_7 ≡ None
 clean_7 = ap fault_in accepted
 
-other_hash : same (block_hash_of genesis_header) only_hash.0 ≡ false
+pub other_hash : same (block_hash_of genesis_header) only_hash.0 ≡ false
 other_hash = elim (cases_same (block_hash_of genesis_header) only_hash.0) [
   | inl is1 ↦ (let f : 6 ≡ 191 = sym (ap first_byte genesis_is) ∙ ap first_byte is1.0 ∙ ap first_byte name_is in absurd (omega (arith, f)))
   | inr off ↦ off.0
 ]
 
-self_hash : same only_hash.0 only_hash.0 ≡ true
+pub self_hash : same only_hash.0 only_hash.0 ≡ true
 self_hash = same_self only_hash.0
 
 back_only : back_to only_hash.0 (own t_7) ≡ Some (only_header ∷ [])
 back_only = ap (λ (c : Chain). back_to only_hash.0 c) own_7 ∙ rw (other_hash, self_hash) refl
 
-range_of_one : (few : ℕ) (t : Trail) → 0 < few → own t ≡ own t_7 → IsRange t 0 1 only_hash.0 few
+pub range_of_one : (few : ℕ) (t : Trail) → 0 < few → own t ≡ own t_7 → IsRange t 0 1 only_hash.0 few
 range_of_one few t some e = record { basic = refl; part = only_header ∷ []; tip = ap (λ (c : Chain). back_to only_hash.0 c) e ∙ back_only; low = omega arith; high = omega arith; bound = omega (arith, some) }
 
-may_ask_claims : MayAsk t_7 ask_claims
+pub may_ask_claims : MayAsk t_7 ask_claims
 unfolding range_of_one
 may_ask_claims = (record { on = refl; over = refl; idle = refl }, (range_of_one 2000 t_7 (omega arith) refl, (λ block i. absurd i), λ block i c. let none : None ≡ Some c.0 = c.1 in cc))
 
-request_8 : request t_8 ≡ ClaimsOpen only_hash.0 (block_hash_of genesis_header) (only_hash.0 ∷ [])
+pub request_8 : request t_8 ≡ ClaimsOpen only_hash.0 (block_hash_of genesis_header) (only_hash.0 ∷ [])
 request_8 = ap (λ o. claims_asked 1 only_hash.0 o) back_only
 
 -- what it claims
-abbrev only_claim : Claim
+abbrev pub only_claim : Claim
 only_claim = claim_of (record { 0 = only_filter_hash }) (record { 0 = genesis_filter_header })
 
 claims_9 : claims t_9 ≡ with_claim only_hash.0 only_claim no_claims
@@ -771,10 +771,10 @@ claims_9 = ap (λ r. claims_after its_claims r no_claims) request_8 ∙ rw self_
 claim_found : claims t_9 only_hash.0 ≡ Some only_claim
 claim_found = ap (λ (c : Table). c only_hash.0) claims_9 ∙ rw self_hash refl
 
-request_9 : request t_9 ≡ NothingOpen
+pub request_9 : request t_9 ≡ NothingOpen
 request_9 = ap (λ r. request_after its_claims r) request_8 ∙ rw self_hash refl
 
-first_same : same first_header.0 genesis_filter_header ≡ true
+pub first_same : same first_header.0 genesis_filter_header ≡ true
 first_same = same_from first_header.0 genesis_filter_header (ap (λ (h : Hash32). h.0) first_header_is)
 
 claims_fine : fault_of its_claims t_8 ≡ None
@@ -783,14 +783,14 @@ claims_fine = ap (λ r. claims_fault 0 only_hash.0 genesis_filter_header (record
 clean_9 : verdict t_9 ≡ None
 clean_9 = ap (λ x. first x (fault_of its_claims t_8)) clean_7 ∙ claims_fine
 
-may_ask_filter : MayAsk t_9 ask_filter
+pub may_ask_filter : MayAsk t_9 ask_filter
 unfolding range_of_one
 may_ask_filter = (
   record { on = refl; over = refl; idle = request_9 },
   (range_of_one 1000 t_9 (omega arith) refl, λ block i. elim i [ inl e ↦ (only_claim, ap (λ (x : List ℕ). claims t_9 x) e ∙ claim_found) | inr none ↦ absurd none ]),
 )
 
-request_10 : request t_10 ≡ FiltersOpen (only_hash.0 ∷ []) []
+pub request_10 : request t_10 ≡ FiltersOpen (only_hash.0 ∷ []) []
 request_10 = ap (λ o. filters_asked 1 o) back_only
 
 hash_same : same only_filter_hash (filter_hash_of only_filter) ≡ true
@@ -799,26 +799,26 @@ hash_same = same_from only_filter_hash (filter_hash_of only_filter) (sym only_fi
 filter_fine : fault_of its_filter t_10 ≡ None
 filter_fine = ap (λ r. filter_fault 0 only_hash.0 only_filter r (claims t_9)) request_10 ∙ rw (self_hash, claim_found, hash_same) refl
 
-clean_11 : verdict t_11 ≡ None
+pub clean_11 : verdict t_11 ≡ None
 clean_11 = ap (λ x. first x (fault_of its_filter t_10)) clean_9 ∙ filter_fine
 
-request_11 : request t_11 ≡ NothingOpen
+pub request_11 : request t_11 ≡ NothingOpen
 request_11 = ap (λ r. request_after its_filter r) request_10 ∙ rw self_hash refl
 
-may_fetch : MayAsk t_11 fetch
+pub may_fetch : MayAsk t_11 fetch
 may_fetch = (
   record { on = refl; over = refl; idle = request_11 },
   (only_hash, refl, subst (λ (c : Chain). IsIn only_hash.0 (hashes_of c)) (sym own_7) (inl refl)),
 )
 
 -- before the block came none was fetched
-abbrev HasNone : Trail → Type 0
+abbrev pub HasNone : Trail → Type 0
 HasNone t = (b : Block) → IsIn b (fetched (counted t)) → ⊥
 
-unsaid : (t : Trail) → ((b : Block) → HasSaid t (BlockMessage b) → ⊥) → HasNone t
+pub unsaid : (t : Trail) → ((b : Block) → HasSaid t (BlockMessage b) → ⊥) → HasNone t
 unsaid t none b i = none b (counted_said t (BlockMessage b) (fetched_said (counted t) b i).0)
 
-no_block_11 : (b : Block) → HasSaid t_11 (BlockMessage b) → ⊥
+pub no_block_11 : (b : Block) → HasSaid t_11 (BlockMessage b) → ⊥
 no_block_11 b (inl e) = cc
 no_block_11 b (inr (inl e)) = cc
 no_block_11 b (inr (inr (inl e))) = cc
@@ -836,7 +836,7 @@ none_fetched : (b : Block) → IsFetched log_18 b → ⊥
 none_fetched b got = at_each HasNone log_18 t_11 u_7 got.0 part_18 other_20 all_of_two.1.1 (unsaid t_11 no_block_11) (unsaid u_7 no_other_block) (λ c i. i) b got.1
 
 -- nor were filters or a block open to anybody
-abbrev IsSpare : Trail → Type 0
+abbrev pub IsSpare : Trail → Type 0
 IsSpare t = connected t ≡ true → is_spare (request t) ≡ true
 
 none_open_16 : IsNoneFetching log_16
@@ -845,8 +845,29 @@ none_open_16 q = at_each IsSpare log_16 t_9 u_7 q part_16 other_20 all_of_two.1.
 none_open_18 : IsNoneFetching log_18
 none_open_18 q = at_each IsSpare log_18 t_11 u_7 q part_18 other_20 all_of_two.1.1 (λ on. ap (λ r. is_spare r) request_11) (λ on. refl) (λ on. refl)
 
-busy_1 : (log : Log) → part_of log 1 ≡ at_rest t_2 → IsBusy log
+pub busy_1 : (log : Log) → part_of log 1 ≡ at_rest t_2 → IsBusy log
 busy_1 log e = (1, of_part (λ t. is_open t ≡ true) (part_of log 1) t_2 e refl)
+
+pub right_9 : Rightly log_9
+right_9 = (
+  busy_1 log_8 part_2,
+  (
+    (question, spelled_is question question_sendable, record { of_its_part = of_part (λ t. MayAsk t question) (part_of log_7 2) u_5 other_7 (record { on = refl; over = refl; idle = refl }, refl, refl, refl, refl); wanted = tt; alone = tt }),
+    (
+      busy_1 log_6 part_2,
+      (
+        (Verack, spelled_is Verack verack_sendable, record { of_its_part = of_part (λ t. MayAsk t Verack) (part_of log_5 2) u_3 other_5 (refl, refl); wanted = tt; alone = tt }),
+        (
+          busy_1 log_4 part_2,
+          (
+            (our_version, spelled_is our_version our_sendable, record { of_its_part = of_part (λ t. MayAsk t our_version) (part_of log_3 2) u_1 other_3 (refl, refl, (refl, refl, refl, refl, refl, refl, refl)); wanted = tt; alone = tt }),
+            ((our_version, spelled_is our_version our_sendable, record { of_its_part = of_part (λ t. MayAsk t our_version) (part_of log_1 1) t_1 part_1 (refl, refl, (refl, refl, refl, refl, refl, refl, refl)); wanted = tt; alone = tt }), tt),
+          ),
+        ),
+      ),
+    ),
+  ),
+)
 
 right_14 : Rightly log_14
 right_14 = (
@@ -861,29 +882,9 @@ right_14 = (
       ),
     ),
   ),
-) where
-  right_9 : Rightly log_9
-  right_9 = (
-    busy_1 log_8 part_2,
-    (
-      (question, spelled_is question question_sendable, record { of_its_part = of_part (λ t. MayAsk t question) (part_of log_7 2) u_5 other_7 (record { on = refl; over = refl; idle = refl }, refl, refl, refl, refl); wanted = tt; alone = tt }),
-      (
-        busy_1 log_6 part_2,
-        (
-          (Verack, spelled_is Verack verack_sendable, record { of_its_part = of_part (λ t. MayAsk t Verack) (part_of log_5 2) u_3 other_5 (refl, refl); wanted = tt; alone = tt }),
-          (
-            busy_1 log_4 part_2,
-            (
-              (our_version, spelled_is our_version our_sendable, record { of_its_part = of_part (λ t. MayAsk t our_version) (part_of log_3 2) u_1 other_3 (refl, refl, (refl, refl, refl, refl, refl, refl, refl)); wanted = tt; alone = tt }),
-              ((our_version, spelled_is our_version our_sendable, record { of_its_part = of_part (λ t. MayAsk t our_version) (part_of log_1 1) t_1 part_1 (refl, refl, (refl, refl, refl, refl, refl, refl, refl)); wanted = tt; alone = tt }), tt),
-            ),
-          ),
-        ),
-      ),
-    ),
-  )
+)
 
-open_where : (t : Trail) (r : OpenRequest) → connected t ≡ true → request t ≡ r → is_idle r ≡ false → is_open t ≡ true
+pub open_where : (t : Trail) (r : OpenRequest) → connected t ≡ true → request t ≡ r → is_idle r ≡ false → is_open t ≡ true
 open_where t r on e busy = rw (on, e, busy) (or_true (not (ready t))) where
   or_true : (b : Bool) → (b || true) ≡ true
   or_true true = refl
@@ -912,7 +913,7 @@ is_right = (
 
 -- ---- the end
 
-only_wanted : is_wanted only_block only_hash.0 ≡ true
+pub only_wanted : is_wanted only_block only_hash.0 ≡ true
 only_wanted = same_self (block_hash_of only_header)
 
 clean_13 : verdict t_13 ≡ None
@@ -921,7 +922,7 @@ clean_13 = ap (λ x. first x (block_fault only_block (BlockOpen only_hash.0))) c
 heard_out_7 : heard t_7 ≡ true
 heard_out_7 = ap (λ (a : Accepted). ends_by a (only_header ∷ [])) accepted
 
-still_true : (b : Bool) → b ≡ true → (b || false) ≡ true
+pub still_true : (b : Bool) → b ≡ true → (b || false) ≡ true
 still_true b e = ap (λ (x : Bool). x || false) e
 
 heard_out_11 : heard t_11 ≡ true
@@ -944,13 +945,13 @@ counts_of t on clean chain whole shown claimed = let u = same_use t on clean in 
   claimed = ap (λ (c : Table). c only_hash.0) (u.claiming ∙ claimed) ∙ claim_found;
 }
 
-counts_13 : Counts t_13
+pub counts_13 : Counts t_13
 counts_13 = counts_of t_13 refl clean_13 refl (still_true (heard t_11) heard_out_11) refl refl
 
-counts_11 : Counts t_11
+pub counts_11 : Counts t_11
 counts_11 = counts_of t_11 refl clean_11 refl heard_out_11 refl refl
 
-fetched_13 : IsIn only_block (fetched (counted t_13))
+pub fetched_13 : IsIn only_block (fetched (counted t_13))
 fetched_13 =
     let open_12 : request (counted t_12) ≡ BlockOpen only_hash.0 = (same_use t_12 refl clean_11).open_one in
     let one : counted t_13 ≡ Said its_block ∷ counted t_12 = said_counts its_block t_12 refl clean_13 in
@@ -970,9 +971,6 @@ same_other = same_use u_7 refl refl
 is_fetched : IsFetched run_of_two only_block
 is_fetched = (1, of_part (λ t. IsIn only_block (fetched (counted t))) (part_of run_of_two 1) t_13 part_20 fetched_13)
 
-is_given : IsGiven cleared_run (filter_of only_hash only_filter)
-is_given = (1, of_part (λ t. IsIn (filter_of only_hash only_filter) (given (counted t))) (part_of cleared_run 1) t_11 part_18 given_11)
-
 pub is_quiet : IsQuiet run_of_two
 is_quiet p = of_each (λ t. is_open t ≡ false) p (rw only_wanted refl) refl refl
 
@@ -991,15 +989,15 @@ one_chain (x ∷ y ∷ below) valid all long =
     let f : 6 ≡ 191 = sym (ap first_byte genesis_is) ∙ ap first_byte both ∙ ap first_byte name_is in
     absurd (omega (arith, f))
 
-abbrev ShowsOnly : Chain → Trail → Type 0
+abbrev pub ShowsOnly : Chain → Trail → Type 0
 ShowsOnly other t = connected t ≡ true → Shows (lists (counted t)) other → 1 ≤ length other → other ≡ only_header ∷ []
 
 none_shown : (other : Chain) (ls : List (List Header)) → ((h : Header) → IsShown ls h → ⊥) → Shows ls other → 1 ≤ length other → other ≡ only_header ∷ []
 none_shown [] ls none shows long = absurd (omega (arith, long))
 none_shown (h ∷ below) ls none shows long = absurd (none h (shows.told h (inl refl)))
 
-only_of : (other : Chain) (t : Trail) → Counts t → ShowsOnly other t
-only_of other t c is1 shows l = one_chain other shows.valid (λ h i. told h (subst (λ (ls : List (List Header)). IsShown ls h) c.showing (shows.told h i))) l where
+pub only_of : (other : Chain) (t : Trail) → lists (counted t) ≡ (only_header ∷ []) ∷ [] → ShowsOnly other t
+only_of other t showing is1 shows l = one_chain other shows.valid (λ h i. told h (subst (λ (ls : List (List Header)). IsShown ls h) showing (shows.told h i))) l where
   told : (h : Header) → IsShown ((only_header ∷ []) ∷ []) h → h ≡ only_header
   told h (inl (inl e)) = e
   told h (inl (inr none)) = absurd none
@@ -1012,10 +1010,10 @@ none_of other is1 shows l = none_shown other (lists (counted u_7)) (λ h i. noth
   nothing h (inr none) = none
 
 pub shows_no_other : ShowsNoOther run_of_two chain_of_one
-shows_no_other q other on shows long = of_each (ShowsOnly other) q (only_of other t_13 counts_13) (none_of other) (λ is1 s l. absurd (false≢true is1)) on shows long
+shows_no_other q other on shows long = of_each (ShowsOnly other) q (only_of other t_13 counts_13.showing) (none_of other) (λ is1 s l. absurd (false≢true is1)) on shows long
 
 pub cleared_shows_no_other : ShowsNoOther cleared_run chain_of_one
-cleared_shows_no_other q other on shows long = of_cleared (ShowsOnly other) q (only_of other t_11 counts_11) (none_of other) (λ is1 s l. absurd (false≢true is1)) on shows long
+cleared_shows_no_other q other on shows long = of_cleared (ShowsOnly other) q (only_of other t_11 counts_11.showing) (none_of other) (λ is1 s l. absurd (false≢true is1)) on shows long
 
 bytes_14 : AreBytes log_14
 bytes_14 = (
@@ -1040,27 +1038,27 @@ settled block (inl e) = (only_block, is_fetched, sym e)
 settled block (inr none) = absurd none
 
 -- a peer with this chain claims its block
-abbrev ClaimsIt : Trail → Type 0
+abbrev pub ClaimsIt : Trail → Type 0
 ClaimsIt t = own (counted t) ≡ only_header ∷ [] → (block : List ℕ) → IsIn block (hashes_of (only_header ∷ [])) → HasHeader (counted t) block
 
-claims_it : (t : Trail) → Counts t → ClaimsIt t
-claims_it t c mine block (inl e) = subst (λ (x : List ℕ). HasHeader (counted t) x) (sym e) (rw (other_hash, c.claimed) refl)
-claims_it t c mine block (inr none) = absurd none
+pub claims_it : (t : Trail) (claim : Claim) → claims (counted t) only_hash.0 ≡ Some claim → ClaimsIt t
+claims_it t claim claimed mine block (inl e) = subst (λ (x : List ℕ). HasHeader (counted t) x) (sym e) (rw (other_hash, claimed) refl)
+claims_it t claim claimed mine block (inr none) = absurd none
 
 other_claims : ClaimsIt u_7
 other_claims mine block i = absurd (let none : [] ≡ only_header ∷ [] = sym same_other.chain ∙ mine in cc)
 
-nobody_claims : ClaimsIt []
+pub nobody_claims : ClaimsIt []
 nobody_claims mine block i = absurd (let none : [] ≡ only_header ∷ [] = mine in cc)
 
-one_long : (t : Trail) → Counts t → length (own (counted t)) ≤ 1
-one_long t c = let e = ap (λ (x : Chain). length x) c.chain in omega (arith, e)
+pub one_long : (t : Trail) → own (counted t) ≡ only_header ∷ [] → length (own (counted t)) ≤ 1
+one_long t chain = let e = ap (λ (x : Chain). length x) chain in omega (arith, e)
 
 other_long : length (own (counted u_7)) ≤ 1
 other_long = let e = ap (λ (c : Chain). length c) same_other.chain in omega (arith, e)
 
 -- nobody has a number below the honest peer's
-nobody_below : (log : Log) (q : ℕ) → connected (trail log 0) ≡ false → q < 1 → IsConnected log q → ⊥
+pub nobody_below : (log : Log) (q : ℕ) → connected (trail log 0) ≡ false → q < 1 → IsConnected log q → ⊥
 nobody_below log q off below on = let none : q ≡ 0 = omega (arith, below) in false≢true (sym off ∙ subst (λ (k : ℕ). connected (trail log k) ≡ true) none on)
 
 pub has_asked : (watch : List (List ℕ)) → IsWatch watch → HasAsked watch 1 only_hash (scan_of chain_of_one watch) run_of_two
@@ -1071,7 +1069,7 @@ has_asked watch fits = record {
   told = record {
     chain = only_header ∷ [];
     best = record {
-      longest = λ p on. of_each (λ t. length (own (counted t)) ≤ 1) p (one_long t_13 counts_13) other_long (omega arith);
+      longest = λ p on. of_each (λ t. length (own (counted t)) ≤ 1) p (one_long t_13 counts_13.chain) other_long (omega arith);
       shown = inl (
         1,
         (
@@ -1087,38 +1085,43 @@ has_asked watch fits = record {
   };
   asked_out = λ p on idle. record {
     heard_out = of_each (λ t. connected t ≡ true → heard (counted t) ≡ true) p (λ is1. counts_13.heard_out) (λ is1. same_other.hearing) (λ is1. absurd (false≢true is1)) on;
-    claimed = of_each ClaimsIt p (claims_it t_13 counts_13) other_claims nobody_claims;
+    claimed = of_each ClaimsIt p (claims_it t_13 only_claim counts_13.claimed) other_claims nobody_claims;
     settled = λ spare mine block i above. inl (settled block i);
   };
 }
 
 -- ---- the run in which the block is cleared
 
-only_header_known : (hash : Hash32) → hash_claimed (with_claim only_hash.0 only_claim no_claims) only_hash.0 ≡ Some hash → hash ≡ record { 0 = only_filter_hash }
-only_header_known hash e = (let f : Some (record { 0 = only_filter_hash }) ≡ Some hash = sym (rw self_hash refl) ∙ e in let g : record { 0 = only_filter_hash } ≡ hash = cc in sym g)
-
-abbrev AgreesWithIt : Trail → Type 0
+abbrev pub AgreesWithIt : Trail → Type 0
 AgreesWithIt t = (hash : Hash32) → hash_claimed (claims (counted t)) only_hash.0 ≡ Some hash → hash ≡ record { 0 = only_filter_hash }
 
-cleared : IsCleared other_watch cleared_run only_hash.0
-cleared = record {
+-- a log with the honest peer's filter, in which the other claims nothing of the block
+pub cleared_by : (log : Log) (other : Trail) → part_of log 1 ≡ at_rest t_11 → part_of log 2 ≡ at_rest other → AreOfTwo log → AgreesWithIt other → IsCleared other_watch log only_hash.0
+cleared_by log other one two both silent = record {
   hash = record { 0 = only_filter_hash };
   agreed = record {
     who = 1;
-    there = of_part (λ t. connected t ≡ true) (part_of cleared_run 1) t_11 part_18 refl;
-    claims = of_part (λ t. hash_claimed (claims (counted t)) only_hash.0 ≡ Some (record { 0 = only_filter_hash })) (part_of cleared_run 1) t_11 part_18
+    there = of_part (λ t. connected t ≡ true) (part_of log 1) t_11 one refl;
+    claims = of_part (λ t. hash_claimed (claims (counted t)) only_hash.0 ≡ Some (record { 0 = only_filter_hash })) (part_of log 1) t_11 one
         (ap (λ o. option_map (λ (c : Claim). c.hash) o) counts_11.claimed);
-    alone = λ p other on is. of_cleared AgreesWithIt p
+    alone = λ p hash on is. at_each AgreesWithIt log t_11 other p one two both
         (λ hash e. let f : Some (record { 0 = only_filter_hash }) ≡ Some hash = sym (ap (λ o. option_map (λ (c : Claim). c.hash) o) counts_11.claimed) ∙ e in let g : record { 0 = only_filter_hash } ≡ hash = cc in sym g)
-        (λ hash e. absurd (let f : None ≡ Some hash = sym (ap (λ (c : Table). hash_claimed c only_hash.0) same_other.claiming) ∙ e in cc))
-        (λ hash e. absurd (let f : None ≡ Some hash = e in cc)) other is;
+        silent
+        (λ hash e. absurd (let f : None ≡ Some hash = e in cc)) hash is;
   };
   filter = filter_of only_hash only_filter;
-  given = is_given;
+  given = (1, of_part (λ t. IsIn (filter_of only_hash only_filter) (given (counted t))) (part_of log 1) t_11 one given_11);
   of_block = refl;
   this = only_filter_hash_is;
   verdict = ap (λ (x : List ℕ). is_miss (match_of x other_watch only_filter)) name_is ∙ ap is_miss only_misses;
 }
+
+-- one that claims nothing agrees with all
+pub silent_agrees : (t : Trail) → claims (counted t) only_hash.0 ≡ None → AgreesWithIt t
+silent_agrees t none hash e = absurd (let f : None ≡ Some hash = sym (ap (λ o. option_map (λ (c : Claim). c.hash) o) none) ∙ e in cc)
+
+cleared : IsCleared other_watch cleared_run only_hash.0
+cleared = cleared_by cleared_run u_7 part_18 other_20 all_of_two.1.1 (silent_agrees u_7 (ap (λ (c : Table). c only_hash.0) same_other.claiming))
 
 cleared_settled : (block : List ℕ) → IsIn block (hashes_of (only_header ∷ [])) → IsCleared other_watch cleared_run block
 cleared_settled block (inl e) = subst (λ (x : List ℕ). IsCleared other_watch cleared_run x) (sym e) cleared
@@ -1135,7 +1138,7 @@ cleared_asked = record {
   told = record {
     chain = only_header ∷ [];
     best = record {
-      longest = λ p on. of_cleared (λ t. length (own (counted t)) ≤ 1) p (one_long t_11 counts_11) other_long (omega arith);
+      longest = λ p on. of_cleared (λ t. length (own (counted t)) ≤ 1) p (one_long t_11 counts_11.chain) other_long (omega arith);
       shown = inl (
         1,
         (
@@ -1151,7 +1154,7 @@ cleared_asked = record {
   };
   asked_out = λ p on idle. record {
     heard_out = of_cleared (λ t. connected t ≡ true → heard (counted t) ≡ true) p (λ is1. counts_11.heard_out) (λ is1. same_other.hearing) (λ is1. absurd (false≢true is1)) on;
-    claimed = of_cleared ClaimsIt p (claims_it t_11 counts_11) other_claims nobody_claims;
+    claimed = of_cleared ClaimsIt p (claims_it t_11 only_claim counts_11.claimed) other_claims nobody_claims;
     settled = λ spare mine block i above. inr (cleared_settled block i);
   };
 }

@@ -1,0 +1,375 @@
+-- The run with two peers in which a dispute stands: the second shows the same chain and claims another filter of its block, which is fetched then.
+use Rattle.std.proofs.Common.{◌≡◌, ◌⊎◌, inl, inr, ℕ, ◌<◌, ◌≤◌, List, [], ◌∷◌, ◌++◌, length, Option, Some, None, Bool, true, false, not, ◌&&◌, if◌then◌else◌, refl, sym, ◌∙◌, ap, subst, arith}
+use Rattle.std.specs.Prelude.{option_map}
+use Rattle.std.proofs.lemmas.Bool.{false≢true}
+use Rattle.cf_bytes.specs.Compact.{compact}
+use Rattle.cf_bytes.specs.declared.hash.Hash32.{Hash32}
+use Rattle.cf_block.specs.declared.header.Header.{Header}
+use Rattle.cf_block.specs.declared.tx.Block.{Block}
+use Rattle.cf_block.specs.Header.{block_hash_of, genesis_header}
+use Rattle.cf_dispute.specs.declared.claim.Claim.{Claim}
+use Rattle.cf_dispute.specs.Claims.{Table, claim_of, no_claims, with_claim, with_claims}
+use Rattle.cf_headers.specs.Chain.{Chain, Accepted, accept, back_to, IsIn, NoHashClash}
+use Rattle.cf_msg.specs.declared.msg.Msg.{Msg}
+use Rattle.cf_msg.specs.declared.msg.Msg.TheVariants.{Verack, Cfheaders, Block as BlockMessage}
+use Rattle.cf_msg.specs.Message.{payload_of}
+use Rattle.cf_peer.specs.Acts.{bytes_of, IsSendable}
+use Rattle.cf_peer.specs.Asking.{is_spare, NothingOpen, ClaimsOpen, FiltersOpen, claims_asked, claims, claims_after, claims_fault, hash_claimed, fault_of, request, request_after, is_idle, is_open, verdict, counted, fetched, lists, hashes_of, HasSaid, MayAsk, SameUse}
+use Rattle.cf_peer.specs.Log.{Log}
+use Rattle.cf_peer.specs.Trail.{Trail, Part, Said, Asked, part_of, trail, connected, own, heard, longer_of, ends_by, fault_in, first}
+use Rattle.cf_scan.specs.Scan.{scan_of}
+use Rattle.cf_scan.specs.Watching.{IsWatch}
+use Rattle.cf_sync.specs.Example.{only_header, only_block, only_hash, chain_of_one, honest_peer, liar, its_version, question, its_headers, ask_claims, its_claims, false_claims, ask_filter, its_filter, fetch, its_block, false_version, genesis_filter_header, only_filter_hash, false_filter_hash, other_watch, log_8, dispute_9, dispute_10, dispute_11, dispute_12, dispute_13, dispute_14, dispute_15, dispute_16, dispute_17, dispute_18, dispute_19, dispute_20, dispute_21, disputed_run}
+use Rattle.cf_sync.specs.Fetching.{IsQuiet, AreBytes, IsFetched, IsFetchedHash, IsCleared, IsDisputed, IsBlockWanted, IsNoneFetching, Rightly}
+use Rattle.cf_sync.specs.Honesty.{IsHonestOver, IsHonest, was_called, ShowsNoOther}
+use Rattle.cf_sync.specs.Sync.{strings_of, IsHashed, HasAsked}
+use Rattle.cf_sync.proofs.Chains.{same_self}
+use Rattle.cf_sync.proofs.Computed.{name_is, small_bytes, version_small, false_version_small, verack_small, headers_small, claims_small, false_claims_small, filter_small, block_small}
+use Rattle.cf_sync.proofs.Counted.{same_use}
+use Rattle.cf_sync.proofs.TwoPeers.{at_rest, sent_part, got_part, spelled_is, name_length, its_sendable, verack_sendable, question_sendable, headers_sendable, claims_sendable, filter_sendable, ask_claims_sendable, ask_filter_sendable, fetch_sendable, block_sendable, part_2, other_8, of_part, AreOfTwo, at_each, accepted, no_clash, IsKnown, SaysKnown, says_13, headers_known, chain_known, good_chain, has_room, at_log, honest_9, says_2, says_3, says_4, says_5, says_6, heard_7, heard_8, heard_9, heard_10, heard_11, heard_12, heard_13, own_7, other_hash, self_hash, range_of_one, may_ask_claims, request_8, request_9, request_10, request_11, first_same, may_ask_filter, may_fetch, HasNone, unsaid, no_block_11, IsSpare, busy_1, right_9, open_where, only_wanted, still_true, counts_13, counts_11, fetched_13, ShowsOnly, only_of, ClaimsIt, nobody_claims, claims_it, one_long, nobody_below, cleared_by, silent_agrees, only_claim, first_byte, t_2, t_3, t_4, t_5, t_6, t_7, t_8, t_9, t_10, t_11, t_12, t_13, u_6}
+
+-- ---- what the second claims
+
+false_length : length (payload_of false_claims) ≡ 98
+unfolding payload_of compact
+false_length = ap (λ (x : List ℕ). length (payload_of (Cfheaders 0 (record { 0 = x }) (record { 0 = genesis_filter_header }) (record { 0 = false_filter_hash } ∷ [])))) name_is
+
+false_sendable : IsSendable false_claims
+unfolding payload_of compact
+false_sendable = record { spelled = (omega arith, name_length, refl, omega arith, (refl, tt)); short = omega (arith, false_length) }
+
+abbrev false_claim : Claim
+false_claim = claim_of (record { 0 = false_filter_hash }) (record { 0 = genesis_filter_header })
+
+-- ---- the parts, moment by moment
+
+abbrev v_7 : Trail
+v_7 = Said its_headers ∷ u_6
+
+abbrev v_8 : Trail
+v_8 = Asked ask_claims ∷ v_7
+
+abbrev v_9 : Trail
+v_9 = Said false_claims ∷ v_8
+
+other_9 : part_of dispute_9 2 ≡ at_rest v_7
+other_9 = got_part liar its_headers log_8 u_6 headers_sendable other_8
+
+other_10 : part_of dispute_10 2 ≡ at_rest v_8
+other_10 = sent_part liar ask_claims dispute_9 v_7 ask_claims_sendable other_9
+
+other_19 : part_of dispute_19 2 ≡ at_rest v_8
+other_19 = other_10
+
+other_20 : part_of dispute_20 2 ≡ at_rest v_9
+other_20 = got_part liar false_claims dispute_19 v_8 false_sendable other_19
+
+other_22 : part_of disputed_run 2 ≡ at_rest v_9
+other_22 = other_20
+
+part_10 : part_of dispute_10 1 ≡ at_rest t_2
+part_10 = part_2
+
+part_11 : part_of dispute_11 1 ≡ at_rest t_3
+part_11 = got_part honest_peer its_version dispute_10 t_2 its_sendable part_10
+
+part_12 : part_of dispute_12 1 ≡ at_rest t_4
+part_12 = sent_part honest_peer Verack dispute_11 t_3 verack_sendable part_11
+
+part_13 : part_of dispute_13 1 ≡ at_rest t_5
+part_13 = got_part honest_peer Verack dispute_12 t_4 verack_sendable part_12
+
+part_14 : part_of dispute_14 1 ≡ at_rest t_6
+part_14 = sent_part honest_peer question dispute_13 t_5 question_sendable part_13
+
+part_15 : part_of dispute_15 1 ≡ at_rest t_7
+part_15 = got_part honest_peer its_headers dispute_14 t_6 headers_sendable part_14
+
+part_16 : part_of dispute_16 1 ≡ at_rest t_8
+part_16 = sent_part honest_peer ask_claims dispute_15 t_7 ask_claims_sendable part_15
+
+part_17 : part_of dispute_17 1 ≡ at_rest t_9
+part_17 = got_part honest_peer its_claims dispute_16 t_8 claims_sendable part_16
+
+part_18 : part_of dispute_18 1 ≡ at_rest t_10
+part_18 = sent_part honest_peer ask_filter dispute_17 t_9 ask_filter_sendable part_17
+
+part_19 : part_of dispute_19 1 ≡ at_rest t_11
+part_19 = got_part honest_peer its_filter dispute_18 t_10 filter_sendable part_18
+
+part_20 : part_of dispute_20 1 ≡ at_rest t_11
+part_20 = part_19
+
+part_21 : part_of dispute_21 1 ≡ at_rest t_12
+part_21 = sent_part honest_peer fetch dispute_20 t_11 fetch_sendable part_20
+
+part_22 : part_of disputed_run 1 ≡ at_rest t_13
+part_22 = got_part honest_peer its_block dispute_21 t_12 block_sendable part_21
+
+two_8 : AreOfTwo log_8
+two_8 = (inr refl, (inr refl, (inr refl, (inr refl, (inr refl, (inr refl, (inl refl, (inl refl, tt))))))))
+
+two_17 : AreOfTwo dispute_17
+two_17 = (inl refl, (inl refl, (inl refl, (inl refl, (inl refl, (inl refl, (inl refl, (inr refl, (inr refl, two_8)))))))))
+
+two_19 : AreOfTwo dispute_19
+two_19 = (inl refl, (inl refl, two_17))
+
+two_20 : AreOfTwo dispute_20
+two_20 = (inr refl, two_19)
+
+two_22 : AreOfTwo disputed_run
+two_22 = (inl refl, (inl refl, two_20))
+
+-- what holds of both peers at the end, and of nobody, holds of each
+of_each : (P : Trail → Type 0) (p : ℕ) → P t_13 → P v_9 → P [] → P (trail disputed_run p)
+of_each P p here there none = at_each P disputed_run t_13 v_9 p part_22 other_22 two_22 here there none
+
+-- ---- the strings
+
+says_9 : SaysKnown v_9
+says_9 m bytes (inl e) i = absurd (subst (λ (x : Msg). IsIn bytes (strings_of x)) e i)
+says_9 m bytes (inr (inl e)) i = headers_known bytes (subst (λ (x : Msg). IsIn bytes (strings_of x)) e i)
+says_9 m bytes (inr (inr (inl e))) i = absurd (subst (λ (x : Msg). IsIn bytes (strings_of x)) e i)
+says_9 m bytes (inr (inr (inr (inl e)))) i = absurd (subst (λ (x : Msg). IsIn bytes (strings_of x)) e i)
+says_9 m bytes (inr (inr (inr (inr none)))) i = absurd none
+
+run_known : (bytes : List ℕ) → IsHashed disputed_run chain_of_one bytes → IsKnown bytes
+run_known bytes (inl e) = inl e
+run_known bytes (inr (inl received)) = of_each SaysKnown received.0 says_13 says_9 (λ m b none i. absurd none) received.1.0 bytes received.1.1 received.1.2
+run_known bytes (inr (inr of_blocks)) = chain_known bytes of_blocks
+
+pub disputed_apart : NoHashClash (IsHashed disputed_run chain_of_one)
+disputed_apart = record {
+  apart = λ a b i j e. no_clash.apart a b (run_known a i) (run_known b j) e;
+  real = λ a i e. no_clash.real a (run_known a i) e;
+}
+
+-- ---- the first answers as its chain does
+
+honest_10 : IsHonestOver dispute_10 1 chain_of_one
+honest_10 = (at_log dispute_10 t_2 part_10 says_2, tt, tt, (at_log dispute_9 t_2 part_2 says_2, tt, tt, honest_9.3))
+
+honest_15 : IsHonestOver dispute_15 1 chain_of_one
+honest_15 = (
+  at_log dispute_15 t_7 part_15 heard_7,
+  tt,
+  tt,
+  (
+    at_log dispute_14 t_6 part_14 says_6,
+    tt,
+    tt,
+    (at_log dispute_13 t_5 part_13 says_5, tt, tt, (at_log dispute_12 t_4 part_12 says_4, tt, tt, (at_log dispute_11 t_3 part_11 says_3, tt, tt, honest_10))),
+  ),
+)
+
+honest_20 : IsHonestOver dispute_20 1 chain_of_one
+honest_20 = (
+  at_log dispute_20 t_11 part_20 heard_11,
+  tt,
+  tt,
+  (
+    at_log dispute_19 t_11 part_19 heard_11,
+    tt,
+    tt,
+    (at_log dispute_18 t_10 part_18 heard_10, tt, tt, (at_log dispute_17 t_9 part_17 heard_9, tt, tt, (at_log dispute_16 t_8 part_16 heard_8, tt, tt, honest_15))),
+  ),
+)
+
+pub disputed_honest : IsHonest disputed_run 1 chain_of_one
+disputed_honest = record {
+  good = good_chain;
+  low = has_room;
+  dialled = of_part (λ t. was_called t ≡ true) (part_of disputed_run 1) t_13 part_22 refl;
+  honest = (at_log disputed_run t_13 part_22 heard_13, tt, tt, (at_log dispute_21 t_12 part_21 heard_12, tt, tt, honest_20));
+}
+
+-- ---- what counts of the second
+
+chain_7 : own v_7 ≡ only_header ∷ []
+chain_7 = ap (λ (a : Accepted). longer_of a []) accepted
+
+clean_7 : verdict v_7 ≡ None
+clean_7 = ap fault_in accepted
+
+heard_out_7 : heard v_7 ≡ true
+heard_out_7 = ap (λ (a : Accepted). ends_by a (only_header ∷ [])) accepted
+
+back_only : back_to only_hash.0 (own v_7) ≡ Some (only_header ∷ [])
+back_only = ap (λ (c : Chain). back_to only_hash.0 c) chain_7 ∙ rw (other_hash, self_hash) refl
+
+may_ask : MayAsk v_7 ask_claims
+unfolding range_of_one
+may_ask = (record { on = refl; over = refl; idle = refl }, (range_of_one 2000 v_7 (omega arith) (chain_7 ∙ sym own_7), (λ block i. absurd i), λ block i c. let none : None ≡ Some c.0 = c.1 in cc))
+
+open_8 : request v_8 ≡ ClaimsOpen only_hash.0 (block_hash_of genesis_header) (only_hash.0 ∷ [])
+open_8 = ap (λ o. claims_asked 1 only_hash.0 o) back_only
+
+idle_9 : request v_9 ≡ NothingOpen
+idle_9 = ap (λ r. request_after false_claims r) open_8 ∙ rw self_hash refl
+
+claims_9 : claims v_9 ≡ with_claim only_hash.0 false_claim no_claims
+claims_9 = ap (λ r. claims_after false_claims r no_claims) open_8 ∙ rw self_hash refl
+
+claim_found : claims v_9 only_hash.0 ≡ Some false_claim
+claim_found = ap (λ (c : Table). c only_hash.0) claims_9 ∙ rw self_hash refl
+
+claims_fine : fault_of false_claims v_8 ≡ None
+claims_fine = ap (λ r. claims_fault 0 only_hash.0 genesis_filter_header (record { 0 = false_filter_hash } ∷ []) r no_claims) open_8 ∙ rw (self_hash, same_self (block_hash_of genesis_header), first_same) refl
+
+clean_9 : verdict v_9 ≡ None
+clean_9 = ap (λ x. first x (fault_of false_claims v_8)) clean_7 ∙ claims_fine
+
+same_8 : SameUse v_8
+same_8 = same_use v_8 refl clean_7
+
+same_9 : SameUse v_9
+same_9 = same_use v_9 refl clean_9
+
+claimed_9 : claims (counted v_9) only_hash.0 ≡ Some false_claim
+claimed_9 = ap (λ (c : Table). c only_hash.0) same_9.claiming ∙ claim_found
+
+-- ---- what was asked might be asked
+
+no_block : (b : Block) → HasSaid v_9 (BlockMessage b) → ⊥
+no_block b (inl e) = cc
+no_block b (inr (inl e)) = cc
+no_block b (inr (inr (inl e))) = cc
+no_block b (inr (inr (inr (inl e)))) = cc
+no_block b (inr (inr (inr (inr none)))) = none
+
+none_fetched : (b : Block) → IsFetched dispute_20 b → ⊥
+none_fetched b got = at_each HasNone dispute_20 t_11 v_9 got.0 part_20 other_20 two_20 (unsaid t_11 no_block_11) (unsaid v_9 no_block) (λ c i. i) b got.1
+
+none_open_17 : IsNoneFetching dispute_17
+none_open_17 q = at_each IsSpare dispute_17 t_9 v_8 q part_17 other_10 two_17 (λ on. ap (λ r. is_spare r) request_9) (λ on. ap (λ r. is_spare r) open_8) (λ on. refl)
+
+none_open_20 : IsNoneFetching dispute_20
+none_open_20 q = at_each IsSpare dispute_20 t_11 v_9 q part_20 other_20 two_20 (λ on. ap (λ r. is_spare r) request_11) (λ on. ap (λ r. is_spare r) idle_9) (λ on. refl)
+
+right_10 : Rightly dispute_10
+right_10 = (
+  (ask_claims, spelled_is ask_claims ask_claims_sendable, record { of_its_part = of_part (λ t. MayAsk t ask_claims) (part_of dispute_9 2) v_7 other_9 may_ask; wanted = tt; alone = tt }),
+  (busy_1 log_8 part_2, right_9.1),
+)
+
+right_15 : Rightly dispute_15
+right_15 = (
+  (1, of_part (λ t. is_open t ≡ true) (part_of dispute_14 1) t_6 part_14 refl),
+  (
+    (question, spelled_is question question_sendable, record { of_its_part = of_part (λ t. MayAsk t question) (part_of dispute_13 1) t_5 part_13 (record { on = refl; over = refl; idle = refl }, refl, refl, refl, refl); wanted = tt; alone = tt }),
+    (
+      (1, of_part (λ t. is_open t ≡ true) (part_of dispute_12 1) t_4 part_12 refl),
+      (
+        (Verack, spelled_is Verack verack_sendable, record { of_its_part = of_part (λ t. MayAsk t Verack) (part_of dispute_11 1) t_3 part_11 (refl, refl); wanted = tt; alone = tt }),
+        (busy_1 dispute_10 part_10, right_10),
+      ),
+    ),
+  ),
+)
+
+right_19 : Rightly dispute_19
+right_19 = (
+  (1, of_part (λ t. is_open t ≡ true) (part_of dispute_18 1) t_10 part_18 (open_where t_10 (FiltersOpen (only_hash.0 ∷ []) []) refl request_10 refl)),
+  (
+    (ask_filter, spelled_is ask_filter ask_filter_sendable, record { of_its_part = of_part (λ t. MayAsk t ask_filter) (part_of dispute_17 1) t_9 part_17 may_ask_filter; wanted = tt; alone = none_open_17 }),
+    (
+      (1, of_part (λ t. is_open t ≡ true) (part_of dispute_16 1) t_8 part_16 (open_where t_8 (ClaimsOpen only_hash.0 (block_hash_of genesis_header) (only_hash.0 ∷ [])) refl request_8 refl)),
+      ((ask_claims, spelled_is ask_claims ask_claims_sendable, record { of_its_part = of_part (λ t. MayAsk t ask_claims) (part_of dispute_15 1) t_7 part_15 may_ask_claims; wanted = tt; alone = tt }), right_15),
+    ),
+  ),
+)
+
+disputed_right : Rightly disputed_run
+disputed_right = (
+  (1, of_part (λ t. is_open t ≡ true) (part_of dispute_21 1) t_12 part_21 refl),
+  (
+    (fetch, spelled_is fetch fetch_sendable, record { of_its_part = of_part (λ t. MayAsk t fetch) (part_of dispute_20 1) t_11 part_20 may_fetch; wanted = λ entry i got. none_fetched got.0 got.1; alone = none_open_20 }),
+    (
+      (2, of_part (λ t. is_open t ≡ true) (part_of dispute_19 2) v_8 other_19 (open_where v_8 (ClaimsOpen only_hash.0 (block_hash_of genesis_header) (only_hash.0 ∷ [])) refl open_8 refl)),
+      right_19,
+    ),
+  ),
+)
+
+-- ---- the dispute
+
+-- a log with what both claim
+disputed_by : (log : Log) (t : Trail) → part_of log 1 ≡ at_rest t → part_of log 2 ≡ at_rest v_9 → connected t ≡ true → claims (counted t) only_hash.0 ≡ Some only_claim → IsDisputed log only_hash.0
+disputed_by log t one two on claimed = record {
+  one = 1;
+  other = 2;
+  there = (of_part (λ x. connected x ≡ true) (part_of log 1) t one on, of_part (λ x. connected x ≡ true) (part_of log 2) v_9 two refl);
+  mine = record { 0 = only_filter_hash };
+  yours = record { 0 = false_filter_hash };
+  claims = (
+    of_part (λ x. hash_claimed (claims (counted x)) only_hash.0 ≡ Some (record { 0 = only_filter_hash })) (part_of log 1) t one (ap (λ o. option_map (λ (c : Claim). c.hash) o) claimed),
+    of_part (λ x. hash_claimed (claims (counted x)) only_hash.0 ≡ Some (record { 0 = false_filter_hash })) (part_of log 2) v_9 two (ap (λ o. option_map (λ (c : Claim). c.hash) o) claimed_9),
+  );
+  apart = λ e. let f : 164 ≡ 1 = ap (λ (h : Hash32). first_byte h.0) e in absurd (omega (arith, f));
+}
+
+pub disputed : IsDisputed disputed_run only_hash.0
+disputed = disputed_by disputed_run t_13 part_22 other_22 refl counts_13.claimed
+
+-- by its filter the block was cleared before, and now it is wanted
+pub disputed_cleared : IsCleared other_watch dispute_19 only_hash.0
+disputed_cleared = cleared_by dispute_19 v_8 part_19 other_19 two_19 (silent_agrees v_8 (ap (λ (c : Table). c only_hash.0) same_8.claiming))
+
+pub disputed_wanted : (watch : List (List ℕ)) → IsBlockWanted watch dispute_20 only_hash.0
+disputed_wanted watch = ((λ got. none_fetched got.0 got.1), inl (disputed_by dispute_20 t_11 part_20 other_20 refl counts_11.claimed))
+
+-- ---- the end
+
+is_fetched : IsFetched disputed_run only_block
+is_fetched = (1, of_part (λ t. IsIn only_block (fetched (counted t))) (part_of disputed_run 1) t_13 part_22 fetched_13)
+
+pub disputed_quiet : IsQuiet disputed_run
+disputed_quiet p = of_each (λ t. is_open t ≡ false) p (rw only_wanted refl) (ap (λ r. not (is_idle r)) idle_9) refl
+
+pub disputed_alone : ShowsNoOther disputed_run chain_of_one
+disputed_alone q other on shows long = of_each (ShowsOnly other) q (only_of other t_13 counts_13.showing) (only_of other v_9 same_9.showing) (λ is1 s l. absurd (false≢true is1)) on shows long
+
+disputed_bytes : AreBytes disputed_run
+disputed_bytes = (small_bytes (bytes_of its_block) block_small, (small_bytes (bytes_of false_claims) false_claims_small, (small_bytes (bytes_of its_filter) filter_small, (small_bytes (bytes_of its_claims) claims_small, bytes_15)))) where
+  bytes_9 : AreBytes dispute_9
+  bytes_9 = (small_bytes (bytes_of its_headers) headers_small, (small_bytes (bytes_of Verack) verack_small, (small_bytes (bytes_of false_version) false_version_small, tt)))
+
+  bytes_15 : AreBytes dispute_15
+  bytes_15 = (small_bytes (bytes_of its_headers) headers_small, (small_bytes (bytes_of Verack) verack_small, (small_bytes (bytes_of its_version) version_small, bytes_9)))
+
+settled : (block : List ℕ) → IsIn block (hashes_of (only_header ∷ [])) → IsFetchedHash disputed_run block
+settled block (inl e) = (only_block, is_fetched, sym e)
+settled block (inr none) = absurd none
+
+other_chain : own (counted v_9) ≡ only_header ∷ []
+other_chain = same_9.chain ∙ chain_7
+
+pub disputed_asked : (watch : List (List ℕ)) → IsWatch watch → HasAsked watch 1 only_hash (scan_of chain_of_one watch) disputed_run
+disputed_asked watch fits = record {
+  watchable = fits;
+  bytes = disputed_bytes;
+  rightly = disputed_right;
+  told = record {
+    chain = only_header ∷ [];
+    best = record {
+      longest = λ p on. of_each (λ t. length (own (counted t)) ≤ 1) p (one_long t_13 counts_13.chain) (one_long v_9 other_chain) (omega arith);
+      shown = inl (
+        1,
+        (
+          of_part (λ t. connected t ≡ true) (part_of disputed_run 1) t_13 part_22 refl,
+          of_part (λ t. own (counted t) ≡ only_header ∷ []) (part_of disputed_run 1) t_13 part_22 counts_13.chain,
+          λ q below on. nobody_below disputed_run q refl below on,
+        ),
+      );
+    };
+    height_is = refl;
+    hash_is = refl;
+    scanned = record { blocks = chain_of_one; taken = (inl (is_fetched, refl), tt); history = refl };
+  };
+  asked_out = λ p on idle. record {
+    heard_out = of_each (λ t. connected t ≡ true → heard (counted t) ≡ true) p (λ is1. counts_13.heard_out) (λ is1. same_9.hearing ∙ still_true (heard v_7) heard_out_7) (λ is1. absurd (false≢true is1)) on;
+    claimed = of_each ClaimsIt p (claims_it t_13 only_claim counts_13.claimed) (claims_it v_9 false_claim claimed_9) nobody_claims;
+    settled = λ spare mine block i above. inl (settled block i);
+  };
+}
