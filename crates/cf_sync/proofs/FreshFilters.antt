@@ -72,36 +72,39 @@ abbrev AreFresh : Trail → Type 0
 AreFresh t = (stop parent : Hash) (blocks : List Hash) → request t ≡ ClaimsOpen stop parent blocks → (block : Hash) → IsIn block blocks → IsClaimed t block → ⊥
 
 asked_fresh : (m : Msg) (t : Trail) → MayAsk t m → AreFresh t → AreFresh (Asked m ∷ t)
-asked_fresh (GetHeaders version locator at) t may fresh stop parent blocks e = cc
-asked_fresh (GetCfheaders filter start at) t may fresh stop parent blocks e block i =
+asked_fresh (GetHeaders version locator at) t may fresh stop parent blocks e block i claimed = absurd (let no : HeadersOpen ≡ ClaimsOpen stop parent blocks = e in cc)
+asked_fresh (GetCfheaders filter start at) t may fresh stop parent blocks e block i claimed =
     let now : ClaimsOpen at.0 (block_below start may.1.0.part) (blocks_from start may.1.0.part) ≡ ClaimsOpen stop parent blocks = sym (ap (λ o. claims_asked start at.0 o) may.1.0.tip) ∙ e in
     let these : blocks_from start may.1.0.part ≡ blocks = cc in
-    may.1.2 block (subst (λ (bs : List Hash). IsIn block bs) (sym these) i)
-asked_fresh (GetCfilters filter start at) t may fresh stop parent blocks e block i =
+    may.1.2 block (subst (λ (bs : List Hash). IsIn block bs) (sym these) i) claimed
+asked_fresh (GetCfilters filter start at) t may fresh stop parent blocks e block i claimed =
     absurd (let no : FiltersOpen (blocks_from start may.1.0.part) [] ≡ ClaimsOpen stop parent blocks = sym (ap (λ o. filters_asked start o) may.1.0.tip) ∙ e in cc)
-asked_fresh (GetData entries) t may fresh stop parent blocks e block i =
+asked_fresh (GetData entries) t may fresh stop parent blocks e block i claimed =
     absurd (let no : BlockOpen may.1.0.0 ≡ ClaimsOpen stop parent blocks = sym (ap (λ (es : List Entry). request_for (GetData es) (own t) (request t)) may.1.1) ∙ e in cc)
-asked_fresh m t may fresh stop parent blocks e = fresh stop parent blocks e
+asked_fresh m t may fresh stop parent blocks e block i claimed = fresh stop parent blocks e block i claimed
 
 are_fresh : (t : Trail) → connected t ≡ true → verdict t ≡ None → AskedRightly t → AreFresh t
-are_fresh [] on clean right stop parent blocks e = cc
-are_fresh (Called ∷ t) on clean right stop parent blocks e = cc
+are_fresh [] on clean right stop parent blocks e block i claimed = absurd (false≢true on)
+are_fresh (Called ∷ t) on clean right stop parent blocks e block i claimed = absurd (let no : NothingOpen ≡ ClaimsOpen stop parent blocks = e in cc)
 are_fresh (Said m ∷ t) on clean right stop parent blocks e block i claimed =
     let w = open_before m (request t) (claims t) stop parent blocks e in
     are_fresh t on (first_none (verdict t) (fault_of m t) clean).0 right stop parent blocks w.0 block i (claimed.0, sym (w.1 block) ∙ claimed.1)
-are_fresh (Refused c ∷ t) on clean right stop parent blocks e = absurd (let no = (first_none (verdict t) (Some c) clean).1 in cc)
-are_fresh (Asked m ∷ t) on clean right = asked_fresh m t right.0 (are_fresh t on clean right.1)
-are_fresh (Passed s ∷ t) on clean right stop parent blocks e = are_fresh t on clean right stop parent blocks e
-are_fresh (Lost w ∷ t) on clean right stop parent blocks e = absurd (false≢true on)
+are_fresh (Refused c ∷ t) on clean right stop parent blocks e block i claimed = absurd (let no = (first_none (verdict t) (Some c) clean).1 in cc)
+are_fresh (Asked m ∷ t) on clean right stop parent blocks e block i claimed = asked_fresh m t right.0 (are_fresh t on clean right.1) stop parent blocks e block i claimed
+are_fresh (Passed s ∷ t) on clean right stop parent blocks e block i claimed = are_fresh t on clean right stop parent blocks e block i claimed
+are_fresh (Lost w ∷ t) on clean right stop parent blocks e block i claimed = absurd (false≢true on)
+
+answered : (b : Bool) (previous : Hash32) (blocks : List Hash) (hashes : List Hash32) (table : Table) (block : Hash) (claim : Claim) → (IsIn block blocks → ⊥) → table block ≡ Some claim
+    → (if b then with_claims previous blocks hashes table else table) block ≡ Some claim
+answered true previous blocks hashes table block claim other is = with_leaves previous blocks hashes table block other ∙ is
+answered false previous blocks hashes table block claim other is = is
 
 claim_stays : (m : Msg) (t : Trail) → AreFresh t → (block : Hash) (claim : Claim) → claims t block ≡ Some claim → claims (Said m ∷ t) block ≡ Some claim
 claim_stays m t fresh block claim is = by m (request t) fresh where
-  by : (m : Msg) (r : OpenRequest) → ((stop parent : Hash) (blocks : List Hash) → r ≡ ClaimsOpen stop parent blocks → (x : Hash) → IsIn x blocks → IsClaimed t x → ⊥) → claims_after m r (claims t) block ≡ Some claim
-  by (Cfheaders filter at previous hashes) (ClaimsOpen wanted parent blocks) none = choose (is_answer_of filter at.0 wanted) where
-    choose : (b : Bool) → (if b then with_claims previous blocks hashes (claims t) else claims t) block ≡ Some claim
-    choose true = with_leaves previous blocks hashes (claims t) block (λ i. none wanted parent blocks refl block i (claim, is)) ∙ is
-    choose false = is
-  by m r none = is
+  by : (n : Msg) (r : OpenRequest) → ((stop parent : Hash) (blocks : List Hash) → r ≡ ClaimsOpen stop parent blocks → (x : Hash) → IsIn x blocks → IsClaimed t x → ⊥) → claims_after n r (claims t) block ≡ Some claim
+  by (Cfheaders filter at previous hashes) (ClaimsOpen wanted parent blocks) none =
+      answered (is_answer_of filter at.0 wanted) previous blocks hashes (claims t) block claim (λ i. none wanted parent blocks refl block i (claim, is)) is
+  by n r none = is
 
 -- ---- since it was asked for filters of a range
 
@@ -175,15 +178,13 @@ next_came filter block bytes t next more came blocks on clean fresh e answer tru
   all_own : (j : Job) → IsIn j all → IsItsOwn (Said m ∷ t) j
   all_own j i = elim (in_either j came (job ∷ []) i) [
     | inl before ↦ its_own m t fresh j (true_ones j before)
-    | inr (inl is) ↦ its_own m t fresh j (subst (IsItsOwn t) (sym is) mine)
-    | inr (inr none) ↦ absurd none
+    | inr this ↦ elim this [ inl is ↦ its_own m t fresh j (subst (IsItsOwn t) (sym is) mine) | inr none ↦ absurd none ]
   ]
 
   among : (x : Hash) → IsIn x blocks → ((j : Job) × IsIn j all × (j.block.0 ≡ x)) ⊎ IsIn x more
   among x i = elim (each x i) [
     | inl w ↦ inl (w.0, in_left w.0 came (job ∷ []) w.1, w.2)
-    | inr (inl is) ↦ inl (job, in_right job came (job ∷ []) (inl refl), block_is ∙ sym is)
-    | inr (inr later) ↦ inr later
+    | inr this ↦ elim this [ inl is ↦ inl (job, in_right job came (job ∷ []) (inl refl), block_is ∙ sym is) | inr later ↦ inr later ]
   ]
 
   now_open : (left : List Hash) → more ≡ left → request (Said m ∷ t) ≡ filters_left left all
@@ -322,8 +323,8 @@ filters_not_again watch log p right bytes clash on clean filter start stop may n
           let got = all x.0 x.1 in
           let wanted : IsFilterWanted log p x.0 = needed x.0 (subst (λ (o : Option Chain). IsIn x.0 (blocks_in start o)) (sym range.tip) (subst (λ (c : Chain). IsIn x.0 (blocks_from start c)) one x.1)) in
           let mine : Some got.3.0.hash ≡ Some wanted.1.0 =
-          sym (ap (λ (o : Option Claim). option_map (λ (c : Claim). c.hash) o) (sym (ap (claims t) got.2) ∙ got.3.1)) ∙ sym (ap (λ (c : Table). hash_claimed c x.0) (same_use t on clean).claiming) ∙ wanted.1.2 in
+          sym (ap (λ (o : Option Claim). option_map (λ (c : Claim). c.hash) o) (sym (ap (claims t) got.2) ∙ got.3.1)) ∙ sym (ap (λ (c : Table). hash_claimed c x.0) (same_use t on clean).claiming) ∙ wanted.1.1.1 in
           let hash : got.3.0.hash ≡ wanted.1.0 = cc in
-          wanted.1.3 (got.0, (p, got.1), got.2, sym got.3.2 ∙ ap (λ (h : Hash32). h.0) hash)
+          wanted.1.1.2 (got.0, (p, got.1), got.2, sym got.3.2 ∙ ap (λ (h : Hash32). h.0) hash)
           )
     ]
