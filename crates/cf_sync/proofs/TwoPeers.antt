@@ -44,7 +44,7 @@ use Rattle.cf_msg.proofs.Sizes.{entries_size}
 use Rattle.cf_peer.specs.declared.event.Delivery.TheVariants.{Got}
 use Rattle.cf_peer.specs.declared.event.Event.TheVariants.{Dialled, Sent, Took}
 use Rattle.cf_peer.specs.Acts.{bytes_of, IsSendable}
-use Rattle.cf_peer.specs.Asking.{OpenRequest, is_spare, NothingOpen, ClaimsOpen, FiltersOpen, BlockOpen, claims_asked, filters_asked, filter_of, claims, claims_after, hash_claimed, claims_fault, filter_fault, fault_of, request_after, is_idle, given, given_by, HasHeader, IsRange, request, is_wanted, is_committed, is_open, block_fault, verdict, counted, lists, fetched, fetched_by, block_entry, HasSaid, hashes_of, MayAsk, SameUse}
+use Rattle.cf_peer.specs.Asking.{OpenRequest, is_spare, NothingOpen, ClaimsOpen, FiltersOpen, BlockOpen, claims_asked, filters_asked, filter_of, claims, claims_after, hash_claimed, claims_fault, filter_fault, fault_of, request_after, is_idle, given, given_by, HasHeader, IsFree, IsRange, request, is_wanted, is_committed, is_open, block_fault, verdict, counted, lists, fetched, fetched_by, block_entry, HasSaid, hashes_of, MayAsk, SameUse}
 use Rattle.cf_peer.specs.Log.{Log}
 use Rattle.cf_peer.specs.Trail.{Trail, Part, Called, Said, Asked, no_address, called_part, item_of_read, part_after, heard_part, message_in, message_of_stream, spelled, asks, part_of, trail, connected, ready, own, heard, longer_of, ends_by, fault_in, first}
 use Rattle.cf_scan.specs.Scan.{scan_of}
@@ -754,9 +754,13 @@ back_only = ap (λ (c : Chain). back_to only_hash.0 c) own_7 ∙ rw (other_hash,
 pub range_of_one : (few : ℕ) (t : Trail) → 0 < few → own t ≡ own t_7 → IsRange t 0 1 only_hash.0 few
 range_of_one few t some e = record { basic = refl; part = only_header ∷ []; tip = ap (λ (c : Chain). back_to only_hash.0 c) e ∙ back_only; low = omega arith; high = omega arith; bound = omega (arith, some) }
 
-pub may_ask_claims : MayAsk t_7 ask_claims
+-- of one with this chain that claims nothing
+pub may_ask_of : (t : Trail) → IsFree t → own t ≡ own t_7 → ((block : List ℕ) → claims t block ≡ None) → MayAsk t ask_claims
 unfolding range_of_one
-may_ask_claims = (record { on = refl; over = refl; idle = refl }, (range_of_one 2000 t_7 (omega arith) refl, (λ block i. absurd i), λ block i c. let none : None ≡ Some c.0 = c.1 in cc))
+may_ask_of t free e none = (free, (range_of_one 2000 t (omega arith) e, (λ block i. absurd i), λ block i c. let no : None ≡ Some c.0 = sym (none block) ∙ c.1 in cc))
+
+pub may_ask_claims : MayAsk t_7 ask_claims
+may_ask_claims = may_ask_of t_7 (record { on = refl; over = refl; idle = refl }) refl (λ block. refl)
 
 pub request_8 : request t_8 ≡ ClaimsOpen only_hash.0 (block_hash_of genesis_header) (only_hash.0 ∷ [])
 request_8 = ap (λ o. claims_asked 1 only_hash.0 o) back_only
@@ -929,12 +933,12 @@ heard_out_11 : heard t_11 ≡ true
 heard_out_11 = still_true (heard t_9) (still_true (heard t_7) heard_out_7)
 
 -- what counts of the honest peer's part, in the run and in the one that is cleared
-record Counts (t : Trail) : Type 0 where
-  same : SameUse t
-  chain : own (counted t) ≡ only_header ∷ []
-  heard_out : heard (counted t) ≡ true
-  showing : lists (counted t) ≡ (only_header ∷ []) ∷ []
-  claimed : claims (counted t) only_hash.0 ≡ Some only_claim
+pub record Counts (t : Trail) : Type 0 where
+  pub same : SameUse t
+  pub chain : own (counted t) ≡ only_header ∷ []
+  pub heard_out : heard (counted t) ≡ true
+  pub showing : lists (counted t) ≡ (only_header ∷ []) ∷ []
+  pub claimed : claims (counted t) only_hash.0 ≡ Some only_claim
 
 counts_of : (t : Trail) → connected t ≡ true → verdict t ≡ None → own t ≡ own t_7 → heard t ≡ true → lists t ≡ (only_header ∷ []) ∷ [] → claims t ≡ claims t_9 → Counts t
 counts_of t on clean chain whole shown claimed = let u = same_use t on clean in record {
@@ -1075,7 +1079,7 @@ has_asked watch fits = record {
         (
           of_part (λ t. connected t ≡ true) (part_of run_of_two 1) t_13 part_20 refl,
           of_part (λ t. own (counted t) ≡ only_header ∷ []) (part_of run_of_two 1) t_13 part_20 counts_13.chain,
-          λ q below on. nobody_below run_of_two q refl below on,
+          λ q below on. absurd (nobody_below run_of_two q refl below on),
         ),
       );
     };
@@ -1144,7 +1148,7 @@ cleared_asked = record {
         (
           of_part (λ t. connected t ≡ true) (part_of cleared_run 1) t_11 part_18 refl,
           of_part (λ t. own (counted t) ≡ only_header ∷ []) (part_of cleared_run 1) t_11 part_18 counts_11.chain,
-          λ q below on. nobody_below cleared_run q refl below on,
+          λ q below on. absurd (nobody_below cleared_run q refl below on),
         ),
       );
     };

@@ -4,4 +4,3 @@ pub mod Honesty
 pub mod Sync
 pub mod Example
 pub mod Kept
-pub mod Planned
