@@ -1,6 +1,6 @@
 -- What is to be asked for by what was seen is needed by the log.
 use Rattle.std.proofs.Common.{◌≡◌, inl, inr, ℕ, suc, ◌+◌, ◌-◌, ◌<◌, ◌≤◌, zero, List, [], ◌∷◌, map, length, get_or, take, drop, reverse, Option, Some, None, Bool, true, if◌then◌else◌, refl, sym, ◌∙◌, ap, subst, arith}
-use Rattle.std.specs.Prelude.{pred, IsSome, option_map}
+use Rattle.std.specs.Prelude.{pred, IsSome, false, option_map}
 use Rattle.cf_dispute.specs.Claims.{first_header, no_claims}
 use Rattle.cf_dispute.specs.Claims as dispute
 use Rattle.cf_dispute.proofs.PutIn.{same_from}
@@ -17,15 +17,15 @@ use Rattle.cf_headers.specs.Heights.{hash_at}
 use Rattle.cf_headers.proofs.Locators.{hash_in}
 use Rattle.cf_msg.specs.declared.msg.Entry.{Entry}
 use Rattle.cf_msg.specs.declared.msg.Msg.TheVariants.{GetCfheaders, GetCfilters, GetData}
-use Rattle.cf_peer.specs.Asking.{HasHeader, IsFree, MayAsk, block_entry, claims, counted, hashes_of, verdict}
+use Rattle.cf_peer.specs.Asking.{HasHeader, IsClaimed, IsFree, MayAsk, block_entry, claims, counted, hashes_of, verdict}
 use Rattle.cf_peer.specs.Log.{Log}
 use Rattle.cf_peer.specs.Trail.{Trail, trail, connected, own}
-use Rattle.cf_sync.specs.Fetching.{IsNeeded, IsNoneFetching, IsBlockWanted, MaySend, blocks_in}
+use Rattle.cf_sync.specs.Fetching.{IsFilterWanted, IsNeeded, IsNoneFetching, IsBlockWanted, MaySend, blocks_in}
 use Rattle.cf_sync.proofs.Kept.{filter_by, block_by}
 use Rattle.cf_tracker.specs.declared.spans.Span.{Span}
 use Rattle.cf_tracker.specs.declared.spans.Wish.TheVariants.{Claims, Filters, Block}
 use Rattle.cf_tracker.specs.Spans.{IsWish}
-use Rattle.cf_tracker.specs.Wanting.{IsAbove, IsUnjudged}
+use Rattle.cf_tracker.specs.Wanting.{IsAbove, IsUnjudged, AreClaimed}
 use Rattle.cf_tracker.proofs.Along.{hash_of_next}
 use Rattle.std.proofs.lemmas.Bool.{cases_lt, cases_Bool, both_ways}
 use Rattle.cf_tracker.proofs.Stops.{above_part, lower_on, parent_is}
@@ -38,17 +38,23 @@ in_at f [] y d i = absurd i
 in_at f (x ∷ xs) y d (inl e) = (0, omega arith, e)
 in_at f (x ∷ xs) y d (inr later) = (let w = in_at f xs y d later in (suc w.0, omega (arith, w.1), w.2))
 
+-- the block at a place of a run stands at a height of the chain
+at_place : (chain : Chain) (top k i : ℕ) (block : Hash) → top ≤ length chain → k + i < top → block ≡ block_hash_of (get_or (drop k (take top (reverse chain))) i genesis_header) → block ≡ hash_at chain (k + i + 1)
+at_place chain top k i block low lt e =
+    let rs : List Header = reverse chain in
+    let at : get_or (drop k (take top rs)) i genesis_header ≡ get_or rs (k + i) genesis_header = grind (arith, common_steps) in
+    e ∙ ap block_hash_of at ∙ sym (hash_of_next chain (k + i) genesis_header (omega (arith, lt, low)))
+
 -- a block of a range stands at one of its heights
 pub in_span : (chain part : Chain) (top k : ℕ) (block : Hash) → part ≡ lower top chain → top ≤ length chain → IsIn block (map block_hash_of (above k part)) → (h : ℕ) × (k < h) × (h ≤ top) × (block ≡ hash_at chain h)
 in_span chain part top k block is low i =
     let rs : List Header = reverse chain in
-    let d : Header = genesis_header in
     let e : above k part ≡ drop k (take top rs) = ap (λ (c : Chain). above k c) is ∙ above_part chain top k in
-    let w = in_at block_hash_of (drop k (take top rs)) block d (subst (λ (xs : List Header). IsIn block (map block_hash_of xs)) e i) in
-    let long : length (drop k (take top rs)) ≡ top - k = length-drop k (take top rs) ∙ ap (λ (n : ℕ). n - k) (length_taken rs top (omega (arith, low, length-reverse chain))) in
-    let lt : k + w.0 < top = (let v = w.1 in omega (arith, v, long)) in
-    let at : get_or (drop k (take top rs)) w.0 d ≡ get_or rs (k + w.0) d = grind (arith, common_steps) in
-    (k + w.0 + 1, omega arith, omega (arith, lt), w.2 ∙ ap block_hash_of at ∙ sym (hash_of_next chain (k + w.0) d (omega (arith, lt, low)))) where
+    let w = in_at block_hash_of (drop k (take top rs)) block genesis_header (subst (λ (xs : List Header). IsIn block (map block_hash_of xs)) e i) in
+    let long = length-drop k (take top rs) in
+    let taken = length_taken rs top (omega (arith, low, length-reverse chain)) in
+    let lt : k + w.0 < top = (let v = w.1 in omega (arith, v, long, taken)) in
+    (k + w.0 + 1, omega arith, omega (arith, lt), at_place chain top k w.0 block low lt w.2) where
       length_taken : (xs : List Header) (n : ℕ) → n ≤ length xs → length (take n xs) ≡ n
       length_taken xs n le = grind (arith, common_steps)
 
@@ -56,27 +62,35 @@ some_is : (o : Option Claim) → IsSome o → (c : Claim) × (o ≡ Some c)
 some_is None s = cc s
 some_is (Some c) s = (c, refl)
 
+-- p claims a block at one of the heights up to which it claims all
+claim_at : (s : Seen) (p common : ℕ) (chain : Chain) (h : ℕ) (block : Hash) → AreClaimed s.claims p chain common → 1 ≤ h → h ≤ common → IsAbove (hash_at chain h) → block ≡ hash_at chain h
+    → (claim : Claim) × (s.claims p block ≡ Some claim)
+claim_at s p common chain h block all low high up is = (let c = some_is (s.claims p (hash_at chain h)) (all h low high up) in (c.0, ap (s.claims p) is ∙ c.1))
+
+-- and its filter is wanted of p where it is unjudged
+wanted_at : (s : Seen) (log : Log) (p common : ℕ) (chain : Chain) (h : ℕ) (block : Hash) → Tracks s log → AreClaimed s.claims p chain common → 1 ≤ h → h ≤ common → IsAbove (hash_at chain h)
+    → IsUnjudged s.table s.claims s.verdicts (hash_at chain h) → block ≡ hash_at chain h → IsFilterWanted log p block
+wanted_at s log p common chain h block tracks all low high up un is =
+    let c = claim_at s p common chain h block all low high up is in
+    filter_by s.watch log s.table s.claims s.verdicts tracks.fetched tracks.claimed tracks.given p (record { 0 = block }) c.0 (subst (IsUnjudged s.table s.claims s.verdicts) (sym is) un) c.1
+
+up_from : (n h : ℕ) → pred n < h → n ≤ h
+up_from zero h lt = omega arith
+up_from (suc n) h lt = omega (arith, lt)
+
 -- filters that are asked for are wanted of p
 pub filters_needed : (s : Seen) (log : Log) (p common : ℕ) (spare : Bool) (span : Span) (chain : Chain) → Tracks s log → chain ≡ own (trail log p) → common ≤ length chain
     → IsWish s.table s.claims s.verdicts p chain common spare (Filters span) → IsNeeded s.watch log p (GetCfilters 0 span.start span.stop)
 filters_needed s log p common spare span chain tracks is low wish block i =
-    let end = wish.1.0 in
     let sp = wish.1.1.0 in
-    let tip : blocks_in span.start (back_to_own) ≡ map block_hash_of (above (pred span.start) sp.part) = ap (blocks_in span.start) (sym (ap (λ (c : Chain). back_to span.stop.0 c) is) ∙ sp.tip) in
+    let tip : back_to span.stop.0 (own (trail log p)) ≡ Some sp.part = subst (λ (c : Chain). back_to span.stop.0 c ≡ Some sp.part) is sp.tip in
     let high = sp.high in
     let le = wish.1.1.1 in
-    let w = in_span chain sp.part (length sp.part) (pred span.start) block sp.is (omega (arith, high, le, low)) (subst (λ (xs : List Hash). IsIn block xs) tip i) in
-    let up : span.start ≤ w.0 = (let v = w.1 in up_from span.start w.0 v) in
-    let un = wish.1.1.3 w.0 up (let v = w.2 in omega (arith, v, high)) in
-    let mine = some_is (s.claims p (hash_at chain w.0)) (wish.0.1 w.0 (let v = w.1 in omega (arith, v)) (let v = w.2 in omega (arith, v, high, le)) un.0) in
-    filter_by s.watch log s.table s.claims s.verdicts tracks.fetched tracks.claimed tracks.given p (record { 0 = block }) mine.0
-    (subst (IsUnjudged s.table s.claims s.verdicts) (sym w.3) un.1) (ap (s.claims p) w.3 ∙ mine.1) where
-      back_to_own : Option Chain
-      back_to_own = back_to span.stop.0 (own (trail log p))
-
-      up_from : (n h : ℕ) → pred n < h → n ≤ h
-      up_from zero h lt = omega arith
-      up_from (suc n) h lt = omega (arith, lt)
+    let w = in_span chain sp.part (length sp.part) (pred span.start) block sp.is (omega (arith, high, le, low)) (subst (λ (o : Option Chain). IsIn block (blocks_in span.start o)) tip i) in
+    let past = w.1 in
+    let most = w.2 in
+    let un = wish.1.1.3 w.0 (up_from span.start w.0 past) (omega (arith, most, high)) in
+    wanted_at s log p common chain w.0 block tracks wish.0.1 (omega (arith, past)) (omega (arith, most, high, le)) un.0 un.1 w.3
 
 -- a block that is asked for is wanted
 pub block_needed : (s : Seen) (log : Log) (p common : ℕ) (spare : Bool) (hash : Hash32) (chain : Chain) → Tracks s log
@@ -97,13 +111,17 @@ whole x below k e = (let n : length (x ∷ below) - k ≡ 0 = omega (arith, e) i
 whole_of : (chain : Chain) → lower (length chain) chain ≡ chain
 whole_of chain = (let n : length chain - length chain ≡ 0 = omega arith in ap (λ (m : ℕ). drop m chain) n)
 
+-- a height of the blocks below the tip is one of the chain
+on_chain : (x : Header) (below : Chain) (h : ℕ) (block : Hash) → h ≤ length below → block ≡ hash_at below h → block ≡ hash_at (x ∷ below) h
+on_chain x below h block low e = e ∙ sym (ap tip_hash (lower_on x below h low))
+
 pub in_low : (chain : Chain) (k : ℕ) (block : Hash) → k ≤ length chain → IsIn block (map block_hash_of (lower k chain)) → (h : ℕ) × (1 ≤ h) × (h ≤ k) × (block ≡ hash_at chain h)
 in_low [] k block le i = absurd (nothing_in (0 - k) k block i)
 in_low (x ∷ below) k block le i = elim (cases_lt (length below) k) [
   | inr low ↦ (
-      let e = lower_on x below k low in
-      let w = in_low below k block low (subst (λ (c : Chain). IsIn block (map block_hash_of c)) e i) in
-      (w.0, w.1, w.2, w.3 ∙ sym (ap tip_hash (lower_on x below w.0 (let v = w.2 in omega (arith, v, low)))))
+      let w = in_low below k block low (subst (λ (c : Chain). IsIn block (map block_hash_of c)) (lower_on x below k low) i) in
+      let most = w.2 in
+      (w.0, w.1, most, on_chain x below w.0 block (omega (arith, most, low)) w.3)
       )
   | inl high ↦ (
       let all : k ≡ length (x ∷ below) = omega (arith, le, high) in
@@ -111,7 +129,8 @@ in_low (x ∷ below) k block le i = elim (cases_lt (length below) k) [
         | inl e ↦ (k, omega (arith, high), omega arith, e ∙ sym (ap tip_hash (whole x below k all)))
         | inr later ↦ (
             let w = in_low below (length below) block (omega arith) (subst (λ (c : Chain). IsIn block (map block_hash_of c)) (sym (whole_of below)) later) in
-            (w.0, w.1, (let v = w.2 in omega (arith, v, high)), w.3 ∙ sym (ap tip_hash (lower_on x below w.0 w.2)))
+            let most = w.2 in
+            (w.0, w.1, omega (arith, most, high), on_chain x below w.0 block most w.3)
             )
       ]
       )
@@ -125,17 +144,34 @@ claims_are s log p tracks on clean block =
     let t = trail log p in
     tracks.claimed p block ∙ ap (λ (b : Bool). (if b then claims (counted t) else no_claims) block) on ∙ ap (λ (c : dispute.Table). c block) (same_use t on clean).claiming
 
+-- the filter header is known at genesis's hash, and where it claims something
+header_by : (block : Hash) (o : Option Claim) (first : Bool) → (first ≡ false → IsSome o) → IsSome (if first then Some first_header else option_map (λ (c : Claim). c.header) o)
+header_by block o true some = refl
+header_by block None false some = some refl
+header_by block (Some c) false some = refl
+
 has_header : (t : Trail) (block : Hash) → (IsAbove block → IsSome (claims t block)) → HasHeader t block
-has_header t block above1 = elim (cases_Bool (same (block_hash_of genesis_header) block)) [
-  | inl is ↦ subst IsSome (sym (ap (λ (b : Bool). if b then Some first_header else option_map (λ (c : Claim). c.header) (claims t block)) is)) refl
-  | inr off ↦ (
-      let c = some_is (claims t block) (above1 (λ e. both_ways (same (block_hash_of genesis_header) block) off (same_from (block_hash_of genesis_header) block (sym e)))) in
-      subst IsSome (sym (ap (λ (b : Bool). if b then Some first_header else option_map (λ (c : Claim). c.header) (claims t block)) off ∙ ap (option_map (λ (c : Claim). c.header)) c.1)) refl
-      )
-]
+has_header t block known =
+    header_by block (claims t block) (same (block_hash_of genesis_header) block)
+    (λ off. known (λ e. both_ways (same (block_hash_of genesis_header) block) off (same_from (block_hash_of genesis_header) block (sym e))))
 
 part_at : (chain part : Chain) (top h : ℕ) → part ≡ lower top chain → h < top → top ≤ length chain → hash_at part h ≡ hash_at chain h
 part_at chain part top h is lt low = (let e : suc h - 1 ≡ h = omega arith in sym (parent_is chain top (suc h) part is (omega (arith, lt)) low) ∙ ap (hash_at chain) e)
+
+-- at a height of the part below which p claims all
+known_at : (s : Seen) (t : Trail) (p most : ℕ) (chain part : Chain) (h : ℕ) (block : Hash) → ((x : Hash) → s.claims p x ≡ claims t x) → AreClaimed s.claims p chain most → part ≡ lower (length part) chain → length part ≤ length chain
+    → 1 ≤ h → h ≤ most → h < length part → block ≡ hash_at part h → HasHeader t block
+known_at s t p most chain part h block cl all is low one le lt e =
+    let at : block ≡ hash_at chain h = e ∙ part_at chain part (length part) h is lt low in
+    has_header t block (λ up. subst IsSome (cl block) (subst (λ (x : Hash). IsSome (s.claims p x)) (sym at) (all h one le (subst IsAbove at up))))
+
+none_at : (s : Seen) (t : Trail) (p : ℕ) (block at : Hash) → ((x : Hash) → s.claims p x ≡ claims t x) → block ≡ at → s.claims p at ≡ None → IsClaimed t block → ⊥
+none_at s t p block at cl e none claimed =
+    let no : None ≡ Some claimed.0 = sym (ap (s.claims p) e ∙ none) ∙ cl block ∙ claimed.1 in cc
+
+start_less : (n : ℕ) → 1 ≤ n → pred n + 1 ≡ n
+start_less zero le = absurd (omega (arith, le))
+start_less (suc n) le = omega arith
 
 pub claims_may : (s : Seen) (log : Log) (p common : ℕ) (spare : Bool) (span : Span) (chain : Chain) → Tracks s log → chain ≡ own (trail log p) → common ≤ length chain
     → IsFree (trail log p) → verdict (trail log p) ≡ None → IsWish s.table s.claims s.verdicts p chain common spare (Claims span) → MayAsk (trail log p) (GetCfheaders 0 span.start span.stop)
@@ -148,61 +184,52 @@ claims_may s log p common spare span chain tracks is low free clean wish =
     let start = sp.low in
     let high = sp.high in
     let one = wish.0.0 in
-    let cl = claims_are s log p tracks free.on clean in (
+    let less = start_less span.start one in
+    let cl = claims_are s log p tracks free.on clean in
+    let within : length sp.part ≤ length chain = omega (arith, high, le, low) in
+    let tip : back_to span.stop.0 (own t) ≡ Some sp.part = subst (λ (c : Chain). back_to span.stop.0 c ≡ Some sp.part) is sp.tip in (
       free,
       (
-        record { basic = refl; part = sp.part; tip = ap (λ (c : Chain). back_to span.stop.0 c) (sym is) ∙ sp.tip; low = one; high = start; bound = omega (arith, few, high, start) },
-        λ block i. (
-            let w = in_low sp.part (pred span.start) block (let v = below_start span.start in omega (arith, v, start)) i in
-            let under : w.0 < length sp.part = (let v = w.2 in let u = start_less span.start one in omega (arith, v, u, start)) in
-            let at : block ≡ hash_at chain w.0 = w.3 ∙ part_at chain sp.part (length sp.part) w.0 sp.is under (omega (arith, high, le, low)) in
-            has_header t block (λ up. subst IsSome (cl block) (subst (λ (x : Hash). IsSome (s.claims p x)) (sym at)
-            (wish.0.2 w.0 w.1 (let v = w.2 in let u = start_less span.start one in omega (arith, v, u)) (subst IsAbove at up))))
-            ),
-        λ block i claimed. (
-            let w = in_span chain sp.part (length sp.part) (pred span.start) block sp.is (omega (arith, high, le, low)) i in
-            let u = un w.0 (let v = w.1 in up_to_start span.start w.0 v) (let v = w.2 in omega (arith, v, high)) in
-            let none : s.claims p block ≡ None = ap (s.claims p) w.3 ∙ u.1 in
-            let no : None ≡ Some claimed.0 = sym none ∙ cl block ∙ claimed.1 in cc no
-            ),
+        record { basic = refl; part = sp.part; tip = tip; low = one; high = start; bound = omega (arith, few, high, start) },
+        λ block i.
+            let w = in_low sp.part (pred span.start) block (omega (arith, less, start)) i in
+            let most = w.2 in
+            known_at s t p (span.start - 1) chain sp.part w.0 block cl wish.0.2 sp.is within w.1 (omega (arith, most, less)) (omega (arith, most, less, start)) w.3,
+        λ block i claimed.
+            let w = in_span chain sp.part (length sp.part) (pred span.start) block sp.is within i in
+            let most = w.2 in
+            let u = un w.0 (up_from span.start w.0 w.1) (omega (arith, most, high)) in
+            none_at s t p block (hash_at chain w.0) cl w.3 u.1 claimed,
       ),
-    ) where
-      below_start : (n : ℕ) → pred n ≤ n
-      below_start zero = omega arith
-      below_start (suc n) = omega arith
+    )
 
-      start_less : (n : ℕ) → 1 ≤ n → pred n + 1 ≡ n
-      start_less zero le = absurd (omega (arith, le))
-      start_less (suc n) le = omega arith
-
-      up_to_start : (n h : ℕ) → pred n < h → n ≤ h
-      up_to_start zero h lt = omega arith
-      up_to_start (suc n) h lt = omega (arith, lt)
+claimed_at : (s : Seen) (t : Trail) (p : ℕ) (block : Hash) → ((x : Hash) → s.claims p x ≡ claims t x) → (claim : Claim) × (s.claims p block ≡ Some claim) → IsClaimed t block
+claimed_at s t p block cl mine = (mine.0, sym (cl block) ∙ mine.1)
 
 pub filters_may : (s : Seen) (log : Log) (p common : ℕ) (spare : Bool) (span : Span) (chain : Chain) → Tracks s log → chain ≡ own (trail log p) → common ≤ length chain
     → IsFree (trail log p) → verdict (trail log p) ≡ None → IsWish s.table s.claims s.verdicts p chain common spare (Filters span) → MayAsk (trail log p) (GetCfilters 0 span.start span.stop)
 filters_may s log p common spare span chain tracks is low free clean wish =
+    let t = trail log p in
     let sp = wish.1.1.0 in
     let le = wish.1.1.1 in
     let few = wish.1.1.2 in
     let un = wish.1.1.3 in
     let start = sp.low in
     let high = sp.high in
-    let cl = claims_are s log p tracks free.on clean in (
+    let cl = claims_are s log p tracks free.on clean in
+    let within : length sp.part ≤ length chain = omega (arith, high, le, low) in
+    let tip : back_to span.stop.0 (own t) ≡ Some sp.part = subst (λ (c : Chain). back_to span.stop.0 c ≡ Some sp.part) is sp.tip in (
       free,
       (
-        record { basic = refl; part = sp.part; tip = ap (λ (c : Chain). back_to span.stop.0 c) (sym is) ∙ sp.tip; low = wish.0.2; high = start; bound = omega (arith, few, high, start) },
-        λ block i. (
-            let w = in_span chain sp.part (length sp.part) (pred span.start) block sp.is (omega (arith, high, le, low)) i in
-            let u = un w.0 (let v = w.1 in up_to_start span.start w.0 v) (let v = w.2 in omega (arith, v, high)) in
-            let mine = some_is (s.claims p (hash_at chain w.0)) (wish.0.1 w.0 (let v = w.1 in omega (arith, v)) (let v = w.2 in omega (arith, v, high, le)) u.0) in
-            (mine.0, sym (cl block) ∙ ap (s.claims p) w.3 ∙ mine.1)
-            ),
+        record { basic = refl; part = sp.part; tip = tip; low = wish.0.2; high = start; bound = omega (arith, few, high, start) },
+        λ block i.
+            let w = in_span chain sp.part (length sp.part) (pred span.start) block sp.is within i in
+            let past = w.1 in
+            let most = w.2 in
+            let u = un w.0 (up_from span.start w.0 past) (omega (arith, most, high)) in
+            claimed_at s t p block cl (claim_at s p common chain w.0 block wish.0.1 (omega (arith, past)) (omega (arith, most, high, le)) u.0 w.3),
       ),
-    ) where
-      up_to_start : (n h : ℕ) → pred n < h → n ≤ h
-      up_to_start zero h lt = omega arith
-      up_to_start (suc n) h lt = omega (arith, lt)
+    )
 
 pub block_may : (log : Log) (p common : ℕ) (spare : Bool) (s : Seen) (hash : Hash32) (chain : Chain) → chain ≡ own (trail log p) → common ≤ length chain → IsFree (trail log p)
     → IsWish s.table s.claims s.verdicts p chain common spare (Block hash) → MayAsk (trail log p) (GetData (block_entry hash ∷ []))

@@ -1,5 +1,5 @@
 -- A peer is asked for no filters a second time.
-use Rattle.std.proofs.Common.{◌≡◌, ◌⊎◌, inl, inr, ℕ, pred, ◌≤◌, List, [], ◌∷◌, ◌++◌, length, Option, Some, None, Bool, true, false, ◌&&◌, ◌==◌, if◌then◌else◌, refl, sym, ◌∙◌, ap, subst}
+use Rattle.std.proofs.Common.{◌≡◌, ◌⊎◌, inl, inr, ℕ, ◌≤◌, List, [], ◌∷◌, ◌++◌, length, Option, Some, None, Bool, true, false, ◌==◌, if◌then◌else◌, refl, sym, ◌∙◌, ap, subst}
 use Rattle.std.specs.Prelude.{option_map}
 use Rattle.std.proofs.lemmas.Bool.{cases_Bool, and_parts, false≢true}
 use Rattle.cf_bytes.specs.declared.hash.Hash32.{Hash32}
@@ -13,11 +13,10 @@ use Rattle.cf_match.specs.declared.job.Job.{Job}
 use Rattle.cf_msg.specs.declared.msg.Entry.{Entry}
 use Rattle.cf_msg.specs.declared.msg.Msg.{Msg}
 use Rattle.cf_msg.specs.declared.msg.Msg.TheVariants.{GetHeaders, Headers, GetData, Block as BlockMessage, GetCfheaders, Cfheaders, GetCfilters, Cfilter}
-use Rattle.cf_peer.specs.declared.peer.Cause.{Cause}
 use Rattle.cf_peer.specs.declared.peer.Cause.TheVariants.{OtherFilter}
 use Rattle.cf_peer.specs.Log.{Log}
 use Rattle.cf_peer.specs.Trail.{Trail, Called, Said, Refused, Asked, Passed, Lost, trail, connected, own, WasAsked}
-use Rattle.cf_peer.specs.Asking.{OpenRequest, NothingOpen, HeadersOpen, ClaimsOpen, FiltersOpen, BlockOpen, is_answer_of, is_this, is_wanted, blocks_from, block_below, block_entry, claims_asked, filters_asked, filters_left, filter_of, filter_fault, claims, claims_after, given, given_by, hash_claimed, request, request_for, request_after, fault_of, verdict, counted, lists, IsClaimed, MayAsk}
+use Rattle.cf_peer.specs.Asking.{OpenRequest, NothingOpen, HeadersOpen, ClaimsOpen, FiltersOpen, BlockOpen, is_answer_of, is_this, is_wanted, blocks_from, block_below, claims_asked, filters_asked, filters_left, filter_of, filter_fault, claims, claims_after, given, given_by, hash_claimed, request, request_for, request_after, fault_of, verdict, counted, lists, IsClaimed, MayAsk}
 use Rattle.cf_sync.specs.Fetching.{AreBytes, IsConnected, IsFilterWanted, IsNeeded, MaySend, Rightly, blocks_in}
 use Rattle.cf_sync.specs.Sync.{IsHashed}
 use Rattle.cf_sync.proofs.Chains.{cases_same, same_true}
