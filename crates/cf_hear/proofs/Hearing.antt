@@ -1,5 +1,5 @@
 -- What is taken of a piece of a peer's bytes, message by message.
-use Rattle.std.proofs.Common.{◌≡◌, ◌≢◌, ◌⊎◌, inl, inr, ℕ, List, [], ◌∷◌, ◌++◌, map, Option, Some, None, ◌<◌, Bool, true, false, if◌then◌else◌, refl, sym, ◌∙◌, ap, subst, append_assoc}
+use Rattle.std.proofs.Common.{◌≡◌, ◌≢◌, ◌⊎◌, inl, inr, ℕ, List, [], ◌∷◌, ◌++◌, map, length, Option, Some, None, ◌<◌, Bool, true, false, if◌then◌else◌, refl, sym, ◌∙◌, ap, subst, append_assoc}
 use Rattle.std.specs.List.{All, AllByRecursion}
 use Rattle.std.proofs.lemmas.List.{append-nil}
 use Rattle.std.proofs.lemmas.List.Elements.{All-append, All-nil, All-cons}
@@ -21,7 +21,7 @@ use Rattle.cf_peer.specs.Acts.{IsSendable, IsDoable}
 use Rattle.cf_peer.specs.Trail.{Trail, Part, Said, part_after, heard_part, ready, met, own, owed}
 use Rattle.cf_peer.specs.Asking.{request, claims, counted, fetched, fetched_by, given, given_by}
 use Rattle.cf_peer.specs.Hearing.{IsReply, Faulty}
-use Rattle.cf_peer.specs.Peer.{Holds, IsRight, TakesClaims, awaits}
+use Rattle.cf_peer.specs.Peer.{Holds, IsRight, TakesClaims, awaits, cause_of_claims}
 use Rattle.cf_peer.proofs.Peers.{other_block, reply_is, same_holds}
 use Rattle.cf_peer.proofs.Stream.{faulty_said, said_met}
 use Rattle.cf_scan.specs.declared.extracts.TxExtract.{TxExtract}
@@ -36,7 +36,9 @@ use Rattle.cf_match.specs.Verdicts.{Verdicts, AreSameVerdicts, is_of, kept_or, v
 use Rattle.std.specs.Prelude.{IsSome, option_map}
 use Rattle.cf_block.specs.Header.{genesis_header}
 use Rattle.cf_dispute.specs.declared.claim.Claim.{Claim}
-use Rattle.cf_dispute.specs.Claims.{first_header}
+use Rattle.cf_dispute.specs.declared.claim.ClaimFault.{ClaimFault}
+use Rattle.cf_dispute.specs.Claims.{first_header, with_claims}
+use Rattle.cf_dispute.specs.Tables.{blocks_of, claim_fault}
 use Rattle.cf_dispute.specs.Claims as dispute
 use Rattle.cf_headers.specs.Rules.{same as same_bytes}
 use Rattle.cf_peer.specs.declared.peer.Request.{Request}
@@ -154,6 +156,18 @@ right_same (ClaimsAsked range age) a b is h = (
 )
 right_same (FiltersAsked batch age) a b is h = h
 right_same (BlockAsked block age) a b is h = tt
+
+-- a run of blocks that is read as a slice: the same claims, and the same fault
+pub same_run : (previous : Hash32) (read blocks hashes : List Hash32) (table after : dispute.Table) → read ≡ blocks → ((block : Hash) → after block ≡ with_claims previous (blocks_of read) hashes table block)
+    → (block : Hash) → after block ≡ with_claims previous (blocks_of blocks) hashes table block
+same_run previous read blocks hashes table after e is block = is block ∙ ap (λ (xs : List Hash32). with_claims previous (blocks_of xs) hashes table block) e
+
+pub same_fault : (header : Option Hash32) (previous : Hash32) (read blocks hashes : List Hash32) (o : Option ClaimFault) → read ≡ blocks → claim_fault header (length read) previous (length hashes) ≡ o
+    → claim_fault header (length blocks) previous (length hashes) ≡ o
+same_fault header previous read blocks hashes o e is = subst (λ (xs : List Hash32). claim_fault header (length xs) previous (length hashes) ≡ o) e is
+
+pub cause_is : (o : Option Cause) (fault : Option ClaimFault) (f : ClaimFault) (cause : Cause) → o ≡ option_map cause_of_claims fault → fault ≡ Some f → cause ≡ cause_of_claims f → o ≡ Some cause
+cause_is o fault f cause all is this = all ∙ ap (option_map cause_of_claims) is ∙ ap (λ (x : Cause). Some x) (sym this)
 
 -- claims that were taken
 pub claims_hears : (before after : Seen) (p : PeerNo) (peer : Peer) (filter : ℕ) (stop previous : Hash32) (hashes : List Hash32) (t : Trail)

@@ -27,7 +27,7 @@ use Rattle.cf_tracker.specs.declared.spans.Wish.TheVariants.{Claims, Filters, Bl
 use Rattle.cf_tracker.specs.Spans.{IsWish}
 use Rattle.cf_tracker.specs.Wanting.{IsAbove, IsUnjudged, AreClaimed}
 use Rattle.cf_tracker.proofs.Along.{hash_of_next}
-use Rattle.std.proofs.lemmas.Bool.{cases_lt, cases_Bool, both_ways}
+use Rattle.std.proofs.lemmas.Bool.{cases_lt, both_ways}
 use Rattle.cf_tracker.proofs.Stops.{above_part, lower_on, parent_is}
 use Rattle.cf_hear.specs.Seen.{Seen}
 use Rattle.cf_hear.specs.Tracks.{Tracks}

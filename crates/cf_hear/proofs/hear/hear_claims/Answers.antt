@@ -1,19 +1,20 @@
-use Rattle.std.proofs.Common.{◌≡◌, List, Some, None, Err, refl, sym, ◌∙◌, ap, subst}
-use Rattle.std.specs.Prelude.{length, option_map}
-use Rattle.cf_bytes.specs.declared.hash.Hash32.{Hash32}
+use Rattle.std.proofs.Common.{◌∷◌, Some, None, Err, refl, sym, subst}
+use Rattle.std.specs.Prelude.{length}
 use Rattle.cf_bytes.specs.declared.memory.Refused.{Refused}
 use Rattle.cf_dispute.specs.declared.claim.ClaimFault.{ClaimFault}
-use Rattle.cf_dispute.specs.Claims.{with_claims, header_at, first_header}
-use Rattle.cf_dispute.specs.Tables.{GivesFault, blocks_of, claim_fault}
+use Rattle.cf_dispute.specs.Claims.{header_at, first_header}
+use Rattle.cf_dispute.specs.Tables.{GivesFault, claim_fault}
 use Rattle.cf_msg.specs.declared.msg.Msg.TheVariants.{Cfheaders}
 use Rattle.cf_peer.specs.declared.peer.Peer.{Peer}
 use Rattle.cf_peer.specs.declared.peer.Request.{Request}
-use Rattle.cf_peer.specs.Peer.{IsRight, TakesClaims, cause_of_claims}
+use Rattle.cf_peer.specs.Asking.{verdict}
+use Rattle.cf_peer.specs.Trail.{Said}
+use Rattle.cf_peer.specs.Peer.{IsRight, TakesClaims}
 use Rattle.cf_peer.proofs.Claiming.{answer_fault, answer_holds}
 use Rattle.cf_tracker.specs.Tracker.{claims_of}
 use Rattle.cf_tracker.proofs.Marked.{all_same}
 use Rattle.cf_hear.specs.Seen.{seen_of}
-use Rattle.cf_hear.proofs.Hearing.{claims_hears}
+use Rattle.cf_hear.proofs.Hearing.{claims_hears, same_run, same_fault, cause_is}
 use Rattle.cf_hear.proofs.hear.hear_claims.Goals as goal
 
 pub returns-in_default-clause-heard : goal.returns-in_default-clause-heard
@@ -28,11 +29,10 @@ returns-in-Ok-clause-heard g c = λ t holds f.
     let range = c.in-Some.range in
     let took = c.in-Some.ensures.took in
     let right = subst (λ (r : Request). IsRight r table) took.0.1 c.requires.right in
-    let none : claim_fault (header_at first_header table range.parent.0) (length range.blocks) c.args.previous.now (length c.args.hashes.now) ≡ None =
-    subst (λ (bs : List Hash32). claim_fault (header_at first_header table range.parent.0) (length bs) c.args.previous.now (length c.args.hashes.now) ≡ None) c.as_slice.ensures c.in-Ok.ensures.answer in
+    let none = same_fault (header_at first_header table range.parent.0) c.args.previous.now c.as_slice.result.now range.blocks c.args.hashes.now None c.as_slice.ensures c.in-Ok.ensures.answer in
     let after = claims_of c.add_claims.new.self c.args.p.0 in
     let takes = answer_holds c.args.peer.now range took.0.0 c.args.filter c.args.stop.now c.args.previous.now c.args.hashes.now t table after took.0.1 took.1 right.0 none
-    (λ block. c.in-Ok.ensures.ok block ∙ ap (λ (bs : List Hash32). with_claims c.args.previous.now (blocks_of bs) c.args.hashes.now table block) c.as_slice.ensures) holds f.claims in
+    (same_run c.args.previous.now c.as_slice.result.now range.blocks c.args.hashes.now table after c.as_slice.ensures c.in-Ok.ensures.ok) holds f.claims in
     claims_hears (seen_of c.args.tracker.now) (seen_of c.add_claims.new.self) c.args.p c.take_range.new.self c.args.filter c.args.stop.now c.args.previous.now c.args.hashes.now t
     (subst (λ (x : Peer). TakesClaims x after (Cfheaders c.args.filter c.args.stop.now c.args.previous.now c.args.hashes.now) t None) (sym took.2) takes)
     f c.in-Ok.ensures.watch c.in-Ok.ensures.chains c.in-Ok.ensures.others (λ hash. sym (c.in-Ok.ensures.table hash)) c.in-Ok.ensures.verdicts
@@ -44,10 +44,10 @@ returns-in-Err-No-clause-heard g c = λ t holds f.
     let took = c.in-Some.ensures.took in
     let right = subst (λ (r : Request). IsRight r table) took.0.1 c.requires.right in
     let fault = subst (λ (e : Refused ClaimFault). GivesFault {A = Unit {0}} (Err e) (claim_fault (header_at first_header table range.parent.0) (length c.as_slice.result.now) c.args.previous.now (length c.args.hashes.now))) c.in-Err-No.field-0-is c.in-Err-No.ensures.answer in
-    let is : claim_fault (header_at first_header table range.parent.0) (length range.blocks) c.args.previous.now (length c.args.hashes.now) ≡ Some c.in-Err-No.fault =
-    ap (λ (bs : List Hash32). claim_fault (header_at first_header table range.parent.0) (length bs) c.args.previous.now (length c.args.hashes.now)) (sym c.as_slice.ensures) ∙ fault in (
-      answer_fault c.args.peer.now range took.0.0 c.args.filter c.args.stop.now c.args.previous.now c.args.hashes.now t table took.0.1 took.1 right.0 holds f.claims
-          ∙ ap (option_map cause_of_claims) is ∙ ap (λ x. Some x) (sym c.cause_of.ensures),
+    let is = same_fault (header_at first_header table range.parent.0) c.args.previous.now c.as_slice.result.now range.blocks c.args.hashes.now (Some c.in-Err-No.fault) c.as_slice.ensures fault in (
+      cause_is (verdict (Said (Cfheaders c.args.filter c.args.stop.now c.args.previous.now c.args.hashes.now) ∷ t)) (claim_fault (header_at first_header table range.parent.0) (length range.blocks) c.args.previous.now (length c.args.hashes.now))
+          c.in-Err-No.fault c.cause_of.result
+          (answer_fault c.args.peer.now range took.0.0 c.args.filter c.args.stop.now c.args.previous.now c.args.hashes.now t table took.0.1 took.1 right.0 holds f.claims) is c.cause_of.ensures,
       record {
         watch = c.in-Err-No.ensures.watch;
         chains = c.in-Err-No.ensures.chains;

@@ -1,10 +1,9 @@
-use Rattle.std.proofs.Common.{List, ◌++◌, Option, Some, refl, sym, ◌∙◌, ap, subst}
-use Rattle.std.specs.Prelude.{ℕ, IfSome}
+use Rattle.std.proofs.Common.{Option, Some, refl, sym, ◌∙◌, ap, subst}
+use Rattle.std.specs.Prelude.{IfSome}
 use Rattle.cf_peer.specs.declared.peer.Peer.{Peer}
 use Rattle.cf_peer.specs.declared.peer.Reply.{Reply}
 use Rattle.cf_peer.specs.Trail.{heard_part}
-use Rattle.cf_peer.specs.Peer.{Holds, IsRight, calm, IsReplySendable}
-use Rattle.cf_peer.proofs.Peers.{same_holds}
+use Rattle.cf_peer.specs.Peer.{IsRight, calm, IsReplySendable}
 use Rattle.cf_tracker.specs.Tracker.{claims_of}
 use Rattle.cf_hear.specs.Seen.{seen_of}
 use Rattle.cf_hear.specs.Hearing.{HearsNext}
