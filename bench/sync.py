@@ -1,8 +1,9 @@
 #!/usr/bin/env python3
 """Replays of sessions in which one peer gives a made chain of 1,000, 10,000 and 50,000 blocks: the time for each block.
 
-Every block of the chain is fetched, so a session holds the peer's handshake, its headers, 2000 in a message, and its blocks one by one. The time
-of a block may not grow with the height: the greatest of the three is to be within 1.5 times the smallest. The best of three runs counts.
+A session holds the peer's handshake, its headers and the hashes of its filters, 2000 in a message, its filters one by one, and the blocks whose filter
+has the watched script, which are about one in eight. The time of a block of the chain may not grow with the height: the greatest of the three is to be
+within 1.5 times the smallest. The best of three runs counts.
 """
 import os
 import struct
@@ -11,6 +12,8 @@ import sys
 import tempfile
 import time
 from hashlib import sha256
+
+from conversation import GENESIS_HEADER, GENESIS_TX, double, filters, siphash
 
 BENCH = os.path.dirname(os.path.abspath(__file__))
 ROOT = os.path.dirname(BENCH)
@@ -41,7 +44,26 @@ def blocks_in(path):
     return blocks
 
 
-def write_session(blocks, path):
+def has(text, block_hash, script):
+    """Whether a basic filter of fewer than 253 values has a script's value (BIP 158)."""
+    n = text[0]
+    bits = "".join(format(byte, "08b") for byte in text[1:])
+    k0, k1 = (int.from_bytes(block_hash[i:i + 8], "little") for i in (0, 8))
+    wanted = siphash(k0, k1, script) * (n * 784931) >> 64
+    place = value = 0
+    for _ in range(n):
+        end = bits.index("0", place)
+        value += (end - place << 19) + int(bits[end + 1:end + 20], 2)
+        place = end + 20
+        if value == wanted:
+            return True
+    return False
+
+
+def write_session(blocks, script, path):
+    """The session of a peer of these blocks, for a client that watches this script."""
+    made = filters([GENESIS_HEADER + b"\x01" + GENESIS_TX] + blocks)
+    names = [double(block[:80]) for block in blocks]
     with open(path, "w") as file:
         file.write("dial a\n")
         say = lambda command, payload: file.write("got 1 %s\n" % frame(command, payload).hex())
@@ -50,8 +72,14 @@ def write_session(blocks, path):
         for at in range(0, len(blocks) + 1, 2000):
             part = blocks[at:at + 2000]
             say(b"headers", compact(len(part)) + b"".join(block[:80] + b"\0" for block in part))
-        for block in blocks:
-            say(b"block", block)
+        for at in range(0, len(blocks), 2000):
+            part = made[1 + at:1 + at + 2000]
+            say(b"cfheaders", b"\0" + names[at + len(part) - 1] + made[at][2] + compact(len(part)) + b"".join(filter_hash for _, filter_hash, _ in part))
+        for name, (text, _, _) in zip(names, made[1:]):
+            say(b"cfilter", b"\0" + name + compact(len(text)) + text)
+        for block, name, (text, _, _) in zip(blocks, names, made[1:]):
+            if has(text, name, script):
+                say(b"block", block)
 
 
 def seconds_of(words):
@@ -70,7 +98,7 @@ def main():
         print("%-12s %9s %14s" % ("blocks", "seconds", "us for a block"))
         for count in (1000, 10_000, 50_000):
             subprocess.run([os.path.join(BENCH, "made_chain.py"), "7", str(count), chain], check=True)
-            write_session(blocks_in(chain), session)
+            write_session(blocks_in(chain), bytes.fromhex("01087551"), session)
             runs = [seconds_of([PROGRAM, "replay", watch, session]) for _ in range(3)]
             if not runs[0][0].startswith(b"synced %d " % count):
                 raise SystemExit("%d blocks: %r" % (count, runs[0][0]))

@@ -32,8 +32,42 @@ fn put_fetch(alloc: Global, index: &Index, height: u64, out: &mut Vec<u8>) -> Op
     put_frame(b"getdata\0\0\0\0\0", &payload, out)
 }
 
-// What a client asks for: the headers above genesis, and the blocks at these heights.
-fn questions(alloc: Global, index: &Index, heights: &[u64]) -> Option<Vec<u8>> {
+// A question about the filters of all blocks above genesis: the type of basic filters, the first height, and the tip's hash.
+fn put_about_filters(
+    alloc: Global,
+    index: &Index,
+    command: &[u8; 12],
+    out: &mut Vec<u8>,
+) -> Option<()> {
+    let tip = index.hash(index.tip())?;
+    let mut payload = Vec::from_slice(alloc, &[0, 1, 0, 0, 0]).ok()?;
+    payload.extend_from_slice(&tip.0).ok()?;
+    put_frame(command, &payload, out)
+}
+
+// How much is asked for.
+enum Asked {
+    // The headers above genesis.
+    Headers,
+    // These, and the hashes of all filters.
+    Claims,
+    // These, and the filters.
+    Filters,
+    // These, and the blocks at these heights.
+    Blocks(Vec<u64>),
+}
+
+fn asked_in(alloc: Global, word: &str) -> Option<Asked> {
+    match word {
+        "headers" => Some(Asked::Headers),
+        "claims" => Some(Asked::Claims),
+        "filters" => Some(Asked::Filters),
+        heights => Some(Asked::Blocks(numbers_in(alloc, heights)?)),
+    }
+}
+
+// What a client asks for, up to what is asked for last.
+fn questions(alloc: Global, index: &Index, last: &Asked) -> Option<Vec<u8>> {
     let mut asked = Vec::new(alloc);
     put_frame(
         b"version\0\0\0\0\0",
@@ -45,8 +79,16 @@ fn questions(alloc: Global, index: &Index, heights: &[u64]) -> Option<Vec<u8>> {
         &bytes_in(alloc, ABOVE_GENESIS)?,
         &mut asked,
     )?;
-    for height in heights {
-        put_fetch(alloc, index, *height, &mut asked)?;
+    if !matches!(last, Asked::Headers) {
+        put_about_filters(alloc, index, b"getcfheaders", &mut asked)?;
+    }
+    if matches!(last, Asked::Filters | Asked::Blocks(_)) {
+        put_about_filters(alloc, index, b"getcfilters\0", &mut asked)?;
+    }
+    if let Asked::Blocks(heights) = last {
+        for height in heights {
+            put_fetch(alloc, index, *height, &mut asked)?;
+        }
     }
     Some(asked)
 }
@@ -83,7 +125,7 @@ fn put_frames(
     None
 }
 
-// What the server answers to these questions: `version`, `verack`, `headers`, and the blocks.
+// What the server answers to these questions: `version`, `verack`, `headers`, `cfheaders`, the filters, and the blocks.
 fn put_answers(
     alloc: Global,
     peer: &str,
@@ -99,19 +141,19 @@ fn put_answers(
     }
 }
 
-// The lines of `PEER CHAIN HEIGHTS SKIPPED`.
+// The lines of `PEER CHAIN WHAT SKIPPED`.
 fn put_served(alloc: Global, line: &str, out: &mut String) -> Option<()> {
     let (peer, rest) = line.split_once(' ')?;
     let (chain, rest) = rest.split_once(' ')?;
-    let (heights, skipped) = rest.split_once(' ')?;
+    let (what, skipped) = rest.split_once(' ')?;
     let index = index_in(alloc, chain)?;
-    let asked = questions(alloc, &index, &numbers_in(alloc, heights)?)?;
+    let asked = questions(alloc, &index, &asked_in(alloc, what)?)?;
     put_answers(alloc, peer, skipped.parse().ok()?, &index, asked, out)
 }
 
-/// The session of a field: its lines, each of which ends at `;`. For a line `served PEER CHAIN HEIGHTS SKIPPED` stand the lines in which the
-/// peer sends what the server of the chain answers to a client that asks for its headers and for the blocks at these heights: a frame each,
-/// without the first SKIPPED.
+/// The session of a field: its lines, each of which ends at `;`. For a line `served PEER CHAIN WHAT SKIPPED` stand the lines in which the peer sends
+/// what the server of the chain answers: a frame each, without the first SKIPPED. It is asked for headers, then for the hashes of all filters, then for
+/// the filters, and then for blocks; WHAT is what it is asked for last: `headers`, `claims`, `filters`, or the heights of blocks.
 pub(crate) fn session_in(alloc: Global, field: &str) -> Option<String> {
     let mut text = String::new(alloc);
     for line in field.split_inclusive(';') {

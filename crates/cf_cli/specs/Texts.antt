@@ -7,7 +7,7 @@ use Rattle.cf_client.specs.declared.outcome.End.TheVariants.{Synced, NoPeers, Ti
 use Rattle.cf_client.specs.declared.trace.TraceLine.{TraceLine}
 use Rattle.cf_client.specs.declared.trace.TraceLine.TheVariants.{Sent, Closed}
 use Rattle.cf_peer.specs.declared.peer.Cause.{Cause}
-use Rattle.cf_peer.specs.declared.peer.Cause.TheVariants.{BadFrame, Malformed, NoFilters, Unlinked, InvalidHeader, TooHigh, BadBlock, SendFailed, Overdue}
+use Rattle.cf_peer.specs.declared.peer.Cause.TheVariants.{BadFrame, Malformed, NoFilters, Unlinked, InvalidHeader, TooHigh, WrongCount, WrongPrevious, OtherFilter, BadBlock, SendFailed, Overdue}
 use Rattle.cf_scan.specs.declared.history.Entry.{Entry}
 use Rattle.cf_scan.specs.HistoryText.{history_text}
 
@@ -18,6 +18,9 @@ cause_name NoFilters = codes "NoFilters"
 cause_name Unlinked = codes "Unlinked"
 cause_name InvalidHeader = codes "InvalidHeader"
 cause_name TooHigh = codes "TooHigh"
+cause_name WrongCount = codes "WrongCount"
+cause_name WrongPrevious = codes "WrongPrevious"
+cause_name OtherFilter = codes "OtherFilter"
 cause_name BadBlock = codes "BadBlock"
 cause_name SendFailed = codes "SendFailed"
 cause_name Overdue = codes "Overdue"

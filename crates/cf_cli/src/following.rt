@@ -12,6 +12,7 @@ use crate::texts::text_of;
 use cf_bytes::{Sink, put_all};
 use cf_client::{End, PeerEnd, sync_over};
 use cf_headers::Lists;
+use cf_match::Plain;
 use cf_peer::Wires;
 use cf_scan::Watch;
 use std::alloc::Global;
@@ -59,7 +60,10 @@ pub(crate) fn follow<W: Wires, O: Sink>(
     let Ok(store) = Lists::new(alloc) else {
         return Status::NoMemory;
     };
-    let Ok(outcome) = sync_over(alloc, wires, names, watch, store, moment, nonce, turns) else {
+    let matcher = Plain::new(alloc);
+    let Ok(outcome) = sync_over(
+        alloc, wires, names, watch, store, matcher, moment, nonce, turns,
+    ) else {
         return Status::NoMemory;
     };
     let Ok(text) = text_of(alloc, &outcome, trace) else {

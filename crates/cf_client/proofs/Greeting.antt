@@ -65,14 +65,14 @@ place_greeted : (place : Place) (part : Part) → Fits place part → IsGreetedO
 place_greeted (Here peer) part keeps = λ on. keeps.holds.called
 place_greeted (LostPlace loss) part lost = off_greeted part.trail lost.off
 
-pub reflects_greeted : {H : Type 0} {g : Ghosts H} (c : Client H g) (log : Log) → Reflects c log → AreGreeted log
+pub reflects_greeted : {H M : Type 0} {g : Ghosts H} (c : Client H M g) (log : Log) → Reflects c log → AreGreeted log
 reflects_greeted c log reflects = λ p. place_greeted (place_at c.places.items p) (part_of log p) (reflects.places.each p)
 
 -- after a delivery, and after a failed send
-pub reflects_took : {H : Type 0} {g : Ghosts H} (c : Client H g) (log : Log) (d : Delivery) → Reflects c log → AreGreeted (Took d ∷ log)
+pub reflects_took : {H M : Type 0} {g : Ghosts H} (c : Client H M g) (log : Log) (d : Delivery) → Reflects c log → AreGreeted (Took d ∷ log)
 reflects_took c log d reflects = took_greeted log d (reflects_greeted c log reflects)
 
-pub reflects_cut : {H : Type 0} {g : Ghosts H} (c : Client H g) (p : PeerNo) (log cut : Log) → CutFor p log cut → Reflects c log → AreGreeted cut
+pub reflects_cut : {H M : Type 0} {g : Ghosts H} (c : Client H M g) (p : PeerNo) (log cut : Log) → CutFor p log cut → Reflects c log → AreGreeted cut
 reflects_cut c p log cut is reflects = λ q. elim (cases_eq q p.0) [
   | inl same ↦ off_greeted (trail cut q) (ap (λ (k : ℕ). connected (trail cut k)) same ∙ is.off)
   | inr other ↦ subst (λ (x : Part). IsGreetedOn x.trail) (sym (is.others q other)) (reflects_greeted c log reflects q)
@@ -84,10 +84,10 @@ asked_tells words t (Version version services time to from nonce agent height re
 asked_tells words t m is may = tt
 
 -- where each connected peer was greeted, no act that is allowed sends a version
-pub acts_tell : (words : Words) (acts : List Act) (log : Log) → AreGreeted log → Allowed acts log → All (ActTells words) acts
-acts_tell words [] log all allowed = All-nil (ActTells words)
-acts_tell words (Send p m ∷ acts) log all allowed =
+pub acts_tell : (watch : List (List ℕ)) (words : Words) (acts : List Act) (log : Log) → AreGreeted log → Allowed watch acts log → All (ActTells words) acts
+acts_tell watch words [] log all allowed = All-nil (ActTells words)
+acts_tell watch words (Send p m ∷ acts) log all allowed =
     All-cons (ActTells words) (Send p m) acts (asked_tells words (trail log p.0) m (all p.0) allowed.0.2.of_its_part)
-    (acts_tell words acts (Sent p (bytes_of m) ∷ log) (sent_greeted log p (bytes_of m) all) allowed.1)
-acts_tell words (Close p cause ∷ acts) log all allowed =
-    All-cons (ActTells words) (Close p cause) acts tt (acts_tell words acts (Closed p ∷ log) (closed_greeted log p all) allowed.1)
+    (acts_tell watch words acts (Sent p (bytes_of m) ∷ log) (sent_greeted log p (bytes_of m) all) allowed.1)
+acts_tell watch words (Close p cause ∷ acts) log all allowed =
+    All-cons (ActTells words) (Close p cause) acts tt (acts_tell watch words acts (Closed p ∷ log) (closed_greeted log p all) allowed.1)

@@ -8,7 +8,7 @@ use Rattle.cf_peer.specs.declared.peer.Cause.{Cause}
 use Rattle.cf_peer.specs.declared.peer.Peer.{Peer}
 use Rattle.cf_peer.specs.Log.{Log}
 use Rattle.cf_peer.specs.Trail.{Trail, Part, part_of, connected, ready, failed}
-use Rattle.cf_peer.specs.Asking.{OpenRequest, NothingOpen, HeadersOpen, BlockOpen, request, is_idle as idle_request, is_open, age, Deserves}
+use Rattle.cf_peer.specs.Asking.{OpenRequest, NothingOpen, HeadersOpen, ClaimsOpen, FiltersOpen, BlockOpen, request, is_idle as idle_request, is_open, age, Deserves}
 use Rattle.cf_peer.specs.Peer.{Holds, aged, age_in, calm}
 use Rattle.cf_client.specs.declared.client.Client.{Client}
 use Rattle.cf_client.specs.declared.place.Place.{Place}
@@ -21,6 +21,8 @@ use Rattle.cf_client.proofs.Losing.{none_failed}
 aged_is : (r : OpenRequest) (n : ℕ) → idle_request r ≡ false → age_in (aged r n) ≡ n
 aged_is NothingOpen n is = absurd (false≢true (sym is))
 aged_is HeadersOpen n is = refl
+aged_is (ClaimsOpen stop parent blocks) n is = refl
+aged_is (FiltersOpen left came) n is = refl
 aged_is (BlockOpen block) n is = refl
 
 open_parts : (c rd i : Bool) → (c && (not rd || not i)) ≡ true → rd ≡ true → i ≡ false
@@ -50,7 +52,7 @@ place_innocent : (place : Place) (part : Part) (cause : Cause) → Fits place pa
 place_innocent (Here peer) part cause fits is on deserves = peer_innocent peer part.trail cause fits.holds is deserves
 place_innocent (LostPlace end) part cause lost is on deserves = both_ways (connected part.trail) lost.off on
 
-pub innocent : {H : Type 0} {g : Ghosts H} (c : Client H g) (log : Log) → Reflects c log → IsInnocent log
+pub innocent : {H M : Type 0} {g : Ghosts H} (c : Client H M g) (log : Log) → Reflects c log → IsInnocent log
 innocent c log reflects = λ p on cause deserves.
     place_innocent (place_at c.places.items p) (part_of log p) cause (reflects.places.each p) (settled_calm (place_at c.places.items p) ((c.settled reflects.alive).each p)) on deserves
 
@@ -58,5 +60,5 @@ place_answered : (place : Place) (part : Part) → Fits place part → connected
 place_answered (Here peer) part keeps on = keeps.answered
 place_answered (LostPlace end) part lost on = absurd (both_ways (connected part.trail) lost.off on)
 
-pub answered : {H : Type 0} {g : Ghosts H} (c : Client H g) (log : Log) → Reflects c log → AreAnswered log
+pub answered : {H M : Type 0} {g : Ghosts H} (c : Client H M g) (log : Log) → Reflects c log → AreAnswered log
 answered c log reflects = λ p on. place_answered (place_at c.places.items p) (part_of log p) (reflects.places.each p) on

@@ -1,10 +1,9 @@
 pub mod Spelled
-pub mod Tracking
 pub mod Losing
+pub mod Rights
 pub mod Standing
 pub mod Settled
 pub mod Acting
-pub mod Hearing
 pub mod Taking
 pub mod Asking
 pub mod Steps

@@ -20,12 +20,15 @@ use Rattle.cf_peer.specs.declared.peer.Cause.{Cause}
 use Rattle.cf_peer.specs.Acts.{bytes_of}
 use Rattle.cf_peer.specs.Log.{Log, Told, Tells, tally_of, noted, tell, longer}
 use Rattle.cf_peer.specs.Trail.{Trail, Part, Why, Item, Asked, Lost, Failing, Shutting, spelled, asks, with_item, part_of, trail, went_on, connected, failed, is_failing}
-use Rattle.cf_peer.specs.Asking.{request, is_open, counted, fetched, Deserves, MayAsk}
+use Rattle.cf_dispute.specs.Claims.{Table}
+use Rattle.cf_peer.specs.Asking.{request, is_open, is_spare, counted, fetched, given, Deserves, MayAsk}
 use Rattle.cf_headers.specs.declared.store.HeaderStore.{Ghosts}
-use Rattle.cf_sync.specs.Fetching.{IsSameFetched, IsNoBlockOpen, IsAlone, counted_part, is_spare}
+use Rattle.cf_sync.specs.Fetching.{IsNoneFetching, IsAlone, counted_part}
+use Rattle.cf_sync.specs.Kept.{claims_kept}
+use Rattle.cf_sync.proofs.VerdictsGrow.{same_given}
 use Rattle.cf_sync.specs.Planned.{is_untold, before_failure, IsMeant, Alike, IsPlanned}
 use Rattle.cf_sync.proofs.Planning.{planned_part}
-use Rattle.cf_client.specs.Tracks.{chain_kept}
+use Rattle.cf_hear.specs.Tracks.{chain_kept}
 use Rattle.cf_client.specs.declared.client.Client.{Client}
 use Rattle.cf_client.specs.declared.place.Place.{Place}
 use Rattle.cf_client.specs.declared.place.Place.TheVariants.{Here, Lost as LostPlace}
@@ -35,7 +38,7 @@ use Rattle.cf_client.specs.declared.progress.SendState.TheVariants.{Fine, Pendin
 use Rattle.cf_client.specs.declared.trace.TraceLine.{TraceLine}
 use Rattle.cf_client.specs.declared.trace.TraceLine.TheVariants.{Sent as SentLine, Closed as ClosedLine}
 use Rattle.cf_client.specs.Places.{entry_of, MayAct, CutFor, Fits}
-use Rattle.cf_client.specs.Stands.{Reflects}
+use Rattle.cf_client.specs.Stands.{Reflects, watch_by}
 use Rattle.cf_client.specs.Run.{IsBroken, Doing, ActsLeft, HoldsOver, closes, is_due, state_at, is_pending, is_fine, IsTraceOf}
 use Rattle.cf_sync.proofs.SameFetched.{same_wanted, same_holds}
 use Rattle.cf_client.proofs.Losing.{lost_failed}
@@ -78,10 +81,15 @@ asked_brought true None part = refl
 asked_brought true (Some m) part = refl
 asked_brought false o part = refl
 
+asked_gave : (b : Bool) (o : Option Msg) (part : Part) → given (counted (if b then record part { trail = asks o part.trail } else part).trail) ≡ given (counted part.trail)
+asked_gave true None part = refl
+asked_gave true (Some m) part = refl
+asked_gave false o part = refl
+
 asked_alike : (b : Bool) (o : Option Msg) (t u : Part) → Alike t u
     → Alike (if b then record t { trail = asks o t.trail } else t) (if b then record u { trail = asks o u.trail } else u)
 asked_alike b o t u (inl same) = inl (ap (λ (x : Part). if b then record x { trail = asks o x.trail } else x) same)
-asked_alike b o t u (inr off) = inr (asked_connected b o t ∙ off.0, asked_connected b o u ∙ off.1, asked_failed b o t ∙ off.2, asked_failed b o u ∙ off.3, asked_brought b o t ∙ off.4 ∙ sym (asked_brought b o u))
+asked_alike b o t u (inr off) = inr (asked_connected b o t ∙ off.0, asked_connected b o u ∙ off.1, asked_failed b o t ∙ off.2, asked_failed b o u ∙ off.3, asked_brought b o t ∙ off.4 ∙ sym (asked_brought b o u), asked_gave b o t ∙ off.5 ∙ sym (asked_gave b o u))
 
 pub lost_off : (b : Bool) (w : Why) (part : Part) → connected part.trail ≡ false → connected (if b then with_item (Lost w) part else part).trail ≡ false
 lost_off true w part off = refl
@@ -90,6 +98,10 @@ lost_off false w part off = off
 lost_brought : (b : Bool) (w : Why) (part : Part) → fetched (counted (if b then with_item (Lost w) part else part).trail) ≡ fetched (counted part.trail)
 lost_brought true w part = refl
 lost_brought false w part = refl
+
+lost_gave : (b : Bool) (w : Why) (part : Part) → given (counted (if b then with_item (Lost w) part else part).trail) ≡ given (counted part.trail)
+lost_gave true w part = refl
+lost_gave false w part = refl
 
 -- a peer that is lost once more
 any_failing : (b : Bool) → (b || true) ≡ true
@@ -102,7 +114,7 @@ failed_still false w part off = off
 
 lost_alike : (b : Bool) (w : Why) (t u : Part) → Alike t u → Alike (if b then with_item (Lost w) t else t) (if b then with_item (Lost w) u else u)
 lost_alike b w t u (inl same) = inl (ap (λ (x : Part). if b then with_item (Lost w) x else x) same)
-lost_alike b w t u (inr off) = inr (lost_off b w t off.0, lost_off b w u off.1, failed_still b w t off.2, failed_still b w u off.3, lost_brought b w t ∙ off.4 ∙ sym (lost_brought b w u))
+lost_alike b w t u (inr off) = inr (lost_off b w t off.0, lost_off b w u off.1, failed_still b w t off.2, failed_still b w u off.3, lost_brought b w t ∙ off.4 ∙ sym (lost_brought b w u), lost_gave b w t ∙ off.5 ∙ sym (lost_gave b w u))
 
 -- an entry that brings nothing
 pub sent_brought : (p : PeerNo) (bytes : List ℕ) (log : Log) (q : ℕ) → fetched (counted_part (Sent p bytes ∷ log) q) ≡ fetched (counted_part log q)
@@ -113,6 +125,16 @@ closed_brought p log q = lost_brought (p.0 == q) Shutting (part_of log q)
 
 pub failing_brought : (p : PeerNo) (log : Log) (q : ℕ) → fetched (counted_part (SendFailed p ∷ log) q) ≡ fetched (counted_part log q)
 failing_brought p log q = lost_brought (p.0 == q) Failing (part_of log q)
+
+-- and gives nothing
+pub sent_gave : (p : PeerNo) (bytes : List ℕ) (log : Log) (q : ℕ) → given (counted_part (Sent p bytes ∷ log) q) ≡ given (counted_part log q)
+sent_gave p bytes log q = asked_gave (p.0 == q) (spelled bytes) (part_of log q)
+
+pub closed_gave : (p : PeerNo) (log : Log) (q : ℕ) → given (counted_part (Closed p ∷ log) q) ≡ given (counted_part log q)
+closed_gave p log q = lost_gave (p.0 == q) Shutting (part_of log q)
+
+pub failing_gave : (p : PeerNo) (log : Log) (q : ℕ) → given (counted_part (SendFailed p ∷ log) q) ≡ given (counted_part log q)
+failing_gave p log q = lost_gave (p.0 == q) Failing (part_of log q)
 
 pub sent_connected : (p : PeerNo) (bytes : List ℕ) (q : ℕ) (part : Part) → connected (went_on (Sent p bytes) q part).trail ≡ connected part.trail
 sent_connected p bytes q part = asked_connected (p.0 == q) (spelled bytes) part
@@ -175,25 +197,25 @@ asked_on t (Headers hs) h = absurd h
 asked_on t (GetData entries) h = h.0.on
 asked_on t (Inv entries) h = absurd h
 asked_on t (Block block) h = absurd h
-asked_on t (GetCfilters filter start stop) h = absurd h
+asked_on t (GetCfilters filter start stop) h = h.0.on
 asked_on t (Cfilter filter block bytes) h = absurd h
-asked_on t (GetCfheaders filter start stop) h = absurd h
+asked_on t (GetCfheaders filter start stop) h = h.0.on
 asked_on t (Cfheaders filter stop previous hashes) h = absurd h
 asked_on t (GetCfcheckpt filter stop) h = absurd h
 asked_on t (Cfcheckpt filter stop headers) h = absurd h
 asked_on t (Other command payload) h = absurd h
 
 -- a connected peer, by the plan, whose failed send isn't pending has had none that isn't told
-known_told : (acts : List Act) (progress : Progress) (called : List (List ℕ)) (planned : Log) (t : Told) (p : ℕ)
-    → is_pending (state_at progress.sends p) ≡ false → connected (trail planned p) ≡ true → (doing : Doing acts progress called planned t) → is_untold doing.actual p ≡ false
+known_told : {watch : List (List ℕ)} (acts : List Act) (progress : Progress) (called : List (List ℕ)) (planned : Log) (t : Told) (p : ℕ)
+    → is_pending (state_at progress.sends p) ≡ false → connected (trail planned p) ≡ true → (doing : Doing watch acts progress called planned t) → is_untold doing.actual p ≡ false
 known_told acts progress called planned t p free on doing = elim (cases_Bool (is_untold doing.actual p)) [
   | inl untold ↦ absurd (both_ways (connected (trail planned p)) (doing.known p untold free).0 on)
   | inr told ↦ told
 ]
 
--- where no block is open to anybody as planned, none is indeed
-none_open_too : (acts : List Act) (progress : Progress) (called : List (List ℕ)) (planned : Log) (t : Told) → (doing : Doing acts progress called planned t) → IsNoBlockOpen planned → IsNoBlockOpen doing.actual
-none_open_too acts progress called planned t doing none q on = elim (cases_Bool (is_untold doing.actual q)) [
+-- where nothing is being fetched as planned, nothing is indeed
+none_fetching_too : {watch : List (List ℕ)} (acts : List Act) (progress : Progress) (called : List (List ℕ)) (planned : Log) (t : Told) → (doing : Doing watch acts progress called planned t) → IsNoneFetching planned → IsNoneFetching doing.actual
+none_fetching_too acts progress called planned t doing none q on = elim (cases_Bool (is_untold doing.actual q)) [
   | inl untold ↦ absurd (both_ways (connected (trail doing.actual q)) (doing.broken q untold).0 on)
   | inr told ↦ elim (doing.plan.told q told) [
     | inl same ↦ subst (λ (x : Part). is_spare (request x.trail) ≡ true) same (none q (ap (λ (x : Part). connected x.trail) same ∙ on))
@@ -201,8 +223,8 @@ none_open_too acts progress called planned t doing none q on = elim (cases_Bool 
   ]
 ]
 
-alone_too : (acts : List Act) (progress : Progress) (called : List (List ℕ)) (planned : Log) (t : Told) → (doing : Doing acts progress called planned t) → (m : Msg) → IsAlone planned m → IsAlone doing.actual m
-alone_too acts progress called planned t doing (GetData entries) alone = none_open_too acts progress called planned t doing alone
+alone_too : {watch : List (List ℕ)} (acts : List Act) (progress : Progress) (called : List (List ℕ)) (planned : Log) (t : Told) → (doing : Doing watch acts progress called planned t) → (m : Msg) → IsAlone planned m → IsAlone doing.actual m
+alone_too acts progress called planned t doing (GetData entries) alone = none_fetching_too acts progress called planned t doing alone
 alone_too acts progress called planned t doing (Version version services time to from nonce agent height relay) alone = tt
 alone_too acts progress called planned t doing Verack alone = tt
 alone_too acts progress called planned t doing (Ping number) alone = tt
@@ -211,7 +233,7 @@ alone_too acts progress called planned t doing (GetHeaders version locator stop)
 alone_too acts progress called planned t doing (Headers hs) alone = tt
 alone_too acts progress called planned t doing (Inv entries) alone = tt
 alone_too acts progress called planned t doing (Block block) alone = tt
-alone_too acts progress called planned t doing (GetCfilters filter start stop) alone = tt
+alone_too acts progress called planned t doing (GetCfilters filter start stop) alone = none_fetching_too acts progress called planned t doing alone
 alone_too acts progress called planned t doing (Cfilter filter block bytes) alone = tt
 alone_too acts progress called planned t doing (GetCfheaders filter start stop) alone = tt
 alone_too acts progress called planned t doing (Cfheaders filter stop previous hashes) alone = tt
@@ -220,16 +242,16 @@ alone_too acts progress called planned t doing (Cfcheckpt filter stop headers) a
 alone_too acts progress called planned t doing (Other command payload) alone = tt
 
 -- an act on a peer whose failed send is pending is planned, and not done
-skipped : (a : Act) (acts : List Act) (progress : Progress) (called : List (List ℕ)) (planned : Log) (t : Told) (p : ℕ) (e : Event) (i : Item)
+skipped : {watch : List (List ℕ)} (a : Act) (acts : List Act) (progress : Progress) (called : List (List ℕ)) (planned : Log) (t : Told) (p : ℕ) (e : Event) (i : Item)
     → is_pending (state_at progress.sends p) ≡ true
     → ((q : ℕ) → q ≢ p → went_on e q (part_of planned q) ≡ part_of planned q)
     → ((q : ℕ) → q ≡ p → went_on e q (part_of planned q) ≡ with_item i (part_of planned q))
     → ((more : Trail) → IsMeant more → IsMeant (i ∷ more))
     → ((q : ℕ) → q ≢ p → list_any (closes q) (a ∷ acts) ≡ list_any (closes q) acts)
     → (noted e (tally_of planned)).dials ≡ (tally_of planned).dials
-    → ((q : ℕ) → fetched (counted_part (e ∷ planned) q) ≡ fetched (counted_part planned q))
-    → Doing (a ∷ acts) progress called planned t → Doing acts progress called (e ∷ planned) t
-skipped a acts progress called planned t p e i is others here meant unclosed dials brought doing =
+    → ((q : ℕ) → fetched (counted_part (e ∷ planned) q) ≡ fetched (counted_part planned q)) → ((q : ℕ) → given (counted_part (e ∷ planned) q) ≡ given (counted_part planned q))
+    → Doing watch (a ∷ acts) progress called planned t → Doing watch acts progress called (e ∷ planned) t
+skipped a acts progress called planned t p e i is others here meant unclosed dials brought gave doing =
     let it : (q : ℕ) → q ≡ p → is_pending (state_at progress.sends q) ≡ true = λ q same. ap (λ (k : ℕ). is_pending (state_at progress.sends k)) same ∙ is in
     record {
       actual = doing.actual;
@@ -246,6 +268,7 @@ skipped a acts progress called planned t p e i is others here meant unclosed dia
         dials = dials ∙ doing.plan.dials;
       };
       brought = λ q. brought q ∙ doing.brought q;
+      gave = λ q. gave q ∙ doing.gave q;
       pending = doing.pending;
       due = λ q untold. elim (cases_eq q p) [
         | inl same ↦ ap (λ (b : Bool). b || list_any (closes q) acts) (it q same)
@@ -258,32 +281,32 @@ skipped a acts progress called planned t p e i is others here meant unclosed dia
       ];
     }
 
-pub skipped_send : (acts : List Act) (progress : Progress) (called : List (List ℕ)) (planned : Log) (t : Told) (p : PeerNo) (m : Msg)
-    → is_pending (state_at progress.sends p.0) ≡ true → MayAct (Send p m) planned
-    → Doing (Send p m ∷ acts) progress called planned t → Doing acts progress called (Sent p (bytes_of m) ∷ planned) t
+pub skipped_send : {watch : List (List ℕ)} (acts : List Act) (progress : Progress) (called : List (List ℕ)) (planned : Log) (t : Told) (p : PeerNo) (m : Msg)
+    → is_pending (state_at progress.sends p.0) ≡ true → MayAct watch (Send p m) planned
+    → Doing watch (Send p m ∷ acts) progress called planned t → Doing watch acts progress called (Sent p (bytes_of m) ∷ planned) t
 skipped_send acts progress called planned t p m is may doing =
     skipped (Send p m) acts progress called planned t p.0 (Sent p (bytes_of m)) (Asked m) is
     (λ q ne. sent_others p (bytes_of m) q (part_of planned q) ne)
     (λ q e. sent_here p (bytes_of m) m q (part_of planned q) e (spelled_bytes m may.1))
-    (λ more meant. meant) (λ q ne. refl) refl (λ q. sent_brought p (bytes_of m) planned q) doing
+    (λ more meant. meant) (λ q ne. refl) refl (λ q. sent_brought p (bytes_of m) planned q) (λ q. sent_gave p (bytes_of m) planned q) doing
 
-pub skipped_close : (acts : List Act) (progress : Progress) (called : List (List ℕ)) (planned : Log) (t : Told) (p : PeerNo) (cause : Cause)
+pub skipped_close : {watch : List (List ℕ)} (acts : List Act) (progress : Progress) (called : List (List ℕ)) (planned : Log) (t : Told) (p : PeerNo) (cause : Cause)
     → is_pending (state_at progress.sends p.0) ≡ true
-    → Doing (Close p cause ∷ acts) progress called planned t → Doing acts progress called (Closed p ∷ planned) t
+    → Doing watch (Close p cause ∷ acts) progress called planned t → Doing watch acts progress called (Closed p ∷ planned) t
 skipped_close acts progress called planned t p cause is doing =
     skipped (Close p cause) acts progress called planned t p.0 (Closed p) (Lost Shutting) is
     (λ q ne. closed_others p q (part_of planned q) ne)
     (λ q e. closed_here p q (part_of planned q) e)
-    (λ more meant. meant) (λ q ne. closes_others p cause acts q ne) refl (λ q. closed_brought p planned q) doing
+    (λ more meant. meant) (λ q ne. closes_others p cause acts q ne) refl (λ q. closed_brought p planned q) (λ q. closed_gave p planned q) doing
 
 reverse_push : (xs : List TraceLine) (x : TraceLine) → reverse (xs ++ x ∷ []) ≡ x ∷ reverse xs
 reverse_push xs x = reverse-append xs (x ∷ [])
 
 -- a message is sent
-pub sent_on : (acts : List Act) (progress : Progress) (trace : Vec TraceLine Global) (called : List (List ℕ)) (planned : Log) (t : Told) (p : PeerNo) (m : Msg) (command : List ℕ)
+pub sent_on : {watch : List (List ℕ)} (acts : List Act) (progress : Progress) (trace : Vec TraceLine Global) (called : List (List ℕ)) (planned : Log) (t : Told) (p : PeerNo) (m : Msg) (command : List ℕ)
     → is_pending (state_at progress.sends p.0) ≡ false → trace.items ≡ progress.trace.items ++ SentLine p command ∷ [] → command ≡ command_of m
-    → MayAct (Send p m) planned
-    → Doing (Send p m ∷ acts) progress called planned t → Doing acts (record progress { trace = trace }) called (Sent p (bytes_of m) ∷ planned) (tell (Sent p (bytes_of m)) t)
+    → MayAct watch (Send p m) planned
+    → Doing watch (Send p m ∷ acts) progress called planned t → Doing watch acts (record progress { trace = trace }) called (Sent p (bytes_of m) ∷ planned) (tell (Sent p (bytes_of m)) t)
 sent_on acts progress trace called planned t p m command free line is may doing =
     let bytes = bytes_of m in
     let spells : spelled bytes ≡ Some m = spelled_bytes m may.1 in
@@ -308,7 +331,7 @@ sent_on acts progress trace called planned t p m command free line is may doing 
           ),
           doing.notes.rightly,
         );
-        planned = ((m, spells, (planned, (doing.plan, may.2))), doing.notes.planned);
+        planned = ((m, spells, (planned, (doing.plan, (may.2, may.3)))), doing.notes.planned);
         order = doing.notes.order;
         numbered = doing.notes.numbered;
         traced = subst (λ (lines : List TraceLine). IsTraceOf (Sent p bytes ∷ doing.actual) lines) (sym (ap reverse line ∙ reverse_push progress.trace.items (SentLine p command)))
@@ -325,6 +348,7 @@ sent_on acts progress trace called planned t p m command free line is may doing 
         dials = doing.plan.dials;
       };
       brought = λ q. sent_brought p bytes planned q ∙ doing.brought q ∙ sym (sent_brought p bytes doing.actual q);
+      gave = λ q. sent_gave p bytes planned q ∙ doing.gave q ∙ sym (sent_gave p bytes doing.actual q);
       pending = doing.pending;
       due = doing.due;
       broken = λ q untold. let b = doing.broken q untold in (
@@ -355,11 +379,11 @@ failed_off t cause off (inr (inl fault)) = fault.1
 failed_off t cause off (inr (inr late)) = absurd (both_ways (is_open t) (rw off refl) late.1)
 
 -- a peer is closed
-pub closed_on : (acts : List Act) (progress : Progress) (trace : Vec TraceLine Global) (called : List (List ℕ)) (planned : Log) (t : Told) (p : PeerNo) (cause : Cause)
+pub closed_on : {watch : List (List ℕ)} (acts : List Act) (progress : Progress) (trace : Vec TraceLine Global) (called : List (List ℕ)) (planned : Log) (t : Told) (p : PeerNo) (cause : Cause)
     → is_pending (state_at progress.sends p.0) ≡ false → trace.items ≡ progress.trace.items ++ ClosedLine p cause ∷ []
-    → MayAct (Close p cause) planned
-    → Doing (Close p cause ∷ acts) progress called planned t
-    → Doing acts (record progress { closed = set progress.closed p.0 true; trace = trace }) called (Closed p ∷ planned) (tell (Closed p) t)
+    → MayAct watch (Close p cause) planned
+    → Doing watch (Close p cause ∷ acts) progress called planned t
+    → Doing watch acts (record progress { closed = set progress.closed p.0 true; trace = trace }) called (Closed p ∷ planned) (tell (Closed p) t)
 closed_on acts progress trace called planned t p cause free line may doing =
     let deserves : Deserves (trail doing.actual p.0) cause = elim (cases_Bool (is_untold doing.actual p.0)) [
       | inl untold ↦ deserved_off (trail planned p.0) (trail doing.actual p.0) cause (doing.known p.0 untold free).0 (doing.broken p.0 untold).1 may.1
@@ -401,6 +425,7 @@ closed_on acts progress trace called planned t p cause free line may doing =
                 failed_still (p.0 == q) Shutting (part_of planned q) k.1,
                 failed_still (p.0 == q) Shutting (part_of doing.actual q) (doing.broken q untold).1,
                 closed_brought p planned q ∙ doing.brought q ∙ sym (closed_brought p doing.actual q),
+                closed_gave p planned q ∙ doing.gave q ∙ sym (closed_gave p doing.actual q),
               )
           | inr fine ↦ lost_alike (p.0 == q) Shutting (part_of planned q) (part_of doing.actual q) (doing.plan.told q fine)
         ];
@@ -409,6 +434,7 @@ closed_on acts progress trace called planned t p cause free line may doing =
         dials = doing.plan.dials;
       };
       brought = λ q. closed_brought p planned q ∙ doing.brought q ∙ sym (closed_brought p doing.actual q);
+      gave = λ q. closed_gave p planned q ∙ doing.gave q ∙ sym (closed_gave p doing.actual q);
       pending = λ q it. let ne : q ≢ p.0 = λ e. both_ways (is_pending (state_at progress.sends q)) (ap (λ (n : ℕ). is_pending (state_at progress.sends n)) e ∙ free) it in
           untold_closed_others p doing.actual q ne ∙ doing.pending q it;
       due = λ q untold. let b = before q untold in
@@ -420,9 +446,9 @@ closed_on acts progress trace called planned t p cause free line may doing =
     }
 
 -- a peer was closed already, and a second close is not done
-pub closed_again : (acts : List Act) (progress : Progress) (called : List (List ℕ)) (planned : Log) (t : Told) (p : PeerNo) (cause : Cause)
-    → is_pending (state_at progress.sends p.0) ≡ false → get_or progress.closed p.0 false ≡ true → MayAct (Close p cause) planned
-    → Doing (Close p cause ∷ acts) progress called planned t → Doing acts progress called (Closed p ∷ planned) t
+pub closed_again : {watch : List (List ℕ)} (acts : List Act) (progress : Progress) (called : List (List ℕ)) (planned : Log) (t : Told) (p : PeerNo) (cause : Cause)
+    → is_pending (state_at progress.sends p.0) ≡ false → get_or progress.closed p.0 false ≡ true → MayAct watch (Close p cause) planned
+    → Doing watch (Close p cause ∷ acts) progress called planned t → Doing watch acts progress called (Closed p ∷ planned) t
 closed_again acts progress called planned t p cause free shut may doing =
     let s = doing.notes.shut p.0 shut in
     let both : (connected (trail planned p.0) ≡ false) × (failed (trail planned p.0) ≡ true) × (failed (trail doing.actual p.0) ≡ true) =
@@ -438,6 +464,7 @@ closed_again acts progress called planned t p cause free shut may doing =
             failed_still (p.0 == q) Shutting (part_of planned q) (ap (λ (k : ℕ). failed (trail planned k)) e ∙ both.1),
             ap (λ (k : ℕ). failed (trail doing.actual k)) e ∙ both.2,
             closed_brought p planned q ∙ doing.brought q,
+            closed_gave p planned q ∙ doing.gave q,
           )
           | inr ne ↦ subst (λ (x : Part). Alike x (part_of doing.actual q)) (sym (closed_others p q (part_of planned q) ne)) (doing.plan.told q told)
         ];
@@ -445,6 +472,7 @@ closed_again acts progress called planned t p cause free shut may doing =
         dials = doing.plan.dials;
       };
       brought = λ q. closed_brought p planned q ∙ doing.brought q;
+      gave = λ q. closed_gave p planned q ∙ doing.gave q;
       pending = doing.pending;
       due = λ q untold. ap (λ (x : Bool). is_pending (state_at progress.sends q) || x) (sym (closes_others p cause acts q (other q untold))) ∙ doing.due q untold;
       broken = doing.broken;
@@ -462,11 +490,11 @@ closed_again acts progress called planned t p cause free shut may doing =
       twice t u cause (inr o) off h = (o.0, o.2, o.3)
 
 -- a send fails
-pub failed_on : (acts : List Act) (progress : Progress) (called : List (List ℕ)) (planned : Log) (t : Told) (p : PeerNo) (m : Msg)
+pub failed_on : {watch : List (List ℕ)} (acts : List Act) (progress : Progress) (called : List (List ℕ)) (planned : Log) (t : Told) (p : PeerNo) (m : Msg)
     → p.0 < length progress.sends → is_pending (state_at progress.sends p.0) ≡ false
-    → MayAct (Send p m) planned
-    → Doing (Send p m ∷ acts) progress called planned t
-    → Doing acts (record progress { sends = set progress.sends p.0 Pending }) called (Sent p (bytes_of m) ∷ planned) (tell (SendFailed p) t)
+    → MayAct watch (Send p m) planned
+    → Doing watch (Send p m ∷ acts) progress called planned t
+    → Doing watch acts (record progress { sends = set progress.sends p.0 Pending }) called (Sent p (bytes_of m) ∷ planned) (tell (SendFailed p) t)
 failed_on acts progress called planned t p m lt free may doing =
     let here : state_at (set progress.sends p.0 Pending) p.0 ≡ Pending = get_or-set_same progress.sends p.0 Pending Fine lt in
     let pends : (q : ℕ) → q ≡ p.0 → is_pending (state_at (set progress.sends p.0 Pending) q) ≡ true = λ q e. ap (λ (k : ℕ). is_pending (state_at (set progress.sends p.0 Pending) k)) e ∙ ap is_pending here in
@@ -529,6 +557,7 @@ failed_on acts progress called planned t p m lt free may doing =
         dials = doing.plan.dials;
       };
       brought = λ q. sent_brought p bytes planned q ∙ doing.brought q ∙ sym (failing_brought p doing.actual q);
+      gave = λ q. sent_gave p bytes planned q ∙ doing.gave q ∙ sym (failing_gave p doing.actual q);
       pending = λ q it. elim (cases_eq q p.0) [
         | inl e ↦ untold_failing_here p doing.actual q e
         | inr ne ↦ untold_failing_others p doing.actual q ne ∙ doing.pending q (sym (ap is_pending (there q ne)) ∙ it)
@@ -553,8 +582,8 @@ failed_on acts progress called planned t p m lt free may doing =
     }
 
 -- a peer that may be asked, with no failed send pending, has had none
-pub may_send : (acts : List Act) (progress : Progress) (called : List (List ℕ)) (planned : Log) (t : Told) (p : PeerNo) (m : Msg)
-    → is_pending (state_at progress.sends p.0) ≡ false → MayAct (Send p m) planned → Doing acts progress called planned t → is_fine (state_at progress.sends p.0) ≡ true
+pub may_send : {watch : List (List ℕ)} (acts : List Act) (progress : Progress) (called : List (List ℕ)) (planned : Log) (t : Told) (p : PeerNo) (m : Msg)
+    → is_pending (state_at progress.sends p.0) ≡ false → MayAct watch (Send p m) planned → Doing watch acts progress called planned t → is_fine (state_at progress.sends p.0) ≡ true
 may_send acts progress called planned t p m free may doing = elim (cases_Bool (is_fine (state_at progress.sends p.0))) [
   | inl fine ↦ fine
   | inr not_it ↦
@@ -565,14 +594,14 @@ may_send acts progress called planned t p m free may doing = elim (cases_Bool (i
 ]
 
 -- one more act is done
-pub acts_more : (acts : List Act) (i : ℕ) (a : Act) (end : Log) (progress next : Progress) (called : List (List ℕ)) (t u : Told)
+pub acts_more : {watch : List (List ℕ)} (acts : List Act) (i : ℕ) (a : Act) (end : Log) (progress next : Progress) (called : List (List ℕ)) (t u : Told)
     → i < length acts → a ≡ get_or acts i a
-    → ActsLeft (drop i acts) end progress called t
-    → ((more : List Act) (called : List (List ℕ)) (planned : Log) → MayAct a planned → Doing (a ∷ more) progress called planned t → Doing more next called (entry_of a ∷ planned) u)
-    → ActsLeft (drop (i + 1) acts) end next called u
-acts_more acts i a end progress next called t u lt is left step =
+    → ActsLeft watch (drop i acts) end progress called t
+    → ((more : List Act) (called : List (List ℕ)) (planned : Log) → MayAct watch a planned → Doing watch (a ∷ more) progress called planned t → Doing watch more next called (entry_of a ∷ planned) u)
+    → ActsLeft watch (drop (i + 1) acts) end next called u
+acts_more {watch = watch} acts i a end progress next called t u lt is left step =
     let cut : drop i acts ≡ a ∷ drop (suc i) acts = drop-cons acts i a lt ∙ ap (λ (x : Act). x ∷ drop (suc i) acts) (sym is) in
-    let l : ActsLeft (a ∷ drop (suc i) acts) end progress called t = subst (λ (xs : List Act). ActsLeft xs end progress called t) cut left in
+    let l : ActsLeft watch (a ∷ drop (suc i) acts) end progress called t = subst (λ (xs : List Act). ActsLeft watch xs end progress called t) cut left in
     rw add-one (record {
       planned = entry_of a ∷ l.planned;
       allowed = l.allowed.1;
@@ -581,10 +610,10 @@ acts_more acts i a end progress next called t u lt is left step =
     })
 
 -- where none is left all are done
-pub acts_done : (acts : List Act) (i : ℕ) (end : Log) (progress : Progress) (called : List (List ℕ)) (t : Told) → length acts ≤ i → ActsLeft (drop i acts) end progress called t → Doing [] progress called end t
-acts_done acts i end progress called t le left =
-    let l : ActsLeft [] end progress called t = subst (λ (xs : List Act). ActsLeft xs end progress called t) (drop_of_length-le acts le) left in
-    subst (λ (log : Log). Doing [] progress called log t) l.leads l.doing
+pub acts_done : {watch : List (List ℕ)} (acts : List Act) (i : ℕ) (end : Log) (progress : Progress) (called : List (List ℕ)) (t : Told) → length acts ≤ i → ActsLeft watch (drop i acts) end progress called t → Doing watch [] progress called end t
+acts_done {watch = watch} acts i end progress called t le left =
+    let l : ActsLeft watch [] end progress called t = subst (λ (xs : List Act). ActsLeft watch xs end progress called t) (drop_of_length-le acts le) left in
+    subst (λ (log : Log). Doing watch [] progress called log t) l.leads l.doing
 
 -- the log in which a failed send is told
 pub cut_for : (p : PeerNo) (log : Log) → CutFor p log (SendFailed p ∷ log)
@@ -593,13 +622,14 @@ cut_for p log = record {
   off = ap (λ (x : Part). connected x.trail) (failing_here p p.0 (part_of log p.0) refl);
   broken = ap (λ (x : Part). failed x.trail) (failing_here p p.0 (part_of log p.0) refl);
   brought = failing_brought p log p.0;
+  gave = failing_gave p log p.0;
   dials = refl;
 }
 
 -- the client is told of a failed send, and its acts begin with the peer's close
-pub told_one : (rest : List Act) (progress : Progress) (called : List (List ℕ)) (planned : Log) (t : Told) (p : PeerNo) (cause : Cause)
+pub told_one : {watch : List (List ℕ)} (rest : List Act) (progress : Progress) (called : List (List ℕ)) (planned : Log) (t : Told) (p : PeerNo) (cause : Cause)
     → p.0 < length progress.sends → is_pending (state_at progress.sends p.0) ≡ true
-    → Doing [] progress called planned t → Doing (Close p cause ∷ rest) (record progress { sends = set progress.sends p.0 Known }) called (SendFailed p ∷ planned) t
+    → Doing watch [] progress called planned t → Doing watch (Close p cause ∷ rest) (record progress { sends = set progress.sends p.0 Known }) called (SendFailed p ∷ planned) t
 told_one rest progress called planned t p cause lt is doing =
     let here : state_at (set progress.sends p.0 Known) p.0 ≡ Known = get_or-set_same progress.sends p.0 Known Fine lt in
     let there : (q : ℕ) → q ≢ p.0 → state_at (set progress.sends p.0 Known) q ≡ state_at progress.sends q = λ q ne. get_or-set_other progress.sends p.0 q Known Fine ne in
@@ -637,6 +667,7 @@ told_one rest progress called planned t p cause lt is doing =
         dials = doing.plan.dials;
       };
       brought = λ q. failing_brought p planned q ∙ doing.brought q;
+      gave = λ q. failing_gave p planned q ∙ doing.gave q;
       pending = λ q it.
           let ne : q ≢ p.0 = λ e. both_ways (is_pending (state_at (set progress.sends p.0 Known) q)) (now q e) it in
           doing.pending q (sym (ap is_pending (there q ne)) ∙ it);
@@ -663,9 +694,13 @@ chain_alike : (t u : Part) → Alike t u → chain_kept t.trail ≡ chain_kept u
 chain_alike t u (inl same) = ap (λ (x : Part). chain_kept x.trail) same
 chain_alike t u (inr off) = rw (off.0, off.1) refl
 
+claims_alike : (t u : Part) → Alike t u → claims_kept t.trail ≡ claims_kept u.trail
+claims_alike t u (inl same) = ap (λ (x : Part). claims_kept x.trail) same
+claims_alike t u (inr off) = rw (off.0, off.1) refl
+
 -- with no failure pending the client reflects the actual log
-pub all_told : {H : Type 0} {g : Ghosts H} (c : Client H g) (progress : Progress) (called : List (List ℕ)) (planned : Log) (t : Told) → ((q : ℕ) → is_pending (state_at progress.sends q) ≡ false)
-    → Reflects c planned → Doing [] progress called planned t → HoldsOver c progress called t
+pub all_told : {H M : Type 0} {g : Ghosts H} (c : Client H M g) (progress : Progress) (called : List (List ℕ)) (planned : Log) (t : Told) → ((q : ℕ) → is_pending (state_at progress.sends q) ≡ false)
+    → Reflects c planned → Doing (watch_by c) [] progress called planned t → HoldsOver c progress called t
 all_told c progress called planned t none reflects doing =
     let told : (q : ℕ) → is_untold doing.actual q ≡ false = λ q. elim (cases_Bool (is_untold doing.actual q)) [
       | inl untold ↦ absurd (both_ways (is_pending (state_at progress.sends q)) (none q) (only (is_pending (state_at progress.sends q)) (doing.due q untold)))
@@ -682,7 +717,9 @@ all_told c progress called planned t none reflects doing =
         };
         tracks = record {
           kept = λ q. reflects.tracks.kept q ∙ chain_alike (part_of planned q) (part_of doing.actual q) (doing.plan.told q (told q));
+          claimed = λ q block. reflects.tracks.claimed q block ∙ ap (λ (c : Table). c block) (claims_alike (part_of planned q) (part_of doing.actual q) (doing.plan.told q (told q)));
           fetched = same_holds _ planned doing.actual _ doing.brought reflects.tracks.fetched;
+          given = same_given _ planned doing.actual _ _ (λ q. sym (doing.gave q)) (λ block hash. refl) reflects.tracks.given;
         };
       };
       told_all = told;
@@ -690,8 +727,8 @@ all_told c progress called planned t none reflects doing =
     }
 
 -- a peer whose failed send is still to be told was dialled
-pub in_use : (acts : List Act) (progress : Progress) (called : List (List ℕ)) (planned : Log) (t : Told) (p : ℕ)
-    → is_pending (state_at progress.sends p) ≡ true → Doing acts progress called planned t → p < (tally_of planned).dials + 1
+pub in_use : {watch : List (List ℕ)} (acts : List Act) (progress : Progress) (called : List (List ℕ)) (planned : Log) (t : Told) (p : ℕ)
+    → is_pending (state_at progress.sends p) ≡ true → Doing watch acts progress called planned t → p < (tally_of planned).dials + 1
 in_use acts progress called planned t p is doing = elim (cases_lt (tally_of doing.actual).dials p) [
   | inl past ↦ absurd (both_ways (is_pending (state_at progress.sends p)) (not_pending (state_at progress.sends p) (doing.notes.new p past).0) is)
   | inr le ↦ omega (arith, doing.plan.dials)

@@ -1,9 +1,9 @@
 -- What the client tells of a log.
-use Rattle.std.proofs.Common.{◌≡◌, inl, inr, ℕ, ◌+◌, List, [], length, map, drop, get_or, length-drop, Option, Some, None, Bool, true, false, if◌then◌else◌, refl, sym, ◌∙◌, ap, subst, arith}
+use Rattle.std.proofs.Common.{◌≡◌, ◌≢◌, inl, inr, ℕ, ◌+◌, ◌≤◌, List, [], length, map, drop, get_or, length-drop, Option, Some, None, Bool, true, false, if◌then◌else◌, refl, sym, ◌∙◌, ap, subst, arith}
 use Rattle.std.specs.Prelude.{not, unwrap_or}
 use Rattle.std.specs.Option.{IsSome}
 use Rattle.std.specs.List.{list_any}
-use Rattle.std.proofs.lemmas.Bool.{cases_Bool, both_ways, false≢true, and_cases, not-false}
+use Rattle.std.proofs.lemmas.Bool.{cases_Bool, both_ways, false≢true, not-false}
 use Rattle.std.proofs.lemmas.Grind.{get_or_after_one}
 use Rattle.std.proofs.lemmas.Option.{none-some, same_Some}
 use Rattle.std.proofs.Math.ListN.{get_or-map}
@@ -17,15 +17,22 @@ use Rattle.cf_headers.proofs.Locators.{hash_stands}
 use Rattle.cf_peer.specs.declared.peer.Peer.{Peer}
 use Rattle.cf_peer.specs.Log.{Log}
 use Rattle.cf_peer.specs.Trail.{Trail, Part, part_of, trail, connected, ready, own}
-use Rattle.cf_peer.specs.Asking.{request, is_open, hashes_of, SameUse}
+use Rattle.cf_peer.specs.Asking.{request, is_open, is_spare, claims, hashes_of, SameUse}
 use Rattle.cf_peer.specs.Peer.{Holds, busy, wants, is_idle_peer, is_ready_peer}
 use Rattle.cf_peer.proofs.Peers.{open_by, fetching_is, ready_is}
-use Rattle.cf_scan.specs.declared.extracts.TxExtract.{TxExtract}
+use Rattle.cf_dispute.specs.declared.claim.At.{At}
+use Rattle.cf_dispute.specs.declared.claim.At.TheVariants.{Nobody}
+use Rattle.cf_dispute.specs.declared.claim.Claim.{Claim}
+use Rattle.cf_dispute.specs.Claims.{IsAt, no_claims}
 use Rattle.cf_scan.specs.declared.history.Entry.{Entry}
-use Rattle.cf_sync.specs.Fetching.{IsConnected, IsBest, IsAskedOut, IsNoBlockOpen, IsScanOver, IsFetchedHash, counted_part, is_spare}
+use Rattle.cf_scan.specs.Watching.{IsWatch}
+use Rattle.cf_sync.specs.Fetching.{IsConnected, IsBest, IsAskedOut, IsNoneFetching, IsScanOver, IsSettled, counted_part}
 use Rattle.cf_sync.proofs.Counted.{same_use}
+use Rattle.cf_sync.proofs.Kept.{settled_by, done_else}
 use Rattle.cf_sync.proofs.Tables.{history_over}
-use Rattle.cf_tracker.specs.Missing.{HasExtracts}
+use Rattle.cf_tracker.specs.Wanting.{IsAbove, IsUnjudged, IsToFetch}
+use Rattle.cf_hear.specs.Seen.{Seen}
+use Rattle.cf_hear.specs.Tracks.{Tracks, chain_kept}
 use Rattle.cf_tracker.specs.Tracking.{IsBestChain, IsReport}
 use Rattle.cf_client.specs.declared.place.Loss.{Loss}
 use Rattle.cf_client.specs.declared.place.Loss.TheVariants.{NotDialled, Gone, Closed as ClosedFor}
@@ -35,9 +42,10 @@ use Rattle.cf_client.specs.declared.place.Place.{Place}
 use Rattle.cf_client.specs.declared.place.Place.TheVariants.{Here, Lost}
 use Rattle.cf_client.specs.Places.{IsLost, Keeps, Fits, nobody, PlacesStand, EndTells, EndsTell, end_by, end_of, is_idle, is_fetching_at, is_settled}
 use Rattle.cf_client.specs.Stands.{IsTip, IsReportOf}
-use Rattle.cf_client.specs.Tracks.{Seen, Tracks, AreSettled, chain_kept, chain_at}
+use Rattle.cf_client.specs.Settled.{AreSettled, IsAskedThrough, IsThrough, chain_at}
 use Rattle.cf_client.proofs.Standing.{any_at}
-use Rattle.cf_client.proofs.Settled.{settled_off}
+use Rattle.cf_client.proofs.Settled.{settled_off, heard_by}
+use Rattle.cf_client.proofs.Rights.{header_known}
 
 -- ---- a connected peer
 
@@ -97,12 +105,12 @@ tip_is places log s chain height hash stand tracks best high is = record { chain
 
 -- ---- what was asked
 
--- where no block is open to a connected peer, none is open at any place
+-- where neither filters nor a block are open to a connected peer, none are at any place
 fetching_here : (place : Place) (part : Part) → Fits place part → is_fetching_at place ≡ true → (connected part.trail ≡ true) × (is_spare (request part.trail) ≡ false)
-fetching_here (Here peer) part keeps is = (keeps.holds.on, ap is_spare (fetching_is peer part.trail keeps.holds is).1)
+fetching_here (Here peer) part keeps is = (keeps.holds.on, fetching_is peer part.trail keeps.holds is)
 fetching_here (Lost end) part off is = absurd (false≢true is)
 
-none_fetching : (places : List Place) (log : Log) → PlacesStand places log → IsNoBlockOpen log → list_any is_fetching_at places ≡ false
+none_fetching : (places : List Place) (log : Log) → PlacesStand places log → IsNoneFetching log → list_any is_fetching_at places ≡ false
 none_fetching places log stand spare = elim (cases_Bool (list_any is_fetching_at places)) [
   | inl some ↦ absurd (
       let i = any_at is_fetching_at places some in
@@ -115,27 +123,34 @@ none_fetching places log stand spare = elim (cases_Bool (list_any is_fetching_at
 idle_of : (peer : Peer) (t : Trail) → Holds peer t → is_open t ≡ false → is_idle_peer peer ≡ true
 idle_of peer t h quiet = not-false (is_idle_peer peer) (sym (open_by peer t h) ∙ quiet)
 
-heard_by : (peer : Peer) → is_idle_peer peer ≡ true → wants peer ≡ false → peer.heard ≡ true
-heard_by peer idle off = elim (and_cases (not peer.heard) (is_idle_peer peer) off) [
-  | inl h ↦ not-false peer.heard h
-  | inr busy ↦ absurd (both_ways (is_idle_peer peer) busy idle)
-]
+-- a block of a chain that the peer claims and that is neither to be judged nor to be fetched is settled
+settled_at : (log : Log) (s : Seen) (p : ℕ) (own : Chain) (h : ℕ) (block : Hash) (at : At) → Tracks s log → IsAt s.claims block at → block ≡ hash_at own h → 1 ≤ h → h ≤ length own
+    → IsThrough s.table s.claims s.verdicts p own (length own) false → IsAbove block → IsSettled s.watch log block
+settled_at log s p own h block at tracks is here one le through above =
+    let up : IsAbove (hash_at own h) = subst IsAbove here above in
+    let mine : IsSome (s.claims p block) = subst (λ (x : Hash). IsSome (s.claims p x)) (sym here) (through.claimed h one le up) in
+    let somebody : at ≢ Nobody = λ none. claimed_by (s.claims p block) mine (subst (IsAt s.claims block) none is p) in
+    settled_by s.watch log s.table s.claims s.verdicts tracks.fetched tracks.claimed tracks.given block
+    (done_else s.table s.claims s.verdicts block at is somebody
+    (λ un. through.judged refl h one le up (subst (IsUnjudged s.table s.claims s.verdicts) here un))
+    (λ due. through.fetched refl h one le up (subst (IsToFetch s.table s.claims s.verdicts) here due))) where
+      claimed_by : (o : Option Claim) → IsSome o → o ≡ None → ⊥
+      claimed_by None some none = cc some
+      claimed_by (Some claim) some none = cc none
 
-some_of : (o : Option (List TxExtract)) → IsSome o → (e : List TxExtract) × (o ≡ Some e)
-some_of None is = absurd (false≢true is)
-some_of (Some e) is = (e, refl)
+-- what a connected peer is through with, where its own chain is the best one
+through_own : (s : Seen) (p : ℕ) (place : Place) (fetching : Bool) (chain : Chain) → IsAskedThrough place fetching s p → is_idle place ≡ true → chain_at s p ≡ chain → s.chains p ≡ Some chain → IsBestChain s.chains chain
+    → IsThrough s.table s.claims s.verdicts p chain (length chain) fetching
+through_own s p place fetching chain through idle this kept (inl b) =
+    let other : chain_at s b.0.0 ≡ chain = ap (λ (o : Option Chain). unwrap_or o []) b.2 in
+    subst (λ (n : ℕ). IsThrough s.table s.claims s.verdicts p chain n fetching) (common_own chain)
+    (subst (λ (c : Chain). IsThrough s.table s.claims s.verdicts p chain (common_of chain c) fetching) other
+    (subst (λ (c : Chain). IsThrough s.table s.claims s.verdicts p c (common_of c (chain_at s b.0.0)) fetching) this (through idle b.0 b.1)))
+through_own s p place fetching chain through idle this kept (inr none) = absurd (none-some chain (sym (none.0 p) ∙ kept))
 
--- each block of a chain of which nothing is missing was fetched
-all_fetched : (log : Log) (s : Seen) (chain : Chain) → Tracks s log → HasExtracts s.table chain (length chain) → (block : Hash) → IsIn block (hashes_of chain) → IsFetchedHash log block
-all_fetched log s chain tracks has block is =
-    let at = hash_stands chain block is in
-    let e = some_of (s.table (hash_at chain at.0)) (has at.0 at.1 at.2) in
-    let b = tracks.fetched.sound (hash_at chain at.0) e.0 e.1 in
-    (b.0, b.1, b.2 ∙ sym at.3)
-
-pub asked_out_of : (places : List Place) (log : Log) (s : Seen) (chain : Chain) → PlacesStand places log → Tracks s log → AreSettled places s → IsBestChain s.chains chain
-    → (p : ℕ) → IsConnected log p → is_open (trail log p) ≡ false → IsAskedOut log chain p
-asked_out_of places log s chain stand tracks settled best p on quiet =
+pub asked_out_of : (places : List Place) (log : Log) (s : Seen) (chain : Chain) → PlacesStand places log → Tracks s log → AreSettled places s → ((block : Hash) → (at : At) × IsAt s.claims block at) → IsBestChain s.chains chain
+    → (p : ℕ) → IsConnected log p → is_open (trail log p) ≡ false → IsAskedOut s.watch log chain p
+asked_out_of places log s chain stand tracks settled decided best p on quiet =
     let t : Trail = trail log p in
     let here = here_of (get_or places p nobody) (part_of log p) (stand.each p) on in
     let peer : Peer = here.0 in
@@ -143,26 +158,29 @@ asked_out_of places log s chain stand tracks settled best p on quiet =
     let whole = same_use t on holds.clean in
     let idle : is_idle_peer peer ≡ true = idle_of peer t holds quiet in
     let off : wants peer ≡ false = settled_off (Here peer) (subst (λ (x : Place). is_settled x ≡ true) here.1 (settled.each p)) in
+    let kept : own (counted_part log p) ≡ chain → s.chains p ≡ Some chain = λ mine. tracks.kept p ∙ on_kept t on ∙ ap (λ (c : Chain). Some c) (sym whole.chain ∙ mine) in
+    let through : (mine : own (counted_part log p) ≡ chain) → IsThrough s.table s.claims s.verdicts p chain (length chain) (list_any is_fetching_at places) = λ mine.
+    through_own s p (get_or places p nobody) (list_any is_fetching_at places) chain (settled.through p) (ap is_idle here.1 ∙ idle) (ap (λ (o : Option Chain). unwrap_or o []) (kept mine)) (kept mine) best in
     record {
       heard_out = whole.hearing ∙ sym holds.hearing ∙ heard_by peer idle off;
-      settled = λ spare mine. all_fetched log s chain tracks (elim best [
-        | inl b ↦ (
-            let kept : s.chains p ≡ Some chain = tracks.kept p ∙ on_kept t on ∙ ap (λ (c : Chain). Some c) (sym whole.chain ∙ mine) in
-            let this : chain_at s p ≡ chain = ap (λ (o : Option Chain). unwrap_or o []) kept in
-            let other : chain_at s b.0.0 ≡ chain = ap (λ (o : Option Chain). unwrap_or o []) b.2 in
-            let none : HasExtracts s.table (chain_at s p) (common_of (chain_at s p) (chain_at s b.0.0)) =
-            settled.fetched (none_fetching places log stand spare) p (ap is_idle here.1 ∙ idle) b.0 b.1 in
-            subst (λ (n : ℕ). HasExtracts s.table chain n) (common_own chain)
-            (subst (λ (c : Chain). HasExtracts s.table chain (common_of chain c)) other (subst (λ (c : Chain). HasExtracts s.table c (common_of c (chain_at s b.0.0))) this none)))
-        | inr none ↦ absurd (none-some (own t) (sym (none.0 p) ∙ tracks.kept p ∙ on_kept t on))
-      ]);
+      claimed = λ mine block is.
+          let at = hash_stands chain block is in
+          let same : s.claims p block ≡ claims (counted_part log p) block = tracks.claimed p block ∙ ap (λ (b : Bool). (if b then claims (counted_part log p) else no_claims) block) on in
+          header_known (claims (counted_part log p)) block (λ above. subst IsSome same
+          (subst (λ (x : Hash). IsSome (s.claims p x)) (sym at.3) ((through mine).claimed at.0 at.1 at.2 (subst IsAbove at.3 above))));
+      settled = λ spare mine block is above.
+          let at = hash_stands chain block is in
+          let d = decided block in
+          settled_at log s p chain at.0 block d.0 tracks d.1 at.3 at.1 at.2
+          (subst (λ (b : Bool). IsThrough s.table s.claims s.verdicts p chain (length chain) b) (none_fetching places log stand spare) (through mine)) above;
     }
 
 -- ---- what is told
 
 pub report_is : (places : List Place) (log : Log) (s : Seen) (height : ℕ) (hash : Hash32) (entries : List Entry) → PlacesStand places log → Tracks s log → AreSettled places s
-    → IsReport s.chains s.table height hash entries → IsReportOf s.watch height hash entries log
-report_is places log s height hash entries stand tracks settled r = record {
+    → ((block : Hash) → (at : At) × IsAt s.claims block at) → IsWatch s.watch → IsReport s.chains s.table height hash entries → IsReportOf s.watch height hash entries log
+report_is places log s height hash entries stand tracks settled decided watchable r = record {
+  watchable = watchable;
   told = record {
     chain = r.chain;
     best = best_is places log s r.chain stand tracks r.best;
@@ -170,7 +188,7 @@ report_is places log s height hash entries stand tracks settled r = record {
     hash_is = r.hash_is;
     scanned = subst (λ (es : List Entry). IsScanOver s.watch log r.chain es) (sym r.history) (history_over s.watch log s.table tracks.fetched r.chain);
   };
-  asked_out = asked_out_of places log s r.chain stand tracks settled r.best;
+  asked_out = asked_out_of places log s r.chain stand tracks settled decided r.best;
 }
 
 -- ---- how each peer stands

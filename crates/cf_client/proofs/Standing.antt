@@ -7,11 +7,9 @@ use Rattle.std.specs.List.{list_any}
 use Rattle.std.proofs.lemmas.List.{append-nil}
 use Rattle.std.proofs.lemmas.List.Folds.{list_any-append}
 use Rattle.cf_bytes.specs.declared.peer.PeerNo.{PeerNo}
-use Rattle.cf_bytes.specs.declared.hash.Hash32.{Hash32}
-use Rattle.cf_headers.specs.Chain.{Chain, IsIn}
-use Rattle.cf_msg.specs.declared.msg.Entry.{Entry}
+use Rattle.cf_headers.specs.Chain.{Chain}
 use Rattle.cf_msg.specs.declared.msg.Msg.{Msg}
-use Rattle.cf_msg.specs.declared.msg.Msg.TheVariants.{Version, GetHeaders, GetData}
+use Rattle.cf_msg.specs.declared.msg.Msg.TheVariants.{Version, GetHeaders}
 use Rattle.cf_peer.specs.declared.act.Act.{Act}
 use Rattle.cf_peer.specs.declared.act.Act.TheVariants.{Send, Close}
 use Rattle.cf_peer.specs.declared.event.Event.{Event}
@@ -21,16 +19,16 @@ use Rattle.cf_peer.specs.declared.peer.Peer.{Peer}
 use Rattle.cf_peer.specs.Acts.{bytes_of, IsSendable}
 use Rattle.cf_peer.specs.Log.{Log, tally_of, noted}
 use Rattle.cf_peer.specs.Trail.{Trail, Part, Called, Asked, Lost as LostItem, Went, Shutting, part_of, trail, went_on, asks, spelled, with_item, called_part, connected, ready, own, replied, as_reply, is_version, IsClientVersion}
-use Rattle.cf_peer.specs.Asking.{OpenRequest, NothingOpen, HeadersOpen, BlockOpen, request, age, is_open, MayAsk, IsFree, block_entry, hashes_of}
+use Rattle.cf_peer.specs.Asking.{OpenRequest, NothingOpen, HeadersOpen, ClaimsOpen, FiltersOpen, BlockOpen, request, age, is_open, is_spare, MayAsk, IsFree}
 use Rattle.cf_peer.specs.declared.peer.Request.TheVariants.{Handshake}
-use Rattle.cf_peer.specs.Peer.{Holds, aged, wants, is_idle_peer, is_block, is_fetching, called_peer, asked_for_headers, asked_for_block}
-use Rattle.cf_sync.specs.Fetching.{IsFetchedHash, IsNoBlockOpen, MaySend, is_spare}
+use Rattle.cf_peer.specs.Peer.{Holds, aged, wants, is_idle_peer, is_block, is_fetching, called_peer, asked_for_headers}
+use Rattle.cf_sync.specs.Fetching.{IsNoneFetching, IsNeeded, MaySend}
 use Rattle.cf_sync.specs.Honesty.{asked}
-use Rattle.cf_peer.proofs.Peers.{open_by, idle_request, late_is, wants_is, asked_headers_holds, asked_block_holds, called_holds}
+use Rattle.cf_peer.proofs.Peers.{open_by, idle_request, late_is, wants_is, asked_headers_holds, called_holds}
 use Rattle.cf_client.specs.declared.place.Place.{Place}
 use Rattle.cf_client.specs.declared.place.Place.TheVariants.{Here, Lost}
 use Rattle.cf_client.specs.declared.place.Loss.TheVariants.{NotDialled as NeverCalled, Closed as ClosedFor}
-use Rattle.cf_client.specs.Places.{IsGreetedBy, IsAnswered, IsLost, Keeps, Fits, nobody, PlacesStand, entry_of, after, MayAct, Allowed, Goes, is_calm, is_busy, is_here, is_fetching_at, state_of, IsState, IsGreeting, IsQuestion, IsFetch, AsksAbove, AsksFor}
+use Rattle.cf_client.specs.Places.{IsGreetedBy, IsAnswered, IsLost, Keeps, Fits, nobody, PlacesStand, entry_of, after, MayAct, Allowed, Goes, is_calm, is_busy, is_here, is_fetching_at, state_of, IsState, IsGreeting, IsQuestion, AsksAbove}
 use Rattle.cf_client.proofs.Spelled.{spelled_bytes}
 use Rattle.cf_client.proofs.Losing.{lost_went, shut_now}
 
@@ -38,9 +36,9 @@ pub after-append : (acts : List Act) (a : Act) (log : Log) → after (acts ++ a 
 after-append [] a log = refl
 after-append (b ∷ acts) a log = after-append acts a (entry_of b ∷ log)
 
-pub allowed-append : (acts : List Act) (a : Act) (log : Log) → Allowed acts log → MayAct a (after acts log) → Allowed (acts ++ a ∷ []) log
-allowed-append [] a log h may = (may, tt)
-allowed-append (b ∷ acts) a log h may = (h.0, allowed-append acts a (entry_of b ∷ log) h.1 may)
+pub allowed-append : (watch : List (List ℕ)) (acts : List Act) (a : Act) (log : Log) → Allowed watch acts log → MayAct watch a (after acts log) → Allowed watch (acts ++ a ∷ []) log
+allowed-append watch [] a log h may = (may, tt)
+allowed-append watch (b ∷ acts) a log h may = (h.0, allowed-append watch acts a (entry_of b ∷ log) h.1 may)
 
 -- the place that was set, or put at the end
 pub set_is : (places : List Place) (i : ℕ) (s : Place) → i < length places → get_or (set places i s) i nobody ≡ s
@@ -70,17 +68,17 @@ stand_at places log i s e lt stand others dials fits = record {
   ];
 }
 
-pub goes_act : (places : List Place) (acts : List Act) (log : Log) (i : ℕ) (s : Place) (a : Act)
-    → i < length places → Goes places acts log
+pub goes_act : {watch : List (List ℕ)} (places : List Place) (acts : List Act) (log : Log) (i : ℕ) (s : Place) (a : Act)
+    → i < length places → Goes watch places acts log
     → ((q : ℕ) → q ≢ i → went_on (entry_of a) q (part_of (after acts log) q) ≡ part_of (after acts log) q)
     → (noted (entry_of a) (tally_of (after acts log))).dials ≡ (tally_of (after acts log)).dials
-    → MayAct a (after acts log)
+    → MayAct watch a (after acts log)
     → Fits s (went_on (entry_of a) i (part_of (after acts log) i))
-    → Goes (set places i s) (acts ++ a ∷ []) log
-goes_act places acts log i s a lt goes others dials may fits = record {
+    → Goes watch (set places i s) (acts ++ a ∷ []) log
+goes_act {watch = watch} places acts log i s a lt goes others dials may fits = record {
   stand = subst (PlacesStand (set places i s)) (sym (after-append acts a log))
       (stand_at places (after acts log) i s (entry_of a) lt goes.stand others dials fits);
-  allowed = allowed-append acts a log goes.allowed may;
+  allowed = allowed-append watch acts a log goes.allowed may;
 }
 
 -- an entry of one peer changes nobody else's part
@@ -106,9 +104,9 @@ pub late_open : (place : Place) (part : Part) → Fits place part → is_calm pl
 late_open (Here peer) part keeps is = late_is peer part.trail is keeps.holds
 late_open (Lost end) part off is = absurd (false≢true (sym is))
 
-pub late_goes : (places : List Place) (acts : List Act) (log : Log) (i : ℕ)
-    → i < length places → Goes places acts log → is_calm (get_or places i nobody) ≡ false
-    → Goes (set places i (Lost (ClosedFor Overdue))) (acts ++ Close (record { 0 = i }) Overdue ∷ []) log
+pub late_goes : {watch : List (List ℕ)} (places : List Place) (acts : List Act) (log : Log) (i : ℕ)
+    → i < length places → Goes watch places acts log → is_calm (get_or places i nobody) ≡ false
+    → Goes watch (set places i (Lost (ClosedFor Overdue))) (acts ++ Close (record { 0 = i }) Overdue ∷ []) log
 late_goes places acts log i lt goes is =
     let p : PeerNo = record { 0 = i } in
     let part = part_of (after acts log) i in
@@ -122,15 +120,15 @@ pub idle_free : (peer : Peer) (t : Trail) → Holds peer t → is_idle_peer peer
 idle_free peer t h is = let idle = idle_request peer t h is in record { on = h.on; over = idle.0; idle = idle.1 }
 
 -- a message is sent, where it may be sent and the place then holds what it is to hold
-send_goes : (places : List Place) (acts : List Act) (log : Log) (i : ℕ) (now : Peer) (m : Msg)
-    → i < length places → Goes places acts log → IsSendable m → MaySend (after acts log) i m
+pub send_goes : {watch : List (List ℕ)} (places : List Place) (acts : List Act) (log : Log) (i : ℕ) (now : Peer) (m : Msg)
+    → i < length places → Goes watch places acts log → IsSendable m → MaySend (after acts log) i m → IsNeeded watch (after acts log) i m
     → Keeps now (with_item (Asked m) (part_of (after acts log) i))
-    → Goes (set places i (Here now)) (acts ++ Send (record { 0 = i }) m ∷ []) log
-send_goes places acts log i now m lt goes sendable may keeps =
+    → Goes watch (set places i (Here now)) (acts ++ Send (record { 0 = i }) m ∷ []) log
+send_goes places acts log i now m lt goes sendable may needed keeps =
     let p : PeerNo = record { 0 = i } in
     let part = part_of (after acts log) i in
     goes_act places acts log i (Here now) (Send p m) lt goes (λ q other. sent_others p (bytes_of m) q (part_of (after acts log) q) other) refl
-    (number_within places (after acts log) i goes.stand lt, sendable, may)
+    (number_within places (after acts log) i goes.stand lt, sendable, may, needed)
     (subst (λ (x : Part). Keeps now x) (sym (sent_here p m part sendable)) keeps)
 
 -- what is true of some place, or of none
@@ -165,6 +163,10 @@ question_may : (log : Log) (p : ℕ) (peer : Peer) (m : Msg) → Holds peer (tra
 question_may log p peer (GetHeaders version locator stop) h is asks = let w = wants_is peer (trail log p) h is in record { of_its_part = (w.0, w.1, asks.0, asks.1, asks.2); wanted = tt; alone = tt }
 question_may log p peer m h is asks = absurd asks
 
+question_needed : (watch : List (List ℕ)) (log : Log) (p : ℕ) (chain : Chain) (m : Msg) → AsksAbove chain m → IsNeeded watch log p m
+question_needed watch log p chain (GetHeaders version locator stop) asks = tt
+question_needed watch log p chain m asks = absurd asks
+
 question_keeps : (peer : Peer) (part : Part) (chain : Chain) (m : Msg) → Keeps peer part → wants peer ≡ true → AsksAbove chain m → Keeps (asked_for_headers peer) (with_item (Asked m) part)
 question_keeps peer part chain (GetHeaders version locator stop) keeps is asks = record {
   holds = asked_headers_holds peer part.trail version locator stop keeps.holds is;
@@ -173,20 +175,23 @@ question_keeps peer part chain (GetHeaders version locator stop) keeps is asks =
 }
 question_keeps peer part chain m keeps is asks = absurd asks
 
-pub wants_goes : (places : List Place) (acts : List Act) (log : Log) (i : ℕ) (peer : Peer) (chain : Chain) (m : Msg)
-    → i < length places → Goes places acts log → get_or places i nobody ≡ Here peer → wants peer ≡ true → chain ≡ own (trail (after acts log) i) → IsQuestion chain m
-    → Goes (set places i (Here (asked_for_headers peer))) (acts ++ Send (record { 0 = i }) m ∷ []) log
-wants_goes places acts log i peer chain m lt goes here is mine question =
+pub wants_goes : {watch : List (List ℕ)} (places : List Place) (acts : List Act) (log : Log) (i : ℕ) (peer : Peer) (chain : Chain) (m : Msg)
+    → i < length places → Goes watch places acts log → get_or places i nobody ≡ Here peer → wants peer ≡ true → chain ≡ own (trail (after acts log) i) → IsQuestion chain m
+    → Goes watch (set places i (Here (asked_for_headers peer))) (acts ++ Send (record { 0 = i }) m ∷ []) log
+wants_goes {watch = watch} places acts log i peer chain m lt goes here is mine question =
     let keeps : Keeps peer (part_of (after acts log) i) = subst (λ (x : Place). Fits x (part_of (after acts log) i)) here (goes.stand.each i) in
     send_goes places acts log i (asked_for_headers peer) m lt goes question.sendable
     (question_may (after acts log) i peer m keeps.holds is (subst (λ (c : Chain). AsksAbove c m) mine question.asks))
+    (question_needed watch (after acts log) i chain m question.asks)
     (question_keeps peer (part_of (after acts log) i) chain m keeps is question.asks)
 
--- a block: none is open to anybody
+-- neither filters nor a block are open to anybody
 spare_by : (over : Bool) (r : OpenRequest) (age : ℕ) → is_block (if over then aged r age else Handshake age) ≡ false → (over ≡ false → r ≡ NothingOpen) → is_spare r ≡ true
 spare_by false r age off orderly = ap is_spare (orderly refl)
 spare_by true NothingOpen age off orderly = refl
 spare_by true HeadersOpen age off orderly = refl
+spare_by true (ClaimsOpen stop parent blocks) age off orderly = refl
+spare_by true (FiltersOpen left came) age off orderly = absurd (false≢true (sym off))
 spare_by true (BlockOpen block) age off orderly = absurd (false≢true (sym off))
 
 spare_is : (peer : Peer) (t : Trail) → Holds peer t → is_fetching peer ≡ false → is_spare (request t) ≡ true
@@ -196,38 +201,20 @@ spare_at : (place : Place) (part : Part) → Fits place part → is_fetching_at 
 spare_at (Here peer) part keeps off on = spare_is peer part.trail keeps.holds off
 spare_at (Lost end) part lost off on = absurd (both_ways (connected part.trail) lost.off on)
 
-none_open : (places : List Place) (log : Log) → PlacesStand places log → list_any is_fetching_at places ≡ false → IsNoBlockOpen log
+pub none_open : (places : List Place) (log : Log) → PlacesStand places log → list_any is_fetching_at places ≡ false → IsNoneFetching log
 none_open places log stand none q on = spare_at (get_or places q nobody) (part_of log q) (stand.each q) (none_at is_fetching_at places refl none q) on
 
-fetch_may : (log : Log) (p : ℕ) (hash : Hash32) (m : Msg) → IsFree (trail log p) → AsksFor hash m → IsIn hash.0 (hashes_of (own (trail log p)))
-    → (IsFetchedHash log hash.0 → ⊥) → IsNoBlockOpen log → MaySend log p m
-fetch_may log p hash (GetData entries) free asks is missing spare = record {
-  of_its_part = (free, (hash, asks, is));
-  wanted = λ entry among. elim (subst (λ (es : List Entry). IsIn entry es) asks among) [
-    | inl same ↦ subst (λ (e : Entry). IsFetchedHash log e.hash.0 → ⊥) (sym same) missing
-    | inr none ↦ absurd none
-  ];
-  alone = spare;
+-- a message is asked of a connected peer to which nothing is open
+pub keeps_at : {watch : List (List ℕ)} (places : List Place) (acts : List Act) (log : Log) (i : ℕ) (peer : Peer) → Goes watch places acts log → get_or places i nobody ≡ Here peer
+    → Keeps peer (part_of (after acts log) i)
+keeps_at places acts log i peer goes here = subst (λ (x : Place). Fits x (part_of (after acts log) i)) here (goes.stand.each i)
+
+pub asked_keeps : (now peer : Peer) (part : Part) (m : Msg) → Keeps peer part → Holds now (Asked m ∷ part.trail) → now.framer ≡ peer.framer → is_version m ≡ false → as_reply m ≡ [] → Keeps now (with_item (Asked m) part)
+asked_keeps now peer part m keeps holds same other none = record {
+  holds = holds;
+  waits = same ∙ keeps.waits;
+  answered = asked_answered part.trail m keeps.answered other none;
 }
-fetch_may log p hash m free asks is missing spare = absurd asks
-
-fetch_keeps : (peer : Peer) (part : Part) (hash : Hash32) (m : Msg) → Keeps peer part → is_idle_peer peer ≡ true → AsksFor hash m → Keeps (asked_for_block hash peer) (with_item (Asked m) part)
-fetch_keeps peer part hash (GetData entries) keeps is asks = subst (λ (es : List Entry). Keeps (asked_for_block hash peer) (with_item (Asked (GetData es)) part)) (sym asks) (record {
-  holds = asked_block_holds peer part.trail hash keeps.holds is;
-  waits = keeps.waits;
-  answered = asked_answered part.trail (GetData (block_entry hash ∷ [])) keeps.answered refl refl;
-})
-fetch_keeps peer part hash m keeps is asks = absurd asks
-
-pub fetch_goes : (places : List Place) (acts : List Act) (log : Log) (i : ℕ) (peer : Peer) (hash : Hash32) (m : Msg)
-    → i < length places → Goes places acts log → get_or places i nobody ≡ Here peer → is_idle_peer peer ≡ true → IsIn hash.0 (hashes_of (own (trail (after acts log) i)))
-    → (IsFetchedHash (after acts log) hash.0 → ⊥) → list_any is_fetching_at places ≡ false → IsFetch hash m
-    → Goes (set places i (Here (asked_for_block hash peer))) (acts ++ Send (record { 0 = i }) m ∷ []) log
-fetch_goes places acts log i peer hash m lt goes here is within missing none fetch =
-    let keeps : Keeps peer (part_of (after acts log) i) = subst (λ (x : Place). Fits x (part_of (after acts log) i)) here (goes.stand.each i) in
-    send_goes places acts log i (asked_for_block hash peer) m lt goes fetch.sendable
-    (fetch_may (after acts log) i hash m (idle_free peer (trail (after acts log) i) keeps.holds is) fetch.asks within missing (none_open places (after acts log) goes.stand none))
-    (fetch_keeps peer (part_of (after acts log) i) hash m keeps is fetch.asks)
 
 -- an entry that changes nobody's place
 pub stand_same : (places : List Place) (log : Log) (e : Event)
@@ -237,9 +224,9 @@ pub stand_same : (places : List Place) (log : Log) (e : Event)
     → PlacesStand places (e ∷ log)
 stand_same places log e stand same dials = record { count = stand.count ∙ ap (λ (n : ℕ). n + 1) (sym dials); each = λ q. same q (stand.each q) }
 
-pub goes_start : (places : List Place) (acts : List Act) (log : Log) → acts ≡ [] → PlacesStand places log → Goes places acts log
-goes_start places acts log none stand =
-    subst (λ a. Goes places a log) (sym none) (record { stand = stand; allowed = tt })
+pub goes_start : {watch : List (List ℕ)} (places : List Place) (acts : List Act) (log : Log) → acts ≡ [] → PlacesStand places log → Goes watch places acts log
+goes_start {watch = watch} places acts log none stand =
+    subst (λ a. Goes watch places a log) (sym none) (record { stand = stand; allowed = tt })
 
 -- a new place and the call of its peer
 pub stand_push : (places : List Place) (log : Log) (p : ℕ) (s : Place) (e : Event)
@@ -272,6 +259,10 @@ greeting_may log p t (Version version services time to from nonce agent height r
 }
 greeting_may log p t m here ours = absurd ours
 
+greeting_needed : (watch : List (List ℕ)) (log : Log) (p : ℕ) (m : Msg) → IsClientVersion m → IsNeeded watch log p m
+greeting_needed watch log p (Version version services time to from nonce agent height relay) ours = tt
+greeting_needed watch log p m ours = absurd ours
+
 greeting_keeps : (part : Part) (m : Msg) → IsClientVersion m → Keeps called_peer (with_item (Asked m) (called_part part))
 greeting_keeps part (Version version services time to from nonce agent height relay) ours = record {
   holds = called_holds (Version version services time to from nonce agent height relay) part.trail ours;
@@ -284,9 +275,9 @@ greeting_keeps part m ours = absurd ours
 sent_part : (log : Log) (p : PeerNo) (m : Msg) (q : ℕ) → q ≢ p.0 → part_of (Sent p (bytes_of m) ∷ log) q ≡ part_of log q
 sent_part log p m q ne = sent_others p (bytes_of m) q (part_of log q) ne
 
-pub called_goes : (places : List Place) (log : Log) (p : PeerNo) (name : List ℕ) (m : Msg) → p.0 ≡ length places → PlacesStand places log → IsGreeting m
-    → Goes (places ++ Here called_peer ∷ []) (Send p m ∷ []) (Dialled p name ∷ log)
-called_goes places log p name m last stand greeting =
+pub called_goes : {watch : List (List ℕ)} (places : List Place) (log : Log) (p : PeerNo) (name : List ℕ) (m : Msg) → p.0 ≡ length places → PlacesStand places log → IsGreeting m
+    → Goes watch (places ++ Here called_peer ∷ []) (Send p m ∷ []) (Dialled p name ∷ log)
+called_goes {watch = watch} places log p name m last stand greeting =
     let part = part_of log p.0 in
     let here : part_of (Dialled p name ∷ log) p.0 ≡ called_part part = dialled_here p name part in
     let now : part_of (Sent p (bytes_of m) ∷ Dialled p name ∷ log) p.0 ≡ with_item (Asked m) (called_part part) =
@@ -302,7 +293,15 @@ called_goes places log p name m last stand greeting =
               (subst (λ t. Fits (get_or places q nobody) t) (sym (sent_part (Dialled p name ∷ log) p m q other ∙ dialled_others p name q (part_of log q) other)) (stand.each q))
         ];
       };
-      allowed = ((omega (arith, stand.count, last), greeting.sendable, greeting_may (Dialled p name ∷ log) p.0 part.trail m (ap (λ (x : Part). x.trail) here) greeting.ours), tt);
+      allowed = (
+        (
+          omega (arith, stand.count, last),
+          greeting.sendable,
+          greeting_may (Dialled p name ∷ log) p.0 part.trail m (ap (λ (x : Part). x.trail) here) greeting.ours,
+          greeting_needed watch (Dialled p name ∷ log) p.0 m greeting.ours,
+        ),
+        tt,
+      );
     }
 
 missed_here : (p : PeerNo) (name : List ℕ) (part : Part) → went_on (NotDialled p name) p.0 part ≡ with_item (LostItem Went) part
@@ -315,6 +314,12 @@ refused_stand places log p name last stand =
     let before : IsLost NeverCalled (trail log p.0) = subst (λ (x : Place). Fits x (part_of log p.0)) past (stand.each p.0) in
     stand_push places log p.0 (Lost NeverCalled) (NotDialled p name) last stand (λ q other. grind (arith, common_steps)) refl
     (subst (λ (x : Part). IsLost NeverCalled x.trail) (sym (missed_here p name (part_of log p.0))) (lost_went NeverCalled (trail log p.0) before))
+
+-- beyond the places nobody is connected
+pub past_nobody : (places : List Place) (log : Log) (p : ℕ) → length places ≤ p → PlacesStand places log → connected (trail log p) ≡ false
+past_nobody places log p past stand =
+    let none : get_or places p nobody ≡ nobody = grind (arith, common_steps) in
+    (subst (λ (x : Place). Fits x (part_of log p)) none (stand.each p)).off
 
 -- what the state that the places show says of the log
 pub busy_open : (place : Place) (part : Part) → Fits place part → is_open part.trail ≡ is_busy place

@@ -1,14 +1,16 @@
 -- How steps of the client are put together, and what each single act is as a step.
-use Rattle.std.proofs.Common.{◌≡◌, ◌≢◌, inl, inr, ℕ, ◌<◌, List, [], ◌∷◌, ◌++◌, length, get_or, set, None, true, false, refl, sym, ◌∙◌, ap, subst, arith, append_assoc}
+use Rattle.std.proofs.Common.{◌≡◌, ◌≢◌, inl, inr, ℕ, ◌<◌, ◌≤◌, Bool, List, [], ◌∷◌, ◌++◌, length, get_or, set, None, true, false, refl, sym, ◌∙◌, ap, subst, arith, append_assoc}
 use Rattle.std.proofs.lemmas.Bool.{cases_eq}
 use Rattle.std.proofs.lemmas.List.{append-nil, length-set}
 use Rattle.std.proofs.lemmas.List.Elements.{All-push}
-use Rattle.std.specs.Prelude.{is_some}
+use Rattle.std.specs.Prelude.{is_some, not}
 use Rattle.std.proofs.lemmas.Grind.{common_steps}
 use Rattle.std.specs.List.{All, list_any}
 use Rattle.cf_bytes.specs.declared.hash.Hash32.{Hash32}
-use Rattle.cf_headers.specs.Chain.{Chain}
+use Rattle.cf_dispute.specs.Claims.{no_claims}
+use Rattle.cf_headers.specs.Chain.{Hash}
 use Rattle.cf_msg.specs.declared.msg.Msg.{Msg}
+use Rattle.cf_msg.specs.declared.msg.Msg.TheVariants.{GetCfheaders, GetCfilters}
 use Rattle.cf_peer.specs.declared.act.Act.{Act}
 use Rattle.cf_peer.specs.declared.act.Act.TheVariants.{Send, Close}
 use Rattle.cf_peer.specs.declared.peer.Cause.TheVariants.{Overdue}
@@ -17,18 +19,24 @@ use Rattle.cf_peer.specs.declared.event.Delivery.{Delivery}
 use Rattle.cf_peer.specs.declared.event.Event.TheVariants.{Took}
 use Rattle.cf_peer.specs.Acts.{IsDoable}
 use Rattle.cf_peer.specs.Log.{Log}
-use Rattle.cf_peer.specs.Peer.{wants, is_idle_peer, asked_for_headers, asked_for_block}
-use Rattle.cf_tracker.specs.Missing.{IsMissing}
+use Rattle.cf_peer.specs.Peer.{IsRight, calm, wants, is_idle_peer, asked_for_headers, asked_for_claims, asked_for_filters, asked_for_block}
+use Rattle.cf_tracker.specs.declared.spans.Span.{Span}
+use Rattle.cf_tracker.specs.declared.spans.Wish.{Wish}
+use Rattle.cf_tracker.specs.declared.spans.Wish.TheVariants.{Claims, Filters, Block}
+use Rattle.cf_tracker.specs.Spans.{IsWish}
+use Rattle.cf_hear.specs.Seen.{Seen, IsSameSeen}
+use Rattle.cf_hear.specs.Tracks.{Tracks, IsPut}
 use Rattle.cf_client.specs.declared.place.Place.{Place}
 use Rattle.cf_client.specs.declared.place.Place.TheVariants.{Here, Lost}
+use Rattle.cf_client.specs.declared.place.Loss.{Loss}
 use Rattle.cf_client.specs.declared.place.Loss.TheVariants.{Closed as ClosedFor}
-use Rattle.cf_client.specs.Places.{PlacesStand, after as done, nobody, is_calm, is_here, is_fetching_at, is_settled, IsQuestion, IsFetch}
-use Rattle.cf_client.specs.Tracks.{Seen, Tracks, IsPut, IsSameSeen, AreEntered, chain_at}
-use Rattle.cf_client.specs.Steps.{Desk, Stands, IsInOrder, Way, Same, Taking, Extends, Moves, Asks}
+use Rattle.cf_client.specs.Places.{Goes, PlacesStand, after as done, nobody, is_calm, is_here, is_idle, is_fetching_at, is_settled, IsQuestion}
+use Rattle.cf_client.specs.Settled.{AreEntered, AreRight, AreSettled, IsAskedThrough, IsRightAt, chain_at}
+use Rattle.cf_client.specs.Steps.{Desk, Stands, IsInOrder, IsSent, IsSentFor, Way, Same, Taking, Extends, Moves, Asks}
 use Rattle.cf_client.proofs.Standing.{set_is, late_goes, goes_start}
-use Rattle.cf_client.proofs.Settled.{set_each, set_other}
-use Rattle.cf_client.proofs.Tracking.{same_tracks}
-use Rattle.cf_client.proofs.Acting.{closed_tracks, sent_tracks, headers_goes, block_goes, same_self}
+use Rattle.cf_client.proofs.Settled.{set_each, set_other, settled_off, heard_by, idle_off, any_stays, asked_busy}
+use Rattle.cf_client.proofs.Rights.{right_of, right_set, claims_right, filters_right}
+use Rattle.cf_client.proofs.Acting.{range_in, closed_tracks, sent_tracks, headers_goes, claims_goes, filters_goes, block_goes, same_self, seen_same}
 
 -- ---- steps, put together
 
@@ -69,6 +77,10 @@ start_places d log none stood = subst (λ (xs : List Act). PlacesStand d.places 
 pub start_tracks : (d : Desk) (log : Log) → d.acts ≡ [] → Stands d log → Tracks d.seen log
 start_tracks d log none stood = subst (λ (xs : List Act). Tracks d.seen (done xs log)) none stood.tracks
 
+-- between two calls the desk is in order
+pub in_order : (places : List Place) (seen : Seen) (acts : List Act) → length places ≤ 9 → AreSettled places seen → ∥ AreRight places seen.claims ∥₁ → IsInOrder (record { places = places; seen = seen; acts = acts })
+in_order places seen acts few settled right = record { few = few; entered = settled.entered; right = right_of places seen.claims right }
+
 -- ---- one act, by which one place changes
 
 entered_set : (places : List Place) (before after : Seen) (i : ℕ) (s : Place) → i < length places → ((q : ℕ) → q ≢ i → after.chains q ≡ before.chains q) → is_here s ≡ is_some (after.chains i)
@@ -86,16 +98,31 @@ acted d i s seen a = record { places = set d.places i s; seen = seen; acts = d.a
 pub stay_moves : {way : Way} {d : Desk} → IsInOrder d → ((log next : Log) → way log next → Stands d log → Stands d next) → Moves way d d
 stay_moves {d = d} order stands = record { stands = stands; order = order; watch = refl; more = extends_self d.acts; doable = λ all. all; calm = λ calm. calm }
 
+-- what was seen changes of one peer alone, and agrees with what is kept of it
+pub record IsChanged (before after : Seen) (i : ℕ) (s : Place) : Type 0 where
+  pub watch : after.watch ≡ before.watch
+  pub others : (q : ℕ) → q ≢ i → after.chains q ≡ before.chains q
+  pub here : is_here s ≡ is_some (after.chains i)
+  pub claims : (q : ℕ) → q ≢ i → (block : Hash) → after.claims q block ≡ before.claims q block
+  pub right : IsRightAt s (after.claims i)
+
+-- a peer is lost
+pub is_lost : (before after : Seen) (i : ℕ) (loss : Loss) → IsPut before after i None no_claims → IsChanged before after i (Lost loss)
+is_lost before after i loss put = record { watch = put.watch; others = put.others; here = sym (ap is_some put.here); claims = put.claims_others; right = tt }
+
 -- one place is set
-pub set_moves : {way : Way} {d : Desk} {after : Seen} {acts : List Act} (i : ℕ) (s : Place) → i < length d.places → IsInOrder d
-    → ((q : ℕ) → q ≢ i → after.chains q ≡ d.seen.chains q) → is_here s ≡ is_some (after.chains i) → after.watch ≡ d.seen.watch → Extends d.acts acts
+pub set_moves : {way : Way} {d : Desk} {after : Seen} {acts : List Act} (i : ℕ) (s : Place) → i < length d.places → IsInOrder d → IsChanged d.seen after i s → Extends d.acts acts
     → (All IsDoable d.acts → All IsDoable acts) → (is_calm (get_or d.places i nobody) ≡ true → is_calm s ≡ true)
     → ((log next : Log) → way log next → Stands d log → Stands (record { places = set d.places i s; seen = after; acts = acts }) next)
     → Moves way d (record { places = set d.places i s; seen = after; acts = acts })
-set_moves {d = d} {after = after} i s lt order others here watch more doable calm stands = record {
+set_moves {d = d} {after = after} i s lt order changed more doable calm stands = record {
   stands = stands;
-  order = record { few = omega (arith, order.few, length-set d.places i s); entered = entered_set d.places d.seen after i s lt others here order.entered };
-  watch = watch;
+  order = record {
+    few = omega (arith, order.few, length-set d.places i s);
+    entered = entered_set d.places d.seen after i s lt changed.others changed.here order.entered;
+    right = right_set d.places d.seen.claims after.claims i s lt changed.claims changed.right order.right;
+  };
+  watch = changed.watch;
   more = more;
   doable = doable;
   calm = λ was. set_each (λ (x : Place). is_calm x ≡ true) d.places i s lt was (calm (was i));
@@ -111,25 +138,31 @@ taken {now = now} stands log next is stood = subst (Stands now) (sym is) (stands
 pub moves_self : (d : Desk) → IsInOrder d → Moves Same d d
 moves_self d order = stay_moves order (same (λ log stood. stood))
 
+-- a desk whose acts and places go on with the log, and whose seen things are those of another watch list that is the same
+pub goes_watch : {watch now : List (List ℕ)} {places : List Place} {acts : List Act} {log : Log} → now ≡ watch → Goes watch places acts log → Goes now places acts log
+goes_watch {places = places} {acts = acts} {log = log} same goes = subst (λ (w : List (List ℕ)). Goes w places acts log) (sym same) goes
+
 -- a peer is closed for its silence
-pub late_moves : (d : Desk) (i : ℕ) (after : Seen) → i < length d.places → IsInOrder d → is_calm (get_or d.places i nobody) ≡ false → IsPut d.seen after i None
+pub late_moves : (d : Desk) (i : ℕ) (after : Seen) → i < length d.places → IsInOrder d → is_calm (get_or d.places i nobody) ≡ false → IsPut d.seen after i None no_claims
     → Moves Same d (acted d i (Lost (ClosedFor Overdue)) after (Close (record { 0 = i }) Overdue))
 late_moves d i after lt order late put =
-    set_moves i (Lost (ClosedFor Overdue)) lt order put.others (sym (ap is_some put.here)) put.watch (extends_one d.acts (Close (record { 0 = i }) Overdue)) (λ all. All-push IsDoable d.acts (Close (record { 0 = i }) Overdue) all (omega (arith, lt, order.few))) (λ was. refl)
+    set_moves i (Lost (ClosedFor Overdue)) lt order (is_lost d.seen after i (ClosedFor Overdue) put) (extends_one d.acts (Close (record { 0 = i }) Overdue))
+    (λ all. All-push IsDoable d.acts (Close (record { 0 = i }) Overdue) all (omega (arith, lt, order.few))) (λ was. refl)
     (same (λ log stood. record {
-      goes = late_goes d.places d.acts log i lt stood.goes late;
+      goes = goes_watch put.watch (late_goes d.places d.acts log i lt stood.goes late);
       tracks = closed_tracks d.seen after d.acts log (record { 0 = i }) Overdue put stood.tracks;
     }))
 
 -- a connected peer is asked something
-sent_asks : (d : Desk) (i : ℕ) (peer now : Peer) (after : Seen) (m : Msg) → i < length d.places → IsInOrder d → get_or d.places i nobody ≡ Here peer → IsSameSeen d.seen after
-    → IsDoable (Send (record { 0 = i }) m) → is_settled (Here now) ≡ true → is_calm (Here now) ≡ true
-    → ((log : Log) → Stands d log → Stands (acted d i (Here now) after (Send (record { 0 = i }) m)) log)
-    → Asks i d (acted d i (Here now) after (Send (record { 0 = i }) m))
-sent_asks d i peer now after m lt order here kept doable settled calm stands = record {
-  moves = set_moves i (Here now) lt order (λ q other. kept.chains q) (sym (ap is_here here) ∙ order.entered i ∙ ap is_some (sym (kept.chains i))) kept.watch (extends_one d.acts (Send (record { 0 = i }) m))
-      (λ all. All-push IsDoable d.acts (Send (record { 0 = i }) m) all doable) (λ was. calm) (same stands);
-  seen = kept;
+sent_asks : (d : Desk) (i : ℕ) (peer now : Peer) (m : Msg) → i < length d.places → IsInOrder d → get_or d.places i nobody ≡ Here peer
+    → IsDoable (Send (record { 0 = i }) m) → is_settled (Here now) ≡ true → is_calm (Here now) ≡ true → IsRight now.request (d.seen.claims i)
+    → ((log : Log) → Stands d log → Goes d.seen.watch (set d.places i (Here now)) (d.acts ++ Send (record { 0 = i }) m ∷ []) log)
+    → Asks i d (acted d i (Here now) d.seen (Send (record { 0 = i }) m))
+sent_asks d i peer now m lt order here doable settled calm right goes = record {
+  moves = set_moves i (Here now) lt order (record { watch = refl; others = λ q other. refl; here = sym (ap is_here here) ∙ order.entered i; claims = λ q other block. refl; right = right })
+      (extends_one d.acts (Send (record { 0 = i }) m)) (λ all. All-push IsDoable d.acts (Send (record { 0 = i }) m) all doable) (λ was. calm)
+      (same (λ log stood. record { goes = goes log stood; tracks = sent_tracks d.seen d.acts log (record { 0 = i }) m stood.tracks }));
+  seen = same_self d.seen;
   settled = ap is_settled (set_is d.places i (Here now) lt) ∙ settled;
   others = λ p other. set_other d.places i p (Here now) other;
 }
@@ -137,36 +170,80 @@ sent_asks d i peer now after m lt order here kept doable settled calm stands = r
 pub question_asks : (d : Desk) (i : ℕ) (peer : Peer) (m : Msg) → i < length d.places → IsInOrder d → get_or d.places i nobody ≡ Here peer → wants peer ≡ true → IsQuestion (chain_at d.seen i) m
     → Asks i d (acted d i (Here (asked_for_headers peer)) d.seen (Send (record { 0 = i }) m))
 question_asks d i peer m lt order here wanted question =
-    sent_asks d i peer (asked_for_headers peer) d.seen m lt order here (same_self d.seen) (omega (arith, lt, order.few), question.sendable) (grind (arith, common_steps)) refl
-    (λ log stood. record {
-      goes = headers_goes d.places d.acts log d.seen i peer m lt stood.goes here wanted stood.tracks question;
-      tracks = sent_tracks d.seen d.seen d.acts log (record { 0 = i }) m (same_self d.seen) stood.tracks;
-    })
+    sent_asks d i peer (asked_for_headers peer) m lt order here (omega (arith, lt, order.few), question.sendable) (grind (arith, common_steps)) refl tt
+    (λ log stood. headers_goes d.places d.acts log d.seen i peer m lt stood.goes here wanted stood.tracks question)
 
-pub fetch_asks : (d : Desk) (i : ℕ) (peer : Peer) (after : Seen) (other : Chain) (hash : Hash32) (m : Msg)
-    → i < length d.places → IsInOrder d → get_or d.places i nobody ≡ Here peer → is_idle_peer peer ≡ true → IsMissing d.seen.table (chain_at d.seen i) other hash
-    → list_any is_fetching_at d.places ≡ false → IsFetch hash m
-    → IsSameSeen d.seen after → Asks i d (acted d i (Here (asked_for_block hash peer)) after (Send (record { 0 = i }) m))
-fetch_asks d i peer after other hash m lt order here idle missing none fetch kept =
-    sent_asks d i peer (asked_for_block hash peer) after m lt order here kept (omega (arith, lt, order.few), fetch.sendable) (grind (arith, common_steps)) refl
-    (λ log stood. record {
-      goes = block_goes d.places d.acts log d.seen i peer other hash m lt stood.goes here idle stood.tracks missing none fetch;
-      tracks = sent_tracks d.seen after d.acts log (record { 0 = i }) m kept stood.tracks;
-    })
+-- a message is asked about the blocks of its chain
+about_asks : (d : Desk) (i : ℕ) (m : Msg) (change : Peer → Peer) (places : List Place) (acts : List Act) → i < length d.places → IsInOrder d → (sent : IsSent i m change d.places places d.acts acts)
+    → is_settled (Here (change sent.peer)) ≡ true → is_calm (Here (change sent.peer)) ≡ true → IsRight (change sent.peer).request (d.seen.claims i)
+    → ((log : Log) → Stands d log → Goes d.seen.watch (set d.places i (Here (change sent.peer))) (d.acts ++ Send (record { 0 = i }) m ∷ []) log)
+    → Asks i d (record { places = places; seen = d.seen; acts = acts })
+about_asks d i m change places acts lt order sent settled calm right goes =
+    subst (λ (ps : List Place). Asks i d (record { places = ps; seen = d.seen; acts = acts })) (sym sent.kept)
+    (subst (λ (xs : List Act). Asks i d (record { places = set d.places i (Here (change sent.peer)); seen = d.seen; acts = xs })) (sym sent.added)
+    (sent_asks d i sent.peer (change sent.peer) m lt order sent.here (omega (arith, lt, order.few), sent.sendable) settled calm right goes))
+
+-- by what its tracker wishes of a peer that has nothing open
+abbrev pub WishAt : Desk → ℕ → ℕ → Wish → Type 0
+WishAt d i common wish = IsWish d.seen.table d.seen.claims d.seen.verdicts i (chain_at d.seen i) common (not (list_any is_fetching_at d.places)) wish
+
+settled_by : (peer : Peer) (change : Peer → Peer) → is_idle_peer peer ≡ true → is_settled (Here peer) ≡ true → (change peer).heard ≡ peer.heard → calm (change peer) ≡ true → is_settled (Here (change peer)) ≡ true
+settled_by peer change idle was kept young =
+    let off : wants peer ≡ false = settled_off (Here peer) was in
+    let heard : peer.heard ≡ true = heard_by peer idle off in
+    rw (young, ap (λ (b : Bool). not b) (kept ∙ heard)) refl
+
+pub claims_asks : (d : Desk) (i common : ℕ) (span : Span) (places : List Place) (acts : List Act) → i < length d.places → IsInOrder d → is_settled (get_or d.places i nobody) ≡ true → common ≤ length (chain_at d.seen i)
+    → WishAt d i common (Claims span) → IsSent i (GetCfheaders 0 span.start span.stop) (asked_for_claims (range_in span)) d.places places d.acts acts
+    → Asks i d (record { places = places; seen = d.seen; acts = acts })
+claims_asks d i common span places acts lt order settled low wish sent =
+    about_asks d i (GetCfheaders 0 span.start span.stop) (asked_for_claims (range_in span)) places acts lt order sent
+    (settled_by sent.peer (asked_for_claims (range_in span)) sent.idle (subst (λ (x : Place). is_settled x ≡ true) sent.here settled) refl refl) refl
+    (let le = wish.1.1.1 in claims_right d.seen.claims i (chain_at d.seen i) wish.1.0 span 0 wish.0.0 (omega (arith, le, low)) wish.1.1.0 wish.0.2 wish.1.1.3)
+    (λ log stood. claims_goes d.places d.acts log d.seen i sent.peer common (not (list_any is_fetching_at d.places)) span lt stood.goes sent.here sent.idle stood.tracks low wish sent.sendable)
+
+pub filters_asks : (d : Desk) (i common : ℕ) (span : Span) (places : List Place) (acts : List Act) → i < length d.places → IsInOrder d → is_settled (get_or d.places i nobody) ≡ true → common ≤ length (chain_at d.seen i)
+    → WishAt d i common (Filters span) → IsSent i (GetCfilters 0 span.start span.stop) (asked_for_filters span.blocks.items) d.places places d.acts acts
+    → Asks i d (record { places = places; seen = d.seen; acts = acts })
+filters_asks d i common span places acts lt order settled low wish sent =
+    about_asks d i (GetCfilters 0 span.start span.stop) (asked_for_filters span.blocks.items) places acts lt order sent
+    (settled_by sent.peer (asked_for_filters span.blocks.items) sent.idle (subst (λ (x : Place). is_settled x ≡ true) sent.here settled) refl refl) refl
+    (filters_right (chain_at d.seen i) wish.1.0 span wish.0.2 wish.1.1.0)
+    (λ log stood. filters_goes d.places d.acts log d.seen i sent.peer common (not (list_any is_fetching_at d.places)) span lt stood.goes sent.here sent.idle stood.tracks low refl wish sent.sendable)
+
+pub block_asks : (d : Desk) (i common : ℕ) (hash : Hash32) (places : List Place) (acts : List Act) → i < length d.places → IsInOrder d → is_settled (get_or d.places i nobody) ≡ true → common ≤ length (chain_at d.seen i)
+    → WishAt d i common (Block hash) → IsSentFor i hash d.places places d.acts acts
+    → Asks i d (record { places = places; seen = d.seen; acts = acts })
+block_asks d i common hash places acts lt order settled low wish for =
+    about_asks d i for.message (asked_for_block hash) places acts lt order for.sent
+    (settled_by for.sent.peer (asked_for_block hash) for.sent.idle (subst (λ (x : Place). is_settled x ≡ true) for.sent.here settled) refl refl) refl tt
+    (λ log stood. block_goes d.places d.acts log d.seen i for.sent.peer common (not (list_any is_fetching_at d.places)) hash for.message lt stood.goes for.sent.here for.sent.idle stood.tracks low refl wish for.sent.sendable for.asks)
+
+-- what was seen is still that
+pub asks_seen : (i : ℕ) (d : Desk) (places : List Place) (acts : List Act) (after : Seen) → IsSameSeen d.seen after → Asks i d (record { places = places; seen = d.seen; acts = acts })
+    → Asks i d (record { places = places; seen = after; acts = acts })
+asks_seen i d places acts after kept asks = subst (λ (s : Seen). Asks i d (record { places = places; seen = s; acts = acts })) (sym (seen_same d.seen after kept)) asks
 
 -- nothing is asked of a peer that is settled
-pub none_asked : (d : Desk) (i : ℕ) (after : Seen) → IsInOrder d → is_settled (get_or d.places i nobody) ≡ true → IsSameSeen d.seen after
-    → Asks i d (record { places = d.places; seen = after; acts = d.acts })
-none_asked d i after order settled kept = record {
-  moves = record {
-    stands = same (λ log stood. record { goes = stood.goes; tracks = same_tracks d.seen after (done d.acts log) kept stood.tracks });
-    order = record { few = order.few; entered = λ q. order.entered q ∙ ap is_some (sym (kept.chains q)) };
-    watch = kept.watch;
-    more = extends_self d.acts;
-    doable = λ all. all;
-    calm = λ calm. calm;
-  };
-  seen = kept;
+pub none_asked : (d : Desk) (i : ℕ) → IsInOrder d → is_settled (get_or d.places i nobody) ≡ true → Asks i d d
+none_asked d i order settled = record {
+  moves = moves_self d order;
+  seen = same_self d.seen;
   settled = settled;
   others = λ p other. refl;
 }
+
+-- ---- and then it has nothing left to be asked, or something is open to it
+
+pub sent_busy : (i : ℕ) (m : Msg) (change : Peer → Peer) (places now : List Place) (acts more : List Act) (s : Seen) → i < length places → (sent : IsSent i m change places now acts more)
+    → is_idle_peer (change sent.peer) ≡ false → IsAskedThrough (get_or now i nobody) (list_any is_fetching_at now) s i
+sent_busy i m change places now acts more s lt sent busy =
+    asked_busy (get_or now i nobody) (list_any is_fetching_at now) s i
+    (ap (λ (ps : List Place). is_idle (get_or ps i nobody)) sent.kept ∙ ap is_idle (set_is places i (Here (change sent.peer)) lt) ∙ busy)
+
+-- what is being fetched still is
+pub sent_fetching : (i : ℕ) (m : Msg) (change : Peer → Peer) (places now : List Place) (acts more : List Act) → i < length places → IsSent i m change places now acts more
+    → list_any is_fetching_at places ≡ true → list_any is_fetching_at now ≡ true
+sent_fetching i m change places now acts more lt sent some =
+    any_stays is_fetching_at places now i refl (ap is_fetching_at sent.here ∙ idle_off (Here sent.peer) sent.idle)
+    (λ p other. ap (λ (ps : List Place). get_or ps p nobody) sent.kept ∙ set_other places i p (Here (change sent.peer)) other) some

@@ -23,29 +23,29 @@ use Rattle.cf_peer.specs.declared.peer.Cause.TheVariants.{SendFailed}
 use Rattle.cf_peer.specs.declared.peer.Peer.{Peer}
 use Rattle.cf_peer.specs.Acts.{bytes_of, IsSendable, IsDoable}
 use Rattle.cf_peer.specs.Log.{Log, tally_of}
-use Rattle.cf_peer.specs.Trail.{Trail, Part, Said, Asked, item_of, item_of_read, hears, hears_fault, heard_part, part_of, trail, went_on, with_item, connected, greeted, met, own, heard, owed, replied, as_reply, is_version}
-use Rattle.cf_peer.specs.Asking.{verdict, counted, fetched}
+use Rattle.cf_peer.specs.Trail.{Trail, Part, Said, Asked, Lost as LostItem, Went, item_of, item_of_read, hears, hears_fault, heard_part, part_of, trail, went_on, with_item, connected, greeted, met, own, heard, owed, replied, as_reply, is_version}
+use Rattle.cf_peer.specs.Asking.{claims, verdict, counted}
 use Rattle.cf_peer.specs.Peer.{Holds, calm}
 use Rattle.cf_peer.specs.Hearing.{IsReply}
-use Rattle.cf_headers.specs.Store.{Puts}
-use Rattle.cf_block.specs.declared.tx.Block.{Block}
-use Rattle.cf_tracker.specs.Tables.{IsSameTable, with_blocks}
-use Rattle.cf_sync.specs.Fetching.{MaySend, HoldsFetched}
+use Rattle.cf_dispute.specs.Claims.{Table, no_claims}
+use Rattle.cf_headers.specs.Chain.{Hash}
+use Rattle.cf_sync.specs.Fetching.{MaySend, IsNeeded}
 use Rattle.cf_sync.specs.Honesty.{asked}
-use Rattle.cf_sync.proofs.TableGrows.{holds_after_piece}
+use Rattle.cf_sync.proofs.Counted.{same_use}
+use Rattle.cf_hear.specs.Hearing.{HeardWhole, HeardFault}
+use Rattle.cf_hear.specs.Seen.{Seen, Follows}
+use Rattle.cf_hear.specs.Tracks.{Tracks, IsPut}
+use Rattle.cf_hear.proofs.Tracking.{tracks_sent, tracks_closed, tracks_gone, tracks_away, tracks_tick, tracks_lost, tracks_deaf, tracks_heard, tracks_faulty, put_off}
 use Rattle.cf_client.specs.declared.place.Place.{Place}
 use Rattle.cf_client.specs.declared.place.Place.TheVariants.{Here, Lost}
 use Rattle.cf_client.specs.declared.place.Loss.{Loss}
 use Rattle.cf_client.specs.declared.place.Loss.TheVariants.{Gone as HasGone, Closed as ClosedFor}
 use Rattle.cf_client.specs.Places.{IsGreetedBy, IsAnswered, IsLost, Keeps, Fits, nobody, PlacesStand, after, Allowed, Goes, CutFor, AreCalm, is_calm, is_here}
-use Rattle.cf_client.specs.Tracks.{Seen, Tracks, IsPut, chain_kept}
 use Rattle.cf_client.specs.Steps.{Desk, Stands, IsInOrder, Taking, CutOff, Same, Moves}
-use Rattle.cf_client.specs.Hearing.{HeardWhole, HeardFault}
 use Rattle.cf_client.proofs.Standing.{greeted_more, after-append, allowed-append, set_is, stand_at, stand_same, here_on, goes_start, sent_others, sent_here, closed_others, closed_here, number_within}
 use Rattle.cf_client.proofs.Losing.{lost_said, lost_refused, lost_went, goes_now, shut_now, cut_now}
-use Rattle.cf_client.proofs.Tracking.{tracks_sent, tracks_closed, tracks_gone, tracks_tick, tracks_cut, gone_here, gone_others}
 use Rattle.cf_client.proofs.Settled.{set_other}
-use Rattle.cf_client.proofs.Steps.{extends_self, extends_none, extends_one, stands_start, start_places, start_tracks, stay_moves, set_moves, taken}
+use Rattle.cf_client.proofs.Steps.{IsChanged, is_lost, goes_watch, extends_self, extends_none, extends_one, stands_start, start_places, start_tracks, stay_moves, set_moves, taken}
 
 -- what a peer says loses nobody, and nothing is sent by it
 pub record SaysOnly (after before : Trail) : Type 0 where
@@ -105,51 +105,17 @@ got_fits (Here peer) p piece q part lost fits = elim (cases_eq q p.0) [
 ]
 got_fits (Lost end) p piece q part lost fits = deaf_fits end p piece q part fits
 
-deaf_goes : (places : List Place) (acts : List Act) (log : Log) (p : PeerNo) (piece : List ℕ) (end : Loss)
-    → acts ≡ [] → get_or places p.0 nobody ≡ Lost end → PlacesStand places log → Goes places acts (Took (Got p piece) ∷ log)
+deaf_goes : {watch : List (List ℕ)} (places : List Place) (acts : List Act) (log : Log) (p : PeerNo) (piece : List ℕ) (end : Loss)
+    → acts ≡ [] → get_or places p.0 nobody ≡ Lost end → PlacesStand places log → Goes watch places acts (Took (Got p piece) ∷ log)
 deaf_goes places acts log p piece end none lost stand =
     goes_start places acts (Took (Got p piece) ∷ log) none (stand_same places log (Took (Got p piece)) stand
     (λ q fits. got_fits (get_or places q nobody) p piece q (part_of log q) (λ same. (end, ap (λ k. get_or places k nobody) same ∙ lost)) fits) refl)
 
--- what a peer says that isn't connected doesn't count
-deaf_said : (m : Msg) (t : Trail) → connected t ≡ false → fetched (counted (Said m ∷ t)) ≡ fetched (counted t)
-deaf_said m t off = ap (λ (b : Bool). fetched (if b && is_none (verdict (Said m ∷ t)) then Said m ∷ counted t else counted t)) off
-
-item_deaf : (f : Frame) (t : Trail) → connected t ≡ false → fetched (counted (item_of f ∷ t)) ≡ fetched (counted t)
-item_deaf f t off = elim (message_of f) as (λ r. fetched (counted (item_of_read r ∷ t)) ≡ fetched (counted t)) [ Ok m ↦ deaf_said m t off | Err e ↦ refl ]
-
-hears_deaf : (fs : List Frame) (t : Trail) → connected t ≡ false → fetched (counted (hears fs t)) ≡ fetched (counted t)
-hears_deaf [] t off = refl
-hears_deaf (f ∷ fs) t off = hears_deaf fs (item_of f ∷ t) ((item_says f t).on ∙ off) ∙ item_deaf f t off
-
-fault_deaf : (o : Option FrameFault) (t : Trail) → fetched (counted (hears_fault o t)) ≡ fetched (counted t)
-fault_deaf None t = refl
-fault_deaf (Some fault) t = refl
-
-deaf_brings : (piece : List ℕ) (part : Part) → connected part.trail ≡ false → fetched (counted (heard_part piece part).trail) ≡ fetched (counted part.trail)
-deaf_brings piece part off =
-    let r = read_stream (part.waits ++ piece) in
-    fault_deaf r.fault (hears r.frames part.trail) ∙ hears_deaf r.frames part.trail off
-
--- the chain of one that isn't connected
-off_kept : (t : Trail) → connected t ≡ false → chain_kept t ≡ None
-off_kept t off = ap (λ (b : Bool). if b then Some (own t) else None) off
-
 deaf_tracks : (places : List Place) (acts : List Act) (log : Log) (p : PeerNo) (piece : List ℕ) (end : Loss) (seen : Seen)
     → acts ≡ [] → get_or places p.0 nobody ≡ Lost end → PlacesStand places log → Tracks seen log → Tracks seen (after acts (Took (Got p piece) ∷ log))
 deaf_tracks places acts log p piece end seen none lost stand tracks =
-    let next = Took (Got p piece) ∷ log in
     let fits : IsLost end (trail log p.0) = subst (λ (x : Place). Fits x (part_of log p.0)) lost (stand.each p.0) in
-    let off : connected (trail log p.0) ≡ false = fits.off in
-    let here : part_of next p.0 ≡ heard_part piece (part_of log p.0) = got_here p piece (part_of log p.0) in
-    let still : connected (trail next p.0) ≡ false = ap (λ (x : Part). connected x.trail) here ∙ heard_connected piece (part_of log p.0) ∙ off in
-    subst (λ (xs : List Act). Tracks seen (after xs next)) (sym none) (record {
-      kept = λ q. elim (cases_eq q p.0) [
-        | inl is ↦ subst (λ (k : ℕ). seen.chains k ≡ chain_kept (trail next k)) (sym is) (tracks.kept p.0 ∙ off_kept (trail log p.0) off ∙ sym (off_kept (trail next p.0) still))
-        | inr other ↦ tracks.kept q ∙ sym (ap (λ (x : Part). chain_kept x.trail) (got_others p piece q (part_of log q) other))
-      ];
-      fetched = holds_after_piece seen.watch p piece log [] seen.table seen.table (ap (λ (x : Part). fetched (counted x.trail)) here ∙ deaf_brings piece (part_of log p.0) off) (λ hash. refl) tracks.fetched;
-    })
+    subst (λ (xs : List Act). Tracks seen (after xs (Took (Got p piece) ∷ log))) (sym none) (tracks_deaf seen p piece log fits.off tracks)
 
 -- replies that are sent one after another
 abbrev sends : PeerNo → List Msg → List Act
@@ -159,8 +125,8 @@ abbrev asked_all : List Msg → Part → Part
 asked_all [] part = part
 asked_all (r ∷ rs) part = asked_all rs (with_item (Asked r) part)
 
-record RepliesDone (p : PeerNo) (rs : List Msg) (log : Log) : Type 0 where
-  allowed : Allowed (sends p rs) log
+record RepliesDone (watch : List (List ℕ)) (p : PeerNo) (rs : List Msg) (log : Log) : Type 0 where
+  allowed : Allowed watch (sends p rs) log
   here : part_of (after (sends p rs) log) p.0 ≡ asked_all rs (part_of log p.0)
   others : (q : ℕ) → q ≢ p.0 → part_of (after (sends p rs) log) q ≡ part_of log q
   count : (tally_of (after (sends p rs) log)).dials ≡ (tally_of log).dials
@@ -179,16 +145,19 @@ reply_sent : (r : Msg) (log : Log) (p : ℕ) → IsReply r → connected (trail 
 reply_sent r log p is on over =
     by_reply (MaySend log p) (record { of_its_part = (on, over); wanted = tt; alone = tt }) (λ number. record { of_its_part = (on, over); wanted = tt; alone = tt }) r is
 
-replies_done : (p : PeerNo) (rs : List Msg) (log : Log) → p.0 ≤ (tally_of log).dials → AllByRecursion IsReply rs → AreSendable rs
-    → connected (trail log p.0) ≡ true → (rs ≡ []) ⊎ (met (trail log p.0) ≡ true) → RepliesDone p rs log
+reply_needed : (watch : List (List ℕ)) (r : Msg) (log : Log) (p : ℕ) → IsReply r → IsNeeded watch log p r
+reply_needed watch r log p is = by_reply (IsNeeded watch log p) tt (λ number. tt) r is
+
+replies_done : {watch : List (List ℕ)} (p : PeerNo) (rs : List Msg) (log : Log) → p.0 ≤ (tally_of log).dials → AllByRecursion IsReply rs → AreSendable rs
+    → connected (trail log p.0) ≡ true → (rs ≡ []) ⊎ (met (trail log p.0) ≡ true) → RepliesDone watch p rs log
 replies_done p [] log number are sendable on over = record { allowed = tt; here = refl; others = λ q ne. refl; count = refl }
 replies_done p (r ∷ rs) log number are sendable on (inl none) = absurd (let e : r ∷ rs ≡ [] = none in cc)
-replies_done p (r ∷ rs) log number are sendable on (inr over) =
+replies_done {watch = watch} p (r ∷ rs) log number are sendable on (inr over) =
     let next = Sent p (bytes_of r) ∷ log in
     let here : part_of next p.0 ≡ with_item (Asked r) (part_of log p.0) = sent_here p r (part_of log p.0) sendable.0 in
-    let more = replies_done p rs next number are.1 sendable.1 (ap (λ (x : Part). connected x.trail) here ∙ on) (inr (ap (λ (x : Part). met x.trail) here ∙ over)) in
+    let more = replies_done {watch = watch} p rs next number are.1 sendable.1 (ap (λ (x : Part). connected x.trail) here ∙ on) (inr (ap (λ (x : Part). met x.trail) here ∙ over)) in
     record {
-      allowed = ((number, sendable.0, reply_sent r log p.0 are.0 on over), more.allowed);
+      allowed = ((number, sendable.0, reply_sent r log p.0 are.0 on over, reply_needed watch r log p.0 are.0), more.allowed);
       here = more.here ∙ ap (asked_all rs) here;
       others = λ q ne. more.others q ne ∙ sent_others p (bytes_of r) q (part_of log q) ne;
       count = more.count;
@@ -253,17 +222,17 @@ set_same (x ∷ places) zero a lt e = ap (λ y. y ∷ places) (sym e)
 set_same (x ∷ places) (suc i) a lt e = ap (λ (xs : List Place). x ∷ xs) (set_same places i a (omega arith) e)
 
 -- a piece of a connected peer, all of which is taken
-whole_at : (places : List Place) (log : Log) (p : PeerNo) (piece : List ℕ) (peer : Peer) (seen now : Seen) (acts : List Act)
+whole_at : {watch : List (List ℕ)} (places : List Place) (log : Log) (p : PeerNo) (piece : List ℕ) (peer : Peer) (seen now : Seen) (acts : List Act)
     → p.0 < length places → PlacesStand places log → connected (trail log p.0) ≡ true → IsAnswered (trail log p.0)
     → (whole : HeardWhole p peer seen now [] acts (part_of log p.0) (heard_part piece (part_of log p.0))) → AreSendable whole.replies
-    → Goes (set places p.0 (Here peer)) acts (Took (Got p piece) ∷ log)
-whole_at places log p piece peer seen now acts lt stand on answered whole sendable =
+    → Goes watch (set places p.0 (Here peer)) acts (Took (Got p piece) ∷ log)
+whole_at {watch = watch} places log p piece peer seen now acts lt stand on answered whole sendable =
     let next = Took (Got p piece) ∷ log in
     let rs = whole.replies in
     let here = heard_log p piece log in
     let part = heard_part piece (part_of log p.0) in
     let up : connected (trail next p.0) ≡ true = ap (λ (x : Part). connected x.trail) here ∙ heard_connected piece (part_of log p.0) ∙ on in
-    let done = replies_done p rs next (number_within places log p.0 stand lt) whole.are.each sendable up (met_by p rs (part_of next p.0) part here whole.are.after_version) in
+    let done = replies_done {watch = watch} p rs next (number_within places log p.0 stand lt) whole.are.each sendable up (met_by p rs (part_of next p.0) part here whole.are.after_version) in
     let same = unchanged rs part whole.are.each in
     let at_end : part_of (after (sends p rs) next) p.0 ≡ asked_all rs part = done.here ∙ ap (asked_all rs) here in
     let keeps : Keeps peer (asked_all rs part) = record {
@@ -275,7 +244,7 @@ whole_at places log p piece peer seen now acts lt stand on answered whole sendab
       };
     } in
     let mine : Fits (Here peer) (part_of (after (sends p rs) next) p.0) = subst (λ (x : Part). Keeps peer x) (sym at_end) keeps in
-    subst (λ (xs : List Act). Goes (set places p.0 (Here peer)) xs next) (sym whole.acts) (record {
+    subst (λ (xs : List Act). Goes watch (set places p.0 (Here peer)) xs next) (sym whole.acts) (record {
       stand = record {
         count = grind (arith, common_steps, stand.count, done.count);
         each = λ q. elim (cases_eq q p.0) [
@@ -292,17 +261,23 @@ whole_at places log p piece peer seen now acts lt stand on answered whole sendab
 place_keeps : (places : List Place) (log : Log) (p : PeerNo) (peer : Peer) → get_or places p.0 nobody ≡ Here peer → PlacesStand places log → Keeps peer (part_of log p.0)
 place_keeps places log p peer here stand = subst (λ (x : Place). Fits x (part_of log p.0)) here (stand.each p.0)
 
-chain_is : (seen : Seen) (log : Log) (p : ℕ) → Tracks seen log → connected (trail log p) ≡ true → seen.chains p ≡ Some (own (trail log p))
-chain_is seen log p tracks on = tracks.kept p ∙ ap (λ (b : Bool). if b then Some (own (trail log p)) else None) on
+-- what is kept of a connected peer's chain and claims
+follows_is : (seen : Seen) (log : Log) (p : ℕ) → Tracks seen log → connected (trail log p) ≡ true → verdict (trail log p) ≡ None → Follows seen p (trail log p)
+follows_is seen log p tracks on clean =
+    let t = trail log p in
+    record {
+      chain = tracks.kept p ∙ ap (λ (b : Bool). if b then Some (own t) else None) on;
+      claims = λ block. tracks.claimed p block ∙ ap (λ (b : Bool). (if b then claims (counted t) else no_claims) block) on ∙ ap (λ (c : Table). c block) (same_use t on clean).claiming;
+    }
 
 -- what is heard of a piece, whatever p's part is
 abbrev pub HearsWhole : PeerNo → List ℕ → Peer → Peer → Seen → Seen → List Act → List Act → Type 0
 HearsWhole p piece old peer seen now before acts =
-    (part : Part) → Holds old part.trail → old.framer ≡ part.waits → seen.chains p.0 ≡ Some (own part.trail) → HeardWhole p peer seen now before acts part (heard_part piece part)
+    (part : Part) → Holds old part.trail → old.framer ≡ part.waits → Follows seen p.0 part.trail → HeardWhole p peer seen now before acts part (heard_part piece part)
 
 abbrev pub HearsFault : PeerNo → List ℕ → Peer → Seen → Seen → List Act → List Act → Cause → Type 0
 HearsFault p piece old seen now before acts cause =
-    (part : Part) → Holds old part.trail → old.framer ≡ part.waits → seen.chains p.0 ≡ Some (own part.trail) → HeardFault p seen now before acts part (heard_part piece part) cause
+    (part : Part) → Holds old part.trail → old.framer ≡ part.waits → Follows seen p.0 part.trail → HeardFault p seen now before acts part (heard_part piece part) cause
 
 whole_of : (places : List Place) (log : Log) (p : PeerNo) (piece : List ℕ) (old peer : Peer) (seen now : Seen) (before acts : List Act)
     → before ≡ [] → get_or places p.0 nobody ≡ Here old → PlacesStand places log → Tracks seen log
@@ -310,12 +285,12 @@ whole_of : (places : List Place) (log : Log) (p : PeerNo) (piece : List ℕ) (ol
 whole_of places log p piece old peer seen now before acts none here stand tracks heard =
     let keeps = place_keeps places log p old here stand in
     subst (λ (xs : List Act). HeardWhole p peer seen now xs acts (part_of log p.0) (heard_part piece (part_of log p.0))) none
-    (heard (part_of log p.0) keeps.holds keeps.waits (chain_is seen log p.0 tracks keeps.holds.on))
+    (heard (part_of log p.0) keeps.holds keeps.waits (follows_is seen log p.0 tracks keeps.holds.on keeps.holds.clean))
 
-heard_goes : (places : List Place) (log : Log) (p : PeerNo) (piece : List ℕ) (old peer : Peer) (seen now : Seen) (before acts : List Act)
+heard_goes : {watch : List (List ℕ)} (places : List Place) (log : Log) (p : PeerNo) (piece : List ℕ) (old peer : Peer) (seen now : Seen) (before acts : List Act)
     → p.0 < length places → before ≡ [] → get_or places p.0 nobody ≡ Here old → PlacesStand places log → Tracks seen log
     → HearsWhole p piece old peer seen now before acts → All IsDoable acts
-    → Goes (set places p.0 (Here peer)) acts (Took (Got p piece) ∷ log)
+    → Goes watch (set places p.0 (Here peer)) acts (Took (Got p piece) ∷ log)
 heard_goes places log p piece old peer seen now before acts lt none here stand tracks heard doable =
     let keeps = place_keeps places log p old here stand in
     let whole = whole_of places log p piece old peer seen now before acts none here stand tracks heard in
@@ -326,14 +301,6 @@ sends_track : (p : PeerNo) (rs : List Msg) (s : Seen) (log : Log) → Tracks s l
 sends_track p [] s log tracks = tracks
 sends_track p (r ∷ rs) s log tracks = sends_track p rs s (Sent p (bytes_of r) ∷ log) (tracks_sent s p (bytes_of r) log tracks)
 
--- after a piece the table holds the extracts of what it brought
-piece_holds : (seen now : Seen) (log : Log) (p : PeerNo) (piece : List ℕ) (news : List Block) → HoldsFetched seen.watch log seen.table
-    → fetched (counted (heard_part piece (part_of log p.0)).trail) ≡ news ++ fetched (counted (trail log p.0)) → now.watch ≡ seen.watch → IsSameTable now.table (with_blocks seen.watch news seen.table)
-    → HoldsFetched now.watch (Took (Got p piece) ∷ log) now.table
-piece_holds seen now log p piece news holds brings watch table =
-    subst (λ (w : List (List ℕ)). HoldsFetched w (Took (Got p piece) ∷ log) now.table) (sym watch)
-    (holds_after_piece seen.watch p piece log news seen.table now.table (ap (λ (x : Part). fetched (counted x.trail)) (heard_log p piece log) ∙ brings) table holds)
-
 -- a piece all of which was taken
 whole_tracks : (places : List Place) (log : Log) (p : PeerNo) (piece : List ℕ) (old peer : Peer) (seen now : Seen) (before acts : List Act)
     → before ≡ [] → get_or places p.0 nobody ≡ Here old → PlacesStand places log → Tracks seen log
@@ -341,30 +308,21 @@ whole_tracks : (places : List Place) (log : Log) (p : PeerNo) (piece : List ℕ)
 whole_tracks places log p piece old peer seen now before acts none here stand tracks heard =
     let whole = whole_of places log p piece old peer seen now before acts none here stand tracks heard in
     let next = Took (Got p piece) ∷ log in
-    let part = heard_part piece (part_of log p.0) in
-    let mine : chain_kept (trail next p.0) ≡ Some (own part.trail) =
-    ap (λ (x : Part). chain_kept x.trail) (heard_log p piece log) ∙ ap (λ (b : Bool). if b then Some (own part.trail) else None) whole.holds.on in
-    subst (λ (xs : List Act). Tracks now (after xs next)) (sym whole.acts) (sends_track p whole.replies now next (record {
-      kept = λ q. elim (cases_eq q p.0) [
-        | inl is ↦ subst (λ (k : ℕ). now.chains k ≡ chain_kept (trail next k)) (sym is) (whole.gains.chain ∙ sym mine)
-        | inr other ↦ whole.gains.others q other ∙ tracks.kept q ∙ sym (ap (λ (x : Part). chain_kept x.trail) (got_others p piece q (part_of log q) other))
-      ];
-      fetched = piece_holds seen now log p piece whole.news tracks.fetched whole.brings whole.gains.watch whole.gains.table;
-    }))
+    subst (λ (xs : List Act). Tracks now (after xs next)) (sym whole.acts) (sends_track p whole.replies now next (tracks_heard p peer seen now [] acts piece log whole tracks))
 
 -- a piece in which a frame deserves a cause: the peer is closed
-fault_at : (places : List Place) (log : Log) (p : PeerNo) (piece : List ℕ) (cause : Cause) (seen now : Seen) (acts : List Act)
+fault_at : {watch : List (List ℕ)} (places : List Place) (log : Log) (p : PeerNo) (piece : List ℕ) (cause : Cause) (seen now : Seen) (acts : List Act)
     → p.0 < length places → PlacesStand places log → connected (trail log p.0) ≡ true
     → (fault : HeardFault p seen now [] acts (part_of log p.0) (heard_part piece (part_of log p.0)) cause) → AreSendable fault.replies
-    → Goes (set places p.0 (Lost (ClosedFor cause))) (acts ++ Close p cause ∷ []) (Took (Got p piece) ∷ log)
-fault_at places log p piece cause seen now acts lt stand on fault sendable =
+    → Goes watch (set places p.0 (Lost (ClosedFor cause))) (acts ++ Close p cause ∷ []) (Took (Got p piece) ∷ log)
+fault_at {watch = watch} places log p piece cause seen now acts lt stand on fault sendable =
     let next = Took (Got p piece) ∷ log in
     let rs = fault.replies in
     let here = heard_log p piece log in
     let part = heard_part piece (part_of log p.0) in
     let on_then : connected (trail next p.0) ≡ true = ap (λ (x : Part). connected x.trail) here ∙ heard_connected piece (part_of log p.0) ∙ on in
     let number = number_within places log p.0 stand lt in
-    let done = replies_done p rs next number fault.are.each sendable on_then (met_by p rs (part_of next p.0) part here fault.are.after_version) in
+    let done = replies_done {watch = watch} p rs next number fault.are.each sendable on_then (met_by p rs (part_of next p.0) part here fault.are.after_version) in
     let same = unchanged rs part fault.are.each in
     let later = after (sends p rs) next in
     let at_end : part_of later p.0 ≡ asked_all rs part = done.here ∙ ap (asked_all rs) here in
@@ -374,7 +332,7 @@ fault_at places log p piece cause seen now acts lt stand on fault sendable =
     let mine : IsLost end (part_of (Closed p ∷ later) p.0).trail =
     subst (λ (x : Part). IsLost end x.trail) (sym (closed_here p (part_of later p.0))) (shut_now (trail later p.0) cause up (inl (up, guilty))) in
     let count : p.0 ≤ (tally_of later).dials = omega (arith, number, done.count) in
-    subst (λ (xs : List Act). Goes (set places p.0 (Lost end)) (xs ++ Close p cause ∷ []) next) (sym fault.acts) (record {
+    subst (λ (xs : List Act). Goes watch (set places p.0 (Lost end)) (xs ++ Close p cause ∷ []) next) (sym fault.acts) (record {
       stand = subst (PlacesStand (set places p.0 (Lost end))) (sym (after-append (sends p rs) (Close p cause) next)) (record {
         count = grind (arith, common_steps, stand.count, done.count);
         each = λ q. elim (cases_eq q p.0) [
@@ -384,7 +342,7 @@ fault_at places log p piece cause seen now acts lt stand on fault sendable =
               (subst (λ t. Fits (get_or places q nobody) t) (sym (closed_others p q (part_of later q) other ∙ done.others q other ∙ got_others p piece q (part_of log q) other)) (stand.each q))
         ];
       });
-      allowed = allowed-append (sends p rs) (Close p cause) next done.allowed (count, inl (up, guilty));
+      allowed = allowed-append watch (sends p rs) (Close p cause) next done.allowed (count, inl (up, guilty));
     })
 
 fault_of : (places : List Place) (log : Log) (p : PeerNo) (piece : List ℕ) (old : Peer) (cause : Cause) (seen now : Seen) (before acts : List Act)
@@ -393,51 +351,34 @@ fault_of : (places : List Place) (log : Log) (p : PeerNo) (piece : List ℕ) (ol
 fault_of places log p piece old cause seen now before acts none here stand tracks heard =
     let keeps = place_keeps places log p old here stand in
     subst (λ (xs : List Act). HeardFault p seen now xs acts (part_of log p.0) (heard_part piece (part_of log p.0)) cause) none
-    (heard (part_of log p.0) keeps.holds keeps.waits (chain_is seen log p.0 tracks keeps.holds.on))
+    (heard (part_of log p.0) keeps.holds keeps.waits (follows_is seen log p.0 tracks keeps.holds.on keeps.holds.clean))
 
-faulty_goes : (places : List Place) (log : Log) (p : PeerNo) (piece : List ℕ) (old : Peer) (cause : Cause) (seen now : Seen) (before acts : List Act)
+faulty_goes : {watch : List (List ℕ)} (places : List Place) (log : Log) (p : PeerNo) (piece : List ℕ) (old : Peer) (cause : Cause) (seen now : Seen) (before acts : List Act)
     → p.0 < length places → before ≡ [] → get_or places p.0 nobody ≡ Here old → PlacesStand places log → Tracks seen log
     → HearsFault p piece old seen now before acts cause → All IsDoable acts
-    → Goes (set places p.0 (Lost (ClosedFor cause))) (acts ++ Close p cause ∷ []) (Took (Got p piece) ∷ log)
+    → Goes watch (set places p.0 (Lost (ClosedFor cause))) (acts ++ Close p cause ∷ []) (Took (Got p piece) ∷ log)
 faulty_goes places log p piece old cause seen now before acts lt none here stand tracks heard doable =
     let keeps = place_keeps places log p old here stand in
     let fault = fault_of places log p piece old cause seen now before acts none here stand tracks heard in
     fault_at places log p piece cause seen now acts lt stand keeps.holds.on fault (sendable_by p fault.replies (subst (All IsDoable) fault.acts doable))
 
--- a piece in which a frame deserves a cause, and p's chain given up
+-- a piece in which a frame deserves a cause, and p's chain and claims given up
 faulty_tracks : (places : List Place) (log : Log) (p : PeerNo) (piece : List ℕ) (old : Peer) (cause : Cause) (seen now last : Seen) (before acts : List Act)
     → before ≡ [] → get_or places p.0 nobody ≡ Here old → PlacesStand places log → Tracks seen log
-    → HearsFault p piece old seen now before acts cause → IsPut now last p.0 None → Tracks last (after (acts ++ Close p cause ∷ []) (Took (Got p piece) ∷ log))
+    → HearsFault p piece old seen now before acts cause → IsPut now last p.0 None no_claims → Tracks last (after (acts ++ Close p cause ∷ []) (Took (Got p piece) ∷ log))
 faulty_tracks places log p piece old cause seen now last before acts none here stand tracks heard put =
     let fault = fault_of places log p piece old cause seen now before acts none here stand tracks heard in
     let next = Took (Got p piece) ∷ log in
     let rs = fault.replies in
-    let mid : Seen = record { watch = last.watch; chains = λ q. chain_kept (trail next q); table = last.table } in
-    let at_read : Tracks mid next = record {
-      kept = λ q. refl;
-      fetched = piece_holds seen last log p piece fault.news tracks.fetched fault.brings (put.watch ∙ fault.kept.watch) (λ hash. put.table hash ∙ fault.kept.table hash);
-    } in
-    let closed : IsPut mid last p.0 None = record {
-      watch = refl;
-      here = put.here;
-      others = λ q other. put.others q other ∙ fault.kept.others q other ∙ tracks.kept q ∙ sym (ap (λ (x : Part). chain_kept x.trail) (got_others p piece q (part_of log q) other));
-      table = λ hash. refl;
-    } in
+    let read = tracks_faulty p seen now last [] acts piece log cause fault put tracks in
     subst (λ (xs : List Act). Tracks last (after (xs ++ Close p cause ∷ []) next)) (sym fault.acts)
-    (subst (λ (x : Log). Tracks last x) (sym (after-append (sends p rs) (Close p cause) next)) (tracks_closed mid last p (after (sends p rs) next) closed (sends_track p rs mid next at_read)))
+    (subst (λ (x : Log). Tracks last x) (sym (after-append (sends p rs) (Close p cause) next)) (tracks_closed read.0 last p (after (sends p rs) next) read.1.1 (sends_track p rs read.0 next read.1.0)))
 
 -- a failed send cuts a peer off
-cut_tracks : (log cut : Log) (p : PeerNo) (seen last : Seen) → Tracks seen log → CutFor p log cut → IsPut seen last p.0 None → Tracks last (Closed p ∷ cut)
+cut_tracks : (log cut : Log) (p : PeerNo) (seen last : Seen) → Tracks seen log → CutFor p log cut → IsPut seen last p.0 None no_claims → Tracks last (Closed p ∷ cut)
 cut_tracks log cut p seen last tracks is put =
-    tracks_closed last last p cut (record { watch = refl; here = put.here; others = λ q ne. refl; table = λ hash. refl }) (tracks_cut seen last p log cut is put tracks)
-
--- the going of one that isn't connected
-gone_before : (log : Log) (p : PeerNo) (seen : Seen) → connected (trail log p.0) ≡ false → Tracks seen log → Tracks seen (Took (Gone p) ∷ log)
-gone_before log p seen off tracks = tracks_gone seen seen p log (record { watch = refl; here = tracks.kept p.0 ∙ off_kept (trail log p.0) off; others = λ q ne. refl; table = λ hash. refl }) tracks
-
--- whom the tracker knows
-pub put_none : (before last : Seen) (p : PeerNo) → Puts before.chains last.chains p None → IsSameTable before.table last.table → last.watch ≡ before.watch → IsPut before last p.0 None
-put_none before last p puts table watch = record { watch = watch; here = puts.here; others = puts.others; table = λ hash. sym (table hash) }
+    let lost : Tracks last cut = tracks_lost seen last p log cut put is.off is.others is.brought is.gave tracks in
+    tracks_closed last last p cut (put_off last cut p.0 is.off lost) lost
 
 -- ---- deliveries, as steps
 
@@ -451,29 +392,42 @@ deaf_moves d p piece end none order lost = stay_moves order (taken (λ log stood
 -- a piece all of which is taken
 pub heard_moves : (d : Desk) (p : PeerNo) (piece : List ℕ) (old peer : Peer) (now : Seen) (acts : List Act)
     → p.0 < length d.places → d.acts ≡ [] → IsInOrder d → get_or d.places p.0 nobody ≡ Here old → HearsWhole p piece old peer d.seen now d.acts acts
-    → ((q : ℕ) → q ≢ p.0 → now.chains q ≡ d.seen.chains q) → IsSome (now.chains p.0) → now.watch ≡ d.seen.watch → All IsDoable acts → (calm old ≡ true → calm peer ≡ true)
+    → IsChanged d.seen now p.0 (Here peer) → All IsDoable acts → (calm old ≡ true → calm peer ≡ true)
     → Moves (Taking (Got p piece)) d (record { places = set d.places p.0 (Here peer); seen = now; acts = acts })
-heard_moves d p piece old peer now acts lt none order here heard others known watch doable calms =
-    set_moves p.0 (Here peer) lt order others (sym known) watch (extends_none d.acts acts none) (λ all. doable) (λ was. calms (subst (λ (y : Place). is_calm y ≡ true) here was))
+heard_moves d p piece old peer now acts lt none order here heard changed doable calms =
+    set_moves p.0 (Here peer) lt order changed (extends_none d.acts acts none) (λ all. doable) (λ was. calms (subst (λ (y : Place). is_calm y ≡ true) here was))
     (taken (λ log stood. record {
-      goes = heard_goes d.places log p piece old peer d.seen now d.acts acts lt none here (start_places d log none stood) (start_tracks d log none stood) heard doable;
+      goes = goes_watch changed.watch (heard_goes d.places log p piece old peer d.seen now d.acts acts lt none here (start_places d log none stood) (start_tracks d log none stood) heard doable);
       tracks = whole_tracks d.places log p piece old peer d.seen now d.acts acts none here (start_places d log none stood) (start_tracks d log none stood) heard;
     }))
 
 -- a piece in which a frame deserves a cause, for which its peer is closed and forgotten
 pub faulty_moves : (d : Desk) (p : PeerNo) (piece : List ℕ) (old : Peer) (cause : Cause) (now last : Seen) (acts : List Act)
     → p.0 < length d.places → d.acts ≡ [] → IsInOrder d → get_or d.places p.0 nobody ≡ Here old → HearsFault p piece old d.seen now d.acts acts cause
-    → ((q : ℕ) → q ≢ p.0 → now.chains q ≡ d.seen.chains q) → now.watch ≡ d.seen.watch → All IsDoable acts → IsPut now last p.0 None
+    → ((q : ℕ) → q ≢ p.0 → now.chains q ≡ d.seen.chains q) → ((q : ℕ) → q ≢ p.0 → (block : Hash) → now.claims q block ≡ d.seen.claims q block) → now.watch ≡ d.seen.watch → All IsDoable acts
+    → IsPut now last p.0 None no_claims
     → Moves (Taking (Got p piece)) d (record { places = set d.places p.0 (Lost (ClosedFor cause)); seen = last; acts = acts ++ Close p cause ∷ [] })
-faulty_moves d p piece old cause now last acts lt none order here heard others watch doable put =
-    set_moves p.0 (Lost (ClosedFor cause)) lt order (λ q other. put.others q other ∙ others q other) (sym (ap is_some put.here)) (put.watch ∙ watch) (extends_none d.acts (acts ++ Close p cause ∷ []) none)
+faulty_moves d p piece old cause now last acts lt none order here heard others claims watch doable put =
+    set_moves p.0 (Lost (ClosedFor cause)) lt order (record {
+      watch = put.watch ∙ watch;
+      others = λ q other. put.others q other ∙ others q other;
+      here = sym (ap is_some put.here);
+      claims = λ q other block. put.claims_others q other block ∙ claims q other block;
+      right = tt;
+    }) (extends_none d.acts (acts ++ Close p cause ∷ []) none)
     (λ all. All-push IsDoable acts (Close p cause) doable (omega (arith, lt, order.few))) (λ was. refl)
     (taken (λ log stood. record {
-      goes = faulty_goes d.places log p piece old cause d.seen now d.acts acts lt none here (start_places d log none stood) (start_tracks d log none stood) heard doable;
+      goes = goes_watch (put.watch ∙ watch) (faulty_goes d.places log p piece old cause d.seen now d.acts acts lt none here (start_places d log none stood) (start_tracks d log none stood) heard doable);
       tracks = faulty_tracks d.places log p piece old cause d.seen now last d.acts acts none here (start_places d log none stood) (start_tracks d log none stood) heard put;
     }))
 
 -- a peer has gone: one that is connected, or another
+gone_here : (p : PeerNo) (part : Part) → went_on (Took (Gone p)) p.0 part ≡ with_item (LostItem Went) part
+gone_here p part = grind (arith, common_steps)
+
+gone_others : (p : PeerNo) (q : ℕ) (part : Part) → q ≢ p.0 → went_on (Took (Gone p)) q part ≡ part
+gone_others p q part ne = grind (arith, common_steps)
+
 gone_fits : (place : Place) (p : PeerNo) (q : ℕ) (part : Part) → (q ≡ p.0 → is_here place ≡ false) → Fits place part → Fits place (went_on (Took (Gone p)) q part)
 gone_fits (Here peer) p q part away fits = elim (cases_eq q p.0) [
   | inl same ↦ absurd (false≢true (sym (away same)))
@@ -485,10 +439,10 @@ gone_fits (Lost end) p q part away lost = elim (cases_eq q p.0) [
   | inr other ↦ subst (λ (x : Part). IsLost end x.trail) (sym (gone_others p q part other)) lost
 ]
 
-pub gone_moves : (d : Desk) (p : PeerNo) (after : Seen) → d.acts ≡ [] → p.0 < length d.places → IsInOrder d → is_here (get_or d.places p.0 nobody) ≡ true → IsPut d.seen after p.0 None
+pub gone_moves : (d : Desk) (p : PeerNo) (after : Seen) → d.acts ≡ [] → p.0 < length d.places → IsInOrder d → is_here (get_or d.places p.0 nobody) ≡ true → IsPut d.seen after p.0 None no_claims
     → Moves (Taking (Gone p)) d (record { places = set d.places p.0 (Lost HasGone); seen = after; acts = d.acts })
 gone_moves d p after none lt order here put =
-    set_moves p.0 (Lost HasGone) lt order put.others (sym (ap is_some put.here)) put.watch (extends_self d.acts) (λ all. all) (λ was. refl)
+    set_moves p.0 (Lost HasGone) lt order (is_lost d.seen after p.0 HasGone put) (extends_self d.acts) (λ all. all) (λ was. refl)
     (taken (λ log stood. stands_start (set d.places p.0 (Lost HasGone)) after d.acts (Took (Gone p) ∷ log) none
     (stand_at d.places log p.0 (Lost HasGone) (Took (Gone p)) lt (start_places d log none stood) (λ q other. gone_others p q (part_of log q) other) refl
     (subst (λ (x : Part). IsLost HasGone x.trail) (sym (gone_here p (part_of log p.0)))
@@ -500,10 +454,10 @@ away_moves d p none order away = stay_moves order (taken (λ log stood.
     let stand = start_places d log none stood in
     stands_start d.places d.seen d.acts (Took (Gone p) ∷ log) none
     (stand_same d.places log (Took (Gone p)) stand (λ q fits. gone_fits (get_or d.places q nobody) p q (part_of log q) (λ same. ap (λ (k : ℕ). is_here (get_or d.places k nobody)) same ∙ away) fits) refl)
-    (gone_before log p d.seen (here_on (get_or d.places p.0 nobody) (part_of log p.0) (stand.each p.0) ∙ away) (start_tracks d log none stood))))
+    (tracks_away d.seen p log (here_on (get_or d.places p.0 nobody) (part_of log p.0) (stand.each p.0) ∙ away) (start_tracks d log none stood))))
 
 -- the send to a peer has failed, and it is closed
-cut_goes : (places : List Place) (log cut : Log) (p : PeerNo) → p.0 < length places → PlacesStand places log → CutFor p log cut → Goes (set places p.0 (Lost (ClosedFor SendFailed))) (Close p SendFailed ∷ []) cut
+cut_goes : {watch : List (List ℕ)} (places : List Place) (log cut : Log) (p : PeerNo) → p.0 < length places → PlacesStand places log → CutFor p log cut → Goes watch (set places p.0 (Lost (ClosedFor SendFailed))) (Close p SendFailed ∷ []) cut
 cut_goes places log cut p lt stand is = record {
   stand = record {
     count = grind (arith, common_steps, stand.count, is.dials);
@@ -518,10 +472,10 @@ cut_goes places log cut p lt stand is = record {
   allowed = ((omega (arith, number_within places log p.0 stand lt, is.dials), grind (arith, common_steps, is.off, is.broken)), tt);
 }
 
-pub cut_moves : (d : Desk) (p : PeerNo) (after : Seen) → d.acts ≡ [] → p.0 < length d.places → IsInOrder d → IsPut d.seen after p.0 None
+pub cut_moves : (d : Desk) (p : PeerNo) (after : Seen) → d.acts ≡ [] → p.0 < length d.places → IsInOrder d → IsPut d.seen after p.0 None no_claims
     → Moves (CutOff p d.places) d (record { places = set d.places p.0 (Lost (ClosedFor SendFailed)); seen = after; acts = d.acts ++ Close p SendFailed ∷ [] })
 cut_moves d p after none lt order put =
-    set_moves p.0 (Lost (ClosedFor SendFailed)) lt order put.others (sym (ap is_some put.here)) put.watch (extends_one d.acts (Close p SendFailed)) (λ all. All-push IsDoable d.acts (Close p SendFailed) all (omega (arith, lt, order.few))) (λ was. refl)
+    set_moves p.0 (Lost (ClosedFor SendFailed)) lt order (is_lost d.seen after p.0 (ClosedFor SendFailed) put) (extends_one d.acts (Close p SendFailed)) (λ all. All-push IsDoable d.acts (Close p SendFailed) all (omega (arith, lt, order.few))) (λ was. refl)
     (λ log cut is stood.
     subst (λ (xs : List Act). Stands (record { places = set d.places p.0 (Lost (ClosedFor SendFailed)); seen = after; acts = xs ++ Close p SendFailed ∷ [] }) cut) (sym none) (record {
       goes = cut_goes d.places log cut p is.0 (start_places d log none stood) is.1;

@@ -36,13 +36,13 @@ use Rattle.cf_client.specs.declared.progress.SendState.TheVariants.{Fine}
 use Rattle.cf_client.specs.declared.trace.TraceLine.{TraceLine}
 use Rattle.cf_client.specs.Names.{names_in}
 use Rattle.cf_client.specs.Places.{Fits, nobody, place_at}
-use Rattle.cf_client.specs.Tracks.{Seen, Tracks}
+use Rattle.cf_hear.proofs.Tracking.{tracks_ended}
 use Rattle.cf_client.specs.Stands.{Reflects, IsReportOf, seen_by, watch_by}
-use Rattle.cf_sync.proofs.TableGrows.{holds_without}
 use Rattle.cf_client.specs.Run.{IsOrderly, WasOrderly, AreNumbered, Notes, Doing, HoldsOver, Stopped, Finished, AreBytesOf, IsEnd, IsEndTold, IsTraceOf, names_of, is_lost, NobodyLeft, state_at, is_pending, is_fine}
 use Rattle.cf_peer.specs.declared.act.Act.{Act}
-use Rattle.cf_sync.specs.Planned.{is_untold}
+use Rattle.cf_sync.specs.Planned.{is_untold, ArePlanned}
 use Rattle.cf_sync.proofs.Planning.{own_plan}
+use Rattle.cf_sync.proofs.Settles.{followed_is}
 use Rattle.cf_client.proofs.Innocent.{innocent, answered}
 use Rattle.cf_client.proofs.Performs.{tells_more, lost_off, sent_connected, untold_failing_here, untold_failing_others, untold_closed_others}
 
@@ -74,14 +74,19 @@ dialled_others p name q part ne = grind (arith, common_steps)
 more_names : (log : Log) (d : Dial) (called : List (List ℕ)) → names_of log ≡ called → map (λ (x : Dial). x.name) (dials log ++ d ∷ []) ≡ called ++ d.name ∷ []
 more_names log d called is = map-append (λ (x : Dial). x.name) (dials log) (d ∷ []) ∙ ap (λ (xs : List (List ℕ)). xs ++ d.name ∷ []) is
 
+-- under the same watch list
+pub doing_watch : {watch now : List (List ℕ)} {acts : List Act} {progress : Progress} {called : List (List ℕ)} {planned : Log} {t : Told} → now ≡ watch → Doing watch acts progress called planned t → Doing now acts progress called planned t
+doing_watch {acts = acts} {progress = progress} {called = called} {planned = planned} {t = t} same doing = subst (λ (w : List (List ℕ)). Doing w acts progress called planned t) (sym same) doing
+
 -- with every failed send told, the client's log is as it is, whatever is to be done
-same_doing : {H : Type 0} {g : Ghosts H} (c : Client H g) (acts : List Act) (progress : Progress) (called : List (List ℕ)) (names : List (List ℕ)) (t u : Told) (holds : HoldsOver c progress called t) (e : Event)
-    → Notes progress names (e ∷ holds.actual) u → ((q : ℕ) → is_untold (e ∷ holds.actual) q ≡ false) → Doing acts progress names (e ∷ holds.actual) u
+same_doing : {H M : Type 0} {g : Ghosts H} (c : Client H M g) (acts : List Act) (progress : Progress) (called : List (List ℕ)) (names : List (List ℕ)) (t u : Told) (holds : HoldsOver c progress called t) (e : Event)
+    → Notes (watch_by c) progress names (e ∷ holds.actual) u → ((q : ℕ) → is_untold (e ∷ holds.actual) q ≡ false) → Doing (watch_by c) acts progress names (e ∷ holds.actual) u
 same_doing c acts progress called names t u holds e notes told = record {
   actual = e ∷ holds.actual;
   notes = notes;
   plan = own_plan (e ∷ holds.actual) told;
   brought = λ q. refl;
+  gave = λ q. refl;
   pending = λ q it. absurd (both_ways (is_pending (state_at progress.sends q)) (holds.none q) it);
   due = λ q untold. absurd (both_ways (is_untold (e ∷ holds.actual) q) (told q) untold);
   broken = λ q untold. absurd (both_ways (is_untold (e ∷ holds.actual) q) (told q) untold);
@@ -89,7 +94,7 @@ same_doing c acts progress called names t u holds e notes told = record {
 }
 
 -- between two calls of the client its log is in order
-pub orderly : {H : Type 0} {g : Ghosts H} (c : Client H g) (progress : Progress) (called : List (List ℕ)) (t : Told) (holds : HoldsOver c progress called t) → IsOrderly holds.actual
+pub orderly : {H M : Type 0} {g : Ghosts H} (c : Client H M g) (progress : Progress) (called : List (List ℕ)) (t : Told) (holds : HoldsOver c progress called t) → IsOrderly holds.actual
 orderly c progress called t holds = record {
   innocent = innocent c holds.actual holds.reflects;
   answered = answered c holds.actual holds.reflects;
@@ -97,9 +102,9 @@ orderly c progress called t holds = record {
 }
 
 -- a peer is dialled
-pub dial_doing : {H : Type 0} {g : Ghosts H} (c : Client H g) (acts : List Act) (progress : Progress) (called : List (List ℕ)) (t : Told) (p : PeerNo) (name : List ℕ) (holds : HoldsOver c progress called t)
+pub dial_doing : {H M : Type 0} {g : Ghosts H} (c : Client H M g) (acts : List Act) (progress : Progress) (called : List (List ℕ)) (t : Told) (p : PeerNo) (name : List ℕ) (holds : HoldsOver c progress called t)
     → p.0 ≡ t.tally.dials + 1 → t.tally.dials < 8
-    → Doing acts progress (called ++ name ∷ []) (Dialled p name ∷ holds.actual) (tell (Dialled p name) t)
+    → Doing (watch_by c) acts progress (called ++ name ∷ []) (Dialled p name ∷ holds.actual) (tell (Dialled p name) t)
 dial_doing c acts progress called t p name holds is room =
     let count : t.tally.dials ≡ (tally_of holds.actual).dials = ap (λ (x : Tally). x.dials) holds.notes.tells.counts in
     let past : (tally_of holds.actual).dials < p.0 = omega (arith, count, is) in
@@ -123,11 +128,11 @@ dial_doing c acts progress called t p name holds is room =
     holds.told_all
 
 -- a dial fails
-pub not_dialled_holds : {H : Type 0} {g : Ghosts H} (c d : Client H g) (progress : Progress) (called : List (List ℕ)) (t : Told) (p : PeerNo) (name : List ℕ) (holds : HoldsOver c progress called t)
+pub not_dialled_holds : {H M : Type 0} {g : Ghosts H} (c d : Client H M g) (progress : Progress) (called : List (List ℕ)) (t : Told) (p : PeerNo) (name : List ℕ) (holds : HoldsOver c progress called t)
     → p.0 ≡ t.tally.dials + 1 → t.tally.dials < 8
-    → Reflects d (NotDialled p name ∷ holds.actual)
+    → watch_by d ≡ watch_by c → Reflects d (NotDialled p name ∷ holds.actual)
     → HoldsOver d progress (called ++ name ∷ []) (tell (NotDialled p name) t)
-not_dialled_holds c d progress called t p name holds is room reflects =
+not_dialled_holds c d progress called t p name holds is room watch reflects =
     let count : t.tally.dials ≡ (tally_of holds.actual).dials = ap (λ (x : Tally). x.dials) holds.notes.tells.counts in
     record {
       actual = NotDialled p name ∷ holds.actual;
@@ -135,7 +140,7 @@ not_dialled_holds c d progress called t p name holds is room reflects =
         tells = tells_more holds.actual t (NotDialled p name) holds.notes.tells;
         bytes = holds.notes.bytes;
         rightly = holds.notes.rightly;
-        planned = holds.notes.planned;
+        planned = subst (λ (w : List (List ℕ)). ArePlanned w holds.actual) (sym watch) holds.notes.planned;
         order = holds.notes.order;
         numbered = (is ∙ ap (λ (n : ℕ). n + 1) count, holds.notes.numbered);
         traced = holds.notes.traced;
@@ -171,8 +176,8 @@ took_bytes Ended log is h = h
 took_numbered : (d : Delivery) (log : Log) → AreNumbered log → AreNumbered (Took d ∷ log)
 took_numbered d log h = h
 
-took_notes : (progress : Progress) (called : List (List ℕ)) (log : Log) (t : Told) (d : Delivery) → AreBytesOf d → Notes progress called log t → IsBusy log → IsOrderly log
-    → Notes progress called (Took d ∷ log) (tell (Took d) t)
+took_notes : {watch : List (List ℕ)} (progress : Progress) (called : List (List ℕ)) (log : Log) (t : Told) (d : Delivery) → AreBytesOf d → Notes watch progress called log t → IsBusy log → IsOrderly log
+    → Notes watch progress called (Took d ∷ log) (tell (Took d) t)
 took_notes progress called log t d is notes busy in_order = record {
   tells = tells_more log t (Took d) notes.tells;
   bytes = took_bytes d log is notes.bytes;
@@ -189,20 +194,13 @@ took_notes progress called log t d is notes busy in_order = record {
 }
 
 -- a delivery is taken
-pub took_doing : {H : Type 0} {g : Ghosts H} (c : Client H g) (acts : List Act) (progress : Progress) (called : List (List ℕ)) (t : Told) (d : Delivery) → AreBytesOf d → (holds : HoldsOver c progress called t) → IsBusy holds.actual
-    → Doing acts progress called (Took d ∷ holds.actual) (tell (Took d) t)
+pub took_doing : {H M : Type 0} {g : Ghosts H} (c : Client H M g) (acts : List Act) (progress : Progress) (called : List (List ℕ)) (t : Told) (d : Delivery) → AreBytesOf d → (holds : HoldsOver c progress called t) → IsBusy holds.actual
+    → Doing (watch_by c) acts progress called (Took d ∷ holds.actual) (tell (Took d) t)
 took_doing c acts progress called t d is holds busy =
     same_doing c acts progress called called t (tell (Took d) t) holds (Took d) (took_notes progress called holds.actual t d is holds.notes busy (orderly c progress called t holds)) (λ q. refl)
 
--- the end changes nothing that was seen
-ended_tracks : (s : Seen) (log : Log) → Tracks s log → Tracks s (Took Ended ∷ log)
-ended_tracks s log tracks = record {
-  kept = tracks.kept;
-  fetched = holds_without s.watch (Took Ended) log s.table tt tracks.fetched;
-}
-
 -- the wires have no more to give
-pub ended_stops : {H : Type 0} {g : Ghosts H} (c : Client H g) (progress : Progress) (called : List (List ℕ)) (t : Told) (holds : HoldsOver c progress called t) → IsBusy holds.actual
+pub ended_stops : {H M : Type 0} {g : Ghosts H} (c : Client H M g) (progress : Progress) (called : List (List ℕ)) (t : Told) (holds : HoldsOver c progress called t) → IsBusy holds.actual
     → Stopped EndedFirst c progress called (tell (Took Ended) t)
 ended_stops c progress called t holds busy = record {
   holds = record {
@@ -211,7 +209,7 @@ ended_stops c progress called t holds busy = record {
     reflects = record {
       alive = holds.reflects.alive;
       places = record { count = holds.reflects.places.count; each = holds.reflects.places.each };
-      tracks = ended_tracks (seen_by c) holds.actual holds.reflects.tracks;
+      tracks = tracks_ended (seen_by c) holds.actual holds.reflects.tracks;
     };
     told_all = λ q. refl;
     none = holds.none;
@@ -343,7 +341,7 @@ somebody EndedFirst log why =
     inl (busy.0, subst (λ (l : Log). connected (trail l busy.0) ≡ true) (sym why.1.0) (open_on (trail why.0 busy.0) busy.1))
 
 -- what a run that stopped has done
-pub finishes : {H : Type 0} {g : Ghosts H} (end : End) (c : Client H g) (progress : Progress) (called : List (List ℕ)) (t : Told) (height : ℕ) (hash : Hash32) (entries : List Entry)
+pub finishes : {H M : Type 0} {g : Ghosts H} (end : End) (c : Client H M g) (progress : Progress) (called : List (List ℕ)) (t : Told) (height : ℕ) (hash : Hash32) (entries : List Entry)
     → Stopped end c progress called t → ((log : Log) → Reflects c log → IsReportOf (watch_by c) height hash entries log)
     → Finished (watch_by c) end height hash entries progress.trace.items called t
 finishes end c progress called t height hash entries stopped told =
@@ -354,11 +352,15 @@ finishes end c progress called t height hash entries stopped told =
       tells = holds.notes.tells;
       followed = record {
         asked = record {
+          watchable = report.watchable;
           bytes = holds.notes.bytes;
           rightly = holds.notes.rightly;
           told = report.told;
           asked_out = report.asked_out;
         };
+        settled = λ is. followed_is (watch_by c) height hash entries holds.actual
+            (record { watchable = report.watchable; bytes = holds.notes.bytes; rightly = holds.notes.rightly; told = report.told; asked_out = report.asked_out })
+            (subst (λ (e : End). IsEnd e holds.actual) is stopped.why).0 (subst (λ (e : End). IsEnd e holds.actual) is stopped.why).1;
         planned = holds.notes.planned;
         was_orderly = holds.notes.order;
         orderly = orderly c progress called t holds;
@@ -371,7 +373,7 @@ finishes end c progress called t height hash entries stopped told =
     }
 
 -- a run that ended so, by its client
-pub stops : {H : Type 0} {g : Ghosts H} (end : End) (c : Client H g) (progress : Progress) (called : List (List ℕ)) (t : Told) → HoldsOver c progress called t
+pub stops : {H M : Type 0} {g : Ghosts H} (end : End) (c : Client H M g) (progress : Progress) (called : List (List ℕ)) (t : Told) → HoldsOver c progress called t
     → ((log : Log) → Reflects c log → IsEnd end log) → Stopped end c progress called t
 stops end c progress called t holds why = record { holds = holds; why = why holds.actual holds.reflects }
 
@@ -511,7 +513,7 @@ open_all (suc k) zero = refl
 open_all (suc k) (suc q) = open_all k q
 
 -- nothing has passed
-pub starts : {H : Type 0} {g : Ghosts H} (c : Client H g) (progress : Progress) (t : Told) → Reflects c [] → progress.sends ≡ replicate 9 Fine → progress.closed ≡ replicate 9 false → progress.trace.items ≡ []
+pub starts : {H M : Type 0} {g : Ghosts H} (c : Client H M g) (progress : Progress) (t : Told) → Reflects c [] → progress.sends ≡ replicate 9 Fine → progress.closed ≡ replicate 9 false → progress.trace.items ≡ []
     → Tells [] t → HoldsOver c progress [] t
 starts c progress t reflects sends closed trace tells =
     let fine : (q : ℕ) → state_at progress.sends q ≡ Fine = λ q. ap (λ (xs : List SendState). get_or xs q Fine) sends ∙ fine_all 9 q in

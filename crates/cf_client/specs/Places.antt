@@ -16,9 +16,9 @@ use Rattle.cf_peer.specs.declared.peer.Peer.{Peer}
 use Rattle.cf_peer.specs.Acts.{bytes_of, IsSendable}
 use Rattle.cf_peer.specs.Log.{Log, tally_of}
 use Rattle.cf_peer.specs.Trail.{Why, Went, Failing, Shutting, Trail, Called, Said, Refused, Asked, Passed, Lost as LostItem, Part, part_of, trail, connected, ready, failed, owed, replied, is_version, IsClientVersion}
-use Rattle.cf_peer.specs.Asking.{Deserves, block_entry, counted, fetched}
+use Rattle.cf_peer.specs.Asking.{Deserves, block_entry, counted, fetched, given}
 use Rattle.cf_peer.specs.Peer.{Holds, calm, busy, wants, is_ready_peer, is_idle_peer, is_fetching}
-use Rattle.cf_sync.specs.Fetching.{IsBusy, IsQuiet, IsConnected, MaySend}
+use Rattle.cf_sync.specs.Fetching.{IsBusy, IsQuiet, IsConnected, MaySend, IsNeeded}
 use Rattle.cf_sync.specs.Honesty.{asked, was_called}
 use Rattle.cf_client.specs.declared.place.Place.{Place}
 use Rattle.cf_client.specs.declared.place.Place.TheVariants.{Here, Lost}
@@ -103,20 +103,20 @@ abbrev pub after : List Act → Log → Log
 after [] log = log
 after (a ∷ acts) log = after acts (entry_of a ∷ log)
 
--- an act may be done
-abbrev pub MayAct : Act → Log → Type 0
-MayAct (Send p m) log = (p.0 ≤ (tally_of log).dials) × IsSendable m × MaySend log p.0 m
-MayAct (Close p cause) log = (p.0 ≤ (tally_of log).dials) × Deserves (trail log p.0) cause
+-- an act may be done by a client that watches these scripts: what it sends may be sent to that peer, and filters and blocks that it asks for are needed
+abbrev pub MayAct : List (List ℕ) → Act → Log → Type 0
+MayAct watch (Send p m) log = (p.0 ≤ (tally_of log).dials) × IsSendable m × MaySend log p.0 m × IsNeeded watch log p.0 m
+MayAct watch (Close p cause) log = (p.0 ≤ (tally_of log).dials) × Deserves (trail log p.0) cause
 
 -- each act may be done when the ones before it are
-abbrev pub Allowed : List Act → Log → Type 0
-Allowed [] log = Unit {0}
-Allowed (a ∷ acts) log = MayAct a log × Allowed acts (entry_of a ∷ log)
+abbrev pub Allowed : List (List ℕ) → List Act → Log → Type 0
+Allowed watch [] log = Unit {0}
+Allowed watch (a ∷ acts) log = MayAct watch a log × Allowed watch acts (entry_of a ∷ log)
 
 -- the places stand for the log with the acts, each of which was allowed
-pub record Goes (places : List Place) (acts : List Act) (log : Log) : Type 0 where
+pub record Goes (watch : List (List ℕ)) (places : List Place) (acts : List Act) (log : Log) : Type 0 where
   pub stand : PlacesStand places (after acts log)
-  pub allowed : Allowed acts log
+  pub allowed : Allowed watch acts log
 
 -- no open request is 60 seconds old or more
 abbrev pub is_calm : Place → Bool
@@ -126,7 +126,7 @@ is_calm (Lost loss) = true
 abbrev pub AreCalm : List Place → Type 0
 AreCalm places = (p : ℕ) → is_calm (place_at places p) ≡ true
 
--- nothing is open to a connected peer; a block is
+-- nothing is open to a connected peer; filters or a block are
 abbrev pub is_idle : Place → Bool
 is_idle (Here peer) = is_idle_peer peer
 is_idle (Lost loss) = false
@@ -150,6 +150,7 @@ pub record CutFor (p : PeerNo) (log cut : Log) : Type 0 where
   pub off : connected (trail cut p.0) ≡ false
   pub broken : failed (trail cut p.0) ≡ true
   pub brought : fetched (counted (trail cut p.0)) ≡ fetched (counted (trail log p.0))
+  pub gave : given (counted (trail cut p.0)) ≡ given (counted (trail log p.0))
   pub dials : (tally_of cut).dials ≡ (tally_of log).dials
 
 -- what the client says of its state

@@ -20,11 +20,12 @@ use Rattle.cf_peer.specs.declared.event.Mark.TheVariants.{NotYet, Called, Missed
 use Rattle.cf_peer.specs.Log.{Log, Told, Tally, Tells, tally_of, mark_of, dials}
 use Rattle.cf_peer.specs.Wires.{Made}
 use Rattle.cf_peer.specs.Trail.{trail, spelled, connected, failed}
-use Rattle.cf_peer.specs.Asking.{Deserves}
+use Rattle.cf_peer.specs.Asking.{Deserves, given}
 use Rattle.cf_scan.specs.declared.history.Entry.{Entry}
-use Rattle.cf_sync.specs.Fetching.{IsBusy, IsConnected, IsSameFetched, Rightly, AreBytes}
+use Rattle.cf_sync.specs.Fetching.{IsBusy, IsConnected, IsSameFetched, Rightly, AreBytes, counted_part}
 use Rattle.cf_sync.specs.Planned.{is_untold, IsPlanned, ArePlanned}
 use Rattle.cf_sync.specs.Sync.{HasAsked}
+use Rattle.cf_sync.specs.Sync as sync
 use Rattle.cf_client.specs.declared.client.Client.{Client}
 use Rattle.cf_client.specs.declared.outcome.End.{End}
 use Rattle.cf_client.specs.declared.outcome.End.TheVariants.{Synced, NoPeers, Tired, Ended as EndedFirst}
@@ -35,7 +36,7 @@ use Rattle.cf_client.specs.declared.state.State.TheVariants.{Synced as IsSynced,
 use Rattle.cf_client.specs.declared.trace.TraceLine.{TraceLine}
 use Rattle.cf_client.specs.declared.trace.TraceLine.TheVariants.{Sent as SentLine, Closed as ClosedLine}
 use Rattle.cf_client.specs.Places.{after, Allowed, IsState}
-use Rattle.cf_client.specs.Stands.{Reflects, IsInnocent, AreAnswered}
+use Rattle.cf_client.specs.Stands.{Reflects, IsInnocent, AreAnswered, watch_by}
 
 -- how the sends to a peer have gone
 abbrev pub state_at : List SendState → ℕ → SendState
@@ -125,11 +126,11 @@ abbrev pub HasNames : List (List ℕ) → Told → Type 0
 HasNames called t = IfSome t.log (λ log. names_of log ≡ called)
 
 -- what the run's own notes say of the log as it is
-pub record Notes (progress : Progress) (called : List (List ℕ)) (actual : Log) (t : Told) : Type 0 where
+pub record Notes (watch : List (List ℕ)) (progress : Progress) (called : List (List ℕ)) (actual : Log) (t : Told) : Type 0 where
   pub tells : Tells actual t
   pub bytes : AreBytes actual
   pub rightly : Rightly actual
-  pub planned : ArePlanned actual
+  pub planned : ArePlanned watch actual
   pub order : WasOrderly actual
   pub numbered : AreNumbered actual
   pub traced : IsTraceOf actual (reverse progress.trace.items)
@@ -152,41 +153,46 @@ closes q (Close p cause) = p.0 == q
 abbrev pub is_due : Progress → List Act → ℕ → Bool
 is_due progress acts q = is_pending (state_at progress.sends q) || list_any (closes q) acts
 
+-- of each peer the same filters were given
+abbrev pub IsSameGiven : Log → Log → Type 0
+IsSameGiven a b = (p : ℕ) → given (counted_part a p) ≡ given (counted_part b p)
+
 -- cut off by a send that failed
 abbrev pub IsBroken : Log → ℕ → Type 0
 IsBroken log q = (connected (trail log q) ≡ false) × (failed (trail log q) ≡ true)
 
 -- with these acts left to be done, some log that the wires tell is the planned one, but for the peers whose failed sends aren't told
-pub record Doing (acts : List Act) (progress : Progress) (called : List (List ℕ)) (planned : Log) (t : Told) : Type 0 where
+pub record Doing (watch : List (List ℕ)) (acts : List Act) (progress : Progress) (called : List (List ℕ)) (planned : Log) (t : Told) : Type 0 where
   pub actual : Log
-  pub notes : Notes progress called actual t
+  pub notes : Notes watch progress called actual t
   pub plan : IsPlanned planned actual
   pub brought : IsSameFetched planned actual
+  pub gave : IsSameGiven planned actual
   pub pending : (q : ℕ) → is_pending (state_at progress.sends q) ≡ true → is_untold actual q ≡ true
   pub due : (q : ℕ) → is_untold actual q ≡ true → is_due progress acts q ≡ true
   pub broken : (q : ℕ) → is_untold actual q ≡ true → IsBroken actual q
   pub known : (q : ℕ) → is_untold actual q ≡ true → is_pending (state_at progress.sends q) ≡ false → IsBroken planned q
 
 -- the client reflects the log that the wires tell, and every failure is told
-pub record HoldsOver {H : Type 0} {g : Ghosts H} (c : Client H g) (progress : Progress) (called : List (List ℕ)) (t : Told) : Type 0 where
+pub record HoldsOver {H M : Type 0} {g : Ghosts H} (c : Client H M g) (progress : Progress) (called : List (List ℕ)) (t : Told) : Type 0 where
   pub actual : Log
-  pub notes : Notes progress called actual t
+  pub notes : Notes (watch_by c) progress called actual t
   pub reflects : Reflects c actual
   pub told_all : (q : ℕ) → is_untold actual q ≡ false
   pub none : (q : ℕ) → is_pending (state_at progress.sends q) ≡ false
 
 -- what is left of the acts leads from here to where all of them lead
-pub record ActsLeft (acts : List Act) (end : Log) (progress : Progress) (called : List (List ℕ)) (t : Told) : Type 0 where
+pub record ActsLeft (watch : List (List ℕ)) (acts : List Act) (end : Log) (progress : Progress) (called : List (List ℕ)) (t : Told) : Type 0 where
   pub planned : Log
-  pub allowed : Allowed acts planned
+  pub allowed : Allowed watch acts planned
   pub leads : after acts planned ≡ end
-  pub doing : Doing acts progress called planned t
+  pub doing : Doing watch acts progress called planned t
 
 -- the client reflects a planned log, and waits to be told of pending failures
-pub record Waits {H : Type 0} {g : Ghosts H} (c : Client H g) (progress : Progress) (called : List (List ℕ)) (t : Told) : Type 0 where
+pub record Waits {H M : Type 0} {g : Ghosts H} (c : Client H M g) (progress : Progress) (called : List (List ℕ)) (t : Told) : Type 0 where
   pub planned : Log
   pub reflects : Reflects c planned
-  pub doing : Doing [] progress called planned t
+  pub doing : Doing (watch_by c) [] progress called planned t
 
 -- a dial or a send has failed
 abbrev pub is_failure : Event → Bool
@@ -276,10 +282,12 @@ IsEnd NoPeers log = IsState HasNoPeers log
 IsEnd Tired log = IsBusy log
 IsEnd EndedFirst log = (before : Log) × ((log ≡ Took Ended ∷ before) × IsBusy before)
 
--- what a run that ended so has done, by its log
+-- What a run that ended so has done, by its log. With nothing open each connected peer was heard out, and knows the filter header of each block of the
+-- best chain where that is its own one; and each of that chain's blocks is settled.
 pub record Followed (watch : List (List ℕ)) (end : End) (height : ℕ) (hash : Hash32) (entries : List Entry) (lines : List TraceLine) (called : List (List ℕ)) (log : Log) : Type 0 where
   pub asked : HasAsked watch height hash entries log
-  pub planned : ArePlanned log
+  pub settled : end ≡ Synced → sync.Followed watch height hash entries log
+  pub planned : ArePlanned watch log
   pub was_orderly : WasOrderly log
   pub orderly : IsOrderly log
   pub numbered : AreNumbered log
@@ -295,12 +303,12 @@ pub record Finished (watch : List (List ℕ)) (end : End) (height : ℕ) (hash :
   pub few : (tally_of actual).dials ≤ 8
 
 -- a run stops for this reason
-pub record Stopped {H : Type 0} {g : Ghosts H} (end : End) (c : Client H g) (progress : Progress) (called : List (List ℕ)) (t : Told) : Type 0 where
+pub record Stopped {H M : Type 0} {g : Ghosts H} (end : End) (c : Client H M g) (progress : Progress) (called : List (List ℕ)) (t : Told) : Type 0 where
   pub holds : HoldsOver c progress called t
   pub why : IsEnd end holds.actual
 
 -- a turn: the run goes on, or it ends
-abbrev pub Turned : {H : Type 0} → {g : Ghosts H} → Option End → Client H g → Progress → List (List ℕ) → Told → Type 0
+abbrev pub Turned : {H M : Type 0} → {g : Ghosts H} → Option End → Client H M g → Progress → List (List ℕ) → Told → Type 0
 Turned None c progress called t = HoldsOver c progress called t
 Turned (Some end) c progress called t = Stopped end c progress called t
 

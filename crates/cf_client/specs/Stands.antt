@@ -9,30 +9,36 @@ use Rattle.cf_peer.specs.Trail.{trail}
 use Rattle.cf_peer.specs.Asking.{is_open, Deserves}
 use Rattle.cf_peer.specs.declared.peer.Cause.{Cause}
 use Rattle.cf_scan.specs.declared.history.Entry.{Entry}
+use Rattle.cf_scan.specs.Watching.{IsWatch}
 use Rattle.cf_sync.specs.Fetching.{IsBest, IsConnected, IsAskedOut}
 use Rattle.cf_sync.specs.Sync.{IsToldOf}
 use Rattle.cf_client.specs.declared.client.Client.{Client}
 use Rattle.cf_client.specs.Places.{Words, IsAnswered, PlacesStand, after, Allowed}
 use Rattle.cf_tracker.specs.Tracker.{watch_of}
-use Rattle.cf_client.specs.Tracks.{Seen, Tracks, seen_of}
+use Rattle.cf_hear.specs.Seen.{Seen, seen_of}
+use Rattle.cf_hear.specs.Tracks.{Tracks}
 
 -- what the client has seen, over its store's chains
-abbrev pub seen_by : {H : Type 0} → {g : Ghosts H} → Client H g → Seen
+abbrev pub seen_by : {H M : Type 0} → {g : Ghosts H} → Client H M g → Seen
 seen_by c = seen_of c.tracker
 
 -- what the client keeps is a function of the log; after want of memory it reflects nothing
-pub record Reflects {H : Type 0} {g : Ghosts H} (c : Client H g) (log : Log) : Type 0 where
+pub record Reflects {H M : Type 0} {g : Ghosts H} (c : Client H M g) (log : Log) : Type 0 where
   pub alive : c.dead ≡ false
   pub places : PlacesStand c.places.items log
   pub tracks : Tracks (seen_by c) log
 
+-- the scripts that it watches
+abbrev pub watch_by : {H M : Type 0} → {g : Ghosts H} → Client H M g → List (List ℕ)
+watch_by c = watch_of c.tracker
+
 -- the client reflects the log with the acts, each of which was allowed
-pub record Answers {H : Type 0} {g : Ghosts H} (c : Client H g) (acts : List Act) (log : Log) : Type 0 where
+pub record Answers {H M : Type 0} {g : Ghosts H} (c : Client H M g) (acts : List Act) (log : Log) : Type 0 where
   pub stand : Reflects c (after acts log)
-  pub allowed : Allowed acts log
+  pub allowed : Allowed (watch_by c) acts log
 
 -- it found no memory once, and answers so from then on
-abbrev pub is_dead : {H : Type 0} → {g : Ghosts H} → Client H g → Bool
+abbrev pub is_dead : {H M : Type 0} → {g : Ghosts H} → Client H M g → Bool
 is_dead c = c.dead
 
 -- no connected peer deserves to be closed
@@ -53,15 +59,11 @@ abbrev pub open_count : Log → ℕ
 open_count log = count_below (λ (p : ℕ). is_open (trail log p)) ((tally_of log).dials + 1)
 
 -- how many numbers are in use, 0 among them
-abbrev pub count_of : {H : Type 0} → {g : Ghosts H} → Client H g → ℕ
+abbrev pub count_of : {H M : Type 0} → {g : Ghosts H} → Client H M g → ℕ
 count_of c = length c.places.items
 
--- the scripts that it watches
-abbrev pub watch_by : {H : Type 0} → {g : Ghosts H} → Client H g → List (List ℕ)
-watch_by c = watch_of c.tracker
-
 -- what its version tells
-abbrev pub words_by : {H : Type 0} → {g : Ghosts H} → Client H g → Words
+abbrev pub words_by : {H M : Type 0} → {g : Ghosts H} → Client H M g → Words
 words_by c = record { moment = c.moment; number = c.nonce }
 
 -- the height and the hash of the best chain's tip
@@ -73,8 +75,9 @@ pub record IsTip (height : ℕ) (hash : Hash32) (log : Log) : Type 0 where
 
 -- the best chain's tip and the history over it; whatever the rule of asking leaves true of that chain and a connected peer with nothing open is true
 pub record IsReportOf (watch : List (List ℕ)) (height : ℕ) (hash : Hash32) (entries : List Entry) (log : Log) : Type 0 where
+  pub watchable : IsWatch watch
   pub told : IsToldOf watch height hash entries log
-  pub asked_out : (p : ℕ) → IsConnected log p → is_open (trail log p) ≡ false → IsAskedOut log told.chain p
+  pub asked_out : (p : ℕ) → IsConnected log p → is_open (trail log p) ≡ false → IsAskedOut watch log told.chain p
 
 -- the history alone, over the chain of which the tip is told
 abbrev pub IsHistoryTold : List (List ℕ) → List Entry → Log → Type 0

@@ -1,17 +1,25 @@
 -- What each step of the client keeps.
-use Rattle.std.specs.Prelude.{◌≡◌, ◌≢◌, ℕ, ◌<◌, ◌≤◌, true, List, ◌∷◌, ◌++◌, length}
+use Rattle.std.specs.Prelude.{◌≡◌, ◌≢◌, ℕ, ◌<◌, ◌≤◌, true, List, [], ◌∷◌, ◌++◌, length, slice_set}
 use Rattle.std.specs.List.{All}
+use Rattle.cf_bytes.specs.declared.hash.Hash32.{Hash32}
 use Rattle.cf_bytes.specs.declared.peer.PeerNo.{PeerNo}
 use Rattle.cf_headers.specs.declared.store.HeaderStore.{Ghosts}
+use Rattle.cf_msg.specs.declared.msg.Msg.{Msg}
 use Rattle.cf_peer.specs.declared.act.Act.{Act}
+use Rattle.cf_peer.specs.declared.act.Act.TheVariants.{Send}
+use Rattle.cf_peer.specs.declared.peer.Peer.{Peer}
 use Rattle.cf_peer.specs.declared.event.Delivery.{Delivery}
 use Rattle.cf_peer.specs.declared.event.Event.TheVariants.{Took}
-use Rattle.cf_peer.specs.Acts.{IsDoable}
+use Rattle.cf_peer.specs.Acts.{IsDoable, IsSendable}
 use Rattle.cf_peer.specs.Log.{Log}
+use Rattle.cf_peer.specs.Peer.{is_idle_peer, asked_for_block}
 use Rattle.cf_tracker.specs.declared.tracker.Tracker.{Tracker}
 use Rattle.cf_client.specs.declared.place.Place.{Place}
-use Rattle.cf_client.specs.Places.{Goes, AreCalm, CutFor, after, is_settled, place_at}
-use Rattle.cf_client.specs.Tracks.{Seen, Tracks, IsSameSeen, AreEntered, seen_of}
+use Rattle.cf_client.specs.declared.place.Place.TheVariants.{Here}
+use Rattle.cf_client.specs.Places.{Goes, AreCalm, AsksFor, CutFor, after, is_settled, place_at}
+use Rattle.cf_hear.specs.Seen.{Seen, IsSameSeen, seen_of}
+use Rattle.cf_hear.specs.Tracks.{Tracks}
+use Rattle.cf_client.specs.Settled.{AreEntered, AreRight}
 
 -- what a step works on: the places, what was seen, and the acts so far
 pub record Desk : Type 0 where
@@ -24,13 +32,14 @@ desk tracker places acts = record { places = places; seen = seen_of tracker; act
 
 -- the desk stands for the log with the acts, each of which was allowed
 pub record Stands (d : Desk) (log : Log) : Type 0 where
-  pub goes : Goes d.places d.acts log
+  pub goes : Goes d.seen.watch d.places d.acts log
   pub tracks : Tracks d.seen (after d.acts log)
 
--- at most nine places, and tracked are the peers that are connected
+-- at most nine places; tracked are the peers that are connected; and what is open to each agrees with what it claims
 pub record IsInOrder (d : Desk) : Type 0 where
   pub few : length d.places ≤ 9
   pub entered : AreEntered d.places d.seen
+  pub right : AreRight d.places d.seen.claims
 
 -- how the log itself goes on: not at all, by a delivery, or as the send to a peer in use fails
 abbrev pub Way : Type 1
@@ -57,6 +66,21 @@ pub record Moves (way : Way) (before now : Desk) : Type 0 where
   pub more : Extends before.acts now.acts
   pub doable : All IsDoable before.acts → All IsDoable now.acts
   pub calm : AreCalm before.places → AreCalm now.places
+
+-- a peer to which nothing was open is sent a message, after the acts before, and what is kept of it changes in this way
+pub record IsSent (i : ℕ) (m : Msg) (change : Peer → Peer) (places now : List Place) (acts more : List Act) : Type 0 where
+  pub sendable : IsSendable m
+  pub peer : Peer
+  pub here : place_at places i ≡ Here peer
+  pub idle : is_idle_peer peer ≡ true
+  pub kept : now ≡ slice_set places i (Here (change peer))
+  pub added : more ≡ acts ++ Send (record { 0 = i }) m ∷ []
+
+-- the block with this hash is asked for
+pub record IsSentFor (i : ℕ) (hash : Hash32) (places now : List Place) (acts more : List Act) : Type 0 where
+  pub message : Msg
+  pub asks : AsksFor hash message
+  pub sent : IsSent i message (asked_for_block hash) places now acts more
 
 -- the peer at this place is asked, if it is to be, and is settled; nobody else's place changes, nor what was seen
 pub record Asks (i : ℕ) (before now : Desk) : Type 0 where

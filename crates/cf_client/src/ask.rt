@@ -1,5 +1,5 @@
 //! Whom the client asks, and whom it closes for its silence.
-ghost use Rattle.std.specs.Prelude.{◌≡◌, ◌≢◌, ℕ, ◌<◌, ◌∷◌, OnOk, IfOk, IsSome, true, false, length};
+ghost use Rattle.std.specs.Prelude.{◌≡◌, ◌≢◌, ℕ, ◌<◌, ◌≤◌, ◌∷◌, OnOk, IfOk, IsSome, true, false, length};
 ghost use Rattle.std.specs.List.{list_any};
 ghost use Rattle.cf_headers.specs.Store.{own_of};
 ghost use Rattle.cf_peer.specs.Log.{Log};
@@ -7,16 +7,20 @@ ghost use Rattle.cf_peer.specs.declared.event.Event.TheVariants.{Took};
 ghost use Rattle.cf_peer.specs.declared.event.Delivery.TheVariants.{Tick};
 ghost use Rattle.cf_tracker.specs.Tracker.{chains_of};
 ghost use Rattle.cf_peer.specs.Trail.{Part, Passed, with_item};
+ghost use Rattle.cf_dispute.specs.Claims.{Table, Tables};
+ghost use Rattle.cf_hear.specs.Seen.{seen_of};
+ghost use Rattle.cf_msg.specs.declared.msg.Msg.TheVariants.{GetCfheaders, GetCfilters};
+ghost use Rattle.cf_peer.specs.Peer.{asked_for_claims, asked_for_filters};
 ghost use Rattle.cf_client.specs.Places.{Fits, PlacesStand, AreCalm, is_calm, is_idle, is_wanting, is_settled, is_fetching_at, is_here, place_at, IsQuestion, IsFetch};
-ghost use Rattle.cf_client.specs.Tracks.{IsFetchedOut, AreFetchedOut, seen_of};
-ghost use Rattle.cf_client.specs.Steps.{desk, IsInOrder, Same, Moves, Asks};
+ghost use Rattle.cf_client.specs.Settled.{AreRight, IsRightAt, IsAskedThrough, AreAskedThrough};
+ghost use Rattle.cf_client.specs.Steps.{desk, IsInOrder, Same, Moves, Asks, IsSent, IsSentFor};
 
 use crate::place::{Loss, Place};
 use cf_bytes::{Hash32, NoMemory, PeerNo};
 use cf_headers::HeaderStore;
 use cf_msg::{Entries, Entry, Hashes, Msg};
-use cf_peer::{Act, Cause};
-use cf_tracker::Tracker;
+use cf_peer::{Act, Cause, Range};
+use cf_tracker::{Span, Tracker, Wish};
 use std::alloc::Global;
 
 // Adds to the age of what is open to the peer at a place.
@@ -25,6 +29,7 @@ fn pass_at(place: &mut Place, seconds: u32)
     requires { is_calm place.old ≡ true }
     ensures fits { (part : Part) → Fits place.old part → Fits place.new (with_item (Passed seconds) part) }
     ensures here { is_here place.new ≡ is_here place.old }
+    ensures right { (table : Table) → IsRightAt place.old table → IsRightAt place.new table }
 {
     if let Place::Here(peer) = place {
         peer.pass(seconds);
@@ -36,6 +41,7 @@ pub(crate) fn pass_all(places: &mut [Place], seconds: u32)
     requires { AreCalm places.old }
     ensures stand { (log : Log) → PlacesStand places.old log → PlacesStand places.new (Took (Tick seconds) ∷ log) }
     ensures here { (p : ℕ) → is_here (place_at places.new p) ≡ is_here (place_at places.old p) }
+    ensures right { (tables : Tables) → AreRight places.old tables → AreRight places.new tables }
 {
     for place in places.iter_mut() {
         pass_at(place, seconds);
@@ -81,7 +87,7 @@ pub(crate) fn close_late<H: HeaderStore>(
     Ok(())
 }
 
-// Whether a block is open to any of the peers.
+// Whether filters or a block are open to any of the peers.
 fn is_any_fetching(places: &[Place]) -> bool
     ensures { result ≡ list_any is_fetching_at places.now }
 {
@@ -135,9 +141,82 @@ fn ask_for_headers<H: HeaderStore>(
     Ok(())
 }
 
-// Asks the peer at this place, to which nothing is open, for the lowest block that is missing of what it shares with the best chain. No
-// block is open to anybody.
-fn ask_for_block<H: HeaderStore>(
+// Asks the peer at this place, to which nothing is open, for what it claims of the filters of these blocks.
+fn ask_for_claims(
+    places: &mut [Place],
+    acts: &mut Vec<Act>,
+    i: usize,
+    span: Span,
+) -> Result<(), NoMemory>
+    requires here { i < length places.old }
+    requires few { length places.old ≤ 9 }
+    requires idle { is_idle (place_at places.old i) ≡ true }
+    ensures { OnOk result (IsSent i (GetCfheaders 0 span.start span.stop) (asked_for_claims (record { stop = span.stop; parent = span.parent; blocks = span.blocks.items })) places.old places.new acts.old.items acts.new.items) }
+{
+    let question = Msg::GetCfheaders {
+        filter: 0,
+        start: span.start,
+        stop: span.stop,
+    };
+    acts.push(Act::Send(PeerNo(i as u32), question))?;
+    if let Place::Here(peer) = &mut places[i] {
+        peer.ask_claims(Range {
+            stop: span.stop,
+            parent: span.parent,
+            blocks: Hashes::from_vec(span.blocks),
+        });
+    }
+    Ok(())
+}
+
+// Asks the peer at this place, to which nothing is open, for the filters of these blocks.
+fn ask_for_filters(
+    alloc: Global,
+    places: &mut [Place],
+    acts: &mut Vec<Act>,
+    i: usize,
+    span: Span,
+) -> Result<(), NoMemory>
+    requires here { i < length places.old }
+    requires few { length places.old ≤ 9 }
+    requires idle { is_idle (place_at places.old i) ≡ true }
+    ensures { OnOk result (IsSent i (GetCfilters 0 span.start span.stop) (asked_for_filters span.blocks.items) places.old places.new acts.old.items acts.new.items) }
+{
+    let question = Msg::GetCfilters {
+        filter: 0,
+        start: span.start,
+        stop: span.stop,
+    };
+    acts.push(Act::Send(PeerNo(i as u32), question))?;
+    if let Place::Here(peer) = &mut places[i] {
+        peer.ask_filters(alloc, Hashes::from_vec(span.blocks));
+    }
+    Ok(())
+}
+
+// Asks the peer at this place, to which nothing is open, for the block with this hash.
+fn ask_for_block(
+    alloc: Global,
+    places: &mut [Place],
+    acts: &mut Vec<Act>,
+    i: usize,
+    hash: Hash32,
+) -> Result<(), NoMemory>
+    requires here { i < length places.old }
+    requires few { length places.old ≤ 9 }
+    requires idle { is_idle (place_at places.old i) ≡ true }
+    ensures { OnOk result (IsSentFor i hash places.old places.new acts.old.items acts.new.items) }
+{
+    acts.push(Act::Send(PeerNo(i as u32), fetch(alloc, hash)?))?;
+    if let Place::Here(peer) = &mut places[i] {
+        peer.ask_block(&hash);
+    }
+    Ok(())
+}
+
+// Asks the peer at this place, to which nothing is open and which was heard out, about the blocks that it shares with the best chain: for the claims that it
+// hasn't made; and, while neither filters nor a block are open to anybody, for filters that aren't judged yet, or else for a block.
+fn ask_about_blocks<H: HeaderStore>(
     alloc: Global,
     tracker: &mut Tracker<H>,
     places: &mut [Place],
@@ -147,27 +226,34 @@ fn ask_for_block<H: HeaderStore>(
     requires here { i < length places.old }
     requires idle { is_idle (place_at places.old i) ≡ true }
     requires settled { is_settled (place_at places.old i) ≡ true }
-    requires spare { list_any is_fetching_at places.old ≡ false }
     requires order { IsInOrder (desk tracker.old places.old acts.old.items) }
     ensures asks { OnOk result (Asks i (desk tracker.old places.old acts.old.items) (desk tracker.new places.new acts.new.items)) }
-    ensures fetched { OnOk result (is_fetching_at (place_at places.new i) ≡ false → IsFetchedOut (place_at places.new i) (seen_of tracker.new) i) }
+    ensures through { OnOk result (IsAskedThrough (place_at places.new i) (list_any is_fetching_at places.new) (seen_of tracker.new) i) }
+    ensures fetching { OnOk result (list_any is_fetching_at places.old ≡ true → list_any is_fetching_at places.new ≡ true) }
 {
     let p = PeerNo(i as u32);
     let Some(best) = tracker.best() else {
         return Ok(());
     };
-    let Some(hash) = tracker.next_missing(p, best) else {
-        return Ok(());
-    };
-    acts.push(Act::Send(p, fetch(alloc, hash)?))?;
-    if let Place::Here(peer) = &mut places[i] {
-        peer.ask_block(&hash);
+    let spare = !is_any_fetching(places);
+    match tracker.next(p, best, spare)? {
+        Wish::Nothing => Ok(()),
+        Wish::Claims(span) => {
+            ask_for_claims(places, acts, i, span)?;
+            Ok(())
+        }
+        Wish::Filters(span) => {
+            ask_for_filters(alloc, places, acts, i, span)?;
+            Ok(())
+        }
+        Wish::Block(hash) => {
+            ask_for_block(alloc, places, acts, i, hash)?;
+            Ok(())
+        }
     }
-    Ok(())
 }
 
-// Asks the peer at this place if it is to be asked: for headers while it has more to tell, and then for a block while none is open to
-// anybody.
+// Asks the peer at this place if it is to be asked: for headers while it has more to tell, and then about the blocks of its chain.
 fn ask_if_wanted<H: HeaderStore>(
     alloc: Global,
     tracker: &mut Tracker<H>,
@@ -179,15 +265,15 @@ fn ask_if_wanted<H: HeaderStore>(
     requires calm { AreCalm places.old }
     requires order { IsInOrder (desk tracker.old places.old acts.old.items) }
     ensures asks { OnOk result (Asks i (desk tracker.old places.old acts.old.items) (desk tracker.new places.new acts.new.items)) }
-    ensures fetched { OnOk result (list_any is_fetching_at places.new ≡ false → IsFetchedOut (place_at places.new i) (seen_of tracker.new) i) }
+    ensures through { OnOk result (IsAskedThrough (place_at places.new i) (list_any is_fetching_at places.new) (seen_of tracker.new) i) }
     ensures fetching { OnOk result (list_any is_fetching_at places.old ≡ true → list_any is_fetching_at places.new ≡ true) }
 {
     if places[i].wants_headers() {
         ask_for_headers(tracker, places, acts, i)?;
         return Ok(());
     }
-    if places[i].is_idle() && !is_any_fetching(places) {
-        ask_for_block(alloc, tracker, places, acts, i)?;
+    if places[i].is_idle() {
+        ask_about_blocks(alloc, tracker, places, acts, i)?;
         return Ok(());
     }
     Ok(())
@@ -204,7 +290,7 @@ pub(crate) fn ask_all<H: HeaderStore>(
     requires order { IsInOrder (desk tracker.old places.old acts.old.items) }
     ensures moves { OnOk result (Moves Same (desk tracker.old places.old acts.old.items) (desk tracker.new places.new acts.new.items)) }
     ensures settled { OnOk result ((p : ℕ) → is_settled (place_at places.new p) ≡ true) }
-    ensures fetched { OnOk result (AreFetchedOut places.new (seen_of tracker.new)) }
+    ensures through { OnOk result (AreAskedThrough places.new (seen_of tracker.new)) }
 {
     for i in 0..places.len() {
         ask_if_wanted(alloc, tracker, places, acts, i)?;

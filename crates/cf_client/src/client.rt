@@ -3,7 +3,9 @@ ghost use Rattle.std.specs.Prelude.{◌≡◌, ℕ, ◌<◌, ◌≤◌, ◌+◌,
 ghost use Rattle.std.specs.List.{list_any, All, count_by};
 ghost use Rattle.cf_peer.specs.Acts.{IsDoable};
 ghost use Rattle.cf_client.specs.Places.{state_of, is_busy, is_here, IsGreeting, TellsWords, end_of};
-ghost use Rattle.cf_client.specs.Tracks.{AreSettled, seen_of};
+ghost use Rattle.cf_client.specs.Settled.{AreSettled, AreRight};
+ghost use Rattle.cf_hear.specs.Seen.{seen_of};
+ghost use Rattle.cf_tracker.specs.Tracker.{claims_of};
 
 use crate::ask::ask_all;
 use crate::deliver::{cut_off, deliver};
@@ -11,15 +13,16 @@ use crate::place::{Loss, PeerEnd, Place};
 use crate::state::State;
 use cf_bytes::{Hash32, NoMemory, PeerNo};
 use cf_headers::HeaderStore;
+use cf_match::Matcher;
 use cf_msg::{Bytes, Msg, NetAddress};
 use cf_peer::{Act, Delivery, Peer};
 use cf_scan::{History, Watch};
 use cf_tracker::{Report, Tracker};
 use std::alloc::Global;
 
-/// A client of up to eight peers, over a store of the chains that they show.
+/// A client of up to eight peers, over a store of the chains that they show and a matcher of filters.
 #[derive(Drop)]
-pub struct Client<H: HeaderStore> {
+pub struct Client<H: HeaderStore, M: Matcher> {
     alloc: Global,
     // The moment and the number that its `version` tells.
     moment: i64,
@@ -28,10 +31,12 @@ pub struct Client<H: HeaderStore> {
     dead: bool,
     // What is kept of each peer, by its number; place 0 is nobody's.
     places: Vec<Place>,
-    // The peers' chains, and what is kept of the blocks that were fetched.
+    // The peers' chains and claims, and what is kept of the filters that were judged and of the blocks that were fetched.
     tracker: Tracker<H>,
+    matcher: M,
     ghost few: { vec_len places ≤ 9 },
     ghost settled: { dead ≡ false → AreSettled places.items (seen_of tracker) },
+    ghost right: { dead ≡ false → ∥ AreRight places.items (claims_of tracker) ∥₁ },
 }
 
 fn is_any_busy(places: &[Place]) -> bool
@@ -71,6 +76,12 @@ const NO_ADDRESS: NetAddress = NetAddress {
     ip: [0; 16],
     port: 0,
 };
+
+// The filter header of regtest's first block (BIP 157, "Filter Headers"), in wire order.
+const FIRST_FILTER_HEADER: Hash32 = Hash32([
+    0x2b, 0x5a, 0xdc, 0x66, 0x02, 0x1d, 0x5c, 0x77, 0x5f, 0x63, 0x0e, 0xfd, 0x91, 0x51, 0x8c, 0xf6,
+    0xce, 0x3e, 0x9f, 0x52, 0x5b, 0xbf, 0x54, 0xd9, 0xf0, 0xd7, 0x09, 0x45, 0x1e, 0x30, 0x5e, 0x48,
+]);
 
 // How the peers at these places stand.
 fn ends_of(alloc: Global, places: &[Place]) -> Result<Vec<PeerEnd>, NoMemory>
@@ -112,7 +123,7 @@ fn greeting(alloc: Global, moment: i64, nonce: u64) -> Result<Msg, NoMemory>
     })
 }
 
-impl<H: HeaderStore> Client<H> {
+impl<H: HeaderStore, M: Matcher> Client<H, M> {
     ghost use Rattle.cf_peer.specs.Log.{Log};
     ghost use Rattle.cf_peer.specs.declared.event.Event.TheVariants.{Took, Dialled, NotDialled};
     ghost use Rattle.cf_peer.specs.declared.act.Act.TheVariants.{Close};
@@ -121,17 +132,19 @@ impl<H: HeaderStore> Client<H> {
     ghost use Rattle.cf_client.specs.Steps.{Extends};
     ghost use Rattle.cf_client.specs.Stands.{Reflects, Answers, IsTip, IsReportOf, IsHistoryTold, IsInnocent, AreAnswered, is_dead, open_count, count_of, watch_by, words_by};
 
-    /// A client that knows of no peer yet, over a store in which no peer is entered. It watches these scripts. Its `version` tells
-    /// this moment, in seconds since 1970, and this number.
+    /// A client that knows of no peer yet, over a store in which no peer is entered. It watches these scripts, and matches filters with them
+    /// by this matcher. Its `version` tells this moment, in seconds since 1970, and this number.
     pub fn new(
         alloc: Global,
         watch: Watch,
         store: H,
+        matcher: M,
         moment: i64,
         nonce: u64,
-    ) -> Result<Client<H>, NoMemory>
+    ) -> Result<Client<H, M>, NoMemory>
     where
         H: Drop,
+        M: Drop,
         requires { (q : ℕ) → H.chain store q ≡ None }
         ensures reflects { IfOk result (λ c. Reflects c []) }
         ensures watch { IfOk result (λ c. watch_by c ≡ watch) }
@@ -140,7 +153,7 @@ impl<H: HeaderStore> Client<H> {
     {
         let mut places = Vec::new(alloc);
         places.push(Place::Lost(Loss::NotDialled))?;
-        let tracker = Tracker::new(alloc, watch, store)?;
+        let tracker = Tracker::new(alloc, watch, store, &FIRST_FILTER_HEADER)?;
         Ok(Client {
             alloc,
             moment,
@@ -148,6 +161,7 @@ impl<H: HeaderStore> Client<H> {
             dead: false,
             places,
             tracker,
+            matcher,
         })
     }
 
@@ -214,7 +228,14 @@ impl<H: HeaderStore> Client<H> {
         self.dead = true;
         let mut acts = Vec::new(self.alloc);
         let places = self.places.as_mut_slice();
-        deliver(self.alloc, &mut self.tracker, places, &mut acts, d)?;
+        deliver(
+            self.alloc,
+            &mut self.tracker,
+            &mut self.matcher,
+            places,
+            &mut acts,
+            d,
+        )?;
         ask_all(self.alloc, &mut self.tracker, places, &mut acts)?;
         self.dead = false;
         Ok(acts)
@@ -285,6 +306,8 @@ impl<H: HeaderStore> Client<H> {
         if self.dead {
             return Err(NoMemory);
         }
+        // What is told is of scripts that may be watched.
+        let _scripts = self.tracker.watch().scripts();
         match self.tracker.report() {
             Ok(report) => Ok(report),
             Err(NoMemory) => {

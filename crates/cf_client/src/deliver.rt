@@ -7,19 +7,21 @@ ghost use Rattle.cf_client.specs.Places.{AreCalm};
 ghost use Rattle.cf_client.specs.Steps.{desk, IsInOrder, Taking, CutOff, Moves};
 
 use crate::ask::{close_late, pass_all};
-use crate::hear::hear_piece;
 use crate::place::{Loss, Place};
 use cf_bytes::{NoMemory, PeerNo};
 use cf_headers::HeaderStore;
+use cf_hear::hear_piece;
+use cf_match::Matcher;
 use cf_peer::{Act, Cause, Delivery};
 use cf_tracker::Tracker;
 use std::alloc::Global;
 use std::mem;
 
 // Takes a piece of a peer's bytes. One of a peer that isn't connected has no effect.
-fn hear_from<H: HeaderStore>(
+fn hear_from<H: HeaderStore, M: Matcher>(
     alloc: Global,
     tracker: &mut Tracker<H>,
+    matcher: &mut M,
     places: &mut [Place],
     acts: &mut Vec<Act>,
     p: PeerNo,
@@ -39,7 +41,9 @@ fn hear_from<H: HeaderStore>(
             places[i] = Place::Lost(loss);
             Ok(())
         }
-        Place::Here(mut peer) => match hear_piece(alloc, tracker, &mut peer, p, piece, acts)? {
+        Place::Here(mut peer) => match hear_piece(
+            alloc, tracker, matcher, &mut peer, p, piece, acts,
+        )? {
             None => {
                 places[i] = Place::Here(peer);
                 Ok(())
@@ -89,9 +93,10 @@ pub(crate) fn cut_off<H: HeaderStore>(
 }
 
 /// Takes a delivery.
-pub(crate) fn deliver<H: HeaderStore>(
+pub(crate) fn deliver<H: HeaderStore, M: Matcher>(
     alloc: Global,
     tracker: &mut Tracker<H>,
+    matcher: &mut M,
     places: &mut [Place],
     acts: &mut Vec<Act>,
     d: &Delivery,
@@ -103,7 +108,7 @@ pub(crate) fn deliver<H: HeaderStore>(
 {
     match d {
         Delivery::Got(p, piece) => {
-            hear_from(alloc, tracker, places, acts, *p, piece.as_slice())?;
+            hear_from(alloc, tracker, matcher, places, acts, *p, piece.as_slice())?;
             Ok(())
         }
         Delivery::Gone(p) => {

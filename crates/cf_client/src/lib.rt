@@ -4,7 +4,6 @@
 mod ask;
 mod client;
 mod deliver;
-mod hear;
 mod outcome;
 mod over;
 mod place;

@@ -25,6 +25,7 @@ use crate::trace::TraceLine;
 use cf_bytes::{NoMemory, PeerNo};
 use cf_frame::encode;
 use cf_headers::HeaderStore;
+use cf_match::Matcher;
 use cf_msg::{Msg, write};
 use cf_peer::{Act, Cause, Delivery, WireFail, Wires};
 use cf_scan::Watch;
@@ -62,7 +63,7 @@ fn perform_send<W: Wires>(
     requires number { p.0 < 9 }
     requires sendable { IsSendable message.now }
     requires step { IsInStep (W.told wires.old) progress.old }
-    ensures doing { OnOk result ((more : List Act) (called : List (List ℕ)) (planned : Log) → MayAct (Send p message.now) planned → Doing (Send p message.now ∷ more) progress.old called planned (W.told wires.old) → Doing more progress.new called (Sent p (bytes_of message.now) ∷ planned) (W.told wires.new)) }
+    ensures doing { OnOk result ((watch : List (List ℕ)) (more : List Act) (called : List (List ℕ)) (planned : Log) → MayAct watch (Send p message.now) planned → Doing watch (Send p message.now ∷ more) progress.old called planned (W.told wires.old) → Doing watch more progress.new called (Sent p (bytes_of message.now) ∷ planned) (W.told wires.new)) }
     ensures versions { (words : Words) → TellsWords words message.now → KeepsWords words (W.told wires.old) (W.told wires.new) }
     ensures performs { Performs (moment (W.told wires.old) (W.faults wires.old) (W.script wires.old) (W.keeps wires.old) progress.old) (moment (W.told wires.new) (W.faults wires.new) (W.script wires.new) (W.keeps wires.new) progress.new) }
 {
@@ -91,7 +92,7 @@ fn perform_close<W: Wires>(
 ) -> Result<(), NoMemory>
     requires number { p.0 < 9 }
     requires step { IsInStep (W.told wires.old) progress.old }
-    ensures doing { OnOk result ((more : List Act) (called : List (List ℕ)) (planned : Log) → MayAct (Close p cause) planned → Doing (Close p cause ∷ more) progress.old called planned (W.told wires.old) → Doing more progress.new called (Closed p ∷ planned) (W.told wires.new)) }
+    ensures doing { OnOk result ((watch : List (List ℕ)) (more : List Act) (called : List (List ℕ)) (planned : Log) → MayAct watch (Close p cause) planned → Doing watch (Close p cause ∷ more) progress.old called planned (W.told wires.old) → Doing watch more progress.new called (Closed p ∷ planned) (W.told wires.new)) }
     ensures versions { (words : Words) → KeepsWords words (W.told wires.old) (W.told wires.new) }
     ensures performs { Performs (moment (W.told wires.old) (W.faults wires.old) (W.script wires.old) (W.keeps wires.old) progress.old) (moment (W.told wires.new) (W.faults wires.new) (W.script wires.new) (W.keeps wires.new) progress.new) }
 {
@@ -116,7 +117,7 @@ fn perform_one<W: Wires>(
 ) -> Result<(), NoMemory>
     requires doable { IsDoable act.now }
     requires step { IsInStep (W.told wires.old) progress.old }
-    ensures doing { OnOk result ((more : List Act) (called : List (List ℕ)) (planned : Log) → MayAct act.now planned → Doing (act.now ∷ more) progress.old called planned (W.told wires.old) → Doing more progress.new called (entry_of act.now ∷ planned) (W.told wires.new)) }
+    ensures doing { OnOk result ((watch : List (List ℕ)) (more : List Act) (called : List (List ℕ)) (planned : Log) → MayAct watch act.now planned → Doing watch (act.now ∷ more) progress.old called planned (W.told wires.old) → Doing watch more progress.new called (entry_of act.now ∷ planned) (W.told wires.new)) }
     ensures versions { (words : Words) → ActTells words act.now → KeepsWords words (W.told wires.old) (W.told wires.new) }
     ensures performs { Performs (moment (W.told wires.old) (W.faults wires.old) (W.script wires.old) (W.keeps wires.old) progress.old) (moment (W.told wires.new) (W.faults wires.new) (W.script wires.new) (W.keeps wires.new) progress.new) }
 {
@@ -141,7 +142,7 @@ fn perform<W: Wires>(
 ) -> Result<(), NoMemory>
     requires doable { All IsDoable acts.now }
     requires step { IsInStep (W.told wires.old) progress.old }
-    ensures doing { OnOk result ((called : List (List ℕ)) (planned : Log) → Allowed acts.now planned → Doing acts.now progress.old called planned (W.told wires.old) → Doing [] progress.new called (after acts.now planned) (W.told wires.new)) }
+    ensures doing { OnOk result ((watch : List (List ℕ)) (called : List (List ℕ)) (planned : Log) → Allowed watch acts.now planned → Doing watch acts.now progress.old called planned (W.told wires.old) → Doing watch [] progress.new called (after acts.now planned) (W.told wires.new)) }
     ensures versions { (words : Words) → All (ActTells words) acts.now → KeepsWords words (W.told wires.old) (W.told wires.new) }
     ensures performs { Performs (moment (W.told wires.old) (W.faults wires.old) (W.script wires.old) (W.keeps wires.old) progress.old) (moment (W.told wires.new) (W.faults wires.new) (W.script wires.new) (W.keeps wires.new) progress.new) }
 {
@@ -152,15 +153,15 @@ fn perform<W: Wires>(
 }
 
 // Tells the client of each failed send, the lowest number first, and does what it then wants, which begins with the peer's close.
-fn settle<W: Wires, H: HeaderStore>(
+fn settle<W: Wires, H: HeaderStore, M: Matcher>(
     alloc: Global,
     wires: &mut W,
-    client: &mut Client<H>,
+    client: &mut Client<H, M>,
     progress: &mut Progress,
 ) -> Result<(), NoMemory>
     requires step { IsInStep (W.told wires.old) progress.old }
-    ensures holds { OnOk result ((called : List (List ℕ)) (planned : Log) → Reflects client.old planned → Doing [] progress.old called planned (W.told wires.old) → HoldsOver client.new progress.new called (W.told wires.new)) }
-    ensures versions { (called : List (List ℕ)) (planned : Log) → Reflects client.old planned → Doing [] progress.old called planned (W.told wires.old) → KeepsWords (words_by client.old) (W.told wires.old) (W.told wires.new) }
+    ensures holds { OnOk result ((called : List (List ℕ)) (planned : Log) → Reflects client.old planned → Doing (watch_by client.old) [] progress.old called planned (W.told wires.old) → HoldsOver client.new progress.new called (W.told wires.new)) }
+    ensures versions { (called : List (List ℕ)) (planned : Log) → Reflects client.old planned → Doing (watch_by client.old) [] progress.old called planned (W.told wires.old) → KeepsWords (words_by client.old) (W.told wires.old) (W.told wires.new) }
     ensures count { OnOk result (count_of client.new ≡ count_of client.old) }
     ensures watch { OnOk result (watch_by client.new ≡ watch_by client.old) }
     ensures words { words_by client.new ≡ words_by client.old }
@@ -175,17 +176,17 @@ fn settle<W: Wires, H: HeaderStore>(
 }
 
 // Does what the client wants, and tells it of what failed.
-fn carry_out<W: Wires, H: HeaderStore>(
+fn carry_out<W: Wires, H: HeaderStore, M: Matcher>(
     alloc: Global,
     wires: &mut W,
-    client: &mut Client<H>,
+    client: &mut Client<H, M>,
     acts: &[Act],
     progress: &mut Progress,
 ) -> Result<(), NoMemory>
     requires doable { All IsDoable acts.now }
     requires step { IsInStep (W.told wires.old) progress.old }
-    ensures holds { OnOk result ((called : List (List ℕ)) (log : Log) → Answers client.old acts.now log → Doing acts.now progress.old called log (W.told wires.old) → HoldsOver client.new progress.new called (W.told wires.new)) }
-    ensures versions { (called : List (List ℕ)) (log : Log) → Answers client.old acts.now log → Doing acts.now progress.old called log (W.told wires.old) → All (ActTells (words_by client.old)) acts.now → KeepsWords (words_by client.old) (W.told wires.old) (W.told wires.new) }
+    ensures holds { OnOk result ((called : List (List ℕ)) (log : Log) → Answers client.old acts.now log → Doing (watch_by client.old) acts.now progress.old called log (W.told wires.old) → HoldsOver client.new progress.new called (W.told wires.new)) }
+    ensures versions { (called : List (List ℕ)) (log : Log) → Answers client.old acts.now log → Doing (watch_by client.old) acts.now progress.old called log (W.told wires.old) → All (ActTells (words_by client.old)) acts.now → KeepsWords (words_by client.old) (W.told wires.old) (W.told wires.new) }
     ensures count { OnOk result (count_of client.new ≡ count_of client.old) }
     ensures watch { OnOk result (watch_by client.new ≡ watch_by client.old) }
     ensures words { words_by client.new ≡ words_by client.old }
@@ -197,10 +198,10 @@ fn carry_out<W: Wires, H: HeaderStore>(
 }
 
 // Dials the next peer.
-fn dial_one<W: Wires, H: HeaderStore>(
+fn dial_one<W: Wires, H: HeaderStore, M: Matcher>(
     alloc: Global,
     wires: &mut W,
-    client: &mut Client<H>,
+    client: &mut Client<H, M>,
     progress: &mut Progress,
     name: &str,
 ) -> Result<(), NoMemory>
@@ -244,10 +245,10 @@ fn note_bytes(d: &Delivery)
 }
 
 // Takes one delivery, if something is open.
-fn take_turn<W: Wires, H: HeaderStore>(
+fn take_turn<W: Wires, H: HeaderStore, M: Matcher>(
     alloc: Global,
     wires: &mut W,
-    client: &mut Client<H>,
+    client: &mut Client<H, M>,
     progress: &mut Progress,
 ) -> Result<Option<End>, NoMemory>
     requires step { IsInStep (W.told wires.old) progress.old }
@@ -277,10 +278,10 @@ fn take_turn<W: Wires, H: HeaderStore>(
 }
 
 // Dials the names in order.
-fn dial_all<W: Wires, H: HeaderStore>(
+fn dial_all<W: Wires, H: HeaderStore, M: Matcher>(
     alloc: Global,
     wires: &mut W,
-    client: &mut Client<H>,
+    client: &mut Client<H, M>,
     progress: &mut Progress,
     names: &[String],
 ) -> Result<(), NoMemory>
@@ -307,7 +308,7 @@ fn dial_all<W: Wires, H: HeaderStore>(
 }
 
 // How a run ends once its turns are used up.
-fn last_end<H: HeaderStore>(client: &Client<H>) -> End
+fn last_end<H: HeaderStore, M: Matcher>(client: &Client<H, M>) -> End
     ensures end { (log : Log) → Reflects client.now log → IsEnd result log }
     ensures unended { result ≢ End.Ended }
 {
@@ -319,10 +320,10 @@ fn last_end<H: HeaderStore>(client: &Client<H>) -> End
 }
 
 // Takes turns until the run ends.
-fn take_turns<W: Wires, H: HeaderStore>(
+fn take_turns<W: Wires, H: HeaderStore, M: Matcher>(
     alloc: Global,
     wires: &mut W,
-    client: &mut Client<H>,
+    client: &mut Client<H, M>,
     progress: &mut Progress,
     turns: u32,
 ) -> Result<End, NoMemory>
@@ -350,8 +351,8 @@ fn take_turns<W: Wires, H: HeaderStore>(
 }
 
 // What came of a run that ended so.
-fn outcome_of<H: HeaderStore>(
-    client: &mut Client<H>,
+fn outcome_of<H: HeaderStore, M: Matcher>(
+    client: &mut Client<H, M>,
     progress: Progress,
     end: End,
 ) -> Result<Outcome, NoMemory>
@@ -373,12 +374,13 @@ fn outcome_of<H: HeaderStore>(
 }
 
 // Dials the peers and takes turns, and puts together what came of it.
-fn follow<W: Wires, H: HeaderStore + Drop>(
+fn follow<W: Wires, H: HeaderStore + Drop, M: Matcher + Drop>(
     alloc: Global,
     wires: &mut W,
     names: &[String],
     watch: Watch,
     store: H,
+    matcher: M,
     moment: i64,
     nonce: u64,
     turns: u32,
@@ -401,7 +403,7 @@ fn follow<W: Wires, H: HeaderStore + Drop>(
     ensures keeps { W.keeps wires.new ≡ W.keeps wires.old }
     ensures course { Course (W.told wires.old) (W.told wires.new) (W.faults wires.old) (W.faults wires.new) (W.script wires.old) (W.script wires.new) }
 {
-    let mut client = Client::new(alloc, watch, store, moment, nonce)?;
+    let mut client = Client::new(alloc, watch, store, matcher, moment, nonce)?;
     let mut progress = Progress::new(alloc);
     dial_all(alloc, wires, &mut client, &mut progress, names)?;
     let end = take_turns(alloc, wires, &mut client, &mut progress, turns)?;
@@ -409,15 +411,17 @@ fn follow<W: Wires, H: HeaderStore + Drop>(
     Ok(outcome)
 }
 
-/// Dials the peers in order, at most eight, follows the best chain that they show, and fetches its blocks, until nothing is open, no peer
-/// is left, the stated number of deliveries was taken, or the wires give no more. The wires are new: nothing has passed them, and they
-/// aren't finished. They are finished once, whatever is answered. In the store no peer is entered.
-pub fn sync_over<W: Wires, H: HeaderStore + Drop>(
+/// Dials the peers in order, at most eight, and follows the best chain that they show, until nothing is open, no peer is left, the stated number
+/// of deliveries was taken, or the wires give no more. Of its blocks those are fetched on whose filters the peers differ, or whose filter the
+/// matcher doesn't answer with a miss (BIP 157, "Client Operation"). The wires are new: nothing has passed them, and they aren't finished. They are
+/// finished once, whatever is answered. In the store no peer is entered.
+pub fn sync_over<W: Wires, H: HeaderStore + Drop, M: Matcher + Drop>(
     alloc: Global,
     wires: &mut W,
     names: &[String],
     watch: Watch,
     store: H,
+    matcher: M,
     moment: i64,
     nonce: u64,
     turns: u32,
@@ -443,7 +447,9 @@ pub fn sync_over<W: Wires, H: HeaderStore + Drop>(
     ensures course { Course (W.told wires.old) (W.told wires.new) (W.faults wires.old) (W.faults wires.new) (W.script wires.old) (W.script wires.new) }
     ensures failures { IfSome (W.told wires.new).log (λ log. HasFailed log → HasRisen (W.faults wires.old) (W.faults wires.new)) }
 {
-    let outcome = follow(alloc, wires, names, watch, store, moment, nonce, turns);
+    let outcome = follow(
+        alloc, wires, names, watch, store, matcher, moment, nonce, turns,
+    );
     wires.finish();
     outcome
 }

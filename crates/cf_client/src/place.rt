@@ -86,7 +86,7 @@ impl Place {
         }
     }
 
-    /// Whether a block is open to a connected peer.
+    /// Whether filters or a block are open to a connected peer.
     pub fn is_fetching(&self) -> bool
         ensures { result ≡ is_fetching_at self.now }
     {

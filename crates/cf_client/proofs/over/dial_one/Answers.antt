@@ -4,7 +4,7 @@ use Rattle.cf_peer.specs.declared.event.Event.TheVariants.{Dialled}
 use Rattle.cf_peer.specs.declared.event.Event.TheVariants.{NotDialled}
 use Rattle.cf_client.specs.Stands.{Answers, words_by}
 use Rattle.cf_client.proofs.Versions.{entry_keeps, same_keeps, greeting_tells, acts_tell_so, keeps_then}
-use Rattle.cf_client.proofs.Turns.{dial_doing}
+use Rattle.cf_client.proofs.Turns.{dial_doing, doing_watch}
 use Rattle.cf_client.proofs.over.dial_one.Goals as goal
 
 pub returns-in_ok-carry_out-in-Ok-clause-holds : goal.returns-in_ok-carry_out-in-Ok-clause-holds
@@ -16,7 +16,7 @@ returns-in_ok-carry_out-in-Ok-clause-holds g c = λ called holds.
     let a = c.in_ok-acts-in-Ok.ensures.answers holds.actual holds.reflects in
     c.in_ok-carry_out-in-Ok.ensures.holds (called ++ name ∷ []) log
     (subst (λ (acts : List Act). Answers c.dialled.new.self acts log) (sym c.deref.ensures.value) a)
-    (rw c.in-Ok.ensures.dialled.1 d)
+    (doing_watch c.in_ok-acts-in-Ok.ensures.watch (rw c.in-Ok.ensures.dialled.1 d))
 
 pub returns-in_ok-carry_out-in-Ok-clause-versions : goal.returns-in_ok-carry_out-in-Ok-clause-versions
 returns-in_ok-carry_out-in-Ok-clause-versions g c = λ called holds.
@@ -30,7 +30,7 @@ returns-in_ok-carry_out-in-Ok-clause-versions g c = λ called holds.
     (entry_keeps (words_by c.args.client.now) (Dialled p name) _ _ c.in-Ok.ensures.dialled.1 tt)
     (c.in_ok-carry_out-in-Ok.ensures.versions (called ++ name ∷ []) log
     (subst (λ (acts : List Act). Answers c.dialled.new.self acts log) (sym c.deref.ensures.value) a)
-    (rw c.in-Ok.ensures.dialled.1 d)
+    (doing_watch c.in_ok-acts-in-Ok.ensures.watch (rw c.in-Ok.ensures.dialled.1 d))
     (acts_tell_so _ _ c.in_ok-acts-in-Ok.acts.items _ (sym c.in_ok-acts-in-Ok.ensures.words) c.deref.ensures.value tells))
 
 pub returns-in_err-carry_out-in-Ok-clause-versions : goal.returns-in_err-carry_out-in-Ok-clause-versions
@@ -45,7 +45,7 @@ returns-in_err-carry_out-in-Ok-clause-versions g c = λ called holds.
     (entry_keeps (words_by c.args.client.now) (Dialled p name) _ _ c.in-Ok.ensures.dialled.1 tt)
     (c.in_err-carry_out-in-Ok.ensures.versions (called ++ name ∷ []) log
     (subst (λ (acts : List Act). Answers c.dialled.new.self acts log) (sym c.deref.ensures.value) a)
-    (rw c.in-Ok.ensures.dialled.1 d)
+    (doing_watch c.in_ok-acts-in-Ok.ensures.watch (rw c.in-Ok.ensures.dialled.1 d))
     (acts_tell_so _ _ c.in_ok-acts-in-Ok.acts.items _ (sym c.in_ok-acts-in-Ok.ensures.words) c.deref.ensures.value tells))
 
 pub returns-in_err-acts-in-Ok-clause-versions : goal.returns-in_err-acts-in-Ok-clause-versions

@@ -7,6 +7,8 @@ use Rattle.cf_client.specs.declared.progress.SendState.TheVariants.{Known}
 use Rattle.cf_client.specs.Places.{Allowed, after}
 use Rattle.cf_client.specs.Run.{Doing}
 use Rattle.cf_client.proofs.Courses.{noted_performs, performs_then}
+use Rattle.cf_client.specs.Stands.{watch_by}
+use Rattle.cf_client.proofs.Turns.{doing_watch}
 use Rattle.cf_client.proofs.Performs.{cut_for, told_one, all_told, in_use}
 use Rattle.cf_client.specs.Stands.{words_by}
 use Rattle.cf_client.proofs.Versions.{acts_tell_so}
@@ -22,17 +24,17 @@ loop-p-preserved g c = record {
       let used = in_use [] c.loop-p.progress called w.planned (g.W.Wires.told c.loop-p.wires) p.0 c.in-Some.ensures.some.1 w.doing in
       let a = c.in_ok-acts.ensures.answers w.planned next (omega (arith, used, w.reflects.places.count)) w.reflects (cut_for p w.planned) in
       let first = c.in_ok-acts.ensures.first (omega (arith, used, w.reflects.places.count)) in
-      let told = told_one first.0 c.loop-p.progress called w.planned (g.W.Wires.told c.loop-p.wires) p SendFault lt c.in-Some.ensures.some.1 w.doing in
-      let begun = subst (λ (acts : List Act). Doing acts (record c.loop-p.progress { sends = set c.loop-p.progress.sends p.0 Known }) called next (g.W.Wires.told c.loop-p.wires)) (sym first.1 ∙ sym c.deref.ensures.value) told in
-      let noted =
-      subst (λ (x : Progress). Doing c.deref.result.now x called next (g.W.Wires.told c.loop-p.wires)) {x = record c.loop-p.progress { sends = set c.loop-p.progress.sends c.in-Some.p.0 Known }}
-      (sym c.note_told.ensures.told) begun in
-      let allowed = subst (λ (acts : List Act). Allowed acts next) (sym c.deref.ensures.value) a.allowed in
-      let done = c.in_ok-perform.ensures.doing called next allowed noted in
+      let told = told_one {watch = watch_by c.loop-p.client} first.0 c.loop-p.progress called w.planned (g.W.Wires.told c.loop-p.wires) p SendFault lt c.in-Some.ensures.some.1 w.doing in
+      let watch = watch_by c.loop-p.client in
+      let begun = subst (λ (acts : List Act). Doing watch acts (record c.loop-p.progress { sends = set c.loop-p.progress.sends p.0 Known }) called next (g.W.Wires.told c.loop-p.wires)) (sym first.1 ∙ sym c.deref.ensures.value) told in
+      let noted = subst (λ (x : Progress). Doing watch c.deref.result.now x called next (g.W.Wires.told c.loop-p.wires)) {x = record c.loop-p.progress { sends = set c.loop-p.progress.sends c.in-Some.p.0 Known }} (sym c.note_told.ensures.told) begun in
+      let same = c.in_ok-acts.ensures.watch in
+      let allowed = subst (λ (acts : List Act). Allowed (watch_by c.send_failed.new.self) acts next) (sym c.deref.ensures.value) a.allowed in
+      let done = c.in_ok-perform.ensures.doing (watch_by c.send_failed.new.self) called next allowed (doing_watch same noted) in
       record {
         planned = after c.in_ok-acts.acts.items next;
         reflects = a.stand;
-        doing = subst (λ (acts : List Act). Doing [] c.perform.new.progress called (after acts next) (g.W.Wires.told c.perform.new.wires)) c.deref.ensures.value done;
+        doing = subst (λ (acts : List Act). Doing (watch_by c.send_failed.new.self) [] c.perform.new.progress called (after acts next) (g.W.Wires.told c.perform.new.wires)) c.deref.ensures.value done;
       };
   versions = λ called planned reflects doing has.
       let p = c.in-Some.p in

@@ -7,9 +7,9 @@ use Rattle.cf_client.proofs.over.settle.Given as goal
 
 abbrev pub invariant-loop-p : goal.invariant-loop-p
 invariant-loop-p g l = record {
-  waits : (called : List (List ℕ)) (planned : Log) → Reflects l.fn.client planned → Doing [] l.fn.progress called planned (g.W.Wires.told l.fn.wires)
+  waits : (called : List (List ℕ)) (planned : Log) → Reflects l.fn.client planned → Doing (watch_by l.fn.client) [] l.fn.progress called planned (g.W.Wires.told l.fn.wires)
       → Waits l.client l.progress called (g.W.Wires.told l.wires);
-  versions : (called : List (List ℕ)) (planned : Log) → Reflects l.fn.client planned → Doing [] l.fn.progress called planned (g.W.Wires.told l.fn.wires)
+  versions : (called : List (List ℕ)) (planned : Log) → Reflects l.fn.client planned → Doing (watch_by l.fn.client) [] l.fn.progress called planned (g.W.Wires.told l.fn.wires)
       → KeepsWords (words_by l.fn.client) (g.W.Wires.told l.fn.wires) (g.W.Wires.told l.wires);
   count : count_of l.client ≡ count_of l.fn.client;
   watch : watch_by l.client ≡ watch_by l.fn.client;

@@ -1,11 +1,16 @@
-use Rattle.std.proofs.Common.{[], ◌∷◌, Some, refl}
+use Rattle.std.proofs.Common.{[], ◌∷◌, refl, arith}
+use Rattle.std.proofs.Math.Logic.{∥∥₁_map}
 use Rattle.cf_peer.specs.declared.event.Event.TheVariants.{Dialled}
 use Rattle.cf_peer.specs.Acts.{bytes_of}
-use Rattle.cf_client.specs.Tracks.{seen_of}
+use Rattle.cf_hear.specs.Seen.{seen_of}
 use Rattle.cf_client.proofs.Standing.{called_goes}
-use Rattle.cf_client.proofs.Tracking.{tracks_dialled, tracks_sent}
-use Rattle.cf_client.proofs.Settled.{settled_called}
-use Rattle.cf_client.proofs.Acting.{put_is}
+use Rattle.cf_hear.proofs.Tracking.{tracks_dialled, tracks_sent, put_entered, none_claimed}
+use Rattle.cf_tracker.specs.Tracker.{claims_of}
+use Rattle.cf_peer.specs.Peer.{called_peer}
+use Rattle.cf_client.specs.declared.place.Place.TheVariants.{Here}
+use Rattle.cf_client.proofs.Settled.{settled_called, off_past}
+use Rattle.cf_client.proofs.Standing.{here_on, past_nobody}
+use Rattle.cf_client.proofs.Rights.{right_push}
 use Rattle.cf_client.proofs.client.Client.dialled.Goals as goal
 
 pub invariant_of-self-2-clause-settled : goal.invariant_of-self-2-clause-settled
@@ -13,8 +18,14 @@ invariant_of-self-2-clause-settled g c = λ alive.
     let before = seen_of c.args.self.now.tracker in
     let now = seen_of c.enter.new.self in
     rw (c.in_ok-push-2.ensures.items, c.called.ensures)
-    (settled_called c.args.self.now.places.items before now c.args.p.0 c.requires.next
-    (put_is before now c.args.p (Some []) c.in_ok-enter.ensures.ok c.in_ok-enter.ensures.table c.in_ok-enter.ensures.watch) (c.args.self.now.settled c.if-self.false))
+    (settled_called c.args.self.now.places.items before now c.args.p c.requires.next
+    (record { chains = c.in_ok-enter.ensures.ok; claims = c.in_ok-enter.ensures.claims; table = c.in_ok-enter.ensures.table; verdicts = c.in_ok-enter.ensures.verdicts }) (c.args.self.now.settled c.if-self.false))
+
+pub invariant_of-self-2-clause-right : goal.invariant_of-self-2-clause-right
+invariant_of-self-2-clause-right g c = λ alive.
+    rw (c.in_ok-push-2.ensures.items, c.called.ensures)
+    (∥∥₁_map (c.args.self.now.right c.if-self.false)
+    (right_push c.args.self.now.places.items (claims_of c.args.self.now.tracker) (claims_of c.enter.new.self) (Here called_peer) c.in_ok-enter.ensures.claims tt))
 
 pub returns-clause-answers : goal.returns-clause-answers
 returns-clause-answers g c = λ log reflects.
@@ -22,7 +33,9 @@ returns-clause-answers g c = λ log reflects.
     let now = seen_of c.enter.new.self in
     let m = c.in_ok-greeting.field-0 in
     let goes = called_goes c.args.self.now.places.items log c.args.p c.args.name.now m c.requires.next reflects.places c.in_ok-greeting.ensures.greeting in
-    let put = put_is before now c.args.p (Some []) c.in_ok-enter.ensures.ok c.in_ok-enter.ensures.table c.in_ok-enter.ensures.watch in
+    let off = past_nobody c.args.self.now.places.items log c.args.p.0 (omega (arith, c.requires.next)) reflects.places in
+    let put = put_entered before now c.args.p c.in_ok-enter.ensures.ok c.in_ok-enter.ensures.table c.in_ok-enter.ensures.claims c.in_ok-enter.ensures.verdicts c.in_ok-enter.ensures.watch
+    (none_claimed before log c.args.p.0 off reflects.tracks) in
     let tracks = tracks_sent now c.args.p (bytes_of m) (Dialled c.args.p c.args.name.now ∷ log) (tracks_dialled before now c.args.p c.args.name.now log put reflects.tracks) in
     record {
       stand = record {

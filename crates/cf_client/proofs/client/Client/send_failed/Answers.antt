@@ -2,11 +2,38 @@ use Rattle.std.proofs.Common.{◌<◌, List, length, refl, sym, subst, ap, arith
 use Rattle.std.proofs.lemmas.List.{with_items_is}
 use Rattle.cf_client.specs.declared.place.Place.{Place}
 use Rattle.cf_client.specs.Places.{PlacesStand, after}
-use Rattle.cf_client.specs.Tracks.{seen_of}
+use Rattle.cf_hear.specs.Seen.{seen_of}
 use Rattle.cf_client.specs.Stands.{words_by}
-use Rattle.cf_client.proofs.Steps.{stands_start}
+use Rattle.cf_tracker.specs.Tracker.{claims_of, watch_of}
+use Rattle.cf_client.specs.Settled.{AreSettled, AreRight}
+use Rattle.cf_client.proofs.Steps.{in_order, stands_start}
 use Rattle.cf_client.proofs.Greeting.{reflects_cut, acts_tell}
 use Rattle.cf_client.proofs.client.Client.send_failed.Goals as goal
+
+pub cut_off-requires-clause-order : goal.cut_off-requires-clause-order
+cut_off-requires-clause-order g c =
+    let kept = c.args.self.now.places in
+    let seen = seen_of c.args.self.now.tracker in
+    let same = sym c.as_mut_slice-places.ensures.value in
+    in_order c.as_mut_slice-places.result.now seen c.new-acts.result.items
+    (omega (arith, c.args.self.now.few, kept.ok.0, ap (λ (places : List Place). length places) c.as_mut_slice-places.ensures.value))
+    (subst (λ (places : List Place). AreSettled places seen) same (c.args.self.now.settled c.if-self.false))
+    (subst (λ (places : List Place). ∥ AreRight places (claims_of c.args.self.now.tracker) ∥₁) same (c.args.self.now.right c.if-self.false))
+
+pub invariant_of-self-2-clause-settled : goal.invariant_of-self-2-clause-settled
+invariant_of-self-2-clause-settled g c = λ alive.
+    let kept = c.args.self.now.places in
+    let whole = with_items_is kept c.ask_all.new.places
+    (omega (arith, c.ask_all.auto.places, c.cut_off.auto.places, c.as_mut_slice-places.ensures.len, ap (λ (places : List Place). length places) c.as_mut_slice-places.ensures.value, kept.ok.0)) in
+    let asked = c.in_ok-ask_all.ensures in
+    subst (λ (places : List Place). AreSettled places (seen_of c.ask_all.new.tracker)) (sym whole) (record { each = asked.settled; through = asked.through; entered = asked.moves.order.entered })
+
+pub invariant_of-self-2-clause-right : goal.invariant_of-self-2-clause-right
+invariant_of-self-2-clause-right g c = λ alive.
+    let kept = c.args.self.now.places in
+    let whole = with_items_is kept c.ask_all.new.places
+    (omega (arith, c.ask_all.auto.places, c.cut_off.auto.places, c.as_mut_slice-places.ensures.len, ap (λ (places : List Place). length places) c.as_mut_slice-places.ensures.value, kept.ok.0)) in
+    subst (λ (places : List Place). ∥ AreRight places (claims_of c.ask_all.new.tracker) ∥₁) (sym whole) ∣ c.in_ok-ask_all.ensures.moves.order.right ∣₁
 
 pub returns-clause-answers : goal.returns-clause-answers
 returns-clause-answers g c = λ log cut lt reflects is.
@@ -28,4 +55,4 @@ returns-clause-answers g c = λ log cut lt reflects is.
 
 pub returns-clause-tells : goal.returns-clause-tells
 returns-clause-tells g c = λ log cut lt reflects is.
-    acts_tell (words_by c.args.self.now) c.ask_all.new.acts.items cut (reflects_cut c.args.self.now c.args.p log cut is reflects) (returns-clause-answers g c log cut lt reflects is).allowed
+    acts_tell (watch_of c.ask_all.new.tracker) (words_by c.args.self.now) c.ask_all.new.acts.items cut (reflects_cut c.args.self.now c.args.p log cut is reflects) (returns-clause-answers g c log cut lt reflects is).allowed

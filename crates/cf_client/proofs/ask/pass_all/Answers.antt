@@ -1,0 +1,39 @@
+use Rattle.std.proofs.Common.{◌≡◌, ◌≢◌, inl, inr, ℕ, ◌<◌, length, get_or, sym, ◌∙◌, ap, subst, arith}
+use Rattle.std.specs.Prelude.{slice_set}
+use Rattle.std.proofs.lemmas.Bool.{cases_eq}
+use Rattle.cf_peer.specs.Trail.{Part, Passed, with_item}
+use Rattle.cf_client.specs.declared.place.Place.{Place}
+use Rattle.cf_client.specs.Places.{Fits, is_here, nobody, place_at}
+use Rattle.cf_client.specs.Settled.{IsRightAt}
+use Rattle.cf_client.proofs.Settled.{set_other}
+use Rattle.cf_client.proofs.Standing.{any_default, set_is}
+use Rattle.cf_client.proofs.ask.pass_all.Goals as goal
+
+pub loop-place-preserved : goal.loop-place-preserved
+loop-place-preserved c =
+    let i = c.loop-place.place-index in
+    let places = c.loop-place.places in
+    let new = c.pass_at.new.place in
+    let lt : i < length places = omega arith in
+    let here = set_is places i new lt in
+    let item : place_at c.args.places.now i ≡ get_or places i c.place-item.result = sym (any_default places i c.place-item.result nobody lt ∙ c.loop-place.invariant.left i (omega arith)) in
+    record {
+      done = λ p lt1 part fits. elim (cases_eq p i) [
+        | inl e ↦ subst (λ (x : Place). Fits x (with_item (Passed c.args.seconds) part)) (sym (ap (λ (k : ℕ). place_at (slice_set places i new) k) e ∙ here))
+            (c.pass_at.ensures.fits part (subst (λ (x : Place). Fits x part) (ap (place_at c.args.places.now) e ∙ item) fits))
+        | inr ne ↦ subst (λ (x : Place). Fits x (with_item (Passed c.args.seconds) part)) (sym (set_other places i p new ne)) (c.loop-place.invariant.done p (omega (arith, lt1, ne)) part fits)
+      ];
+      here = λ p. elim (cases_eq p i) [
+        | inl e ↦ ap is_here (ap (λ (k : ℕ). place_at (slice_set places i new) k) e ∙ here) ∙ c.pass_at.ensures.here ∙ sym (ap is_here (ap (place_at c.args.places.now) e ∙ item))
+        | inr ne ↦ ap is_here (set_other places i p new ne) ∙ c.loop-place.invariant.here p
+      ];
+      right = λ p table right. elim (cases_eq p i) [
+        | inl e ↦ subst (λ (x : Place). IsRightAt x table) (sym (ap (λ (k : ℕ). place_at (slice_set places i new) k) e ∙ here))
+            (c.pass_at.ensures.right table (subst (λ (x : Place). IsRightAt x table) (ap (place_at c.args.places.now) e ∙ item) right))
+        | inr ne ↦ subst (λ (x : Place). IsRightAt x table) (sym (set_other places i p new ne)) (c.loop-place.invariant.right p table right)
+      ];
+      left = λ p le. let ne : p ≢ i = λ e. absurd (omega (arith, le, e)) in set_other places i p new ne ∙ c.loop-place.invariant.left p (omega (arith, le));
+    }
+
+pub returns-clause-right : goal.returns-clause-right
+returns-clause-right c = λ tables right p. c.loop-place.invariant.right p (tables p) (right p)

@@ -1,0 +1,23 @@
+use Rattle.std.proofs.Common.{◌≡◌, List, [], ◌∷◌, ◌++◌, sym, ◌∙◌, ap, subst}
+use Rattle.cf_dispute.proofs.Genesis.{first_header_is}
+use Rattle.cf_hear.specs.Seen.{seen_of}
+use Rattle.cf_tracker.specs.Tracker.{claims_of}
+use Rattle.cf_client.specs.declared.place.Place.{Place}
+use Rattle.cf_client.specs.Places.{nobody}
+use Rattle.cf_client.specs.Settled.{AreSettled, AreRight}
+use Rattle.cf_client.proofs.Settled.{settled_first}
+use Rattle.cf_client.proofs.Rights.{right_first}
+use Rattle.cf_client.proofs.client.Client.new.Goals as goal
+
+pub new-requires-clause-first : goal.new-requires-clause-first
+new-requires-clause-first g c = sym first_header_is
+
+pub invariant_of-result-clause-settled : goal.invariant_of-result-clause-settled
+invariant_of-result-clause-settled g c = λ alive.
+    let one = c.in_ok-push.ensures.items ∙ ap (λ (places : List Place). places ++ nobody ∷ []) c.new-places.ensures.items in
+    subst (λ (places : List Place). AreSettled places (seen_of c.in_ok-tracker.tracker)) (sym one) (settled_first (seen_of c.in_ok-tracker.tracker) c.in_ok-tracker.ensures.chains)
+
+pub invariant_of-result-clause-right : goal.invariant_of-result-clause-right
+invariant_of-result-clause-right g c = λ alive.
+    let one = c.in_ok-push.ensures.items ∙ ap (λ (places : List Place). places ++ nobody ∷ []) c.new-places.ensures.items in
+    subst (λ (places : List Place). ∥ AreRight places (claims_of c.in_ok-tracker.tracker) ∥₁) (sym one) ∣ right_first (claims_of c.in_ok-tracker.tracker) ∣₁

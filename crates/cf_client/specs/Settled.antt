@@ -1,0 +1,54 @@
+-- What is true of a client's places and of what it has seen between two calls.
+use Rattle.std.specs.Prelude.{◌≡◌, ◌≤◌, ℕ, true, false, Bool, List, [], is_some, unwrap_or, Some}
+use Rattle.std.specs.List.{list_any}
+use Rattle.cf_bytes.specs.declared.peer.PeerNo.{PeerNo}
+use Rattle.cf_dispute.specs.Claims.{Table, Tables}
+use Rattle.cf_headers.specs.Chain.{Chain}
+use Rattle.cf_headers.specs.Heights.{hash_at, common_of}
+use Rattle.cf_headers.specs.Store.{IsBest}
+use Rattle.cf_hear.specs.Seen.{Seen}
+use Rattle.cf_match.specs.Verdicts.{Verdicts}
+use Rattle.cf_peer.specs.Peer.{IsRight}
+use Rattle.cf_tracker.specs.Tables as extracts
+use Rattle.cf_tracker.specs.Wanting.{IsAbove, IsUnjudged, IsToFetch, AreClaimed}
+use Rattle.cf_client.specs.declared.place.Place.{Place}
+use Rattle.cf_client.specs.declared.place.Place.TheVariants.{Here, Lost}
+use Rattle.cf_client.specs.Places.{place_at, is_here, is_idle, is_fetching_at, is_settled}
+
+-- the peers that are connected are those that are tracked
+abbrev pub AreEntered : List Place → Seen → Type 0
+AreEntered places s = (p : ℕ) → is_here (place_at places p) ≡ is_some (s.chains p)
+
+-- what is open to a connected peer agrees with what it claims
+abbrev pub IsRightAt : Place → Table → Type 0
+IsRightAt (Here peer) table = IsRight peer.request table
+IsRightAt (Lost loss) table = Unit {0}
+
+abbrev pub AreRight : List Place → Tables → Type 0
+AreRight places tables = (p : ℕ) → IsRightAt (place_at places p) (tables p)
+
+-- a peer's chain, genesis's where it isn't tracked
+abbrev pub chain_at : Seen → ℕ → Chain
+chain_at s p = unwrap_or (s.chains p) []
+
+-- Of the blocks of a peer's chain up to a height, but for one with genesis's hash: it claims each; and where nothing is being fetched, no filter is to
+-- be asked for and no block.
+pub record IsThrough (extracts : extracts.Table) (tables : Tables) (verdicts : Verdicts) (p : ℕ) (own : Chain) (common : ℕ) (fetching : Bool) : Type 0 where
+  pub claimed : AreClaimed tables p own common
+  pub judged : fetching ≡ false → (h : ℕ) → 1 ≤ h → h ≤ common → IsAbove (hash_at own h) → IsUnjudged extracts tables verdicts (hash_at own h) → ⊥
+  pub fetched : fetching ≡ false → (h : ℕ) → 1 ≤ h → h ≤ common → IsAbove (hash_at own h) → IsToFetch extracts tables verdicts (hash_at own h) → ⊥
+
+-- a peer with nothing open has nothing left to be asked about what it shares with the best chain
+abbrev pub IsAskedThrough : Place → Bool → Seen → ℕ → Type 0
+IsAskedThrough place fetching s p =
+    is_idle place ≡ true → (best : PeerNo) → IsBest s.chains (Some best) → IsThrough s.table s.claims s.verdicts p (chain_at s p) (common_of (chain_at s p) (chain_at s best.0)) fetching
+
+-- so it is with each of them; while filters or a block are open to anybody no others are asked for
+abbrev pub AreAskedThrough : List Place → Seen → Type 0
+AreAskedThrough places s = (p : ℕ) → IsAskedThrough (place_at places p) (list_any is_fetching_at places) s p
+
+-- between two calls of the client: nobody's request is late, nobody is left to ask, and it tracks the connected peers
+pub record AreSettled (places : List Place) (s : Seen) : Type 0 where
+  pub each : (p : ℕ) → is_settled (place_at places p) ≡ true
+  pub through : AreAskedThrough places s
+  pub entered : AreEntered places s
