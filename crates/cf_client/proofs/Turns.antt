@@ -340,6 +340,12 @@ somebody EndedFirst log why =
     let busy = why.1.1 in
     inl (busy.0, subst (λ (l : Log). connected (trail l busy.0) ≡ true) (sym why.1.0) (open_on (trail why.0 busy.0) busy.1))
 
+-- a client that is the same tells the same
+pub report_same : {H M : Type 0} {g : Ghosts H} (c d : Client H M g) (height : ℕ) (hash : Hash32) (entries : List Entry) → d ≡ c → ((log : Log) → Reflects d log → IsReportOf (watch_by d) height hash entries log)
+    → (log : Log) → Reflects c log → IsReportOf (watch_by c) height hash entries log
+report_same {H = H} {M = M} {g = g} c d height hash entries same told =
+    subst (λ (x : Client H M g). (log : Log) → Reflects x log → IsReportOf (watch_by x) height hash entries log) same told
+
 -- what a run that stopped has done
 pub finishes : {H M : Type 0} {g : Ghosts H} (end : End) (c : Client H M g) (progress : Progress) (called : List (List ℕ)) (t : Told) (height : ℕ) (hash : Hash32) (entries : List Entry)
     → Stopped end c progress called t → ((log : Log) → Reflects c log → IsReportOf (watch_by c) height hash entries log)
