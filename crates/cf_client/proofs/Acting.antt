@@ -1,5 +1,5 @@
 -- One act of the client of itself: what it does to the places, to what was seen and to the log.
-use Rattle.std.proofs.Common.{◌≡◌, ℕ, ◌<◌, ◌≤◌, if◌then◌else◌, List, [], ◌∷◌, ◌++◌, length, get_or, set, Option, Some, None, Bool, true, false, refl, sym, ◌∙◌, ap, subst, arith}
+use Rattle.std.proofs.Common.{◌≡◌, ℕ, ◌<◌, ◌≤◌, if◌then◌else◌, List, [], ◌∷◌, ◌++◌, length, get_or, set, Option, Some, None, Bool, true, false, refl, sym, ◌∙◌, ap, subst}
 use Rattle.std.proofs.Math.Path.{fun_ext}
 use Rattle.std.specs.Prelude.{not, unwrap_or}
 use Rattle.std.specs.List.{list_any}
@@ -7,7 +7,7 @@ use Rattle.std.proofs.lemmas.Bool.{not-true}
 use Rattle.cf_bytes.specs.declared.hash.Hash32.{Hash32}
 use Rattle.cf_bytes.specs.declared.peer.PeerNo.{PeerNo}
 use Rattle.cf_dispute.specs.Claims.{Tables, no_claims}
-use Rattle.cf_headers.specs.Chain.{Hash, Chain, back_to}
+use Rattle.cf_headers.specs.Chain.{Chain, back_to}
 use Rattle.cf_headers.specs.Store.{Chains, Stays}
 use Rattle.cf_match.specs.Verdicts.{Verdicts, AreSameVerdicts}
 use Rattle.cf_msg.specs.declared.msg.Entry.{Entry}
@@ -19,9 +19,8 @@ use Rattle.cf_peer.specs.declared.peer.Cause.{Cause}
 use Rattle.cf_peer.specs.declared.peer.Peer.{Peer}
 use Rattle.cf_peer.specs.declared.peer.Range.{Range}
 use Rattle.cf_peer.specs.Acts.{bytes_of, IsSendable}
-use Rattle.cf_peer.specs.Asking.{block_entry}
 use Rattle.cf_peer.specs.Log.{Log}
-use Rattle.cf_peer.specs.Trail.{Part, part_of, trail, connected, own, with_item, Asked}
+use Rattle.cf_peer.specs.Trail.{part_of, trail, connected, own, Asked}
 use Rattle.cf_peer.specs.Peer.{Holds, wants, is_idle_peer, asked_for_headers, asked_for_claims, asked_for_filters, asked_for_block}
 use Rattle.cf_peer.proofs.Peers.{asked_claims_holds, asked_filters_holds, asked_block_holds}
 use Rattle.cf_sync.specs.Fetching.{MaySend, IsNeeded}
@@ -36,7 +35,7 @@ use Rattle.cf_hear.proofs.Tracking.{tracks_sent, tracks_closed}
 use Rattle.cf_hear.proofs.Wishes.{claims_send, filters_send, block_send}
 use Rattle.cf_client.specs.declared.place.Place.{Place}
 use Rattle.cf_client.specs.declared.place.Place.TheVariants.{Here}
-use Rattle.cf_client.specs.Places.{Keeps, Fits, nobody, after as done, AsksFor, Goes, is_fetching_at, IsQuestion}
+use Rattle.cf_client.specs.Places.{Keeps, nobody, after as done, AsksFor, Goes, is_fetching_at, IsQuestion}
 use Rattle.cf_client.specs.Settled.{chain_at}
 use Rattle.cf_client.proofs.Standing.{after-append, wants_goes, send_goes, keeps_at, asked_keeps, idle_free, none_open}
 

@@ -1,6 +1,6 @@
 -- How the planned log and the actual one go on when acts are done.
 use Rattle.std.proofs.Common.{◌≡◌, ◌≢◌, inl, inr, ℕ, suc, ◌+◌, ◌<◌, ◌≤◌, List, [], ◌∷◌, ◌++◌, length, get_or, set, drop, reverse, add-one, Option, Some, None, Bool, true, false, refl, sym, ◌∙◌, ap, subst, arith, Vec, if◌then◌else◌}
-use Rattle.std.specs.Prelude.{◌||◌, ◌&&◌, ◌==◌, not, IfSome}
+use Rattle.std.specs.Prelude.{◌||◌, ◌==◌, IfSome}
 use Rattle.std.specs.List.{list_any}
 use Rattle.std.specs.declared.alloc.Global.{Global}
 use Rattle.std.proofs.lemmas.Grind.{common_steps}
@@ -26,7 +26,7 @@ use Rattle.cf_headers.specs.declared.store.HeaderStore.{Ghosts}
 use Rattle.cf_sync.specs.Fetching.{IsNoneFetching, IsAlone, counted_part}
 use Rattle.cf_sync.specs.Kept.{claims_kept}
 use Rattle.cf_sync.proofs.VerdictsGrow.{same_given}
-use Rattle.cf_sync.specs.Planned.{is_untold, before_failure, IsMeant, Alike, IsPlanned}
+use Rattle.cf_sync.specs.Planned.{is_untold, before_failure, IsMeant, Alike}
 use Rattle.cf_sync.proofs.Planning.{planned_part}
 use Rattle.cf_hear.specs.Tracks.{chain_kept}
 use Rattle.cf_client.specs.declared.client.Client.{Client}
@@ -39,7 +39,7 @@ use Rattle.cf_client.specs.declared.trace.TraceLine.{TraceLine}
 use Rattle.cf_client.specs.declared.trace.TraceLine.TheVariants.{Sent as SentLine, Closed as ClosedLine}
 use Rattle.cf_client.specs.Places.{entry_of, MayAct, CutFor, Fits}
 use Rattle.cf_client.specs.Stands.{Reflects, watch_by}
-use Rattle.cf_client.specs.Run.{IsBroken, Doing, ActsLeft, HoldsOver, closes, is_due, state_at, is_pending, is_fine, IsTraceOf}
+use Rattle.cf_client.specs.Run.{Doing, ActsLeft, HoldsOver, closes, state_at, is_pending, is_fine, IsTraceOf}
 use Rattle.cf_sync.proofs.SameFetched.{same_wanted, same_holds}
 use Rattle.cf_client.proofs.Losing.{lost_failed}
 use Rattle.cf_client.proofs.Spelled.{spelled_bytes}

@@ -1,6 +1,6 @@
 -- What the client tells of a log.
 use Rattle.std.proofs.Common.{◌≡◌, ◌≢◌, inl, inr, ℕ, ◌+◌, ◌≤◌, List, [], length, map, drop, get_or, length-drop, Option, Some, None, Bool, true, false, if◌then◌else◌, refl, sym, ◌∙◌, ap, subst, arith}
-use Rattle.std.specs.Prelude.{not, unwrap_or}
+use Rattle.std.specs.Prelude.{unwrap_or}
 use Rattle.std.specs.Option.{IsSome}
 use Rattle.std.specs.List.{list_any}
 use Rattle.std.proofs.lemmas.Bool.{cases_Bool, both_ways, false≢true, not-false}
@@ -9,7 +9,7 @@ use Rattle.std.proofs.lemmas.Option.{none-some, same_Some}
 use Rattle.std.proofs.Math.ListN.{get_or-map}
 use Rattle.std.proofs.lemmas.List.{length-map}
 use Rattle.cf_bytes.specs.declared.hash.Hash32.{Hash32}
-use Rattle.cf_headers.specs.Chain.{Hash, Chain, tip_hash, IsIn}
+use Rattle.cf_headers.specs.Chain.{Hash, Chain, tip_hash}
 use Rattle.cf_headers.specs.Heights.{hash_at, common_of}
 use Rattle.cf_headers.specs.Store.{rank}
 use Rattle.cf_headers.proofs.Commons.{common_own}
@@ -17,8 +17,8 @@ use Rattle.cf_headers.proofs.Locators.{hash_stands}
 use Rattle.cf_peer.specs.declared.peer.Peer.{Peer}
 use Rattle.cf_peer.specs.Log.{Log}
 use Rattle.cf_peer.specs.Trail.{Trail, Part, part_of, trail, connected, ready, own}
-use Rattle.cf_peer.specs.Asking.{request, is_open, is_spare, claims, hashes_of, SameUse}
-use Rattle.cf_peer.specs.Peer.{Holds, busy, wants, is_idle_peer, is_ready_peer}
+use Rattle.cf_peer.specs.Asking.{request, is_open, is_spare, claims, SameUse}
+use Rattle.cf_peer.specs.Peer.{Holds, wants, is_idle_peer, is_ready_peer}
 use Rattle.cf_peer.proofs.Peers.{open_by, fetching_is, ready_is}
 use Rattle.cf_dispute.specs.declared.claim.At.{At}
 use Rattle.cf_dispute.specs.declared.claim.At.TheVariants.{Nobody}

@@ -1,5 +1,5 @@
 -- What is open to a peer agrees with what it claims.
-use Rattle.std.proofs.Common.{◌≡◌, ◌≢◌, inl, inr, ℕ, zero, suc, ◌+◌, ◌-◌, ◌<◌, ◌≤◌, List, [], ◌∷◌, ◌++◌, map, length, reverse, take, get_or, set, Option, Some, None, Bool, true, false, if◌then◌else◌, refl, sym, ◌∙◌, ap, subst, arith}
+use Rattle.std.proofs.Common.{◌≡◌, ◌≢◌, inl, inr, ℕ, zero, suc, ◌+◌, ◌-◌, ◌<◌, ◌≤◌, List, [], ◌∷◌, ◌++◌, map, length, take, get_or, set, Option, Some, None, Bool, if◌then◌else◌, refl, sym, ◌∙◌, ap, subst, arith}
 use Rattle.std.proofs.Math.Path.{fun_ext}
 use Rattle.std.proofs.Math.Logic.{∥∥₁_elim}
 use Rattle.std.proofs.Props.{props}
@@ -8,20 +8,17 @@ use Rattle.std.specs.Prelude.{IsSome, pred, option_map}
 use Rattle.std.proofs.lemmas.Bool.{cases_eq, cases_Bool, both_ways}
 use Rattle.std.proofs.lemmas.List.{length-map, length-reverse}
 use Rattle.cf_bytes.specs.declared.hash.Hash32.{Hash32}
-use Rattle.cf_block.specs.declared.header.Header.{Header}
 use Rattle.cf_block.specs.Header.{block_hash_of, genesis_header}
 use Rattle.cf_dispute.specs.declared.claim.Claim.{Claim}
 use Rattle.cf_dispute.specs.Claims.{Table, Tables, first_header, header_at}
-use Rattle.cf_dispute.specs.Tables.{blocks_of}
 use Rattle.cf_dispute.proofs.PutIn.{same_from}
-use Rattle.cf_headers.specs.Chain.{Hash, Chain, above, lower, tip_hash, IsIn}
+use Rattle.cf_headers.specs.Chain.{Hash, Chain, above, lower, IsIn}
 use Rattle.cf_headers.specs.Heights.{hash_at}
 use Rattle.cf_headers.specs.Rules.{same}
 use Rattle.cf_peer.specs.declared.peer.Peer.{Peer}
-use Rattle.cf_peer.specs.declared.peer.Range.{Range}
 use Rattle.cf_peer.specs.declared.peer.Request.{Request}
 use Rattle.cf_peer.specs.declared.peer.Request.TheVariants.{Nothing, Handshake, Headers as HeadersAsked, Claims as ClaimsAsked, Filters as FiltersAsked, Block as BlockAsked}
-use Rattle.cf_peer.specs.Peer.{IsRight, called_peer}
+use Rattle.cf_peer.specs.Peer.{IsRight}
 use Rattle.cf_hear.proofs.Wishes.{in_span}
 use Rattle.cf_tracker.proofs.Stops.{parent_is}
 use Rattle.cf_tracker.proofs.Told.{first_is}
@@ -31,7 +28,6 @@ use Rattle.cf_tracker.specs.Spans.{IsSpan}
 use Rattle.cf_tracker.specs.Wanting.{IsAbove, AreClaimed}
 use Rattle.cf_client.specs.declared.place.Place.{Place}
 use Rattle.cf_client.specs.declared.place.Place.TheVariants.{Here, Lost}
-use Rattle.cf_client.specs.declared.place.Loss.{Loss}
 use Rattle.cf_client.specs.Places.{nobody}
 use Rattle.cf_client.specs.Settled.{IsRightAt, AreRight}
 use Rattle.cf_client.proofs.Standing.{set_is, push_is}

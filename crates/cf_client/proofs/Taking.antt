@@ -1,8 +1,7 @@
 -- How a piece of a peer's bytes, its going, and a tick change the places, and what is seen of them.
 use Rattle.std.proofs.Common.{◌≡◌, ◌≢◌, ◌⊎◌, inl, inr, ℕ, zero, suc, ◌<◌, ◌≤◌, List, [], ◌∷◌, ◌++◌, length, get_or, set, map, Option, Some, None, Ok, Err, Bool, true, false, if◌then◌else◌, refl, sym, ◌∙◌, ap, subst, arith, append_assoc}
 use Rattle.std.proofs.lemmas.Grind.{common_steps}
-use Rattle.std.specs.Prelude.{◌&&◌, is_none, is_some}
-use Rattle.std.specs.Option.{IsSome}
+use Rattle.std.specs.Prelude.{is_some}
 use Rattle.std.proofs.lemmas.Bool.{cases_eq, false≢true}
 use Rattle.std.proofs.lemmas.List.{append-nil}
 use Rattle.std.proofs.lemmas.List.Elements.{All-push}
@@ -23,7 +22,7 @@ use Rattle.cf_peer.specs.declared.peer.Cause.TheVariants.{SendFailed}
 use Rattle.cf_peer.specs.declared.peer.Peer.{Peer}
 use Rattle.cf_peer.specs.Acts.{bytes_of, IsSendable, IsDoable}
 use Rattle.cf_peer.specs.Log.{Log, tally_of}
-use Rattle.cf_peer.specs.Trail.{Trail, Part, Said, Asked, Lost as LostItem, Went, item_of, item_of_read, hears, hears_fault, heard_part, part_of, trail, went_on, with_item, connected, greeted, met, own, heard, owed, replied, as_reply, is_version}
+use Rattle.cf_peer.specs.Trail.{Trail, Part, Asked, Lost as LostItem, Went, item_of, item_of_read, hears, hears_fault, heard_part, part_of, trail, went_on, with_item, connected, greeted, met, own, heard, owed, replied, as_reply, is_version}
 use Rattle.cf_peer.specs.Asking.{claims, verdict, counted}
 use Rattle.cf_peer.specs.Peer.{Holds, calm}
 use Rattle.cf_peer.specs.Hearing.{IsReply}

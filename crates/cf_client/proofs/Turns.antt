@@ -29,13 +29,11 @@ use Rattle.cf_sync.specs.Fetching.{IsBusy, IsConnected, AreBytes}
 use Rattle.cf_client.specs.declared.client.Client.{Client}
 use Rattle.cf_client.specs.declared.outcome.End.{End}
 use Rattle.cf_client.specs.declared.outcome.End.TheVariants.{Synced, NoPeers, Tired, Ended as EndedFirst}
-use Rattle.cf_client.specs.declared.place.Place.{Place}
 use Rattle.cf_client.specs.declared.progress.Progress.{Progress}
 use Rattle.cf_client.specs.declared.progress.SendState.{SendState}
 use Rattle.cf_client.specs.declared.progress.SendState.TheVariants.{Fine}
 use Rattle.cf_client.specs.declared.trace.TraceLine.{TraceLine}
 use Rattle.cf_client.specs.Names.{names_in}
-use Rattle.cf_client.specs.Places.{Fits, nobody, place_at}
 use Rattle.cf_hear.proofs.Tracking.{tracks_ended}
 use Rattle.cf_client.specs.Stands.{Reflects, IsReportOf, seen_by, watch_by}
 use Rattle.cf_client.specs.Run.{IsOrderly, WasOrderly, AreNumbered, Notes, Doing, HoldsOver, Stopped, Finished, AreBytesOf, IsEnd, IsEndTold, IsTraceOf, names_of, is_lost, NobodyLeft, state_at, is_pending, is_fine}

@@ -1,4 +1,4 @@
-use Rattle.std.proofs.Common.{◌≡◌, ◌≤◌, ℕ, Bool, Option, sym, ◌∙◌, ap, subst}
+use Rattle.std.proofs.Common.{Bool, Option, sym, ap, subst}
 use Rattle.std.specs.Prelude.{not}
 use Rattle.std.specs.List.{list_any}
 use Rattle.cf_bytes.specs.declared.peer.PeerNo.{PeerNo}
@@ -12,8 +12,8 @@ use Rattle.cf_client.specs.Places.{is_fetching_at, place_at}
 use Rattle.cf_client.specs.Settled.{IsAskedThrough, chain_at}
 use Rattle.cf_client.specs.Steps.{desk}
 use Rattle.cf_client.proofs.Acting.{same_is, seen_same}
-use Rattle.cf_client.proofs.Settled.{through_wish, through_best, through_none}
-use Rattle.cf_client.proofs.Steps.{claims_asks, filters_asks, block_asks, asks_seen, sent_busy, sent_fetching}
+use Rattle.cf_client.proofs.Settled.{through_wish, through_best}
+use Rattle.cf_client.proofs.Steps.{claims_asks, filters_asks, block_asks, asks_seen, sent_fetching}
 use Rattle.cf_client.proofs.ask.ask_about_blocks.Goals as goal
 
 pub returns-in-Nothing-clause-through : goal.returns-in-Nothing-clause-through

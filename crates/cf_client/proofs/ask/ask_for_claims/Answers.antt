@@ -1,5 +1,4 @@
-use Rattle.std.proofs.Common.{◌≡◌, ◌<◌, ◌^◌, length, rules, true, sym, ◌∙◌, ap, subst, refl, arith}
-use Rattle.cf_client.specs.declared.place.Place.TheVariants.{Here}
+use Rattle.std.proofs.Common.{◌≡◌, ◌<◌, ◌^◌, length, rules, sym, ◌∙◌, ap, refl, arith}
 use Rattle.cf_client.specs.Places.{is_idle, nobody}
 use Rattle.cf_client.proofs.Asking.{claims_sendable}
 use Rattle.cf_client.proofs.Standing.{any_default}

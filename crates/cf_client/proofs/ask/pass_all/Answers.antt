@@ -1,7 +1,7 @@
 use Rattle.std.proofs.Common.{◌≡◌, ◌≢◌, inl, inr, ℕ, ◌<◌, length, get_or, sym, ◌∙◌, ap, subst, arith}
 use Rattle.std.specs.Prelude.{slice_set}
 use Rattle.std.proofs.lemmas.Bool.{cases_eq}
-use Rattle.cf_peer.specs.Trail.{Part, Passed, with_item}
+use Rattle.cf_peer.specs.Trail.{Passed, with_item}
 use Rattle.cf_client.specs.declared.place.Place.{Place}
 use Rattle.cf_client.specs.Places.{Fits, is_here, nobody, place_at}
 use Rattle.cf_client.specs.Settled.{IsRightAt}

@@ -1,4 +1,4 @@
-use Rattle.std.proofs.Common.{◌≤◌, [], ◌∷◌, length, refl, arith}
+use Rattle.std.proofs.Common.{◌≤◌, ◌∷◌, length, refl, arith}
 use Rattle.std.proofs.Math.Logic.{∥∥₁_map}
 use Rattle.cf_peer.specs.declared.event.Event.TheVariants.{Dialled}
 use Rattle.cf_peer.specs.Acts.{bytes_of}
@@ -8,8 +8,8 @@ use Rattle.cf_hear.proofs.Tracking.{tracks_dialled, tracks_sent, put_entered, no
 use Rattle.cf_tracker.specs.Tracker.{claims_of}
 use Rattle.cf_peer.specs.Peer.{called_peer}
 use Rattle.cf_client.specs.declared.place.Place.TheVariants.{Here}
-use Rattle.cf_client.proofs.Settled.{settled_called, off_past}
-use Rattle.cf_client.proofs.Standing.{here_on, past_nobody}
+use Rattle.cf_client.proofs.Settled.{settled_called}
+use Rattle.cf_client.proofs.Standing.{past_nobody}
 use Rattle.cf_client.proofs.Rights.{right_push}
 use Rattle.cf_client.proofs.client.Client.dialled.Goals as goal
 

@@ -1,4 +1,4 @@
-use Rattle.std.proofs.Common.{◌≡◌, List, [], ◌∷◌, ◌++◌, sym, ◌∙◌, ap, subst}
+use Rattle.std.proofs.Common.{List, [], ◌∷◌, ◌++◌, sym, ◌∙◌, ap, subst}
 use Rattle.cf_dispute.proofs.Genesis.{first_header_is}
 use Rattle.cf_hear.specs.Seen.{seen_of}
 use Rattle.cf_tracker.specs.Tracker.{claims_of}
