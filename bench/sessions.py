@@ -1,18 +1,22 @@
 #!/usr/bin/env python3
-"""Prints rows `run` of cf_cases in which peers claim and give filters, each with what it comes to: `sessions.py`.
+"""Prints rows `run` of cf_cases, each with what it comes to: sessions in which peers serve made chains with their filters, some of them falsely.
 
-What the peers send is written out from the layouts of the Bitcoin developer reference and of BIP 157, their filters are made by BIP 158
-(`conversation.py`), and the chains are made ones (`made_chain.py`). The history is that of a plain scan of every block of the chain. The trace
-is told here question by question, as the rules of asking have it.
+The frames are written out from the layouts of the Bitcoin developer reference, BIP 157 and BIP 158. The histories are those of a scan of every
+block of the best chain. What is sent is told by hand, from the rules by which a wallet asks: headers, then filter headers, then filters, and last
+the blocks whose filters match or are in dispute.
 """
 import os
 import struct
+import subprocess
+import sys
 import tempfile
 
-from conversation import Served, compact, double, filters, basic_filter, frame, greeting, transactions
-from made_chain import records
+sys.path.insert(0, os.path.dirname(os.path.abspath(__file__)))
+from conversation import Reader, Served, basic_filter, compact, double, frame, transactions, version
 
-OTHER = bytes.fromhex("01000001")  # no Golomb code: its last byte has a bit behind the end
+BENCH = os.path.dirname(os.path.abspath(__file__))
+VERSION = version(65, 0, 0, b"/cf:1/", 0, b"\0")
+COUNT, PREVIOUS, OTHER = "WrongCount", "WrongPrevious", "OtherFilter"
 
 
 def script(k):
@@ -20,138 +24,226 @@ def script(k):
 
 
 class Chain(Served):
-    """A made chain, and what one of its peers sends."""
+    """A made chain, by the seeds and numbers of blocks of its parts."""
 
     def __init__(self, *parts):
-        with tempfile.NamedTemporaryFile(delete=False) as file:
-            file.write(b"".join(records(*parts)))
-        super().__init__(file.name)
-        os.unlink(file.name)
+        with tempfile.TemporaryDirectory() as folder:
+            name = os.path.join(folder, "blocks")
+            words = [str(n) for part in parts for n in part]
+            subprocess.run([os.path.join(BENCH, "made_chain.py"), *words, name], check=True)
+            super().__init__(name)
 
-    def lie(self, height, text):
-        """The same chain, with another filter at a height, and the filter headers that then follow."""
-        self.filters[height] = (text, double(text), double(double(text) + self.filters[height - 1][2]))
-        for h in range(height + 1, self.tip + 1):
-            text, name, _ = self.filters[h]
-            self.filters[h] = (text, name, double(name + self.filters[h - 1][2]))
+    def without(self, height, left):
+        """The same chain, but for the filter at a height, which leaves a script out."""
+        found = self.copy()
+        block = self.blocks[height]
+        items = {s for _, _, paid in transactions(block) for s in paid if s and s[0] != 0x6A}
+        for _, names, _ in transactions(block)[1:]:
+            items.update(self.paid(name) for name in names)
+        assert left in items and basic_filter(self.hashes[height], items) == self.filters[height][0]
+        return found.replaced(height, basic_filter(self.hashes[height], items - {left}))
+
+    def copy(self):
+        found = Chain.__new__(Chain)
+        found.blocks, found.hashes, found.filters, found.tip = self.blocks, self.hashes, list(self.filters), self.tip
+        return found
+
+    def replaced(self, height, text):
+        """The same chain with another filter at a height, and the filter headers that follow from it."""
+        found = self.copy()
+        for h in range(height, self.tip + 1):
+            code = text if h == height else found.filters[h][0]
+            found.filters[h] = (code, double(code), double(double(code) + found.filters[h - 1][2]))
+        return found
+
+    def paid(self, name):
+        for block in self.blocks[1:]:
+            for txid, _, scripts in transactions(block):
+                if txid == name[0]:
+                    return scripts[name[1]]
+        raise KeyError(name)
+
+    def history(self, watched):
+        """What a scan of every block above genesis tells of these scripts."""
+        coins, lines = {}, ""
+        for height, block in enumerate(self.blocks[1:], 1):
+            for place, (txid, names, outputs) in enumerate(valued(block)):
+                spent = [coins.pop(name) for name in (names if place else []) if name in coins]
+                won = [(i, value) for i, (value, paid) in enumerate(outputs) if paid in watched]
+                coins.update(((txid, i), value) for i, value in won)
+                if spent or won:
+                    got = sum(value for _, value in won)
+                    lines += "%d %s +%d -%d %d\n" % (height, txid[::-1].hex(), got, sum(spent), sum(coins.values()))
+        return lines + "synced %d %s\n" % (self.tip, self.hashes[-1][::-1].hex())
+
+
+def valued(block):
+    """Of each transaction its txid, the outpoints that it names, and the values and scripts of its outputs."""
+    r = Reader(block)
+    r.take(80)
+    for _ in range(r.count()):
+        start = r.place
+        r.take(4)
+        names = []
+        for _ in range(r.count()):
+            names.append((r.take(32), r.number(4)))
+            r.take(r.count())
+            r.take(4)
+        outputs = []
+        for _ in range(r.count()):
+            value = r.number(8)
+            outputs.append((value, r.take(r.count())))
+        r.take(4)
+        yield double(block[start:r.place]), names, outputs
+
+
+class Session:
+    """The lines of a session, with what is sent and closed as it goes on."""
+
+    def __init__(self, peers):
+        self.lines = ["dial %s" % name for name in "abcdefgh"[:peers]]
+        self.trace = ["> %d version" % (p + 1) for p in range(peers)]
+
+    def got(self, p, message, *sent):
+        self.lines.append("got %d %s" % (p, message.hex()))
+        self.trace += sent
         return self
 
-    def without(self, height, left_out):
-        """The filter of a block without a script."""
-        coins = {(txid, i): s for b in self.blocks[1:height] for txid, _, scripts in transactions(b) for i, s in enumerate(scripts)}
-        items = set()
-        for place, (txid, names, scripts) in enumerate(transactions(self.blocks[height])):
-            items.update(s for s in scripts if s and s[0] != 0x6A)
-            if place > 0:
-                items.update(coins[name] for name in names)
-        items.discard(left_out)
-        return basic_filter(self.hashes[height], items)
+    def tick(self, seconds, *sent):
+        self.lines.append("tick %d" % seconds)
+        self.trace += sent
+        return self
 
-    def history(self, watch):
-        """The lines of a plain scan, and the tip's."""
-        coins, balance, lines = {}, 0, []
-        for height, block in enumerate(self.blocks[1:], 1):
-            for txid, names, paid in paying(block):
-                out = sum(coins.pop(name) for name in names if name in coins)
-                into = 0
-                for i, (value, to) in enumerate(paid):
-                    if to in watch:
-                        coins[(txid, i)] = value
-                        into += value
-                balance += into - out
-                if into or out:
-                    lines.append("%d %s +%d -%d %d" % (height, txid[::-1].hex(), into, out, balance))
-        return lines + ["synced %d %s" % (self.tip, self.hashes[self.tip][::-1].hex())]
+    def greet(self, p):
+        return self.got(p, VERSION, "> %d verack" % p).got(p, frame("verack"), "> %d getheaders" % p)
+
+    def shows(self, p, chain, *sent):
+        """The peer greets and shows its whole chain."""
+        return self.greet(p).got(p, chain.headers(1, chain.tip), *sent)
+
+    def row(self, status, text, watched):
+        words = "cf replay --trace w s"
+        watch = "".join(script(k).hex() + ";" for k in watched)
+        print("run 4000 -|%s|%s|%s;|-" % (words, watch, ";".join(self.lines)))
+        print(status)
+        print("".join(line + "\n" for line in self.trace) + text)
 
 
-def paying(block):
-    """Of each transaction its txid, the outpoints that it names, and the value and the script of each output."""
-    place = 81
-    for txid, names, scripts in transactions(block):
-        values = []
-        place += 4
-        inputs = block[place]
-        place += 1
-        for _ in range(inputs):
-            place += 36
-            place += 1 + block[place] + 4
-        place += 1
-        for paid in scripts:
-            values.append((struct.unpack_from("<q", block, place)[0], paid))
-            place += 9 + len(paid)
-        place += 4
-        yield txid, names, values
+def asks(p, *commands):
+    return ["> %d %s" % (p, command) for command in commands]
 
 
-class Peer:
-    """A peer's lines of a session."""
-
-    def __init__(self, number, chain):
-        self.number, self.chain = number, chain
-
-    def got(self, data):
-        return "got %d %s" % (self.number, data.hex())
-
-    def greets(self):
-        return [self.got(greeting(self.chain.tip)), self.got(self.chain.headers(1, self.chain.tip))]
-
-    def claims(self, first=1):
-        return [self.got(self.chain.cfheaders(first, self.chain.tip))]
-
-    def gives(self, *heights):
-        return [self.got(self.chain.cfilter(h)) for h in heights]
-
-    def blocks(self, *heights):
-        return [self.got(self.chain.block(h)) for h in heights]
-
-
-def row(watch, lines, status, trace, history):
-    print("run 4000 -|cf replay --trace w s|%s|%s|-" % ("".join(s.hex() + ";" for s in watch), "".join(line + ";" for line in lines)))
-    print("\n".join([status] + trace + history))
-    print()
-
-
-def sent(peer, *commands):
-    return ["> %d %s" % (peer, command) for command in commands]
-
-
-START = ("version",), ("verack", "getheaders")
-ASKED = ("getcfheaders", "getcfilters")
+ENDED = "8 Ended: nothing more came, and an answer was still to come"
+DONE = "0 Done"
 
 
 def main():
-    # Two peers differ on the filter of block 2: the first has left out the watched script. That block is fetched, and no other.
-    watch = [script(14)]
-    honest, liar = Chain((7, 3)), Chain((7, 3))
-    liar.lie(2, liar.without(2, script(14)))
-    one, two = Peer(1, liar), Peer(2, honest)
-    row(watch, ["dial a", "dial b"] + one.greets() + two.greets() + two.claims() + one.claims() + two.gives(1, 2, 3) + one.blocks(2), "0 Done",
-        sent(1, "version") + sent(2, "version") + sent(1, "verack", "getheaders", "getcfheaders") + sent(2, "verack", "getheaders", "getcfheaders")
-        + sent(2, "getcfilters") + sent(1, "getdata"), honest.history(watch))
-    # A filter that is no Golomb code counts as a hit.
-    odd = Chain((7, 3)).lie(2, OTHER)
-    one = Peer(1, odd)
-    row(watch, ["dial a"] + one.greets() + one.claims() + one.gives(1, 2, 3) + one.blocks(2), "0 Done",
-        sent(1, "version", "verack", "getheaders", "getcfheaders", "getcfilters", "getdata"), honest.history(watch))
-    # Two peers claim the same, and no filter has the watched script. Then a third one claims another filter of block 2, which is fetched.
-    watch = [script(1)]
-    one, two, three = Peer(1, honest), Peer(2, honest), Peer(3, odd)
-    row(watch, ["dial a", "dial b", "dial c"] + one.greets() + two.greets() + one.claims() + two.claims() + one.gives(1, 2, 3) + three.greets() + three.claims() + one.blocks(2),
-        "0 Done",
-        sent(1, "version") + sent(2, "version") + sent(3, "version") + sent(1, "verack", "getheaders", "getcfheaders") + sent(2, "verack", "getheaders", "getcfheaders")
-        + sent(1, "getcfilters") + sent(3, "verack", "getheaders", "getcfheaders") + sent(1, "getdata"), honest.history(watch))
-    # Claims of another number of filters, claims on another filter header, and a filter that isn't the claimed one.
-    watch = [script(8)]
-    one = Peer(1, honest)
-    begun = sent(1, "version", "verack", "getheaders", "getcfheaders")
-    names = b"".join(f[1] for f in honest.filters[1:3])
-    few = frame("cfheaders", b"\0" + honest.hashes[3] + honest.filters[0][2] + compact(2) + names)
-    other = frame("cfheaders", b"\0" + honest.hashes[3] + bytes(32) + compact(3) + b"".join(f[1] for f in honest.filters[1:]))
-    lost = "6 NoPeers { ends: [Closed(%s)] }: no peer is left"
-    row(watch, ["dial a"] + one.greets() + [one.got(few)], lost % "WrongCount", begun + ["x 1 WrongCount"], [])
-    row(watch, ["dial a"] + one.greets() + [one.got(other)], lost % "WrongPrevious", begun + ["x 1 WrongPrevious"], [])
-    row(watch, ["dial a"] + one.greets() + one.claims() + Peer(1, odd).gives(1, 2), lost % "OtherFilter", begun + sent(1, "getcfilters") + ["x 1 OtherFilter"], [])
+    a = Chain((7, 3))
+    liar = a.without(2, script(14))
+    nonsense = a.replaced(2, bytes.fromhex("01000001"))
+    watched = [14]
+
+    def text(chain, ks):
+        return chain.history([script(k) for k in ks])
+
+    print("# A peer whose filters hit: two of three blocks are fetched, and one is cleared.")
+    s = Session(1).shows(1, a, *asks(1, "getcfheaders")).got(1, a.cfheaders(1, 3), *asks(1, "getcfilters"))
+    s.got(1, a.cfilter(1)).got(1, a.cfilter(2)).got(1, a.cfilter(3), *asks(1, "getdata")).got(1, a.block(1), *asks(1, "getdata")).got(1, a.block(2))
+    s.row(DONE, text(a, [8]), [8])
+
+    print("# The same, where the last block isn't there whole.")
+    s = Session(1).shows(1, a, *asks(1, "getcfheaders")).got(1, a.cfheaders(1, 3), *asks(1, "getcfilters"))
+    s.got(1, a.cfilter(1)).got(1, a.cfilter(2)).got(1, a.cfilter(3), *asks(1, "getdata")).got(1, a.block(1), *asks(1, "getdata")).got(1, a.block(2)[:30])
+    s.row(ENDED, "", [8])
+
+    print("# A script that no block has: nothing is fetched. And no script at all.")
+    for ks in ([3], []):
+        s = Session(1).shows(1, a, *asks(1, "getcfheaders")).got(1, a.cfheaders(1, 3), *asks(1, "getcfilters"))
+        s.got(1, a.cfilter(1)).got(1, a.cfilter(2)).got(1, a.cfilter(3))
+        s.row(DONE, text(a, ks), ks)
+
+    print("# Two peers, of which the first leaves a script out of its filter at height 2: that block is in dispute, and is fetched.")
+    s = Session(2).shows(1, liar, *asks(1, "getcfheaders")).shows(2, a, *asks(2, "getcfheaders"))
+    s.got(1, liar.cfheaders(1, 3), *asks(1, "getcfilters")).got(2, a.cfheaders(1, 3))
+    s.got(1, liar.cfilter(1)).got(1, liar.cfilter(2)).got(1, liar.cfilter(3), *asks(1, "getdata")).got(1, a.block(2))
+    s.row(DONE, text(a, watched), watched)
+
+    print("# The same, where the other one claims first: it is asked for its filters, and the first one for the block.")
+    s = Session(2).shows(1, liar, *asks(1, "getcfheaders")).shows(2, a, *asks(2, "getcfheaders"))
+    s.got(2, a.cfheaders(1, 3), *asks(2, "getcfilters")).got(1, liar.cfheaders(1, 3))
+    s.got(2, a.cfilter(1)).got(2, a.cfilter(2)).got(2, a.cfilter(3), *asks(1, "getdata")).got(1, a.block(2))
+    s.row(DONE, text(a, watched), watched)
+
+    print("# A longer chain whose peer answers no more is left after a minute, and not before.")
+    b = Chain((9, 5))
+    s = Session(2).shows(2, b, *asks(2, "getcfheaders")).shows(1, a)
+    s.tick(60, "x 2 Overdue", *asks(1, "getcfheaders")).got(1, a.cfheaders(1, 3), *asks(1, "getcfilters"))
+    s.got(1, a.cfilter(1)).got(1, a.cfilter(2)).got(1, a.cfilter(3), *asks(1, "getdata")).got(1, a.block(1), *asks(1, "getdata")).got(1, a.block(2))
+    s.row(DONE, text(a, [8]), [8])
+    s = Session(2).shows(2, b, *asks(2, "getcfheaders")).shows(1, a)
+    s.tick(59)
+    s.row(ENDED, "", [8])
+
+    print("# A longer chain takes the place of one that is settled: what they share is neither asked for nor fetched again.")
+    longer = Chain((7, 1), (8, 3))
+    s = Session(2).shows(1, a, *asks(1, "getcfheaders")).got(1, a.cfheaders(1, 3), *asks(1, "getcfilters"))
+    s.got(1, a.cfilter(1)).got(1, a.cfilter(2)).got(1, a.cfilter(3), *asks(1, "getdata")).got(1, a.block(1), *asks(1, "getdata")).got(1, a.block(2))
+    s.shows(2, longer, *asks(2, "getcfheaders")).got(2, longer.cfheaders(1, 4), *asks(2, "getcfilters"))
+    s.got(2, longer.cfilter(2)).got(2, longer.cfilter(3)).got(2, longer.cfilter(4), *asks(2, "getdata")).got(2, longer.block(3), *asks(2, "getdata"))
+    s.got(2, longer.block(4))
+    s.row(DONE, text(longer, [8, 11]), [8, 11])
+
+    print("# A filter that is no spelling is a hit.")
+    s = Session(1).shows(1, a, *asks(1, "getcfheaders")).got(1, nonsense.cfheaders(1, 3), *asks(1, "getcfilters"))
+    s.got(1, nonsense.cfilter(1)).got(1, nonsense.cfilter(2)).got(1, nonsense.cfilter(3), *asks(1, "getdata")).got(1, a.block(2))
+    s.row(DONE, text(a, watched), watched)
+
+    print("# Two peers leave the same script out; a third one's claim, after the miss, puts the block into dispute.")
+    s = Session(3).shows(1, liar, *asks(1, "getcfheaders")).got(1, liar.cfheaders(1, 3), *asks(1, "getcfilters"))
+    s.shows(2, liar, *asks(2, "getcfheaders")).got(2, liar.cfheaders(1, 3))
+    s.got(1, liar.cfilter(1)).got(1, liar.cfilter(2)).got(1, liar.cfilter(3))
+    s.shows(3, a, *asks(3, "getcfheaders")).got(3, a.cfheaders(1, 3), *asks(1, "getdata")).got(1, a.block(2))
+    s.row(DONE, text(a, watched), watched)
+
+    print("# A wrong count, a wrong previous filter header, and a filter that isn't the one that was claimed: that peer is closed, and nothing of the other is lost.")
+    short = frame("cfheaders", b"\0" + a.hashes[3] + a.filters[0][2] + compact(2) + a.filters[1][1] + a.filters[2][1])
+    wrong = frame("cfheaders", b"\0" + a.hashes[3] + bytes(32) + compact(3) + b"".join(f[1] for f in a.filters[1:4]))
+    both = frame("cfheaders", b"\0" + a.hashes[3] + bytes(32) + compact(2) + b"".join(f[1] for f in a.filters[1:3]))
+    for answer, cause in ((short, COUNT), (both, COUNT), (wrong, PREVIOUS)):
+        s = Session(1).shows(1, a, *asks(1, "getcfheaders")).got(1, answer, "x 1 " + cause)
+        s.row("6 NoPeers { ends: [Closed(%s)] }: no peer is left" % cause, "", watched)
+    for answer, cause in ((short, COUNT), (wrong, PREVIOUS)):
+        s = Session(2).shows(1, a, *asks(1, "getcfheaders")).shows(2, a, *asks(2, "getcfheaders"))
+        s.got(1, answer, "x 1 " + cause).got(2, a.cfheaders(1, 3), *asks(2, "getcfilters"))
+        s.got(2, a.cfilter(1)).got(2, a.cfilter(2)).got(2, a.cfilter(3), *asks(2, "getdata")).got(2, a.block(2))
+        s.row(DONE, text(a, watched), watched)
+    s = Session(2).shows(1, a, *asks(1, "getcfheaders")).shows(2, a, *asks(2, "getcfheaders"))
+    s.got(1, a.cfheaders(1, 3), *asks(1, "getcfilters")).got(2, a.cfheaders(1, 3))
+    s.got(1, a.cfilter(1)).got(1, liar.cfilter(2), "x 1 " + OTHER, *asks(2, "getcfilters"))
+    s.got(2, a.cfilter(1)).got(2, a.cfilter(2)).got(2, a.cfilter(3), *asks(2, "getdata")).got(2, a.block(2))
+    s.row(DONE, text(a, watched), watched)
+
+    print("# The claims of a peer that is closed count no more: the filter that the other claims is asked for.")
+    s = Session(2).shows(1, liar, *asks(1, "getcfheaders")).shows(2, a, *asks(2, "getcfheaders"))
+    s.got(1, liar.cfheaders(1, 3), *asks(1, "getcfilters")).got(2, a.cfheaders(1, 3))
+    s.got(1, liar.cfilter(1)).got(1, a.cfilter(2), "x 1 " + OTHER, *asks(2, "getcfilters"))
+    s.got(2, a.cfilter(1)).got(2, a.cfilter(2)).got(2, a.cfilter(3), *asks(2, "getdata")).got(2, a.block(2))
+    s.row(DONE, text(a, watched), watched)
+
+    print("# Answers of another type, for another stop, out of order, or to no question are read over.")
+    other_type = frame("cfheaders", b"\1" + a.cfheaders(1, 3)[25:])
+    text_1 = a.filters[1][0]
+    other_filter = frame("cfilter", b"\1" + a.hashes[1] + compact(len(text_1)) + text_1)
+    s = Session(1).greet(1).got(1, a.cfheaders(1, 3)).got(1, a.cfilter(1)).got(1, a.block(1)).got(1, a.headers(1, 3), *asks(1, "getcfheaders"))
+    s.got(1, other_type).got(1, a.cfheaders(1, 2)).got(1, a.cfilter(1)).got(1, a.cfheaders(1, 3), *asks(1, "getcfilters")).got(1, a.cfheaders(1, 3))
+    s.got(1, a.cfilter(2)).got(1, a.cfilter(3)).got(1, other_filter).got(1, a.block(2)).got(1, a.cfilter(1)).got(1, a.cfilter(1)).got(1, a.cfilter(2))
+    s.got(1, a.cfilter(3), *asks(1, "getdata")).got(1, a.block(1)).got(1, a.block(2))
+    s.row(DONE, text(a, watched), watched)
+
+    print("# The age of a question for filters isn't set back by a part of the answer, nor is that of one for claims by anything else.")
+    s = Session(1).shows(1, a, *asks(1, "getcfheaders")).tick(59).got(1, a.cfheaders(1, 3), *asks(1, "getcfilters")).tick(30)
+    s.got(1, a.cfilter(1)).tick(30, "x 1 Overdue")
+    s.row("6 NoPeers { ends: [Closed(Overdue)] }: no peer is left", "", watched)
 
 
-if __name__ == "__main__":
-    main()
+main()

@@ -15,7 +15,6 @@ mod inputs;
 mod payloads;
 mod proofs;
 mod runs;
-mod served;
 mod streams;
 mod verdicts;
 

@@ -3,7 +3,6 @@ ghost use Rattle.std.specs.Prelude.{◌≡◌, [], IfSome, false};
 ghost use Rattle.cf_peer.specs.Memory.{log_of, finished_of};
 
 use crate::fields::{bytes_in, file_in, numbers_in, texts_in};
-use crate::served::session_in;
 use cf_bytes::{Files, MapFiles, VecSink};
 use cf_cli::{Status, run};
 use cf_input::read_session;
@@ -80,7 +79,7 @@ fn called(
     blocks: &str,
 ) -> Option<String> {
     let (room, failing) = limits.split_once(' ')?;
-    let session = session_in(alloc, session)?;
+    let session = file_in(alloc, session)?;
     let files = files_of(alloc, watch, &session, blocks)?;
     let wires = wires_of(alloc, &session, failing)?;
     let words = texts_in(alloc, words, ' ')?;
