@@ -1,5 +1,5 @@
 -- How a session is played, and what is said where no run is made.
-use Rattle.std.proofs.Common.{◌≡◌, ◌⊎◌, inl, inr, ℕ, zero, suc, ◌<◌, ◌≤◌, Bool, true, false, List, [], ◌∷◌, map, length, take, Option, Some, None, Result, Ok, Err, refl, sym, ◌∙◌, ap, subst, arith}
+use Rattle.std.proofs.Common.{◌≡◌, ◌⊎◌, inl, inr, ℕ, ℤ, zero, suc, ◌<◌, ◌≤◌, Bool, true, false, List, [], ◌∷◌, map, length, take, Option, Some, None, Result, Ok, Err, refl, sym, ◌∙◌, ap, subst, arith}
 use Rattle.std.specs.Prelude.{◌↔◌, IfSome, vec_len}
 use Rattle.std.specs.FinMap as finite
 use Rattle.std.proofs.lemmas.Bool.{false≢true}
@@ -9,6 +9,8 @@ use Rattle.cf_bytes.specs.Outside.{HasRisen}
 use Rattle.cf_client.specs.declared.outcome.End.{End}
 use Rattle.cf_client.specs.declared.outcome.End.TheVariants.{Synced as IsSynced, NoPeers as HasNoPeers, Tired as IsTired, Ended as HasEnded}
 use Rattle.cf_client.specs.declared.place.PeerEnd.{PeerEnd}
+use Rattle.cf_client.specs.Places.{Words}
+use Rattle.cf_client.specs.Versions.{IsOfWords, HasWords}
 use Rattle.cf_client.specs.Run.{NobodyLeft, HasDialled, HasFailed, names_of}
 use Rattle.cf_peer.specs.declared.event.Dial.{Dial}
 use Rattle.cf_peer.specs.declared.memory.MemoryWires.{MemoryWires}
@@ -352,3 +354,11 @@ unused_wires found c status before after e unused = subst (λ (o : Option Comman
 pub unused_tape : (found : Option Command) (c : Command) (status : Status) (before after : Told) → found ≡ Some c → (may_play (Some c) status ≡ false → after ≡ before)
     → may_play found status ≡ false → after ≡ before
 unused_tape found c status before after e unused = subst (λ (o : Option Command). may_play o status ≡ false → after ≡ before) (sym e) unused
+
+-- no version was sent over an empty log
+pub unplayed_words : (words : Words) (log : Log) → log ≡ [] → IsOfWords words log
+unplayed_words words log none = subst (IsOfWords words) (sym none) tt
+
+-- the same moment
+pub versions_so : (z y : ℤ) (n : ℕ) (t : Told) → z ≡ y → HasWords (record { moment = z; number = n }) t → HasWords (record { moment = y; number = n }) t
+versions_so z y n t same has = subst (λ (x : ℤ). HasWords (record { moment = x; number = n }) t) same has

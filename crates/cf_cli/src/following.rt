@@ -3,6 +3,7 @@ ghost use Rattle.std.specs.Prelude.{◌≡◌, ◌≤◌, [], length, IfSome, tr
 ghost use Rattle.cf_bytes.specs.Outside.{HasRisen};
 ghost use Rattle.cf_client.specs.Names.{names_in};
 ghost use Rattle.cf_client.specs.Run.{Course, HasDialled, HasFailed};
+ghost use Rattle.cf_client.specs.Versions.{HasWords};
 ghost use Rattle.cf_peer.specs.Log.{Tells};
 ghost use Rattle.cf_cli.specs.Statuses.{has_run, was_refused};
 ghost use Rattle.cf_cli.specs.Theorem.{Kept, Tallied, AnswersTo, IsOfRun};
@@ -50,6 +51,7 @@ pub(crate) fn follow<W: Wires, O: Sink>(
     requires few { length names.now ≤ 8 }
     ensures kept { IfSome (W.told wires.new).log (λ log. Kept result trace watch (names_in names.now) (O.written out.old) (O.written out.new) log) }
     ensures tallied { Tallied result turns (length (names_in names.now)) (W.told wires.old) (W.told wires.new) }
+    ensures versions { HasWords (record { moment = moment; number = nonce }) (W.told wires.new) }
     ensures dialled { HasDialled (names_in names.now) (W.told wires.new) }
     ensures same { W.script wires.new ≡ W.script wires.old }
     ensures failures { IfSome (W.told wires.new).log (λ log. HasFailed log → HasRisen (W.faults wires.old) (W.faults wires.new)) }

@@ -5,6 +5,7 @@ ghost use Rattle.cf_bytes.specs.Outside.{HasRisen};
 ghost use Rattle.cf_client.specs.Names.{names_in};
 ghost use Rattle.std.specs.List.{list_all};
 ghost use Rattle.cf_client.specs.Run.{HasFailed};
+ghost use Rattle.cf_client.specs.Versions.{HasWords, IsOfWords};
 ghost use Rattle.cf_peer.specs.Log.{Tells, is_real};
 ghost use Rattle.cf_peer.specs.Memory.{log_of, failing_of, finished_of, told_of};
 ghost use Rattle.cf_input.specs.SessionFile.{session_of};
@@ -44,6 +45,7 @@ fn replay<F: Files, O: Sink>(
     ensures judged { IfSome (F.files files.old) (λ m. IsJudged (and_then (watch_verdict (finite.get m watch.now)) (session_verdict (finite.get m session.now))) result) }
     ensures replayed { IsReplayed result MOST_TURNS trace (F.files files.old) watch.now (O.written out.old) (O.written out.new) (told_of tape.old) (told_of tape.new) (log_of tape.new) }
     ensures plays { IfSome (F.files files.old) (λ m. IfSome (finite.get m session.now) (λ bytes. PlaysSession result (session_of bytes) (log_of tape.new))) }
+    ensures versions { IsOfWords (record { moment = moment; number = nonce }) (log_of tape.new) }
     ensures unchanged { F.files files.new ≡ F.files files.old }
     ensures file_fault { result ≡ Status.FileFault → HasRisen (F.faults files.old) (F.faults files.new) }
     ensures out_fault { result ≡ Status.OutFault → HasRisen (O.faults out.old) (O.faults out.new) }
@@ -91,6 +93,7 @@ fn sync<F: Files, W: Wires, O: Sink>(
     ensures judged { IfSome (F.files files.old) (λ m. IsJudged (watch_verdict (finite.get m watch.now)) result) }
     ensures kept { IfSome (W.told wires.new).log (λ log. KeptOver result false (F.files files.old) watch.now (names_in peers.now) (O.written out.old) (O.written out.new) log) }
     ensures tallied { Tallied result turns (length (names_in peers.now)) (W.told wires.old) (W.told wires.new) }
+    ensures versions { HasWords (record { moment = moment; number = nonce }) (W.told wires.new) }
     ensures failures { IfSome (W.told wires.new).log (λ log. HasFailed log → HasRisen (W.faults wires.old) (W.faults wires.new)) }
     ensures unchanged { F.files files.new ≡ F.files files.old }
     ensures file_fault { result ≡ Status.FileFault → HasRisen (F.faults files.old) (F.faults files.new) }
@@ -129,6 +132,8 @@ fn perform<F: Files, W: Wires, O: Sink>(
     ensures sync { (turns : ℕ) (watch : List ℕ) (peers : List (List ℕ)) → command ≡ Sync turns watch peers → IfSome (W.told wires.new).log (λ log. KeptOver result false (F.files files.old) watch peers (O.written out.old) (O.written out.new) log) × Tallied result turns (length peers) (W.told wires.old) (W.told wires.new) }
     ensures replay { (trace : Bool) (watch session : List ℕ) → command ≡ Replay trace watch session → IsReplayed result MOST_TURNS trace (F.files files.old) watch (O.written out.old) (O.written out.new) (told_of tape.old) (told_of tape.new) (log_of tape.new) }
     ensures plays { (trace : Bool) (watch session : List ℕ) → command ≡ Replay trace watch session → IfSome (F.files files.old) (λ m. IfSome (finite.get m session) (λ bytes. PlaysSession result (session_of bytes) (log_of tape.new))) }
+    ensures versions { HasWords (record { moment = moment; number = nonce }) (W.told wires.new) }
+    ensures tape_versions { IsOfWords (record { moment = moment; number = nonce }) (log_of tape.new) }
     ensures scan { (file watch : List ℕ) → command ≡ Scan file watch → IsScanned result (F.files files.old) watch file (O.written out.old) (O.written out.new) }
     ensures filter { (file : List ℕ) (height : ℕ) → command ≡ Filter file height → IsFiltered result (F.files files.old) file height (O.written out.old) (O.written out.new) }
     ensures address { (text : List ℕ) → command ≡ Address text → IsAddressed result text (O.written out.old) (O.written out.new) }
@@ -206,6 +211,8 @@ pub fn run<F: Files, W: Wires, O: Sink>(
     ensures sync { (turns : ℕ) (watch : List ℕ) (peers : List (List ℕ)) → command_of (names_in words.now) ≡ Some (Sync turns watch peers) → IfSome (W.told wires.new).log (λ log. KeptOver result false (F.files files.old) watch peers (O.written out.old) (O.written out.new) log) × Tallied result turns (length peers) (W.told wires.old) (W.told wires.new) }
     ensures replay { (trace : Bool) (watch session : List ℕ) → command_of (names_in words.now) ≡ Some (Replay trace watch session) → IsReplayed result MOST_TURNS trace (F.files files.old) watch (O.written out.old) (O.written out.new) (told_of tape.old) (told_of tape.new) (log_of tape.new) }
     ensures plays { (trace : Bool) (watch session : List ℕ) → command_of (names_in words.now) ≡ Some (Replay trace watch session) → IfSome (F.files files.old) (λ m. IfSome (finite.get m session) (λ bytes. PlaysSession result (session_of bytes) (log_of tape.new))) }
+    ensures versions { HasWords (record { moment = moment; number = nonce }) (W.told wires.new) }
+    ensures tape_versions { IsOfWords (record { moment = moment; number = nonce }) (log_of tape.new) }
     ensures scan { (file watch : List ℕ) → command_of (names_in words.now) ≡ Some (Scan file watch) → IsScanned result (F.files files.old) watch file (O.written out.old) (O.written out.new) }
     ensures filter { (file : List ℕ) (height : ℕ) → command_of (names_in words.now) ≡ Some (Filter file height) → IsFiltered result (F.files files.old) file height (O.written out.old) (O.written out.new) }
     ensures address { (text : List ℕ) → command_of (names_in words.now) ≡ Some (Address text) → IsAddressed result text (O.written out.old) (O.written out.new) }

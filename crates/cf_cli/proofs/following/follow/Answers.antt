@@ -1,11 +1,14 @@
-use Rattle.std.proofs.Common.{List, ℕ, take, sym, ◌∙◌, ap}
+use Rattle.std.proofs.Common.{List, ℕ, rules, take, sym, ◌∙◌, ap}
+use Rattle.std.proofs.Math.Facts.{to_z-of_z}
+use Rattle.std.specs.Int.{w64}
 use Rattle.std.specs.Prelude.{string_bytes}
 use Rattle.std.proofs.lemmas.List.{length-map}
 use Rattle.cf_bytes.specs.Outside.{with_more}
 use Rattle.cf_client.specs.Names.{names_in}
 use Rattle.cf_cli.specs.declared.status.Status.TheVariants.{NoMemory, OutFault}
+use Rattle.cf_client.proofs.Versions.{new_words}
 use Rattle.cf_cli.proofs.Runs.{answered, kept_told, kept_without, stands_told, stands_unsaid}
-use Rattle.cf_cli.proofs.Plays.{early_tallied, spent_tallied, unwritten_tallied, run_tallied, new_dialled, new_unfailed}
+use Rattle.cf_cli.proofs.Plays.{versions_so, early_tallied, spent_tallied, unwritten_tallied, run_tallied, new_dialled, new_unfailed}
 use Rattle.cf_cli.proofs.following.follow.Goals as goal
 
 pub returns-in-Ok-put_all-clause-kept : goal.returns-in-Ok-put_all-clause-kept
@@ -64,3 +67,26 @@ returns-in-Ok-put_all-clause-tallied g c =
     run_tallied c.in-Ok-sync_over.outcome.end _ c.status_of.result _ _ _ _ c.status_of.ensures.answer (record { taken = told.most; dialled = told.first.most; ended = told.once })
     (record { dialled = ok.dialled ∙ sym (length-map c.args.names.now string_bytes); finished = told.finished })
     ok.no_peers ok.tired ok.ended ok.early
+
+pub returns-in_default-clause-versions : goal.returns-in_default-clause-versions
+returns-in_default-clause-versions g c = new_words _ _ c.requires.fresh
+
+pub returns-in_default-sync_over-clause-versions : goal.returns-in_default-sync_over-clause-versions
+returns-in_default-sync_over-clause-versions g c =
+    versions_so _ c.args.moment c.args.nonce (g.W.Wires.told c.sync_over.new.wires)
+    (to_z-of_z {w = w64} {z = c.args.moment} (search rules)) c.sync_over.ensures.versions
+
+pub returns-in_default-text_of-clause-versions : goal.returns-in_default-text_of-clause-versions
+returns-in_default-text_of-clause-versions g c =
+    versions_so _ c.args.moment c.args.nonce (g.W.Wires.told c.sync_over.new.wires)
+    (to_z-of_z {w = w64} {z = c.args.moment} (search rules)) c.sync_over.ensures.versions
+
+pub returns-in-Err-clause-versions : goal.returns-in-Err-clause-versions
+returns-in-Err-clause-versions g c =
+    versions_so _ c.args.moment c.args.nonce (g.W.Wires.told c.sync_over.new.wires)
+    (to_z-of_z {w = w64} {z = c.args.moment} (search rules)) c.sync_over.ensures.versions
+
+pub returns-in-Ok-put_all-clause-versions : goal.returns-in-Ok-put_all-clause-versions
+returns-in-Ok-put_all-clause-versions g c =
+    versions_so _ c.args.moment c.args.nonce (g.W.Wires.told c.sync_over.new.wires)
+    (to_z-of_z {w = w64} {z = c.args.moment} (search rules)) c.sync_over.ensures.versions

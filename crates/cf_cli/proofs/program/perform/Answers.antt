@@ -1,4 +1,9 @@
-use Rattle.cf_cli.proofs.Plays.{judged_replay, judged_sync, new_unfailed}
+use Rattle.std.proofs.Common.{rules}
+use Rattle.std.proofs.Math.Facts.{to_z-of_z}
+use Rattle.std.specs.Int.{w64}
+use Rattle.cf_peer.specs.Memory.{told_of}
+use Rattle.cf_client.proofs.Versions.{new_words}
+use Rattle.cf_cli.proofs.Plays.{versions_so, unplayed_words, judged_replay, judged_sync, new_unfailed}
 use Rattle.cf_cli.proofs.program.perform.Goals as goal
 
 pub returns-in-Replay-clause-judged : goal.returns-in-Replay-clause-judged
@@ -22,3 +27,37 @@ returns-in-Filter-clause-failures g c = new_unfailed _ _ _ c.requires.wires
 
 pub returns-in-Address-clause-failures : goal.returns-in-Address-clause-failures
 returns-in-Address-clause-failures g c = new_unfailed _ _ _ c.requires.wires
+
+pub returns-in-Replay-clause-versions : goal.returns-in-Replay-clause-versions
+returns-in-Replay-clause-versions g c = new_words _ _ c.requires.wires
+
+pub returns-in-Scan-clause-versions : goal.returns-in-Scan-clause-versions
+returns-in-Scan-clause-versions g c = new_words _ _ c.requires.wires
+
+pub returns-in-Filter-clause-versions : goal.returns-in-Filter-clause-versions
+returns-in-Filter-clause-versions g c = new_words _ _ c.requires.wires
+
+pub returns-in-Address-clause-versions : goal.returns-in-Address-clause-versions
+returns-in-Address-clause-versions g c = new_words _ _ c.requires.wires
+
+pub returns-in-Sync-clause-tape_versions : goal.returns-in-Sync-clause-tape_versions
+returns-in-Sync-clause-tape_versions g c = unplayed_words _ _ c.requires.log
+
+pub returns-in-Scan-clause-tape_versions : goal.returns-in-Scan-clause-tape_versions
+returns-in-Scan-clause-tape_versions g c = unplayed_words _ _ c.requires.log
+
+pub returns-in-Filter-clause-tape_versions : goal.returns-in-Filter-clause-tape_versions
+returns-in-Filter-clause-tape_versions g c = unplayed_words _ _ c.requires.log
+
+pub returns-in-Address-clause-tape_versions : goal.returns-in-Address-clause-tape_versions
+returns-in-Address-clause-tape_versions g c = unplayed_words _ _ c.requires.log
+
+pub returns-in-Sync-clause-versions : goal.returns-in-Sync-clause-versions
+returns-in-Sync-clause-versions g c =
+    versions_so _ c.args.moment c.args.nonce (g.W.Wires.told c.sync.new.wires)
+    (to_z-of_z {w = w64} {z = c.args.moment} (search rules)) c.sync.ensures.versions
+
+pub returns-in-Replay-clause-tape_versions : goal.returns-in-Replay-clause-tape_versions
+returns-in-Replay-clause-tape_versions g c =
+    versions_so _ c.args.moment c.args.nonce (told_of c.replay.new.tape)
+    (to_z-of_z {w = w64} {z = c.args.moment} (search rules)) c.replay.ensures.versions

@@ -1,9 +1,11 @@
-use Rattle.std.proofs.Common.{List, Some, length, ◌∙◌, ap, subst}
+use Rattle.std.proofs.Common.{List, Some, length, rules, ◌∙◌, ap, subst}
+use Rattle.std.proofs.Math.Facts.{to_z-of_z}
+use Rattle.std.specs.Int.{w64}
 use Rattle.cf_client.specs.Names.{names_in}
 use Rattle.cf_peer.specs.Log.{Told}
 use Rattle.cf_peer.specs.Memory.{log_of, failing_of, told_of}
 use Rattle.cf_peer.specs.Wires.{Script}
-use Rattle.cf_cli.proofs.Plays.{made, plays_of, told_so, told_plays, early_replayed, early_plays, new_tape, same_told, over_watch}
+use Rattle.cf_cli.proofs.Plays.{versions_so, unplayed_words, made, plays_of, told_so, told_plays, early_replayed, early_plays, new_tape, same_told, over_watch}
 use Rattle.cf_cli.specs.Theorem.{Tallied}
 use Rattle.cf_cli.proofs.program.replay.Goals as goal
 
@@ -43,3 +45,14 @@ returns-clause-plays g c =
     (c.follow.ensures.same ∙ ap Some (ap (λ (x : Script). made x (failing_of c.load.new.self)) c.load.ensures.script ∙ ap (made script) (c.load.ensures.failing ∙ c.requires.failing)))
     (ap names_in c.deref.ensures.value ∙ c.in-Ok-load_session.ensures.named)
     c.follow.ensures.dialled c.follow.ensures.tallied.whole)
+
+pub returns-in-Err-clause-versions : goal.returns-in-Err-clause-versions
+returns-in-Err-clause-versions g c = unplayed_words _ _ c.requires.log
+
+pub returns-in-Err-load_session-clause-versions : goal.returns-in-Err-load_session-clause-versions
+returns-in-Err-load_session-clause-versions g c = unplayed_words _ _ c.requires.log
+
+pub returns-clause-versions : goal.returns-clause-versions
+returns-clause-versions g c =
+    versions_so _ c.args.moment c.args.nonce (told_of c.follow.new.wires)
+    (to_z-of_z {w = w64} {z = c.args.moment} (search rules)) c.follow.ensures.versions

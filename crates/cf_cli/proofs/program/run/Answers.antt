@@ -1,6 +1,10 @@
-use Rattle.std.proofs.Common.{false}
+use Rattle.std.proofs.Common.{false, rules}
+use Rattle.std.proofs.Math.Facts.{to_z-of_z}
+use Rattle.std.specs.Int.{w64}
 use Rattle.cf_cli.specs.declared.status.Status.TheVariants.{NoMemory}
-use Rattle.cf_cli.proofs.Plays.{early_replayed, early_plays, early_told, early_tallied, new_tape, new_unfailed, same_command, judged_for, unused_wires, unused_tape}
+use Rattle.cf_peer.specs.Memory.{told_of}
+use Rattle.cf_client.proofs.Versions.{new_words}
+use Rattle.cf_cli.proofs.Plays.{versions_so, unplayed_words, early_replayed, early_plays, early_told, early_tallied, new_tape, new_unfailed, same_command, judged_for, unused_wires, unused_tape}
 use Rattle.cf_cli.proofs.program.run.Goals as goal
 
 pub returns-in-Ok-clause-usage : goal.returns-in-Ok-clause-usage
@@ -50,3 +54,25 @@ returns-in-Ok-clause-unplayed g c = unused_tape _ c.in-Ok.command c.perform.resu
 
 pub returns-in-Ok-clause-address : goal.returns-in-Ok-clause-address
 returns-in-Ok-clause-address g c = λ text asked. c.perform.ensures.address text (same_command _ c.in-Ok.command _ c.in-Ok.ensures.exact asked)
+
+pub returns-in-Err-No-clause-versions : goal.returns-in-Err-No-clause-versions
+returns-in-Err-No-clause-versions g c = new_words _ _ c.requires.wires
+
+pub returns-in-Err-No-clause-tape_versions : goal.returns-in-Err-No-clause-tape_versions
+returns-in-Err-No-clause-tape_versions g c = unplayed_words _ _ c.requires.log
+
+pub returns-in-Err-NoMemory-clause-versions : goal.returns-in-Err-NoMemory-clause-versions
+returns-in-Err-NoMemory-clause-versions g c = new_words _ _ c.requires.wires
+
+pub returns-in-Err-NoMemory-clause-tape_versions : goal.returns-in-Err-NoMemory-clause-tape_versions
+returns-in-Err-NoMemory-clause-tape_versions g c = unplayed_words _ _ c.requires.log
+
+pub returns-in-Ok-clause-versions : goal.returns-in-Ok-clause-versions
+returns-in-Ok-clause-versions g c =
+    versions_so _ c.args.moment c.args.nonce (g.W.Wires.told c.perform.new.wires)
+    (to_z-of_z {w = w64} {z = c.args.moment} (search rules)) c.perform.ensures.versions
+
+pub returns-in-Ok-clause-tape_versions : goal.returns-in-Ok-clause-tape_versions
+returns-in-Ok-clause-tape_versions g c =
+    versions_so _ c.args.moment c.args.nonce (told_of c.perform.new.tape)
+    (to_z-of_z {w = w64} {z = c.args.moment} (search rules)) c.perform.ensures.tape_versions

@@ -1,6 +1,9 @@
-use Rattle.std.proofs.Common.{false}
+use Rattle.std.proofs.Common.{false, rules}
+use Rattle.std.proofs.Math.Facts.{to_z-of_z}
+use Rattle.std.specs.Int.{w64}
 use Rattle.cf_client.specs.Names.{names_in}
-use Rattle.cf_cli.proofs.Plays.{early_told, early_tallied, new_unfailed, told_over_watch}
+use Rattle.cf_client.proofs.Versions.{new_words}
+use Rattle.cf_cli.proofs.Plays.{versions_so, early_told, early_tallied, new_unfailed, told_over_watch}
 use Rattle.cf_cli.proofs.program.sync.Goals as goal
 
 pub returns-in-Err-clause-kept : goal.returns-in-Err-clause-kept
@@ -18,3 +21,11 @@ returns-in-Err-clause-tallied g c = early_tallied c.in-Err.status _ _ _ c.in-Err
 
 pub returns-in-Err-clause-failures : goal.returns-in-Err-clause-failures
 returns-in-Err-clause-failures g c = new_unfailed _ _ _ c.requires.fresh
+
+pub returns-in-Err-clause-versions : goal.returns-in-Err-clause-versions
+returns-in-Err-clause-versions g c = new_words _ _ c.requires.fresh
+
+pub returns-clause-versions : goal.returns-clause-versions
+returns-clause-versions g c =
+    versions_so _ c.args.moment c.args.nonce (g.W.Wires.told c.follow.new.wires)
+    (to_z-of_z {w = w64} {z = c.args.moment} (search rules)) c.follow.ensures.versions
