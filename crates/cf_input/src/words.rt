@@ -1,7 +1,7 @@
 //! The program's words, read by clap.
 ghost use Rattle.std.specs.Prelude.{◌≡◌, ◌==◌, IfOk, IfErr, [], map, false, length, codes, string_bytes, option_map};
 ghost use Rattle.std.specs.List.{list_any};
-ghost use Rattle.clap.specs.Words.{app_of, rule_of, new_rule, subcommand_of, subcommand_rows_of, fault_of};
+ghost use Rattle.clap.specs.Words.{app_of, rule_of, new_rule, subcommand_of, subcommand_rows_of, fault_of, with_rule};
 ghost use Rattle.clap.specs.declared.builder.command.Command.TheViews.{out-Command as fields_of};
 ghost use Rattle.cf_input.specs.Words.{trace, turns, several, needed, replay_app, sync_app, one_app, two_app, with_sub, client_app, cli_app, text_of, texts_of, is_met, is_set, turns_of, height_of, replay_of, sync_of, scan_of, filter_of, address_of, hash_in, prove_of, check_of, HasFewPeers, is_faultless, command_of, is_help_word, is_version_word};
 ghost use Rattle.cf_input.specs.Commands.{GivesOrUsage, IfUsage, refusal_of};
@@ -94,25 +94,37 @@ fn peers_arg<'a>(alloc: Global) -> Arg<'a>
     Arg::new(alloc, "peer").required(true).num_args(1..)
 }
 
+// An argument of one word, which is needed.
+fn word_arg<'a>(alloc: Global, id: &'a str) -> Arg<'a>
+    ensures { (rule_of result ≡ needed (new_rule id.entry.now)) × (result.global ≡ false) }
+{
+    Arg::new(alloc, id).required(true)
+}
+
+// The command with one more argument.
+fn with_arg<'a>(command: clap::Command<'a>, arg: Arg<'a>) -> Result<clap::Command<'a>, AllocError>
+    requires { ((fields_of command).has_globals ≡ false) × (arg.global ≡ false) }
+    ensures { IfOk result (λ c. (app_of c ≡ with_rule (app_of command.entry) (rule_of arg.entry)) × ((fields_of c).has_globals ≡ false)) }
+{
+    command.arg(arg)
+}
+
 fn sync_command<'a>(alloc: Global) -> Result<clap::Command<'a>, AllocError>
     ensures { IfOk result (λ c. (app_of c ≡ sync_app) × ((fields_of c).has_globals ≡ false)) }
 {
-    let watch = Arg::new(alloc, "watch").required(true);
-    clap::Command::new(alloc, "sync")
-        .arg(turns_arg(alloc))?
-        .arg(watch)?
-        .arg(peers_arg(alloc))
+    let command = clap::Command::new(alloc, "sync");
+    let command = with_arg(command, turns_arg(alloc))?;
+    let command = with_arg(command, word_arg(alloc, "watch"))?;
+    with_arg(command, peers_arg(alloc))
 }
 
 fn replay_command<'a>(alloc: Global) -> Result<clap::Command<'a>, AllocError>
     ensures { IfOk result (λ c. (app_of c ≡ replay_app) × ((fields_of c).has_globals ≡ false)) }
 {
-    let watch = Arg::new(alloc, "watch").required(true);
-    let session = Arg::new(alloc, "session").required(true);
-    clap::Command::new(alloc, "replay")
-        .arg(trace_arg(alloc))?
-        .arg(watch)?
-        .arg(session)
+    let command = clap::Command::new(alloc, "replay");
+    let command = with_arg(command, trace_arg(alloc))?;
+    let command = with_arg(command, word_arg(alloc, "watch"))?;
+    with_arg(command, word_arg(alloc, "session"))
 }
 
 // A command of two words.
@@ -124,17 +136,15 @@ fn two_words<'a>(
 ) -> Result<clap::Command<'a>, AllocError>
     ensures { IfOk result (λ c. (app_of c ≡ two_app name.entry.now one.entry.now two.entry.now) × ((fields_of c).has_globals ≡ false)) }
 {
-    let one = Arg::new(alloc, one).required(true);
-    let two = Arg::new(alloc, two).required(true);
-    clap::Command::new(alloc, name).arg(one)?.arg(two)
+    let command = with_arg(clap::Command::new(alloc, name), word_arg(alloc, one))?;
+    with_arg(command, word_arg(alloc, two))
 }
 
 // A command of one word.
 fn one_word<'a>(alloc: Global, name: &'a str, one: &'a str) -> Result<clap::Command<'a>, AllocError>
     ensures { IfOk result (λ c. (app_of c ≡ one_app name.entry.now one.entry.now) × ((fields_of c).has_globals ≡ false)) }
 {
-    let one = Arg::new(alloc, one).required(true);
-    clap::Command::new(alloc, name).arg(one)
+    with_arg(clap::Command::new(alloc, name), word_arg(alloc, one))
 }
 
 // The command with one more subcommand.
