@@ -3,7 +3,7 @@ ghost use Rattle.std.specs.Prelude.{◌≡◌, ◌==◌, IfOk, IfErr, [], map, f
 ghost use Rattle.std.specs.List.{list_any};
 ghost use Rattle.clap.specs.Words.{app_of, rule_of, new_rule, subcommand_of, subcommand_rows_of, fault_of, with_rule};
 ghost use Rattle.clap.specs.declared.builder.command.Command.TheViews.{out-Command as fields_of};
-ghost use Rattle.cf_input.specs.Words.{trace, turns, several, needed, replay_app, sync_app, one_app, two_app, with_sub, client_app, cli_app, text_of, texts_of, is_met, is_set, turns_of, height_of, replay_of, sync_of, scan_of, filter_of, address_of, hash_in, prove_of, check_of, HasFewPeers, is_faultless, command_of, is_help_word, is_version_word};
+ghost use Rattle.cf_input.specs.Words.{trace, turns, several, needed, replay_app, sync_app, one_app, two_app, with_sub, client_app, cli_app, text_of, texts_of, is_met, is_set, turns_of, height_of, replay_of, sync_of, scan_of, filter_of, address_of, hash_in, prove_of, check_of, HasFewPeers, asked_of, is_faultless, command_of, is_help_word, is_version_word};
 ghost use Rattle.cf_input.specs.Commands.{GivesOrUsage, IfUsage, refusal_of};
 
 use crate::number::{number_at_most, number_within};
@@ -344,6 +344,35 @@ fn read_check(alloc: Global, matches: &ArgMatches) -> Result<Command, Refused<Us
     Ok(Command::Check { file })
 }
 
+// What the subcommand that was met asks for.
+fn read_met(alloc: Global, matches: &ArgMatches) -> Result<Command, Refused<Usage>>
+    ensures exact { GivesOrUsage (asked_of (subcommand_rows_of matches.now)) result }
+    ensures few { IfOk result HasFewPeers }
+{
+    if is_met(matches, "replay") {
+        return read_replay(alloc, matches);
+    }
+    if is_met(matches, "sync") {
+        return read_sync(alloc, matches);
+    }
+    if is_met(matches, "scan") {
+        return read_scan(alloc, matches);
+    }
+    if is_met(matches, "filter") {
+        return read_filter(alloc, matches);
+    }
+    if is_met(matches, "address") {
+        return read_address(alloc, matches);
+    }
+    if is_met(matches, "prove") {
+        return read_prove(alloc, matches);
+    }
+    if is_met(matches, "check") {
+        return read_check(alloc, matches);
+    }
+    Err(Refused::No(Usage))
+}
+
 /// What the words ask for; the first is the program's name. `Usage` exactly where clap refuses them
 /// for this command, a number isn't decimal and within its range, a name isn't one, there are more
 /// than 8 peers, or a hash isn't 64 hexadecimal digits.
@@ -352,28 +381,7 @@ pub fn read_words(alloc: Global, words: &[String]) -> Result<Command, Refused<Us
     ensures few { IfOk result HasFewPeers }
 {
     let matches = matches_of_words(alloc, words)?;
-    if is_met(&matches, "replay") {
-        return read_replay(alloc, &matches);
-    }
-    if is_met(&matches, "sync") {
-        return read_sync(alloc, &matches);
-    }
-    if is_met(&matches, "scan") {
-        return read_scan(alloc, &matches);
-    }
-    if is_met(&matches, "filter") {
-        return read_filter(alloc, &matches);
-    }
-    if is_met(&matches, "address") {
-        return read_address(alloc, &matches);
-    }
-    if is_met(&matches, "prove") {
-        return read_prove(alloc, &matches);
-    }
-    if is_met(&matches, "check") {
-        return read_check(alloc, &matches);
-    }
-    Err(Refused::No(Usage))
+    read_met(alloc, &matches)
 }
 
 fn is_help_word(word: &str) -> bool
