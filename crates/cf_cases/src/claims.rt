@@ -1,7 +1,7 @@
 //! What peers claim of the filters of blocks.
 ghost use Rattle.std.specs.Prelude.{◌≤◌};
 
-use crate::fields::{bytes_in, texts_in};
+use crate::fields::{bytes_in, put_digits};
 use cf_block::{block_hash, genesis_header};
 use cf_bytes::{Cut, Hash32, PeerNo, Refused};
 use cf_dispute::{At, ClaimFault, Claims, genesis_filter_header};
@@ -25,8 +25,9 @@ fn hash_in(alloc: Global, field: &str) -> Option<Hash32> {
 // Hashes, parted by commas.
 fn hashes_in(alloc: Global, field: &str) -> Option<Vec<Hash32>> {
     let mut hashes = Vec::new(alloc);
-    for text in &texts_in(alloc, field, ',')? {
-        hashes.push(hash_in(alloc, text)?).ok()?;
+    for text in field.split(',') {
+        let hash = hash_in(alloc, text)?;
+        hashes.push(hash).ok()?;
     }
     Some(hashes)
 }
@@ -35,8 +36,7 @@ fn hashes_in(alloc: Global, field: &str) -> Option<Vec<Hash32>> {
 fn with_hashes(alloc: Global, word: &str, hashes: &[Hash32]) -> Option<String> {
     let mut text = String::from_str(alloc, word).ok()?;
     for hash in hashes {
-        text.push(' ').ok()?;
-        text.push_str(&hex::encode(alloc, &hash.0).ok()?).ok()?;
+        put_digits(alloc, &hash.0, &mut text)?;
     }
     Some(text)
 }
@@ -96,21 +96,32 @@ fn at(alloc: Global, claims: &Claims, block: &str) -> Option<String> {
     }
 }
 
+// The filter hash that a peer claims at a block.
+fn hash_claimed(alloc: Global, claims: &Claims, peer: PeerNo, block: &Hash32) -> Option<String> {
+    match claims.claim(peer, block) {
+        Some(claim) => with_hashes(alloc, "hash", &[claim.hash]),
+        None => String::from_str(alloc, "no hash").ok(),
+    }
+}
+
+// The filter header that a peer claims at a block.
+fn header_claimed(alloc: Global, claims: &Claims, peer: PeerNo, block: &Hash32) -> Option<String> {
+    match claims.header(peer, block) {
+        Some(header) => with_hashes(alloc, "header", &[header]),
+        None => String::from_str(alloc, "no header").ok(),
+    }
+}
+
 // The filter hash and the filter header that a peer claims at a block.
 fn of(alloc: Global, claims: &Claims, fields: &str) -> Option<String> {
     let (peer, block) = fields.split_once(' ')?;
     let peer = PeerNo(peer.parse().ok()?);
     let block = hash_in(alloc, block)?;
-    let hash = match claims.claim(peer, &block) {
-        Some(claim) => with_hashes(alloc, "hash", &[claim.hash]),
-        None => String::from_str(alloc, "no hash").ok(),
-    };
-    let header = match claims.header(peer, &block) {
-        Some(header) => with_hashes(alloc, "header", &[header]),
-        None => String::from_str(alloc, "no header").ok(),
-    };
-    let (hash, header) = (hash?, header?);
-    format!(in alloc; "{hash} {header}").ok()
+    let mut text = hash_claimed(alloc, claims, peer, &block)?;
+    text.push(' ').ok()?;
+    text.push_str(&header_claimed(alloc, claims, peer, &block)?)
+        .ok()?;
+    Some(text)
 }
 
 fn step(alloc: Global, claims: &mut Claims, text: &str) -> Option<String> {
@@ -124,16 +135,22 @@ fn step(alloc: Global, claims: &mut Claims, text: &str) -> Option<String> {
     }
 }
 
+// Puts what a step comes to behind those before it.
+fn put_step(alloc: Global, claims: &mut Claims, words: &str, out: &mut String) -> Option<()> {
+    let told = step(alloc, claims, words)?;
+    if !out.is_empty() {
+        out.push(';').ok()?;
+    }
+    out.push_str(&told).ok()
+}
+
 /// What each step of a row comes to, over claims with this filter header of the first block. All are parted by `;`.
 pub(crate) fn answer(alloc: Global, row: &str) -> Option<String> {
     let (first, steps) = row.split_once(';')?;
     let mut claims = Claims::new(alloc, &hash_in(alloc, first)?).ok()?;
     let mut text = String::new(alloc);
-    for words in &texts_in(alloc, steps, ';')? {
-        if !text.is_empty() {
-            text.push(';').ok()?;
-        }
-        text.push_str(&step(alloc, &mut claims, words)?).ok()?;
+    for words in steps.split(';') {
+        put_step(alloc, &mut claims, words, &mut text)?;
     }
     Some(text)
 }

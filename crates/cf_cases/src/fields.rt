@@ -1,4 +1,5 @@
 //! The fields of rows.
+use cf_bytes::{Cut, Hash32, show};
 use std::alloc::Global;
 
 /// The bytes that a field spells in hexadecimal. `-` is none.
@@ -12,6 +13,28 @@ pub(crate) fn digits_of(alloc: Global, bytes: &[u8]) -> Option<String> {
         return String::from_str(alloc, "-").ok();
     }
     hex::encode(alloc, bytes).ok()
+}
+
+/// The hash that a field spells in hexadecimal, in wire order.
+pub(crate) fn hash_in(alloc: Global, field: &str) -> Option<Hash32> {
+    let bytes = bytes_in(alloc, field)?;
+    Some(Hash32(Cut::new(&bytes).array().ok()?))
+}
+
+/// Puts a word behind a text, after a space.
+pub(crate) fn put_word(word: &str, out: &mut String) -> Option<()> {
+    out.push(' ').ok()?;
+    out.push_str(word).ok()
+}
+
+/// Puts bytes in hexadecimal behind a text, after a space.
+pub(crate) fn put_digits(alloc: Global, bytes: &[u8], out: &mut String) -> Option<()> {
+    put_word(&hex::encode(alloc, bytes).ok()?, out)
+}
+
+/// Puts a hash behind a text, after a space, as people read it.
+pub(crate) fn put_hash(alloc: Global, hash: &Hash32, out: &mut String) -> Option<()> {
+    put_word(&show(alloc, hash).ok()?, out)
 }
 
 /// The numbers of a field, parted by commas. `-` is none.

@@ -1,5 +1,5 @@
 //! Files of blocks.
-use crate::fields::{bytes_in, digits_of};
+use crate::fields::{bytes_in, digits_of, put_hash, put_word};
 use cf_bytes::{Refused, show};
 use cf_index::{CheckedChain, Index, read_chain};
 use std::alloc::Global;
@@ -13,17 +13,18 @@ fn joined(alloc: Global, row: &str) -> Option<Vec<u8>> {
     Some(bytes)
 }
 
-// What an index tells at a height.
-fn told_at(alloc: Global, index: &Index, height: u32) -> Option<String> {
-    let name = index.hash(height)?;
-    let hash = show(alloc, &name).ok()?;
-    let filter = digits_of(alloc, index.filter(height)?)?;
-    let filter_hash = show(alloc, &index.filter_hash(height)?).ok()?;
-    let header = show(alloc, &index.filter_header(height)?).ok()?;
-    let place = index.height_of(&name)?;
+// Puts what an index tells of a height on a line of its own.
+fn put_height(alloc: Global, index: &Index, height: u32, out: &mut String) -> Option<()> {
+    let hash = index.hash(height)?;
+    let place = index.height_of(&hash)?;
     let bits = index.header(height)?.bits;
     let txs = index.block(height)?.txs.len();
-    format!(in alloc; "\n{place} {hash} {filter} {filter_hash} {header} {bits:x} {txs}").ok()
+    out.push_str(&format!(in alloc; "\n{place}").ok()?).ok()?;
+    put_hash(alloc, &hash, out)?;
+    put_word(&digits_of(alloc, index.filter(height)?)?, out)?;
+    put_hash(alloc, &index.filter_hash(height)?, out)?;
+    put_hash(alloc, &index.filter_header(height)?, out)?;
+    put_word(&format!(in alloc; "{bits:x} {txs}").ok()?, out)
 }
 
 fn told(alloc: Global, chain: CheckedChain) -> Option<String> {
@@ -31,8 +32,7 @@ fn told(alloc: Global, chain: CheckedChain) -> Option<String> {
     let mut text = format!(in alloc; "{} {tip} {}", chain.tip(), chain.blocks().len()).ok()?;
     let index = Index::of(alloc, chain).ok()?;
     for height in 0..=index.tip() {
-        text.push_str(told_at(alloc, &index, height)?.as_str())
-            .ok()?;
+        put_height(alloc, &index, height, &mut text)?;
     }
     Some(text)
 }

@@ -1,7 +1,7 @@
 //! Hashes of items, codes of values, and filters.
 ghost use Rattle.cf_golomb.specs.Code.{HasSpelling};
 
-use crate::fields::{bytes_in, texts_in};
+use crate::fields::{bytes_in, hash_in, put_digits};
 use cf_block::{Block, Script, block_hash, parse_block};
 use cf_bytes::{Cut, Hash32, Refused};
 use cf_filter::{Items, build, filter_hash, filter_header, items, matches};
@@ -51,10 +51,9 @@ pub(crate) fn scripts_in(alloc: Global, field: &str) -> Option<Vec<Script>> {
     if field == "none" {
         return Some(scripts);
     }
-    for digits in &texts_in(alloc, field, ',')? {
-        scripts
-            .push(Script::from_vec(bytes_in(alloc, digits)?))
-            .ok()?;
+    for digits in field.split(',') {
+        let bytes = bytes_in(alloc, digits)?;
+        scripts.push(Script::from_vec(bytes)).ok()?;
     }
     Some(scripts)
 }
@@ -63,8 +62,7 @@ pub(crate) fn scripts_in(alloc: Global, field: &str) -> Option<Vec<Script>> {
 fn shown(alloc: Global, set: &Items) -> Option<String> {
     let mut text = String::from_str(alloc, "items").ok()?;
     for script in set.as_slice() {
-        text.push(' ').ok()?;
-        text.push_str(&hex::encode(alloc, script).ok()?).ok()?;
+        put_digits(alloc, script, &mut text)?;
     }
     Some(text)
 }
@@ -79,19 +77,23 @@ pub(crate) fn items_left(alloc: Global, row: &str) -> Option<String> {
     shown(alloc, &left)
 }
 
-// The filter of a block, and its hash and its header after this one.
-fn filtered(alloc: Global, block: &Block, spent: &[Script], before: &Hash32) -> Option<String> {
+// The filter of a block whose inputs spend these scripts.
+fn filter_of(alloc: Global, block: &Block, spent: &[Script]) -> Option<Vec<u8>> {
     let set = items(alloc, block, spent).ok()?;
     if set.len() > 1000 {
         return None;
     }
-    let filter = build(alloc, &block_hash(&block.header), &set).ok()?;
-    let hash = filter_hash(&filter);
+    build(alloc, &block_hash(&block.header), &set).ok()
+}
+
+// A filter, its hash, and its header after this one.
+fn filter_text(alloc: Global, filter: &[u8], before: &Hash32) -> Option<String> {
+    let hash = filter_hash(filter);
     let header = filter_header(&hash, before);
-    let digits = hex::encode(alloc, &filter).ok()?;
-    let hash = hex::encode(alloc, &hash.0).ok()?;
-    let header = hex::encode(alloc, &header.0).ok()?;
-    format!(in alloc; "{digits} {hash} {header}").ok()
+    let mut text = hex::encode(alloc, filter).ok()?;
+    put_digits(alloc, &hash.0, &mut text)?;
+    put_digits(alloc, &header.0, &mut text)?;
+    Some(text)
 }
 
 /// The filter of a block whose inputs spend these scripts, its hash, and its header after that of a row,
@@ -100,15 +102,15 @@ pub(crate) fn answer(alloc: Global, row: &str) -> Option<String> {
     let (block, scripts) = row.split_once(' ')?;
     let (spent, before) = scripts.split_once(' ')?;
     let block = parse_block(alloc, &bytes_in(alloc, block)?).ok()?;
-    let before = Hash32(Cut::new(&bytes_in(alloc, before)?).array().ok()?);
-    filtered(alloc, &block, &scripts_in(alloc, spent)?, &before)
+    let filter = filter_of(alloc, &block, &scripts_in(alloc, spent)?)?;
+    filter_text(alloc, &filter, &hash_in(alloc, before)?)
 }
 
 /// Whether a filter under a block's hash matches one of the scripts of a row, or the first fault.
 pub(crate) fn matched(alloc: Global, row: &str) -> Option<String> {
     let (hash, rest) = row.split_once(' ')?;
     let (filter, scripts) = rest.split_once(' ')?;
-    let hash = Hash32(Cut::new(&bytes_in(alloc, hash)?).array().ok()?);
+    let hash = hash_in(alloc, hash)?;
     let scripts = scripts_in(alloc, scripts)?;
     let mut scratch = vec![in alloc; 0u64; scripts.len()].ok()?;
     let answer = matches(&hash, &bytes_in(alloc, filter)?, &scripts, &mut scratch);

@@ -1,5 +1,5 @@
 //! What a user gives: words, watch files and sessions.
-use crate::fields::{file_in, texts_in};
+use crate::fields::{file_in, put_digits, texts_in};
 use cf_bytes::Refused;
 use cf_cli::own_text;
 use cf_input::{Command, PeerNames, Session, mistake_text, read_session, read_watch, read_words};
@@ -67,9 +67,7 @@ pub(crate) fn mistake(alloc: Global, row: &str) -> Option<String> {
 fn scripts_of(alloc: Global, watch: &Watch) -> Option<String> {
     let mut text = String::from_str(alloc, "scripts").ok()?;
     for script in watch.scripts() {
-        text.push(' ').ok()?;
-        text.push_str(&hex::encode(alloc, script.as_slice()).ok()?)
-            .ok()?;
+        put_digits(alloc, script.as_slice(), &mut text)?;
     }
     Some(text)
 }

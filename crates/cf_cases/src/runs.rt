@@ -69,6 +69,20 @@ fn answered(
     shown(alloc, &status, out.bytes())
 }
 
+// The answer over the wires of a session, where the first field tells the room and the calls of the wires that fail.
+fn answered_over(
+    alloc: Global,
+    limits: &str,
+    words: &[String],
+    files: MapFiles,
+    session: &str,
+) -> Option<String> {
+    let (room, failing) = limits.split_once(' ')?;
+    let room = room.parse().ok()?;
+    let wires = wires_of(alloc, session, failing)?;
+    answered(alloc, words, files, wires, room)
+}
+
 // The call of a row's fields: the room, the calls of the wires that fail, the words, and the files.
 fn called(
     alloc: Global,
@@ -78,12 +92,10 @@ fn called(
     session: &str,
     blocks: &str,
 ) -> Option<String> {
-    let (room, failing) = limits.split_once(' ')?;
+    let words = texts_in(alloc, words, ' ')?;
     let session = file_in(alloc, session)?;
     let files = files_of(alloc, watch, &session, blocks)?;
-    let wires = wires_of(alloc, &session, failing)?;
-    let words = texts_in(alloc, words, ' ')?;
-    answered(alloc, &words, files, wires, room.parse().ok()?)
+    answered_over(alloc, limits, &words, files, &session)
 }
 
 /// How the call of a row ends, and what it writes.

@@ -1,7 +1,7 @@
 //! Verdicts on filters.
-use crate::fields::{bytes_in, texts_in};
+use crate::fields::{bytes_in, hash_in};
 use crate::filters::scripts_in;
-use cf_bytes::{Cut, Hash32, Listed};
+use cf_bytes::Listed;
 use cf_match::{Job, Matcher, Plain};
 use cf_scan::Watch;
 use std::alloc::Global;
@@ -9,7 +9,7 @@ use std::alloc::Global;
 // A filter that came for a block: the block's hash, `:`, the filter.
 fn job_in(alloc: Global, text: &str) -> Option<Job> {
     let (block, filter) = text.split_once(':')?;
-    let block = Hash32(Cut::new(&bytes_in(alloc, block)?).array().ok()?);
+    let block = hash_in(alloc, block)?;
     let filter = Listed::from_vec(bytes_in(alloc, filter)?);
     Some(Job { block, filter })
 }
@@ -25,15 +25,23 @@ fn judged<M: Matcher>(
     format!(in alloc; "{verdicts:?}").ok()
 }
 
+// Filters that came, parted by spaces. `none` is none.
+fn jobs_in(alloc: Global, fields: &str) -> Option<Vec<Job>> {
+    let mut jobs = Vec::new(alloc);
+    if fields == "none" {
+        return Some(jobs);
+    }
+    for text in fields.split(' ') {
+        let job = job_in(alloc, text)?;
+        jobs.push(job).ok()?;
+    }
+    Some(jobs)
+}
+
 /// The verdicts on filters for blocks, where these scripts are watched.
 pub(crate) fn answer(alloc: Global, row: &str) -> Option<String> {
     let (scripts, filters) = row.split_once(' ')?;
     let watch = Watch::new(alloc, &scripts_in(alloc, scripts)?).ok()?;
-    let mut jobs = Vec::new(alloc);
-    if filters != "none" {
-        for text in &texts_in(alloc, filters, ' ')? {
-            jobs.push(job_in(alloc, text)?).ok()?;
-        }
-    }
+    let jobs = jobs_in(alloc, filters)?;
     judged(alloc, &mut Plain::new(alloc), &jobs, &watch)
 }
