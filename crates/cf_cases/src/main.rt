@@ -3,6 +3,7 @@
 #![tactic(auto)]
 
 mod addresses;
+mod blocks;
 mod chains;
 mod claims;
 mod conversations;
@@ -26,6 +27,7 @@ fn answer(alloc: Global, row: &str) -> Option<String> {
     let (kind, rest) = row.split_once(' ')?;
     match kind {
         "address" => addresses::answer(alloc, rest),
+        "block" => blocks::block(alloc, rest),
         "blocks" => files::answer(alloc, rest),
         "chain" => chains::answer(alloc, rest),
         "claims" => claims::answer(alloc, rest),
@@ -38,6 +40,7 @@ fn answer(alloc: Global, row: &str) -> Option<String> {
         "locator" => headers::locator(alloc, rest),
         "match" => filters::matched(alloc, rest),
         "meets" => filters::met(alloc, rest),
+        "merkle" => blocks::merkle(alloc, rest),
         "mine" => chains::mined(alloc, rest),
         "mistake" => inputs::mistake(alloc, rest),
         "payload" => payloads::answer(alloc, rest),
@@ -50,6 +53,7 @@ fn answer(alloc: Global, row: &str) -> Option<String> {
         "stream" => streams::answer(alloc, rest),
         "target" => headers::target(alloc, rest),
         "text" => inputs::text(alloc, rest),
+        "tx" => blocks::tx(alloc, rest),
         "unhash" => hashes::unhash(alloc, rest),
         "verdicts" => verdicts::answer(alloc, rest),
         "watch" => inputs::watch(alloc, rest),

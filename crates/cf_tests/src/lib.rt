@@ -2,8 +2,6 @@
 #![tactic(auto)]
 
 #[cfg(test)]
-mod cf_block_tests;
-#[cfg(test)]
 mod cf_bytes_tests;
 #[cfg(test)]
 mod cf_conn_tests;
