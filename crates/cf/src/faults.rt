@@ -45,7 +45,9 @@ fn tell_file(rt: &HostRuntime, command: &Command) -> io::Result<bool> {
         }
         Command::Sync { watch, .. } => tell_reason(rt, watch.as_str()),
         Command::Scan { file, watch } => tell_first(rt, watch.as_str(), file.as_str()),
-        Command::Filter { file, .. } => tell_reason(rt, file.as_str()),
+        Command::Filter { file, .. } | Command::Prove { file, .. } | Command::Check { file } => {
+            tell_reason(rt, file.as_str())
+        }
         Command::Address { .. } => Ok(false),
     }
 }

@@ -1,6 +1,6 @@
 //! What a user gives: words, watch files and sessions.
 use crate::fields::{file_in, put_digits, texts_in};
-use cf_bytes::Refused;
+use cf_bytes::{Refused, show};
 use cf_cli::own_text;
 use cf_input::{Command, PeerNames, Session, mistake_text, read_session, read_watch, read_words};
 use cf_scan::Watch;
@@ -36,6 +36,10 @@ fn told(alloc: Global, command: &Command) -> Option<String> {
             format!(in alloc; "filter {} {height}", file.as_str()).ok()
         }
         Command::Address { text } => format!(in alloc; "address {}", text.as_str()).ok(),
+        Command::Prove { file, txid } => {
+            format!(in alloc; "prove {} {}", file.as_str(), show(alloc, txid).ok()?).ok()
+        }
+        Command::Check { file } => format!(in alloc; "check {}", file.as_str()).ok(),
     }
 }
 

@@ -20,7 +20,7 @@ use Rattle.cf_peer.specs.Memory.{script_of, log_of, failing_of, finished_of, tol
 use Rattle.cf_peer.specs.Wires.{Script, Made}
 use Rattle.cf_input.specs.declared.session.SessionFault.{SessionFault}
 use Rattle.cf_cli.specs.declared.status.Status.{Status}
-use Rattle.cf_cli.specs.declared.status.Status.TheVariants.{Done, NoMemory, Usage, BadFile, FileFault, OutFault, NoPeers, Tired, Ended, NoHeight, NotAddress}
+use Rattle.cf_cli.specs.declared.status.Status.TheVariants.{Done, NoMemory, Usage, BadFile, FileFault, OutFault, NoPeers, Tired, Ended, NoHeight, NotThere, NotAddress}
 use Rattle.cf_input.specs.declared.words.Command.{Command}
 use Rattle.cf_input.specs.declared.words.Command.TheVariants.{Replay, Sync}
 use Rattle.cf_input.specs.SessionFile.{session_of}
@@ -40,6 +40,7 @@ no_run (NoPeers ends) is = absurd is
 no_run Tired is = absurd is
 no_run Ended is = absurd is
 no_run (NoHeight tip) is = absurd is
+no_run (NotThere txid) is = absurd is
 no_run (NotAddress cause) is = absurd is
 
 dial_same : (x y : Dial) → x.name ≡ y.name → x.answered ≡ y.answered → x ≡ y
@@ -142,6 +143,7 @@ file_answers (NoPeers ends) is = absurd is
 file_answers Tired is = absurd is
 file_answers Ended is = absurd is
 file_answers (NoHeight tip) is = absurd is
+file_answers (NotThere txid) is = absurd is
 file_answers (NotAddress cause) is = absurd is
 
 -- where no run is made nothing has passed, and nobody is honest
@@ -194,6 +196,7 @@ has_nobody FileFault off = refl
 has_nobody OutFault off = refl
 has_nobody (NoPeers ends) off = refl
 has_nobody (NoHeight tip) off = refl
+has_nobody (NotThere txid) off = refl
 has_nobody (NotAddress cause) off = refl
 
 not_run : (status other : Status) → has_run status ≡ false → has_run other ≡ true → status ≡ other → ⊥

@@ -2,3 +2,4 @@ pub mod Reading
 pub mod Statuses
 pub mod Texts
 pub mod Theorem
+pub mod Proving

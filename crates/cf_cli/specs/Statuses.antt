@@ -10,14 +10,17 @@ use Rattle.cf_index.specs.Files.{blocks_at}
 use Rattle.cf_peer.specs.Wires.{Script}
 use Rattle.cf_input.specs.declared.session.SessionFault.{SessionFault}
 use Rattle.cf_cli.specs.declared.status.FileCause.{FileCause}
-use Rattle.cf_cli.specs.declared.status.FileCause.TheVariants.{TooBig, Watch as OfWatch, Session as OfSession, Blocks as OfBlocks}
+use Rattle.cf_cli.specs.declared.status.FileCause.TheVariants.{TooBig, Watch as OfWatch, Session as OfSession, Blocks as OfBlocks, Proof as OfProof}
 use Rattle.cf_cli.specs.declared.status.Status.{Status}
-use Rattle.cf_cli.specs.declared.status.Status.TheVariants.{Done, NoMemory, Usage, BadFile, FileFault, OutFault, NoPeers, Tired, Ended, NoHeight, NotAddress}
+use Rattle.cf_cli.specs.declared.status.Status.TheVariants.{Done, NoMemory, Usage, BadFile, FileFault, OutFault, NoPeers, Tired, Ended, NoHeight, NotThere, NotAddress}
 use Rattle.cf_cli.specs.declared.status.Which.{Which}
-use Rattle.cf_cli.specs.declared.status.Which.TheVariants.{Watch, Session, Blocks}
+use Rattle.cf_cli.specs.declared.status.Which.TheVariants.{Watch, Session, Blocks, Proof}
 use Rattle.cf_input.specs.declared.watch_file.WatchFileFault.{WatchFileFault}
 use Rattle.cf_input.specs.declared.words.Command.{Command}
-use Rattle.cf_input.specs.declared.words.Command.TheVariants.{Replay, Sync, Scan, Filter, Address}
+use Rattle.cf_input.specs.declared.words.Command.TheVariants.{Replay, Sync, Scan, Filter, Address, Prove, Check}
+use Rattle.cf_input.specs.ProofFile.{proof_file_of}
+use Rattle.cf_input.specs.declared.proof_file.ProofFileFault.{ProofFileFault}
+use Rattle.cf_input.specs.declared.proof_file.Proven.{Proven}
 use Rattle.cf_input.specs.SessionFile.{session_of}
 use Rattle.cf_input.specs.WatchFile.{watch_of}
 
@@ -32,9 +35,10 @@ code_of (NoPeers ends) = 6
 code_of Tired = 7
 code_of Ended = 8
 code_of (NoHeight tip) = 11
+code_of (NotThere txid) = 12
 code_of (NotAddress cause) = 13
 
--- the most bytes that a watch file, a session file and a block file may have
+-- the most bytes that a watch file, a session file, a block file and the file of a proof may have
 abbrev pub most_watch : ℕ
 most_watch = 33554432
 
@@ -43,6 +47,9 @@ most_session = 1073741824
 
 abbrev pub most_blocks : ℕ
 most_blocks = 1073741824
+
+abbrev pub most_proof : ℕ
+most_proof = 4000000
 
 -- what stands under a name: no file, a file that is refused, or a good one
 pub data Verdict : Type 0 where
@@ -74,6 +81,14 @@ abbrev pub blocks_verdict : Option (List ℕ) → Verdict
 blocks_verdict None = Missing
 blocks_verdict (Some bytes) = if nat_lt most_blocks (length bytes) then Bad Blocks 0 TooBig else blocks_read (blocks_at bytes)
 
+abbrev pub proof_read : Result Proven ProofFileFault → Verdict
+proof_read (Ok proven) = Good
+proof_read (Err fault) = Bad Proof fault.place (OfProof fault.cause)
+
+abbrev pub proof_verdict : Option (List ℕ) → Verdict
+proof_verdict None = Missing
+proof_verdict (Some bytes) = if nat_lt most_proof (length bytes) then Bad Proof 0 TooBig else proof_read (proof_file_of bytes)
+
 -- the watch file is judged first
 abbrev pub and_then : Verdict → Verdict → Verdict
 and_then Missing later = Missing
@@ -90,6 +105,8 @@ verdict_of files (Sync turns watch peer) = watch_verdict (finite.get files watch
 verdict_of files (Scan file watch) = and_then (watch_verdict (finite.get files watch)) (blocks_verdict (finite.get files file))
 verdict_of files (Filter file height) = blocks_verdict (finite.get files file)
 verdict_of files (Address text) = no_file
+verdict_of files (Prove file txid) = blocks_verdict (finite.get files file)
+verdict_of files (Check file) = proof_verdict (finite.get files file)
 
 -- a file that is missing or refused is answered so, and no other is; a read may fail, and memory may be wanting
 abbrev pub IsJudged : Verdict → Status → Type 0

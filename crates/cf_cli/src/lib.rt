@@ -6,11 +6,12 @@ mod following;
 mod loading;
 mod own_texts;
 mod program;
+mod proving;
 mod reading;
 mod status;
 mod texts;
 
-pub use loading::{MOST_BLOCKS, MOST_SESSION, MOST_WATCH};
+pub use loading::{MOST_BLOCKS, MOST_PROOF, MOST_SESSION, MOST_WATCH};
 pub use own_texts::own_text;
 pub use program::run;
 pub use status::{FileCause, Status, Which};

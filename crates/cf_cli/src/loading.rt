@@ -5,16 +5,17 @@ ghost use Rattle.std.specs.List.{list_all};
 ghost use Rattle.cf_bytes.specs.Outside.{HasRisen};
 ghost use Rattle.cf_chain.specs.Good.{IsGoodChain};
 ghost use Rattle.cf_index.specs.Files.{blocks_at};
+ghost use Rattle.cf_input.specs.ProofFile.{proof_file_of};
 ghost use Rattle.cf_input.specs.SessionFile.{session_of};
 ghost use Rattle.cf_input.specs.Sessions.{script_in, AreNamed};
 ghost use Rattle.cf_input.specs.WatchFile.{watch_of};
 ghost use Rattle.cf_peer.specs.Log.{is_real};
-ghost use Rattle.cf_cli.specs.Statuses.{IsReadAs, IsUnread, IsOfFile, IsRefusal, watch_verdict, session_verdict, blocks_read, blocks_verdict};
+ghost use Rattle.cf_cli.specs.Statuses.{IsReadAs, IsUnread, IsOfFile, IsRefusal, watch_verdict, session_verdict, blocks_read, blocks_verdict, proof_verdict};
 
 use crate::status::{FileCause, Status, Which};
 use cf_bytes::{FileFail, Files, Refused};
 use cf_index::{CheckedChain, read_chain};
-use cf_input::{Session, read_session, read_watch};
+use cf_input::{Proven, Session, read_proof_file, read_session, read_watch};
 use cf_scan::Watch;
 use std::alloc::Global;
 
@@ -26,6 +27,9 @@ pub const MOST_SESSION: usize = 1_073_741_824;
 
 /// The most bytes that a block file may have.
 pub const MOST_BLOCKS: usize = 1_073_741_824;
+
+/// The most bytes that the file of a proof may have.
+pub const MOST_PROOF: usize = 4_000_000;
 
 // The answer to a file that can't be read.
 fn unread(fail: FileFail, which: Which) -> Status
@@ -132,5 +136,31 @@ pub(crate) fn load_chain<F: Files>(
     match files.read(alloc, name, MOST_BLOCKS) {
         Ok(bytes) => chain_of(alloc, bytes),
         Err(fail) => Err(unread(fail, Which::Blocks)),
+    }
+}
+
+/// Reads what the file of a proof proves.
+pub(crate) fn load_proof<F: Files>(
+    alloc: Global,
+    files: &mut F,
+    name: &str,
+) -> Result<Proven, Status>
+    ensures answer { IfSome (F.files files.old) (λ m. IsReadAs (proof_verdict (finite.get m name.now)) result) }
+    ensures proven { IfOk result (λ p. IfSome (F.files files.old) (λ m. IfSome (finite.get m name.now) (λ bytes. proof_file_of bytes ≡ Ok p))) }
+    ensures same { F.files files.new ≡ F.files files.old }
+    ensures fault { IsErrOf result Status.FileFault → HasRisen (F.faults files.old) (F.faults files.new) }
+    ensures only { IfErr result IsOfFile }
+{
+    match files.read(alloc, name, MOST_PROOF) {
+        Ok(bytes) => match read_proof_file(alloc, &bytes) {
+            Ok(proven) => Ok(proven),
+            Err(Refused::No(fault)) => Err(Status::BadFile {
+                which: Which::Proof,
+                place: fault.place,
+                cause: FileCause::Proof(fault.cause),
+            }),
+            Err(Refused::NoMemory) => Err(Status::NoMemory),
+        },
+        Err(fail) => Err(unread(fail, Which::Proof)),
     }
 }

@@ -22,6 +22,8 @@ usage: cf scan FILE WATCH
        cf replay [--trace] WATCH SESSION
        cf sync [--turns N] WATCH PEER..
        cf address TEXT
+       cf prove FILE TXID
+       cf check FILE
        cf --help
        cf --version
 
@@ -33,6 +35,10 @@ usage: cf scan FILE WATCH
            this version opens no connection yet, so each dial fails
   address  prints the script of an address of regtest, in hexadecimal, or the
            address of a script in hexadecimal
+  prove    checks the blocks of FILE, and prints the transaction whose hash is
+           TXID and a proof that it stands in its block
+  check    checks a proof that prove has printed to FILE, and prints the block
+           and the transaction; it cannot tell whether the block is in a chain
 
   --trace  prints first what was sent to peer P, as `> P COMMAND`, and which
            peer was closed, as `x P CAUSE`
@@ -69,6 +75,7 @@ The exit status:
   7  N deliveries were taken, and an answer was still to come
   8  the session was at its end, and an answer was still to come
  11  HEIGHT is above the tip of FILE
+ 12  no block of FILE has a transaction whose hash is TXID
  13  TEXT is neither an address of regtest nor the script of one
 ";
 

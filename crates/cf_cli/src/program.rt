@@ -11,15 +11,18 @@ ghost use Rattle.cf_peer.specs.Memory.{log_of, failing_of, finished_of, told_of}
 ghost use Rattle.cf_input.specs.SessionFile.{session_of};
 ghost use Rattle.cf_input.specs.Sessions.{script_in, AreNamed};
 ghost use Rattle.cf_cli.specs.Statuses.{IsJudged, IsReadAs, IsUnread, IsOfFile, has_run, was_refused, may_dial, may_play, and_then, verdict_of, watch_verdict, session_verdict};
+ghost use Rattle.cf_bytes.specs.declared.hash.Hash32.{Hash32};
+ghost use Rattle.cf_cli.specs.Proving.{IsProved, IsChecked};
 ghost use Rattle.cf_cli.specs.Reading.{IsScanned, IsFiltered, IsAddressed};
 ghost use Rattle.cf_cli.specs.Theorem.{KeptOver, IsReplayed, Tallied, PlaysSession};
 ghost use Rattle.cf_input.specs.Words.{command_of, HasFewPeers};
 ghost use Rattle.cf_input.specs.declared.words.Command.{Command};
-ghost use Rattle.cf_input.specs.declared.words.Command.TheVariants.{Replay, Sync, Scan, Filter, Address};
+ghost use Rattle.cf_input.specs.declared.words.Command.TheVariants.{Replay, Sync, Scan, Filter, Address, Prove, Check};
 
 use crate::addressing::address;
 use crate::following::follow;
 use crate::loading::{load_session, load_watch};
+use crate::proving::{check, prove};
 use crate::reading::{filter, scan};
 use crate::status::Status;
 use cf_bytes::{Files, Refused, Sink};
@@ -137,6 +140,8 @@ fn perform<F: Files, W: Wires, O: Sink>(
     ensures scan { (file watch : List ℕ) → command ≡ Scan file watch → IsScanned result (F.files files.old) watch file (O.written out.old) (O.written out.new) }
     ensures filter { (file : List ℕ) (height : ℕ) → command ≡ Filter file height → IsFiltered result (F.files files.old) file height (O.written out.old) (O.written out.new) }
     ensures address { (text : List ℕ) → command ≡ Address text → IsAddressed result text (O.written out.old) (O.written out.new) }
+    ensures prove { (file : List ℕ) (txid : Hash32) → command ≡ Prove file txid → IsProved result (F.files files.old) file txid (O.written out.old) (O.written out.new) }
+    ensures check { (file : List ℕ) → command ≡ Check file → IsChecked result (F.files files.old) file (O.written out.old) (O.written out.new) }
     ensures unchanged { F.files files.new ≡ F.files files.old }
     ensures file_fault { result ≡ Status.FileFault → HasRisen (F.faults files.old) (F.faults files.new) }
     ensures out_fault { result ≡ Status.OutFault → HasRisen (O.faults out.old) (O.faults out.new) }
@@ -180,6 +185,8 @@ fn perform<F: Files, W: Wires, O: Sink>(
         Command::Scan { file, watch } => scan(alloc, files, file.as_str(), watch.as_str(), out),
         Command::Filter { file, height } => filter(alloc, files, file.as_str(), height, out),
         Command::Address { text } => address(alloc, text.as_str(), out),
+        Command::Prove { file, txid } => prove(alloc, files, file.as_str(), &txid, out),
+        Command::Check { file } => check(alloc, files, file.as_str(), out),
     }
 }
 
@@ -216,6 +223,8 @@ pub fn run<F: Files, W: Wires, O: Sink>(
     ensures scan { (file watch : List ℕ) → command_of (names_in words.now) ≡ Some (Scan file watch) → IsScanned result (F.files files.old) watch file (O.written out.old) (O.written out.new) }
     ensures filter { (file : List ℕ) (height : ℕ) → command_of (names_in words.now) ≡ Some (Filter file height) → IsFiltered result (F.files files.old) file height (O.written out.old) (O.written out.new) }
     ensures address { (text : List ℕ) → command_of (names_in words.now) ≡ Some (Address text) → IsAddressed result text (O.written out.old) (O.written out.new) }
+    ensures prove { (file : List ℕ) (txid : Hash32) → command_of (names_in words.now) ≡ Some (Prove file txid) → IsProved result (F.files files.old) file txid (O.written out.old) (O.written out.new) }
+    ensures check { (file : List ℕ) → command_of (names_in words.now) ≡ Some (Check file) → IsChecked result (F.files files.old) file (O.written out.old) (O.written out.new) }
     ensures unchanged { F.files files.new ≡ F.files files.old }
     ensures file_fault { result ≡ Status.FileFault → HasRisen (F.faults files.old) (F.faults files.new) }
     ensures out_fault { result ≡ Status.OutFault → HasRisen (O.faults out.old) (O.faults out.new) }

@@ -45,7 +45,8 @@ fn hash_line(alloc: Global, name: &str, hash: &Hash32) -> Result<String, NoMemor
     line_of(alloc, name, value.as_str())
 }
 
-fn bytes_line(alloc: Global, name: &str, bytes: &[u8]) -> Result<String, NoMemory>
+/// A line of a name and bytes, in hexadecimal.
+pub(crate) fn bytes_line(alloc: Global, name: &str, bytes: &[u8]) -> Result<String, NoMemory>
     ensures { IfOk result (λ text. string_bytes text ≡ named_line name.now (encode_lower bytes.now)) }
 {
     let value = digits_of(alloc, bytes)?;

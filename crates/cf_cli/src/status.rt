@@ -2,9 +2,10 @@
 ghost use Rattle.std.specs.Prelude.{◌≡◌};
 ghost use Rattle.cf_cli.specs.Statuses.{code_of};
 
+use cf_bytes::Hash32;
 use cf_client::PeerEnd;
 use cf_index::RecordCause;
-use cf_input::{AddressCause, SessionCause, WatchCause};
+use cf_input::{AddressCause, ProofCause, SessionCause, WatchCause};
 use std::fmt;
 use thiserror::Error;
 
@@ -20,6 +21,9 @@ pub enum Which {
     /// The file of blocks.
     #[error("block file")]
     Blocks,
+    /// The file of a proof.
+    #[error("proof file")]
+    Proof,
 }
 
 /// What is wrong with a file.
@@ -37,6 +41,9 @@ pub enum FileCause {
     /// A record of the block file.
     #[error("{0}")]
     Blocks(RecordCause),
+    /// A line of the file of a proof.
+    #[error("{0}")]
+    Proof(ProofCause),
 }
 
 // Where in a file the fault is: at a record of a block file, at a line of another, or nowhere, with 0.
@@ -51,7 +58,7 @@ impl fmt::Display for Spot {
         match (self.which, self.place) {
             (_, 0) => Ok(()),
             (Which::Blocks, place) => write!(f, ", record {place}"),
-            (Which::Watch | Which::Session, place) => write!(f, ", line {place}"),
+            (Which::Watch | Which::Session | Which::Proof, place) => write!(f, ", line {place}"),
         }
     }
 }
@@ -97,6 +104,11 @@ pub enum Status {
     NoHeight {
         tip: u32,
     },
+    /// No block of the file above genesis has a transaction with this hash.
+    #[error("no block of the file has a transaction with this hash")]
+    NotThere {
+        txid: Hash32,
+    },
     /// The text is neither an address of regtest nor the script of one.
     #[error("{cause}")]
     NotAddress {
@@ -120,6 +132,7 @@ impl Status {
             Status::Tired => 7,
             Status::Ended => 8,
             Status::NoHeight { .. } => 11,
+            Status::NotThere { .. } => 12,
             Status::NotAddress { .. } => 13,
         }
     }

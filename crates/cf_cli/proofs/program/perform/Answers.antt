@@ -28,6 +28,12 @@ returns-in-Filter-clause-failures g c = new_unfailed _ _ _ c.requires.wires
 pub returns-in-Address-clause-failures : goal.returns-in-Address-clause-failures
 returns-in-Address-clause-failures g c = new_unfailed _ _ _ c.requires.wires
 
+pub returns-in-Prove-clause-failures : goal.returns-in-Prove-clause-failures
+returns-in-Prove-clause-failures g c = new_unfailed _ _ _ c.requires.wires
+
+pub returns-in-Check-clause-failures : goal.returns-in-Check-clause-failures
+returns-in-Check-clause-failures g c = new_unfailed _ _ _ c.requires.wires
+
 pub returns-in-Replay-clause-versions : goal.returns-in-Replay-clause-versions
 returns-in-Replay-clause-versions g c = new_words _ _ c.requires.wires
 
@@ -61,3 +67,15 @@ pub returns-in-Replay-clause-tape_versions : goal.returns-in-Replay-clause-tape_
 returns-in-Replay-clause-tape_versions g c =
     versions_so _ c.args.moment c.args.nonce (told_of c.replay.new.tape)
     (to_z-of_z {w = w64} {z = c.args.moment} (search rules)) c.replay.ensures.versions
+
+pub returns-in-Prove-clause-versions : goal.returns-in-Prove-clause-versions
+returns-in-Prove-clause-versions g c = new_words _ _ c.requires.wires
+
+pub returns-in-Check-clause-versions : goal.returns-in-Check-clause-versions
+returns-in-Check-clause-versions g c = new_words _ _ c.requires.wires
+
+pub returns-in-Prove-clause-tape_versions : goal.returns-in-Prove-clause-tape_versions
+returns-in-Prove-clause-tape_versions g c = unplayed_words _ _ c.requires.log
+
+pub returns-in-Check-clause-tape_versions : goal.returns-in-Check-clause-tape_versions
+returns-in-Check-clause-tape_versions g c = unplayed_words _ _ c.requires.log

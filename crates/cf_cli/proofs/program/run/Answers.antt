@@ -55,6 +55,12 @@ returns-in-Ok-clause-unplayed g c = unused_tape _ c.in-Ok.command c.perform.resu
 pub returns-in-Ok-clause-address : goal.returns-in-Ok-clause-address
 returns-in-Ok-clause-address g c = λ text asked. c.perform.ensures.address text (same_command _ c.in-Ok.command _ c.in-Ok.ensures.exact asked)
 
+pub returns-in-Ok-clause-prove : goal.returns-in-Ok-clause-prove
+returns-in-Ok-clause-prove g c = λ file txid asked. c.perform.ensures.prove file txid (same_command _ c.in-Ok.command _ c.in-Ok.ensures.exact asked)
+
+pub returns-in-Ok-clause-check : goal.returns-in-Ok-clause-check
+returns-in-Ok-clause-check g c = λ file asked. c.perform.ensures.check file (same_command _ c.in-Ok.command _ c.in-Ok.ensures.exact asked)
+
 pub returns-in-Err-No-clause-versions : goal.returns-in-Err-No-clause-versions
 returns-in-Err-No-clause-versions g c = new_words _ _ c.requires.wires
 

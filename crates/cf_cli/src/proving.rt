@@ -1,0 +1,167 @@
+//! The commands over proofs of transactions.
+ghost use Rattle.std.specs.Prelude.{◌≡◌, ◌<◌, ◌≤◌, false, length, IfOk, IfSome, option_map, string_bytes};
+ghost use Rattle.std.specs.FinMap as finite;
+ghost use Rattle.hex.specs.Hex.{IsBytes};
+ghost use Rattle.cf_block.specs.Tx.{tx_spelling};
+ghost use Rattle.cf_bytes.specs.Outside.{HasRisen};
+ghost use Rattle.cf_chain.specs.Good.{IsGoodChain};
+ghost use Rattle.cf_cli.specs.Proving.{proof_text, in_text, IsTextAt, GivesProofText, TellsProof, Checks, IsOfFind, IsOfProve, IsProved, IsChecked};
+ghost use Rattle.cf_cli.specs.Reading.{IsWritten, IsOfScan, IsOfText};
+ghost use Rattle.cf_input.specs.ProofFile.{proof_file_of};
+ghost use Rattle.cf_cli.specs.Statuses.{IsJudged, has_run, blocks_verdict, proof_verdict};
+
+use crate::loading::{load_chain, load_proof};
+use crate::reading::{bytes_line, write};
+use crate::status::Status;
+use cf_block::{Block, Tx, write_tx};
+use cf_bytes::{Files, Hash32, NoMemory, Sink, show};
+use cf_index::CheckedChain;
+use cf_input::Proven;
+use cf_proof::make_proof;
+use std::alloc::Global;
+
+// What a slice of bytes holds are bytes: its type says so.
+fn are_bytes(bytes: &[u8])
+    ensures { IsBytes bytes.now }
+{}
+
+// The bytes of a transaction.
+fn bytes_of_tx(alloc: Global, tx: &Tx) -> Result<Vec<u8>, NoMemory>
+    ensures { IfOk result (λ v. v.items ≡ tx_spelling tx.now) }
+{
+    let mut bytes = Vec::new(alloc);
+    write_tx(tx, &mut bytes)?;
+    Ok(bytes)
+}
+
+// The lines of the bytes of a transaction and of a proof.
+fn text_of_proof(alloc: Global, tx: &[u8], proof: &[u8]) -> Result<String, NoMemory>
+    ensures { IfOk result (λ text. string_bytes text ≡ proof_text tx.now proof.now) }
+{
+    let tx = bytes_line(alloc, "tx", tx)?;
+    let proof = bytes_line(alloc, "proof", proof)?;
+    Ok(format!(in alloc; "{tx}{proof}")?)
+}
+
+// The lines of the transaction at a place of a block.
+fn text_at(alloc: Global, block: &Block, place: u32) -> Result<String, NoMemory>
+    requires few { length block.now.txs ≤ 16666 }
+    requires there { place < length block.now.txs }
+    ensures { IfOk result (λ text. IsTextAt block.now place (string_bytes text)) }
+{
+    let tx = bytes_of_tx(alloc, &block.txs.as_slice()[place as usize])?;
+    let proof = make_proof(alloc, block, place)?;
+    are_bytes(&tx);
+    are_bytes(&proof);
+    text_of_proof(alloc, &tx, &proof)
+}
+
+// The lines of the first transaction of a chain with this hash, where there is one.
+fn text_in(alloc: Global, chain: &CheckedChain, txid: &Hash32) -> Result<Option<String>, NoMemory>
+    requires { IsGoodChain chain.now }
+    ensures { IfOk result (λ text. GivesProofText txid.now.0 chain.now (option_map string_bytes text)) }
+{
+    let Some((height, place)) = chain.find(txid) else {
+        return Ok(None);
+    };
+    let block = &chain.blocks()[height as usize - 1];
+    let text = text_at(alloc, block, place)?;
+    Ok(Some(text))
+}
+
+/// Writes the first transaction of a file of blocks with this hash, and a proof that it stands in its block.
+pub(crate) fn prove<F: Files, O: Sink>(
+    alloc: Global,
+    files: &mut F,
+    file: &str,
+    txid: &Hash32,
+    out: &mut O,
+) -> Status
+    ensures judged { IfSome (F.files files.old) (λ m. IsJudged (blocks_verdict (finite.get m file.now)) result) }
+    ensures proved { IsProved result (F.files files.old) file.now txid.now (O.written out.old) (O.written out.new) }
+    ensures unchanged { F.files files.new ≡ F.files files.old }
+    ensures unwritten { has_run result ≡ false → O.written out.new ≡ O.written out.old }
+    ensures file_fault { result ≡ Status.FileFault → HasRisen (F.faults files.old) (F.faults files.new) }
+    ensures out_fault { result ≡ Status.OutFault → HasRisen (O.faults out.old) (O.faults out.new) }
+{
+    match load_chain(alloc, files, file) {
+        Ok(chain) => prove_in(alloc, &chain, txid, out),
+        Err(status) => status,
+    }
+}
+
+// Writes the lines of the first transaction of a chain with this hash, or answers that there is none.
+fn prove_in<O: Sink>(alloc: Global, chain: &CheckedChain, txid: &Hash32, out: &mut O) -> Status
+    requires { IsGoodChain chain.now }
+    ensures told { TellsProof result txid.now chain.now (O.written out.old) (O.written out.new) }
+    ensures answers { IsOfProve result (O.written out.old) (O.written out.new) }
+    ensures unwritten { has_run result ≡ false → O.written out.new ≡ O.written out.old }
+    ensures fault { result ≡ Status.OutFault → HasRisen (O.faults out.old) (O.faults out.new) }
+    ensures ends { IsOfFind result }
+{
+    match text_in(alloc, chain, txid) {
+        Ok(Some(text)) => write(text.as_bytes(), out),
+        Ok(None) => Status::NotThere { txid: *txid },
+        Err(NoMemory) => Status::NoMemory,
+    }
+}
+
+// The line of what is proven.
+fn text_of_proven(alloc: Global, proven: &Proven) -> Result<String, NoMemory>
+    ensures { IfOk result (λ text. string_bytes text ≡ in_text proven.now) }
+{
+    let block = show(alloc, &proven.block)?;
+    let txid = show(alloc, &proven.txid)?;
+    Ok(format!(in alloc; "in {block} {txid}\n")?)
+}
+
+// Writes it.
+fn write_proven<O: Sink>(alloc: Global, proven: &Proven, out: &mut O) -> Status
+    ensures written { IsWritten result (O.written out.old) (O.written out.new) (in_text proven.now) }
+    ensures unwritten { has_run result ≡ false → O.written out.new ≡ O.written out.old }
+    ensures fault { result ≡ Status.OutFault → HasRisen (O.faults out.old) (O.faults out.new) }
+    ensures ends { IsOfText result }
+{
+    match text_of_proven(alloc, proven) {
+        Ok(text) => write(text.as_bytes(), out),
+        Err(NoMemory) => Status::NoMemory,
+    }
+}
+
+// Checks the proof of a file, and writes the line of what it proves.
+fn check_file<F: Files, O: Sink>(
+    alloc: Global,
+    files: &mut F,
+    file: &str,
+    out: &mut O,
+) -> Status
+    ensures judged { IfSome (F.files files.old) (λ m. IsJudged (proof_verdict (finite.get m file.now)) result) }
+    ensures answers { IsOfScan result (O.written out.old) (O.written out.new) }
+    ensures told { IfSome (F.files files.old) (λ m. IfSome (finite.get m file.now) (λ b. Checks result (proof_file_of b) (O.written out.old) (O.written out.new))) }
+    ensures unchanged { F.files files.new ≡ F.files files.old }
+    ensures unwritten { has_run result ≡ false → O.written out.new ≡ O.written out.old }
+    ensures file_fault { result ≡ Status.FileFault → HasRisen (F.faults files.old) (F.faults files.new) }
+    ensures out_fault { result ≡ Status.OutFault → HasRisen (O.faults out.old) (O.faults out.new) }
+{
+    match load_proof(alloc, files, file) {
+        Ok(proven) => write_proven(alloc, &proven, out),
+        Err(status) => status,
+    }
+}
+
+/// Checks the proof of a file, and writes the block and the transaction that it tells of. What `prove` writes of a good chain is taken.
+pub(crate) fn check<F: Files, O: Sink>(
+    alloc: Global,
+    files: &mut F,
+    file: &str,
+    out: &mut O,
+) -> Status
+    ensures judged { IfSome (F.files files.old) (λ m. IsJudged (proof_verdict (finite.get m file.now)) result) }
+    ensures checked { IsChecked result (F.files files.old) file.now (O.written out.old) (O.written out.new) }
+    ensures unchanged { F.files files.new ≡ F.files files.old }
+    ensures unwritten { has_run result ≡ false → O.written out.new ≡ O.written out.old }
+    ensures file_fault { result ≡ Status.FileFault → HasRisen (F.faults files.old) (F.faults files.new) }
+    ensures out_fault { result ≡ Status.OutFault → HasRisen (O.faults out.old) (O.faults out.new) }
+{
+    check_file(alloc, files, file, out)
+}
