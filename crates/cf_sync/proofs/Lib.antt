@@ -25,5 +25,7 @@ pub mod Kept
 pub mod Stops
 pub mod VerdictsGrow
 pub mod FreshFilters
+pub mod Written
 pub mod TwoPeers
+pub mod Cleared
 pub mod Dispute

@@ -1,14 +1,11 @@
 -- The run with two peers, moment by moment: one is honest, all that was asked might be asked, and the history is the honest chain's.
-use Rattle.std.proofs.Common.{◌≡◌, ◌⊎◌, inl, inr, ℕ, ◌<◌, ◌≤◌, List, [], ◌∷◌, ◌++◌, map, length, get_or, Option, Some, None, Bool, true, false, not, ◌||◌, ◌==◌, if◌then◌else◌, refl, sym, ◌∙◌, ap, subst, arith, length-append, eq-eqb, le-ltb}
+use Rattle.std.proofs.Common.{if◌then◌else◌, ◌≡◌, ◌⊎◌, inl, inr, ℕ, ◌<◌, ◌≤◌, List, [], ◌∷◌, ◌++◌, map, length, get_or, Some, None, Bool, true, false, not, ◌||◌, ◌==◌, refl, sym, ◌∙◌, ap, subst, arith, le-ltb}
 use Rattle.std.specs.Prelude.{nat_lt}
 use Rattle.std.specs.List.{flat_map}
 use Rattle.std.specs.FinMap.{empty, get-empty}
-use Rattle.std.proofs.Math.Facts.{sfits_lit}
 use Rattle.std.proofs.lemmas.Bool.{cases_Bool, false≢true, and_parts, eqb-true}
 use Rattle.std.proofs.lemmas.List.{append-nil}
-use Rattle.cf_bytes.specs.Compact.{compact}
 use Rattle.cf_bytes.specs.Hash.{hash_of}
-use Rattle.cf_bytes.specs.declared.peer.PeerNo.{PeerNo}
 use Rattle.cf_block.specs.declared.header.Header.{Header}
 use Rattle.cf_block.specs.declared.tx.Block.{Block}
 use Rattle.cf_block.specs.Header.{IsHeader, header_spelling, block_hash_of, genesis_header}
@@ -16,8 +13,6 @@ use Rattle.cf_block.specs.Tx.{tx_spelling, txid_of}
 use Rattle.cf_block.specs.Outpoint.{outpoint_cmp, outpoint}
 use Rattle.cf_block.specs.Merkle.{nodes_within, hashed}
 use Rattle.cf_block.specs.Commitment.{spelled_txs, is_coinbase_tx}
-use Rattle.cf_block.proofs.HeaderLaws.{block_hash_length}
-use Rattle.std.specs.Prelude.{option_map}
 use Rattle.cf_block.specs.Output.{Output}
 use Rattle.cf_block.specs.declared.tx.TxIn.{TxIn}
 use Rattle.cf_bytes.specs.declared.hash.Hash32.{Hash32}
@@ -27,168 +22,36 @@ use Rattle.cf_chain.specs.Good.{IsGoodTx, IsGoodChain}
 use Rattle.cf_dispute.specs.declared.claim.Claim.{Claim}
 use Rattle.cf_dispute.specs.Claims.{Table, no_claims, claim_of, with_claim, first_header}
 use Rattle.cf_filter.specs.Items.{items_of}
-use Rattle.cf_filter.specs.Filter.{basic_filter_of, filter_hash_of, match_of}
+use Rattle.cf_filter.specs.Filter.{basic_filter_of, filter_hash_of}
 use Rattle.cf_match.specs.declared.job.Job.{Job}
-use Rattle.cf_match.specs.Verdicts.{is_miss}
 use Rattle.cf_chain.specs.Serve.{data_reply, headers_reply, range_end, cfheaders_reply, cfilters_reply}
-use Rattle.cf_frame.specs.Stream.{StreamRead, read_stream}
-use Rattle.cf_frame.proofs.Streams.{stream_of_spelling}
 use Rattle.cf_headers.specs.Rules.{same, is_worked}
 use Rattle.cf_headers.specs.Chain.{Chain, no_hash, height_limit, fits, back_to, accept, Accepted, Longer, IsValidChain, IsIn, NoHashClash}
 use Rattle.cf_headers.specs.Shown.{IsShown, Shows, IsShownSpelling}
 use Rattle.cf_msg.specs.declared.msg.Msg.{Msg}
-use Rattle.cf_msg.specs.declared.msg.Msg.TheVariants.{Verack, Block as BlockMessage, GetCfheaders, Cfheaders, Cfilter}
-use Rattle.cf_msg.specs.Message.{IsAddress, IsEntry, payload_of, frame_of}
-use Rattle.cf_msg.proofs.Table.{again, frame_fits}
-use Rattle.cf_msg.proofs.Sizes.{entries_size}
+use Rattle.cf_msg.specs.declared.msg.Msg.TheVariants.{Verack, Block as BlockMessage, Cfheaders, Cfilter}
 use Rattle.cf_peer.specs.declared.event.Delivery.TheVariants.{Got}
 use Rattle.cf_peer.specs.declared.event.Event.TheVariants.{Dialled, Sent, Took}
-use Rattle.cf_peer.specs.Acts.{bytes_of, IsSendable}
-use Rattle.cf_peer.specs.Asking.{OpenRequest, is_spare, NothingOpen, ClaimsOpen, FiltersOpen, BlockOpen, claims_asked, filters_asked, filter_of, claims, claims_after, hash_claimed, claims_fault, filter_fault, fault_of, request_after, is_idle, given, given_by, HasHeader, IsFree, IsRange, request, is_wanted, is_committed, is_open, block_fault, verdict, counted, lists, fetched, fetched_by, block_entry, HasSaid, hashes_of, MayAsk, SameUse}
+use Rattle.cf_peer.specs.Acts.{bytes_of}
+use Rattle.cf_peer.specs.Asking.{OpenRequest, is_spare, NothingOpen, ClaimsOpen, FiltersOpen, BlockOpen, claims_asked, filters_asked, filter_of, claims, claims_after, claims_fault, filter_fault, fault_of, request_after, is_idle, given, given_by, HasHeader, IsFree, IsRange, request, is_wanted, is_committed, is_open, block_fault, verdict, counted, lists, fetched, fetched_by, block_entry, HasSaid, hashes_of, MayAsk, SameUse}
 use Rattle.cf_peer.specs.Log.{Log}
-use Rattle.cf_peer.specs.Trail.{Trail, Part, Called, Said, Asked, no_address, called_part, item_of_read, part_after, heard_part, message_in, message_of_stream, spelled, asks, part_of, trail, connected, ready, own, heard, longer_of, ends_by, fault_in, first}
+use Rattle.cf_peer.specs.Trail.{Trail, Part, Called, Said, Asked, called_part, heard_part, spelled, asks, part_of, trail, connected, ready, own, heard, longer_of, ends_by, fault_in, first}
 use Rattle.cf_scan.specs.Scan.{scan_of}
 use Rattle.cf_scan.specs.Watching.{IsWatch}
-use Rattle.cf_sync.specs.Example.{only_tx, only_header, only_block, only_hash, chain_of_one, honest_peer, liar, genesis_hash, no_stop, our_version, its_version, false_version, question, its_headers, false_headers, fetch, its_block, log_1, log_2, log_3, log_4, log_5, log_6, log_7, log_8, log_9, log_10, log_11, log_12, log_13, log_14, log_15, log_16, log_17, log_18, log_19, run_of_two, cleared_run, other_watch, only_filter, only_filter_hash, genesis_filter_header, ask_claims, its_claims, ask_filter, its_filter}
-use Rattle.cf_sync.specs.Fetching.{IsQuiet, IsBusy, AreBytes, IsFetched, IsFetchedHash, IsCleared, IsConnected, IsNoneFetching, Rightly}
+use Rattle.cf_sync.specs.Example.{only_tx, only_header, only_block, only_hash, chain_of_one, honest_peer, liar, genesis_hash, no_stop, our_version, its_version, false_version, question, its_headers, false_headers, fetch, its_block, log_1, log_2, log_3, log_4, log_5, log_6, log_7, log_8, log_9, log_10, log_11, log_12, log_13, log_14, log_15, log_16, log_17, log_18, log_19, run_of_two, cleared_run, only_filter, only_filter_hash, genesis_filter_header, ask_claims, its_claims, ask_filter, its_filter}
+use Rattle.cf_sync.specs.Fetching.{IsQuiet, IsBusy, AreBytes, IsFetched, IsFetchedHash, IsConnected, IsNoneFetching, Rightly}
 use Rattle.cf_sync.specs.Honesty.{Leaves, answers, AnswersAs, IsHonestOver, IsHonest, was_called, ShowsNoOther, filters_above}
 use Rattle.cf_sync.specs.Sync.{strings_of, IsOfBlocks, IsHashed, HasAsked}
 use Rattle.cf_dispute.proofs.Genesis.{first_header_is}
 use Rattle.cf_sync.proofs.Asks.{first_is}
 use Rattle.cf_sync.proofs.Ranges.{filters_in, hashes_in, claims_reply, filters_reply}
-use Rattle.cf_sync.proofs.Filters.{only_items, only_filter_by_name, only_filter_hash_is, only_misses}
+use Rattle.cf_sync.proofs.Filters.{only_items, only_filter_by_name, only_filter_hash_is}
 use Rattle.cf_sync.proofs.Chains.{same_from, same_self, same_true, cases_same, heads, Setting}
 use Rattle.cf_sync.proofs.Serving.{next_reply, block_found}
 use Rattle.cf_sync.proofs.Counted.{same_use, said_counts, counted_said, fetched_said}
 use Rattle.cf_sync.proofs.Settles.{committed_is}
-use Rattle.cf_sync.proofs.Computed.{genesis_is, name_is, txid_is, header_fits_type, worked, previous_is_genesis, block_length, block_fits, committed, headers_size, small_bytes, version_small, false_version_small, verack_small, headers_small, false_headers_small, claims_small, filter_small, block_small}
-
--- ---- bytes as they are read
-
-read_back : (m : Msg) → IsSendable m → read_stream (bytes_of m) ≡ record { frames = frame_of m ∷ []; rest = []; fault = None }
-read_back m good = stream_of_spelling (frame_of m) (frame_fits m good.spelled good.short)
-
-pub spelled_is : (m : Msg) → IsSendable m → spelled (bytes_of m) ≡ Some m
-spelled_is m good = ap message_of_stream (read_back m good) ∙ ap message_in (again m good.spelled)
-
--- a part with no bytes that wait
-abbrev pub at_rest : Trail → Part
-at_rest t = record { trail = t; waits = [] }
-
-heard_is : (m : Msg) (t : Trail) → IsSendable m → heard_part (bytes_of m) (at_rest t) ≡ at_rest (Said m ∷ t)
-heard_is m t good = ap (λ (r : StreamRead). part_after r t) (read_back m good) ∙ ap (λ r. at_rest (item_of_read r ∷ t)) (again m good.spelled)
-
-pub sent_part : (p : PeerNo) (m : Msg) (log : Log) (t : Trail) → IsSendable m → part_of log p.0 ≡ at_rest t → part_of (Sent p (bytes_of m) ∷ log) p.0 ≡ at_rest (Asked m ∷ t)
-sent_part p m log t good e =
-    ap (λ (b : Bool). if b then record (part_of log p.0) { trail = asks (spelled (bytes_of m)) (trail log p.0) } else part_of log p.0) (eq-eqb p.0 p.0 refl)
-    ∙ ap (λ (part : Part). record part { trail = asks (spelled (bytes_of m)) part.trail }) e
-    ∙ ap (λ (o : Option Msg). at_rest (asks o t)) (spelled_is m good)
-
-pub got_part : (p : PeerNo) (m : Msg) (log : Log) (t : Trail) → IsSendable m → part_of log p.0 ≡ at_rest t → part_of (Took (Got p (bytes_of m)) ∷ log) p.0 ≡ at_rest (Said m ∷ t)
-got_part p m log t good e =
-    ap (λ (b : Bool). if b then heard_part (bytes_of m) (part_of log p.0) else part_of log p.0) (eq-eqb p.0 p.0 refl) ∙ ap (heard_part (bytes_of m)) e ∙ heard_is m t good
-
--- ---- each message can be written
-
-address_fits : IsAddress no_address
-address_fits = record { services = omega arith; ip = refl; port = omega arith }
-
-our_length : length (payload_of our_version) ≡ 92
-unfolding payload_of compact
-our_length = refl
-
-our_sendable : IsSendable our_version
-our_sendable = record {
-  spelled = (sfits_lit tt, omega arith, sfits_lit tt, address_fits, address_fits, omega arith, omega arith, sfits_lit tt, omega arith);
-  short = omega (arith, our_length);
-}
-
-its_length : length (payload_of its_version) ≡ 92
-unfolding payload_of compact
-its_length = refl
-
-pub its_sendable : IsSendable its_version
-its_sendable = record {
-  spelled = (sfits_lit tt, omega arith, sfits_lit tt, address_fits, address_fits, omega arith, omega arith, sfits_lit tt, omega arith);
-  short = omega (arith, its_length);
-}
-
-false_length : length (payload_of false_version) ≡ 86
-unfolding payload_of compact
-false_length = refl
-
-false_sendable : IsSendable false_version
-false_sendable = record {
-  spelled = (sfits_lit tt, omega arith, sfits_lit tt, address_fits, address_fits, omega arith, omega arith, sfits_lit tt, omega arith);
-  short = omega (arith, false_length);
-}
-
-pub verack_sendable : IsSendable Verack
-unfolding payload_of
-verack_sendable = record { spelled = tt; short = omega arith }
-
-no_hash_32 : length no_hash ≡ 32
-unfolding no_hash
-no_hash_32 = refl
-
-question_length : length (payload_of question) ≡ 69
-unfolding payload_of compact
-question_length = omega (arith, length-append (block_hash_of genesis_header ++ []) no_hash, length-append (block_hash_of genesis_header) [], block_hash_length genesis_header, no_hash_32)
-
-pub question_sendable : IsSendable question
-question_sendable = record { spelled = (omega arith, omega arith, (block_hash_length genesis_header, tt), no_hash_32); short = omega (arith, question_length) }
-
-pub headers_sendable : IsSendable its_headers
-headers_sendable = record { spelled = (omega arith, (header_fits_type, tt)); short = omega (arith, headers_size) }
-
-none_length : length (payload_of false_headers) ≡ 1
-unfolding payload_of compact
-none_length = refl
-
-none_sendable : IsSendable false_headers
-none_sendable = record { spelled = (omega arith, tt); short = omega (arith, none_length) }
-
-pub name_length : length only_hash.0 ≡ 32
-name_length = block_hash_length only_header
-
-claims_length : length (payload_of its_claims) ≡ 98
-unfolding payload_of compact
-claims_length = ap (λ (x : List ℕ). length (payload_of (Cfheaders 0 (record { 0 = x }) (record { 0 = genesis_filter_header }) (record { 0 = only_filter_hash } ∷ [])))) name_is
-
-filter_length : length (payload_of its_filter) ≡ 38
-unfolding payload_of compact
-filter_length = ap (λ (x : List ℕ). length (payload_of (Cfilter 0 (record { 0 = x }) only_filter))) name_is
-
-range_length : length (payload_of ask_claims) ≡ 37
-unfolding payload_of
-range_length = ap (λ (x : List ℕ). length (payload_of (GetCfheaders 0 1 (record { 0 = x })))) name_is
-
-entry_fits : IsEntry (block_entry only_hash)
-entry_fits = record { kind = omega arith; hash = block_hash_length only_header }
-
-pub fetch_sendable : IsSendable fetch
-unfolding payload_of
-fetch_sendable = record { spelled = (omega arith, (entry_fits, tt)); short = omega (arith, entries_size (block_entry only_hash ∷ []) (entry_fits, tt)) }
-
-pub claims_sendable : IsSendable its_claims
-unfolding payload_of compact
-claims_sendable = record { spelled = (omega arith, name_length, refl, omega arith, (refl, tt)); short = omega (arith, claims_length) }
-
-pub filter_sendable : IsSendable its_filter
-unfolding payload_of compact
-filter_sendable = record { spelled = (omega arith, name_length, omega arith); short = omega (arith, filter_length) }
-
-pub ask_claims_sendable : IsSendable ask_claims
-unfolding payload_of
-ask_claims_sendable = record { spelled = (omega arith, omega arith, name_length); short = omega (arith, range_length) }
-
-pub ask_filter_sendable : IsSendable ask_filter
-unfolding payload_of
-ask_filter_sendable = record { spelled = (omega arith, omega arith, name_length); short = omega (arith, range_length) }
-
-pub block_sendable : IsSendable its_block
-unfolding payload_of
-block_sendable = record { spelled = block_fits; short = omega (arith, block_length) }
+use Rattle.cf_sync.proofs.Computed.{genesis_is, name_is, txid_is, header_fits_type, worked, previous_is_genesis, block_fits, committed, small_bytes, version_small, false_version_small, verack_small, headers_small, false_headers_small, claims_small, filter_small, block_small}
+use Rattle.cf_sync.proofs.Written.{spelled_is, at_rest, sent_part, got_part, our_sendable, its_sendable, false_sendable, verack_sendable, question_sendable, headers_sendable, none_sendable, fetch_sendable, claims_sendable, filter_sendable, ask_claims_sendable, ask_filter_sendable, block_sendable}
 
 -- ---- the parts, moment by moment
 
@@ -265,7 +128,7 @@ part_16 = got_part honest_peer its_claims log_15 t_8 claims_sendable part_15
 part_17 : part_of log_17 1 ≡ at_rest t_10
 part_17 = sent_part honest_peer ask_filter log_16 t_9 ask_filter_sendable part_16
 
-part_18 : part_of log_18 1 ≡ at_rest t_11
+pub part_18 : part_of log_18 1 ≡ at_rest t_11
 part_18 = got_part honest_peer its_filter log_17 t_10 filter_sendable part_17
 
 part_19 : part_of log_19 1 ≡ at_rest t_12
@@ -316,7 +179,7 @@ other_8 = sent_part liar question log_7 u_5 question_sendable other_7
 other_9 : part_of log_9 2 ≡ at_rest u_7
 other_9 = got_part liar false_headers log_8 u_6 none_sendable other_8
 
-other_20 : part_of run_of_two 2 ≡ at_rest u_7
+pub other_20 : part_of run_of_two 2 ≡ at_rest u_7
 other_20 = other_9
 
 -- what holds of a trail holds of the log
@@ -345,7 +208,7 @@ none_passes (Took (Got q piece) ∷ log) k a b h =
     ap (λ (x : Bool). if x then heard_part piece (part_of log k) else part_of log k) (other_number q.0 k a b h.0) ∙ none_passes log k a b h.1
 none_passes (e ∷ log) k a b h = absurd h
 
-all_of_two : AreOfTwo run_of_two
+pub all_of_two : AreOfTwo run_of_two
 all_of_two = (inl refl, (inl refl, (inl refl, (inl refl, (inl refl, (inl refl, (inl refl, (inl refl, (inl refl, (inl refl, (inl refl, (inr refl, (inr refl, (inr refl, (inr refl, (inr refl, (inr refl, (inr refl, (inl refl, (inl refl, tt))))))))))))))))))))
 
 -- what holds of both peers at a moment, and of nobody, holds of each
@@ -363,7 +226,7 @@ of_each : (P : Trail → Type 0) (p : ℕ) → P t_13 → P u_7 → P [] → P (
 of_each P p here there none = at_each P run_of_two t_13 u_7 p part_20 other_20 all_of_two here there none
 
 -- and in the run in which the block is cleared
-of_cleared : (P : Trail → Type 0) (p : ℕ) → P t_11 → P u_7 → P [] → P (trail cleared_run p)
+pub of_cleared : (P : Trail → Type 0) (p : ℕ) → P t_11 → P u_7 → P [] → P (trail cleared_run p)
 of_cleared P p here there none = at_each P cleared_run t_11 u_7 p part_18 other_20 all_of_two.1.1 here there none
 
 -- ---- the chain of one block
@@ -836,7 +699,7 @@ no_other_block b (inr (inl e)) = cc
 no_other_block b (inr (inr (inl e))) = cc
 no_other_block b (inr (inr (inr none))) = none
 
-none_fetched : (b : Block) → IsFetched log_18 b → ⊥
+pub none_fetched : (b : Block) → IsFetched log_18 b → ⊥
 none_fetched b got = at_each HasNone log_18 t_11 u_7 got.0 part_18 other_20 all_of_two.1.1 (unsaid t_11 no_block_11) (unsaid u_7 no_other_block) (λ c i. i) b got.1
 
 -- nor were filters or a block open to anybody
@@ -962,14 +825,14 @@ fetched_13 =
     let by : fetched_by its_block (request (counted t_12)) ≡ only_block ∷ [] = ap (λ r. fetched_by its_block r) open_12 ∙ rw (only_wanted, committed_is only_block committed) refl in
     subst (λ (t : Trail). IsIn only_block (fetched t)) (sym one) (subst (λ (bs : List Block). IsIn only_block (bs ++ fetched (counted t_12))) (sym by) (inl refl))
 
-given_11 : IsIn (filter_of only_hash only_filter) (given (counted t_11))
+pub given_11 : IsIn (filter_of only_hash only_filter) (given (counted t_11))
 given_11 =
     let open_10 : request (counted t_10) ≡ FiltersOpen (only_hash.0 ∷ []) [] = (same_use t_10 refl clean_9).open_one ∙ request_10 in
     let one : counted t_11 ≡ Said its_filter ∷ counted t_10 = said_counts its_filter t_10 refl clean_11 in
     let by : given_by its_filter (request (counted t_10)) ≡ filter_of only_hash only_filter ∷ [] = ap (λ r. given_by its_filter r) open_10 ∙ rw self_hash refl in
     subst (λ (t : Trail). IsIn (filter_of only_hash only_filter) (given t)) (sym one) (subst (λ (js : List Job). IsIn (filter_of only_hash only_filter) (js ++ given (counted t_10))) (sym by) (inl refl))
 
-same_other : SameUse u_7
+pub same_other : SameUse u_7
 same_other = same_use u_7 refl refl
 
 is_fetched : IsFetched run_of_two only_block
@@ -1031,13 +894,13 @@ bytes_14 = (
   ),
 )
 
-cleared_bytes : AreBytes cleared_run
+pub cleared_bytes : AreBytes cleared_run
 cleared_bytes = (small_bytes (bytes_of its_filter) filter_small, (small_bytes (bytes_of its_claims) claims_small, bytes_14))
 
 are_bytes : AreBytes run_of_two
 are_bytes = (small_bytes (bytes_of its_block) block_small, cleared_bytes)
 
-settled : (block : List ℕ) → IsIn block (hashes_of (only_header ∷ [])) → IsFetchedHash run_of_two block
+pub settled : (block : List ℕ) → IsIn block (hashes_of (only_header ∷ [])) → IsFetchedHash run_of_two block
 settled block (inl e) = (only_block, is_fetched, sym e)
 settled block (inr none) = absurd none
 
@@ -1049,7 +912,7 @@ pub claims_it : (t : Trail) (claim : Claim) → claims (counted t) only_hash.0 �
 claims_it t claim claimed mine block (inl e) = subst (λ (x : List ℕ). HasHeader (counted t) x) (sym e) (rw (other_hash, claimed) refl)
 claims_it t claim claimed mine block (inr none) = absurd none
 
-other_claims : ClaimsIt u_7
+pub other_claims : ClaimsIt u_7
 other_claims mine block i = absurd (let none : [] ≡ only_header ∷ [] = sym same_other.chain ∙ mine in cc)
 
 pub nobody_claims : ClaimsIt []
@@ -1058,7 +921,7 @@ nobody_claims mine block i = absurd (let none : [] ≡ only_header ∷ [] = mine
 pub one_long : (t : Trail) → own (counted t) ≡ only_header ∷ [] → length (own (counted t)) ≤ 1
 one_long t chain = let e = ap (λ (x : Chain). length x) chain in omega (arith, e)
 
-other_long : length (own (counted u_7)) ≤ 1
+pub other_long : length (own (counted u_7)) ≤ 1
 other_long = let e = ap (λ (c : Chain). length c) same_other.chain in omega (arith, e)
 
 -- nobody has a number below the honest peer's
@@ -1091,74 +954,5 @@ has_asked watch fits = record {
     heard_out = of_each (λ t. connected t ≡ true → heard (counted t) ≡ true) p (λ is1. counts_13.heard_out) (λ is1. same_other.hearing) (λ is1. absurd (false≢true is1)) on;
     claimed = of_each ClaimsIt p (claims_it t_13 only_claim counts_13.claimed) other_claims nobody_claims;
     settled = λ spare mine block i above. inl (settled block i);
-  };
-}
-
--- ---- the run in which the block is cleared
-
-abbrev pub AgreesWithIt : Trail → Type 0
-AgreesWithIt t = (hash : Hash32) → hash_claimed (claims (counted t)) only_hash.0 ≡ Some hash → hash ≡ record { 0 = only_filter_hash }
-
--- a log with the honest peer's filter, in which the other claims nothing of the block
-pub cleared_by : (log : Log) (other : Trail) → part_of log 1 ≡ at_rest t_11 → part_of log 2 ≡ at_rest other → AreOfTwo log → AgreesWithIt other → IsCleared other_watch log only_hash.0
-cleared_by log other one two both silent = record {
-  hash = record { 0 = only_filter_hash };
-  agreed = record {
-    who = 1;
-    there = of_part (λ t. connected t ≡ true) (part_of log 1) t_11 one refl;
-    claims = of_part (λ t. hash_claimed (claims (counted t)) only_hash.0 ≡ Some (record { 0 = only_filter_hash })) (part_of log 1) t_11 one
-        (ap (λ o. option_map (λ (c : Claim). c.hash) o) counts_11.claimed);
-    alone = λ p hash on is. at_each AgreesWithIt log t_11 other p one two both
-        (λ hash e. let f : Some (record { 0 = only_filter_hash }) ≡ Some hash = sym (ap (λ o. option_map (λ (c : Claim). c.hash) o) counts_11.claimed) ∙ e in let g : record { 0 = only_filter_hash } ≡ hash = cc in sym g)
-        silent
-        (λ hash e. absurd (let f : None ≡ Some hash = e in cc)) hash is;
-  };
-  filter = filter_of only_hash only_filter;
-  given = (1, of_part (λ t. IsIn (filter_of only_hash only_filter) (given (counted t))) (part_of log 1) t_11 one given_11);
-  of_block = refl;
-  this = only_filter_hash_is;
-  verdict = ap (λ (x : List ℕ). is_miss (match_of x other_watch only_filter)) name_is ∙ ap is_miss only_misses;
-}
-
--- one that claims nothing agrees with all
-pub silent_agrees : (t : Trail) → claims (counted t) only_hash.0 ≡ None → AgreesWithIt t
-silent_agrees t none hash e = absurd (let f : None ≡ Some hash = sym (ap (λ o. option_map (λ (c : Claim). c.hash) o) none) ∙ e in cc)
-
-cleared : IsCleared other_watch cleared_run only_hash.0
-cleared = cleared_by cleared_run u_7 part_18 other_20 all_of_two.1.1 (silent_agrees u_7 (ap (λ (c : Table). c only_hash.0) same_other.claiming))
-
-cleared_settled : (block : List ℕ) → IsIn block (hashes_of (only_header ∷ [])) → IsCleared other_watch cleared_run block
-cleared_settled block (inl e) = subst (λ (x : List ℕ). IsCleared other_watch cleared_run x) (sym e) cleared
-cleared_settled block (inr none) = absurd none
-
-watch_fits : IsWatch other_watch
-watch_fits = refl
-
-pub cleared_asked : HasAsked other_watch 1 only_hash [] cleared_run
-cleared_asked = record {
-  watchable = watch_fits;
-  bytes = cleared_bytes;
-  rightly = cleared_right;
-  told = record {
-    chain = only_header ∷ [];
-    best = record {
-      longest = λ p on. of_cleared (λ t. length (own (counted t)) ≤ 1) p (one_long t_11 counts_11.chain) other_long (omega arith);
-      shown = inl (
-        1,
-        (
-          of_part (λ t. connected t ≡ true) (part_of cleared_run 1) t_11 part_18 refl,
-          of_part (λ t. own (counted t) ≡ only_header ∷ []) (part_of cleared_run 1) t_11 part_18 counts_11.chain,
-          λ q below on. absurd (nobody_below cleared_run q refl below on),
-        ),
-      );
-    };
-    height_is = refl;
-    hash_is = refl;
-    scanned = record { blocks = record { header = only_header; txs = [] } ∷ []; taken = (inr ((λ got. none_fetched got.0 got.1), refl), tt); history = refl };
-  };
-  asked_out = λ p on idle. record {
-    heard_out = of_cleared (λ t. connected t ≡ true → heard (counted t) ≡ true) p (λ is1. counts_11.heard_out) (λ is1. same_other.hearing) (λ is1. absurd (false≢true is1)) on;
-    claimed = of_cleared ClaimsIt p (claims_it t_11 only_claim counts_11.claimed) other_claims nobody_claims;
-    settled = λ spare mine block i above. inr (cleared_settled block i);
   };
 }
