@@ -1,9 +1,10 @@
 #!/usr/bin/env python3
 """Makes proofs of transactions by BIP 37, "Constructing a partial merkle tree object", and prints rows of the kinds `proof` and `prove` and
-what each comes to: `proofs.py [--made] FILE`, over a file of blocks such as data/blocks.dat.
+what each comes to: `proofs.py [--made | --called] FILE`, over a file of blocks such as data/blocks.dat.
 
 A row `proof` has the bytes of a proof and of a transaction. Where the proof is whole it comes to the hash of the header, in wire order; else
 to the fault that the row was made for. With `--made` the rows are `prove`: the bytes of a block and a place come to the proof of that place.
+With `--called` they are `run`: whole calls of the commands `prove`, over the file, and `check`, over files of proofs.
 """
 import struct
 import sys
@@ -113,10 +114,85 @@ def made(blocks):
         print(spelled(header, len(ids), *parts(ids, place)).hex())
 
 
+def called_row(words, watch, file, comes, room=5000):
+    print(f"run {room} -|cf {words}|{watch}||{file.hex() or '-'}")
+    print(comes)
+
+
+def refused(place, cause, words):
+    return f"3 BadFile {{ which: Proof, place: {place}, cause: {cause} }}: the proof file, line {place}: {words}\n"
+
+
+def met(header):
+    return int.from_bytes(double(header), "little") <= 0x7fffff << 232
+
+
+def called(data, blocks):
+    print("# Proofs of the transactions of a file, told for their hashes and checked. Each is checked as it was written.")
+    texts = []
+    for header, txs in blocks:
+        ids = [double(tx) for tx in txs]
+        for place, tx in enumerate(txs):
+            proof = spelled(header, len(ids), *parts(ids, place))
+            line = f"in {double(header)[::-1].hex()} {ids[place][::-1].hex()}\n"
+            text = f"tx {tx.hex()};proof {proof.hex()};"
+            texts.append((header, tx, proof, text, line))
+            called_row(f"prove f {ids[place][::-1].hex()}", "", data, "0 Done\n" + text.replace(";", "\n"))
+            called_row("check w", text, b"", "0 Done\n" + line)
+    header, tx, proof, text, line = texts[1]
+    txid = double(tx)[::-1].hex()
+    print("# Digits of either case, and a last line without its end.")
+    called_row(f"prove f {txid.upper()}", "", data, "0 Done\n" + text.replace(";", "\n"))
+    called_row("check w", f"tx {tx.hex().upper()};proof {proof.hex().upper()}", b"", "0 Done\n" + line)
+    print("# A hash that no block above genesis has, genesis's transaction among them; a missing file; one that is refused; a word that is no hash.")
+    first = "3ba3edfd7a7b12b27ac72c3e67768f617fc81bc3888a51323a9fb8aa4b1e5e4a"
+    for missing in (bytes(32), bytes.fromhex(first)):
+        numbers = ", ".join(str(byte) for byte in missing)
+        called_row(f"prove f {missing[::-1].hex()}", "", data, f"12 NotThere {{ txid: Hash32([{numbers}]) }}: no block of the file has a transaction with this hash\n")
+    called_row(f"prove x {txid}", "", data, "4 FileFault: a file could not be read\n")
+    called_row(f"prove f {txid}", "", data[:7], "3 BadFile { which: Blocks, place: 1, cause: Blocks(Cut) }: the block file, record 1: the record is cut off\n")
+    for word in (txid[1:], txid[1:] + "g"):
+        called_row(f"prove f {word}", "", data, "2 Usage: the words are no command\n")
+    called_row("check x", text, b"", "4 FileFault: a file could not be read\n")
+    print("# Sinks without room.")
+    called_row(f"prove f {txid}", "", data, "5 OutFault: the text could not be written\n" + text[:10], 10)
+    called_row("check w", text, b"", "5 OutFault: the text could not be written\n" + line[:10], 10)
+    print("# Files of proofs that are refused: no line; no second line; bytes after it; other forms of each line.")
+    form = "the file has two lines: `tx HEX` and `proof HEX`"
+    line1, line2 = text.split(";")[:2]
+    for place, bad in ((1, ""), (1, ";" + line2), (2, line1), (2, line1 + ";"), (2, text + ";"), (2, text + "x"), (1, line1[1:] + ";" + line2), (1, "tx" + line1[3:] + ";" + line2),
+                       (1, line1 + "0;" + line2), (1, line2 + ";" + line1), (2, line1 + ";" + line2[:-1]), (2, line1 + ";" + line2 + " "), (2, line1 + ";" + line2.replace(" ", "  "))):
+        called_row("check w", bad, b"", refused(place, "Proof(BadLine)", form))
+    print("# Bytes that are no transaction: cut off, with a byte more, with witnesses. The first line is judged before the second.")
+    for bad, kind, words in ((tx[:-1], "Short", "a field is cut off"), (tx + b"\x00", "Rest", "bytes stand after the block"), (tx[:4] + b"\x00\x01" + tx[4:], "Witness", "a transaction has witnesses"), (b"", "Short", "a field is cut off")):
+        called_row("check w", f"tx {bad.hex()};;", b"", refused(1, f"Proof(Tx({kind}))", f"no transaction: {words}"))
+    print("# Proofs that are refused: cut off; of another transaction; one of a transaction of 64 bytes, which is a node of the tree.")
+    called_row("check w", f"tx {tx.hex()};proof {proof[:-1].hex()};", b"", refused(2, "Proof(Proof(Short))", "no proof of the transaction: fewer bytes are left than a field has"))
+    coinbase = texts[0]
+    for bad in (coinbase[2][:-1] + b"\x00", coinbase[2][:-1] + b"\x01"):
+        fault = "3 BadFile" if bad[-1] == 0 else "0 Done"
+        comes = refused(2, "Proof(Proof(Absent))", "no proof of the transaction: the proof is of another transaction") if bad[-1] == 0 else fault + "\n" + coinbase[4]
+        called_row("check w", f"tx {coinbase[1].hex()};proof {bad.hex()};", b"", comes)
+    called_row("check w", f"tx {texts[2][1].hex()};proof {proof.hex()};", b"", refused(2, "Proof(Proof(Absent))", "no proof of the transaction: the proof is of another transaction"))
+    small = bytes.fromhex("0100000001") + double(coinbase[1]) + bytes.fromhex("0000000000ffffffff0100f2052a01000000040108755100000000")
+    ids = [double(t) for t in blocks[1][1]]
+    called_row("check w", f"tx {small.hex()};proof {spelled(blocks[1][0], 1, [node(ids, 1, 0)], bytes([1])).hex()};", b"", refused(2, "Proof(Proof(Tx64))", "no proof of the transaction: the transaction has 64 bytes"))
+    print("# A header without work: its nonce is another one.")
+    worked = [header[:76] + struct.pack("<I", nonce) for nonce in range(100)]
+    idle = next(h for h in worked if not met(h))
+    called_row("check w", f"tx {tx.hex()};proof {(idle + proof[80:]).hex()};", b"", refused(2, "Proof(Work)", "no block: the hash of the header is above the target"))
+    other = next(h for h in worked if met(h) and h != header)
+    called_row("check w", f"tx {tx.hex()};proof {(other + proof[80:]).hex()};", b"", f"0 Done\nin {double(other)[::-1].hex()} {txid}\n")
+
+
 def main():
-    blocks = list(blocks_of(open(sys.argv[-1], "rb").read()))
+    data = open(sys.argv[-1], "rb").read()
+    blocks = list(blocks_of(data))
     if sys.argv[1] == "--made":
         made(blocks)
+        return
+    if sys.argv[1] == "--called":
+        called(data, blocks)
         return
     print("# Each transaction of three blocks.")
     for header, txs in blocks:
