@@ -32,9 +32,9 @@ returns-clause-answers g c = λ log reflects.
     let before = seen_of c.args.self.now.tracker in
     let now = seen_of c.enter.new.self in
     let m = c.in_ok-greeting.field-0 in
-    let goes = called_goes c.args.self.now.places.items log c.args.p c.args.name.now m c.requires.next reflects.places c.in_ok-greeting.ensures.greeting in
     let le : length c.args.self.now.places.items ≤ c.args.p.0 = omega (arith, c.requires.next) in
     let off = past_nobody c.args.self.now.places.items log c.args.p.0 le reflects.places in
+    let goes = called_goes c.args.self.now.places.items log c.args.p c.args.name.now m c.requires.next reflects.places c.in_ok-greeting.ensures.greeting in
     let put = put_entered before now c.args.p c.in_ok-enter.ensures.ok c.in_ok-enter.ensures.table c.in_ok-enter.ensures.claims c.in_ok-enter.ensures.verdicts c.in_ok-enter.ensures.watch
     (none_claimed before log c.args.p.0 off reflects.tracks) in
     let tracks = tracks_sent now c.args.p (bytes_of m) (Dialled c.args.p c.args.name.now ∷ log) (tracks_dialled before now c.args.p c.args.name.now log put reflects.tracks) in
