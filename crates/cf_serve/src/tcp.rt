@@ -1,0 +1,235 @@
+//! Connections over TCP. They tell no bytes.
+ghost use Rattle.std.specs.Prelude.{◌≡◌, ◌≤◌, ◌-◌, None, false, length, drop, IfOk};
+ghost use Rattle.cf_bytes.specs.Outside.{HasRisen};
+
+use crate::link::Link;
+use cf_bytes::{Failed, Hash32, Sink};
+use cf_conn::{Duplex, Source};
+use std::io;
+use std::io::{ErrorKind, Read, Write};
+use std::net::{Net, SocketAddr, TcpListener, TcpStream};
+use std::time::Duration;
+
+/// How long a peer may take until it reads something of what is written to it, in seconds.
+const WRITE_SECONDS: u64 = 60;
+
+/// How long a peer may be silent, in seconds.
+const READ_SECONDS: u64 = 1200;
+
+/// A connection over TCP.
+#[derive(Drop)]
+pub struct TcpConn {
+    stream: TcpStream,
+    ended: bool,
+    reads: u64,
+    writes: u64,
+}
+
+/// What stays of a connection over TCP.
+#[derive(Drop)]
+pub struct TcpEnd {
+    ended: bool,
+    reads: u64,
+    writes: u64,
+}
+
+// Reads some bytes; at most a buffer's.
+fn read_some(stream: &TcpStream, into: &mut [u8]) -> io::Result<usize>
+    ensures some { IfOk result (λ n. n ≤ length into.new) }
+    ensures rest { IfOk result (λ n. drop n into.new ≡ drop n into.old) }
+{
+    let mut buf = [0u8; 4096];
+    let room = into.len().min(buf.len());
+    let mut stream = stream;
+    let n = stream.read(&mut buf[..room])?;
+    into[..n].copy_from_slice(&buf[..n]);
+    Ok(n)
+}
+
+impl Source for TcpConn {
+    ghost left = { λ _. None };
+
+    ghost ended = { λ c. c.ended };
+
+    ghost faults = { λ c. c.reads };
+
+    fn read(&mut self, into: &mut [u8]) -> Result<usize, Failed> {
+        self.receive(into)
+    }
+}
+
+impl Sink for TcpConn {
+    ghost written = { λ _. None };
+
+    ghost faults = { λ c. c.writes };
+
+    ghost writes = { λ _ _ _ _. Unit {0} };
+
+    fn write(&mut self, from: &[u8]) -> Result<usize, Failed> {
+        self.send(from)
+    }
+}
+
+impl Duplex for TcpConn {
+    type End = TcpEnd;
+
+    ghost tells = { λ e. record { left = None; written = None; ended = e.ended; read_faults = e.reads; write_faults = e.writes } };
+
+    fn receive(&mut self, into: &mut [u8]) -> Result<usize, Failed> {
+        match read_some(&self.stream, into) {
+            Ok(n) => {
+                self.ended = self.ended || (n == 0 && !into.is_empty());
+                Ok(n)
+            }
+            Err(_) => {
+                self.reads = self.reads.saturating_add(1);
+                Err(Failed)
+            }
+        }
+    }
+
+    fn send(&mut self, from: &[u8]) -> Result<usize, Failed> {
+        let mut stream = &self.stream;
+        match stream.write(from) {
+            Ok(n) if n > 0 || from.is_empty() => Ok(n),
+            _ => {
+                self.writes = self.writes.saturating_add(1);
+                Err(Failed)
+            }
+        }
+    }
+
+    fn close(self) -> TcpEnd {
+        TcpEnd {
+            ended: self.ended,
+            reads: self.reads,
+            writes: self.writes,
+        }
+    }
+}
+
+/// A listener over TCP. It tells neither addresses nor bytes.
+#[derive(Drop)]
+pub struct TcpLink<R> {
+    rt: R,
+    listener: Option<TcpListener>,
+    reason: Option<io::Error>,
+    faults: u64,
+    accepted: u64,
+    returned: u64,
+    ghost order: { returned ≤ accepted },
+}
+
+impl<R: Net<Listener = TcpListener, Stream = TcpStream>> TcpLink<R> {
+    /// A link that doesn't listen yet.
+    pub fn new(rt: R) -> TcpLink<R>
+        ensures { (result.faults ≡ 0) × (result.accepted ≡ 0) × (result.returned ≡ 0) }
+    {
+        TcpLink {
+            rt,
+            listener: None,
+            reason: None,
+            faults: 0,
+            accepted: 0,
+            returned: 0,
+        }
+    }
+
+    /// Where it listens, with the port that the system chose where 0 was asked for.
+    pub fn local_addr(&self) -> Option<SocketAddr> {
+        let listener = self.listener.as_ref()?;
+        listener.local_addr().ok()
+    }
+
+    /// The system's reason for the last call that failed.
+    pub fn reason(&self) -> Option<io::Error> {
+        self.reason
+    }
+
+    // Counts a call that failed, and keeps its reason.
+    fn failed(&mut self, reason: io::Error) -> Failed
+        ensures faults { HasRisen self.old.faults self.new.faults }
+        ensures accepted { self.new.accepted ≡ self.old.accepted }
+        ensures returned { self.new.returned ≡ self.old.returned }
+    {
+        self.faults = self.faults.saturating_add(1);
+        self.reason = Some(reason);
+        Failed
+    }
+}
+
+// A peer may be silent for so long, and may leave unread for so long what is written to it; and nothing waits to be sent.
+fn set_limits(stream: &TcpStream) -> io::Result<()> {
+    stream.set_read_timeout(Some(Duration::from_secs(READ_SECONDS)))?;
+    stream.set_write_timeout(Some(Duration::from_secs(WRITE_SECONDS)))?;
+    stream.set_nodelay(true)
+}
+
+// The next connection. One that its peer has given up before it was accepted is passed over.
+fn next_of(listener: &Option<TcpListener>) -> io::Result<TcpStream> {
+    let Some(listener) = listener else {
+        return Err(io::Error::from(ErrorKind::NotConnected));
+    };
+    for _ in 0..u64::MAX {
+        match listener.accept() {
+            Ok((stream, _)) => {
+                if set_limits(&stream).is_ok() {
+                    return Ok(stream);
+                }
+            }
+            Err(e) if e.kind() == ErrorKind::ConnectionAborted => {}
+            Err(e) => return Err(e),
+        }
+    }
+    Err(io::Error::from(ErrorKind::ConnectionAborted))
+}
+
+impl<R: Net<Listener = TcpListener, Stream = TcpStream> + Drop> Link for TcpLink<R> {
+    type Conn = TcpConn;
+
+    ghost faults = { λ l. l.faults };
+
+    ghost addresses = { λ _. None };
+
+    ghost accepted = { λ l. l.accepted };
+
+    ghost owed = { λ l. l.accepted - l.returned };
+
+    ghost conns = { λ _. None };
+
+    ghost given = { λ _. None };
+
+    fn listen(&mut self, address: &str) -> Result<(), Failed> {
+        match TcpListener::bind(&self.rt, address) {
+            Ok(listener) => {
+                self.listener = Some(listener);
+                Ok(())
+            }
+            Err(reason) => Err(self.failed(reason)),
+        }
+    }
+
+    fn announce(&mut self, _height: u32, _tip: &Hash32) {}
+
+    fn accept(&mut self) -> Result<TcpConn, Failed> {
+        if self.accepted == u64::MAX {
+            return Err(self.failed(io::Error::from(ErrorKind::QuotaExceeded)));
+        }
+        match next_of(&self.listener) {
+            Ok(stream) => {
+                self.accepted += 1;
+                Ok(TcpConn {
+                    stream,
+                    ended: false,
+                    reads: 0,
+                    writes: 0,
+                })
+            }
+            Err(reason) => Err(self.failed(reason)),
+        }
+    }
+
+    fn give_back(&mut self, _end: TcpEnd, _how: u8) {
+        self.returned += 1;
+    }
+}
