@@ -38,7 +38,7 @@ use Rattle.cf_client.specs.declared.progress.SendState.TheVariants.{Fine, Pendin
 use Rattle.cf_client.specs.declared.trace.TraceLine.{TraceLine}
 use Rattle.cf_client.specs.declared.trace.TraceLine.TheVariants.{Sent as SentLine, Closed as ClosedLine}
 use Rattle.cf_client.specs.Places.{entry_of, MayAct, CutFor, Fits}
-use Rattle.cf_client.specs.Stands.{Reflects, watch_by}
+use Rattle.cf_client.specs.Stands.{Reflects, count_of, watch_by}
 use Rattle.cf_client.specs.Run.{Doing, ActsLeft, HoldsOver, closes, state_at, is_pending, is_fine, IsTraceOf}
 use Rattle.cf_sync.proofs.SameFetched.{same_wanted, same_holds}
 use Rattle.cf_client.proofs.Losing.{lost_failed}
@@ -733,3 +733,8 @@ in_use acts progress called planned t p is doing = elim (cases_lt (tally_of doin
   | inl past ↦ absurd (both_ways (is_pending (state_at progress.sends p)) (not_pending (state_at progress.sends p) (doing.notes.new p past).0) is)
   | inr le ↦ omega (arith, doing.plan.dials)
 ]
+
+-- and so it has a number that the client uses
+pub in_count : {H M : Type 0} {g : Ghosts H} {watch : List (List ℕ)} (c : Client H M g) (acts : List Act) (progress : Progress) (called : List (List ℕ)) (planned : Log) (t : Told) (p : ℕ)
+    → is_pending (state_at progress.sends p) ≡ true → Reflects c planned → Doing watch acts progress called planned t → p < count_of c
+in_count c acts progress called planned t p is reflects doing = (let used = in_use acts progress called planned t p is doing in omega (arith, used, reflects.places.count))

@@ -1,4 +1,4 @@
-use Rattle.std.proofs.Common.{List, ◌∷◌, ◌<◌, [], length, set, sym, ◌∙◌, ap, subst, arith}
+use Rattle.std.proofs.Common.{List, ◌∷◌, ◌<◌, [], length, set, sym, ◌∙◌, ap, subst}
 use Rattle.cf_peer.specs.declared.act.Act.{Act}
 use Rattle.cf_peer.specs.declared.event.Event.TheVariants.{SendFailed}
 use Rattle.cf_peer.specs.declared.peer.Cause.TheVariants.{SendFailed as SendFault}
@@ -9,7 +9,7 @@ use Rattle.cf_client.specs.Run.{Doing}
 use Rattle.cf_client.proofs.Courses.{noted_performs, performs_then}
 use Rattle.cf_client.specs.Stands.{watch_by}
 use Rattle.cf_client.proofs.Turns.{doing_watch}
-use Rattle.cf_client.proofs.Performs.{cut_for, told_one, all_told, in_use}
+use Rattle.cf_client.proofs.Performs.{cut_for, told_one, all_told, in_count}
 use Rattle.cf_client.specs.Stands.{words_by}
 use Rattle.cf_client.proofs.Versions.{acts_tell_so}
 use Rattle.cf_client.proofs.over.settle.Goals as goal
@@ -21,9 +21,9 @@ loop-p-preserved g c = record {
       let w = c.loop-p.invariant.waits called planned reflects doing in
       let next = SendFailed p ∷ w.planned in
       let lt : p.0 < length c.loop-p.progress.sends = c.note_told.ensures.within in
-      let used = in_use [] c.loop-p.progress called w.planned (g.W.Wires.told c.loop-p.wires) p.0 c.in-Some.ensures.some.1 w.doing in
-      let a = c.in_ok-acts.ensures.answers w.planned next (omega (arith, used, w.reflects.places.count)) w.reflects (cut_for p w.planned) in
-      let first = c.in_ok-acts.ensures.first (omega (arith, used, w.reflects.places.count)) in
+      let used = in_count c.loop-p.client [] c.loop-p.progress called w.planned (g.W.Wires.told c.loop-p.wires) p.0 c.in-Some.ensures.some.1 w.reflects w.doing in
+      let a = c.in_ok-acts.ensures.answers w.planned next used w.reflects (cut_for p w.planned) in
+      let first = c.in_ok-acts.ensures.first used in
       let told = told_one {watch = watch_by c.loop-p.client} first.0 c.loop-p.progress called w.planned (g.W.Wires.told c.loop-p.wires) p SendFault lt c.in-Some.ensures.some.1 w.doing in
       let watch = watch_by c.loop-p.client in
       let begun = subst (λ (acts : List Act). Doing watch acts (record c.loop-p.progress { sends = set c.loop-p.progress.sends p.0 Known }) called next (g.W.Wires.told c.loop-p.wires)) (sym first.1 ∙ sym c.deref.ensures.value) told in
@@ -39,8 +39,8 @@ loop-p-preserved g c = record {
   versions = λ called planned reflects doing has.
       let p = c.in-Some.p in
       let w = c.loop-p.invariant.waits called planned reflects doing in
-      let used = in_use [] c.loop-p.progress called w.planned (g.W.Wires.told c.loop-p.wires) p.0 c.in-Some.ensures.some.1 w.doing in
-      let tells = c.in_ok-acts.ensures.tells w.planned (SendFailed p ∷ w.planned) (omega (arith, used, w.reflects.places.count)) w.reflects (cut_for p w.planned) in
+      let used = in_count c.loop-p.client [] c.loop-p.progress called w.planned (g.W.Wires.told c.loop-p.wires) p.0 c.in-Some.ensures.some.1 w.reflects w.doing in
+      let tells = c.in_ok-acts.ensures.tells w.planned (SendFailed p ∷ w.planned) used w.reflects (cut_for p w.planned) in
       c.in_ok-perform.ensures.versions (words_by c.args.client.now) (acts_tell_so _ _ c.in_ok-acts.acts.items _ c.loop-p.invariant.words c.deref.ensures.value tells)
       (c.loop-p.invariant.versions called planned reflects doing has);
   count = c.in_ok-acts.ensures.count ∙ c.loop-p.invariant.count;
@@ -59,7 +59,7 @@ pub returns-in_err-perform-clause-versions : goal.returns-in_err-perform-clause-
 returns-in_err-perform-clause-versions g c = λ called planned reflects doing has.
     let p = c.in-Some.p in
     let w = c.loop-p.invariant.waits called planned reflects doing in
-    let used = in_use [] c.loop-p.progress called w.planned (g.W.Wires.told c.loop-p.wires) p.0 c.in-Some.ensures.some.1 w.doing in
-    let tells = c.in_ok-acts.ensures.tells w.planned (SendFailed p ∷ w.planned) (omega (arith, used, w.reflects.places.count)) w.reflects (cut_for p w.planned) in
+    let used = in_count c.loop-p.client [] c.loop-p.progress called w.planned (g.W.Wires.told c.loop-p.wires) p.0 c.in-Some.ensures.some.1 w.reflects w.doing in
+    let tells = c.in_ok-acts.ensures.tells w.planned (SendFailed p ∷ w.planned) used w.reflects (cut_for p w.planned) in
     c.in_err-perform.ensures.versions (words_by c.args.client.now) (acts_tell_so _ _ c.in_ok-acts.acts.items _ c.loop-p.invariant.words c.deref.ensures.value tells)
     (c.loop-p.invariant.versions called planned reflects doing has)

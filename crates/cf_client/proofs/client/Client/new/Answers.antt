@@ -1,4 +1,4 @@
-use Rattle.std.proofs.Common.{List, [], ◌∷◌, ◌++◌, sym, ◌∙◌, ap, subst}
+use Rattle.std.proofs.Common.{◌≡◌, List, [], ◌∷◌, ◌++◌, sym, ◌∙◌, ap, subst}
 use Rattle.cf_dispute.proofs.Genesis.{first_header_is}
 use Rattle.cf_hear.specs.Seen.{seen_of}
 use Rattle.cf_tracker.specs.Tracker.{claims_of}
@@ -14,10 +14,10 @@ new-requires-clause-first g c = sym first_header_is
 
 pub invariant_of-result-clause-settled : goal.invariant_of-result-clause-settled
 invariant_of-result-clause-settled g c = λ alive.
-    let one = c.in_ok-push.ensures.items ∙ ap (λ (places : List Place). places ++ nobody ∷ []) c.new-places.ensures.items in
-    subst (λ (places : List Place). AreSettled places (seen_of c.in_ok-tracker.tracker)) (sym one) (settled_first (seen_of c.in_ok-tracker.tracker) c.in_ok-tracker.ensures.chains)
+    let one : c.push.new.self.items ≡ nobody ∷ [] = c.in_ok-push.ensures.items ∙ ap (λ (places : List Place). places ++ nobody ∷ []) c.new-places.ensures.items in
+    subst (λ (places : List Place). AreSettled places (seen_of c.in_ok-tracker.tracker)) (sym {A = List Place} one) (settled_first (seen_of c.in_ok-tracker.tracker) c.in_ok-tracker.ensures.chains)
 
 pub invariant_of-result-clause-right : goal.invariant_of-result-clause-right
 invariant_of-result-clause-right g c = λ alive.
-    let one = c.in_ok-push.ensures.items ∙ ap (λ (places : List Place). places ++ nobody ∷ []) c.new-places.ensures.items in
-    subst (λ (places : List Place). ∥ AreRight places (claims_of c.in_ok-tracker.tracker) ∥₁) (sym one) ∣ right_first (claims_of c.in_ok-tracker.tracker) ∣₁
+    let one : c.push.new.self.items ≡ nobody ∷ [] = c.in_ok-push.ensures.items ∙ ap (λ (places : List Place). places ++ nobody ∷ []) c.new-places.ensures.items in
+    subst (λ (places : List Place). ∥ AreRight places (claims_of c.in_ok-tracker.tracker) ∥₁) (sym {A = List Place} one) ∣ right_first (claims_of c.in_ok-tracker.tracker) ∣₁
