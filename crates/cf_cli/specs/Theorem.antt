@@ -70,7 +70,7 @@ IsComplete OutFault = Unit {0}
 IsComplete NoMemory = Unit {0}
 IsComplete status = ⊥
 
--- a peer that answers as the serving machine of these blocks does, over a log whose strings, with the blocks', don't clash
+-- a peer that answers as the serving machine of these blocks does, over a log whose strings, with those of the blocks and of their filters, don't clash
 pub record Serves (log : Log) (p : ℕ) (blocks : List Block) : Type 0 where
   pub honest : IsHonest log p blocks
   pub apart : NoHashClash (IsHashed log blocks)
