@@ -13,8 +13,9 @@ pub const HELP: &str = "\
 cf: a light client for Bitcoin's regtest network.
 
 It tells the history of the scripts that you watch: from a file of blocks, or
-from 1 to 8 peers, whose longest chain of valid block headers it follows, and
-whose blocks it fetches. The last line is the tip of the chain:
+from 1 to 8 peers, whose longest chain of valid block headers it follows. Of
+that chain it fetches the blocks on whose filters the peers differ, or whose
+filter may hold a script. The last line is the tip of the chain:
     synced HEIGHT HASH
 
 usage: cf scan FILE WATCH
