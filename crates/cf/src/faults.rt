@@ -48,6 +48,7 @@ fn tell_file(rt: &HostRuntime, command: &Command) -> io::Result<bool> {
         Command::Filter { file, .. } | Command::Prove { file, .. } | Command::Check { file } => {
             tell_reason(rt, file.as_str())
         }
+        Command::Serve { file, .. } => tell_reason(rt, file.as_str()),
         Command::Address { .. } => Ok(false),
     }
 }

@@ -3,11 +3,14 @@
 #![tactic(auto)]
 
 mod faults;
+mod listener;
 mod outside;
 
+use crate::listener::Listener;
 use cf_bytes::{StdFiles, WriterSink, put_all};
 use cf_cli::{Status, own_text, run};
 use cf_peer::MemoryWires;
+use cf_tasks::InThreads;
 use std::io;
 use std::process::ExitCode;
 
@@ -33,6 +36,8 @@ fn run_command(rt: &HostRuntime, words: &[String]) -> Status {
         &mut StdFiles::new(rt),
         &mut wires,
         &mut tape,
+        &mut Listener::new(*rt),
+        &mut InThreads::new(*rt),
         &mut WriterSink::new(io::writer(rt)),
     )
 }

@@ -40,6 +40,18 @@ fn told(alloc: Global, command: &Command) -> Option<String> {
             format!(in alloc; "prove {} {}", file.as_str(), show(alloc, txid).ok()?).ok()
         }
         Command::Check { file } => format!(in alloc; "check {}", file.as_str()).ok(),
+        Command::Serve {
+            connections,
+            file,
+            address,
+        } => {
+            format!(in alloc;
+                "serve {connections} {} {}",
+                file.as_str(),
+                address.as_str()
+            )
+            .ok()
+        }
     }
 }
 

@@ -16,14 +16,15 @@ mod inputs;
 mod payloads;
 mod proofs;
 mod runs;
+mod servings;
 mod streams;
 mod verdicts;
 
-use std::alloc::Global;
 use std::process::ExitCode;
 
 // What a row comes to.
-fn answer(alloc: Global, row: &str) -> Option<String> {
+fn answer(rt: &HostRuntime, row: &str) -> Option<String> {
+    let alloc = rt.alloc();
     let (kind, rest) = row.split_once(' ')?;
     match kind {
         "address" => addresses::answer(alloc, rest),
@@ -46,8 +47,9 @@ fn answer(alloc: Global, row: &str) -> Option<String> {
         "payload" => payloads::answer(alloc, rest),
         "proof" => proofs::answer(alloc, rest),
         "prove" => proofs::made(alloc, rest),
-        "run" => runs::answer(alloc, rest),
+        "run" => runs::answer(rt, rest),
         "serve" => conversations::answer(alloc, rest),
+        "serving" => servings::answer(rt, rest),
         "session" => inputs::session(alloc, rest),
         "siphash" => filters::siphash(alloc, rest),
         "stream" => streams::answer(alloc, rest),
@@ -63,11 +65,12 @@ fn answer(alloc: Global, row: &str) -> Option<String> {
 }
 
 // The lines that are printed for a row.
-fn shown(alloc: Global, row: &str) -> Option<String> {
+fn shown(rt: &HostRuntime, row: &str) -> Option<String> {
+    let alloc = rt.alloc();
     if row.starts_with('#') {
         return format!(in alloc; "{row}").ok();
     }
-    match answer(alloc, row) {
+    match answer(rt, row) {
         Some(text) => format!(in alloc; "{row}\n{text}").ok(),
         None => format!(in alloc; "{row}\n?").ok(),
     }
@@ -78,7 +81,7 @@ fn main(rt: HostRuntime) -> ExitCode {
         let Ok(row) = row else {
             return ExitCode::from(1);
         };
-        let Some(text) = shown(rt.alloc(), &row) else {
+        let Some(text) = shown(&rt, &row) else {
             return ExitCode::from(2);
         };
         if println!(&rt; "{text}").is_err() {

@@ -3,6 +3,7 @@ ghost use Rattle.std.specs.Prelude.{◌≡◌, [], IfSome, false};
 ghost use Rattle.cf_peer.specs.Memory.{log_of, finished_of};
 
 use crate::fields::{bytes_in, file_in, numbers_in, texts_in};
+use crate::servings::{in_place, no_link};
 use cf_bytes::{Files, MapFiles, VecSink};
 use cf_cli::{Status, run};
 use cf_input::read_session;
@@ -35,7 +36,7 @@ fn wires_of(alloc: Global, session: &str, failing: &str) -> Option<MemoryWires>
 }
 
 // The exit status, the status, and what went wrong, in words.
-fn told(alloc: Global, status: &Status) -> Option<String> {
+pub(crate) fn told(alloc: Global, status: &Status) -> Option<String> {
     let code = status.code();
     match status {
         Status::Done => format!(in alloc; "{code} {status:?}").ok(),
@@ -51,7 +52,7 @@ fn shown(alloc: Global, status: &Status, written: &[u8]) -> Option<String> {
 
 // The answer to these words, over these wires, into a sink with so much room.
 fn answered(
-    alloc: Global,
+    rt: &HostRuntime,
     words: &[String],
     files: MapFiles,
     wires: MemoryWires,
@@ -59,19 +60,31 @@ fn answered(
 ) -> Option<String>
     requires { (log_of wires ≡ []) × (finished_of wires ≡ false) }
 {
+    let alloc = rt.alloc();
     let mut files = files;
     let mut wires = wires;
     let mut tape = MemoryWires::new(alloc).ok()?;
+    let mut link = no_link(alloc)?;
+    let mut spawner = in_place(rt);
     let mut out = VecSink::new(alloc, 7, room).ok()?;
     let status = run(
-        alloc, words, 0, 0, &mut files, &mut wires, &mut tape, &mut out,
+        alloc,
+        words,
+        0,
+        0,
+        &mut files,
+        &mut wires,
+        &mut tape,
+        &mut link,
+        &mut spawner,
+        &mut out,
     );
     shown(alloc, &status, out.bytes())
 }
 
 // The answer over the wires of a session, where the first field tells the room and the calls of the wires that fail.
 fn answered_over(
-    alloc: Global,
+    rt: &HostRuntime,
     limits: &str,
     words: &[String],
     files: MapFiles,
@@ -79,30 +92,31 @@ fn answered_over(
 ) -> Option<String> {
     let (room, failing) = limits.split_once(' ')?;
     let room = room.parse().ok()?;
-    let wires = wires_of(alloc, session, failing)?;
-    answered(alloc, words, files, wires, room)
+    let wires = wires_of(rt.alloc(), session, failing)?;
+    answered(rt, words, files, wires, room)
 }
 
 // The call of a row's fields: the room, the calls of the wires that fail, the words, and the files.
 fn called(
-    alloc: Global,
+    rt: &HostRuntime,
     limits: &str,
     words: &str,
     watch: &str,
     session: &str,
     blocks: &str,
 ) -> Option<String> {
+    let alloc = rt.alloc();
     let words = texts_in(alloc, words, ' ')?;
     let session = file_in(alloc, session)?;
     let files = files_of(alloc, watch, &session, blocks)?;
-    answered_over(alloc, limits, &words, files, &session)
+    answered_over(rt, limits, &words, files, &session)
 }
 
 /// How the call of a row ends, and what it writes.
-pub(crate) fn answer(alloc: Global, row: &str) -> Option<String> {
+pub(crate) fn answer(rt: &HostRuntime, row: &str) -> Option<String> {
     let (limits, rest) = row.split_once('|')?;
     let (words, rest) = rest.split_once('|')?;
     let (watch, rest) = rest.split_once('|')?;
     let (session, blocks) = rest.split_once('|')?;
-    called(alloc, limits, words, watch, session, blocks)
+    called(rt, limits, words, watch, session, blocks)
 }

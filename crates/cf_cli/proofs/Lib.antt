@@ -2,3 +2,4 @@ pub mod Runs
 pub mod Plays
 pub mod FilterTexts
 pub mod ProofTexts
+pub mod Serves

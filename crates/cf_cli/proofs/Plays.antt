@@ -20,7 +20,7 @@ use Rattle.cf_peer.specs.Memory.{script_of, log_of, failing_of, finished_of, tol
 use Rattle.cf_peer.specs.Wires.{Script, Made}
 use Rattle.cf_input.specs.declared.session.SessionFault.{SessionFault}
 use Rattle.cf_cli.specs.declared.status.Status.{Status}
-use Rattle.cf_cli.specs.declared.status.Status.TheVariants.{Done, NoMemory, Usage, BadFile, FileFault, OutFault, NoPeers, Tired, Ended, NoHeight, NotThere, NotAddress}
+use Rattle.cf_cli.specs.declared.status.Status.TheVariants.{Done, NoMemory, Usage, BadFile, FileFault, OutFault, NoPeers, Tired, Ended, LinkFault, NoHeight, NotThere, NotAddress}
 use Rattle.cf_input.specs.declared.words.Command.{Command}
 use Rattle.cf_input.specs.declared.words.Command.TheVariants.{Replay, Sync}
 use Rattle.cf_input.specs.SessionFile.{session_of}
@@ -39,6 +39,7 @@ no_run OutFault is = absurd is
 no_run (NoPeers ends) is = absurd is
 no_run Tired is = absurd is
 no_run Ended is = absurd is
+no_run LinkFault is = absurd is
 no_run (NoHeight tip) is = absurd is
 no_run (NotThere txid) is = absurd is
 no_run (NotAddress cause) is = absurd is
@@ -142,6 +143,7 @@ file_answers OutFault is = absurd is
 file_answers (NoPeers ends) is = absurd is
 file_answers Tired is = absurd is
 file_answers Ended is = absurd is
+file_answers LinkFault is = absurd is
 file_answers (NoHeight tip) is = absurd is
 file_answers (NotThere txid) is = absurd is
 file_answers (NotAddress cause) is = absurd is
@@ -195,6 +197,7 @@ has_nobody (BadFile which place cause) off = refl
 has_nobody FileFault off = refl
 has_nobody OutFault off = refl
 has_nobody (NoPeers ends) off = refl
+has_nobody LinkFault off = refl
 has_nobody (NoHeight tip) off = refl
 has_nobody (NotThere txid) off = refl
 has_nobody (NotAddress cause) off = refl

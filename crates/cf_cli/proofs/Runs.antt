@@ -22,7 +22,7 @@ use Rattle.cf_scan.specs.Scan.{scan_of}
 use Rattle.cf_sync.specs.Fetching.{IsQuiet, IsBusy, IsConnected}
 use Rattle.cf_sync.specs.Sync.{SyncTheorem, IsHistoryOf}
 use Rattle.cf_cli.specs.declared.status.Status.{Status}
-use Rattle.cf_cli.specs.declared.status.Status.TheVariants.{Done, NoMemory, Usage, BadFile, FileFault, OutFault, NoPeers, Tired, Ended, NoHeight, NotThere, NotAddress}
+use Rattle.cf_cli.specs.declared.status.Status.TheVariants.{Done, NoMemory, Usage, BadFile, FileFault, OutFault, NoPeers, Tired, Ended, LinkFault, NoHeight, NotThere, NotAddress}
 use Rattle.cf_cli.specs.Texts.{run_text}
 use Rattle.cf_cli.specs.Theorem.{IsAnswerOf, Settles, IsComplete, Kept, TellsEnds, AnswersTo}
 
@@ -53,6 +53,7 @@ settles end Ended before after text log answer why somebody quiet = absurd (ende
 settles end Usage before after text log answer why somebody quiet = absurd answer
 settles end (BadFile which place cause) before after text log answer why somebody quiet = absurd answer
 settles end FileFault before after text log answer why somebody quiet = absurd answer
+settles end LinkFault before after text log answer why somebody quiet = absurd answer
 settles end (NoHeight tip) before after text log answer why somebody quiet = absurd answer
 settles end (NotThere txid) before after text log answer why somebody quiet = absurd answer
 settles end (NotAddress cause) before after text log answer why somebody quiet = absurd answer
@@ -67,6 +68,7 @@ completes end Ended before after text answer somebody = tt
 completes end Usage before after text answer somebody = absurd answer
 completes end (BadFile which place cause) before after text answer somebody = absurd answer
 completes end FileFault before after text answer somebody = absurd answer
+completes end LinkFault before after text answer somebody = absurd answer
 completes end (NoHeight tip) before after text answer somebody = absurd answer
 completes end (NotThere txid) before after text answer somebody = absurd answer
 completes end (NotAddress cause) before after text answer somebody = absurd answer

@@ -3,3 +3,4 @@ pub mod Statuses
 pub mod Texts
 pub mod Theorem
 pub mod Proving
+pub mod Serving

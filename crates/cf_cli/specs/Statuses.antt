@@ -12,12 +12,12 @@ use Rattle.cf_input.specs.declared.session.SessionFault.{SessionFault}
 use Rattle.cf_cli.specs.declared.status.FileCause.{FileCause}
 use Rattle.cf_cli.specs.declared.status.FileCause.TheVariants.{TooBig, Watch as OfWatch, Session as OfSession, Blocks as OfBlocks, Proof as OfProof}
 use Rattle.cf_cli.specs.declared.status.Status.{Status}
-use Rattle.cf_cli.specs.declared.status.Status.TheVariants.{Done, NoMemory, Usage, BadFile, FileFault, OutFault, NoPeers, Tired, Ended, NoHeight, NotThere, NotAddress}
+use Rattle.cf_cli.specs.declared.status.Status.TheVariants.{Done, NoMemory, Usage, BadFile, FileFault, OutFault, NoPeers, Tired, Ended, LinkFault, NoHeight, NotThere, NotAddress}
 use Rattle.cf_cli.specs.declared.status.Which.{Which}
 use Rattle.cf_cli.specs.declared.status.Which.TheVariants.{Watch, Session, Blocks, Proof}
 use Rattle.cf_input.specs.declared.watch_file.WatchFileFault.{WatchFileFault}
 use Rattle.cf_input.specs.declared.words.Command.{Command}
-use Rattle.cf_input.specs.declared.words.Command.TheVariants.{Replay, Sync, Scan, Filter, Address, Prove, Check}
+use Rattle.cf_input.specs.declared.words.Command.TheVariants.{Replay, Sync, Scan, Filter, Address, Prove, Check, Serve}
 use Rattle.cf_input.specs.ProofFile.{proof_file_of}
 use Rattle.cf_input.specs.declared.proof_file.ProofFileFault.{ProofFileFault}
 use Rattle.cf_input.specs.declared.proof_file.Proven.{Proven}
@@ -34,6 +34,7 @@ code_of OutFault = 5
 code_of (NoPeers ends) = 6
 code_of Tired = 7
 code_of Ended = 8
+code_of LinkFault = 9
 code_of (NoHeight tip) = 11
 code_of (NotThere txid) = 12
 code_of (NotAddress cause) = 13
@@ -107,6 +108,7 @@ verdict_of files (Filter file height) = blocks_verdict (finite.get files file)
 verdict_of files (Address text) = no_file
 verdict_of files (Prove file txid) = blocks_verdict (finite.get files file)
 verdict_of files (Check file) = proof_verdict (finite.get files file)
+verdict_of files (Serve count file address) = blocks_verdict (finite.get files file)
 
 -- a file that is missing or refused is answered so, and no other is; a read may fail, and memory may be wanting
 abbrev pub IsJudged : Verdict → Status → Type 0

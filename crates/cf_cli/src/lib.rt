@@ -8,6 +8,7 @@ mod own_texts;
 mod program;
 mod proving;
 mod reading;
+mod serving;
 mod status;
 mod texts;
 

@@ -22,6 +22,7 @@ usage: cf scan FILE WATCH
        cf filter FILE HEIGHT
        cf replay [--trace] WATCH SESSION
        cf sync [--turns N] WATCH PEER..
+       cf serve [--connections N] FILE ADDRESS
        cf address TEXT
        cf prove FILE TXID
        cf check FILE
@@ -34,6 +35,8 @@ usage: cf scan FILE WATCH
   replay   runs the client on what SESSION says that came from the peers
   sync     runs the client on the network, with 1 to 8 peers, each HOST:PORT;
            this version opens no connection yet, so each dial fails
+  serve    checks the blocks of FILE, and serves them and their filters to N
+           connections (else 1000000) at ADDRESS, HOST:PORT; port 0 is any
   address  prints the script of an address of regtest, in hexadecimal, or the
            address of a script in hexadecimal
   prove    checks the blocks of FILE, and prints the transaction whose hash is
@@ -75,6 +78,7 @@ The exit status:
   6  no peer is left: each was closed, has gone or was not reached
   7  N deliveries were taken, and an answer was still to come
   8  the session was at its end, and an answer was still to come
+  9  ADDRESS could not be listened at, or no connection could be accepted
  11  HEIGHT is above the tip of FILE
  12  no block of FILE has a transaction whose hash is TXID
  13  TEXT is neither an address of regtest nor the script of one

@@ -12,22 +12,28 @@ ghost use Rattle.cf_input.specs.SessionFile.{session_of};
 ghost use Rattle.cf_input.specs.Sessions.{script_in, AreNamed};
 ghost use Rattle.cf_cli.specs.Statuses.{IsJudged, IsReadAs, IsUnread, IsOfFile, has_run, was_refused, may_dial, may_play, and_then, verdict_of, watch_verdict, session_verdict};
 ghost use Rattle.cf_bytes.specs.declared.hash.Hash32.{Hash32};
+ghost use Rattle.cf_serve.specs.Links.{link_now};
 ghost use Rattle.cf_cli.specs.Proving.{IsProved, IsChecked};
+ghost use Rattle.cf_cli.specs.Serving.{IsServing, may_serve};
 ghost use Rattle.cf_cli.specs.Reading.{IsScanned, IsFiltered, IsAddressed};
 ghost use Rattle.cf_cli.specs.Theorem.{KeptOver, IsReplayed, Tallied, PlaysSession};
 ghost use Rattle.cf_input.specs.Words.{command_of, HasFewPeers};
 ghost use Rattle.cf_input.specs.declared.words.Command.{Command};
-ghost use Rattle.cf_input.specs.declared.words.Command.TheVariants.{Replay, Sync, Scan, Filter, Address, Prove, Check};
+ghost use Rattle.cf_input.specs.declared.words.Command.TheVariants.{Replay, Sync, Scan, Filter, Address, Prove, Check, Serve};
 
 use crate::addressing::address;
 use crate::following::follow;
 use crate::loading::{load_session, load_watch};
 use crate::proving::{check, prove};
 use crate::reading::{filter, scan};
+use crate::serving::serve;
 use crate::status::Status;
 use cf_bytes::{Files, Refused, Sink};
+use cf_conn::Duplex;
 use cf_input::{Command, MOST_TURNS, read_words};
 use cf_peer::{MemoryWires, Wires};
+use cf_serve::Link;
+use cf_tasks::Spawner;
 use std::alloc::Global;
 
 // Follows the session of a file, on the tape that is handed in.
@@ -115,7 +121,7 @@ fn sync<F: Files, W: Wires, O: Sink>(
 }
 
 // Does what a command asks.
-fn perform<F: Files, W: Wires, O: Sink>(
+fn perform<F: Files, W: Wires, L: Link, K: Spawner, O: Sink>(
     alloc: Global,
     command: Command,
     moment: i64,
@@ -123,8 +129,13 @@ fn perform<F: Files, W: Wires, O: Sink>(
     files: &mut F,
     wires: &mut W,
     tape: &mut MemoryWires,
+    link: &mut L,
+    spawner: &mut K,
     out: &mut O,
 ) -> Status
+where
+    L::Conn: Send + 'static,
+    <L::Conn as Duplex>::End: Drop + Send + 'static,
     requires wires { Tells [] (W.told wires.old) }
     requires unfinished { (W.told wires.old).finished ≡ false }
     requires log { log_of tape.old ≡ [] }
@@ -142,6 +153,7 @@ fn perform<F: Files, W: Wires, O: Sink>(
     ensures address { (text : List ℕ) → command ≡ Address text → IsAddressed result text (O.written out.old) (O.written out.new) }
     ensures prove { (file : List ℕ) (txid : Hash32) → command ≡ Prove file txid → IsProved result (F.files files.old) file txid (O.written out.old) (O.written out.new) }
     ensures check { (file : List ℕ) → command ≡ Check file → IsChecked result (F.files files.old) file (O.written out.old) (O.written out.new) }
+    ensures serve { (count : ℕ) (file address : List ℕ) → command ≡ Serve count file address → IsServing result moment nonce (F.files files.old) file address count (link_now L.addresses L.accepted L.owed L.conns L.given link.old) (link_now L.addresses L.accepted L.owed L.conns L.given link.new) × (O.written out.new ≡ O.written out.old) }
     ensures unchanged { F.files files.new ≡ F.files files.old }
     ensures file_fault { result ≡ Status.FileFault → HasRisen (F.faults files.old) (F.faults files.new) }
     ensures out_fault { result ≡ Status.OutFault → HasRisen (O.faults out.old) (O.faults out.new) }
@@ -149,6 +161,8 @@ fn perform<F: Files, W: Wires, O: Sink>(
     ensures failures { IfSome (W.told wires.new).log (λ log. HasFailed log → HasRisen (W.faults wires.old) (W.faults wires.new)) }
     ensures undialled { may_dial (Some command) result ≡ false → W.told wires.new ≡ W.told wires.old }
     ensures unplayed { may_play (Some command) result ≡ false → told_of tape.new ≡ told_of tape.old }
+    ensures unserved { may_serve (Some command) result ≡ false → link.new ≡ link.old }
+    ensures link_fault { result ≡ Status.LinkFault → HasRisen (L.faults link.old) (L.faults link.new) }
     ensures asked { result ≢ Status.Usage }
 {
     match command {
@@ -187,17 +201,32 @@ fn perform<F: Files, W: Wires, O: Sink>(
         Command::Address { text } => address(alloc, text.as_str(), out),
         Command::Prove { file, txid } => prove(alloc, files, file.as_str(), &txid, out),
         Command::Check { file } => check(alloc, files, file.as_str(), out),
+        Command::Serve {
+            connections,
+            file,
+            address,
+        } => serve(
+            alloc,
+            files,
+            file.as_str(),
+            address.as_str(),
+            connections,
+            moment,
+            nonce,
+            link,
+            spawner,
+        ),
     }
 }
 
 /// All that the program does. The first word is the program's name; `moment` is the time in seconds since 1970 and `nonce` a random number, which
 /// the client's `version` tells. `sync` goes over `wires`, and `replay` over `tape`; both are new, nothing has passed them, they aren't finished, and
-/// no call of `tape` is to fail. The text goes to `out`.
+/// no call of `tape` is to fail. `serve` goes over `link`, and starts its connections by `spawner`. The text goes to `out`.
 ///
 /// `NoMemory` may come in place of any other answer. `Usage` comes where the words ask for nothing. The watch file is judged first, then the session
 /// file: what is missing, refused or good is answered so. After that the run is made, and its text written. With `NoMemory`, `Usage`, `BadFile` and
-/// `FileFault` nothing was written; with the last three no wires were used, and `sync` alone uses `wires`, `replay` alone `tape`.
-pub fn run<F: Files, W: Wires, O: Sink>(
+/// `FileFault` nothing was written; with the last three no wires were used, and `sync` alone uses `wires`, `replay` alone `tape`, `serve` alone `link`.
+pub fn run<F: Files, W: Wires, L: Link, K: Spawner, O: Sink>(
     alloc: Global,
     words: &[String],
     moment: i64,
@@ -205,8 +234,13 @@ pub fn run<F: Files, W: Wires, O: Sink>(
     files: &mut F,
     wires: &mut W,
     tape: &mut MemoryWires,
+    link: &mut L,
+    spawner: &mut K,
     out: &mut O,
 ) -> Status
+where
+    L::Conn: Send + 'static,
+    <L::Conn as Duplex>::End: Drop + Send + 'static,
     requires wires { Tells [] (W.told wires.old) }
     requires unfinished { (W.told wires.old).finished ≡ false }
     requires log { log_of tape.old ≡ [] }
@@ -225,6 +259,7 @@ pub fn run<F: Files, W: Wires, O: Sink>(
     ensures address { (text : List ℕ) → command_of (names_in words.now) ≡ Some (Address text) → IsAddressed result text (O.written out.old) (O.written out.new) }
     ensures prove { (file : List ℕ) (txid : Hash32) → command_of (names_in words.now) ≡ Some (Prove file txid) → IsProved result (F.files files.old) file txid (O.written out.old) (O.written out.new) }
     ensures check { (file : List ℕ) → command_of (names_in words.now) ≡ Some (Check file) → IsChecked result (F.files files.old) file (O.written out.old) (O.written out.new) }
+    ensures serve { (count : ℕ) (file address : List ℕ) → command_of (names_in words.now) ≡ Some (Serve count file address) → IsServing result moment nonce (F.files files.old) file address count (link_now L.addresses L.accepted L.owed L.conns L.given link.old) (link_now L.addresses L.accepted L.owed L.conns L.given link.new) × (O.written out.new ≡ O.written out.old) }
     ensures unchanged { F.files files.new ≡ F.files files.old }
     ensures file_fault { result ≡ Status.FileFault → HasRisen (F.faults files.old) (F.faults files.new) }
     ensures out_fault { result ≡ Status.OutFault → HasRisen (O.faults out.old) (O.faults out.new) }
@@ -232,9 +267,13 @@ pub fn run<F: Files, W: Wires, O: Sink>(
     ensures failures { IfSome (W.told wires.new).log (λ log. HasFailed log → HasRisen (W.faults wires.old) (W.faults wires.new)) }
     ensures undialled { may_dial (command_of (names_in words.now)) result ≡ false → W.told wires.new ≡ W.told wires.old }
     ensures unplayed { may_play (command_of (names_in words.now)) result ≡ false → told_of tape.new ≡ told_of tape.old }
+    ensures unserved { may_serve (command_of (names_in words.now)) result ≡ false → link.new ≡ link.old }
+    ensures link_fault { result ≡ Status.LinkFault → HasRisen (L.faults link.old) (L.faults link.new) }
 {
     match read_words(alloc, words) {
-        Ok(command) => perform(alloc, command, moment, nonce, files, wires, tape, out),
+        Ok(command) => perform(
+            alloc, command, moment, nonce, files, wires, tape, link, spawner, out,
+        ),
         Err(Refused::No(_)) => Status::Usage,
         Err(Refused::NoMemory) => Status::NoMemory,
     }

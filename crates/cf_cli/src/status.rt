@@ -99,6 +99,9 @@ pub enum Status {
     /// The wires or the session had nothing more to give, and a request was open.
     #[error("nothing more came, and an answer was still to come")]
     Ended,
+    /// The link could not listen, or could accept no further connection. All that were accepted were served.
+    #[error("the address can't be listened at, or no connection could be accepted")]
+    LinkFault,
     /// The height that was asked for is above the file's tip, which has this height.
     #[error("the height is above the tip of the file, which is at {tip}")]
     NoHeight {
@@ -131,6 +134,7 @@ impl Status {
             Status::NoPeers { .. } => 6,
             Status::Tired => 7,
             Status::Ended => 8,
+            Status::LinkFault => 9,
             Status::NoHeight { .. } => 11,
             Status::NotThere { .. } => 12,
             Status::NotAddress { .. } => 13,

@@ -11,7 +11,7 @@ use Rattle.cf_input.specs.Number.{number_at_most, number_within}
 use Rattle.cf_input.specs.Name.{is_name}
 use Rattle.cf_input.specs.SessionFile.{max_dials}
 use Rattle.cf_input.specs.declared.words.Command.{Command}
-use Rattle.cf_input.specs.declared.words.Command.TheVariants.{Address, Check, Filter, Prove, Replay, Scan, Sync}
+use Rattle.cf_input.specs.declared.words.Command.TheVariants.{Address, Check, Filter, Prove, Replay, Scan, Serve, Sync}
 
 abbrev pub needed : Rule → Rule
 needed r = record r { required = true }
@@ -62,6 +62,13 @@ prove_app = two_app (codes "prove") (codes "file") (codes "txid")
 abbrev pub check_app : App
 check_app = one_app (codes "check") (codes "file")
 
+abbrev pub connections : Rule
+connections = record (new_rule (codes "connections")) { long = Some (codes "connections") }
+
+-- serve [--connections N] FILE ADDRESS
+abbrev pub serve_app : App
+serve_app = with_rule (with_rule (with_rule (new_app (codes "serve")) connections) (needed (new_rule (codes "file")))) (needed (new_rule (codes "address")))
+
 unfoldable pub with_sub : App → App → App
 with_sub a s = with_subcommand a s.top
 
@@ -69,9 +76,9 @@ with_sub a s = with_subcommand a s.top
 unfoldable pub client_app : App
 client_app = with_sub (with_sub (new_app (codes "cf")) sync_app) replay_app
 
--- the whole command line: those over a block file come after them, then that over an address, and then those over proofs
+-- the whole command line: those over a block file come after them, then that over an address, those over proofs, and the server
 unfoldable pub cli_app : App
-cli_app = with_sub (with_sub (with_sub (with_sub (with_sub client_app scan_app) filter_app) address_app) prove_app) check_app
+cli_app = with_sub (with_sub (with_sub (with_sub (with_sub (with_sub client_app scan_app) filter_app) address_app) prove_app) check_app) serve_app
 
 -- the subcommand that was met, and what was found for its arguments
 abbrev pub Met : Type 0
@@ -105,6 +112,15 @@ most_turns = 10000000
 abbrev pub turns_of : Option Text → Option ℕ
 turns_of None = Some most_turns
 turns_of (Some text) = number_within most_turns text
+
+-- at most this many connections are served
+abbrev pub most_connections : ℕ
+most_connections = 1000000
+
+-- a number from 1 to the most, which stands also where none is given
+abbrev pub connections_of : Option Text → Option ℕ
+connections_of None = Some most_connections
+connections_of (Some text) = number_within most_connections text
 
 -- the greatest height that may be asked for
 abbrev pub most_height : ℕ
@@ -163,6 +179,13 @@ prove_of met =
 abbrev pub check_of : Met → Option Command
 check_of met = option_and_then (λ file. Some (Check file)) (text_of (codes "file") met)
 
+-- an address has the form of a peer's name
+abbrev pub serve_of : Met → Option Command
+serve_of met =
+    option_and_then (λ count. option_and_then (λ file. option_and_then (λ address.
+    if is_name address then Some (Serve count file address) else None)
+    (text_of (codes "address") met)) (text_of (codes "file") met)) (connections_of (text_of (codes "connections") met))
+
 abbrev pub asked_of : Met → Option Command
 asked_of met =
     if is_met (codes "replay") met then replay_of met
@@ -172,6 +195,7 @@ asked_of met =
     else if is_met (codes "address") met then address_of met
     else if is_met (codes "prove") met then prove_of met
     else if is_met (codes "check") met then check_of met
+    else if is_met (codes "serve") met then serve_of met
     else None
 
 -- clap finds no fault in the words

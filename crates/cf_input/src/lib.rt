@@ -19,4 +19,6 @@ pub use proof_file::{ProofCause, ProofFileFault, Proven, read_proof_file};
 pub use session::{MAX_DIALS, MOST_SECONDS, Session, SessionCause, SessionFault, read_session};
 pub use text::{PeerNames, Word, is_name};
 pub use watch_file::{WatchCause, WatchFileFault, read_watch};
-pub use words::{Command, MOST_HEIGHT, MOST_TURNS, Usage, is_help, is_version, read_words};
+pub use words::{
+    Command, MOST_CONNECTIONS, MOST_HEIGHT, MOST_TURNS, Usage, is_help, is_version, read_words,
+};

@@ -1,5 +1,5 @@
 //! What is wrong with words that ask for nothing, told to the user.
-use crate::words::{cli_command, is_met, text_of, texts_of, turns_of};
+use crate::words::{cli_command, connections_of, is_met, text_of, texts_of, turns_of};
 use cf_bytes::NoMemory;
 use clap::ArgMatches;
 use std::alloc::Global;
@@ -12,12 +12,22 @@ fn peers_mistake(matches: &ArgMatches) -> &'static str {
     }
 }
 
+// What is out of its range in the words of `serve`.
+fn serve_mistake(matches: &ArgMatches) -> &'static str {
+    match connections_of(text_of(matches, "connections")) {
+        None => "N of --connections is a number from 1 to 1000000",
+        Some(_) => "ADDRESS has 1 to 255 characters, without spaces",
+    }
+}
+
 // What is out of its range in words that clap takes.
 fn range_mistake(matches: &ArgMatches) -> &'static str {
     if is_met(matches, "filter") {
         "HEIGHT is a number from 0 to 4294967295"
     } else if is_met(matches, "prove") {
         "TXID is a transaction's hash, of 64 hexadecimal digits"
+    } else if is_met(matches, "serve") {
+        serve_mistake(matches)
     } else if !is_met(matches, "sync") {
         "there is no command"
     } else if turns_of(text_of(matches, "turns")).is_none() {

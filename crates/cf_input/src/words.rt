@@ -3,11 +3,11 @@ ghost use Rattle.std.specs.Prelude.{◌≡◌, ◌==◌, IfOk, IfErr, [], map, f
 ghost use Rattle.std.specs.List.{list_any};
 ghost use Rattle.clap.specs.Words.{app_of, rule_of, new_rule, subcommand_of, subcommand_rows_of, fault_of, with_rule};
 ghost use Rattle.clap.specs.declared.builder.command.Command.TheViews.{out-Command as fields_of};
-ghost use Rattle.cf_input.specs.Words.{trace, turns, several, needed, replay_app, sync_app, one_app, two_app, with_sub, client_app, cli_app, text_of, texts_of, is_met, is_set, turns_of, height_of, replay_of, sync_of, scan_of, filter_of, address_of, hash_in, prove_of, check_of, HasFewPeers, asked_of, is_faultless, command_of, is_help_word, is_version_word};
+ghost use Rattle.cf_input.specs.Words.{trace, turns, several, needed, replay_app, sync_app, connections, serve_app, one_app, two_app, with_sub, client_app, cli_app, text_of, texts_of, is_met, is_set, turns_of, connections_of, height_of, replay_of, sync_of, scan_of, filter_of, address_of, hash_in, prove_of, check_of, serve_of, HasFewPeers, asked_of, is_faultless, command_of, is_help_word, is_version_word};
 ghost use Rattle.cf_input.specs.Commands.{GivesOrUsage, IfUsage, refusal_of};
 
 use crate::number::{number_at_most, number_within};
-use crate::text::{PeerNames, Word, are_names};
+use crate::text::{PeerNames, Word, are_names, is_name};
 use cf_bytes::{Hash32, NoMemory, Refused, read_hash};
 use clap::error::ErrorKind;
 use clap::{Arg, ArgAction, ArgMatches};
@@ -30,6 +30,9 @@ impl From<Usage> for Refused<Usage> {
 
 /// At most this many deliveries are taken from the wires.
 pub const MOST_TURNS: u32 = 10_000_000;
+
+/// At most this many connections are served.
+pub const MOST_CONNECTIONS: u32 = 1_000_000;
 
 /// The greatest height that may be asked for.
 pub const MOST_HEIGHT: u32 = 4_294_967_295;
@@ -71,6 +74,12 @@ pub enum Command {
     /// What the file of a proof proves.
     Check {
         file: Word,
+    },
+    /// The chain of a block file, served to so many connections to an address.
+    Serve {
+        connections: u32,
+        file: Word,
+        address: Word,
     },
 }
 
@@ -147,6 +156,23 @@ fn one_word<'a>(alloc: Global, name: &'a str, one: &'a str) -> Result<clap::Comm
     with_arg(clap::Command::new(alloc, name), word_arg(alloc, one))
 }
 
+fn connections_arg<'a>(alloc: Global) -> Arg<'a>
+    ensures { (rule_of result ≡ connections) × (result.global ≡ false) }
+{
+    Arg::new(alloc, "connections").long("connections")
+}
+
+fn serve_command<'a>(alloc: Global) -> Result<clap::Command<'a>, AllocError>
+    ensures { IfOk result (λ c. (app_of c ≡ serve_app) × ((fields_of c).has_globals ≡ false)) }
+{
+    let command = with_arg(
+        clap::Command::new(alloc, "serve"),
+        connections_arg(alloc),
+    )?;
+    let command = with_arg(command, word_arg(alloc, "file"))?;
+    with_arg(command, word_arg(alloc, "address"))
+}
+
 // The command with one more subcommand.
 #[tactic(auto, unfolding(crate::specs::Words::with_sub))]
 fn with_one_more<'a>(
@@ -168,7 +194,7 @@ fn client_command<'a>(alloc: Global) -> Result<clap::Command<'a>, AllocError>
     with_one_more(command, replay_command(alloc)?)
 }
 
-/// The whole command line: those over a block file come after them, then that over an address, and then those over proofs.
+/// The whole command line: those over a block file come after them, then that over an address, those over proofs, and the server.
 pub(crate) fn cli_command<'a>(alloc: Global) -> Result<clap::Command<'a>, AllocError>
     ensures { IfOk result (λ c. (app_of c ≡ cli_app) × ((fields_of c).has_globals ≡ false)) }
 {
@@ -177,7 +203,8 @@ pub(crate) fn cli_command<'a>(alloc: Global) -> Result<clap::Command<'a>, AllocE
     let command = with_one_more(command, two_words(alloc, "filter", "file", "height")?)?;
     let command = with_one_more(command, one_word(alloc, "address", "text")?)?;
     let command = with_one_more(command, two_words(alloc, "prove", "file", "txid")?)?;
-    with_one_more(command, one_word(alloc, "check", "file")?)
+    let command = with_one_more(command, one_word(alloc, "check", "file")?)?;
+    with_one_more(command, serve_command(alloc)?)
 }
 
 // Clap refuses the words, or finds no memory.
@@ -249,6 +276,16 @@ pub(crate) fn turns_of(text: Option<&str>) -> Option<u32>
     match text {
         Some(text) => number_within(text.as_bytes(), MOST_TURNS),
         None => Some(MOST_TURNS),
+    }
+}
+
+/// The number of `--connections`, or the greatest where none is given.
+pub(crate) fn connections_of(text: Option<&str>) -> Option<u32>
+    ensures { result ≡ connections_of (option_map (λ s. s.now) text.entry) }
+{
+    match text {
+        Some(text) => number_within(text.as_bytes(), MOST_CONNECTIONS),
+        None => Some(MOST_CONNECTIONS),
     }
 }
 
@@ -344,6 +381,24 @@ fn read_check(alloc: Global, matches: &ArgMatches) -> Result<Command, Refused<Us
     Ok(Command::Check { file })
 }
 
+fn read_serve(alloc: Global, matches: &ArgMatches) -> Result<Command, Refused<Usage>>
+    ensures { GivesOrUsage (serve_of (subcommand_rows_of matches.now)) result }
+{
+    let connections = connections_of(text_of(matches, "connections")).ok_or(Usage)?;
+    let file = text_of(matches, "file").ok_or(Usage)?;
+    let address = text_of(matches, "address").ok_or(Usage)?;
+    if !is_name(address.as_bytes()) {
+        return Err(Refused::No(Usage));
+    }
+    let file = Word::new(alloc, file)?;
+    let address = Word::new(alloc, address)?;
+    Ok(Command::Serve {
+        connections,
+        file,
+        address,
+    })
+}
+
 // What the subcommand that was met asks for.
 fn read_met(alloc: Global, matches: &ArgMatches) -> Result<Command, Refused<Usage>>
     ensures exact { GivesOrUsage (asked_of (subcommand_rows_of matches.now)) result }
@@ -369,6 +424,9 @@ fn read_met(alloc: Global, matches: &ArgMatches) -> Result<Command, Refused<Usag
     }
     if is_met(matches, "check") {
         return read_check(alloc, matches);
+    }
+    if is_met(matches, "serve") {
+        return read_serve(alloc, matches);
     }
     Err(Refused::No(Usage))
 }

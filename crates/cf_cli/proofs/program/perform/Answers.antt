@@ -4,6 +4,8 @@ use Rattle.std.specs.Int.{w64}
 use Rattle.cf_peer.specs.Memory.{told_of}
 use Rattle.cf_client.proofs.Versions.{new_words}
 use Rattle.cf_cli.proofs.Plays.{versions_so, unplayed_words, judged_replay, judged_sync, new_unfailed}
+use Rattle.cf_cli.proofs.Serves.{no_link, serve_uses}
+use Rattle.cf_cli.specs.Reading.{IsOfScan, IsOfFilter, IsAddressed}
 use Rattle.cf_cli.proofs.program.perform.Goals as goal
 
 pub returns-in-Replay-clause-judged : goal.returns-in-Replay-clause-judged
@@ -33,6 +35,12 @@ returns-in-Prove-clause-failures g c = new_unfailed _ _ _ c.requires.wires
 
 pub returns-in-Check-clause-failures : goal.returns-in-Check-clause-failures
 returns-in-Check-clause-failures g c = new_unfailed _ _ _ c.requires.wires
+
+pub returns-in-Serve-clause-failures : goal.returns-in-Serve-clause-failures
+returns-in-Serve-clause-failures g c = new_unfailed _ _ _ c.requires.wires
+
+pub returns-in-Serve-clause-unserved : goal.returns-in-Serve-clause-unserved
+returns-in-Serve-clause-unserved g c = serve_uses c.args.command c.in-Serve.connections c.in-Serve.file c.in-Serve.address c.serve.result _ _ c.in-Serve.is c.serve.ensures.unused
 
 pub returns-in-Replay-clause-versions : goal.returns-in-Replay-clause-versions
 returns-in-Replay-clause-versions g c = new_words _ _ c.requires.wires
@@ -79,3 +87,9 @@ returns-in-Prove-clause-tape_versions g c = unplayed_words _ _ c.requires.log
 
 pub returns-in-Check-clause-tape_versions : goal.returns-in-Check-clause-tape_versions
 returns-in-Check-clause-tape_versions g c = unplayed_words _ _ c.requires.log
+
+pub returns-in-Serve-clause-versions : goal.returns-in-Serve-clause-versions
+returns-in-Serve-clause-versions g c = new_words _ _ c.requires.wires
+
+pub returns-in-Serve-clause-tape_versions : goal.returns-in-Serve-clause-tape_versions
+returns-in-Serve-clause-tape_versions g c = unplayed_words _ _ c.requires.log

@@ -1,10 +1,13 @@
-use Rattle.std.proofs.Common.{false, rules}
+use Rattle.std.proofs.Common.{rules, ◌≡◌, ℤ, w64, false, inl, refl, subst}
 use Rattle.std.proofs.Math.Facts.{to_z-of_z}
-use Rattle.std.specs.Int.{w64}
+use Rattle.cf_serve.specs.Links.{LinkTold, link_now}
+use Rattle.cf_cli.specs.Serving.{IsServing}
 use Rattle.cf_cli.specs.declared.status.Status.TheVariants.{NoMemory}
+
 use Rattle.cf_peer.specs.Memory.{told_of}
 use Rattle.cf_client.proofs.Versions.{new_words}
 use Rattle.cf_cli.proofs.Plays.{versions_so, unplayed_words, early_replayed, early_plays, early_told, early_tallied, new_tape, new_unfailed, same_command, judged_for, unused_wires, unused_tape}
+use Rattle.cf_cli.proofs.Serves.{unused_link}
 use Rattle.cf_cli.proofs.program.run.Goals as goal
 
 pub returns-in-Ok-clause-usage : goal.returns-in-Ok-clause-usage
@@ -60,6 +63,19 @@ returns-in-Ok-clause-prove g c = λ file txid asked. c.perform.ensures.prove fil
 
 pub returns-in-Ok-clause-check : goal.returns-in-Ok-clause-check
 returns-in-Ok-clause-check g c = λ file asked. c.perform.ensures.check file (same_command _ c.in-Ok.command _ c.in-Ok.ensures.exact asked)
+
+pub returns-in-Ok-clause-serve : goal.returns-in-Ok-clause-serve
+returns-in-Ok-clause-serve g c = λ count file address asked.
+    let link = g.L.Link in
+    let tell : g.row.L.Denot → LinkTold = link_now link.addresses link.accepted link.owed link.conns link.given in
+    let P : ℤ → Type 0 = λ m. IsServing c.perform.result m c.args.nonce (g.F.Files.files c.args.files.now) file address count (tell c.args.link.now) (tell c.perform.new.link) × (g.O.Sink.written c.perform.new.out ≡ g.O.Sink.written c.args.out.now) in
+    subst P (to_z-of_z {w = w64} {z = c.args.moment} (search rules)) (c.perform.ensures.serve count file address (same_command _ c.in-Ok.command _ c.in-Ok.ensures.exact asked))
+
+pub returns-in-Ok-clause-unserved : goal.returns-in-Ok-clause-unserved
+returns-in-Ok-clause-unserved g c = unused_link _ c.in-Ok.command c.perform.result _ _ c.in-Ok.ensures.exact c.perform.ensures.unserved
+
+pub returns-in-Err-NoMemory-clause-serve : goal.returns-in-Err-NoMemory-clause-serve
+returns-in-Err-NoMemory-clause-serve g c = λ count file address asked. (inl refl, refl)
 
 pub returns-in-Err-No-clause-versions : goal.returns-in-Err-No-clause-versions
 returns-in-Err-No-clause-versions g c = new_words _ _ c.requires.wires

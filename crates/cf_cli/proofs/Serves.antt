@@ -1,0 +1,72 @@
+-- What serving says of the answer and of the link.
+use Rattle.std.proofs.Common.{◌≡◌, ℕ, ℤ, ◌+◌, ◌≤◌, Bool, true, false, List, [], ◌∷◌, Option, Some, None, Result, Ok, Err, inl, inr, refl, sym, ◌∙◌, ap, subst}
+use Rattle.std.specs.Prelude.{IfSome, OnOk, not}
+use Rattle.std.specs.FinMap as finite
+use Rattle.cf_bytes.specs.Files.{Named}
+use Rattle.cf_block.specs.declared.tx.Block.{Block}
+use Rattle.cf_chain.specs.Good.{IsGoodChain}
+use Rattle.cf_index.specs.Files.{blocks_at}
+use Rattle.cf_serve.specs.Links.{LinkTold, longer_by}
+use Rattle.cf_serve.specs.Serving.{Serves}
+use Rattle.cf_serve.specs.declared.fail.ServeFail.{ServeFail}
+use Rattle.cf_serve.specs.declared.fail.ServeFail.TheVariants.{Failed, NoMemory as OutOfMemory}
+use Rattle.cf_service.specs.Machine.{Machine, IsServedBy}
+use Rattle.cf_cli.specs.declared.status.Status.{Status}
+use Rattle.cf_cli.specs.declared.status.Status.TheVariants.{Done, NoMemory, Usage, BadFile, FileFault, OutFault, NoPeers, Tired, Ended, LinkFault, NoHeight, NotThere, NotAddress}
+use Rattle.cf_cli.specs.Statuses.{was_refused}
+use Rattle.cf_cli.specs.Serving.{listening, ServesAt, MayServe, ServesChain, ServesFile, IsServing, answer_of, may_serve}
+use Rattle.cf_input.specs.declared.words.Command.{Command}
+use Rattle.cf_input.specs.declared.words.Command.TheVariants.{Serve}
+
+-- an answer of which something is known that isn't so of a link's fault
+pub no_link : (P : Status → Type 0) (status : Status) → P status → (P LinkFault → ⊥) → {Q : Type 0} → status ≡ LinkFault → Q
+no_link P status known none is = absurd (none (subst P is known))
+
+pub unused_link : {X : Type 0} (found : Option Command) (c : Command) (status : Status) (before after : X) → found ≡ Some c → (may_serve (Some c) status ≡ false → after ≡ before)
+    → may_serve found status ≡ false → after ≡ before
+unused_link found c status before after e unused = subst (λ (o : Option Command). may_serve o status ≡ false → after ≡ before) (sym e) unused
+
+refused_by : (b : Bool) → not b ≡ false → b ≡ true
+refused_by true is = refl
+refused_by false is = cc
+
+-- a link that stays where nothing was begun may have been used by a command that serves
+pub serve_uses : {X : Type 0} (c : Command) (count : ℕ) (file address : List ℕ) (status : Status) (before after : X) → c ≡ Serve count file address → (was_refused status ≡ true → after ≡ before)
+    → may_serve (Some c) status ≡ false → after ≡ before
+serve_uses c count file address status before after is kept =
+    subst (λ (x : Command). may_serve (Some x) status ≡ false → after ≡ before) (sym is) (λ off. kept (refused_by (was_refused status) off))
+
+-- two links tell the same
+pub same_told : (a b : LinkTold) → a.addresses ≡ b.addresses → a.accepted ≡ b.accepted → a.owed ≡ b.owed → a.conns ≡ b.conns → a.given ≡ b.given → a ≡ b
+same_told a b p q r s t = λ i. record { addresses = p i; accepted = q i; owed = r i; conns = s i; given = t i }
+
+-- what was served since the link listens
+pub since : (machine : Machine) (address : List ℕ) (most : ℕ) (was mid now : LinkTold) → mid ≡ listening was address → Serves (IsServedBy machine) mid now → now.accepted ≤ mid.accepted + most
+    → ServesAt machine address most was now
+since machine address most was mid now is served few =
+    let P : LinkTold → Type 0 = λ t. Serves (IsServedBy machine) t now × (now.accepted ≤ t.accepted + most) in subst P is (served, few)
+
+-- by the way in which serving ended
+pub chain_served : (answer : Result (Unit {0}) ServeFail) (machine : Machine) (address : List ℕ) (count : ℕ) (was now : LinkTold) → MayServe machine address count was now
+    → OnOk answer (ServesAt machine address count was now) → OnOk answer (now.accepted ≡ was.accepted + count) → ServesChain (answer_of answer) machine address count was now
+chain_served (Ok done) machine address count was now may at all = (at, all)
+chain_served (Err Failed) machine address count was now may at all = may
+chain_served (Err OutOfMemory) machine address count was now may at all = may
+
+-- the same of the file
+pub file_served : (status : Status) (moment : ℤ) (nonce : ℕ) (files : Option Named) (file address : List ℕ) (count : ℕ) (was now : LinkTold) (blocks : List Block) → IsGoodChain blocks
+    → IfSome files (λ m. IfSome (finite.get m file) (λ bytes. blocks_at bytes ≡ Ok blocks)) → ServesChain status (record { blocks = blocks; moment = moment; nonce = nonce }) address count was now
+    → IsServing status moment nonce files file address count was now
+file_served Done moment nonce files file address count was now blocks good is served = (blocks, good, is, served)
+file_served LinkFault moment nonce files file address count was now blocks good is served = (blocks, good, is, served)
+file_served NoMemory moment nonce files file address count was now blocks good is served = inr (blocks, good, is, served)
+file_served Usage moment nonce files file address count was now blocks good is served = absurd served
+file_served (BadFile which place cause) moment nonce files file address count was now blocks good is served = absurd served
+file_served FileFault moment nonce files file address count was now blocks good is served = absurd served
+file_served OutFault moment nonce files file address count was now blocks good is served = absurd served
+file_served (NoPeers ends) moment nonce files file address count was now blocks good is served = absurd served
+file_served Tired moment nonce files file address count was now blocks good is served = absurd served
+file_served Ended moment nonce files file address count was now blocks good is served = absurd served
+file_served (NoHeight tip) moment nonce files file address count was now blocks good is served = absurd served
+file_served (NotThere txid) moment nonce files file address count was now blocks good is served = absurd served
+file_served (NotAddress cause) moment nonce files file address count was now blocks good is served = absurd served
