@@ -264,5 +264,9 @@ few_there txid blocks height place i b good s at is =
 pub text_told : (txid : List ℕ) (blocks : List Block) (height place i : ℕ) (b : Block) (text : List ℕ) → first_place txid blocks ≡ Some (height, place) → (s : StandsAt txid blocks height place) → i ≡ height - 1 → b ≡ get_or blocks i b → IsTextAt b place text
     → IsProofText txid blocks text
 text_told txid blocks height place i b text first s at is lines = record {
-  height = height; place = place; first = first; stands = s; lines = subst (λ x. IsTextAt x place text) (block_is txid blocks height place i b s at is) lines;
+  height = height;
+  place = place;
+  first = first;
+  stands = s;
+  lines = subst (λ x. IsTextAt x place text) (block_is txid blocks height place i b s at is) lines;
 }

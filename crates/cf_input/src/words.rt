@@ -165,10 +165,7 @@ fn connections_arg<'a>(alloc: Global) -> Arg<'a>
 fn serve_command<'a>(alloc: Global) -> Result<clap::Command<'a>, AllocError>
     ensures { IfOk result (λ c. (app_of c ≡ serve_app) × ((fields_of c).has_globals ≡ false)) }
 {
-    let command = with_arg(
-        clap::Command::new(alloc, "serve"),
-        connections_arg(alloc),
-    )?;
+    let command = with_arg(clap::Command::new(alloc, "serve"), connections_arg(alloc))?;
     let command = with_arg(command, word_arg(alloc, "file"))?;
     with_arg(command, word_arg(alloc, "address"))
 }
