@@ -1,9 +1,11 @@
 -- Where a transaction stands.
-use Rattle.std.proofs.Common.{◌≡◌, ℕ, zero, suc, ◌+◌, ◌<◌, ◌≤◌, ◌^◌, true, List, [], ◌∷◌, ◌++◌, map, length, drop, get_or, refl, sym, ◌∙◌, ap, subst, Option, Some, None, inl, inr, arith, lit≤, ◌*◌}
-use Rattle.std.specs.Prelude.{bytes_eq, IfSome}
+use Rattle.std.proofs.Common.{◌≡◌, ℕ, zero, suc, ◌+◌, ◌<◌, ◌≤◌, ◌^◌, Bool, true, false, cond, List, [], ◌∷◌, ◌++◌, map, length, take, drop, get_or, refl, sym, ◌∙◌, ap, subst, Option, Some, None, inl, inr, arith, lit≤, ◌*◌, length-take}
+use Rattle.std.specs.Prelude.{bytes_eq, IfSome, IfOk, option_map, Result, Ok, Err}
+use Rattle.std.specs.Option.{option_or}
+use Rattle.std.specs.FinMap.{get}
 use Rattle.std.specs.List.{position, flat_map, AllByRecursion}
 use Rattle.std.proofs.lemmas.Bool.{cases_lt}
-use Rattle.std.proofs.lemmas.List.{length-append, length-map, append_assoc}
+use Rattle.std.proofs.lemmas.List.{length-append, length-map, append_assoc, take_more}
 use Rattle.std.proofs.lemmas.List.Quantifiers.{position-Some}
 use Rattle.std.proofs.lemmas.Slice.Eq.{bytes_eq-Decides}
 use Rattle.cf_bytes.specs.declared.hash.Hash32.{Hash32}
@@ -18,24 +20,76 @@ use Rattle.cf_block.proofs.Sizes.{one_byte, three_bytes, five_bytes, nine_bytes,
 use Rattle.cf_block.specs.Views.{bytes_of}
 use Rattle.cf_chain.specs.Coins.{CoinMap, after_block}
 use Rattle.cf_chain.specs.Good.{AreGoodBlocks}
-use Rattle.cf_index.proofs.Lowest.{place_of}
-use Rattle.cf_index.specs.Finding.{txids_of, at_or_higher, found_from, first_place, StandsAt}
+use Rattle.cf_headers.specs.Rules.{same}
+use Rattle.cf_index.proofs.Lowest.{place_of, place_more, or_none, with_first_gives}
+use Rattle.cf_index.specs.ByHash.{with_first}
+use Rattle.cf_index.specs.Finding.{txids_of, at_or_higher, found_from, first_place, StandsAt, PlaceMap, place_at, AreFirstPlaces, AreTaken}
 
 -- ---- one block after another
 
-pub found_here : (height : ℕ) (txid : List ℕ) (xs : List (List Hash32)) (i : ℕ) (x : List Hash32) → i < length xs → x ≡ get_or xs i x
+found_here : (height : ℕ) (txid : List ℕ) (xs : List (List Hash32)) (i : ℕ) (x : List Hash32) → i < length xs → x ≡ get_or xs i x
     → found_from height txid (map bytes_of (drop i xs)) ≡ at_or_higher height (position (λ id. bytes_eq id txid) (bytes_of x)) (found_from (suc height) txid (map bytes_of (drop (suc i) xs)))
 unfolding found_from
 found_here height txid [] i x lt is = absurd (omega arith)
 found_here height txid (y ∷ ys) zero x lt is = ap (λ l. at_or_higher height (position (λ id. bytes_eq id txid) (bytes_of l)) (found_from (suc height) txid (map bytes_of ys))) (sym is)
 found_here height txid (y ∷ ys) (suc i) x lt is = found_here height txid ys i x (omega arith) is
 
-pub found_none : (height : ℕ) (txid : List ℕ) (xs : List (List Hash32)) (i : ℕ) → length xs ≤ i → found_from height txid (map bytes_of (drop i xs)) ≡ None
+found_none : (height : ℕ) (txid : List ℕ) (xs : List (List Hash32)) (i : ℕ) → length xs ≤ i → found_from height txid (map bytes_of (drop i xs)) ≡ None
 unfolding found_from
 found_none height txid [] zero le = refl
 found_none height txid [] (suc i) le = refl
 found_none height txid (y ∷ ys) zero le = absurd (omega arith)
 found_none height txid (y ∷ ys) (suc i) le = found_none height txid ys i (omega arith)
+
+placed : {A : Type 0} (f : ℕ → A) (had : Option A) (o : Option ℕ) (b : Bool) (n : ℕ)
+    → option_or (option_or had (option_map f o)) (cond b (Some (f n)) None) ≡ option_or had (option_map f (option_or o (cond b (Some n) None)))
+placed f (Some x) o b n = refl
+placed f None (Some m) b n = refl
+placed f None None true n = refl
+placed f None None false n = refl
+
+-- the next of a block's hashes is put in
+pub place_added : (places new : PlaceMap) (height : ℕ) (had : Option (ℕ × ℕ)) (xs : List Hash32) (i place : ℕ) (d q : Hash32) → i < length xs → place ≡ i → new ≡ with_first places (get_or xs i d) (height, place)
+    → get places q ≡ option_or had (place_at height q.0 (bytes_of (take i xs))) → get new q ≡ option_or had (place_at height q.0 (bytes_of (take (i + 1) xs)))
+unfolding same
+place_added places new height had xs i place d q below at is so_far =
+    let x : Hash32 = get_or xs i d in
+    let f : ℕ → ℕ × ℕ = λ place. (height, place) in
+    let p : Hash32 → Bool = λ h. bytes_eq h.0 q.0 in
+    let seen : (l : List Hash32) → position (λ id. bytes_eq id q.0) (bytes_of l) ≡ position p l = place_of (λ (h : Hash32). h.0) (λ (id : List ℕ). bytes_eq id q.0) in
+    let grown : take (i + 1) xs ≡ take i xs ++ x ∷ [] = take_more xs i d below in
+    let long : length (take i xs) ≡ i = omega (arith, length-take i xs) in
+    ap (λ (m : PlaceMap). get m q) is ∙ ap (λ n. get (with_first places x (f n)) q) at ∙ with_first_gives places x q (f i)
+    ∙ ap (λ (o : Option (ℕ × ℕ)). option_or o (cond (p x) (Some (f i)) None)) (so_far ∙ ap (λ (o : Option ℕ). option_or had (option_map f o)) (seen (take i xs)))
+    ∙ placed f had (position p (take i xs)) (p x) i
+    ∙ ap (λ (o : Option ℕ). option_or had (option_map f o))
+    (ap (λ (n : ℕ). option_or (position p (take i xs)) (cond (p x) (Some n) None)) (sym long)
+    ∙ sym (seen (take (i + 1) xs) ∙ ap (position p) grown ∙ place_more p (take i xs) x))
+
+higher : (height : ℕ) (had : Option (ℕ × ℕ)) (o : Option ℕ) (rest : Option (ℕ × ℕ)) → option_or had (at_or_higher height o rest) ≡ option_or (option_or had (option_map (λ place. (height, place)) o)) rest
+higher height (Some at) o rest = refl
+higher height None (Some place) rest = refl
+higher height None None rest = refl
+
+-- the next block is put in
+pub block_added : (all had new : Option (ℕ × ℕ)) (height : ℕ) (txid : List ℕ) (xs : List (List Hash32)) (i : ℕ) (x : List Hash32) → i < length xs → x ≡ get_or xs i x
+    → new ≡ option_or had (place_at height txid (bytes_of x))
+    → all ≡ option_or had (found_from height txid (map bytes_of (drop i xs)))
+    → all ≡ option_or new (found_from (height + 1) txid (map bytes_of (drop (i + 1) xs)))
+block_added all had new height txid xs i x lt at is so_far =
+    let up : suc height ≡ height + 1 = omega arith in
+    let on : suc i ≡ i + 1 = omega arith in
+    let rest = found_from (suc height) txid (map bytes_of (drop (suc i) xs)) in
+    so_far ∙ ap (option_or had) (found_here height txid xs i x lt at)
+    ∙ higher height had (position (λ id. bytes_eq id txid) (bytes_of x)) rest
+    ∙ ap (λ (o : Option (ℕ × ℕ)). option_or o rest) (sym is)
+    ∙ ap (λ (n : ℕ). option_or new (found_from n txid (map bytes_of (drop (suc i) xs)))) up
+    ∙ ap (λ (n : ℕ). option_or new (found_from (height + 1) txid (map bytes_of (drop n xs)))) on
+
+-- all are put in
+pub all_added : (all had : Option (ℕ × ℕ)) (height : ℕ) (txid : List ℕ) (xs : List (List Hash32)) (i : ℕ) → length xs ≤ i
+    → all ≡ option_or had (found_from height txid (map bytes_of (drop i xs))) → had ≡ all
+all_added all had height txid xs i le so_far = or_none had ∙ ap (option_or had) (sym (found_none height txid xs i le)) ∙ sym so_far
 
 -- ---- what stands there
 
@@ -74,7 +128,7 @@ stands_from txid lower (b ∷ bs) height place is =
     stands_by txid lower b bs height place (position (λ id. bytes_eq id txid) (map txid_of b.txs)) refl is
     (λ later. subst (λ l. StandsAt txid l height place) (append_assoc lower (b ∷ []) bs) (stands_from txid (lower ++ b ∷ []) bs height place (subst (λ n. found_from (suc n) txid (txids_of bs) ≡ Some (height, place)) long later)))
 
-pub stands : (txid : List ℕ) (blocks : List Block) (height place : ℕ) → first_place txid blocks ≡ Some (height, place) → StandsAt txid blocks height place
+stands : (txid : List ℕ) (blocks : List Block) (height place : ℕ) → first_place txid blocks ≡ Some (height, place) → StandsAt txid blocks height place
 unfolding first_place
 stands txid blocks height place is = stands_from txid [] blocks height place is
 
@@ -139,25 +193,18 @@ block_txs_few b is =
     let short : length (block_spelling b) ≤ 1000000 = is.short in
     omega (arith, short, length-append (header_spelling b.header) (compact (length b.txs) ++ z), length-append (compact (length b.txs)) z, txs_60 b.txs is.txs)
 
--- ---- what is answered
+-- ---- what an index of them has
 
-pub found_this : (height : ℕ) (txid : List ℕ) (xs : List (List Hash32)) (i : ℕ) (x : List Hash32) (place : ℕ) → i < length xs → x ≡ get_or xs i x → Some place ≡ position (λ (h : Hash32). bytes_eq h.0 txid) x
-    → found_from height txid (map bytes_of (drop i xs)) ≡ Some (height, place)
-found_this height txid xs i x place lt is found =
-    found_here height txid xs i x lt is ∙ ap (λ o. at_or_higher height o (found_from (suc height) txid (map bytes_of (drop (suc i) xs)))) (place_of (λ (h : Hash32). h.0) (λ id. bytes_eq id txid) x ∙ sym found)
+pub first_told : {E : Type 0} (blocks : List Block) (ids : List (List Hash32)) (r : Result PlaceMap E) → map bytes_of ids ≡ txids_of blocks
+    → IfOk r (λ places. (txid : Hash32) → get places txid ≡ found_from 1 txid.0 (map bytes_of ids)) → IfOk r (λ places. AreFirstPlaces places blocks)
+unfolding first_place
+first_told blocks ids (Ok places) hashed is = λ txid. is txid ∙ ap (found_from 1 txid.0) hashed
+first_told blocks ids (Err e) hashed is = tt
 
-pub found_later : (height : ℕ) (txid : List ℕ) (xs : List (List Hash32)) (i : ℕ) (x : List Hash32) → i < length xs → x ≡ get_or xs i x → None ≡ position (λ (h : Hash32). bytes_eq h.0 txid) x
-    → found_from height txid (map bytes_of (drop i xs)) ≡ found_from (height + 1) txid (map bytes_of (drop (i + 1) xs))
-found_later height txid xs i x lt is found =
-    let up : suc height ≡ height + 1 = omega arith in
-    let on : suc i ≡ i + 1 = omega arith in
-    found_here height txid xs i x lt is ∙ ap (λ o. at_or_higher height o (found_from (suc height) txid (map bytes_of (drop (suc i) xs)))) (place_of (λ (h : Hash32). h.0) (λ id. bytes_eq id txid) x ∙ sym found)
-    ∙ ap (λ n. found_from n txid (map bytes_of (drop (suc i) xs))) up ∙ ap (λ n. found_from (height + 1) txid (map bytes_of (drop n xs))) on
-
-pub stands_told : (txid : List ℕ) (blocks : List Block) (r : Option (ℕ × ℕ)) → r ≡ first_place txid blocks → IfSome r (λ at. StandsAt txid blocks at.0 at.1)
+stands_told : (txid : List ℕ) (blocks : List Block) (r : Option (ℕ × ℕ)) → r ≡ first_place txid blocks → IfSome r (λ at. StandsAt txid blocks at.0 at.1)
 stands_told txid blocks None is = tt
 stands_told txid blocks (Some at) is = stands txid blocks at.0 at.1 (sym is)
 
-pub first_is : (txid : List ℕ) (blocks : List Block) (ids : List (List Hash32)) (r : Option (ℕ × ℕ)) → map bytes_of ids ≡ txids_of blocks → r ≡ found_from 1 txid (map bytes_of ids) → r ≡ first_place txid blocks
-unfolding first_place
-first_is txid blocks ids r hashed is = is ∙ ap (found_from 1 txid) hashed
+pub taken_told : {E : Type 0} (blocks : List Block) (r : Result PlaceMap E) → IfOk r (λ places. AreFirstPlaces places blocks) → IfOk r (λ places. AreTaken places blocks)
+taken_told blocks (Ok places) first = λ txid. stands_told txid.0 blocks (get places txid) (first txid)
+taken_told blocks (Err e) first = tt

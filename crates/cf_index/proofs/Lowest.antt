@@ -1,6 +1,7 @@
 -- The height of each hash is the lowest.
 use Rattle.std.proofs.Common.{◌≡◌, ℕ, suc, ◌+◌, ◌<◌, Bool, true, false, cond, List, [], ◌∷◌, ◌++◌, map, length, take, get_or, refl, sym, ◌∙◌, ap, Option, Some, None, arith, length-take}
 use Rattle.std.specs.Prelude.{if◌then◌else◌, is_some}
+use Rattle.std.specs.Option.{option_or}
 use Rattle.std.specs.declared.cmp.Ordering.{Ordering}
 use Rattle.std.specs.declared.cmp.Ordering.TheVariants.{Less, Equal, Greater}
 use Rattle.std.specs.List.{position, position_from}
@@ -14,7 +15,8 @@ use Rattle.std.proofs.lemmas.Iterator.Adapters.{position_from-zero}
 use Rattle.std.proofs.lemmas.Map.Text.{is_eq-slice_cmp}
 use Rattle.cf_bytes.specs.declared.hash.Hash32.{Hash32}
 use Rattle.cf_headers.specs.Rules.{same}
-use Rattle.cf_index.specs.HeightMap.{hash_cmp, HeightMap, with_height}
+use Rattle.cf_index.specs.ByHash.{hash_cmp, ByHash, with_first}
+use Rattle.cf_index.specs.HeightMap.{HeightMap}
 use Rattle.cf_index.proofs.Maps.{found, inserted}
 
 hash_total : IsTotalOrder hash_cmp
@@ -34,25 +36,21 @@ inserted_height = inserted hash_total hash_same
 
 -- ---- the first place that passes
 
-abbrev or_here : Option ℕ → Option ℕ → Option ℕ
-or_here None later = later
-or_here (Some i) later = Some i
-
 places_more : {X : Type 0} (p : X → Bool) (i : ℕ) (xs : List X) (x : X)
-    → position_from p i (xs ++ x ∷ []) ≡ or_here (position_from p i xs) (cond (p x) (Some (i + length xs)) None)
+    → position_from p i (xs ++ x ∷ []) ≡ option_or (position_from p i xs) (cond (p x) (Some (i + length xs)) None)
 places_more p i [] x = ap (λ (n : ℕ). cond (p x) (Some n) None) (omega arith)
 places_more p i (y ∷ ys) x =
-    let more = places_more p (i + 1) ys x ∙ ap (λ (n : ℕ). or_here (position_from p (i + 1) ys) (cond (p x) (Some n) None)) (omega arith) in
-    elim (p y) as (λ (b : Bool). cond b (Some i) (position_from p (i + 1) (ys ++ x ∷ [])) ≡ or_here (cond b (Some i) (position_from p (i + 1) ys)) (cond (p x) (Some (i + suc (length ys))) None)) [
+    let more = places_more p (i + 1) ys x ∙ ap (λ (n : ℕ). option_or (position_from p (i + 1) ys) (cond (p x) (Some n) None)) (omega arith) in
+    elim (p y) as (λ (b : Bool). cond b (Some i) (position_from p (i + 1) (ys ++ x ∷ [])) ≡ option_or (cond b (Some i) (position_from p (i + 1) ys)) (cond (p x) (Some (i + suc (length ys))) None)) [
       | true ↦ refl
       | false ↦ more
     ]
 
-pub place_more : {X : Type 0} (p : X → Bool) (xs : List X) (x : X) → position p (xs ++ x ∷ []) ≡ or_here (position p xs) (cond (p x) (Some (length xs)) None)
+pub place_more : {X : Type 0} (p : X → Bool) (xs : List X) (x : X) → position p (xs ++ x ∷ []) ≡ option_or (position p xs) (cond (p x) (Some (length xs)) None)
 place_more p xs x =
     position_from-zero p (xs ++ x ∷ []) ∙ places_more p 0 xs x
-    ∙ ap (λ (o : Option ℕ). or_here o (cond (p x) (Some (0 + length xs)) None)) (sym (position_from-zero p xs))
-    ∙ ap (λ (n : ℕ). or_here (position p xs) (cond (p x) (Some n) None)) (omega arith)
+    ∙ ap (λ (o : Option ℕ). option_or o (cond (p x) (Some (0 + length xs)) None)) (sym (position_from-zero p xs))
+    ∙ ap (λ (n : ℕ). option_or (position p xs) (cond (p x) (Some n) None)) (omega arith)
 
 places_of : {X Y : Type 0} (f : X → Y) (p : Y → Bool) (i : ℕ) (xs : List X) → position_from p i (map f xs) ≡ position_from (λ x. p (f x)) i xs
 places_of f p i [] = refl
@@ -72,48 +70,48 @@ equal_by Less e = cc
 equal_by Equal e = refl
 equal_by Greater e = cc
 
-height_of_same : (heights : HeightMap) (k q : Hash32) → same k.0 q.0 ≡ true → get heights q ≡ get heights k
+same_value : {V : Type 0} (m : ByHash V) (k q : Hash32) → same k.0 q.0 ≡ true → get m q ≡ get m k
 unfolding same
-height_of_same heights k q e = get_tied hash_total heights k q (equal_by (hash_cmp k q) (is_eq-slice_cmp k.0 q.0 ∙ e))
+same_value m k q e = get_tied hash_total m k q (equal_by (hash_cmp k q) (is_eq-slice_cmp k.0 q.0 ∙ e))
 
-or_none : (o : Option ℕ) → o ≡ or_here o None
+pub or_none : {V : Type 0} (o : Option V) → o ≡ option_or o None
 or_none None = refl
-or_none (Some i) = refl
+or_none (Some v) = refl
 
-put_by : (b : Bool) (o : Option ℕ) (i : ℕ) → (b ≡ true → o ≡ None) → cond b (Some i) o ≡ or_here o (cond b (Some i) None)
-put_by true o i h = sym (ap (λ (x : Option ℕ). or_here x (Some i)) (h refl))
-put_by false o i h = or_none o
+put_by : {V : Type 0} (b : Bool) (o : Option V) (v : V) → (b ≡ true → o ≡ None) → cond b (Some v) o ≡ option_or o (cond b (Some v) None)
+put_by {V} true o v h = sym (ap (λ (x : Option V). option_or x (Some v)) (h refl))
+put_by false o v h = or_none o
 
-kept_by : (b : Bool) (o : Option ℕ) (i j : ℕ) → (b ≡ true → o ≡ Some j) → o ≡ or_here o (cond b (Some i) None)
-kept_by true o i j h = h refl ∙ sym (ap (λ (x : Option ℕ). or_here x (Some i)) (h refl))
-kept_by false o i j h = or_none o
+kept_by : {V : Type 0} (b : Bool) (o : Option V) (v w : V) → (b ≡ true → o ≡ Some w) → o ≡ option_or o (cond b (Some v) None)
+kept_by {V} true o v w h = h refl ∙ sym (ap (λ (x : Option V). option_or x (Some v)) (h refl))
+kept_by false o v w h = or_none o
 
-kept_or_put : (heights : HeightMap) (k q : Hash32) (i : ℕ) (had : Option ℕ) → get heights k ≡ had
-    → get (if is_some had then heights else insert heights k i) q ≡ or_here (get heights q) (cond (same k.0 q.0) (Some i) None)
-kept_or_put heights k q i None is =
-    get-insert hash_total heights k i q ∙ ap (λ (b : Bool). cond b (Some i) (get heights q)) (tied q k)
-    ∙ put_by (same k.0 q.0) (get heights q) i (λ e. height_of_same heights k q e ∙ is)
-kept_or_put heights k q i (Some j) is = kept_by (same k.0 q.0) (get heights q) i j (λ e. height_of_same heights k q e ∙ is)
+kept_or_put : {V : Type 0} (m : ByHash V) (k q : Hash32) (v : V) (had : Option V) → get m k ≡ had
+    → get (if is_some had then m else insert m k v) q ≡ option_or (get m q) (cond (same k.0 q.0) (Some v) None)
+kept_or_put m k q v None is =
+    get-insert hash_total m k v q ∙ ap (λ (b : Bool). cond b (Some v) (get m q)) (tied q k)
+    ∙ put_by (same k.0 q.0) (get m q) v (λ e. same_value m k q e ∙ is)
+kept_or_put m k q v (Some w) is = kept_by (same k.0 q.0) (get m q) v w (λ e. same_value m k q e ∙ is)
 
-pub with_height_gives : (heights : HeightMap) (k q : Hash32) (i : ℕ) → get (with_height heights k i) q ≡ or_here (get heights q) (cond (same k.0 q.0) (Some i) None)
-with_height_gives heights k q i = kept_or_put heights k q i (get heights k) refl
+pub with_first_gives : {V : Type 0} (m : ByHash V) (k q : Hash32) (v : V) → get (with_first m k v) q ≡ option_or (get m q) (cond (same k.0 q.0) (Some v) None)
+with_first_gives m k q v = kept_or_put m k q v (get m k) refl
 
-pub kept : (heights : HeightMap) (k : Hash32) (i : ℕ) → contains_key heights k ≡ true → heights ≡ with_height heights k i
-kept heights k i is = sym (ap (λ (b : Bool). if b then heights else insert heights k i) is)
+pub kept : {V : Type 0} (m : ByHash V) (k : Hash32) (v : V) → contains_key m k ≡ true → m ≡ with_first m k v
+kept m k v is = sym (ap (λ (b : Bool). if b then m else insert m k v) is)
 
-pub put : (heights : HeightMap) (k : Hash32) (i : ℕ) → contains_key heights k ≡ false → insert heights k i ≡ with_height heights k i
-put heights k i is = sym (ap (λ (b : Bool). if b then heights else insert heights k i) is)
+pub put : {V : Type 0} (m : ByHash V) (k : Hash32) (v : V) → contains_key m k ≡ false → insert m k v ≡ with_first m k v
+put m k v is = sym (ap (λ (b : Bool). if b then m else insert m k v) is)
 
 -- the next block's height is put in
 pub height_more : {X : Type 0} (heights new : HeightMap) (hash : X → Hash32) (xs : List X) (i : ℕ) (x : X) (q : Hash32)
-    → i < length xs → x ≡ get_or xs i x → new ≡ with_height heights (hash x) i
+    → i < length xs → x ≡ get_or xs i x → new ≡ with_first heights (hash x) i
     → get heights q ≡ position (λ y. same (hash y).0 q.0) (take i xs)
     → get new q ≡ position (λ y. same (hash y).0 q.0) (take (i + 1) xs)
 height_more {X} heights new hash xs i x q below at is so_far =
     let p : X → Bool = λ y. same (hash y).0 q.0 in
     let grown : take (i + 1) xs ≡ take i xs ++ x ∷ [] = take_more xs i x below ∙ ap (λ (y : X). take i xs ++ y ∷ []) (sym at) in
     let long : length (take i xs) ≡ i = omega (arith, length-take i xs) in
-    ap (λ (m : HeightMap). get m q) is ∙ with_height_gives heights (hash x) q i
-    ∙ ap (λ (o : Option ℕ). or_here o (cond (p x) (Some i) None)) so_far
-    ∙ ap (λ (n : ℕ). or_here (position p (take i xs)) (cond (p x) (Some n) None)) (sym long)
+    ap (λ (m : HeightMap). get m q) is ∙ with_first_gives heights (hash x) q i
+    ∙ ap (λ (o : Option ℕ). option_or o (cond (p x) (Some i) None)) so_far
+    ∙ ap (λ (n : ℕ). option_or (position p (take i xs)) (cond (p x) (Some n) None)) (sym long)
     ∙ sym (ap (position p) grown ∙ place_more p (take i xs) x)

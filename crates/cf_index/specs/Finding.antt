@@ -1,9 +1,13 @@
 -- Where a transaction stands in a chain: the height of its block, and its place there, from 0.
-use Rattle.std.specs.Prelude.{◌≡◌, ◌<◌, ℕ, suc, List, [], ◌∷◌, ◌++◌, map, length, get_or, Option, Some, None, bytes_eq}
+use Rattle.std.specs.Prelude.{◌≡◌, ◌<◌, ℕ, suc, List, [], ◌∷◌, ◌++◌, map, length, get_or, Option, Some, None, IfSome, option_map, bytes_eq}
+use Rattle.std.specs.Coded.{Coded, coded×, coded_ℕ}
+use Rattle.std.specs.FinMap.{code, get}
 use Rattle.std.specs.List.{position}
+use Rattle.cf_bytes.specs.declared.hash.Hash32.{Hash32}
 use Rattle.cf_block.specs.declared.tx.Tx.{Tx}
 use Rattle.cf_block.specs.declared.tx.Block.{Block}
 use Rattle.cf_block.specs.Tx.{txid_of}
+use Rattle.cf_index.specs.ByHash.{hash_code, ByHash}
 
 -- the hashes of each block's transactions
 abbrev pub txids_of : List Block → List (List (List ℕ))
@@ -31,3 +35,23 @@ pub record StandsAt (txid : List ℕ) (blocks : List Block) (height place : ℕ)
   pub height_is : height ≡ suc (length lower)
   pub there : place < length block.txs
   pub hash_is : (d : Tx) → txid_of (get_or block.txs place d) ≡ txid
+
+-- ---- the places of all
+
+abbrev pub PlaceMap : Type 0
+PlaceMap = ByHash (ℕ × ℕ)
+
+abbrev pub places_code : Coded PlaceMap
+places_code = code hash_code (coded× coded_ℕ coded_ℕ)
+
+-- where a hash stands first among those of the block at this height
+abbrev pub place_at : ℕ → List ℕ → List (List ℕ) → Option (ℕ × ℕ)
+place_at height txid ids = option_map (λ place. (height, place)) (position (λ id. bytes_eq id txid) ids)
+
+-- each hash has the place where it stands first, and no other hash has one
+abbrev pub AreFirstPlaces : PlaceMap → List Block → Type 0
+AreFirstPlaces places blocks = (txid : Hash32) → get places txid ≡ first_place txid.0 blocks
+
+-- a transaction with the hash stands at each place
+abbrev pub AreTaken : PlaceMap → List Block → Type 0
+AreTaken places blocks = (txid : Hash32) → IfSome (get places txid) (λ at. StandsAt txid.0 blocks at.0 at.1)

@@ -3,7 +3,7 @@ ghost use Rattle.std.specs.Prelude.{◌≡◌, ◌<◌, ◌^◌, length, IfOk, O
 ghost use Rattle.std.specs.FinMap.{get, empty};
 ghost use Rattle.cf_bytes.specs.declared.hash.Hash32.{Hash32};
 ghost use Rattle.cf_headers.specs.Rules.{same};
-ghost use Rattle.cf_index.specs.HeightMap.{with_height};
+ghost use Rattle.cf_index.specs.ByHash.{with_first};
 
 use crate::block_filter::BlockFilter;
 use cf_bytes::{Hash32, NoMemory};
@@ -47,7 +47,7 @@ impl Heights {
 
     /// Gives a height to a hash that has none yet. Where no memory is found nothing has changed.
     pub(crate) fn add(&mut self, hash: Hash32, height: u32) -> Result<(), NoMemory>
-        ensures ok { OnOk result (self.new ≡ with_height self.old hash height) }
+        ensures ok { OnOk result (self.new ≡ with_first self.old hash height) }
         ensures err { OnErr result (self.new ≡ self.old) }
     {
         if self.map.contains_key(&hash) {

@@ -12,9 +12,9 @@ mod heights;
 mod index;
 mod laws;
 mod load;
-mod places;
 mod record;
 mod spend;
+mod tx_index;
 
 pub use cause::{BadBlock, CoinFault, RecordCause};
 pub use checked::CheckedChain;
@@ -22,3 +22,4 @@ pub use file::read_chain;
 pub use index::Index;
 pub use laws::laws_of_files;
 pub use load::LoadFault;
+pub use tx_index::TxIndex;
