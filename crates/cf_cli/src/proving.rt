@@ -7,6 +7,7 @@ ghost use Rattle.cf_bytes.specs.Outside.{HasRisen};
 ghost use Rattle.cf_chain.specs.Good.{IsGoodChain};
 ghost use Rattle.cf_cli.specs.Proving.{proof_text, in_text, IsTextAt, GivesProofText, TellsProof, Checks, IsOfFind, IsOfProve, IsProved, IsChecked};
 ghost use Rattle.cf_cli.specs.Reading.{IsWritten, IsOfScan, IsOfText};
+ghost use Rattle.cf_index.specs.Finding.{first_place, StandsAt};
 ghost use Rattle.cf_input.specs.ProofFile.{proof_file_of};
 ghost use Rattle.cf_cli.specs.Statuses.{IsJudged, has_run, blocks_verdict, proof_verdict};
 
@@ -15,7 +16,7 @@ use crate::reading::{bytes_line, write};
 use crate::status::Status;
 use cf_block::{Block, Tx, write_tx};
 use cf_bytes::{Files, Hash32, NoMemory, Sink, show};
-use cf_index::CheckedChain;
+use cf_index::{CheckedChain, TxIndex};
 use cf_input::Proven;
 use cf_proof::make_proof;
 use std::alloc::Global;
@@ -56,12 +57,26 @@ fn text_at(alloc: Global, block: &Block, place: u32) -> Result<String, NoMemory>
     text_of_proof(alloc, &tx, &proof)
 }
 
+// Where the first transaction of a chain with this hash stands, by an index that is let go then.
+fn place_in(
+    alloc: Global,
+    chain: &CheckedChain,
+    txid: &Hash32,
+) -> Result<Option<(u32, u32)>, NoMemory>
+    ensures first { IfOk result (λ at. at ≡ first_place txid.now.0 chain.now) }
+    ensures stands { IfOk result (λ at. IfSome at (λ p. StandsAt txid.now.0 chain.now p.0 p.1)) }
+{
+    let index = TxIndex::of(alloc, chain)?;
+    Ok(index.find(txid))
+}
+
 // The lines of the first transaction of a chain with this hash, where there is one.
 fn text_in(alloc: Global, chain: &CheckedChain, txid: &Hash32) -> Result<Option<String>, NoMemory>
     requires { IsGoodChain chain.now }
     ensures { IfOk result (λ text. GivesProofText txid.now.0 chain.now (option_map string_bytes text)) }
 {
-    let Some((height, place)) = chain.find(txid) else {
+    let found = place_in(alloc, chain, txid)?;
+    let Some((height, place)) = found else {
         return Ok(None);
     };
     let block = &chain.blocks()[height as usize - 1];
