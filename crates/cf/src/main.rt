@@ -10,7 +10,7 @@ use crate::listener::Listener;
 use cf_bytes::{StdFiles, WriterSink, put_all};
 use cf_cli::{Status, own_text, run};
 use cf_peer::MemoryWires;
-use cf_tasks::InThreads;
+use cf_tasks::{InThreads, Spawner};
 use std::io;
 use std::process::ExitCode;
 
@@ -23,7 +23,12 @@ fn say(rt: &HostRuntime, text: &str) -> Status {
 }
 
 // Runs the command. A dial of `sync` fails, since no sockets are opened yet.
-fn run_command(rt: &HostRuntime, words: &[String]) -> Status {
+fn run_command<K: Spawner>(
+    rt: &HostRuntime,
+    words: &[String],
+    listener: &mut Listener,
+    spawner: &mut K,
+) -> Status {
     let alloc = rt.alloc();
     let (Ok(mut wires), Ok(mut tape)) = (MemoryWires::new(alloc), MemoryWires::new(alloc)) else {
         return Status::NoMemory;
@@ -36,22 +41,32 @@ fn run_command(rt: &HostRuntime, words: &[String]) -> Status {
         &mut StdFiles::new(rt),
         &mut wires,
         &mut tape,
-        &mut Listener::new(*rt),
-        &mut InThreads::new(*rt),
+        listener,
+        spawner,
         &mut WriterSink::new(io::writer(rt)),
     )
 }
 
-fn answer(rt: &HostRuntime, words: &[String]) -> Status {
+fn answer<K: Spawner>(
+    rt: &HostRuntime,
+    words: &[String],
+    listener: &mut Listener,
+    spawner: &mut K,
+) -> Status {
     match own_text(words) {
         Some(text) => say(rt, text),
-        None => run_command(rt, words),
+        None => run_command(rt, words, listener, spawner),
     }
 }
 
 // What a call comes to. Where standard error can't be written, the exit status alone tells what went wrong.
-fn call(rt: &HostRuntime, words: &[String]) -> Status {
-    let status = answer(rt, words);
+fn call<K: Spawner>(
+    rt: &HostRuntime,
+    words: &[String],
+    listener: &mut Listener,
+    spawner: &mut K,
+) -> Status {
+    let status = answer(rt, words, listener, spawner);
     let _told = faults::tell(rt, words, &status);
     status
 }
@@ -64,7 +79,7 @@ fn wordless(rt: &HostRuntime, status: Status) -> Status {
 
 fn main(rt: HostRuntime) -> ExitCode {
     let status = match outside::words(&rt) {
-        Ok(words) => call(&rt, &words),
+        Ok(words) => call(&rt, &words, &mut Listener::new(rt), &mut InThreads::new(rt)),
         Err(status) => wordless(&rt, status),
     };
     ExitCode::from(status.code())

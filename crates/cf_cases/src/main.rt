@@ -20,11 +20,12 @@ mod servings;
 mod streams;
 mod verdicts;
 
+use std::alloc::Global;
 use std::process::ExitCode;
+use std::thread::Threads;
 
 // What a row comes to.
-fn answer(rt: &HostRuntime, row: &str) -> Option<String> {
-    let alloc = rt.alloc();
+fn answer<R: Threads + Copy + Drop>(rt: R, alloc: Global, row: &str) -> Option<String> {
     let (kind, rest) = row.split_once(' ')?;
     match kind {
         "address" => addresses::answer(alloc, rest),
@@ -47,9 +48,9 @@ fn answer(rt: &HostRuntime, row: &str) -> Option<String> {
         "payload" => payloads::answer(alloc, rest),
         "proof" => proofs::answer(alloc, rest),
         "prove" => proofs::made(alloc, rest),
-        "run" => runs::answer(rt, rest),
+        "run" => runs::answer(rt, alloc, rest),
         "serve" => conversations::answer(alloc, rest),
-        "serving" => servings::answer(rt, rest),
+        "serving" => servings::answer(rt, alloc, rest),
         "session" => inputs::session(alloc, rest),
         "siphash" => filters::siphash(alloc, rest),
         "stream" => streams::answer(alloc, rest),
@@ -65,12 +66,11 @@ fn answer(rt: &HostRuntime, row: &str) -> Option<String> {
 }
 
 // The lines that are printed for a row.
-fn shown(rt: &HostRuntime, row: &str) -> Option<String> {
-    let alloc = rt.alloc();
+fn shown<R: Threads + Copy + Drop>(rt: R, alloc: Global, row: &str) -> Option<String> {
     if row.starts_with('#') {
         return format!(in alloc; "{row}").ok();
     }
-    match answer(rt, row) {
+    match answer(rt, alloc, row) {
         Some(text) => format!(in alloc; "{row}\n{text}").ok(),
         None => format!(in alloc; "{row}\n?").ok(),
     }
@@ -81,7 +81,7 @@ fn main(rt: HostRuntime) -> ExitCode {
         let Ok(row) = row else {
             return ExitCode::from(1);
         };
-        let Some(text) = shown(&rt, &row) else {
+        let Some(text) = shown(rt, rt.alloc(), &row) else {
             return ExitCode::from(2);
         };
         if println!(&rt; "{text}").is_err() {

@@ -9,6 +9,7 @@ use cf_cli::{Status, run};
 use cf_input::read_session;
 use cf_peer::MemoryWires;
 use std::alloc::Global;
+use std::thread::Threads;
 
 // The files of a row: `w`, `s` and `f`.
 fn files_of(alloc: Global, watch: &str, session: &str, blocks: &str) -> Option<MapFiles> {
@@ -51,8 +52,9 @@ fn shown(alloc: Global, status: &Status, written: &[u8]) -> Option<String> {
 }
 
 // The answer to these words, over these wires, into a sink with so much room.
-fn answered(
-    rt: &HostRuntime,
+fn answered<R: Threads + Copy + Drop>(
+    rt: R,
+    alloc: Global,
     words: &[String],
     files: MapFiles,
     wires: MemoryWires,
@@ -60,7 +62,6 @@ fn answered(
 ) -> Option<String>
     requires { (log_of wires ≡ []) × (finished_of wires ≡ false) }
 {
-    let alloc = rt.alloc();
     let mut files = files;
     let mut wires = wires;
     let mut tape = MemoryWires::new(alloc).ok()?;
@@ -83,8 +84,9 @@ fn answered(
 }
 
 // The answer over the wires of a session, where the first field tells the room and the calls of the wires that fail.
-fn answered_over(
-    rt: &HostRuntime,
+fn answered_over<R: Threads + Copy + Drop>(
+    rt: R,
+    alloc: Global,
     limits: &str,
     words: &[String],
     files: MapFiles,
@@ -92,31 +94,31 @@ fn answered_over(
 ) -> Option<String> {
     let (room, failing) = limits.split_once(' ')?;
     let room = room.parse().ok()?;
-    let wires = wires_of(rt.alloc(), session, failing)?;
-    answered(rt, words, files, wires, room)
+    let wires = wires_of(alloc, session, failing)?;
+    answered(rt, alloc, words, files, wires, room)
 }
 
 // The call of a row's fields: the room, the calls of the wires that fail, the words, and the files.
-fn called(
-    rt: &HostRuntime,
+fn called<R: Threads + Copy + Drop>(
+    rt: R,
+    alloc: Global,
     limits: &str,
     words: &str,
     watch: &str,
     session: &str,
     blocks: &str,
 ) -> Option<String> {
-    let alloc = rt.alloc();
     let words = texts_in(alloc, words, ' ')?;
     let session = file_in(alloc, session)?;
     let files = files_of(alloc, watch, &session, blocks)?;
-    answered_over(rt, limits, &words, files, &session)
+    answered_over(rt, alloc, limits, &words, files, &session)
 }
 
 /// How the call of a row ends, and what it writes.
-pub(crate) fn answer(rt: &HostRuntime, row: &str) -> Option<String> {
+pub(crate) fn answer<R: Threads + Copy + Drop>(rt: R, alloc: Global, row: &str) -> Option<String> {
     let (limits, rest) = row.split_once('|')?;
     let (words, rest) = rest.split_once('|')?;
     let (watch, rest) = rest.split_once('|')?;
     let (session, blocks) = rest.split_once('|')?;
-    called(rt, limits, words, watch, session, blocks)
+    called(rt, alloc, limits, words, watch, session, blocks)
 }

@@ -13,6 +13,7 @@ use cf_peer::MemoryWires;
 use cf_serve::ListLink;
 use cf_tasks::{Choice, Spawner};
 use std::alloc::Global;
+use std::thread::Threads;
 
 // What is done with each task.
 #[derive(Clone, Copy)]
@@ -24,18 +25,18 @@ enum Way {
 
 // Does the same with each task.
 #[derive(Drop)]
-pub(crate) struct Same {
-    rt: HostRuntime,
+pub(crate) struct Same<R> {
+    rt: R,
     way: Way,
     refused: u64,
 }
 
-impl Spawner for Same {
-    type Rt = HostRuntime;
+impl<R: Threads + Drop> Spawner for Same<R> {
+    type Rt = R;
 
     ghost refusals = { λ s. s.refused };
 
-    fn rt(&self) -> &HostRuntime {
+    fn rt(&self) -> &R {
         &self.rt
     }
 
@@ -55,7 +56,7 @@ impl Spawner for Same {
     }
 }
 
-fn spawner_in(rt: &HostRuntime, field: &str) -> Option<Same> {
+fn spawner_in<R: Threads + Copy + Drop>(rt: R, field: &str) -> Option<Same<R>> {
     let way = match field {
         "threads" => Way::InThread,
         "place" => Way::InPlace,
@@ -63,16 +64,16 @@ fn spawner_in(rt: &HostRuntime, field: &str) -> Option<Same> {
         _ => return None,
     };
     Some(Same {
-        rt: *rt,
+        rt,
         way,
         refused: 0,
     })
 }
 
 /// Runs each task in place.
-pub(crate) fn in_place(rt: &HostRuntime) -> Same {
+pub(crate) fn in_place<R: Threads + Copy + Drop>(rt: R) -> Same<R> {
     Same {
-        rt: *rt,
+        rt,
         way: Way::InPlace,
         refused: 0,
     }
@@ -107,14 +108,14 @@ fn shown(alloc: Global, text: String, given: &[(MemoryEnd, u8)]) -> Option<Strin
 }
 
 // The call of a row's fields: what is done with tasks, which calls of the link fail, the words, the block file, and what the peers send.
-fn called(
-    rt: &HostRuntime,
+fn called<R: Threads + Copy + Drop>(
+    rt: R,
+    alloc: Global,
     limits: &str,
     words: &str,
     blocks: &str,
     asked: &str,
 ) -> Option<String> {
-    let alloc = rt.alloc();
     let (way, failing) = limits.split_once(' ')?;
     let mut spawner = spawner_in(rt, way)?;
     let mut link = ListLink::new(alloc, conns_in(alloc, asked)?).ok()?;
@@ -141,9 +142,9 @@ fn called(
 }
 
 /// How the call of a row ends, and how each of its connections did.
-pub(crate) fn answer(rt: &HostRuntime, row: &str) -> Option<String> {
+pub(crate) fn answer<R: Threads + Copy + Drop>(rt: R, alloc: Global, row: &str) -> Option<String> {
     let (limits, rest) = row.split_once('|')?;
     let (words, rest) = rest.split_once('|')?;
     let (blocks, asked) = rest.split_once('|')?;
-    called(rt, limits, words, blocks, asked)
+    called(rt, alloc, limits, words, blocks, asked)
 }
