@@ -50,7 +50,6 @@ fn answer<R: Threads + Copy + Drop>(rt: R, alloc: Global, row: &str) -> Option<S
         "prove" => proofs::made(alloc, rest),
         "run" => runs::answer(rt, alloc, rest),
         "serve" => conversations::answer(alloc, rest),
-        "serving" => servings::answer(rt, alloc, rest),
         "session" => inputs::session(alloc, rest),
         "siphash" => filters::siphash(alloc, rest),
         "stream" => streams::answer(alloc, rest),

@@ -37,7 +37,7 @@ fn wires_of(alloc: Global, session: &str, failing: &str) -> Option<MemoryWires>
 }
 
 // The exit status, the status, and what went wrong, in words.
-pub(crate) fn told(alloc: Global, status: &Status) -> Option<String> {
+fn told(alloc: Global, status: &Status) -> Option<String> {
     let code = status.code();
     match status {
         Status::Done => format!(in alloc; "{code} {status:?}").ok(),

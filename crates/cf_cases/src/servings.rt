@@ -1,37 +1,18 @@
-//! Calls of the program that serve connections in memory.
-ghost use Rattle.std.specs.Prelude.{◌≡◌, ◌≢◌, All, Some, [], IfSome, false};
-ghost use Rattle.cf_serve.specs.Links.{IsFresh, told_now};
-ghost use Rattle.cf_tasks.specs.declared.threads.Choice.TheVariants.{Refuse};
-
-use crate::conversations::conn_of;
-use crate::fields::{bytes_in, digits_of, numbers_in, texts_in};
-use crate::runs::told;
-use cf_bytes::{Files, MapFiles, VecSink};
-use cf_cli::run;
-use cf_conn::{MemoryConn, MemoryEnd};
-use cf_peer::MemoryWires;
+//! What a call of the program is handed for serving: a link to which nobody connects, and a spawner.
+use cf_conn::MemoryConn;
 use cf_serve::ListLink;
 use cf_tasks::{Choice, Spawner};
 use std::alloc::Global;
 use std::thread::Threads;
 
-// What is done with each task.
-#[derive(Clone, Copy)]
-enum Way {
-    InThread,
-    InPlace,
-    Refuse,
-}
-
-// Does the same with each task.
+/// Runs each task in place.
 #[derive(Drop)]
-pub(crate) struct Same<R> {
+pub(crate) struct InPlace<R> {
     rt: R,
-    way: Way,
     refused: u64,
 }
 
-impl<R: Threads + Drop> Spawner for Same<R> {
+impl<R: Threads + Drop> Spawner for InPlace<R> {
     type Rt = R;
 
     ghost refusals = { λ s. s.refused };
@@ -41,14 +22,7 @@ impl<R: Threads + Drop> Spawner for Same<R> {
     }
 
     fn choose(&mut self) -> Choice {
-        match self.way {
-            Way::InThread => Choice::InThread,
-            Way::InPlace => Choice::InPlace,
-            Way::Refuse => {
-                self.count();
-                Choice::Refuse
-            }
-        }
+        Choice::InPlace
     }
 
     fn count(&mut self) {
@@ -56,95 +30,12 @@ impl<R: Threads + Drop> Spawner for Same<R> {
     }
 }
 
-fn spawner_in<R: Threads + Copy + Drop>(rt: R, field: &str) -> Option<Same<R>> {
-    let way = match field {
-        "threads" => Way::InThread,
-        "place" => Way::InPlace,
-        "refused" => Way::Refuse,
-        _ => return None,
-    };
-    Some(Same {
-        rt,
-        way,
-        refused: 0,
-    })
-}
-
-/// Runs each task in place.
-pub(crate) fn in_place<R: Threads + Copy + Drop>(rt: R) -> Same<R> {
-    Same {
-        rt,
-        way: Way::InPlace,
-        refused: 0,
-    }
+/// A spawner that runs each task in place.
+pub(crate) fn in_place<R: Threads + Copy + Drop>(rt: R) -> InPlace<R> {
+    InPlace { rt, refused: 0 }
 }
 
 /// A link to which nobody connects.
 pub(crate) fn no_link(alloc: Global) -> Option<ListLink<MemoryConn>> {
     ListLink::new(alloc, Vec::new(alloc)).ok()
-}
-
-// The connections whose peers send these bytes.
-fn conns_in(alloc: Global, field: &str) -> Option<Vec<MemoryConn>>
-    ensures { IfSome result (λ v. All (λ c. IsFresh (told_now MemoryConn.left MemoryConn.written MemoryConn.ended MemoryConn.Source.faults MemoryConn.Sink.faults c)) v.items) }
-{
-    let mut conns = Vec::new(alloc);
-    for asked in texts_in(alloc, field, ' ')? {
-        let asked = bytes_in(alloc, asked.as_str())?;
-        conns.push(conn_of(alloc, asked, 4096, 10_000)?).ok()?;
-    }
-    Some(conns)
-}
-
-// How each connection ended, and what was written, a line each.
-fn shown(alloc: Global, text: String, given: &[(MemoryEnd, u8)]) -> Option<String> {
-    let mut text = text;
-    for (end, how) in given {
-        let digits = digits_of(alloc, end.written())?;
-        let line = format!(in alloc; "\n{how} {digits}").ok()?;
-        text.push_str(line.as_str()).ok()?;
-    }
-    Some(text)
-}
-
-// The call of a row's fields: what is done with tasks, which calls of the link fail, the words, the block file, and what the peers send.
-fn called<R: Threads + Copy + Drop>(
-    rt: R,
-    alloc: Global,
-    limits: &str,
-    words: &str,
-    blocks: &str,
-    asked: &str,
-) -> Option<String> {
-    let (way, failing) = limits.split_once(' ')?;
-    let mut spawner = spawner_in(rt, way)?;
-    let mut link = ListLink::new(alloc, conns_in(alloc, asked)?).ok()?;
-    link.failing(&numbers_in(alloc, failing)?).ok()?;
-    let mut files = MapFiles::new(alloc);
-    files.write(alloc, "f", &bytes_in(alloc, blocks)?).ok()?;
-    let words = texts_in(alloc, words, ' ')?;
-    let mut wires = MemoryWires::new(alloc).ok()?;
-    let mut tape = MemoryWires::new(alloc).ok()?;
-    let mut out = VecSink::new(alloc, 7, 0).ok()?;
-    let status = run(
-        alloc,
-        &words,
-        1_700_000_000,
-        0x1122_3344_5566_7788,
-        &mut files,
-        &mut wires,
-        &mut tape,
-        &mut link,
-        &mut spawner,
-        &mut out,
-    );
-    shown(alloc, told(alloc, &status)?, link.given())
-}
-
-/// How the call of a row ends, and how each of its connections did.
-pub(crate) fn answer<R: Threads + Copy + Drop>(rt: R, alloc: Global, row: &str) -> Option<String> {
-    let (limits, rest) = row.split_once('|')?;
-    let (words, rest) = rest.split_once('|')?;
-    let (blocks, asked) = rest.split_once('|')?;
-    called(rt, alloc, limits, words, blocks, asked)
 }

@@ -10,10 +10,6 @@ mod cf_index_tests;
 #[cfg(test)]
 mod cf_peer_tests;
 #[cfg(test)]
-mod cf_serve_tests;
-#[cfg(test)]
 mod cf_server_tests;
 #[cfg(test)]
 mod cut_conn;
-#[cfg(test)]
-mod patient_conn;
