@@ -13,8 +13,8 @@ ghost use Rattle.cf_headers.specs.Store.{own_of, Puts, Stays, IsBest};
 ghost use Rattle.cf_match.specs.Verdicts.{AreSameVerdicts, verdict_of, with_verdicts};
 ghost use Rattle.cf_tracker.specs.Tables.{IsSameTable, with_block};
 ghost use Rattle.cf_tracker.specs.Extracts.{table_in};
-ghost use Rattle.cf_tracker.specs.Judged.{verdicts_in};
-ghost use Rattle.cf_tracker.specs.Spans.{IsWish};
+ghost use Rattle.cf_tracker.specs.Judged.{AreKeptInPart, MoreVerdicts, verdicts_in};
+ghost use Rattle.cf_tracker.specs.Spans.{GoesFar, IsWish};
 ghost use Rattle.cf_tracker.specs.Tracking.{AreMarked, IsBestChain, IsReport};
 ghost use Rattle.cf_tracker.specs.Wanting.{ForgetsClaims, IsSameTables};
 
@@ -205,10 +205,12 @@ impl<H: HeaderStore> Tracker<H> {
         Ok(())
     }
 
-    /// Keeps the verdicts on filters, one for each in their order, where none stands. Where no memory is found some may be kept.
+    /// Keeps the verdicts on filters, one for each in their order, where none stands. Where no memory is found some of them may be kept, and no others.
     pub fn judge(&mut self, jobs: &[Job], verdicts: &[Verdict]) -> Result<(), NoMemory>
         requires { verdicts.now ≡ map (verdict_of (watch_of self.old)) jobs.now }
         ensures ok { OnOk result (AreSameVerdicts (verdicts_of self.new) (with_verdicts (watch_of self.old) jobs.now (verdicts_of self.old))) }
+        ensures err { OnErr result (AreKeptInPart (watch_of self.old) jobs.now (verdicts_of self.old) (verdicts_of self.new)) }
+        ensures more { MoreVerdicts (verdicts_of self.old) (verdicts_of self.new) }
         ensures claims { IsSameTables (claims_of self.old) (claims_of self.new) }
         ensures chains { Stays (chains_of self.old) (chains_of self.new) }
         ensures table { IsSameTable (table_of self.old) (table_of self.new) }
@@ -220,12 +222,13 @@ impl<H: HeaderStore> Tracker<H> {
 
     /// What an entered peer is to be asked for next, of the blocks that it shares with another: claims from the lowest block that it doesn't claim; else
     /// filters from the lowest block whose one claimed filter has no verdict; else the lowest block of which different filters are claimed, or whose
-    /// filter hits. Where `spare` is false it may be asked for claims alone. A call goes on from where the last one for the peer stopped, and goes
+    /// filter hits. Where `spare` is false it may be asked for claims alone. It is asked about as many blocks in a row as may be asked about at once. A call goes on from where the last one for the peer stopped, and goes
     /// along the chain only for what it answers. Where no memory is found nothing has changed.
     pub fn next(&mut self, p: PeerNo, other: PeerNo, spare: bool) -> Result<Wish, NoMemory>
         requires first { IsSome (chains_of self.old p.0) }
         requires second { IsSome (chains_of self.old other.0) }
         ensures wish { IfOk result (IsWish (table_of self.old) (claims_of self.old) (verdicts_of self.old) p.0 (own_of (chains_of self.old) p) (common_of (own_of (chains_of self.old) p) (own_of (chains_of self.old) other)) spare) }
+        ensures far { IfOk result (GoesFar (table_of self.old) (claims_of self.old) (verdicts_of self.old) p.0 (own_of (chains_of self.old) p) (common_of (own_of (chains_of self.old) p) (own_of (chains_of self.old) other))) }
         ensures claims { IsSameTables (claims_of self.old) (claims_of self.new) }
         ensures verdicts { AreSameVerdicts (verdicts_of self.new) (verdicts_of self.old) }
         ensures chains { Stays (chains_of self.old) (chains_of self.new) }
