@@ -37,7 +37,7 @@ use Rattle.cf_client.specs.declared.progress.SendState.{SendState}
 use Rattle.cf_client.specs.declared.progress.SendState.TheVariants.{Fine, Pending, Known}
 use Rattle.cf_client.specs.declared.trace.TraceLine.{TraceLine}
 use Rattle.cf_client.specs.declared.trace.TraceLine.TheVariants.{Sent as SentLine, Closed as ClosedLine}
-use Rattle.cf_client.specs.Places.{entry_of, MayAct, CutFor, Fits}
+use Rattle.cf_client.specs.Places.{entry_of, IsReplied, MayAct, CutFor, Fits}
 use Rattle.cf_client.specs.Stands.{Reflects, count_of, watch_by}
 use Rattle.cf_client.specs.Run.{Doing, ActsLeft, HoldsOver, closes, state_at, is_pending, is_fine, IsTraceOf}
 use Rattle.cf_sync.proofs.SameFetched.{same_wanted, same_holds}
@@ -378,6 +378,10 @@ failed_off t cause off (inl words) = absurd (both_ways (connected t) off words.0
 failed_off t cause off (inr (inl fault)) = fault.1
 failed_off t cause off (inr (inr late)) = absurd (both_ways (is_open t) (rw off refl) late.1)
 
+replied_alike : (t u : Part) → Alike t u → IsReplied t.trail → IsReplied u.trail
+replied_alike t u (inl same) h = subst (λ (x : Part). IsReplied x.trail) same h
+replied_alike t u (inr off) h = λ sound. absurd (both_ways (failed u.trail) sound off.3)
+
 -- a peer is closed
 pub closed_on : {watch : List (List ℕ)} (acts : List Act) (progress : Progress) (trace : Vec TraceLine Global) (called : List (List ℕ)) (planned : Log) (t : Told) (p : PeerNo) (cause : Cause)
     → is_pending (state_at progress.sends p.0) ≡ false → trace.items ≡ progress.trace.items ++ ClosedLine p cause ∷ []
@@ -389,6 +393,10 @@ closed_on acts progress trace called planned t p cause free line may doing =
       | inl untold ↦ deserved_off (trail planned p.0) (trail doing.actual p.0) cause (doing.known p.0 untold free).0 (doing.broken p.0 untold).1 may.1
       | inr told ↦ deserved (part_of planned p.0) (part_of doing.actual p.0) cause (doing.plan.told p.0 told) may.1
     ] in
+    let replied_all : IsReplied (trail doing.actual p.0) = elim (cases_Bool (is_untold doing.actual p.0)) [
+      | inl untold ↦ λ sound. absurd (both_ways (failed (trail doing.actual p.0)) sound (doing.broken p.0 untold).1)
+      | inr told ↦ replied_alike (part_of planned p.0) (part_of doing.actual p.0) (doing.plan.told p.0 told) may.2
+    ] in
     let before : (q : ℕ) → is_untold (Closed p ∷ doing.actual) q ≡ true → (q ≢ p.0) × (is_untold doing.actual q ≡ true) = λ q untold.
     let ne : q ≢ p.0 = λ e. both_ways (is_untold (Closed p ∷ doing.actual) q) (untold_closed_here p doing.actual q e) untold in
     (ne, sym (untold_closed_others p doing.actual q ne) ∙ untold) in
@@ -399,7 +407,7 @@ closed_on acts progress trace called planned t p cause free line may doing =
         bytes = doing.notes.bytes;
         rightly = ((cause, deserves), doing.notes.rightly);
         planned = doing.notes.planned;
-        order = doing.notes.order;
+        order = (replied_all, doing.notes.order);
         numbered = doing.notes.numbered;
         traced = subst (λ (lines : List TraceLine). IsTraceOf (Closed p ∷ doing.actual) lines) (sym (ap reverse line ∙ reverse_push progress.trace.items (ClosedLine p cause)))
             ((refl, deserves), doing.notes.traced);

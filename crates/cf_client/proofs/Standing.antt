@@ -24,11 +24,12 @@ use Rattle.cf_peer.specs.declared.peer.Request.TheVariants.{Handshake}
 use Rattle.cf_peer.specs.Peer.{Holds, aged, wants, is_idle_peer, is_block, is_fetching, called_peer, asked_for_headers}
 use Rattle.cf_sync.specs.Fetching.{IsNoneFetching, IsNeeded, MaySend}
 use Rattle.cf_sync.specs.Honesty.{asked}
+use Rattle.cf_sync.proofs.Counted.{same_use}
 use Rattle.cf_peer.proofs.Peers.{open_by, idle_request, late_is, wants_is, asked_headers_holds, called_holds}
 use Rattle.cf_client.specs.declared.place.Place.{Place}
 use Rattle.cf_client.specs.declared.place.Place.TheVariants.{Here, Lost}
 use Rattle.cf_client.specs.declared.place.Loss.TheVariants.{NotDialled as NeverCalled, Closed as ClosedFor}
-use Rattle.cf_client.specs.Places.{IsGreetedBy, IsAnswered, IsLost, Keeps, Fits, nobody, PlacesStand, entry_of, after, MayAct, Allowed, Goes, is_calm, is_busy, is_here, is_fetching_at, state_of, IsState, IsGreeting, IsQuestion, AsksAbove}
+use Rattle.cf_client.specs.Places.{IsGreetedBy, IsAnswered, IsReplied, IsLost, Keeps, Fits, nobody, PlacesStand, entry_of, after, MayAct, Allowed, Goes, is_calm, is_busy, is_here, is_fetching_at, state_of, IsState, IsGreeting, IsQuestion, AsksAbove}
 use Rattle.cf_client.proofs.Spelled.{spelled_bytes}
 use Rattle.cf_client.proofs.Losing.{lost_went, shut_now}
 
@@ -104,6 +105,14 @@ pub late_open : (place : Place) (part : Part) → Fits place part → is_calm pl
 late_open (Here peer) part keeps is = late_is peer part.trail is keeps.holds
 late_open (Lost end) part off is = absurd (false≢true (sym is))
 
+-- a connected peer was answered; and of a place whose request is late one is connected
+pub kept_replied : (peer : Peer) (part : Part) → Keeps peer part → IsReplied part.trail
+kept_replied peer part keeps sound = keeps.answered.replies ∙ sym (same_use part.trail keeps.holds.on keeps.holds.clean).owing
+
+late_replied : (place : Place) (part : Part) → Fits place part → is_calm place ≡ false → IsReplied part.trail
+late_replied (Here peer) part keeps is = kept_replied peer part keeps
+late_replied (Lost end) part off is = absurd (false≢true (sym is))
+
 pub late_goes : {watch : List (List ℕ)} (places : List Place) (acts : List Act) (log : Log) (i : ℕ)
     → i < length places → Goes watch places acts log → is_calm (get_or places i nobody) ≡ false
     → Goes watch (set places i (Lost (ClosedFor Overdue))) (acts ++ Close (record { 0 = i }) Overdue ∷ []) log
@@ -112,7 +121,7 @@ late_goes places acts log i lt goes is =
     let part = part_of (after acts log) i in
     let o = late_open (get_or places i nobody) part (goes.stand.each i) is in
     goes_act places acts log i (Lost (ClosedFor Overdue)) (Close p Overdue) lt goes (λ q other. closed_others p q (part_of (after acts log) q) other) refl
-    (number_within places (after acts log) i goes.stand lt, inr (inr (refl, o.0, o.1)))
+    (number_within places (after acts log) i goes.stand lt, inr (inr (refl, o.0, o.1)), late_replied (get_or places i nobody) part (goes.stand.each i) is)
     (subst (λ (x : Part). IsLost (ClosedFor Overdue) x.trail) (sym (closed_here p part)) (shut_now part.trail Overdue (and_parts (connected part.trail) _ o.0).0 (inr (inr (refl, o.0, o.1)))))
 
 -- a peer to which nothing is open may be asked

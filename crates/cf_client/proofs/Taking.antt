@@ -2,7 +2,7 @@
 use Rattle.std.proofs.Common.{◌≡◌, ◌≢◌, ◌⊎◌, inl, inr, ℕ, zero, suc, ◌<◌, ◌≤◌, List, [], ◌∷◌, ◌++◌, length, get_or, set, map, Option, Some, None, Ok, Err, Bool, true, false, if◌then◌else◌, refl, sym, ◌∙◌, ap, subst, arith, append_assoc}
 use Rattle.std.proofs.lemmas.Grind.{common_steps}
 use Rattle.std.specs.Prelude.{is_some}
-use Rattle.std.proofs.lemmas.Bool.{cases_eq, false≢true}
+use Rattle.std.proofs.lemmas.Bool.{both_ways, cases_eq, false≢true}
 use Rattle.std.proofs.lemmas.List.{append-nil}
 use Rattle.std.proofs.lemmas.List.Elements.{All-push}
 use Rattle.std.specs.List.{All, AllByRecursion}
@@ -22,8 +22,8 @@ use Rattle.cf_peer.specs.declared.peer.Cause.TheVariants.{SendFailed}
 use Rattle.cf_peer.specs.declared.peer.Peer.{Peer}
 use Rattle.cf_peer.specs.Acts.{bytes_of, IsSendable, IsDoable}
 use Rattle.cf_peer.specs.Log.{Log, tally_of}
-use Rattle.cf_peer.specs.Trail.{Trail, Part, Asked, Lost as LostItem, Went, item_of, item_of_read, hears, hears_fault, heard_part, part_of, trail, went_on, with_item, connected, greeted, met, own, heard, owed, replied, as_reply, is_version}
-use Rattle.cf_peer.specs.Asking.{claims, verdict, counted}
+use Rattle.cf_peer.specs.Trail.{Trail, Part, Asked, Lost as LostItem, Went, item_of, item_of_read, hears, hears_fault, heard_part, part_of, trail, went_on, with_item, connected, failed, greeted, met, own, heard, owed, replied, as_reply, is_version}
+use Rattle.cf_peer.specs.Asking.{claims, verdict, counted, IsNextReply}
 use Rattle.cf_peer.specs.Peer.{Holds, calm}
 use Rattle.cf_peer.specs.Hearing.{IsReply}
 use Rattle.cf_dispute.specs.Claims.{Table, no_claims}
@@ -140,23 +140,36 @@ by_reply P verack pong Verack is = verack
 by_reply P verack pong (Pong number) is = pong number
 by_reply P verack pong m is = absurd is
 
-reply_sent : (r : Msg) (log : Log) (p : ℕ) → IsReply r → connected (trail log p) ≡ true → met (trail log p) ≡ true → MaySend log p r
+as_itself : (r : Msg) → IsReply r → as_reply r ≡ r ∷ []
+as_itself r is = by_reply (λ (m : Msg). as_reply m ≡ m ∷ []) refl (λ number. refl) r is
+
+-- what is owed to the words that count is what was sent, and then these
+abbrev AreDue : List Msg → Trail → Type 0
+AreDue rs t = owed (counted t) ≡ replied t ++ rs
+
+reply_sent : (r : Msg) (log : Log) (p : ℕ) → IsReply r → connected (trail log p) ≡ true → met (trail log p) ≡ true → IsNextReply (trail log p) r → MaySend log p r
 reply_sent r log p is on over =
-    by_reply (MaySend log p) (record { of_its_part = (on, over); wanted = tt; alone = tt }) (λ number. record { of_its_part = (on, over); wanted = tt; alone = tt }) r is
+    by_reply (λ (m : Msg). IsNextReply (trail log p) m → MaySend log p m) (λ next. record { of_its_part = (on, over, next); wanted = tt; alone = tt }) (λ number next. record { of_its_part = (on, over, next); wanted = tt; alone = tt }) r is
+
+-- once the first of them is sent
+due_next : (r : Msg) (rs : List Msg) (before after : Part) → IsReply r → after ≡ with_item (Asked r) before → AreDue (r ∷ rs) before.trail → AreDue rs after.trail
+due_next r rs before after is here due =
+    ap (λ (x : Part). owed (counted x.trail)) here ∙ due ∙ sym (append_assoc (replied before.trail) (r ∷ []) rs)
+    ∙ ap (λ (xs : List Msg). (replied before.trail ++ xs) ++ rs) (sym (as_itself r is)) ∙ sym (ap (λ (x : Part). replied x.trail ++ rs) here)
 
 reply_needed : (watch : List (List ℕ)) (r : Msg) (log : Log) (p : ℕ) → IsReply r → IsNeeded watch log p r
 reply_needed watch r log p is = by_reply (IsNeeded watch log p) tt (λ number. tt) r is
 
 replies_done : {watch : List (List ℕ)} (p : PeerNo) (rs : List Msg) (log : Log) → p.0 ≤ (tally_of log).dials → AllByRecursion IsReply rs → AreSendable rs
-    → connected (trail log p.0) ≡ true → (rs ≡ []) ⊎ (met (trail log p.0) ≡ true) → RepliesDone watch p rs log
-replies_done p [] log number are sendable on over = record { allowed = tt; here = refl; others = λ q ne. refl; count = refl }
-replies_done p (r ∷ rs) log number are sendable on (inl none) = absurd (let e : r ∷ rs ≡ [] = none in cc)
-replies_done {watch = watch} p (r ∷ rs) log number are sendable on (inr over) =
+    → connected (trail log p.0) ≡ true → (rs ≡ []) ⊎ (met (trail log p.0) ≡ true) → AreDue rs (trail log p.0) → RepliesDone watch p rs log
+replies_done p [] log number are sendable on over due = record { allowed = tt; here = refl; others = λ q ne. refl; count = refl }
+replies_done p (r ∷ rs) log number are sendable on (inl none) due = absurd (let e : r ∷ rs ≡ [] = none in cc)
+replies_done {watch = watch} p (r ∷ rs) log number are sendable on (inr over) due =
     let next = Sent p (bytes_of r) ∷ log in
     let here : part_of next p.0 ≡ with_item (Asked r) (part_of log p.0) = sent_here p r (part_of log p.0) sendable.0 in
-    let more = replies_done {watch = watch} p rs next number are.1 sendable.1 (ap (λ (x : Part). connected x.trail) here ∙ on) (inr (ap (λ (x : Part). met x.trail) here ∙ over)) in
+    let more = replies_done {watch = watch} p rs next number are.1 sendable.1 (ap (λ (x : Part). connected x.trail) here ∙ on) (inr (ap (λ (x : Part). met x.trail) here ∙ over)) (due_next r rs (part_of log p.0) (part_of next p.0) are.0 here due) in
     record {
-      allowed = ((number, sendable.0, reply_sent r log p.0 are.0 on over, reply_needed watch r log p.0 are.0), more.allowed);
+      allowed = ((number, sendable.0, reply_sent r log p.0 are.0 on over (rs, due), reply_needed watch r log p.0 are.0), more.allowed);
       here = more.here ∙ ap (asked_all rs) here;
       others = λ q ne. more.others q ne ∙ sent_others p (bytes_of r) q (part_of log q) ne;
       count = more.count;
@@ -177,9 +190,6 @@ holds_asked r peer t is h = by_reply (λ (m : Msg). Holds peer (Asked m ∷ t))
     (record { on = h.on; called = h.called; meeting = h.meeting; open_one = h.open_one; hearing = h.hearing; clean = h.clean; orderly = h.orderly; acquainted = h.acquainted })
     (λ number. record { on = h.on; called = h.called; meeting = h.meeting; open_one = h.open_one; hearing = h.hearing; clean = h.clean; orderly = h.orderly; acquainted = h.acquainted }) r is
 
-as_itself : (r : Msg) → IsReply r → as_reply r ≡ r ∷ []
-as_itself r is = by_reply (λ (m : Msg). as_reply m ≡ m ∷ []) refl (λ number. refl) r is
-
 no_version : (r : Msg) → IsReply r → is_version r ≡ false
 no_version r is = by_reply (λ (m : Msg). is_version m ≡ false) refl (λ number. refl) r is
 
@@ -197,6 +207,14 @@ unchanged (r ∷ rs) part are =
       holds = λ peer h. more.holds peer (holds_asked r peer part.trail are.0 h);
     }
 
+asked_replied : (rs : List Msg) (part : Part) → AllByRecursion IsReply rs → replied (asked_all rs part).trail ≡ replied part.trail ++ rs
+asked_replied rs part are = (unchanged rs part are).replies
+
+-- what is sent changes nothing of what counts of its words
+asked_owes : (rs : List Msg) (part : Part) → owed (counted part.trail) ≡ owed (counted (asked_all rs part).trail)
+asked_owes [] part = refl
+asked_owes (r ∷ rs) part = asked_owes rs (with_item (Asked r) part)
+
 -- replies and what they leave, after a piece
 heard_log : (p : PeerNo) (piece : List ℕ) (log : Log) → part_of (Took (Got p piece) ∷ log) p.0 ≡ heard_part piece (part_of log p.0)
 heard_log p piece log = got_here p piece (part_of log p.0)
@@ -204,6 +222,12 @@ heard_log p piece log = got_here p piece (part_of log p.0)
 met_by : (p : PeerNo) (rs : List Msg) (part end : Part) → part ≡ end → (rs ≡ []) ⊎ (met end.trail ≡ true) → (rs ≡ []) ⊎ (met part.trail ≡ true)
 met_by p rs part end e (inl none) = inl none
 met_by p rs part end e (inr over) = inr (ap (λ (x : Part). met x.trail) e ∙ over)
+
+-- the replies to a piece, by what is owed to it
+due_by : (piece : List ℕ) (rs : List Msg) (start part : Part) → part ≡ heard_part piece start → IsAnswered start.trail → owed (counted (heard_part piece start).trail) ≡ owed start.trail ++ rs → AreDue rs part.trail
+due_by piece rs start part here answered owes =
+    ap (λ (x : Part). owed (counted x.trail)) here ∙ owes ∙ ap (λ (xs : List Msg). xs ++ rs) (sym answered.replies ∙ sym (heard_says piece start).replies)
+    ∙ sym (ap (λ (x : Part). replied x.trail ++ rs) here)
 
 sendable_by : (p : PeerNo) (rs : List Msg) → All IsDoable (sends p rs) → AreSendable rs
 sendable_by p [] h = tt
@@ -231,7 +255,8 @@ whole_at {watch = watch} places log p piece peer seen now acts lt stand on answe
     let here = heard_log p piece log in
     let part = heard_part piece (part_of log p.0) in
     let up : connected (trail next p.0) ≡ true = ap (λ (x : Part). connected x.trail) here ∙ heard_connected piece (part_of log p.0) ∙ on in
-    let done = replies_done {watch = watch} p rs next (number_within places log p.0 stand lt) whole.are.each sendable up (met_by p rs (part_of next p.0) part here whole.are.after_version) in
+    let done = replies_done {watch = watch} p rs next (number_within places log p.0 stand lt) whole.are.each sendable up (met_by p rs (part_of next p.0) part here whole.are.after_version)
+    (due_by piece rs (part_of log p.0) (part_of next p.0) here answered ((same_use part.trail whole.holds.on whole.holds.clean).owing ∙ whole.owes)) in
     let same = unchanged rs part whole.are.each in
     let at_end : part_of (after (sends p rs) next) p.0 ≡ asked_all rs part = done.here ∙ ap (asked_all rs) here in
     let keeps : Keeps peer (asked_all rs part) = record {
@@ -311,22 +336,26 @@ whole_tracks places log p piece old peer seen now before acts none here stand tr
 
 -- a piece in which a frame deserves a cause: the peer is closed
 fault_at : {watch : List (List ℕ)} (places : List Place) (log : Log) (p : PeerNo) (piece : List ℕ) (cause : Cause) (seen now : Seen) (acts : List Act)
-    → p.0 < length places → PlacesStand places log → connected (trail log p.0) ≡ true
+    → p.0 < length places → PlacesStand places log → connected (trail log p.0) ≡ true → IsAnswered (trail log p.0)
     → (fault : HeardFault p seen now [] acts (part_of log p.0) (heard_part piece (part_of log p.0)) cause) → AreSendable fault.replies
     → Goes watch (set places p.0 (Lost (ClosedFor cause))) (acts ++ Close p cause ∷ []) (Took (Got p piece) ∷ log)
-fault_at {watch = watch} places log p piece cause seen now acts lt stand on fault sendable =
+fault_at {watch = watch} places log p piece cause seen now acts lt stand on answered fault sendable =
     let next = Took (Got p piece) ∷ log in
     let rs = fault.replies in
     let here = heard_log p piece log in
     let part = heard_part piece (part_of log p.0) in
     let on_then : connected (trail next p.0) ≡ true = ap (λ (x : Part). connected x.trail) here ∙ heard_connected piece (part_of log p.0) ∙ on in
     let number = number_within places log p.0 stand lt in
-    let done = replies_done {watch = watch} p rs next number fault.are.each sendable on_then (met_by p rs (part_of next p.0) part here fault.are.after_version) in
+    let done = replies_done {watch = watch} p rs next number fault.are.each sendable on_then (met_by p rs (part_of next p.0) part here fault.are.after_version)
+    (due_by piece rs (part_of log p.0) (part_of next p.0) here answered fault.owes) in
     let same = unchanged rs part fault.are.each in
     let later = after (sends p rs) next in
     let at_end : part_of later p.0 ≡ asked_all rs part = done.here ∙ ap (asked_all rs) here in
     let up : connected (trail later p.0) ≡ true = ap (λ (x : Part). connected x.trail) at_end ∙ same.on ∙ heard_connected piece (part_of log p.0) ∙ on in
     let guilty : verdict (trail later p.0) ≡ Some cause = ap (λ (x : Part). verdict x.trail) at_end ∙ same.first ∙ fault.first in
+    let due = due_by piece rs (part_of log p.0) (part_of next p.0) here answered fault.owes in
+    let replied_all : replied (trail later p.0) ≡ owed (counted (trail later p.0)) =
+    ap (λ (x : Part). replied x.trail) done.here ∙ asked_replied rs (part_of next p.0) fault.are.each ∙ sym due ∙ asked_owes rs (part_of next p.0) ∙ sym (ap (λ (x : Part). owed (counted x.trail)) done.here) in
     let end = ClosedFor cause in
     let mine : IsLost end (part_of (Closed p ∷ later) p.0).trail =
     subst (λ (x : Part). IsLost end x.trail) (sym (closed_here p (part_of later p.0))) (shut_now (trail later p.0) cause up (inl (up, guilty))) in
@@ -341,7 +370,7 @@ fault_at {watch = watch} places log p piece cause seen now acts lt stand on faul
               (subst (λ t. Fits (get_or places q nobody) t) (sym (closed_others p q (part_of later q) other ∙ done.others q other ∙ got_others p piece q (part_of log q) other)) (stand.each q))
         ];
       });
-      allowed = allowed-append watch (sends p rs) (Close p cause) next done.allowed (count, inl (up, guilty));
+      allowed = allowed-append watch (sends p rs) (Close p cause) next done.allowed (count, inl (up, guilty), λ sound. replied_all);
     })
 
 fault_of : (places : List Place) (log : Log) (p : PeerNo) (piece : List ℕ) (old : Peer) (cause : Cause) (seen now : Seen) (before acts : List Act)
@@ -359,7 +388,7 @@ faulty_goes : {watch : List (List ℕ)} (places : List Place) (log : Log) (p : P
 faulty_goes places log p piece old cause seen now before acts lt none here stand tracks heard doable =
     let keeps = place_keeps places log p old here stand in
     let fault = fault_of places log p piece old cause seen now before acts none here stand tracks heard in
-    fault_at places log p piece cause seen now acts lt stand keeps.holds.on fault (sendable_by p fault.replies (subst (All IsDoable) fault.acts doable))
+    fault_at places log p piece cause seen now acts lt stand keeps.holds.on keeps.answered fault (sendable_by p fault.replies (subst (All IsDoable) fault.acts doable))
 
 -- a piece in which a frame deserves a cause, and p's chain and claims given up
 faulty_tracks : (places : List Place) (log : Log) (p : PeerNo) (piece : List ℕ) (old : Peer) (cause : Cause) (seen now last : Seen) (before acts : List Act)
@@ -468,7 +497,7 @@ cut_goes places log cut p lt stand is = record {
           (subst (λ t. Fits (get_or places q nobody) t) (sym (closed_others p q (part_of cut q) other ∙ is.others q other)) (stand.each q))
     ];
   };
-  allowed = ((omega (arith, number_within places log p.0 stand lt, is.dials), grind (arith, common_steps, is.off, is.broken)), tt);
+  allowed = ((omega (arith, number_within places log p.0 stand lt, is.dials), inr (inl (refl, is.broken)), λ sound. absurd (both_ways (failed (trail cut p.0)) sound is.broken)), tt);
 }
 
 pub cut_moves : (d : Desk) (p : PeerNo) (after : Seen) → d.acts ≡ [] → p.0 < length d.places → IsInOrder d → IsPut d.seen after p.0 None no_claims

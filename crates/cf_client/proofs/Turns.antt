@@ -453,7 +453,7 @@ broken_mark (SendFailed q ∷ log) p lt w is = elim (broken_set (tally_of log).m
 ]
 broken_mark (Closed q ∷ log) p lt w is = elim (broken_set (tally_of log).marks q.0 p Shut lt (marks_of log p lt).size is) [
   | inl x ↦ absurd (false≢true x.1)
-  | inr x ↦ untold_closed_others q log p x.0 ∙ broken_mark log p lt w x.1
+  | inr x ↦ untold_closed_others q log p x.0 ∙ broken_mark log p lt w.1 x.1
 ]
 broken_mark (Took (Got q piece) ∷ log) p lt w is = absurd (both_ways (is_untold log p) (w.0.told p) (broken_mark log p lt w.1 is))
 broken_mark (Took (Gone q) ∷ log) p lt w is = elim (broken_set (tally_of log).marks q.0 p Left lt (marks_of log p lt).size is) [

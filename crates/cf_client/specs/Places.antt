@@ -103,10 +103,15 @@ abbrev pub after : List Act → Log → Log
 after [] log = log
 after (a ∷ acts) log = after acts (entry_of a ∷ log)
 
--- an act may be done by a client that watches these scripts: what it sends may be sent to that peer, and filters and blocks that it asks for are needed
+-- unless a send to it has failed, each reply that is owed to what counts of its words was sent
+abbrev pub IsReplied : Trail → Type 0
+IsReplied t = failed t ≡ false → replied t ≡ owed (counted t)
+
+-- an act may be done by a client that watches these scripts: what it sends may be sent to that peer, and filters and blocks that it asks for are needed; whom it closes was
+-- answered
 abbrev pub MayAct : List (List ℕ) → Act → Log → Type 0
 MayAct watch (Send p m) log = (p.0 ≤ (tally_of log).dials) × IsSendable m × MaySend log p.0 m × IsNeeded watch log p.0 m
-MayAct watch (Close p cause) log = (p.0 ≤ (tally_of log).dials) × Deserves (trail log p.0) cause
+MayAct watch (Close p cause) log = (p.0 ≤ (tally_of log).dials) × Deserves (trail log p.0) cause × IsReplied (trail log p.0)
 
 -- each act may be done when the ones before it are
 abbrev pub Allowed : List (List ℕ) → List Act → Log → Type 0

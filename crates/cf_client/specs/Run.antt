@@ -35,7 +35,7 @@ use Rattle.cf_client.specs.declared.progress.SendState.TheVariants.{Fine, Pendin
 use Rattle.cf_client.specs.declared.state.State.TheVariants.{Synced as IsSynced, NoPeers as HasNoPeers}
 use Rattle.cf_client.specs.declared.trace.TraceLine.{TraceLine}
 use Rattle.cf_client.specs.declared.trace.TraceLine.TheVariants.{Sent as SentLine, Closed as ClosedLine}
-use Rattle.cf_client.specs.Places.{after, Allowed, IsState}
+use Rattle.cf_client.specs.Places.{after, Allowed, IsReplied, IsState}
 use Rattle.cf_client.specs.Stands.{Reflects, IsInnocent, AreAnswered, watch_by}
 
 -- how the sends to a peer have gone
@@ -75,14 +75,14 @@ pub record IsOrderly (log : Log) : Type 0 where
   pub answered : AreAnswered log
   pub told : (p : ℕ) → is_untold log p ≡ false
 
--- so it was whenever a delivery was taken; and a send was tried to a connected peer alone
+-- so it was whenever a delivery was taken; a send was tried to a connected peer alone, and who was closed was answered before
 abbrev pub WasOrderly : Log → Type 0
 WasOrderly [] = Unit {0}
 WasOrderly (Dialled p name ∷ log) = WasOrderly log
 WasOrderly (NotDialled p name ∷ log) = WasOrderly log
 WasOrderly (Sent p bytes ∷ log) = WasOrderly log
 WasOrderly (SendFailed p ∷ log) = IsConnected log p.0 × WasOrderly log
-WasOrderly (Closed p ∷ log) = WasOrderly log
+WasOrderly (Closed p ∷ log) = IsReplied (trail log p.0) × WasOrderly log
 WasOrderly (Took d ∷ log) = IsOrderly log × WasOrderly log
 
 -- the peers are numbered from 1 in the order in which they were dialled

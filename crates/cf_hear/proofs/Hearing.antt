@@ -26,6 +26,7 @@ use Rattle.cf_peer.proofs.Peers.{other_block, reply_is, same_holds}
 use Rattle.cf_peer.proofs.Stream.{faulty_said, said_met}
 use Rattle.cf_scan.specs.declared.extracts.TxExtract.{TxExtract}
 use Rattle.cf_tracker.specs.Tables.{Table, IsSameTable, with_block, with_blocks}
+use Rattle.cf_sync.proofs.Counted.{same_use}
 use Rattle.cf_sync.proofs.Grows.{said_brings}
 use Rattle.cf_sync.proofs.Listed.{in_left, in_right, in_either}
 use Rattle.cf_sync.proofs.VerdictsGrow.{said_gives}
@@ -369,6 +370,7 @@ midway_fault p old seen now next before acts start end cause midway stops =
       acts = midway.acts;
       are = record { each = midway.are.each; after_version = met_end midway.replies midway.so_far end.trail faulty.known midway.are.after_version };
       first = faulty.first;
+      owes = ap owed faulty.counts ∙ (same_use midway.so_far midway.holds.on midway.holds.clean).owing ∙ midway.owes;
       news = midway.news;
       brings = faulty.same ∙ midway.brings;
       jobs = midway.jobs;

@@ -105,6 +105,7 @@ pub record HeardFault (p : PeerNo) (seen now : Seen) (before after : List Act) (
   pub acts : after ≡ before ++ map (λ (m : Msg). SendTo p m) replies
   pub are : AreReplies replies end.trail
   pub first : verdict end.trail ≡ Some cause
+  pub owes : owed (counted end.trail) ≡ owed start.trail ++ replies
   pub news : List Block
   pub brings : Brings start.trail end.trail news
   pub jobs : List Job

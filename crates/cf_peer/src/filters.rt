@@ -1,5 +1,5 @@
 //! The filters of a batch, as they come (BIP 157, "cfilter").
-ghost use Rattle.std.specs.Prelude.{◌≡◌, ◌<◌, ℕ, List, nat_le, IfOk, OnOk, true, length, slice_index_or};
+ghost use Rattle.std.specs.Prelude.{◌≡◌, ◌<◌, ℕ, List, nat_le, IfOk, OnOk, OnErr, true, length, slice_index_or};
 ghost use Rattle.cf_bytes.specs.declared.hash.Hash32.{Hash32};
 ghost use Rattle.cf_msg.specs.declared.msg.Msg.TheVariants.{Cfilter};
 ghost use Rattle.cf_dispute.specs.Of.{tables_of};
@@ -7,7 +7,7 @@ ghost use Rattle.cf_filter.specs.Filter.{filter_hash_of};
 ghost use Rattle.cf_peer.specs.Trail.{Trail};
 ghost use Rattle.cf_peer.specs.Asking.{claims as claims_in, filter_of, is_this, hash_claimed};
 ghost use Rattle.cf_peer.specs.declared.peer.Batch.{Batch};
-ghost use Rattle.cf_peer.specs.declared.peer.Request.TheVariants.{Filters};
+ghost use Rattle.cf_peer.specs.declared.peer.Request.TheVariants.{Filters, Nothing};
 ghost use Rattle.cf_peer.specs.Peer.{Holds, calm, IsPut, IsRight, TakesFilter, no_hash32, with_filter};
 
 use crate::claims::is_answer;
@@ -74,7 +74,7 @@ impl Batch {
 impl Peer {
     /// Takes a filter that the peer sent: its type, its block's hash in wire order, and its bytes. One that isn't the next of what is open to it is
     /// read over, and one of another hash than the peer claims has it closed for `OtherFilter`. The last of a batch ends the open request. Where no
-    /// memory is found what came of the batch may be lost.
+    /// memory is found nothing is open to it, and what came of the batch is lost.
     pub fn hear_filter(
         &mut self,
         alloc: Global,
@@ -87,6 +87,7 @@ impl Peer {
         requires right { IsRight self.old.request (tables_of claims.now p.0) }
         ensures heard { IfOk result (λ o. (t : Trail) → Holds self.old t → ((hash : List ℕ) → tables_of claims.now p.0 hash ≡ claims_in t hash) → TakesFilter self.new (Cfilter filter block.now bytes.now) t o) }
         ensures right { OnOk result (IsRight self.new.request (tables_of claims.now p.0)) }
+        ensures err { OnErr result (self.new ≡ record self.old { request = Nothing }) }
         ensures waits { self.new.framer ≡ self.old.framer }
         ensures calm { calm self.old ≡ true → calm self.new ≡ true }
     {
@@ -105,6 +106,7 @@ impl Peer {
 
     // Puts the next filter of the open batch, and gives the filters back where it was the last.
     fn put_filter(&mut self, alloc: Global, block: &Hash32, bytes: &[u8]) -> Result<Heard, NoMemory>
+        ensures err { OnErr result (self.new ≡ record self.old { request = Nothing }) }
         ensures put { IfOk result (λ o. (batch : Batch) (age : ℕ) → self.old.request ≡ Filters batch age → IsPut self.old self.new (with_filter batch (filter_of block.now bytes.now)) age o) }
         ensures waits { self.new.framer ≡ self.old.framer }
         ensures calm { calm self.old ≡ true → calm self.new ≡ true }

@@ -261,7 +261,7 @@ right_15 = (
     (
       (1, of_part (λ t. is_open t ≡ true) (part_of dispute_12 1) t_4 part_12 refl),
       (
-        (Verack, spelled_is Verack verack_sendable, record { of_its_part = of_part (λ t. MayAsk t Verack) (part_of dispute_11 1) t_3 part_11 (refl, refl); wanted = tt; alone = tt }),
+        (Verack, spelled_is Verack verack_sendable, record { of_its_part = of_part (λ t. MayAsk t Verack) (part_of dispute_11 1) t_3 part_11 (refl, refl, ([], refl)); wanted = tt; alone = tt }),
         (busy_1 dispute_10 part_10, right_10),
       ),
     ),

@@ -723,7 +723,7 @@ right_9 = (
     (
       busy_1 log_6 part_2,
       (
-        (Verack, spelled_is Verack verack_sendable, record { of_its_part = of_part (λ t. MayAsk t Verack) (part_of log_5 2) u_3 other_5 (refl, refl); wanted = tt; alone = tt }),
+        (Verack, spelled_is Verack verack_sendable, record { of_its_part = of_part (λ t. MayAsk t Verack) (part_of log_5 2) u_3 other_5 (refl, refl, ([], refl)); wanted = tt; alone = tt }),
         (
           busy_1 log_4 part_2,
           (
@@ -744,7 +744,7 @@ right_14 = (
     (
       (1, of_part (λ t. is_open t ≡ true) (part_of log_11 1) t_4 part_11 refl),
       (
-        (Verack, spelled_is Verack verack_sendable, record { of_its_part = of_part (λ t. MayAsk t Verack) (part_of log_10 1) t_3 part_10 (refl, refl); wanted = tt; alone = tt }),
+        (Verack, spelled_is Verack verack_sendable, record { of_its_part = of_part (λ t. MayAsk t Verack) (part_of log_10 1) t_3 part_10 (refl, refl, ([], refl)); wanted = tt; alone = tt }),
         (busy_1 log_9 part_2, right_9),
       ),
     ),
