@@ -5,6 +5,7 @@ ghost use Rattle.crossbeam_channel.specs.Ends.{sends_on, receives_on};
 ghost use Rattle.cf_bytes.specs.Outside.{HasRisen};
 ghost use Rattle.cf_line.specs.Queue.{receiver, sender, with_made};
 ghost use Rattle.cf_line.specs.Handing.{HasWaited};
+ghost use Rattle.cf_line.specs.Waiting.{HasGiven, HasFailed};
 
 use crate::ends::{Queue, Sender, Taker};
 use crate::entry::Entry;
@@ -119,19 +120,21 @@ impl<J: Task, R: Wait + Drop> Busy<J, R> {
     }
 }
 
-/// Threads of which each waits for one task. Contracts see how many wait.
+/// Threads of which each waits for one task. Contracts see how many wait, and how often a thread's queue handed its task back.
 #[derive(Drop)]
 pub struct Workers<J: Task, R: Wait + Drop> {
     rt: R,
     ready: Vec<Ready<J, R>>,
+    returned: u64,
 }
 
 impl<J: Task, R: Wait + Drop> Model for Workers<J, R> {
-    ghost use Rattle.std.specs.Prelude.{ℕ, vec_len};
+    ghost use Rattle.std.specs.Prelude.{vec_len};
+    ghost use Rattle.cf_line.specs.Waiting.{Waiting};
 
-    ghost Value = { ℕ };
+    ghost Value = { Waiting };
 
-    ghost view = { λ w. vec_len w.ready };
+    ghost view = { λ w. record { count = vec_len w.ready; returned = w.returned } };
 }
 
 // Starts a thread that waits for a task; `None` where the start is refused.
@@ -163,8 +166,9 @@ where
         spawner: &mut K,
         count: usize,
     ) -> Result<Workers<J, R>, AllocError>
-        ensures few { IfOk result (λ w. w ≤ count) }
-        ensures cause { IfOk result (λ w. (w ≡ count) ⊎ HasRisen (K.refusals spawner.old) (K.refusals spawner.new)) }
+        ensures few { IfOk result (λ w. w.count ≤ count) }
+        ensures fresh { IfOk result (λ w. w.returned ≡ 0) }
+        ensures cause { IfOk result (λ w. ((w.count ≡ count) × (K.refusals spawner.new ≡ K.refusals spawner.old)) ⊎ HasRisen (K.refusals spawner.old) (K.refusals spawner.new)) }
     {
         let mut ready = Vec::with_capacity(alloc, count)?;
         for _ in 0..count {
@@ -172,15 +176,20 @@ where
                 ready.push_reserved(one);
             }
         }
-        Ok(Workers { rt, ready })
+        Ok(Workers {
+            rt,
+            ready,
+            returned: 0,
+        })
     }
 }
 
 impl<J: Task, R: Wait + Drop> Workers<J, R> {
-    /// Hands a task over to a thread that waits. It comes back where none waits, or where the thread's queue hands it back.
+    /// Hands a task over to a thread that waits. It comes back where none waits, or where the thread's queue hands it back, which is
+    /// counted.
     pub fn give(&mut self, task: J) -> Result<Busy<J, R>, J>
-        ensures ok { IfOk result (λ b. (b ≡ task) × (self.old ≡ self.new + 1)) }
-        ensures err { IfErr result (λ t. t ≡ task) }
+        ensures ok { IfOk result (λ b. (b ≡ task) × HasGiven self.old self.new) }
+        ensures err { IfErr result (λ t. (t ≡ task) × HasFailed self.old self.new) }
     {
         let Some(Ready { mut giver, running }) = self.ready.pop() else {
             return Err(task);
@@ -188,13 +197,17 @@ impl<J: Task, R: Wait + Drop> Workers<J, R> {
         let of = Snapshot::of(&task);
         match giver.send(&self.rt, task) {
             Ok(()) => Ok(Busy { giver, running, of }),
-            Err(task) => Err(task),
+            Err(task) => {
+                self.returned = self.returned.saturating_add(1);
+                Err(task)
+            }
         }
     }
 
     /// Ends the threads that still wait, and joins them.
     pub fn close<T: Threads>(&mut self, rt: &T)
-        ensures { self.new ≡ 0 }
+        ensures count { self.new.count ≡ 0 }
+        ensures returned { self.new.returned ≡ self.old.returned }
     {
         while let Some(Ready { giver, running }) = self.ready.pop() {
             drop(giver);
