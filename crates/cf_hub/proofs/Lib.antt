@@ -1,0 +1,15 @@
+mod Books
+mod Bytes
+mod Causes
+mod Crossing
+mod Finishes
+mod Gives
+mod Heard
+mod Lines
+mod Opened
+mod Readers
+mod Sent
+mod Shown
+mod Takes
+mod Tickers
+mod WriterFaults

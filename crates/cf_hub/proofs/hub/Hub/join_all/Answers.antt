@@ -1,0 +1,47 @@
+use Rattle.std.proofs.Common.{rules, arith, ◌≡◌, ◌≤◌, ◌<◌, ◌+◌, ◌∙◌, ◌++◌, ◌∷◌, [], sym, ap, refl, subst, true≢false, vec_len, vec_capacity, length, List, Option, Some, None}
+use Rattle.crossbeam_channel.specs.Claims.{view}
+use Rattle.crossbeam_channel.specs.Ends.{sends_on}
+use Rattle.cf_peer.specs.Log.{Told}
+use Rattle.cf_peer.specs.declared.event.Delivery.TheVariants as gives
+use Rattle.cf_hub.specs.declared.entry.Kind.TheVariants as kinds
+use Rattle.cf_hub.specs.Book.{told_of}
+use Rattle.cf_hub.specs.Gives.{given_of, IsFront}
+use Rattle.cf_line.specs.Queue.{of}
+use Rattle.cf_hub.proofs.Takes.{none_all, no_fronts, same_fronts, none_for, wait_log, wait_within, not_given, is_given, got_is, gone_is, tick_is, got_none, gone_none, tick_none, took_log, took_count, ended_log, same_log, same_heard, same_within, same_front, dialled_log, missed_log}
+use Rattle.cf_hub.proofs.Lines.{reading_ringed}
+use Rattle.cf_hub.proofs.Opened.{opens_same, opens_more, opens_none, numbers_none, reading_more, same_numbers, ended_same, have_ended}
+use Rattle.cf_hub.specs.Finish.{numbers_of, read_numbers}
+use Rattle.cf_hub.proofs.hub.Hub.join_all.Goals as goal
+
+pub invariant_of-self : goal.invariant_of-self
+invariant_of-self g c =
+    let noread : c.replace-held.new.dest.items ≡ [] = ap (λ v. v.items) c.replace-held.ensures.after ∙ c.new.ensures.items in
+    let nolen : vec_len c.replace-held.new.dest ≡ 0 = ap (λ v. vec_len v) c.replace-held.ensures.after ∙ c.new.ensures.len in
+    let held = ap (λ v. v.items) c.replace-held.ensures.value in
+    record {
+      waiting = λ x e. let h = c.args.self.now.waiting x e in (h.0 ∙ sym ((c.join_readers.ensures.ring ∙ c.join_ticker.ensures.ring)), h.1, h.2);
+      ticks = none_for _ _ c.take-ticking.ensures.after;
+      spares = λ k d l. let h = c.args.self.now.spares k d l in (h.0, (h.1.0 ∙ sym ((c.join_readers.ensures.ring ∙ c.join_ticker.ensures.ring)), h.1.1));
+      numbers = c.args.self.now.numbers;
+      one = λ k d l. let n = ap length noread in absurd (omega (arith, l, n));
+      room = (let h : vec_len c.replace-held.new.dest ≤ vec_capacity c.join_readers.new.done = omega (arith, nolen) in h);
+      places = c.args.self.now.places;
+      holds = c.args.self.now.holds;
+      heard = same_heard _ _ _ (c.join_readers.ensures.got ∙ c.join_ticker.ensures.got) c.args.self.now.heard;
+      gives = same_log (told_of c.args.self.now.book) (told_of c.args.self.now.book) _ _ refl (c.join_readers.ensures.got ∙ c.join_ticker.ensures.got) c.args.self.now.gives;
+      within = same_within _ _ _ _ refl (c.join_readers.ensures.got ∙ c.join_ticker.ensures.got) c.args.self.now.within;
+      counts = λ r. absurd (true≢false (sym c.requires.finished ∙ r));
+      undone = λ r. absurd (true≢false r);
+      unrested = λ r. absurd (true≢false r);
+      stopped = λ _. c.requires.finished;
+      over = λ _. ended_same _ _ _ _ refl (c.join_readers.ensures.got ∙ c.join_ticker.ensures.got) c.requires.ended;
+      fronts = c.join_readers.ensures.fronts;
+      beats = λ x e. same_front _ _ _ c.join_readers.ensures.got (c.join_ticker.ensures.front x e);
+      unshut = c.args.self.now.unshut;
+      reading_are = λ r. absurd (true≢false r);
+      done_are = λ _. same_numbers _ _ c.join_readers.ensures.whose ∙ ap numbers_of held ∙ c.args.self.now.reading_are c.requires.joined;
+    }
+
+pub join_readers-requires-clause-one : goal.join_readers-requires-clause-one
+join_readers-requires-clause-one g c =
+    reading_ringed c.args.self.now.queue c.join_ticker.new.queue _ _ (ap (λ v. v.items) c.replace-held.ensures.value) c.join_ticker.ensures.ring c.args.self.now.one

@@ -1,0 +1,63 @@
+use Rattle.std.proofs.Common.{rules, arith, ◌≡◌, ◌≤◌, ◌<◌, ◌+◌, ◌∙◌, ◌++◌, ◌∷◌, [], sym, ap, refl, subst, true, true≢false, vec_len, vec_capacity, length, List, Option, Some, None}
+use Rattle.crossbeam_channel.specs.Claims.{view}
+use Rattle.crossbeam_channel.specs.Ends.{sends_on}
+use Rattle.cf_peer.specs.Log.{Told}
+use Rattle.cf_hub.specs.Book.{told_of}
+use Rattle.cf_hub.specs.Gives.{given_of}
+use Rattle.cf_hub.specs.Over.{numbers_from}
+use Rattle.cf_hub.proofs.Takes.{same_log, same_heard, same_within, same_front, same_fronts, missed_log, sent_log, failed_log, closed_log, moved_fronts}
+use Rattle.cf_hub.proofs.Lines.{down_popped}
+use Rattle.cf_hub.proofs.Opened.{opens_same, opens_none, opens_closed, numbers_none, ended_none, ended_same}
+use Rattle.cf_hub.proofs.hub.Hub.put_out.Goals as goal
+
+pub invariant_of-self : goal.invariant_of-self
+invariant_of-self g c =
+    record {
+      waiting = c.args.self.now.waiting;
+      ticks = c.args.self.now.ticks;
+      spares = c.args.self.now.spares;
+      numbers = c.args.self.now.numbers;
+      one = c.args.self.now.one;
+      room = c.args.self.now.room;
+      places = (let h : vec_len c.put_to.new.writers ≡ c.args.self.now.book.dials + 1 = omega (arith, c.put_to.ensures.len, c.args.self.now.places) in h);
+      holds = (let h : 9 ≤ vec_capacity c.put_to.new.writers = omega (arith, c.put_to.ensures.capacity, c.args.self.now.holds) in h);
+      heard = c.args.self.now.heard;
+      gives = c.args.self.now.gives;
+      within = c.args.self.now.within;
+      counts = c.args.self.now.counts;
+      undone = c.args.self.now.undone;
+      unrested = c.args.self.now.unrested;
+      stopped = c.args.self.now.stopped;
+      over = λ j. ended_same _ _ _ _ c.put_to.ensures.there refl (c.args.self.now.over j);
+      fronts = c.args.self.now.fronts;
+      beats = c.args.self.now.beats;
+      unshut = λ r. c.put_to.ensures.unshut _ (c.args.self.now.unshut r);
+      reading_are = λ j. c.args.self.now.reading_are j ∙ sym (ap (numbers_from 0) c.put_to.ensures.there);
+      done_are = λ j. c.args.self.now.done_are j ∙ sym (ap (numbers_from 0) c.put_to.ensures.there);
+    }
+
+pub invariant_of-self-2 : goal.invariant_of-self-2
+invariant_of-self-2 g c =
+    record {
+      waiting = c.args.self.now.waiting;
+      ticks = c.args.self.now.ticks;
+      spares = c.args.self.now.spares;
+      numbers = c.args.self.now.numbers;
+      one = c.args.self.now.one;
+      room = c.args.self.now.room;
+      places = (let h : vec_len c.put_to.new.writers ≡ c.args.self.now.book.dials + 1 = omega (arith, c.put_to.ensures.len, c.args.self.now.places) in h);
+      holds = (let h : 9 ≤ vec_capacity c.put_to.new.writers = omega (arith, c.put_to.ensures.capacity, c.args.self.now.holds) in h);
+      heard = c.args.self.now.heard;
+      gives = c.args.self.now.gives;
+      within = c.args.self.now.within;
+      counts = c.args.self.now.counts;
+      undone = c.args.self.now.undone;
+      unrested = c.args.self.now.unrested;
+      stopped = c.args.self.now.stopped;
+      over = λ j. ended_same _ _ _ _ c.put_to.ensures.there refl (c.args.self.now.over j);
+      fronts = c.args.self.now.fronts;
+      beats = c.args.self.now.beats;
+      unshut = λ r. c.put_to.ensures.unshut _ (c.args.self.now.unshut r);
+      reading_are = λ j. c.args.self.now.reading_are j ∙ sym (ap (numbers_from 0) c.put_to.ensures.there);
+      done_are = λ j. c.args.self.now.done_are j ∙ sym (ap (numbers_from 0) c.put_to.ensures.there);
+    }

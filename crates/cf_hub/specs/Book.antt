@@ -1,0 +1,20 @@
+-- What a book tells.
+use Rattle.std.specs.Prelude.{ℕ, ◌+◌, ◌<◌, ◌≤◌, ◌-◌, ◌^◌, Bool, not, vec_len, vec_capacity}
+use Rattle.std.specs.List.{count_by}
+use Rattle.cf_peer.specs.Log.{Tally, Told}
+use Rattle.cf_hub.specs.Kept.{kept_log}
+use Rattle.cf_hub.specs.declared.book.Book.{Book}
+
+abbrev pub told_of : Book → Told
+told_of b = record {
+  log = kept_log b.keeps b.log.items;
+  tally = record { marks = b.marks; closed = b.closed; dials = b.dials; taken = b.taken; ended = b.ended };
+  finished = b.finished;
+}
+
+abbrev pub keeps_of : Book → Bool
+keeps_of b = b.keeps
+
+-- there is room for one entry more, and the counts can rise
+abbrev pub IsReady : Book → Type 0
+IsReady b = (b.taken < 2 ^ 64 - 1) × (b.ended < 2 ^ 64 - 1) × (vec_len b.log + 1 + count_by not b.closed ≤ vec_capacity b.log)

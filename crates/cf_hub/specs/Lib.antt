@@ -1,0 +1,11 @@
+pub mod Pieces
+pub mod Ticks
+pub mod Kept
+pub mod Book
+pub mod Over
+pub mod Gives
+pub mod Lines
+pub mod Writers
+pub mod Finish
+pub mod Shown
+pub mod Threads

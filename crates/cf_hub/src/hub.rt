@@ -1,0 +1,802 @@
+//! Peers over threads.
+ghost use Rattle.std.specs.Prelude.{◌≡◌, ◌≢◌, ◌⊎◌, ◌<◌, ◌≤◌, ◌+◌, ◌++◌, ◌∷◌, ℕ, List, [], true, false, IfOk, IfErr, IfSome, IfNone, IsSome, IsErrOf, MatchBool, MatchOption, OnOk, OnErr, All, Some, None, map, slice_index_or, slice_set, vec_len, vec_capacity, length, take};
+ghost use Rattle.std.specs.Option.{ForSome};
+ghost use Rattle.crossbeam_channel.specs.Claims.{view};
+ghost use Rattle.crossbeam_channel.specs.Ends.{sends_on};
+ghost use Rattle.cf_bytes.specs.Outside.{HasRisen, with_more};
+ghost use Rattle.cf_hub.specs.Book.{told_of, keeps_of, IsReady};
+ghost use Rattle.cf_line.specs.Queue.{of, entry, receiver, with_got};
+ghost use Rattle.cf_hub.specs.declared.entry.Kind.TheVariants.{Last};
+ghost use Rattle.cf_hub.specs.Over.{AllGone, Heard, HaveEnded, connected, numbers_from};
+ghost use Rattle.cf_peer.specs.declared.event.Event.TheVariants.{Took, Dialled, NotDialled, Sent, SendFailed, Closed};
+ghost use Rattle.cf_peer.specs.Log.{Tells as IsTold, deliveries, tell, told_finished, was_closed};
+ghost use Rattle.cf_peer.specs.Wires.{HasCause};
+ghost use Rattle.cf_hub.specs.Kept.{no_script};
+ghost use Rattle.cf_hub.specs.Finish.{whose, begun, numbers_of, read_numbers, Fronts};
+ghost use Rattle.cf_hub.specs.Gives.{delivery_of, given_of, IsProper, LogGives, IsFront};
+ghost use Rattle.cf_hub.specs.Lines.{Down, Up};
+ghost use Rattle.cf_hub.specs.Writers.{faults_in, texts, Adds, AreOpen, Opens, Sends, Shuts};
+ghost use Rattle.cf_hub.specs.Shown.{Shows, ShowsTicks};
+ghost use Rattle.cf_hub.specs.Threads.{HandsOver, MayHandOver, MayMiss, Takes};
+ghost use Rattle.cf_line.specs.Waiting.{HasGiven, HasFailed};
+ghost use Rattle.cf_hub.specs.Pieces.{is_last, is_open, Reads};
+
+use crate::book::{Book, filled};
+use crate::entry::{CHUNK, Kind};
+use crate::joining::{Joined, Rested, each_reads, it_ticks, join_readers, join_ticker};
+use crate::outside::{Dialer, Pulse, Writer};
+use crate::reader::Reader;
+use crate::ticker::Ticker;
+use crate::writers::{put_to, shut_at};
+use cf_bytes::{Failed, NoMemory, PeerNo};
+use cf_conn::Source;
+use cf_line::{Busy, Entry, Queue, Sender, Workers};
+use cf_peer::{Delivery, Name, WireFail, Wires};
+use cf_tasks::Spawner;
+use std::alloc::{AllocError, Global};
+use std::mem;
+use std::sync::atomic::{AtomicBool, Ordering};
+use std::sync::{Arc, Wait};
+use std::thread::Threads;
+
+/// The most peers that are dialled.
+pub const PEERS: usize = 8;
+
+// A pulse, the sender of its ticks, and the flag that stops them, until a thread has them.
+#[derive(Drop)]
+struct Clock<P> {
+    pulse: P,
+    sender: Sender<Kind>,
+    stop: Arc<AtomicBool, Global>,
+}
+
+/// Peers of which each has a reader in a thread of its own, and a ticker.
+#[derive(Drop)]
+pub struct Hub<D: Dialer, P: Pulse, R: Wait + Threads + Copy + Drop> {
+    rt: R,
+    alloc: Global,
+    dialer: D,
+    readers: Workers<Reader<D::Read, R>, R>,
+    tickers: Workers<Ticker<P, R>, R>,
+    stop: Arc<AtomicBool, Global>,
+    clock: Option<Clock<P>>,
+    ticking: Option<Busy<Ticker<P, R>, R>>,
+    // The senders of the peers that were not dialled yet, the next one's last.
+    spare: Vec<Sender<Kind>>,
+    reading: Vec<Busy<Reader<D::Read, R>, R>>,
+    // The sources of the readers that were joined, and the pulse.
+    done: Vec<Joined<D::Read, R>>,
+    rested: Option<Rested<P, R>>,
+    // Whether they were joined. From the call of `finish` on nothing that comes is a delivery.
+    joined: bool,
+    // By the number of the peer; none where the dial failed.
+    writers: Vec<Option<D::Write>>,
+    queue: Queue<Kind>,
+    // Of which peers the last entry has come; at place 0 that of the ticker.
+    gone: [bool; 9],
+    // How many dials found no thread, or came too late, and how many sends found no writer.
+    missed: u64,
+    book: Book,
+    ghost waiting: { ForSome clock (λ c. (sends_on c.sender.line ≡ sends_on queue.line) × ((view c.sender.seat).sent ≡ []) × (c.sender.number ≡ 0)) },
+    ghost ticks: { ForSome ticking (λ b. (sends_on b.sender.line ≡ sends_on queue.line) × (b.sender.number ≡ 0)) },
+    ghost spares: { Down queue spare.items },
+    ghost numbers: { vec_len spare + book.dials ≡ 8 },
+    ghost one: { All (λ b. (sends_on b.sender.line ≡ sends_on queue.line) × (0 < b.sender.number)) reading.items },
+    ghost room: { vec_len reading ≤ vec_capacity done },
+    ghost places: { vec_len writers ≡ book.dials + 1 },
+    ghost holds: { 9 ≤ vec_capacity writers },
+    ghost heard: { Heard gone (view queue.seat).got },
+    ghost gives: { LogGives (told_of book) (view queue.seat).got },
+    ghost within: { book.taken ≤ length (given_of (view queue.seat).got) },
+    ghost counts: { book.finished ≡ false → book.taken ≡ length (given_of (view queue.seat).got) },
+    ghost undone: { joined ≡ false → done.items ≡ [] },
+    ghost unrested: { joined ≡ false → rested ≡ None },
+    ghost stopped: { joined ≡ true → book.finished ≡ true },
+    ghost over: { joined ≡ true → HaveEnded (connected writers.items) (view queue.seat).got },
+    ghost fronts: { Fronts (view queue.seat).got done.items },
+    ghost beats: { ForSome rested (λ r. IsFront (of 0 (view queue.seat).got) r.sent) },
+    ghost unshut: { book.finished ≡ false → AreOpen D.Write.was_shut book.closed writers.items },
+    ghost reading_are: { joined ≡ false → numbers_of reading.items ≡ numbers_from 0 (connected writers.items) },
+    ghost done_are: { joined ≡ true → read_numbers done.items ≡ numbers_from 0 (connected writers.items) },
+}
+
+// A sender for each peer, that of the first last.
+fn peer_senders(alloc: Global, queue: &mut Queue<Kind>) -> Result<Vec<Sender<Kind>>, AllocError>
+    requires { queue.old.made ≡ 1 }
+    ensures ring { sends_on queue.new.line ≡ sends_on queue.old.line }
+    ensures got { (view queue.new.seat).got ≡ (view queue.old.seat).got }
+    ensures len { IfOk result (λ v. vec_len v ≡ 8) }
+    ensures each { IfOk result (λ v. Down queue.new v.items) }
+{
+    let mut up = Vec::with_capacity(alloc, 8)?;
+    let mut down = Vec::with_capacity(alloc, 8)?;
+    for _ in 0..8u32 {
+        up.push_reserved(queue.sender()?);
+    }
+    while let Some(sender) = up.pop() {
+        down.push_reserved(sender);
+    }
+    Ok(down)
+}
+
+impl<D: Dialer, P: Pulse, R: Wait + Threads + Copy + Drop> Hub<D, P, R> {
+    /// A hub that has dialled nobody. `readers` and `tickers` are the threads that wait for its tasks.
+    pub fn new(
+        rt: R,
+        alloc: Global,
+        dialer: D,
+        readers: Workers<Reader<D::Read, R>, R>,
+        tickers: Workers<Ticker<P, R>, R>,
+        pulse: P,
+    ) -> Result<Self, NoMemory>
+        ensures told { IfOk result (λ h. IsTold [] (told_of h.book)) }
+        ensures finished { IfOk result (λ h. (told_of h.book).finished ≡ false) }
+        ensures keeps { IfOk result (λ h. keeps_of h.book ≡ false) }
+        ensures dialer { IfOk result (λ h. h.dialer ≡ dialer) }
+        ensures missed { IfOk result (λ h. h.missed ≡ 0) }
+        ensures threads { IfOk result (λ h. (h.readers ≡ readers) × (h.tickers ≡ tickers)) }
+    {
+        let mut writers = Vec::with_capacity(alloc, 9)?;
+        writers.push_reserved(None);
+        let stop = Arc::new(alloc, AtomicBool::new(false))?;
+        let theirs = Arc::try_clone(&stop)?;
+        let mut queue = Queue::new(alloc, 64)?;
+        let sender = queue.sender()?;
+        let spare = peer_senders(alloc, &mut queue)?;
+        Ok(Hub {
+            rt,
+            alloc,
+            dialer,
+            readers,
+            tickers,
+            stop,
+            clock: Some(Clock {
+                pulse,
+                sender,
+                stop: theirs,
+            }),
+            ticking: None,
+            spare,
+            reading: Vec::new(alloc),
+            done: Vec::new(alloc),
+            rested: None,
+            joined: false,
+            writers,
+            queue,
+            gone: [false; 9],
+            missed: 0,
+            book: Book::new(alloc)?,
+        })
+    }
+
+    /// What opens the connections.
+    pub fn dialer(&self) -> &D
+        ensures { result.now ≡ self.now.dialer }
+    {
+        &self.dialer
+    }
+
+    /// Whether the hub is finished, and all that it started was joined.
+    pub fn is_joined(&self) -> bool
+        ensures { result ≡ self.now.joined }
+    {
+        self.joined
+    }
+
+    /// Looks at all that was joined. What `next` gave is the first of what was received, as many as were taken: all of
+    /// it until the hub is finished. Once it is, each peer whose dial went well has its place here, and a last entry
+    /// of it was received. What was given shows of each of them what its source held, and of the pulse what it answered.
+    pub fn account(&self)
+        ensures log { ForSome (told_of self.now.book).log (λ log. deliveries log ≡ take self.now.book.taken (given_of (view self.now.queue.seat).got)) }
+        ensures peers { self.now.joined ≡ true → read_numbers self.now.done.items ≡ numbers_from 0 (connected self.now.writers.items) }
+        ensures ended { self.now.joined ≡ true → HaveEnded (connected self.now.writers.items) (view self.now.queue.seat).got }
+        ensures sources { All (Shows D.Read.left D.Read.faults D.Read.ended (take self.now.book.taken (given_of (view self.now.queue.seat).got))) self.now.done.items }
+        ensures ticks { ForSome self.now.rested (ShowsTicks P.answers (take self.now.book.taken (given_of (view self.now.queue.seat).got))) }
+    {
+        each_reads(&self.done);
+        it_ticks(&self.rested);
+    }
+
+    // Hands the pulse over to a thread, unless that was done. False where none takes it.
+    fn starts_ticker(&mut self) -> bool
+        ensures book { self.new.book ≡ self.old.book }
+        ensures seat { view self.new.queue.seat ≡ view self.old.queue.seat }
+        ensures dialer { self.new.dialer ≡ self.old.dialer }
+        ensures missed { self.new.missed ≡ self.old.missed }
+        ensures reading { self.new.reading ≡ self.old.reading }
+        ensures done { self.new.done ≡ self.old.done }
+        ensures rested { self.new.rested ≡ self.old.rested }
+        ensures joined { self.new.joined ≡ self.old.joined }
+        ensures writers { self.new.writers ≡ self.old.writers }
+        ensures readers { self.new.readers ≡ self.old.readers }
+        ensures tickers { HandsOver result self.old.clock self.new.clock self.old.tickers self.new.tickers }
+    {
+        let Some(
+            Clock {
+                pulse,
+                sender,
+                stop,
+            },
+        ) = self.clock.take()
+        else {
+            return true;
+        };
+        let ticker = Ticker {
+            rt: self.rt,
+            pulse,
+            sender,
+            stop,
+        };
+        match self.tickers.give(ticker) {
+            Ok(busy) => {
+                self.ticking = Some(busy);
+                true
+            }
+            Err(
+                Ticker {
+                    pulse,
+                    sender,
+                    stop,
+                    ..
+                },
+            ) => {
+                self.clock = Some(Clock {
+                    pulse,
+                    sender,
+                    stop,
+                });
+                false
+            }
+        }
+    }
+
+    // One more that came too late, or found no thread.
+    fn misses(&mut self)
+        ensures book { self.new.book ≡ self.old.book }
+        ensures seat { view self.new.queue.seat ≡ view self.old.queue.seat }
+        ensures dialer { self.new.dialer ≡ self.old.dialer }
+        ensures reading { self.new.reading ≡ self.old.reading }
+        ensures done { self.new.done ≡ self.old.done }
+        ensures rested { self.new.rested ≡ self.old.rested }
+        ensures joined { self.new.joined ≡ self.old.joined }
+        ensures writers { self.new.writers ≡ self.old.writers }
+        ensures threads { (self.new.readers ≡ self.old.readers) × (self.new.tickers ≡ self.old.tickers) × (self.new.clock ≡ self.old.clock) }
+        ensures missed { HasRisen self.old.missed self.new.missed }
+        ensures later { self.old.missed ≤ self.new.missed }
+    {
+        self.missed = self.missed.saturating_add(1);
+    }
+
+    // The next number is passed over: its sender is given back.
+    fn skip(&mut self, p: PeerNo, name: Name)
+        requires ready { IsReady self.old.book }
+        requires few { self.old.book.dials < 8 }
+        requires next { p.0 ≡ self.old.book.dials + 1 }
+        ensures told { told_of self.new.book ≡ tell (NotDialled p name) (told_of self.old.book) }
+        ensures keeps { keeps_of self.new.book ≡ keeps_of self.old.book }
+        ensures writers { self.new.writers.items ≡ self.old.writers.items ++ None ∷ [] }
+        ensures dialer { self.new.dialer ≡ self.old.dialer }
+        ensures missed { self.new.missed ≡ self.old.missed }
+        ensures threads { (self.new.readers ≡ self.old.readers) × (self.new.tickers ≡ self.old.tickers) × (self.new.clock ≡ self.old.clock) }
+    {
+        let sender = self.spare.pop().unwrap();
+        self.queue.take(sender);
+        self.writers.push_reserved(None);
+        self.book.note_not_dialled(p, name);
+    }
+
+    // The next number is passed over, for a cause of the hub's own.
+    fn turn_down(&mut self, p: PeerNo, name: Name)
+        requires ready { IsReady self.old.book }
+        requires few { self.old.book.dials < 8 }
+        requires next { p.0 ≡ self.old.book.dials + 1 }
+        ensures told { told_of self.new.book ≡ tell (NotDialled p name) (told_of self.old.book) }
+        ensures keeps { keeps_of self.new.book ≡ keeps_of self.old.book }
+        ensures writers { self.new.writers.items ≡ self.old.writers.items ++ None ∷ [] }
+        ensures dialer { self.new.dialer ≡ self.old.dialer }
+        ensures threads { (self.new.readers ≡ self.old.readers) × (self.new.tickers ≡ self.old.tickers) × (self.new.clock ≡ self.old.clock) }
+        ensures missed { HasRisen self.old.missed self.new.missed }
+        ensures later { self.old.missed ≤ self.new.missed }
+    {
+        self.misses();
+        self.skip(p, name);
+    }
+
+    // Hands a new connection's source over to a thread. The writer is kept.
+    fn begin(
+        &mut self,
+        p: PeerNo,
+        name: Name,
+        source: D::Read,
+        writer: D::Write,
+    ) -> Result<PeerNo, Failed>
+        requires ready { IsReady self.old.book }
+        requires few { self.old.book.dials < 8 }
+        requires next { p.0 ≡ self.old.book.dials + 1 }
+        requires more { vec_len self.old.reading < vec_capacity self.old.reading }
+        requires later { vec_len self.old.reading < vec_capacity self.old.done }
+        requires begins { self.old.joined ≡ false }
+        requires new { D.Write.was_shut writer ≡ false }
+        ensures dialled { IfOk result (λ q. (q ≡ p) × (told_of self.new.book ≡ tell (Dialled p name) (told_of self.old.book))) }
+        ensures not_dialled { OnErr result (told_of self.new.book ≡ tell (NotDialled p name) (told_of self.old.book)) }
+        ensures keeps { keeps_of self.new.book ≡ keeps_of self.old.book }
+        ensures ok { OnOk result ((self.new.missed ≡ self.old.missed) × (self.new.writers.items ≡ self.old.writers.items ++ Some writer ∷ []) × HasGiven self.old.readers self.new.readers) }
+        ensures err { OnErr result (HasRisen self.old.missed self.new.missed × (self.old.missed ≤ self.new.missed) × (self.new.writers.items ≡ self.old.writers.items ++ None ∷ []) × HasFailed self.old.readers self.new.readers) }
+        ensures dialer { self.new.dialer ≡ self.old.dialer }
+        ensures tickers { (self.new.tickers ≡ self.old.tickers) × (self.new.clock ≡ self.old.clock) }
+    {
+        let sender = self.spare.pop().unwrap();
+        let reader = Reader {
+            rt: self.rt,
+            source,
+            sender,
+        };
+        match self.readers.give(reader) {
+            Ok(busy) => {
+                self.reading.push_reserved(busy);
+                self.writers.push_reserved(Some(writer));
+                self.book.note_dialled(p, name);
+                Ok(p)
+            }
+            Err(Reader { sender, .. }) => {
+                self.queue.take(sender);
+                self.missed = self.missed.saturating_add(1);
+                self.writers.push_reserved(None);
+                self.book.note_not_dialled(p, name);
+                Err(Failed)
+            }
+        }
+    }
+
+    // Writes bytes to a peer.
+    fn put_out(&mut self, p: PeerNo, bytes: &[u8]) -> Result<(), Failed>
+        ensures book { self.new.book ≡ self.old.book }
+        ensures dialer { self.new.dialer ≡ self.old.dialer }
+        ensures joined { self.new.joined ≡ self.old.joined }
+        ensures seat { view self.new.queue.seat ≡ view self.old.queue.seat }
+        ensures threads { (self.new.readers ≡ self.old.readers) × (self.new.tickers ≡ self.old.tickers) × (self.new.clock ≡ self.old.clock) }
+        ensures missed { slice_index_or (connected self.old.writers.items) p.0 false ≡ true → self.new.missed ≡ self.old.missed }
+        ensures ok { OnOk result ((self.new.missed ≡ self.old.missed) × Adds D.Write.written D.Write.was_shut p.0 bytes.now self.old.writers.items self.new.writers.items) }
+        ensures err { OnErr result ((self.new.writers.items ≡ self.old.writers.items) ⊎ ((n : ℕ) × (n ≤ length bytes.now) × Adds D.Write.written D.Write.was_shut p.0 (take n bytes.now) self.old.writers.items self.new.writers.items)) }
+        ensures later { self.old.missed + faults_in D.Write.faults self.old.writers.items ≤ self.new.missed + faults_in D.Write.faults self.new.writers.items }
+        ensures cause { OnErr result (HasRisen (self.old.missed + faults_in D.Write.faults self.old.writers.items) (self.new.missed + faults_in D.Write.faults self.new.writers.items)) }
+    {
+        if let Some(answer) = put_to(&mut self.writers, p, bytes) {
+            return answer;
+        }
+        self.missed = self.missed.saturating_add(1);
+        Err(Failed)
+    }
+
+    // Shuts the connection to a peer that was noted as closed; once the hub is finished, to any.
+    fn shut(&mut self, p: PeerNo)
+        requires { self.old.book.finished ≡ false → slice_index_or self.old.book.closed p.0 false ≡ true }
+        ensures book { self.new.book ≡ self.old.book }
+        ensures dialer { self.new.dialer ≡ self.old.dialer }
+        ensures missed { self.new.missed ≡ self.old.missed }
+        ensures reading { self.new.reading ≡ self.old.reading }
+        ensures done { self.new.done ≡ self.old.done }
+        ensures rested { self.new.rested ≡ self.old.rested }
+        ensures joined { self.new.joined ≡ self.old.joined }
+        ensures seat { view self.new.queue.seat ≡ view self.old.queue.seat }
+        ensures shut { Shuts D.Write.written D.Write.was_shut p.0 self.old.writers.items self.new.writers.items }
+        ensures threads { (self.new.readers ≡ self.old.readers) × (self.new.tickers ≡ self.old.tickers) × (self.new.clock ≡ self.old.clock) }
+        ensures written { texts D.Write.written self.new.writers.items ≡ texts D.Write.written self.old.writers.items }
+        ensures faults { faults_in D.Write.faults self.new.writers.items ≡ faults_in D.Write.faults self.old.writers.items }
+    {
+        shut_at(&mut self.writers, p);
+    }
+
+    // Shuts each connection.
+    fn shut_all(&mut self)
+        requires { self.old.book.finished ≡ true }
+        ensures written { texts D.Write.written self.new.writers.items ≡ texts D.Write.written self.old.writers.items }
+        ensures book { self.new.book ≡ self.old.book }
+        ensures dialer { self.new.dialer ≡ self.old.dialer }
+        ensures missed { self.new.missed ≡ self.old.missed }
+        ensures reading { self.new.reading ≡ self.old.reading }
+        ensures done { self.new.done ≡ self.old.done }
+        ensures rested { self.new.rested ≡ self.old.rested }
+        ensures joined { self.new.joined ≡ self.old.joined }
+        ensures faults { faults_in D.Write.faults self.new.writers.items ≡ faults_in D.Write.faults self.old.writers.items }
+    {
+        for p in 0..9u32 {
+            self.shut(PeerNo(p));
+        }
+    }
+
+    // Takes the next entry, which is no delivery any more.
+    fn pass_one(&mut self)
+        requires finished { self.old.book.finished ≡ true }
+        requires joined { self.old.joined ≡ false }
+        ensures book { self.new.book ≡ self.old.book }
+        ensures dialer { self.new.dialer ≡ self.old.dialer }
+        ensures missed { self.new.missed ≡ self.old.missed }
+        ensures reading { self.new.reading ≡ self.old.reading }
+        ensures done { self.new.done ≡ self.old.done }
+        ensures rested { self.new.rested ≡ self.old.rested }
+        ensures joined { self.new.joined ≡ self.old.joined }
+        ensures writers { self.new.writers ≡ self.old.writers }
+        ensures threads { (self.new.readers ≡ self.old.readers) × (self.new.tickers ≡ self.old.tickers) × (self.new.clock ≡ self.old.clock) }
+    {
+        let _passed = receive(&self.rt, &mut self.queue, &mut self.gone);
+    }
+
+    // Receives until each last entry has come.
+    fn drain(&mut self)
+        requires finished { self.old.book.finished ≡ true }
+        ensures book { self.new.book ≡ self.old.book }
+        ensures dialer { self.new.dialer ≡ self.old.dialer }
+        ensures missed { self.new.missed ≡ self.old.missed }
+        ensures reading { self.new.reading ≡ self.old.reading }
+        ensures done { self.new.done ≡ self.old.done }
+        ensures rested { self.new.rested ≡ self.old.rested }
+        ensures joined { self.new.joined ≡ self.old.joined }
+        ensures writers { self.new.writers ≡ self.old.writers }
+        ensures threads { (self.new.readers ≡ self.old.readers) × (self.new.tickers ≡ self.old.tickers) × (self.new.clock ≡ self.old.clock) }
+        ensures ended { HaveEnded (connected self.new.writers.items) (view self.new.queue.seat).got }
+    {
+        if self.joined {
+            return;
+        }
+        let rt = self.rt;
+        for _ in rt.forever() {
+            if is_over(&self.writers, &self.gone) {
+                if self.ticking.is_none() || self.gone[0] {
+                    return;
+                }
+            }
+            self.pass_one();
+        }
+        unreachable!()
+    }
+
+    // Waits for the ticker and each reader, and takes their senders in. The threads that wait for a task end.
+    fn join_all(&mut self)
+        requires finished { self.old.book.finished ≡ true }
+        requires joined { self.old.joined ≡ false }
+        requires ended { HaveEnded (connected self.old.writers.items) (view self.old.queue.seat).got }
+        ensures book { self.new.book ≡ self.old.book }
+        ensures dialer { self.new.dialer ≡ self.old.dialer }
+        ensures missed { self.new.missed ≡ self.old.missed }
+        ensures writers { self.new.writers ≡ self.old.writers }
+        ensures joined { self.new.joined ≡ true }
+        ensures whose { map whose self.new.done.items ≡ map begun self.old.reading.items }
+    {
+        let rt = self.rt;
+        let held = mem::replace(&mut self.reading, Vec::new(self.alloc));
+        let ticking = self.ticking.take();
+        self.rested = join_ticker(&rt, &mut self.queue, ticking);
+        join_readers(&rt, &mut self.queue, held, &mut self.done);
+        self.readers.close(&rt);
+        self.tickers.close(&rt);
+        self.joined = true;
+    }
+
+    // Takes the next entry. Where it is a delivery, it is noted and given.
+    fn take_one(&mut self) -> Result<Option<Delivery>, NoMemory>
+        requires ready { IsReady self.old.book }
+        requires running { self.old.book.finished ≡ false }
+        ensures dialer { self.new.dialer ≡ self.old.dialer }
+        ensures missed { self.new.missed ≡ self.old.missed }
+        ensures writers { self.new.writers ≡ self.old.writers }
+        ensures threads { (self.new.readers ≡ self.old.readers) × (self.new.tickers ≡ self.old.tickers) × (self.new.clock ≡ self.old.clock) }
+        ensures some { IfOk result (λ o. IfSome o (λ d. (told_of self.new.book ≡ tell (Took d) (told_of self.old.book)) × (given_of (view self.new.queue.seat).got ≡ given_of (view self.old.queue.seat).got ++ d ∷ []))) }
+        ensures none { IfOk result (λ o. IfNone o ((self.new.book ≡ self.old.book) × (given_of (view self.new.queue.seat).got ≡ given_of (view self.old.queue.seat).got))) }
+        ensures err { OnErr result (self.new.book ≡ self.old.book) }
+        ensures keeps { keeps_of self.new.book ≡ keeps_of self.old.book }
+        ensures real { IfOk result (λ o. IfSome o (λ d. d ≢ Delivery.Ended)) }
+        ensures proper { IfOk result (λ o. IfSome o (λ d. IsProper d)) }
+    {
+        let bytes = Vec::with_capacity(self.alloc, CHUNK)?;
+        let room = self.book.copy_room(self.alloc, CHUNK)?;
+        let Entry { from, kind } = receive(&self.rt, &mut self.queue, &mut self.gone);
+        let p = PeerNo(u32::from(from));
+        match kind {
+            Kind::Got(chunk) => {
+                if from == 0 {
+                    return Ok(None);
+                }
+                self.book.note_got(p, chunk.bytes(), room);
+                Ok(Some(Delivery::Got(p, filled(bytes, chunk.bytes()))))
+            }
+            Kind::Tick(seconds) => {
+                if from > 0 {
+                    return Ok(None);
+                }
+                let seconds = seconds.get();
+                self.book.note_tick(seconds);
+                Ok(Some(Delivery::Tick(seconds)))
+            }
+            Kind::Last => {
+                if from == 0 {
+                    return Ok(None);
+                }
+                self.book.note_gone(p);
+                Ok(Some(Delivery::Gone(p)))
+            }
+        }
+    }
+}
+
+// Threads that wait for readers.
+fn reader_threads<
+    S: Source + Drop + Send + 'static,
+    R: Wait + Drop + Copy + Send + 'static,
+    K: Spawner,
+>(
+    rt: R,
+    alloc: Global,
+    spawner: &mut K,
+    count: usize,
+) -> Result<Workers<Reader<S, R>, R>, AllocError>
+    ensures cause { IfOk result (λ w. ((w.count ≡ count) × (K.refusals spawner.new ≡ K.refusals spawner.old)) ⊎ HasRisen (K.refusals spawner.old) (K.refusals spawner.new)) }
+    ensures fresh { IfOk result (λ w. w.returned ≡ 0) }
+{
+    Workers::new(rt, alloc, spawner, count)
+}
+
+// A thread that waits for a ticker.
+fn ticker_thread<P: Pulse + Send + 'static, R: Wait + Drop + Copy + Send + 'static, K: Spawner>(
+    rt: R,
+    alloc: Global,
+    spawner: &mut K,
+) -> Result<Workers<Ticker<P, R>, R>, AllocError>
+    ensures cause { IfOk result (λ w. ((w.count ≡ 1) × (K.refusals spawner.new ≡ K.refusals spawner.old)) ⊎ HasRisen (K.refusals spawner.old) (K.refusals spawner.new)) }
+    ensures fresh { IfOk result (λ w. w.returned ≡ 0) }
+{
+    Workers::new(rt, alloc, spawner, 1)
+}
+
+impl<D: Dialer, P: Pulse + Send + 'static, R: Wait + Threads + Copy + Drop + Send + 'static> Hub<
+    D,
+    P,
+    R,
+>
+where
+    D::Read: Send + 'static,
+{
+    /// A hub that has dialled nobody, with threads for so many peers and for its ticker. Where a start is refused, a dial will
+    /// fail.
+    pub fn started<K: Spawner>(
+        rt: R,
+        alloc: Global,
+        dialer: D,
+        pulse: P,
+        spawner: &mut K,
+        peers: usize,
+    ) -> Result<Self, NoMemory>
+        ensures told { IfOk result (λ h. IsTold [] (told_of h.book)) }
+        ensures finished { IfOk result (λ h. (told_of h.book).finished ≡ false) }
+        ensures keeps { IfOk result (λ h. keeps_of h.book ≡ false) }
+        ensures dialer { IfOk result (λ h. h.dialer ≡ dialer) }
+        ensures missed { IfOk result (λ h. h.missed ≡ 0) }
+        ensures threads { IfOk result (λ h. ((h.readers.count ≡ peers) × (h.tickers.count ≡ 1)) ⊎ HasRisen (K.refusals spawner.old) (K.refusals spawner.new)) }
+        ensures fresh { IfOk result (λ h. (h.readers.returned ≡ 0) × (h.tickers.returned ≡ 0)) }
+    {
+        let readers = reader_threads(rt, alloc, spawner, peers)?;
+        let tickers = ticker_thread(rt, alloc, spawner)?;
+        Hub::new(rt, alloc, dialer, readers, tickers, pulse)
+    }
+}
+
+// Takes the next entry, and notes whose last it is.
+fn receive<R: Wait>(rt: &R, queue: &mut Queue<Kind>, gone: &mut [bool; 9]) -> Entry<Kind>
+    ensures ring { sends_on queue.new.line ≡ sends_on queue.old.line }
+    ensures got { (view queue.new.seat).got ≡ (view queue.old.seat).got ++ entry result.from result.kind ∷ [] }
+    ensures heard { Heard gone.old (view queue.old.seat).got → Heard gone.new (view queue.new.seat).got }
+{
+    let entry = queue.next(rt);
+    note_last(gone, &entry);
+    entry
+}
+
+// Notes a last entry.
+fn note_last(gone: &mut [bool; 9], entry: &Entry<Kind>)
+    ensures last { is_last entry.now.kind ≡ true → gone.new ≡ slice_set gone.old entry.now.from true }
+    ensures other { is_last entry.now.kind ≡ false → gone.new ≡ gone.old }
+{
+    match &entry.kind {
+        Kind::Last => {
+            if entry.from < 9 {
+                gone[entry.from as usize] = true;
+            }
+        }
+        Kind::Got(_) | Kind::Tick(_) => {}
+    }
+}
+
+// Whether a peer has a writer.
+#[tactic(auto, using(crate::proofs::Opened::there_at, crate::proofs::Opened::none_at))]
+fn is_connected<W>(writers: &[Option<W>], p: usize) -> bool
+    ensures { result ≡ slice_index_or (connected writers.now) p false }
+{
+    match writers.get(p) {
+        Some(Some(_)) => true,
+        Some(None) | None => false,
+    }
+}
+
+// Whether the last entry of a peer was noted.
+fn is_noted(gone: &[bool; 9], p: usize) -> bool
+    ensures { result ≡ slice_index_or gone.now p false }
+{
+    p < gone.len() && gone[p]
+}
+
+// Whether a peer has a writer, and its last entry was not noted.
+fn is_left<W>(writers: &[Option<W>], gone: &[bool; 9], p: usize) -> bool
+    ensures { result ≡ false → slice_index_or (connected writers.now) p false ≡ true → slice_index_or gone.now p false ≡ true }
+{
+    is_connected(writers, p) && !is_noted(gone, p)
+}
+
+// Whether the last entry of each peer that has a writer was noted.
+fn is_over<W>(writers: &[Option<W>], gone: &[bool; 9]) -> bool
+    ensures { result ≡ true → AllGone writers.now gone.now }
+{
+    for p in 0..writers.len() {
+        if is_left(writers, gone, p) {
+            return false;
+        }
+    }
+    true
+}
+
+impl<D: Dialer, P: Pulse, R: Wait + Threads + Copy + Drop> Wires for Hub<D, P, R> {
+    ghost told = { λ h. told_of h.book };
+
+    ghost faults = { λ h. D.faults h.dialer + (h.missed + faults_in D.Write.faults h.writers.items) };
+
+    ghost script = { λ h. no_script };
+
+    ghost keeps = { λ h. keeps_of h.book };
+
+    fn keep_log(&mut self)
+        requires { IsTold [] (told_of self.old.book) }
+        ensures told { IsTold [] (told_of self.new.book) }
+        ensures log { IsSome (told_of self.new.book).log }
+        ensures finished { (told_of self.new.book).finished ≡ (told_of self.old.book).finished }
+        ensures keeps { keeps_of self.new.book ≡ true }
+        ensures later { D.faults self.old.dialer + (self.old.missed + faults_in D.Write.faults self.old.writers.items) ≤ D.faults self.new.dialer + (self.new.missed + faults_in D.Write.faults self.new.writers.items) }
+        ensures same { no_script ≡ no_script }
+        ensures writers { self.new.writers ≡ self.old.writers }
+        ensures own { (self.new.missed ≡ self.old.missed) × (self.new.dialer ≡ self.old.dialer) }
+        ensures threads { (self.new.readers ≡ self.old.readers) × (self.new.tickers ≡ self.old.tickers) × (self.new.clock ≡ self.old.clock) }
+    {
+        self.book.keep();
+    }
+
+    fn dial(&mut self, name: &str) -> Result<PeerNo, WireFail>
+        requires { (told_of self.old.book).tally.dials < 8 }
+        ensures dialled { IfOk result (λ p. (p.0 ≡ (told_of self.old.book).tally.dials + 1) × (told_of self.new.book ≡ tell (Dialled p name.now) (told_of self.old.book))) }
+        ensures not_dialled { IsErrOf result WireFail.Failed → told_of self.new.book ≡ tell (NotDialled (record { 0 = (told_of self.old.book).tally.dials + 1 }) name.now) (told_of self.old.book) }
+        ensures no_memory { IsErrOf result WireFail.NoMemory → told_of self.new.book ≡ told_of self.old.book }
+        ensures cause { HasCause (D.faults self.old.dialer + (self.old.missed + faults_in D.Write.faults self.old.writers.items)) (D.faults self.new.dialer + (self.new.missed + faults_in D.Write.faults self.new.writers.items)) result }
+        ensures keeps { keeps_of self.new.book ≡ keeps_of self.old.book }
+        ensures same { no_script ≡ no_script }
+        ensures writers { Opens D.Write.was_shut result self.old.writers.items self.new.writers.items }
+        ensures missed { (self.new.missed ≡ self.old.missed) ⊎ MayMiss self.old.book.finished self.old.readers self.new.readers self.new.clock self.old.tickers self.new.tickers }
+        ensures readers { Takes result self.old.readers self.new.readers }
+        ensures tickers { MayHandOver self.old.clock self.new.clock self.old.tickers self.new.tickers }
+    {
+        let kept = Name::from_text(self.alloc, name)?;
+        self.book.make_room()?;
+        self.reading.reserve(1)?;
+        self.done.reserve(self.reading.len() + 1)?;
+        let p = PeerNo(self.book.dials() + 1);
+        if self.book.is_finished() {
+            self.turn_down(p, kept);
+            return Err(WireFail::Failed);
+        }
+        if !self.starts_ticker() {
+            self.turn_down(p, kept);
+            return Err(WireFail::Failed);
+        }
+        match self.dialer.dial(name) {
+            Ok((source, writer)) => match self.begin(p, kept, source, writer) {
+                Ok(p) => Ok(p),
+                Err(_) => Err(WireFail::Failed),
+            },
+            Err(_) => {
+                self.skip(p, kept);
+                Err(WireFail::Failed)
+            }
+        }
+    }
+
+    fn send(&mut self, p: PeerNo, bytes: &[u8]) -> Result<(), WireFail>
+        ensures sent { OnOk result (told_of self.new.book ≡ tell (Sent p bytes.now) (told_of self.old.book)) }
+        ensures not_sent { IsErrOf result WireFail.Failed → told_of self.new.book ≡ tell (SendFailed p) (told_of self.old.book) }
+        ensures no_memory { IsErrOf result WireFail.NoMemory → told_of self.new.book ≡ told_of self.old.book }
+        ensures cause { HasCause (D.faults self.old.dialer + (self.old.missed + faults_in D.Write.faults self.old.writers.items)) (D.faults self.new.dialer + (self.new.missed + faults_in D.Write.faults self.new.writers.items)) result }
+        ensures keeps { keeps_of self.new.book ≡ keeps_of self.old.book }
+        ensures same { no_script ≡ no_script }
+        ensures writes { Sends D.Write.written D.Write.was_shut result p.0 bytes.now self.old.writers.items self.new.writers.items }
+        ensures missed { slice_index_or (connected self.old.writers.items) p.0 false ≡ true → self.new.missed ≡ self.old.missed }
+        ensures dialer { self.new.dialer ≡ self.old.dialer }
+        ensures threads { (self.new.readers ≡ self.old.readers) × (self.new.tickers ≡ self.old.tickers) × (self.new.clock ≡ self.old.clock) }
+    {
+        self.book.make_room()?;
+        let room = self.book.copy_room(self.alloc, bytes.len())?;
+        match self.put_out(p, bytes) {
+            Ok(()) => {
+                self.book.note_sent(p, bytes, room);
+                Ok(())
+            }
+            Err(_) => {
+                self.book.note_failed(p);
+                Err(WireFail::Failed)
+            }
+        }
+    }
+
+    fn close(&mut self, p: PeerNo)
+        requires dialled { p.0 ≤ 8 }
+        requires once { was_closed (told_of self.old.book).tally p.0 ≡ false }
+        ensures closed { told_of self.new.book ≡ tell (Closed p) (told_of self.old.book) }
+        ensures later { D.faults self.old.dialer + (self.old.missed + faults_in D.Write.faults self.old.writers.items) ≤ D.faults self.new.dialer + (self.new.missed + faults_in D.Write.faults self.new.writers.items) }
+        ensures keeps { keeps_of self.new.book ≡ keeps_of self.old.book }
+        ensures same { no_script ≡ no_script }
+        ensures shuts { Shuts D.Write.written D.Write.was_shut p.0 self.old.writers.items self.new.writers.items }
+        ensures own { (self.new.missed ≡ self.old.missed) × (self.new.dialer ≡ self.old.dialer) }
+        ensures threads { (self.new.readers ≡ self.old.readers) × (self.new.tickers ≡ self.old.tickers) × (self.new.clock ≡ self.old.clock) }
+    {
+        self.book.note_closed(p);
+        self.shut(p);
+    }
+
+    fn next(&mut self) -> Result<Delivery, NoMemory>
+        ensures took { IfOk result (λ d. told_of self.new.book ≡ tell (Took d) (told_of self.old.book)) }
+        ensures err { OnErr result (told_of self.new.book ≡ told_of self.old.book) }
+        ensures later { D.faults self.old.dialer + (self.old.missed + faults_in D.Write.faults self.old.writers.items) ≤ D.faults self.new.dialer + (self.new.missed + faults_in D.Write.faults self.new.writers.items) }
+        ensures keeps { keeps_of self.new.book ≡ keeps_of self.old.book }
+        ensures same { no_script ≡ no_script }
+        ensures ended { IfOk result (λ d. d ≡ Delivery.Ended → HaveEnded (connected self.new.writers.items) (view self.new.queue.seat).got) }
+        ensures writers { self.new.writers ≡ self.old.writers }
+        ensures proper { IfOk result (λ d. IsProper d) }
+        ensures gave { IfOk result (λ d. d ≢ Delivery.Ended → given_of (view self.new.queue.seat).got ≡ given_of (view self.old.queue.seat).got ++ d ∷ []) }
+        ensures own { (self.new.missed ≡ self.old.missed) × (self.new.dialer ≡ self.old.dialer) }
+        ensures threads { (self.new.readers ≡ self.old.readers) × (self.new.tickers ≡ self.old.tickers) × (self.new.clock ≡ self.old.clock) }
+    {
+        self.book.make_room()?;
+        if self.book.is_finished() {
+            self.drain();
+            self.book.note_end();
+            return Ok(Delivery::Ended);
+        }
+        let rt = self.rt;
+        for _ in rt.forever() {
+            if is_over(&self.writers, &self.gone) {
+                self.book.note_end();
+                return Ok(Delivery::Ended);
+            }
+            if let Some(delivery) = self.take_one()? {
+                return Ok(delivery);
+            }
+        }
+        unreachable!()
+    }
+
+    fn finish(&mut self)
+        requires { (told_of self.old.book).finished ≡ false }
+        ensures told { told_of self.new.book ≡ told_finished (told_of self.old.book) }
+        ensures later { D.faults self.old.dialer + (self.old.missed + faults_in D.Write.faults self.old.writers.items) ≤ D.faults self.new.dialer + (self.new.missed + faults_in D.Write.faults self.new.writers.items) }
+        ensures keeps { keeps_of self.new.book ≡ keeps_of self.old.book }
+        ensures same { no_script ≡ no_script }
+        ensures joined { self.new.joined ≡ true }
+        ensures whose { map whose self.new.done.items ≡ map begun self.old.reading.items }
+        ensures written { texts D.Write.written self.new.writers.items ≡ texts D.Write.written self.old.writers.items }
+        ensures own { (self.new.missed ≡ self.old.missed) × (self.new.dialer ≡ self.old.dialer) }
+    {
+        self.stop.store(true, Ordering::SeqCst);
+        self.book.note_finished();
+        self.shut_all();
+        self.drain();
+        self.join_all();
+    }
+
+    fn session(&self) -> Result<String, NoMemory> {
+        self.book.session(self.alloc)
+    }
+}

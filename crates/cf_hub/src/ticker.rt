@@ -1,0 +1,78 @@
+//! The task that waits, and sends how long.
+ghost use Rattle.std.specs.Prelude.{◌≡◌, ◌⊎◌, ◌++◌, ◌∷◌, [], true, false, MatchBool};
+ghost use Rattle.cf_bytes.specs.Outside.{with_more};
+ghost use Rattle.crossbeam_channel.specs.Claims.{view};
+ghost use Rattle.crossbeam_channel.specs.Ends.{sends_on};
+ghost use Rattle.cf_hub.specs.Ticks.{TicksOn, TicksOff, Ticked};
+
+use crate::entry::{Kind, Seconds};
+use crate::outside::Pulse;
+use cf_line::Sender;
+use cf_tasks::Task;
+use std::alloc::Global;
+use std::sync::atomic::{AtomicBool, Ordering};
+use std::sync::{Arc, Wait};
+
+/// Waits, and sends each answer of the pulse, until it is told to stop.
+#[derive(Drop)]
+pub struct Ticker<P, R> {
+    /// The handle by which it waits.
+    pub rt: R,
+    /// What waits.
+    pub pulse: P,
+    /// Where the ticks go.
+    pub sender: Sender<Kind>,
+    /// Whether it is to stop.
+    pub stop: Arc<AtomicBool, Global>,
+    pub ghost fresh: { (view sender.seat).sent ≡ [] },
+}
+
+/// A pulse that was waited for, and the sender, which lists what was sent.
+#[derive(Drop)]
+pub struct Stopped<P> {
+    /// The pulse.
+    pub pulse: P,
+    /// The sender.
+    pub sender: Sender<Kind>,
+}
+
+// Waits once, and sends the tick, or the last entry where it is to stop: then the answer is false.
+fn tick_one<P: Pulse, R: Wait>(
+    rt: &R,
+    pulse: &mut P,
+    sender: &mut Sender<Kind>,
+    stop: &Arc<AtomicBool, Global>,
+) -> bool
+    ensures ring { (sends_on sender.new.line ≡ sends_on sender.old.line) × (sender.new.number ≡ sender.old.number) }
+    ensures step { MatchBool result
+        (TicksOn P.answers sender.old.number pulse.old (view sender.old.seat).sent (view sender.new.seat).sent pulse.new)
+        (TicksOff P.answers sender.old.number pulse.old (view sender.old.seat).sent (view sender.new.seat).sent pulse.new) }
+{
+    let seconds = pulse.wait();
+    if stop.load(Ordering::SeqCst) {
+        let _ = sender.send(rt, Kind::Last);
+        return false;
+    }
+    sender.send(rt, Kind::Tick(Seconds::new(seconds))).is_ok()
+}
+
+impl<P: Pulse, R: Wait + Drop> Task for Ticker<P, R> {
+    type Out = Stopped<P>;
+
+    ghost gives = { λ t o. (sends_on o.sender.line ≡ sends_on t.sender.line) × (o.sender.number ≡ t.sender.number) × Ticked P.answers t.pulse (view o.sender.seat).sent o.pulse };
+
+    fn run(self) -> Stopped<P> {
+        let Ticker {
+            rt,
+            mut pulse,
+            mut sender,
+            stop,
+        } = self;
+        for _ in rt.forever() {
+            if !tick_one(&rt, &mut pulse, &mut sender, &stop) {
+                return Stopped { pulse, sender };
+            }
+        }
+        unreachable!()
+    }
+}
