@@ -1,0 +1,195 @@
+//! The matcher of several threads.
+ghost use Rattle.std.specs.Prelude.{◌≡◌, ◌<◌, ◌≤◌, map, IfOk, IfSome};
+ghost use Rattle.std.specs.Arc.{arc_value};
+ghost use Rattle.cf_match.specs.Verdicts.{verdict_of};
+ghost use Rattle.cf_parallel.specs.Parts.{part_of, in_parts, joined};
+
+use crate::gate::{Gate, Open};
+use crate::hand::{Hand, start};
+use crate::parts::place;
+use crate::same::are_same_scripts;
+use crate::worker::Part;
+use cf_bytes::NoMemory;
+use cf_match::{Job, Matcher, Plain, Verdict};
+use cf_scan::Watch;
+use cf_tasks::Spawner;
+use std::alloc::Global;
+use std::marker::Model;
+use std::sync::{Arc, Wait};
+use std::thread::Threads;
+
+/// A matcher that cuts each batch in so many parts, at most 64, and has them judged by threads that were started with it. A part
+/// for which there is no thread is judged by the caller's. Contracts see the number of parts. The threads end with it.
+#[derive(Drop)]
+pub struct Parallel<G: Gate, R: Wait + Threads + Drop> {
+    alloc: Global,
+    gate: Arc<G, Global>,
+    hands: Vec<Hand<G, R>>,
+    workers: usize,
+    watch: Option<Arc<Watch, Global>>,
+    plain: Plain,
+}
+
+impl<G: Gate, R: Wait + Threads + Drop> Model for Parallel<G, R> {
+    ghost use Rattle.std.specs.Prelude.{ℕ, ◌<◌, ◌≤◌, vec_len};
+
+    ghost Value = { ℕ };
+
+    ghost view = { λ p. p.workers };
+
+    ghost invariant = { λ p. (0 < p.workers) × (p.workers ≤ 64) × (vec_len p.hands ≤ p.workers) };
+}
+
+impl<R: Wait + Threads + Copy + Drop + Send + 'static> Parallel<Open, R> {
+    /// A matcher over so many threads. There are fewer only where the spawner refuses a start.
+    pub fn new<K: Spawner>(
+        rt: R,
+        alloc: Global,
+        spawner: &mut K,
+        workers: u32,
+    ) -> Result<Parallel<Open, R>, NoMemory>
+        requires some { 1 ≤ workers }
+        requires most { workers ≤ 64 }
+        ensures { IfOk result (λ p. p ≡ workers) }
+    {
+        Parallel::with_gate(rt, alloc, spawner, workers, Open)
+    }
+}
+
+impl<G: Gate + Send + Sync + 'static, R: Wait + Threads + Copy + Drop + Send + 'static> Parallel<
+    G,
+    R,
+> {
+    /// The same, with a gate that is told of each part as the work on it begins.
+    pub fn with_gate<K: Spawner>(
+        rt: R,
+        alloc: Global,
+        spawner: &mut K,
+        workers: u32,
+        gate: G,
+    ) -> Result<Parallel<G, R>, NoMemory>
+        requires some { 1 ≤ workers }
+        requires most { workers ≤ 64 }
+        ensures { IfOk result (λ p. p ≡ workers) }
+    {
+        let workers = workers as usize;
+        let gate = Arc::new(alloc, gate)?;
+        let mut hands = Vec::with_capacity(alloc, workers)?;
+        for _ in 0..workers {
+            if let Some(hand) = start(rt, alloc, spawner, &gate)? {
+                hands.push_reserved(hand);
+            }
+        }
+        Ok(Parallel {
+            alloc,
+            gate,
+            hands,
+            workers,
+            watch: None,
+            plain: Plain::new(alloc),
+        })
+    }
+}
+
+// The scripts in memory of their own.
+fn copied(alloc: Global, watch: &Watch) -> Option<Arc<Watch, Global>>
+    ensures { IfSome result (λ w. arc_value w ≡ watch.now) }
+{
+    let watch = Watch::new(alloc, watch.scripts()).ok()?;
+    Arc::new(alloc, watch).ok()
+}
+
+impl<G: Gate, R: Wait + Threads + Drop> Parallel<G, R> {
+    // The scripts for the threads: those of the batch before, where they are the same.
+    fn shared(&mut self, watch: &Watch) -> Option<Arc<Watch, Global>>
+        ensures same { self.new ≡ self.old }
+        ensures scripts { IfSome result (λ w. arc_value w ≡ watch.now) }
+    {
+        if let Some(last) = &self.watch {
+            if are_same_scripts(last.scripts(), watch.scripts()) {
+                return Arc::try_clone(last).ok();
+            }
+        }
+        let fresh = copied(self.alloc, watch)?;
+        self.watch = Arc::try_clone(&fresh).ok();
+        Some(fresh)
+    }
+
+    // Hands each part that isn't empty over, where there is a thread for it and memory.
+    fn hand_over(&mut self, jobs: &[Job], watch: &Watch)
+        ensures { self.new ≡ self.old }
+    {
+        let Some(watch) = self.shared(watch) else {
+            return;
+        };
+        for k in 0..self.hands.len() {
+            let from = place(jobs.len(), self.workers, k);
+            let to = place(jobs.len(), self.workers, k + 1);
+            if from < to {
+                if let Ok(part) = Part::new(self.alloc, k as u32 + 1, &jobs[from..to], &watch) {
+                    self.hands[k].give(part);
+                }
+            }
+        }
+    }
+
+    // The verdicts on a part: those that come of its thread, or this thread's.
+    fn collect(&mut self, jobs: &[Job], watch: &Watch, k: usize) -> Result<Vec<Verdict>, NoMemory>
+        requires { k < self.old }
+        ensures same { self.new ≡ self.old }
+        ensures verdicts { IfOk result (λ v. v.items ≡ map (verdict_of watch.now) (part_of self.old jobs.now k)) }
+    {
+        let from = place(jobs.len(), self.workers, k);
+        let to = place(jobs.len(), self.workers, k + 1);
+        let part = &jobs[from..to];
+        if let Some(hand) = self.hands.get_mut(k) {
+            if let Some(answer) = hand.answer(part, watch) {
+                return answer;
+            }
+        }
+        if part.is_empty() {
+            return Ok(Vec::new(self.alloc));
+        }
+        self.gate.enter(k as u32 + 1);
+        self.plain.run(part, watch)
+    }
+
+    /// The verdicts on each part of a batch, in order: the parts are as many as there are workers, and their lengths differ by at most one.
+    pub fn judge_in_parts(
+        &mut self,
+        jobs: &[Job],
+        watch: &Watch,
+    ) -> Result<Vec<Vec<Verdict>>, NoMemory>
+        ensures same { self.new ≡ self.old }
+        ensures parts { IfOk result (λ parts. map (λ v. v.items) parts.items ≡ map (map (verdict_of watch.now)) (in_parts self.old jobs.now)) }
+    {
+        let mut parts = Vec::with_capacity(self.alloc, self.workers)?;
+        self.hand_over(jobs, watch);
+        for k in 0..self.workers {
+            parts.push(self.collect(jobs, watch, k)?)?;
+        }
+        Ok(parts)
+    }
+}
+
+// Lists, one after another.
+fn put_together(
+    alloc: Global,
+    parts: &[Vec<Verdict>],
+    count: usize,
+) -> Result<Vec<Verdict>, NoMemory>
+    ensures { IfOk result (λ v. v.items ≡ joined (map (λ part. part.items) parts.now)) }
+{
+    let mut all = Vec::with_capacity(alloc, count)?;
+    for part in parts {
+        all.extend_from_slice(part.as_slice())?;
+    }
+    Ok(all)
+}
+
+impl<G: Gate, R: Wait + Threads + Drop> Matcher for Parallel<G, R> {
+    fn run(&mut self, jobs: &[Job], watch: &Watch) -> Result<Vec<Verdict>, NoMemory> {
+        let parts = self.judge_in_parts(jobs, watch)?;
+        put_together(self.alloc, parts.as_slice(), jobs.len())
+    }
+}
