@@ -1,14 +1,23 @@
-//! `cf_bench FILE COUNT`: builds the basic filters of the chain in a block file, matches COUNT scripts that nothing pays against each of them, and
-//! prints how many match. It is there to be measured (see `bench/`), and is no part of the program.
+//! `cf_bench FILE COUNT [WORKERS]`: builds the basic filters of the chain in a block file, matches COUNT scripts that nothing pays against each of them, and
+//! prints how many match. With WORKERS a matcher of so many threads does it, or the plain one at 0, and two lines more tell the milliseconds that matching
+//! and building took. It is there to be measured (see `bench/`), and is no part of the program.
 #![tactic(auto)]
 
 use cf_block::Script;
-use cf_bytes::{Files, Hash32, NoMemory, StdFiles};
+use cf_bytes::{Files, Hash32, Listed, NoMemory, StdFiles};
 use cf_filter::matches;
 use cf_index::{CheckedChain, Index, read_chain};
+use cf_match::{Job, Matcher, Plain, Verdict};
+use cf_parallel::Parallel;
+use cf_scan::Watch;
+use cf_tasks::InThreads;
 use std::alloc::Global;
 use std::env;
 use std::process::ExitCode;
+use std::rt::Clock;
+use std::sync::Wait;
+use std::thread::Threads;
+use std::time::Instant;
 
 // The most bytes of a block file.
 const MOST_BLOCKS: usize = 1_073_741_824;
@@ -49,38 +58,132 @@ fn count_matches(alloc: Global, index: &Index, scripts: &[Script]) -> Result<u64
     Ok(hits)
 }
 
+// All filters as one batch.
+fn jobs_of(alloc: Global, index: &Index) -> Result<Vec<Job>, NoMemory> {
+    let mut jobs = Vec::new(alloc);
+    for height in 0..=index.tip() {
+        if let (Some(block), Some(filter)) = (index.hash(height), index.filter(height)) {
+            let filter = Listed::from_vec(Vec::from_slice(alloc, filter)?);
+            jobs.push(Job { block, filter })?;
+        }
+    }
+    Ok(jobs)
+}
+
+// How many of the filters match, by a matcher.
+fn count_hits<M: Matcher>(matcher: &mut M, jobs: &[Job], watch: &Watch) -> Option<u64> {
+    let verdicts = matcher.run(jobs, watch).ok()?;
+    Some(verdicts.iter().filter(|v| **v == Verdict::Hit).count() as u64)
+}
+
+// The same by as many threads, or by the plain matcher.
+fn count_by<R: Wait + Threads + Copy + Drop + Send + 'static>(
+    rt: R,
+    alloc: Global,
+    workers: u32,
+    jobs: &[Job],
+    watch: &Watch,
+) -> Option<u64> {
+    if workers == 0 || workers > 64 {
+        return count_hits(&mut Plain::new(alloc), jobs, watch);
+    }
+    let mut spawner = InThreads::new(rt);
+    let mut matcher = Parallel::new(rt, alloc, &mut spawner, workers).ok()?;
+    count_hits(&mut matcher, jobs, watch)
+}
+
 // The chain in a file, whose bytes are let go then.
-fn load(alloc: Global, bytes: Vec<u8>) -> Option<CheckedChain> {
+fn load(rt: &HostRuntime, name: &str) -> Option<CheckedChain> {
+    let alloc = rt.alloc();
+    let bytes = StdFiles::new(rt).read(alloc, name, MOST_BLOCKS).ok()?;
     read_chain(alloc, &bytes).ok()
 }
 
-// The number of filters that match, and of all filters.
-fn measured(rt: &HostRuntime, name: &str, count: u64) -> Option<(u64, u64)> {
-    let alloc = rt.alloc();
-    let bytes = StdFiles::new(rt).read(alloc, name, MOST_BLOCKS).ok()?;
-    let index = Index::of(alloc, load(alloc, bytes)?).ok()?;
-    let scripts = scripts_of(alloc, count).ok()?;
-    let hits = count_matches(alloc, &index, &scripts).ok()?;
-    Some((hits, u64::from(index.tip()) + 1))
+// What is asked for: a file, a number of scripts, and a number of workers.
+#[derive(Drop)]
+struct Asked {
+    name: String,
+    count: u64,
+    workers: Option<u32>,
 }
 
 // The words behind the program's name.
-fn asked(rt: &HostRuntime) -> Option<(String, u64)> {
+fn words_of(rt: &HostRuntime) -> Option<Asked> {
     let mut words = env::args(rt).ok()?;
     let _program = words.next()?;
     let name = words.next()?;
     let count = words.next()?.parse::<u64>().ok()?;
-    Some((name, count))
+    let workers = match words.next() {
+        Some(word) => Some(word.parse::<u32>().ok()?),
+        None => None,
+    };
+    Some(Asked {
+        name,
+        count,
+        workers,
+    })
+}
+
+// The milliseconds since a moment.
+fn millis<R: Clock>(rt: &R, from: Instant) -> Option<u64> {
+    let passed = from.elapsed(rt).ok()?;
+    u64::try_from(passed.as_millis()).ok()
+}
+
+// The number of filters that match, of all filters.
+fn told(alloc: Global, index: &Index, count: u64) -> Option<String> {
+    let scripts = scripts_of(alloc, count).ok()?;
+    let hits = count_matches(alloc, index, &scripts).ok()?;
+    format!(in alloc; "{hits} of {}", u64::from(index.tip()) + 1).ok()
+}
+
+// The same by a matcher, and the milliseconds that it took.
+fn told_by<R: Wait + Threads + Clock + Copy + Drop + Send + 'static>(
+    rt: R,
+    alloc: Global,
+    index: &Index,
+    count: u64,
+    workers: u32,
+) -> Option<String> {
+    let scripts = scripts_of(alloc, count).ok()?;
+    let watch = Watch::new(alloc, &scripts).ok()?;
+    let jobs = jobs_of(alloc, index).ok()?;
+    let start = Instant::now(&rt).ok()?;
+    let hits = count_by(rt, alloc, workers, &jobs, &watch)?;
+    let matched = millis(&rt, start)?;
+    format!(in alloc; "{hits} of {}\n{matched}", u64::from(index.tip()) + 1).ok()
+}
+
+// What is printed.
+fn measured<R: Wait + Threads + Sync + Clock + Copy + Drop + Send + 'static>(
+    rt: R,
+    alloc: Global,
+    chain: CheckedChain,
+    asked: &Asked,
+) -> Option<String> {
+    let start = Instant::now(&rt).ok()?;
+    let index = Index::of(&rt, alloc, chain).ok()?;
+    let built = millis(&rt, start)?;
+    match asked.workers {
+        None => told(alloc, &index, asked.count),
+        Some(workers) => {
+            let text = told_by(rt, alloc, &index, asked.count, workers)?;
+            format!(in alloc; "{text}\n{built}").ok()
+        }
+    }
 }
 
 fn main(rt: HostRuntime) -> ExitCode {
-    let Some((name, count)) = asked(&rt) else {
+    let Some(asked) = words_of(&rt) else {
         return ExitCode::from(2);
     };
-    let Some((hits, all)) = measured(&rt, &name, count) else {
+    let Some(chain) = load(&rt, &asked.name) else {
         return ExitCode::from(1);
     };
-    match println!(&rt; "{hits} of {all}") {
+    let Some(text) = measured(rt, rt.alloc(), chain, &asked) else {
+        return ExitCode::from(1);
+    };
+    match println!(&rt; "{text}") {
         Ok(()) => ExitCode::SUCCESS,
         Err(_) => ExitCode::from(1),
     }

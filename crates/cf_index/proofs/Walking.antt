@@ -11,12 +11,12 @@ use Rattle.cf_block.specs.Commitment.{AreTxids}
 use Rattle.cf_block.specs.Tx.{IsBlock, txid_of}
 use Rattle.cf_block.specs.Views.{bytes_of}
 use Rattle.cf_chain.specs.Coins.{CoinMap, after_block, coins_after}
-use Rattle.cf_chain.specs.Filters.{Filtered, prevouts, filtered, filtered_on}
+use Rattle.cf_chain.specs.Filters.{Filtered, prevouts, filtered, filtered_on, filters_of}
 use Rattle.cf_chain.specs.Good.{AreGoodBlocks}
 use Rattle.cf_filter.specs.Items.{paid_scripts}
 use Rattle.cf_index.specs.declared.block_filter.BlockFilter.{BlockFilter}
 use Rattle.cf_index.specs.Checked.{hashes_of, prevouts_in}
-use Rattle.cf_index.specs.Filtering.{shown}
+use Rattle.cf_index.specs.Filtering.{shown, AreFirst}
 use Rattle.cf_index.proofs.Bounds.{block_few}
 
 -- ---- one block more
@@ -121,3 +121,12 @@ walk_on front f previous blocks i b d scripts all lt is took told same =
     let new : coins_after empty (take (i + 1) blocks) ≡ after_block coins b = ap (λ (n : ℕ). coins_after empty (take n blocks)) (add-one i) ∙ after in
     walk coins (coins_after empty (take (i + 1) blocks)) front f previous (drop i blocks) (drop (i + 1) blocks) b all (block_more blocks i b d lt is) new
     (told ∙ ap (λ (l : List (List ℕ)). filtered l previous b) took) same
+
+-- with the filter of the next block
+pub first_more : (front new : List BlockFilter) (f : BlockFilter) (previous : List ℕ) (blocks : List Block) (i next : ℕ) (b : Block) (scripts : List (List ℕ))
+    → i < length blocks → b ≡ get_or blocks i b → scripts ≡ prevouts (coins_after empty (take i blocks)) b → shown f ≡ filtered scripts previous b
+    → new ≡ front ++ f ∷ [] → next ≡ i + 1 → AreFirst blocks i previous front → AreFirst blocks next f.header.0 new
+first_more front new f previous blocks i next b scripts lt is took told put more first =
+    let P : List BlockFilter → Type 0 = AreFirst blocks next f.header.0 in
+    let Q : ℕ → Type 0 = λ n. AreFirst blocks n f.header.0 (front ++ f ∷ []) in
+    subst P (sym put) (subst Q (sym more) (walk_on front f previous blocks i b b scripts (filters_of blocks) lt is took told first))

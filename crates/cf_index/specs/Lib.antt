@@ -4,6 +4,7 @@ pub mod Files
 pub mod Checked
 pub mod Progress
 pub mod Filtering
+pub mod Bare
 pub mod ByHash
 pub mod HeightMap
 pub mod Indexed

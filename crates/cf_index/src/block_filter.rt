@@ -13,3 +13,12 @@ pub(crate) struct BlockFilter {
     pub header: Hash32,
     ghost hashed: { hash.0 ≡ filter_hash_of filter },
 }
+
+/// A block's hash, its basic filter and the filter's hash, before the filter's header is known.
+#[derive(Drop, Debug)]
+pub(crate) struct BareFilter {
+    pub block: Hash32,
+    pub filter: Listed<u8>,
+    pub hash: Hash32,
+    ghost hashed: { hash.0 ≡ filter_hash_of filter },
+}

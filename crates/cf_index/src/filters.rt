@@ -1,42 +1,62 @@
 //! The basic filters of a chain's blocks.
-ghost use Rattle.std.specs.FinMap.{empty};
-ghost use Rattle.std.specs.Prelude.{◌≡◌, ◌≤◌, ◌+◌, [], map, replicate, length, flat_map, IfOk};
-ghost use Rattle.cf_block.specs.Genesis.{first_block};
+ghost use Rattle.std.specs.Prelude.{◌≡◌, ◌≤◌, ◌<◌, ◌+◌, List, ℕ, map, length, flat_map, IfOk};
+ghost use Rattle.std.specs.List.{AllZip};
+ghost use Rattle.rayon.specs.Numbers.{nat_range};
+ghost use Rattle.cf_block.specs.declared.tx.Block.{Block as BlockOf};
 ghost use Rattle.cf_block.specs.Header.{block_hash_of};
 ghost use Rattle.cf_chain.specs.Filters.{filtered, first_filtered, filters_of};
 ghost use Rattle.cf_filter.specs.Items.{paid_scripts};
-ghost use Rattle.cf_chain.specs.Good.{IsGoodChain};
-ghost use Rattle.cf_index.specs.Checked.{hashes_of, prevouts_in};
-ghost use Rattle.cf_index.specs.Filtering.{shown};
+ghost use Rattle.cf_index.specs.Bare.{AreKept, IsBare, IsBareAt};
+ghost use Rattle.cf_index.specs.Filtering.{shown, AreFirst};
 
-use crate::block_filter::BlockFilter;
+use crate::block_filter::{BareFilter, BlockFilter};
 use crate::spend::Spent;
 use cf_block::{Block, Script, block_hash, genesis};
 use cf_bytes::{Hash32, Listed, NoMemory};
 use cf_filter::{build, filter_hash, filter_header, items};
+use rayon::prelude::*;
 use std::alloc::Global;
+use std::thread::Threads;
+
+// The filters of so many blocks are built before their headers are found. No more than these are held twice over, but for their bytes.
+const BLOCKS_AT_ONCE: usize = 16_384;
 
 // The filter of a block of this hash, which spends these scripts.
-fn filter_block(
+fn bare_filter(
     alloc: Global,
     block: &Block,
     name: &Hash32,
     spent: &[Script],
-    previous: &Hash32,
-) -> Result<BlockFilter, NoMemory>
+) -> Result<BareFilter, NoMemory>
     requires name { name.now.0 ≡ block_hash_of block.now.header }
     requires few { length (flat_map paid_scripts block.now.txs) + length spent.now ≤ 33554432 }
-    ensures { IfOk result (λ f. shown f ≡ filtered spent.now previous.now.0 block.now) }
+    ensures { IfOk result (IsBare spent.now block.now) }
 {
     let items = items(alloc, block, spent)?;
     let filter = build(alloc, name, &items)?;
     let hash = filter_hash(&filter);
-    Ok(BlockFilter {
+    Ok(BareFilter {
         block: *name,
         filter: Listed::from_vec(filter),
         hash,
-        header: filter_header(&hash, previous),
     })
+}
+
+// The filter with its header, where this is the filter header before it.
+fn with_header(bare: BareFilter, previous: &Hash32) -> BlockFilter
+    ensures { (scripts : List (List ℕ)) (b : BlockOf) → IsBare scripts b bare → shown result ≡ filtered scripts previous.now.0 b }
+{
+    let BareFilter {
+        block,
+        filter,
+        hash,
+    } = bare;
+    BlockFilter {
+        block,
+        filter,
+        hash,
+        header: filter_header(&hash, previous),
+    }
 }
 
 // The filter of genesis, before which there is no filter header.
@@ -45,29 +65,110 @@ fn first_filter(alloc: Global) -> Result<BlockFilter, NoMemory>
 {
     let block = genesis(alloc)?;
     let name = block_hash(&block.header);
-    filter_block(alloc, &block, &name, &[], &Hash32([0; 32]))
+    let bare = bare_filter(alloc, &block, &name, &[])?;
+    Ok(with_header(bare, &Hash32([0; 32])))
 }
 
-/// The filters of genesis and of each block of a chain, in the order of their heights, from 0.
+// The filter of the block at this place, from 0.
+fn filter_at(
+    alloc: Global,
+    blocks: &[Block],
+    hashes: &[Hash32],
+    spent: &[Spent],
+    i: usize,
+) -> Result<BareFilter, NoMemory>
+    requires kept { AreKept blocks.now hashes.now spent.now }
+    requires within { i < length blocks.now }
+    ensures { IfOk result (IsBareAt blocks.now spent.now i) }
+{
+    bare_filter(alloc, &blocks[i], &hashes[i], spent[i].as_slice())
+}
+
+// The filters of the blocks from one place up to another, which threads of their own build.
+fn filters_between(
+    rt: &(impl Threads + Sync),
+    alloc: Global,
+    blocks: &[Block],
+    hashes: &[Hash32],
+    spent: &[Spent],
+    from: usize,
+    to: usize,
+) -> Result<Vec<BareFilter>, NoMemory>
+    requires kept { AreKept blocks.now hashes.now spent.now }
+    requires within { to ≤ length blocks.now }
+    ensures { IfOk result (λ all. AllZip (IsBareAt blocks.now spent.now) (nat_range from to) all.items) }
+{
+    let all: Result<Vec<BareFilter>, NoMemory> = (from..to)
+        .into_par_iter()
+        .map(
+            |i: usize| -> Result<BareFilter, NoMemory>
+                requires kept { AreKept blocks.now hashes.now spent.now }
+                requires within { i < length blocks.now }
+                ensures { IfOk result (IsBareAt blocks.entry.now spent.entry.now i) }
+            { filter_at(alloc, blocks, hashes, spent, i) },
+        )
+        .collect(rt, alloc)?;
+    all
+}
+
+// Puts the filters of the blocks from one place up to another at the end, each with its header, and answers the last one's header.
+fn put_filters(
+    rt: &(impl Threads + Sync),
+    alloc: Global,
+    blocks: &[Block],
+    hashes: &[Hash32],
+    spent: &[Spent],
+    from: usize,
+    to: usize,
+    previous: Hash32,
+    filters: &mut Vec<BlockFilter>,
+) -> Result<Hash32, NoMemory>
+    requires kept { AreKept blocks.now hashes.now spent.now }
+    requires ordered { from ≤ to }
+    requires within { to ≤ length blocks.now }
+    requires first { AreFirst blocks.now from previous.0 filters.old.items }
+    ensures { IfOk result (λ last. AreFirst blocks.now to last.0 filters.new.items) }
+{
+    let mut last = previous;
+    for bare in filters_between(rt, alloc, blocks, hashes, spent, from, to)? {
+        let filter = with_header(bare, &last);
+        last = filter.header;
+        filters.push(filter)?;
+    }
+    Ok(last)
+}
+
+/// The filters of genesis and of each block of a chain, in the order of their heights, from 0. As many threads build them as there are
+/// processors; each filter's header is found after the one before it.
 pub(crate) fn all_filters(
+    rt: &(impl Threads + Sync),
     alloc: Global,
     blocks: &[Block],
     hashes: &[Hash32],
     spent: &[Spent],
 ) -> Result<Listed<BlockFilter>, NoMemory>
-    requires good { IsGoodChain blocks.now }
-    requires named { hashes.now ≡ hashes_of blocks.now }
-    requires taken { spent.now ≡ prevouts_in empty blocks.now }
+    requires kept { AreKept blocks.now hashes.now spent.now }
     ensures { IfOk result (λ list. map shown list ≡ filters_of blocks.now) }
 {
     let first = first_filter(alloc)?;
-    let mut previous = first.header;
+    let mut last = first.header;
     let mut filters = Vec::with_capacity(alloc, blocks.len() + 1)?;
     filters.push(first)?;
-    for (i, block) in blocks.iter().enumerate() {
-        let filter = filter_block(alloc, block, &hashes[i], spent[i].as_slice(), &previous)?;
-        previous = filter.header;
-        filters.push(filter)?;
+    let mut count = 0;
+    while count < blocks.len() {
+        let next = count + (blocks.len() - count).min(BLOCKS_AT_ONCE);
+        last = put_filters(
+            rt,
+            alloc,
+            blocks,
+            hashes,
+            spent,
+            count,
+            next,
+            last,
+            &mut filters,
+        )?;
+        count = next;
     }
     Ok(Listed::from_vec(filters))
 }

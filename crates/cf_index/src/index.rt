@@ -16,6 +16,7 @@ use cf_block::{Block, Header, genesis};
 use cf_bytes::{Hash32, Listed, NoMemory};
 use std::alloc::Global;
 use std::marker::Model;
+use std::thread::Threads;
 
 /// A checked chain with its filters, by height and by hash. Contracts see the list of its blocks above genesis, the lowest first.
 #[derive(Drop)]
@@ -39,8 +40,13 @@ impl Model for Index {
 }
 
 impl Index {
-    /// The index of a chain that was checked: the filters of its blocks are built, and what the check has kept for them is let go.
-    pub fn of(alloc: Global, chain: CheckedChain) -> Result<Index, NoMemory>
+    /// The index of a chain that was checked: the filters of its blocks are built, in as many threads as there are processors, and what the
+    /// check has kept for them is let go.
+    pub fn of(
+        rt: &(impl Threads + Sync),
+        alloc: Global,
+        chain: CheckedChain,
+    ) -> Result<Index, NoMemory>
         ensures { IfOk result (λ index. index ≡ chain) }
     {
         let CheckedChain {
@@ -53,6 +59,7 @@ impl Index {
         drop(txids);
         let genesis = genesis(alloc)?;
         let filters = all_filters(
+            rt,
             alloc,
             blocks.as_slice(),
             hashes.as_slice(),

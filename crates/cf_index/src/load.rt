@@ -10,6 +10,7 @@ use crate::index::Index;
 use cf_bytes::{NoMemory, Refused};
 use cf_conn::{ReadFail, Source, read_all};
 use std::alloc::Global;
+use std::thread::Threads;
 use thiserror::Error;
 
 // The most bytes of a file of blocks.
@@ -44,7 +45,7 @@ fn fault_of(fail: ReadFail) -> LoadFault
 }
 
 // The index of the chain in these bytes, which are let go before the filters are built.
-fn index_at(alloc: Global, bytes: Vec<u8>) -> Result<Index, LoadFault>
+fn index_at(rt: &(impl Threads + Sync), alloc: Global, bytes: Vec<u8>) -> Result<Index, LoadFault>
     ensures exact { Indexes (blocks_at bytes.items) result }
     ensures good { IfOk result (λ blocks. IsGoodChain blocks) }
 {
@@ -54,7 +55,7 @@ fn index_at(alloc: Global, bytes: Vec<u8>) -> Result<Index, LoadFault>
         Err(Refused::NoMemory) => return Err(LoadFault::NoMemory),
     };
     drop(bytes);
-    match Index::of(alloc, chain) {
+    match Index::of(rt, alloc, chain) {
         Ok(index) => Ok(index),
         Err(NoMemory) => Err(LoadFault::NoMemory),
     }
@@ -66,12 +67,16 @@ impl Index {
     /// # Errors
     ///
     /// `TooBig` where there are more than 1,073,741,824 bytes, else `BadBlock` for the first record that is refused. `ReadFault` where the source fails.
-    pub fn load<S: Source>(alloc: Global, source: &mut S) -> Result<Index, LoadFault>
+    pub fn load<S: Source>(
+        rt: &(impl Threads + Sync),
+        alloc: Global,
+        source: &mut S,
+    ) -> Result<Index, LoadFault>
         ensures loads { Loads result (S.left source.old) (S.ended source.new) (S.faults source.old) (S.faults source.new) }
         ensures good { IfOk result (λ blocks. IsGoodChain blocks) }
     {
         match read_all(alloc, source, MOST_BYTES) {
-            Ok(bytes) => index_at(alloc, bytes),
+            Ok(bytes) => index_at(rt, alloc, bytes),
             Err(fail) => Err(fault_of(fail)),
         }
     }

@@ -4,7 +4,7 @@ use Rattle.cf_filter.specs.Items.{paid_scripts}
 use Rattle.cf_index.proofs.Bounds.{genesis_few}
 use Rattle.cf_index.proofs.filters.first_filter.Goals as goal
 
-pub filter_block-requires-clause-few : goal.filter_block-requires-clause-few
-filter_block-requires-clause-few c =
+pub bare_filter-requires-clause-few : goal.bare_filter-requires-clause-few
+bare_filter-requires-clause-few c =
     let same = ap (λ (b : Block). length (flat_map paid_scripts b.txs)) c.in_ok-block.ensures in
     omega (arith, same, genesis_few)

@@ -7,14 +7,14 @@ use Rattle.cf_index.proofs.Indexes.{filters_few, placed}
 use Rattle.cf_index.proofs.index.Index.of.Goals as goal
 
 pub heights_of-requires : goal.heights_of-requires
-heights_of-requires c =
+heights_of-requires g c =
     let told = c.in_ok-filters.ensures ∙ ap filters_of c.as_slice.ensures in
     let few = filters_few c.chain.inside.blocks c.in_ok-filters.filters c.chain.invariant.0.good told in
     let same = ap length c.as_slice-4.ensures in
     omega (arith, few, same)
 
 pub invariant_of-result : goal.invariant_of-result
-invariant_of-result c =
+invariant_of-result g c =
     let told = c.in_ok-filters.ensures ∙ ap filters_of c.as_slice.ensures in
     record {
       first = c.in_ok-genesis.ensures;

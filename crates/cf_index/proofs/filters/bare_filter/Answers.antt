@@ -1,6 +1,6 @@
 use Rattle.std.proofs.Common.{length, ap, arith}
 use Rattle.cf_filter.proofs.Among.{items_few}
-use Rattle.cf_index.proofs.filters.filter_block.Goals as goal
+use Rattle.cf_index.proofs.filters.bare_filter.Goals as goal
 
 pub build-requires : goal.build-requires
 build-requires c =
