@@ -5,3 +5,4 @@ pub mod Standing
 pub mod Blocks
 pub mod Fits
 pub mod MadeLaws
+pub mod StreamLemmas

@@ -1,3 +1,4 @@
 pub mod Made
 pub mod Mined
 pub mod Records
+pub mod Streamed

@@ -8,9 +8,11 @@ mod mining;
 mod paying;
 mod recording;
 mod spending;
+mod streaming;
 
 pub use laws::laws_of_made_chains;
 pub use making::{AtHeight, Chain, chain, extend};
 pub use mining::{NoNonce, mine};
 pub use paying::script;
 pub use recording::records;
+pub use streaming::made_records;

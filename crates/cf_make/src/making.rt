@@ -24,16 +24,16 @@ pub struct AtHeight {
 
 // What a block needs of the one below: its hash, and the first output of its coinbase, which genesis has none of.
 #[derive(Clone, Copy)]
-struct Tip {
-    hash: Hash32,
-    coin: Option<OutPoint>,
+pub(crate) struct Tip {
+    pub(crate) hash: Hash32,
+    pub(crate) coin: Option<OutPoint>,
 }
 
 /// The nonces that are tried for a block.
-const TRIES: u32 = 65_536;
+pub(crate) const TRIES: u32 = 65_536;
 
 /// The time of genesis, in seconds since 1970.
-const GENESIS_TIME: u32 = 1_296_688_602;
+pub(crate) const GENESIS_TIME: u32 = 1_296_688_602;
 
 /// The chain of so many blocks that the seed tells. `NoNonce` comes exactly at the lowest height at which none of the
 /// nonces from 0 to 65,535 meets the target. Seeds are below 2 ^ 33, and there are at most 100,000 blocks.
