@@ -1,18 +1,15 @@
 -- Hashes in texts, and the file of a proof.
-use Rattle.std.proofs.Common.{◌≡◌, ℕ, ◌<◌, ◌==◌, Bool, true, false, not, List, [], ◌∷◌, ◌++◌, length, take, drop, refl, sym, ◌∙◌, ap, subst, arith, Option, Some, None}
-use Rattle.std.specs.Prelude.{◌↔◌, reverse, option_map, IfSome, IsSome, if◌then◌else◌, Result, Ok, Err, bytes_eq}
+use Rattle.std.proofs.Common.{◌≡◌, ℕ, ◌==◌, Bool, true, false, List, length, refl, sym, ◌∙◌, ap, Option, Some, None}
+use Rattle.std.specs.Prelude.{◌↔◌, reverse, option_map, IfSome, IsSome, if◌then◌else◌, Result, Ok, Err}
 use Rattle.std.specs.List.{AllPass}
-use Rattle.std.proofs.lemmas.Bool.{eqb-true, ne_eqb}
+use Rattle.std.proofs.lemmas.Bool.{eqb-true}
 use Rattle.std.proofs.lemmas.List.{reverse-reverse}
 use Rattle.hex.specs.Hex.{decode_of, is_hex_digit}
 use Rattle.hex.specs.declared.error.FromHexError.{FromHexError}
 use Rattle.hex.proofs.HexLemmas.{decode_of-ok}
 use Rattle.cf_bytes.specs.declared.hash.Hash32.{Hash32}
-use Rattle.cf_bytes.specs.declared.memory.Refused.{Refused}
-use Rattle.cf_bytes.specs.declared.memory.Refused.TheVariants.{No, NoMemory}
-use Rattle.cf_block.specs.Header.{block_hash_of}
 use Rattle.cf_headers.specs.Rules.{is_within_target}
-use Rattle.cf_proof.specs.Checks.{Answers, fault_of, parts_fault}
+use Rattle.cf_proof.specs.Checks.{Answers, fault_of}
 use Rattle.cf_proof.specs.Proof.{proof_at}
 use Rattle.cf_proof.specs.declared.fault.ProofFault.{ProofFault}
 use Rattle.cf_proof.specs.declared.proof.Proof.{Proof}

@@ -1,5 +1,5 @@
 -- The file of a proof: a transaction, and the proof that it stands in a block.
-use Rattle.std.specs.Prelude.{ℕ, ◌==◌, Bool, true, if◌then◌else◌, List, codes, length, take, drop, Option, Some, None, Result, Ok, Err, bytes_eq}
+use Rattle.std.specs.Prelude.{ℕ, ◌==◌, if◌then◌else◌, List, codes, length, take, drop, Option, Some, None, Result, Ok, Err, bytes_eq}
 use Rattle.std.specs.List.{before_first, after_first}
 use Rattle.cf_bytes.specs.Cut.{Read, ◌>>=◌}
 use Rattle.cf_bytes.specs.declared.hash.Hash32.{Hash32}

@@ -11,7 +11,7 @@ use Rattle.cf_input.specs.Number.{number_at_most, number_within}
 use Rattle.cf_input.specs.Name.{is_name}
 use Rattle.cf_input.specs.SessionFile.{max_dials}
 use Rattle.cf_input.specs.declared.words.Command.{Command}
-use Rattle.cf_input.specs.declared.words.Command.TheVariants.{Address, Check, Filter, Prove, Replay, Scan, Serve, Sync}
+use Rattle.cf_input.specs.declared.words.Command.TheVariants.{Address, Check, Filter, Make, Prove, Replay, Scan, Serve, Sync}
 
 abbrev pub needed : Rule → Rule
 needed r = record r { required = true }
@@ -30,9 +30,19 @@ turns = record (new_rule (codes "turns")) { long = Some (codes "turns") }
 abbrev pub replay_app : App
 replay_app = with_rule (with_rule (with_rule (new_app (codes "replay")) trace) (needed (new_rule (codes "watch")))) (needed (new_rule (codes "session")))
 
--- sync [--turns N] WATCH PEER..
+abbrev pub workers : Rule
+workers = record (new_rule (codes "workers")) { long = Some (codes "workers") }
+
+abbrev pub record_rule : Rule
+record_rule = record (new_rule (codes "record")) { long = Some (codes "record") }
+
+-- sync [--turns N] [--workers N] [--record FILE]
+abbrev pub sync_options : App
+sync_options = with_rule (with_rule (with_rule (new_app (codes "sync")) turns) workers) record_rule
+
+-- sync [--turns N] [--workers N] [--record FILE] WATCH PEER..
 abbrev pub sync_app : App
-sync_app = with_rule (with_rule (with_rule (new_app (codes "sync")) turns) (needed (new_rule (codes "watch")))) (several (needed (new_rule (codes "peer"))))
+sync_app = with_rule (with_rule sync_options (needed (new_rule (codes "watch")))) (several (needed (new_rule (codes "peer"))))
 
 -- a command of two words, both needed
 abbrev pub two_app : Text → Text → Text → App
@@ -69,6 +79,14 @@ connections = record (new_rule (codes "connections")) { long = Some (codes "conn
 abbrev pub serve_app : App
 serve_app = with_rule (with_rule (with_rule (new_app (codes "serve")) connections) (needed (new_rule (codes "file")))) (needed (new_rule (codes "address")))
 
+-- a command of three words, all needed
+abbrev pub three_app : Text → Text → Text → Text → App
+three_app name one two three = with_rule (two_app name one two) (needed (new_rule three))
+
+-- make SEED BLOCKS FILE
+abbrev pub make_app : App
+make_app = three_app (codes "make") (codes "seed") (codes "blocks") (codes "file")
+
 unfoldable pub with_sub : App → App → App
 with_sub a s = with_subcommand a s.top
 
@@ -76,9 +94,10 @@ with_sub a s = with_subcommand a s.top
 unfoldable pub client_app : App
 client_app = with_sub (with_sub (new_app (codes "cf")) sync_app) replay_app
 
--- the whole command line: those over a block file come after them, then that over an address, those over proofs, and the server
+-- the whole command line: those over a block file come after them, then that over an address, those over proofs, the server, and that which makes a block
+-- file
 unfoldable pub cli_app : App
-cli_app = with_sub (with_sub (with_sub (with_sub (with_sub (with_sub client_app scan_app) filter_app) address_app) prove_app) check_app) serve_app
+cli_app = with_sub (with_sub (with_sub (with_sub (with_sub (with_sub (with_sub client_app scan_app) filter_app) address_app) prove_app) check_app) serve_app) make_app
 
 -- the subcommand that was met, and what was found for its arguments
 abbrev pub Met : Type 0
@@ -113,6 +132,15 @@ abbrev pub turns_of : Option Text → Option ℕ
 turns_of None = Some most_turns
 turns_of (Some text) = number_within most_turns text
 
+-- at most this many threads judge filters
+abbrev pub most_workers : ℕ
+most_workers = 64
+
+-- a number from 1 to the most, and 4 where none is given
+abbrev pub workers_of : Option Text → Option ℕ
+workers_of None = Some 4
+workers_of (Some text) = number_within most_workers text
+
 -- at most this many connections are served
 abbrev pub most_connections : ℕ
 most_connections = 1000000
@@ -130,6 +158,22 @@ most_height = 4294967295
 abbrev pub height_of : Text → Option ℕ
 height_of text = number_at_most most_height text
 
+-- the greatest number from which a chain is made
+abbrev pub most_seed : ℕ
+most_seed = 4294967295
+
+-- a number from 0 to the greatest
+abbrev pub seed_of : Text → Option ℕ
+seed_of text = number_at_most most_seed text
+
+-- at most this many blocks are made
+abbrev pub most_made : ℕ
+most_made = 100000
+
+-- a number from 1 to the most
+abbrev pub made_of : Text → Option ℕ
+made_of text = number_within most_made text
+
 abbrev pub replay_of : Met → Option Command
 replay_of met =
     option_and_then (λ watch. option_and_then (λ session.
@@ -142,13 +186,13 @@ are_names texts = list_all is_name texts && (nat_lt 0 (length texts) && nat_le (
 
 abbrev pub sync_of : Met → Option Command
 sync_of met =
-    option_and_then (λ turns. option_and_then (λ watch. option_and_then (λ peers.
-    if are_names peers then Some (Sync turns watch peers) else None)
-    (texts_of (codes "peer") met)) (text_of (codes "watch") met)) (turns_of (text_of (codes "turns") met))
+    option_and_then (λ turns. option_and_then (λ workers. option_and_then (λ watch. option_and_then (λ peers.
+    if are_names peers then Some (Sync turns workers (text_of (codes "record") met) watch peers) else None)
+    (texts_of (codes "peer") met)) (text_of (codes "watch") met)) (workers_of (text_of (codes "workers") met))) (turns_of (text_of (codes "turns") met))
 
 -- a run has at most 8 peers
 abbrev pub HasFewPeers : Command → Type 0
-HasFewPeers (Sync _ _ peers) = length peers ≤ max_dials
+HasFewPeers (Sync _ _ _ _ peers) = length peers ≤ max_dials
 HasFewPeers _ = Unit {0}
 
 abbrev pub scan_of : Met → Option Command
@@ -186,6 +230,12 @@ serve_of met =
     if is_name address then Some (Serve count file address) else None)
     (text_of (codes "address") met)) (text_of (codes "file") met)) (connections_of (text_of (codes "connections") met))
 
+abbrev pub make_of : Met → Option Command
+make_of met =
+    option_and_then (λ seed. option_and_then (λ blocks. option_and_then (λ file.
+    Some (Make seed blocks file))
+    (text_of (codes "file") met)) (option_and_then made_of (text_of (codes "blocks") met))) (option_and_then seed_of (text_of (codes "seed") met))
+
 abbrev pub asked_of : Met → Option Command
 asked_of met =
     if is_met (codes "replay") met then replay_of met
@@ -196,6 +246,7 @@ asked_of met =
     else if is_met (codes "prove") met then prove_of met
     else if is_met (codes "check") met then check_of met
     else if is_met (codes "serve") met then serve_of met
+    else if is_met (codes "make") met then make_of met
     else None
 
 -- clap finds no fault in the words

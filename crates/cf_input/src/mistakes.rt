@@ -1,5 +1,7 @@
 //! What is wrong with words that ask for nothing, told to the user.
-use crate::words::{cli_command, connections_of, is_met, text_of, texts_of, turns_of};
+use crate::words::{
+    cli_command, connections_of, is_met, seed_of, text_of, texts_of, turns_of, workers_of,
+};
 use cf_bytes::NoMemory;
 use clap::ArgMatches;
 use std::alloc::Global;
@@ -12,11 +14,30 @@ fn peers_mistake(matches: &ArgMatches) -> &'static str {
     }
 }
 
+// What is out of its range in the words of `sync`.
+fn sync_mistake(matches: &ArgMatches) -> &'static str {
+    if turns_of(text_of(matches, "turns")).is_none() {
+        "N of --turns is a number from 1 to 10000000"
+    } else if workers_of(text_of(matches, "workers")).is_none() {
+        "N of --workers is a number from 1 to 64"
+    } else {
+        peers_mistake(matches)
+    }
+}
+
 // What is out of its range in the words of `serve`.
 fn serve_mistake(matches: &ArgMatches) -> &'static str {
     match connections_of(text_of(matches, "connections")) {
         None => "N of --connections is a number from 1 to 1000000",
         Some(_) => "ADDRESS has 1 to 255 characters, without spaces",
+    }
+}
+
+// What is out of its range in the words of `make`.
+fn make_mistake(matches: &ArgMatches) -> &'static str {
+    match text_of(matches, "seed").and_then(seed_of) {
+        None => "SEED is a number from 0 to 4294967295",
+        Some(_) => "BLOCKS is a number from 1 to 100000",
     }
 }
 
@@ -28,12 +49,12 @@ fn range_mistake(matches: &ArgMatches) -> &'static str {
         "TXID is a transaction's hash, of 64 hexadecimal digits"
     } else if is_met(matches, "serve") {
         serve_mistake(matches)
-    } else if !is_met(matches, "sync") {
-        "there is no command"
-    } else if turns_of(text_of(matches, "turns")).is_none() {
-        "N of --turns is a number from 1 to 10000000"
+    } else if is_met(matches, "sync") {
+        sync_mistake(matches)
+    } else if is_met(matches, "make") {
+        make_mistake(matches)
     } else {
-        peers_mistake(matches)
+        "there is no command"
     }
 }
 

@@ -3,7 +3,7 @@ ghost use Rattle.std.specs.Prelude.{◌≡◌, ◌==◌, IfOk, IfErr, [], map, f
 ghost use Rattle.std.specs.List.{list_any};
 ghost use Rattle.clap.specs.Words.{app_of, rule_of, new_rule, subcommand_of, subcommand_rows_of, fault_of, with_rule};
 ghost use Rattle.clap.specs.declared.builder.command.Command.TheViews.{out-Command as fields_of};
-ghost use Rattle.cf_input.specs.Words.{trace, turns, several, needed, replay_app, sync_app, connections, serve_app, one_app, two_app, with_sub, client_app, cli_app, text_of, texts_of, is_met, is_set, turns_of, connections_of, height_of, replay_of, sync_of, scan_of, filter_of, address_of, hash_in, prove_of, check_of, serve_of, HasFewPeers, asked_of, is_faultless, command_of, is_help_word, is_version_word};
+ghost use Rattle.cf_input.specs.Words.{trace, turns, workers, record_rule, several, needed, replay_app, sync_options, sync_app, connections, serve_app, one_app, two_app, three_app, with_sub, client_app, cli_app, text_of, texts_of, is_met, is_set, turns_of, workers_of, connections_of, height_of, seed_of, made_of, replay_of, sync_of, scan_of, filter_of, address_of, hash_in, prove_of, check_of, serve_of, make_of, HasFewPeers, asked_of, is_faultless, command_of, is_help_word, is_version_word};
 ghost use Rattle.cf_input.specs.Commands.{GivesOrUsage, IfUsage, refusal_of};
 
 use crate::number::{number_at_most, number_within};
@@ -31,11 +31,23 @@ impl From<Usage> for Refused<Usage> {
 /// At most this many deliveries are taken from the wires.
 pub const MOST_TURNS: u32 = 10_000_000;
 
+/// At most this many threads judge filters.
+pub const MOST_WORKERS: u32 = 64;
+
+/// So many threads judge filters where no number is given.
+pub const USUAL_WORKERS: u32 = 4;
+
 /// At most this many connections are served.
 pub const MOST_CONNECTIONS: u32 = 1_000_000;
 
 /// The greatest height that may be asked for.
 pub const MOST_HEIGHT: u32 = 4_294_967_295;
+
+/// The greatest number from which a chain is made.
+pub const MOST_SEED: u32 = 4_294_967_295;
+
+/// At most this many blocks are made.
+pub const MOST_MADE: u32 = 100_000;
 
 /// What the words ask for.
 #[derive(Drop)]
@@ -46,9 +58,12 @@ pub enum Command {
         watch: Word,
         session: Word,
     },
-    /// The client over the wires that are handed in, with 1 to 8 peers; it takes at most so many deliveries.
+    /// The client over the wires that are handed in, with 1 to 8 peers. It takes at most so many deliveries, judges filters
+    /// in so many threads, and what passed the wires is kept in a file, where one is named.
     Sync {
         turns: u32,
+        workers: u32,
+        record: Option<Word>,
         watch: Word,
         peers: PeerNames,
     },
@@ -81,12 +96,30 @@ pub enum Command {
         file: Word,
         address: Word,
     },
+    /// The blocks of a made chain, from height 1 to so many, written to a file.
+    Make {
+        seed: u32,
+        blocks: u32,
+        file: Word,
+    },
 }
 
 fn turns_arg<'a>(alloc: Global) -> Arg<'a>
     ensures { (rule_of result ≡ turns) × (result.global ≡ false) }
 {
     Arg::new(alloc, "turns").long("turns")
+}
+
+fn workers_arg<'a>(alloc: Global) -> Arg<'a>
+    ensures { (rule_of result ≡ workers) × (result.global ≡ false) }
+{
+    Arg::new(alloc, "workers").long("workers")
+}
+
+fn record_arg<'a>(alloc: Global) -> Arg<'a>
+    ensures { (rule_of result ≡ record_rule) × (result.global ≡ false) }
+{
+    Arg::new(alloc, "record").long("record")
 }
 
 fn trace_arg<'a>(alloc: Global) -> Arg<'a>
@@ -118,11 +151,20 @@ fn with_arg<'a>(command: clap::Command<'a>, arg: Arg<'a>) -> Result<clap::Comman
     command.arg(arg)
 }
 
-fn sync_command<'a>(alloc: Global) -> Result<clap::Command<'a>, AllocError>
-    ensures { IfOk result (λ c. (app_of c ≡ sync_app) × ((fields_of c).has_globals ≡ false)) }
+// The command `sync` with its options alone.
+fn sync_options<'a>(alloc: Global) -> Result<clap::Command<'a>, AllocError>
+    ensures { IfOk result (λ c. (app_of c ≡ sync_options) × ((fields_of c).has_globals ≡ false)) }
 {
     let command = clap::Command::new(alloc, "sync");
     let command = with_arg(command, turns_arg(alloc))?;
+    let command = with_arg(command, workers_arg(alloc))?;
+    with_arg(command, record_arg(alloc))
+}
+
+fn sync_command<'a>(alloc: Global) -> Result<clap::Command<'a>, AllocError>
+    ensures { IfOk result (λ c. (app_of c ≡ sync_app) × ((fields_of c).has_globals ≡ false)) }
+{
+    let command = sync_options(alloc)?;
     let command = with_arg(command, word_arg(alloc, "watch"))?;
     with_arg(command, peers_arg(alloc))
 }
@@ -147,6 +189,20 @@ fn two_words<'a>(
 {
     let command = with_arg(clap::Command::new(alloc, name), word_arg(alloc, one))?;
     with_arg(command, word_arg(alloc, two))
+}
+
+// A command of three words.
+fn three_words<'a>(
+    alloc: Global,
+    name: &'a str,
+    one: &'a str,
+    two: &'a str,
+    three: &'a str,
+) -> Result<clap::Command<'a>, AllocError>
+    ensures { IfOk result (λ c. (app_of c ≡ three_app name.entry.now one.entry.now two.entry.now three.entry.now) × ((fields_of c).has_globals ≡ false)) }
+{
+    let command = two_words(alloc, name, one, two)?;
+    with_arg(command, word_arg(alloc, three))
 }
 
 // A command of one word.
@@ -191,7 +247,8 @@ fn client_command<'a>(alloc: Global) -> Result<clap::Command<'a>, AllocError>
     with_one_more(command, replay_command(alloc)?)
 }
 
-/// The whole command line: those over a block file come after them, then that over an address, those over proofs, and the server.
+/// The whole command line: those over a block file come after them, then that over an address, those over proofs, the server, and
+/// that which makes a block file.
 pub(crate) fn cli_command<'a>(alloc: Global) -> Result<clap::Command<'a>, AllocError>
     ensures { IfOk result (λ c. (app_of c ≡ cli_app) × ((fields_of c).has_globals ≡ false)) }
 {
@@ -201,7 +258,11 @@ pub(crate) fn cli_command<'a>(alloc: Global) -> Result<clap::Command<'a>, AllocE
     let command = with_one_more(command, one_word(alloc, "address", "text")?)?;
     let command = with_one_more(command, two_words(alloc, "prove", "file", "txid")?)?;
     let command = with_one_more(command, one_word(alloc, "check", "file")?)?;
-    with_one_more(command, serve_command(alloc)?)
+    let command = with_one_more(command, serve_command(alloc)?)?;
+    with_one_more(
+        command,
+        three_words(alloc, "make", "seed", "blocks", "file")?,
+    )
 }
 
 // Clap refuses the words, or finds no memory.
@@ -276,6 +337,16 @@ pub(crate) fn turns_of(text: Option<&str>) -> Option<u32>
     }
 }
 
+/// The number of `--workers`, or 4 where none is given.
+pub(crate) fn workers_of(text: Option<&str>) -> Option<u32>
+    ensures { result ≡ workers_of (option_map (λ s. s.now) text.entry) }
+{
+    match text {
+        Some(text) => number_within(text.as_bytes(), MOST_WORKERS),
+        None => Some(USUAL_WORKERS),
+    }
+}
+
 /// The number of `--connections`, or the greatest where none is given.
 pub(crate) fn connections_of(text: Option<&str>) -> Option<u32>
     ensures { result ≡ connections_of (option_map (λ s. s.now) text.entry) }
@@ -290,6 +361,20 @@ fn height_of(text: &str) -> Option<u32>
     ensures { result ≡ height_of text.now }
 {
     number_at_most(text.as_bytes(), MOST_HEIGHT)
+}
+
+/// The number from which a chain is made.
+pub(crate) fn seed_of(text: &str) -> Option<u32>
+    ensures { result ≡ seed_of text.now }
+{
+    number_at_most(text.as_bytes(), MOST_SEED)
+}
+
+/// How many blocks are made.
+pub(crate) fn made_of(text: &str) -> Option<u32>
+    ensures { result ≡ made_of text.now }
+{
+    number_within(text.as_bytes(), MOST_MADE)
 }
 
 fn read_replay(alloc: Global, matches: &ArgMatches) -> Result<Command, Refused<Usage>>
@@ -307,19 +392,33 @@ fn read_replay(alloc: Global, matches: &ArgMatches) -> Result<Command, Refused<U
     })
 }
 
+// A copy of a text that may be given.
+fn word_where(alloc: Global, text: Option<&str>) -> Result<Option<Word>, NoMemory>
+    ensures { IfOk result (λ w. w ≡ option_map (λ s. s.now) text.entry) }
+{
+    match text {
+        Some(text) => Ok(Some(Word::new(alloc, text)?)),
+        None => Ok(None),
+    }
+}
+
 fn read_sync(alloc: Global, matches: &ArgMatches) -> Result<Command, Refused<Usage>>
     ensures { GivesOrUsage (sync_of (subcommand_rows_of matches.now)) result }
 {
     let turns = turns_of(text_of(matches, "turns")).ok_or(Usage)?;
+    let workers = workers_of(text_of(matches, "workers")).ok_or(Usage)?;
     let watch = text_of(matches, "watch").ok_or(Usage)?;
     let peers = texts_of(matches, "peer").ok_or(Usage)?;
     if !are_names(peers) {
         return Err(Refused::No(Usage));
     }
+    let record = word_where(alloc, text_of(matches, "record"))?;
     let watch = Word::new(alloc, watch)?;
     let peers = PeerNames::new(alloc, peers)?;
     Ok(Command::Sync {
         turns,
+        workers,
+        record,
         watch,
         peers,
     })
@@ -396,6 +495,18 @@ fn read_serve(alloc: Global, matches: &ArgMatches) -> Result<Command, Refused<Us
     })
 }
 
+fn read_make(alloc: Global, matches: &ArgMatches) -> Result<Command, Refused<Usage>>
+    ensures { GivesOrUsage (make_of (subcommand_rows_of matches.now)) result }
+{
+    let seed = text_of(matches, "seed").ok_or(Usage)?;
+    let seed = seed_of(seed).ok_or(Usage)?;
+    let blocks = text_of(matches, "blocks").ok_or(Usage)?;
+    let blocks = made_of(blocks).ok_or(Usage)?;
+    let file = text_of(matches, "file").ok_or(Usage)?;
+    let file = Word::new(alloc, file)?;
+    Ok(Command::Make { seed, blocks, file })
+}
+
 // What the subcommand that was met asks for.
 fn read_met(alloc: Global, matches: &ArgMatches) -> Result<Command, Refused<Usage>>
     ensures exact { GivesOrUsage (asked_of (subcommand_rows_of matches.now)) result }
@@ -424,6 +535,9 @@ fn read_met(alloc: Global, matches: &ArgMatches) -> Result<Command, Refused<Usag
     }
     if is_met(matches, "serve") {
         return read_serve(alloc, matches);
+    }
+    if is_met(matches, "make") {
+        return read_make(alloc, matches);
     }
     Err(Refused::No(Usage))
 }

@@ -1,6 +1,5 @@
 use Rattle.std.proofs.Common.{Err, ◌∙◌, sym, subst}
 use Rattle.cf_block.specs.Tx.{tx_spelling}
-use Rattle.cf_bytes.specs.declared.hash.Hash32.{Hash32}
 use Rattle.cf_bytes.specs.declared.memory.Refused.{Refused}
 use Rattle.cf_proof.specs.Checks.{Answers}
 use Rattle.cf_proof.specs.declared.fault.ProofFault.{ProofFault}
