@@ -20,7 +20,7 @@ use Rattle.cf_peer.specs.Memory.{script_of, log_of, failing_of, finished_of, tol
 use Rattle.cf_peer.specs.Wires.{Script, Made}
 use Rattle.cf_input.specs.declared.session.SessionFault.{SessionFault}
 use Rattle.cf_cli.specs.declared.status.Status.{Status}
-use Rattle.cf_cli.specs.declared.status.Status.TheVariants.{Done, NoMemory, Usage, BadFile, FileFault, OutFault, NoPeers, Tired, Ended, LinkFault, NoHeight, NotThere, NotAddress}
+use Rattle.cf_cli.specs.declared.status.Status.TheVariants.{Done, NoMemory, Usage, BadFile, FileFault, OutFault, NoPeers, Tired, Ended, LinkFault, NoNonce, NoHeight, NotThere, NotAddress}
 use Rattle.cf_input.specs.declared.words.Command.{Command}
 use Rattle.cf_input.specs.declared.words.Command.TheVariants.{Replay, Sync}
 use Rattle.cf_input.specs.SessionFile.{session_of}
@@ -40,6 +40,7 @@ no_run (NoPeers ends) is = absurd is
 no_run Tired is = absurd is
 no_run Ended is = absurd is
 no_run LinkFault is = absurd is
+no_run (NoNonce height) is = absurd is
 no_run (NoHeight tip) is = absurd is
 no_run (NotThere txid) is = absurd is
 no_run (NotAddress cause) is = absurd is
@@ -144,13 +145,14 @@ file_answers (NoPeers ends) is = absurd is
 file_answers Tired is = absurd is
 file_answers Ended is = absurd is
 file_answers LinkFault is = absurd is
+file_answers (NoNonce height) is = absurd is
 file_answers (NoHeight tip) is = absurd is
 file_answers (NotThere txid) is = absurd is
 file_answers (NotAddress cause) is = absurd is
 
 -- where no run is made nothing has passed, and nobody is honest
-early_kept : (status : Status) (trace : Bool) (scripts names : List (List ℕ)) (b : Option (List ℕ)) (log : Log) → has_run status ≡ false → log ≡ [] → Kept status trace scripts names b b log
-early_kept status trace scripts names b log off none = subst (λ (l : Log). Kept status trace scripts names b b l) (sym none) (record {
+early_kept : (status : Status) (recorded trace : Bool) (scripts names : List (List ℕ)) (b : Option (List ℕ)) (log : Log) → has_run status ≡ false → log ≡ [] → Kept status recorded trace scripts names b b log
+early_kept status recorded trace scripts names b log off none = subst (λ (l : Log). Kept status recorded trace scripts names b b l) (sym none) (record {
   writes = λ p blocks serves other is untraced. absurd (false≢true serves.honest.dialled);
   answers = λ p blocks serves quiet. absurd (false≢true serves.honest.dialled);
   complete = λ p blocks serves. absurd (false≢true serves.honest.dialled);
@@ -158,33 +160,33 @@ early_kept status trace scripts names b log off none = subst (λ (l : Log). Kept
   ran = λ is. absurd (false≢true (sym off ∙ is));
 })
 
-pub early_over : (status : Status) (trace : Bool) (files : Option Named) (watch : List ℕ) (names : List (List ℕ)) (b : Option (List ℕ)) (log : Log) → IsOfFile status → log ≡ []
-    → KeptOver status trace files watch names b b log
-early_over status trace files watch names b log is none = record {
+pub early_over : (status : Status) (recorded trace : Bool) (files : Option Named) (watch : List ℕ) (names : List (List ℕ)) (b : Option (List ℕ)) (log : Log) → IsOfFile status → log ≡ []
+    → KeptOver status recorded trace files watch names b b log
+early_over status recorded trace files watch names b log is none = record {
   scripts = [];
   watched = λ made. absurd (false≢true (sym (no_run status is) ∙ made));
-  kept = early_kept status trace [] names b log (no_run status is) none;
+  kept = early_kept status recorded trace [] names b log (no_run status is) none;
 }
 
 -- the same for wires that are new, which may tell no log
-pub early_told : (t : Told) (status : Status) (trace : Bool) (files : Option Named) (watch : List ℕ) (names : List (List ℕ)) (b : Option (List ℕ)) → IsOfFile status → Tells [] t
-    → IfSome t.log (λ log. KeptOver status trace files watch names b b log)
-early_told t status trace files watch names b is fresh = told_over t.log fresh.content where
-  told_over : (o : Option Log) → IfSome o (λ l. l ≡ []) → IfSome o (λ log. KeptOver status trace files watch names b b log)
+pub early_told : (t : Told) (status : Status) (recorded trace : Bool) (files : Option Named) (watch : List ℕ) (names : List (List ℕ)) (b : Option (List ℕ)) → IsOfFile status → Tells [] t
+    → IfSome t.log (λ log. KeptOver status recorded trace files watch names b b log)
+early_told t status recorded trace files watch names b is fresh = told_over t.log fresh.content where
+  told_over : (o : Option Log) → IfSome o (λ l. l ≡ []) → IfSome o (λ log. KeptOver status recorded trace files watch names b b log)
   told_over None none = tt
-  told_over (Some log) none = early_over status trace files watch names b log is none
+  told_over (Some log) none = early_over status recorded trace files watch names b log is none
 
 -- with the scripts of the watch file
-pub over_watch : (status : Status) (trace : Bool) (files : Option Named) (watch : List ℕ) (scripts names : List (List ℕ)) (before after : Option (List ℕ)) (log : Log)
-    → IfSome files (λ m. IfSome (finite.get m watch) (λ bytes. watch_of bytes ≡ Ok scripts)) → Kept status trace scripts names before after log
-    → KeptOver status trace files watch names before after log
-over_watch status trace files watch scripts names before after log read kept = record { scripts = scripts; watched = λ made. read; kept = kept }
+pub over_watch : (status : Status) (recorded trace : Bool) (files : Option Named) (watch : List ℕ) (scripts names : List (List ℕ)) (before after : Option (List ℕ)) (log : Log)
+    → IfSome files (λ m. IfSome (finite.get m watch) (λ bytes. watch_of bytes ≡ Ok scripts)) → Kept status recorded trace scripts names before after log
+    → KeptOver status recorded trace files watch names before after log
+over_watch status recorded trace files watch scripts names before after log read kept = record { scripts = scripts; watched = λ made. read; kept = kept }
 
-pub told_over_watch : (o : Option Log) (status : Status) (trace : Bool) (files : Option Named) (watch : List ℕ) (scripts names : List (List ℕ)) (before after : Option (List ℕ))
-    → IfSome files (λ m. IfSome (finite.get m watch) (λ bytes. watch_of bytes ≡ Ok scripts)) → IfSome o (λ log. Kept status trace scripts names before after log)
-    → IfSome o (λ log. KeptOver status trace files watch names before after log)
-told_over_watch None status trace files watch scripts names before after read kept = tt
-told_over_watch (Some log) status trace files watch scripts names before after read kept = over_watch status trace files watch scripts names before after log read kept
+pub told_over_watch : (o : Option Log) (status : Status) (recorded trace : Bool) (files : Option Named) (watch : List ℕ) (scripts names : List (List ℕ)) (before after : Option (List ℕ))
+    → IfSome files (λ m. IfSome (finite.get m watch) (λ bytes. watch_of bytes ≡ Ok scripts)) → IfSome o (λ log. Kept status recorded trace scripts names before after log)
+    → IfSome o (λ log. KeptOver status recorded trace files watch names before after log)
+told_over_watch None status recorded trace files watch scripts names before after read kept = tt
+told_over_watch (Some log) status recorded trace files watch scripts names before after read kept = over_watch status recorded trace files watch scripts names before after log read kept
 
 -- where no run was made the tally tells nothing
 has_nobody : (status : Status) → has_run status ≡ false → has_somebody status ≡ false
@@ -198,6 +200,7 @@ has_nobody FileFault off = refl
 has_nobody OutFault off = refl
 has_nobody (NoPeers ends) off = refl
 has_nobody LinkFault off = refl
+has_nobody (NoNonce height) off = refl
 has_nobody (NoHeight tip) off = refl
 has_nobody (NotThere txid) off = refl
 has_nobody (NotAddress cause) off = refl
@@ -230,6 +233,10 @@ early_tallied status turns names t is fresh = tallied_early status turns names t
 -- memory was wanting once they were used
 pub spent_tallied : (turns names : ℕ) (was now : Told) → IsWithin turns names now.tally → now.finished ≡ true → Tallied NoMemory turns names was now
 spent_tallied turns names was now within finished = tallied_early NoMemory turns names was now refl tt within (inr finished)
+
+-- the record could not be written
+pub unrecorded_tallied : (turns names : ℕ) (was now : Told) → IsWithin turns names now.tally → now.finished ≡ true → Tallied FileFault turns names was now
+unrecorded_tallied turns names was now within finished = tallied_early FileFault turns names was now refl tt within (inr finished)
 
 -- the sink has failed
 pub unwritten_tallied : (turns names : ℕ) (was now : Told) → IsWithin turns names now.tally → IsWhole names now → Tallied OutFault turns names was now
@@ -297,7 +304,7 @@ run_tallied HasEnded ends status turns names was now is within whole nobody tire
 -- what is promised of `replay` where the tape wasn't used
 pub early_replayed : (status : Status) (turns : ℕ) (trace : Bool) (files : Option Named) (watch : List ℕ) (b : Option (List ℕ)) (t : Told) (log : Log)
     → IsOfFile status → Tells [] t → log ≡ [] → IsReplayed status turns trace files watch b b t t log
-early_replayed status turns trace files watch b t log is fresh none = ([], early_over status trace files watch [] b log is none, early_tallied status turns 0 t is fresh)
+early_replayed status turns trace files watch b t log is fresh none = ([], early_over status false trace files watch [] b log is none, early_tallied status turns 0 t is fresh)
 
 -- nothing has passed a new tape
 pub new_tape : (tape : MemoryWires) → log_of tape ≡ [] → Tells [] (told_of tape)
@@ -345,10 +352,11 @@ judged_replay o c trace watch session watch_name session_name status a b is judg
     let two = subst (λ (w : List ℕ). IfSome o (λ m. IsJudged (and_then (watch_verdict (finite.get m watch)) (session_verdict (finite.get m w))) status)) b one in
     subst (λ (x : Command). IfSome o (λ m. IsJudged (verdict_of m x) status)) (sym is) two
 
-pub judged_sync : (o : Option Named) (c : Command) (turns : ℕ) (watch : List ℕ) (peers : List (List ℕ)) (watch_name : List ℕ) (status : Status) → watch_name ≡ watch → c ≡ Sync turns watch peers
+pub judged_sync : (o : Option Named) (c : Command) (turns workers : ℕ) (file : Option (List ℕ)) (watch : List ℕ) (peers : List (List ℕ)) (watch_name : List ℕ) (status : Status)
+    → watch_name ≡ watch → c ≡ Sync turns workers file watch peers
     → IfSome o (λ m. IsJudged (watch_verdict (finite.get m watch_name)) status)
     → IfSome o (λ m. IsJudged (verdict_of m c) status)
-judged_sync o c turns watch peers watch_name status a is judged =
+judged_sync o c turns workers file watch peers watch_name status a is judged =
     let one = subst (λ (w : List ℕ). IfSome o (λ m. IsJudged (watch_verdict (finite.get m w)) status)) a judged in
     subst (λ (x : Command). IfSome o (λ m. IsJudged (verdict_of m x) status)) (sym is) one
 

@@ -41,7 +41,7 @@ use Rattle.cf_input.specs.declared.proof_file.ProofFileFault.{ProofFileFault}
 use Rattle.cf_input.specs.declared.proof_file.Proven.{Proven}
 use Rattle.cf_input.proofs.LineSteps.{before_true, before_false, after_true, after_false}
 use Rattle.cf_cli.specs.declared.status.Status.{Status}
-use Rattle.cf_cli.specs.declared.status.Status.TheVariants.{Done, NoMemory, Usage, BadFile, FileFault, OutFault, NoPeers, Tired, Ended, LinkFault, NoHeight, NotThere, NotAddress}
+use Rattle.cf_cli.specs.declared.status.Status.TheVariants.{Done, NoMemory, Usage, BadFile, FileFault, OutFault, NoPeers, Tired, Ended, LinkFault, NoNonce, NoHeight, NotThere, NotAddress}
 use Rattle.cf_cli.specs.Proving.{proof_text, IsTextAt, IsProofText, in_text, Checks, Takes, TakesWhatIsProved}
 use Rattle.cf_cli.specs.Reading.{named_line, IsWritten}
 use Rattle.cf_cli.specs.Statuses.{Verdict, Good, IsJudged, proof_verdict, proof_read}
@@ -218,6 +218,7 @@ takes_by (NoPeers ends) before after p judged written = written
 takes_by Tired before after p judged written = written
 takes_by Ended before after p judged written = written
 takes_by LinkFault before after p judged written = absurd written
+takes_by (NoNonce height) before after p judged written = written
 takes_by (NoHeight tip) before after p judged written = written
 takes_by (NotThere txid) before after p judged written = written
 takes_by (NotAddress cause) before after p judged written = written

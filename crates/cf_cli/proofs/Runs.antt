@@ -1,5 +1,5 @@
 -- What the end of a run says of the answer.
-use Rattle.std.proofs.Common.{◌≡◌, ◌≢◌, ℕ, Bool, false, List, length, Option, Some, None, refl, sym, ◌∙◌, ap, subst}
+use Rattle.std.proofs.Common.{◌≡◌, ◌≢◌, ℕ, Bool, true, false, List, length, Option, Some, None, refl, sym, ◌∙◌, ap, subst}
 use Rattle.std.specs.Prelude.{IfSome}
 use Rattle.std.proofs.lemmas.Bool.{both_ways}
 use Rattle.cf_block.specs.declared.tx.Block.{Block}
@@ -22,7 +22,7 @@ use Rattle.cf_scan.specs.Scan.{scan_of}
 use Rattle.cf_sync.specs.Fetching.{IsQuiet, IsBusy, IsConnected}
 use Rattle.cf_sync.specs.Sync.{SyncTheorem, IsHistoryOf}
 use Rattle.cf_cli.specs.declared.status.Status.{Status}
-use Rattle.cf_cli.specs.declared.status.Status.TheVariants.{Done, NoMemory, Usage, BadFile, FileFault, OutFault, NoPeers, Tired, Ended, LinkFault, NoHeight, NotThere, NotAddress}
+use Rattle.cf_cli.specs.declared.status.Status.TheVariants.{Done, NoMemory, Usage, BadFile, FileFault, OutFault, NoPeers, Tired, Ended, LinkFault, NoNonce, NoHeight, NotThere, NotAddress}
 use Rattle.cf_cli.specs.Texts.{run_text}
 use Rattle.cf_cli.specs.Theorem.{IsAnswerOf, Settles, IsComplete, Kept, TellsEnds, AnswersTo}
 
@@ -43,35 +43,37 @@ ended_not_quiet log why quiet = busy_not_quiet why.0 why.1.1 (λ p. subst (λ (l
 somebody_left : (end : End) (log : Log) (p : ℕ) → IsEnd end log → IsConnected log p → end ≢ HasNoPeers
 somebody_left end log p why here is = let nobody : IsEnd HasNoPeers log = subst (λ (e : End). IsEnd e log) is why in both_ways (connected (trail log p)) (nobody p) here
 
-settles : (end : End) (status : Status) (before after : Option (List ℕ)) (text : List ℕ) (log : Log) → IsAnswerOf end status before after text → IsEnd end log → end ≢ HasNoPeers → IsQuiet log → Settles status
-settles end Done before after text log answer why somebody quiet = tt
-settles end OutFault before after text log answer why somebody quiet = tt
-settles end NoMemory before after text log answer why somebody quiet = tt
-settles end (NoPeers ends) before after text log answer why somebody quiet = absurd (somebody answer.0)
-settles end Tired before after text log answer why somebody quiet = absurd (busy_not_quiet log (subst (λ (e : End). IsEnd e log) answer.0 why) quiet)
-settles end Ended before after text log answer why somebody quiet = absurd (ended_not_quiet log (subst (λ (e : End). IsEnd e log) answer.0 why) quiet)
-settles end Usage before after text log answer why somebody quiet = absurd answer
-settles end (BadFile which place cause) before after text log answer why somebody quiet = absurd answer
-settles end FileFault before after text log answer why somebody quiet = absurd answer
-settles end LinkFault before after text log answer why somebody quiet = absurd answer
-settles end (NoHeight tip) before after text log answer why somebody quiet = absurd answer
-settles end (NotThere txid) before after text log answer why somebody quiet = absurd answer
-settles end (NotAddress cause) before after text log answer why somebody quiet = absurd answer
+settles : (end : End) (status : Status) (recorded : Bool) (before after : Option (List ℕ)) (text : List ℕ) (log : Log) → IsAnswerOf end status before after text → IsEnd end log → end ≢ HasNoPeers → IsQuiet log → Settles status recorded
+settles end Done recorded before after text log answer why somebody quiet = tt
+settles end OutFault recorded before after text log answer why somebody quiet = tt
+settles end NoMemory recorded before after text log answer why somebody quiet = tt
+settles end (NoPeers ends) recorded before after text log answer why somebody quiet = absurd (somebody answer.0)
+settles end Tired recorded before after text log answer why somebody quiet = absurd (busy_not_quiet log (subst (λ (e : End). IsEnd e log) answer.0 why) quiet)
+settles end Ended recorded before after text log answer why somebody quiet = absurd (ended_not_quiet log (subst (λ (e : End). IsEnd e log) answer.0 why) quiet)
+settles end Usage recorded before after text log answer why somebody quiet = absurd answer
+settles end (BadFile which place cause) recorded before after text log answer why somebody quiet = absurd answer
+settles end FileFault recorded before after text log answer why somebody quiet = absurd answer
+settles end LinkFault recorded before after text log answer why somebody quiet = absurd answer
+settles end (NoNonce height) recorded before after text log answer why somebody quiet = absurd answer
+settles end (NoHeight tip) recorded before after text log answer why somebody quiet = absurd answer
+settles end (NotThere txid) recorded before after text log answer why somebody quiet = absurd answer
+settles end (NotAddress cause) recorded before after text log answer why somebody quiet = absurd answer
 
-completes : (end : End) (status : Status) (before after : Option (List ℕ)) (text : List ℕ) → IsAnswerOf end status before after text → end ≢ HasNoPeers → IsComplete status
-completes end Done before after text answer somebody = tt
-completes end OutFault before after text answer somebody = tt
-completes end NoMemory before after text answer somebody = tt
-completes end (NoPeers ends) before after text answer somebody = absurd (somebody answer.0)
-completes end Tired before after text answer somebody = tt
-completes end Ended before after text answer somebody = tt
-completes end Usage before after text answer somebody = absurd answer
-completes end (BadFile which place cause) before after text answer somebody = absurd answer
-completes end FileFault before after text answer somebody = absurd answer
-completes end LinkFault before after text answer somebody = absurd answer
-completes end (NoHeight tip) before after text answer somebody = absurd answer
-completes end (NotThere txid) before after text answer somebody = absurd answer
-completes end (NotAddress cause) before after text answer somebody = absurd answer
+completes : (end : End) (status : Status) (recorded : Bool) (before after : Option (List ℕ)) (text : List ℕ) → IsAnswerOf end status before after text → end ≢ HasNoPeers → IsComplete status recorded
+completes end Done recorded before after text answer somebody = tt
+completes end OutFault recorded before after text answer somebody = tt
+completes end NoMemory recorded before after text answer somebody = tt
+completes end (NoPeers ends) recorded before after text answer somebody = absurd (somebody answer.0)
+completes end Tired recorded before after text answer somebody = tt
+completes end Ended recorded before after text answer somebody = tt
+completes end Usage recorded before after text answer somebody = absurd answer
+completes end (BadFile which place cause) recorded before after text answer somebody = absurd answer
+completes end FileFault recorded before after text answer somebody = absurd answer
+completes end LinkFault recorded before after text answer somebody = absurd answer
+completes end (NoNonce height) recorded before after text answer somebody = absurd answer
+completes end (NoHeight tip) recorded before after text answer somebody = absurd answer
+completes end (NotThere txid) recorded before after text answer somebody = absurd answer
+completes end (NotAddress cause) recorded before after text answer somebody = absurd answer
 
 -- the text of a run that is synced, without a trace
 synced_text : (trace : Bool) (lines : List TraceLine) (end : End) (entries history : List Entry) (height : ℕ) (tip : Hash32) (n : ℕ) (hash : List ℕ)
@@ -92,29 +94,29 @@ history_written watch blocks end height tip entries lines trace before after tol
 quiet_once_synced : (end : End) (log : Log) → IsEnd end log → end ≡ IsSynced → IsQuiet log
 quiet_once_synced end log why is = let synced : IsEnd IsSynced log = subst (λ (e : End). IsEnd e log) is why in synced.0
 
-pub kept_of : (watch : List (List ℕ)) (end : End) (height : ℕ) (tip : Hash32) (entries : List Entry) (lines : List TraceLine) (names : List (List ℕ)) (status : Status) (trace : Bool)
+pub kept_of : (watch : List (List ℕ)) (end : End) (height : ℕ) (tip : Hash32) (entries : List Entry) (lines : List TraceLine) (names : List (List ℕ)) (status : Status) (recorded trace : Bool)
     (before after : Option (List ℕ)) (log : Log)
     → Followed watch end height tip entries lines names log → SyncTheorem watch height tip entries log → IsAnswerOf end status before after (run_text trace lines end entries height tip)
-    → TellsEnds status log → Kept status trace watch names before after log
-kept_of watch end height tip entries lines names status trace before after log followed theorem answer stands = record {
+    → TellsEnds status log → Kept status recorded trace watch names before after log
+kept_of watch end height tip entries lines names status recorded trace before after log followed theorem answer stands = record {
   writes = λ p blocks serves none is off.
       let done = done_text status end before after (run_text trace lines end entries height tip) answer is in
       let told = theorem.exact p blocks serves.apart serves.honest none (quiet_once_synced end log followed.why done.0) in
       history_written watch blocks end height tip entries lines trace before after told off done.0 done.1;
   answers = λ p blocks serves quiet.
       let somebody = somebody_left end log p followed.why (theorem.somebody p blocks serves.apart serves.honest) in
-      settles end status before after (run_text trace lines end entries height tip) log answer followed.why somebody quiet;
+      settles end status recorded before after (run_text trace lines end entries height tip) log answer followed.why somebody quiet;
   complete = λ p blocks serves.
       let somebody = somebody_left end log p followed.why (theorem.somebody p blocks serves.apart serves.honest) in
-      completes end status before after (run_text trace lines end entries height tip) answer somebody;
+      completes end status recorded before after (run_text trace lines end entries height tip) answer somebody;
   never = λ p blocks serves ne. theorem.never p blocks serves.apart serves.honest;
   ran = λ is. record { end = end; height = height; tip = tip; entries = entries; lines = lines; followed = followed; answered = answer; stands = stands };
 }
 
 -- where no memory is found nothing is said
-pub kept_without : (o : Option Log) (watch names : List (List ℕ)) (trace : Bool) (before after : Option (List ℕ)) → IfSome o (λ log. Kept NoMemory trace watch names before after log)
-kept_without None watch names trace before after = tt
-kept_without (Some log) watch names trace before after = record {
+pub kept_without : (o : Option Log) (watch names : List (List ℕ)) (recorded trace : Bool) (before after : Option (List ℕ)) → IfSome o (λ log. Kept NoMemory recorded trace watch names before after log)
+kept_without None watch names recorded trace before after = tt
+kept_without (Some log) watch names recorded trace before after = record {
   writes = λ p blocks serves none is off. cc;
   answers = λ p blocks serves quiet. tt;
   complete = λ p blocks serves. tt;
@@ -122,14 +124,31 @@ kept_without (Some log) watch names trace before after = record {
   ran = λ is. cc;
 }
 
-pub kept_told : (o : Option Log) (watch : List (List ℕ)) (end : End) (height : ℕ) (tip : Hash32) (entries : List Entry) (lines : List TraceLine) (names : List (List ℕ)) (status : Status) (trace : Bool)
+-- where the record can't be written nothing is said but that an honest peer was not closed
+kept_unrecorded : (watch names : List (List ℕ)) (height : ℕ) (tip : Hash32) (entries : List Entry) (recorded trace : Bool) (before after : Option (List ℕ)) (log : Log) → recorded ≡ true
+    → SyncTheorem watch height tip entries log → Kept FileFault recorded trace watch names before after log
+kept_unrecorded watch names height tip entries recorded trace before after log on theorem = record {
+  writes = λ p blocks serves none is off. cc;
+  answers = λ p blocks serves quiet. on;
+  complete = λ p blocks serves. on;
+  never = λ p blocks serves ne. theorem.never p blocks serves.apart serves.honest;
+  ran = λ is. cc;
+}
+
+pub unrecorded_told : (o : Option Log) (watch names : List (List ℕ)) (height : ℕ) (tip : Hash32) (entries : List Entry) (recorded trace : Bool) (before after : Option (List ℕ)) → recorded ≡ true
+    → IfSome o (λ log. SyncTheorem watch height tip entries log) → IfSome o (λ log. Kept FileFault recorded trace watch names before after log)
+unrecorded_told None watch names height tip entries recorded trace before after on theorem = tt
+unrecorded_told (Some log) watch names height tip entries recorded trace before after on theorem =
+    kept_unrecorded watch names height tip entries recorded trace before after log on theorem
+
+pub kept_told : (o : Option Log) (watch : List (List ℕ)) (end : End) (height : ℕ) (tip : Hash32) (entries : List Entry) (lines : List TraceLine) (names : List (List ℕ)) (status : Status) (recorded trace : Bool)
     (before after : Option (List ℕ))
     → IfSome o (λ log. Followed watch end height tip entries lines names log) → IfSome o (λ log. SyncTheorem watch height tip entries log)
     → IsAnswerOf end status before after (run_text trace lines end entries height tip) → IfSome o (TellsEnds status)
-    → IfSome o (λ log. Kept status trace watch names before after log)
-kept_told None watch end height tip entries lines names status trace before after followed theorem answer stands = tt
-kept_told (Some log) watch end height tip entries lines names status trace before after followed theorem answer stands =
-    kept_of watch end height tip entries lines names status trace before after log followed theorem answer stands
+    → IfSome o (λ log. Kept status recorded trace watch names before after log)
+kept_told None watch end height tip entries lines names status recorded trace before after followed theorem answer stands = tt
+kept_told (Some log) watch end height tip entries lines names status recorded trace before after followed theorem answer stands =
+    kept_of watch end height tip entries lines names status recorded trace before after log followed theorem answer stands
 
 -- how the peers stand that the answer tells of
 stands_by : (end : End) (ends : List PeerEnd) (status : Status) (log : Log) → AnswersTo end ends status → EndsTell ends log → TellsEnds status log

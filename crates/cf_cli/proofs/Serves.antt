@@ -12,7 +12,7 @@ use Rattle.cf_serve.specs.declared.fail.ServeFail.{ServeFail}
 use Rattle.cf_serve.specs.declared.fail.ServeFail.TheVariants.{Failed, NoMemory as OutOfMemory}
 use Rattle.cf_service.specs.Machine.{Machine, IsServedBy}
 use Rattle.cf_cli.specs.declared.status.Status.{Status}
-use Rattle.cf_cli.specs.declared.status.Status.TheVariants.{Done, NoMemory, Usage, BadFile, FileFault, OutFault, NoPeers, Tired, Ended, LinkFault, NoHeight, NotThere, NotAddress}
+use Rattle.cf_cli.specs.declared.status.Status.TheVariants.{Done, NoMemory, Usage, BadFile, FileFault, OutFault, NoPeers, Tired, Ended, LinkFault, NoNonce, NoHeight, NotThere, NotAddress}
 use Rattle.cf_cli.specs.Statuses.{was_refused}
 use Rattle.cf_cli.specs.Serving.{listening, ServesAt, MayServe, ServesChain, ServesFile, IsServing, answer_of, may_serve}
 use Rattle.cf_input.specs.declared.words.Command.{Command}
@@ -67,6 +67,7 @@ file_served OutFault moment nonce files file address count was now blocks good i
 file_served (NoPeers ends) moment nonce files file address count was now blocks good is served = absurd served
 file_served Tired moment nonce files file address count was now blocks good is served = absurd served
 file_served Ended moment nonce files file address count was now blocks good is served = absurd served
+file_served (NoNonce height) moment nonce files file address count was now blocks good is served = absurd served
 file_served (NoHeight tip) moment nonce files file address count was now blocks good is served = absurd served
 file_served (NotThere txid) moment nonce files file address count was now blocks good is served = absurd served
 file_served (NotAddress cause) moment nonce files file address count was now blocks good is served = absurd served

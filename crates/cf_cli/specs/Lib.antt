@@ -1,4 +1,6 @@
+pub mod Making
 pub mod Reading
+pub mod Recording
 pub mod Statuses
 pub mod Texts
 pub mod Theorem

@@ -1,5 +1,5 @@
 -- The answers of the program, and what each says of the files.
-use Rattle.std.specs.Prelude.{◌≡◌, ℕ, nat_lt, Bool, true, false, not, if◌then◌else◌, List, length, Option, Some, None, Result, Ok, Err}
+use Rattle.std.specs.Prelude.{◌≡◌, ℕ, nat_lt, Bool, true, false, not, if◌then◌else◌, List, length, Option, Some, None, is_some, Result, Ok, Err}
 use Rattle.std.specs.FinMap as finite
 use Rattle.cf_bytes.specs.Files.{Named}
 use Rattle.cf_bytes.specs.declared.files.FileFail.{FileFail}
@@ -12,12 +12,12 @@ use Rattle.cf_input.specs.declared.session.SessionFault.{SessionFault}
 use Rattle.cf_cli.specs.declared.status.FileCause.{FileCause}
 use Rattle.cf_cli.specs.declared.status.FileCause.TheVariants.{TooBig, Watch as OfWatch, Session as OfSession, Blocks as OfBlocks, Proof as OfProof}
 use Rattle.cf_cli.specs.declared.status.Status.{Status}
-use Rattle.cf_cli.specs.declared.status.Status.TheVariants.{Done, NoMemory, Usage, BadFile, FileFault, OutFault, NoPeers, Tired, Ended, LinkFault, NoHeight, NotThere, NotAddress}
+use Rattle.cf_cli.specs.declared.status.Status.TheVariants.{Done, NoMemory, Usage, BadFile, FileFault, OutFault, NoPeers, Tired, Ended, LinkFault, NoNonce, NoHeight, NotThere, NotAddress}
 use Rattle.cf_cli.specs.declared.status.Which.{Which}
 use Rattle.cf_cli.specs.declared.status.Which.TheVariants.{Watch, Session, Blocks, Proof}
 use Rattle.cf_input.specs.declared.watch_file.WatchFileFault.{WatchFileFault}
 use Rattle.cf_input.specs.declared.words.Command.{Command}
-use Rattle.cf_input.specs.declared.words.Command.TheVariants.{Replay, Sync, Scan, Filter, Address, Prove, Check, Serve}
+use Rattle.cf_input.specs.declared.words.Command.TheVariants.{Replay, Sync, Scan, Filter, Address, Prove, Check, Serve, Make}
 use Rattle.cf_input.specs.ProofFile.{proof_file_of}
 use Rattle.cf_input.specs.declared.proof_file.ProofFileFault.{ProofFileFault}
 use Rattle.cf_input.specs.declared.proof_file.Proven.{Proven}
@@ -35,6 +35,7 @@ code_of (NoPeers ends) = 6
 code_of Tired = 7
 code_of Ended = 8
 code_of LinkFault = 9
+code_of (NoNonce height) = 10
 code_of (NoHeight tip) = 11
 code_of (NotThere txid) = 12
 code_of (NotAddress cause) = 13
@@ -102,13 +103,14 @@ no_file = Good
 
 abbrev pub verdict_of : Named → Command → Verdict
 verdict_of files (Replay trace watch session) = and_then (watch_verdict (finite.get files watch)) (session_verdict (finite.get files session))
-verdict_of files (Sync turns watch peer) = watch_verdict (finite.get files watch)
+verdict_of files (Sync turns workers file watch peers) = watch_verdict (finite.get files watch)
 verdict_of files (Scan file watch) = and_then (watch_verdict (finite.get files watch)) (blocks_verdict (finite.get files file))
 verdict_of files (Filter file height) = blocks_verdict (finite.get files file)
 verdict_of files (Address text) = no_file
 verdict_of files (Prove file txid) = blocks_verdict (finite.get files file)
 verdict_of files (Check file) = proof_verdict (finite.get files file)
 verdict_of files (Serve count file address) = blocks_verdict (finite.get files file)
+verdict_of files (Make seed blocks file) = no_file
 
 -- a file that is missing or refused is answered so, and no other is; a read may fail, and memory may be wanting
 abbrev pub IsJudged : Verdict → Status → Type 0
@@ -136,6 +138,11 @@ was_refused (BadFile which place cause) = true
 was_refused FileFault = true
 was_refused status = false
 
+-- the same of a run; where it is recorded, a file may also fail once it has ended
+abbrev pub was_unbegun : Status → Bool → Bool
+was_unbegun FileFault recorded = not recorded
+was_unbegun status recorded = was_refused status
+
 -- the command was carried out: every other answer but want of memory, those of later commands too, is judged as the end of its work
 abbrev pub has_run : Status → Bool
 has_run NoMemory = false
@@ -146,7 +153,7 @@ has_run status = true
 
 -- whether a command that was answered so may have used the wires that were handed in: `sync` alone does
 abbrev pub may_dial : Option Command → Status → Bool
-may_dial (Some (Sync turns watch peers)) status = not (was_refused status)
+may_dial (Some (Sync turns workers file watch peers)) status = not (was_unbegun status (is_some file))
 may_dial command status = false
 
 -- the same of the tape, which `replay` alone uses

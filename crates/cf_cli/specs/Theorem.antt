@@ -54,21 +54,23 @@ pub record Ran (status : Status) (trace : Bool) (scripts names : List (List ℕ)
   pub answered : IsAnswerOf end status before after (run_text trace lines end entries height tip)
   pub stands : TellsEnds status log
 
--- Done, or the answer of a sink that fails, or of want of memory
-abbrev pub Settles : Status → Type 0
-Settles Done = Unit {0}
-Settles OutFault = Unit {0}
-Settles NoMemory = Unit {0}
-Settles status = ⊥
+-- Done, or the answer of a sink that fails, of want of memory, or of a record that can't be written
+abbrev pub Settles : Status → Bool → Type 0
+Settles Done recorded = Unit {0}
+Settles OutFault recorded = Unit {0}
+Settles NoMemory recorded = Unit {0}
+Settles FileFault recorded = recorded ≡ true
+Settles status recorded = ⊥
 
 -- the answers where a peer is honest to the end of what is taken
-abbrev pub IsComplete : Status → Type 0
-IsComplete Done = Unit {0}
-IsComplete Tired = Unit {0}
-IsComplete Ended = Unit {0}
-IsComplete OutFault = Unit {0}
-IsComplete NoMemory = Unit {0}
-IsComplete status = ⊥
+abbrev pub IsComplete : Status → Bool → Type 0
+IsComplete Done recorded = Unit {0}
+IsComplete Tired recorded = Unit {0}
+IsComplete Ended recorded = Unit {0}
+IsComplete OutFault recorded = Unit {0}
+IsComplete NoMemory recorded = Unit {0}
+IsComplete FileFault recorded = recorded ≡ true
+IsComplete status recorded = ⊥
 
 -- a peer that answers as the serving machine of these blocks does, over a log whose strings, with those of the blocks and of their filters, don't clash
 pub record Serves (log : Log) (p : ℕ) (blocks : List Block) : Type 0 where
@@ -77,21 +79,21 @@ pub record Serves (log : Log) (p : ℕ) (blocks : List Block) : Type 0 where
 
 -- The sync theorem for the program. Whatever peers send: where one of them answers as the serving machine of a chain of blocks does, and no
 -- connected peer has shown another chain as long, a run that answers Done has written exactly the history that a plain scan of every block of
--- that chain gives for the watched scripts, with its tip; it answers Done as soon as no request is open, unless the sink fails or memory is
--- wanting; and it never closes that peer.
-pub record Kept (status : Status) (trace : Bool) (scripts names : List (List ℕ)) (before after : Option (List ℕ)) (log : Log) : Type 0 where
+-- that chain gives for the watched scripts, with its tip; it answers Done as soon as no request is open, unless the sink fails, memory is
+-- wanting, or the record that was asked for can't be written; and it never closes that peer.
+pub record Kept (status : Status) (recorded trace : Bool) (scripts names : List (List ℕ)) (before after : Option (List ℕ)) (log : Log) : Type 0 where
   pub writes : (p : ℕ) (blocks : List Block) → Serves log p blocks → ShowsNoOther log blocks → status ≡ Done → trace ≡ false
       → after ≡ with_more before (history_text (scan_of blocks scripts) (length blocks) (tip_hash (headers_of blocks)))
-  pub answers : (p : ℕ) (blocks : List Block) → Serves log p blocks → IsQuiet log → Settles status
-  pub complete : (p : ℕ) (blocks : List Block) → Serves log p blocks → IsComplete status
+  pub answers : (p : ℕ) (blocks : List Block) → Serves log p blocks → IsQuiet log → Settles status recorded
+  pub complete : (p : ℕ) (blocks : List Block) → Serves log p blocks → IsComplete status recorded
   pub never : (p : ℕ) (blocks : List Block) → Serves log p blocks → status ≢ NoMemory → IsNeverClosed log p
   pub ran : has_run status ≡ true → Ran status trace scripts names before after log
 
 -- the same with the scripts of the watch file
-pub record KeptOver (status : Status) (trace : Bool) (files : Option Named) (watch : List ℕ) (names : List (List ℕ)) (before after : Option (List ℕ)) (log : Log) : Type 0 where
+pub record KeptOver (status : Status) (recorded trace : Bool) (files : Option Named) (watch : List ℕ) (names : List (List ℕ)) (before after : Option (List ℕ)) (log : Log) : Type 0 where
   pub scripts : List (List ℕ)
   pub watched : has_run status ≡ true → IfSome files (λ m. IfSome (finite.get m watch) (λ bytes. watch_of bytes ≡ Ok scripts))
-  pub kept : Kept status trace scripts names before after log
+  pub kept : Kept status recorded trace scripts names before after log
 
 -- an answer that comes only where a peer is connected
 abbrev pub has_somebody : Status → Bool
@@ -158,7 +160,7 @@ AnswersTo HasEnded ends status = status ≡ Ended
 -- what is promised of `replay` over a tape: the same, of a log whose names aren't told
 abbrev pub IsReplayed : Status → ℕ → Bool → Option Named → List ℕ → Option (List ℕ) → Option (List ℕ) → Told → Told → Log → Type 0
 IsReplayed status turns trace files watch before after was now log =
-    (names : List (List ℕ)) × KeptOver status trace files watch names before after log × Tallied status turns (length names) was now
+    (names : List (List ℕ)) × KeptOver status false trace files watch names before after log × Tallied status turns (length names) was now
 
 -- what the log says of a session that was read
 abbrev pub PlaysSession : Status → Result Script SessionFault → Log → Type 0

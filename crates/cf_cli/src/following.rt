@@ -1,19 +1,22 @@
 //! A run of the client over any wires, and what is written of it.
-ghost use Rattle.std.specs.Prelude.{◌≡◌, ◌≤◌, [], length, IfSome, true, false};
+ghost use Rattle.std.specs.Prelude.{◌≡◌, ◌≤◌, [], length, IfSome, is_some, true, false};
 ghost use Rattle.cf_bytes.specs.Outside.{HasRisen};
 ghost use Rattle.cf_client.specs.Names.{names_in};
 ghost use Rattle.cf_client.specs.Run.{Course, HasDialled, HasFailed};
 ghost use Rattle.cf_client.specs.Versions.{HasWords};
 ghost use Rattle.cf_peer.specs.Log.{Tells};
-ghost use Rattle.cf_cli.specs.Statuses.{has_run, was_refused};
+ghost use Rattle.cf_cli.specs.Recording.{Records};
+ghost use Rattle.cf_cli.specs.Statuses.{has_run, was_refused, was_unbegun};
 ghost use Rattle.cf_cli.specs.Theorem.{Kept, Tallied, AnswersTo, IsOfRun};
 
+use crate::recording::{keep_where, write_record};
 use crate::status::Status;
 use crate::texts::text_of;
-use cf_bytes::{Sink, put_all};
+use cf_bytes::{Files, Refused, Sink, put_all};
 use cf_client::{End, PeerEnd, sync_over};
 use cf_headers::Lists;
-use cf_match::Plain;
+use cf_input::Word;
+use cf_match::Matcher;
 use cf_peer::Wires;
 use cf_scan::Watch;
 use std::alloc::Global;
@@ -34,12 +37,16 @@ fn status_of(end: End, ends: Vec<PeerEnd>) -> Status
 }
 
 /// Follows the chains that the peers of these names show, and writes the trace where it is asked for, and the history of the watched scripts and
-/// the tip once nothing is open. The wires are new, and not finished.
-pub(crate) fn follow<W: Wires, O: Sink>(
+/// the tip once nothing is open. The wires are new, and not finished. Where a file is named for the log, its session lines are written to it before
+/// any text.
+pub(crate) fn follow<F: Files, W: Wires, M: Matcher + Drop, O: Sink>(
     alloc: Global,
+    files: &mut F,
     wires: &mut W,
+    log_file: &Option<Word>,
     names: &[String],
     watch: Watch,
+    matcher: M,
     moment: i64,
     nonce: u64,
     turns: u32,
@@ -49,20 +56,22 @@ pub(crate) fn follow<W: Wires, O: Sink>(
     requires fresh { Tells [] (W.told wires.old) }
     requires open { (W.told wires.old).finished ≡ false }
     requires few { length names.now ≤ 8 }
-    ensures kept { IfSome (W.told wires.new).log (λ log. Kept result trace watch (names_in names.now) (O.written out.old) (O.written out.new) log) }
+    ensures kept { IfSome (W.told wires.new).log (λ log. Kept result (is_some log_file.now) trace watch (names_in names.now) (O.written out.old) (O.written out.new) log) }
     ensures tallied { Tallied result turns (length (names_in names.now)) (W.told wires.old) (W.told wires.new) }
     ensures versions { HasWords (record { moment = moment; number = nonce }) (W.told wires.new) }
     ensures dialled { HasDialled (names_in names.now) (W.told wires.new) }
     ensures same { W.script wires.new ≡ W.script wires.old }
     ensures failures { IfSome (W.told wires.new).log (λ log. HasFailed log → HasRisen (W.faults wires.old) (W.faults wires.new)) }
+    ensures records { Records result log_file.now (W.told wires.new).log (F.files files.old) (F.files files.new) }
+    ensures file_fault { result ≡ Status.FileFault → HasRisen (F.faults files.old) (F.faults files.new) }
     ensures out_fault { result ≡ Status.OutFault → HasRisen (O.faults out.old) (O.faults out.new) }
     ensures unwritten { has_run result ≡ false → O.written out.new ≡ O.written out.old }
-    ensures unrefused { was_refused result ≡ false }
+    ensures begun { was_unbegun result (is_some log_file.now) ≡ false }
 {
     let Ok(store) = Lists::new(alloc) else {
         return Status::NoMemory;
     };
-    let matcher = Plain::new(alloc);
+    keep_where(wires, log_file);
     let Ok(outcome) = sync_over(
         alloc, wires, names, watch, store, matcher, moment, nonce, turns,
     ) else {
@@ -71,6 +80,11 @@ pub(crate) fn follow<W: Wires, O: Sink>(
     let Ok(text) = text_of(alloc, &outcome, trace) else {
         return Status::NoMemory;
     };
+    match write_record(alloc, files, wires, log_file) {
+        Ok(()) => {}
+        Err(Refused::NoMemory) => return Status::NoMemory,
+        Err(Refused::No(_)) => return Status::FileFault,
+    }
     match put_all(out, &text) {
         Ok(()) => status_of(outcome.end, outcome.ends),
         Err(_) => Status::OutFault,

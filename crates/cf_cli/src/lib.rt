@@ -4,10 +4,12 @@
 mod addressing;
 mod following;
 mod loading;
+mod making;
 mod own_texts;
 mod program;
 mod proving;
 mod reading;
+mod recording;
 mod serving;
 mod status;
 mod texts;

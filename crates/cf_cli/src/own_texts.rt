@@ -21,11 +21,12 @@ filter may hold a script. The last line is the tip of the chain:
 usage: cf scan FILE WATCH
        cf filter FILE HEIGHT
        cf replay [--trace] WATCH SESSION
-       cf sync [--turns N] WATCH PEER..
+       cf sync [--turns N] [--workers N] [--record FILE] WATCH PEER..
        cf serve [--connections N] FILE ADDRESS
        cf address TEXT
        cf prove FILE TXID
        cf check FILE
+       cf make SEED BLOCKS FILE
        cf --help
        cf --version
 
@@ -33,8 +34,7 @@ usage: cf scan FILE WATCH
   filter   checks the blocks of FILE, and prints the hash, the basic filter
            and the filter header of the block at HEIGHT (0 is genesis)
   replay   runs the client on what SESSION says that came from the peers
-  sync     runs the client on the network, with 1 to 8 peers, each HOST:PORT;
-           this version opens no connection yet, so each dial fails
+  sync     runs the client on the network, with 1 to 8 peers, each HOST:PORT
   serve    checks the blocks of FILE, and serves them and their filters to N
            connections (else 1000000) at ADDRESS, HOST:PORT; port 0 is any
   address  prints the script of an address of regtest, in hexadecimal, or the
@@ -43,10 +43,15 @@ usage: cf scan FILE WATCH
            TXID and a proof that it stands in its block
   check    checks a proof that prove has printed to FILE, and prints the block
            and the transaction; it cannot tell whether the block is in a chain
+  make     writes the blocks of a made chain to FILE, from height 1 to BLOCKS,
+           1 to 100000; SEED, 0 to 4294967295, says which chain
 
-  --trace  prints first what was sent to peer P, as `> P COMMAND`, and which
-           peer was closed, as `x P CAUSE`
-  --turns  takes at most N deliveries, from 1 to 10000000 (else 10000000)
+  --trace    prints first what was sent to peer P, as `> P COMMAND`, and which
+             peer was closed, as `x P CAUSE`
+  --turns    takes at most N deliveries, from 1 to 10000000 (else 10000000)
+  --workers  judges filters in N threads, from 1 to 64 (else 4)
+  --record   writes the dials and what came from the peers to FILE, as the
+             lines of a session
 
 A line of the history, in hundred millionths of a coin:
     HEIGHT TXID +RECEIVED -SPENT BALANCE
@@ -73,12 +78,13 @@ The exit status:
   2  the words are no command
   3  a file is not in its form; the message names its first wrong line or
      record
-  4  a file could not be read
+  4  a file could not be read or written
   5  the text could not be written
   6  no peer is left: each was closed, has gone or was not reached
   7  N deliveries were taken, and an answer was still to come
   8  the session was at its end, and an answer was still to come
   9  ADDRESS could not be listened at, or no connection could be accepted
+ 10  no nonce that is tried makes a block of the made chain
  11  HEIGHT is above the tip of FILE
  12  no block of FILE has a transaction whose hash is TXID
  13  TEXT is neither an address of regtest nor the script of one

@@ -1,5 +1,5 @@
 //! All that the program does.
-ghost use Rattle.std.specs.Prelude.{◌≡◌, ◌≢◌, ◌≤◌, ◌⊎◌, ℕ, Bool, true, false, List, [], ◌∷◌, length, IfOk, IfErr, IfSome, IsErrOf, OnOk, Some, None, Ok};
+ghost use Rattle.std.specs.Prelude.{◌≡◌, ◌≢◌, ◌≤◌, ◌⊎◌, ℕ, Bool, true, false, List, [], ◌∷◌, length, Option, IfOk, IfErr, IfSome, IsErrOf, OnOk, is_some, Some, None, Ok};
 ghost use Rattle.std.specs.FinMap as finite;
 ghost use Rattle.cf_bytes.specs.Outside.{HasRisen};
 ghost use Rattle.cf_client.specs.Names.{names_in};
@@ -10,31 +10,38 @@ ghost use Rattle.cf_peer.specs.Log.{Tells, is_real};
 ghost use Rattle.cf_peer.specs.Memory.{log_of, failing_of, finished_of, told_of};
 ghost use Rattle.cf_input.specs.SessionFile.{session_of};
 ghost use Rattle.cf_input.specs.Sessions.{script_in, AreNamed};
-ghost use Rattle.cf_cli.specs.Statuses.{IsJudged, IsReadAs, IsUnread, IsOfFile, has_run, was_refused, may_dial, may_play, and_then, verdict_of, watch_verdict, session_verdict};
+ghost use Rattle.cf_cli.specs.Recording.{Records, may_write};
+ghost use Rattle.cf_cli.specs.Statuses.{IsJudged, IsReadAs, IsUnread, IsOfFile, has_run, was_refused, was_unbegun, may_dial, may_play, and_then, verdict_of, watch_verdict, session_verdict};
 ghost use Rattle.cf_bytes.specs.declared.hash.Hash32.{Hash32};
 ghost use Rattle.cf_serve.specs.Links.{link_now};
 ghost use Rattle.cf_cli.specs.Proving.{IsProved, IsChecked};
 ghost use Rattle.cf_cli.specs.Serving.{IsServing, may_serve};
+ghost use Rattle.cf_cli.specs.Making.{IsMaking};
 ghost use Rattle.cf_cli.specs.Reading.{IsScanned, IsFiltered, IsAddressed};
 ghost use Rattle.cf_cli.specs.Theorem.{KeptOver, IsReplayed, Tallied, PlaysSession};
 ghost use Rattle.cf_input.specs.Words.{command_of, HasFewPeers};
 ghost use Rattle.cf_input.specs.declared.words.Command.{Command};
-ghost use Rattle.cf_input.specs.declared.words.Command.TheVariants.{Replay, Sync, Scan, Filter, Address, Prove, Check, Serve};
+ghost use Rattle.cf_input.specs.declared.words.Command.TheVariants.{Replay, Sync, Scan, Filter, Address, Prove, Check, Serve, Make};
 
 use crate::addressing::address;
 use crate::following::follow;
 use crate::loading::{load_session, load_watch};
+use crate::making::make;
 use crate::proving::{check, prove};
 use crate::reading::{filter, scan};
 use crate::serving::serve;
 use crate::status::Status;
 use cf_bytes::{Files, Refused, Sink};
 use cf_conn::Duplex;
-use cf_input::{Command, MOST_TURNS, read_words};
+use cf_input::{Command, MOST_TURNS, Word, read_words};
+use cf_match::Plain;
+use cf_parallel::Parallel;
 use cf_peer::{MemoryWires, Wires};
 use cf_serve::Link;
 use cf_tasks::Spawner;
 use std::alloc::Global;
+use std::sync::Wait;
+use std::thread::Threads;
 
 // Follows the session of a file, on the tape that is handed in.
 fn replay<F: Files, O: Sink>(
@@ -73,9 +80,12 @@ fn replay<F: Files, O: Sink>(
     tape.load(session.dials, session.deliveries);
     follow(
         alloc,
+        files,
         tape,
+        &None,
         &session.names,
         scripts,
+        Plain::new(alloc),
         moment,
         nonce,
         MOST_TURNS,
@@ -84,44 +94,69 @@ fn replay<F: Files, O: Sink>(
     )
 }
 
-// Follows the peers of these names, of one to eight, over the wires that are handed in.
-fn sync<F: Files, W: Wires, O: Sink>(
+// Follows the peers of these names, of one to eight, over the wires that are handed in, and records what passes them where a file is named for it.
+// Filters are judged by so many threads.
+fn sync<R: Wait + Threads + Copy + Drop + Send + 'static, F: Files, W: Wires, K: Spawner, O: Sink>(
+    rt: R,
     alloc: Global,
     files: &mut F,
     watch: &str,
     peers: &[String],
+    log_file: &Option<Word>,
+    workers: u32,
     moment: i64,
     nonce: u64,
     turns: u32,
     wires: &mut W,
+    spawner: &mut K,
     out: &mut O,
 ) -> Status
     requires fresh { Tells [] (W.told wires.old) }
     requires open { (W.told wires.old).finished ≡ false }
     requires few { length peers.now ≤ 8 }
+    requires some { 1 ≤ workers }
+    requires most { workers ≤ 64 }
     ensures judged { IfSome (F.files files.old) (λ m. IsJudged (watch_verdict (finite.get m watch.now)) result) }
-    ensures kept { IfSome (W.told wires.new).log (λ log. KeptOver result false (F.files files.old) watch.now (names_in peers.now) (O.written out.old) (O.written out.new) log) }
+    ensures kept { IfSome (W.told wires.new).log (λ log. KeptOver result (is_some log_file.now) false (F.files files.old) watch.now (names_in peers.now) (O.written out.old) (O.written out.new) log) }
     ensures tallied { Tallied result turns (length (names_in peers.now)) (W.told wires.old) (W.told wires.new) }
     ensures versions { HasWords (record { moment = moment; number = nonce }) (W.told wires.new) }
     ensures failures { IfSome (W.told wires.new).log (λ log. HasFailed log → HasRisen (W.faults wires.old) (W.faults wires.new)) }
-    ensures unchanged { F.files files.new ≡ F.files files.old }
+    ensures records { Records result log_file.now (W.told wires.new).log (F.files files.old) (F.files files.new) }
     ensures file_fault { result ≡ Status.FileFault → HasRisen (F.faults files.old) (F.faults files.new) }
     ensures out_fault { result ≡ Status.OutFault → HasRisen (O.faults out.old) (O.faults out.new) }
     ensures unwritten { has_run result ≡ false → O.written out.new ≡ O.written out.old }
-    ensures undialled { was_refused result ≡ true → W.told wires.new ≡ W.told wires.old }
+    ensures undialled { was_unbegun result (is_some log_file.now) ≡ true → W.told wires.new ≡ W.told wires.old }
     ensures asked { result ≢ Status.Usage }
 {
     let scripts = match load_watch(alloc, files, watch) {
         Ok(scripts) => scripts,
         Err(status) => return status,
     };
+    let Ok(matcher) = Parallel::new(rt, alloc, spawner, workers) else {
+        return Status::NoMemory;
+    };
     follow(
-        alloc, wires, peers, scripts, moment, nonce, turns, false, out,
+        alloc, files, wires, log_file, peers, scripts, matcher, moment, nonce, turns, false, out,
     )
 }
 
+// So many threads, as far as a matcher may have them. The words ask for no others.
+fn threads_of(workers: u32) -> u32
+    ensures { (1 ≤ result) × (result ≤ 64) }
+{
+    workers.clamp(1, 64)
+}
+
 // Does what a command asks.
-fn perform<F: Files, W: Wires, L: Link, K: Spawner, O: Sink>(
+fn perform<
+    R: Wait + Threads + Sync + Copy + Drop + Send + 'static,
+    F: Files,
+    W: Wires,
+    L: Link,
+    K: Spawner,
+    O: Sink,
+>(
+    rt: R,
     alloc: Global,
     command: Command,
     moment: i64,
@@ -143,7 +178,7 @@ where
     requires open { finished_of tape.old ≡ false }
     requires few { HasFewPeers command }
     ensures judged { IfSome (F.files files.old) (λ m. IsJudged (verdict_of m command) result) }
-    ensures sync { (turns : ℕ) (watch : List ℕ) (peers : List (List ℕ)) → command ≡ Sync turns watch peers → IfSome (W.told wires.new).log (λ log. KeptOver result false (F.files files.old) watch peers (O.written out.old) (O.written out.new) log) × Tallied result turns (length peers) (W.told wires.old) (W.told wires.new) }
+    ensures sync { (turns workers : ℕ) (file : Option (List ℕ)) (watch : List ℕ) (peers : List (List ℕ)) → command ≡ Sync turns workers file watch peers → IfSome (W.told wires.new).log (λ log. KeptOver result (is_some file) false (F.files files.old) watch peers (O.written out.old) (O.written out.new) log) × Tallied result turns (length peers) (W.told wires.old) (W.told wires.new) }
     ensures replay { (trace : Bool) (watch session : List ℕ) → command ≡ Replay trace watch session → IsReplayed result MOST_TURNS trace (F.files files.old) watch (O.written out.old) (O.written out.new) (told_of tape.old) (told_of tape.new) (log_of tape.new) }
     ensures plays { (trace : Bool) (watch session : List ℕ) → command ≡ Replay trace watch session → IfSome (F.files files.old) (λ m. IfSome (finite.get m session) (λ bytes. PlaysSession result (session_of bytes) (log_of tape.new))) }
     ensures versions { HasWords (record { moment = moment; number = nonce }) (W.told wires.new) }
@@ -154,7 +189,9 @@ where
     ensures prove { (file : List ℕ) (txid : Hash32) → command ≡ Prove file txid → IsProved result (F.files files.old) file txid (O.written out.old) (O.written out.new) }
     ensures check { (file : List ℕ) → command ≡ Check file → IsChecked result (F.files files.old) file (O.written out.old) (O.written out.new) }
     ensures serve { (count : ℕ) (file address : List ℕ) → command ≡ Serve count file address → IsServing result moment nonce (F.files files.old) file address count (link_now L.addresses L.accepted L.owed L.conns L.given link.old) (link_now L.addresses L.accepted L.owed L.conns L.given link.new) × (O.written out.new ≡ O.written out.old) }
-    ensures unchanged { F.files files.new ≡ F.files files.old }
+    ensures make { (seed blocks : ℕ) (file : List ℕ) → command ≡ Make seed blocks file → IsMaking result seed blocks file (F.files files.old) (F.files files.new) × (O.written out.new ≡ O.written out.old) }
+    ensures records { (turns workers : ℕ) (file : Option (List ℕ)) (watch : List ℕ) (peers : List (List ℕ)) → command ≡ Sync turns workers file watch peers → Records result file (W.told wires.new).log (F.files files.old) (F.files files.new) }
+    ensures unchanged { may_write (Some command) ≡ false → F.files files.new ≡ F.files files.old }
     ensures file_fault { result ≡ Status.FileFault → HasRisen (F.faults files.old) (F.faults files.new) }
     ensures out_fault { result ≡ Status.OutFault → HasRisen (O.faults out.old) (O.faults out.new) }
     ensures unwritten { has_run result ≡ false → O.written out.new ≡ O.written out.old }
@@ -183,21 +220,27 @@ where
         ),
         Command::Sync {
             turns,
+            workers,
+            record,
             watch,
             peers,
         } => sync(
+            rt,
             alloc,
             files,
             watch.as_str(),
             peers.as_slice(),
+            &record,
+            threads_of(workers),
             moment,
             nonce,
             turns,
             wires,
+            spawner,
             out,
         ),
         Command::Scan { file, watch } => scan(alloc, files, file.as_str(), watch.as_str(), out),
-        Command::Filter { file, height } => filter(alloc, files, file.as_str(), height, out),
+        Command::Filter { file, height } => filter(&rt, alloc, files, file.as_str(), height, out),
         Command::Address { text } => address(alloc, text.as_str(), out),
         Command::Prove { file, txid } => prove(alloc, files, file.as_str(), &txid, out),
         Command::Check { file } => check(alloc, files, file.as_str(), out),
@@ -206,6 +249,7 @@ where
             file,
             address,
         } => serve(
+            &rt,
             alloc,
             files,
             file.as_str(),
@@ -216,17 +260,29 @@ where
             link,
             spawner,
         ),
+        Command::Make { seed, blocks, file } => make(alloc, files, seed, blocks, file.as_str()),
     }
 }
 
 /// All that the program does. The first word is the program's name; `moment` is the time in seconds since 1970 and `nonce` a random number, which
 /// the client's `version` tells. `sync` goes over `wires`, and `replay` over `tape`; both are new, nothing has passed them, they aren't finished, and
-/// no call of `tape` is to fail. `serve` goes over `link`, and starts its connections by `spawner`. The text goes to `out`.
+/// no call of `tape` is to fail. `serve` goes over `link`, and starts its connections by `spawner`, and so does `sync` the threads that judge filters. The
+/// text goes to `out`.
 ///
 /// `NoMemory` may come in place of any other answer. `Usage` comes where the words ask for nothing. The watch file is judged first, then the session
-/// file: what is missing, refused or good is answered so. After that the run is made, and its text written. With `NoMemory`, `Usage`, `BadFile` and
-/// `FileFault` nothing was written; with the last three no wires were used, and `sync` alone uses `wires`, `replay` alone `tape`, `serve` alone `link`.
-pub fn run<F: Files, W: Wires, L: Link, K: Spawner, O: Sink>(
+/// file: what is missing, refused or good is answered so. After that the run is made; a record of it, where `sync` is asked for one, is put into its
+/// file; and its text is written. With `NoMemory`, `Usage`, `BadFile` and `FileFault` no text was written. With the last three no wires were used, but
+/// for a `FileFault` that comes where the record can't be written; `sync` alone uses `wires`, `replay` alone `tape`, `serve` alone `link`. `make` puts
+/// its records into its file; of the other commands only `sync` with a record changes a file.
+pub fn run<
+    R: Wait + Threads + Sync + Copy + Drop + Send + 'static,
+    F: Files,
+    W: Wires,
+    L: Link,
+    K: Spawner,
+    O: Sink,
+>(
+    rt: R,
     alloc: Global,
     words: &[String],
     moment: i64,
@@ -249,7 +305,7 @@ where
     ensures usage { result ≡ Status.Usage → command_of (names_in words.now) ≡ None }
     ensures unasked { command_of (names_in words.now) ≡ None → (result ≡ Status.Usage) ⊎ (result ≡ Status.NoMemory) }
     ensures judged { IfSome (F.files files.old) (λ m. (c : Command) → command_of (names_in words.now) ≡ Some c → IsJudged (verdict_of m c) result) }
-    ensures sync { (turns : ℕ) (watch : List ℕ) (peers : List (List ℕ)) → command_of (names_in words.now) ≡ Some (Sync turns watch peers) → IfSome (W.told wires.new).log (λ log. KeptOver result false (F.files files.old) watch peers (O.written out.old) (O.written out.new) log) × Tallied result turns (length peers) (W.told wires.old) (W.told wires.new) }
+    ensures sync { (turns workers : ℕ) (file : Option (List ℕ)) (watch : List ℕ) (peers : List (List ℕ)) → command_of (names_in words.now) ≡ Some (Sync turns workers file watch peers) → IfSome (W.told wires.new).log (λ log. KeptOver result (is_some file) false (F.files files.old) watch peers (O.written out.old) (O.written out.new) log) × Tallied result turns (length peers) (W.told wires.old) (W.told wires.new) }
     ensures replay { (trace : Bool) (watch session : List ℕ) → command_of (names_in words.now) ≡ Some (Replay trace watch session) → IsReplayed result MOST_TURNS trace (F.files files.old) watch (O.written out.old) (O.written out.new) (told_of tape.old) (told_of tape.new) (log_of tape.new) }
     ensures plays { (trace : Bool) (watch session : List ℕ) → command_of (names_in words.now) ≡ Some (Replay trace watch session) → IfSome (F.files files.old) (λ m. IfSome (finite.get m session) (λ bytes. PlaysSession result (session_of bytes) (log_of tape.new))) }
     ensures versions { HasWords (record { moment = moment; number = nonce }) (W.told wires.new) }
@@ -260,7 +316,9 @@ where
     ensures prove { (file : List ℕ) (txid : Hash32) → command_of (names_in words.now) ≡ Some (Prove file txid) → IsProved result (F.files files.old) file txid (O.written out.old) (O.written out.new) }
     ensures check { (file : List ℕ) → command_of (names_in words.now) ≡ Some (Check file) → IsChecked result (F.files files.old) file (O.written out.old) (O.written out.new) }
     ensures serve { (count : ℕ) (file address : List ℕ) → command_of (names_in words.now) ≡ Some (Serve count file address) → IsServing result moment nonce (F.files files.old) file address count (link_now L.addresses L.accepted L.owed L.conns L.given link.old) (link_now L.addresses L.accepted L.owed L.conns L.given link.new) × (O.written out.new ≡ O.written out.old) }
-    ensures unchanged { F.files files.new ≡ F.files files.old }
+    ensures make { (seed blocks : ℕ) (file : List ℕ) → command_of (names_in words.now) ≡ Some (Make seed blocks file) → IsMaking result seed blocks file (F.files files.old) (F.files files.new) × (O.written out.new ≡ O.written out.old) }
+    ensures records { (turns workers : ℕ) (file : Option (List ℕ)) (watch : List ℕ) (peers : List (List ℕ)) → command_of (names_in words.now) ≡ Some (Sync turns workers file watch peers) → Records result file (W.told wires.new).log (F.files files.old) (F.files files.new) }
+    ensures unchanged { may_write (command_of (names_in words.now)) ≡ false → F.files files.new ≡ F.files files.old }
     ensures file_fault { result ≡ Status.FileFault → HasRisen (F.faults files.old) (F.faults files.new) }
     ensures out_fault { result ≡ Status.OutFault → HasRisen (O.faults out.old) (O.faults out.new) }
     ensures unwritten { has_run result ≡ false → O.written out.new ≡ O.written out.old }
@@ -272,7 +330,7 @@ where
 {
     match read_words(alloc, words) {
         Ok(command) => perform(
-            alloc, command, moment, nonce, files, wires, tape, link, spawner, out,
+            rt, alloc, command, moment, nonce, files, wires, tape, link, spawner, out,
         ),
         Err(Refused::No(_)) => Status::Usage,
         Err(Refused::NoMemory) => Status::NoMemory,

@@ -14,6 +14,7 @@ use cf_bytes::{Files, Hash32, NoMemory, Sink, put_all, show};
 use cf_index::{CheckedChain, Index};
 use cf_scan::{Watch, scan as scan_blocks};
 use std::alloc::Global;
+use std::thread::Threads;
 
 // The history of the watched scripts, and the tip.
 fn text_of_scan(alloc: Global, chain: &CheckedChain, watch: &Watch) -> Result<String, NoMemory>
@@ -128,7 +129,8 @@ pub(crate) fn scan<F: Files, O: Sink>(
 }
 
 /// Writes the hash, the filter and the filter header of the block at a height of a file of blocks.
-pub(crate) fn filter<F: Files, O: Sink>(
+pub(crate) fn filter<R: Threads + Sync, F: Files, O: Sink>(
+    rt: &R,
     alloc: Global,
     files: &mut F,
     file: &str,
@@ -143,20 +145,26 @@ pub(crate) fn filter<F: Files, O: Sink>(
     ensures out_fault { result ≡ Status.OutFault → HasRisen (O.faults out.old) (O.faults out.new) }
 {
     match load_chain(alloc, files, file) {
-        Ok(chain) => filter_in(alloc, chain, height, out),
+        Ok(chain) => filter_in(rt, alloc, chain, height, out),
         Err(status) => status,
     }
 }
 
 // Writes the lines of the block at a height of a chain, whose filters are built first.
-fn filter_in<O: Sink>(alloc: Global, chain: CheckedChain, height: u32, out: &mut O) -> Status
+fn filter_in<R: Threads + Sync, O: Sink>(
+    rt: &R,
+    alloc: Global,
+    chain: CheckedChain,
+    height: u32,
+    out: &mut O,
+) -> Status
     ensures told { TellsHeight result (O.written out.old) (O.written out.new) chain height (nat_lt (length chain) height) }
     ensures answers { IsOfFilter result (O.written out.old) (O.written out.new) }
     ensures unwritten { has_run result ≡ false → O.written out.new ≡ O.written out.old }
     ensures fault { result ≡ Status.OutFault → HasRisen (O.faults out.old) (O.faults out.new) }
     ensures ends { IsOfHeight result }
 {
-    match Index::of(alloc, chain) {
+    match Index::of(rt, alloc, chain) {
         Ok(index) => write_filter(alloc, &index, height, out),
         Err(NoMemory) => Status::NoMemory,
     }

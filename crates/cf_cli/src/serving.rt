@@ -16,9 +16,11 @@ use cf_serve::{Link, ServeFail, serve as serve_all};
 use cf_service::Server;
 use cf_tasks::Spawner;
 use std::alloc::Global;
+use std::thread::Threads;
 
 // The server of a chain.
 fn server_of(
+    rt: &(impl Threads + Sync),
     alloc: Global,
     chain: CheckedChain,
     moment: i64,
@@ -26,7 +28,7 @@ fn server_of(
 ) -> Result<Server, NoMemory>
     ensures { IfOk result (λ s. s ≡ record { blocks = chain; moment = moment; nonce = nonce }) }
 {
-    let index = Index::of(alloc, chain)?;
+    let index = Index::of(rt, alloc, chain)?;
     Server::new(alloc, index, moment, nonce)
 }
 
@@ -66,7 +68,8 @@ fn status_of(answer: Result<(), ServeFail>) -> Status
 }
 
 // Serves a chain, whose filters are built first.
-fn serve_chain<L: Link, K: Spawner>(
+fn serve_chain<R: Threads + Sync, L: Link, K: Spawner>(
+    rt: &R,
     alloc: Global,
     chain: CheckedChain,
     address: &str,
@@ -84,7 +87,7 @@ where
 {
     let tip = chain.tip();
     let tip_hash = chain.tip_hash();
-    match server_of(alloc, chain, moment, nonce) {
+    match server_of(rt, alloc, chain, moment, nonce) {
         Ok(server) => status_of(serve_at(
             alloc,
             &server,
@@ -100,7 +103,8 @@ where
 }
 
 /// Serves the chain of a file of blocks to so many connections, once the file is read and judged. The link listens at the address then.
-pub(crate) fn serve<F: Files, L: Link, K: Spawner>(
+pub(crate) fn serve<R: Threads + Sync, F: Files, L: Link, K: Spawner>(
+    rt: &R,
     alloc: Global,
     files: &mut F,
     file: &str,
@@ -123,6 +127,7 @@ where
 {
     match load_chain(alloc, files, file) {
         Ok(chain) => serve_chain(
+            rt,
             alloc,
             chain,
             address,

@@ -102,6 +102,11 @@ pub enum Status {
     /// The link could not listen, or could accept no further connection. All that were accepted were served.
     #[error("the address can't be listened at, or no connection could be accepted")]
     LinkFault,
+    /// None of the nonces from 0 to 65,535 meets the target, at this height of the chain that was to be made.
+    #[error("no nonce from 0 to 65535 meets the target at height {height}")]
+    NoNonce {
+        height: u32,
+    },
     /// The height that was asked for is above the file's tip, which has this height.
     #[error("the height is above the tip of the file, which is at {tip}")]
     NoHeight {
@@ -135,6 +140,7 @@ impl Status {
             Status::Tired => 7,
             Status::Ended => 8,
             Status::LinkFault => 9,
+            Status::NoNonce { .. } => 10,
             Status::NoHeight { .. } => 11,
             Status::NotThere { .. } => 12,
             Status::NotAddress { .. } => 13,

@@ -1,13 +1,13 @@
 use Rattle.std.proofs.Common.{List, ℕ, rules, take, sym, ◌∙◌, ap}
 use Rattle.std.proofs.Math.Facts.{to_z-of_z}
 use Rattle.std.specs.Int.{w64}
-use Rattle.std.specs.Prelude.{string_bytes}
+use Rattle.std.specs.Prelude.{string_bytes, is_some}
 use Rattle.std.proofs.lemmas.List.{length-map}
 use Rattle.cf_bytes.specs.Outside.{with_more}
 use Rattle.cf_client.specs.Names.{names_in}
 use Rattle.cf_cli.specs.declared.status.Status.TheVariants.{NoMemory, OutFault}
 use Rattle.cf_client.proofs.Versions.{new_words}
-use Rattle.cf_cli.proofs.Runs.{answered, kept_told, kept_without, stands_told, stands_unsaid}
+use Rattle.cf_cli.proofs.Runs.{answered, kept_told, kept_without, unrecorded_told, stands_told, stands_unsaid}
 use Rattle.cf_cli.proofs.Plays.{versions_so, early_tallied, spent_tallied, unwritten_tallied, run_tallied, new_dialled, new_unfailed}
 use Rattle.cf_cli.proofs.following.follow.Goals as goal
 
@@ -16,7 +16,7 @@ returns-in-Ok-put_all-clause-kept g c =
     let o = c.in-Ok-sync_over.outcome in
     let before = g.O.Sink.written c.args.out.now in
     let text = c.deref.ensures.value ∙ c.in-Ok-text_of.ensures in
-    kept_told (g.W.Wires.told c.sync_over.new.wires).log c.args.watch o.end o.height o.tip o.history o.trace.items (names_in c.args.names.now) c.status_of.result c.args.trace before (g.O.Sink.written c.put_all.new.sink)
+    kept_told (g.W.Wires.told c.sync_over.new.wires).log c.args.watch o.end o.height o.tip o.history o.trace.items (names_in c.args.names.now) c.status_of.result (is_some c.args.log_file.now) c.args.trace before (g.O.Sink.written c.put_all.new.sink)
     c.in-Ok-sync_over.ensures.followed c.in-Ok-sync_over.ensures.theorem
     (answered o.end o.ends.items c.status_of.result before (g.O.Sink.written c.put_all.new.sink) _ c.status_of.ensures.answer (c.in-Ok-put_all.ensures.ok ∙ ap (with_more before) text))
     (stands_told (g.W.Wires.told c.sync_over.new.wires).log o.end o.ends.items c.status_of.result c.status_of.ensures.answer c.in-Ok-sync_over.ensures.ends)
@@ -26,14 +26,14 @@ returns-in-Err-clause-kept g c =
     let o = c.in-Ok-sync_over.outcome in
     let before = g.O.Sink.written c.args.out.now in
     let text = c.deref.ensures.value ∙ c.in-Ok-text_of.ensures in
-    kept_told (g.W.Wires.told c.sync_over.new.wires).log c.args.watch o.end o.height o.tip o.history o.trace.items (names_in c.args.names.now) OutFault c.args.trace before (g.O.Sink.written c.put_all.new.sink)
+    kept_told (g.W.Wires.told c.sync_over.new.wires).log c.args.watch o.end o.height o.tip o.history o.trace.items (names_in c.args.names.now) OutFault (is_some c.args.log_file.now) c.args.trace before (g.O.Sink.written c.put_all.new.sink)
     c.in-Ok-sync_over.ensures.followed c.in-Ok-sync_over.ensures.theorem
     (c.in-Err.ensures.err.0, c.in-Err.ensures.err.2 ∙ ap (λ (bytes : List ℕ). with_more before (take c.in-Err.ensures.err.0 bytes)) text)
     (stands_unsaid (g.W.Wires.told c.sync_over.new.wires).log)
 
 pub returns-in_default-text_of-clause-kept : goal.returns-in_default-text_of-clause-kept
 returns-in_default-text_of-clause-kept g c =
-    kept_without (g.W.Wires.told c.sync_over.new.wires).log c.args.watch (names_in c.args.names.now) c.args.trace (g.O.Sink.written c.args.out.now) (g.O.Sink.written c.args.out.now)
+    kept_without (g.W.Wires.told c.sync_over.new.wires).log c.args.watch (names_in c.args.names.now) (is_some c.args.log_file.now) c.args.trace (g.O.Sink.written c.args.out.now) (g.O.Sink.written c.args.out.now)
 
 pub returns-in_default-clause-tallied : goal.returns-in_default-clause-tallied
 returns-in_default-clause-tallied g c = early_tallied NoMemory _ _ _ tt c.requires.fresh
@@ -88,5 +88,22 @@ returns-in-Err-clause-versions g c =
 
 pub returns-in-Ok-put_all-clause-versions : goal.returns-in-Ok-put_all-clause-versions
 returns-in-Ok-put_all-clause-versions g c =
+    versions_so _ c.args.moment c.args.nonce (g.W.Wires.told c.sync_over.new.wires)
+    (to_z-of_z {w = w64} {z = c.args.moment} (search rules)) c.sync_over.ensures.versions
+
+pub returns-in-Err-No-clause-kept : goal.returns-in-Err-No-clause-kept
+returns-in-Err-No-clause-kept g c =
+    let o = c.in-Ok-sync_over.outcome in
+    let files = rw c.in-Err-No.field-0-is at c.in-Err-No.ensures.files in
+    unrecorded_told (g.W.Wires.told c.sync_over.new.wires).log c.args.watch (names_in c.args.names.now) o.height o.tip o.history (is_some c.args.log_file.now) c.args.trace
+    (g.O.Sink.written c.args.out.now) (g.O.Sink.written c.args.out.now) files.0 c.in-Ok-sync_over.ensures.theorem
+
+pub returns-in-Err-NoMemory-clause-versions : goal.returns-in-Err-NoMemory-clause-versions
+returns-in-Err-NoMemory-clause-versions g c =
+    versions_so _ c.args.moment c.args.nonce (g.W.Wires.told c.sync_over.new.wires)
+    (to_z-of_z {w = w64} {z = c.args.moment} (search rules)) c.sync_over.ensures.versions
+
+pub returns-in-Err-No-clause-versions : goal.returns-in-Err-No-clause-versions
+returns-in-Err-No-clause-versions g c =
     versions_so _ c.args.moment c.args.nonce (g.W.Wires.told c.sync_over.new.wires)
     (to_z-of_z {w = w64} {z = c.args.moment} (search rules)) c.sync_over.ensures.versions

@@ -4,6 +4,7 @@ use Rattle.std.specs.Int.{w64}
 use Rattle.cf_peer.specs.Memory.{told_of}
 use Rattle.cf_client.proofs.Versions.{new_words}
 use Rattle.cf_cli.proofs.Plays.{versions_so, unplayed_words, judged_replay, judged_sync, new_unfailed}
+use Rattle.cf_cli.proofs.Records.{sync_writes}
 use Rattle.cf_cli.proofs.Serves.{no_link, serve_uses}
 use Rattle.cf_cli.specs.Reading.{IsOfScan, IsOfFilter, IsAddressed}
 use Rattle.cf_cli.proofs.program.perform.Goals as goal
@@ -15,8 +16,12 @@ returns-in-Replay-clause-judged g c =
 
 pub returns-in-Sync-clause-judged : goal.returns-in-Sync-clause-judged
 returns-in-Sync-clause-judged g c =
-    judged_sync (g.F.Files.files c.args.files.now) c.args.command c.in-Sync.turns c.in-Sync.watch c.in-Sync.peers c.as_str-in-Sync.result.now c.sync.result
+    judged_sync (g.F.Files.files c.args.files.now) c.args.command c.in-Sync.turns c.in-Sync.workers c.in-Sync.«record» c.in-Sync.watch c.in-Sync.peers c.as_str-in-Sync.result.now c.sync.result
     c.as_str-in-Sync.ensures c.in-Sync.is c.sync.ensures.judged
+
+pub returns-in-Sync-clause-unchanged : goal.returns-in-Sync-clause-unchanged
+returns-in-Sync-clause-unchanged g c =
+    sync_writes c.args.command c.in-Sync.turns c.in-Sync.workers c.in-Sync.«record» c.in-Sync.watch c.in-Sync.peers c.sync.result _ _ _ c.in-Sync.is c.sync.ensures.records
 
 pub returns-in-Replay-clause-failures : goal.returns-in-Replay-clause-failures
 returns-in-Replay-clause-failures g c = new_unfailed _ _ _ c.requires.wires
@@ -93,3 +98,12 @@ returns-in-Serve-clause-versions g c = new_words _ _ c.requires.wires
 
 pub returns-in-Serve-clause-tape_versions : goal.returns-in-Serve-clause-tape_versions
 returns-in-Serve-clause-tape_versions g c = unplayed_words _ _ c.requires.log
+
+pub returns-in-Make-clause-failures : goal.returns-in-Make-clause-failures
+returns-in-Make-clause-failures g c = new_unfailed _ _ _ c.requires.wires
+
+pub returns-in-Make-clause-versions : goal.returns-in-Make-clause-versions
+returns-in-Make-clause-versions g c = new_words _ _ c.requires.wires
+
+pub returns-in-Make-clause-tape_versions : goal.returns-in-Make-clause-tape_versions
+returns-in-Make-clause-tape_versions g c = unplayed_words _ _ c.requires.log

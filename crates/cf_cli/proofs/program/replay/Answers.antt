@@ -1,4 +1,4 @@
-use Rattle.std.proofs.Common.{List, Some, length, rules, ◌∙◌, ap, subst}
+use Rattle.std.proofs.Common.{List, false, Some, length, rules, ◌∙◌, ap, subst}
 use Rattle.std.proofs.Math.Facts.{to_z-of_z}
 use Rattle.std.specs.Int.{w64}
 use Rattle.cf_client.specs.Names.{names_in}
@@ -22,7 +22,7 @@ pub returns-clause-replayed : goal.returns-clause-replayed
 returns-clause-replayed g c =
     let names = names_in c.deref.result.now in (
       names,
-      over_watch c.follow.result c.args.trace (g.F.Files.files c.args.files.now) c.args.watch.now c.in-Ok.scripts names (g.O.Sink.written c.args.out.now) (g.O.Sink.written c.follow.new.out)
+      over_watch c.follow.result false c.args.trace (g.F.Files.files c.args.files.now) c.args.watch.now c.in-Ok.scripts names (g.O.Sink.written c.args.out.now) (g.O.Sink.written c.follow.new.out)
           (log_of c.follow.new.wires) c.in-Ok.ensures.scripts c.follow.ensures.kept,
       subst (λ (t : Told). Tallied c.follow.result 10000000 (length names) t (told_of c.follow.new.wires)) (same_told c.load.new.self c.args.tape.now c.load.ensures.log c.load.ensures.finished)
           c.follow.ensures.tallied,

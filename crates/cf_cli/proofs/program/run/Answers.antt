@@ -1,11 +1,13 @@
 use Rattle.std.proofs.Common.{rules, ◌≡◌, ℤ, w64, false, inl, refl, subst}
 use Rattle.std.proofs.Math.Facts.{to_z-of_z}
+use Rattle.std.specs.Prelude.{is_some}
 use Rattle.cf_serve.specs.Links.{LinkTold, link_now}
 use Rattle.cf_cli.specs.Serving.{IsServing}
 use Rattle.cf_cli.specs.declared.status.Status.TheVariants.{NoMemory}
 use Rattle.cf_peer.specs.Memory.{told_of}
 use Rattle.cf_client.proofs.Versions.{new_words}
 use Rattle.cf_cli.proofs.Plays.{versions_so, unplayed_words, early_replayed, early_plays, early_told, early_tallied, new_tape, new_unfailed, same_command, judged_for, unused_wires, unused_tape}
+use Rattle.cf_cli.proofs.Records.{unused_files}
 use Rattle.cf_cli.proofs.Serves.{unused_link}
 use Rattle.cf_cli.proofs.program.run.Goals as goal
 
@@ -17,7 +19,13 @@ returns-in-Ok-clause-judged g c =
     judged_for (g.F.Files.files c.args.files.now) _ c.in-Ok.command c.perform.result c.in-Ok.ensures.exact c.perform.ensures.judged
 
 pub returns-in-Ok-clause-sync : goal.returns-in-Ok-clause-sync
-returns-in-Ok-clause-sync g c = λ turns watch peers asked. c.perform.ensures.sync turns watch peers (same_command _ c.in-Ok.command _ c.in-Ok.ensures.exact asked)
+returns-in-Ok-clause-sync g c = λ turns workers file watch peers asked. c.perform.ensures.sync turns workers file watch peers (same_command _ c.in-Ok.command _ c.in-Ok.ensures.exact asked)
+
+pub returns-in-Ok-clause-records : goal.returns-in-Ok-clause-records
+returns-in-Ok-clause-records g c = λ turns workers file watch peers asked. c.perform.ensures.records turns workers file watch peers (same_command _ c.in-Ok.command _ c.in-Ok.ensures.exact asked)
+
+pub returns-in-Ok-clause-unchanged : goal.returns-in-Ok-clause-unchanged
+returns-in-Ok-clause-unchanged g c = unused_files _ c.in-Ok.command _ _ c.in-Ok.ensures.exact c.perform.ensures.unchanged
 
 pub returns-in-Ok-clause-replay : goal.returns-in-Ok-clause-replay
 returns-in-Ok-clause-replay g c = λ trace watch session asked. c.perform.ensures.replay trace watch session (same_command _ c.in-Ok.command _ c.in-Ok.ensures.exact asked)
@@ -33,8 +41,8 @@ pub returns-in-Err-NoMemory-clause-plays : goal.returns-in-Err-NoMemory-clause-p
 returns-in-Err-NoMemory-clause-plays g c = λ trace watch session asked. early_plays (g.F.Files.files c.args.files.now) session NoMemory _ tt c.requires.log
 
 pub returns-in-Err-NoMemory-clause-sync : goal.returns-in-Err-NoMemory-clause-sync
-returns-in-Err-NoMemory-clause-sync g c = λ turns watch peers asked.
-    (early_told _ NoMemory false _ watch peers _ tt c.requires.wires, early_tallied NoMemory _ _ _ tt c.requires.wires)
+returns-in-Err-NoMemory-clause-sync g c = λ turns workers file watch peers asked.
+    (early_told _ NoMemory (is_some file) false _ watch peers _ tt c.requires.wires, early_tallied NoMemory _ _ _ tt c.requires.wires)
 
 pub returns-in-Err-NoMemory-clause-failures : goal.returns-in-Err-NoMemory-clause-failures
 returns-in-Err-NoMemory-clause-failures g c = new_unfailed _ _ _ c.requires.wires
@@ -97,3 +105,9 @@ pub returns-in-Ok-clause-tape_versions : goal.returns-in-Ok-clause-tape_versions
 returns-in-Ok-clause-tape_versions g c =
     versions_so _ c.args.moment c.args.nonce (told_of c.perform.new.tape)
     (to_z-of_z {w = w64} {z = c.args.moment} (search rules)) c.perform.ensures.tape_versions
+
+pub returns-in-Ok-clause-make : goal.returns-in-Ok-clause-make
+returns-in-Ok-clause-make g c = λ seed blocks file asked. c.perform.ensures.make seed blocks file (same_command _ c.in-Ok.command _ c.in-Ok.ensures.exact asked)
+
+pub returns-in-Err-NoMemory-clause-make : goal.returns-in-Err-NoMemory-clause-make
+returns-in-Err-NoMemory-clause-make g c = λ seed blocks file asked. (refl, refl)

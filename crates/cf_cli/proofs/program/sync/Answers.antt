@@ -1,20 +1,31 @@
 use Rattle.std.proofs.Common.{false, rules}
 use Rattle.std.proofs.Math.Facts.{to_z-of_z}
 use Rattle.std.specs.Int.{w64}
+use Rattle.std.specs.Prelude.{is_some}
 use Rattle.cf_client.specs.Names.{names_in}
 use Rattle.cf_client.proofs.Versions.{new_words}
 use Rattle.cf_cli.proofs.Plays.{versions_so, early_told, early_tallied, new_unfailed, told_over_watch}
+use Rattle.cf_cli.proofs.Records.{early_records, judged_once_begun, records_from}
 use Rattle.cf_cli.proofs.program.sync.Goals as goal
 
 pub returns-in-Err-clause-kept : goal.returns-in-Err-clause-kept
 returns-in-Err-clause-kept g c =
-    early_told (g.W.Wires.told c.args.wires.now) c.in-Err.status false (g.F.Files.files c.args.files.now) c.args.watch.now (names_in c.args.peers.now) (g.O.Sink.written c.args.out.now)
+    early_told (g.W.Wires.told c.args.wires.now) c.in-Err.status (is_some c.args.log_file.now) false (g.F.Files.files c.args.files.now) c.args.watch.now (names_in c.args.peers.now) (g.O.Sink.written c.args.out.now)
     c.in-Err.ensures.only c.requires.fresh
 
 pub returns-clause-kept : goal.returns-clause-kept
 returns-clause-kept g c =
-    told_over_watch (g.W.Wires.told c.follow.new.wires).log c.follow.result false (g.F.Files.files c.args.files.now) c.args.watch.now c.in-Ok.scripts (names_in c.args.peers.now)
+    told_over_watch (g.W.Wires.told c.follow.new.wires).log c.follow.result (is_some c.args.log_file.now) false (g.F.Files.files c.args.files.now) c.args.watch.now c.in-Ok.scripts (names_in c.args.peers.now)
     (g.O.Sink.written c.args.out.now) (g.O.Sink.written c.follow.new.out) c.in-Ok.ensures.scripts c.follow.ensures.kept
+
+pub returns-in-Err-clause-records : goal.returns-in-Err-clause-records
+returns-in-Err-clause-records g c =
+    early_records c.in-Err.status c.args.log_file.now _ (g.F.Files.files c.args.files.now) (g.F.Files.files c.load_watch.new.files) c.in-Err.ensures.only c.load_watch.ensures.same
+
+pub returns-clause-records : goal.returns-clause-records
+returns-clause-records g c =
+    records_from c.follow.result c.args.log_file.now _ (g.F.Files.files c.args.files.now) (g.F.Files.files c.load_watch.new.files) (g.F.Files.files c.follow.new.files) c.load_watch.ensures.same
+    c.follow.ensures.records
 
 pub returns-in-Err-clause-tallied : goal.returns-in-Err-clause-tallied
 returns-in-Err-clause-tallied g c = early_tallied c.in-Err.status _ _ _ c.in-Err.ensures.only c.requires.fresh
@@ -29,3 +40,7 @@ pub returns-clause-versions : goal.returns-clause-versions
 returns-clause-versions g c =
     versions_so _ c.args.moment c.args.nonce (g.W.Wires.told c.follow.new.wires)
     (to_z-of_z {w = w64} {z = c.args.moment} (search rules)) c.follow.ensures.versions
+
+pub returns-clause-judged : goal.returns-clause-judged
+returns-clause-judged g c =
+    judged_once_begun (g.F.Files.files c.args.files.now) c.args.watch.now c.follow.result (is_some c.args.log_file.now) c.in-Ok.ensures.answer c.follow.ensures.begun

@@ -1,0 +1,109 @@
+-- What becomes of the files.
+use Rattle.std.proofs.Common.{◌≡◌, ℕ, Bool, true, false, List, Option, Some, None, refl, sym, ◌∙◌, ap, subst}
+use Rattle.std.specs.Prelude.{is_some, IfSome}
+use Rattle.std.specs.FinMap as finite
+use Rattle.std.proofs.lemmas.Bool.{false≢true}
+use Rattle.cf_bytes.specs.Files.{Named, SameElsewhere, with_file}
+use Rattle.cf_peer.specs.Log.{Log}
+use Rattle.cf_input.specs.declared.words.Command.{Command}
+use Rattle.cf_input.specs.declared.words.Command.TheVariants.{Sync}
+use Rattle.cf_cli.specs.declared.status.Status.{Status}
+use Rattle.cf_cli.specs.declared.status.Status.TheVariants.{Done, NoMemory, Usage, BadFile, FileFault, OutFault, NoPeers, Tired, Ended, LinkFault, NoNonce, NoHeight, NotThere, NotAddress}
+use Rattle.cf_cli.specs.Statuses.{IsJudged, IsOfFile, Verdict, Good, was_unbegun, watch_verdict}
+use Rattle.cf_cli.specs.Recording.{IsRecorded, HasRecord, KeepsOthers, Records, may_write}
+use Rattle.cf_cli.specs.Theorem.{AnswersTo}
+use Rattle.cf_client.specs.declared.outcome.End.{End}
+use Rattle.cf_client.specs.declared.outcome.End.TheVariants.{Synced as IsSynced, NoPeers as HasNoPeers, Tired as IsTired, Ended as HasEnded}
+use Rattle.cf_client.specs.declared.place.PeerEnd.{PeerEnd}
+
+same_elsewhere : (name : List ℕ) (files : Option Named) → SameElsewhere name files files
+same_elsewhere name None = tt
+same_elsewhere name (Some m) = λ other apart. refl
+
+-- files that stay keep all others too
+pub keeps_same : (file : Option (List ℕ)) (before after : Option Named) → after ≡ before → KeepsOthers file before after
+keeps_same None before after same = same
+keeps_same (Some name) before after same = subst (λ (files : Option Named). SameElsewhere name before files) (sym same) (same_elsewhere name before)
+
+-- where a file is answered for before a run no file has changed
+pub early_records : (status : Status) (file : Option (List ℕ)) (log : Option Log) (before after : Option Named) → IsOfFile status → after ≡ before → Records status file log before after
+early_records NoMemory file log before after is same = same
+early_records FileFault file log before after is same = keeps_same file before after same
+early_records (BadFile which place cause) file log before after is same = same
+early_records Done file log before after is same = absurd is
+early_records Usage file log before after is same = absurd is
+early_records OutFault file log before after is same = absurd is
+early_records (NoPeers ends) file log before after is same = absurd is
+early_records Tired file log before after is same = absurd is
+early_records Ended file log before after is same = absurd is
+early_records LinkFault file log before after is same = absurd is
+early_records (NoNonce height) file log before after is same = absurd is
+early_records (NoHeight tip) file log before after is same = absurd is
+early_records (NotThere txid) file log before after is same = absurd is
+early_records (NotAddress cause) file log before after is same = absurd is
+
+-- the record of a run that ended so
+pub end_records : (end : End) (ends : List PeerEnd) (status : Status) (file : Option (List ℕ)) (log : Option Log) (before after : Option Named) → AnswersTo end ends status
+    → HasRecord file log before after → Records status file log before after
+end_records IsSynced ends status file log before after is kept = subst (λ (s : Status). Records s file log before after) (sym is) kept
+end_records HasNoPeers ends status file log before after is kept = subst (λ (s : Status). Records s file log before after) (sym is.1) kept
+end_records IsTired ends status file log before after is kept = subst (λ (s : Status). Records s file log before after) (sym is) kept
+end_records HasEnded ends status file log before after is kept = subst (λ (s : Status). Records s file log before after) (sym is) kept
+
+-- the same files, told by what they are equal to
+pub records_from : (status : Status) (file : Option (List ℕ)) (log : Option Log) (first before after : Option Named) → before ≡ first → Records status file log before after
+    → Records status file log first after
+records_from status file log first before after same h = subst (λ (files : Option Named). Records status file log files after) same h
+
+-- a run without a record changes no file
+pub unrecorded : (status : Status) (log : Option Log) (before after : Option Named) → Records status None log before after → after ≡ before
+unrecorded Done log before after h = h
+unrecorded NoMemory log before after h = h
+unrecorded Usage log before after h = h
+unrecorded (BadFile which place cause) log before after h = h
+unrecorded FileFault log before after h = h
+unrecorded OutFault log before after h = h
+unrecorded (NoPeers ends) log before after h = h
+unrecorded Tired log before after h = h
+unrecorded Ended log before after h = h
+unrecorded LinkFault log before after h = h
+unrecorded (NoNonce height) log before after h = h
+unrecorded (NoHeight tip) log before after h = h
+unrecorded (NotThere txid) log before after h = h
+unrecorded (NotAddress cause) log before after h = h
+
+unrecorded_by : (file : Option (List ℕ)) (status : Status) (log : Option Log) (before after : Option Named) → Records status file log before after → is_some file ≡ false → after ≡ before
+unrecorded_by None status log before after h off = unrecorded status log before after h
+unrecorded_by (Some name) status log before after h off = absurd (false≢true (sym off))
+
+pub sync_writes : (c : Command) (turns workers : ℕ) (file : Option (List ℕ)) (watch : List ℕ) (peers : List (List ℕ)) (status : Status) (log : Option Log) (before after : Option Named)
+    → c ≡ Sync turns workers file watch peers → Records status file log before after → may_write (Some c) ≡ false → after ≡ before
+sync_writes c turns workers file watch peers status log before after is h =
+    subst (λ (x : Command). may_write (Some x) ≡ false → after ≡ before) (sym is) (unrecorded_by file status log before after h)
+
+-- the files that a command doesn't change, told of its words
+pub unused_files : (found : Option Command) (c : Command) (before after : Option Named) → found ≡ Some c → (may_write (Some c) ≡ false → after ≡ before) → may_write found ≡ false → after ≡ before
+unused_files found c before after e unused = subst (λ (o : Option Command). may_write o ≡ false → after ≡ before) (sym e) unused
+
+-- a run that was begun is an answer to a good file
+good_judged : (status : Status) (recorded : Bool) → was_unbegun status recorded ≡ false → IsJudged Good status
+good_judged Done recorded begun = tt
+good_judged NoMemory recorded begun = tt
+good_judged Usage recorded begun = absurd (false≢true (sym begun))
+good_judged (BadFile which place cause) recorded begun = absurd (false≢true (sym begun))
+good_judged FileFault recorded begun = tt
+good_judged OutFault recorded begun = tt
+good_judged (NoPeers ends) recorded begun = tt
+good_judged Tired recorded begun = tt
+good_judged Ended recorded begun = tt
+good_judged LinkFault recorded begun = tt
+good_judged (NoNonce height) recorded begun = tt
+good_judged (NoHeight tip) recorded begun = tt
+good_judged (NotThere txid) recorded begun = tt
+good_judged (NotAddress cause) recorded begun = tt
+
+-- the same over the watch file, where the files tell it
+pub judged_once_begun : (files : Option Named) (watch : List ℕ) (status : Status) (recorded : Bool) → IfSome files (λ m. watch_verdict (finite.get m watch) ≡ Good) → was_unbegun status recorded ≡ false
+    → IfSome files (λ m. IsJudged (watch_verdict (finite.get m watch)) status)
+judged_once_begun None watch status recorded good begun = tt
+judged_once_begun (Some m) watch status recorded good begun = subst (λ (v : Verdict). IsJudged v status) (sym good) (good_judged status recorded begun)

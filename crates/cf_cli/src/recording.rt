@@ -1,0 +1,48 @@
+//! The record of a run: what passed its wires, as a session file.
+ghost use Rattle.std.specs.Prelude.{◌≡◌, ◌≤◌, [], is_some, true};
+ghost use Rattle.cf_peer.specs.Log.{Tells};
+ghost use Rattle.cf_cli.specs.Recording.{IsRecording, BlamesFiles};
+
+use cf_bytes::{Failed, FileFail, Files, Refused};
+use cf_input::Word;
+use cf_peer::Wires;
+use std::alloc::Global;
+
+/// Makes new wires keep their log, where a file is named for it.
+pub(crate) fn keep_where<W: Wires>(wires: &mut W, log_file: &Option<Word>)
+    requires fresh { Tells [] (W.told wires.old) }
+    ensures fresh { Tells [] (W.told wires.new) }
+    ensures finished { (W.told wires.new).finished ≡ (W.told wires.old).finished }
+    ensures keeps { is_some log_file.now ≡ true → W.keeps wires.new ≡ true }
+    ensures later { W.faults wires.old ≤ W.faults wires.new }
+    ensures same { W.script wires.new ≡ W.script wires.old }
+{
+    if log_file.is_some() {
+        wires.keep_log();
+    }
+}
+
+/// Writes the session lines of the log that is kept, where a file is named for them. Where that fails nothing has changed but this file, and where no
+/// memory is found nothing has.
+pub(crate) fn write_record<F: Files, W: Wires>(
+    alloc: Global,
+    files: &mut F,
+    wires: &W,
+    log_file: &Option<Word>,
+) -> Result<(), Refused<Failed>>
+    requires keeps { is_some log_file.now ≡ true → W.keeps wires.now ≡ true }
+    ensures files { IsRecording result log_file.now (W.told wires.now).log (F.files files.old) (F.files files.new) }
+    ensures count { BlamesFiles result (F.faults files.old) (F.faults files.new) }
+{
+    let Some(name) = log_file else {
+        return Ok(());
+    };
+    let Ok(text) = wires.session() else {
+        return Err(Refused::NoMemory);
+    };
+    match files.write(alloc, name.as_str(), text.as_bytes()) {
+        Ok(()) => Ok(()),
+        Err(FileFail::NoMemory) => Err(Refused::NoMemory),
+        Err(_) => Err(Refused::No(Failed)),
+    }
+}
