@@ -49,15 +49,30 @@ fn tell_file(rt: &HostRuntime, command: &Command) -> io::Result<bool> {
             tell_reason(rt, file.as_str())
         }
         Command::Serve { file, .. } => tell_reason(rt, file.as_str()),
-        Command::Address { .. } => Ok(false),
+        Command::Address { .. } | Command::Make { .. } => Ok(false),
     }
 }
 
-// Tells which file could not be read, and why.
-fn tell_unread(rt: &HostRuntime, words: &[String]) -> io::Result<()> {
+// The file that a command writes.
+fn written(command: &Command) -> Option<&str> {
+    match command {
+        Command::Sync {
+            record: Some(file),
+            ..
+        }
+        | Command::Make { file, .. } => Some(file.as_str()),
+        _ => None,
+    }
+}
+
+// Tells which file could not be read or written, and why.
+fn tell_unread(rt: &HostRuntime, words: &[String], reason: &Option<io::Error>) -> io::Result<()> {
     if let Ok(command) = read_words(rt.alloc(), words) {
         if tell_file(rt, &command)? {
             return Ok(());
+        }
+        if let (Some(name), Some(reason)) = (written(&command), reason) {
+            return eprintln!(rt; "cf: {name} could not be written: {reason}");
         }
     }
     eprintln!(rt; "cf: {}", Status::FileFault)
@@ -97,12 +112,17 @@ fn hint(status: &Status, name: &str) -> &'static str {
 }
 
 /// Tells on standard error what went wrong, if anything has. The first word is the program's name; there is none where the
-/// words can't be read.
-pub fn tell(rt: &HostRuntime, words: &[String], status: &Status) -> io::Result<()> {
+/// words can't be read. `reason` is why the last call over a file failed.
+pub fn tell(
+    rt: &HostRuntime,
+    words: &[String],
+    status: &Status,
+    reason: &Option<io::Error>,
+) -> io::Result<()> {
     match status {
         Status::Done => Ok(()),
         Status::Usage if !words.is_empty() => tell_mistake(rt, words),
-        Status::FileFault => tell_unread(rt, words),
+        Status::FileFault => tell_unread(rt, words, reason),
         Status::NoPeers { ends } => {
             eprintln!(rt; "cf: {status}")?;
             tell_ends(rt, ends)

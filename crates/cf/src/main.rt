@@ -1,5 +1,5 @@
-//! `cf`: the program. Its words, the clock and a random number go to the client, whose text goes to standard output; what went
-//! wrong is told on standard error, and the exit status says which way the call ended.
+//! `cf`: the program. Its words, the clock and a random number go to the client, whose text goes to standard output; what it does over the
+//! network, and what went wrong, is told on standard error, and the exit status says which way the call ended.
 #![tactic(auto)]
 
 mod faults;
@@ -13,6 +13,8 @@ use cf_peer::MemoryWires;
 use cf_tasks::{InThreads, Spawner};
 use std::io;
 use std::process::ExitCode;
+use std::sync::Wait;
+use std::thread::Threads;
 
 // Writes a whole text to standard output.
 fn say(rt: &HostRuntime, text: &str) -> Status {
@@ -22,65 +24,47 @@ fn say(rt: &HostRuntime, text: &str) -> Status {
     }
 }
 
+// Tells what went wrong. Where standard error can't be written, the exit status alone tells it.
+fn told(rt: &HostRuntime, words: &[String], status: Status, reason: &Option<io::Error>) -> Status {
+    let _told = faults::tell(rt, words, &status, reason);
+    status
+}
+
 // Runs the command. A dial of `sync` fails, since no sockets are opened yet.
-fn run_command<K: Spawner>(
+fn run_command<R: Wait + Threads + Sync + Copy + Drop + Send + 'static, K: Spawner>(
     rt: &HostRuntime,
+    handle: R,
     words: &[String],
-    listener: &mut Listener,
     spawner: &mut K,
 ) -> Status {
     let alloc = rt.alloc();
     let (Ok(mut wires), Ok(mut tape)) = (MemoryWires::new(alloc), MemoryWires::new(alloc)) else {
-        return Status::NoMemory;
+        return told(rt, words, Status::NoMemory, &None);
     };
-    run(
+    let mut files = StdFiles::new(rt);
+    let status = run(
+        handle,
         alloc,
         words,
         outside::moment(rt),
         outside::nonce(rt),
-        &mut StdFiles::new(rt),
+        &mut files,
         &mut wires,
         &mut tape,
-        listener,
+        &mut Listener::new(*rt),
         spawner,
         &mut WriterSink::new(io::writer(rt)),
-    )
-}
-
-fn answer<K: Spawner>(
-    rt: &HostRuntime,
-    words: &[String],
-    listener: &mut Listener,
-    spawner: &mut K,
-) -> Status {
-    match own_text(words) {
-        Some(text) => say(rt, text),
-        None => run_command(rt, words, listener, spawner),
-    }
-}
-
-// What a call comes to. Where standard error can't be written, the exit status alone tells what went wrong.
-fn call<K: Spawner>(
-    rt: &HostRuntime,
-    words: &[String],
-    listener: &mut Listener,
-    spawner: &mut K,
-) -> Status {
-    let status = answer(rt, words, listener, spawner);
-    let _told = faults::tell(rt, words, &status);
-    status
-}
-
-// The words can't be read.
-fn wordless(rt: &HostRuntime, status: Status) -> Status {
-    let _told = faults::tell(rt, &[], &status);
-    status
+    );
+    told(rt, words, status, &files.reason())
 }
 
 fn main(rt: HostRuntime) -> ExitCode {
     let status = match outside::words(&rt) {
-        Ok(words) => call(&rt, &words, &mut Listener::new(rt), &mut InThreads::new(rt)),
-        Err(status) => wordless(&rt, status),
+        Ok(words) => match own_text(&words) {
+            Some(text) => told(&rt, &words, say(&rt, text), &None),
+            None => run_command(&rt, rt, &words, &mut InThreads::new(rt)),
+        },
+        Err(status) => told(&rt, &[], status, &None),
     };
     ExitCode::from(status.code())
 }
