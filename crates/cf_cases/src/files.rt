@@ -3,6 +3,7 @@ use crate::fields::{bytes_in, digits_of, put_hash, put_word};
 use cf_bytes::{Refused, show};
 use cf_index::{CheckedChain, Index, read_chain};
 use std::alloc::Global;
+use std::thread::Threads;
 
 // The bytes of a row's fields, joined.
 fn joined(alloc: Global, row: &str) -> Option<Vec<u8>> {
@@ -27,10 +28,10 @@ fn put_height(alloc: Global, index: &Index, height: u32, out: &mut String) -> Op
     put_word(&format!(in alloc; "{bits:x} {txs}").ok()?, out)
 }
 
-fn told(alloc: Global, chain: CheckedChain) -> Option<String> {
+fn told<R: Threads + Sync>(rt: &R, alloc: Global, chain: CheckedChain) -> Option<String> {
     let tip = show(alloc, &chain.tip_hash()).ok()?;
     let mut text = format!(in alloc; "{} {tip} {}", chain.tip(), chain.blocks().len()).ok()?;
-    let index = Index::of(alloc, chain).ok()?;
+    let index = Index::of(rt, alloc, chain).ok()?;
     for height in 0..=index.tip() {
         put_height(alloc, &index, height, &mut text)?;
     }
@@ -39,9 +40,9 @@ fn told(alloc: Global, chain: CheckedChain) -> Option<String> {
 
 /// What a file of blocks is: its tip, its number of blocks above genesis, and of each block from genesis on the height, the hash, the filter, the
 /// filter's hash, the filter header, the bits and the number of transactions; or the first record that is refused, and why.
-pub(crate) fn answer(alloc: Global, row: &str) -> Option<String> {
+pub(crate) fn answer<R: Threads + Sync>(rt: &R, alloc: Global, row: &str) -> Option<String> {
     match read_chain(alloc, &joined(alloc, row)?) {
-        Ok(chain) => told(alloc, chain),
+        Ok(chain) => told(rt, alloc, chain),
         Err(Refused::No(bad)) => format!(in alloc; "{bad}").ok(),
         Err(Refused::NoMemory) => None,
     }

@@ -1,18 +1,37 @@
 //! What a user gives: words, watch files and sessions.
-use crate::fields::{file_in, put_digits, texts_in};
+use crate::fields::{file_in, put_digits, put_word, texts_in};
 use cf_bytes::{Refused, show};
 use cf_cli::own_text;
-use cf_input::{Command, PeerNames, Session, mistake_text, read_session, read_watch, read_words};
+use cf_input::{
+    Command, PeerNames, Session, Word, mistake_text, read_session, read_watch, read_words,
+};
 use cf_scan::Watch;
 use std::alloc::Global;
 
-// The names of peers, each after a space.
-fn named(alloc: Global, peers: &PeerNames) -> Option<String> {
-    let mut text = String::new(alloc);
+// Puts the names of peers behind a text, each after a space.
+fn put_names(peers: &PeerNames, out: &mut String) -> Option<()> {
     for name in peers.as_slice() {
-        text.push(' ').ok()?;
-        text.push_str(name.as_str()).ok()?;
+        put_word(name.as_str(), out)?;
     }
+    Some(())
+}
+
+// The numbers of `sync`, the file of its record where there is one, the watch file and the peers.
+fn sync_told(
+    alloc: Global,
+    turns: u32,
+    workers: u32,
+    record: &Option<Word>,
+    watch: &Word,
+    peers: &PeerNames,
+) -> Option<String> {
+    let mut text = format!(in alloc; "sync {turns} {workers}").ok()?;
+    if let Some(file) = record {
+        put_word("record", &mut text)?;
+        put_word(file.as_str(), &mut text)?;
+    }
+    put_word(watch.as_str(), &mut text)?;
+    put_names(peers, &mut text)?;
     Some(text)
 }
 
@@ -26,9 +45,11 @@ fn told(alloc: Global, command: &Command) -> Option<String> {
         } => { format!(in alloc; "replay {trace} {} {}", watch.as_str(), session.as_str()).ok() }
         Command::Sync {
             turns,
+            workers,
+            record,
             watch,
             peers,
-        } => { format!(in alloc; "sync {turns} {}{}", watch.as_str(), named(alloc, peers)?).ok() }
+        } => sync_told(alloc, *turns, *workers, record, watch, peers),
         Command::Scan { file, watch } => {
             format!(in alloc; "scan {} {}", file.as_str(), watch.as_str()).ok()
         }
@@ -51,6 +72,9 @@ fn told(alloc: Global, command: &Command) -> Option<String> {
                 address.as_str()
             )
             .ok()
+        }
+        Command::Make { seed, blocks, file } => {
+            format!(in alloc; "make {seed} {blocks} {}", file.as_str()).ok()
         }
     }
 }

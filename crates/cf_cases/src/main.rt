@@ -22,15 +22,20 @@ mod verdicts;
 
 use std::alloc::Global;
 use std::process::ExitCode;
+use std::sync::Wait;
 use std::thread::Threads;
 
 // What a row comes to.
-fn answer<R: Threads + Copy + Drop>(rt: R, alloc: Global, row: &str) -> Option<String> {
+fn answer<R: Wait + Threads + Sync + Copy + Drop + Send + 'static>(
+    rt: R,
+    alloc: Global,
+    row: &str,
+) -> Option<String> {
     let (kind, rest) = row.split_once(' ')?;
     match kind {
         "address" => addresses::answer(alloc, rest),
         "block" => blocks::block(alloc, rest),
-        "blocks" => files::answer(alloc, rest),
+        "blocks" => files::answer(&rt, alloc, rest),
         "chain" => chains::answer(alloc, rest),
         "claims" => claims::answer(alloc, rest),
         "compact" => hashes::compact(alloc, rest),
@@ -49,7 +54,7 @@ fn answer<R: Threads + Copy + Drop>(rt: R, alloc: Global, row: &str) -> Option<S
         "proof" => proofs::answer(alloc, rest),
         "prove" => proofs::made(alloc, rest),
         "run" => runs::answer(rt, alloc, rest),
-        "serve" => conversations::answer(alloc, rest),
+        "serve" => conversations::answer(&rt, alloc, rest),
         "session" => inputs::session(alloc, rest),
         "siphash" => filters::siphash(alloc, rest),
         "stream" => streams::answer(alloc, rest),
@@ -65,7 +70,11 @@ fn answer<R: Threads + Copy + Drop>(rt: R, alloc: Global, row: &str) -> Option<S
 }
 
 // The lines that are printed for a row.
-fn shown<R: Threads + Copy + Drop>(rt: R, alloc: Global, row: &str) -> Option<String> {
+fn shown<R: Wait + Threads + Sync + Copy + Drop + Send + 'static>(
+    rt: R,
+    alloc: Global,
+    row: &str,
+) -> Option<String> {
     if row.starts_with('#') {
         return format!(in alloc; "{row}").ok();
     }

@@ -3,12 +3,13 @@ ghost use Rattle.std.specs.Prelude.{◌≡◌, [], IfSome, false};
 ghost use Rattle.cf_peer.specs.Memory.{log_of, finished_of};
 
 use crate::fields::{bytes_in, file_in, numbers_in, texts_in};
-use crate::servings::{in_place, no_link};
-use cf_bytes::{Files, MapFiles, VecSink};
+use crate::servings::{in_threads, no_link};
+use cf_bytes::{FileFail, Files, MapFiles, VecSink};
 use cf_cli::{Status, run};
 use cf_input::read_session;
 use cf_peer::MemoryWires;
 use std::alloc::Global;
+use std::sync::Wait;
 use std::thread::Threads;
 
 // The files of a row: `w`, `s` and `f`.
@@ -37,7 +38,7 @@ fn wires_of(alloc: Global, session: &str, failing: &str) -> Option<MemoryWires>
 }
 
 // The exit status, the status, and what went wrong, in words.
-fn told(alloc: Global, status: &Status) -> Option<String> {
+pub(crate) fn told(alloc: Global, status: &Status) -> Option<String> {
     let code = status.code();
     match status {
         Status::Done => format!(in alloc; "{code} {status:?}").ok(),
@@ -45,14 +46,38 @@ fn told(alloc: Global, status: &Status) -> Option<String> {
     }
 }
 
-fn shown(alloc: Global, status: &Status, written: &[u8]) -> Option<String> {
+// What stands under the name `r`, or nothing.
+fn record_of(alloc: Global, files: &mut MapFiles) -> Option<String> {
+    match files.read(alloc, "r", 1_000_000) {
+        Ok(bytes) => String::from_utf8(bytes).ok(),
+        Err(FileFail::Failed) => Some(String::new(alloc)),
+        Err(_) => None,
+    }
+}
+
+// What stands under the name `b` in hexadecimal, or nothing.
+fn blocks_of(alloc: Global, files: &mut MapFiles) -> Option<String> {
+    match files.read(alloc, "b", 1_000_000) {
+        Ok(bytes) => hex::encode(alloc, &bytes).ok(),
+        Err(FileFail::Failed) => Some(String::new(alloc)),
+        Err(_) => None,
+    }
+}
+
+fn shown(
+    alloc: Global,
+    status: &Status,
+    written: &[u8],
+    record: &str,
+    blocks: &str,
+) -> Option<String> {
     let text = str::from_utf8(written).ok()?;
     let told = told(alloc, status)?;
-    format!(in alloc; "{told}\n{text}").ok()
+    format!(in alloc; "{told}\n{text}{record}{blocks}").ok()
 }
 
 // The answer to these words, over these wires, into a sink with so much room.
-fn answered<R: Threads + Copy + Drop>(
+fn answered<R: Wait + Threads + Sync + Copy + Drop + Send + 'static>(
     rt: R,
     alloc: Global,
     words: &[String],
@@ -66,9 +91,10 @@ fn answered<R: Threads + Copy + Drop>(
     let mut wires = wires;
     let mut tape = MemoryWires::new(alloc).ok()?;
     let mut link = no_link(alloc)?;
-    let mut spawner = in_place(rt);
+    let mut spawner = in_threads(rt);
     let mut out = VecSink::new(alloc, 7, room).ok()?;
     let status = run(
+        rt,
         alloc,
         words,
         0,
@@ -80,11 +106,19 @@ fn answered<R: Threads + Copy + Drop>(
         &mut spawner,
         &mut out,
     );
-    shown(alloc, &status, out.bytes())
+    let record = record_of(alloc, &mut files)?;
+    let blocks = blocks_of(alloc, &mut files)?;
+    shown(
+        alloc,
+        &status,
+        out.bytes(),
+        record.as_str(),
+        blocks.as_str(),
+    )
 }
 
 // The answer over the wires of a session, where the first field tells the room and the calls of the wires that fail.
-fn answered_over<R: Threads + Copy + Drop>(
+fn answered_over<R: Wait + Threads + Sync + Copy + Drop + Send + 'static>(
     rt: R,
     alloc: Global,
     limits: &str,
@@ -99,7 +133,7 @@ fn answered_over<R: Threads + Copy + Drop>(
 }
 
 // The call of a row's fields: the room, the calls of the wires that fail, the words, and the files.
-fn called<R: Threads + Copy + Drop>(
+fn called<R: Wait + Threads + Sync + Copy + Drop + Send + 'static>(
     rt: R,
     alloc: Global,
     limits: &str,
@@ -115,7 +149,11 @@ fn called<R: Threads + Copy + Drop>(
 }
 
 /// How the call of a row ends, and what it writes.
-pub(crate) fn answer<R: Threads + Copy + Drop>(rt: R, alloc: Global, row: &str) -> Option<String> {
+pub(crate) fn answer<R: Wait + Threads + Sync + Copy + Drop + Send + 'static>(
+    rt: R,
+    alloc: Global,
+    row: &str,
+) -> Option<String> {
     let (limits, rest) = row.split_once('|')?;
     let (words, rest) = rest.split_once('|')?;
     let (watch, rest) = rest.split_once('|')?;

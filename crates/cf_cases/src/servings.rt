@@ -1,18 +1,18 @@
-//! What a call of the program is handed for serving: a link to which nobody connects, and a spawner.
+//! What a call of the program is handed for its tasks and for serving: a spawner, and a link to which nobody connects.
 use cf_conn::MemoryConn;
 use cf_serve::ListLink;
 use cf_tasks::{Choice, Spawner};
 use std::alloc::Global;
 use std::thread::Threads;
 
-/// Runs each task in place.
+/// Runs each task in a thread of its own.
 #[derive(Drop)]
-pub(crate) struct InPlace<R> {
+pub(crate) struct EachInThread<R> {
     rt: R,
     refused: u64,
 }
 
-impl<R: Threads + Drop> Spawner for InPlace<R> {
+impl<R: Threads + Drop> Spawner for EachInThread<R> {
     type Rt = R;
 
     ghost refusals = { λ s. s.refused };
@@ -22,7 +22,7 @@ impl<R: Threads + Drop> Spawner for InPlace<R> {
     }
 
     fn choose(&mut self) -> Choice {
-        Choice::InPlace
+        Choice::InThread
     }
 
     fn count(&mut self) {
@@ -30,9 +30,9 @@ impl<R: Threads + Drop> Spawner for InPlace<R> {
     }
 }
 
-/// A spawner that runs each task in place.
-pub(crate) fn in_place<R: Threads + Copy + Drop>(rt: R) -> InPlace<R> {
-    InPlace { rt, refused: 0 }
+/// A spawner that runs each task in a thread of its own.
+pub(crate) fn in_threads<R: Threads + Copy + Drop>(rt: R) -> EachInThread<R> {
+    EachInThread { rt, refused: 0 }
 }
 
 /// A link to which nobody connects.

@@ -5,6 +5,7 @@ use cf_conn::SliceSource;
 use cf_index::Index;
 use std::alloc::Global;
 use std::test::*;
+use std::thread::Threads;
 
 // The blocks of data/blocks.dat.
 const FILE: &str =
@@ -23,12 +24,18 @@ const ROWS: &str = "578 1 0 tip 3
 0 1 0 tip 0";
 
 // The index of these bytes.
-fn loaded(alloc: Global, bytes: &[u8], most: usize, failing: u64) -> Result<String, Fail>
+fn loaded(
+    rt: &(impl Threads + Sync),
+    alloc: Global,
+    bytes: &[u8],
+    most: usize,
+    failing: u64,
+) -> Result<String, Fail>
     requires { 0 < most }
 {
     let mut source = SliceSource::new(alloc, bytes, most);
     source.failing(&[failing]).ok().ok_or("no memory")?;
-    match Index::load(alloc, &mut source) {
+    match Index::load(rt, alloc, &mut source) {
         Ok(index) => Ok(format!(in alloc; "tip {}", index.tip())?),
         Err(fault) => Ok(format!(in alloc; "{fault}")?),
     }
@@ -41,7 +48,12 @@ fn number(words: &str) -> Result<(usize, &str), Fail> {
     Ok((n, rest))
 }
 
-fn is_as_told(alloc: Global, file: &[u8], row: &str) -> Result<bool, Fail> {
+fn is_as_told(
+    rt: &(impl Threads + Sync),
+    alloc: Global,
+    file: &[u8],
+    row: &str,
+) -> Result<bool, Fail> {
     let (length, rest) = number(row)?;
     let (most, rest) = number(rest)?;
     let (failing, wanted) = number(rest)?;
@@ -49,7 +61,7 @@ fn is_as_told(alloc: Global, file: &[u8], row: &str) -> Result<bool, Fail> {
     if most == 0 {
         return Err("no byte at a time".into());
     }
-    let text = loaded(alloc, bytes, most, failing as u64)?;
+    let text = loaded(rt, alloc, bytes, most, failing as u64)?;
     Ok(text.as_str() == wanted)
 }
 
@@ -58,7 +70,7 @@ fn indexes_are_loaded_from_sources(rt: HostRuntime) -> Result<(), Fail> {
     let alloc = rt.alloc();
     let file = hex::decode(alloc, FILE).ok().ok_or("no bytes")?;
     for row in ROWS.lines() {
-        assert!(rt; is_as_told(alloc, &file, row)?, "{row}");
+        assert!(rt; is_as_told(&rt, alloc, &file, row)?, "{row}");
     }
     Ok(())
 }
