@@ -1,10 +1,13 @@
 #!/usr/bin/env python3
-"""Prints conversations with a serving machine over a block file, in hexadecimal: `conversation.py [--ranges] FILE`.
+"""Prints conversations with a serving machine over a block file, in hexadecimal: `conversation.py [--ranges|--calls] FILE`.
 
 The first line is what a peer sends: each request that a server of filters knows, some that aren't answered, and last a ping that is cut
 short. The second is what is sent back, written out from the layouts of the Bitcoin developer reference, BIP 157 and BIP 158. With
 `--ranges` the file has more than 2000 blocks, and there are two such lines for each of several connections, on which the greatest ranges
 are asked for, and longer ones; of more than 10,000 bytes their number and their hash are printed. The rows `serve` of cf_cases hold both.
+
+With `--calls` it prints the rows `serving` of cf_cases, and after each what it comes to: calls of `serve` over this file, and over genesis
+alone, to peers that greet and ping, to silent ones, and to one that sends a bad frame.
 """
 import struct
 import sys
@@ -174,9 +177,8 @@ def greeting(tip):
 class Served:
     """A chain, and what is told of it."""
 
-    def __init__(self, name):
-        with open(name, "rb") as file:
-            self.blocks = [GENESIS_HEADER + b"\x01" + GENESIS_TX] + list(records(file.read()))
+    def __init__(self, data):
+        self.blocks = [GENESIS_HEADER + b"\x01" + GENESIS_TX] + list(records(data))
         self.hashes = [double(b[:80]) for b in self.blocks]
         self.filters = filters(self.blocks)
         self.tip = len(self.blocks) - 1
@@ -272,12 +274,47 @@ def ranges(c):
     yield frame("getcfcheckpt", b"\x01" + hashes[1000]), b""
 
 
+DONE = "0 Done"
+LINK_FAULT = "9 LinkFault: the address can't be listened at, or no connection could be accepted"
+
+
+def calls(data):
+    """Calls that serve, as rows, and the lines that each comes to."""
+    pinged = frame("ping", NUMBER)
+    asks = (pinged + THEIR_VERSION + pinged).hex()
+    bare = "0 " + (greeting(0) + frame("pong", NUMBER)).hex()
+    served = "0 " + (greeting(Served(data).tip) + frame("pong", NUMBER)).hex()
+
+    def row(limits, words, blocks, *asked):
+        return "serving %s|cf serve %s|%s|%s" % (limits, words, blocks.hex() or "-", " ".join(asked))
+
+    yield row("refused -", "--connections 1 f a", b"", asks), [DONE, bare]
+    # One that sends nothing, and one whose frame doesn't begin as one.
+    yield row("threads -", "--connections 3 f a", data, asks, "-", bytes(24).hex()), [DONE, served, "0 -", "1 -"]
+    yield row("place -", "--connections 2 f a", b"", asks, asks), [DONE, bare, bare]
+    # The first call of the link is to listen; then each is to accept.
+    yield row("place 1", "f a", b"", asks), [LINK_FAULT]
+    yield row("threads 3", "--connections 2 f a", b"", asks, asks), [LINK_FAULT, bare]
+    # Without a number there are more connections to come than the link has.
+    yield row("refused -", "f a", b"", asks), [LINK_FAULT, bare]
+    cut = "3 BadFile { which: Blocks, place: 1, cause: Blocks(Cut) }: the block file, record 1: the record is cut off"
+    yield row("place -", "f a", data[:3], asks), [cut]
+    yield row("place -", "g a", b"", asks), ["4 FileFault: a file could not be read"]
+    yield row("place -", "--connections 0 f a", b"", asks), ["2 Usage: the words are no command"]
+
+
 def shown(data):
     return data.hex() if len(data) <= 10_000 else "%d bytes %s" % (len(data), double(data)[::-1].hex())
 
 
 def main():
-    c = Served(sys.argv[-1])
+    with open(sys.argv[-1], "rb") as file:
+        data = file.read()
+    if sys.argv[1] == "--calls":
+        for row, lines in calls(data):
+            print("\n".join([row] + lines))
+        return
+    c = Served(data)
     if sys.argv[1] != "--ranges":
         for text in whole(c):
             print(text.hex())

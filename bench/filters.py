@@ -1,9 +1,11 @@
 #!/usr/bin/env python3
-"""Basic filters of a made chain of 100,000 blocks beside a plain reader in C: building them, and matching 1, 100 and 1000 scripts against all of them.
+"""Basic filters of a made chain of 100,000 blocks beside a plain reader in C: building them, and matching 1, 100 and 1000 scripts against all of them. Then the
+same by threads: building on one processor and on all, and matching 100 scripts by the plain matcher and by 1, 2 and 4 workers.
 
 `cf_bench` and `plain.c` (compiled with `cc -O2`) check the same file, build each filter and match the same scripts, which nothing pays. The first row has
 no scripts: reading, checking and building. The others are what matching takes beyond it. Seconds are the processor's, and the best of five runs counts, which
-take turns. Both must find the same number of filters, or it stops.
+take turns. Both must find the same number of filters, or it stops. Of threads the time that passes is told, the least of five runs, which take turns too; it says
+something only where as many processors are free.
 """
 import os
 import subprocess
@@ -14,6 +16,32 @@ from runs import best
 BENCH = os.path.dirname(os.path.abspath(__file__))
 CRATE = os.path.join(os.path.dirname(BENCH), "crates", "cf_bench")
 PROGRAM = os.path.join(CRATE, "out", "cf_bench")
+
+
+def passed(words):
+    """How many filters one run finds, and the milliseconds that it took to match and to build."""
+    found, matched, built = subprocess.run(words, check=True, capture_output=True, text=True).stdout.splitlines()
+    return found, int(matched), int(built)
+
+
+def by_threads(blocks):
+    """Prints how much sooner several threads are done than one."""
+    call = [PROGRAM, blocks, "100"]
+    words = {"one": ["taskset", "-c", "0", *call, "1"], 0: [*call, "0"], 1: [*call, "1"], 2: [*call, "2"], 4: [*call, "4"]}
+    runs = {key: [] for key in words}
+    for _ in range(5):
+        for key, line in words.items():
+            runs[key].append(passed(line))
+    if len({found for each in runs.values() for found, _, _ in each}) != 1:
+        raise SystemExit("not all found the same")
+    matched = {key: min(run[1] for run in each) for key, each in runs.items()}
+    built = {key: min(run[2] for run in each) for key, each in runs.items()}
+    print("%-26s %9s %7s" % ("by threads", "passed", "times"))
+    for key, row in ((0, "matching, plain"), (1, "matching, 1 worker"), (2, "matching, 2 workers"), (4, "matching, 4 workers")):
+        print("%-26s %8dms %7.2f" % (row, matched[key], matched[1] / matched[key]))
+    all_of = min(built[key] for key in (0, 1, 2, 4))
+    for row, time in (("building, 1 processor", built["one"]), ("building, all", all_of)):
+        print("%-26s %8dms %7.2f" % (row, time, built["one"] / time))
 
 
 def main():
@@ -32,6 +60,7 @@ def main():
             print("%-26s %8.2fs %8.2fs %7.1f" % (row, ours, other, ours / other if other > 0 else 0))
             if count == 0:
                 before = (seconds, base)
+        by_threads(blocks)
 
 
 if __name__ == "__main__":

@@ -3,6 +3,7 @@
  *   plain scan FILE SCRIPT..      the history of the scripts (hexadecimal), as `scan` writes it
  *   plain filters FILE            the last block's hash, filter and filter header, as `filter` writes them
  *   plain match FILE COUNT        how many of the chain's filters match COUNT scripts that nothing pays
+ *   plain make FILE SEED BLOCKS   writes a made chain, as `make SEED BLOCKS FILE` does
  *
  * It takes legacy transactions and checks what a good chain needs: parents, bits, work, Merkle roots, coinbases and coins.
  * SHA-256 is scalar. Numbers are little-endian, as on the processors that this is measured on.
@@ -381,8 +382,73 @@ static size_t bytes_of(const char *hex, u8 *out) {
     return n;
 }
 
+/* Made chains */
+
+static u8 *put_number(u8 *at, u64 x, int n) {
+    memcpy(at, &x, n);
+    return at + n;
+}
+
+static u8 *put_output(u8 *at, u64 value, u64 k) {
+    at = put_number(at, value, 8);
+    *at++ = 4, *at++ = 1, *at++ = k % 16, *at++ = 0x75, *at++ = 0x51;
+    return at;
+}
+
+static u8 *put_coinbase(u8 *at, u64 seed, u32 height) {
+    at = put_number(at, 1, 4), *at++ = 1;
+    memset(at, 0, 32), at = put_number(at + 32, 0xffffffff, 4);
+    *at++ = 14, *at++ = 4, at = put_number(at, height, 4), *at++ = 8, at = put_number(at, seed, 8);
+    at = put_number(at, 0xffffffff, 4), *at++ = 1;
+    return put_number(put_output(at, 5000000000, seed + height), 0, 4);
+}
+
+static u8 *put_spending(u8 *at, u64 turn, const u8 *coin) {
+    at = put_number(at, 1, 4), *at++ = 1;
+    memcpy(at, coin, 32), at = put_number(at + 32, 0, 4);
+    *at++ = 0, at = put_number(at, 0xffffffff, 4), *at++ = 2;
+    return put_number(put_output(put_output(at, 2000000000, turn + 5), 3000000000, turn + 11), 0, 4);
+}
+
+static int make(const char *name, u64 seed, u32 blocks) {
+    static const u8 magic[] = {0xfa, 0xbf, 0xb5, 0xda};
+    FILE *file = fopen(name, "wb");
+    u8 genesis[sizeof GENESIS / 2], tip[32], coin[32], ids[2][32];
+    if (!file) return 4;
+    bytes_of(GENESIS, genesis);
+    hash(genesis, 80, tip);
+    for (u32 height = 1; height <= blocks; height++) {
+        u8 record[512], *header = record + 8, *at = header + 81;
+        int spends = height > 1 && (seed + height) % 3 == 0;
+        u8 *next = put_coinbase(at, seed, height);
+        hash(at, next - at, ids[0]);
+        header[80] = 1 + spends;
+        if (spends) {
+            at = next, next = put_spending(at, seed + height, coin);
+            hash(at, next - at, ids[1]);
+        }
+        memcpy(coin, ids[0], 32);
+        put_number(header, 4, 4);
+        memcpy(header + 4, tip, 32);
+        if (spends) hash(ids[0], 64, header + 36);
+        else memcpy(header + 36, ids[0], 32);
+        put_number(put_number(header + 68, 1296688602 + 600 * height, 4), 0x207fffff, 4);
+        u32 nonce = 0;
+        do {
+            if (nonce == 65536) return 5;
+            put_number(header + 76, nonce++, 4);
+            hash(header, 80, tip);
+        } while (tip[31] >= 0x80 || (tip[31] == 0x7f && tip[30] == 0xff && tip[29] == 0xff && memcmp(tip, (u8[29]){0}, 29)));
+        memcpy(record, magic, 4);
+        put_number(record + 4, next - header, 4);
+        fwrite(record, 1, next - record, file);
+    }
+    return fclose(file) ? 4 : 0;
+}
+
 int main(int argc, char **argv) {
     if (argc < 3) return 2;
+    if (strcmp(argv[1], "make") == 0) return argc < 5 ? 2 : make(argv[2], strtoull(argv[3], NULL, 10), (u32)strtoul(argv[4], NULL, 10));
     show_history = strcmp(argv[1], "scan") == 0;
     match_filters = strcmp(argv[1], "match") == 0;
     make_filters = !show_history;
