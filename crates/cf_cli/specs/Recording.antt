@@ -1,5 +1,5 @@
 -- What becomes of the files.
-use Rattle.std.specs.Prelude.{◌≡◌, ℕ, Bool, true, false, List, Option, Some, None, is_some, IfSome, Result, Ok, Err}
+use Rattle.std.specs.Prelude.{◌≡◌, ℕ, Bool, true, false, List, Option, Some, None, is_some, IfSome, IsSome, Result, Ok, Err}
 use Rattle.cf_bytes.specs.Files.{Named, SameElsewhere, with_file}
 use Rattle.cf_bytes.specs.Outside.{HasRisen}
 use Rattle.cf_bytes.specs.declared.memory.Refused.{Refused}
@@ -12,8 +12,9 @@ use Rattle.cf_input.specs.declared.words.Command.TheVariants.{Make, Sync}
 use Rattle.cf_cli.specs.declared.status.Status.{Status}
 use Rattle.cf_cli.specs.declared.status.Status.TheVariants.{Done, FileFault, OutFault, NoPeers, Tired, Ended}
 
--- a text stands under this name, and nothing else has changed; it has the session lines of the log, where the wires tell it
+-- the log is told, and its session lines stand under this name; nothing else has changed
 pub record IsRecorded (name : List ℕ) (log : Option Log) (before after : Option Named) : Type 0 where
+  pub told : IsSome log
   pub text : List ℕ
   pub lines : IfSome log (λ l. text ≡ session_text l)
   pub stands : after ≡ with_file name text before

@@ -1,5 +1,5 @@
 //! The record of a run: what passed its wires, as a session file.
-ghost use Rattle.std.specs.Prelude.{◌≡◌, ◌≤◌, [], is_some, true};
+ghost use Rattle.std.specs.Prelude.{◌≡◌, ◌≤◌, [], is_some, IsSome, true};
 ghost use Rattle.cf_peer.specs.Log.{Tells};
 ghost use Rattle.cf_cli.specs.Recording.{IsRecording, BlamesFiles};
 
@@ -14,6 +14,7 @@ pub(crate) fn keep_where<W: Wires>(wires: &mut W, log_file: &Option<Word>)
     ensures fresh { Tells [] (W.told wires.new) }
     ensures finished { (W.told wires.new).finished ≡ (W.told wires.old).finished }
     ensures keeps { is_some log_file.now ≡ true → W.keeps wires.new ≡ true }
+    ensures told { is_some log_file.now ≡ true → IsSome (W.told wires.new).log }
     ensures later { W.faults wires.old ≤ W.faults wires.new }
     ensures same { W.script wires.new ≡ W.script wires.old }
 {
@@ -31,6 +32,7 @@ pub(crate) fn write_record<F: Files, W: Wires>(
     log_file: &Option<Word>,
 ) -> Result<(), Refused<Failed>>
     requires keeps { is_some log_file.now ≡ true → W.keeps wires.now ≡ true }
+    requires told { is_some log_file.now ≡ true → IsSome (W.told wires.now).log }
     ensures files { IsRecording result log_file.now (W.told wires.now).log (F.files files.old) (F.files files.new) }
     ensures count { BlamesFiles result (F.faults files.old) (F.faults files.new) }
 {

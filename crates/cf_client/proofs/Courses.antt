@@ -1,6 +1,6 @@
 -- What holds from one moment to a later one, put together.
 use Rattle.std.proofs.Common.{◌≡◌, ◌⊎◌, inl, inr, ℕ, ◌+◌, ◌<◌, ◌≤◌, Bool, true, false, List, [], ◌∷◌, ◌++◌, Option, Some, None, refl, sym, ◌∙◌, ap, subst, arith}
-use Rattle.std.specs.Prelude.{IfSome}
+use Rattle.std.specs.Prelude.{IfSome, IsSome}
 use Rattle.std.specs.List.{list_any}
 use Rattle.std.proofs.lemmas.Bool.{false≢true}
 use Rattle.std.proofs.lemmas.List.{map-append}
@@ -34,6 +34,7 @@ pub course_on : (t u v : Told) (f g h : ℕ) (s r q : Option Made) → Course t 
 course_on t u v f g h s r q one two = record {
   later = omega (arith, one.later, two.later);
   blamed = λ clean. blame_on f g h one.later two.later two.blamed (one.blamed clean);
+  logged = λ is. two.logged (one.logged is);
   script = two.script ∙ one.script;
 }
 
@@ -42,16 +43,27 @@ clean_more : (e : Event) (o : Option Log) → is_failure e ≡ false → IfSome 
 clean_more e None is clean = clean
 clean_more e (Some log) is clean = rw (is, clean) refl
 
+-- a log that is told goes on to be
+logged_more : (e : Event) (o : Option Log) → IsSome o → IsSome (longer e o)
+logged_more e None is = is
+logged_more e (Some log) is = is
+
 pub course_told : (e : Event) (t u : Told) (f g : ℕ) (s r : Option Made) → is_failure e ≡ false → u ≡ tell e t → f ≤ g → r ≡ s → Course t u f g s r
 course_told e t u f g s r is told later script = record {
   later = later;
   blamed = λ clean. inl (subst NoFailure (sym told) (clean_more e t.log is clean));
+  logged = λ told_before. subst (λ (x : Told). IsSome x.log) (sym told) (logged_more e t.log told_before);
   script = script;
 }
 
 -- a failure
-pub course_failed : (t u : Told) (f g : ℕ) (s r : Option Made) → HasRisen f g → f ≤ g → r ≡ s → Course t u f g s r
-course_failed t u f g s r risen later script = record { later = later; blamed = λ clean. inr risen; script = script }
+pub course_failed : (e : Event) (t u : Told) (f g : ℕ) (s r : Option Made) → HasRisen f g → u ≡ tell e t → f ≤ g → r ≡ s → Course t u f g s r
+course_failed e t u f g s r risen told later script = record {
+  later = later;
+  blamed = λ clean. inr risen;
+  logged = λ told_before. subst (λ (x : Told). IsSome x.log) (sym told) (logged_more e t.log told_before);
+  script = script;
+}
 
 clean_start : (o : Option Log) → IfSome o (λ log. log ≡ []) → IfSome o (λ log. list_any is_failure log ≡ false)
 clean_start None start = start
@@ -70,7 +82,7 @@ failures_blamed t u f g s r start course = blamed_in u.log f g (course.blamed (c
 
 pub runs_self : (a : Moment) → IsInStep a.told a.progress → Runs a a
 runs_self a step = record {
-  course = record { later = omega arith; blamed = λ clean. inl clean; script = refl };
+  course = record { later = omega arith; blamed = λ clean. inl clean; logged = λ is. is; script = refl };
   keeps = refl;
   finished = refl;
   step = step;
@@ -110,7 +122,7 @@ pub noted_performs : (told : Told) (faults : ℕ) (script : Option Made) (keeps 
     → Performs (moment told faults script keeps before) (moment told faults script keeps after)
 noted_performs told faults script keeps before after closed fewer step = record {
   runs = record {
-    course = record { later = omega arith; blamed = λ clean. inl clean; script = refl };
+    course = record { later = omega arith; blamed = λ clean. inl clean; logged = λ is. is; script = refl };
     keeps = refl;
     finished = refl;
     step = step ∙ sym closed;
@@ -133,7 +145,7 @@ told_runs e a b is told later script keeps closed same step = record {
 pub failed_runs : (e : Event) (a b : Moment) → HasRisen a.faults b.faults → b.told ≡ tell e a.told → a.faults ≤ b.faults → b.script ≡ a.script → b.keeps ≡ a.keeps
     → (tell e a.told).tally.closed ≡ a.told.tally.closed → b.progress ≡ a.progress → IsInStep a.told a.progress → Runs a b
 failed_runs e a b risen told later script keeps closed same step = record {
-  course = course_failed a.told b.told a.faults b.faults a.script b.script risen later script;
+  course = course_failed e a.told b.told a.faults b.faults a.script b.script risen told later script;
   keeps = keeps;
   finished = ap (λ (t : Told). t.finished) told;
   step = ap (λ (t : Told). t.tally.closed) told ∙ closed ∙ step ∙ sym (ap (λ (x : Progress). x.closed) same);
@@ -142,7 +154,7 @@ failed_runs e a b risen told later script keeps closed same step = record {
 -- nothing passed
 pub quiet_runs : (a b : Moment) → b.told ≡ a.told → a.faults ≤ b.faults → b.script ≡ a.script → b.keeps ≡ a.keeps → b.progress ≡ a.progress → IsInStep a.told a.progress → Runs a b
 quiet_runs a b told later script keeps same step = record {
-  course = record { later = later; blamed = λ clean. inl (subst NoFailure (sym told) clean); script = script };
+  course = record { later = later; blamed = λ clean. inl (subst NoFailure (sym told) clean); logged = λ is. subst (λ (t : Told). IsSome t.log) (sym told) is; script = script };
   keeps = keeps;
   finished = ap (λ (t : Told). t.finished) told;
   step = ap (λ (t : Told). t.tally.closed) told ∙ step ∙ sym (ap (λ (x : Progress). x.closed) same);

@@ -1,5 +1,5 @@
 -- A run of a client over wires.
-use Rattle.std.specs.Prelude.{◌≡◌, ◌⊎◌, ℕ, ◌+◌, ◌≤◌, ◌<◌, ◌==◌, ◌||◌, Bool, true, false, List, [], ◌∷◌, ◌++◌, length, map, take, reverse, slice_index_or, Option, Some, None, IfSome}
+use Rattle.std.specs.Prelude.{◌≡◌, ◌⊎◌, ℕ, ◌+◌, ◌≤◌, ◌<◌, ◌==◌, ◌||◌, Bool, true, false, List, [], ◌∷◌, ◌++◌, length, map, take, reverse, slice_index_or, Option, Some, None, IfSome, IsSome}
 use Rattle.std.specs.List.{sum_by, list_any}
 use Rattle.cf_bytes.specs.Outside.{HasRisen}
 use Rattle.cf_bytes.specs.declared.hash.Hash32.{Hash32}
@@ -210,10 +210,12 @@ HasFailed log = list_any is_failure log ≡ true
 abbrev pub NoFailure : Told → Type 0
 NoFailure t = IfSome t.log (λ log. list_any is_failure log ≡ false)
 
--- from one moment to a later one: the count of faults never falls, and where a dial or a send has failed in between it has risen; the script stays
+-- from one moment to a later one: the count of faults never falls, and where a dial or a send has failed in between it has risen; a log that is told
+-- goes on to be; the script stays
 pub record Course (t u : Told) (f g : ℕ) (s r : Option Made) : Type 0 where
   pub later : f ≤ g
   pub blamed : NoFailure t → NoFailure u ⊎ HasRisen f g
+  pub logged : IsSome t.log → IsSome u.log
   pub script : r ≡ s
 
 -- no count changes, and nobody is dialled
