@@ -3,4 +3,5 @@ pub mod Runs
 pub mod Plays
 pub mod FilterTexts
 pub mod ProofTexts
+pub mod Retold
 pub mod Serves

@@ -48,11 +48,11 @@ use Rattle.cf_cli.specs.Statuses.{Verdict, Good, IsJudged, proof_verdict, proof_
 
 -- ---- lines of hexadecimal digits
 
-not_lf : (t : Bool) → (t ≡ true → ⊥) → not t ≡ true
+pub not_lf : (t : Bool) → (t ≡ true → ⊥) → not t ≡ true
 not_lf true never = absurd (never refl)
 not_lf false never = refl
 
-isnt : (t : Bool) → not t ≡ true → t ≡ false
+pub isnt : (t : Bool) → not t ≡ true → t ≡ false
 isnt true h = cc
 isnt false h = refl
 
@@ -68,10 +68,10 @@ digits_line (b ∷ text) h =
     let both = and_parts (is_hex_digit b) (list_all is_hex_digit text) h in
     rw (isnt (b == 10) (digit_line b both.0)) (digits_line text both.1)
 
-hex_line : (bytes : List ℕ) → IsBytes bytes → IsLine (encode_lower bytes)
+pub hex_line : (bytes : List ℕ) → IsBytes bytes → IsLine (encode_lower bytes)
 hex_line bytes are = digits_line (encode_lower bytes) (list_all-from_AllPass is_hex_digit (encode_lower bytes) (decode_of-ok (encode_lower bytes) bytes (decode_of-encode_lower bytes are)).1)
 
-hex_read : (bytes : List ℕ) → IsBytes bytes → bytes_of_hex (encode_lower bytes) ≡ Some bytes
+pub hex_read : (bytes : List ℕ) → IsBytes bytes → bytes_of_hex (encode_lower bytes) ≡ Some bytes
 hex_read bytes are = ap result_ok (decode_of-encode_lower bytes are)
 
 first_line : (line rest : List ℕ) → IsLine line → line_of (line ++ 10 ∷ rest) ≡ line

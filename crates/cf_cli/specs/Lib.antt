@@ -1,5 +1,6 @@
 pub mod Making
 pub mod Reading
+pub mod Retelling
 pub mod Recording
 pub mod Statuses
 pub mod Texts

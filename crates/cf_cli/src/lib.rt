@@ -3,6 +3,7 @@
 
 mod addressing;
 mod following;
+mod laws;
 mod loading;
 mod making;
 mod own_texts;
@@ -14,6 +15,7 @@ mod serving;
 mod status;
 mod texts;
 
+pub use laws::laws_of_records;
 pub use loading::{MOST_BLOCKS, MOST_PROOF, MOST_SESSION, MOST_WATCH};
 pub use own_texts::own_text;
 pub use program::run;

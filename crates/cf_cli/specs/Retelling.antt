@@ -1,0 +1,47 @@
+-- What the record of a run reads as.
+use Rattle.std.specs.Prelude.{◌≡◌, ℕ, ◌<◌, ◌≤◌, true, List, [], ◌∷◌, ◌++◌, length}
+use Rattle.hex.specs.Hex.{IsBytes}
+use Rattle.cf_peer.specs.declared.event.Delivery.{Delivery}
+use Rattle.cf_peer.specs.declared.event.Delivery.TheVariants.{Got, Gone, Tick, Ended}
+use Rattle.cf_peer.specs.declared.event.Dial.{Dial}
+use Rattle.cf_peer.specs.declared.event.Event.TheVariants.{Dialled, NotDialled, Sent, SendFailed, Closed, Took}
+use Rattle.cf_peer.specs.Log.{Log, dials, with_delivery}
+use Rattle.cf_peer.specs.Wires.{Script}
+use Rattle.cf_input.specs.Name.{is_name}
+use Rattle.cf_input.specs.SessionFile.{max_dials, most_seconds}
+
+-- what the session lines of a log tell of its deliveries: a failed send is told as a peer that has gone
+abbrev pub told_deliveries : Log → List Delivery
+told_deliveries [] = []
+told_deliveries (Took d ∷ log) = with_delivery d (told_deliveries log)
+told_deliveries (SendFailed p ∷ log) = told_deliveries log ++ Gone p ∷ []
+told_deliveries (Dialled p name ∷ log) = told_deliveries log
+told_deliveries (NotDialled p name ∷ log) = told_deliveries log
+told_deliveries (Sent p bytes ∷ log) = told_deliveries log
+told_deliveries (Closed p ∷ log) = told_deliveries log
+
+-- the dials and the deliveries that they tell
+abbrev pub told_script : Log → Script
+told_script log = record { dials = dials log; deliveries = told_deliveries log }
+
+abbrev pub AreNames : List Dial → Type 0
+AreNames [] = Unit {0}
+AreNames (d ∷ ds) = (is_name d.name ≡ true) × AreNames ds
+
+-- a delivery that a session of so many peers may have
+abbrev pub IsOfSession : ℕ → Delivery → Type 0
+IsOfSession peers (Got p piece) = (1 ≤ p.0) × (p.0 ≤ peers) × (0 < length piece) × IsBytes piece
+IsOfSession peers (Gone p) = (1 ≤ p.0) × (p.0 ≤ peers)
+IsOfSession peers (Tick seconds) = (1 ≤ seconds) × (seconds ≤ most_seconds)
+IsOfSession peers Ended = ⊥
+
+abbrev pub AreOfSession : ℕ → List Delivery → Type 0
+AreOfSession peers [] = Unit {0}
+AreOfSession peers (d ∷ ds) = IsOfSession peers d × AreOfSession peers ds
+
+-- one to eight peers with names were dialled, and what was delivered may stand in a session
+pub record IsRetold (log : Log) : Type 0 where
+  pub some : 0 < length (dials log)
+  pub few : length (dials log) ≤ max_dials
+  pub names : AreNames (dials log)
+  pub delivered : AreOfSession (length (dials log)) (told_deliveries log)
