@@ -1,6 +1,7 @@
 #!/usr/bin/env python3
 """Basic filters of a made chain of 100,000 blocks beside a plain reader in C: building them, and matching 1, 100 and 1000 scripts against all of them. Then the
-same by threads: building on one processor and on all, and matching 100 scripts by the plain matcher and by 1, 2 and 4 workers.
+same by threads: building on one processor and on all, and matching 100 scripts by the plain matcher and by 1, 2 and 4 workers. Filter headers stand on one another, so
+they are found one by one: of small blocks, as made chains have them, this is more than half of the work. So building is told of blocks with 50 outputs more as well.
 
 `cf_bench` and `plain.c` (compiled with `cc -O2`) check the same file, build each filter and match the same scripts, which nothing pays. The first row has
 no scripts: reading, checking and building. The others are what matching takes beyond it. Seconds are the processor's, and the best of five runs counts, which
@@ -11,6 +12,7 @@ import os
 import subprocess
 import tempfile
 
+from made_chain import records
 from runs import best
 
 BENCH = os.path.dirname(os.path.abspath(__file__))
@@ -24,24 +26,34 @@ def passed(words):
     return found, int(matched), int(built)
 
 
-def by_threads(blocks):
-    """Prints how much sooner several threads are done than one."""
-    call = [PROGRAM, blocks, "100"]
-    words = {"one": ["taskset", "-c", "0", *call, "1"], 0: [*call, "0"], 1: [*call, "1"], 2: [*call, "2"], 4: [*call, "4"]}
+def in_turns(words, times):
+    """The least milliseconds of matching and of building, of runs that take turns, by what they are called."""
     runs = {key: [] for key in words}
-    for _ in range(5):
+    for _ in range(times):
         for key, line in words.items():
             runs[key].append(passed(line))
     if len({found for each in runs.values() for found, _, _ in each}) != 1:
         raise SystemExit("not all found the same")
-    matched = {key: min(run[1] for run in each) for key, each in runs.items()}
-    built = {key: min(run[2] for run in each) for key, each in runs.items()}
+    return [{key: min(run[at] for run in each) for key, each in runs.items()} for at in (1, 2)]
+
+
+def tell_building(what, one, all_of):
+    for row, time in (("building%s, 1 processor" % what, one), ("building%s, all" % what, all_of)):
+        print("%-26s %8dms %7.2f" % (row, time, one / time))
+
+
+def by_threads(blocks, wide):
+    """Prints how much sooner several threads are done than one."""
+    call = [PROGRAM, blocks, "100"]
+    words = {"one": ["taskset", "-c", "0", *call, "1"], 0: [*call, "0"], 1: [*call, "1"], 2: [*call, "2"], 4: [*call, "4"]}
+    matched, built = in_turns(words, 5)
     print("%-26s %9s %7s" % ("by threads", "passed", "times"))
     for key, row in ((0, "matching, plain"), (1, "matching, 1 worker"), (2, "matching, 2 workers"), (4, "matching, 4 workers")):
         print("%-26s %8dms %7.2f" % (row, matched[key], matched[1] / matched[key]))
-    all_of = min(built[key] for key in (0, 1, 2, 4))
-    for row, time in (("building, 1 processor", built["one"]), ("building, all", all_of)):
-        print("%-26s %8dms %7.2f" % (row, time, built["one"] / time))
+    tell_building("", built["one"], min(built[key] for key in (0, 1, 2, 4)))
+    call = [PROGRAM, wide, "0", "0"]
+    _, built = in_turns({"one": ["taskset", "-c", "0", *call], "all": call}, 3)
+    tell_building(" wide", built["one"], built["all"])
 
 
 def main():
@@ -60,7 +72,10 @@ def main():
             print("%-26s %8.2fs %8.2fs %7.1f" % (row, ours, other, ours / other if other > 0 else 0))
             if count == 0:
                 before = (seconds, base)
-        by_threads(blocks)
+        wide = os.path.join(folder, "wide")
+        with open(wide, "wb") as file:
+            file.writelines(records((7, 100_000), others=50))
+        by_threads(blocks, wide)
 
 
 if __name__ == "__main__":

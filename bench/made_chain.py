@@ -21,10 +21,16 @@ def output(value, k):
     return struct.pack("<q", value) + bytes([4, 1, k % 16, 0x75, 0x51])
 
 
-def coinbase(seed, height):
+def other_outputs(height, count):
+    """So many outputs of nothing, each to a script of its own, as long as one that pays the hash of a key."""
+    names = (sha256(struct.pack("<II", height, place)).digest()[:20] for place in range(count))
+    return b"".join(bytes(8) + b"\x19\x76\xa9\x14" + name + b"\x88\xac" for name in names)
+
+
+def coinbase(seed, height, others=0):
     script = b"\x04" + struct.pack("<I", height) + b"\x08" + struct.pack("<Q", seed)
     start = struct.pack("<i", 1) + b"\x01" + bytes(32) + b"\xff\xff\xff\xff" + bytes([len(script)]) + script + b"\xff\xff\xff\xff"
-    return start + b"\x01" + output(5_000_000_000, seed + height) + bytes(4)
+    return start + bytes([1 + others]) + output(5_000_000_000, seed + height) + other_outputs(height, others) + bytes(4)
 
 
 def spending(seed, height, coin):
@@ -45,13 +51,13 @@ def mined(fields):
     raise SystemExit("no nonce")
 
 
-def records(*parts):
-    """The records of the parts of a chain, each of which is a seed and a number of blocks."""
+def records(*parts, others=0):
+    """The records of the parts of a chain, each of which is a seed and a number of blocks. Each coinbase has so many outputs more, at most 251."""
     previous = GENESIS_HASH
     coin = None
     seeds = [seed for seed, blocks in parts for _ in range(blocks)]
     for height, seed in enumerate(seeds, 1):
-        txs = [coinbase(seed, height)]
+        txs = [coinbase(seed, height, others)]
         if height > 1 and (seed + height) % 3 == 0:
             txs.append(spending(seed, height, coin))
         txids = [double(tx) for tx in txs]
