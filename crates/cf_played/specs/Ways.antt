@@ -1,0 +1,10 @@
+-- How a peer of a kind answers.
+use Rattle.cf_played.specs.declared.kind.Kind.{Kind}
+use Rattle.cf_played.specs.declared.kind.Kind.TheVariants as kinds
+use Rattle.cf_played.specs.declared.kind.Way.{Way}
+use Rattle.cf_played.specs.declared.kind.Way.TheVariants.{Honest, Omits, Silent}
+
+abbrev pub way_of : Kind → Way
+way_of kinds.Honest = Honest
+way_of (kinds.Omits scripts) = Omits
+way_of kinds.Silent = Silent

@@ -1,0 +1,15 @@
+//! Peers in memory, as wires: each answers at once what it is sent, as the serving machine of a chain does.
+#![tactic(auto)]
+
+mod checking;
+mod filtered;
+mod hearing;
+mod kind;
+mod omitting;
+mod played;
+mod player;
+mod turns;
+mod waiting;
+
+pub use kind::{Kind, Way};
+pub use played::Played;
