@@ -1,27 +1,26 @@
 -- The replies of a good chain's machine to what a client may ask: each has a frame, and is an answer.
-use Rattle.std.proofs.Common.{◌≡◌, ◌==◌, ℕ, ℤ, zero, suc, pos, ◌+◌, ◌-◌, ◌<◌, ◌≤◌, List, [], ◌∷◌, ◌++◌, length, map, take, drop, replicate, Option, Some, None, Bool, true, false, if◌then◌else◌, refl, sym, ◌∙◌, ap, subst, arith, lit<, lit≤, slice_get, get_or, length-take}
+use Rattle.std.proofs.Common.{◌≡◌, ◌==◌, ℕ, zero, suc, pos, ◌+◌, ◌-◌, ◌<◌, ◌≤◌, List, [], ◌∷◌, length, map, take, drop, Option, Some, None, Bool, true, false, if◌then◌else◌, refl, ◌∙◌, ap, arith, lit<, lit≤, slice_get, get_or, length-take}
 use Rattle.std.specs.Prelude.{nat_lt, nat_le, min, option_to_list, ◌&&◌, ◌||◌}
-use Rattle.std.specs.List.{flat_map, AllByRecursion}
+use Rattle.std.specs.List.{AllByRecursion}
 use Rattle.std.specs.FinMap.{empty}
-use Rattle.std.proofs.lemmas.Bool.{and_parts, ltb-true, leb-true, false≢true, cases_Bool}
-use Rattle.std.proofs.lemmas.List.{length-map, append-nil}
+use Rattle.std.proofs.lemmas.Bool.{and_parts, ltb-true, leb-true, false≢true}
+use Rattle.std.proofs.lemmas.List.{length-map}
 use Rattle.cf_bytes.specs.declared.hash.Hash32.{Hash32}
 use Rattle.cf_block.specs.declared.header.Header.{Header}
 use Rattle.cf_block.specs.declared.tx.Block.{Block}
 use Rattle.cf_block.specs.Header.{IsHash, IsHeader}
 use Rattle.cf_block.specs.Tx.{IsBlock}
-use Rattle.cf_block.specs.Genesis.{first_block}
 use Rattle.cf_filter.specs.Filter.{filter_hash_of}
 use Rattle.cf_chain.specs.Coins.{CoinMap, after_block}
 use Rattle.cf_chain.specs.Good.{IsGoodChain, AreGoodBlocks}
 use Rattle.cf_chain.specs.Heights.{all_blocks, block_height}
 use Rattle.cf_chain.specs.Filters.{Filtered, first_filtered, filters_of}
-use Rattle.cf_chain.specs.Serve.{fork_height, most_headers, next_headers, block_in, block_with, headers_reply, data_reply, within, range_end, filters_between, cfilter_of, cfilters_reply, header_before, cfheaders_of, cfheaders_reply, reply_to, replies_to, replies, version_reply, no_address, is_version}
+use Rattle.cf_chain.specs.Serve.{fork_height, most_headers, next_headers, block_in, block_with, headers_reply, data_reply, within, range_end, filters_between, cfilter_of, cfilters_reply, header_before, cfheaders_reply, reply_to, replies_to, replies, version_reply, is_version}
 use Rattle.cf_block.proofs.Roots.{length-hash_of}
 use Rattle.cf_msg.specs.declared.msg.Entry.{Entry}
 use Rattle.cf_msg.specs.declared.msg.Msg.{Msg}
-use Rattle.cf_msg.specs.declared.msg.Msg.TheVariants.{Version, Verack, Ping, Pong, GetHeaders, Headers, GetData, Inv, Block as BlockMessage, GetCfilters, Cfilter, GetCfheaders, Cfheaders, GetCfcheckpt, Cfcheckpt, Other}
-use Rattle.cf_msg.specs.Message.{HasSpelling, payload_of}
+use Rattle.cf_msg.specs.declared.msg.Msg.TheVariants.{Version, Verack, Ping, GetHeaders, Headers, GetData, Block as BlockMessage, GetCfilters, GetCfheaders, Cfheaders, GetCfcheckpt}
+use Rattle.cf_msg.specs.Message.{HasSpelling}
 use Rattle.cf_msg.proofs.Sizes.{IsSmall, payload_fits}
 use Rattle.cf_peer.specs.Acts.{IsSendable}
 use Rattle.cf_peer.specs.Asking.{MayAsk}

@@ -2,4 +2,8 @@ pub mod Beginnings
 pub mod Parts
 pub mod Fits
 pub mod Filled
+pub mod Orderly
 pub mod Played
+pub mod Silent
+pub mod Shown
+pub mod Three

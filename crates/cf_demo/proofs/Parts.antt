@@ -1,5 +1,5 @@
 -- One peer's part of a log is what is read of all bytes that came from it, and what was sent to it.
-use Rattle.std.proofs.Common.{◌≡◌, inl, inr, ◌==◌, ℕ, suc, ◌+◌, ◌<◌, ◌≤◌, List, [], ◌∷◌, ◌++◌, length, drop, Option, Some, None, Bool, true, false, if◌then◌else◌, refl, sym, ◌∙◌, ap, subst, arith, Result, Ok, Err}
+use Rattle.std.proofs.Common.{◌≡◌, inl, inr, ◌==◌, ℕ, suc, ◌<◌, List, [], ◌∷◌, ◌++◌, drop, Option, Some, None, Bool, true, false, if◌then◌else◌, refl, sym, ◌∙◌, ap, subst, arith, Result, Ok, Err}
 use Rattle.std.specs.Prelude.{option_to_list}
 use Rattle.std.proofs.lemmas.Bool.{cases_Bool, both_ways, false≢true, eqb-true}
 use Rattle.std.proofs.lemmas.List.{append-nil}
@@ -10,18 +10,18 @@ use Rattle.cf_frame.specs.Stream.{StreamRead, with_frames, read_stream, continue
 use Rattle.cf_frame.proofs.Streams.{stream_joined, stream_empty}
 use Rattle.cf_msg.specs.declared.msg.Malformed.{Malformed}
 use Rattle.cf_msg.specs.declared.msg.Msg.{Msg}
-use Rattle.cf_msg.specs.declared.msg.Msg.TheVariants.{Version, Verack, Ping, Pong, GetHeaders, GetData, GetCfilters, GetCfheaders}
+use Rattle.cf_msg.specs.declared.msg.Msg.TheVariants.{Version, Verack, Pong, GetHeaders, GetData, GetCfilters, GetCfheaders}
 use Rattle.cf_msg.specs.Reading.{message_of}
 use Rattle.cf_peer.specs.declared.event.Delivery.TheVariants.{Got, Gone, Tick, Ended}
-use Rattle.cf_peer.specs.declared.event.Event.{Event}
 use Rattle.cf_peer.specs.declared.event.Event.TheVariants.{Dialled, NotDialled, Sent, SendFailed, Closed, Took}
 use Rattle.cf_peer.specs.Log.{Log, tally_of}
-use Rattle.cf_peer.specs.Trail.{Why, Trail, Part, Called, Said, Refused, Asked, Passed, Lost, Went, Failing, Shutting, called_part, with_item, item_of, item_of_read, hears, hears_fault, part_after, heard_part, spelled, asks, part_of, trail, connected}
+use Rattle.cf_peer.specs.Trail.{Why, Trail, Part, Lost, Went, Failing, Shutting, called_part, with_item, item_of, item_of_read, hears, hears_fault, part_after, heard_part, spelled, asks, part_of, trail, connected}
 use Rattle.cf_peer.specs.Asking.{MayAsk}
 use Rattle.cf_sync.specs.Fetching.{Rightly}
 use Rattle.cf_sync.specs.Honesty.{asked, said, IsSpelled}
 use Rattle.cf_sync.proofs.Entries.{at_either}
-use Rattle.cf_demo.specs.Passed.{came, told_to, AreNumbered}
+use Rattle.cf_demo.specs.Answers.{came, told_to}
+use Rattle.cf_client.specs.Run.{AreNumbered}
 use Rattle.cf_demo.proofs.Beginnings.{word_of, words, words_append, AreMessages, messages_behind}
 
 -- ---- to hear frames
@@ -30,7 +30,7 @@ said_item : (r : Result Msg Malformed) (t : Trail) → said (item_of_read r ∷ 
 said_item (Ok m) t = refl
 said_item (Err e) t = sym (append-nil (said t))
 
-said_hears : (fs : List Frame) (t : Trail) → said (hears fs t) ≡ said t ++ words fs
+pub said_hears : (fs : List Frame) (t : Trail) → said (hears fs t) ≡ said t ++ words fs
 said_hears [] t = sym (append-nil (said t))
 said_hears (f ∷ fs) t =
     said_hears fs (item_of f ∷ t)
@@ -41,7 +41,7 @@ asked_item : (r : Result Msg Malformed) (t : Trail) → asked (item_of_read r �
 asked_item (Ok m) t = refl
 asked_item (Err e) t = refl
 
-asked_hears : (fs : List Frame) (t : Trail) → asked (hears fs t) ≡ asked t
+pub asked_hears : (fs : List Frame) (t : Trail) → asked (hears fs t) ≡ asked t
 asked_hears [] t = refl
 asked_hears (f ∷ fs) t = asked_hears fs (item_of f ∷ t) ∙ asked_item (message_of f) t
 

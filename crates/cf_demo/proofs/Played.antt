@@ -1,23 +1,18 @@
 -- A peer whose bytes are a beginning of its machine's answers at every moment, and all of them whenever seconds pass, is an honest peer.
-use Rattle.std.proofs.Common.{◌≡◌, ◌≢◌, ◌⊎◌, inl, inr, ◌==◌, ℕ, zero, suc, pos, ◌+◌, ◌<◌, ◌≤◌, List, [], ◌∷◌, ◌++◌, length, map, take, drop, Option, Some, None, Result, Ok, Err, Bool, true, false, not, ◌&&◌, ◌||◌, if◌then◌else◌, refl, sym, ◌∙◌, ap, subst, arith, take-append-drop}
+use Rattle.std.proofs.Common.{◌≡◌, ◌≢◌, inl, inr, ◌==◌, ℕ, zero, suc, pos, ◌≤◌, List, [], ◌∷◌, ◌++◌, length, map, take, drop, Option, Some, None, Result, Ok, Err, Bool, true, false, not, ◌&&◌, ◌||◌, if◌then◌else◌, refl, sym, ◌∙◌, ap, subst, arith, take-append-drop}
 use Rattle.std.specs.Prelude.{option_to_list}
 use Rattle.std.specs.List.{AllByRecursion, list_all}
-use Rattle.std.proofs.lemmas.Bool.{cases_Bool, both_ways, false≢true, eqb-true, eq-eqb, and_parts}
-use Rattle.std.proofs.lemmas.List.{append-nil, length-reverse, length-map}
-use Rattle.cf_bytes.specs.declared.peer.PeerNo.{PeerNo}
+use Rattle.std.proofs.lemmas.Bool.{cases_Bool, both_ways, false≢true, eq-eqb, and_parts}
 use Rattle.cf_block.specs.declared.tx.Block.{Block}
-use Rattle.cf_block.specs.declared.header.Header.{Header}
 use Rattle.cf_chain.specs.Good.{IsGoodChain, headers_of}
-use Rattle.cf_chain.specs.Serve.{replies, cfilter_of, version_reply}
+use Rattle.cf_chain.specs.Serve.{replies, cfilter_of}
 use Rattle.cf_chain.specs.Filters.{Filtered}
 use Rattle.cf_dispute.specs.Claims.{Table}
-use Rattle.cf_headers.specs.Chain.{Hash, Chain, IsWithinLimit, NoHashClash, height_limit}
+use Rattle.cf_headers.specs.Chain.{Hash, IsWithinLimit, NoHashClash, height_limit}
 use Rattle.cf_msg.specs.declared.msg.Msg.{Msg}
-use Rattle.cf_msg.specs.declared.msg.Msg.TheVariants.{Verack, Headers, Cfheaders, Block as BlockMessage}
 use Rattle.cf_peer.specs.declared.event.Delivery.TheVariants.{Got, Gone, Tick, Ended}
 use Rattle.cf_peer.specs.declared.event.Event.{Event}
 use Rattle.cf_peer.specs.declared.event.Event.TheVariants.{Dialled, NotDialled, Sent, SendFailed, Closed, Took}
-use Rattle.cf_peer.specs.Acts.{IsSendable}
 use Rattle.cf_peer.specs.Log.{Log, tally_of}
 use Rattle.cf_frame.specs.declared.frame.Frame.{Frame}
 use Rattle.cf_frame.specs.declared.frame.FrameFault.{FrameFault}
@@ -25,24 +20,28 @@ use Rattle.cf_frame.specs.Stream.{StreamRead, read_stream}
 use Rattle.cf_msg.specs.declared.msg.Malformed.{Malformed}
 use Rattle.cf_msg.specs.Reading.{message_of}
 use Rattle.cf_match.specs.declared.job.Job.{Job}
-use Rattle.cf_peer.specs.Trail.{Trail, Part, Called, Lost, Shutting, trail, part_of, called_part, with_item, item_of, item_of_read, hears, hears_fault, part_after, heard_part, asks, spelled, connected, greeted, met, ready, own, heard}
-use Rattle.cf_peer.specs.Asking.{OpenRequest, NothingOpen, HeadersOpen, ClaimsOpen, FiltersOpen, BlockOpen, claims, request, is_idle, is_open, age, MayAsk, HasSaid}
+use Rattle.cf_peer.specs.Trail.{Trail, Part, Lost, Shutting, trail, part_of, called_part, with_item, item_of, item_of_read, hears, hears_fault, part_after, heard_part, asks, spelled, connected, greeted, met, ready}
+use Rattle.cf_peer.specs.Asking.{OpenRequest, NothingOpen, HeadersOpen, ClaimsOpen, FiltersOpen, BlockOpen, claims, request, is_idle, is_open, HasSaid}
 use Rattle.cf_server.specs.Serving.{text_of}
 use Rattle.cf_server.proofs.Texts.{text-nil}
-use Rattle.cf_sync.specs.Fetching.{Rightly, IsConnected}
-use Rattle.cf_sync.specs.Honesty.{asked, said, is_chatter, with_message, plain, IsAnswer, Leaves, IsPrefixOf, answers, AnswersAs, InTime, Stays, IsHonestOver, IsHonest, was_called}
-use Rattle.cf_sync.specs.Sync.{IsHashed, IsReceived}
+use Rattle.cf_sync.specs.Fetching.{Rightly}
+use Rattle.cf_sync.specs.Honesty.{said, with_message, plain, Leaves, IsPrefixOf, answers, AnswersAs, InTime, Stays, IsHonestOver, IsHonest, was_called}
+use Rattle.cf_sync.specs.Sync.{IsHashed}
 use Rattle.cf_sync.proofs.Chains.{Setting, headers_length}
 use Rattle.cf_sync.proofs.Entries.{at_either}
-use Rattle.cf_sync.proofs.Serves.{OwesRequest, Owes}
+use Rattle.cf_sync.proofs.Serves.{Owes}
 use Rattle.cf_sync.proofs.Settles.{setting_of}
-use Rattle.cf_sync.proofs.HonestLemmas.{Keeps, Good, honest_good}
-use Rattle.cf_demo.specs.Passed.{came, told_to, AreNumbered}
-use Rattle.cf_demo.specs.Playing.{all_answers, HasBegun, HasAnswered, is_staying, IsGreetedWhere, WereGreeted, Plays}
-use Rattle.cf_demo.proofs.Beginnings.{AreSendable, Begins, begins, words, whole_words, begun_words, begun_messages, begun_sendable}
-use Rattle.cf_demo.proofs.Fits.{IsReply, AreReplies, IsQuestion, may_question, replies_good, sendable_of}
+use Rattle.cf_sync.proofs.HonestLemmas.{honest_good}
+use Rattle.cf_demo.specs.Answers.{came, told_to}
+use Rattle.cf_client.specs.Run.{AreNumbered}
+use Rattle.cf_demo.specs.Ways.{Honest}
+use Rattle.cf_demo.specs.Answers.{HasBegun, HasAnswered, is_staying}
+use Rattle.cf_demo.specs.Playing.{IsRun, Plays}
+use Rattle.cf_demo.proofs.Orderly.{IsGreetedWhere, WereGreeted, were_greeted}
+use Rattle.cf_demo.proofs.Beginnings.{AreSendable, Begins, begins, whole_words, begun_words, begun_messages}
+use Rattle.cf_demo.proofs.Fits.{AreReplies, IsQuestion, may_question, replies_good, sendable_of}
 use Rattle.cf_demo.proofs.Filled.{IsFilled, filled}
-use Rattle.cf_demo.proofs.Parts.{IsClean, Agrees, IsFine, agrees}
+use Rattle.cf_demo.proofs.Parts.{Agrees, IsFine, agrees}
 
 -- ---- what it was told
 
@@ -53,7 +52,7 @@ told_either true xs ys more all = both xs ys all (more refl) where
   both (m ∷ xs) ys a b = (a.0, both xs ys a.1 b)
 told_either false xs ys more all = all
 
-questions : (log : Log) (p : ℕ) → Rightly log → AllByRecursion IsQuestion (told_to log p)
+pub questions : (log : Log) (p : ℕ) → Rightly log → AllByRecursion IsQuestion (told_to log p)
 questions [] p right = tt
 questions (Dialled q name ∷ log) p right = questions log p right
 questions (NotDialled q name ∷ log) p right = questions log p right
@@ -67,15 +66,18 @@ questions (Took d ∷ log) p right = questions log p right.1
 
 -- ---- one moment
 
+-- all that the machine answers, whose version has time 0 and number 0
+abbrev all_answers : List Block → List Msg → List Msg
+all_answers blocks told = replies (pos 0) 0 blocks false told
+
 -- all answers fit
-answers_good : (blocks : List Block) → IsGoodChain blocks → (log : Log) (p : ℕ) → Rightly log → AreReplies (all_answers blocks (told_to log p))
+pub answers_good : (blocks : List Block) → IsGoodChain blocks → (log : Log) (p : ℕ) → Rightly log → AreReplies (all_answers blocks (told_to log p))
 answers_good blocks good log p right = replies_good blocks good false (told_to log p) (questions log p right)
 
-begun_so : (blocks : List Block) (log : Log) (p : ℕ) → AreSendable (all_answers blocks (told_to log p)) → HasBegun blocks log p → Begins (all_answers blocks (told_to log p)) (came log p)
-begun_so blocks log p all begun =
-    let ms : List Msg = all_answers blocks (told_to log p) in
-    let n : ℕ = length (came log p) in
-    begins ms (came log p) (drop n (text_of ms)) all (ap (λ (b : List ℕ). b ++ drop n (text_of ms)) (sym begun) ∙ take-append-drop n (text_of ms))
+begun_of : (ms : List Msg) (bytes : List ℕ) → AreSendable ms → take (length bytes) (text_of ms) ≡ bytes → Begins ms bytes
+begun_of ms bytes all begun =
+    let n : ℕ = length bytes in
+    begins ms bytes (drop n (text_of ms)) all (ap (λ (b : List ℕ). b ++ drop n (text_of ms)) (sym begun) ∙ take-append-drop n (text_of ms))
 
 nothing_taken : (n : ℕ) → take n (text_of []) ≡ []
 nothing_taken n = ap (take n) text-nil ∙ none n where
@@ -83,17 +85,31 @@ nothing_taken n = ap (take n) text-nil ∙ none n where
   none zero = refl
   none (suc n) = refl
 
-fine : (blocks : List Block) → IsGoodChain blocks → (log : Log) (p : ℕ) → Rightly log → HasBegun blocks log p → IsFine log p
-fine blocks good log p right begun =
-    let ms : List Msg = all_answers blocks (told_to log p) in
-    let all = sendable_of ms (answers_good blocks good log p right) in
-    let b = begun_so blocks log p all begun in
+-- a beginning of answers that fit
+pub fine_of : (ms : List Msg) (log : Log) (p : ℕ) → AreSendable ms → take (length (came log p)) (text_of ms) ≡ came log p → (told_to log p ≡ [] → ms ≡ []) → IsFine log p
+fine_of ms log p all begun silent =
+    let b = begun_of ms (came log p) all begun in
     record {
       clean = record { fine = b.clean; messages = begun_messages ms (came log p) all b };
-      silent = λ none. sym begun ∙ ap (λ (told : List Msg). take (length (came log p)) (text_of (all_answers blocks told))) none ∙ nothing_taken (length (came log p));
+      silent = λ none. sym begun ∙ ap (λ (xs : List Msg). take (length (came log p)) (text_of xs)) (silent none) ∙ nothing_taken (length (came log p));
     }
 
-rightly_before : (e : Event) (log : Log) → Rightly (e ∷ log) → Rightly log
+fine : (blocks : List Block) → IsGoodChain blocks → (log : Log) (p : ℕ) → Rightly log → HasBegun Honest blocks log p → IsFine log p
+fine blocks good log p right begun = fine_of (all_answers blocks (told_to log p)) log p (sendable_of (all_answers blocks (told_to log p)) (answers_good blocks good log p right)) begun (λ none. ap (all_answers blocks) none)
+
+-- what it has said is a beginning of its answers
+pub record SaysFirst (t : Trail) (ms : List Msg) : Type 0 where
+  pub first : List Msg
+  pub left : List Msg
+  pub joined : first ++ left ≡ ms
+  pub says : said t ≡ first
+
+pub says_first : (ms : List Msg) (log : Log) (p : ℕ) → AreSendable ms → take (length (came log p)) (text_of ms) ≡ came log p → Agrees (part_of log p) (came log p) (told_to log p) → SaysFirst (trail log p) ms
+says_first ms log p all begun a =
+    let b = begun_of ms (came log p) all begun in
+    record { first = b.said; left = b.left; joined = b.joined; says = a.says ∙ begun_words ms (came log p) all b }
+
+pub rightly_before : (e : Event) (log : Log) → Rightly (e ∷ log) → Rightly log
 rightly_before (Dialled q name) log r = r
 rightly_before (NotDialled q name) log r = r
 rightly_before (Sent q bytes) log r = r.1
@@ -101,7 +117,7 @@ rightly_before (SendFailed q) log r = r
 rightly_before (Closed q) log r = r.1
 rightly_before (Took d) log r = r.1
 
-numbered_before : (e : Event) (log : Log) → AreNumbered (e ∷ log) → AreNumbered log
+pub numbered_before : (e : Event) (log : Log) → AreNumbered (e ∷ log) → AreNumbered log
 numbered_before (Dialled q name) log n = n.1
 numbered_before (NotDialled q name) log n = n.1
 numbered_before (Sent q bytes) log n = n
@@ -110,7 +126,7 @@ numbered_before (Closed q) log n = n
 numbered_before (Took d) log n = n
 
 -- at every moment
-all_fine : (blocks : List Block) → IsGoodChain blocks → (log : Log) (p : ℕ) → Rightly log → ((k : ℕ) → HasBegun blocks (drop k log) p) → (k : ℕ) → IsFine (drop k log) p
+all_fine : (blocks : List Block) → IsGoodChain blocks → (log : Log) (p : ℕ) → Rightly log → ((k : ℕ) → HasBegun Honest blocks (drop k log) p) → (k : ℕ) → IsFine (drop k log) p
 all_fine blocks good log p right begun zero = fine blocks good log p right (begun 0)
 all_fine blocks good [] p right begun (suc k) = fine blocks good [] p right (begun 0)
 all_fine blocks good (e ∷ log) p right begun (suc k) = all_fine blocks good log p (rightly_before e log right) (λ j. begun (suc j)) k
@@ -134,17 +150,16 @@ follows_so ms said' left joined all =
     let mine : AreReplies said' = front_replies said' left (subst AreReplies (sym joined) all) in
     (left, subst (λ (xs : List Msg). Leaves xs ms left) (sym (plain_replies said' mine)) (subst (λ (ns : List Msg). Leaves said' ns left) joined (leaves_rest said' left mine)))
 
-answers_as : (blocks : List Block) → IsGoodChain blocks → (log : Log) (p : ℕ) → Rightly log → AreNumbered log → ((k : ℕ) → HasBegun blocks (drop k log) p) → AnswersAs blocks (trail log p)
+answers_as : (blocks : List Block) → IsGoodChain blocks → (log : Log) (p : ℕ) → Rightly log → AreNumbered log → ((k : ℕ) → HasBegun Honest blocks (drop k log) p) → AnswersAs blocks (trail log p)
 answers_as blocks good log p right numbered begun =
     let a = agrees log p right numbered (all_fine blocks good log p right begun) in
     let ms : List Msg = all_answers blocks (told_to log p) in
     let all = answers_good blocks good log p right in
-    let b = begun_so blocks log p (sendable_of ms all) (begun 0) in
-    let says : said (trail log p) ≡ b.said = a.says ∙ begun_words ms (came log p) (sendable_of ms all) b in
+    let b = says_first ms log p (sendable_of ms all) (begun 0) a in
     record {
       spelled = a.spells;
       follows = subst (λ (told : List Msg). IsPrefixOf (plain (said (trail log p))) (all_answers blocks told)) (sym a.asks_these)
-          (subst (λ (xs : List Msg). IsPrefixOf (plain xs) ms) (sym says) (follows_so ms b.said b.left b.joined all));
+          (subst (λ (xs : List Msg). IsPrefixOf (plain xs) ms) (sym b.says) (follows_so ms b.first b.left b.joined all));
     }
 
 -- ---- with all answered nothing is open
@@ -202,8 +217,8 @@ chain_setting log blocks clash good = setting_of first_log 1 blocks less (record
 -- ---- the whole log
 
 -- nothing is open to it where it has answered all
-quiet : (blocks : List Block) → Setting blocks → IsGoodChain blocks → (log : Log) (p : ℕ) → Rightly log → AreNumbered log → ((k : ℕ) → HasBegun blocks (drop k log) p)
-    → IsHonestOver log p blocks → IsGreetedWhere (trail log p) → HasAnswered blocks log p → is_open (trail log p) ≡ false
+quiet : (blocks : List Block) → Setting blocks → IsGoodChain blocks → (log : Log) (p : ℕ) → Rightly log → AreNumbered log → ((k : ℕ) → HasBegun Honest blocks (drop k log) p)
+    → IsHonestOver log p blocks → IsGreetedWhere (trail log p) → HasAnswered Honest blocks log p → is_open (trail log p) ≡ false
 quiet blocks s good log p right numbered begun honest greets whole = elim (cases_Bool (connected (trail log p))) [
   | inl on ↦ (
       let t : Trail = trail log p in
@@ -233,7 +248,7 @@ stays_so (Took (Gone q)) p h = absurd (false≢true h)
 stays_so (Took (Tick s)) p h = tt
 stays_so (Took Ended) p h = absurd (false≢true h)
 
-greeted_before : (e : Event) (log : Log) → WereGreeted (e ∷ log) → WereGreeted log
+pub greeted_before : (e : Event) (log : Log) → WereGreeted (e ∷ log) → WereGreeted log
 greeted_before (Dialled q name) log g = g
 greeted_before (NotDialled q name) log g = g
 greeted_before (Sent q bytes) log g = g
@@ -331,3 +346,6 @@ honest_peer log p blocks good clash right numbered greets some few plays = recor
   dialled = called log p numbered plays.stays some few;
   honest = honest_over blocks (chain_setting log blocks clash good) good log p right numbered greets plays;
 }
+
+pub run_honest : (log : Log) (p : ℕ) (blocks : List Block) → IsRun log → IsGoodChain blocks → NoHashClash (IsHashed log blocks) → 1 ≤ p → p ≤ (tally_of log).dials → Plays blocks log p → IsHonest log p blocks
+run_honest log p blocks run good clash some few plays = honest_peer log p blocks good clash run.rightly run.numbered (were_greeted log run.orderly) some few plays

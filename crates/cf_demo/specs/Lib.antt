@@ -1,2 +1,4 @@
-pub mod Passed
+pub mod Ways
+pub mod Answers
 pub mod Playing
+pub mod Three

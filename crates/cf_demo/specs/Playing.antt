@@ -1,55 +1,62 @@
--- What peers in memory account for, by the log.
-use Rattle.std.specs.Prelude.{◌≡◌, ℕ, pos, Bool, true, false, List, [], ◌∷◌, length, take, drop}
-use Rattle.std.specs.List.{list_all}
+-- What is asked of the log of a run over peers in memory.
+use Rattle.std.specs.Prelude.{◌≡◌, ◌⊎◌, ℕ, pos, Bool, true, false, List, [], ◌∷◌, length, take, drop}
+use Rattle.std.specs.List.{list_all, AllByRecursion}
 use Rattle.cf_block.specs.declared.tx.Block.{Block}
 use Rattle.cf_chain.specs.Serve.{replies}
 use Rattle.cf_msg.specs.declared.msg.Msg.{Msg}
-use Rattle.cf_peer.specs.declared.event.Delivery.TheVariants.{Got, Gone, Tick, Ended}
-use Rattle.cf_peer.specs.declared.event.Event.{Event}
-use Rattle.cf_peer.specs.declared.event.Event.TheVariants.{Dialled, NotDialled, Sent, SendFailed, Closed, Took}
+use Rattle.cf_msg.specs.declared.msg.Msg.TheVariants.{Cfilter, Cfheaders, Cfcheckpt}
+use Rattle.cf_client.specs.Run.{AreNumbered, WasOrderly}
+use Rattle.cf_sync.specs.Fetching.{Rightly}
+use Rattle.cf_peer.specs.Acts.{IsSendable}
+use Rattle.cf_peer.specs.declared.event.Delivery.TheVariants.{Tick}
+use Rattle.cf_peer.specs.declared.event.Event.TheVariants.{Took}
 use Rattle.cf_peer.specs.Log.{Log}
-use Rattle.cf_peer.specs.Trail.{Trail, trail, connected, greeted}
+use Rattle.cf_demo.specs.Ways.{Way}
+use Rattle.cf_demo.specs.Ways.{Honest, Silent}
+use Rattle.cf_demo.specs.Answers.{came, told_to, heard_of, HasBegun, HasAnswered, is_staying}
 use Rattle.cf_server.specs.Serving.{text_of}
-use Rattle.cf_demo.specs.Passed.{came, told_to}
 
--- all that the machine answers, whose version has time 0 and number 0
-abbrev pub all_answers : List Block → List Msg → List Msg
-all_answers blocks told = replies (pos 0) 0 blocks false told
+-- what is known of the log of a run: what was sent might be sent, peers are numbered as they were dialled, and the client was orderly
+pub record IsRun (log : Log) : Type 0 where
+  pub rightly : Rightly log
+  pub numbered : AreNumbered log
+  pub orderly : WasOrderly log
 
--- what came from p is a beginning of the frames of all that it answers to what it was told; it is all of them
-abbrev pub HasBegun : List Block → Log → ℕ → Type 0
-HasBegun blocks log p = take (length (came log p)) (text_of (all_answers blocks (told_to log p))) ≡ came log p
-
-abbrev pub HasAnswered : List Block → Log → ℕ → Type 0
-HasAnswered blocks log p = came log p ≡ text_of (all_answers blocks (told_to log p))
-
--- nobody is lost by this entry but by a close
-abbrev pub is_staying : Event → Bool
-is_staying (Dialled q name) = true
-is_staying (NotDialled q name) = false
-is_staying (Sent q bytes) = true
-is_staying (SendFailed q) = false
-is_staying (Closed q) = true
-is_staying (Took (Got q piece)) = true
-is_staying (Took (Gone q)) = false
-is_staying (Took (Tick s)) = true
-is_staying (Took Ended) = false
-
--- at every moment what came was a beginning of the answers, and all of them whenever seconds passed; nobody was lost but by a close
+-- at every moment what came from p was a beginning of its machine's answers, and all of them whenever seconds passed; nobody was lost but by a close
 pub record Plays (blocks : List Block) (log : Log) (p : ℕ) : Type 0 where
-  pub past : (k : ℕ) → HasBegun blocks (drop k log) p
-  pub ticks : (k s : ℕ) (older : Log) → drop k log ≡ Took (Tick s) ∷ older → HasAnswered blocks older p
+  pub past : (k : ℕ) → HasBegun Honest blocks (drop k log) p
+  pub ticks : (k s : ℕ) (older : Log) → drop k log ≡ Took (Tick s) ∷ older → HasAnswered Honest blocks older p
   pub stays : list_all is_staying log ≡ true
 
--- whenever a delivery was taken each connected peer had been sent a version
-abbrev pub IsGreetedWhere : Trail → Type 0
-IsGreetedWhere t = connected t ≡ true → greeted t ≡ true
+-- the same of a peer that answers a version and getheaders alone
+pub record PlaysSilent (blocks : List Block) (log : Log) (p : ℕ) : Type 0 where
+  pub past : (k : ℕ) → HasBegun Silent blocks (drop k log) p
+  pub ticks : (k s : ℕ) (older : Log) → drop k log ≡ Took (Tick s) ∷ older → HasAnswered Silent blocks older p
+  pub stays : list_all is_staying log ≡ true
 
-abbrev pub WereGreeted : Log → Type 0
-WereGreeted [] = Unit {0}
-WereGreeted (Dialled q name ∷ log) = WereGreeted log
-WereGreeted (NotDialled q name ∷ log) = WereGreeted log
-WereGreeted (Sent q bytes ∷ log) = WereGreeted log
-WereGreeted (SendFailed q ∷ log) = WereGreeted log
-WereGreeted (Closed q ∷ log) = WereGreeted log
-WereGreeted (Took d ∷ log) = ((p : ℕ) → IsGreetedWhere (trail log p)) × WereGreeted log
+-- a message is the machine's, or both tell of filters
+abbrev pub is_filtering : Msg → Bool
+is_filtering (Cfilter filter block bytes) = true
+is_filtering (Cfheaders filter stop previous hashes) = true
+is_filtering (Cfcheckpt filter stop headers) = true
+is_filtering m = false
+
+abbrev pub IsAlike : Msg → Msg → Type 0
+IsAlike m n = (m ≡ n) ⊎ ((is_filtering m ≡ true) × (is_filtering n ≡ true))
+
+abbrev pub AreAlike : List Msg → List Msg → Type 0
+AreAlike [] [] = Unit {0}
+AreAlike [] (n ∷ ns) = ⊥
+AreAlike (m ∷ ms) [] = ⊥
+AreAlike (m ∷ ms) (n ∷ ns) = IsAlike m n × AreAlike ms ns
+
+-- what came from p is a beginning of the frames of messages that are like its machine's answers to what it hears of
+pub record HasBegunAlike (way : Way) (blocks : List Block) (log : Log) (p : ℕ) : Type 0 where
+  pub messages : List Msg
+  pub alike : AreAlike messages (replies (pos 0) 0 blocks false (heard_of way (told_to log p)))
+  pub fit : AllByRecursion IsSendable messages
+  pub begun : take (length (came log p)) (text_of messages) ≡ came log p
+
+-- so it was at every moment
+pub record PlaysAlike (way : Way) (blocks : List Block) (log : Log) (p : ℕ) : Type 0 where
+  pub past : (k : ℕ) → HasBegunAlike way blocks (drop k log) p

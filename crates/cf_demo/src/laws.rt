@@ -1,18 +1,44 @@
 //! Laws of logs of played peers: functions that do nothing, whose contracts say them.
-ghost use Rattle.std.specs.Prelude.{◌≡◌, ◌≤◌, ℕ, List};
+ghost use Rattle.std.specs.Prelude.{◌≡◌, ◌≤◌, ℕ, List, false, length};
 ghost use Rattle.cf_block.specs.declared.tx.Block.{Block};
-ghost use Rattle.cf_chain.specs.Good.{IsGoodChain};
-ghost use Rattle.cf_headers.specs.Chain.{NoHashClash};
+ghost use Rattle.cf_bytes.specs.declared.hash.Hash32.{Hash32};
+ghost use Rattle.cf_chain.specs.Good.{IsGoodChain, headers_of};
+ghost use Rattle.cf_headers.specs.Chain.{Chain, IsPart, NoHashClash};
+ghost use Rattle.cf_headers.specs.Shown.{Shows};
+ghost use Rattle.cf_peer.specs.Asking.{is_open, lists};
 ghost use Rattle.cf_peer.specs.Log.{Log, tally_of};
-ghost use Rattle.cf_sync.specs.Fetching.{Rightly};
-ghost use Rattle.cf_sync.specs.Honesty.{IsHonest};
-ghost use Rattle.cf_sync.specs.Sync.{IsHashed};
-ghost use Rattle.cf_demo.specs.Passed.{AreNumbered};
-ghost use Rattle.cf_demo.specs.Playing.{Plays, WereGreeted};
+ghost use Rattle.cf_peer.specs.Trail.{trail, own};
+ghost use Rattle.cf_scan.specs.declared.history.Entry.{Entry};
+ghost use Rattle.cf_sync.specs.Fetching.{IsConnected, IsQuiet, counted_part};
+ghost use Rattle.cf_sync.specs.Honesty.{IsHonest, ShowsNoOther};
+ghost use Rattle.cf_sync.specs.Sync.{Followed, IsHashed};
+ghost use Rattle.cf_demo.specs.Ways.{Way};
+ghost use Rattle.cf_demo.specs.Playing.{IsRun, Plays, PlaysAlike, PlaysSilent};
+ghost use Rattle.cf_demo.specs.Three.{AreThree, AreTwoChains};
 
 /// A peer that was dialled, whose bytes are at every moment a beginning of its machine's answers on a good chain, and all of them whenever seconds pass, is an
-/// honest peer, where no two of the strings that were hashed have one hash.
+/// honest peer of the run, where no two of the strings that were hashed have one hash.
 pub fn a_played_peer_is_honest()
-    ensures { (log : Log) (p : ℕ) (blocks : List Block) → IsGoodChain blocks → NoHashClash (IsHashed log blocks) → Rightly log → AreNumbered log → WereGreeted log
-        → 1 ≤ p → p ≤ (tally_of log).dials → Plays blocks log p → IsHonest log p blocks }
+    ensures { (log : Log) (p : ℕ) (blocks : List Block) → IsRun log → IsGoodChain blocks → NoHashClash (IsHashed log blocks) → 1 ≤ p → p ≤ (tally_of log).dials
+        → Plays blocks log p → IsHonest log p blocks }
+{}
+
+/// A peer whose answers are its machine's but for what they tell of filters shows parts of its chain and nothing else.
+pub fn a_played_peer_shows_parts_of_its_chain()
+    ensures { (log : Log) (p : ℕ) (way : Way) (blocks : List Block) → IsRun log → IsGoodChain blocks → NoHashClash (IsHashed log blocks) → PlaysAlike way blocks log p
+        → (other : Chain) → Shows (lists (counted_part log p)) other → IsPart other (headers_of blocks) }
+{}
+
+/// A silent peer that is still connected with nothing open to it has shown the whole of its chain, and that isn't the best one: it claims no filters.
+pub fn a_silent_peer_is_left_with_another_chain()
+    ensures { (watch : List (List ℕ)) (height : ℕ) (hash : Hash32) (entries : List Entry) (log : Log) (p : ℕ) (blocks : List Block) → IsRun log → IsGoodChain blocks
+        → NoHashClash (IsHashed log blocks) → 1 ≤ p → p ≤ (tally_of log).dials → PlaysSilent blocks log p → 1 ≤ length blocks → IsConnected log p → is_open (trail log p) ≡ false
+        → (f : Followed watch height hash entries log) → (own (counted_part log p) ≡ headers_of blocks) × (f.told.chain ≡ headers_of blocks → ⊥) }
+{}
+
+/// Of three peers, one with other filters, one silent on a longer chain and one honest, nobody who is connected once nothing is open has shown another chain as long as the
+/// honest one's.
+pub fn three_played_peers_show_no_other_chain()
+    ensures { (watch : List (List ℕ)) (height : ℕ) (hash : Hash32) (entries : List Entry) (log : Log) (chain longer : List Block) → IsRun log → AreTwoChains chain longer log
+        → AreThree chain longer log → Followed watch height hash entries log → IsQuiet log → ShowsNoOther log chain }
 {}

@@ -1,6 +1,9 @@
-//! Runs of the client over played peers, and that an honest one is an honest peer.
+//! Laws of logs of runs over peers in memory: each honest one is an honest peer, and what the others show.
 #![tactic(auto)]
 
 mod laws;
 
-pub use laws::a_played_peer_is_honest;
+pub use laws::{
+    a_played_peer_is_honest, a_played_peer_shows_parts_of_its_chain,
+    a_silent_peer_is_left_with_another_chain, three_played_peers_show_no_other_chain,
+};
