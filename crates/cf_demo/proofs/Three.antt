@@ -20,7 +20,7 @@ use Rattle.cf_scan.specs.declared.history.Entry.{Entry}
 use Rattle.cf_sync.specs.Fetching.{Rightly, IsConnected, IsQuiet, counted_part}
 use Rattle.cf_sync.specs.Honesty.{ShowsNoOther}
 use Rattle.cf_bytes.specs.declared.hash.Hash32.{Hash32}
-use Rattle.cf_sync.specs.Sync.{Followed}
+use Rattle.cf_sync.specs.Sync.{Followed, IsHistoryOf, SyncTheorem}
 use Rattle.cf_sync.proofs.Chains.{up_to, up_length, up_all, headers_length, Setting}
 use Rattle.cf_sync.proofs.Counted.{own_shown}
 use Rattle.cf_sync.proofs.Entries.{at_either}
@@ -29,7 +29,7 @@ use Rattle.cf_demo.proofs.Orderly.{WereGreeted, were_greeted}
 use Rattle.cf_demo.specs.Three.{AreTwoChains, AreThree}
 use Rattle.cf_demo.proofs.Fits.{sendable_of}
 use Rattle.cf_demo.proofs.Parts.{away, asked_there, off_read}
-use Rattle.cf_demo.proofs.Played.{answers_good, rightly_before, chain_setting}
+use Rattle.cf_demo.proofs.Played.{answers_good, rightly_before, chain_setting, run_honest}
 use Rattle.cf_demo.proofs.Shown.{IsUpTo, shows_part}
 use Rattle.cf_demo.proofs.Silent.{silent_apart}
 
@@ -163,3 +163,11 @@ no_other watch height hash entries chain longer log chains three f numbered gree
 pub run_three : (watch : List (List ℕ)) (height : ℕ) (hash : Hash32) (entries : List Entry) (log : Log) (chain longer : List Block) → IsRun log → AreTwoChains chain longer log → AreThree chain longer log
     → Followed watch height hash entries log → IsQuiet log → ShowsNoOther log chain
 run_three watch height hash entries log chain longer run chains three f quiet = no_other watch height hash entries chain longer log chains three f run.numbered (were_greeted log run.orderly) quiet
+
+-- so with nothing open the tip and the history are those of the honest one's chain
+pub run_tells : (watch : List (List ℕ)) (height : ℕ) (hash : Hash32) (entries : List Entry) (log : Log) (chain longer : List Block) → IsRun log → AreTwoChains chain longer log → AreThree chain longer log
+    → SyncTheorem watch height hash entries log → Followed watch height hash entries log → IsQuiet log → IsHistoryOf watch chain height hash entries
+run_tells watch height hash entries log chain longer run chains three theorem f quiet =
+    let d = three.dials in
+    theorem.exact 3 chain chains.clash (run_honest log 3 chain run chains.good chains.clash (omega arith) (omega (arith, d)) three.third)
+    (run_three watch height hash entries log chain longer run chains three f quiet) quiet

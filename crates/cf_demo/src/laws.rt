@@ -11,7 +11,7 @@ ghost use Rattle.cf_peer.specs.Trail.{trail, own};
 ghost use Rattle.cf_scan.specs.declared.history.Entry.{Entry};
 ghost use Rattle.cf_sync.specs.Fetching.{IsConnected, IsQuiet, counted_part};
 ghost use Rattle.cf_sync.specs.Honesty.{IsHonest, ShowsNoOther};
-ghost use Rattle.cf_sync.specs.Sync.{Followed, IsHashed};
+ghost use Rattle.cf_sync.specs.Sync.{Followed, IsHashed, IsHistoryOf, SyncTheorem};
 ghost use Rattle.cf_demo.specs.Ways.{Way};
 ghost use Rattle.cf_demo.specs.Playing.{IsRun, Plays, PlaysAlike, PlaysSilent};
 ghost use Rattle.cf_demo.specs.Three.{AreThree, AreTwoChains};
@@ -37,8 +37,10 @@ pub fn a_silent_peer_is_left_with_another_chain()
 {}
 
 /// Of three peers, one with other filters, one silent on a longer chain and one honest, nobody who is connected once nothing is open has shown another chain as long as the
-/// honest one's.
-pub fn three_played_peers_show_no_other_chain()
-    ensures { (watch : List (List ℕ)) (height : ℕ) (hash : Hash32) (entries : List Entry) (log : Log) (chain longer : List Block) → IsRun log → AreTwoChains chain longer log
+/// honest one's. So the tip and the history are those of that chain.
+pub fn three_played_peers_tell_the_honest_chain()
+    ensures other { (watch : List (List ℕ)) (height : ℕ) (hash : Hash32) (entries : List Entry) (log : Log) (chain longer : List Block) → IsRun log → AreTwoChains chain longer log
         → AreThree chain longer log → Followed watch height hash entries log → IsQuiet log → ShowsNoOther log chain }
+    ensures history { (watch : List (List ℕ)) (height : ℕ) (hash : Hash32) (entries : List Entry) (log : Log) (chain longer : List Block) → IsRun log → AreTwoChains chain longer log
+        → AreThree chain longer log → SyncTheorem watch height hash entries log → Followed watch height hash entries log → IsQuiet log → IsHistoryOf watch chain height hash entries }
 {}

@@ -5,5 +5,5 @@ mod laws;
 
 pub use laws::{
     a_played_peer_is_honest, a_played_peer_shows_parts_of_its_chain,
-    a_silent_peer_is_left_with_another_chain, three_played_peers_show_no_other_chain,
+    a_silent_peer_is_left_with_another_chain, three_played_peers_tell_the_honest_chain,
 };
