@@ -4,6 +4,7 @@ pub mod Fits
 pub mod Filled
 pub mod Orderly
 pub mod Played
+pub mod Peers
 pub mod Silent
 pub mod Shown
 pub mod Three

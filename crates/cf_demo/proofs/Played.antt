@@ -32,10 +32,10 @@ use Rattle.cf_sync.proofs.Entries.{at_either}
 use Rattle.cf_sync.proofs.Serves.{Owes}
 use Rattle.cf_sync.proofs.Settles.{setting_of}
 use Rattle.cf_sync.proofs.HonestLemmas.{honest_good}
-use Rattle.cf_demo.specs.Answers.{came, told_to}
+use Rattle.cf_played.specs.Answers.{came, told_to}
 use Rattle.cf_client.specs.Run.{AreNumbered}
-use Rattle.cf_demo.specs.Ways.{Honest}
-use Rattle.cf_demo.specs.Answers.{HasBegun, HasAnswered, is_staying}
+use Rattle.cf_played.specs.declared.kind.Way.TheVariants.{Honest}
+use Rattle.cf_played.specs.Answers.{HasBegun, HasAnswered, is_staying}
 use Rattle.cf_demo.specs.Playing.{IsRun, Plays}
 use Rattle.cf_demo.proofs.Orderly.{IsGreetedWhere, WereGreeted, were_greeted}
 use Rattle.cf_demo.proofs.Beginnings.{AreSendable, Begins, begins, whole_words, begun_words, begun_messages}

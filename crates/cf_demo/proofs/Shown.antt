@@ -28,9 +28,9 @@ use Rattle.cf_peer.specs.declared.event.Event.TheVariants.{Dialled, NotDialled, 
 use Rattle.cf_peer.specs.Log.{Log}
 use Rattle.cf_peer.specs.Trail.{Trail, Part, Lost, Went, Failing, Shutting, called_part, with_item, item_of, item_of_read, hears, hears_fault, part_after, heard_part, spelled, asks, part_of, trail, own}
 use Rattle.cf_peer.specs.Asking.{lists, HasSaid, MayAsk}
-use Rattle.cf_demo.specs.Ways.{Way}
-use Rattle.cf_demo.specs.Ways.{Honest, Omits, Silent}
-use Rattle.cf_demo.specs.Answers.{told_to, heard_of}
+use Rattle.cf_played.specs.declared.kind.Way.{Way}
+use Rattle.cf_played.specs.declared.kind.Way.TheVariants.{Honest, Omits, Silent}
+use Rattle.cf_played.specs.Answers.{told_to, heard_of}
 use Rattle.cf_client.specs.Run.{AreNumbered}
 use Rattle.cf_server.proofs.Lists.{all-append, all-flat_map}
 use Rattle.cf_sync.specs.Fetching.{Rightly, counted_part}

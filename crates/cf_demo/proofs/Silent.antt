@@ -26,8 +26,8 @@ use Rattle.cf_scan.specs.declared.history.Entry.{Entry as HistoryEntry}
 use Rattle.cf_peer.specs.Log.{Log, tally_of}
 use Rattle.cf_peer.specs.Trail.{Trail, Part, Asked, Lost, Went, Failing, Shutting, called_part, with_item, item_of, item_of_read, hears, hears_fault, part_after, heard_part, spelled, asks, part_of, trail, connected, ready, own, heard}
 use Rattle.cf_peer.specs.Asking.{OpenRequest, NothingOpen, HeadersOpen, ClaimsOpen, FiltersOpen, BlockOpen, claims_asked, filters_asked, block_asked, claims, claims_after, request, request_after, is_idle, is_open, hashes_of, MayAsk}
-use Rattle.cf_demo.specs.Ways.{Silent}
-use Rattle.cf_demo.specs.Answers.{came, told_to, is_answered, HasBegun}
+use Rattle.cf_played.specs.declared.kind.Way.TheVariants.{Silent}
+use Rattle.cf_played.specs.Answers.{came, told_to, is_answered, HasBegun}
 use Rattle.cf_client.specs.Run.{AreNumbered}
 use Rattle.cf_server.specs.Serving.{text_of}
 use Rattle.cf_server.proofs.Lists.{all-append}

@@ -13,8 +13,8 @@ use Rattle.cf_peer.specs.declared.event.Event.TheVariants.{Dialled, NotDialled, 
 use Rattle.cf_peer.specs.Log.{Log}
 use Rattle.cf_peer.specs.Trail.{Part, Lost, Went, Failing, Shutting, called_part, with_item, heard_part, spelled, asks, part_of, trail, connected, own}
 use Rattle.cf_peer.specs.Asking.{lists, MayAsk}
-use Rattle.cf_demo.specs.Ways.{Honest, Omits}
-use Rattle.cf_demo.specs.Answers.{told_to}
+use Rattle.cf_played.specs.declared.kind.Way.TheVariants.{Honest, Omits}
+use Rattle.cf_played.specs.Answers.{told_to}
 use Rattle.cf_client.specs.Run.{AreNumbered}
 use Rattle.cf_scan.specs.declared.history.Entry.{Entry}
 use Rattle.cf_sync.specs.Fetching.{Rightly, IsConnected, IsQuiet, counted_part}

@@ -1,4 +1,2 @@
-pub mod Ways
-pub mod Answers
 pub mod Playing
 pub mod Three

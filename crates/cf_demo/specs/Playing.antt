@@ -1,5 +1,5 @@
 -- What is asked of the log of a run over peers in memory.
-use Rattle.std.specs.Prelude.{◌≡◌, ◌⊎◌, ℕ, pos, Bool, true, false, List, [], ◌∷◌, length, take, drop}
+use Rattle.std.specs.Prelude.{◌≡◌, ◌⊎◌, ℕ, pos, Bool, true, false, List, [], ◌∷◌, length, take, drop, suc, slice_get, Some}
 use Rattle.std.specs.List.{list_all, AllByRecursion}
 use Rattle.cf_block.specs.declared.tx.Block.{Block}
 use Rattle.cf_chain.specs.Serve.{replies}
@@ -11,9 +11,10 @@ use Rattle.cf_peer.specs.Acts.{IsSendable}
 use Rattle.cf_peer.specs.declared.event.Delivery.TheVariants.{Tick}
 use Rattle.cf_peer.specs.declared.event.Event.TheVariants.{Took}
 use Rattle.cf_peer.specs.Log.{Log}
-use Rattle.cf_demo.specs.Ways.{Way}
-use Rattle.cf_demo.specs.Ways.{Honest, Silent}
-use Rattle.cf_demo.specs.Answers.{came, told_to, heard_of, HasBegun, HasAnswered, is_staying}
+use Rattle.cf_played.specs.declared.kind.Way.{Way}
+use Rattle.cf_played.specs.declared.kind.Way.TheVariants.{Honest, Silent}
+use Rattle.cf_played.specs.Peers.{Peer}
+use Rattle.cf_played.specs.Answers.{is_plain, came, told_to, heard_of, HasBegun, HasAnswered, is_staying}
 use Rattle.cf_server.specs.Serving.{text_of}
 
 -- what is known of the log of a run: what was sent might be sent, peers are numbered as they were dialled, and the client was orderly
@@ -60,3 +61,9 @@ pub record HasBegunAlike (way : Way) (blocks : List Block) (log : Log) (p : ℕ)
 -- so it was at every moment
 pub record PlaysAlike (way : Way) (blocks : List Block) (log : Log) (p : ℕ) : Type 0 where
   pub past : (k : ℕ) → HasBegunAlike way blocks (drop k log) p
+
+-- what several peers account for, each in the way in which it answers
+pub record Accounts (log : Log) (peers : List Peer) : Type 0 where
+  pub past : (i k : ℕ) (peer : Peer) → slice_get peers i ≡ Some peer → is_plain peer.way ≡ true → HasBegun peer.way peer.blocks (drop k log) (suc i)
+  pub ticks : (i k s : ℕ) (older : Log) (peer : Peer) → slice_get peers i ≡ Some peer → is_plain peer.way ≡ true → drop k log ≡ Took (Tick s) ∷ older → HasAnswered peer.way peer.blocks older (suc i)
+  pub stays : list_all is_staying log ≡ true

@@ -12,7 +12,7 @@ ghost use Rattle.cf_scan.specs.declared.history.Entry.{Entry};
 ghost use Rattle.cf_sync.specs.Fetching.{IsConnected, IsQuiet, counted_part};
 ghost use Rattle.cf_sync.specs.Honesty.{IsHonest, ShowsNoOther};
 ghost use Rattle.cf_sync.specs.Sync.{Followed, IsHashed, IsHistoryOf, SyncTheorem};
-ghost use Rattle.cf_demo.specs.Ways.{Way};
+ghost use Rattle.cf_played.specs.declared.kind.Way.{Way};
 ghost use Rattle.cf_demo.specs.Playing.{IsRun, Plays, PlaysAlike, PlaysSilent};
 ghost use Rattle.cf_demo.specs.Three.{AreThree, AreTwoChains};
 

@@ -1,0 +1,58 @@
+//! A run of the client over peers in memory.
+ghost use Rattle.std.specs.Prelude.{◌≡◌, ◌≤◌, ◌<◌, ℕ, suc, None, Some, true, false, [], map, length, slice_get, IfOk, OnOk};
+ghost use Rattle.cf_client.specs.Names.{names_in};
+ghost use Rattle.cf_client.specs.Places.{EndsTell};
+ghost use Rattle.cf_client.specs.Run.{Followed};
+ghost use Rattle.cf_headers.specs.Chain.{NoHashClash};
+ghost use Rattle.cf_peer.specs.Log.{tally_of};
+ghost use Rattle.cf_played.specs.declared.kind.Way.TheVariants.{Honest};
+ghost use Rattle.cf_played.specs.Peers.{Peer, still};
+ghost use Rattle.cf_played.specs.Told.{log_of, finished_of, keeps_of, peers_of};
+ghost use Rattle.cf_sync.specs.Honesty.{IsHonest};
+ghost use Rattle.cf_sync.specs.Sync.{IsHashed, SyncTheorem};
+
+use cf_bytes::NoMemory;
+use cf_client::{End, Outcome, sync_over};
+use cf_headers::HeaderStore;
+use cf_match::Matcher;
+use cf_played::Played;
+use cf_scan::Watch;
+use std::alloc::Global;
+
+/// Follows the chains that new peers in memory show, as `sync_over` does. Each honest one of them that was dialled is an honest peer of the log, where no two of the strings that
+/// were hashed have one hash. The peers stay those that were added, whatever is answered.
+pub fn sync_played<H: HeaderStore + Drop, M: Matcher + Drop>(
+    alloc: Global,
+    played: &mut Played,
+    names: &[String],
+    watch: Watch,
+    store: H,
+    matcher: M,
+    moment: i64,
+    nonce: u64,
+    turns: u32,
+) -> Result<Outcome, NoMemory>
+    requires new { log_of played.old ≡ [] }
+    requires open { finished_of played.old ≡ false }
+    requires few { length names.now ≤ 8 }
+    requires empty { (q : ℕ) → H.chain store q ≡ None }
+    ensures followed { IfOk result (λ o. Followed watch o.end o.height o.tip o.history o.trace.items (names_in names.now) (log_of played.new)) }
+    ensures ends { IfOk result (λ o. EndsTell o.ends.items (log_of played.new)) }
+    ensures theorem { IfOk result (λ o. SyncTheorem watch o.height o.tip o.history (log_of played.new)) }
+    ensures honest { OnOk result ((i : ℕ) (peer : Peer) → slice_get (peers_of played.old) i ≡ Some peer → peer.way ≡ Honest → i < length names.now
+        → NoHashClash (IsHashed (log_of played.new) peer.blocks) → IsHonest (log_of played.new) (suc i) peer.blocks) }
+    ensures peers { map still (peers_of played.new) ≡ map still (peers_of played.old) }
+    ensures tired { IfOk result (λ o. o.end ≡ End.Tired → (tally_of (log_of played.new)).taken ≡ turns) }
+    ensures dialled { OnOk result ((tally_of (log_of played.new)).dials ≡ length names.now) }
+    ensures most { (tally_of (log_of played.new)).taken ≤ turns }
+    ensures finished { finished_of played.new ≡ true }
+    ensures keeps { keeps_of played.new ≡ keeps_of played.old }
+{
+    played.same_peers();
+    let outcome = sync_over(
+        alloc, played, names, watch, store, matcher, moment, nonce, turns,
+    );
+    played.accounts();
+    played.same_peers();
+    outcome
+}
