@@ -31,7 +31,8 @@ class Chain(Served):
             name = os.path.join(folder, "blocks")
             words = [str(n) for part in parts for n in part]
             subprocess.run([os.path.join(BENCH, "made_chain.py"), *words, name], check=True)
-            super().__init__(name)
+            with open(name, "rb") as f:
+                super().__init__(f.read())
 
     def without(self, height, left):
         """The same chain, but for the filter at a height, which leaves a script out."""
@@ -246,4 +247,5 @@ def main():
     s.row("6 NoPeers { ends: [Closed(Overdue)] }: no peer is left", "", watched)
 
 
-main()
+if __name__ == "__main__":
+    main()

@@ -14,6 +14,7 @@ mod hashes;
 mod headers;
 mod inputs;
 mod payloads;
+mod players;
 mod proofs;
 mod runs;
 mod servings;
@@ -51,6 +52,7 @@ fn answer<R: Wait + Threads + Sync + Copy + Drop + Send + 'static>(
         "mine" => chains::mined(alloc, rest),
         "mistake" => inputs::mistake(alloc, rest),
         "payload" => payloads::answer(alloc, rest),
+        "played" => players::answer(&rt, alloc, rest),
         "proof" => proofs::answer(alloc, rest),
         "prove" => proofs::made(alloc, rest),
         "run" => runs::answer(rt, alloc, rest),
