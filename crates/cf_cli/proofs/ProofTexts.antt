@@ -1,18 +1,16 @@
 -- What `prove` writes of a good chain is read again, and passes.
-use Rattle.std.proofs.Common.{◌≡◌, ℕ, zero, suc, ◌+◌, ◌-◌, ◌*◌, ◌<◌, ◌≤◌, ◌==◌, Bool, true, false, not, List, [], ◌∷◌, ◌++◌, length, take, drop, get_or, refl, sym, ◌∙◌, ap, subst, arith, Option, Some, None}
-use Rattle.std.specs.Prelude.{◌&&◌, codes, bytes_eq, if◌then◌else◌, nat_lt, option_map, Result, Ok, Err, IfSome}
+use Rattle.std.proofs.Common.{◌≡◌, ℕ, zero, suc, ◌-◌, ◌<◌, ◌≤◌, ◌==◌, Bool, true, false, not, List, [], ◌∷◌, ◌++◌, length, get_or, refl, sym, ◌∙◌, ap, subst, arith, Option, Some, None}
+use Rattle.std.specs.Prelude.{codes, if◌then◌else◌, Ok, Err, IfSome}
 use Rattle.std.specs.FinMap as finite
 use Rattle.std.specs.Result.{result_ok}
-use Rattle.std.specs.List.{flat_map, list_all, AllPass, AllByRecursion, before_first, after_first}
+use Rattle.std.specs.List.{flat_map, list_all, AllByRecursion}
 use Rattle.std.proofs.lemmas.Bool.{and_parts, eqb-true, le-ltb}
 use Rattle.std.proofs.lemmas.List.{append_assoc, append-nil, length-append}
 use Rattle.std.proofs.lemmas.List.Sums.{list_all-from_AllPass}
-use Rattle.std.proofs.lemmas.Slice.Eq.{bytes_eq-Decides}
 use Rattle.std.proofs.Math.Seq.{get_or-append_seam}
-use Rattle.hex.specs.Hex.{encode_lower, lower_digits, decode_of, is_hex_digit, IsBytes}
+use Rattle.hex.specs.Hex.{encode_lower, lower_digits, is_hex_digit, IsBytes}
 use Rattle.hex.proofs.HexLemmas.{length-encode_with, decode_of-encode_lower, decode_of-ok}
 use Rattle.cf_bytes.specs.Files.{Named}
-use Rattle.cf_bytes.specs.declared.hash.Hash32.{Hash32}
 use Rattle.cf_block.specs.declared.header.Header.{Header}
 use Rattle.cf_block.specs.declared.tx.Tx.{Tx}
 use Rattle.cf_block.specs.declared.tx.Block.{Block}
@@ -34,17 +32,15 @@ use Rattle.cf_index.proofs.Finding.{block_txs_few}
 use Rattle.cf_index.proofs.Growing.{MayStand, part_stands}
 use Rattle.cf_input.specs.Lines.{bytes_of_hex}
 use Rattle.cf_input.specs.LineLaws.{IsLine}
-use Rattle.cf_input.specs.ProofFile.{bytes_after, whole_tx, as_tx, tx_in, tx_of, tx_in_line, worked, unless_fault, block_by, block_of, block_told, block_in_line, block_from, line_of, after_line, at_line, proven, proof_file_of}
-use Rattle.cf_input.specs.declared.proof_file.ProofCause.{ProofCause}
+use Rattle.cf_input.specs.ProofFile.{bytes_after, whole_tx, as_tx, tx_of, tx_in_line, worked, unless_fault, block_by, block_of, block_told, block_in_line, block_from, line_of, after_line, proven, proof_file_of}
 use Rattle.cf_input.specs.declared.proof_file.ProofCause.TheVariants.{BadLine, Work}
-use Rattle.cf_input.specs.declared.proof_file.ProofFileFault.{ProofFileFault}
 use Rattle.cf_input.specs.declared.proof_file.Proven.{Proven}
 use Rattle.cf_input.proofs.LineSteps.{before_true, before_false, after_true, after_false}
 use Rattle.cf_cli.specs.declared.status.Status.{Status}
 use Rattle.cf_cli.specs.declared.status.Status.TheVariants.{Done, NoMemory, Usage, BadFile, FileFault, OutFault, NoPeers, Tired, Ended, LinkFault, NoNonce, NoHeight, NotThere, NotAddress}
 use Rattle.cf_cli.specs.Proving.{proof_text, IsTextAt, IsProofText, in_text, Checks, Takes, TakesWhatIsProved}
 use Rattle.cf_cli.specs.Reading.{named_line, IsWritten}
-use Rattle.cf_cli.specs.Statuses.{Verdict, Good, IsJudged, proof_verdict, proof_read}
+use Rattle.cf_cli.specs.Statuses.{Good, IsJudged, proof_verdict}
 
 -- ---- lines of hexadecimal digits
 

@@ -1,11 +1,11 @@
 -- A record of a run reads as what passed.
 use Rattle.std.proofs.Common.{◌≡◌, ℕ, ◌+◌, ◌<◌, ◌≤◌, ◌==◌, ◌^◌, Bool, true, false, not, List, [], ◌∷◌, ◌++◌, length, map, refl, sym, ◌∙◌, ap, subst, arith, Some, None}
-use Rattle.std.specs.Prelude.{◌&&◌, codes, if◌then◌else◌, nat_le, Option, Result, Ok, Err}
+use Rattle.std.specs.Prelude.{codes, if◌then◌else◌, nat_le, Option, Result, Ok, Err}
 use Rattle.std.specs.Fmt.{decimal}
 use Rattle.std.specs.List.{flat_map, list_all}
-use Rattle.std.proofs.lemmas.Bool.{and_parts, and_from, eqb-true, le-leb, leb-true, both_ways}
+use Rattle.std.proofs.lemmas.Bool.{and_parts, and_from, eqb-true, le-leb, leb-true}
 use Rattle.std.proofs.lemmas.List.{append_assoc, append-nil, length-append, map-append}
-use Rattle.hex.specs.Hex.{encode_lower, IsBytes}
+use Rattle.hex.specs.Hex.{encode_lower}
 use Rattle.cf_bytes.specs.Cut.{◌>>=◌}
 use Rattle.cf_bytes.specs.declared.peer.PeerNo.{PeerNo}
 use Rattle.cf_peer.specs.declared.event.Delivery.{Delivery}
@@ -18,10 +18,10 @@ use Rattle.cf_peer.specs.Wires.{Script}
 use Rattle.cf_input.specs.Lines.{lines_of, read_lines, bytes_of_hex}
 use Rattle.cf_input.specs.LineLaws.{IsLine, AreLines, ended}
 use Rattle.cf_input.specs.Name.{is_name, is_printable}
-use Rattle.cf_input.specs.Number.{is_digit, is_number, number_of, number_within}
-use Rattle.cf_input.specs.SessionFile.{word_of, rest_of, dial_of, peer_of, known, got_bytes, got_of, gone_of, ticked, tick_of, delivery_of, is_none, taken_by, at_place, line_after, lines_in, dialled, session_of}
+use Rattle.cf_input.specs.Number.{is_digit, number_within}
+use Rattle.cf_input.specs.SessionFile.{word_of, rest_of, dial_of, peer_of, known, got_bytes, got_of, ticked, delivery_of, taken_by, at_place, line_after, lines_in, dialled, session_of}
 use Rattle.cf_input.specs.declared.session.SessionCause.{SessionCause}
-use Rattle.cf_input.specs.declared.session.SessionCause.TheVariants.{NoDial, ManyDials, Late, BadLine}
+use Rattle.cf_input.specs.declared.session.SessionCause.TheVariants.{ManyDials, BadLine}
 use Rattle.cf_input.specs.declared.session.SessionFault.{SessionFault}
 use Rattle.cf_input.proofs.LineLawLemmas.{lines_again}
 use Rattle.cf_input.proofs.LineSteps.{before_true, before_false, after_true, after_false}
@@ -31,10 +31,10 @@ use Rattle.cf_cli.proofs.ProofTexts.{not_lf, isnt, hex_line, hex_read}
 
 -- ---- the text as lines
 
-dial_row : Dial → List ℕ
+abbrev dial_row : Dial → List ℕ
 dial_row d = dial_word d.answered ++ d.name
 
-row_of : Delivery → List ℕ
+abbrev row_of : Delivery → List ℕ
 row_of (Got p piece) = codes "got " ++ (decimal p.0 ++ (32 ∷ encode_lower piece))
 row_of (Gone p) = codes "gone " ++ decimal p.0
 row_of (Tick s) = codes "tick " ++ decimal s
@@ -73,7 +73,7 @@ deliveries_ended (NotDialled p name ∷ log) = append-nil (delivery_lines log) �
 deliveries_ended (Sent p bytes ∷ log) = append-nil (delivery_lines log) ∙ deliveries_ended log
 deliveries_ended (Closed p ∷ log) = append-nil (delivery_lines log) ∙ deliveries_ended log
 
-all_rows : Log → List (List ℕ)
+abbrev all_rows : Log → List (List ℕ)
 all_rows log = map dial_row (dials log) ++ map row_of (told_deliveries log)
 
 text_ended : (log : Log) → session_text log ≡ ended (all_rows log) ++ []
@@ -224,9 +224,9 @@ delivery_step d ds done e few is =
 
 read_deliveries : (d : Dial) (ds : List Dial) (done more : List Delivery) → length (d ∷ ds) ≤ 8 → AreOfSession (length (d ∷ ds)) more
     → read_lines line_after (script (d ∷ ds) done) (map row_of more) ≡ Ok (script (d ∷ ds) (done ++ more))
+unfolding read_lines
 read_deliveries d ds done [] few are = none (script (d ∷ ds) done) ∙ ap (λ (x : List Delivery). Ok (script (d ∷ ds) x)) (sym (append-nil done)) where
   none : (s : Script) → read_lines line_after s [] ≡ Ok s
-  unfolding read_lines
   none s = refl
 read_deliveries d ds done (e ∷ more) few are =
     read_on (script (d ∷ ds) done) (script (d ∷ ds) (done ++ e ∷ [])) (row_of e) (map row_of more) (delivery_step d ds done e few are.0)
@@ -236,7 +236,7 @@ read_all : (ds : List Dial) (es : List Delivery) → 0 < length ds → length ds
     → (read_lines line_after (script [] []) (map dial_row ds ++ map row_of es) >>= dialled) ≡ Ok (script ds es)
 read_all [] es some few names are = absurd (omega (arith, some))
 read_all (d ∷ ds) es some few names are =
-    ap (λ (r : Result Script SessionFault). r >>= dialled) (read_dials [] (d ∷ ds) (map row_of es) few names ∙ read_deliveries d ds [] es few are)
+    ap (λ (r : Result Script SessionFault). r >>= dialled) (read_dials [] (d ∷ ds) (map row_of es) (omega (arith, few)) names ∙ read_deliveries d ds [] es few are)
 
 pub retold : (log : Log) → IsRetold log → session_of (session_text log) ≡ Ok (told_script log)
 retold log is =

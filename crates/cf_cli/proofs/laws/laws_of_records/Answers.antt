@@ -2,4 +2,4 @@ use Rattle.cf_cli.proofs.Retold.{retold}
 use Rattle.cf_cli.proofs.laws.laws_of_records.Goals as goal
 
 pub returns : goal.returns
-returns c = retold
+returns c = record { again = retold }
