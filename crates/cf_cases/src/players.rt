@@ -26,10 +26,7 @@ fn kind_in(alloc: Global, text: &str) -> Option<Kind> {
     match text {
         "honest" => Some(Kind::Honest),
         "silent" => Some(Kind::Silent),
-        other => Some(Kind::Omits(scripts_in(
-            alloc,
-            other.strip_prefix("omits:")?,
-        )?)),
+        other => Some(Kind::Omits(scripts_in(alloc, other.strip_prefix("omits:")?)?)),
     }
 }
 
@@ -84,11 +81,7 @@ fn put_step(alloc: Global, played: &mut Played, step: &str, out: &mut String) ->
 }
 
 /// The deliveries that the steps of a row take.
-pub(crate) fn answer(
-    rt: &(impl Threads + Sync),
-    alloc: Global,
-    row: &str,
-) -> Option<String> {
+pub(crate) fn answer(rt: &(impl Threads + Sync), alloc: Global, row: &str) -> Option<String> {
     let (peers, steps) = row.split_once(' ')?;
     let mut played = played_in(rt, alloc, peers)?;
     let mut out = String::new(alloc);
