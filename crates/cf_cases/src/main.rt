@@ -57,6 +57,7 @@ fn answer<R: Wait + Threads + Sync + Copy + Drop + Send + 'static>(
         "prove" => proofs::made(alloc, rest),
         "run" => runs::answer(rt, alloc, rest),
         "serve" => conversations::answer(&rt, alloc, rest),
+        "serving" => servings::answer(rt, alloc, rest),
         "session" => inputs::session(alloc, rest),
         "siphash" => filters::siphash(alloc, rest),
         "stream" => streams::answer(alloc, rest),

@@ -1,18 +1,38 @@
-//! What a call of the program is handed for its tasks and for serving: a spawner, and a link to which nobody connects.
-use cf_conn::MemoryConn;
+//! Calls of the program that serve connections in memory.
+ghost use Rattle.std.specs.Prelude.{◌≡◌, ◌≢◌, All, Some, [], IfSome, false};
+ghost use Rattle.cf_peer.specs.Memory.{finished_of, log_of};
+ghost use Rattle.cf_tasks.specs.declared.threads.Choice.TheVariants.{Refuse};
+
+use crate::conversations::conn_of;
+use crate::fields::{bytes_in, digits_of, numbers_in, texts_in};
+use crate::runs::told;
+use cf_bytes::{Files, MapFiles, VecSink};
+use cf_cli::run;
+use cf_conn::{MemoryConn, MemoryEnd};
+use cf_peer::MemoryWires;
 use cf_serve::ListLink;
 use cf_tasks::{Choice, Spawner};
 use std::alloc::Global;
+use std::sync::Wait;
 use std::thread::Threads;
 
-/// Runs each task in a thread of its own.
+// What is done with each task.
+#[derive(Clone, Copy)]
+enum Way {
+    InThread,
+    InPlace,
+    Refuse,
+}
+
+// Does the same with each task.
 #[derive(Drop)]
-pub(crate) struct EachInThread<R> {
+pub(crate) struct Same<R> {
     rt: R,
+    way: Way,
     refused: u64,
 }
 
-impl<R: Threads + Drop> Spawner for EachInThread<R> {
+impl<R: Threads + Drop> Spawner for Same<R> {
     type Rt = R;
 
     ghost refusals = { λ s. s.refused };
@@ -22,7 +42,14 @@ impl<R: Threads + Drop> Spawner for EachInThread<R> {
     }
 
     fn choose(&mut self) -> Choice {
-        Choice::InThread
+        match self.way {
+            Way::InThread => Choice::InThread,
+            Way::InPlace => Choice::InPlace,
+            Way::Refuse => {
+                self.count();
+                Choice::Refuse
+            }
+        }
     }
 
     fn count(&mut self) {
@@ -30,12 +57,139 @@ impl<R: Threads + Drop> Spawner for EachInThread<R> {
     }
 }
 
-/// A spawner that runs each task in a thread of its own.
-pub(crate) fn in_threads<R: Threads + Copy + Drop>(rt: R) -> EachInThread<R> {
-    EachInThread { rt, refused: 0 }
+fn spawner_in<R: Threads + Copy + Drop>(rt: R, field: &str) -> Option<Same<R>> {
+    let way = match field {
+        "threads" => Way::InThread,
+        "place" => Way::InPlace,
+        "refused" => Way::Refuse,
+        _ => return None,
+    };
+    Some(Same {
+        rt,
+        way,
+        refused: 0,
+    })
+}
+
+/// Runs each task in a thread of its own.
+pub(crate) fn in_threads<R: Threads + Copy + Drop>(rt: R) -> Same<R> {
+    Same {
+        rt,
+        way: Way::InThread,
+        refused: 0,
+    }
 }
 
 /// A link to which nobody connects.
 pub(crate) fn no_link(alloc: Global) -> Option<ListLink<MemoryConn>> {
     ListLink::new(alloc, Vec::new(alloc)).ok()
+}
+
+// A connection whose peer sends these bytes.
+fn asking(alloc: Global, asked: &str) -> Option<MemoryConn>
+    ensures { IfSome result (λ c. (c.source.ended ≡ false) × (c.source.plan.faults ≡ 0) × (c.sink.plan.faults ≡ 0) × (c.sink.bytes ≡ [])) }
+{
+    conn_of(alloc, bytes_in(alloc, asked)?, 4096, 10_000)
+}
+
+// The connections whose peers send these bytes.
+fn conns_in(alloc: Global, field: &str) -> Option<Vec<MemoryConn>>
+    ensures { IfSome result (λ v. All (λ c. (c.source.ended ≡ false) × (c.source.plan.faults ≡ 0) × (c.sink.plan.faults ≡ 0) × (c.sink.bytes ≡ [])) v.items) }
+{
+    let mut conns = Vec::new(alloc);
+    for asked in field.split(' ') {
+        let conn = asking(alloc, asked)?;
+        conns.reserve(1).ok()?;
+        conns.push_reserved(conn);
+    }
+    Some(conns)
+}
+
+// How each connection ended, and what was written, a line each.
+fn shown(alloc: Global, text: String, given: &[(MemoryEnd, u8)]) -> Option<String> {
+    let mut text = text;
+    for (end, how) in given {
+        let digits = digits_of(alloc, end.written())?;
+        let line = format!(in alloc; "\n{how} {digits}").ok()?;
+        text.push_str(line.as_str()).ok()?;
+    }
+    Some(text)
+}
+
+// The answer to these words over a link, and how each of its connections did. The wires dial nobody.
+fn served<R: Wait + Threads + Sync + Copy + Drop + Send + 'static>(
+    rt: R,
+    alloc: Global,
+    words: &[String],
+    files: MapFiles,
+    wires: MemoryWires,
+    link: ListLink<MemoryConn>,
+    spawner: Same<R>,
+) -> Option<String>
+    requires { (log_of wires ≡ []) × (finished_of wires ≡ false) }
+{
+    let mut files = files;
+    let mut wires = wires;
+    let mut link = link;
+    let mut spawner = spawner;
+    let mut tape = MemoryWires::new(alloc).ok()?;
+    let mut out = VecSink::new(alloc, 7, 0).ok()?;
+    let status = run(
+        rt,
+        alloc,
+        words,
+        1_700_000_000,
+        0x1122_3344_5566_7788,
+        &mut files,
+        &mut wires,
+        &mut tape,
+        &mut link,
+        &mut spawner,
+        &mut out,
+    );
+    shown(alloc, told(alloc, &status)?, link.given())
+}
+
+// A link to the connections of a row, some of whose calls fail.
+fn link_in(alloc: Global, failing: &str, asked: &str) -> Option<ListLink<MemoryConn>> {
+    let mut link = ListLink::new(alloc, conns_in(alloc, asked)?).ok()?;
+    link.failing(&numbers_in(alloc, failing)?).ok()?;
+    Some(link)
+}
+
+// The file `f` of a row.
+fn files_in(alloc: Global, blocks: &str) -> Option<MapFiles> {
+    let mut files = MapFiles::new(alloc);
+    files.write(alloc, "f", &bytes_in(alloc, blocks)?).ok()?;
+    Some(files)
+}
+
+// The call of a row's fields: what is done with tasks, which calls of the link fail, the words, the block file, and what the peers send.
+fn called<R: Wait + Threads + Sync + Copy + Drop + Send + 'static>(
+    rt: R,
+    alloc: Global,
+    limits: &str,
+    words: &str,
+    blocks: &str,
+    asked: &str,
+) -> Option<String> {
+    let (way, failing) = limits.split_once(' ')?;
+    let spawner = spawner_in(rt, way)?;
+    let link = link_in(alloc, failing, asked)?;
+    let files = files_in(alloc, blocks)?;
+    let words = texts_in(alloc, words, ' ')?;
+    let wires = MemoryWires::new(alloc).ok()?;
+    served(rt, alloc, &words, files, wires, link, spawner)
+}
+
+/// How the call of a row ends, and how each of its connections did.
+pub(crate) fn answer<R: Wait + Threads + Sync + Copy + Drop + Send + 'static>(
+    rt: R,
+    alloc: Global,
+    row: &str,
+) -> Option<String> {
+    let (limits, rest) = row.split_once('|')?;
+    let (words, rest) = rest.split_once('|')?;
+    let (blocks, asked) = rest.split_once('|')?;
+    called(rt, alloc, limits, words, blocks, asked)
 }
