@@ -8,3 +8,8 @@ pub mod Peers
 pub mod Silent
 pub mod Shown
 pub mod Three
+pub mod Counts
+pub mod HistoryLines
+pub mod Clashes
+pub mod Watched
+pub mod Demos

@@ -1,11 +1,12 @@
 -- Of the peers in memory that were added, those with an honest way are honest peers of the log.
 use Rattle.std.proofs.Common.{◌≡◌, ℕ, zero, suc, ◌<◌, List, [], ◌∷◌, map, drop, slice_get, Some, true, refl, sym, ◌∙◌, ap, subst, arith}
+use Rattle.std.proofs.Math.Logic.{∥∥₁_map}
 use Rattle.cf_block.specs.declared.tx.Block.{Block}
 use Rattle.cf_headers.specs.Chain.{NoHashClash}
 use Rattle.cf_peer.specs.Log.{Log, tally_of}
 use Rattle.cf_played.specs.declared.kind.Way.{Way}
 use Rattle.cf_played.specs.declared.kind.Way.TheVariants.{Honest}
-use Rattle.cf_played.specs.Answers.{is_plain, HasBegun, HasAnswered}
+use Rattle.cf_played.specs.Answers.{is_plain, HasBegun, HasAnswered, HasBegunAlike}
 use Rattle.cf_played.specs.Peers.{Peer, still, AreGood}
 use Rattle.cf_sync.specs.Honesty.{IsHonest}
 use Rattle.cf_sync.specs.Sync.{IsHashed}
@@ -48,3 +49,18 @@ honest_among olds news log good same accounts run i peer at way few clash =
     let theirs : w.other.way ≡ Honest = ap (λ (x : Peer). x.way) w.same ∙ way in
     run_honest log (suc i) peer.blocks run (good.each i peer at) clash (omega arith) (omega (arith, few))
     (subst (λ (blocks : List Block). Plays blocks log (suc i)) (sym its) (plays_so log news i w.other accounts w.at theirs))
+
+-- what the peers account for, those account for that were added
+pub accounts_before : (olds news : List Peer) (log : Log) → map still olds ≡ map still news → Accounts log news → Accounts log olds
+accounts_before olds news log same h = record {
+  past = λ i k peer at plain.
+      let w = same_peer olds news i peer same at in
+      subst (λ (x : Peer). HasBegun x.way x.blocks (drop k log) (suc i)) w.same (h.past i k w.other w.at (ap (λ (x : Peer). is_plain x.way) w.same ∙ plain));
+  ticks = λ i k s older peer at plain is.
+      let w = same_peer olds news i peer same at in
+      subst (λ (x : Peer). HasAnswered x.way x.blocks older (suc i)) w.same (h.ticks i k s older w.other w.at (ap (λ (x : Peer). is_plain x.way) w.same ∙ plain) is);
+  alike = ∥∥₁_map h.alike (λ alike i k peer at.
+      let w = same_peer olds news i peer same at in
+      subst (λ (x : Peer). HasBegunAlike x.way x.blocks (drop k log) (suc i)) w.same (alike i k w.other w.at));
+  stays = h.stays;
+}

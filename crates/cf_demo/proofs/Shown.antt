@@ -30,7 +30,7 @@ use Rattle.cf_peer.specs.Trail.{Trail, Part, Lost, Went, Failing, Shutting, call
 use Rattle.cf_peer.specs.Asking.{lists, HasSaid, MayAsk}
 use Rattle.cf_played.specs.declared.kind.Way.{Way}
 use Rattle.cf_played.specs.declared.kind.Way.TheVariants.{Honest, Omits, Silent}
-use Rattle.cf_played.specs.Answers.{told_to, heard_of}
+use Rattle.cf_played.specs.Answers.{told_to, heard_of, IsAlike, AreAlike, HasBegunAlike}
 use Rattle.cf_client.specs.Run.{AreNumbered}
 use Rattle.cf_server.proofs.Lists.{all-append, all-flat_map}
 use Rattle.cf_sync.specs.Fetching.{Rightly, counted_part}
@@ -39,7 +39,7 @@ use Rattle.cf_sync.proofs.Chains.{heads, up_to, up_part, up_more, up_valid, in_h
 use Rattle.cf_sync.proofs.Counted.{counted_said, shown_said}
 use Rattle.cf_sync.proofs.Entries.{at_either}
 use Rattle.cf_sync.proofs.Listed.{in_right}
-use Rattle.cf_demo.specs.Playing.{IsRun, IsAlike, AreAlike, HasBegunAlike, PlaysAlike}
+use Rattle.cf_demo.specs.Playing.{IsRun, PlaysAlike}
 use Rattle.cf_demo.proofs.Beginnings.{word_of, words}
 use Rattle.cf_demo.proofs.Parts.{IsFine, agrees, said_hears}
 use Rattle.cf_demo.proofs.Played.{rightly_before, numbered_before, fine_of, says_first, chain_setting}

@@ -1,6 +1,8 @@
 -- Of three played peers, once nothing is open nobody who is connected has shown another chain as long as that of the honest one.
 use Rattle.std.proofs.Common.{◌≡◌, inl, inr, ◌==◌, ℕ, zero, suc, pos, ◌≤◌, List, [], ◌∷◌, ◌++◌, length, drop, false, refl, sym, ◌∙◌, ap, subst, arith}
 use Rattle.std.proofs.lemmas.Bool.{both_ways, eqb-true}
+use Rattle.std.proofs.Math.Logic.{∥∥₁_elim}
+use Rattle.std.proofs.Props.{props}
 use Rattle.cf_block.specs.declared.tx.Block.{Block}
 use Rattle.cf_chain.specs.Good.{IsGoodChain, headers_of}
 use Rattle.cf_chain.specs.Serve.{replies}
@@ -14,7 +16,7 @@ use Rattle.cf_peer.specs.Log.{Log}
 use Rattle.cf_peer.specs.Trail.{Part, Lost, Went, Failing, Shutting, called_part, with_item, heard_part, spelled, asks, part_of, trail, connected, own}
 use Rattle.cf_peer.specs.Asking.{lists, MayAsk}
 use Rattle.cf_played.specs.declared.kind.Way.TheVariants.{Honest, Omits}
-use Rattle.cf_played.specs.Answers.{told_to}
+use Rattle.cf_played.specs.Answers.{told_to, AreAlike}
 use Rattle.cf_client.specs.Run.{AreNumbered}
 use Rattle.cf_scan.specs.declared.history.Entry.{Entry}
 use Rattle.cf_sync.specs.Fetching.{Rightly, IsConnected, IsQuiet, counted_part}
@@ -24,7 +26,7 @@ use Rattle.cf_sync.specs.Sync.{Followed, IsHistoryOf, SyncTheorem}
 use Rattle.cf_sync.proofs.Chains.{up_to, up_length, up_all, headers_length, Setting}
 use Rattle.cf_sync.proofs.Counted.{own_shown}
 use Rattle.cf_sync.proofs.Entries.{at_either}
-use Rattle.cf_demo.specs.Playing.{IsRun, AreAlike, Plays, PlaysAlike}
+use Rattle.cf_demo.specs.Playing.{IsRun, Plays, PlaysAlike}
 use Rattle.cf_demo.proofs.Orderly.{WereGreeted, were_greeted}
 use Rattle.cf_demo.specs.Three.{AreTwoChains, AreThree}
 use Rattle.cf_demo.proofs.Fits.{sendable_of}
@@ -97,10 +99,11 @@ record Scene (chain longer : List Block) (log : Log) : Type 0 where
   numbered : AreNumbered log
   chains : AreTwoChains chain longer log
   three : AreThree chain longer log
+  first : PlaysAlike Omits chain log 1
   honest : PlaysAlike Honest chain log 3
 
 first_part : (chain longer : List Block) (log : Log) → Scene chain longer log → (other : Chain) → Shows (lists (counted_part log 1)) other → IsUpTo chain other
-first_part chain longer log s other shows = shows_part Omits chain s.setting log 1 s.right s.numbered s.three.first other shows
+first_part chain longer log s other shows = shows_part Omits chain s.setting log 1 s.right s.numbered s.first other shows
 
 third_part : (chain longer : List Block) (log : Log) → Scene chain longer log → (other : Chain) → Shows (lists (counted_part log 3)) other → IsUpTo chain other
 third_part chain longer log s other shows = shows_part Honest chain s.setting log 3 s.right s.numbered s.honest other shows
@@ -142,14 +145,15 @@ second_off watch height hash entries chain longer log s f greets quiet on =
     ]
 
 pub no_other : (watch : List (List ℕ)) (height : ℕ) (hash : Hash32) (entries : List Entry) (chain longer : List Block) (log : Log) → AreTwoChains chain longer log → AreThree chain longer log
-    → (f : Followed watch height hash entries log) → AreNumbered log → WereGreeted log → IsQuiet log → ShowsNoOther log chain
-no_other watch height hash entries chain longer log chains three f numbered greets quiet =
+    → PlaysAlike Omits chain log 1 → (f : Followed watch height hash entries log) → AreNumbered log → WereGreeted log → IsQuiet log → ShowsNoOther log chain
+no_other watch height hash entries chain longer log chains three first f numbered greets quiet =
     let s : Scene chain longer log = record {
       setting = chain_setting log chain chains.clash chains.good;
       right = f.rightly;
       numbered = numbered;
       chains = chains;
       three = three;
+      first = first;
       honest = honest_alike chain chains.good log 3 f.rightly three.third;
     } in
     by_number s where
@@ -160,9 +164,14 @@ no_other watch height hash entries chain longer log chains three f numbered gree
       by_number s (suc (suc (suc zero))) other on shows long = whole chain other (third_part chain longer log s other shows) long
       by_number s (suc (suc (suc (suc k)))) other on shows long = absurd (beyond chain longer log k s on)
 
+same_prop : (a b : Chain) → IsProp (a ≡ b)
+same_prop a b = hlevel props
+
 pub run_three : (watch : List (List ℕ)) (height : ℕ) (hash : Hash32) (entries : List Entry) (log : Log) (chain longer : List Block) → IsRun log → AreTwoChains chain longer log → AreThree chain longer log
     → Followed watch height hash entries log → IsQuiet log → ShowsNoOther log chain
-run_three watch height hash entries log chain longer run chains three f quiet = no_other watch height hash entries chain longer log chains three f run.numbered (were_greeted log run.orderly) quiet
+run_three watch height hash entries log chain longer run chains three f quiet = λ q other on shows long.
+    ∥∥₁_elim three.first (same_prop other (headers_of chain))
+    (λ first. no_other watch height hash entries chain longer log chains three first f run.numbered (were_greeted log run.orderly) quiet q other on shows long)
 
 -- so with nothing open the tip and the history are those of the honest one's chain
 pub run_tells : (watch : List (List ℕ)) (height : ℕ) (hash : Hash32) (entries : List Entry) (log : Log) (chain longer : List Block) → IsRun log → AreTwoChains chain longer log → AreThree chain longer log

@@ -1,21 +1,16 @@
 -- What is asked of the log of a run over peers in memory.
-use Rattle.std.specs.Prelude.{◌≡◌, ◌⊎◌, ℕ, pos, Bool, true, false, List, [], ◌∷◌, length, take, drop, suc, slice_get, Some}
-use Rattle.std.specs.List.{list_all, AllByRecursion}
+use Rattle.std.specs.Prelude.{◌≡◌, ℕ, true, List, ◌∷◌, drop, suc, slice_get, Some}
+use Rattle.std.specs.List.{list_all}
 use Rattle.cf_block.specs.declared.tx.Block.{Block}
-use Rattle.cf_chain.specs.Serve.{replies}
-use Rattle.cf_msg.specs.declared.msg.Msg.{Msg}
-use Rattle.cf_msg.specs.declared.msg.Msg.TheVariants.{Cfilter, Cfheaders, Cfcheckpt}
 use Rattle.cf_client.specs.Run.{AreNumbered, WasOrderly}
 use Rattle.cf_sync.specs.Fetching.{Rightly}
-use Rattle.cf_peer.specs.Acts.{IsSendable}
 use Rattle.cf_peer.specs.declared.event.Delivery.TheVariants.{Tick}
 use Rattle.cf_peer.specs.declared.event.Event.TheVariants.{Took}
 use Rattle.cf_peer.specs.Log.{Log}
 use Rattle.cf_played.specs.declared.kind.Way.{Way}
 use Rattle.cf_played.specs.declared.kind.Way.TheVariants.{Honest, Silent}
 use Rattle.cf_played.specs.Peers.{Peer}
-use Rattle.cf_played.specs.Answers.{is_plain, came, told_to, heard_of, HasBegun, HasAnswered, is_staying}
-use Rattle.cf_server.specs.Serving.{text_of}
+use Rattle.cf_played.specs.Answers.{is_plain, HasBegun, HasAnswered, HasBegunAlike, is_staying}
 
 -- what is known of the log of a run: what was sent might be sent, peers are numbered as they were dialled, and the client was orderly
 pub record IsRun (log : Log) : Type 0 where
@@ -35,29 +30,6 @@ pub record PlaysSilent (blocks : List Block) (log : Log) (p : ℕ) : Type 0 wher
   pub ticks : (k s : ℕ) (older : Log) → drop k log ≡ Took (Tick s) ∷ older → HasAnswered Silent blocks older p
   pub stays : list_all is_staying log ≡ true
 
--- a message is the machine's, or both tell of filters
-abbrev pub is_filtering : Msg → Bool
-is_filtering (Cfilter filter block bytes) = true
-is_filtering (Cfheaders filter stop previous hashes) = true
-is_filtering (Cfcheckpt filter stop headers) = true
-is_filtering m = false
-
-abbrev pub IsAlike : Msg → Msg → Type 0
-IsAlike m n = (m ≡ n) ⊎ ((is_filtering m ≡ true) × (is_filtering n ≡ true))
-
-abbrev pub AreAlike : List Msg → List Msg → Type 0
-AreAlike [] [] = Unit {0}
-AreAlike [] (n ∷ ns) = ⊥
-AreAlike (m ∷ ms) [] = ⊥
-AreAlike (m ∷ ms) (n ∷ ns) = IsAlike m n × AreAlike ms ns
-
--- what came from p is a beginning of the frames of messages that are like its machine's answers to what it hears of
-pub record HasBegunAlike (way : Way) (blocks : List Block) (log : Log) (p : ℕ) : Type 0 where
-  pub messages : List Msg
-  pub alike : AreAlike messages (replies (pos 0) 0 blocks false (heard_of way (told_to log p)))
-  pub fit : AllByRecursion IsSendable messages
-  pub begun : take (length (came log p)) (text_of messages) ≡ came log p
-
 -- so it was at every moment
 pub record PlaysAlike (way : Way) (blocks : List Block) (log : Log) (p : ℕ) : Type 0 where
   pub past : (k : ℕ) → HasBegunAlike way blocks (drop k log) p
@@ -66,4 +38,5 @@ pub record PlaysAlike (way : Way) (blocks : List Block) (log : Log) (p : ℕ) : 
 pub record Accounts (log : Log) (peers : List Peer) : Type 0 where
   pub past : (i k : ℕ) (peer : Peer) → slice_get peers i ≡ Some peer → is_plain peer.way ≡ true → HasBegun peer.way peer.blocks (drop k log) (suc i)
   pub ticks : (i k s : ℕ) (older : Log) (peer : Peer) → slice_get peers i ≡ Some peer → is_plain peer.way ≡ true → drop k log ≡ Took (Tick s) ∷ older → HasAnswered peer.way peer.blocks older (suc i)
+  pub alike : ∥ ((i k : ℕ) (peer : Peer) → slice_get peers i ≡ Some peer → HasBegunAlike peer.way peer.blocks (drop k log) (suc i)) ∥₁
   pub stays : list_all is_staying log ≡ true

@@ -19,6 +19,6 @@ pub record AreTwoChains (chain longer : List Block) (log : Log) : Type 0 where
 -- three were dialled: the first answers as the machine of the chain does but for what it tells of filters, the second is silent on the longer one, and the third honest on the first one
 pub record AreThree (chain longer : List Block) (log : Log) : Type 0 where
   pub dials : (tally_of log).dials ≡ 3
-  pub first : PlaysAlike Omits chain log 1
+  pub first : ∥ PlaysAlike Omits chain log 1 ∥₁
   pub second : PlaysSilent longer log 2
   pub third : Plays chain log 3

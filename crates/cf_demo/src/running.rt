@@ -3,6 +3,7 @@ ghost use Rattle.std.specs.Prelude.{◌≡◌, ◌≤◌, ◌<◌, ℕ, suc, Non
 ghost use Rattle.cf_client.specs.Names.{names_in};
 ghost use Rattle.cf_client.specs.Places.{EndsTell};
 ghost use Rattle.cf_client.specs.Run.{Followed};
+ghost use Rattle.cf_demo.specs.Playing.{Accounts};
 ghost use Rattle.cf_headers.specs.Chain.{NoHashClash};
 ghost use Rattle.cf_peer.specs.Log.{tally_of};
 ghost use Rattle.cf_played.specs.declared.kind.Way.TheVariants.{Honest};
@@ -20,7 +21,7 @@ use cf_scan::Watch;
 use std::alloc::Global;
 
 /// Follows the chains that new peers in memory show, as `sync_over` does. Each honest one of them that was dialled is an honest peer of the log, where no two of the strings that
-/// were hashed have one hash. The peers stay those that were added, whatever is answered.
+/// were hashed have one hash. The peers stay those that were added, whatever is answered, and each accounts for what it was told and answered.
 pub fn sync_played<H: HeaderStore + Drop, M: Matcher + Drop>(
     alloc: Global,
     played: &mut Played,
@@ -41,6 +42,7 @@ pub fn sync_played<H: HeaderStore + Drop, M: Matcher + Drop>(
     ensures theorem { IfOk result (λ o. SyncTheorem watch o.height o.tip o.history (log_of played.new)) }
     ensures honest { OnOk result ((i : ℕ) (peer : Peer) → slice_get (peers_of played.old) i ≡ Some peer → peer.way ≡ Honest → i < length names.now
         → NoHashClash (IsHashed (log_of played.new) peer.blocks) → IsHonest (log_of played.new) (suc i) peer.blocks) }
+    ensures accounts { Accounts (log_of played.new) (peers_of played.old) }
     ensures peers { map still (peers_of played.new) ≡ map still (peers_of played.old) }
     ensures tired { IfOk result (λ o. o.end ≡ End.Tired → (tally_of (log_of played.new)).taken ≡ turns) }
     ensures dialled { OnOk result ((tally_of (log_of played.new)).dials ≡ length names.now) }

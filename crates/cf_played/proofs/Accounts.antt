@@ -2,12 +2,14 @@
 use Rattle.std.proofs.Common.{◌≡◌, ℕ, zero, suc, ◌+◌, ◌<◌, Bool, true, false, List, [], ◌∷◌, ◌++◌, length, take, drop, Option, Some, refl, sym, ◌∙◌, ap, subst, inl, inr, arith, append_assoc}
 use Rattle.std.specs.Prelude.{◌≢◌, ◌⊎◌, ◌==◌, ◌||◌, map, min, pos, reverse, option_to_list, slice_get, if◌then◌else◌}
 use Rattle.std.proofs.Math.ListN.{set}
+use Rattle.std.proofs.Math.Logic.{∥∥₁_elim, ∥∥₁_map}
+use Rattle.std.proofs.Props.{props}
 use Rattle.std.proofs.lemmas.Grind.{common_steps}
 use Rattle.std.proofs.lemmas.List.{append-nil, length-map, reverse-append, take-append-drop, take_at}
 use Rattle.std.proofs.lemmas.List.Elements.{filter-append}
 use Rattle.cf_bytes.specs.declared.peer.PeerNo.{PeerNo}
 use Rattle.cf_block.specs.declared.tx.Block.{Block}
-use Rattle.cf_chain.specs.Serve.{is_version}
+use Rattle.cf_chain.specs.Serve.{is_version, replies}
 use Rattle.cf_msg.specs.declared.msg.Msg.{Msg}
 use Rattle.cf_peer.specs.declared.event.Delivery.TheVariants.{Got, Tick}
 use Rattle.cf_peer.specs.declared.event.Event.{Event}
@@ -20,10 +22,12 @@ use Rattle.cf_server.proofs.Texts.{text-nil, text_on-append}
 use Rattle.cf_played.specs.declared.kind.Way.{Way}
 use Rattle.cf_played.specs.declared.kind.Way.TheVariants.{Honest, Omits, Silent}
 use Rattle.cf_played.specs.declared.player.Player.{Player}
-use Rattle.cf_played.specs.Answers.{answered_to, came, frames_from, HasAnswered, HasBegun, heard_of, is_answered, is_plain, seen_after, told_to}
+use Rattle.cf_played.specs.Answers.{answered_to, came, frames_from, HasAnswered, HasBegun, HasBegunAlike, heard_of, is_answered, is_plain, seen_after, told_to}
+use Rattle.cf_played.specs.Frames.{AreFramesAlike}
 use Rattle.cf_played.specs.Peers.{Peer, shown}
 use Rattle.cf_played.specs.Turns.{Rest}
 use Rattle.cf_played.specs.Waiting.{front_of, behind_front}
+use Rattle.cf_played.proofs.Alike.{begun_alike, frames_alike, no_frames, replies_append}
 use Rattle.cf_played.proofs.TurnLemmas.{shown_at}
 use Rattle.cf_played.specs.Players.{AreAccounted, Gives, HasHeard, HearsAt, IsAccounted, IsAnswered}
 
@@ -47,6 +51,10 @@ heard_append : (way : Way) (a b : List Msg) → heard_of way (a ++ b) ≡ heard_
 heard_append Honest a b = refl
 heard_append Omits a b = refl
 heard_append Silent a b = filter-append is_answered a b
+
+-- the machine's answers to what a peer hears of
+abbrev answers_of : Way → List Block → List Msg → List Msg
+answers_of way blocks told = replies (pos 0) 0 blocks false (heard_of way told)
 
 -- ---- one peer
 
@@ -75,6 +83,20 @@ answered_text old new m told came_so is seen so plain =
     let fourth : answered_to old.way old.index (told ++ option_to_list m) ≡ answered_to new.way new.index (told ++ option_to_list m) =
     λ i. answered_to (sym is.way i) (sym is.blocks i) (told ++ option_to_list m) in
     first ∙ second ∙ third ∙ fourth
+
+pub answered_alike : (old new : Player) (m : Option Msg) (told : List Msg) (came_so : List ℕ) → IsAnswered old m new → old.seen ≡ seen_after false (heard_of old.way told)
+    → AreFramesAlike (answers_of old.way old.index told) (came_so ++ old.waiting) → AreFramesAlike (answers_of new.way new.index (told ++ option_to_list m)) (came_so ++ new.waiting)
+answered_alike old new m told came_so is seen so =
+    let h : List Msg = heard_of old.way (option_to_list m) in
+    let text : (came_so ++ old.waiting) ++ is.more ≡ came_so ++ new.waiting = append_assoc came_so old.waiting is.more ∙ ap (λ (w : List ℕ). came_so ++ w) (sym is.joined) in
+    let next : AreFramesAlike (replies (pos 0) 0 old.index (seen_after false (heard_of old.way told)) h) is.more = subst (λ (b : Bool). AreFramesAlike (replies (pos 0) 0 old.index b h) is.more) seen is.alike in
+    let both : AreFramesAlike (answers_of old.way old.index told ++ replies (pos 0) 0 old.index (seen_after false (heard_of old.way told)) h) ((came_so ++ old.waiting) ++ is.more) =
+    frames_alike (answers_of old.way old.index told) (replies (pos 0) 0 old.index (seen_after false (heard_of old.way told)) h) (came_so ++ old.waiting) is.more so next in
+    let all : answers_of old.way old.index told ++ replies (pos 0) 0 old.index (seen_after false (heard_of old.way told)) h ≡ answers_of old.way old.index (told ++ option_to_list m) =
+    sym (replies_append false old.index (heard_of old.way told) h) ∙ ap (replies (pos 0) 0 old.index false) (sym (heard_append old.way told (option_to_list m))) in
+    let still : answers_of old.way old.index (told ++ option_to_list m) ≡ answers_of new.way new.index (told ++ option_to_list m) = λ i. answers_of (sym is.way i) (sym is.blocks i) (told ++ option_to_list m) in
+    subst (λ (s : List ℕ). AreFramesAlike (answers_of new.way new.index (told ++ option_to_list m)) s) text
+    (subst (λ (ms : List Msg). AreFramesAlike ms ((came_so ++ old.waiting) ++ is.more)) (all ∙ still) both)
 
 -- ---- the peers of a list
 
@@ -105,15 +127,23 @@ accounted_on : (log : Log) (e : Event) (p : ℕ) (old new : Player) → new.way 
     → new.seen ≡ seen_after false (heard_of new.way (told_to (e ∷ log) p))
     → (is_plain new.way ≡ true → came (e ∷ log) p ++ new.waiting ≡ answered_to new.way new.index (told_to (e ∷ log) p))
     → ((s : ℕ) → e ≡ Took (Tick s) → is_plain new.way ≡ true → HasAnswered new.way new.index log p)
+    → AreFramesAlike (answers_of new.way new.index (told_to (e ∷ log) p)) (came (e ∷ log) p ++ new.waiting)
     → IsAccounted (e ∷ log) p new
-accounted_on log e p old new way blocks so seen now ticks =
+accounted_on log e p old new way blocks so seen now ticks alike =
     let was : is_plain new.way ≡ true → is_plain old.way ≡ true = λ plain. ap is_plain (sym way) ∙ plain in
     record {
       seen = seen;
       now = now;
       past = λ plain k. past_at (was plain) plain k;
       ticks = λ plain k s older at. tick_at (was plain) plain k s older at;
+      alike = alike;
+      alike_past = λ k. alike_at k;
     } where
+      alike_at : (k : ℕ) → HasBegunAlike new.way new.index (drop k (e ∷ log)) p
+      alike_at zero = begun_alike new.way new.index (e ∷ log) p new.waiting alike
+      alike_at (suc k) =
+          subst (λ (w : Way). HasBegunAlike w new.index (drop k log) p) (sym way) (subst (λ (b : List Block). HasBegunAlike old.way b (drop k log) p) (sym blocks) (so.alike_past k))
+
       past_at : is_plain old.way ≡ true → is_plain new.way ≡ true → (k : ℕ) → HasBegun new.way new.index (drop k (e ∷ log)) p
       past_at was plain zero =
           ap (take (length (came (e ∷ log) p))) (sym (now plain)) ∙ take_at (came (e ∷ log) p) new.waiting (length (came (e ∷ log) p)) refl
@@ -132,6 +162,8 @@ aside log e p player so told brought ticks = accounted_on log e p player player 
     (so.seen ∙ ap (λ (ms : List Msg). seen_after false (heard_of player.way ms)) (sym told))
     (λ plain. ap (λ (s : List ℕ). s ++ player.waiting) brought ∙ so.now plain ∙ ap (answered_to player.way player.index) (sym told))
     ticks
+    (subst (λ (s : List ℕ). AreFramesAlike (answers_of player.way player.index (told_to (e ∷ log) p)) (s ++ player.waiting)) (sym brought)
+    (subst (λ (ms : List Msg). AreFramesAlike (answers_of player.way player.index ms) (came log p ++ player.waiting)) (sym told) so.alike))
 
 pub all_dialled : (log : Log) (q : PeerNo) (name : List ℕ) (players : List Player) → AreAccounted log players → AreAccounted (Dialled q name ∷ log) players
 all_dialled log q name players all = record { each = λ i player at. aside log (Dialled q name) (suc i) player (all.each i player at) refl refl (λ s e. cc) }
@@ -168,6 +200,8 @@ sent log q bytes p old new same is so =
     (answered_seen old new (spelled bytes) (told_to log p) is so.seen ∙ ap (λ (ms : List Msg). seen_after false (heard_of new.way ms)) (sym e))
     (λ plain. answered_text old new (spelled bytes) (told_to log p) (came log p) is so.seen so.now plain ∙ ap (answered_to new.way new.index) (sym e))
     (λ s e. cc)
+    (subst (λ (ms : List Msg). AreFramesAlike (answers_of new.way new.index ms) (came log p ++ new.waiting)) (sym e)
+    (answered_alike old new (spelled bytes) (told_to log p) (came log p) is so.seen so.alike))
 
 -- a send, of which the peer with this number has heard, if there is one
 all_sent_by : (log : Log) (q : PeerNo) (bytes : List ℕ) (old new : List Player) → ((((q.0 ≡ 0) ⊎ (length old < q.0)) × (new ≡ old)) ⊎ HasHeard old q.0 (spelled bytes) new) → AreAccounted log old → AreAccounted (Sent q bytes ∷ log) new
@@ -203,13 +237,14 @@ given : (log : Log) (q : PeerNo) (piece : List ℕ) (p : ℕ) (old : Player) →
 given log q piece p old same is so =
     let e : came (Took (Got q piece) ∷ log) p ≡ came log p ++ front_of old.waiting =
     ap (λ (b : Bool). if b then came log p ++ piece else came log p) (same_number q.0 p same) ∙ ap (λ (s : List ℕ). came log p ++ s) is in
-    accounted_on log (Took (Got q piece)) p old (record old { waiting = behind_front old.waiting }) refl refl so so.seen
-    (λ plain.
+    let all : came (Took (Got q piece) ∷ log) p ++ behind_front old.waiting ≡ came log p ++ old.waiting =
     ap (λ (s : List ℕ). s ++ behind_front old.waiting) e
     ∙ append_assoc (came log p) (front_of old.waiting) (behind_front old.waiting)
-    ∙ ap (λ (s : List ℕ). came log p ++ s) (take-append-drop (min (length old.waiting) 4096) old.waiting)
-    ∙ so.now plain)
+    ∙ ap (λ (s : List ℕ). came log p ++ s) (take-append-drop (min (length old.waiting) 4096) old.waiting) in
+    accounted_on log (Took (Got q piece)) p old (record old { waiting = behind_front old.waiting }) refl refl so so.seen
+    (λ plain. all ∙ so.now plain)
     (λ s e. cc)
+    (subst (λ (s : List ℕ). AreFramesAlike (answers_of old.way old.index (told_to log p)) s) (sym all) so.alike)
 
 pub all_given : (log : Log) (q : PeerNo) (piece : List ℕ) (old new : List Player) (place : ℕ) → Gives old place piece new → q.0 ≡ suc place → AreAccounted log old
     → AreAccounted (Took (Got q piece) ∷ log) new
@@ -229,49 +264,80 @@ unshown [] i peer e = cc
 unshown (x ∷ xs) zero peer e = let same : shown x ≡ peer = cc in (x, refl, same)
 unshown (x ∷ xs) (suc i) peer e = unshown xs i peer e
 
-pub shown_now : (log : Log) (players : List Player) → AreAccounted log players → (i : ℕ) (peer : Peer) → slice_get (map shown players) i ≡ Some peer → is_plain peer.way ≡ true
+shown_now : (log : Log) (players : List Player) → AreAccounted log players → (i : ℕ) (peer : Peer) → slice_get (map shown players) i ≡ Some peer → is_plain peer.way ≡ true
     → came log (suc i) ++ peer.waiting ≡ answered_to peer.way peer.blocks (told_to log (suc i))
 shown_now log players all i peer e =
     let w = unshown players i peer e in
     subst (λ (s : Peer). is_plain s.way ≡ true → came log (suc i) ++ s.waiting ≡ answered_to s.way s.blocks (told_to log (suc i))) w.2 (all.each i w.0 w.1).now
 
-pub shown_past : (log : Log) (players : List Player) → AreAccounted log players → (i k : ℕ) (peer : Peer) → slice_get (map shown players) i ≡ Some peer → is_plain peer.way ≡ true
+shown_past : (log : Log) (players : List Player) → AreAccounted log players → (i k : ℕ) (peer : Peer) → slice_get (map shown players) i ≡ Some peer → is_plain peer.way ≡ true
     → HasBegun peer.way peer.blocks (drop k log) (suc i)
 shown_past log players all i k peer e =
     let w = unshown players i peer e in
     subst (λ (s : Peer). is_plain s.way ≡ true → HasBegun s.way s.blocks (drop k log) (suc i)) w.2 (λ plain. (all.each i w.0 w.1).past plain k)
 
-pub shown_ticks : (log : Log) (players : List Player) → AreAccounted log players → (i k s : ℕ) (older : Log) (peer : Peer) → slice_get (map shown players) i ≡ Some peer
+shown_ticks : (log : Log) (players : List Player) → AreAccounted log players → (i k s : ℕ) (older : Log) (peer : Peer) → slice_get (map shown players) i ≡ Some peer
     → is_plain peer.way ≡ true → drop k log ≡ Took (Tick s) ∷ older → HasAnswered peer.way peer.blocks older (suc i)
 shown_ticks log players all i k s older peer e plain at =
     let w = unshown players i peer e in
     subst (λ (s : Peer). is_plain s.way ≡ true → HasAnswered s.way s.blocks older (suc i)) w.2 (λ h. (all.each i w.0 w.1).ticks h k s older at) plain
 
+shown_alike : (log : Log) (players : List Player) → AreAccounted log players → (i k : ℕ) (peer : Peer) → slice_get (map shown players) i ≡ Some peer
+    → HasBegunAlike peer.way peer.blocks (drop k log) (suc i)
+shown_alike log players all i k peer e =
+    let w = unshown players i peer e in
+    subst (λ (s : Peer). HasBegunAlike s.way s.blocks (drop k log) (suc i)) w.2 ((all.each i w.0 w.1).alike_past k)
+
+-- two lists of bytes are the same in one way
+same_prop : (a b : List ℕ) → IsProp (a ≡ b)
+same_prop a b = hlevel props
+
+pub told_now : (log : Log) (players : List Player) → ∥ AreAccounted log players ∥₁ → (i : ℕ) (peer : Peer) → slice_get (map shown players) i ≡ Some peer → is_plain peer.way ≡ true
+    → came log (suc i) ++ peer.waiting ≡ answered_to peer.way peer.blocks (told_to log (suc i))
+told_now log players truncated i peer e plain =
+    ∥∥₁_elim truncated (same_prop (came log (suc i) ++ peer.waiting) (answered_to peer.way peer.blocks (told_to log (suc i)))) (λ all. shown_now log players all i peer e plain)
+
+pub told_past : (log : Log) (players : List Player) → ∥ AreAccounted log players ∥₁ → (i k : ℕ) (peer : Peer) → slice_get (map shown players) i ≡ Some peer → is_plain peer.way ≡ true
+    → HasBegun peer.way peer.blocks (drop k log) (suc i)
+told_past log players truncated i k peer e plain =
+    ∥∥₁_elim truncated (same_prop (take (length (came (drop k log) (suc i))) (answered_to peer.way peer.blocks (told_to (drop k log) (suc i)))) (came (drop k log) (suc i))) (λ all. shown_past log players all i k peer e plain)
+
+pub told_ticks : (log : Log) (players : List Player) → ∥ AreAccounted log players ∥₁ → (i k s : ℕ) (older : Log) (peer : Peer) → slice_get (map shown players) i ≡ Some peer
+    → is_plain peer.way ≡ true → drop k log ≡ Took (Tick s) ∷ older → HasAnswered peer.way peer.blocks older (suc i)
+told_ticks log players truncated i k s older peer e plain at =
+    ∥∥₁_elim truncated (same_prop (came older (suc i)) (answered_to peer.way peer.blocks (told_to older (suc i)))) (λ all. shown_ticks log players all i k s older peer e plain at)
+
+pub told_alike : (log : Log) (players : List Player) → ∥ AreAccounted log players ∥₁
+    → ∥ ((i k : ℕ) (peer : Peer) → slice_get (map shown players) i ≡ Some peer → HasBegunAlike peer.way peer.blocks (drop k log) (suc i)) ∥₁
+told_alike log players truncated = ∥∥₁_map truncated (λ all i k peer e. shown_alike log players all i k peer e)
+
 -- ---- the same of a log that is kept the oldest first
 
-pub kept_so : (later items : List Event) (players : List Player) → later ≡ items → AreAccounted (reverse items) players → AreAccounted (reverse later) players
-kept_so later items players is all = subst (λ (es : List Event). AreAccounted (reverse es) players) (sym is) all
+pub kept_so : (later items : List Event) (players : List Player) → later ≡ items → ∥ AreAccounted (reverse items) players ∥₁ → ∥ AreAccounted (reverse later) players ∥₁
+kept_so later items players is all = subst (λ (es : List Event). ∥ AreAccounted (reverse es) players ∥₁) (sym is) all
 
 later_on : (later items : List Event) (e : Event) (players : List Player) → later ≡ items ++ e ∷ [] → AreAccounted (e ∷ reverse items) players → AreAccounted (reverse later) players
-later_on later items e players is all = kept_so later (items ++ e ∷ []) players is (one_later items e players all)
+later_on later items e players is all = subst (λ (es : List Event). AreAccounted (reverse es) players) (sym is) (one_later items e players all)
 
-pub dialled_so : (later items : List Event) (q : PeerNo) (name : List ℕ) (players : List Player) → later ≡ items ++ Dialled q name ∷ [] → AreAccounted (reverse items) players → AreAccounted (reverse later) players
-dialled_so later items q name players is all = later_on later items (Dialled q name) players is (all_dialled (reverse items) q name players all)
+pub dialled_so : (later items : List Event) (q : PeerNo) (name : List ℕ) (players : List Player) → later ≡ items ++ Dialled q name ∷ [] → ∥ AreAccounted (reverse items) players ∥₁
+    → ∥ AreAccounted (reverse later) players ∥₁
+dialled_so later items q name players is truncated = ∥∥₁_map truncated (λ all. later_on later items (Dialled q name) players is (all_dialled (reverse items) q name players all))
 
-pub closed_so : (later items : List Event) (q : PeerNo) (players : List Player) → later ≡ items ++ Closed q ∷ [] → AreAccounted (reverse items) players → AreAccounted (reverse later) players
-closed_so later items q players is all = later_on later items (Closed q) players is (all_closed (reverse items) q players all)
+pub closed_so : (later items : List Event) (q : PeerNo) (players : List Player) → later ≡ items ++ Closed q ∷ [] → ∥ AreAccounted (reverse items) players ∥₁ → ∥ AreAccounted (reverse later) players ∥₁
+closed_so later items q players is truncated = ∥∥₁_map truncated (λ all. later_on later items (Closed q) players is (all_closed (reverse items) q players all))
 
-pub ticked_so : (later items : List Event) (s : ℕ) (players : List Player) → later ≡ items ++ Took (Tick s) ∷ [] → Rest (map shown players) 0 (length (map shown players)) → AreAccounted (reverse items) players
-    → AreAccounted (reverse later) players
-ticked_so later items s players is rests all = later_on later items (Took (Tick s)) players is (all_ticked (reverse items) s players rests all)
+pub ticked_so : (later items : List Event) (s : ℕ) (players : List Player) → later ≡ items ++ Took (Tick s) ∷ [] → Rest (map shown players) 0 (length (map shown players)) → ∥ AreAccounted (reverse items) players ∥₁
+    → ∥ AreAccounted (reverse later) players ∥₁
+ticked_so later items s players is rests truncated = ∥∥₁_map truncated (λ all. later_on later items (Took (Tick s)) players is (all_ticked (reverse items) s players rests all))
 
 pub sent_so : (later items : List Event) (q : PeerNo) (bytes : List ℕ) (old new : List Player) → later ≡ items ++ Sent q bytes ∷ [] → HearsAt old q.0 (spelled bytes) new
-    → AreAccounted (reverse items) old → AreAccounted (reverse later) new
-sent_so later items q bytes old new is hears all = later_on later items (Sent q bytes) new is (all_sent (reverse items) q bytes old new hears all)
+    → ∥ AreAccounted (reverse items) old ∥₁ → ∥ AreAccounted (reverse later) new ∥₁
+sent_so later items q bytes old new is hears truncated = ∥∥₁_map truncated (λ all. later_on later items (Sent q bytes) new is (all_sent (reverse items) q bytes old new hears all))
 
 pub given_so : (later items : List Event) (q : PeerNo) (piece : List ℕ) (place : ℕ) (old new : List Player) → later ≡ items ++ Took (Got q piece) ∷ [] → Gives old place piece new
-    → q.0 ≡ suc place → AreAccounted (reverse items) old → AreAccounted (reverse later) new
-given_so later items q piece place old new is gives number all = later_on later items (Took (Got q piece)) new is (all_given (reverse items) q piece old new place gives number all)
+    → q.0 ≡ suc place → ∥ AreAccounted (reverse items) old ∥₁ → ∥ AreAccounted (reverse later) new ∥₁
+given_so later items q piece place old new is gives number truncated =
+    ∥∥₁_map truncated (λ all. later_on later items (Took (Got q piece)) new is (all_given (reverse items) q piece old new place gives number all))
 
 -- ---- a peer more, before anything passed
 
@@ -281,11 +347,22 @@ fresh player unseen none p = record {
   now = λ plain. none ∙ sym (nothing player.way player.index);
   past = λ plain k. begun k;
   ticks = λ plain k s older at. absurd (no_entry k at);
+  alike = all_alike;
+  alike_past = λ k. begun_at k;
 } where
   heard_none : (way : Way) → heard_of way [] ≡ []
   heard_none Honest = refl
   heard_none Omits = refl
   heard_none Silent = refl
+
+  all_alike : AreFramesAlike (answers_of player.way player.index []) player.waiting
+  all_alike =
+      subst (λ (s : List ℕ). AreFramesAlike (answers_of player.way player.index []) s) (sym none)
+      (subst (λ (ms : List Msg). AreFramesAlike (replies (pos 0) 0 player.index false ms) []) (sym (heard_none player.way)) no_frames)
+
+  begun_at : (k : ℕ) → HasBegunAlike player.way player.index (drop k []) p
+  begun_at zero = begun_alike player.way player.index [] p player.waiting all_alike
+  begun_at (suc k) = begun_alike player.way player.index [] p player.waiting all_alike
 
   nothing : (way : Way) (blocks : List Block) → answered_to way blocks [] ≡ []
   nothing way blocks = ap (frames_from false blocks) (heard_none way) ∙ text-nil
@@ -308,9 +385,9 @@ at_end (x ∷ xs) player made n (suc i) other at each =
     subst (λ (p : ℕ). IsAccounted [] p other) e
     (at_end xs player made (suc n) i other at (λ k y f. let g : n + suc (suc k) ≡ suc n + suc k = omega arith in subst (λ (p : ℕ). IsAccounted [] p y) g (each (suc k) y f)))
 
-pub added_so : (items : List Event) (players later : List Player) (player : Player) → later ≡ players ++ player ∷ [] → reverse items ≡ [] → player.seen ≡ false → player.waiting ≡ []
+more_accounted : (items : List Event) (players later : List Player) (player : Player) → later ≡ players ++ player ∷ [] → reverse items ≡ [] → player.seen ≡ false → player.waiting ≡ []
     → AreAccounted (reverse items) players → AreAccounted (reverse items) later
-added_so items players later player is new unseen none all =
+more_accounted items players later player is new unseen none all =
     let now : AreAccounted [] players = subst (λ (log : Log). AreAccounted log players) new all in
     let each : (i : ℕ) (other : Player) → slice_get (players ++ player ∷ []) i ≡ Some other → IsAccounted [] (suc i) other = λ i other at.
     let e : 0 + suc i ≡ suc i = omega arith in
@@ -319,7 +396,11 @@ added_so items players later player is new unseen none all =
     let some : AreAccounted [] (players ++ player ∷ []) = record { each = each } in
     subst (λ (log : Log). AreAccounted log later) (sym new) (subst (λ (ps : List Player). AreAccounted [] ps) (sym is) some)
 
+pub added_so : (items : List Event) (players later : List Player) (player : Player) → later ≡ players ++ player ∷ [] → reverse items ≡ [] → player.seen ≡ false → player.waiting ≡ []
+    → ∥ AreAccounted (reverse items) players ∥₁ → ∥ AreAccounted (reverse items) later ∥₁
+added_so items players later player is new unseen none truncated = ∥∥₁_map truncated (λ all. more_accounted items players later player is new unseen none all)
+
 pub pushed_so : (b : Bool) (items : List Event) (players later : List Player) (player : Player) → later ≡ (if b then players ++ player ∷ [] else players) → reverse items ≡ [] → player.seen ≡ false
-    → player.waiting ≡ [] → AreAccounted (reverse items) players → AreAccounted (reverse items) later
+    → player.waiting ≡ [] → ∥ AreAccounted (reverse items) players ∥₁ → ∥ AreAccounted (reverse items) later ∥₁
 pushed_so true items players later player is new unseen none all = added_so items players later player is new unseen none all
-pushed_so false items players later player is new unseen none all = subst (λ (ps : List Player). AreAccounted (reverse items) ps) (sym is) all
+pushed_so false items players later player is new unseen none all = subst (λ (ps : List Player). ∥ AreAccounted (reverse items) ps ∥₁) (sym is) all

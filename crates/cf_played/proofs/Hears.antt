@@ -3,7 +3,7 @@ use Rattle.std.proofs.Common.{◌≡◌, ℕ, Bool, true, List, [], ◌∷◌, �
 use Rattle.std.specs.Prelude.{◌||◌, pos, option_to_list, slice_get, slice_set}
 use Rattle.std.proofs.lemmas.List.{append-nil}
 use Rattle.cf_block.specs.declared.tx.Block.{Block}
-use Rattle.cf_chain.specs.Serve.{is_version, replies_to}
+use Rattle.cf_chain.specs.Serve.{is_version, replies, replies_to}
 use Rattle.cf_msg.specs.declared.msg.Msg.{Msg}
 use Rattle.cf_server.specs.Serving.{text_of}
 use Rattle.cf_server.proofs.Texts.{text-nil}
@@ -11,7 +11,9 @@ use Rattle.cf_played.specs.declared.kind.Way.{Way}
 use Rattle.cf_played.specs.declared.kind.Way.TheVariants.{Honest, Omits, Silent}
 use Rattle.cf_played.specs.declared.player.Player.{Player}
 use Rattle.cf_played.specs.Answers.{frames_from, heard_of, is_plain, seen_after}
+use Rattle.cf_played.specs.Frames.{AreFramesAlike}
 use Rattle.cf_played.specs.Players.{HearsAt, IsAnswered}
+use Rattle.cf_played.proofs.Alike.{no_frames}
 
 heard_none : (way : Way) → heard_of way [] ≡ []
 heard_none Honest = refl
@@ -29,6 +31,7 @@ unheard old new m none is = subst (λ (p : Player). IsAnswered old m p) (sym is)
   seen = ap (seen_after old.seen) (sym none);
   more = [];
   joined = sym (append-nil old.waiting);
+  alike = subst (λ (ms : List Msg). AreFramesAlike (replies (pos 0) 0 old.index old.seen ms) []) (sym none) no_frames;
   text = λ plain. sym (append-nil old.waiting) ∙ ap (λ (s : List ℕ). old.waiting ++ s) (sym (ap (frames_from old.seen old.index) none ∙ text-nil));
 })
 
@@ -41,8 +44,8 @@ passed_over old new mm m some none is = unheard old new mm (ap (λ (o : Option M
 
 -- it is answered
 pub one_heard : (old new : Player) (mm : Option Msg) (m : Msg) (text : List ℕ) → mm ≡ Some m → heard_of old.way (m ∷ []) ≡ m ∷ [] → (is_plain old.way ≡ true → text ≡ frames_from old.seen old.index (m ∷ []))
-    → new.index ≡ old.index → new.way ≡ old.way → new.seen ≡ (is_version m || old.seen) → new.waiting ≡ old.waiting ++ text → IsAnswered old mm new
-one_heard old new mm m text some heard told blocks way seen waiting =
+    → AreFramesAlike (replies_to (pos 0) 0 old.index old.seen m) text → new.index ≡ old.index → new.way ≡ old.way → new.seen ≡ (is_version m || old.seen) → new.waiting ≡ old.waiting ++ text → IsAnswered old mm new
+one_heard old new mm m text some heard told alike blocks way seen waiting =
     let all : heard_of old.way (option_to_list mm) ≡ m ∷ [] = ap (λ (o : Option Msg). heard_of old.way (option_to_list o)) some ∙ heard in
     record {
       blocks = blocks;
@@ -50,6 +53,8 @@ one_heard old new mm m text some heard told blocks way seen waiting =
       seen = seen ∙ ap (seen_after old.seen) (sym all);
       more = text;
       joined = waiting;
+      alike = subst (λ (ms : List Msg). AreFramesAlike (replies (pos 0) 0 old.index old.seen ms) text) (sym all)
+          (subst (λ (ns : List Msg). AreFramesAlike ns text) (sym (append-nil (replies_to (pos 0) 0 old.index old.seen m))) alike);
       text = λ plain. waiting ∙ ap (λ (s : List ℕ). old.waiting ++ s) (told plain ∙ ap (frames_from old.seen old.index) (sym all));
     }
 

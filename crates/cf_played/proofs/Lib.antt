@@ -1,5 +1,7 @@
 pub mod Sends
 pub mod TurnLemmas
+pub mod Alike
+pub mod Written
 pub mod Hears
 pub mod Notes
 pub mod Accounts

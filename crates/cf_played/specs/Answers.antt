@@ -1,9 +1,11 @@
 -- What passed between the wires' user and one peer, by the log, and what a peer in memory answers to it.
-use Rattle.std.specs.Prelude.{◌≡◌, ℕ, pos, ◌==◌, Bool, true, false, ◌||◌, List, [], ◌∷◌, ◌++◌, filter, length, take, option_to_list, if◌then◌else◌}
+use Rattle.std.specs.Prelude.{◌≡◌, ◌⊎◌, ℕ, pos, ◌==◌, Bool, true, false, ◌||◌, List, [], ◌∷◌, ◌++◌, filter, length, take, option_to_list, if◌then◌else◌}
+use Rattle.std.specs.List.{AllByRecursion}
 use Rattle.cf_block.specs.declared.tx.Block.{Block}
 use Rattle.cf_chain.specs.Serve.{is_version, replies}
 use Rattle.cf_msg.specs.declared.msg.Msg.{Msg}
-use Rattle.cf_msg.specs.declared.msg.Msg.TheVariants.{Version, GetHeaders}
+use Rattle.cf_msg.specs.declared.msg.Msg.TheVariants.{Version, GetHeaders, Cfilter, Cfheaders, Cfcheckpt}
+use Rattle.cf_peer.specs.Acts.{IsSendable}
 use Rattle.cf_peer.specs.declared.event.Delivery.TheVariants.{Got, Gone, Tick, Ended}
 use Rattle.cf_peer.specs.declared.event.Event.{Event}
 use Rattle.cf_peer.specs.declared.event.Event.TheVariants.{Dialled, NotDialled, Sent, SendFailed, Closed, Took}
@@ -77,6 +79,33 @@ HasBegun way blocks log p = take (length (came log p)) (answered_to way blocks (
 
 abbrev pub HasAnswered : Way → List Block → Log → ℕ → Type 0
 HasAnswered way blocks log p = came log p ≡ answered_to way blocks (told_to log p)
+
+-- ---- answers with other filters
+
+-- a message is the machine's, or both tell of filters
+abbrev pub is_filtering : Msg → Bool
+is_filtering (Cfilter filter block bytes) = true
+is_filtering (Cfheaders filter stop previous hashes) = true
+is_filtering (Cfcheckpt filter stop headers) = true
+is_filtering m = false
+
+abbrev pub IsAlike : Msg → Msg → Type 0
+IsAlike m n = (m ≡ n) ⊎ ((is_filtering m ≡ true) × (is_filtering n ≡ true))
+
+abbrev pub AreAlike : List Msg → List Msg → Type 0
+AreAlike [] [] = Unit {0}
+AreAlike [] (n ∷ ns) = ⊥
+AreAlike (m ∷ ms) [] = ⊥
+AreAlike (m ∷ ms) (n ∷ ns) = IsAlike m n × AreAlike ms ns
+
+-- what came from p is a beginning of the frames of messages that are like its machine's answers to what it hears of
+pub record HasBegunAlike (way : Way) (blocks : List Block) (log : Log) (p : ℕ) : Type 0 where
+  pub messages : List Msg
+  pub alike : AreAlike messages (replies (pos 0) 0 blocks false (heard_of way (told_to log p)))
+  pub fit : AllByRecursion IsSendable messages
+  pub begun : take (length (came log p)) (text_of messages) ≡ came log p
+
+-- ---- who stays
 
 -- nobody is lost by this entry but by a close
 abbrev pub is_staying : Event → Bool

@@ -1,6 +1,7 @@
 pub mod Hearing
 pub mod Waiting
 pub mod Answers
+pub mod Frames
 pub mod Ways
 pub mod Peers
 pub mod Players

@@ -3,6 +3,7 @@
 
 mod checking;
 mod filtered;
+mod frames;
 mod hearing;
 mod kind;
 mod omitting;

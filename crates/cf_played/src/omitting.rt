@@ -1,22 +1,27 @@
-//! Filters that leave scripts out, and the frames that tell of them (BIP 158, "Contents"; BIP 157, "New Messages").
-ghost use Rattle.std.specs.Prelude.{◌≡◌, ◌≤◌, ◌<◌, true, length};
-ghost use Rattle.cf_frame.specs.Frame.{is_command};
-ghost use Rattle.cf_server.specs.Replies.{IsReplyOf, AreRepliesOf};
+//! Filters that leave scripts out, and the messages that tell of them (BIP 158, "Contents"; BIP 157, "New Messages").
+ghost use Rattle.std.specs.Prelude.{◌≡◌, ◌≤◌, ◌<◌, ◌+◌, Bool, true, length, IfOk, IfSome, OnOk};
+ghost use Rattle.std.specs.List.{AllByRecursion};
+ghost use Rattle.cf_block.specs.Header.{IsHash};
+ghost use Rattle.cf_chain.specs.Good.{max_height};
+ghost use Rattle.cf_played.specs.Answers.{is_filtering};
+ghost use Rattle.cf_played.specs.Frames.{AreFramesAlike, IsFrameAlike, IsOther, machine};
+ghost use Rattle.cf_server.specs.Replies.{IsReplyOf, AreRepliesOf, message_of, messages_of};
 
 use crate::filtered::Filtered;
+use crate::frames::{message_frame, own_frame, put_frame};
 use cf_block::{Block, OutPoint, Script, Tx, block_hash, genesis};
-use cf_bytes::{Hash32, Listed, NoMemory, put_compact};
+use cf_bytes::{Hash32, Listed, NoMemory};
 use cf_filter::{build, filter_hash, filter_header, items};
-use cf_frame::encode;
 use cf_index::{CheckedChain, Index, TxIndex};
-use cf_server::{Reply, Served, write_reply};
+use cf_msg::{Bytes, Hashes, Msg};
+use cf_server::Reply;
 use std::alloc::Global;
 
 /// The most items of a filter.
 const MOST_ITEMS: usize = 33_554_432;
 
-/// The most bytes of a payload.
-const MOST_PAYLOAD: usize = 4_000_000;
+/// The most bytes of a filter that surely fits into a frame.
+const MOST_BYTES: usize = 3_999_900;
 
 /// The type of basic filters.
 const BASIC: u8 = 0;
@@ -120,74 +125,149 @@ pub(crate) fn filters_without(
     Ok(filters)
 }
 
-// The frame with this command and payload; a payload that is too long is refused as for want of memory.
-fn frame_bytes(alloc: Global, command: &[u8; 12], payload: &[u8]) -> Result<Vec<u8>, NoMemory>
-    requires { is_command command.now ≡ true }
+// A hash has 32 bytes.
+fn seen_hash(hash: Hash32) -> Hash32
+    ensures { IsHash result }
 {
-    if payload.len() > MOST_PAYLOAD {
-        return Err(NoMemory);
-    }
-    encode(alloc, command, payload)
+    hash
 }
 
 // The filter header before a height: zeros before genesis.
-fn header_before(filters: &[Filtered], height: u32) -> Hash32 {
+fn header_before(filters: &[Filtered], height: u32) -> Hash32
+    ensures { IsHash result }
+{
     if height == 0 {
-        return NO_HASH;
+        return seen_hash(NO_HASH);
     }
     match filters.get(height as usize - 1) {
-        Some(filter) => filter.header,
-        None => NO_HASH,
+        Some(filter) => seen_hash(filter.header),
+        None => seen_hash(NO_HASH),
     }
 }
 
-fn cfilter_bytes(alloc: Global, filter: &Filtered) -> Result<Vec<u8>, NoMemory> {
-    let mut payload = Vec::new(alloc);
-    payload.push(BASIC)?;
-    payload.extend_from_slice(&filter.block.0)?;
-    put_compact(&mut payload, filter.filter.len() as u64)?;
-    payload.extend_from_slice(filter.filter.as_slice())?;
-    frame_bytes(alloc, b"cfilter\0\0\0\0\0", &payload)
+// Puts a hash at the end.
+fn put_hash(hashes: &mut Hashes, hash: Hash32) -> Result<(), NoMemory>
+    ensures each { OnOk result (AllByRecursion IsHash hashes.old → AllByRecursion IsHash hashes.new) }
+    ensures len { OnOk result (length hashes.new ≡ length hashes.old + 1) }
+{
+    hashes.push(hash)?;
+    Ok(())
 }
 
-fn cfheaders_bytes(
+// The hashes of filters.
+fn hashes_of(alloc: Global, filters: &[Filtered]) -> Result<Hashes, NoMemory>
+    ensures each { IfOk result (λ hashes. AllByRecursion IsHash hashes) }
+    ensures len { IfOk result (λ hashes. length hashes ≡ length filters.now) }
+{
+    let mut hashes = Hashes::new(alloc);
+    for filter in filters {
+        put_hash(&mut hashes, filter.hash)?;
+    }
+    Ok(hashes)
+}
+
+// Every thousandth filter header, so many of them.
+fn checkpoints(alloc: Global, filters: &[Filtered], count: u32) -> Result<Hashes, NoMemory>
+    requires { count ≤ 2000 }
+    ensures each { IfOk result (λ hashes. AllByRecursion IsHash hashes) }
+    ensures len { IfOk result (λ hashes. length hashes ≡ count) }
+{
+    let mut hashes = Hashes::new(alloc);
+    for i in 0..count {
+        let header = header_before(filters, 1000 * (i + 1) + 1);
+        put_hash(&mut hashes, header)?;
+    }
+    Ok(hashes)
+}
+
+// The `cfilter` with these bytes; bytes that are too many are refused as for want of memory.
+fn cfilter_with(block: Hash32, bytes: Bytes) -> Result<Msg, NoMemory>
+    ensures { IfOk result IsOther }
+{
+    if bytes.len() > MOST_BYTES {
+        return Err(NoMemory);
+    }
+    Ok(Msg::Cfilter {
+        filter: BASIC,
+        block,
+        bytes,
+    })
+}
+
+fn cfilter(alloc: Global, filter: &Filtered) -> Result<Msg, NoMemory>
+    ensures { IfOk result IsOther }
+{
+    let bytes = Vec::from_slice(alloc, filter.filter.as_slice())?;
+    cfilter_with(filter.block, Bytes::from_vec(bytes))
+}
+
+fn cfheaders(
     alloc: Global,
     filters: &[Filtered],
     start: u32,
     stop_height: u32,
-    stop: &Hash32,
-) -> Result<Vec<u8>, NoMemory> {
-    let mut hashes = Vec::new(alloc);
-    let mut count = 0u64;
-    for height in start..stop_height.saturating_add(1) {
-        if let Some(filter) = filters.get(height as usize) {
-            hashes.extend_from_slice(&filter.hash.0)?;
-            count = count.saturating_add(1);
-        }
-    }
-    let mut payload = Vec::new(alloc);
-    payload.push(BASIC)?;
-    payload.extend_from_slice(&stop.0)?;
-    payload.extend_from_slice(&header_before(filters, start).0)?;
-    put_compact(&mut payload, count)?;
-    payload.extend_from_slice(&hashes)?;
-    frame_bytes(alloc, b"cfheaders\0\0\0", &payload)
+    stop: Hash32,
+) -> Result<Msg, NoMemory>
+    requires { stop_height < start + 2000 }
+    ensures { IfOk result IsOther }
+{
+    let end = filters.len().min(stop_height as usize + 1);
+    let first = end.min(start as usize);
+    let hashes = hashes_of(alloc, &filters[first..end])?;
+    Ok(Msg::Cfheaders {
+        filter: BASIC,
+        stop,
+        previous: header_before(filters, start),
+        hashes,
+    })
 }
 
-fn cfcheckpt_bytes(
+fn cfcheckpt(
     alloc: Global,
     filters: &[Filtered],
     stop_height: u32,
-    stop: &Hash32,
-) -> Result<Vec<u8>, NoMemory> {
-    let mut payload = Vec::new(alloc);
-    payload.push(BASIC)?;
-    payload.extend_from_slice(&stop.0)?;
-    put_compact(&mut payload, u64::from(stop_height / 1000))?;
-    for i in 0..stop_height / 1000 {
-        payload.extend_from_slice(&header_before(filters, 1000 * (i + 1) + 1).0)?;
+    stop: Hash32,
+) -> Result<Msg, NoMemory>
+    requires { stop_height ≤ max_height }
+    ensures { IfOk result IsOther }
+{
+    Ok(Msg::Cfcheckpt {
+        filter: BASIC,
+        stop,
+        headers: checkpoints(alloc, filters, stop_height / 1000)?,
+    })
+}
+
+// The message of these filters that stands in place of a reply about filters, if there is one.
+fn other_message(
+    alloc: Global,
+    index: &Index,
+    filters: &[Filtered],
+    reply: Reply,
+) -> Result<Option<Msg>, NoMemory>
+    requires { IsReplyOf index.now reply }
+    ensures { IfOk result (λ message. IfSome message (λ m. IsOther m × ((seen : Bool) → is_filtering (message_of (machine seen) index.now reply) ≡ true))) }
+{
+    let _tip = index.tip();
+    match reply {
+        Reply::CfilterAt(height) => match filters.get(height as usize) {
+            Some(filter) => Ok(Some(cfilter(alloc, filter)?)),
+            None => Ok(None),
+        },
+        Reply::CfheadersOf {
+            start,
+            stop_height,
+            stop,
+        } => Ok(Some(cfheaders(alloc, filters, start, stop_height, stop)?)),
+        Reply::CfcheckptOf { stop_height, stop } => {
+            Ok(Some(cfcheckpt(alloc, filters, stop_height, stop)?))
+        }
+        Reply::OwnVersion
+        | Reply::OwnVerack
+        | Reply::PongOf(_)
+        | Reply::HeadersOf { .. }
+        | Reply::BlockAt(_) => Ok(None),
     }
-    frame_bytes(alloc, b"cfcheckpt\0\0\0", &payload)
 }
 
 // The frame of a reply, with these filters in place of the chain's.
@@ -195,29 +275,15 @@ fn omitted_frame(
     alloc: Global,
     index: &Index,
     filters: &[Filtered],
-    served: &Served,
+    seen: bool,
     reply: Reply,
 ) -> Result<Vec<u8>, NoMemory>
     requires { IsReplyOf index.now reply }
+    ensures { IfOk result (λ bytes. IsFrameAlike (message_of (machine seen) index.now reply) bytes.items) }
 {
-    match reply {
-        Reply::CfilterAt(height) => match filters.get(height as usize) {
-            Some(filter) => cfilter_bytes(alloc, filter),
-            None => Ok(Vec::new(alloc)),
-        },
-        Reply::CfheadersOf {
-            start,
-            stop_height,
-            stop,
-        } => cfheaders_bytes(alloc, filters, start, stop_height, &stop),
-        Reply::CfcheckptOf { stop_height, stop } => {
-            cfcheckpt_bytes(alloc, filters, stop_height, &stop)
-        }
-        Reply::OwnVersion
-        | Reply::OwnVerack
-        | Reply::PongOf(_)
-        | Reply::HeadersOf { .. }
-        | Reply::BlockAt(_) => write_reply(alloc, index, served, reply),
+    match other_message(alloc, index, filters, reply)? {
+        Some(message) => message_frame(alloc, &message),
+        None => own_frame(alloc, index, seen, reply),
     }
 }
 
@@ -226,15 +292,16 @@ pub(crate) fn omitted_text(
     alloc: Global,
     index: &Index,
     filters: &[Filtered],
-    served: &Served,
+    seen: bool,
     replies: &[Reply],
 ) -> Result<Vec<u8>, NoMemory>
     requires { AreRepliesOf index.now replies.now }
+    ensures { IfOk result (λ text. AreFramesAlike (messages_of (machine seen) index.now replies.now) text.items) }
 {
     let mut text = Vec::new(alloc);
     for reply in replies {
-        let frame = omitted_frame(alloc, index, filters, served, *reply)?;
-        text.extend_from_slice(&frame)?;
+        let frame = omitted_frame(alloc, index, filters, seen, *reply)?;
+        put_frame(&mut text, frame)?;
     }
     Ok(text)
 }

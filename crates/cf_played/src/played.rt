@@ -48,7 +48,7 @@ pub struct Played {
     ghost few: { vec_len players ≤ 8 },
     ghost turn: { last_served (reverse log.items) ≡ from },
     ghost room: { vec_len log + count_by not closed ≤ vec_capacity log },
-    ghost accounts: { AreAccounted (reverse log.items) players.items },
+    ghost accounts: { ∥ AreAccounted (reverse log.items) players.items ∥₁ },
     ghost stays: { list_all is_staying (reverse log.items) ≡ true },
 }
 
@@ -158,7 +158,7 @@ impl Played {
     ghost use Rattle.cf_chain.specs.Good.{IsGoodChain};
     ghost use Rattle.cf_played.specs.Peers.{Peer, made_of, still};
     ghost use Rattle.cf_played.specs.Told.{HasAdded, IfRefused, log_of, told_of, keeps_of, finished_of, peers_of};
-    ghost use Rattle.cf_played.specs.Answers.{came, told_to, answered_to, is_plain, HasBegun, HasAnswered};
+    ghost use Rattle.cf_played.specs.Answers.{came, told_to, answered_to, is_plain, HasBegun, HasAnswered, HasBegunAlike};
 
     /// No peers.
     pub fn new(alloc: Global) -> Result<Played, NoMemory>
@@ -212,11 +212,13 @@ impl Played {
 
     /// Of a peer whose filters are its chain's, the bytes that were delivered and those that wait are exactly the frames of its answers to the messages
     /// that the sends to it spell: of an honest one the machine's replies. At every earlier moment those that were delivered were a beginning of them, and
-    /// whenever seconds passed they were all. No dial and no send fails, and nobody goes.
+    /// whenever seconds passed they were all. Of any peer, at every moment those that were delivered were a beginning of the frames of messages that are like
+    /// the machine's replies, one by one: the same, or both of them tell of filters. No dial and no send fails, and nobody goes.
     pub fn accounts(&self)
         ensures now { (i : ℕ) (peer : Peer) → slice_get (peers_of self.now) i ≡ Some peer → is_plain peer.way ≡ true → came (log_of self.now) (suc i) ++ peer.waiting ≡ answered_to peer.way peer.blocks (told_to (log_of self.now) (suc i)) }
         ensures past { (i k : ℕ) (peer : Peer) → slice_get (peers_of self.now) i ≡ Some peer → is_plain peer.way ≡ true → HasBegun peer.way peer.blocks (drop k (log_of self.now)) (suc i) }
         ensures ticks { (i k s : ℕ) (older : Log) (peer : Peer) → slice_get (peers_of self.now) i ≡ Some peer → is_plain peer.way ≡ true → drop k (log_of self.now) ≡ Took (Tick s) ∷ older → HasAnswered peer.way peer.blocks older (suc i) }
+        ensures alike { ∥ ((i k : ℕ) (peer : Peer) → slice_get (peers_of self.now) i ≡ Some peer → HasBegunAlike peer.way peer.blocks (drop k (log_of self.now)) (suc i)) ∥₁ }
         ensures stays { list_all is_staying (log_of self.now) ≡ true }
     {}
 

@@ -1,15 +1,15 @@
 //! One peer in memory.
-ghost use Rattle.std.specs.Prelude.{◌≡◌, ◌++◌, ◌∷◌, true, Some, OnOk, OnErr, IfOk, [], if◌then◌else◌};
-ghost use Rattle.cf_chain.specs.Serve.{is_version as version_is};
-ghost use Rattle.cf_frame.specs.Frame.{spelling};
-ghost use Rattle.cf_msg.specs.Message.{frame_of};
+ghost use Rattle.std.specs.Prelude.{◌≡◌, ◌∷◌, pos, true, Some, OnOk, OnErr, IfOk, [], if◌then◌else◌};
+ghost use Rattle.cf_chain.specs.Serve.{is_version as version_is, replies_to};
 ghost use Rattle.cf_peer.specs.Trail.{spelled};
 ghost use Rattle.cf_played.specs.Answers.{is_answered as is_heard, frames_from, heard_of, is_plain};
+ghost use Rattle.cf_played.specs.Frames.{AreFramesAlike, machine};
 ghost use Rattle.cf_played.specs.Players.{IsAnswered};
-ghost use Rattle.cf_server.specs.Replies.{AreRepliesOf, IsReplyOf, message_of, messages_of};
+ghost use Rattle.cf_server.specs.Replies.{AreRepliesOf, messages_of};
 ghost use Rattle.cf_server.specs.Serving.{text_of};
 
 use crate::filtered::Filtered;
+use crate::frames::{own_frame, put_frame};
 use crate::hearing::message_sent;
 use crate::kind::Way;
 use crate::omitting::omitted_text;
@@ -17,7 +17,7 @@ use crate::waiting::Waiting;
 use cf_bytes::{Listed, NoMemory};
 use cf_index::Index;
 use cf_msg::Msg;
-use cf_server::{Replies, Reply, Served, answer, write_reply};
+use cf_server::{Replies, Reply, Served, answer};
 use std::alloc::Global;
 
 // A peer: its chain, how it answers, its own filters where it makes them otherwise, whether a version has come, and the bytes that wait to be delivered.
@@ -30,35 +30,21 @@ pub(crate) struct Player {
     pub(crate) waiting: Waiting,
 }
 
-// Puts the frame of a reply at the end.
-fn put_reply(
-    alloc: Global,
-    index: &Index,
-    served: &Served,
-    reply: Reply,
-    text: &mut Vec<u8>,
-) -> Result<(), NoMemory>
-    requires { IsReplyOf index.now reply }
-    ensures { OnOk result (text.new.items ≡ text.old.items ++ spelling (frame_of (message_of served.now index.now reply))) }
-{
-    let frame = write_reply(alloc, index, served, reply)?;
-    text.extend_from_slice(&frame)?;
-    Ok(())
-}
-
 // The frames of replies, one after another.
 fn plain_text(
     alloc: Global,
     index: &Index,
-    served: &Served,
+    seen: bool,
     replies: &[Reply],
 ) -> Result<Vec<u8>, NoMemory>
     requires { AreRepliesOf index.now replies.now }
-    ensures { IfOk result (λ text. text.items ≡ text_of (messages_of served.now index.now replies.now)) }
+    ensures exact { IfOk result (λ text. text.items ≡ text_of (messages_of (machine seen) index.now replies.now)) }
+    ensures alike { IfOk result (λ text. AreFramesAlike (messages_of (machine seen) index.now replies.now) text.items) }
 {
     let mut text = Vec::new(alloc);
     for reply in replies {
-        put_reply(alloc, index, served, *reply, &mut text)?;
+        let frame = own_frame(alloc, index, seen, *reply)?;
+        put_frame(&mut text, frame)?;
     }
     Ok(text)
 }
@@ -87,27 +73,27 @@ impl Player {
         }
     }
 
-    // The frames of the machine's replies to a message.
+    // The frames of its answers to a message: of a plain one the machine's replies, and of any one messages that are like them.
     fn answer_text(&self, alloc: Global, msg: &Msg) -> Result<Vec<u8>, NoMemory>
-        ensures { IfOk result (λ text. is_plain self.now.way ≡ true → text.items ≡ frames_from self.now.seen self.now.index (msg.now ∷ [])) }
+        ensures plain { IfOk result (λ text. is_plain self.now.way ≡ true → text.items ≡ frames_from self.now.seen self.now.index (msg.now ∷ [])) }
+        ensures alike { IfOk result (λ text. AreFramesAlike (replies_to (pos 0) 0 self.now.index self.now.seen msg.now) text.items) }
     {
         let mut served = Served {
             time: 0,
             nonce: 0,
             seen: self.seen,
         };
-        let told = served;
         let mut replies = Replies::new(alloc);
         answer(&self.index, &mut served, msg, &mut replies)?;
         match self.way {
             Way::Honest | Way::Silent => {
-                plain_text(alloc, &self.index, &told, replies.as_slice())
+                plain_text(alloc, &self.index, self.seen, replies.as_slice())
             }
             Way::Omits => omitted_text(
                 alloc,
                 &self.index,
                 self.filters.as_slice(),
-                &told,
+                self.seen,
                 replies.as_slice(),
             ),
         }

@@ -47,7 +47,7 @@ invariant_of-self-2-clause-accounts c =
     let new : List Player = c.give_at.new.players in
     let gives : Gives old c.in-Some.place g.given.piece new = subst (λ (ps : List Player). Gives ps c.in-Some.place g.given.piece new) c.deref_mut.ensures.value g.ensures.gives in
     let is = written c.args.self.now.players.len new old (c.give_at.ensures.len ∙ c.deref_mut.ensures.len) in
-    subst (λ (ps : List Player). AreAccounted (reverse c.note-2.new.log.items) ps) (sym is)
+    subst (λ (ps : List Player). ∥ AreAccounted (reverse c.note-2.new.log.items) ps ∥₁) (sym is)
     (given_so c.note-2.new.log.items c.reserve.new.self.items (record { 0 = c.in-Some.place + 1 }) g.given.piece c.in-Some.place old new
     (c.note-2.ensures.items ∙ ap (λ (s : List ℕ). c.reserve.new.self.items ++ Took (Got (record { 0 = c.in-Some.place + 1 }) s) ∷ []) g.ensures.kept)
     gives (omega arith)

@@ -17,7 +17,7 @@ invariant_of-self-2-clause-accounts c =
     let new : List Player = c.hear_at.new.players in
     let heard : HearsAt old c.args.p.0 (spelled c.args.bytes.now) new = subst (λ (ps : List Player). HearsAt ps c.args.p.0 (spelled c.args.bytes.now) new) c.deref_mut.ensures.value c.in_ok-hear_at.ensures.ok in
     let is = written c.args.self.now.players.len new old (c.hear_at.ensures.len ∙ c.deref_mut.ensures.len) in
-    subst (λ (ps : List Player). AreAccounted (reverse c.note.new.log.items) ps) (sym is)
+    subst (λ (ps : List Player). ∥ AreAccounted (reverse c.note.new.log.items) ps ∥₁) (sym is)
     (sent_so c.note.new.log.items c.reserve.new.self.items c.args.p c.args.bytes.now old new (c.note.ensures.items ∙ ap (λ (s : List ℕ). c.reserve.new.self.items ++ Sent c.args.p s ∷ []) c.in_ok-piece.ensures) heard
     (kept_so c.reserve.new.self.items c.args.self.now.log.items old c.reserve.ensures.items c.args.self.now.accounts))
 
