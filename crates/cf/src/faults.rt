@@ -49,7 +49,7 @@ fn tell_file(rt: &HostRuntime, command: &Command) -> io::Result<bool> {
             tell_reason(rt, file.as_str())
         }
         Command::Serve { file, .. } => tell_reason(rt, file.as_str()),
-        Command::Address { .. } | Command::Make { .. } => Ok(false),
+        Command::Address { .. } | Command::Make { .. } | Command::Demo { .. } => Ok(false),
     }
 }
 

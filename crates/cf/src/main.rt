@@ -10,6 +10,7 @@ use crate::listener::Listener;
 use cf_bytes::{StdFiles, WriterSink, put_all};
 use cf_cli::{Status, own_text, run};
 use cf_peer::MemoryWires;
+use cf_played::Played;
 use cf_tasks::{InThreads, Spawner};
 use std::io;
 use std::process::ExitCode;
@@ -41,6 +42,9 @@ fn run_command<R: Wait + Threads + Sync + Copy + Drop + Send + 'static, K: Spawn
     let (Ok(mut wires), Ok(mut tape)) = (MemoryWires::new(alloc), MemoryWires::new(alloc)) else {
         return told(rt, words, Status::NoMemory, &None);
     };
+    let Ok(mut played) = Played::new(alloc) else {
+        return told(rt, words, Status::NoMemory, &None);
+    };
     let mut files = StdFiles::new(rt);
     let status = run(
         handle,
@@ -51,6 +55,7 @@ fn run_command<R: Wait + Threads + Sync + Copy + Drop + Send + 'static, K: Spawn
         &mut files,
         &mut wires,
         &mut tape,
+        &mut played,
         &mut Listener::new(*rt),
         spawner,
         &mut WriterSink::new(io::writer(rt)),

@@ -76,6 +76,7 @@ fn told(alloc: Global, command: &Command) -> Option<String> {
         Command::Make { seed, blocks, file } => {
             format!(in alloc; "make {seed} {blocks} {}", file.as_str()).ok()
         }
+        Command::Demo { seed, blocks } => format!(in alloc; "demo {seed} {blocks}").ok(),
     }
 }
 

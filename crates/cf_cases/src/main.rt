@@ -7,6 +7,7 @@ mod blocks;
 mod chains;
 mod claims;
 mod conversations;
+mod demos;
 mod fields;
 mod files;
 mod filters;
@@ -40,6 +41,7 @@ fn answer<R: Wait + Threads + Sync + Copy + Drop + Send + 'static>(
         "chain" => chains::answer(alloc, rest),
         "claims" => claims::answer(alloc, rest),
         "compact" => hashes::compact(alloc, rest),
+        "demo" => demos::demo(rt, alloc, rest),
         "fields" => hashes::fields(alloc, rest),
         "filter" => filters::answer(alloc, rest),
         "golomb" => filters::golomb(alloc, rest),
@@ -55,6 +57,7 @@ fn answer<R: Wait + Threads + Sync + Copy + Drop + Send + 'static>(
         "played" => players::answer(&rt, alloc, rest),
         "proof" => proofs::answer(alloc, rest),
         "prove" => proofs::made(alloc, rest),
+        "recorded" => demos::recorded(rt, alloc, rest),
         "run" => runs::answer(rt, alloc, rest),
         "serve" => conversations::answer(&rt, alloc, rest),
         "serving" => servings::answer(rt, alloc, rest),

@@ -8,6 +8,7 @@ use cf_bytes::{FileFail, Files, MapFiles, VecSink};
 use cf_cli::{Status, run};
 use cf_input::read_session;
 use cf_peer::MemoryWires;
+use cf_played::Played;
 use std::alloc::Global;
 use std::sync::Wait;
 use std::thread::Threads;
@@ -90,6 +91,7 @@ fn answered<R: Wait + Threads + Sync + Copy + Drop + Send + 'static>(
     let mut files = files;
     let mut wires = wires;
     let mut tape = MemoryWires::new(alloc).ok()?;
+    let mut played = Played::new(alloc).ok()?;
     let mut link = no_link(alloc)?;
     let mut spawner = in_threads(rt);
     let mut out = VecSink::new(alloc, 7, room).ok()?;
@@ -102,6 +104,7 @@ fn answered<R: Wait + Threads + Sync + Copy + Drop + Send + 'static>(
         &mut files,
         &mut wires,
         &mut tape,
+        &mut played,
         &mut link,
         &mut spawner,
         &mut out,
@@ -146,6 +149,19 @@ fn called<R: Wait + Threads + Sync + Copy + Drop + Send + 'static>(
     let session = file_in(alloc, session)?;
     let files = files_of(alloc, watch, &session, blocks)?;
     answered_over(rt, alloc, limits, &words, files, &session)
+}
+
+/// How `replay` of a session ends, and what it writes, with the watch file of a field.
+pub(crate) fn replayed<R: Wait + Threads + Sync + Copy + Drop + Send + 'static>(
+    rt: R,
+    alloc: Global,
+    watch: &str,
+    session: &str,
+) -> Option<String> {
+    let words = texts_in(alloc, "cf replay w s", ' ')?;
+    let files = files_of(alloc, watch, session, "-")?;
+    let wires = MemoryWires::new(alloc).ok()?;
+    answered(rt, alloc, &words, files, wires, 5000)
 }
 
 /// How the call of a row ends, and what it writes.

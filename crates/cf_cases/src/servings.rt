@@ -10,6 +10,7 @@ use cf_bytes::{Files, MapFiles, VecSink};
 use cf_cli::run;
 use cf_conn::{MemoryConn, MemoryEnd};
 use cf_peer::MemoryWires;
+use cf_played::Played;
 use cf_serve::ListLink;
 use cf_tasks::{Choice, Spawner};
 use std::alloc::Global;
@@ -133,6 +134,7 @@ fn served<R: Wait + Threads + Sync + Copy + Drop + Send + 'static>(
     let mut link = link;
     let mut spawner = spawner;
     let mut tape = MemoryWires::new(alloc).ok()?;
+    let mut played = Played::new(alloc).ok()?;
     let mut out = VecSink::new(alloc, 7, 0).ok()?;
     let status = run(
         rt,
@@ -143,6 +145,7 @@ fn served<R: Wait + Threads + Sync + Copy + Drop + Send + 'static>(
         &mut files,
         &mut wires,
         &mut tape,
+        &mut played,
         &mut link,
         &mut spawner,
         &mut out,

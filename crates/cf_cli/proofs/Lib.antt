@@ -5,3 +5,4 @@ pub mod FilterTexts
 pub mod ProofTexts
 pub mod Retold
 pub mod Serves
+pub mod Demos

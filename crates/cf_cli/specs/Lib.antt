@@ -7,3 +7,4 @@ pub mod Texts
 pub mod Theorem
 pub mod Proving
 pub mod Serving
+pub mod Demo

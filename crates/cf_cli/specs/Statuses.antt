@@ -17,7 +17,7 @@ use Rattle.cf_cli.specs.declared.status.Which.{Which}
 use Rattle.cf_cli.specs.declared.status.Which.TheVariants.{Watch, Session, Blocks, Proof}
 use Rattle.cf_input.specs.declared.watch_file.WatchFileFault.{WatchFileFault}
 use Rattle.cf_input.specs.declared.words.Command.{Command}
-use Rattle.cf_input.specs.declared.words.Command.TheVariants.{Replay, Sync, Scan, Filter, Address, Prove, Check, Serve, Make}
+use Rattle.cf_input.specs.declared.words.Command.TheVariants.{Replay, Sync, Scan, Filter, Address, Prove, Check, Serve, Make, Demo}
 use Rattle.cf_input.specs.ProofFile.{proof_file_of}
 use Rattle.cf_input.specs.declared.proof_file.ProofFileFault.{ProofFileFault}
 use Rattle.cf_input.specs.declared.proof_file.Proven.{Proven}
@@ -111,6 +111,7 @@ verdict_of files (Prove file txid) = blocks_verdict (finite.get files file)
 verdict_of files (Check file) = proof_verdict (finite.get files file)
 verdict_of files (Serve count file address) = blocks_verdict (finite.get files file)
 verdict_of files (Make seed blocks file) = no_file
+verdict_of files (Demo seed blocks) = no_file
 
 -- a file that is missing or refused is answered so, and no other is; a read may fail, and memory may be wanting
 abbrev pub IsJudged : Verdict → Status → Type 0

@@ -2,6 +2,7 @@
 #![tactic(auto)]
 
 mod addressing;
+mod demoing;
 mod following;
 mod laws;
 mod loading;
@@ -15,6 +16,7 @@ mod serving;
 mod status;
 mod texts;
 
+pub use demoing::{demo_text, session};
 pub use laws::laws_of_records;
 pub use loading::{MOST_BLOCKS, MOST_PROOF, MOST_SESSION, MOST_WATCH};
 pub use own_texts::own_text;

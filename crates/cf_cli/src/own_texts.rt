@@ -27,6 +27,7 @@ usage: cf scan FILE WATCH
        cf prove FILE TXID
        cf check FILE
        cf make SEED BLOCKS FILE
+       cf demo SEED BLOCKS
        cf --help
        cf --version
 
@@ -45,6 +46,8 @@ usage: cf scan FILE WATCH
            and the transaction; it cannot tell whether the block is in a chain
   make     writes the blocks of a made chain to FILE, from height 1 to BLOCKS,
            1 to 100000; SEED, 0 to 4294967295, says which chain
+  demo     runs the client on three peers that are played, of which one is
+           honest and serves a made chain of BLOCKS, 1 to 99998, blocks
 
   --trace    prints first what was sent to peer P, as `> P COMMAND`, and which
              peer was closed, as `x P CAUSE`

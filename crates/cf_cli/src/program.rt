@@ -8,6 +8,7 @@ ghost use Rattle.cf_client.specs.Run.{HasFailed};
 ghost use Rattle.cf_client.specs.Versions.{HasWords, IsOfWords};
 ghost use Rattle.cf_peer.specs.Log.{Tells, is_real};
 ghost use Rattle.cf_peer.specs.Memory.{log_of, failing_of, finished_of, told_of};
+ghost use Rattle.cf_played.specs.Told.{log_of as played_log, peers_of, finished_of as has_finished};
 ghost use Rattle.cf_input.specs.SessionFile.{session_of};
 ghost use Rattle.cf_input.specs.Sessions.{script_in, AreNamed};
 ghost use Rattle.cf_cli.specs.Recording.{Records, may_write};
@@ -17,13 +18,15 @@ ghost use Rattle.cf_serve.specs.Links.{link_now};
 ghost use Rattle.cf_cli.specs.Proving.{IsProved, IsChecked};
 ghost use Rattle.cf_cli.specs.Serving.{IsServing, may_serve};
 ghost use Rattle.cf_cli.specs.Making.{IsMaking};
+ghost use Rattle.cf_cli.specs.Demo.{IsDemoed, may_show};
 ghost use Rattle.cf_cli.specs.Reading.{IsScanned, IsFiltered, IsAddressed};
 ghost use Rattle.cf_cli.specs.Theorem.{KeptOver, IsReplayed, Tallied, PlaysSession};
 ghost use Rattle.cf_input.specs.Words.{command_of, HasFewPeers};
 ghost use Rattle.cf_input.specs.declared.words.Command.{Command};
-ghost use Rattle.cf_input.specs.declared.words.Command.TheVariants.{Replay, Sync, Scan, Filter, Address, Prove, Check, Serve, Make};
+ghost use Rattle.cf_input.specs.declared.words.Command.TheVariants.{Replay, Sync, Scan, Filter, Address, Prove, Check, Serve, Make, Demo};
 
 use crate::addressing::address;
+use crate::demoing::demo;
 use crate::following::follow;
 use crate::loading::{load_session, load_watch};
 use crate::making::make;
@@ -37,6 +40,7 @@ use cf_input::{Command, MOST_TURNS, Word, read_words};
 use cf_match::Plain;
 use cf_parallel::Parallel;
 use cf_peer::{MemoryWires, Wires};
+use cf_played::Played;
 use cf_serve::Link;
 use cf_tasks::Spawner;
 use std::alloc::Global;
@@ -164,6 +168,7 @@ fn perform<
     files: &mut F,
     wires: &mut W,
     tape: &mut MemoryWires,
+    played: &mut Played,
     link: &mut L,
     spawner: &mut K,
     out: &mut O,
@@ -176,6 +181,9 @@ where
     requires log { log_of tape.old ≡ [] }
     requires failing { failing_of tape.old ≡ [] }
     requires open { finished_of tape.old ≡ false }
+    requires fresh { played_log played.old ≡ [] }
+    requires none { peers_of played.old ≡ [] }
+    requires unended { has_finished played.old ≡ false }
     requires few { HasFewPeers command }
     ensures judged { IfSome (F.files files.old) (λ m. IsJudged (verdict_of m command) result) }
     ensures sync { (turns workers : ℕ) (file : Option (List ℕ)) (watch : List ℕ) (peers : List (List ℕ)) → command ≡ Sync turns workers file watch peers → IfSome (W.told wires.new).log (λ log. KeptOver result (is_some file) false (F.files files.old) watch peers (O.written out.old) (O.written out.new) log) × Tallied result turns (length peers) (W.told wires.old) (W.told wires.new) }
@@ -190,6 +198,7 @@ where
     ensures check { (file : List ℕ) → command ≡ Check file → IsChecked result (F.files files.old) file (O.written out.old) (O.written out.new) }
     ensures serve { (count : ℕ) (file address : List ℕ) → command ≡ Serve count file address → IsServing result moment nonce (F.files files.old) file address count (link_now L.addresses L.accepted L.owed L.conns L.given link.old) (link_now L.addresses L.accepted L.owed L.conns L.given link.new) × (O.written out.new ≡ O.written out.old) }
     ensures make { (seed blocks : ℕ) (file : List ℕ) → command ≡ Make seed blocks file → IsMaking result seed blocks file (F.files files.old) (F.files files.new) × (O.written out.new ≡ O.written out.old) }
+    ensures demo { (seed blocks : ℕ) → command ≡ Demo seed blocks → IsDemoed result seed blocks (O.written out.old) (O.written out.new) (played_log played.new) }
     ensures records { (turns workers : ℕ) (file : Option (List ℕ)) (watch : List ℕ) (peers : List (List ℕ)) → command ≡ Sync turns workers file watch peers → Records result file (W.told wires.new).log (F.files files.old) (F.files files.new) }
     ensures unchanged { may_write (Some command) ≡ false → F.files files.new ≡ F.files files.old }
     ensures file_fault { result ≡ Status.FileFault → HasRisen (F.faults files.old) (F.faults files.new) }
@@ -199,6 +208,7 @@ where
     ensures undialled { may_dial (Some command) result ≡ false → W.told wires.new ≡ W.told wires.old }
     ensures unplayed { may_play (Some command) result ≡ false → told_of tape.new ≡ told_of tape.old }
     ensures unserved { may_serve (Some command) result ≡ false → link.new ≡ link.old }
+    ensures unshown { may_show (Some command) ≡ false → played.new ≡ played.old }
     ensures link_fault { result ≡ Status.LinkFault → HasRisen (L.faults link.old) (L.faults link.new) }
     ensures asked { result ≢ Status.Usage }
 {
@@ -261,19 +271,20 @@ where
             spawner,
         ),
         Command::Make { seed, blocks, file } => make(alloc, files, seed, blocks, file.as_str()),
+        Command::Demo { seed, blocks } => demo(rt, alloc, seed, blocks, spawner, played, out),
     }
 }
 
 /// All that the program does. The first word is the program's name; `moment` is the time in seconds since 1970 and `nonce` a random number, which
-/// the client's `version` tells. `sync` goes over `wires`, and `replay` over `tape`; both are new, nothing has passed them, they aren't finished, and
-/// no call of `tape` is to fail. `serve` goes over `link`, and starts its connections by `spawner`, and so does `sync` the threads that judge filters. The
-/// text goes to `out`.
+/// the client's `version` tells. `sync` goes over `wires`, `replay` over `tape`, and `demo` over the peers that it adds to `played`; all three are new,
+/// nothing has passed them, they aren't finished, no call of `tape` is to fail, and `played` has no peers. `serve` goes over `link`, and starts its
+/// connections by `spawner`, and so do `sync` and `demo` the threads that judge filters. The text goes to `out`.
 ///
 /// `NoMemory` may come in place of any other answer. `Usage` comes where the words ask for nothing. The watch file is judged first, then the session
 /// file: what is missing, refused or good is answered so. After that the run is made; a record of it, where `sync` is asked for one, is put into its
 /// file; and its text is written. With `NoMemory`, `Usage`, `BadFile` and `FileFault` no text was written. With the last three no wires were used, but
-/// for a `FileFault` that comes where the record can't be written; `sync` alone uses `wires`, `replay` alone `tape`, `serve` alone `link`. `make` puts
-/// its records into its file; of the other commands only `sync` with a record changes a file.
+/// for a `FileFault` that comes where the record can't be written; `sync` alone uses `wires`, `replay` alone `tape`, `demo` alone `played`, `serve` alone
+/// `link`. `make` puts its records into its file; of the other commands only `sync` with a record changes a file.
 pub fn run<
     R: Wait + Threads + Sync + Copy + Drop + Send + 'static,
     F: Files,
@@ -290,6 +301,7 @@ pub fn run<
     files: &mut F,
     wires: &mut W,
     tape: &mut MemoryWires,
+    played: &mut Played,
     link: &mut L,
     spawner: &mut K,
     out: &mut O,
@@ -302,6 +314,9 @@ where
     requires log { log_of tape.old ≡ [] }
     requires failing { failing_of tape.old ≡ [] }
     requires open { finished_of tape.old ≡ false }
+    requires fresh { played_log played.old ≡ [] }
+    requires none { peers_of played.old ≡ [] }
+    requires unended { has_finished played.old ≡ false }
     ensures usage { result ≡ Status.Usage → command_of (names_in words.now) ≡ None }
     ensures unasked { command_of (names_in words.now) ≡ None → (result ≡ Status.Usage) ⊎ (result ≡ Status.NoMemory) }
     ensures judged { IfSome (F.files files.old) (λ m. (c : Command) → command_of (names_in words.now) ≡ Some c → IsJudged (verdict_of m c) result) }
@@ -317,6 +332,7 @@ where
     ensures check { (file : List ℕ) → command_of (names_in words.now) ≡ Some (Check file) → IsChecked result (F.files files.old) file (O.written out.old) (O.written out.new) }
     ensures serve { (count : ℕ) (file address : List ℕ) → command_of (names_in words.now) ≡ Some (Serve count file address) → IsServing result moment nonce (F.files files.old) file address count (link_now L.addresses L.accepted L.owed L.conns L.given link.old) (link_now L.addresses L.accepted L.owed L.conns L.given link.new) × (O.written out.new ≡ O.written out.old) }
     ensures make { (seed blocks : ℕ) (file : List ℕ) → command_of (names_in words.now) ≡ Some (Make seed blocks file) → IsMaking result seed blocks file (F.files files.old) (F.files files.new) × (O.written out.new ≡ O.written out.old) }
+    ensures demo { (seed blocks : ℕ) → command_of (names_in words.now) ≡ Some (Demo seed blocks) → IsDemoed result seed blocks (O.written out.old) (O.written out.new) (played_log played.new) }
     ensures records { (turns workers : ℕ) (file : Option (List ℕ)) (watch : List ℕ) (peers : List (List ℕ)) → command_of (names_in words.now) ≡ Some (Sync turns workers file watch peers) → Records result file (W.told wires.new).log (F.files files.old) (F.files files.new) }
     ensures unchanged { may_write (command_of (names_in words.now)) ≡ false → F.files files.new ≡ F.files files.old }
     ensures file_fault { result ≡ Status.FileFault → HasRisen (F.faults files.old) (F.faults files.new) }
@@ -326,11 +342,12 @@ where
     ensures undialled { may_dial (command_of (names_in words.now)) result ≡ false → W.told wires.new ≡ W.told wires.old }
     ensures unplayed { may_play (command_of (names_in words.now)) result ≡ false → told_of tape.new ≡ told_of tape.old }
     ensures unserved { may_serve (command_of (names_in words.now)) result ≡ false → link.new ≡ link.old }
+    ensures unshown { may_show (command_of (names_in words.now)) ≡ false → played.new ≡ played.old }
     ensures link_fault { result ≡ Status.LinkFault → HasRisen (L.faults link.old) (L.faults link.new) }
 {
     match read_words(alloc, words) {
         Ok(command) => perform(
-            rt, alloc, command, moment, nonce, files, wires, tape, link, spawner, out,
+            rt, alloc, command, moment, nonce, files, wires, tape, played, link, spawner, out,
         ),
         Err(Refused::No(_)) => Status::Usage,
         Err(Refused::NoMemory) => Status::NoMemory,

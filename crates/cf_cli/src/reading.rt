@@ -39,7 +39,8 @@ fn line_of(alloc: Global, name: &str, value: &str) -> Result<String, NoMemory>
     Ok(format!(in alloc; "{name} {value}\n")?)
 }
 
-fn hash_line(alloc: Global, name: &str, hash: &Hash32) -> Result<String, NoMemory>
+/// A line of a name and a hash, as people read it.
+pub(crate) fn hash_line(alloc: Global, name: &str, hash: &Hash32) -> Result<String, NoMemory>
     ensures { IfOk result (λ text. string_bytes text ≡ named_line name.now (shown hash.now.0)) }
 {
     let value = show(alloc, hash)?;

@@ -11,7 +11,7 @@ use Rattle.cf_input.specs.Number.{number_at_most, number_within}
 use Rattle.cf_input.specs.Name.{is_name}
 use Rattle.cf_input.specs.SessionFile.{max_dials}
 use Rattle.cf_input.specs.declared.words.Command.{Command}
-use Rattle.cf_input.specs.declared.words.Command.TheVariants.{Address, Check, Filter, Make, Prove, Replay, Scan, Serve, Sync}
+use Rattle.cf_input.specs.declared.words.Command.TheVariants.{Address, Check, Demo, Filter, Make, Prove, Replay, Scan, Serve, Sync}
 
 abbrev pub needed : Rule → Rule
 needed r = record r { required = true }
@@ -87,6 +87,10 @@ three_app name one two three = with_rule (two_app name one two) (needed (new_rul
 abbrev pub make_app : App
 make_app = three_app (codes "make") (codes "seed") (codes "blocks") (codes "file")
 
+-- demo SEED BLOCKS
+abbrev pub demo_app : App
+demo_app = two_app (codes "demo") (codes "seed") (codes "blocks")
+
 unfoldable pub with_sub : App → App → App
 with_sub a s = with_subcommand a s.top
 
@@ -94,10 +98,9 @@ with_sub a s = with_subcommand a s.top
 unfoldable pub client_app : App
 client_app = with_sub (with_sub (new_app (codes "cf")) sync_app) replay_app
 
--- the whole command line: those over a block file come after them, then that over an address, those over proofs, the server, and that which makes a block
--- file
+-- the whole command line: those over a block file come after them, then that over an address, those over proofs, the server, and those over a made chain
 unfoldable pub cli_app : App
-cli_app = with_sub (with_sub (with_sub (with_sub (with_sub (with_sub (with_sub client_app scan_app) filter_app) address_app) prove_app) check_app) serve_app) make_app
+cli_app = with_sub (with_sub (with_sub (with_sub (with_sub (with_sub (with_sub (with_sub client_app scan_app) filter_app) address_app) prove_app) check_app) serve_app) make_app) demo_app
 
 -- the subcommand that was met, and what was found for its arguments
 abbrev pub Met : Type 0
@@ -174,6 +177,14 @@ most_made = 100000
 abbrev pub made_of : Text → Option ℕ
 made_of text = number_within most_made text
 
+-- at most this many blocks are played
+abbrev pub most_played : ℕ
+most_played = 99998
+
+-- a number from 1 to the most
+abbrev pub played_of : Text → Option ℕ
+played_of text = number_within most_played text
+
 abbrev pub replay_of : Met → Option Command
 replay_of met =
     option_and_then (λ watch. option_and_then (λ session.
@@ -236,6 +247,12 @@ make_of met =
     Some (Make seed blocks file))
     (text_of (codes "file") met)) (option_and_then made_of (text_of (codes "blocks") met))) (option_and_then seed_of (text_of (codes "seed") met))
 
+abbrev pub demo_of : Met → Option Command
+demo_of met =
+    option_and_then (λ seed. option_and_then (λ blocks.
+    Some (Demo seed blocks))
+    (option_and_then played_of (text_of (codes "blocks") met))) (option_and_then seed_of (text_of (codes "seed") met))
+
 abbrev pub asked_of : Met → Option Command
 asked_of met =
     if is_met (codes "replay") met then replay_of met
@@ -247,6 +264,7 @@ asked_of met =
     else if is_met (codes "check") met then check_of met
     else if is_met (codes "serve") met then serve_of met
     else if is_met (codes "make") met then make_of met
+    else if is_met (codes "demo") met then demo_of met
     else None
 
 -- clap finds no fault in the words

@@ -20,6 +20,6 @@ pub use session::{MAX_DIALS, MOST_SECONDS, Session, SessionCause, SessionFault, 
 pub use text::{PeerNames, Word, is_name};
 pub use watch_file::{WatchCause, WatchFileFault, read_watch};
 pub use words::{
-    Command, MOST_CONNECTIONS, MOST_HEIGHT, MOST_MADE, MOST_SEED, MOST_TURNS, MOST_WORKERS,
-    USUAL_WORKERS, Usage, is_help, is_version, read_words,
+    Command, MOST_CONNECTIONS, MOST_HEIGHT, MOST_MADE, MOST_PLAYED, MOST_SEED, MOST_TURNS,
+    MOST_WORKERS, USUAL_WORKERS, Usage, is_help, is_version, read_words,
 };

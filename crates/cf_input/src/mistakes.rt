@@ -41,6 +41,14 @@ fn make_mistake(matches: &ArgMatches) -> &'static str {
     }
 }
 
+// What is out of its range in the words of `demo`.
+fn demo_mistake(matches: &ArgMatches) -> &'static str {
+    match text_of(matches, "seed").and_then(seed_of) {
+        None => "SEED is a number from 0 to 4294967295",
+        Some(_) => "BLOCKS is a number from 1 to 99998",
+    }
+}
+
 // What is out of its range in words that clap takes.
 fn range_mistake(matches: &ArgMatches) -> &'static str {
     if is_met(matches, "filter") {
@@ -53,6 +61,8 @@ fn range_mistake(matches: &ArgMatches) -> &'static str {
         sync_mistake(matches)
     } else if is_met(matches, "make") {
         make_mistake(matches)
+    } else if is_met(matches, "demo") {
+        demo_mistake(matches)
     } else {
         "there is no command"
     }

@@ -3,7 +3,7 @@ ghost use Rattle.std.specs.Prelude.{◌≡◌, ◌==◌, IfOk, IfErr, [], map, f
 ghost use Rattle.std.specs.List.{list_any};
 ghost use Rattle.clap.specs.Words.{app_of, rule_of, new_rule, subcommand_of, subcommand_rows_of, fault_of, with_rule};
 ghost use Rattle.clap.specs.declared.builder.command.Command.TheViews.{out-Command as fields_of};
-ghost use Rattle.cf_input.specs.Words.{trace, turns, workers, record_rule, several, needed, replay_app, sync_options, sync_app, connections, serve_app, one_app, two_app, three_app, with_sub, client_app, cli_app, text_of, texts_of, is_met, is_set, turns_of, workers_of, connections_of, height_of, seed_of, made_of, replay_of, sync_of, scan_of, filter_of, address_of, hash_in, prove_of, check_of, serve_of, make_of, HasFewPeers, asked_of, is_faultless, command_of, is_help_word, is_version_word};
+ghost use Rattle.cf_input.specs.Words.{trace, turns, workers, record_rule, several, needed, replay_app, sync_options, sync_app, connections, serve_app, one_app, two_app, three_app, with_sub, client_app, cli_app, text_of, texts_of, is_met, is_set, turns_of, workers_of, connections_of, height_of, seed_of, made_of, played_of, replay_of, sync_of, scan_of, filter_of, address_of, hash_in, prove_of, check_of, serve_of, make_of, demo_of, HasFewPeers, asked_of, is_faultless, command_of, is_help_word, is_version_word};
 ghost use Rattle.cf_input.specs.Commands.{GivesOrUsage, IfUsage, refusal_of};
 
 use crate::number::{number_at_most, number_within};
@@ -48,6 +48,9 @@ pub const MOST_SEED: u32 = 4_294_967_295;
 
 /// At most this many blocks are made.
 pub const MOST_MADE: u32 = 100_000;
+
+/// At most this many blocks are played.
+pub const MOST_PLAYED: u32 = 99_998;
 
 /// What the words ask for.
 #[derive(Drop)]
@@ -101,6 +104,11 @@ pub enum Command {
         seed: u32,
         blocks: u32,
         file: Word,
+    },
+    /// The client over played peers, of which one is honest and serves a made chain of so many blocks.
+    Demo {
+        seed: u32,
+        blocks: u32,
     },
 }
 
@@ -248,7 +256,7 @@ fn client_command<'a>(alloc: Global) -> Result<clap::Command<'a>, AllocError>
 }
 
 /// The whole command line: those over a block file come after them, then that over an address, those over proofs, the server, and
-/// that which makes a block file.
+/// those over a made chain.
 pub(crate) fn cli_command<'a>(alloc: Global) -> Result<clap::Command<'a>, AllocError>
     ensures { IfOk result (λ c. (app_of c ≡ cli_app) × ((fields_of c).has_globals ≡ false)) }
 {
@@ -259,10 +267,9 @@ pub(crate) fn cli_command<'a>(alloc: Global) -> Result<clap::Command<'a>, AllocE
     let command = with_one_more(command, two_words(alloc, "prove", "file", "txid")?)?;
     let command = with_one_more(command, one_word(alloc, "check", "file")?)?;
     let command = with_one_more(command, serve_command(alloc)?)?;
-    with_one_more(
-        command,
-        three_words(alloc, "make", "seed", "blocks", "file")?,
-    )
+    let made = three_words(alloc, "make", "seed", "blocks", "file")?;
+    let command = with_one_more(command, made)?;
+    with_one_more(command, two_words(alloc, "demo", "seed", "blocks")?)
 }
 
 // Clap refuses the words, or finds no memory.
@@ -375,6 +382,13 @@ pub(crate) fn made_of(text: &str) -> Option<u32>
     ensures { result ≡ made_of text.now }
 {
     number_within(text.as_bytes(), MOST_MADE)
+}
+
+/// How many blocks are played.
+pub(crate) fn played_of(text: &str) -> Option<u32>
+    ensures { result ≡ played_of text.now }
+{
+    number_within(text.as_bytes(), MOST_PLAYED)
 }
 
 fn read_replay(alloc: Global, matches: &ArgMatches) -> Result<Command, Refused<Usage>>
@@ -507,6 +521,16 @@ fn read_make(alloc: Global, matches: &ArgMatches) -> Result<Command, Refused<Usa
     Ok(Command::Make { seed, blocks, file })
 }
 
+fn read_demo(matches: &ArgMatches) -> Result<Command, Refused<Usage>>
+    ensures { GivesOrUsage (demo_of (subcommand_rows_of matches.now)) result }
+{
+    let seed = text_of(matches, "seed").ok_or(Usage)?;
+    let seed = seed_of(seed).ok_or(Usage)?;
+    let blocks = text_of(matches, "blocks").ok_or(Usage)?;
+    let blocks = played_of(blocks).ok_or(Usage)?;
+    Ok(Command::Demo { seed, blocks })
+}
+
 // What the subcommand that was met asks for.
 fn read_met(alloc: Global, matches: &ArgMatches) -> Result<Command, Refused<Usage>>
     ensures exact { GivesOrUsage (asked_of (subcommand_rows_of matches.now)) result }
@@ -538,6 +562,9 @@ fn read_met(alloc: Global, matches: &ArgMatches) -> Result<Command, Refused<Usag
     }
     if is_met(matches, "make") {
         return read_make(alloc, matches);
+    }
+    if is_met(matches, "demo") {
+        return read_demo(matches);
     }
     Err(Refused::No(Usage))
 }

@@ -3,10 +3,10 @@ ghost use Rattle.std.specs.Prelude.{◌≡◌, map, IfOk, IfSome};
 ghost use Rattle.cf_match.specs.Verdicts.{verdict_of};
 
 use crate::gate::Gate;
-use crate::same::{are_same_jobs, are_same_scripts};
+use crate::same::are_same_scripts;
 use crate::worker::{Judged, Part, Worker};
 use cf_bytes::NoMemory;
-use cf_match::{Job, Plain, Verdict};
+use cf_match::{Job, Verdict};
 use cf_scan::Watch;
 use cf_tasks::{Running, Spawner, joined};
 use crossbeam_channel::{Receiver, Sender, bounded};
@@ -55,7 +55,7 @@ pub(crate) fn start<
     let worker = Worker {
         rt,
         gate,
-        plain: Plain::new(alloc),
+        alloc,
         parts: theirs,
         answers: to,
     };
@@ -109,11 +109,11 @@ fn verdicts_of(
     ensures { IfSome result (λ r. IfOk r (λ v. v.items ≡ map (verdict_of watch.now) jobs.now)) }
 {
     let Judged {
-        jobs: these,
+        filters,
         watch: with,
         verdicts,
     } = judged;
-    if are_same_jobs(these.as_slice(), jobs) && are_same_scripts(with.scripts(), watch.scripts()) {
+    if filters.are(jobs) && are_same_scripts(with.scripts(), watch.scripts()) {
         Some(Ok(verdicts))
     } else {
         None

@@ -4,6 +4,7 @@
 mod gate;
 mod hand;
 mod laws;
+mod packed;
 mod parallel;
 mod parts;
 mod same;

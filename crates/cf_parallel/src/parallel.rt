@@ -18,8 +18,8 @@ use std::marker::Model;
 use std::sync::{Arc, Wait};
 use std::thread::Threads;
 
-/// A matcher that cuts each batch in so many parts, at most 64, and has them judged by threads that were started with it. A part
-/// for which there is no thread is judged by the caller's. Contracts see the number of parts. The threads end with it.
+/// A matcher that cuts each batch in so many parts, at most 64. The caller's thread judges the first, while threads that were started with the
+/// matcher judge the others; those for which there is none it judges afterwards. Contracts see the number of parts. The threads end with it.
 #[derive(Drop)]
 pub struct Parallel<G: Gate, R: Wait + Threads + Drop> {
     alloc: Global,
@@ -37,11 +37,11 @@ impl<G: Gate, R: Wait + Threads + Drop> Model for Parallel<G, R> {
 
     ghost view = { λ p. p.workers };
 
-    ghost invariant = { λ p. (0 < p.workers) × (p.workers ≤ 64) × (vec_len p.hands ≤ p.workers) };
+    ghost invariant = { λ p. (0 < p.workers) × (p.workers ≤ 64) × (vec_len p.hands < p.workers) };
 }
 
 impl<R: Wait + Threads + Copy + Drop + Send + 'static> Parallel<Open, R> {
-    /// A matcher over so many threads. There are fewer only where the spawner refuses a start.
+    /// A matcher over so many threads, the caller's among them. There are fewer only where the spawner refuses a start.
     pub fn new<K: Spawner>(
         rt: R,
         alloc: Global,
@@ -74,8 +74,8 @@ impl<G: Gate + Send + Sync + 'static, R: Wait + Threads + Copy + Drop + Send + '
     {
         let workers = workers as usize;
         let gate = Arc::new(alloc, gate)?;
-        let mut hands = Vec::with_capacity(alloc, workers)?;
-        for _ in 0..workers {
+        let mut hands = Vec::with_capacity(alloc, workers - 1)?;
+        for _ in 1..workers {
             if let Some(hand) = start(rt, alloc, spawner, &gate)? {
                 hands.push_reserved(hand);
             }
@@ -115,22 +115,36 @@ impl<G: Gate, R: Wait + Threads + Drop> Parallel<G, R> {
         Some(fresh)
     }
 
-    // Hands each part that isn't empty over, where there is a thread for it and memory.
+    // Hands each part but the first over, where it isn't empty, and where there is a thread for it and memory.
     fn hand_over(&mut self, jobs: &[Job], watch: &Watch)
         ensures { self.new ≡ self.old }
     {
         let Some(watch) = self.shared(watch) else {
             return;
         };
-        for k in 0..self.hands.len() {
-            let from = place(jobs.len(), self.workers, k);
-            let to = place(jobs.len(), self.workers, k + 1);
+        for h in 0..self.hands.len() {
+            let from = place(jobs.len(), self.workers, h + 1);
+            let to = place(jobs.len(), self.workers, h + 2);
             if from < to {
-                if let Ok(part) = Part::new(self.alloc, k as u32 + 1, &jobs[from..to], &watch) {
-                    self.hands[k].give(part);
+                if let Ok(part) = Part::new(self.alloc, h as u32 + 2, &jobs[from..to], &watch) {
+                    self.hands[h].give(part);
                 }
             }
         }
+    }
+
+    // The answer of the thread of a part; `None` where none is to come.
+    fn answer(
+        &mut self,
+        part: &[Job],
+        watch: &Watch,
+        k: usize,
+    ) -> Option<Result<Vec<Verdict>, NoMemory>>
+        ensures same { self.new ≡ self.old }
+        ensures verdicts { IfSome result (λ r. IfOk r (λ v. v.items ≡ map (verdict_of watch.now) part.now)) }
+    {
+        let hand = self.hands.get_mut(k.checked_sub(1)?)?;
+        hand.answer(part, watch)
     }
 
     // The verdicts on a part: those that come of its thread, or this thread's.
@@ -142,10 +156,8 @@ impl<G: Gate, R: Wait + Threads + Drop> Parallel<G, R> {
         let from = place(jobs.len(), self.workers, k);
         let to = place(jobs.len(), self.workers, k + 1);
         let part = &jobs[from..to];
-        if let Some(hand) = self.hands.get_mut(k) {
-            if let Some(answer) = hand.answer(part, watch) {
-                return answer;
-            }
+        if let Some(answer) = self.answer(part, watch, k) {
+            return answer;
         }
         if part.is_empty() {
             return Ok(Vec::new(self.alloc));

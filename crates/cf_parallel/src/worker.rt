@@ -4,8 +4,9 @@ ghost use Rattle.std.specs.Arc.{arc_value};
 ghost use Rattle.cf_match.specs.Verdicts.{verdict_of};
 
 use crate::gate::Gate;
-use cf_bytes::{Hash32, Listed, NoMemory};
-use cf_match::{Job, Matcher, Plain, Verdict};
+use crate::packed::Packed;
+use cf_bytes::NoMemory;
+use cf_match::{Job, Verdict};
 use cf_scan::Watch;
 use cf_tasks::Task;
 use crossbeam_channel::{Receiver, Sender};
@@ -18,7 +19,7 @@ pub struct Part {
     /// Its number, from 1.
     number: u32,
     /// The filters.
-    jobs: Vec<Job>,
+    filters: Packed,
     /// The scripts with which they are matched.
     watch: Arc<Watch, Global>,
 }
@@ -26,32 +27,10 @@ pub struct Part {
 /// Filters, the scripts with which they were matched, and the verdicts.
 #[derive(Drop)]
 pub struct Judged {
-    pub(crate) jobs: Vec<Job>,
+    pub(crate) filters: Packed,
     pub(crate) watch: Arc<Watch, Global>,
     pub(crate) verdicts: Vec<Verdict>,
-    pub(crate) ghost right: { verdicts.items ≡ map (verdict_of (arc_value watch)) jobs.items },
-}
-
-// A filter in memory of its own.
-fn copy(alloc: Global, job: &Job) -> Result<Job, NoMemory>
-    ensures { IfOk result (λ j. j ≡ job.now) }
-{
-    let filter = Listed::from_vec(Vec::from_slice(alloc, job.filter.as_slice())?);
-    Ok(Job {
-        block: job.block,
-        filter,
-    })
-}
-
-// The filters in memory of their own.
-fn copies(alloc: Global, jobs: &[Job]) -> Result<Vec<Job>, NoMemory>
-    ensures { IfOk result (λ v. v.items ≡ jobs.now) }
-{
-    let mut all = Vec::with_capacity(alloc, jobs.len())?;
-    for job in jobs {
-        all.push(copy(alloc, job)?)?;
-    }
-    Ok(all)
+    pub(crate) ghost right: { verdicts.items ≡ map (verdict_of (arc_value watch)) filters },
 }
 
 impl Part {
@@ -62,26 +41,26 @@ impl Part {
         jobs: &[Job],
         watch: &Arc<Watch, Global>,
     ) -> Result<Part, NoMemory>
-        ensures { IfOk result (λ p. (p.number ≡ number) × (p.jobs.items ≡ jobs.now) × (arc_value p.watch ≡ arc_value watch.now)) }
+        ensures { IfOk result (λ p. (p.number ≡ number) × (p.filters ≡ jobs.now) × (arc_value p.watch ≡ arc_value watch.now)) }
     {
-        let jobs = copies(alloc, jobs)?;
+        let filters = Packed::of(alloc, jobs)?;
         let watch = Arc::try_clone(watch)?;
         Ok(Part {
             number,
-            jobs,
+            filters,
             watch,
         })
     }
 }
 
 // The verdicts on a part.
-fn judge(plain: &mut Plain, part: Part) -> Result<Judged, NoMemory>
-    ensures { IfOk result (λ j. (j.jobs ≡ part.jobs) × (j.watch ≡ part.watch)) }
+fn judge(alloc: Global, part: Part) -> Result<Judged, NoMemory>
+    ensures { IfOk result (λ j. (j.filters ≡ part.filters) × (j.watch ≡ part.watch)) }
 {
-    let Part { jobs, watch, .. } = part;
-    let verdicts = plain.run(jobs.as_slice(), &watch)?;
+    let Part { filters, watch, .. } = part;
+    let verdicts = filters.judged(alloc, &watch)?;
     Ok(Judged {
-        jobs,
+        filters,
         watch,
         verdicts,
     })
@@ -92,7 +71,7 @@ fn judge(plain: &mut Plain, part: Part) -> Result<Judged, NoMemory>
 pub struct Worker<G, R> {
     pub(crate) rt: R,
     pub(crate) gate: Arc<G, Global>,
-    pub(crate) plain: Plain,
+    pub(crate) alloc: Global,
     pub(crate) parts: Receiver<Part, Global>,
     pub(crate) answers: Sender<Result<Judged, NoMemory>, Global>,
 }
@@ -106,7 +85,7 @@ impl<G: Gate, R: Wait + Drop> Task for Worker<G, R> {
         let Worker {
             rt,
             gate,
-            mut plain,
+            alloc,
             parts,
             answers,
         } = self;
@@ -115,7 +94,7 @@ impl<G: Gate, R: Wait + Drop> Task for Worker<G, R> {
                 return;
             };
             gate.enter(part.number);
-            if answers.send(&rt, judge(&mut plain, part)).is_err() {
+            if answers.send(&rt, judge(alloc, part)).is_err() {
                 return;
             }
         }

@@ -5,6 +5,7 @@ use Rattle.cf_peer.specs.Memory.{told_of}
 use Rattle.cf_client.proofs.Versions.{new_words}
 use Rattle.cf_cli.proofs.Plays.{versions_so, unplayed_words, judged_replay, judged_sync, new_unfailed}
 use Rattle.cf_cli.proofs.Records.{sync_writes}
+use Rattle.cf_cli.proofs.Demos.{demo_uses}
 use Rattle.cf_cli.proofs.Serves.{no_link, serve_uses}
 use Rattle.cf_cli.specs.Reading.{IsOfScan, IsOfFilter, IsAddressed}
 use Rattle.cf_cli.proofs.program.perform.Goals as goal
@@ -107,3 +108,15 @@ returns-in-Make-clause-versions g c = new_words _ _ c.requires.wires
 
 pub returns-in-Make-clause-tape_versions : goal.returns-in-Make-clause-tape_versions
 returns-in-Make-clause-tape_versions g c = unplayed_words _ _ c.requires.log
+
+pub returns-in-Demo-clause-failures : goal.returns-in-Demo-clause-failures
+returns-in-Demo-clause-failures g c = new_unfailed _ _ _ c.requires.wires
+
+pub returns-in-Demo-clause-versions : goal.returns-in-Demo-clause-versions
+returns-in-Demo-clause-versions g c = new_words _ _ c.requires.wires
+
+pub returns-in-Demo-clause-tape_versions : goal.returns-in-Demo-clause-tape_versions
+returns-in-Demo-clause-tape_versions g c = unplayed_words _ _ c.requires.log
+
+pub returns-in-Demo-clause-unshown : goal.returns-in-Demo-clause-unshown
+returns-in-Demo-clause-unshown g c = demo_uses c.args.command c.in-Demo.seed c.in-Demo.blocks c.in-Demo.is

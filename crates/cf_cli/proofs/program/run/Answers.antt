@@ -8,6 +8,7 @@ use Rattle.cf_peer.specs.Memory.{told_of}
 use Rattle.cf_client.proofs.Versions.{new_words}
 use Rattle.cf_cli.proofs.Plays.{versions_so, unplayed_words, early_replayed, early_plays, early_told, early_tallied, new_tape, new_unfailed, same_command, judged_for, unused_wires, unused_tape}
 use Rattle.cf_cli.proofs.Records.{unused_files}
+use Rattle.cf_cli.proofs.Demos.{unused_played}
 use Rattle.cf_cli.proofs.Serves.{unused_link}
 use Rattle.cf_cli.proofs.program.run.Goals as goal
 
@@ -111,3 +112,12 @@ returns-in-Ok-clause-make g c = λ seed blocks file asked. c.perform.ensures.mak
 
 pub returns-in-Err-NoMemory-clause-make : goal.returns-in-Err-NoMemory-clause-make
 returns-in-Err-NoMemory-clause-make g c = λ seed blocks file asked. (refl, refl)
+
+pub returns-in-Ok-clause-demo : goal.returns-in-Ok-clause-demo
+returns-in-Ok-clause-demo g c = λ seed blocks asked. c.perform.ensures.demo seed blocks (same_command _ c.in-Ok.command _ c.in-Ok.ensures.exact asked)
+
+pub returns-in-Err-NoMemory-clause-demo : goal.returns-in-Err-NoMemory-clause-demo
+returns-in-Err-NoMemory-clause-demo g c = λ seed blocks asked. refl
+
+pub returns-in-Ok-clause-unshown : goal.returns-in-Ok-clause-unshown
+returns-in-Ok-clause-unshown g c = unused_played _ c.in-Ok.command _ _ c.in-Ok.ensures.exact c.perform.ensures.unshown

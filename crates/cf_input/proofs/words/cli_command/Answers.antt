@@ -12,4 +12,5 @@ returns c =
     let four = c.in_ok-command-5.ensures.0 ∙ ap₂ with_sub three c.in_ok-two_words-3.ensures.0 in
     let five = c.in_ok-command-6.ensures.0 ∙ ap₂ with_sub four c.in_ok-one_word-2.ensures.0 in
     let six = c.in_ok-command-7.ensures.0 ∙ ap₂ with_sub five c.in_ok-serve_command.ensures.0 in
-    IfOk-weaker c.with_one_more-7.result _ _ (λ k h. (h.0 ∙ ap₂ with_sub six c.in_ok-three_words.ensures.0 ∙ sym cli_is, h.1)) c.with_one_more-7.ensures
+    let seven = c.in_ok-command-8.ensures.0 ∙ ap₂ with_sub six c.in_ok-made.ensures.0 in
+    IfOk-weaker c.with_one_more-8.result _ _ (λ k h. (h.0 ∙ ap₂ with_sub seven c.in_ok-two_words-4.ensures.0 ∙ sym cli_is, h.1)) c.with_one_more-8.ensures
