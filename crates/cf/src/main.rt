@@ -9,6 +9,7 @@ mod outside;
 use crate::listener::Listener;
 use cf_bytes::{StdFiles, WriterSink, put_all};
 use cf_cli::{Status, own_text, run};
+use cf_network::Network;
 use cf_peer::MemoryWires;
 use cf_played::Played;
 use cf_tasks::{InThreads, Spawner};
@@ -31,7 +32,14 @@ fn told(rt: &HostRuntime, words: &[String], status: Status, reason: &Option<io::
     status
 }
 
-// Runs the command. A dial of `sync` fails, since no sockets are opened yet.
+// Tells how each peer stands, unless the status tells it.
+fn tell_stands<R: Wait + Threads + Copy + Drop>(network: &Network<R>, status: &Status) {
+    if !matches!(status, Status::NoPeers { .. }) {
+        let _told = network.tell_stands();
+    }
+}
+
+// Runs the command. `sync` goes over TCP.
 fn run_command<R: Wait + Threads + Sync + Copy + Drop + Send + 'static, K: Spawner>(
     rt: &HostRuntime,
     handle: R,
@@ -39,10 +47,14 @@ fn run_command<R: Wait + Threads + Sync + Copy + Drop + Send + 'static, K: Spawn
     spawner: &mut K,
 ) -> Status {
     let alloc = rt.alloc();
-    let (Ok(mut wires), Ok(mut tape)) = (MemoryWires::new(alloc), MemoryWires::new(alloc)) else {
+    let Ok(mut played) = Played::new(alloc) else {
         return told(rt, words, Status::NoMemory, &None);
     };
-    let Ok(mut played) = Played::new(alloc) else {
+    let peers = outside::peers(alloc, words);
+    let (Ok(mut network), Ok(mut tape)) = (
+        Network::new(rt, handle, spawner, peers),
+        MemoryWires::new(alloc),
+    ) else {
         return told(rt, words, Status::NoMemory, &None);
     };
     let mut files = StdFiles::new(rt);
@@ -53,13 +65,14 @@ fn run_command<R: Wait + Threads + Sync + Copy + Drop + Send + 'static, K: Spawn
         outside::moment(rt),
         outside::nonce(rt),
         &mut files,
-        &mut wires,
+        &mut network,
         &mut tape,
         &mut played,
         &mut Listener::new(*rt),
         spawner,
         &mut WriterSink::new(io::writer(rt)),
     );
+    tell_stands(&network, &status);
     told(rt, words, status, &files.reason())
 }
 

@@ -1,5 +1,7 @@
 //! What the process is given.
 use cf_cli::Status;
+use cf_input::{Command, read_words};
+use std::alloc::Global;
 use std::random::RandomSource;
 use std::time::{SystemTime, UNIX_EPOCH};
 use std::{env, io};
@@ -17,6 +19,14 @@ fn unreadable(e: &io::Error) -> Status {
     match e.kind() {
         io::ErrorKind::OutOfMemory => Status::NoMemory,
         _ => Status::Usage,
+    }
+}
+
+/// How many peers the words name for `sync`; none for another command.
+pub fn peers(alloc: Global, words: &[String]) -> usize {
+    match &read_words(alloc, words) {
+        Ok(Command::Sync { peers, .. }) => peers.as_slice().len(),
+        _ => 0,
     }
 }
 

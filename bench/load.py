@@ -1,0 +1,175 @@
+#!/usr/bin/env python3
+"""`serve` and `sync` over loopback, beside peers that do harm: `load.py [PROGRAM]`, where PROGRAM is `.build/cf` unless it is named.
+
+A made chain of 20,000 blocks is served, and one script is watched. First one `sync` runs alone, three times; its time is told as a multiple of that of
+`scan` over the same file, which is to be at most 3, and the memory of both. The best of three runs counts. Then eight `sync` run side by side and beside one with eight peers (the same address eight times), one client that
+asks for all filters and never reads, and one that sends bytes that are no frames. Each `sync` is to end with status 0 and the text of `scan`, and the
+server with status 0 once its connections are over. At most 21 connections are made, and no process runs for longer than LIMIT seconds.
+"""
+import os
+import random
+import re
+import signal
+import socket
+import subprocess
+import sys
+import tempfile
+import threading
+import time
+
+from conversation import frame, of_range, version
+from made_chain import records
+
+BENCH = os.path.dirname(os.path.abspath(__file__))
+ROOT = os.path.dirname(BENCH)
+SEED, BLOCKS = 7, 20_000
+WATCHED = "01087551"
+TRIES = 3
+SIDE_BY_SIDE, PEERS = 8, 8
+CONNECTIONS = TRIES + SIDE_BY_SIDE + PEERS + 2
+MOST = 3
+LIMIT = 600
+
+
+class Run:
+    """A process, with its text, its status, its time and its greatest memory once it has ended."""
+
+    def __init__(self, words):
+        self.start = time.monotonic()
+        self.out, self.err = tempfile.TemporaryFile(), tempfile.TemporaryFile()
+        self.process = subprocess.Popen(words, stdin=subprocess.DEVNULL, stdout=self.out, stderr=self.err)
+        self.thread = threading.Thread(target=self.wait)
+        self.thread.start()
+        self.timer = threading.Timer(LIMIT, self.stop)
+        self.timer.start()
+
+    def wait(self):
+        _, status, usage = os.wait4(self.process.pid, 0)
+        self.seconds = time.monotonic() - self.start
+        self.status = os.waitstatus_to_exitcode(status)
+        self.memory = usage.ru_maxrss / 1024
+        self.processor = usage.ru_utime + usage.ru_stime
+
+    def stop(self):
+        if self.thread.is_alive():
+            os.kill(self.process.pid, signal.SIGKILL)
+
+    def join(self):
+        self.thread.join()
+        self.timer.cancel()
+        return self
+
+    @staticmethod
+    def read(file):
+        return os.pread(file.fileno(), os.fstat(file.fileno()).st_size, 0)
+
+    def text(self):
+        return self.read(self.out)
+
+    def told(self):
+        return self.read(self.err).decode()
+
+
+def address_of(server):
+    """Where the server listens, once it has told so."""
+    for _ in range(LIMIT * 10):
+        place = re.search(r"listening on (\S+)", server.told())
+        if place and "serving" in server.told():
+            return place.group(1)
+        if not server.thread.is_alive():
+            break
+        time.sleep(0.1)
+    raise SystemExit("the server doesn't listen: " + server.told())
+
+
+def connected(address):
+    host, port = address.rsplit(":", 1)
+    return socket.create_connection((host, int(port)), timeout=LIMIT)
+
+
+def never_reading(address, tip):
+    """A peer that asks for all filters over and over, as long as it is taken, and reads nothing."""
+    peer = connected(address)
+    peer.setsockopt(socket.SOL_SOCKET, socket.SO_RCVBUF, 4096)
+    peer.settimeout(1)
+    asked = 1000 * of_range("getcfilters", 0, BLOCKS - 999, tip)
+    try:
+        peer.sendall(version(0, 0, 0, b"/load/", 0, b"\0") + frame("verack") + asked)
+    except OSError:
+        pass
+    return peer
+
+
+def noisy(address):
+    """A peer that sends a million bytes that are no frames."""
+    peer = connected(address)
+    peer.settimeout(1)
+    try:
+        peer.sendall(random.Random(SEED).randbytes(1_000_000))
+    except OSError:
+        pass
+    return peer
+
+
+def best(words):
+    """The shortest of some runs one after the other; one that has failed counts before all others."""
+    return min((Run(words).join() for _ in range(TRIES)), key=lambda run: (run.status == 0, run.seconds))
+
+
+def fails(what, run, text):
+    """Whether a run has ended otherwise than wanted."""
+    if run.status == 0 and run.text() == text:
+        return False
+    print(f"{what}: status {run.status}, {len(run.text())} bytes where {len(text)} are wanted\n{run.told()}")
+    return True
+
+
+def line(what, run):
+    print(f"{what}: {run.seconds:.2f} s, of the processor {run.processor:.2f} s; {run.memory:.0f} MB")
+
+
+def main():
+    program = sys.argv[1] if len(sys.argv) > 1 else os.path.join(ROOT, ".build", "cf")
+    with tempfile.TemporaryDirectory() as room:
+        blocks, watch = os.path.join(room, "blocks.dat"), os.path.join(room, "watch.txt")
+        with open(blocks, "wb") as file:
+            file.writelines(records((SEED, BLOCKS)))
+        with open(watch, "w") as file:
+            file.write(WATCHED + "\n")
+
+        scan = best([program, "scan", blocks, watch])
+        if scan.status != 0:
+            raise SystemExit(f"scan: status {scan.status}")
+        line("scan", scan)
+        text = scan.text()
+        tip = bytes.fromhex(text.split()[-1].decode())[::-1]
+
+        server = Run([program, "serve", "--connections", str(CONNECTIONS), blocks, "127.0.0.1:0"])
+        address = address_of(server)
+
+        alone = best([program, "sync", watch, address])
+        line("one sync", alone)
+        bad = fails("one sync", alone, text)
+
+        harmful = [never_reading(address, tip), noisy(address)]
+        several = [Run([program, "sync", watch, address]) for _ in range(SIDE_BY_SIDE)]
+        wide = Run([program, "sync", watch] + [address] * PEERS)
+        for number, run in enumerate(several, 1):
+            line(f"sync {number} of {SIDE_BY_SIDE} side by side", run.join())
+            bad |= fails(f"sync {number}", run, text)
+        line(f"sync with {PEERS} peers beside them", wide.join())
+        bad |= fails(f"sync with {PEERS} peers", wide, text)
+        for peer in harmful:
+            peer.close()
+
+        line("the server of all", server.join())
+        bad |= fails("the server", server, b"")
+        print("".join(told + "\n" for told in server.told().splitlines() if "connection" in told))
+
+        ratio = alone.seconds / scan.seconds
+        print(f"one sync over loopback takes {ratio:.2f} times what scan takes; {MOST} is the most that is wanted")
+        return 1 if bad or ratio > MOST else 0
+
+
+if __name__ == "__main__":
+    sys.exit(main())

@@ -1,0 +1,12 @@
+//! Peers over TCP, as wires that tell the user what passes: a hub, and what is told of it on standard error.
+#![tactic(auto)]
+
+mod counting;
+mod network;
+mod outside;
+mod passed;
+mod pulse;
+
+pub use network::Network;
+pub use outside::SystemDialer;
+pub use pulse::Naps;

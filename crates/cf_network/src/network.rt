@@ -1,0 +1,184 @@
+//! Wires that tell the user what passes them.
+ghost use Rattle.std.specs.Prelude.{◌≡◌, IfOk, None, [], false};
+ghost use Rattle.cf_hub.specs.Book.{told_of, keeps_of};
+ghost use Rattle.cf_peer.specs.Log.{Tells};
+
+use crate::outside::SystemDialer;
+use crate::passed::{Passed, Stand, end_text};
+use crate::pulse::Naps;
+use cf_bytes::{NoMemory, PeerNo};
+use cf_hub::Hub;
+use cf_line::Workers;
+use cf_peer::{Delivery, WireFail, Wires};
+use cf_tasks::Spawner;
+use std::alloc::Global;
+use std::io::{self, IsTerminal};
+use std::marker::Model;
+use std::sync::atomic::{AtomicBool, Ordering};
+use std::sync::{Arc, Wait};
+use std::thread::Threads;
+use std::time::Clock;
+
+/// Peers of which each has a reader in a thread of its own, and a ticker, as wires. It tells on standard error what passes: each dial that failed,
+/// and why; where that is a terminal, at most once a second how far it has come; and by `tell_stands` how each peer stands. Contracts see what
+/// the wires tell, and not how they are made.
+#[derive(Drop)]
+pub struct Network<R: Wait + Threads + Copy + Drop> {
+    rt: HostRuntime,
+    hub: Hub<SystemDialer, Naps, R>,
+    // Whether standard error is one.
+    on_terminal: bool,
+    // The flag at which the pulse ends.
+    end: Arc<AtomicBool, Global>,
+    passed: Passed,
+}
+
+impl<R: Wait + Threads + Copy + Drop> Model for Network<R> {
+    ghost use Rattle.std.specs.Prelude.{◌+◌};
+    ghost use Rattle.cf_hub.specs.Book.{told_of, keeps_of};
+    ghost use Rattle.cf_hub.specs.Writers.{faults_in};
+    ghost use Rattle.cf_network.specs.Standing.{Standing};
+
+    ghost Value = { Standing };
+
+    ghost view = { λ n. record { told = told_of n.hub.book; faults = n.hub.dialer.tcp.faults + (n.hub.missed + faults_in (λ w. w.faults) n.hub.writers.items); keeps = keeps_of n.hub.book } };
+}
+
+// A hub that has dialled nobody, with threads for so many peers and, where there are any, for its ticker.
+fn hub_of<R: Wait + Threads + Copy + Drop + Send + 'static, K: Spawner>(
+    rt: &HostRuntime,
+    handle: R,
+    pulse: Naps,
+    spawner: &mut K,
+    peers: usize,
+) -> Result<Hub<SystemDialer, Naps, R>, NoMemory>
+    ensures told { IfOk result (λ h. Tells [] (told_of h.book)) }
+    ensures finished { IfOk result (λ h. (told_of h.book).finished ≡ false) }
+    ensures keeps { IfOk result (λ h. keeps_of h.book ≡ false) }
+{
+    let alloc = rt.alloc();
+    let dialer = SystemDialer::new(*rt);
+    if peers > 0 {
+        return Hub::started(handle, alloc, dialer, pulse, spawner, peers);
+    }
+    let readers = Workers::new(handle, alloc, spawner, 0)?;
+    let tickers = Workers::new(handle, alloc, spawner, 0)?;
+    Hub::new(handle, alloc, dialer, readers, tickers, pulse)
+}
+
+impl<R: Wait + Threads + Copy + Drop + Send + 'static> Network<R> {
+    /// Peers of whom none was dialled. For each of so many a thread waits, and one for the ticker; where there are none no thread is started.
+    pub fn new<K: Spawner>(
+        rt: &HostRuntime,
+        handle: R,
+        spawner: &mut K,
+        peers: usize,
+    ) -> Result<Network<R>, NoMemory>
+        ensures told { IfOk result (λ n. Tells [] n.told) }
+        ensures finished { IfOk result (λ n. n.told.finished ≡ false) }
+        ensures keeps { IfOk result (λ n. n.keeps ≡ false) }
+    {
+        let end = Arc::new(rt.alloc(), AtomicBool::new(false))?;
+        let pulse = Naps::new(*rt, Arc::try_clone(&end)?);
+        Ok(Network {
+            rt: *rt,
+            hub: hub_of(rt, handle, pulse, spawner, peers)?,
+            on_terminal: rt.stderr().is_terminal(),
+            end,
+            passed: Passed::new(),
+        })
+    }
+}
+
+impl<R: Wait + Threads + Copy + Drop> Network<R> {
+    // Tells of a dial that failed. `known` is how many reasons were known before.
+    fn tell_failed(&self, name: &str, known: usize) -> io::Result<()> {
+        match self.hub.dialer().failed().get(known) {
+            Some(failed) => eprintln!(&self.rt; "cf: {failed}"),
+            None => eprintln!(&self.rt; "cf: {name}: it could not be dialled"),
+        }
+    }
+
+    // Tells how far it has come.
+    fn tell_progress(&self) -> io::Result<()> {
+        let passed = &self.passed;
+        eprintln!(&self.rt;
+            "cf: peers connected: {}; best height: {}; filters: {}; blocks: {}",
+            passed.connected(),
+            passed.height(),
+            passed.filters(),
+            passed.blocks()
+        )
+    }
+
+    /// Tells of each peer how it stands.
+    pub fn tell_stands(&self) -> io::Result<()> {
+        for (p, stand) in self.passed.stands().iter().enumerate() {
+            if let Some(stand) = stand {
+                eprintln!(&self.rt; "cf: peer {p}: {}", end_text(*stand))?;
+            }
+        }
+        Ok(())
+    }
+}
+
+impl<R: Wait + Threads + Copy + Drop> Wires for Network<R> {
+    ghost told = { λ n. n.told };
+
+    ghost faults = { λ n. n.faults };
+
+    ghost script = { λ _. None };
+
+    ghost keeps = { λ n. n.keeps };
+
+    fn keep_log(&mut self) {
+        self.hub.keep_log();
+    }
+
+    fn dial(&mut self, name: &str) -> Result<PeerNo, WireFail> {
+        let known = self.hub.dialer().failed().len();
+        let answer = self.hub.dial(name);
+        match answer {
+            Ok(p) => self.passed.note_stand(p, Stand::Connected),
+            Err(WireFail::Failed) => {
+                self.passed.note_not_dialled();
+                let _told = self.tell_failed(name, known);
+            }
+            Err(WireFail::NoMemory) => {}
+        }
+        answer
+    }
+
+    fn send(&mut self, p: PeerNo, bytes: &[u8]) -> Result<(), WireFail> {
+        let answer = self.hub.send(p, bytes);
+        if matches!(answer, Err(WireFail::Failed)) {
+            self.passed.note_stand(p, Stand::Unsent);
+        }
+        answer
+    }
+
+    fn close(&mut self, p: PeerNo) {
+        self.passed.note_closed(p);
+        self.hub.close(p);
+    }
+
+    fn next(&mut self) -> Result<Delivery, NoMemory> {
+        let answer = self.hub.next();
+        if let Ok(delivery) = &answer {
+            self.passed.note(delivery);
+            if self.on_terminal && self.passed.is_time(self.rt.monotonic().ok()) {
+                let _told = self.tell_progress();
+            }
+        }
+        answer
+    }
+
+    fn finish(&mut self) {
+        self.end.store(true, Ordering::SeqCst);
+        self.hub.finish();
+    }
+
+    fn session(&self) -> Result<String, NoMemory> {
+        self.hub.session()
+    }
+}
