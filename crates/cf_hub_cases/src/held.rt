@@ -1,0 +1,112 @@
+//! The hub of a row, as wires of which contracts see what they tell, and not how they are made.
+ghost use Rattle.std.specs.Prelude.{◌≡◌, None, IfOk, IfSome, [], false};
+ghost use Rattle.cf_hub.specs.Book.{told_of, keeps_of};
+ghost use Rattle.cf_peer.specs.Log.{Tells};
+
+use crate::guide::Joins;
+use crate::outside::{Counts, Limited, PlannedDialer, PlannedPulse, dialer_of, pulse_of};
+use cf_bytes::{NoMemory, PeerNo};
+use cf_hub::Hub;
+use cf_peer::{Delivery, WireFail, Wires};
+use std::marker::Model;
+use std::sync::Wait;
+use std::thread::Threads;
+
+/// A hub whose outside is in memory.
+#[derive(Drop)]
+pub(crate) struct Held<R: Wait + Threads + Copy + Drop> {
+    hub: Hub<PlannedDialer, PlannedPulse, R>,
+}
+
+impl<R: Wait + Threads + Copy + Drop> Model for Held<R> {
+    ghost use Rattle.std.specs.Prelude.{◌+◌};
+    ghost use Rattle.cf_hub.specs.Book.{told_of, keeps_of};
+    ghost use Rattle.cf_hub.specs.Writers.{faults_in};
+    ghost use Rattle.cf_hub_cases.specs.Standing.{Standing};
+
+    ghost Value = { Standing };
+
+    ghost view = { λ n. record { told = told_of n.hub.book; faults = n.hub.dialer.faults + (n.hub.missed + faults_in (λ w. w.faults) n.hub.writers.items); keeps = keeps_of n.hub.book } };
+}
+
+// A hub that has dialled nobody, with so many threads for readers, of whose threads so many start. Its pulse waits for so many at the gate.
+fn hub_of<R: Wait + Threads + Copy + Drop + Send + 'static>(
+    rt: HostRuntime,
+    handle: R,
+    counts: &Counts,
+    threads: usize,
+    starts: u32,
+    wanted: u32,
+) -> Option<Hub<PlannedDialer, PlannedPulse, R>>
+    ensures told { IfSome result (λ h. Tells [] (told_of h.book)) }
+    ensures finished { IfSome result (λ h. (told_of h.book).finished ≡ false) }
+{
+    let alloc = rt.alloc();
+    let dialer = dialer_of(rt, alloc, counts)?;
+    let pulse = pulse_of(rt, counts, wanted)?;
+    let mut spawner = Limited::new(handle, starts);
+    Hub::started(handle, alloc, dialer, pulse, &mut spawner, threads).ok()
+}
+
+impl<R: Wait + Threads + Copy + Drop + Send + 'static> Held<R> {
+    /// A hub that has dialled nobody, with so many threads for readers, of whose threads so many start. Its pulse waits for so many at the
+    /// gate.
+    pub(crate) fn new(
+        rt: HostRuntime,
+        handle: R,
+        counts: &Counts,
+        threads: usize,
+        starts: u32,
+        wanted: u32,
+    ) -> Option<Held<R>>
+        ensures told { IfSome result (λ n. Tells [] n.told) }
+        ensures finished { IfSome result (λ n. n.told.finished ≡ false) }
+    {
+        let hub = hub_of(rt, handle, counts, threads, starts, wanted)?;
+        Some(Held { hub })
+    }
+}
+
+impl<R: Wait + Threads + Copy + Drop> Joins for Held<R> {
+    fn is_joined(&self) -> bool {
+        self.hub.is_joined()
+    }
+}
+
+impl<R: Wait + Threads + Copy + Drop> Wires for Held<R> {
+    ghost told = { λ n. n.told };
+
+    ghost faults = { λ n. n.faults };
+
+    ghost script = { λ _. None };
+
+    ghost keeps = { λ n. n.keeps };
+
+    fn keep_log(&mut self) {
+        self.hub.keep_log();
+    }
+
+    fn dial(&mut self, name: &str) -> Result<PeerNo, WireFail> {
+        self.hub.dial(name)
+    }
+
+    fn send(&mut self, p: PeerNo, bytes: &[u8]) -> Result<(), WireFail> {
+        self.hub.send(p, bytes)
+    }
+
+    fn close(&mut self, p: PeerNo) {
+        self.hub.close(p);
+    }
+
+    fn next(&mut self) -> Result<Delivery, NoMemory> {
+        self.hub.next()
+    }
+
+    fn finish(&mut self) {
+        self.hub.finish();
+    }
+
+    fn session(&self) -> Result<String, NoMemory> {
+        self.hub.session()
+    }
+}

@@ -1,0 +1,64 @@
+//! `cf_hub_cases`: reads rows `KIND REST`, and prints each row and what it comes to. `docs/GATE.md` says how rows and kinds are added.
+//! A row that begins with `#` is a remark, and is printed as it is. A row that can't be read, or for which no memory is found, comes to `?`.
+#![tactic(auto)]
+
+mod course;
+mod doors;
+mod guide;
+mod held;
+mod hubs;
+mod lines;
+mod outside;
+mod queues;
+mod replays;
+mod sockets;
+
+use std::process::ExitCode;
+use std::sync::Wait;
+use std::thread::Threads;
+
+// What a row comes to.
+fn answer<R: Wait + Threads + Copy + Drop + Send + 'static>(
+    rt: HostRuntime,
+    handle: R,
+    row: &str,
+) -> Option<String> {
+    let (kind, rest) = row.split_once(' ')?;
+    match kind {
+        "dial" => sockets::reason(rt, rest),
+        "hub" => hubs::answer(rt, handle, rest),
+        "queue" => queues::answer(&handle, rt.alloc(), rest),
+        _ => None,
+    }
+}
+
+// The lines that are printed for a row.
+fn shown<R: Wait + Threads + Copy + Drop + Send + 'static>(
+    rt: HostRuntime,
+    handle: R,
+    row: &str,
+) -> Option<String> {
+    let alloc = rt.alloc();
+    if row.starts_with('#') {
+        return format!(in alloc; "{row}").ok();
+    }
+    match answer(rt, handle, row) {
+        Some(text) => format!(in alloc; "{row}\n{}", text.trim_start()).ok(),
+        None => format!(in alloc; "{row}\n?").ok(),
+    }
+}
+
+fn main(rt: HostRuntime) -> ExitCode {
+    for row in rt.lines(rt.alloc()) {
+        let Ok(row) = row else {
+            return ExitCode::from(1);
+        };
+        let Some(text) = shown(rt, rt, &row) else {
+            return ExitCode::from(2);
+        };
+        if println!(&rt; "{text}").is_err() {
+            return ExitCode::from(3);
+        }
+    }
+    ExitCode::SUCCESS
+}
