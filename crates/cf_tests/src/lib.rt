@@ -12,6 +12,9 @@ mod cf_parallel_tests;
 #[cfg(test)]
 mod cf_peer_tests;
 #[cfg(test)]
+mod cf_serve_tests;
+#[cfg(test)]
 mod cf_server_tests;
 #[cfg(test)]
 mod cut_conn;
+mod patient_conn;
