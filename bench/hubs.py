@@ -8,11 +8,19 @@ A row of the kind `hub` has the number of threads for readers, how many threads 
 answers, and steps. A peer is told by its name: WAY,WANTED,HEX,MOST. It gives the bytes HEX, at most MOST with one read and never more than
 4096: at once (`free`, and `mute`, which fails what is sent to it), once WANTED have entered the gate (`gate`; the ticker enters it too), once
 WANTED bytes were sent to it (`sent`), or once its connection is shut (`shut`). A peer `fault` gives its bytes at once, and its read of the number
-WANTED fails. The model takes it that a door opens where its condition comes
+WANTED fails. In HEX `z` stands for eight bytes that are zero. The model takes it that a door opens where its condition comes
 to hold, and that all comes that is given; so each row says only what is so in whatever order the threads run.
+
+A row of the kind `run` has the same three numbers, a watch file `w`, the words of a call over such a hub, and maybe those of a second one,
+over another hub that dials nobody. Each peer that is dialled greets and has no headers, as data/session.txt has it; so what is written is
+the tip, and that is genesis.
 """
 
+import os
 import sys
+
+sys.path.insert(0, os.path.dirname(os.path.abspath(__file__)))
+from conversation import GENESIS_HEADER, double, frame, version
 
 CHUNK = 4096
 PLACES = 64
@@ -29,6 +37,8 @@ def dials(names):
 EIGHT = [f"gate,9,{counting(16 * p, 10)},3" for p in range(8)]
 SEVEN = [f"gate,8,{counting(16 * p, 5)},2" for p in range(7)]
 LONG = [f"free,0,{counting(16 * p, 120)},1" for p in range(8)]
+SAID = version(65, 0, 0, b"/cf:1/", 0, b"\0") + frame("verack") + frame("headers", b"\0")
+SYNC = [f"free,0,{SAID.hex().replace('00' * 8, 'z')},{most}" for most in (4096, 1, 2, 3, 7, 24, 50, 116)]
 
 ROWS = [
     "# hub THREADS STARTS TICKS STEP..: what the steps come to over a hub. The answers are those of bench/hubs.py, which tells of the fields.",
@@ -67,6 +77,16 @@ ROWS = [
     f"hub 8 9 500000 {dials(LONG)} full:72 finish firsts prompt joined all",
     "# What came before the finish is a first part of what each holds.",
     f"hub 8 9 500000 {dials(LONG)} take:100 finish firsts recorded prompt joined",
+    "# run THREADS STARTS TICKS|WATCH|WORDS: how a call of the program over a hub ends, and what it writes. Lines of WATCH end at `;`.",
+    f"run 1 2 500000|01087551;|cf sync w {SYNC[0]}",
+    f"run 2 3 500000|01087551;|cf sync --workers 1 w nobody {SYNC[1]}",
+    "run 1 2 500000|01087551;|cf sync w nobody",
+    f"run 1 0 500000|01087551;|cf sync w {SYNC[0]}",
+    "# The same, and then what its record comes to.",
+    f"run 1 2 500000|01087551;|cf sync --record r w {SYNC[0]}|cf replay w r",
+    f"run 1 2 500000|01087551;|cf sync --record r w {SYNC[1]}|cf replay w r",
+    f"run 8 9 500000|01087551;|cf sync --record r w {' '.join(SYNC)}|cf replay w r",
+    "run 1 2 500000|01087551;|cf sync --record r w nobody nobody|cf replay w r",
     "# queue COUNT: what comes out of a queue of 64 places into which two senders put so many each, and whether more is taken once it is gone.",
     "queue 0",
     "queue 3",
@@ -94,7 +114,7 @@ class Peer:
         self.is_told = len(parts) == 4
         if self.is_told:
             self.way, wanted, digits, most = parts
-            self.wanted, self.bytes = int(wanted), bytes.fromhex(digits)
+            self.wanted, self.bytes = int(wanted), bytes.fromhex(digits.replace("z", "00" * 8))
             most = min(int(most), CHUNK)
             self.pieces = [self.bytes[k : k + most] for k in range(0, len(self.bytes), most)]
             if self.way == "fault":
@@ -219,8 +239,25 @@ def step(hub, text, out):
         raise ValueError(text)
 
 
+def run(row):
+    numbers, _, first, *second = row.split("|")
+    hub = Hub(*map(int, numbers.split(" ")))
+    words = first.split(" ")
+    for name in words[words.index("w") + 1 :]:
+        hub.dial(name)
+    if any(peer.answers for peer in hub.peers):
+        assert all(peer.bytes == SAID for peer in hub.peers if peer.answers)
+        text = f"0 Done\nsynced 0 {double(GENESIS_HEADER)[::-1].hex()}\n"
+    else:
+        text = f"6 NoPeers {{ ends: [{', '.join('NotDialled' for _ in hub.peers)}] }}: no peer is left\n"
+    assert second in ([], ["cf replay w r"]) and (not second or "--record" in words)
+    return text + (text + "same") * len(second)
+
+
 def answer(row):
     kind, rest = row.split(" ", 1)
+    if kind == "run":
+        return run(rest)
     if kind == "dial":
         return f"{rest}: {REASONS.get(rest, 'it is not HOST:PORT')}"
     if kind == "queue":

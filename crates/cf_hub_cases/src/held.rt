@@ -3,6 +3,7 @@ ghost use Rattle.std.specs.Prelude.{◌≡◌, None, IfOk, IfSome, [], false};
 ghost use Rattle.cf_hub.specs.Book.{told_of, keeps_of};
 ghost use Rattle.cf_peer.specs.Log.{Tells};
 
+use crate::doors::{Count, SHUT, add, same};
 use crate::guide::Joins;
 use crate::outside::{Counts, Limited, PlannedDialer, PlannedPulse, dialer_of, pulse_of};
 use cf_bytes::{NoMemory, PeerNo};
@@ -12,10 +13,11 @@ use std::marker::Model;
 use std::sync::Wait;
 use std::thread::Threads;
 
-/// A hub whose outside is in memory.
+/// A hub whose outside is in memory. Its finish opens the gate.
 #[derive(Drop)]
 pub(crate) struct Held<R: Wait + Threads + Copy + Drop> {
     hub: Hub<PlannedDialer, PlannedPulse, R>,
+    gate: Count,
 }
 
 impl<R: Wait + Threads + Copy + Drop> Model for Held<R> {
@@ -62,8 +64,9 @@ impl<R: Wait + Threads + Copy + Drop + Send + 'static> Held<R> {
         ensures told { IfSome result (λ n. Tells [] n.told) }
         ensures finished { IfSome result (λ n. n.told.finished ≡ false) }
     {
+        let gate = same(&counts.gate)?;
         let hub = hub_of(rt, handle, counts, threads, starts, wanted)?;
-        Some(Held { hub })
+        Some(Held { hub, gate })
     }
 }
 
@@ -103,6 +106,7 @@ impl<R: Wait + Threads + Copy + Drop> Wires for Held<R> {
     }
 
     fn finish(&mut self) {
+        add(&self.gate, SHUT);
         self.hub.finish();
     }
 

@@ -3,7 +3,7 @@ ghost use Rattle.std.specs.Prelude.{◌≡◌, [], false};
 ghost use Rattle.cf_peer.specs.Log.{Tells};
 
 use crate::course::{Course, Until};
-use crate::doors::{SHUT, add, is_none, stands_at};
+use crate::doors::{is_none, stands_at};
 use crate::guide::Joins;
 use crate::held::Held;
 use crate::lines::without_ticks;
@@ -129,10 +129,7 @@ fn step<W: Wires + Joins + Drop>(
         "tick" => put_word(course.take(Until::Tick)?, "tick", "notick", out),
         "all" => put_word(course.take(Until::End)?, "ended", "more", out),
         "prompt" => put_word(is_none(&counts.vain), "prompt", "late", out),
-        "finish" => {
-            add(&counts.gate, SHUT);
-            course.finish()
-        }
+        "finish" => course.finish(),
         _ => look(alloc, course, step, out),
     }
 }

@@ -11,6 +11,7 @@ mod lines;
 mod outside;
 mod queues;
 mod replays;
+mod runs;
 mod sockets;
 
 use std::process::ExitCode;
@@ -18,7 +19,7 @@ use std::sync::Wait;
 use std::thread::Threads;
 
 // What a row comes to.
-fn answer<R: Wait + Threads + Copy + Drop + Send + 'static>(
+fn answer<R: Wait + Threads + Sync + Copy + Drop + Send + 'static>(
     rt: HostRuntime,
     handle: R,
     row: &str,
@@ -28,12 +29,13 @@ fn answer<R: Wait + Threads + Copy + Drop + Send + 'static>(
         "dial" => sockets::reason(rt, rest),
         "hub" => hubs::answer(rt, handle, rest),
         "queue" => queues::answer(&handle, rt.alloc(), rest),
+        "run" => runs::answer(rt, handle, rest),
         _ => None,
     }
 }
 
 // The lines that are printed for a row.
-fn shown<R: Wait + Threads + Copy + Drop + Send + 'static>(
+fn shown<R: Wait + Threads + Sync + Copy + Drop + Send + 'static>(
     rt: HostRuntime,
     handle: R,
     row: &str,

@@ -148,7 +148,7 @@ fn plan_in(name: &str) -> Option<Plan>
     })
 }
 
-/// The digits of the bytes that the peer of a name gives.
+/// The digits of the bytes that the peer of a name gives, where `z` stands for eight bytes that are zero.
 pub(crate) fn digits_in(name: &str) -> Option<&str> {
     let (_, rest) = name.split_once(',')?;
     let (_, rest) = rest.split_once(',')?;
@@ -188,12 +188,19 @@ pub(crate) struct PlannedDialer {
     faults: u64,
 }
 
+// The bytes that a name tells.
+fn bytes_in(alloc: Global, name: &str) -> Option<Vec<u8>> {
+    let digits = digits_in(name)?;
+    let digits = digits.replace(alloc, "z", "0000000000000000").ok()?;
+    hex::decode(alloc, digits.as_str()).ok()
+}
+
 // What a peer gives, beyond a closed door.
 fn conn_in(alloc: Global, name: &str, plan: Plan) -> Option<MemoryConn>
     requires { 0 < plan.most }
     ensures { IfSome result (λ c. (c.source.ended ≡ false) × (c.source.plan.faults ≡ 0)) }
 {
-    let bytes = hex::decode(alloc, digits_in(name)?).ok()?;
+    let bytes = bytes_in(alloc, name)?;
     let unused = VecSink::new(alloc, 1, 0).ok()?;
     let mut conn = MemoryConn::new(alloc, bytes, plan.most, unused);
     if matches!(plan.way, Way::Fault) {
