@@ -1,7 +1,8 @@
 #!/usr/bin/env python3
 """Basic filters of a made chain of 100,000 blocks beside a plain reader in C: building them, and matching 1, 100 and 1000 scripts against all of them. Then the
 same by threads: building on one processor and on all, and matching 100 scripts by the plain matcher and by 1, 2 and 4 workers. Filter headers stand on one another, so
-they are found one by one: of small blocks, as made chains have them, this is more than half of the work. So building is told of blocks with 50 outputs more as well.
+they are found one by one, beside the filters of later blocks: of small blocks, as made chains have them, this is half of the work or so, which no number of
+processors shortens. So building is told of blocks with 50 outputs more as well.
 
 `cf_bench` and `plain.c` (compiled with `cc -O2`) check the same file, build each filter and match the same scripts, which nothing pays. The first row has
 no scripts: reading, checking and building. The others are what matching takes beyond it. Seconds are the processor's, and the best of five runs counts, which

@@ -1,11 +1,11 @@
 -- What `filter` writes, by whether its height is within the chain.
-use Rattle.std.proofs.Common.{◌≡◌, ◌⊎◌, inl, inr, ℕ, ◌<◌, ◌≤◌, true, false, nat_lt, List, length, get_or, refl, sym, ◌∙◌, subst, Option, Some, None, arith}
+use Rattle.std.proofs.Common.{◌≡◌, ◌⊎◌, inl, inr, ℕ, suc, ◌<◌, ◌≤◌, true, false, nat_lt, List, length, get_or, refl, sym, ◌∙◌, ap, subst, Option, Some, None, arith}
 use Rattle.std.specs.Prelude.{option_map}
 use Rattle.std.proofs.lemmas.Bool.Decides.{nat_tests}
 use Rattle.std.proofs.lemmas.Option.{slice_get_within, slice_get_cases}
 use Rattle.cf_block.specs.declared.tx.Block.{Block}
 use Rattle.cf_chain.specs.Filters.{Filtered, filters_of, filter_at}
-use Rattle.cf_index.proofs.Indexes.{filters_length}
+use Rattle.cf_sync.proofs.Ranges.{filters_length}
 use Rattle.cf_cli.specs.declared.status.Status.{Status}
 use Rattle.cf_cli.specs.declared.status.Status.TheVariants.{NoHeight}
 use Rattle.cf_cli.specs.Reading.{filter_text, IsWritten, TellsFilter, TellsHeight}
@@ -15,7 +15,7 @@ above_by : (blocks : List Block) (height : ℕ) → filter_at blocks height ≡ 
     → nat_lt (length blocks) height ≡ true
 above_by blocks height none (inl h) = let both = sym none ∙ h.2 in cc
 above_by blocks height none (inr h) =
-    let long = filters_length blocks in
+    let long : length (filters_of blocks) ≡ suc (length blocks) = ap suc (filters_length blocks) in
     let high = h.0 in
     grind (arith, nat_tests)
 
@@ -25,7 +25,7 @@ above blocks height none = above_by blocks height none (slice_get_cases (filters
 within : (blocks : List Block) (height : ℕ) (f : Filtered) → filter_at blocks height ≡ Some f → nat_lt (length blocks) height ≡ false
 within blocks height f some =
     let low = slice_get_within (filters_of blocks) height f some in
-    let long = filters_length blocks in
+    let long : length (filters_of blocks) ≡ suc (length blocks) = ap suc (filters_length blocks) in
     grind (arith, nat_tests)
 
 -- the lines of a block were written

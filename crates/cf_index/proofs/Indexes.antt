@@ -1,42 +1,27 @@
 -- What an index keeps, by the definitions.
-use Rattle.std.proofs.Common.{◌≡◌, ℕ, suc, ◌≤◌, List, [], ◌∷◌, map, length, refl, sym, ◌∙◌, ap, Option, Some, None, arith}
+use Rattle.std.proofs.Common.{◌≡◌, ℕ, Bool, List, [], ◌∷◌, map, length, refl, sym, ◌∙◌, ap, Option, Some, None}
 use Rattle.std.specs.Borrow.{Bor}
 use Rattle.std.specs.Prelude.{slice_get, option_map, option_copied}
 use Rattle.std.specs.Slice.{IsItemAt}
 use Rattle.std.specs.FinMap.{empty, get}
 use Rattle.std.specs.List.{position}
-use Rattle.std.proofs.lemmas.List.{length-map}
 use Rattle.std.proofs.lemmas.Option.{slice_get-map, slice_get_past, slice_get_read}
 use Rattle.cf_bytes.specs.declared.hash.Hash32.{Hash32}
+use Rattle.cf_block.specs.declared.header.Header.{Header}
 use Rattle.cf_block.specs.declared.tx.Block.{Block}
 use Rattle.cf_block.specs.Genesis.{first_block}
-use Rattle.cf_block.specs.Header.{block_hash_of}
+use Rattle.cf_block.specs.Header.{block_hash_of, genesis_header}
 use Rattle.cf_chain.specs.Coins.{CoinMap, after_block}
 use Rattle.cf_chain.specs.Filters.{Filtered, prevouts, filtered, filtered_on, first_filtered, filters_of, filter_at}
-use Rattle.cf_chain.specs.Good.{IsGoodChain}
 use Rattle.cf_chain.specs.Heights.{all_blocks}
 use Rattle.cf_headers.specs.Rules.{same}
 use Rattle.cf_index.specs.declared.block_filter.BlockFilter.{BlockFilter}
 use Rattle.cf_index.specs.Filtering.{shown}
-use Rattle.cf_index.specs.HeightMap.{HeightMap, AreHeightsOf}
+use Rattle.cf_index.specs.Checked.{hashes_of}
+use Rattle.cf_index.specs.HeightMap.{HeightMap, AreHeightsOf, first_hash}
 use Rattle.cf_index.proofs.Lowest.{place_of}
 
--- each block has one filter
-on_length : (coins : CoinMap) (previous : List ℕ) (blocks : List Block) → length (filtered_on coins previous blocks) ≡ length blocks
-on_length coins previous [] = refl
-on_length coins previous (b ∷ bs) = ap suc (on_length (after_block coins b) (filtered (prevouts coins b) previous b).header bs)
-
-pub filters_length : (blocks : List Block) → length (filters_of blocks) ≡ suc (length blocks)
-filters_length blocks = ap suc (on_length empty first_filtered.header blocks)
-
-pub filters_few : (blocks : List Block) (filters : List BlockFilter) → IsGoodChain blocks → map shown filters ≡ filters_of blocks → length filters ≤ 100001
-filters_few blocks filters good told =
-    let one = length-map filters shown in
-    let all : length (map shown filters) ≡ suc (length blocks) = ap length told ∙ filters_length blocks in
-    let low = good.height in
-    omega (arith, one, all, low)
-
--- and tells its hash
+-- each filter tells its block's hash
 abbrev hash_of : Block → List ℕ
 hash_of b = block_hash_of b.header
 
@@ -50,13 +35,18 @@ names_on coins previous (b ∷ bs) = ap (λ (l : List (List ℕ)). block_hash_of
 names_of : (blocks : List Block) → map name_of (filters_of blocks) ≡ map hash_of (all_blocks blocks)
 names_of blocks = ap (λ (l : List (List ℕ)). block_hash_of first_block.header ∷ l) (names_on empty first_filtered.header blocks)
 
-pub placed : (blocks : List Block) (filters : List BlockFilter) (heights : HeightMap) → map shown filters ≡ filters_of blocks
-    → ((hash : Hash32) → get heights hash ≡ position (λ f. same f.block.0 hash.0) filters)
+heads : first_block.header ≡ genesis_header
+unfolding first_block
+heads = refl
+
+pub placed : (blocks : List Block) (hashes : List Hash32) (heights : HeightMap) → hashes ≡ hashes_of blocks
+    → ((hash : Hash32) → get heights hash ≡ position (λ h. same h.0 hash.0) (first_hash ∷ hashes))
     → AreHeightsOf heights blocks
-placed blocks filters heights told is hash =
-    is hash ∙ sym (place_of shown (λ (x : Filtered). same x.block hash.0) filters) ∙ ap (position (λ (x : Filtered). same x.block hash.0)) told
-    ∙ sym (place_of name_of (λ (h : List ℕ). same h hash.0) (filters_of blocks)) ∙ ap (position (λ (h : List ℕ). same h hash.0)) (names_of blocks)
-    ∙ place_of hash_of (λ (h : List ℕ). same h hash.0) (all_blocks blocks)
+placed blocks hashes heights named is hash =
+    let p : Hash32 → Bool = λ h. same h.0 hash.0 in
+    is hash ∙ ap (λ (l : List Hash32). position p (first_hash ∷ l)) named
+    ∙ ap (λ (h : Header). position p (record { 0 = block_hash_of h } ∷ hashes_of blocks)) (sym heads)
+    ∙ place_of (λ (b : Block). record { 0 = block_hash_of b.header }) p (all_blocks blocks)
 
 -- ---- at a height
 

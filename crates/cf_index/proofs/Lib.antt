@@ -8,6 +8,7 @@ pub mod RecordLaws
 pub mod Steps
 pub mod Bounds
 pub mod Walking
+pub mod Heading
 pub mod Gathering
 pub mod Maps
 pub mod Lowest

@@ -1,5 +1,5 @@
 -- The height of each hash is the lowest.
-use Rattle.std.proofs.Common.{◌≡◌, ℕ, suc, ◌+◌, ◌<◌, Bool, true, false, cond, List, [], ◌∷◌, ◌++◌, map, length, take, get_or, refl, sym, ◌∙◌, ap, Option, Some, None, arith, length-take}
+use Rattle.std.proofs.Common.{◌≡◌, ℕ, zero, suc, ◌+◌, ◌<◌, Bool, true, false, cond, List, [], ◌∷◌, ◌++◌, map, length, take, get_or, refl, sym, ◌∙◌, ap, Option, Some, None, add-one, arith, length-take}
 use Rattle.std.specs.Prelude.{if◌then◌else◌, is_some}
 use Rattle.std.specs.Option.{option_or}
 use Rattle.std.specs.declared.cmp.Ordering.{Ordering}
@@ -9,7 +9,7 @@ use Rattle.std.specs.Map.{lookup}
 use Rattle.std.specs.Ordering.{eq_by_cmp, is_eq}
 use Rattle.std.specs.Cmp.{IsTotalOrder, on_total, eq_by_cmp_equiv}
 use Rattle.std.specs.Cmp.Lexicographic.{nat_list_cmp_total}
-use Rattle.std.specs.FinMap.{IsAntisymmetric, get, insert, contains_key, from_entries, get-insert, get_tied, nat_cmp-IsAntisymmetric, slice_cmp-IsAntisymmetric}
+use Rattle.std.specs.FinMap.{IsAntisymmetric, empty, get, get-empty, insert, contains_key, from_entries, get-insert, get_tied, nat_cmp-IsAntisymmetric, slice_cmp-IsAntisymmetric}
 use Rattle.std.proofs.lemmas.List.{take_more}
 use Rattle.std.proofs.lemmas.Iterator.Adapters.{position_from-zero}
 use Rattle.std.proofs.lemmas.Map.Text.{is_eq-slice_cmp}
@@ -115,3 +115,32 @@ height_more {X} heights new hash xs i x q below at is so_far =
     ∙ ap (λ (o : Option ℕ). option_or o (cond (p x) (Some i) None)) so_far
     ∙ ap (λ (n : ℕ). option_or (position p (take i xs)) (cond (p x) (Some n) None)) (sym long)
     ∙ sym (ap (position p) grown ∙ place_more p (take i xs) x)
+
+-- the first block's height is put in first
+pub height_first : (heights new : HeightMap) (first named : Hash32) (q : Hash32) → heights ≡ empty → new ≡ with_first heights first 0 → first.0 ≡ named.0
+    → get new q ≡ position (λ h. same h.0 q.0) (named ∷ [])
+height_first heights new first named q none is hashed =
+    let at : get new q ≡ position (λ (h : Hash32). same h.0 q.0) (first ∷ []) =
+    height_more heights new (λ (h : Hash32). h) (first ∷ []) 0 first q (omega arith) refl is (ap (λ (m : HeightMap). get m q) none ∙ get-empty hash_cmp q) in
+    let one : first ≡ named = λ i. record { 0 = hashed i } in
+    at ∙ ap (λ (k : Hash32). position (λ (h : Hash32). same h.0 q.0) (k ∷ [])) one
+
+there : {X : Type 0} (xs : List X) (i : ℕ) (d e : X) → i < length xs → get_or xs i d ≡ get_or xs i e
+there [] i d e below = absurd (omega (arith, below))
+there (x ∷ xs) zero d e below = refl
+there (x ∷ xs) (suc i) d e below = there xs i d e (omega (arith, below))
+
+-- and then those of the blocks above it
+pub height_next : (heights new : HeightMap) (first : Hash32) (hashes : List Hash32) (i height : ℕ) (d q : Hash32)
+    → i < length hashes → height ≡ i + 1 → new ≡ with_first heights (get_or hashes i d) height
+    → get heights q ≡ position (λ h. same h.0 q.0) (first ∷ take i hashes)
+    → get new q ≡ position (λ h. same h.0 q.0) (first ∷ take (i + 1) hashes)
+height_next heights new first hashes i height d q below at is so_far =
+    let all : List Hash32 = first ∷ hashes in
+    let x : Hash32 = get_or hashes i d in
+    let p : Hash32 → Bool = λ h. same h.0 q.0 in
+    let front : (n : ℕ) → take (n + 1) all ≡ first ∷ take n hashes = λ n. ap (λ (k : ℕ). take k all) (add-one n) in
+    let here : x ≡ get_or all (i + 1) x = there hashes i d x below ∙ ap (λ (k : ℕ). get_or all k x) (sym (add-one i)) in
+    let low : i + 1 < length all = omega (arith, below) in
+    height_more heights new (λ (h : Hash32). h) all (i + 1) x q low here (is ∙ ap (with_first heights x) at) (so_far ∙ ap (position p) (sym (front i)))
+    ∙ ap (position p) (front (i + 1))

@@ -1,13 +1,14 @@
 //! The basic filters of a chain's blocks.
 ghost use Rattle.std.specs.Prelude.{◌≡◌, ◌≤◌, ◌<◌, ◌+◌, List, ℕ, map, length, flat_map, IfOk};
+ghost use Rattle.std.specs.Thread.{IsSync};
 ghost use Rattle.std.specs.List.{AllZip};
 ghost use Rattle.rayon.specs.Numbers.{nat_range};
 ghost use Rattle.cf_block.specs.declared.tx.Block.{Block as BlockOf};
 ghost use Rattle.cf_block.specs.Header.{block_hash_of};
 ghost use Rattle.cf_chain.specs.Filters.{filtered, first_filtered, filters_of};
 ghost use Rattle.cf_filter.specs.Items.{paid_scripts};
-ghost use Rattle.cf_index.specs.Bare.{AreKept, IsBare, IsBareAt};
-ghost use Rattle.cf_index.specs.Filtering.{shown, AreFirst};
+ghost use Rattle.cf_index.specs.Bare.{AreKept, GoOn, IsBare, IsBareAt};
+ghost use Rattle.cf_index.specs.Filtering.{shown};
 
 use crate::block_filter::{BareFilter, BlockFilter};
 use crate::spend::Spent;
@@ -16,9 +17,9 @@ use cf_bytes::{Hash32, Listed, NoMemory};
 use cf_filter::{build, filter_hash, filter_header, items};
 use rayon::prelude::*;
 use std::alloc::Global;
-use std::thread::Threads;
+use std::thread::{Threads, join};
 
-// The filters of so many blocks are built before their headers are found. No more than these are held twice over, but for their bytes.
+// The filters of so many blocks are built at once, while the headers of as many before them are found.
 const BLOCKS_AT_ONCE: usize = 16_384;
 
 // The filter of a block of this hash, which spends these scripts.
@@ -111,35 +112,61 @@ fn filters_between(
     all
 }
 
-// Puts the filters of the blocks from one place up to another at the end, each with its header, and answers the last one's header.
-fn put_filters(
-    rt: &(impl Threads + Sync),
+// The first filters of a chain, with their headers, and the last one's header.
+#[derive(Drop)]
+struct Headed {
+    filters: Vec<BlockFilter>,
+    last: Hash32,
+}
+
+// These filters and the next ones behind them, whose headers are found one after the other.
+fn with_headers(headed: Headed, bare: Vec<BareFilter>) -> Result<Headed, NoMemory>
+    ensures { IfOk result (λ longer. GoOn headed.filters.items headed.last.0 bare.items longer.filters.items longer.last.0) }
+{
+    let Headed {
+        mut filters,
+        mut last,
+    } = headed;
+    for each in bare {
+        let filter = with_header(each, &last);
+        last = filter.header;
+        filters.push(filter)?;
+    }
+    Ok(Headed { filters, last })
+}
+
+// Builds the filters of the blocks from one place up to another, while the headers of those built before them are found.
+fn build_beside<R: Threads + Sync>(
+    rt: &R,
     alloc: Global,
     blocks: &[Block],
     hashes: &[Hash32],
     spent: &[Spent],
     from: usize,
     to: usize,
-    previous: Hash32,
-    filters: &mut Vec<BlockFilter>,
-) -> Result<Hash32, NoMemory>
+    headed: Headed,
+    bare: Vec<BareFilter>,
+) -> Result<(Headed, Vec<BareFilter>), NoMemory>
     requires kept { AreKept blocks.now hashes.now spent.now }
-    requires ordered { from ≤ to }
     requires within { to ≤ length blocks.now }
-    requires first { AreFirst blocks.now from previous.0 filters.old.items }
-    ensures { IfOk result (λ last. AreFirst blocks.now to last.0 filters.new.items) }
+    ensures headed { IfOk result (λ both. GoOn headed.filters.items headed.last.0 bare.items both.0.filters.items both.0.last.0) }
+    ensures built { IfOk result (λ both. AllZip (IsBareAt blocks.now spent.now) (nat_range from to) both.1.items) }
 {
-    let mut last = previous;
-    for bare in filters_between(rt, alloc, blocks, hashes, spent, from, to)? {
-        let filter = with_header(bare, &last);
-        last = filter.header;
-        filters.push(filter)?;
-    }
-    Ok(last)
+    let (longer, built) = join(
+        rt,
+        move || -> Result<Headed, NoMemory>
+            ensures { IfOk result (λ longer. GoOn headed.filters.items headed.last.0 bare.items longer.filters.items longer.last.0) }
+        { with_headers(headed, bare) },
+        move || -> Result<Vec<BareFilter>, NoMemory>
+            requires { IsSync R.row × AreKept blocks.now hashes.now spent.now × (to ≤ length blocks.now) }
+            ensures { IfOk result (λ all. AllZip (IsBareAt blocks.entry.now spent.entry.now) (nat_range from to) all.items) }
+        { filters_between(rt, alloc, blocks, hashes, spent, from, to) },
+    );
+    Ok((longer?, built?))
 }
 
 /// The filters of genesis and of each block of a chain, in the order of their heights, from 0. As many threads build them as there are
-/// processors; each filter's header is found after the one before it.
+/// processors. Each filter's header is found after the one before it, while the filters of the blocks after it are built.
 pub(crate) fn all_filters(
     rt: &(impl Threads + Sync),
     alloc: Global,
@@ -151,24 +178,21 @@ pub(crate) fn all_filters(
     ensures { IfOk result (λ list. map shown list ≡ filters_of blocks.now) }
 {
     let first = first_filter(alloc)?;
-    let mut last = first.header;
+    let last = first.header;
     let mut filters = Vec::with_capacity(alloc, blocks.len() + 1)?;
     filters.push(first)?;
+    let mut headed = Headed { filters, last };
+    let mut bare = Vec::new(alloc);
     let mut count = 0;
     while count < blocks.len() {
         let next = count + (blocks.len() - count).min(BLOCKS_AT_ONCE);
-        last = put_filters(
-            rt,
-            alloc,
-            blocks,
-            hashes,
-            spent,
-            count,
-            next,
-            last,
-            &mut filters,
+        let (longer, built) = build_beside(
+            rt, alloc, blocks, hashes, spent, count, next, headed, bare,
         )?;
+        headed = longer;
+        bare = built;
         count = next;
     }
-    Ok(Listed::from_vec(filters))
+    let all = with_headers(headed, bare)?;
+    Ok(Listed::from_vec(all.filters))
 }

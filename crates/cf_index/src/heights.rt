@@ -1,11 +1,13 @@
 //! Heights by the hashes of blocks.
-ghost use Rattle.std.specs.Prelude.{◌≡◌, ◌<◌, ◌^◌, length, IfOk, OnOk, OnErr, position};
+ghost use Rattle.std.specs.Prelude.{◌≡◌, ◌≤◌, ◌∷◌, [], length, IfOk, OnOk, OnErr, position};
 ghost use Rattle.std.specs.FinMap.{get, empty};
 ghost use Rattle.cf_bytes.specs.declared.hash.Hash32.{Hash32};
+ghost use Rattle.cf_chain.specs.Good.{max_height};
 ghost use Rattle.cf_headers.specs.Rules.{same};
 ghost use Rattle.cf_index.specs.ByHash.{with_first};
+ghost use Rattle.cf_index.specs.HeightMap.{first_hash};
 
-use crate::block_filter::BlockFilter;
+use cf_block::{block_hash, genesis_header};
 use cf_bytes::{Hash32, NoMemory};
 use std::alloc::Global;
 use std::collections::BTreeMap;
@@ -58,15 +60,24 @@ impl Heights {
     }
 }
 
-/// The heights of the blocks of these filters, the first of which has height 0. A hash that stands several times has its lowest.
-pub(crate) fn heights_of(alloc: Global, filters: &[BlockFilter]) -> Result<Heights, NoMemory>
-    requires { length filters.now < 2 ^ 32 }
-    ensures { IfOk result (λ heights. (hash : Hash32) → get heights hash ≡ position (λ f. same f.block.0 hash.0) filters.now) }
+// The height of genesis alone.
+fn first_height(alloc: Global) -> Result<Heights, NoMemory>
+    ensures { IfOk result (λ heights. (hash : Hash32) → get heights hash ≡ position (λ h. same h.0 hash.0) (first_hash ∷ [])) }
 {
     let mut heights = Heights::new(alloc);
-    let mut height = 0u32;
-    for filter in filters {
-        heights.add(filter.block, height)?;
+    heights.add(block_hash(&genesis_header()), 0)?;
+    Ok(heights)
+}
+
+/// The heights of genesis and of the blocks above it, which have these hashes. A hash that stands several times has its lowest.
+pub(crate) fn heights_of(alloc: Global, hashes: &[Hash32]) -> Result<Heights, NoMemory>
+    requires { length hashes.now ≤ max_height }
+    ensures { IfOk result (λ heights. (hash : Hash32) → get heights hash ≡ position (λ h. same h.0 hash.0) (first_hash ∷ hashes.now)) }
+{
+    let mut heights = first_height(alloc)?;
+    let mut height = 1u32;
+    for hash in hashes {
+        heights.add(*hash, height)?;
         height += 1;
     }
     Ok(heights)

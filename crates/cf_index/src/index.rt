@@ -1,22 +1,59 @@
 //! The index of a checked chain: its blocks by their heights and their hashes, with their filters.
-ghost use Rattle.std.specs.Prelude.{◌≡◌, length, IfOk, option_map, option_copied, slice_get};
+ghost use Rattle.std.specs.Prelude.{◌≡◌, ◌≤◌, ◌∷◌, length, map, IfOk, option_map, option_copied, position, slice_get};
+ghost use Rattle.std.specs.FinMap.{get};
+ghost use Rattle.std.specs.Thread.{IsSync};
+ghost use Rattle.cf_bytes.specs.declared.hash.Hash32.{Hash32};
 ghost use Rattle.cf_block.specs.Header.{block_hash_of};
-ghost use Rattle.cf_chain.specs.Filters.{filter_at};
-ghost use Rattle.cf_chain.specs.Good.{IsGoodChain};
+ghost use Rattle.cf_chain.specs.Filters.{filter_at, filters_of};
+ghost use Rattle.cf_chain.specs.Good.{IsGoodChain, max_height};
 ghost use Rattle.cf_chain.specs.Heights.{all_blocks, block_height};
 ghost use Rattle.cf_filter.specs.Filter.{filter_hash_of};
+ghost use Rattle.cf_headers.specs.Rules.{same};
+ghost use Rattle.cf_index.specs.Bare.{AreKept};
 ghost use Rattle.cf_index.specs.Filtering.{shown};
+ghost use Rattle.cf_index.specs.HeightMap.{AreHeightsOf, first_hash};
 
 use crate::block_filter::BlockFilter;
 use crate::chain::Blocks;
 use crate::checked::CheckedChain;
 use crate::filters::all_filters;
 use crate::heights::{Heights, heights_of};
-use cf_block::{Block, Header, genesis};
+use crate::spend::Spent;
+use cf_block::{Block, Header, TxIds, genesis};
 use cf_bytes::{Hash32, Listed, NoMemory};
 use std::alloc::Global;
 use std::marker::Model;
-use std::thread::Threads;
+use std::thread::{Threads, join};
+
+// The filters of a chain's blocks, and beside them the heights of their hashes. The hashes of its transactions are let go.
+fn filters_and_heights<R: Threads + Sync>(
+    rt: &R,
+    alloc: Global,
+    blocks: &[Block],
+    hashes: &[Hash32],
+    spent: &[Spent],
+    txids: Listed<TxIds>,
+) -> Result<(Listed<BlockFilter>, Heights), NoMemory>
+    requires { AreKept blocks.now hashes.now spent.now }
+    ensures filters { IfOk result (λ both. map shown both.0 ≡ filters_of blocks.now) }
+    ensures heights { IfOk result (λ both. AreHeightsOf both.1 blocks.now) }
+{
+    let (filters, heights) = join(
+        rt,
+        move || -> Result<Listed<BlockFilter>, NoMemory>
+            requires { IsSync R.row × AreKept blocks.now hashes.now spent.now }
+            ensures { IfOk result (λ list. map shown list ≡ filters_of blocks.entry.now) }
+        { all_filters(rt, alloc, blocks, hashes, spent) },
+        move || -> Result<Heights, NoMemory>
+            requires { length hashes.now ≤ max_height }
+            ensures { IfOk result (λ heights. (hash : Hash32) → get heights hash ≡ position (λ h. same h.0 hash.0) (first_hash ∷ hashes.entry.now)) }
+        {
+            drop(txids);
+            heights_of(alloc, hashes)
+        },
+    );
+    Ok((filters?, heights?))
+}
 
 /// A checked chain with its filters, by height and by hash. Contracts see the list of its blocks above genesis, the lowest first.
 #[derive(Drop)]
@@ -56,18 +93,15 @@ impl Index {
             spent,
             tip: _,
         } = chain;
-        drop(txids);
         let genesis = genesis(alloc)?;
-        let filters = all_filters(
+        let (filters, heights) = filters_and_heights(
             rt,
             alloc,
             blocks.as_slice(),
             hashes.as_slice(),
             spent.as_slice(),
+            txids,
         )?;
-        drop(hashes);
-        drop(spent);
-        let heights = heights_of(alloc, filters.as_slice())?;
         Ok(Index {
             genesis,
             blocks,
