@@ -1,5 +1,6 @@
 //! The ends of a queue.
-ghost use Rattle.std.specs.Prelude.{◌≡◌, ◌<◌, ◌+◌, ◌^◌, List, [], true, IfOk, IfErr, IfSome, IfNone, OnOk};
+ghost use Rattle.std.specs.Prelude.{◌≡◌, ◌<◌, ◌+◌, ◌^◌, List, [], true, IfOk, IfErr, IfSome, IfNone, OnOk, OnErr};
+ghost use Rattle.cf_bytes.specs.Outside.{HasRisen};
 ghost use Rattle.crossbeam_channel.specs.Claims.{view, IsSeatAt};
 ghost use Rattle.crossbeam_channel.specs.Ends.{sends_on, receives_on};
 ghost use Rattle.cf_line.specs.Queue.{receiver, sender, with_sent, with_got, with_made, with_ended, entry, Accounts};
@@ -29,6 +30,8 @@ pub struct Sender<M: Drop> {
     pub seat: Seat<M>,
     /// Its number.
     pub number: u8,
+    // How often an entry came back to it.
+    returned: u64,
     pub ghost seated: { IsSeatAt (sends_on line) seat },
     pub ghost sends: { (view seat).sends ≡ true },
     pub ghost numbered: { (view seat).from ≡ number },
@@ -42,21 +45,38 @@ impl<M: Drop> Sender<M> {
         self.number
     }
 
-    /// Sends an entry under its number. It waits where the queue is full. An entry that comes back was not sent.
+    /// How often an entry came back to it. The count stands still at the greatest u64.
+    pub fn returned(&self) -> u64
+        ensures { result ≡ self.now.returned }
+    {
+        self.returned
+    }
+
+    /// Sends an entry under its number. It waits where the queue is full. An entry that comes back was not sent, and is counted.
     pub fn send<R: Wait>(&mut self, rt: &R, kind: M) -> Result<(), M>
         ensures ring { sends_on self.new.line ≡ sends_on self.old.line }
         ensures number { self.new.number ≡ self.old.number }
         ensures ok { IfOk result (λ _. view self.new.seat ≡ with_sent (view self.old.seat) (entry self.old.number kind)) }
         ensures err { IfErr result (λ k. (k ≡ kind) × (view self.new.seat ≡ view self.old.seat)) }
+        ensures kept { OnOk result (self.new.returned ≡ self.old.returned) }
+        ensures returned { OnErr result (HasRisen self.old.returned self.new.returned) }
     {
-        let Sender { line, seat, number } = self;
+        let Sender {
+            line,
+            seat,
+            number,
+            returned,
+        } = self;
         let entry = Entry {
             from: *number,
             kind,
         };
         match line.send_as::<Sent, R>(rt, seat, entry) {
             Ok(()) => Ok(()),
-            Err(e) => Err(e.into_inner().kind),
+            Err(e) => {
+                *returned = returned.saturating_add(1);
+                Err(e.into_inner().kind)
+            }
         }
     }
 }
@@ -108,13 +128,19 @@ impl<M: Drop> Queue<M> {
         ensures ring { sends_on self.new.line ≡ sends_on self.old.line }
         ensures made { OnOk result (view self.new.seat ≡ with_made (view self.old.seat)) }
         ensures sender { IfOk result (λ s. (sends_on s.line ≡ sends_on self.old.line) × (view s.seat ≡ sender self.old.made) × (s.number ≡ self.old.made)) }
+        ensures fresh { IfOk result (λ s. s.returned ≡ 0) }
         ensures err { IfErr result (λ _. view self.new.seat ≡ view self.old.seat) }
     {
         let line = self.line.try_clone()?;
         let seat = self.line.another::<Made>(&mut self.seat);
         let number = self.made;
         self.made += 1;
-        Ok(Sender { line, seat, number })
+        Ok(Sender {
+            line,
+            seat,
+            number,
+            returned: 0,
+        })
     }
 
     /// The next entry. It waits for one.
@@ -155,6 +181,7 @@ impl<M: Drop> Queue<M> {
         ensures ring { receives_on result.0.front ≡ sends_on result.1.line }
         ensures taker { view result.0.seat ≡ with_made receiver }
         ensures sender { (view result.1.seat ≡ sender 0) × (result.1.number ≡ 0) }
+        ensures fresh { result.1.returned ≡ 0 }
     {
         let Queue {
             line,
@@ -170,6 +197,7 @@ impl<M: Drop> Queue<M> {
                 line,
                 seat: theirs,
                 number: 0,
+                returned: 0,
             },
         )
     }
