@@ -1,5 +1,5 @@
 -- Lists whose items are known by their places.
-use Rattle.std.proofs.Common.{◌≡◌, ◌<◌, ◌+◌, ℕ, zero, suc, List, [], ◌∷◌, ◌++◌, Option, Some, None, length, slice_index_or, ◌⊎◌, inl, inr, sym, refl, ap, ◌∙◌, subst, append-nil, arith}
+use Rattle.std.proofs.Common.{◌≡◌, ◌<◌, ◌+◌, ℕ, zero, suc, List, [], ◌∷◌, ◌++◌, length, slice_index_or, ◌⊎◌, inl, inr, sym, refl, ap, ◌∙◌, subst, arith}
 use Rattle.std.proofs.Common.{All}
 use Rattle.crossbeam_channel.specs.Ends.{sends_on}
 use Rattle.cf_line.specs.declared.ends.Queue.{Queue}

@@ -1,18 +1,16 @@
 -- Writers by their places, as one is added or changed.
-use Rattle.std.proofs.Common.{◌≡◌, ◌⊎◌, ◌<◌, ◌+◌, ℕ, zero, suc, Bool, true, false, true≢false, List, [], ◌∷◌, ◌++◌, Option, Some, None, length, map, slice_set, slice_index_or, get_or, sym, refl, ap, ◌∙◌, subst, inl, inr, arith}
+use Rattle.std.proofs.Common.{◌≡◌, ◌⊎◌, ◌<◌, ◌≤◌, ◌+◌, ℕ, zero, suc, Bool, true, false, true≢false, List, [], ◌∷◌, ◌++◌, Option, Some, None, length, map, slice_set, slice_index_or, sym, refl, ap, ◌∙◌, subst, inl, inr, arith}
 use Rattle.std.specs.List.{slice_get}
 use Rattle.std.proofs.lemmas.List.{map-append}
-use Rattle.std.proofs.lemmas.Option.{get_or_from_slice_get}
+use Rattle.std.proofs.lemmas.Option.{get_or_from_slice_get, slice_get_within}
 use Rattle.std.proofs.Math.Seq.{map-set_same}
 use Rattle.cf_line.specs.declared.entry.Entry.{Entry}
-use Rattle.cf_line.specs.Queue.{of}
 use Rattle.cf_hub.specs.declared.entry.Kind.{Kind}
 use Rattle.cf_hub.proofs.Lines.{below}
-use Rattle.cf_hub.specs.Pieces.{is_open}
 use Rattle.cf_hub.specs.declared.reader.Reader.{Reader}
 use Rattle.cf_hub.specs.Finish.{Read, whose, begun, numbers_of, read_numbers}
 use Rattle.cf_hub.specs.Over.{is_there, connected, numbers_from, AllGone, Heard, HaveEnded}
-use Rattle.cf_hub.specs.Writers.{text_in, texts, AreOpen, Shuts}
+use Rattle.cf_hub.specs.Writers.{text_in, texts, AreOpen, AreShut, Shuts}
 
 abbrev present : {X : Type 0} → Option X → Bool
 present None = false
@@ -36,6 +34,12 @@ module _ {X : Type 0} where
   set_at (a ∷ rest) zero (suc q) x y e = inr e
   set_at (a ∷ rest) (suc p) zero x y e = inr e
   set_at (a ∷ rest) (suc p) (suc q) x y e = elim (set_at rest p q x y e) [ inl h ↦ inl (ap suc h.0, h.1) | inr h ↦ inr h ]
+
+  -- what stands at the place where one was set
+  set_there : (xs : List X) (p : ℕ) (x y z : X) → slice_get xs p ≡ Some z → slice_get (slice_set xs p x) p ≡ Some y → x ≡ y
+  set_there [] p x y z there e = absurd (none_is z there)
+  set_there (a ∷ rest) zero x y z there e = some_is x y e
+  set_there (a ∷ rest) (suc p) x y z there e = set_there rest p x y z there e
 
   -- what stands at a place once one was added
   more_at : (xs : List X) (q : ℕ) (x y : X) → slice_get (xs ++ x ∷ []) q ≡ Some y → (slice_get xs q ≡ Some y) ⊎ (x ≡ y)
@@ -177,3 +181,36 @@ shuts_written written was_shut p ws ws' s = elim s [ inl x ↦ ap (texts written
 
 pub shuts_open : {W : Type 0} (written : W → Option (List ℕ)) (was_shut : W → Bool) (closed : List Bool) (p : ℕ) (ws ws' : List (Option W)) → Shuts written was_shut p ws ws' → slice_index_or closed p false ≡ true → AreOpen was_shut closed ws → AreOpen was_shut closed ws'
 shuts_open {W = W} written was_shut closed p ws ws' s m h = elim s [ inl x ↦ (let Q : List (Option W) → Type 0 = AreOpen was_shut closed in subst Q (sym x.1) h) | inr x ↦ marked_open was_shut closed ws ws' p x.1 x.3 m h ]
+
+-- the writers at the first places are shut
+abbrev pub FirstShut : {W : Type 0} → (W → Bool) → ℕ → List (Option W) → Type 0
+FirstShut {W} was_shut n ws = (q : ℕ) (w : W) → q < n → slice_get ws q ≡ Some (Some w) → was_shut w ≡ true
+
+pub none_shut : {W : Type 0} (was_shut : W → Bool) (ws : List (Option W)) → FirstShut was_shut 0 ws
+none_shut was_shut ws = λ q w l at. absurd (omega (arith, l))
+
+-- the next one was shut
+pub one_shut : {W : Type 0} (written : W → Option (List ℕ)) (was_shut : W → Bool) (p : ℕ) (ws ws' : List (Option W)) → Shuts written was_shut p ws ws' → FirstShut was_shut p ws → FirstShut was_shut (p + 1) ws'
+one_shut {W = W} written was_shut p ws ws' s h = λ q v l at. elim s [
+  | inl x ↦
+      let was : slice_get ws q ≡ Some (Some v) = sym (ap (λ l. slice_get l q) x.1) ∙ at in
+      elim (below q p l) [
+        | inl m ↦ h q v m was
+        | inr e ↦ absurd (true≢false (sym (there_at ws q (Some v) was) ∙ ap (λ i. slice_index_or (connected ws) i false) e ∙ x.0))
+      ]
+  | inr x ↦
+      let now : slice_get (slice_set ws p (Some x.1)) q ≡ Some (Some v) = sym (ap (λ l. slice_get l q) x.3) ∙ at in
+      elim (below q p l) [
+        | inl m ↦ elim (set_at ws p q (Some x.1) (Some v) now) [ inl y ↦ ap was_shut (sym (some_is x.1 v y.1)) ∙ x.5 | inr y ↦ h q v m y ]
+        | inr e ↦
+            let here : slice_get (slice_set ws p (Some x.1)) p ≡ Some (Some v) = ap (λ i. slice_get (slice_set ws p (Some x.1)) i) (sym e) ∙ now in
+            ap was_shut (sym (some_is x.1 v (set_there ws p (Some x.1) (Some v) (Some x.0) x.2 here))) ∙ x.5
+      ]
+]
+
+-- there are no more
+pub all_shut : {W : Type 0} (was_shut : W → Bool) (n : ℕ) (ws : List (Option W)) → length ws ≤ n → FirstShut was_shut n ws → AreShut was_shut ws
+all_shut was_shut n ws few h = λ p w at. let within = slice_get_within ws p (Some w) at in h p w (omega (arith, within, few)) at
+
+pub still_shut : {W : Type 0} (was_shut : W → Bool) (ws ws' : List (Option W)) → ws' ≡ ws → AreShut was_shut ws → AreShut was_shut ws'
+still_shut {W = W} was_shut ws ws' e h = let Q : List (Option W) → Type 0 = AreShut was_shut in subst Q (sym e) h

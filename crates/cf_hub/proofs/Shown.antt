@@ -1,10 +1,10 @@
 -- What the deliveries that were given show of the sources and of the pulse.
-use Rattle.std.proofs.Common.{◌≡◌, ◌⊎◌, ◌<◌, ◌+◌, ℕ, Bool, true, false, true≢false, not, List, [], ◌∷◌, ◌++◌, Option, Some, None, length, take, get_or, All, sym, refl, ap, ◌∙◌, subst, inl, inr, append_assoc, arith}
+use Rattle.std.proofs.Common.{◌≡◌, ◌⊎◌, ◌<◌, ℕ, Bool, true, false, true≢false, not, List, [], ◌∷◌, ◌++◌, Option, Some, None, take, get_or, All, sym, refl, ap, ◌∙◌, subst, inl, inr, append_assoc}
 use Rattle.cf_bytes.specs.Outside.{HasRisen, with_more}
 use Rattle.cf_line.specs.declared.entry.Entry.{Entry}
 use Rattle.cf_line.specs.Queue.{of, IsStart}
 use Rattle.cf_hub.specs.declared.entry.Kind.{Kind}
-use Rattle.cf_hub.specs.Pieces.{joined, is_open, Reads, HasLast}
+use Rattle.cf_hub.specs.Pieces.{is_open, Reads, HasLast}
 use Rattle.cf_hub.specs.Ticks.{ticks, Ticked}
 use Rattle.std.specs.Option.{ForSome}
 use Rattle.cf_hub.specs.Finish.{Read, Beat, Fronts}

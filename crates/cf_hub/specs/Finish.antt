@@ -1,5 +1,5 @@
 -- What is known of each reader, and of the ticker, once they are joined.
-use Rattle.std.specs.Prelude.{◌≡◌, ◌<◌, ℕ, List, All, map}
+use Rattle.std.specs.Prelude.{◌<◌, ℕ, List, All, map}
 use Rattle.cf_line.specs.declared.entry.Entry.{Entry}
 use Rattle.cf_line.specs.declared.entry.Ended.{Ended}
 use Rattle.cf_line.specs.Queue.{of}

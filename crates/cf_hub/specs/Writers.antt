@@ -1,5 +1,5 @@
 -- What is written to peers.
-use Rattle.std.specs.Prelude.{◌≡◌, ◌⊎◌, ◌+◌, ◌≤◌, ℕ, Bool, true, false, List, [], ◌∷◌, ◌++◌, Option, Some, None, Result, Ok, Err, length, map, take, slice_set, slice_index_or}
+use Rattle.std.specs.Prelude.{◌≡◌, ◌⊎◌, ◌≤◌, ℕ, Bool, true, false, List, [], ◌∷◌, ◌++◌, Option, Some, None, Result, Ok, Err, length, map, take, slice_set, slice_index_or}
 use Rattle.std.specs.List.{sum_by, slice_get}
 use Rattle.cf_bytes.specs.Outside.{with_more}
 use Rattle.cf_hub.specs.Over.{connected}
@@ -49,6 +49,10 @@ module _ {W : Type 0} (was_shut : W → Bool) where
   -- the writer of each peer that isn't marked as closed isn't shut
   abbrev pub AreOpen : List Bool → List (Option W) → Type 0
   AreOpen closed ws = (p : ℕ) (w : W) → slice_get ws p ≡ Some (Some w) → slice_index_or closed p false ≡ false → was_shut w ≡ false
+
+  -- each writer is shut
+  abbrev pub AreShut : List (Option W) → Type 0
+  AreShut ws = (p : ℕ) (w : W) → slice_get ws p ≡ Some (Some w) → was_shut w ≡ true
 
   -- what a dial does: a writer that isn't shut, or none, at the next place, or nothing
   abbrev pub Opens : {T : Type 0} → Result T WireFail → List (Option W) → List (Option W) → Type 0

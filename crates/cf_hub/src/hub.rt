@@ -15,7 +15,7 @@ ghost use Rattle.cf_hub.specs.Kept.{no_script};
 ghost use Rattle.cf_hub.specs.Finish.{whose, begun, numbers_of, read_numbers, Fronts};
 ghost use Rattle.cf_hub.specs.Gives.{delivery_of, given_of, IsProper, LogGives, IsFront};
 ghost use Rattle.cf_hub.specs.Lines.{Down, Up};
-ghost use Rattle.cf_hub.specs.Writers.{faults_in, texts, Adds, AreOpen, Opens, Sends, Shuts};
+ghost use Rattle.cf_hub.specs.Writers.{faults_in, texts, Adds, AreOpen, AreShut, Opens, Sends, Shuts};
 ghost use Rattle.cf_hub.specs.Shown.{Shows, ShowsTicks};
 ghost use Rattle.cf_hub.specs.Threads.{HandsOver, MayHandOver, MayMiss, Takes};
 ghost use Rattle.cf_line.specs.Waiting.{HasGiven, HasFailed};
@@ -390,6 +390,7 @@ impl<D: Dialer, P: Pulse, R: Wait + Threads + Copy + Drop> Hub<D, P, R> {
     // Shuts each connection.
     fn shut_all(&mut self)
         requires { self.old.book.finished ≡ true }
+        ensures shut { AreShut D.Write.was_shut self.new.writers.items }
         ensures written { texts D.Write.written self.new.writers.items ≡ texts D.Write.written self.old.writers.items }
         ensures book { self.new.book ≡ self.old.book }
         ensures dialer { self.new.dialer ≡ self.old.dialer }
@@ -786,6 +787,7 @@ impl<D: Dialer, P: Pulse, R: Wait + Threads + Copy + Drop> Wires for Hub<D, P, R
         ensures same { no_script ≡ no_script }
         ensures joined { self.new.joined ≡ true }
         ensures whose { map whose self.new.done.items ≡ map begun self.old.reading.items }
+        ensures shut { AreShut D.Write.was_shut self.new.writers.items }
         ensures written { texts D.Write.written self.new.writers.items ≡ texts D.Write.written self.old.writers.items }
         ensures own { (self.new.missed ≡ self.old.missed) × (self.new.dialer ≡ self.old.dialer) }
     {

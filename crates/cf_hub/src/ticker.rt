@@ -3,6 +3,7 @@ ghost use Rattle.std.specs.Prelude.{◌≡◌, ◌⊎◌, ◌++◌, ◌∷◌, [
 ghost use Rattle.cf_bytes.specs.Outside.{with_more};
 ghost use Rattle.crossbeam_channel.specs.Claims.{view};
 ghost use Rattle.crossbeam_channel.specs.Ends.{sends_on};
+ghost use Rattle.cf_hub.specs.Pieces.{HasStopped};
 ghost use Rattle.cf_hub.specs.Ticks.{TicksOn, TicksOff, Ticked};
 
 use crate::entry::{Kind, Seconds};
@@ -44,9 +45,10 @@ fn tick_one<P: Pulse, R: Wait>(
     stop: &Arc<AtomicBool, Global>,
 ) -> bool
     ensures ring { (sends_on sender.new.line ≡ sends_on sender.old.line) × (sender.new.number ≡ sender.old.number) }
+    ensures kept { result ≡ true → sender.new.returned ≡ sender.old.returned }
     ensures step { MatchBool result
         (TicksOn P.answers sender.old.number pulse.old (view sender.old.seat).sent (view sender.new.seat).sent pulse.new)
-        (TicksOff P.answers sender.old.number pulse.old (view sender.old.seat).sent (view sender.new.seat).sent pulse.new) }
+        (TicksOff P.answers sender.old.number pulse.old (view sender.old.seat).sent sender.old.returned (view sender.new.seat).sent sender.new.returned pulse.new) }
 {
     let seconds = pulse.wait();
     if stop.load(Ordering::SeqCst) {
@@ -59,7 +61,7 @@ fn tick_one<P: Pulse, R: Wait>(
 impl<P: Pulse, R: Wait + Drop> Task for Ticker<P, R> {
     type Out = Stopped<P>;
 
-    ghost gives = { λ t o. (sends_on o.sender.line ≡ sends_on t.sender.line) × (o.sender.number ≡ t.sender.number) × Ticked P.answers t.pulse (view o.sender.seat).sent o.pulse };
+    ghost gives = { λ t o. (sends_on o.sender.line ≡ sends_on t.sender.line) × (o.sender.number ≡ t.sender.number) × Ticked P.answers t.pulse (view o.sender.seat).sent o.pulse × HasStopped t.sender.returned (view o.sender.seat).sent o.sender.returned };
 
     fn run(self) -> Stopped<P> {
         let Ticker {

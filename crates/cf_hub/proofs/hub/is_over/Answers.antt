@@ -1,4 +1,4 @@
-use Rattle.std.proofs.Common.{rules, arith, ◌≡◌, ◌<◌, ℕ, true, false, slice_index_or}
+use Rattle.std.proofs.Common.{rules, arith, ◌≡◌, true, false, slice_index_or}
 use Rattle.cf_hub.specs.Over.{connected}
 use Rattle.cf_hub.proofs.Opened.{one_further, within}
 use Rattle.cf_hub.proofs.hub.is_over.Goals as goal

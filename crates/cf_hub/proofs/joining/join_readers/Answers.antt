@@ -1,10 +1,9 @@
-use Rattle.std.proofs.Common.{arith, ◌≡◌, ◌∙◌, ◌++◌, ◌∷◌, [], List, ap, sym, append-nil, length, refl, subst, map}
+use Rattle.std.proofs.Common.{arith, ◌∙◌, ap, sym, length, refl, map}
 use Rattle.cf_line.specs.declared.entry.Entry.{Entry}
 use Rattle.cf_line.specs.declared.entry.View.{View}
 use Rattle.cf_hub.specs.declared.entry.Kind.{Kind}
 use Rattle.crossbeam_channel.specs.Claims.{view}
-use Rattle.cf_line.specs.declared.entry.Ended.{Ended}
-use Rattle.cf_hub.specs.Finish.{Read, end_of, whose, begun}
+use Rattle.cf_hub.specs.Finish.{whose, begun}
 use Rattle.cf_hub.proofs.Finishes.{moves_on, one_less, finishes, positive, none_left, no_more, whose_more, ended_more}
 use Rattle.cf_hub.proofs.joining.join_readers.Goals as goal
 

@@ -1,4 +1,4 @@
-use Rattle.std.proofs.Common.{rules, ◌≡◌, ◌<◌, ◌∙◌, ap, slice_set, vec_len, Some, refl}
+use Rattle.std.proofs.Common.{rules, ◌≡◌, ◌<◌, ◌∙◌, ap, vec_len, Some, refl}
 use Rattle.std.proofs.lemmas.Option.{slice_get_read}
 use Rattle.cf_hub.proofs.Opened.{same_there, same_open}
 use Rattle.cf_hub.proofs.WriterFaults.{on_both, on_both_err, counts_stay, counts_rise}

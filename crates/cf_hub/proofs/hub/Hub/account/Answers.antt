@@ -1,4 +1,3 @@
-use Rattle.std.proofs.Common.{rules}
 use Rattle.cf_hub.proofs.Shown.{all_show, shows_ticks}
 use Rattle.crossbeam_channel.specs.Claims.{view}
 use Rattle.cf_hub.proofs.hub.Hub.account.Goals as goal

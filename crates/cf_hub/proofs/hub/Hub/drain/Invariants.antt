@@ -1,5 +1,4 @@
-use Rattle.std.proofs.Common.{◌≡◌, ◌++◌}
-use Rattle.cf_hub.specs.Writers.{faults_in}
+use Rattle.std.proofs.Common.{◌≡◌}
 use Rattle.cf_hub.proofs.hub.Hub.drain.Given as goal
 
 abbrev pub invariant-loop : goal.invariant-loop

@@ -1,5 +1,4 @@
-use Rattle.std.proofs.Common.{rules, arith, ◌≡◌, ◌≤◌, ◌+◌, ◌∙◌, ◌++◌, ◌∷◌, [], None, sym, ap, refl, vec_len, vec_capacity}
-use Rattle.crossbeam_channel.specs.Ends.{sends_on}
+use Rattle.std.proofs.Common.{arith, ◌≡◌, ◌≤◌, ◌+◌, ◌∙◌, ◌++◌, ◌∷◌, [], None, sym, ap, vec_len, vec_capacity}
 use Rattle.cf_peer.specs.Log.{Tally}
 use Rattle.cf_hub.proofs.Heard.{nobody}
 use Rattle.cf_hub.specs.Over.{connected, numbers_from}

@@ -1,12 +1,11 @@
-use Rattle.std.proofs.Common.{rules, arith, ◌≡◌, ◌≤◌, ◌<◌, ◌+◌, ◌∙◌, ◌++◌, ◌∷◌, [], sym, ap, refl, subst, true, true≢false, vec_len, vec_capacity, length, List, Option, Some, None}
+use Rattle.std.proofs.Common.{arith, ◌≡◌, ◌≤◌, ◌+◌, ◌∙◌, ◌++◌, ◌∷◌, [], sym, ap, refl, vec_len, vec_capacity, length}
 use Rattle.crossbeam_channel.specs.Claims.{view}
-use Rattle.crossbeam_channel.specs.Ends.{sends_on}
 use Rattle.cf_peer.specs.Log.{Told}
 use Rattle.cf_hub.specs.Book.{told_of}
 use Rattle.cf_hub.specs.Gives.{given_of}
-use Rattle.cf_hub.proofs.Takes.{same_log, same_heard, same_within, same_front, same_fronts, missed_log, moved_fronts}
+use Rattle.cf_hub.proofs.Takes.{same_log, same_heard, same_within, same_front, missed_log, moved_fronts}
 use Rattle.cf_hub.proofs.Lines.{down_popped}
-use Rattle.cf_hub.proofs.Opened.{opens_same, opens_none, opens_closed, numbers_none, ended_none, ended_same}
+use Rattle.cf_hub.proofs.Opened.{opens_same, opens_none, numbers_none, ended_none, ended_same}
 use Rattle.cf_hub.proofs.hub.Hub.skip.Goals as goal
 
 pub invariant_of-self : goal.invariant_of-self

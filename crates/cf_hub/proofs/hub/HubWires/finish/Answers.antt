@@ -1,16 +1,9 @@
-use Rattle.std.proofs.Common.{rules, arith, ◌≡◌, ◌≤◌, ◌<◌, ◌+◌, ◌∙◌, ◌++◌, ◌∷◌, [], sym, ap, refl, subst, true, true≢false, vec_len, vec_capacity, length, List, Option, Some, None}
+use Rattle.std.proofs.Common.{arith, ◌≡◌, ◌+◌, ◌∙◌, sym, ap, refl, true, true≢false, vec_len}
 use Rattle.crossbeam_channel.specs.Claims.{view}
-use Rattle.crossbeam_channel.specs.Ends.{sends_on}
 use Rattle.cf_peer.specs.Log.{Told}
-use Rattle.cf_peer.specs.declared.event.Delivery.TheVariants as gives
-use Rattle.cf_hub.specs.declared.entry.Kind.TheVariants as kinds
 use Rattle.cf_hub.specs.Book.{told_of}
-use Rattle.cf_hub.specs.Gives.{given_of, IsFront}
-use Rattle.cf_line.specs.Queue.{of}
-use Rattle.cf_hub.proofs.Takes.{none_all, no_fronts, same_fronts, none_for, wait_log, wait_within, not_given, is_given, got_is, gone_is, tick_is, got_none, gone_none, tick_none, took_log, took_count, ended_log, finished_log, same_log, same_heard, same_within, same_front, dialled_log, missed_log}
-use Rattle.cf_hub.proofs.Lines.{down_popped, reading_pushed}
-use Rattle.cf_hub.proofs.Opened.{opens_same, opens_more, opens_none, numbers_none, reading_more, same_numbers, ended_same, have_ended}
-use Rattle.cf_hub.specs.Finish.{numbers_of, read_numbers}
+use Rattle.cf_hub.proofs.Takes.{finished_log, same_within}
+use Rattle.cf_hub.proofs.Opened.{still_shut}
 use Rattle.cf_hub.proofs.hub.HubWires.finish.Goals as goal
 
 pub invariant_of-self : goal.invariant_of-self
@@ -41,3 +34,8 @@ invariant_of-self g c =
       reading_are = c.args.self.now.reading_are;
       done_are = c.args.self.now.done_are;
     }
+
+pub returns-clause-shut : goal.returns-clause-shut
+returns-clause-shut g c =
+    let same : c.join_all.new.self.writers.items ≡ c.shut_all.new.self.writers.items = ap (λ v. v.items) (c.join_all.ensures.writers ∙ c.drain.ensures.writers) in
+    still_shut g.D.Write.Writer.was_shut c.shut_all.new.self.writers.items c.join_all.new.self.writers.items same c.shut_all.ensures.shut

@@ -1,16 +1,9 @@
-use Rattle.std.proofs.Common.{rules, arith, ◌≡◌, ◌≤◌, ◌<◌, ◌+◌, ◌∙◌, ◌++◌, ◌∷◌, [], sym, ap, refl, subst, true≢false, vec_len, vec_capacity, length, List, Option, Some, None}
+use Rattle.std.proofs.Common.{rules, arith, ◌≡◌, ◌+◌, ◌∙◌, ◌++◌, ◌∷◌, [], sym, ap, refl, vec_len}
 use Rattle.crossbeam_channel.specs.Claims.{view}
-use Rattle.crossbeam_channel.specs.Ends.{sends_on}
 use Rattle.cf_peer.specs.Log.{Told}
-use Rattle.cf_peer.specs.declared.event.Delivery.TheVariants as gives
-use Rattle.cf_hub.specs.declared.entry.Kind.TheVariants as kinds
 use Rattle.cf_hub.specs.Book.{told_of}
-use Rattle.cf_hub.specs.Gives.{given_of, IsFront}
-use Rattle.cf_line.specs.Queue.{of}
-use Rattle.cf_hub.proofs.Takes.{none_all, no_fronts, same_fronts, none_for, wait_log, wait_within, not_given, is_given, got_is, gone_is, tick_is, got_none, gone_none, tick_none, took_log, took_count, ended_log, same_log, same_heard, same_within, same_front, dialled_log, missed_log}
-use Rattle.cf_hub.proofs.Lines.{down_popped, reading_pushed}
-use Rattle.cf_hub.proofs.Opened.{opens_same, opens_more, opens_none, numbers_none, reading_more, same_numbers, ended_same, have_ended}
-use Rattle.cf_hub.specs.Finish.{numbers_of, read_numbers}
+use Rattle.cf_hub.proofs.Takes.{ended_log, same_log, same_within}
+use Rattle.cf_hub.proofs.Opened.{opens_same, have_ended}
 use Rattle.cf_hub.specs.Over.{AllGone}
 use Rattle.cf_hub.proofs.hub.HubWires.next.Goals as goal
 

@@ -1,5 +1,4 @@
-use Rattle.std.proofs.Common.{◌≡◌, ◌++◌}
-use Rattle.cf_hub.specs.Writers.{faults_in}
+use Rattle.std.proofs.Common.{◌≡◌}
 use Rattle.crossbeam_channel.specs.Claims.{view}
 use Rattle.cf_hub.specs.Gives.{given_of}
 use Rattle.cf_hub.proofs.hub.HubWires.next.Given as goal

@@ -1,0 +1,24 @@
+use Rattle.std.proofs.Common.{arith, ◌≤◌, ◌∙◌, length}
+use Rattle.cf_hub.proofs.Opened.{one_shut, all_shut}
+use Rattle.cf_hub.proofs.hub.Hub.shut_all.Goals as goal
+
+pub loop-p-preserved : goal.loop-p-preserved
+loop-p-preserved g c =
+    let i = c.loop-p.invariant in
+    record {
+      book = c.shut.ensures.book ∙ i.book;
+      dialer = c.shut.ensures.dialer ∙ i.dialer;
+      missed = c.shut.ensures.missed ∙ i.missed;
+      reading = c.shut.ensures.reading ∙ i.reading;
+      done = c.shut.ensures.done ∙ i.done;
+      rested = c.shut.ensures.rested ∙ i.rested;
+      joined = c.shut.ensures.joined ∙ i.joined;
+      shut = one_shut g.D.Write.Sink.written g.D.Write.Writer.was_shut c.loop-p.p c.loop-p.self.writers.items c.shut.new.self.writers.items c.shut.ensures.shut i.shut;
+      written = c.shut.ensures.written ∙ i.written;
+      faults = c.shut.ensures.faults ∙ i.faults;
+    }
+
+pub returns-clause-shut : goal.returns-clause-shut
+returns-clause-shut g c =
+    let few : length c.loop-p.self.writers.items ≤ c.loop-p.p = omega (arith, c.loop-p-test.false, c.loop-p.self.places, c.loop-p.self.numbers, c.loop-p.self.writers.ok.0) in
+    all_shut g.D.Write.Writer.was_shut c.loop-p.p c.loop-p.self.writers.items few c.loop-p.invariant.shut
