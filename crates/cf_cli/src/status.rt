@@ -1,12 +1,13 @@
 //! The answers of the program.
-ghost use Rattle.std.specs.Prelude.{◌≡◌};
+ghost use Rattle.std.specs.Prelude.{◌≡◌, ◌≢◌};
 ghost use Rattle.cf_cli.specs.Statuses.{code_of};
+ghost use Rattle.cf_cli.specs.declared.status.Which.TheVariants.{Blocks};
+ghost use Rattle.cf_cli.specs.declared.status.Spot.TheVariants.{Line, Nowhere, Record};
 
 use cf_bytes::Hash32;
 use cf_client::PeerEnd;
 use cf_index::RecordCause;
 use cf_input::{AddressCause, ProofCause, SessionCause, WatchCause};
-use std::fmt;
 use thiserror::Error;
 
 /// A file that the program reads.
@@ -46,20 +47,32 @@ pub enum FileCause {
     Proof(ProofCause),
 }
 
-// Where in a file the fault is: at a record of a block file, at a line of another, or nowhere, with 0.
-#[derive(Drop)]
-struct Spot {
-    which: Which,
-    place: u32,
+// Where in a file a fault is, counted from 1.
+#[derive(Drop, Debug, Error)]
+enum Spot {
+    // In none of its records or lines.
+    #[error("")]
+    Nowhere,
+    // In a record of a block file.
+    #[error(", record {0}")]
+    Record(u32),
+    // In a line of another file.
+    #[error(", line {0}")]
+    Line(u32),
 }
 
-impl fmt::Display for Spot {
-    fn fmt<W: fmt::Write>(&self, f: &mut fmt::Formatter<W>) -> fmt::Result {
-        match (self.which, self.place) {
-            (_, 0) => Ok(()),
-            (Which::Blocks, place) => write!(f, ", record {place}"),
-            (Which::Watch | Which::Session | Which::Proof, place) => write!(f, ", line {place}"),
-        }
+// Where in a file the fault at this place is. The place is 0 where it is in no record or line.
+fn spot_of(which: Which, place: u32) -> Spot
+    ensures nowhere { place ≡ 0 → result ≡ Nowhere }
+    ensures record { place ≢ 0 → which ≡ Blocks → result ≡ Record place }
+    ensures line { place ≢ 0 → which ≢ Blocks → result ≡ Line place }
+{
+    if place == 0 {
+        return Spot::Nowhere;
+    }
+    match which {
+        Which::Blocks => Spot::Record(place),
+        Which::Watch | Which::Session | Which::Proof => Spot::Line(place),
     }
 }
 
@@ -76,7 +89,7 @@ pub enum Status {
     #[error("the words are no command")]
     Usage,
     /// A file isn't in its grammar or profile: the first line or record that is refused, counted from 1, and why.
-    #[error("the {which}{}: {cause}", Spot {which: *.which, place: *.place})]
+    #[error("the {which}{}: {cause}", spot_of(*.which, *.place))]
     BadFile {
         which: Which,
         place: u32,
