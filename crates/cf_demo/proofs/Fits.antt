@@ -1,5 +1,5 @@
 -- The replies of a good chain's machine to what a client may ask: each has a frame, and is an answer.
-use Rattle.std.proofs.Common.{◌≡◌, ◌==◌, ℕ, zero, suc, pos, ◌+◌, ◌-◌, ◌<◌, ◌≤◌, List, [], ◌∷◌, length, map, take, drop, Option, Some, None, Bool, true, false, if◌then◌else◌, refl, ◌∙◌, ap, arith, lit<, lit≤, slice_get, get_or, length-take}
+use Rattle.std.proofs.Common.{◌≡◌, ◌==◌, ℕ, zero, suc, pos, ◌+◌, ◌-◌, ◌<◌, ◌≤◌, List, [], ◌∷◌, length, map, take, drop, Option, Some, None, Bool, true, false, if◌then◌else◌, refl, ◌∙◌, ap, arith, lit<, lit≤, slice_get, length-take}
 use Rattle.std.specs.Prelude.{nat_lt, nat_le, min, option_to_list, ◌&&◌, ◌||◌}
 use Rattle.std.specs.List.{AllByRecursion}
 use Rattle.std.specs.FinMap.{empty}
@@ -16,16 +16,14 @@ use Rattle.cf_chain.specs.Good.{IsGoodChain, AreGoodBlocks}
 use Rattle.cf_chain.specs.Heights.{all_blocks, block_height}
 use Rattle.cf_chain.specs.Filters.{Filtered, first_filtered, filters_of}
 use Rattle.cf_chain.specs.Serve.{fork_height, most_headers, next_headers, block_in, block_with, headers_reply, data_reply, within, range_end, filters_between, cfilter_of, cfilters_reply, header_before, cfheaders_reply, reply_to, replies_to, replies, version_reply, is_version}
-use Rattle.cf_block.proofs.Roots.{length-hash_of}
 use Rattle.cf_msg.specs.declared.msg.Entry.{Entry}
 use Rattle.cf_msg.specs.declared.msg.Msg.{Msg}
 use Rattle.cf_msg.specs.declared.msg.Msg.TheVariants.{Version, Verack, Ping, GetHeaders, Headers, GetData, Block as BlockMessage, GetCfilters, GetCfheaders, Cfheaders, GetCfcheckpt}
-use Rattle.cf_msg.specs.Message.{HasSpelling}
-use Rattle.cf_msg.proofs.Sizes.{IsSmall, payload_fits}
 use Rattle.cf_peer.specs.Acts.{IsSendable}
 use Rattle.cf_peer.specs.Asking.{MayAsk}
 use Rattle.cf_peer.specs.Trail.{Trail}
-use Rattle.cf_server.proofs.Fitting.{IsFit, block_fits, filter_fits, shown_fits, hash_fits}
+use Rattle.cf_played.proofs.Written.{written, version_fits, all_places, cfilter_fits, hashes_fit, before_fits}
+use Rattle.cf_server.proofs.Fitting.{IsFit, block_fits, filter_fits, hash_fits}
 use Rattle.cf_server.proofs.Lists.{all-take, all-drop, all-append, all-map, all-flat_map}
 use Rattle.cf_sync.specs.Honesty.{is_chatter, IsAnswer}
 
@@ -52,24 +50,11 @@ may_question t (Ping n) h = absurd h
 may_question t (GetCfcheckpt filter stop) h = absurd h
 may_question t m h = refl
 
-written : (m : Msg) → HasSpelling m → IsSmall m → IsSendable m
-written m h small = record { spelled = h; short = payload_fits m h small }
-
 -- ---- each kind
 
 version_replies : (blocks : List Block) → IsGoodChain blocks → IsReply (version_reply (pos 0) 0 blocks)
 version_replies blocks good = record {
-  sendable = written (version_reply (pos 0) 0 blocks) (
-    record { sfits = omega arith },
-    lit< tt,
-    record { sfits = omega arith },
-    record { services = lit< tt; ip = refl; port = lit< tt },
-    record { services = lit< tt; ip = refl; port = lit< tt },
-    lit< tt,
-    lit≤ tt,
-    record { sfits = omega (arith, good.height) },
-    lit< tt,
-  ) (lit≤ tt);
+  sendable = version_fits blocks good;
   counts = refl;
   itself = (refl, refl);
 }
@@ -84,9 +69,7 @@ block_replies : (b : Block) → IsBlock b → IsReply (BlockMessage b)
 block_replies b is = record { sendable = written (BlockMessage b) is tt; counts = refl; itself = refl }
 
 cfilter_replies : (f : Filtered) → IsFit f → IsReply (cfilter_of f)
-cfilter_replies f fit = record { sendable = written (cfilter_of f) (lit< tt, fit.0, within_it fit.1) fit.1; counts = refl; itself = refl } where
-  within_it : length f.filter ≤ 3999900 → length f.filter ≤ 33554432
-  within_it few = omega (arith, few)
+cfilter_replies f fit = record { sendable = cfilter_fits f fit; counts = refl; itself = refl }
 
 cfheaders_replies : (stop previous : Hash32) (hashes : List Hash32) → IsHash stop → IsHash previous → length hashes ≤ 2000 → AllByRecursion IsHash hashes → IsReply (Cfheaders 0 stop previous hashes)
 cfheaders_replies stop previous hashes a b few each = record { sendable = written (Cfheaders 0 stop previous hashes) (lit< tt, a, b, few, each) tt; counts = refl; itself = refl }
@@ -102,11 +85,6 @@ heads_good blocks good = all-map IsBlock IsHeader (λ b. b.header) blocks (λ b 
 
 blocks_good : (blocks : List Block) → IsGoodChain blocks → AllByRecursion IsBlock (all_blocks blocks)
 blocks_good blocks good = (block_fits blocks 0 good, each_good empty blocks good.each)
-
--- each of a list at its own place
-all_places : {X : Type 0} (P : X → Type 0) (xs : List X) (d : X) → ((i : ℕ) → P (get_or xs i d)) → AllByRecursion P xs
-all_places P [] d at = tt
-all_places P (x ∷ xs) d at = (at 0, all_places P xs d (λ i. at (suc i)))
 
 filters_good : (blocks : List Block) → IsGoodChain blocks → AllByRecursion IsFit (filters_of blocks)
 filters_good blocks good = all_places IsFit (filters_of blocks) first_filtered (λ i. filter_fits blocks i good)
@@ -157,18 +135,6 @@ cfilters_good : (blocks : List Block) → IsGoodChain blocks → (start : ℕ) (
 cfilters_good blocks good start None = tt
 cfilters_good blocks good start (Some stop) = all-map IsFit IsReply cfilter_of (filters_between start stop blocks) cfilter_replies (between_good blocks good start stop)
 
-before_good : (blocks : List Block) → IsGoodChain blocks → (h : ℕ) → IsHash (header_before h blocks)
-before_good blocks good zero = refl
-before_good blocks good (suc h) = shown_fits blocks h good
-
-hash_long : (filter : List ℕ) → length (filter_hash_of filter) ≡ 32
-unfolding filter_hash_of
-hash_long filter = length-hash_of filter
-
-hash_good : (fs : List Filtered) → AllByRecursion IsHash (map (λ f. record { 0 = filter_hash_of f.filter }) fs)
-hash_good [] = tt
-hash_good (f ∷ fs) = (hash_long f.filter, hash_good fs)
-
 -- a range that is answered ends at its stop's height, and is short
 record Ends (limit start stop_height : ℕ) (stop : Hash32) (blocks : List Block) : Type 0 where
   there : block_height stop blocks ≡ Some stop_height
@@ -206,7 +172,7 @@ cfheaders_good blocks good start stop (Some height) ends =
     let hash_in : Filtered → Hash32 = λ f. record { 0 = filter_hash_of f.filter } in
     let many : length (hashes fs) ≡ length fs = length-map fs hash_in in (
       cfheaders_replies stop (header_before start blocks) (hashes fs)
-          (hash_fits stop blocks height e.there) (before_good blocks good start) (omega (arith, many, long, few)) (hash_good fs),
+          (hash_fits stop blocks height e.there) (before_fits blocks start good) (omega (arith, many, long, few)) (hashes_fit fs),
       tt,
     )
 

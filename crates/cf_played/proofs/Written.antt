@@ -24,12 +24,12 @@ use Rattle.cf_server.proofs.Fitting.{IsFit, block_fits, cfcheckpt_small, cfheade
 use Rattle.cf_server.proofs.Lists.{all-drop, all-map, all-take}
 use Rattle.cf_played.specs.Frames.{IsInRange, IsOther, machine}
 
-written : (m : Msg) → HasSpelling m → IsSmall m → IsSendable m
+pub written : (m : Msg) → HasSpelling m → IsSmall m → IsSendable m
 written m h small = record { spelled = h; short = payload_fits m h small }
 
 -- ---- the machine's
 
-version_fits : (blocks : List Block) → IsGoodChain blocks → IsSendable (version_reply (pos 0) 0 blocks)
+pub version_fits : (blocks : List Block) → IsGoodChain blocks → IsSendable (version_reply (pos 0) 0 blocks)
 version_fits blocks good = written (version_reply (pos 0) 0 blocks) (
   record { sfits = omega arith },
   lit< tt,
@@ -43,7 +43,7 @@ version_fits blocks good = written (version_reply (pos 0) 0 blocks) (
 ) (lit≤ tt)
 
 -- each of a list at its own place
-all_places : {X : Type 0} (P : X → Type 0) (xs : List X) (d : X) → ((i : ℕ) → P (get_or xs i d)) → AllByRecursion P xs
+pub all_places : {X : Type 0} (P : X → Type 0) (xs : List X) (d : X) → ((i : ℕ) → P (get_or xs i d)) → AllByRecursion P xs
 all_places P [] d at = tt
 all_places P (x ∷ xs) d at = (at 0, all_places P xs d (λ i. at (suc i)))
 
@@ -53,7 +53,7 @@ heads_fit blocks start count good =
     all-take IsHeader (drop start (map (λ (b : Block). b.header) (all_blocks blocks))) count
     (all-drop IsHeader (map (λ (b : Block). b.header) (all_blocks blocks)) start (all-map IsBlock IsHeader (λ b. b.header) (all_blocks blocks) (λ b fits. fits.header) each))
 
-cfilter_fits : (f : Filtered) → IsFit f → IsSendable (cfilter_of f)
+pub cfilter_fits : (f : Filtered) → IsFit f → IsSendable (cfilter_of f)
 cfilter_fits f fit = written (cfilter_of f) (lit< tt, fit.0, within_it fit.1) fit.1 where
   within_it : length f.filter ≤ 3999900 → length f.filter ≤ 33554432
   within_it few = omega (arith, few)
@@ -62,11 +62,11 @@ hash_long : (filter : List ℕ) → length (filter_hash_of filter) ≡ 32
 unfolding filter_hash_of
 hash_long filter = length-hash_of filter
 
-hashes_fit : (fs : List Filtered) → AllByRecursion IsHash (map (λ f. record { 0 = filter_hash_of f.filter }) fs)
+pub hashes_fit : (fs : List Filtered) → AllByRecursion IsHash (map (λ f. record { 0 = filter_hash_of f.filter }) fs)
 hashes_fit [] = tt
 hashes_fit (f ∷ fs) = (hash_long f.filter, hashes_fit fs)
 
-before_fits : (blocks : List Block) (h : ℕ) → IsGoodChain blocks → IsHash (header_before h blocks)
+pub before_fits : (blocks : List Block) (h : ℕ) → IsGoodChain blocks → IsHash (header_before h blocks)
 before_fits blocks zero good = refl
 before_fits blocks (suc h) good = shown_fits blocks h good
 
