@@ -1,0 +1,39 @@
+#!/usr/bin/env python3
+"""Writes the rows of cf_loopback, and what they come to: `loopback.py` writes stdin and stdout of crates/cf_loopback.
+
+Each row has a call that serves the chain of data/blocks.dat, and one that follows it over TCP. What that one writes is what a scan of every block tells, as
+bench/sessions.py has it.
+"""
+import os
+import sys
+
+BENCH = os.path.dirname(os.path.abspath(__file__))
+ROOT = os.path.dirname(BENCH)
+sys.path.insert(0, BENCH)
+from sessions import Chain
+
+REMARK = "# SERVING|WORDS|WATCH|BLOCKS: how the call WORDS ends that follows what the call SERVING serves, what it writes, and whether that one ends with `Done`."
+WATCHED = ["01087551"]
+CALLS = [
+    ("cf serve --connections 2 f @", "cf sync w @ @"),
+    ("cf serve --connections 8 f @", "cf sync --workers 1 w" + 8 * " @"),
+]
+
+
+def main():
+    with open(os.path.join(ROOT, "data", "blocks.dat"), "rb") as file:
+        blocks = file.read()
+    chain = Chain((7, 3))
+    if not all(block in blocks for block in chain.blocks[1:]):
+        raise SystemExit("data/blocks.dat has another chain")
+    told = "0 Done\n" + chain.history([bytes.fromhex(script) for script in WATCHED]) + "served\n"
+    rows = [f"{serving}|{words}|{';'.join(WATCHED)};|{blocks.hex()}" for serving, words in CALLS]
+    crate = os.path.join(ROOT, "crates", "cf_loopback")
+    with open(os.path.join(crate, "stdin"), "w") as file:
+        file.write("".join(row + "\n" for row in [REMARK, *rows]))
+    with open(os.path.join(crate, "stdout"), "w") as file:
+        file.write(REMARK + "\n" + "".join(f"{row}\n{told}" for row in rows))
+
+
+if __name__ == "__main__":
+    main()

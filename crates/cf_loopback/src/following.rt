@@ -1,0 +1,63 @@
+//! The call that follows.
+use crate::link::ToldLink;
+use crate::port::port;
+use crate::row::{shown, watch_in, words_at};
+use cf_bytes::{MapFiles, VecSink};
+use cf_cli::run;
+use cf_network::Network;
+use cf_peer::MemoryWires;
+use cf_played::Played;
+use cf_tasks::{InThreads, Spawner};
+use std::sync::Wait;
+use std::thread::Threads;
+
+// The most peers that a call names.
+const PEERS: usize = 8;
+
+// How a call ends that goes over TCP, and what it writes.
+fn followed<R: Wait + Threads + Sync + Copy + Drop + Send + 'static, K: Spawner>(
+    rt: HostRuntime,
+    handle: R,
+    words: &[String],
+    files: &mut MapFiles,
+    spawner: &mut K,
+) -> Option<String> {
+    let alloc = rt.alloc();
+    let mut link = ToldLink::new(rt, port(alloc)?);
+    let mut out = VecSink::new(alloc, 7, 1000).ok()?;
+    let (Ok(mut tape), Ok(mut played)) = (MemoryWires::new(alloc), Played::new(alloc)) else {
+        return None;
+    };
+    let Ok(mut network) = Network::new(&rt, handle, spawner, PEERS) else {
+        return None;
+    };
+    let status = run(
+        handle,
+        alloc,
+        words,
+        0,
+        0,
+        files,
+        &mut network,
+        &mut tape,
+        &mut played,
+        &mut link,
+        spawner,
+        &mut out,
+    );
+    shown(alloc, &status, out.bytes())
+}
+
+/// How a call ends that dials this port, and what it writes.
+pub(crate) fn follow<R: Wait + Threads + Sync + Copy + Drop + Send + 'static>(
+    rt: HostRuntime,
+    handle: R,
+    call: &str,
+    watch: &str,
+    port: u32,
+) -> Option<String> {
+    let alloc = rt.alloc();
+    let words = words_at(alloc, call, port)?;
+    let mut files = watch_in(alloc, watch)?;
+    followed(rt, handle, &words, &mut files, &mut InThreads::new(handle))
+}

@@ -1,0 +1,66 @@
+//! A listener over TCP that tells the port at which it listens.
+ghost use Rattle.std.specs.Prelude.{◌≡◌, ◌-◌, None};
+
+use crate::port::{Port, tell};
+use cf_bytes::{Failed, Hash32};
+use cf_serve::{Link, TcpConn, TcpEnd, TcpLink};
+
+/// A listener over TCP, which tells its port once it listens.
+#[derive(Drop)]
+pub(crate) struct ToldLink {
+    link: TcpLink<HostRuntime>,
+    port: Port,
+}
+
+impl ToldLink {
+    /// A listener that doesn't listen yet.
+    pub(crate) fn new(rt: HostRuntime, port: Port) -> ToldLink {
+        ToldLink {
+            link: TcpLink::new(rt),
+            port,
+        }
+    }
+
+    // Tells where it listens.
+    fn tell_port(&self) {
+        if let Some(place) = self.link.local_addr() {
+            tell(&self.port, place.port());
+        }
+    }
+}
+
+impl Link for ToldLink {
+    type Conn = TcpConn;
+
+    ghost faults = { λ l. l.link.faults };
+
+    ghost addresses = { λ _. None };
+
+    ghost accepted = { λ l. l.link.accepted };
+
+    ghost owed = { λ l. l.link.accepted - l.link.returned };
+
+    ghost conns = { λ _. None };
+
+    ghost given = { λ _. None };
+
+    fn listen(&mut self, address: &str) -> Result<(), Failed> {
+        let answer = self.link.listen(address);
+        if answer.is_ok() {
+            self.tell_port();
+        }
+        answer
+    }
+
+    fn announce(&mut self, height: u32, tip: &Hash32) {
+        self.link.announce(height, tip);
+    }
+
+    fn accept(&mut self) -> Result<TcpConn, Failed> {
+        self.link.accept()
+    }
+
+    fn give_back(&mut self, end: TcpEnd, how: u8) {
+        self.link.give_back(end, how);
+    }
+}

@@ -1,0 +1,90 @@
+//! `cf_loopback`: reads rows `SERVING|WORDS|WATCH|BLOCKS`, and prints each row and what it comes to: a chain that the program serves over TCP, and follows, in one
+//! process. SERVING is a call that serves the block file `f`, whose bytes are BLOCKS, in a thread; WORDS is one that follows it, with the watch file `w`, whose lines
+//! are WATCH, each with `;` at its end. In both, `@` is where the first one listens. A row that begins with `#` is a remark, and is printed as it is. A row that can't
+//! be read, or for which no memory is found, comes to `?`.
+#![tactic(auto)]
+
+mod following;
+mod link;
+mod port;
+mod row;
+mod serving;
+
+use crate::following::follow;
+use crate::port::{listening, port, same};
+use crate::row::{Row, read};
+use crate::serving::serve;
+use std::process::ExitCode;
+use std::sync::Wait;
+use std::thread;
+use std::thread::Threads;
+
+// What the call that follows comes to, and whether the one that serves ends with `Done`.
+fn both<R: Wait + Threads + Sync + Copy + Drop + Send + 'static>(
+    rt: HostRuntime,
+    handle: R,
+    row: Row,
+) -> Option<String> {
+    let Row {
+        serving,
+        blocks,
+        words,
+        watch,
+    } = row;
+    let port = port(rt.alloc())?;
+    let theirs = same(&port)?;
+    let server = thread::spawn(&handle, move || serve(rt, handle, serving, blocks, theirs)).ok()?;
+    let text = follow(
+        rt,
+        handle,
+        words.as_str(),
+        watch.as_str(),
+        listening(&rt, &port)?,
+    )?;
+    let word = if server.join(&handle) {
+        "served"
+    } else {
+        "unserved"
+    };
+    format!(in rt.alloc(); "{text}{word}").ok()
+}
+
+// What a row comes to.
+fn answer<R: Wait + Threads + Sync + Copy + Drop + Send + 'static>(
+    rt: HostRuntime,
+    handle: R,
+    row: &str,
+) -> Option<String> {
+    both(rt, handle, read(rt.alloc(), row)?)
+}
+
+// The lines that are printed for a row.
+fn shown<R: Wait + Threads + Sync + Copy + Drop + Send + 'static>(
+    rt: HostRuntime,
+    handle: R,
+    row: &str,
+) -> Option<String> {
+    let alloc = rt.alloc();
+    if row.starts_with('#') {
+        return format!(in alloc; "{row}").ok();
+    }
+    match answer(rt, handle, row) {
+        Some(text) => format!(in alloc; "{row}\n{text}").ok(),
+        None => format!(in alloc; "{row}\n?").ok(),
+    }
+}
+
+fn main(rt: HostRuntime) -> ExitCode {
+    for row in rt.lines(rt.alloc()) {
+        let Ok(row) = row else {
+            return ExitCode::from(1);
+        };
+        let Some(text) = shown(rt, rt, &row) else {
+            return ExitCode::from(2);
+        };
+        if println!(&rt; "{text}").is_err() {
+            return ExitCode::from(3);
+        }
+    }
+    ExitCode::SUCCESS
+}
