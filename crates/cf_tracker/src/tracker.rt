@@ -21,6 +21,7 @@ ghost use Rattle.cf_tracker.specs.Wanting.{ForgetsClaims, IsSameTables};
 use crate::cursors::Cursors;
 use crate::ends::{claims_end, filters_end};
 use crate::extracts::Extracts;
+use crate::first::First;
 use crate::judged::Judged;
 use crate::kind::is_any_disputed;
 use crate::spans::{Wish, span_of};
@@ -51,6 +52,7 @@ pub struct Report {
 pub struct Tracker<H: HeaderStore> {
     alloc: Global,
     watch: Watch,
+    genesis: First,
     store: H,
     extracts: Extracts,
     claims: Claims,
@@ -86,6 +88,7 @@ impl<H: HeaderStore> Tracker<H> {
         Ok(Tracker {
             alloc,
             watch,
+            genesis: First::new(),
             store,
             extracts: Extracts::new(alloc),
             claims,
@@ -199,6 +202,9 @@ impl<H: HeaderStore> Tracker<H> {
         ensures watch { watch_of self.new ≡ watch_of self.old }
     {
         self.claims.add(p, parent, blocks, previous, hashes)?;
+        if self.cursors.is_undone() {
+            return Ok(());
+        }
         if is_any_disputed(&self.extracts, &self.claims, blocks) {
             self.cursors.undo();
         }
@@ -243,6 +249,7 @@ impl<H: HeaderStore> Tracker<H> {
             &self.claims,
             &self.judged,
             p,
+            &self.genesis,
             marks,
             common,
             spare,
@@ -251,7 +258,7 @@ impl<H: HeaderStore> Tracker<H> {
         match want {
             Want::Nothing => Ok(Wish::Nothing),
             Want::Claims(start) => {
-                let end = claims_end(&self.store, &self.claims, p, start, common);
+                let end = claims_end(&self.store, &self.claims, p, &self.genesis, start, common);
                 let span = span_of(self.alloc, &self.store, p, start, end)?;
                 Ok(Wish::Claims(span))
             }
@@ -262,6 +269,7 @@ impl<H: HeaderStore> Tracker<H> {
                     &self.claims,
                     &self.judged,
                     p,
+                    &self.genesis,
                     start,
                     common,
                 );
