@@ -206,7 +206,7 @@ fn is_host_and_port(name: &str) -> bool {
     is_host && is_port
 }
 
-// Both sides of a new connection.
+// Both sides of a new connection. What is written goes out at once, since each request waits for its answer.
 fn connect<R: Net<Listener = TcpListener, Stream = TcpStream>>(
     rt: &R,
     name: &str,
@@ -218,6 +218,7 @@ fn connect<R: Net<Listener = TcpListener, Stream = TcpStream>>(
     }
     let stream = TcpStream::connect(rt, name)?;
     stream.set_write_timeout(Some(Duration::from_secs(WRITE_SECONDS)))?;
+    stream.set_nodelay(true)?;
     let other = stream.try_clone()?;
     Ok((
         TcpSource {
