@@ -9,4 +9,4 @@ mod pulse;
 
 pub use network::Network;
 pub use outside::SystemDialer;
-pub use pulse::Naps;
+pub use pulse::{Bell, Naps};

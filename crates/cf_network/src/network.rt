@@ -5,7 +5,7 @@ ghost use Rattle.cf_peer.specs.Log.{Tells};
 
 use crate::outside::SystemDialer;
 use crate::passed::{Passed, Stand, end_text};
-use crate::pulse::Naps;
+use crate::pulse::{Bell, Naps};
 use cf_bytes::{NoMemory, PeerNo};
 use cf_hub::Hub;
 use cf_line::Workers;
@@ -14,7 +14,6 @@ use cf_tasks::Spawner;
 use std::alloc::Global;
 use std::io::{self, IsTerminal};
 use std::marker::Model;
-use std::sync::atomic::{AtomicBool, Ordering};
 use std::sync::{Arc, Wait};
 use std::thread::Threads;
 use std::time::Clock;
@@ -25,11 +24,11 @@ use std::time::Clock;
 #[derive(Drop)]
 pub struct Network<R: Wait + Threads + Copy + Drop> {
     rt: HostRuntime,
-    hub: Hub<SystemDialer, Naps, R>,
+    hub: Hub<SystemDialer, Naps<R>, R>,
     // Whether standard error is one.
     on_terminal: bool,
-    // The flag at which the pulse ends.
-    end: Arc<AtomicBool, Global>,
+    // At which the pulse ends.
+    bell: Arc<Bell, Global>,
     passed: Passed,
 }
 
@@ -48,10 +47,10 @@ impl<R: Wait + Threads + Copy + Drop> Model for Network<R> {
 fn hub_of<R: Wait + Threads + Copy + Drop + Send + 'static, K: Spawner>(
     rt: &HostRuntime,
     handle: R,
-    pulse: Naps,
+    pulse: Naps<R>,
     spawner: &mut K,
     peers: usize,
-) -> Result<Hub<SystemDialer, Naps, R>, NoMemory>
+) -> Result<Hub<SystemDialer, Naps<R>, R>, NoMemory>
     ensures told { IfOk result (λ h. Tells [] (told_of h.book)) }
     ensures finished { IfOk result (λ h. (told_of h.book).finished ≡ false) }
     ensures keeps { IfOk result (λ h. keeps_of h.book ≡ false) }
@@ -78,13 +77,13 @@ impl<R: Wait + Threads + Copy + Drop + Send + 'static> Network<R> {
         ensures finished { IfOk result (λ n. n.told.finished ≡ false) }
         ensures keeps { IfOk result (λ n. n.keeps ≡ false) }
     {
-        let end = Arc::new(rt.alloc(), AtomicBool::new(false))?;
-        let pulse = Naps::new(*rt, Arc::try_clone(&end)?);
+        let bell = Arc::new(rt.alloc(), Bell::new())?;
+        let pulse = Naps::new(*rt, handle, Arc::try_clone(&bell)?);
         Ok(Network {
             rt: *rt,
             hub: hub_of(rt, handle, pulse, spawner, peers)?,
             on_terminal: rt.stderr().is_terminal(),
-            end,
+            bell,
             passed: Passed::new(),
         })
     }
@@ -174,7 +173,7 @@ impl<R: Wait + Threads + Copy + Drop> Wires for Network<R> {
     }
 
     fn finish(&mut self) {
-        self.end.store(true, Ordering::SeqCst);
+        self.bell.ring();
         self.hub.finish();
     }
 

@@ -1,42 +1,92 @@
-//! The pulse of `sync`, which ends soon once it is told to.
+//! The pulse of `sync`, which ends at once when it is told to.
 ghost use Rattle.std.specs.Prelude.{◌≤◌, None};
 
 use cf_hub::Pulse;
 use std::alloc::Global;
-use std::sync::Arc;
-use std::sync::atomic::{AtomicBool, Ordering};
-use std::thread;
+use std::sync::atomic::{AtomicU64, Ordering};
+use std::sync::{Arc, Wait};
 use std::time::{Clock, Duration};
 
-/// How often a second it looks whether it is to end.
-const NAPS: u64 = 50;
+// How long it waits for.
+fn second() -> Duration {
+    Duration::from_secs(1)
+}
 
-/// A pulse of about a second, by the clock of the system that never falls. It tells no answers. Once it is to end, it doesn't wait any more.
+/// Whether a pulse is to end, as those who wait for it see it.
 #[derive(Drop)]
-pub struct Naps {
+pub struct Bell {
+    // 1 once it was rung, and 0 before.
+    rung: AtomicU64,
+}
+
+impl Bell {
+    /// It was not rung yet.
+    pub fn new() -> Bell {
+        Bell {
+            rung: AtomicU64::new(0),
+        }
+    }
+
+    /// Rings it for good, and wakes all who wait for it.
+    pub fn ring(&self) {
+        self.rung.store(1, Ordering::SeqCst);
+        self.rung.wake_all();
+    }
+
+    // Whether it was rung.
+    fn is_rung(&self) -> bool {
+        self.rung.load(Ordering::SeqCst) == 1
+    }
+
+    // Waits for so long, or until it is rung. It may return sooner.
+    fn wait<R: Wait>(&self, handle: &R, longest: Duration) {
+        self.rung.park_timeout(handle, 0, longest);
+    }
+}
+
+/// A pulse of about a second, by the clock of the system that never falls. It tells no answers. Once its bell is rung it doesn't wait any more.
+#[derive(Drop)]
+pub struct Naps<R> {
     rt: HostRuntime,
-    end: Arc<AtomicBool, Global>,
+    // The handle by which it waits.
+    handle: R,
+    bell: Arc<Bell, Global>,
     // The moment up to which seconds were told.
     told: Option<Duration>,
 }
 
-impl Naps {
-    /// A pulse by the clock of this handle, until the flag is set. Its first answer counts from the first wait.
-    pub fn new(rt: HostRuntime, end: Arc<AtomicBool, Global>) -> Naps {
+// What is left of a second since a moment.
+fn left_of(start: Duration, now: Duration) -> Duration {
+    second().saturating_sub(now.saturating_sub(start))
+}
+
+impl<R: Wait> Naps<R> {
+    /// A pulse by the clock of this runtime, until the bell is rung. Its first answer counts from the first wait.
+    pub fn new(rt: HostRuntime, handle: R, bell: Arc<Bell, Global>) -> Naps<R> {
         Naps {
             rt,
-            end,
+            handle,
+            bell,
             told: None,
         }
     }
 
-    // Sleeps for a second, or until it is to end.
+    // Sleeps for a second, or until the bell is rung. Where the clock can't be read the second may be cut short.
     fn sleep(&self) {
-        for _ in 0..NAPS {
-            if self.end.load(Ordering::SeqCst) {
+        let Ok(start) = self.rt.monotonic() else {
+            self.bell.wait(&self.handle, second());
+            return;
+        };
+        let mut left = second();
+        for _ in self.handle.forever() {
+            if left.is_zero() || self.bell.is_rung() {
                 return;
             }
-            thread::sleep(&self.rt, Duration::from_millis(1000 / NAPS));
+            self.bell.wait(&self.handle, left);
+            left = match self.rt.monotonic() {
+                Ok(now) => left_of(start, now),
+                Err(_) => Duration::ZERO,
+            };
         }
     }
 }
@@ -49,7 +99,7 @@ fn seconds_between(before: Duration, now: Duration) -> u32
     passed.clamp(1, 86_400) as u32
 }
 
-impl Pulse for Naps {
+impl<R: Wait + Drop> Pulse for Naps<R> {
     ghost answers = { λ _. None };
 
     /// What is left of a second is told with a later one. Where the clock can't be read, the answer is 1.
