@@ -1,5 +1,5 @@
 -- The steps of serving, one by one.
-use Rattle.std.proofs.Common.{◌≡◌, ℕ, ℤ, zero, suc, ◌+◌, ◌-◌, ◌*◌, ◌<◌, ◌≤◌, Bool, false, List, [], ◌∷◌, ◌++◌, length, take, drop, Option, Some, None, Result, Ok, Err, refl, sym, ap, ◌∙◌, subst, arith, inl, inr, get_or, length-append}
+use Rattle.std.proofs.Common.{◌≡◌, ℕ, ℤ, zero, suc, ◌+◌, ◌-◌, ◌*◌, ◌<◌, ◌≤◌, Bool, false, List, [], ◌∷◌, ◌++◌, length, take, drop, Option, Some, None, Result, Ok, Err, refl, sym, ap, ◌∙◌, subst, arith, inl, inr, get_or, length-append, append_assoc}
 use Rattle.std.specs.Prelude.{IfSome}
 use Rattle.std.proofs.lemmas.Bool.{cases_lt}
 use Rattle.std.proofs.lemmas.List.{append-nil, map-append, take_more, take-append-drop}
@@ -23,7 +23,7 @@ use Rattle.cf_server.specs.declared.outcome.Outcome.TheVariants.{Closed, BadFram
 use Rattle.cf_server.specs.Replies.{message_of, messages_of, Adds}
 use Rattle.cf_server.specs.Serving.{Stop, Waits, most_frames, text_of, Whole, Beginning, ComesAt, Writes, IsServed, Counts, Ends}
 use Rattle.cf_server.specs.Taking.{Sends, AnswersFrame, Answered, CountsWrites, FindsFrame, Moves, Stops, Midway, ComesInside, served_on, text_for, frame_text}
-use Rattle.cf_server.proofs.Texts.{text-append, text-cons, text-nil, whole_on, beginning_on, beginning_more, beginning_whole, moves_frame, stops_then, stops_bad, stops_full, stops_frame, stops_waits, stops_without_memory, midway_start, midway_on, midway_stops}
+use Rattle.cf_server.proofs.Texts.{text-append, text-cons, text-nil, whole_none, whole_on, beginning_on, beginning_more, beginning_whole, moves_frame, stops_then, stops_bad, stops_full, stops_frame, stops_waits, stops_without_memory, midway_start, midway_on, midway_stops}
 
 -- ---- replies, one after another
 
@@ -46,34 +46,70 @@ reply_text_split served blocks replies n =
     ∙ ap text_of (map-append (message_of served blocks) (take n replies) (drop n replies))
     ∙ text-append (messages_of served blocks (take n replies)) (messages_of served blocks (drop n replies))
 
--- all was written so far, and nothing more is
-pub sent_so_far : (served : Served) (blocks : List Block) (replies : List Reply) (i : ℕ) (o p : Option (List ℕ)) → Whole o p (text_of (messages_of served blocks (take i replies)))
+-- a first part of a text was written, and the rest of it waits
+pub record Waiting (before after : Option (List ℕ)) (waits text : List ℕ) : Type 0 where
+  pub sent : List ℕ
+  pub whole : Whole before after sent
+  pub all : text ≡ sent ++ waits
+
+pub waiting_none : (o : Option (List ℕ)) (w : List ℕ) → w ≡ [] → Waiting o o w (text_of [])
+waiting_none o w none = record { sent = []; whole = whole_none o; all = text-nil ∙ sym none }
+
+-- one more reply waits
+pub waiting_more : (served : Served) (blocks : List Block) (replies : List Reply) (i : ℕ) (d : Reply) (v w : List ℕ) (o p : Option (List ℕ)) → i < length replies
+    → Waiting o p v (text_of (messages_of served blocks (take i replies))) → w ≡ v ++ spelling (frame_of (message_of served blocks (get_or replies i d)))
+    → Waiting o p w (text_of (messages_of served blocks (take (i + 1) replies)))
+waiting_more served blocks replies i d v w o p lt waiting put =
+    let frame = spelling (frame_of (message_of served blocks (get_or replies i d))) in
+    record {
+      sent = waiting.sent;
+      whole = waiting.whole;
+      all = reply_text_on served blocks replies i d lt ∙ ap (λ t. t ++ frame) waiting.all ∙ append_assoc waiting.sent v frame ∙ ap (λ t. waiting.sent ++ t) (sym put);
+    }
+
+-- what waits was written
+pub waiting_written : (o p q : Option (List ℕ)) (v w text : List ℕ) → Waiting o p v text → Whole p q v → w ≡ [] → Waiting o q w text
+waiting_written o p q v w text waiting whole none = record {
+  sent = waiting.sent ++ v;
+  whole = whole_on o p q waiting.sent v waiting.whole whole;
+  all = waiting.all ∙ sym (append-nil (waiting.sent ++ v)) ∙ ap (λ t. (waiting.sent ++ v) ++ t) (sym none);
+}
+
+-- nothing more is written
+pub waiting_kept : (served : Served) (blocks : List Block) (replies : List Reply) (i : ℕ) (w : List ℕ) (o p : Option (List ℕ)) → Waiting o p w (text_of (messages_of served blocks (take i replies)))
     → Beginning o p (text_of (messages_of served blocks replies))
-sent_so_far served blocks replies i o p so_far =
-    subst (Beginning o p) (sym (reply_text_split served blocks replies i))
-    (beginning_more o p (text_of (messages_of served blocks (take i replies))) (text_of (messages_of served blocks (drop i replies))) (beginning_whole o p (text_of (messages_of served blocks (take i replies))) so_far))
-
--- the next one was written in part
-pub sent_in_part : (served : Served) (blocks : List Block) (replies : List Reply) (i : ℕ) (d : Reply) (bytes : List ℕ) (o p q : Option (List ℕ)) → i < length replies
-    → Whole o p (text_of (messages_of served blocks (take i replies))) → bytes ≡ spelling (frame_of (message_of served blocks (get_or replies i d))) → Beginning p q bytes
-    → Beginning o q (text_of (messages_of served blocks replies))
-sent_in_part served blocks replies i d bytes o p q lt so_far spelled part =
-    let reply : Reply = get_or replies i d in
+waiting_kept served blocks replies i w o p waiting =
     let front = text_of (messages_of served blocks (take i replies)) in
-    let here : Beginning p q (spelling (frame_of (message_of served blocks reply))) = subst (Beginning p q) spelled part in
-    let joined : Beginning o q (text_of (messages_of served blocks (take (i + 1) replies))) =
-    subst (Beginning o q) (sym (reply_text_on served blocks replies i d lt)) (beginning_on o p q front (spelling (frame_of (message_of served blocks reply))) so_far here) in
-    subst (Beginning o q) (sym (reply_text_split served blocks replies (i + 1)))
-    (beginning_more o q (text_of (messages_of served blocks (take (i + 1) replies))) (text_of (messages_of served blocks (drop (i + 1) replies))) joined)
+    let begins : Beginning o p front = subst (Beginning o p) (sym waiting.all) (beginning_more o p waiting.sent w (beginning_whole o p waiting.sent waiting.whole)) in
+    subst (Beginning o p) (sym (reply_text_split served blocks replies i)) (beginning_more o p front (text_of (messages_of served blocks (drop i replies))) begins)
 
--- the next one was written whole
-pub sent_more : (served : Served) (blocks : List Block) (replies : List Reply) (i : ℕ) (d : Reply) (bytes : List ℕ) (o p q : Option (List ℕ)) → i < length replies
-    → Whole o p (text_of (messages_of served blocks (take i replies))) → bytes ≡ spelling (frame_of (message_of served blocks (get_or replies i d))) → Whole p q bytes
-    → Whole o q (text_of (messages_of served blocks (take (i + 1) replies)))
-sent_more served blocks replies i d bytes o p q lt so_far spelled whole =
-    let reply : Reply = get_or replies i d in
-    whole_on o p q (text_of (messages_of served blocks (take i replies))) (spelling (frame_of (message_of served blocks reply))) so_far (whole ∙ ap (with_more p) spelled)
-    ∙ ap (with_more o) (sym (reply_text_on served blocks replies i d lt))
+-- what waits was sent
+pub waiting_sent : (r : Result (Unit {0}) Outcome) (o p q : Option (List ℕ)) (w text : List ℕ) → Waiting o p w text → Sends r p q w → Sends r o q text
+waiting_sent (Ok x) o p q w text waiting sends = whole_on o p q waiting.sent w waiting.whole sends ∙ ap (with_more o) (sym waiting.all)
+waiting_sent (Err WriteFault) o p q w text waiting sends = subst (Beginning o q) (sym waiting.all) (beginning_on o p q waiting.sent w waiting.whole sends)
+waiting_sent (Err NoMemory) o p q w text waiting sends = subst (Beginning o q) (sym waiting.all) (beginning_on o p q waiting.sent w waiting.whole sends)
+waiting_sent (Err Closed) o p q w text waiting sends = absurd sends
+waiting_sent (Err (BadFrame fault)) o p q w text waiting sends = absurd sends
+waiting_sent (Err (MalformedFrame fault)) o p q w text waiting sends = absurd sends
+waiting_sent (Err ReadFault) o p q w text waiting sends = absurd sends
+waiting_sent (Err Tired) o p q w text waiting sends = absurd sends
+
+-- a front of the replies was sent in part
+pub front_in_part : (served : Served) (blocks : List Block) (replies : List Reply) (n : ℕ) (outcome : Outcome) (o q : Option (List ℕ))
+    → Sends (Err outcome) o q (text_of (messages_of served blocks (take n replies))) → Sends (Err outcome) o q (text_of (messages_of served blocks replies))
+front_in_part served blocks replies n outcome o q sends = in_part outcome sends
+  where
+    begins : Beginning o q (text_of (messages_of served blocks (take n replies))) → Beginning o q (text_of (messages_of served blocks replies))
+    begins part = subst (Beginning o q) (sym (reply_text_split served blocks replies n)) (beginning_more o q (text_of (messages_of served blocks (take n replies))) (text_of (messages_of served blocks (drop n replies))) part)
+
+    in_part : (outcome : Outcome) → Sends (Err outcome) o q (text_of (messages_of served blocks (take n replies))) → Sends (Err outcome) o q (text_of (messages_of served blocks replies))
+    in_part WriteFault h = begins h
+    in_part NoMemory h = begins h
+    in_part Closed h = absurd h
+    in_part (BadFrame fault) h = absurd h
+    in_part (MalformedFrame fault) h = absurd h
+    in_part ReadFault h = absurd h
+    in_part Tired h = absurd h
 
 -- ---- a frame
 

@@ -45,10 +45,6 @@ front_none_told (Some bytes) = refl
 pub whole_none : (o : Option (List ℕ)) → Whole o o []
 whole_none o = more_none o
 
-pub whole_no_text : (o : Option (List ℕ)) → Whole o o (text_of [])
-unfolding text_of
-whole_no_text o = more_none o
-
 pub whole_on : (o p q : Option (List ℕ)) (a b : List ℕ) → Whole o p a → Whole p q b → Whole o q (a ++ b)
 whole_on o p q a b first second = second ∙ ap (λ r. with_more r b) first ∙ more_joined o a b
 

@@ -1,7 +1,9 @@
 //! Serving a connection.
-ghost use Rattle.std.specs.Prelude.{◌≡◌, ◌≤◌, ◌++◌, IfSome, IfErr, OnOk};
+ghost use Rattle.std.specs.Prelude.{◌≡◌, ◌≤◌, ◌++◌, [], IfSome, IfErr, OnOk};
+ghost use Rattle.cf_frame.specs.Frame.{spelling};
+ghost use Rattle.cf_msg.specs.Message.{frame_of};
 ghost use Rattle.cf_msg.specs.Reading.{message_of as message_in};
-ghost use Rattle.cf_server.specs.Replies.{AreRepliesOf, messages_of};
+ghost use Rattle.cf_server.specs.Replies.{IsReplyOf, AreRepliesOf, message_of, messages_of};
 ghost use Rattle.cf_server.specs.Serving.{IsServed, Counts, Ends, text_of};
 ghost use Rattle.cf_server.specs.Taking.{Sends, CountsWrites, AnswersFrame, FindsFrame, TakesFrames, Idles, ComesInside};
 
@@ -9,7 +11,7 @@ use crate::answering::{Served, answer};
 use crate::frames::write_reply;
 use crate::outcome::Outcome;
 use crate::reply::{Replies, Reply};
-use cf_bytes::Refused;
+use cf_bytes::{NoMemory, Refused};
 use cf_conn::{Duplex, send_all};
 use cf_frame::{Frame, Framer};
 use cf_index::Index;
@@ -22,7 +24,44 @@ const MOST_FRAMES: u32 = 1_000_000;
 /// The most bytes of one read.
 const PIECE: usize = 4096;
 
-// Writes the frames of replies, one after another.
+/// How many bytes of frames wait at least before they're written. What is left is written after the last reply.
+const TOGETHER: usize = 16_384;
+
+// Puts a reply's frame at the end of the bytes that wait.
+fn put_reply(
+    alloc: Global,
+    index: &Index,
+    served: &Served,
+    reply: Reply,
+    waiting: &mut Vec<u8>,
+) -> Result<(), NoMemory>
+    requires { IsReplyOf index.now reply }
+    ensures { OnOk result (waiting.new.items ≡ waiting.old.items ++ spelling (frame_of (message_of served.now index.now reply))) }
+{
+    let frame = write_reply(alloc, index, served, reply)?;
+    waiting.extend_from_slice(&frame)?;
+    Ok(())
+}
+
+// Writes the bytes that wait.
+fn flush<C: Duplex>(conn: &mut C, waiting: &mut Vec<u8>) -> Result<(), Outcome>
+    ensures sends { Sends result (C.written conn.old) (C.written conn.new) waiting.old.items }
+    ensures none { OnOk result (waiting.new.items ≡ []) }
+    ensures count { CountsWrites result (C.Sink.faults conn.old) (C.Sink.faults conn.new) }
+    ensures left { C.left conn.new ≡ C.left conn.old }
+    ensures ended { C.ended conn.new ≡ C.ended conn.old }
+    ensures read_faults { C.Source.faults conn.new ≡ C.Source.faults conn.old }
+{
+    match send_all(conn, waiting) {
+        Ok(()) => {
+            waiting.clear();
+            Ok(())
+        }
+        Err(_) => Err(Outcome::WriteFault),
+    }
+}
+
+// Writes the frames of replies, one after another, many of them together.
 fn send_replies<C: Duplex>(
     alloc: Global,
     index: &Index,
@@ -37,14 +76,14 @@ fn send_replies<C: Duplex>(
     ensures ended { C.ended conn.new ≡ C.ended conn.old }
     ensures read_faults { C.Source.faults conn.new ≡ C.Source.faults conn.old }
 {
+    let mut waiting = Vec::new(alloc);
     for reply in replies {
-        let bytes = write_reply(alloc, index, served, *reply)?;
-        match send_all(conn, &bytes) {
-            Ok(()) => {}
-            Err(_) => return Err(Outcome::WriteFault),
+        put_reply(alloc, index, served, *reply, &mut waiting)?;
+        if waiting.len() >= TOGETHER {
+            flush(conn, &mut waiting)?;
         }
     }
-    Ok(())
+    flush(conn, &mut waiting)
 }
 
 // Reads a frame's message, and writes the replies to it.

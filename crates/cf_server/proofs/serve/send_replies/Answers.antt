@@ -1,38 +1,89 @@
-use Rattle.std.proofs.Common.{Err, Result, refl, sym, ◌∙◌, ap, subst}
+use Rattle.std.proofs.Common.{ℕ, ◌+◌, List, take, Option, Err, Result, refl, sym, ◌∙◌, ap, subst}
+use Rattle.std.proofs.lemmas.List.{take_all}
 use Rattle.std.proofs.lemmas.Result.{err_from_is_err_and}
 use Rattle.cf_server.specs.declared.outcome.Outcome.{Outcome}
+use Rattle.cf_server.specs.declared.reply.Reply.{Reply}
 use Rattle.cf_server.specs.declared.reply.Reply.TheVariants.{OwnVersion}
 use Rattle.cf_server.specs.Replies.{messages_of}
 use Rattle.cf_server.specs.Serving.{text_of}
 use Rattle.cf_server.specs.Taking.{Sends}
-use Rattle.cf_server.proofs.Texts.{whole_no_text}
-use Rattle.cf_server.proofs.Steps.{sent_so_far, sent_in_part, sent_more}
+use Rattle.cf_server.proofs.Steps.{Waiting, waiting_none, waiting_more, waiting_written, waiting_kept, waiting_sent, front_in_part}
+use Rattle.cf_server.proofs.serve.send_replies.Goals.{then-len-ge-TOGETHER+in_ok-flush, else-len-ge-TOGETHER}
 use Rattle.cf_server.proofs.serve.send_replies.Goals as goal
 
 pub loop-reply-init : goal.loop-reply-init
-loop-reply-init g c = record { written = whole_no_text (g.C.Sink.written c.args.conn.now); count = refl; left = refl; ended = refl; read_faults = refl }
+loop-reply-init g c = record {
+  written = waiting_none (g.C.Sink.written c.args.conn.now) c.new-waiting.result.items c.new-waiting.ensures.items;
+  count = refl;
+  left = refl;
+  ended = refl;
+  read_faults = refl;
+}
 
-pub returns-in_err-bytes-clause-sends : goal.returns-in_err-bytes-clause-sends
-returns-in_err-bytes-clause-sends g c =
+pub returns-in_err-put_reply-clause-sends : goal.returns-in_err-put_reply-clause-sends
+returns-in_err-put_reply-clause-sends g c =
     let out = err_from_is_err_and c.from_residual.result c.from_residual.ensures.1 in
     let before = g.C.Sink.written c.args.conn.now in
     let after = g.C.Sink.written c.loop-reply.conn in
     subst (λ (r : Result (Unit {0}) Outcome). Sends r before after (text_of (messages_of c.args.served.now c.args.index.now c.args.replies.now))) (sym (out.1 ∙ ap Err out.2))
-    (sent_so_far c.args.served.now c.args.index.now c.args.replies.now c.loop-reply.reply-index before after c.loop-reply.invariant.written)
+    (waiting_kept c.args.served.now c.args.index.now c.args.replies.now c.loop-reply.reply-index c.loop-reply.waiting.items before after c.loop-reply.invariant.written)
 
-pub returns-in-Err-clause-sends : goal.returns-in-Err-clause-sends
-returns-in-Err-clause-sends g c =
-    sent_in_part c.args.served.now c.args.index.now c.args.replies.now c.loop-reply.reply-index OwnVersion c.deref.result.now
-    (g.C.Sink.written c.args.conn.now) (g.C.Sink.written c.loop-reply.conn) (g.C.Sink.written c.send_all.new.conn)
-    c.loop-reply-test.true c.loop-reply.invariant.written (c.deref.ensures.value ∙ c.in_ok-bytes.ensures) c.in-Err.ensures.err
+pub returns-in_err-flush-clause-sends : goal.returns-in_err-flush-clause-sends
+returns-in_err-flush-clause-sends g c =
+    let out = err_from_is_err_and c.from_residual-in_err-flush.result c.from_residual-in_err-flush.ensures.1 in
+    let served = c.args.served.now in
+    let blocks = c.args.index.now in
+    let replies = c.args.replies.now in
+    let i = c.loop-reply.reply-index in
+    let waiting = c.put_reply.new.waiting.items in
+    let before = g.C.Sink.written c.args.conn.now in
+    let between = g.C.Sink.written c.loop-reply.conn in
+    let after = g.C.Sink.written c.flush.new.conn in
+    let outcome = c.in_err-flush.field-0.0 in
+    let put = waiting_more served blocks replies i OwnVersion c.loop-reply.waiting.items waiting before between c.loop-reply-test.true c.loop-reply.invariant.written c.in_ok-put_reply.ensures in
+    subst (λ (r : Result (Unit {0}) Outcome). Sends r before after (text_of (messages_of served blocks replies))) (sym (out.1 ∙ ap Err out.2))
+    (front_in_part served blocks replies (i + 1) outcome before after
+    (waiting_sent (Err outcome) before between after waiting (text_of (messages_of served blocks (take (i + 1) replies))) put c.in_err-flush.ensures.sends))
 
 pub loop-reply-preserved : goal.loop-reply-preserved
-loop-reply-preserved g c = record {
-  written = sent_more c.args.served.now c.args.index.now c.args.replies.now c.loop-reply.reply-index OwnVersion c.deref.result.now
-      (g.C.Sink.written c.args.conn.now) (g.C.Sink.written c.loop-reply.conn) (g.C.Sink.written c.send_all.new.conn)
-      c.loop-reply-test.true c.loop-reply.invariant.written (c.deref.ensures.value ∙ c.in_ok-bytes.ensures) c.in-Ok.ensures.ok;
-  count = c.in-Ok.ensures.kept ∙ c.loop-reply.invariant.count;
-  left = c.in-Ok.ensures.left ∙ c.loop-reply.invariant.left;
-  ended = c.in-Ok.ensures.ended ∙ c.loop-reply.invariant.ended;
-  read_faults = c.in-Ok.ensures.read_faults ∙ c.loop-reply.invariant.read_faults;
-}
+loop-reply-preserved g c =
+    let served = c.args.served.now in
+    let blocks = c.args.index.now in
+    let replies = c.args.replies.now in
+    let i = c.loop-reply.reply-index in
+    let waiting = c.put_reply.new.waiting.items in
+    let text = text_of (messages_of served blocks (take (i + 1) replies)) in
+    let before = g.C.Sink.written c.args.conn.now in
+    let between = g.C.Sink.written c.loop-reply.conn in
+    let put = waiting_more served blocks replies i OwnVersion c.loop-reply.waiting.items waiting before between c.loop-reply-test.true c.loop-reply.invariant.written c.in_ok-put_reply.ensures in
+    elim c.if-len-ge-TOGETHER.branch [
+      | then-len-ge-TOGETHER+in_ok-flush w ↦
+          let sent = w.in_ok-flush.ensures in
+          record {
+            written = subst (λ (p : Option (List ℕ)). Waiting before p c.if-len-ge-TOGETHER.waiting.items text) (sym (ap g.C.Sink.written w.conn-is))
+                (waiting_written before between (g.C.Sink.written w.flush.new.conn) waiting c.if-len-ge-TOGETHER.waiting.items text put sent.sends (ap (λ v. v.items) w.waiting-is ∙ sent.none));
+            count = ap g.C.Sink.faults w.conn-is ∙ sent.count ∙ c.loop-reply.invariant.count;
+            left = ap g.C.Source.left w.conn-is ∙ sent.left ∙ c.loop-reply.invariant.left;
+            ended = ap g.C.Source.ended w.conn-is ∙ sent.ended ∙ c.loop-reply.invariant.ended;
+            read_faults = ap g.C.Source.faults w.conn-is ∙ sent.read_faults ∙ c.loop-reply.invariant.read_faults;
+          }
+      | else-len-ge-TOGETHER w ↦ record {
+        written = subst (λ (p : Option (List ℕ)). Waiting before p c.if-len-ge-TOGETHER.waiting.items text) (sym (ap g.C.Sink.written w.conn-is)) (subst (λ (w : List ℕ). Waiting before between w text) (sym (ap (λ v. v.items) w.waiting-is)) put);
+        count = ap g.C.Sink.faults w.conn-is ∙ c.loop-reply.invariant.count;
+        left = ap g.C.Source.left w.conn-is ∙ c.loop-reply.invariant.left;
+        ended = ap g.C.Source.ended w.conn-is ∙ c.loop-reply.invariant.ended;
+        read_faults = ap g.C.Source.faults w.conn-is ∙ c.loop-reply.invariant.read_faults;
+      }
+    ]
+
+pub returns-clause-sends : goal.returns-clause-sends
+returns-clause-sends g c =
+    let served = c.args.served.now in
+    let blocks = c.args.index.now in
+    let replies = c.args.replies.now in
+    let before = g.C.Sink.written c.args.conn.now in
+    let between = g.C.Sink.written c.loop-reply.conn in
+    let after = g.C.Sink.written c.flush-2.new.conn in
+    let all = ap (λ (rs : List Reply). text_of (messages_of served blocks rs)) (take_all c.loop-reply.reply-index replies c.loop-reply-test.false) in
+    waiting_sent c.flush-2.result before between after c.loop-reply.waiting.items (text_of (messages_of served blocks replies))
+    (subst (Waiting before between c.loop-reply.waiting.items) all c.loop-reply.invariant.written) c.flush-2.ensures.sends
