@@ -6,8 +6,8 @@ processors shortens. So building is told of blocks with 50 outputs more as well.
 
 `cf_bench` and `plain.c` (compiled with `cc -O2`) check the same file, build each filter and match the same scripts, which nothing pays. The first row has
 no scripts: reading, checking and building. The others are what matching takes beyond it. Seconds are the processor's, and the best of five runs counts, which
-take turns. Both must find the same number of filters, or it stops. Of threads the time that passes is told, the least of five runs, which take turns too; it says
-something only where as many processors are free.
+take turns. Both must find the same number of filters, or it stops. Of threads the time that passes is told, the least of nine runs, which take turns too (single runs
+of one call differ by half and more, and the least is what the work itself takes); it says something only where as many processors are free.
 """
 import os
 import subprocess
@@ -19,6 +19,7 @@ from runs import best
 BENCH = os.path.dirname(os.path.abspath(__file__))
 CRATE = os.path.join(os.path.dirname(BENCH), "crates", "cf_bench")
 PROGRAM = os.path.join(CRATE, "out", "cf_bench")
+RUNS = 9
 
 
 def passed(words):
@@ -38,23 +39,20 @@ def in_turns(words, times):
     return [{key: min(run[at] for run in each) for key, each in runs.items()} for at in (1, 2)]
 
 
-def tell_building(what, one, all_of):
-    for row, time in (("building%s, 1 processor" % what, one), ("building%s, all" % what, all_of)):
-        print("%-26s %8dms %7.2f" % (row, time, one / time))
+def tell_building(what, blocks):
+    """Prints how much sooner a chain's filters are built on all processors than on one."""
+    call = [PROGRAM, blocks, "0", "0"]
+    _, built = in_turns({"one": ["taskset", "-c", "0", *call], "all": call}, RUNS)
+    for key, row in (("one", "building%s, 1 processor" % what), ("all", "building%s, all" % what)):
+        print("%-26s %8dms %7.2f" % (row, built[key], built["one"] / built[key]))
 
 
-def by_threads(blocks, wide):
-    """Prints how much sooner several threads are done than one."""
-    call = [PROGRAM, blocks, "100"]
-    words = {"one": ["taskset", "-c", "0", *call, "1"], 0: [*call, "0"], 1: [*call, "1"], 2: [*call, "2"], 4: [*call, "4"]}
-    matched, built = in_turns(words, 5)
-    print("%-26s %9s %7s" % ("by threads", "passed", "times"))
+def tell_matching(blocks):
+    """Prints how much sooner several workers have matched 100 scripts than one."""
+    words = {workers: [PROGRAM, blocks, "100", str(workers)] for workers in (0, 1, 2, 4)}
+    matched, _ = in_turns(words, RUNS)
     for key, row in ((0, "matching, plain"), (1, "matching, 1 worker"), (2, "matching, 2 workers"), (4, "matching, 4 workers")):
         print("%-26s %8dms %7.2f" % (row, matched[key], matched[1] / matched[key]))
-    tell_building("", built["one"], min(built[key] for key in (0, 1, 2, 4)))
-    call = [PROGRAM, wide, "0", "0"]
-    _, built = in_turns({"one": ["taskset", "-c", "0", *call], "all": call}, 3)
-    tell_building(" wide", built["one"], built["all"])
 
 
 def main():
@@ -76,7 +74,10 @@ def main():
         wide = os.path.join(folder, "wide")
         with open(wide, "wb") as file:
             file.writelines(records((7, 100_000), others=50))
-        by_threads(blocks, wide)
+        print("%-26s %9s %7s" % ("by threads", "passed", "times"))
+        tell_matching(blocks)
+        tell_building("", blocks)
+        tell_building(" wide", wide)
 
 
 if __name__ == "__main__":

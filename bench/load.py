@@ -1,10 +1,12 @@
 #!/usr/bin/env python3
 """`serve` and `sync` over loopback, beside peers that do harm: `load.py [PROGRAM]`, where PROGRAM is `.build/cf` unless it is named.
 
-A made chain of 20,000 blocks is served, and one script is watched. First one `sync` runs alone, three times; its time is told as a multiple of that of
-`scan` over the same file, which is to be at most 3, and the memory of both. The best of three runs counts. Then eight `sync` run side by side and beside one with eight peers (the same address eight times), one client that
-asks for all filters and never reads, and one that sends bytes that are no frames. Each `sync` is to end with status 0 and the text of `scan`, and the
-server with status 0 once its connections are over. At most 21 connections are made, and no process runs for longer than LIMIT seconds.
+First one `sync` runs alone, as often as TRIES says, over chains of 20,000 blocks; the best run counts. Its time is told as a multiple of that of `scan` over the
+same file, which is to be at most MOST, and the memory of both. The chains are a made one, whose blocks are so small that a block is hardly more than its header and
+its filter are, with a script that an eighth of the blocks pays, each of which is then fetched, one after another, and with one that none pays; and one whose blocks have 50
+outputs more. Then the made chain is served to eight `sync` side by side and beside them to one with eight peers (the same address eight times), one client that
+asks for all filters and never reads, and one that sends bytes that are no frames. Each `sync` is to end with status 0 and the text of `scan`, and each
+server with status 0 once its connections are over. No process runs for longer than LIMIT seconds.
 """
 import os
 import random
@@ -23,10 +25,11 @@ from made_chain import records
 BENCH = os.path.dirname(os.path.abspath(__file__))
 ROOT = os.path.dirname(BENCH)
 SEED, BLOCKS = 7, 20_000
-WATCHED = "01087551"
-TRIES = 3
+PAID, UNPAID = "01087551", "01107551"
+OUTPUTS = 50
+TRIES = 5
 SIDE_BY_SIDE, PEERS = 8, 8
-CONNECTIONS = TRIES + SIDE_BY_SIDE + PEERS + 2
+CONNECTIONS = SIDE_BY_SIDE + PEERS + 2
 MOST = 3
 LIMIT = 600
 
@@ -128,47 +131,74 @@ def line(what, run):
     print(f"{what}: {run.seconds:.2f} s, of the processor {run.processor:.2f} s; {run.memory:.0f} MB")
 
 
+def written(folder, name, lines):
+    """The path of a new file with these bytes."""
+    path = os.path.join(folder, name)
+    with open(path, "wb") as file:
+        file.writelines(lines)
+    return path
+
+
+def scanned(program, blocks, watch):
+    """The best `scan` of a file."""
+    scan = best([program, "scan", blocks, watch])
+    if scan.status != 0:
+        raise SystemExit(f"scan: status {scan.status}")
+    return scan
+
+
+def served(program, blocks, connections):
+    """A server of a file for so many connections, and its address."""
+    server = Run([program, "serve", "--connections", str(connections), blocks, "127.0.0.1:0"])
+    return server, address_of(server)
+
+
+def alone(program, what, blocks, watch):
+    """Whether one `sync` over a chain fails, or takes longer than is wanted."""
+    scan = scanned(program, blocks, watch)
+    server, address = served(program, blocks, TRIES)
+    sync = best([program, "sync", watch, address])
+    line(f"{what}: scan", scan)
+    line(f"{what}: one sync", sync)
+    ratio = sync.seconds / scan.seconds
+    print(f"{what}: one sync over loopback takes {ratio:.2f} times what scan takes; {MOST} is the most that is wanted")
+    return fails(f"{what}: one sync", sync, scan.text()) | fails(f"{what}: the server", server.join(), b"") | (ratio > MOST)
+
+
+def together(program, blocks, watch):
+    """Whether one of several `sync` beside peers that do harm fails, or their server."""
+    text = scanned(program, blocks, watch).text()
+    tip = bytes.fromhex(text.split()[-1].decode())[::-1]
+    server, address = served(program, blocks, CONNECTIONS)
+    harmful = [never_reading(address, tip), noisy(address)]
+    several = [Run([program, "sync", watch, address]) for _ in range(SIDE_BY_SIDE)]
+    wide = Run([program, "sync", watch] + [address] * PEERS)
+    bad = False
+    for number, run in enumerate(several, 1):
+        line(f"sync {number} of {SIDE_BY_SIDE} side by side", run.join())
+        bad |= fails(f"sync {number}", run, text)
+    line(f"sync with {PEERS} peers beside them", wide.join())
+    bad |= fails(f"sync with {PEERS} peers", wide, text)
+    for peer in harmful:
+        peer.close()
+    line("the server of all", server.join())
+    bad |= fails("the server", server, b"")
+    print("".join(told + "\n" for told in server.told().splitlines() if "connection" in told))
+    return bad
+
+
 def main():
     program = sys.argv[1] if len(sys.argv) > 1 else os.path.join(ROOT, ".build", "cf")
-    with tempfile.TemporaryDirectory() as room:
-        blocks, watch = os.path.join(room, "blocks.dat"), os.path.join(room, "watch.txt")
-        with open(blocks, "wb") as file:
-            file.writelines(records((SEED, BLOCKS)))
-        with open(watch, "w") as file:
-            file.write(WATCHED + "\n")
-
-        scan = best([program, "scan", blocks, watch])
-        if scan.status != 0:
-            raise SystemExit(f"scan: status {scan.status}")
-        line("scan", scan)
-        text = scan.text()
-        tip = bytes.fromhex(text.split()[-1].decode())[::-1]
-
-        server = Run([program, "serve", "--connections", str(CONNECTIONS), blocks, "127.0.0.1:0"])
-        address = address_of(server)
-
-        alone = best([program, "sync", watch, address])
-        line("one sync", alone)
-        bad = fails("one sync", alone, text)
-
-        harmful = [never_reading(address, tip), noisy(address)]
-        several = [Run([program, "sync", watch, address]) for _ in range(SIDE_BY_SIDE)]
-        wide = Run([program, "sync", watch] + [address] * PEERS)
-        for number, run in enumerate(several, 1):
-            line(f"sync {number} of {SIDE_BY_SIDE} side by side", run.join())
-            bad |= fails(f"sync {number}", run, text)
-        line(f"sync with {PEERS} peers beside them", wide.join())
-        bad |= fails(f"sync with {PEERS} peers", wide, text)
-        for peer in harmful:
-            peer.close()
-
-        line("the server of all", server.join())
-        bad |= fails("the server", server, b"")
-        print("".join(told + "\n" for told in server.told().splitlines() if "connection" in told))
-
-        ratio = alone.seconds / scan.seconds
-        print(f"one sync over loopback takes {ratio:.2f} times what scan takes; {MOST} is the most that is wanted")
-        return 1 if bad or ratio > MOST else 0
+    with tempfile.TemporaryDirectory() as folder:
+        made = written(folder, "made.dat", records((SEED, BLOCKS)))
+        large = written(folder, "large.dat", records((SEED, BLOCKS), others=OUTPUTS))
+        paid = written(folder, "paid.txt", [PAID.encode()])
+        unpaid = written(folder, "unpaid.txt", [UNPAID.encode()])
+        bad = alone(program, "made, an eighth fetched", made, paid)
+        bad |= alone(program, "made, none fetched", made, unpaid)
+        bad |= alone(program, f"{OUTPUTS} outputs more, an eighth fetched", large, paid)
+        bad |= together(program, made, paid)
+        return 1 if bad else 0
 
 
 if __name__ == "__main__":
