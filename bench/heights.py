@@ -10,8 +10,9 @@ import subprocess
 import sys
 import tempfile
 
+from conversation import compact, frame, greeting
 from made_chain import records
-from sync import PROGRAM, VERSION, compact, frame
+from sync import PROGRAM
 
 GREATEST = 100_000
 
@@ -19,12 +20,11 @@ GREATEST = 100_000
 def write_headers(blocks, path):
     with open(path, "w") as file:
         file.write("dial a\n")
-        for command, payload in [(b"version", VERSION), (b"verack", b"")]:
-            file.write("got 1 %s\n" % frame(command, payload).hex())
+        file.write("got 1 %s\n" % greeting(len(blocks)).hex())
         for at in range(0, len(blocks), 2000):
             part = blocks[at:at + 2000]
             payload = compact(len(part)) + b"".join(block[8:88] + b"\0" for block in part)
-            file.write("got 1 %s\n" % frame(b"headers", payload).hex())
+            file.write("got 1 %s\n" % frame("headers", payload).hex())
 
 
 def called(words):

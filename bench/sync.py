@@ -97,7 +97,8 @@ def main():
         print("%-12s %9s %14s" % ("blocks", "seconds", "us for a block"))
         for count in (1000, 10_000, 50_000):
             subprocess.run([os.path.join(BENCH, "made_chain.py"), "7", str(count), records], check=True)
-            chain = Served(records)
+            with open(records, "rb") as file:
+                chain = Served(file.read())
             size = write_session(messages(chain, [text for text, _, _ in chain.filters[1:]]), session)
             history, seconds = best(watch, session, count)
             costs.append(seconds / count)
