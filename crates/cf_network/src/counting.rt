@@ -5,7 +5,7 @@ const HEADER: u32 = 81;
 
 /// Reads over a peer's frames as their bytes come, and counts the headers, filters and blocks in them.
 #[derive(Clone, Copy)]
-pub struct Counts {
+pub(crate) struct Counts {
     // The first bytes of a frame, as far as they have come: magic, command, length and checksum.
     head: [u8; 24],
     have: usize,
@@ -18,7 +18,7 @@ pub struct Counts {
 
 impl Counts {
     /// Nothing has come yet.
-    pub fn new() -> Counts {
+    pub(crate) fn new() -> Counts {
         Counts {
             head: [0; 24],
             have: 0,
@@ -30,17 +30,17 @@ impl Counts {
     }
 
     /// How many headers have come.
-    pub fn headers(&self) -> u32 {
+    pub(crate) fn headers(&self) -> u32 {
         self.headers
     }
 
     /// How many filters have come.
-    pub fn filters(&self) -> u32 {
+    pub(crate) fn filters(&self) -> u32 {
         self.filters
     }
 
     /// How many blocks have come.
-    pub fn blocks(&self) -> u32 {
+    pub(crate) fn blocks(&self) -> u32 {
         self.blocks
     }
 
@@ -78,7 +78,7 @@ impl Counts {
     }
 
     /// More bytes have come.
-    pub fn take(&mut self, bytes: &[u8]) {
+    pub(crate) fn take(&mut self, bytes: &[u8]) {
         match u32::try_from(bytes.len()) {
             Ok(n) if n <= self.left => self.left -= n,
             _ => {

@@ -8,5 +8,3 @@ mod passed;
 mod pulse;
 
 pub use network::Network;
-pub use outside::SystemDialer;
-pub use pulse::{Bell, Naps};

@@ -5,20 +5,20 @@ use cf_hub::{Dialer, FailedDial, TcpDialer, TcpSource, TcpWriter};
 
 /// Opens connections over TCP, by the system.
 #[derive(Drop)]
-pub struct SystemDialer {
+pub(crate) struct SystemDialer {
     tcp: TcpDialer<HostRuntime>,
 }
 
 impl SystemDialer {
     /// A dialer by this handle; no dial has failed yet.
-    pub fn new(rt: HostRuntime) -> SystemDialer {
+    pub(crate) fn new(rt: HostRuntime) -> SystemDialer {
         SystemDialer {
             tcp: TcpDialer::new(rt, rt.alloc()),
         }
     }
 
     /// The dials that failed, in order, but for those whose reason isn't known.
-    pub fn failed(&self) -> &[FailedDial] {
+    pub(crate) fn failed(&self) -> &[FailedDial] {
         self.tcp.failed()
     }
 }

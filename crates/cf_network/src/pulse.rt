@@ -14,21 +14,21 @@ fn second() -> Duration {
 
 /// Whether a pulse is to end, as those who wait for it see it.
 #[derive(Drop)]
-pub struct Bell {
+pub(crate) struct Bell {
     // 1 once it was rung, and 0 before.
     rung: AtomicU64,
 }
 
 impl Bell {
     /// It was not rung yet.
-    pub fn new() -> Bell {
+    pub(crate) fn new() -> Bell {
         Bell {
             rung: AtomicU64::new(0),
         }
     }
 
     /// Rings it for good, and wakes all who wait for it.
-    pub fn ring(&self) {
+    pub(crate) fn ring(&self) {
         self.rung.store(1, Ordering::SeqCst);
         self.rung.wake_all();
     }
@@ -46,7 +46,7 @@ impl Bell {
 
 /// A pulse of about a second, by the clock of the system that never falls. It tells no answers. Once its bell is rung it doesn't wait any more.
 #[derive(Drop)]
-pub struct Naps<R> {
+pub(crate) struct Naps<R> {
     rt: HostRuntime,
     // The handle by which it waits.
     handle: R,
@@ -62,7 +62,7 @@ fn left_of(start: Duration, now: Duration) -> Duration {
 
 impl<R: Wait> Naps<R> {
     /// A pulse by the clock of this runtime, until the bell is rung. Its first answer counts from the first wait.
-    pub fn new(rt: HostRuntime, handle: R, bell: Arc<Bell, Global>) -> Naps<R> {
+    pub(crate) fn new(rt: HostRuntime, handle: R, bell: Arc<Bell, Global>) -> Naps<R> {
         Naps {
             rt,
             handle,
