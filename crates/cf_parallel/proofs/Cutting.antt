@@ -41,10 +41,11 @@ pub judged_parts : {X Y : Type 0} (f : X → Y) (w : ℕ) (xs : List X) → 0 < 
 judged_parts f w xs h = joined_map f (in_parts w xs) ∙ ap (map f) (joined_parts w xs h)
 
 -- one part more
-pub one_part_more : {X Y : Type 0} (f : X → Y) (w k : ℕ) (xs : List X) (before after : List (List Y)) (v : List Y)
-    → before ≡ map (map f) (first_parts w xs k) → after ≡ before ++ v ∷ [] → v ≡ map f (part_of w xs k) → after ≡ map (map f) (first_parts w xs (k + 1))
-one_part_more f w k xs before after v b a h =
-    a ∙ ap (λ l. l ++ v ∷ []) b ∙ ap (λ u. map (map f) (first_parts w xs k) ++ u ∷ []) h
+pub one_part_more : {V X Y : Type 0} (of : V → List Y) (f : X → Y) (w k : ℕ) (xs : List X) (before after : List V) (v : V)
+    → map of before ≡ map (map f) (first_parts w xs k) → after ≡ before ++ v ∷ [] → of v ≡ map f (part_of w xs k) → map of after ≡ map (map f) (first_parts w xs (k + 1))
+one_part_more of f w k xs before after v b a h =
+    ap (map of) a ∙ map-append of before (v ∷ [])
+    ∙ ap (λ l. l ++ of v ∷ []) b ∙ ap (λ u. map (map f) (first_parts w xs k) ++ u ∷ []) h
     ∙ sym (map-append (map f) (first_parts w xs k) (part_of w xs k ∷ []))
     ∙ ap (λ j. map (map f) (first_parts w xs j)) (sym (add-one k))
 

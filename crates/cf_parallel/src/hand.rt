@@ -1,5 +1,6 @@
 //! A thread that judges, as seen by what hands parts over to it.
-ghost use Rattle.std.specs.Prelude.{◌≡◌, map, IfOk, IfSome};
+ghost use Rattle.std.specs.Prelude.{◌≡◌, map, IfOk, IfSome, IfNone};
+ghost use Rattle.cf_bytes.specs.Outside.{HasRisen};
 ghost use Rattle.cf_match.specs.Verdicts.{verdict_of};
 
 use crate::gate::Gate;
@@ -38,7 +39,7 @@ impl<G: Gate, R: Wait + Threads + Drop> Drop for Hand<G, R> {
     }
 }
 
-/// Starts a thread that judges; `None` where the start is refused.
+/// Starts a thread that judges; `None` only where the start is refused.
 pub(crate) fn start<
     G: Gate + Send + Sync + 'static,
     R: Wait + Threads + Drop + Copy + Send + 'static,
@@ -48,7 +49,10 @@ pub(crate) fn start<
     alloc: Global,
     spawner: &mut K,
     gate: &Arc<G, Global>,
-) -> Result<Option<Hand<G, R>>, NoMemory> {
+) -> Result<Option<Hand<G, R>>, NoMemory>
+    ensures some { IfOk result (λ o. IfSome o (λ _. K.refusals spawner.new ≡ K.refusals spawner.old)) }
+    ensures none { IfOk result (λ o. IfNone o (HasRisen (K.refusals spawner.old) (K.refusals spawner.new))) }
+{
     let gate = Arc::try_clone(gate)?;
     let (parts, theirs) = bounded(alloc, 1)?;
     let (to, answers) = bounded(alloc, 1)?;

@@ -3,6 +3,7 @@ ghost use Rattle.std.specs.Prelude.{◌≡◌, ◌<◌, ◌≤◌, map, IfOk, If
 ghost use Rattle.std.specs.Arc.{arc_value};
 ghost use Rattle.cf_match.specs.Verdicts.{verdict_of};
 ghost use Rattle.cf_parallel.specs.Parts.{part_of, in_parts, joined};
+ghost use Rattle.cf_parallel.specs.Sharing.{HasStarted};
 
 use crate::gate::{Gate, Open};
 use crate::hand::{Hand, start};
@@ -19,7 +20,8 @@ use std::sync::{Arc, Wait};
 use std::thread::Threads;
 
 /// A matcher that cuts each batch in so many parts, at most 64. The caller's thread judges the first, while threads that were started with the
-/// matcher judge the others; those for which there is none it judges afterwards. Contracts see the number of parts. The threads end with it.
+/// matcher judge the others; those for which there is none it judges afterwards. Contracts see the number of parts and that of its threads, which
+/// end with it.
 #[derive(Drop)]
 pub struct Parallel<G: Gate, R: Wait + Threads + Drop> {
     alloc: Global,
@@ -31,17 +33,18 @@ pub struct Parallel<G: Gate, R: Wait + Threads + Drop> {
 }
 
 impl<G: Gate, R: Wait + Threads + Drop> Model for Parallel<G, R> {
-    ghost use Rattle.std.specs.Prelude.{ℕ, ◌<◌, ◌≤◌, vec_len};
+    ghost use Rattle.std.specs.Prelude.{◌<◌, ◌≤◌, vec_len};
+    ghost use Rattle.cf_parallel.specs.Sharing.{Sharing};
 
-    ghost Value = { ℕ };
+    ghost Value = { Sharing };
 
-    ghost view = { λ p. p.workers };
+    ghost view = { λ p. record { parts = p.workers; threads = vec_len p.hands } };
 
     ghost invariant = { λ p. (0 < p.workers) × (p.workers ≤ 64) × (vec_len p.hands < p.workers) };
 }
 
 impl<R: Wait + Threads + Copy + Drop + Send + 'static> Parallel<Open, R> {
-    /// A matcher over so many threads, the caller's among them. There are fewer only where the spawner refuses a start.
+    /// A matcher over so many threads, the caller's among them. There are fewer only where the spawner's count of refusals rose.
     pub fn new<K: Spawner>(
         rt: R,
         alloc: Global,
@@ -50,7 +53,8 @@ impl<R: Wait + Threads + Copy + Drop + Send + 'static> Parallel<Open, R> {
     ) -> Result<Parallel<Open, R>, NoMemory>
         requires some { 1 ≤ workers }
         requires most { workers ≤ 64 }
-        ensures { IfOk result (λ p. p ≡ workers) }
+        ensures parts { IfOk result (λ p. p.parts ≡ workers) }
+        ensures threads { IfOk result (λ p. HasStarted p (K.refusals spawner.old) (K.refusals spawner.new)) }
     {
         Parallel::with_gate(rt, alloc, spawner, workers, Open)
     }
@@ -70,7 +74,8 @@ impl<G: Gate + Send + Sync + 'static, R: Wait + Threads + Copy + Drop + Send + '
     ) -> Result<Parallel<G, R>, NoMemory>
         requires some { 1 ≤ workers }
         requires most { workers ≤ 64 }
-        ensures { IfOk result (λ p. p ≡ workers) }
+        ensures parts { IfOk result (λ p. p.parts ≡ workers) }
+        ensures threads { IfOk result (λ p. HasStarted p (K.refusals spawner.old) (K.refusals spawner.new)) }
     {
         let workers = workers as usize;
         let gate = Arc::new(alloc, gate)?;
@@ -149,9 +154,9 @@ impl<G: Gate, R: Wait + Threads + Drop> Parallel<G, R> {
 
     // The verdicts on a part: those that come of its thread, or this thread's.
     fn collect(&mut self, jobs: &[Job], watch: &Watch, k: usize) -> Result<Vec<Verdict>, NoMemory>
-        requires { k < self.old }
+        requires { k < self.old.parts }
         ensures same { self.new ≡ self.old }
-        ensures verdicts { IfOk result (λ v. v.items ≡ map (verdict_of watch.now) (part_of self.old jobs.now k)) }
+        ensures verdicts { IfOk result (λ v. v.items ≡ map (verdict_of watch.now) (part_of self.old.parts jobs.now k)) }
     {
         let from = place(jobs.len(), self.workers, k);
         let to = place(jobs.len(), self.workers, k + 1);
@@ -173,7 +178,7 @@ impl<G: Gate, R: Wait + Threads + Drop> Parallel<G, R> {
         watch: &Watch,
     ) -> Result<Vec<Vec<Verdict>>, NoMemory>
         ensures same { self.new ≡ self.old }
-        ensures parts { IfOk result (λ parts. map (λ v. v.items) parts.items ≡ map (map (verdict_of watch.now)) (in_parts self.old jobs.now)) }
+        ensures parts { IfOk result (λ parts. map (λ v. v.items) parts.items ≡ map (map (verdict_of watch.now)) (in_parts self.old.parts jobs.now)) }
     {
         let mut parts = Vec::with_capacity(self.alloc, self.workers)?;
         self.hand_over(jobs, watch);

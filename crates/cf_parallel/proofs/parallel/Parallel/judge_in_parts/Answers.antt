@@ -1,6 +1,5 @@
-use Rattle.std.proofs.Common.{rules, arith, ◌≡◌, true, ◌∙◌, ap, map}
+use Rattle.std.proofs.Common.{rules, arith, ◌≡◌, true, ◌∙◌, ap}
 use Rattle.std.specs.Result.{is_ok}
-use Rattle.std.proofs.lemmas.List.{map-append}
 use Rattle.cf_match.specs.Verdicts.{verdict_of}
 use Rattle.cf_parallel.proofs.Cutting.{one_part_more}
 use Rattle.cf_parallel.proofs.parallel.Parallel.judge_in_parts.Goals as goal
@@ -12,7 +11,7 @@ loop-k-preserved g c =
     let all = rw done at c.push.ensures.items in
     let found = rw i.same at c.in_ok-collect.ensures.verdicts in
     record {
-      so_far = one_part_more (verdict_of c.args.watch.now) c.hand_over.new.self c.loop-k.k c.args.jobs.now _ _ _ i.so_far (ap (map (λ v. v.items)) all ∙ map-append (λ v. v.items) _ _) found;
+      so_far = one_part_more (λ v. v.items) (verdict_of c.args.watch.now) c.hand_over.new.self.parts c.loop-k.k c.args.jobs.now _ _ _ i.so_far all found;
       same = c.collect.ensures.same ∙ i.same;
-      within = omega (arith, c.loop-k-test.true, c.self-2.view_is);
+      within = omega (arith, c.loop-k-test.true, ap (λ s. s.parts) c.self-2.view_is);
     }
