@@ -3,6 +3,7 @@ ghost use Rattle.std.specs.Prelude.{◌≡◌, ◌≤◌, ◌<◌, ℕ, suc, Non
 ghost use Rattle.cf_client.specs.Names.{names_in};
 ghost use Rattle.cf_client.specs.Places.{EndsTell};
 ghost use Rattle.cf_client.specs.Run.{Followed};
+ghost use Rattle.cf_client.specs.Versions.{IsOfWords};
 ghost use Rattle.cf_demo.specs.Playing.{Accounts};
 ghost use Rattle.cf_headers.specs.Chain.{NoHashClash};
 ghost use Rattle.cf_peer.specs.Log.{tally_of};
@@ -39,6 +40,7 @@ pub fn sync_played<H: HeaderStore + Drop, M: Matcher + Drop>(
     requires empty { (q : ℕ) → H.chain store q ≡ None }
     ensures followed { IfOk result (λ o. Followed watch o.end o.height o.tip o.history o.trace.items (names_in names.now) (log_of played.new)) }
     ensures ends { IfOk result (λ o. EndsTell o.ends.items (log_of played.new)) }
+    ensures versions { IsOfWords (record { moment = moment; number = nonce }) (log_of played.new) }
     ensures theorem { IfOk result (λ o. SyncTheorem watch o.height o.tip o.history (log_of played.new)) }
     ensures honest { OnOk result ((i : ℕ) (peer : Peer) → slice_get (peers_of played.old) i ≡ Some peer → peer.way ≡ Honest → i < length names.now
         → NoHashClash (IsHashed (log_of played.new) peer.blocks) → IsHonest (log_of played.new) (suc i) peer.blocks) }

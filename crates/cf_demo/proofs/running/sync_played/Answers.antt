@@ -1,7 +1,9 @@
-use Rattle.std.proofs.Common.{◌≡◌, ◌<◌, ℕ, map, Result, Ok, Err, OnOk, IfOk, sym, subst}
+use Rattle.std.proofs.Common.{rules, w64, ◌≡◌, ◌<◌, ℕ, map, Result, Ok, Err, OnOk, IfOk, sym, subst}
+use Rattle.std.proofs.Math.Facts.{to_z-of_z}
 use Rattle.cf_client.specs.declared.outcome.Outcome.{Outcome}
 use Rattle.cf_client.specs.Names.{names_in}
 use Rattle.cf_client.specs.Run.{Followed}
+use Rattle.cf_client.specs.Versions.{IsOfWords}
 use Rattle.cf_played.specs.Peers.{still, made_of}
 use Rattle.cf_played.specs.Told.{log_of, peers_of}
 use Rattle.cf_demo.specs.Playing.{Accounts}
@@ -33,3 +35,8 @@ returns-clause-honest g c =
     c.sync_over-outcome.result c.sync_over-outcome.ensures.followed c.sync_over-outcome.ensures.dialled (λ o f d i peer at way few clash.
     honest_among (peers_of c.args.played.now) news (log_of c.sync_over-outcome.new.wires) c.same_peers.ensures.good same accounts
     (record { rightly = f.asked.rightly; numbered = f.numbered; orderly = f.was_orderly }) i peer at way (subst (λ (n : ℕ). i < n) (sym d) few) clash)
+
+pub returns-clause-versions : goal.returns-clause-versions
+returns-clause-versions g c =
+    subst (λ moment. IsOfWords (record { moment = moment; number = c.args.nonce }) (log_of c.sync_over-outcome.new.wires)) (to_z-of_z {w = w64} {z = c.args.moment} (search rules))
+    c.sync_over-outcome.ensures.versions
