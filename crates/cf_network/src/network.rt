@@ -1,6 +1,8 @@
 //! Wires that tell the user what passes them.
-ghost use Rattle.std.specs.Prelude.{◌≡◌, IfOk, None, [], false};
+ghost use Rattle.std.specs.Prelude.{◌≡◌, ◌⊎◌, min, IfOk, None, [], false};
+ghost use Rattle.cf_bytes.specs.Outside.{HasRisen};
 ghost use Rattle.cf_hub.specs.Book.{told_of, keeps_of};
+ghost use Rattle.cf_network.specs.Standing.{HasThreads};
 ghost use Rattle.cf_peer.specs.Log.{Tells};
 
 use crate::outside::SystemDialer;
@@ -20,7 +22,7 @@ use std::time::Clock;
 
 /// Peers of which each has a reader in a thread of its own, and a ticker, as wires. It tells on standard error what passes: each dial that failed,
 /// and why; where that is a terminal, at most once a second how far it has come; and by `tell_stands` how each peer stands. Contracts see what
-/// the wires tell, and not how they are made.
+/// the wires tell and how many threads wait, and not how they are made.
 #[derive(Drop)]
 pub struct Network<R: Wait + Threads + Copy + Drop> {
     rt: HostRuntime,
@@ -40,7 +42,7 @@ impl<R: Wait + Threads + Copy + Drop> Model for Network<R> {
 
     ghost Value = { Standing };
 
-    ghost view = { λ n. record { told = told_of n.hub.book; faults = n.hub.dialer.tcp.faults + (n.hub.missed + faults_in (λ w. w.faults) n.hub.writers.items); keeps = keeps_of n.hub.book } };
+    ghost view = { λ n. record { told = told_of n.hub.book; faults = n.hub.dialer.tcp.faults + (n.hub.missed + faults_in (λ w. w.faults) n.hub.writers.items); keeps = keeps_of n.hub.book; readers = n.hub.readers.count; tickers = n.hub.tickers.count } };
 }
 
 // A hub that has dialled nobody, with threads for so many peers and, where there are any, for its ticker.
@@ -54,6 +56,7 @@ fn hub_of<R: Wait + Threads + Copy + Drop + Send + 'static, K: Spawner>(
     ensures told { IfOk result (λ h. Tells [] (told_of h.book)) }
     ensures finished { IfOk result (λ h. (told_of h.book).finished ≡ false) }
     ensures keeps { IfOk result (λ h. keeps_of h.book ≡ false) }
+    ensures threads { IfOk result (λ h. ((h.readers.count ≡ peers) × (h.tickers.count ≡ min 1 peers)) ⊎ HasRisen (K.refusals spawner.old) (K.refusals spawner.new)) }
 {
     let alloc = rt.alloc();
     let dialer = SystemDialer::new(*rt);
@@ -66,7 +69,8 @@ fn hub_of<R: Wait + Threads + Copy + Drop + Send + 'static, K: Spawner>(
 }
 
 impl<R: Wait + Threads + Copy + Drop + Send + 'static> Network<R> {
-    /// Peers of whom none was dialled. For each of so many a thread waits, and one for the ticker; where there are none no thread is started.
+    /// Peers of whom none was dialled. For each of so many a thread waits, and one for the ticker, or the spawner's count of refusals rose; where there are
+    /// none no thread is started.
     pub fn new<K: Spawner>(
         rt: &HostRuntime,
         handle: R,
@@ -76,6 +80,7 @@ impl<R: Wait + Threads + Copy + Drop + Send + 'static> Network<R> {
         ensures told { IfOk result (λ n. Tells [] n.told) }
         ensures finished { IfOk result (λ n. n.told.finished ≡ false) }
         ensures keeps { IfOk result (λ n. n.keeps ≡ false) }
+        ensures threads { IfOk result (λ n. HasThreads peers n (K.refusals spawner.old) (K.refusals spawner.new)) }
     {
         let bell = Arc::new(rt.alloc(), Bell::new())?;
         let pulse = Naps::new(*rt, handle, Arc::try_clone(&bell)?);
