@@ -58,11 +58,10 @@ class Reader:
         return first if first < 253 else self.number({253: 2, 254: 4, 255: 8}[first])
 
 
-def transactions(block):
-    """Of each transaction its txid, the outpoints that it names and the scripts that it pays."""
+def valued(block):
+    """Of each transaction its txid, the outpoints that it names, and the values and scripts of its outputs."""
     r = Reader(block)
     r.take(80)
-    found = []
     for _ in range(r.count()):
         start = r.place
         r.take(4)
@@ -71,13 +70,17 @@ def transactions(block):
             names.append((r.take(32), r.number(4)))
             r.take(r.count())
             r.take(4)
-        scripts = []
+        outputs = []
         for _ in range(r.count()):
-            r.take(8)
-            scripts.append(r.take(r.count()))
+            value = r.number(8)
+            outputs.append((value, r.take(r.count())))
         r.take(4)
-        found.append((double(block[start:r.place]), names, scripts))
-    return found
+        yield double(block[start:r.place]), names, outputs
+
+
+def transactions(block):
+    """The same with the scripts of its outputs alone."""
+    return [(txid, names, [paid for _, paid in outputs]) for txid, names, outputs in valued(block)]
 
 
 def records(data):

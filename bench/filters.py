@@ -1,13 +1,16 @@
 #!/usr/bin/env python3
 """Basic filters of a made chain of 100,000 blocks beside a plain reader in C: building them, and matching 1, 100 and 1000 scripts against all of them. Then the
-same by threads: building on one processor and on all, and matching 100 scripts by the plain matcher and by 1, 2 and 4 workers. Filter headers stand on one another, so
-they are found one by one, beside the filters of later blocks: of small blocks, as made chains have them, this is half of the work or so, which no number of
-processors shortens. So building is told of blocks with 50 outputs more as well.
+same by threads: matching 100 scripts by the plain matcher and by 1, 2 and 4 workers, and building on one processor and on all.
 
 `cf_bench` and `plain.c` (compiled with `cc -O2`) check the same file, build each filter and match the same scripts, which nothing pays. The first row has
 no scripts: reading, checking and building. The others are what matching takes beyond it. Seconds are the processor's, and the best of five runs counts, which
-take turns. Both must find the same number of filters, or it stops. Of threads the time that passes is told, the least of nine runs, which take turns too (single runs
-of one call differ by half and more, and the least is what the work itself takes); it says something only where as many processors are free.
+take turns. Both must find the same number of filters, or it stops.
+
+Of threads the time that passes is told, the least of nine runs, which take turns too (single runs of one call differ by half and more, and the least is what the work
+itself takes), and how many times as fast it is as the row that it is compared with. On four processors that nothing else uses it is to be at least what stands
+beside it: `LEAST`. Building is told of blocks with more and more outputs. Filter headers stand on one another, so they are found one by one, beside the filters of later
+blocks: of blocks of 193 bytes, as made chains have them, they are half of the work, which no number of processors shortens, and nothing is asked of these; of
+larger blocks they are a small part.
 """
 import os
 import subprocess
@@ -20,6 +23,10 @@ BENCH = os.path.dirname(os.path.abspath(__file__))
 CRATE = os.path.join(os.path.dirname(BENCH), "crates", "cf_bench")
 PROGRAM = os.path.join(CRATE, "out", "cf_bench")
 RUNS = 9
+PLAIN, ONE, TWO, FOUR = 0, 1, 2, 4
+# How many times as fast: one worker as the plain matcher, two and four as one, and all processors as one at building with so many outputs more.
+LEAST = {(PLAIN, ONE): 1 / 1.1, (ONE, TWO): 1.7, (ONE, FOUR): 2.8}
+LEAST_BUILDING = {0: None, 5: None, 10: None, 20: None, 50: 2.5}
 
 
 def passed(words):
@@ -39,20 +46,28 @@ def in_turns(words, times):
     return [{key: min(run[at] for run in each) for key, each in runs.items()} for at in (1, 2)]
 
 
-def tell_building(what, blocks):
+def tell(what, milliseconds, times=None, least=None):
+    """Prints a row."""
+    compared = "" if times is None else "%7.2f" % times
+    print(("%-34s %7dms %7s %s" % (what, milliseconds, compared, "" if least is None else "(%.2f)" % least)).rstrip())
+
+
+def tell_building(others, blocks):
     """Prints how much sooner a chain's filters are built on all processors than on one."""
     call = [PROGRAM, blocks, "0", "0"]
     _, built = in_turns({"one": ["taskset", "-c", "0", *call], "all": call}, RUNS)
-    for key, row in (("one", "building%s, 1 processor" % what), ("all", "building%s, all" % what)):
-        print("%-26s %8dms %7.2f" % (row, built[key], built["one"] / built[key]))
+    what = "building, %d outputs more" % others
+    tell(what + ", one", built["one"])
+    tell(what + ", all", built["all"], built["one"] / built["all"], LEAST_BUILDING[others])
 
 
 def tell_matching(blocks):
-    """Prints how much sooner several workers have matched 100 scripts than one."""
-    words = {workers: [PROGRAM, blocks, "100", str(workers)] for workers in (0, 1, 2, 4)}
+    """Prints how much sooner several workers have matched 100 scripts than one, and one beside the plain matcher."""
+    words = {workers: [PROGRAM, blocks, "100", str(workers)] for workers in (PLAIN, ONE, TWO, FOUR)}
     matched, _ = in_turns(words, RUNS)
-    for key, row in ((0, "matching, plain"), (1, "matching, 1 worker"), (2, "matching, 2 workers"), (4, "matching, 4 workers")):
-        print("%-26s %8dms %7.2f" % (row, matched[key], matched[1] / matched[key]))
+    tell("matching, plain", matched[PLAIN])
+    for (before, workers), least in LEAST.items():
+        tell("matching, %d worker%s" % (workers, "s" * (workers > 1)), matched[workers], matched[before] / matched[workers], least)
 
 
 def main():
@@ -71,13 +86,12 @@ def main():
             print("%-26s %8.2fs %8.2fs %7.1f" % (row, ours, other, ours / other if other > 0 else 0))
             if count == 0:
                 before = (seconds, base)
-        wide = os.path.join(folder, "wide")
-        with open(wide, "wb") as file:
-            file.writelines(records((7, 100_000), others=50))
-        print("%-26s %9s %7s" % ("by threads", "passed", "times"))
+        print("%-34s %9s %7s %s" % ("by threads", "passed", "times", "(at least)"))
         tell_matching(blocks)
-        tell_building("", blocks)
-        tell_building(" wide", wide)
+        for others in LEAST_BUILDING:
+            with open(blocks, "wb") as file:
+                file.writelines(records((7, 100_000), others=others))
+            tell_building(others, blocks)
 
 
 if __name__ == "__main__":

@@ -12,7 +12,7 @@ import sys
 import tempfile
 
 sys.path.insert(0, os.path.dirname(os.path.abspath(__file__)))
-from conversation import Reader, Served, basic_filter, compact, double, frame, transactions, version
+from conversation import Served, basic_filter, compact, double, frame, transactions, valued, version
 
 BENCH = os.path.dirname(os.path.abspath(__file__))
 VERSION = version(65, 0, 0, b"/cf:1/", 0, b"\0")
@@ -76,26 +76,6 @@ class Chain(Served):
                     got = sum(value for _, value in won)
                     lines += "%d %s +%d -%d %d\n" % (height, txid[::-1].hex(), got, sum(spent), sum(coins.values()))
         return lines + "synced %d %s\n" % (self.tip, self.hashes[-1][::-1].hex())
-
-
-def valued(block):
-    """Of each transaction its txid, the outpoints that it names, and the values and scripts of its outputs."""
-    r = Reader(block)
-    r.take(80)
-    for _ in range(r.count()):
-        start = r.place
-        r.take(4)
-        names = []
-        for _ in range(r.count()):
-            names.append((r.take(32), r.number(4)))
-            r.take(r.count())
-            r.take(4)
-        outputs = []
-        for _ in range(r.count()):
-            value = r.number(8)
-            outputs.append((value, r.take(r.count())))
-        r.take(4)
-        yield double(block[start:r.place]), names, outputs
 
 
 class Session:
