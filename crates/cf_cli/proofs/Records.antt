@@ -1,16 +1,16 @@
 -- What becomes of the files.
-use Rattle.std.proofs.Common.{◌≡◌, ℕ, Bool, true, false, List, Option, Some, None, refl, sym, ◌∙◌, ap, subst}
+use Rattle.std.proofs.Common.{◌≡◌, ℕ, Bool, false, List, Option, Some, None, refl, sym, subst}
 use Rattle.std.specs.Prelude.{is_some, IfSome}
 use Rattle.std.specs.FinMap as finite
 use Rattle.std.proofs.lemmas.Bool.{false≢true}
-use Rattle.cf_bytes.specs.Files.{Named, SameElsewhere, with_file}
+use Rattle.cf_bytes.specs.Files.{Named, SameElsewhere}
 use Rattle.cf_peer.specs.Log.{Log}
 use Rattle.cf_input.specs.declared.words.Command.{Command}
 use Rattle.cf_input.specs.declared.words.Command.TheVariants.{Sync}
 use Rattle.cf_cli.specs.declared.status.Status.{Status}
 use Rattle.cf_cli.specs.declared.status.Status.TheVariants.{Done, NoMemory, Usage, BadFile, FileFault, OutFault, NoPeers, Tired, Ended, LinkFault, NoNonce, NoHeight, NotThere, NotAddress}
 use Rattle.cf_cli.specs.Statuses.{IsJudged, IsOfFile, Verdict, Good, was_unbegun, watch_verdict}
-use Rattle.cf_cli.specs.Recording.{IsRecorded, HasRecord, KeepsOthers, Records, may_write}
+use Rattle.cf_cli.specs.Recording.{HasRecord, KeepsOthers, Records, may_write}
 use Rattle.cf_cli.specs.Theorem.{AnswersTo}
 use Rattle.cf_client.specs.declared.outcome.End.{End}
 use Rattle.cf_client.specs.declared.outcome.End.TheVariants.{Synced as IsSynced, NoPeers as HasNoPeers, Tired as IsTired, Ended as HasEnded}

@@ -1,12 +1,12 @@
 -- What serving says of the answer and of the link.
-use Rattle.std.proofs.Common.{◌≡◌, ℕ, ℤ, ◌+◌, ◌≤◌, Bool, true, false, List, [], ◌∷◌, Option, Some, None, Result, Ok, Err, inl, inr, refl, sym, ◌∙◌, ap, subst}
+use Rattle.std.proofs.Common.{◌≡◌, ℕ, ℤ, ◌+◌, ◌≤◌, Bool, true, false, List, Option, Some, Result, Ok, Err, inr, refl, sym, subst}
 use Rattle.std.specs.Prelude.{IfSome, OnOk, not}
 use Rattle.std.specs.FinMap as finite
 use Rattle.cf_bytes.specs.Files.{Named}
 use Rattle.cf_block.specs.declared.tx.Block.{Block}
 use Rattle.cf_chain.specs.Good.{IsGoodChain}
 use Rattle.cf_index.specs.Files.{blocks_at}
-use Rattle.cf_serve.specs.Links.{LinkTold, longer_by}
+use Rattle.cf_serve.specs.Links.{LinkTold}
 use Rattle.cf_serve.specs.Serving.{Serves}
 use Rattle.cf_serve.specs.declared.fail.ServeFail.{ServeFail}
 use Rattle.cf_serve.specs.declared.fail.ServeFail.TheVariants.{Failed, NoMemory as OutOfMemory}
@@ -14,7 +14,7 @@ use Rattle.cf_service.specs.Machine.{Machine, IsServedBy}
 use Rattle.cf_cli.specs.declared.status.Status.{Status}
 use Rattle.cf_cli.specs.declared.status.Status.TheVariants.{Done, NoMemory, Usage, BadFile, FileFault, OutFault, NoPeers, Tired, Ended, LinkFault, NoNonce, NoHeight, NotThere, NotAddress}
 use Rattle.cf_cli.specs.Statuses.{was_refused}
-use Rattle.cf_cli.specs.Serving.{listening, ServesAt, MayServe, ServesChain, ServesFile, IsServing, answer_of, may_serve}
+use Rattle.cf_cli.specs.Serving.{listening, ServesAt, MayServe, ServesChain, IsServing, answer_of, may_serve}
 use Rattle.cf_input.specs.declared.words.Command.{Command}
 use Rattle.cf_input.specs.declared.words.Command.TheVariants.{Serve}
 

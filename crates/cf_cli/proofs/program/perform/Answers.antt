@@ -6,8 +6,7 @@ use Rattle.cf_client.proofs.Versions.{new_words}
 use Rattle.cf_cli.proofs.Plays.{versions_so, unplayed_words, judged_replay, judged_sync, new_unfailed}
 use Rattle.cf_cli.proofs.Records.{sync_writes}
 use Rattle.cf_cli.proofs.Demos.{demo_uses}
-use Rattle.cf_cli.proofs.Serves.{no_link, serve_uses}
-use Rattle.cf_cli.specs.Reading.{IsOfScan, IsOfFilter, IsAddressed}
+use Rattle.cf_cli.proofs.Serves.{serve_uses}
 use Rattle.cf_cli.proofs.program.perform.Goals as goal
 
 pub returns-in-Replay-clause-judged : goal.returns-in-Replay-clause-judged

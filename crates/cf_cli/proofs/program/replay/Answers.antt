@@ -1,4 +1,4 @@
-use Rattle.std.proofs.Common.{List, false, Some, length, rules, ◌∙◌, ap, subst}
+use Rattle.std.proofs.Common.{false, Some, length, rules, ◌∙◌, ap, subst}
 use Rattle.std.proofs.Math.Facts.{to_z-of_z}
 use Rattle.std.specs.Int.{w64}
 use Rattle.cf_client.specs.Names.{names_in}
