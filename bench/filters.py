@@ -9,7 +9,7 @@ take turns. Both must find the same number of filters, or it stops.
 Of threads the time that passes is told, the least of nine runs, which take turns too (single runs of one call differ by half and more, and the least is what the work
 itself takes), and how many times as fast it is as the row that it is compared with. On four processors that nothing else uses it is to be at least what stands
 beside it: `LEAST`. Building is told of blocks with more and more outputs. Filter headers stand on one another, so they are found one by one, beside the filters of later
-blocks: of blocks of 193 bytes, as made chains have them, they are half of the work, which no number of processors shortens, and nothing is asked of these; of
+blocks: of blocks of 193 bytes, as made chains have them, they are a third of the work, which no number of processors shortens, and nothing is asked of these; of
 larger blocks they are a small part.
 """
 import os
