@@ -14,11 +14,11 @@ use std::thread::{Threads, yield_now};
 // The turns for which part 1 is held.
 const MOST_TURNS: u32 = 100_000_000;
 
-// Holds part 1 until part 2 has entered, or the turns have run out.
+// Holds part 1 until part 2 has entered, or the turns have run out, and keeps whether it has.
 #[derive(Drop)]
 struct Holds {
     entered: Arc<AtomicBool, Global>,
-    in_vain: Arc<AtomicBool, Global>,
+    met: Arc<AtomicBool, Global>,
 }
 
 impl Holds {
@@ -38,8 +38,8 @@ impl Gate for Holds {
         if part == 2 {
             self.entered.store(true, Ordering::SeqCst);
         }
-        if part == 1 && !self.has_entered() {
-            self.in_vain.store(true, Ordering::SeqCst);
+        if part == 1 && self.has_entered() {
+            self.met.store(true, Ordering::SeqCst);
         }
     }
 }
@@ -127,16 +127,16 @@ fn parts_without_a_thread_are_judged(rt: HostRuntime) -> Result<(), Fail> {
 #[test]
 fn parts_are_judged_at_once(rt: HostRuntime) -> Result<(), Fail> {
     let alloc = rt.alloc();
-    let in_vain = Arc::new(alloc, AtomicBool::new(false))?;
+    let met = Arc::new(alloc, AtomicBool::new(false))?;
     let gate = Holds {
         entered: Arc::new(alloc, AtomicBool::new(false))?,
-        in_vain: Arc::try_clone(&in_vain)?,
+        met: Arc::try_clone(&met)?,
     };
     let mut spawner = InThreads::new(rt);
     let mut matcher = Parallel::with_gate(rt, alloc, &mut spawner, 2, gate)
         .ok()
         .ok_or("no memory")?;
     assert_eq!(rt; text_of(alloc, &mut matcher)?.as_str(), "Miss Hit 0");
-    assert!(rt; !in_vain.load(Ordering::SeqCst));
+    assert!(rt; met.load(Ordering::SeqCst));
     Ok(())
 }
