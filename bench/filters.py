@@ -8,9 +8,10 @@ take turns. Both must find the same number of filters, or it stops.
 
 Of threads the time that passes is told, the least of nine runs, which take turns too (single runs of one call differ by half and more, and the least is what the work
 itself takes), and how many times as fast it is as the row that it is compared with. On four processors that nothing else uses it is to be at least what stands
-beside it: `LEAST`. Building is told of blocks with more and more outputs. Filter headers stand on one another, so they are found one by one, beside the filters of later
-blocks: of blocks of 193 bytes, as made chains have them, they are a third of the work, which no number of processors shortens, and nothing is asked of these; of
-larger blocks they are a small part.
+beside it: `LEAST` for matching, `LEAST_BUILDING` for building the filters of the same made chain. What follows is told and nothing is asked of it: building the filters of
+blocks with more outputs, and making the whole index, which beside the filters finds their headers and the heights of the blocks' hashes. Filter headers stand on one
+another, so they are found one by one, beside the filters of later blocks: of blocks of 193 bytes, as made chains have them, they are a third of the index's
+work, which no number of processors shortens; of larger blocks they are a small part.
 """
 import os
 import subprocess
@@ -24,26 +25,28 @@ CRATE = os.path.join(os.path.dirname(BENCH), "crates", "cf_bench")
 PROGRAM = os.path.join(CRATE, "out", "cf_bench")
 RUNS = 9
 PLAIN, ONE, TWO, FOUR = 0, 1, 2, 4
-# How many times as fast: one worker as the plain matcher, two and four as one, and all processors as one at building with so many outputs more.
+# How many times as fast: one worker as the plain matcher, two and four as one; and all processors as one at building the filters of a made chain.
 LEAST = {(PLAIN, ONE): 1 / 1.1, (ONE, TWO): 1.7, (ONE, FOUR): 2.8}
-LEAST_BUILDING = {0: None, 5: None, 10: None, 20: None, 50: 2.5}
+LEAST_BUILDING = 2.5
+# How many outputs blocks have beyond those of made ones.
+OTHERS = (0, 10, 50)
 
 
 def passed(words):
-    """How many filters one run finds, and the milliseconds that it took to match and to build."""
-    found, matched, built = subprocess.run(words, check=True, capture_output=True, text=True).stdout.splitlines()
-    return found, int(matched), int(built)
+    """What one run finds, and the milliseconds that it tells."""
+    found, *milliseconds = subprocess.run(words, check=True, capture_output=True, text=True).stdout.splitlines()
+    return found, [int(each) for each in milliseconds]
 
 
 def in_turns(words, times):
-    """The least milliseconds of matching and of building, of runs that take turns, by what they are called."""
+    """The least of the milliseconds that runs tell which take turns, by what they are called."""
     runs = {key: [] for key in words}
     for _ in range(times):
         for key, line in words.items():
             runs[key].append(passed(line))
-    if len({found for each in runs.values() for found, _, _ in each}) != 1:
+    if len({found for each in runs.values() for found, _ in each}) != 1:
         raise SystemExit("not all found the same")
-    return [{key: min(run[at] for run in each) for key, each in runs.items()} for at in (1, 2)]
+    return {key: [min(column) for column in zip(*(told for _, told in each))] for key, each in runs.items()}
 
 
 def tell(what, milliseconds, times=None, least=None):
@@ -52,19 +55,25 @@ def tell(what, milliseconds, times=None, least=None):
     print(("%-34s %7dms %7s %s" % (what, milliseconds, compared, "" if least is None else "(%.2f)" % least)).rstrip())
 
 
+def tell_by_processors(what, words, least=None):
+    """Prints how much sooner a call has done its last work on all processors than on one."""
+    told = in_turns({"one": ["taskset", "-c", "0", *words], "all": words}, RUNS)
+    one, all_ = told["one"][-1], told["all"][-1]
+    tell(what + ", one", one)
+    tell(what + ", all", all_, one / all_, least)
+
+
 def tell_building(others, blocks):
-    """Prints how much sooner a chain's filters are built on all processors than on one."""
-    call = [PROGRAM, blocks, "0", "0"]
-    _, built = in_turns({"one": ["taskset", "-c", "0", *call], "all": call}, RUNS)
-    what = "building, %d outputs more" % others
-    tell(what + ", one", built["one"])
-    tell(what + ", all", built["all"], built["one"] / built["all"], LEAST_BUILDING[others])
+    """Prints how much sooner the filters of a chain are built on all processors than on one, and its index is made."""
+    outputs = ", %d outputs more" % others if others else ""
+    tell_by_processors("filters" + outputs, [PROGRAM, blocks, "filters"], None if others else LEAST_BUILDING)
+    tell_by_processors("index" + outputs, [PROGRAM, blocks, "0", "0"])
 
 
 def tell_matching(blocks):
     """Prints how much sooner several workers have matched 100 scripts than one, and one beside the plain matcher."""
     words = {workers: [PROGRAM, blocks, "100", str(workers)] for workers in (PLAIN, ONE, TWO, FOUR)}
-    matched, _ = in_turns(words, RUNS)
+    matched = {workers: told[0] for workers, told in in_turns(words, RUNS).items()}
     tell("matching, plain", matched[PLAIN])
     for (before, workers), least in LEAST.items():
         tell("matching, %d worker%s" % (workers, "s" * (workers > 1)), matched[workers], matched[before] / matched[workers], least)
@@ -88,7 +97,7 @@ def main():
                 before = (seconds, base)
         print("%-34s %9s %7s %s" % ("by threads", "passed", "times", "(at least)"))
         tell_matching(blocks)
-        for others in LEAST_BUILDING:
+        for others in OTHERS:
             with open(blocks, "wb") as file:
                 file.writelines(records((7, 100_000), others=others))
             tell_building(others, blocks)

@@ -1,6 +1,7 @@
 //! `cf_bench FILE COUNT [WORKERS]`: builds the basic filters of the chain in a block file, matches COUNT scripts that nothing pays against each of them, and
 //! prints how many match. With WORKERS a matcher of so many threads does it, or the plain one at 0, and two lines more tell the milliseconds that matching
-//! and building took. It is there to be measured (see `bench/`), and is no part of the program.
+//! took, and making the index: the filters, their headers and the heights of the blocks' hashes. `cf_bench FILE filters` builds the filters alone, and prints how
+//! many there are and the milliseconds that it took. It is there to be measured (see `bench/`), and is no part of the program.
 #![tactic(auto)]
 
 use cf_block::Script;
@@ -99,12 +100,18 @@ fn load(rt: &HostRuntime, name: &str) -> Option<CheckedChain> {
     read_chain(alloc, &bytes).ok()
 }
 
-// What is asked for: a file, a number of scripts, and a number of workers.
+// What is done with a chain: its filters are built, or its index is made and so many scripts are matched, by as many workers.
+#[derive(Clone, Copy)]
+enum Work {
+    Build,
+    Match { count: u64, workers: Option<u32> },
+}
+
+// What is asked for.
 #[derive(Drop)]
 struct Asked {
     name: String,
-    count: u64,
-    workers: Option<u32>,
+    work: Work,
 }
 
 // The words behind the program's name.
@@ -112,15 +119,21 @@ fn words_of(rt: &HostRuntime) -> Option<Asked> {
     let mut words = env::args(rt).ok()?;
     let _program = words.next()?;
     let name = words.next()?;
-    let count = words.next()?.parse::<u64>().ok()?;
+    let what = words.next()?;
+    if what.as_str() == "filters" {
+        return Some(Asked {
+            name,
+            work: Work::Build,
+        });
+    }
+    let count = what.parse::<u64>().ok()?;
     let workers = match words.next() {
         Some(word) => Some(word.parse::<u32>().ok()?),
         None => None,
     };
     Some(Asked {
         name,
-        count,
-        workers,
+        work: Work::Match { count, workers },
     })
 }
 
@@ -154,22 +167,48 @@ fn told_by<R: Wait + Threads + Clock + Copy + Drop + Send + 'static>(
     format!(in alloc; "{hits} of {}\n{matched}", u64::from(index.tip()) + 1).ok()
 }
 
+// How many filters a chain's blocks have above genesis, and the milliseconds that building them took.
+fn build_alone<R: Threads + Sync + Clock>(
+    rt: &R,
+    alloc: Global,
+    chain: &CheckedChain,
+) -> Option<String> {
+    let start = Instant::now(rt).ok()?;
+    let filters = chain.basic_filters(rt, alloc).ok()?;
+    let built = millis(rt, start)?;
+    format!(in alloc; "{}\n{built}", filters.len()).ok()
+}
+
+// How many filters match, and with workers the milliseconds of matching and of making the index.
+fn match_all<R: Wait + Threads + Sync + Clock + Copy + Drop + Send + 'static>(
+    rt: R,
+    alloc: Global,
+    chain: CheckedChain,
+    count: u64,
+    workers: Option<u32>,
+) -> Option<String> {
+    let start = Instant::now(&rt).ok()?;
+    let index = Index::of(&rt, alloc, chain).ok()?;
+    let built = millis(&rt, start)?;
+    match workers {
+        None => told(alloc, &index, count),
+        Some(workers) => {
+            let text = told_by(rt, alloc, &index, count, workers)?;
+            format!(in alloc; "{text}\n{built}").ok()
+        }
+    }
+}
+
 // What is printed.
 fn measured<R: Wait + Threads + Sync + Clock + Copy + Drop + Send + 'static>(
     rt: R,
     alloc: Global,
     chain: CheckedChain,
-    asked: &Asked,
+    work: Work,
 ) -> Option<String> {
-    let start = Instant::now(&rt).ok()?;
-    let index = Index::of(&rt, alloc, chain).ok()?;
-    let built = millis(&rt, start)?;
-    match asked.workers {
-        None => told(alloc, &index, asked.count),
-        Some(workers) => {
-            let text = told_by(rt, alloc, &index, asked.count, workers)?;
-            format!(in alloc; "{text}\n{built}").ok()
-        }
+    match work {
+        Work::Build => build_alone(&rt, alloc, &chain),
+        Work::Match { count, workers } => match_all(rt, alloc, chain, count, workers),
     }
 }
 
@@ -180,7 +219,7 @@ fn main(rt: HostRuntime) -> ExitCode {
     let Some(chain) = load(&rt, &asked.name) else {
         return ExitCode::from(1);
     };
-    let Some(text) = measured(rt, rt.alloc(), chain, &asked) else {
+    let Some(text) = measured(rt, rt.alloc(), chain, asked.work) else {
         return ExitCode::from(1);
     };
     match println!(&rt; "{text}") {

@@ -1,7 +1,7 @@
 //! Files of blocks.
 use crate::fields::{bytes_in, digits_of, put_hash, put_word};
 use cf_bytes::{Refused, show};
-use cf_index::{CheckedChain, Index, read_chain};
+use cf_index::{BareFilter, CheckedChain, Index, read_chain};
 use std::alloc::Global;
 use std::thread::Threads;
 
@@ -45,5 +45,31 @@ pub(crate) fn answer<R: Threads + Sync>(rt: &R, alloc: Global, row: &str) -> Opt
         Ok(chain) => told(rt, alloc, chain),
         Err(Refused::No(bad)) => format!(in alloc; "{bad}").ok(),
         Err(Refused::NoMemory) => None,
+    }
+}
+
+// Puts what was built of the block at a height on a line of its own.
+fn put_bare(alloc: Global, height: usize, bare: &BareFilter, out: &mut String) -> Option<()> {
+    out.push_str(&format!(in alloc; "\n{height}").ok()?).ok()?;
+    put_hash(alloc, &bare.block, out)?;
+    put_word(&digits_of(alloc, bare.filter.as_slice())?, out)?;
+    put_hash(alloc, &bare.hash, out)
+}
+
+fn built<R: Threads + Sync>(rt: &R, alloc: Global, chain: &CheckedChain) -> Option<String> {
+    let filters = chain.basic_filters(rt, alloc).ok()?;
+    let mut text = format!(in alloc; "{}", filters.len()).ok()?;
+    for (place, bare) in filters.as_slice().iter().enumerate() {
+        put_bare(alloc, place.saturating_add(1), bare, &mut text)?;
+    }
+    Some(text)
+}
+
+/// The filters that are built of a good file's blocks above genesis, before their headers are known: how many there are, and of each the height, the block's hash, the
+/// filter and its hash.
+pub(crate) fn bare<R: Threads + Sync>(rt: &R, alloc: Global, row: &str) -> Option<String> {
+    match read_chain(alloc, &joined(alloc, row)?) {
+        Ok(chain) => built(rt, alloc, &chain),
+        Err(_) => None,
     }
 }

@@ -36,6 +36,7 @@ fn answer<R: Wait + Threads + Sync + Copy + Drop + Send + 'static>(
     let (kind, rest) = row.split_once(' ')?;
     match kind {
         "address" => addresses::answer(alloc, rest),
+        "bare" => files::bare(&rt, alloc, rest),
         "block" => blocks::block(alloc, rest),
         "blocks" => files::answer(&rt, alloc, rest),
         "chain" => chains::answer(alloc, rest),

@@ -9,6 +9,7 @@ pub mod Steps
 pub mod Bounds
 pub mod Walking
 pub mod Heading
+pub mod Baring
 pub mod Gathering
 pub mod Maps
 pub mod Lowest

@@ -93,7 +93,7 @@ few_at blocks spent i b d scripts z lt good taken is at =
     let same = ap length (took_at blocks spent i b d scripts z lt taken is at) in
     omega (arith, few, same)
 
-block_more : (blocks : List Block) (i : ℕ) (b d : Block) → i < length blocks → b ≡ get_or blocks i d → drop i blocks ≡ b ∷ drop (i + 1) blocks
+pub block_more : (blocks : List Block) (i : ℕ) (b d : Block) → i < length blocks → b ≡ get_or blocks i d → drop i blocks ≡ b ∷ drop (i + 1) blocks
 block_more blocks i b d lt is =
     let step : drop i blocks ≡ get_or blocks i d ∷ drop (i + 1) blocks = rw (add-one, drop-cons blocks i d) refl in
     step ∙ ap (λ (x : Block). x ∷ drop (i + 1) blocks) (sym is)

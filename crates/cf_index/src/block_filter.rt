@@ -14,11 +14,14 @@ pub(crate) struct BlockFilter {
     ghost hashed: { hash.0 ≡ filter_hash_of filter },
 }
 
-/// A block's hash, its basic filter and the filter's hash, before the filter's header is known.
+/// A block's hash, its basic filter (BIP 158, "Basic Filter") and the filter's hash (BIP 157, "Filter Headers"), before the filter's header is known.
 #[derive(Drop, Debug)]
-pub(crate) struct BareFilter {
+pub struct BareFilter {
+    /// The block's hash, in the order of its bytes.
     pub block: Hash32,
+    /// The filter: its number of values and their code.
     pub filter: Listed<u8>,
+    /// SHA-256 of SHA-256 of the filter's bytes.
     pub hash: Hash32,
     ghost hashed: { hash.0 ≡ filter_hash_of filter },
 }

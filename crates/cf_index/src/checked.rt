@@ -1,16 +1,21 @@
 //! Chains that were checked.
-ghost use Rattle.std.specs.Prelude.{◌≡◌, length, map};
+ghost use Rattle.std.specs.Prelude.{◌≡◌, ◌∷◌, length, map, IfOk};
 ghost use Rattle.cf_block.specs.Tx.{txid_of};
 ghost use Rattle.cf_block.specs.Views.{bytes_of};
+ghost use Rattle.cf_chain.specs.Filters.{filters_of, first_filtered};
 ghost use Rattle.cf_chain.specs.Good.{IsGoodChain, headers_of};
 ghost use Rattle.cf_headers.specs.Chain.{tip_hash};
 ghost use Rattle.cf_index.specs.Progress.{Keeps};
 
+use crate::block_filter::BareFilter;
 use crate::chain::{Blocks, Chain};
+use crate::filters::bare_filters;
 use crate::spend::Spent;
 use cf_block::{Block, TxIds};
-use cf_bytes::{Hash32, Listed};
+use cf_bytes::{Hash32, Listed, NoMemory};
+use std::alloc::Global;
 use std::marker::Model;
+use std::thread::Threads;
 
 /// The blocks of a chain that was checked, with what the check has found of each: its hash, those of its transactions, and the scripts that its inputs spend. Contracts see
 /// the list of the blocks above genesis, the lowest first.
@@ -72,6 +77,25 @@ impl CheckedChain {
         ensures { result.now ≡ self.now }
     {
         self.blocks.as_slice()
+    }
+
+    /// The basic filters of these blocks (BIP 158, "Basic Filter"), the lowest first, without filter headers and without genesis's filter. As many threads build them as there
+    /// are processors.
+    pub fn basic_filters(
+        &self,
+        rt: &(impl Threads + Sync),
+        alloc: Global,
+    ) -> Result<Listed<BareFilter>, NoMemory>
+        ensures names { IfOk result (λ list. first_filtered.block ∷ map (λ f. f.block.0) list ≡ map (λ f. f.block) (filters_of self.now)) }
+        ensures filters { IfOk result (λ list. first_filtered.filter ∷ map (λ f. f.filter) list ≡ map (λ f. f.filter) (filters_of self.now)) }
+    {
+        bare_filters(
+            rt,
+            alloc,
+            self.blocks.as_slice(),
+            self.hashes.as_slice(),
+            self.spent.as_slice(),
+        )
     }
 
     /// The hashes of the transactions of each of these blocks.

@@ -1,5 +1,5 @@
 //! The basic filters of a chain's blocks.
-ghost use Rattle.std.specs.Prelude.{◌≡◌, ◌≤◌, ◌<◌, ◌+◌, List, ℕ, map, length, flat_map, IfOk};
+ghost use Rattle.std.specs.Prelude.{◌≡◌, ◌≤◌, ◌<◌, ◌+◌, ◌∷◌, List, ℕ, map, length, flat_map, IfOk};
 ghost use Rattle.std.specs.Thread.{IsSync};
 ghost use Rattle.std.specs.List.{AllZip};
 ghost use Rattle.rayon.specs.Numbers.{nat_range};
@@ -110,6 +110,23 @@ fn filters_between(
         )
         .collect(rt, alloc)?;
     all
+}
+
+/// The filters of the blocks of a chain above genesis, the lowest first, before their headers are known. As many threads build them as there are
+/// processors.
+pub(crate) fn bare_filters(
+    rt: &(impl Threads + Sync),
+    alloc: Global,
+    blocks: &[Block],
+    hashes: &[Hash32],
+    spent: &[Spent],
+) -> Result<Listed<BareFilter>, NoMemory>
+    requires kept { AreKept blocks.now hashes.now spent.now }
+    ensures names { IfOk result (λ list. first_filtered.block ∷ map (λ f. f.block.0) list ≡ map (λ f. f.block) (filters_of blocks.now)) }
+    ensures filters { IfOk result (λ list. first_filtered.filter ∷ map (λ f. f.filter) list ≡ map (λ f. f.filter) (filters_of blocks.now)) }
+{
+    let all = filters_between(rt, alloc, blocks, hashes, spent, 0, blocks.len())?;
+    Ok(Listed::from_vec(all))
 }
 
 // The first filters of a chain, with their headers, and the last one's header.

@@ -16,6 +16,7 @@ mod record;
 mod spend;
 mod tx_index;
 
+pub use block_filter::BareFilter;
 pub use cause::{BadBlock, CoinFault, RecordCause};
 pub use checked::CheckedChain;
 pub use file::read_chain;
