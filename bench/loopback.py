@@ -2,7 +2,7 @@
 """Writes the rows of cf_loopback, and what they come to: `loopback.py` writes stdin and stdout of crates/cf_loopback.
 
 Each row has a call that serves the chain of data/blocks.dat, and one that follows it over TCP. What that one writes is what a scan of every block tells, as
-bench/sessions.py has it.
+bench/sessions.py has it. The last one also records the session, and a second call replays it, which writes the same.
 """
 import os
 import sys
@@ -12,11 +12,12 @@ ROOT = os.path.dirname(BENCH)
 sys.path.insert(0, BENCH)
 from sessions import Chain
 
-REMARK = "# SERVING|WORDS|WATCH|BLOCKS: how the call WORDS ends that follows what the call SERVING serves, what it writes, and whether that one ends with `Done`."
+REMARK = "# SERVING|WORDS|WATCH|BLOCKS: how each call of WORDS ends that follows what the call SERVING serves, what it writes, and whether that one ends with `Done`."
 WATCHED = ["01087551"]
 CALLS = [
     ("cf serve --connections 2 f @", "cf sync w @ @"),
     ("cf serve --connections 8 f @", "cf sync --workers 1 w" + 8 * " @"),
+    ("cf serve --connections 1 f @", "cf sync --record r w @;cf replay w r"),
 ]
 
 
@@ -26,13 +27,13 @@ def main():
     chain = Chain((7, 3))
     if not all(block in blocks for block in chain.blocks[1:]):
         raise SystemExit("data/blocks.dat has another chain")
-    told = "0 Done\n" + chain.history([bytes.fromhex(script) for script in WATCHED]) + "served\n"
+    told = "0 Done\n" + chain.history([bytes.fromhex(script) for script in WATCHED])
     rows = [f"{serving}|{words}|{';'.join(WATCHED)};|{blocks.hex()}" for serving, words in CALLS]
     crate = os.path.join(ROOT, "crates", "cf_loopback")
     with open(os.path.join(crate, "stdin"), "w") as file:
         file.write("".join(row + "\n" for row in [REMARK, *rows]))
     with open(os.path.join(crate, "stdout"), "w") as file:
-        file.write(REMARK + "\n" + "".join(f"{row}\n{told}" for row in rows))
+        file.write(REMARK + "\n" + "".join(f"{row}\n{told * (1 + words.count(';'))}served\n" for row, (_, words) in zip(rows, CALLS)))
 
 
 if __name__ == "__main__":

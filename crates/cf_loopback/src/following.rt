@@ -48,16 +48,22 @@ fn followed<R: Wait + Threads + Sync + Copy + Drop + Send + 'static, K: Spawner>
     shown(alloc, &status, out.bytes())
 }
 
-/// How a call ends that dials this port, and what it writes.
+/// How calls end that dial this port, one after another, and what each writes. They are parted by `;`, and the files that one writes are there for the next.
 pub(crate) fn follow<R: Wait + Threads + Sync + Copy + Drop + Send + 'static>(
     rt: HostRuntime,
     handle: R,
-    call: &str,
+    calls: &str,
     watch: &str,
     port: u32,
 ) -> Option<String> {
     let alloc = rt.alloc();
-    let words = words_at(alloc, call, port)?;
     let mut files = watch_in(alloc, watch)?;
-    followed(rt, handle, &words, &mut files, &mut InThreads::new(handle))
+    let mut spawner = InThreads::new(handle);
+    let mut text = String::new(alloc);
+    for call in calls.split(';') {
+        let words = words_at(alloc, call, port)?;
+        text.push_str(&followed(rt, handle, &words, &mut files, &mut spawner)?)
+            .ok()?;
+    }
+    Some(text)
 }

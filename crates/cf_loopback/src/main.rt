@@ -1,6 +1,6 @@
 //! `cf_loopback`: reads rows `SERVING|WORDS|WATCH|BLOCKS`, and prints each row and what it comes to: a chain that the program serves over TCP, and follows, in one
-//! process. SERVING is a call that serves the block file `f`, whose bytes are BLOCKS, in a thread; WORDS is one that follows it, with the watch file `w`, whose lines
-//! are WATCH, each with `;` at its end. In both, `@` is where the first one listens. A row that begins with `#` is a remark, and is printed as it is. A row that can't
+//! process. SERVING is a call that serves the block file `f`, whose bytes are BLOCKS, in a thread; WORDS is one that follows it, or several, parted by `;`, which run one
+//! after another over the same files, with the watch file `w`, whose lines are WATCH, each with `;` at its end. In all, `@` is where the first one listens. A row that begins with `#` is a remark, and is printed as it is. A row that can't
 //! be read, or for which no memory is found, comes to `?`.
 #![tactic(auto)]
 
@@ -19,7 +19,7 @@ use std::sync::Wait;
 use std::thread;
 use std::thread::Threads;
 
-// What the call that follows comes to, and whether the one that serves ends with `Done`.
+// What the calls that follow come to, and whether the one that serves ends with `Done`.
 fn both<R: Wait + Threads + Sync + Copy + Drop + Send + 'static>(
     rt: HostRuntime,
     handle: R,
