@@ -2,7 +2,8 @@
 """Writes the rows of cf_loopback, and what they come to: `loopback.py` writes stdin and stdout of crates/cf_loopback.
 
 Each row has a call that serves the chain of data/blocks.dat, and one that follows it over TCP. What that one writes is what a scan of every block tells, as
-bench/sessions.py has it. The last one also records the session, and a second call replays it, which writes the same.
+bench/sessions.py has it. The last of them also records the session, and a second call replays it, which writes the same. A row of its own waits for two ticks, which
+must not tell more seconds than have passed.
 """
 import os
 import sys
@@ -12,7 +13,8 @@ ROOT = os.path.dirname(BENCH)
 sys.path.insert(0, BENCH)
 from sessions import Chain
 
-REMARK = "# SERVING|WORDS|WATCH|BLOCKS: how each call of WORDS ends that follows what the call SERVING serves, what it writes, and whether that one ends with `Done`."
+REMARK = "# SERVING|WORDS|WATCH|BLOCKS: how each call of WORDS ends that follows what the call SERVING serves, what it writes, and whether that one ends with `Done`.\n"
+TICKS = "# ticks: whether as many seconds have passed as two ticks tell, where the one peer is silent.\nticks\n"
 WATCHED = ["01087551"]
 CALLS = [
     ("cf serve --connections 2 f @", "cf sync w @ @"),
@@ -28,12 +30,13 @@ def main():
     if not all(block in blocks for block in chain.blocks[1:]):
         raise SystemExit("data/blocks.dat has another chain")
     told = "0 Done\n" + chain.history([bytes.fromhex(script) for script in WATCHED])
-    rows = [f"{serving}|{words}|{';'.join(WATCHED)};|{blocks.hex()}" for serving, words in CALLS]
+    rows = [f"{serving}|{words}|{';'.join(WATCHED)};|{blocks.hex()}\n" for serving, words in CALLS]
+    answers = [told * len(words.split(";")) + "served\n" for _, words in CALLS]
     crate = os.path.join(ROOT, "crates", "cf_loopback")
     with open(os.path.join(crate, "stdin"), "w") as file:
-        file.write("".join(row + "\n" for row in [REMARK, *rows]))
+        file.write("".join([REMARK, *rows, TICKS]))
     with open(os.path.join(crate, "stdout"), "w") as file:
-        file.write(REMARK + "\n" + "".join(f"{row}\n{told * (1 + words.count(';'))}served\n" for row, (_, words) in zip(rows, CALLS)))
+        file.write("".join([REMARK, *(row + answer for row, answer in zip(rows, answers)), TICKS, "passed\n"]))
 
 
 if __name__ == "__main__":

@@ -1,6 +1,7 @@
 //! `cf_loopback`: reads rows `SERVING|WORDS|WATCH|BLOCKS`, and prints each row and what it comes to: a chain that the program serves over TCP, and follows, in one
 //! process. SERVING is a call that serves the block file `f`, whose bytes are BLOCKS, in a thread; WORDS is one that follows it, or several, parted by `;`, which run one
-//! after another over the same files, with the watch file `w`, whose lines are WATCH, each with `;` at its end. In all, `@` is where the first one listens. A row that begins with `#` is a remark, and is printed as it is. A row that can't
+//! after another over the same files, with the watch file `w`, whose lines are WATCH, each with `;` at its end. In all, `@` is where the first one listens. The row
+//! `ticks` tells whether ticks over TCP come as late as they tell. A row that begins with `#` is a remark, and is printed as it is. A row that can't
 //! be read, or for which no memory is found, comes to `?`.
 #![tactic(auto)]
 
@@ -9,6 +10,7 @@ mod link;
 mod port;
 mod row;
 mod serving;
+mod ticking;
 
 use crate::following::follow;
 use crate::port::{listening, port, same};
@@ -55,7 +57,11 @@ fn answer<R: Wait + Threads + Sync + Copy + Drop + Send + 'static>(
     handle: R,
     row: &str,
 ) -> Option<String> {
-    both(rt, handle, read(rt.alloc(), row)?)
+    let alloc = rt.alloc();
+    if row == "ticks" {
+        return String::from_str(alloc, ticking::answer(&rt, handle)?).ok();
+    }
+    both(rt, handle, read(alloc, row)?)
 }
 
 // The lines that are printed for a row.
