@@ -14,14 +14,14 @@ pub(crate) struct BlockFilter {
     ghost hashed: { hash.0 ≡ filter_hash_of filter },
 }
 
-/// A block's hash, its basic filter (BIP 158, "Basic Filter") and the filter's hash (BIP 157, "Filter Headers"), before the filter's header is known.
+/// A block's hash, its basic filter (BIP 158, "Contents") and the filter's hash (BIP 157, "Filter Headers"), before the filter's header is known.
 #[derive(Drop, Debug)]
 pub struct BareFilter {
-    /// The block's hash, in the order of its bytes.
+    /// The block's hash, in wire order.
     pub block: Hash32,
-    /// The filter: its number of values and their code.
+    /// The filter's bytes: the number of its values and their Golomb code (BIP 158, "Construction").
     pub filter: Listed<u8>,
-    /// SHA-256 of SHA-256 of the filter's bytes.
+    /// SHA-256 of SHA-256 of the filter's bytes, in wire order.
     pub hash: Hash32,
     ghost hashed: { hash.0 ≡ filter_hash_of filter },
 }

@@ -79,8 +79,8 @@ impl CheckedChain {
         self.blocks.as_slice()
     }
 
-    /// The basic filters of these blocks (BIP 158, "Basic Filter"), the lowest first, without filter headers and without genesis's filter. As many threads build them as there
-    /// are processors.
+    /// The basic filters of these blocks (BIP 158, "Contents"), the lowest first, without filter headers and without genesis's filter. As many threads build them as there are
+    /// processors.
     pub fn basic_filters(
         &self,
         rt: &(impl Threads + Sync),
