@@ -23,7 +23,12 @@ fn tick<W: Wires>(wires: &mut W) -> Option<u32>
     }
 }
 
-// The seconds that two ticks tell, once this name was dialled.
+// Both together, if there are both.
+fn sum(first: Option<u32>, second: Option<u32>) -> Option<u64> {
+    Some(u64::from(first?).saturating_add(u64::from(second?)))
+}
+
+// The seconds that two ticks tell, once this name was dialled, if nothing else comes.
 fn two_ticks<R: Wait + Threads + Copy + Drop + Send + 'static>(
     rt: &HostRuntime,
     handle: R,
@@ -37,10 +42,7 @@ fn two_ticks<R: Wait + Threads + Copy + Drop + Send + 'static>(
     let first = tick(&mut network);
     let second = tick(&mut network);
     network.finish();
-    match (first, second) {
-        (Some(first), Some(second)) => Some(u64::from(first).saturating_add(u64::from(second))),
-        _ => None,
-    }
+    sum(first, second)
 }
 
 // Whether as many seconds have passed as two ticks tell, once this name was dialled.
