@@ -8,10 +8,10 @@ take turns. Both must find the same number of filters, or it stops.
 
 Of threads the time that passes is told, the least of nine runs, which take turns too (single runs of one call differ by half and more, and the least is what the work
 itself takes), and how many times as fast it is as the row that it is compared with. On four processors that nothing else uses it is to be at least what stands
-beside it, and where it isn't, `missed` is: `LEAST` for matching, `LEAST_BUILDING` for building the filters of the same made chain. What follows is told and nothing is asked of it: building the filters of
-blocks with more outputs, and making the whole index, which beside the filters finds their headers and the heights of the blocks' hashes. Filter headers stand on one
-another, so they are found one by one, beside the filters of later blocks: of blocks of 193 bytes, as made chains have them, they are a third of the index's
-work, which no number of processors shortens; of larger blocks they are a small part.
+beside it, and where it isn't, `missed` is: `LEAST` for matching, `LEAST_BUILDING` for building the filters of the same made chain. What follows is told and
+nothing is asked of it: building the filters of blocks with more outputs, and making the whole index, which beside the filters finds their headers and the heights of
+the blocks' hashes. Filter headers stand on one another, so they are found one by one, beside the filters of later blocks: of blocks of 193 bytes, as made chains
+have them, they are a third of the index's work, which no number of processors shortens; of larger blocks they are a small part.
 """
 import os
 import subprocess
