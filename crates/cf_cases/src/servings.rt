@@ -1,6 +1,6 @@
 //! Calls of the program that serve connections in memory.
 ghost use Rattle.std.specs.Prelude.{◌≡◌, ◌≢◌, All, Some, [], IfSome, false};
-ghost use Rattle.cf_peer.specs.Memory.{finished_of, log_of};
+ghost use Rattle.cf_wires.specs.Memory.{finished_of, log_of};
 ghost use Rattle.cf_tasks.specs.declared.threads.Choice.TheVariants.{Refuse};
 
 use crate::conversations::conn_of;
@@ -9,10 +9,10 @@ use crate::runs::told;
 use cf_bytes::{Files, MapFiles, VecSink};
 use cf_cli::run;
 use cf_conn::{MemoryConn, MemoryEnd};
-use cf_peer::MemoryWires;
 use cf_played::Played;
 use cf_serve::ListLink;
 use cf_tasks::{Choice, Spawner};
+use cf_wires::MemoryWires;
 use std::alloc::Global;
 use std::sync::Wait;
 use std::thread::Threads;

@@ -12,12 +12,12 @@ use Rattle.cf_client.specs.declared.place.PeerEnd.{PeerEnd}
 use Rattle.cf_client.specs.Places.{Words}
 use Rattle.cf_client.specs.Versions.{IsOfWords, HasWords}
 use Rattle.cf_client.specs.Run.{NobodyLeft, HasDialled, HasFailed, names_of}
-use Rattle.cf_peer.specs.declared.event.Dial.{Dial}
-use Rattle.cf_peer.specs.declared.memory.MemoryWires.{MemoryWires}
-use Rattle.cf_peer.specs.Dials.{answered_at, goes_as_made}
-use Rattle.cf_peer.specs.Log.{Log, Told, Tells, Tally, tally_of, dials}
-use Rattle.cf_peer.specs.Memory.{script_of, log_of, failing_of, finished_of, told_of}
-use Rattle.cf_peer.specs.Wires.{Script, Made}
+use Rattle.cf_wires.specs.declared.event.Dial.{Dial}
+use Rattle.cf_wires.specs.declared.memory.MemoryWires.{MemoryWires}
+use Rattle.cf_wires.specs.Dials.{answered_at, goes_as_made}
+use Rattle.cf_wires.specs.Log.{Log, Told, Tells, Tally, tally_of, dials}
+use Rattle.cf_wires.specs.Memory.{script_of, log_of, failing_of, finished_of, told_of}
+use Rattle.cf_wires.specs.Wires.{Script, Made}
 use Rattle.cf_input.specs.declared.session.SessionFault.{SessionFault}
 use Rattle.cf_cli.specs.declared.status.Status.{Status}
 use Rattle.cf_cli.specs.declared.status.Status.TheVariants.{Done, NoMemory, Usage, BadFile, FileFault, OutFault, NoPeers, Tired, Ended, LinkFault, NoNonce, NoHeight, NotThere, NotAddress}

@@ -14,7 +14,7 @@ use Rattle.cf_client.specs.declared.place.PeerEnd.{PeerEnd}
 use Rattle.cf_client.specs.Places.{EndsTell}
 use Rattle.cf_client.specs.Run.{Followed, IsEnd}
 use Rattle.cf_peer.specs.Asking.{is_open}
-use Rattle.cf_peer.specs.Log.{Log}
+use Rattle.cf_wires.specs.Log.{Log}
 use Rattle.cf_peer.specs.Trail.{trail, connected}
 use Rattle.cf_scan.specs.declared.history.Entry.{Entry}
 use Rattle.cf_scan.specs.HistoryText.{history_text}

@@ -7,7 +7,7 @@ use Rattle.cf_bytes.specs.declared.files.FileFail.TheVariants.{Failed, TooBig as
 use Rattle.cf_block.specs.declared.tx.Block.{Block}
 use Rattle.cf_index.specs.declared.cause.BadBlock.{BadBlock}
 use Rattle.cf_index.specs.Files.{blocks_at}
-use Rattle.cf_peer.specs.Wires.{Script}
+use Rattle.cf_wires.specs.Wires.{Script}
 use Rattle.cf_input.specs.declared.session.SessionFault.{SessionFault}
 use Rattle.cf_cli.specs.declared.status.FileCause.{FileCause}
 use Rattle.cf_cli.specs.declared.status.FileCause.TheVariants.{TooBig, Watch as OfWatch, Session as OfSession, Blocks as OfBlocks, Proof as OfProof}

@@ -17,9 +17,9 @@ use Rattle.cf_client.specs.Run.{Followed, NobodyLeft}
 use Rattle.cf_sync.specs.Fetching.{IsQuiet}
 use Rattle.cf_sync.specs.Honesty.{IsHonest, ShowsNoOther, IsNeverClosed}
 use Rattle.cf_sync.specs.Sync.{IsHashed}
-use Rattle.cf_peer.specs.Dials.{goes_as_made}
-use Rattle.cf_peer.specs.Log.{Log, Told, Tally, tally_of, deliveries, dials}
-use Rattle.cf_peer.specs.Wires.{Script}
+use Rattle.cf_wires.specs.Dials.{goes_as_made}
+use Rattle.cf_wires.specs.Log.{Log, Told, Tally, tally_of, deliveries, dials}
+use Rattle.cf_wires.specs.Wires.{Script}
 use Rattle.cf_scan.specs.declared.history.Entry.{Entry}
 use Rattle.cf_scan.specs.HistoryText.{history_text}
 use Rattle.cf_scan.specs.Scan.{scan_of}

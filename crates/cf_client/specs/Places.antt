@@ -8,17 +8,18 @@ use Rattle.cf_msg.specs.declared.msg.Msg.{Msg}
 use Rattle.cf_msg.specs.declared.msg.Msg.TheVariants.{Version, GetHeaders, GetData}
 use Rattle.cf_peer.specs.declared.act.Act.{Act}
 use Rattle.cf_peer.specs.declared.act.Act.TheVariants.{Send, Close}
-use Rattle.cf_peer.specs.declared.event.Event.{Event}
-use Rattle.cf_peer.specs.declared.event.Event.TheVariants.{Sent, Closed}
+use Rattle.cf_wires.specs.declared.event.Event.{Event}
+use Rattle.cf_wires.specs.declared.event.Event.TheVariants.{Sent, Closed}
 use Rattle.cf_peer.specs.declared.peer.Cause.{Cause}
 use Rattle.cf_peer.specs.declared.peer.Cause.TheVariants.{SendFailed}
 use Rattle.cf_peer.specs.declared.peer.Peer.{Peer}
 use Rattle.cf_peer.specs.Acts.{bytes_of, IsSendable}
-use Rattle.cf_peer.specs.Log.{Log, tally_of}
+use Rattle.cf_wires.specs.Log.{Log, tally_of}
 use Rattle.cf_peer.specs.Trail.{Why, Went, Failing, Shutting, Trail, Called, Said, Refused, Asked, Passed, Lost as LostItem, Part, part_of, trail, connected, ready, failed, owed, replied, is_version, IsClientVersion}
 use Rattle.cf_peer.specs.Asking.{Deserves, block_entry, counted, fetched, given}
 use Rattle.cf_peer.specs.Peer.{Holds, calm, busy, wants, is_ready_peer, is_idle_peer, is_fetching}
-use Rattle.cf_sync.specs.Fetching.{IsBusy, IsQuiet, IsConnected, MaySend, IsNeeded}
+use Rattle.cf_sync.specs.Fetching.{IsBusy, IsQuiet, IsConnected, MaySend}
+use Rattle.cf_sync.specs.Due.{IsCalledFor}
 use Rattle.cf_sync.specs.Honesty.{asked, was_called}
 use Rattle.cf_client.specs.declared.place.Place.{Place}
 use Rattle.cf_client.specs.declared.place.Place.TheVariants.{Here, Lost}
@@ -107,10 +108,10 @@ after (a ∷ acts) log = after acts (entry_of a ∷ log)
 abbrev pub IsReplied : Trail → Type 0
 IsReplied t = failed t ≡ false → replied t ≡ owed (counted t)
 
--- an act may be done by a client that watches these scripts: what it sends may be sent to that peer, and filters and blocks that it asks for are needed; whom it closes was
+-- an act may be done by a client that watches these scripts: what it sends may be sent to that peer, and what it asks about blocks is called for; whom it closes was
 -- answered
 abbrev pub MayAct : List (List ℕ) → Act → Log → Type 0
-MayAct watch (Send p m) log = (p.0 ≤ (tally_of log).dials) × IsSendable m × MaySend log p.0 m × IsNeeded watch log p.0 m
+MayAct watch (Send p m) log = (p.0 ≤ (tally_of log).dials) × IsSendable m × MaySend log p.0 m × IsCalledFor watch log p.0 m
 MayAct watch (Close p cause) log = (p.0 ≤ (tally_of log).dials) × Deserves (trail log p.0) cause × IsReplied (trail log p.0)
 
 -- each act may be done when the ones before it are

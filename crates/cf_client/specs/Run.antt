@@ -9,16 +9,16 @@ use Rattle.cf_msg.specs.declared.msg.Msg.{Msg}
 use Rattle.cf_msg.specs.Message.{command_of}
 use Rattle.cf_peer.specs.declared.act.Act.{Act}
 use Rattle.cf_peer.specs.declared.act.Act.TheVariants.{Send, Close}
-use Rattle.cf_peer.specs.declared.event.Delivery.{Delivery}
-use Rattle.cf_peer.specs.declared.event.Delivery.TheVariants.{Got, Gone, Tick, Ended}
+use Rattle.cf_wires.specs.declared.event.Delivery.{Delivery}
+use Rattle.cf_wires.specs.declared.event.Delivery.TheVariants.{Got, Gone, Tick, Ended}
 use Rattle.cf_frame.specs.Stream.{IsBytes}
-use Rattle.cf_peer.specs.declared.event.Dial.{Dial}
-use Rattle.cf_peer.specs.declared.event.Event.{Event}
-use Rattle.cf_peer.specs.declared.event.Event.TheVariants.{Dialled, NotDialled, Sent, SendFailed, Closed, Took}
-use Rattle.cf_peer.specs.declared.event.Mark.{Mark}
-use Rattle.cf_peer.specs.declared.event.Mark.TheVariants.{NotYet, Called, Missed, Left, Shut, Broken}
-use Rattle.cf_peer.specs.Log.{Log, Told, Tally, Tells, tally_of, mark_of, dials}
-use Rattle.cf_peer.specs.Wires.{Made}
+use Rattle.cf_wires.specs.declared.event.Dial.{Dial}
+use Rattle.cf_wires.specs.declared.event.Event.{Event}
+use Rattle.cf_wires.specs.declared.event.Event.TheVariants.{Dialled, NotDialled, Sent, SendFailed, Closed, Took}
+use Rattle.cf_wires.specs.declared.event.Mark.{Mark}
+use Rattle.cf_wires.specs.declared.event.Mark.TheVariants.{NotYet, Called, Missed, Left, Shut, Broken}
+use Rattle.cf_wires.specs.Log.{Log, Told, Tally, Tells, tally_of, mark_of, dials}
+use Rattle.cf_wires.specs.Wires.{Made}
 use Rattle.cf_peer.specs.Trail.{trail, spelled, connected, failed}
 use Rattle.cf_peer.specs.Asking.{Deserves, given}
 use Rattle.cf_scan.specs.declared.history.Entry.{Entry}
@@ -95,6 +95,20 @@ AreNumbered (SendFailed p ∷ log) = AreNumbered log
 AreNumbered (Closed p ∷ log) = AreNumbered log
 AreNumbered (Took d ∷ log) = AreNumbered log
 
+-- nothing was taken yet
+abbrev pub IsUntaken : Log → Type 0
+IsUntaken log = ((tally_of log).taken ≡ 0) × ((tally_of log).ended ≡ 0)
+
+-- all peers were dialled before the first delivery was taken
+abbrev pub AreDialledFirst : Log → Type 0
+AreDialledFirst [] = Unit {0}
+AreDialledFirst (Dialled p name ∷ log) = IsUntaken log × AreDialledFirst log
+AreDialledFirst (NotDialled p name ∷ log) = IsUntaken log × AreDialledFirst log
+AreDialledFirst (Sent p bytes ∷ log) = AreDialledFirst log
+AreDialledFirst (SendFailed p ∷ log) = AreDialledFirst log
+AreDialledFirst (Closed p ∷ log) = AreDialledFirst log
+AreDialledFirst (Took d ∷ log) = AreDialledFirst log
+
 -- a line of the trace tells what was sent, or why a peer was closed
 abbrev pub IsSentLine : PeerNo → List ℕ → TraceLine → Type 0
 IsSentLine p bytes (SentLine q command) = (q ≡ p) × ((m : Msg) × (spelled bytes ≡ Some m) × (command ≡ command_of m))
@@ -133,6 +147,7 @@ pub record Notes (watch : List (List ℕ)) (progress : Progress) (called : List 
   pub planned : ArePlanned watch actual
   pub order : WasOrderly actual
   pub numbered : AreNumbered actual
+  pub first : AreDialledFirst actual
   pub traced : IsTraceOf actual (reverse progress.trace.items)
   pub named : names_of actual ≡ called
   pub off : (q : ℕ) → is_fine (state_at progress.sends q) ≡ false → connected (trail actual q) ≡ false
@@ -284,8 +299,8 @@ IsEnd NoPeers log = IsState HasNoPeers log
 IsEnd Tired log = IsBusy log
 IsEnd EndedFirst log = (before : Log) × ((log ≡ Took Ended ∷ before) × IsBusy before)
 
--- What a run that ended so has done, by its log. With nothing open each connected peer was heard out, and knows the filter header of each block of the
--- best chain where that is its own one; and each of that chain's blocks is settled.
+-- What a run that ended so has done, by its log. With nothing open each connected peer was heard out, and its filter header is known at each block that its own
+-- chain shares with the best one; and each of the best chain's blocks is settled.
 pub record Followed (watch : List (List ℕ)) (end : End) (height : ℕ) (hash : Hash32) (entries : List Entry) (lines : List TraceLine) (called : List (List ℕ)) (log : Log) : Type 0 where
   pub asked : HasAsked watch height hash entries log
   pub settled : end ≡ Synced → sync.Followed watch height hash entries log
@@ -293,6 +308,7 @@ pub record Followed (watch : List (List ℕ)) (end : End) (height : ℕ) (hash :
   pub was_orderly : WasOrderly log
   pub orderly : IsOrderly log
   pub numbered : AreNumbered log
+  pub first : AreDialledFirst log
   pub traced : IsTraceOf log (reverse lines)
   pub named : names_of log ≡ called
   pub why : IsEnd end log

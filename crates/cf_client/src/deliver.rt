@@ -2,7 +2,7 @@
 ghost use Rattle.std.specs.Prelude.{◌≡◌, ◌<◌, [], ◌∷◌, OnOk, length};
 ghost use Rattle.cf_peer.specs.declared.act.Act.TheVariants.{Close};
 ghost use Rattle.cf_peer.specs.declared.peer.Cause.TheVariants.{SendFailed};
-ghost use Rattle.cf_peer.specs.declared.event.Delivery.TheVariants.{Got, Gone};
+ghost use Rattle.cf_wires.specs.declared.event.Delivery.TheVariants.{Got, Gone};
 ghost use Rattle.cf_client.specs.Places.{AreCalm};
 ghost use Rattle.cf_client.specs.Steps.{desk, IsInOrder, Taking, CutOff, Moves};
 
@@ -12,8 +12,9 @@ use cf_bytes::{NoMemory, PeerNo};
 use cf_headers::HeaderStore;
 use cf_hear::hear_piece;
 use cf_match::Matcher;
-use cf_peer::{Act, Cause, Delivery};
+use cf_peer::{Act, Cause};
 use cf_tracker::Tracker;
+use cf_wires::Delivery;
 use std::alloc::Global;
 use std::mem;
 

@@ -24,9 +24,9 @@ use Rattle.cf_make.specs.Made.{IsExtension, StopsAt, script_of}
 use Rattle.cf_msg.specs.Command.{getdata_command}
 use Rattle.cf_msg.specs.declared.msg.Msg.{Msg}
 use Rattle.cf_msg.specs.declared.msg.Msg.TheVariants.{GetData}
-use Rattle.cf_peer.specs.declared.event.Event.{Event}
-use Rattle.cf_peer.specs.declared.event.Event.TheVariants.{Dialled, NotDialled, Sent, SendFailed, Closed, Took}
-use Rattle.cf_peer.specs.Log.{Log, tally_of}
+use Rattle.cf_wires.specs.declared.event.Event.{Event}
+use Rattle.cf_wires.specs.declared.event.Event.TheVariants.{Dialled, NotDialled, Sent, SendFailed, Closed, Took}
+use Rattle.cf_wires.specs.Log.{Log, tally_of}
 use Rattle.cf_peer.specs.Trail.{spelled}
 use Rattle.cf_played.specs.declared.kind.Kind.TheVariants.{Honest as HonestKind}
 use Rattle.cf_played.specs.declared.kind.Way.{Way}

@@ -3,11 +3,11 @@ use Rattle.std.proofs.Common.{◌≡◌, ◌<◌, ◌≤◌, ◌+◌, ℕ, zero,
 use Rattle.std.specs.Option.{ForSome}
 use Rattle.std.proofs.lemmas.List.{length-append}
 use Rattle.cf_bytes.specs.declared.peer.PeerNo.{PeerNo}
-use Rattle.cf_peer.specs.declared.event.Event.{Event}
-use Rattle.cf_peer.specs.declared.event.Event.TheVariants.{Took, Dialled, NotDialled, Sent, SendFailed, Closed}
-use Rattle.cf_peer.specs.declared.event.Delivery.{Delivery}
-use Rattle.cf_peer.specs.declared.event.Delivery.TheVariants as gives
-use Rattle.cf_peer.specs.Log.{Log, Told, deliveries, is_real, tell, told_finished, longer}
+use Rattle.cf_wires.specs.declared.event.Event.{Event}
+use Rattle.cf_wires.specs.declared.event.Event.TheVariants.{Took, Dialled, NotDialled, Sent, SendFailed, Closed}
+use Rattle.cf_wires.specs.declared.event.Delivery.{Delivery}
+use Rattle.cf_wires.specs.declared.event.Delivery.TheVariants as gives
+use Rattle.cf_wires.specs.Log.{Log, Told, deliveries, is_real, tell, told_finished, longer}
 use Rattle.cf_line.specs.declared.entry.Entry.{Entry}
 use Rattle.cf_line.specs.Queue.{of, entry}
 use Rattle.cf_hub.specs.declared.entry.Kind.{Kind}

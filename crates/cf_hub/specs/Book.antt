@@ -1,7 +1,7 @@
 -- What a book tells.
 use Rattle.std.specs.Prelude.{◌+◌, ◌<◌, ◌≤◌, ◌-◌, ◌^◌, Bool, not, vec_len, vec_capacity}
 use Rattle.std.specs.List.{count_by}
-use Rattle.cf_peer.specs.Log.{Told}
+use Rattle.cf_wires.specs.Log.{Told}
 use Rattle.cf_hub.specs.Kept.{kept_log}
 use Rattle.cf_hub.specs.declared.book.Book.{Book}
 

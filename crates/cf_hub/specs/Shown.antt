@@ -1,7 +1,7 @@
 -- What the deliveries that were given show of the sources, and of the pulse.
 use Rattle.std.specs.Prelude.{◌≡◌, ◌⊎◌, ℕ, Bool, true, List, [], Option, Some}
 use Rattle.cf_bytes.specs.Outside.{HasRisen}
-use Rattle.cf_peer.specs.declared.event.Delivery.{Delivery}
+use Rattle.cf_wires.specs.declared.event.Delivery.{Delivery}
 use Rattle.cf_line.specs.Queue.{IsStart}
 use Rattle.cf_hub.specs.Gives.{pieces_of, has_gone, ticks_of}
 use Rattle.cf_hub.specs.Finish.{Read, Beat}

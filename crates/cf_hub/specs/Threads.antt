@@ -1,8 +1,8 @@
 -- What a dial does to the threads that wait for tasks.
 use Rattle.std.specs.Prelude.{◌≡◌, ◌⊎◌, Bool, true, false, Option, None, IsSome, Result, Ok, Err}
 use Rattle.cf_line.specs.Waiting.{Waiting, HasGiven, HasFailed}
-use Rattle.cf_peer.specs.declared.wires.WireFail.{WireFail}
-use Rattle.cf_peer.specs.declared.wires.WireFail.TheVariants as fails
+use Rattle.cf_wires.specs.declared.wires.WireFail.{WireFail}
+use Rattle.cf_wires.specs.declared.wires.WireFail.TheVariants as fails
 
 -- the pulse, where it still waited, was handed over to a thread; or none took it, and it waits still
 abbrev pub HandsOver : {C : Type 0} → Bool → Option C → Option C → Waiting → Waiting → Type 0

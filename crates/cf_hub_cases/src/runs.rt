@@ -1,16 +1,16 @@
 //! Whole calls of the program over hubs whose outside is in memory.
 ghost use Rattle.std.specs.Prelude.{◌≡◌, IfSome, [], false};
-ghost use Rattle.cf_peer.specs.Log.{Tells};
+ghost use Rattle.cf_wires.specs.Log.{Tells};
 
 use crate::held::Held;
 use crate::outside::Counts;
 use cf_bytes::{Files, MapFiles, VecSink};
 use cf_cli::{Status, run};
 use cf_conn::MemoryConn;
-use cf_peer::{MemoryWires, Wires};
 use cf_played::Played;
 use cf_serve::ListLink;
 use cf_tasks::InThreads;
+use cf_wires::{MemoryWires, Wires};
 use std::alloc::Global;
 use std::sync::Wait;
 use std::thread::Threads;

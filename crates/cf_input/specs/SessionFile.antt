@@ -4,10 +4,10 @@ use Rattle.std.specs.List.{before_first, after_first}
 use Rattle.std.specs.Str.{bytes_eq}
 use Rattle.cf_bytes.specs.Cut.{◌>>=◌}
 use Rattle.cf_bytes.specs.declared.peer.PeerNo.{PeerNo}
-use Rattle.cf_peer.specs.Wires.{Script}
-use Rattle.cf_peer.specs.declared.event.Dial.{Dial}
-use Rattle.cf_peer.specs.declared.event.Delivery.{Delivery}
-use Rattle.cf_peer.specs.declared.event.Delivery.TheVariants.{Got, Gone, Tick}
+use Rattle.cf_wires.specs.Wires.{Script}
+use Rattle.cf_wires.specs.declared.event.Dial.{Dial}
+use Rattle.cf_wires.specs.declared.event.Delivery.{Delivery}
+use Rattle.cf_wires.specs.declared.event.Delivery.TheVariants.{Got, Gone, Tick}
 use Rattle.cf_input.specs.Lines.{lines_of, read_lines, bytes_of_hex}
 use Rattle.cf_input.specs.Name.{is_name}
 use Rattle.cf_input.specs.Number.{is_number, number_within}

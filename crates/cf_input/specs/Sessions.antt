@@ -1,7 +1,7 @@
 -- What a session holds.
 use Rattle.std.specs.Prelude.{◌≡◌, map, string_bytes}
-use Rattle.cf_peer.specs.Wires.{Script}
-use Rattle.cf_peer.specs.declared.event.Dial.{Dial}
+use Rattle.cf_wires.specs.Wires.{Script}
+use Rattle.cf_wires.specs.declared.event.Dial.{Dial}
 use Rattle.cf_input.specs.declared.session.Session.{Session}
 
 abbrev pub script_in : Session → Script

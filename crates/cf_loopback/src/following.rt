@@ -5,9 +5,9 @@ use crate::row::{shown, watch_in, words_at};
 use cf_bytes::{MapFiles, VecSink};
 use cf_cli::run;
 use cf_network::Network;
-use cf_peer::MemoryWires;
 use cf_played::Played;
 use cf_tasks::{InThreads, Spawner};
+use cf_wires::MemoryWires;
 use std::sync::Wait;
 use std::thread::Threads;
 

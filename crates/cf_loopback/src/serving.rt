@@ -4,9 +4,9 @@ use crate::port::Port;
 use crate::row::{chain_in, shown, words_at};
 use cf_bytes::VecSink;
 use cf_cli::run;
-use cf_peer::MemoryWires;
 use cf_played::Played;
 use cf_tasks::InThreads;
+use cf_wires::MemoryWires;
 use std::sync::Wait;
 use std::thread::Threads;
 

@@ -3,16 +3,16 @@ ghost use Rattle.std.specs.Prelude.{◌≡◌, ◌⊎◌, min, IfOk, None, [], f
 ghost use Rattle.cf_bytes.specs.Outside.{HasRisen};
 ghost use Rattle.cf_hub.specs.Book.{told_of, keeps_of};
 ghost use Rattle.cf_network.specs.Standing.{HasThreads};
-ghost use Rattle.cf_peer.specs.Log.{Tells};
+ghost use Rattle.cf_wires.specs.Log.{Tells};
 
 use crate::outside::SystemDialer;
 use crate::passed::{Passed, Stand, end_text};
-use crate::pulse::{Bell, Naps};
+use crate::pulse::{Asker, Bell, Naps};
 use cf_bytes::{NoMemory, PeerNo};
 use cf_hub::Hub;
 use cf_line::Workers;
-use cf_peer::{Delivery, WireFail, Wires};
 use cf_tasks::Spawner;
+use cf_wires::{Delivery, WireFail, Wires};
 use std::alloc::Global;
 use std::io::{self, IsTerminal};
 use std::marker::Model;
@@ -29,8 +29,8 @@ pub struct Network<R: Wait + Threads + Copy + Drop> {
     hub: Hub<SystemDialer, Naps<R>, R>,
     // Whether standard error is one.
     on_terminal: bool,
-    // At which the pulse ends.
-    bell: Arc<Bell, Global>,
+    // What asks the pulse for seconds, and ends it.
+    asker: Asker,
     passed: Passed,
 }
 
@@ -88,7 +88,7 @@ impl<R: Wait + Threads + Copy + Drop + Send + 'static> Network<R> {
             rt: *rt,
             hub: hub_of(rt, handle, pulse, spawner, peers)?,
             on_terminal: rt.stderr().is_terminal(),
-            bell,
+            asker: Asker::new(bell),
             passed: Passed::new(),
         })
     }
@@ -167,8 +167,10 @@ impl<R: Wait + Threads + Copy + Drop> Wires for Network<R> {
     }
 
     fn next(&mut self) -> Result<Delivery, NoMemory> {
+        self.asker.ask();
         let answer = self.hub.next();
         if let Ok(delivery) = &answer {
+            self.asker.note(delivery);
             self.passed.note(delivery);
             if self.on_terminal && self.passed.is_time(self.rt.monotonic().ok()) {
                 let _told = self.tell_progress();
@@ -178,7 +180,7 @@ impl<R: Wait + Threads + Copy + Drop> Wires for Network<R> {
     }
 
     fn finish(&mut self) {
-        self.bell.ring();
+        self.asker.end();
         self.hub.finish();
     }
 

@@ -1,7 +1,7 @@
 //! What has passed the wires, as far as the user is told of it.
 use crate::counting::Counts;
 use cf_bytes::PeerNo;
-use cf_peer::Delivery;
+use cf_wires::Delivery;
 use std::time::Duration;
 
 /// How many seconds pass at least between two lines on how far it has come.

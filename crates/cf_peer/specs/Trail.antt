@@ -10,13 +10,13 @@ use Rattle.cf_msg.specs.declared.msg.Msg.{Msg}
 use Rattle.cf_msg.specs.declared.msg.Msg.TheVariants.{Version, Verack, Ping, Pong, Headers}
 use Rattle.cf_msg.specs.declared.msg.NetAddress.{NetAddress}
 use Rattle.cf_msg.specs.Reading.{message_of}
-use Rattle.cf_peer.specs.declared.event.Delivery.{Delivery}
-use Rattle.cf_peer.specs.declared.event.Delivery.TheVariants.{Got, Gone, Tick, Ended}
-use Rattle.cf_peer.specs.declared.event.Event.{Event}
-use Rattle.cf_peer.specs.declared.event.Event.TheVariants.{Dialled, NotDialled, Sent, SendFailed, Closed, Took}
+use Rattle.cf_wires.specs.declared.event.Delivery.{Delivery}
+use Rattle.cf_wires.specs.declared.event.Delivery.TheVariants.{Got, Gone, Tick, Ended}
+use Rattle.cf_wires.specs.declared.event.Event.{Event}
+use Rattle.cf_wires.specs.declared.event.Event.TheVariants.{Dialled, NotDialled, Sent, SendFailed, Closed, Took}
 use Rattle.cf_peer.specs.declared.peer.Cause.{Cause}
 use Rattle.cf_peer.specs.declared.peer.Cause.TheVariants.{BadFrame, Malformed as IsMalformed, Unlinked as NotLinked, InvalidHeader, TooHigh as AboveLimit}
-use Rattle.cf_peer.specs.Log.{Log}
+use Rattle.cf_wires.specs.Log.{Log}
 
 -- how a peer is lost: it went, or was never there; a send to it failed; or it was closed
 pub data Why : Type 0 where

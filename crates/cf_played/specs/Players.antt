@@ -2,10 +2,10 @@
 use Rattle.std.specs.Prelude.{◌≡◌, ◌⊎◌, ℕ, pos, suc, ◌<◌, true, false, List, ◌∷◌, ◌++◌, slice_get, slice_set, drop, length, Option, Some, option_to_list}
 use Rattle.cf_chain.specs.Serve.{replies}
 use Rattle.cf_msg.specs.declared.msg.Msg.{Msg}
-use Rattle.cf_peer.specs.Log.{Log}
+use Rattle.cf_wires.specs.Log.{Log}
 use Rattle.cf_played.specs.declared.player.Player.{Player}
-use Rattle.cf_peer.specs.declared.event.Delivery.TheVariants.{Tick}
-use Rattle.cf_peer.specs.declared.event.Event.TheVariants.{Took}
+use Rattle.cf_wires.specs.declared.event.Delivery.TheVariants.{Tick}
+use Rattle.cf_wires.specs.declared.event.Event.TheVariants.{Took}
 use Rattle.cf_played.specs.Waiting.{front_of, behind_front}
 use Rattle.cf_played.specs.Answers.{came, told_to, heard_of, seen_after, frames_from, answered_to, is_plain, HasBegun, HasAnswered, HasBegunAlike}
 use Rattle.cf_played.specs.Frames.{AreFramesAlike}

@@ -9,7 +9,7 @@ use Rattle.cf_played.specs.declared.kind.Kind.{Kind}
 use Rattle.cf_played.specs.Ways.{way_of}
 use Rattle.cf_played.specs.declared.played.Played.{Played}
 use Rattle.cf_played.specs.Peers.{Peer, shown}
-use Rattle.cf_peer.specs.Log.{Log, Told, tally_of}
+use Rattle.cf_wires.specs.Log.{Log, Told, tally_of}
 
 abbrev pub log_of : Played → Log
 log_of w = reverse w.log.items

@@ -14,7 +14,7 @@ use Rattle.cf_msg.specs.declared.msg.Entry.{Entry}
 use Rattle.cf_msg.specs.declared.msg.Msg.{Msg}
 use Rattle.cf_msg.specs.declared.msg.Msg.TheVariants.{GetHeaders, Headers, GetData, Block as BlockMessage, GetCfheaders, Cfheaders, GetCfilters, Cfilter}
 use Rattle.cf_peer.specs.declared.peer.Cause.TheVariants.{OtherFilter}
-use Rattle.cf_peer.specs.Log.{Log}
+use Rattle.cf_wires.specs.Log.{Log}
 use Rattle.cf_peer.specs.Trail.{Trail, Called, Said, Refused, Asked, Passed, Lost, trail, connected, own, WasAsked}
 use Rattle.cf_peer.specs.Asking.{OpenRequest, NothingOpen, HeadersOpen, ClaimsOpen, FiltersOpen, BlockOpen, is_answer_of, is_this, is_wanted, blocks_from, block_below, claims_asked, filters_asked, filters_left, filter_of, filter_fault, claims, claims_after, given, given_by, hash_claimed, request, request_for, request_after, fault_of, verdict, counted, lists, IsClaimed, MayAsk}
 use Rattle.cf_sync.specs.Fetching.{AreBytes, IsConnected, IsFilterWanted, IsNeeded, MaySend, Rightly, blocks_in}

@@ -1,11 +1,12 @@
 -- The log as a client knew it that wasn't told yet of some failed sends.
 use Rattle.std.specs.Prelude.{◌≡◌, ◌⊎◌, ℕ, ◌==◌, Bool, true, false, not, ◌&&◌, ◌||◌, if◌then◌else◌, List, [], ◌∷◌, ◌++◌, Some}
 use Rattle.cf_msg.specs.declared.msg.Msg.{Msg}
-use Rattle.cf_peer.specs.declared.event.Event.TheVariants.{Dialled, NotDialled, Sent, SendFailed, Closed, Took}
-use Rattle.cf_peer.specs.Log.{Log, tally_of}
+use Rattle.cf_wires.specs.declared.event.Event.TheVariants.{Dialled, NotDialled, Sent, SendFailed, Closed, Took}
+use Rattle.cf_wires.specs.Log.{Log, tally_of}
 use Rattle.cf_peer.specs.Trail.{Trail, Part, Called, Said, Refused, Asked, Passed, Lost, part_of, trail, spelled, connected, failed}
 use Rattle.cf_peer.specs.Asking.{counted, fetched, given}
-use Rattle.cf_sync.specs.Fetching.{MaySend, IsNeeded}
+use Rattle.cf_sync.specs.Fetching.{MaySend}
+use Rattle.cf_sync.specs.Due.{IsCalledFor}
 
 -- a send to this peer has failed since the last delivery, and the peer wasn't closed for it yet, so the client isn't told
 abbrev pub is_untold : Log → ℕ → Bool
@@ -50,12 +51,12 @@ pub record IsPlanned (planned log : Log) : Type 0 where
       → (more : Trail) × (IsMeant more × (part_of planned q ≡ record (part_of (before_failure log q) q) { trail = more ++ trail (before_failure log q) q }))
   pub dials : (tally_of planned).dials ≡ (tally_of log).dials
 
--- what was sent was wanted and needed by a client that knew of no failure that it wasn't told of yet
+-- what was sent was wanted and called for by a client that knew of no failure that it wasn't told of yet
 abbrev pub ArePlanned : List (List ℕ) → Log → Type 0
 ArePlanned watch [] = Unit {0}
 ArePlanned watch (Dialled p name ∷ log) = ArePlanned watch log
 ArePlanned watch (NotDialled p name ∷ log) = ArePlanned watch log
-ArePlanned watch (Sent p bytes ∷ log) = ((m : Msg) × (spelled bytes ≡ Some m) × ((planned : Log) × (IsPlanned planned log × (MaySend planned p.0 m × IsNeeded watch planned p.0 m)))) × ArePlanned watch log
+ArePlanned watch (Sent p bytes ∷ log) = ((m : Msg) × (spelled bytes ≡ Some m) × ((planned : Log) × (IsPlanned planned log × (MaySend planned p.0 m × IsCalledFor watch planned p.0 m)))) × ArePlanned watch log
 ArePlanned watch (SendFailed p ∷ log) = ArePlanned watch log
 ArePlanned watch (Closed p ∷ log) = ArePlanned watch log
 ArePlanned watch (Took d ∷ log) = ArePlanned watch log

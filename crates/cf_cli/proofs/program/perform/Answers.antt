@@ -1,7 +1,7 @@
 use Rattle.std.proofs.Common.{rules}
 use Rattle.std.proofs.Math.Facts.{to_z-of_z}
 use Rattle.std.specs.Int.{w64}
-use Rattle.cf_peer.specs.Memory.{told_of}
+use Rattle.cf_wires.specs.Memory.{told_of}
 use Rattle.cf_client.proofs.Versions.{new_words}
 use Rattle.cf_cli.proofs.Plays.{versions_so, unplayed_words, judged_replay, judged_sync, new_unfailed}
 use Rattle.cf_cli.proofs.Records.{sync_writes}

@@ -4,7 +4,7 @@ use Rattle.std.specs.Prelude.{is_some}
 use Rattle.cf_serve.specs.Links.{LinkTold, link_now}
 use Rattle.cf_cli.specs.Serving.{IsServing}
 use Rattle.cf_cli.specs.declared.status.Status.TheVariants.{NoMemory}
-use Rattle.cf_peer.specs.Memory.{told_of}
+use Rattle.cf_wires.specs.Memory.{told_of}
 use Rattle.cf_client.proofs.Versions.{new_words}
 use Rattle.cf_cli.proofs.Plays.{versions_so, unplayed_words, early_replayed, early_plays, early_told, early_tallied, new_tape, new_unfailed, same_command, judged_for, unused_wires, unused_tape}
 use Rattle.cf_cli.proofs.Records.{unused_files}

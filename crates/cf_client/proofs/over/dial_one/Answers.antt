@@ -1,7 +1,7 @@
 use Rattle.std.proofs.Common.{List, ◌+◌, [], ◌∷◌, ◌++◌, Err, sym, ap, subst}
 use Rattle.cf_peer.specs.declared.act.Act.{Act}
-use Rattle.cf_peer.specs.declared.event.Event.TheVariants.{Dialled}
-use Rattle.cf_peer.specs.declared.event.Event.TheVariants.{NotDialled}
+use Rattle.cf_wires.specs.declared.event.Event.TheVariants.{Dialled}
+use Rattle.cf_wires.specs.declared.event.Event.TheVariants.{NotDialled}
 use Rattle.cf_client.specs.Stands.{Answers, words_by}
 use Rattle.cf_client.proofs.Versions.{entry_keeps, same_keeps, greeting_tells, acts_tell_so, keeps_then}
 use Rattle.cf_client.proofs.Turns.{dial_doing, doing_watch}
@@ -12,7 +12,7 @@ returns-in_ok-carry_out-in-Ok-clause-holds g c = λ called holds.
     let p = c.in-Ok.p in
     let name = c.args.name.now in
     let log = Dialled p name ∷ holds.actual in
-    let d = dial_doing c.args.client.now c.deref.result.now c.args.progress.now called (g.W.Wires.told c.args.wires.now) p name holds c.in-Ok.ensures.dialled.0 c.requires.room in
+    let d = dial_doing c.args.client.now c.deref.result.now c.args.progress.now called (g.W.Wires.told c.args.wires.now) p name holds c.in-Ok.ensures.dialled.0 c.requires.room c.requires.untaken c.requires.unended in
     let a = c.in_ok-acts-in-Ok.ensures.answers holds.actual holds.reflects in
     c.in_ok-carry_out-in-Ok.ensures.holds (called ++ name ∷ []) log
     (subst (λ (acts : List Act). Answers c.dialled.new.self acts log) (sym c.deref.ensures.value) a)
@@ -23,7 +23,7 @@ returns-in_ok-carry_out-in-Ok-clause-versions g c = λ called holds.
     let p = c.in-Ok.p in
     let name = c.args.name.now in
     let log = Dialled p name ∷ holds.actual in
-    let d = dial_doing c.args.client.now c.deref.result.now c.args.progress.now called (g.W.Wires.told c.args.wires.now) p name holds c.in-Ok.ensures.dialled.0 c.requires.room in
+    let d = dial_doing c.args.client.now c.deref.result.now c.args.progress.now called (g.W.Wires.told c.args.wires.now) p name holds c.in-Ok.ensures.dialled.0 c.requires.room c.requires.untaken c.requires.unended in
     let a = c.in_ok-acts-in-Ok.ensures.answers holds.actual holds.reflects in
     let tells = greeting_tells (words_by c.args.client.now) p c.in_ok-acts-in-Ok.acts.items c.in_ok-acts-in-Ok.ensures.greets in
     keeps_then _ (words_by c.args.client.now) (g.W.Wires.told c.args.wires.now) (g.W.Wires.told c.dial.new.self) (g.W.Wires.told c.carry_out.new.wires) c.in_ok-acts-in-Ok.ensures.words
@@ -38,7 +38,7 @@ returns-in_err-carry_out-in-Ok-clause-versions g c = λ called holds.
     let p = c.in-Ok.p in
     let name = c.args.name.now in
     let log = Dialled p name ∷ holds.actual in
-    let d = dial_doing c.args.client.now c.deref.result.now c.args.progress.now called (g.W.Wires.told c.args.wires.now) p name holds c.in-Ok.ensures.dialled.0 c.requires.room in
+    let d = dial_doing c.args.client.now c.deref.result.now c.args.progress.now called (g.W.Wires.told c.args.wires.now) p name holds c.in-Ok.ensures.dialled.0 c.requires.room c.requires.untaken c.requires.unended in
     let a = c.in_ok-acts-in-Ok.ensures.answers holds.actual holds.reflects in
     let tells = greeting_tells (words_by c.args.client.now) p c.in_ok-acts-in-Ok.acts.items c.in_ok-acts-in-Ok.ensures.greets in
     keeps_then _ (words_by c.args.client.now) (g.W.Wires.told c.args.wires.now) (g.W.Wires.told c.dial.new.self) (g.W.Wires.told c.carry_out.new.wires) c.in_ok-acts-in-Ok.ensures.words

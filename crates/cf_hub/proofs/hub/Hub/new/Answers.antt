@@ -1,5 +1,5 @@
 use Rattle.std.proofs.Common.{arith, ◌≡◌, ◌≤◌, ◌+◌, ◌∙◌, ◌++◌, ◌∷◌, [], None, sym, ap, vec_len, vec_capacity}
-use Rattle.cf_peer.specs.Log.{Tally}
+use Rattle.cf_wires.specs.Log.{Tally}
 use Rattle.cf_hub.proofs.Heard.{nobody}
 use Rattle.cf_hub.specs.Over.{connected, numbers_from}
 use Rattle.cf_hub.specs.Finish.{numbers_of}

@@ -1,6 +1,6 @@
 use Rattle.std.proofs.Common.{arith, ◌≡◌, ◌≤◌, ◌+◌, ◌∙◌, ◌++◌, ◌∷◌, [], sym, ap, refl, vec_len, vec_capacity, length}
 use Rattle.crossbeam_channel.specs.Claims.{view}
-use Rattle.cf_peer.specs.Log.{Told}
+use Rattle.cf_wires.specs.Log.{Told}
 use Rattle.cf_hub.specs.Book.{told_of}
 use Rattle.cf_hub.specs.Gives.{given_of}
 use Rattle.cf_hub.proofs.Takes.{same_log, same_heard, same_within, same_front, missed_log, moved_fronts}

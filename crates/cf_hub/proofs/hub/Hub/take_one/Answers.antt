@@ -1,8 +1,8 @@
 use Rattle.std.proofs.Common.{arith, ◌≡◌, ◌≤◌, ◌+◌, ◌∙◌, ◌++◌, ◌∷◌, [], sym, ap, refl, true≢false, vec_len, length}
 use Rattle.crossbeam_channel.specs.Claims.{view}
-use Rattle.cf_peer.specs.Log.{Told, tell}
-use Rattle.cf_peer.specs.declared.event.Event.TheVariants.{Took}
-use Rattle.cf_peer.specs.declared.event.Delivery.TheVariants as gives
+use Rattle.cf_wires.specs.Log.{Told, tell}
+use Rattle.cf_wires.specs.declared.event.Event.TheVariants.{Took}
+use Rattle.cf_wires.specs.declared.event.Delivery.TheVariants as gives
 use Rattle.cf_hub.specs.declared.entry.Kind.TheVariants as kinds
 use Rattle.cf_hub.specs.Book.{told_of}
 use Rattle.cf_hub.specs.Gives.{given_of}

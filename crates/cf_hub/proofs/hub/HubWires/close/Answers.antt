@@ -1,6 +1,6 @@
 use Rattle.std.proofs.Common.{arith, ◌≡◌, ◌+◌, ◌∙◌, sym, ap, refl, true, vec_len, slice_set}
 use Rattle.crossbeam_channel.specs.Claims.{view}
-use Rattle.cf_peer.specs.Log.{Told}
+use Rattle.cf_wires.specs.Log.{Told}
 use Rattle.cf_hub.proofs.Takes.{same_within, closed_log}
 use Rattle.cf_hub.proofs.Opened.{opens_closed}
 use Rattle.cf_hub.proofs.hub.HubWires.close.Goals as goal

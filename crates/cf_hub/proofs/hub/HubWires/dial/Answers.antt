@@ -1,6 +1,6 @@
 use Rattle.std.proofs.Common.{arith, ◌≡◌, ◌≤◌, ◌+◌, ◌∙◌, sym, ap, refl, vec_len, vec_capacity}
 use Rattle.crossbeam_channel.specs.Claims.{view}
-use Rattle.cf_peer.specs.Log.{Told}
+use Rattle.cf_wires.specs.Log.{Told}
 use Rattle.cf_hub.specs.Book.{told_of}
 use Rattle.cf_hub.proofs.Takes.{same_fronts, same_log, same_within}
 use Rattle.cf_hub.proofs.Opened.{opens_same}

@@ -1,6 +1,6 @@
 use Rattle.std.proofs.Common.{arith, ◌≡◌, ◌+◌, ◌∙◌, sym, ap, refl, true, true≢false, vec_len}
 use Rattle.crossbeam_channel.specs.Claims.{view}
-use Rattle.cf_peer.specs.Log.{Told}
+use Rattle.cf_wires.specs.Log.{Told}
 use Rattle.cf_hub.specs.Book.{told_of}
 use Rattle.cf_hub.proofs.Takes.{finished_log, same_within}
 use Rattle.cf_hub.proofs.Opened.{still_shut}

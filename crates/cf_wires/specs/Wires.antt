@@ -1,10 +1,10 @@
 -- When a call on wires may say that the outside failed.
 use Rattle.std.specs.Prelude.{ℕ, ◌≤◌, List, Result, IsErrOf}
 use Rattle.cf_bytes.specs.Outside.{HasRisen}
-use Rattle.cf_peer.specs.declared.event.Delivery.{Delivery}
-use Rattle.cf_peer.specs.declared.wires.WireFail.{WireFail}
-use Rattle.cf_peer.specs.declared.wires.WireFail.TheVariants.{Failed}
-use Rattle.cf_peer.specs.declared.event.Dial.{Dial}
+use Rattle.cf_wires.specs.declared.event.Delivery.{Delivery}
+use Rattle.cf_wires.specs.declared.wires.WireFail.{WireFail}
+use Rattle.cf_wires.specs.declared.wires.WireFail.TheVariants.{Failed}
+use Rattle.cf_wires.specs.declared.event.Dial.{Dial}
 
 -- the count of faults never falls, and `Failed` is answered only where it rose in this call
 pub record HasCause {T : Type 0} (before now : ℕ) (result : Result T WireFail) : Type 0 where

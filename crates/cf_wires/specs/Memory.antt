@@ -1,11 +1,11 @@
 -- What wires in memory hold.
 use Rattle.std.specs.Prelude.{ℕ, Bool, true, false, List, [], ◌∷◌, ◌++◌, reverse, Some}
-use Rattle.cf_peer.specs.declared.event.Dial.{Dial}
-use Rattle.cf_peer.specs.declared.memory.MemoryWires.{MemoryWires}
-use Rattle.cf_peer.specs.declared.memory.Scripted.{Scripted}
-use Rattle.cf_peer.specs.declared.memory.Scripted.TheVariants.{Dial as MadeDial, NoDial as MadeNoDial, Deliver}
-use Rattle.cf_peer.specs.Log.{Log, Told, tally_of, is_real}
-use Rattle.cf_peer.specs.Wires.{Script, Made}
+use Rattle.cf_wires.specs.declared.event.Dial.{Dial}
+use Rattle.cf_wires.specs.declared.memory.MemoryWires.{MemoryWires}
+use Rattle.cf_wires.specs.declared.memory.Scripted.{Scripted}
+use Rattle.cf_wires.specs.declared.memory.Scripted.TheVariants.{Dial as MadeDial, NoDial as MadeNoDial, Deliver}
+use Rattle.cf_wires.specs.Log.{Log, Told, tally_of, is_real}
+use Rattle.cf_wires.specs.Wires.{Script, Made}
 
 abbrev pub script_of : MemoryWires → Script
 script_of w = record { dials = w.dial_script.items; deliveries = w.script.items }

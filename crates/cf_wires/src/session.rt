@@ -1,8 +1,8 @@
 //! The session lines of what passed the wires.
 ghost use Rattle.std.specs.Prelude.{◌≡◌, ◌++◌, ◌∷◌, [], reverse, IfOk, OnOk, string_bytes};
 ghost use Rattle.std.specs.List.{flat_map};
-ghost use Rattle.cf_peer.specs.Log.{dials};
-ghost use Rattle.cf_peer.specs.Session.{dial_line, got_line, gone_line, tick_line, event_line, delivery_lines};
+ghost use Rattle.cf_wires.specs.Log.{dials};
+ghost use Rattle.cf_wires.specs.Session.{dial_line, got_line, gone_line, tick_line, event_line, delivery_lines};
 
 use crate::event::{Delivery, Event};
 use cf_bytes::{NoMemory, PeerNo};

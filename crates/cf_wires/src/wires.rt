@@ -1,11 +1,11 @@
 //! The outside of a client: peers that are dialled, sent to, closed and heard.
 ghost use Rattle.std.specs.Prelude.{◌≡◌, ℕ, Bool, ◌+◌, ◌<◌, ◌≤◌, List, Option, [], IfOk, OnOk, OnErr, IfSome, IsSome, IsErrOf, true, false, string_bytes};
 ghost use Rattle.cf_bytes.specs.declared.peer.PeerNo.{PeerNo};
-ghost use Rattle.cf_peer.specs.declared.event.Event.TheVariants.{Dialled, NotDialled, Sent, SendFailed, Closed, Took};
-ghost use Rattle.cf_peer.specs.declared.wires.WireFail.TheVariants.{NoMemory as WireNoMemory};
-ghost use Rattle.cf_peer.specs.Log.{Told, Tells, tell, told_finished, was_closed};
-ghost use Rattle.cf_peer.specs.Session.{session_text};
-ghost use Rattle.cf_peer.specs.Wires.{HasCause, Made};
+ghost use Rattle.cf_wires.specs.declared.event.Event.TheVariants.{Dialled, NotDialled, Sent, SendFailed, Closed, Took};
+ghost use Rattle.cf_wires.specs.declared.wires.WireFail.TheVariants.{NoMemory as WireNoMemory};
+ghost use Rattle.cf_wires.specs.Log.{Told, Tells, tell, told_finished, was_closed};
+ghost use Rattle.cf_wires.specs.Session.{session_text};
+ghost use Rattle.cf_wires.specs.Wires.{HasCause, Made};
 
 use crate::event::Delivery;
 use cf_bytes::{NoMemory, PeerNo};
@@ -68,9 +68,10 @@ pub trait Wires {
         ensures later { faults self.old ≤ faults self.new }
         ensures same { script self.new ≡ script self.old };
 
-    /// Dials the next peer. At most eight are dialled. Where no memory is found nothing was dialled.
+    /// Dials the next peer. At most eight are dialled, and none once the wires are finished. Where no memory is found nothing was dialled.
     fn dial(&mut self, name: &str) -> Result<PeerNo, WireFail>
-        requires { (told self.old).tally.dials < 8 }
+        requires room { (told self.old).tally.dials < 8 }
+        requires open { (told self.old).finished ≡ false }
         ensures dialled { IfOk result (λ p. (p.0 ≡ (told self.old).tally.dials + 1) × (told self.new ≡ tell (Dialled p name.now) (told self.old))) }
         ensures not_dialled { IsErrOf result WireFail.Failed → told self.new ≡ tell (NotDialled (record { 0 = (told self.old).tally.dials + 1 }) name.now) (told self.old) }
         ensures no_memory { IsErrOf result WireFail.NoMemory → told self.new ≡ told self.old }
@@ -81,6 +82,7 @@ pub trait Wires {
     /// Sends bytes to a peer that was dialled. Where it fails none of them may be taken as sent, and where no memory is found none was
     /// sent.
     fn send(&mut self, p: PeerNo, bytes: &[u8]) -> Result<(), WireFail>
+        requires { (told self.old).finished ≡ false }
         ensures sent { OnOk result (told self.new ≡ tell (Sent p bytes.now) (told self.old)) }
         ensures not_sent { IsErrOf result WireFail.Failed → told self.new ≡ tell (SendFailed p) (told self.old) }
         ensures no_memory { IsErrOf result WireFail.NoMemory → told self.new ≡ told self.old }
@@ -92,6 +94,7 @@ pub trait Wires {
     fn close(&mut self, p: PeerNo)
         requires dialled { p.0 ≤ 8 }
         requires once { was_closed (told self.old).tally p.0 ≡ false }
+        requires open { (told self.old).finished ≡ false }
         ensures closed { told self.new ≡ tell (Closed p) (told self.old) }
         ensures later { faults self.old ≤ faults self.new }
         ensures keeps { keeps self.new ≡ keeps self.old }

@@ -2,8 +2,8 @@
 ghost use Rattle.std.specs.Prelude.{◌≡◌, ◌≤◌, ◌<◌, ◌+◌, ℕ, Some, reverse, length, [], ◌∷◌, ◌++◌, OnOk, OnErr, IfOk, IsErrOf, true, false, not, take, vec_len, vec_capacity};
 ghost use Rattle.std.specs.List.{list_all, count_by};
 ghost use Rattle.cf_bytes.specs.Outside.{HasRisen};
-ghost use Rattle.cf_peer.specs.Log.{tally_of, tell, deliveries, dials as dials_of, is_real};
-ghost use Rattle.cf_peer.specs.Dials.{WentAsMade, answered_at, calls_in, is_to_fail, fails_after, answers_after, goes_as_made};
+ghost use Rattle.cf_wires.specs.Log.{tally_of, tell, deliveries, dials as dials_of, is_real};
+ghost use Rattle.cf_wires.specs.Dials.{WentAsMade, answered_at, calls_in, is_to_fail, fails_after, answers_after, goes_as_made};
 
 use crate::event::{Delivery, Dial, Event, Name, Piece};
 use crate::session::{put_deliveries, put_dials};
@@ -57,7 +57,7 @@ pub struct MemoryWires {
 }
 
 impl MemoryWires {
-    ghost use Rattle.cf_peer.specs.Memory.{script_of, log_of, failing_of, calls_of, faults_of, keeps_of, finished_of, may_be_added, with_scripted, with_dial};
+    ghost use Rattle.cf_wires.specs.Memory.{script_of, log_of, failing_of, calls_of, faults_of, keeps_of, finished_of, may_be_added, with_scripted, with_dial};
 
     /// Wires that were made to give nothing: each dial fails.
     pub fn new(alloc: Global) -> Result<MemoryWires, NoMemory>
@@ -177,9 +177,9 @@ impl MemoryWires {
 }
 
 impl Wires for MemoryWires {
-    ghost use Rattle.cf_peer.specs.declared.event.Event.TheVariants.{Dialled, NotDialled, Sent, SendFailed};
-    ghost use Rattle.cf_peer.specs.Wires.{HasCause};
-    ghost use Rattle.cf_peer.specs.Memory.{log_of, made_of, told_of};
+    ghost use Rattle.cf_wires.specs.declared.event.Event.TheVariants.{Dialled, NotDialled, Sent, SendFailed};
+    ghost use Rattle.cf_wires.specs.Wires.{HasCause};
+    ghost use Rattle.cf_wires.specs.Memory.{log_of, made_of, told_of};
 
     ghost told = { λ w. record { log = Some (reverse w.log.items); tally = tally_of (reverse w.log.items); finished = w.finished } };
 

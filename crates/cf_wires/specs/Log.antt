@@ -1,13 +1,13 @@
 -- What passed the wires, and what of it is kept whatever the wires are.
 use Rattle.std.specs.Prelude.{◌≡◌, ℕ, ◌+◌, Bool, true, false, List, [], ◌∷◌, ◌++◌, Option, Some, None, IfSome, slice_set, slice_index_or, replicate}
 use Rattle.cf_bytes.specs.declared.peer.PeerNo.{PeerNo}
-use Rattle.cf_peer.specs.declared.event.Delivery.{Delivery}
-use Rattle.cf_peer.specs.declared.event.Delivery.TheVariants.{Got, Gone, Tick, Ended}
-use Rattle.cf_peer.specs.declared.event.Dial.{Dial}
-use Rattle.cf_peer.specs.declared.event.Event.{Event}
-use Rattle.cf_peer.specs.declared.event.Event.TheVariants.{Dialled, NotDialled, Sent, SendFailed, Closed, Took}
-use Rattle.cf_peer.specs.declared.event.Mark.{Mark}
-use Rattle.cf_peer.specs.declared.event.Mark.TheVariants.{NotYet, Called, Missed, Left, Shut, Broken}
+use Rattle.cf_wires.specs.declared.event.Delivery.{Delivery}
+use Rattle.cf_wires.specs.declared.event.Delivery.TheVariants.{Got, Gone, Tick, Ended}
+use Rattle.cf_wires.specs.declared.event.Dial.{Dial}
+use Rattle.cf_wires.specs.declared.event.Event.{Event}
+use Rattle.cf_wires.specs.declared.event.Event.TheVariants.{Dialled, NotDialled, Sent, SendFailed, Closed, Took}
+use Rattle.cf_wires.specs.declared.event.Mark.{Mark}
+use Rattle.cf_wires.specs.declared.event.Mark.TheVariants.{NotYet, Called, Missed, Left, Shut, Broken}
 
 -- all that passed the wires, the newest entry first: every proper end of the list is an earlier moment
 abbrev pub Log : Type 0
