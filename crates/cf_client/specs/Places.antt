@@ -204,7 +204,7 @@ abbrev pub TellsWords : Words → Msg → Type 0
 TellsWords words (Version version services time to from nonce agent height relay) = (time ≡ words.moment) × (nonce ≡ words.number)
 TellsWords words m = Unit {0}
 
--- no act sends a version but one that tells these words
+-- an act sends no version but one that tells these words
 abbrev pub ActTells : Words → Act → Type 0
 ActTells words (Send p m) = TellsWords words m
 ActTells words (Close p cause) = Unit {0}
