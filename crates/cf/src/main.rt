@@ -10,7 +10,6 @@ use crate::listener::Listener;
 use cf_bytes::{StdFiles, WriterSink, put_all};
 use cf_cli::{Status, own_text, run};
 use cf_edge::Edge;
-use cf_network::Network;
 use cf_tasks::{InThreads, Spawner};
 use std::io;
 use std::process::ExitCode;
@@ -29,13 +28,6 @@ fn say(rt: &HostRuntime, text: &str) -> Status {
 fn told(rt: &HostRuntime, words: &[String], status: Status, reason: &Option<io::Error>) -> Status {
     let _told = faults::tell(rt, words, &status, reason);
     status
-}
-
-// Tells how each peer stands, unless the status tells it.
-fn tell_stands<R: Wait + Threads + Copy + Drop>(network: &Network<R>, status: &Status) {
-    if !matches!(status, Status::NoPeers { .. }) {
-        let _told = network.tell_stands();
-    }
 }
 
 // Runs the command. `sync` goes over TCP.
@@ -64,7 +56,7 @@ fn run_command<R: Wait + Threads + Sync + Copy + Drop + Send + 'static, K: Spawn
         spawner,
         &mut WriterSink::new(io::writer(rt)),
     );
-    tell_stands(&edge.network, &status);
+    let _told = faults::tell_stands(rt, &status, &edge.network);
     told(rt, words, status, &files.reason())
 }
 
