@@ -92,12 +92,13 @@ def last_times():
 
 
 def proof_seconds():
-    """What the proof of each crate takes of a processor: the most that was measured here, or what is guessed for its lines."""
+    """What the proof of each crate takes of a processor, with linking: the most that was measured here from nothing, or what is guessed for its lines."""
     most = {}
     for (_, crate, kind), (seconds, _) in last_times().items():
-        if kind == "proof":
-            most[crate] = max(seconds, most.get(crate, 0))
-    return {name: most.get(name) or guess(name) for name in below()}
+        if kind in ("proof", "linking"):
+            kinds = most.setdefault(crate, {})
+            kinds[kind] = max(seconds, kinds.get(kind, 0))
+    return {name: sum(most[name].values()) if "proof" in most.get(name, {}) else guess(name) for name in below()}
 
 
 def guess(name):
