@@ -104,7 +104,7 @@ def items_of(crate):
                 of_trait = bool(block.trait) and not block.type
                 if crate.is_exported(block.trait if of_trait else block.type, item) and (of_trait or item.is_public):
                     yield f"{block.trait if of_trait else block.type}::{item.name}", item
-            elif item.kind in ("fn", "trait", "struct", "enum") and crate.is_exported(item.name, item):
+            elif item.is_public and item.kind in ("fn", "trait", "struct", "enum") and crate.is_exported(item.name, item):
                 yield item.name, item
 
 
