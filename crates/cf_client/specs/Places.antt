@@ -74,6 +74,7 @@ LostBy NotDialled t = (was_called t ≡ false) × (failed t ≡ false)
 LostBy Gone t = (failed t ≡ false) × FirstLost IsGoing t
 LostBy (ClosedFor cause) t = ((cause ≡ SendFailed) × (failed t ≡ true)) ⊎ ((failed t ≡ false) × FirstLost (IsShutFor cause) t)
 
+-- a peer isn't connected, and was lost so
 pub record IsLost (loss : Loss) (t : Trail) : Type 0 where
   pub off : connected t ≡ false
   pub by : LostBy loss t
@@ -137,6 +138,7 @@ abbrev pub is_idle : Place → Bool
 is_idle (Here peer) = is_idle_peer peer
 is_idle (Lost loss) = false
 
+-- filters or a block are open to the peer of this place
 abbrev pub is_fetching_at : Place → Bool
 is_fetching_at (Here peer) = is_fetching peer
 is_fetching_at (Lost loss) = false
@@ -170,6 +172,7 @@ abbrev pub is_busy : Place → Bool
 is_busy (Here peer) = busy peer
 is_busy (Lost loss) = false
 
+-- the peer of this place is connected
 abbrev pub is_here : Place → Bool
 is_here (Here peer) = true
 is_here (Lost loss) = false
@@ -201,6 +204,7 @@ abbrev pub TellsWords : Words → Msg → Type 0
 TellsWords words (Version version services time to from nonce agent height relay) = (time ≡ words.moment) × (nonce ≡ words.number)
 TellsWords words m = Unit {0}
 
+-- an act sends no version but one that tells these words
 abbrev pub ActTells : Words → Act → Type 0
 ActTells words (Send p m) = TellsWords words m
 ActTells words (Close p cause) = Unit {0}
@@ -226,6 +230,7 @@ end_by NotDialled = EndsNotDialled
 end_by Gone = EndsGone
 end_by (ClosedFor cause) = EndsClosed cause
 
+-- how a peer stands, by what is kept of it: connected with its handshake over, or still open, or how it was lost
 abbrev pub end_of : Place → PeerEnd
 end_of (Here peer) = if is_ready_peer peer then Ready else Waiting
 end_of (Lost loss) = end_by loss

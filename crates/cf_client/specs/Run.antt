@@ -42,11 +42,13 @@ use Rattle.cf_client.specs.Stands.{Reflects, IsInnocent, AreAnswered, watch_by}
 abbrev pub state_at : List SendState → ℕ → SendState
 state_at sends p = slice_index_or sends p Fine
 
+-- a send to the peer has failed, and the client isn't told of it yet
 abbrev pub is_pending : SendState → Bool
 is_pending Fine = false
 is_pending Pending = true
 is_pending Known = false
 
+-- no send to the peer has failed
 abbrev pub is_fine : SendState → Bool
 is_fine Fine = true
 is_fine Pending = false
@@ -58,6 +60,7 @@ weight Fine = 2
 weight Pending = 1
 weight Known = 0
 
+-- how much may still come of failed sends, over all peers
 abbrev pub trouble : Progress → ℕ
 trouble progress = sum_by weight progress.sends
 
@@ -218,6 +221,7 @@ is_failure (SendFailed p) = true
 is_failure (Closed p) = false
 is_failure (Took d) = false
 
+-- a dial or a send has failed in this log
 abbrev pub HasFailed : Log → Type 0
 HasFailed log = list_any is_failure log ≡ true
 
@@ -248,6 +252,7 @@ pub record Moment : Type 0 where
   pub keeps : Bool
   pub progress : Progress
 
+-- the moment at which wires and run are so
 abbrev pub moment : Told → ℕ → Option Made → Bool → Progress → Moment
 moment told faults script keeps progress = record { told = told; faults = faults; script = script; keeps = keeps; progress = progress }
 

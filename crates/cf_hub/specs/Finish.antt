@@ -36,6 +36,7 @@ begun t = (t.sender.number, t.source)
 abbrev pub numbers_of : {S R : Type 0} → List (Reader S R) → List ℕ
 numbers_of ts = map (λ t. t.sender.number) ts
 
+-- the numbers of sources that were read
 abbrev pub read_numbers : {S : Type 0} → List (Read S) → List ℕ
 read_numbers js = map (λ j. j.number) js
 

@@ -96,6 +96,7 @@ taken_by s line None =
     if is_none s.dials then Err NoDial
     else delivery_of (length s.dials) line >>= λ d. Ok (record s { deliveries = s.deliveries ++ d ∷ [] })
 
+-- a session with one line more: a dial before all deliveries, or a delivery; or why the line is refused
 abbrev pub taken : Script → List ℕ → Result Script SessionCause
 taken s line = taken_by s line (dial_of line)
 

@@ -6,7 +6,7 @@ ghost use Rattle.cf_network.specs.Standing.{HasThreads};
 ghost use Rattle.cf_wires.specs.Log.{Tells};
 
 use crate::outside::SystemDialer;
-use crate::passed::{Passed, Stand, end_text};
+use crate::passed::{Asked, Passed, Stand};
 use crate::pulse::{Asker, Bell, Naps};
 use cf_bytes::{NoMemory, PeerNo};
 use cf_hub::Hub;
@@ -115,11 +115,16 @@ impl<R: Wait + Threads + Copy + Drop> Network<R> {
         )
     }
 
+    /// What a peer was asked for that was closed since it was late with that.
+    pub fn waited_for(&self, p: PeerNo) -> Option<Asked> {
+        self.passed.waited_for(p)
+    }
+
     /// Tells of each peer how it stands.
     pub fn tell_stands(&self) -> io::Result<()> {
         for (p, stand) in self.passed.stands().iter().enumerate() {
             if let Some(stand) = stand {
-                eprintln!(&self.rt; "cf: peer {p}: {}", end_text(*stand))?;
+                eprintln!(&self.rt; "cf: peer {p}: {stand}")?;
             }
         }
         Ok(())
@@ -154,6 +159,7 @@ impl<R: Wait + Threads + Copy + Drop> Wires for Network<R> {
     }
 
     fn send(&mut self, p: PeerNo, bytes: &[u8]) -> Result<(), WireFail> {
+        self.passed.note_sent(p, bytes);
         let answer = self.hub.send(p, bytes);
         if matches!(answer, Err(WireFail::Failed)) {
             self.passed.note_stand(p, Stand::Unsent);

@@ -15,6 +15,7 @@ pub record Peer : Type 0 where
   pub way : Way
   pub waiting : List ℕ
 
+-- a peer in memory as contracts see it: its blocks, its way, and the bytes that wait
 abbrev pub shown : Player → Peer
 shown player = record { blocks = player.index; way = player.way; waiting = player.waiting }
 

@@ -30,6 +30,7 @@ pub record IsAccounted (log : Log) (p : ℕ) (player : Player) : Type 0 where
   pub alike : AreFramesAlike (replies (pos 0) 0 player.index false (heard_of player.way (told_to log p))) (came log p ++ player.waiting)
   pub alike_past : (k : ℕ) → HasBegunAlike player.way player.index (drop k log) p
 
+-- so it is of each peer
 pub record AreAccounted (log : Log) (players : List Player) : Type 0 where
   pub each : (i : ℕ) (player : Player) → slice_get players i ≡ Some player → IsAccounted log (suc i) player
 

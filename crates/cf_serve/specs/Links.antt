@@ -33,5 +33,6 @@ pub record LinkTold : Type 0 where
   -- what was given back, in order, where that is told
   pub given : Option (List Given)
 
+-- all that a link tells now, put together of what each of its parts tells
 abbrev pub link_now : {L : Type 0} → (L → Option (List (List ℕ))) → (L → ℕ) → (L → ℕ) → (L → Option (List Told)) → (L → Option (List Given)) → L → LinkTold
 link_now addresses accepted owed conns given link = record { addresses = addresses link; accepted = accepted link; owed = owed link; conns = conns link; given = given link }

@@ -16,8 +16,23 @@ const WRITE_SECONDS: u64 = 60;
 /// How long the system is given to get what it lacks for a connection, before one is accepted again, in milliseconds.
 const PAUSE: u64 = 100;
 
+/// How many seconds pass at least between two lines on what the system lacks for a connection.
+const SECONDS_BETWEEN: u64 = 60;
+
 /// How long a peer may be silent, in seconds.
 const READ_SECONDS: u64 = 1200;
+
+/// What tells the user that a link waits.
+pub trait Notes {
+    /// Tells that the next connection can't be accepted yet, and why.
+    fn tell_lack(&self, why: &io::Error);
+}
+
+impl Notes for HostRuntime {
+    fn tell_lack(&self, why: &io::Error) {
+        let _told = eprintln!(self; "cf: the next connection waits: {why}");
+    }
+}
 
 /// A connection over TCP.
 #[derive(Drop)]
@@ -117,6 +132,8 @@ pub struct TcpLink<R> {
     rt: R,
     listener: Option<TcpListener>,
     reason: Option<io::Error>,
+    // When it was told last what the system lacked.
+    told: Option<Duration>,
     faults: u64,
     accepted: u64,
     returned: u64,
@@ -132,6 +149,7 @@ impl<R: Net<Listener = TcpListener, Stream = TcpStream>> TcpLink<R> {
             rt,
             listener: None,
             reason: None,
+            told: None,
             faults: 0,
             accepted: 0,
             returned: 0,
@@ -183,8 +201,32 @@ fn is_lost(e: &io::Error) -> bool {
     )
 }
 
+// Tells what the system lacks for a connection, unless that was told less than a minute ago, and gives it some time.
+fn wait_for_more<R: Clock + Notes>(rt: &R, told: &mut Option<Duration>, why: &io::Error) {
+    if is_time(rt.monotonic().ok(), told) {
+        rt.tell_lack(why);
+    }
+    thread::sleep(rt, Duration::from_millis(PAUSE));
+}
+
+// Whether a line may be told at this moment, where the clock tells it. Then it counts as told.
+fn is_time(now: Option<Duration>, told: &mut Option<Duration>) -> bool {
+    match (now, *told) {
+        (Some(now), Some(then)) if now.saturating_sub(then).as_secs() < SECONDS_BETWEEN => false,
+        (Some(_), _) => {
+            *told = now;
+            true
+        }
+        (None, _) => false,
+    }
+}
+
 // The next connection. One that is lost before it was accepted is passed over, and what the system lacks is waited for.
-fn next_of<R: Clock>(rt: &R, listener: &Option<TcpListener>) -> io::Result<TcpStream> {
+fn next_of<R: Clock + Notes>(
+    rt: &R,
+    listener: &Option<TcpListener>,
+    told: &mut Option<Duration>,
+) -> io::Result<TcpStream> {
     let Some(listener) = listener else {
         return Err(io::Error::from(ErrorKind::NotConnected));
     };
@@ -196,14 +238,16 @@ fn next_of<R: Clock>(rt: &R, listener: &Option<TcpListener>) -> io::Result<TcpSt
                 }
             }
             Err(e) if is_lost(&e) => {}
-            Err(e) if is_want(&e) => thread::sleep(rt, Duration::from_millis(PAUSE)),
+            Err(e) if is_want(&e) => wait_for_more(rt, told, &e),
             Err(e) => return Err(e),
         }
     }
     Err(io::Error::from(ErrorKind::ConnectionAborted))
 }
 
-impl<R: Net<Listener = TcpListener, Stream = TcpStream> + Clock + Drop> Link for TcpLink<R> {
+impl<R: Net<Listener = TcpListener, Stream = TcpStream> + Clock + Notes + Drop> Link
+    for TcpLink<R>
+{
     type Conn = TcpConn;
 
     ghost faults = { λ l. l.faults };
@@ -234,7 +278,7 @@ impl<R: Net<Listener = TcpListener, Stream = TcpStream> + Clock + Drop> Link for
         if self.accepted == u64::MAX {
             return Err(self.failed(io::Error::from(ErrorKind::QuotaExceeded)));
         }
-        match next_of(&self.rt, &self.listener) {
+        match next_of(&self.rt, &self.listener, &mut self.told) {
             Ok(stream) => {
                 self.accepted += 1;
                 Ok(TcpConn {

@@ -32,6 +32,7 @@ use Rattle.cf_peer.specs.Asking.{is_spare, request, is_open, counted, claims, ha
 abbrev pub counted_part : Log → ℕ → Trail
 counted_part log p = counted (trail log p)
 
+-- the peer with this number is connected
 abbrev pub IsConnected : Log → ℕ → Type 0
 IsConnected log p = connected (trail log p) ≡ true
 
@@ -39,6 +40,7 @@ IsConnected log p = connected (trail log p) ≡ true
 abbrev pub IsQuiet : Log → Type 0
 IsQuiet log = (p : ℕ) → is_open (trail log p) ≡ false
 
+-- something is open to somebody
 abbrev pub IsBusy : Log → Type 0
 IsBusy log = (p : ℕ) × (is_open (trail log p) ≡ true)
 
@@ -61,6 +63,7 @@ AreBytes (Closed p ∷ log) = AreBytes log
 abbrev pub IsFetched : Log → Block → Type 0
 IsFetched log block = (p : ℕ) × IsIn block (fetched (counted_part log p))
 
+-- a block with this hash was fetched
 abbrev pub IsFetchedHash : Log → Hash → Type 0
 IsFetchedHash log hash = (block : Block) × IsFetched log block × (block_hash_of block.header ≡ hash)
 
@@ -105,6 +108,7 @@ pub record IsJudged (watch : List (List ℕ)) (log : Log) (block : Hash) (miss :
   pub this : filter_hash_of filter.filter ≡ hash.0
   pub verdict : misses watch filter ≡ miss
 
+-- the connected peers agree on a filter of this block that was given, and it misses the watched scripts
 abbrev pub IsCleared : List (List ℕ) → Log → Hash → Type 0
 IsCleared watch log block = IsJudged watch log block true
 

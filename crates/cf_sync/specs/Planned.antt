@@ -44,7 +44,8 @@ Alike t u =
     (t ≡ u)
     ⊎ ((connected t.trail ≡ false) × (connected u.trail ≡ false) × (failed t.trail ≡ true) × (failed u.trail ≡ true) × (fetched (counted t.trail) ≡ fetched (counted u.trail)) × (given (counted t.trail) ≡ given (counted u.trail)))
 
--- of a peer whose failed send isn't told its part just before that send, with what was planned on top; of all others the actual part
+-- of a peer whose failed send isn't told its part just before that send, with what was planned on top; of all others the actual part, or one that is alike: cut
+-- off by a failed send as well, with the same blocks and filters brought; and as many peers were dialled
 pub record IsPlanned (planned log : Log) : Type 0 where
   pub told : (q : ℕ) → is_untold log q ≡ false → Alike (part_of planned q) (part_of log q)
   pub untold : (q : ℕ) → is_untold log q ≡ true

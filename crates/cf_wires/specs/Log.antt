@@ -44,6 +44,7 @@ noted (Took d) t = noted_delivery d t
 abbrev pub nothing_yet : Tally
 nothing_yet = record { marks = replicate 9 NotYet; closed = replicate 9 false; dials = 0; taken = 0; ended = 0 }
 
+-- the tally of a log
 abbrev pub tally_of : Log → Tally
 tally_of [] = nothing_yet
 tally_of (e ∷ log) = noted e (tally_of log)
@@ -51,6 +52,7 @@ tally_of (e ∷ log) = noted e (tally_of log)
 abbrev pub mark_of : Tally → ℕ → Mark
 mark_of t p = slice_index_or t.marks p NotYet
 
+-- the peer with this number was closed
 abbrev pub was_closed : Tally → ℕ → Bool
 was_closed t p = slice_index_or t.closed p false
 
@@ -60,6 +62,7 @@ pub record Told : Type 0 where
   pub tally : Tally
   pub finished : Bool
 
+-- the log with one entry more, where it is told
 abbrev pub longer : Event → Option Log → Option Log
 longer e None = None
 longer e (Some log) = Some (e ∷ log)
@@ -84,6 +87,7 @@ with_delivery (Gone p) ds = ds ++ Gone p ∷ []
 with_delivery (Tick s) ds = ds ++ Tick s ∷ []
 with_delivery Ended ds = ds
 
+-- the deliveries of a log in the order in which they came; the end is none of them
 abbrev pub deliveries : Log → List Delivery
 deliveries [] = []
 deliveries (Took d ∷ log) = with_delivery d (deliveries log)
@@ -103,6 +107,7 @@ dials (Sent p bytes ∷ log) = dials log
 dials (SendFailed p ∷ log) = dials log
 dials (Closed p ∷ log) = dials log
 
+-- a delivery that is not the end
 abbrev pub is_real : Delivery → Bool
 is_real (Got p piece) = true
 is_real (Gone p) = true

@@ -7,9 +7,11 @@ use Rattle.cf_wires.specs.declared.memory.Scripted.TheVariants.{Dial as MadeDial
 use Rattle.cf_wires.specs.Log.{Log, Told, tally_of, is_real}
 use Rattle.cf_wires.specs.Wires.{Script, Made}
 
+-- what the wires are made to give: dials and deliveries
 abbrev pub script_of : MemoryWires → Script
 script_of w = record { dials = w.dial_script.items; deliveries = w.script.items }
 
+-- the log, the newest entry first
 abbrev pub log_of : MemoryWires → Log
 log_of w = reverse w.log.items
 
@@ -25,6 +27,7 @@ made_of w = record { script = script_of w; failing = failing_of w }
 abbrev pub calls_of : MemoryWires → ℕ
 calls_of w = w.calls
 
+-- how many dials and sends have failed
 abbrev pub faults_of : MemoryWires → ℕ
 faults_of w = w.faults
 
@@ -46,6 +49,7 @@ may_be_added (MadeDial name) = true
 may_be_added (MadeNoDial name) = true
 may_be_added (Deliver d) = is_real d
 
+-- a script with one dial more
 abbrev pub with_dial : Script → Dial → Script
 with_dial s d = record s { dials = s.dials ++ d ∷ [] }
 

@@ -15,6 +15,7 @@ abbrev pub dial_word : Bool → List ℕ
 dial_word true = codes "dial "
 dial_word false = codes "nodial "
 
+-- the line of a dial in a session
 abbrev pub dial_line : Dial → List ℕ
 dial_line d = dial_word d.answered ++ (d.name ++ 10 ∷ [])
 

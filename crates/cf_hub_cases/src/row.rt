@@ -1,9 +1,9 @@
-//! Rows, and what of them both calls need.
+//! Rows with calls of the program, and what of them several calls need.
 use cf_bytes::{Files, MapFiles};
 use cf_cli::Status;
 use std::alloc::Global;
 
-/// A row.
+/// A row of a chain that is served and followed.
 #[derive(Drop)]
 pub(crate) struct Row {
     pub(crate) serving: String,
@@ -28,7 +28,11 @@ pub(crate) fn read(alloc: Global, line: &str) -> Option<Row> {
 /// The words of a call, where `@` stands for this port of loopback.
 pub(crate) fn words_at(alloc: Global, call: &str, port: u32) -> Option<Vec<String>> {
     let place = format!(in alloc; "127.0.0.1:{port}").ok()?;
-    let call = call.replace(alloc, "@", place.as_str()).ok()?;
+    words_in(alloc, call.replace(alloc, "@", place.as_str()).ok()?.as_str())
+}
+
+/// The words of a call.
+pub(crate) fn words_in(alloc: Global, call: &str) -> Option<Vec<String>> {
     let mut words = Vec::new(alloc);
     for word in call.split(' ') {
         words.push(String::from_str(alloc, word).ok()?).ok()?;

@@ -4,10 +4,8 @@ use crate::port::port;
 use crate::row::{shown, watch_in, words_at};
 use cf_bytes::{MapFiles, VecSink};
 use cf_cli::run;
-use cf_network::Network;
-use cf_played::Played;
+use cf_edge::Edge;
 use cf_tasks::{InThreads, Spawner};
-use cf_wires::MemoryWires;
 use std::sync::Wait;
 use std::thread::Threads;
 
@@ -25,10 +23,7 @@ fn followed<R: Wait + Threads + Sync + Copy + Drop + Send + 'static, K: Spawner>
     let alloc = rt.alloc();
     let mut link = ToldLink::new(rt, port(alloc)?);
     let mut out = VecSink::new(alloc, 7, 1000).ok()?;
-    let (Ok(mut tape), Ok(mut played)) = (MemoryWires::new(alloc), Played::new(alloc)) else {
-        return None;
-    };
-    let Ok(mut network) = Network::new(&rt, handle, spawner, PEERS) else {
+    let Ok(mut edge) = Edge::new(&rt, handle, spawner, PEERS) else {
         return None;
     };
     let status = run(
@@ -38,9 +33,9 @@ fn followed<R: Wait + Threads + Sync + Copy + Drop + Send + 'static, K: Spawner>
         0,
         0,
         files,
-        &mut network,
-        &mut tape,
-        &mut played,
+        &mut edge.network,
+        &mut edge.tape,
+        &mut edge.played,
         &mut link,
         spawner,
         &mut out,

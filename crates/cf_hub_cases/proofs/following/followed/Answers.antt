@@ -1,4 +1,4 @@
-use Rattle.cf_loopback.proofs.following.followed.Goals as goal
+use Rattle.cf_hub_cases.proofs.following.followed.Goals as goal
 
 -- the hub of a network that is let go is as it was
 pub invariant_of-network-inside : goal.invariant_of-network-inside
