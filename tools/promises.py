@@ -102,9 +102,11 @@ def items_of(crate):
             block = item.block
             if item.kind == "fn" and block:
                 of_trait = bool(block.trait) and not block.type
-                if crate.is_exported(block.trait if of_trait else block.type, item) and (of_trait or item.is_public):
+                # A method of another's trait is shown where it has clauses of its own: else those of the trait hold.
+                is_shown = item.clauses if block.trait and block.type else item.is_public
+                if is_shown and crate.is_exported(block.trait if of_trait else block.type, item):
                     yield f"{block.trait if of_trait else block.type}::{item.name}", item
-            elif item.kind in ("fn", "trait", "struct", "enum") and crate.is_exported(item.name, item):
+            elif item.is_public and item.kind in ("fn", "trait", "struct", "enum") and crate.is_exported(item.name, item):
                 yield item.name, item
 
 
@@ -118,11 +120,8 @@ def parts_of(crate, models):
     for name, item in items_of(crate):
         block = item.block
         if item.kind == "fn":
-            if block and block.type and block.trait:
-                if item.clauses:
-                    yield list(shown(f"{name} of {block.trait}", item.doc, [item.head], rows_of(item)))
-            else:
-                yield list(shown(name, item.doc, [item.head], rows_of(item)))
+            of = f" of {block.trait}" if block and block.type and block.trait else ""
+            yield list(shown(name + of, item.doc, [item.head], rows_of(item)))
         elif item.kind == "trait":
             yield list(shown(name, item.doc, [item.head], ghosts_of(block)))
         elif name in models:

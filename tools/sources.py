@@ -269,7 +269,9 @@ class Crate:
         return self.sources[0].doc
 
     def is_exported(self, name, item):
-        """Whether a name of an item's file is one that the crate exports."""
-        path = self.exports.get(name)
+        """Whether a function of a file, or a type by its name, is one that the crate exports. What is public in the root file is."""
+        path, is_type = self.exports.get(name), name[0].isupper()
+        if path is None or is_type:
+            return path is not None or item.file == self.root
         module = os.path.relpath(item.file, f"{self.folder}/src")[: -len(".rt")].replace("/", "::")
-        return path is not None and path in (f"{module}::{name}", f"crate::{module}::{name}")
+        return path in (f"{module}::{name}", f"crate::{module}::{name}")
