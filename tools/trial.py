@@ -13,6 +13,8 @@ SECONDS = "600"
 # The last line of `rt try` where the program ended by itself, and what the lines before it begin with.
 ENDED = re.compile(rb"run=ended status=(\d+) .*proved=no")
 NOISE = re.compile(rb"(checked|interpreter|races): ")
+# `rt try` calls the program so, which its own texts on a call repeat.
+CALLED = re.compile(rb"(?m)^Usage: program\b")
 
 
 class NotTried(Exception):
@@ -77,4 +79,4 @@ def run_of(words):
     del lines[-1]
     while lines and NOISE.match(lines[-1]):
         del lines[-1]
-    return out, b"".join(line for line in lines if not line.startswith(b"rt: ")), status
+    return out, CALLED.sub(b"Usage: cf", b"".join(line for line in lines if not line.startswith(b"rt: "))), status
