@@ -75,7 +75,8 @@ def run_of(words):
     ended = ENDED.match(lines[-1]) if lines else None
     if not ended or int(ended[1]) != status:
         sys.stderr.buffer.write(told)
-        raise NotTried("the trial run gave no answer")
+        how = f"status {status}" if status >= 0 else f"signal {-status}"
+        raise NotTried(f"the trial run gave no answer: rt try ended with {how}")
     del lines[-1]
     while lines and NOISE.match(lines[-1]):
         del lines[-1]
