@@ -22,6 +22,19 @@ def below():
     return {name: [it for it in libraries if it in found] for name, libraries in found.items()}
 
 
+def headings():
+    """The heading of crates.txt under which each crate stands: the last remark above it."""
+    found, heading = {}, ""
+    with open(os.path.join(TOP, "crates.txt"), encoding="utf-8") as lines:
+        for line in lines:
+            name, colon, _ = line.partition("#")[0].partition(":")
+            if colon:
+                found[name.split()[0]] = heading
+            elif line.startswith("#"):
+                heading = line.strip("# \n")
+    return found
+
+
 def needed(name="cf"):
     """A crate and all that it stands on, each after those below it."""
     libraries, found = below(), []

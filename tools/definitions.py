@@ -268,10 +268,14 @@ def by_file(found, order):
 def listed(found, order):
     """Lines that list definitions by file, crate by crate from the lowest."""
     for file, those in by_file(found, order):
-        yield f"{file}: {lines_in(those)} lines"
+        yield f"{file}: {counted(lines_in(those), 'line')}"
         for it in those:
             place = f"{it.first}-{it.last}" if it.last > it.first else str(it.first)
             yield f"  {place:>9}  {it.name}" + (f", {it.kind}" if it.kind != "definition" else "")
+
+
+def counted(count, word):
+    return f"{count} {word}" if count == 1 else f"{count} {word}s"
 
 
 def lines_in(found):
@@ -286,7 +290,7 @@ def report(name):
     specs = [it for it in found if it.kind == "definition"]
     code = [it for it in found if it.kind != "definition"]
     order, whole = repository.names, lines_of_specs()
-    yield f"{full}, {item.file}:{item.line}: {len(item.clauses)} clauses"
+    yield f"{full}, {item.file}:{item.line}: {counted(len(item.clauses), 'clause')}"
     yield ""
     yield "Definitions that they reach"
     yield from listed(specs, order)
@@ -305,5 +309,5 @@ def report(name):
             yield f"  {module}: {' '.join(sorted(modules[module]))}"
     yield ""
     files = len({it.file for it in specs})
-    yield f"In all: {len(specs)} definitions in {files} files, {lines_in(specs)} of the {whole} lines of specs;"
-    yield f"{len(code)} types, traits and constants of the code, {lines_in(code)} lines; {len(kit)} names of the kit."
+    yield f"In all: {counted(len(specs), 'definition')} in {counted(files, 'file')}, {lines_in(specs)} of the {whole} lines of specs;"
+    yield f"{len(code)} of the code's types, traits and constants, {counted(lines_in(code), 'line')}; {counted(len(kit), 'name')} of the kit."

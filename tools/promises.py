@@ -13,7 +13,7 @@ import sys
 sys.dont_write_bytecode = True
 sys.path.insert(0, os.path.dirname(os.path.realpath(__file__)))
 
-from crates import TOP, below  # noqa: E402
+from crates import TOP, below, headings  # noqa: E402
 from sources import Crate  # noqa: E402
 
 PAGE = "docs/PROMISES.md"
@@ -133,11 +133,13 @@ def page():
     """The parts of the page, each a title and its text."""
     libraries = [it for it in map(Crate, below()) if not it.is_program and any(True for _ in items_of(it))]
     parts = [("the head", HEAD)]
-    contents = ["", "| Library | Functions | Clauses | What it is |", "|---|---|---|---|"]
+    contents = ["", "| Part | Library | Functions | Clauses | What it is |", "|---|---|---|---|---|"]
+    of, last = headings(), ""
     for crate in libraries:
         functions = [item for _, item in items_of(crate) if item.kind == "fn"]
         clauses = sum(len(item.clauses) for item in functions)
-        contents.append(f"| [{crate.name}](#{crate.name}) | {len(functions)} | {clauses} | {beginning(crate.doc)} |")
+        heading, last = of[crate.name] if of[crate.name] != last else "", of[crate.name]
+        contents.append(f"| {heading} | [{crate.name}](#{crate.name}) | {len(functions)} | {clauses} | {beginning(crate.doc)} |")
     parts.append(("the table of the libraries", "\n".join(contents) + "\n"))
     for crate in libraries:
         parts.append((crate.name, f"\n## {crate.name}\n\n" + "\n".join(folded(beginning(crate.doc), "", "")) + "\n"))

@@ -13,6 +13,8 @@ SECONDS = "600"
 # The last line of `rt try` where the program ended by itself, and what the lines before it begin with.
 ENDED = re.compile(rb"run=ended status=(\d+) .*proved=no")
 NOISE = re.compile(rb"(checked|interpreter|races): ")
+# `rt try` calls the program so, which its own texts on a call repeat.
+CALLED = re.compile(rb"(?m)^Usage: program\b")
 
 
 class NotTried(Exception):
@@ -73,8 +75,9 @@ def run_of(words):
     ended = ENDED.match(lines[-1]) if lines else None
     if not ended or int(ended[1]) != status:
         sys.stderr.buffer.write(told)
-        raise NotTried("the trial run gave no answer")
+        how = f"status {status}" if status >= 0 else f"signal {-status}"
+        raise NotTried(f"the trial run gave no answer: rt try ended with {how}")
     del lines[-1]
     while lines and NOISE.match(lines[-1]):
         del lines[-1]
-    return out, b"".join(line for line in lines if not line.startswith(b"rt: ")), status
+    return out, CALLED.sub(b"Usage: cf", b"".join(line for line in lines if not line.startswith(b"rt: "))), status
