@@ -6,6 +6,7 @@ import subprocess
 import threading
 
 from crates import BUILD, TIMES, TOP, last_times
+from trial import let_end
 
 TICK = os.sysconf("SC_CLK_TCK")
 EVERY = 0.5
@@ -116,6 +117,9 @@ def sampled(command, words, folder, is_anew=False, tell=None):
             for line in run.stdout if tell else ():
                 tell(line)
             status = run.wait()
+        except BaseException as fault:
+            let_end(run, fault)
+            raise
         finally:
             sampler.ends.set()
             sampler.join()

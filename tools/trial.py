@@ -1,4 +1,5 @@
 """A trial run of the program: `rt try` runs the sources as they stand, with checks and no proof, in a folder of its own."""
+import contextlib
 import os
 import re
 import subprocess
@@ -50,6 +51,15 @@ def handed_in(name, file, folder):
         raise NotTried(f"{file} can't be handed to the trial run: {error.strerror}") from error
 
 
+def let_end(run, fault):
+    """Lets `rt` end what it runs and remove its folders. An interrupt from the keyboard has reached it too, and of any other fault it is told."""
+    if isinstance(fault, KeyboardInterrupt):
+        with contextlib.suppress(subprocess.TimeoutExpired):
+            run.wait(5)
+    run.terminate()
+    run.wait()
+
+
 def tried(words):
     """What `rt try` wrote, told and ended with. Each file has a plain name in the run's folder, and what is told calls it as the words do."""
     names = {f"file-of-word-{place}": words[place] for place in file_places(words)}
@@ -60,12 +70,17 @@ def tried(words):
             data += handed_in(name, file, folder)
             given[int(name.rpartition("-")[2])] = name
         call = ["rt", "try", "--seconds", SECONDS, *data, "--", *given]
-        run = subprocess.run(call, cwd=os.path.join(TOP, "crates", "cf"), stdin=subprocess.DEVNULL, capture_output=True, check=False)
-    told = run.stderr
+        pipes = {"stdin": subprocess.DEVNULL, "stdout": subprocess.PIPE, "stderr": subprocess.PIPE}
+        with subprocess.Popen(call, cwd=os.path.join(TOP, "crates", "cf"), **pipes) as run:
+            try:
+                out, told = run.communicate()
+            except BaseException as fault:
+                let_end(run, fault)
+                raise
     if names:
         pattern = re.compile(("(" + "|".join(names) + r")(?!\d)").encode())
         told = pattern.sub(lambda found: os.fsencode(names[found[0].decode()]), told)
-    return run.stdout, told, run.returncode
+    return out, told, run.returncode
 
 
 def run_of(words):
