@@ -3,7 +3,6 @@ import contextlib
 import os
 import re
 import subprocess
-import sys
 import tempfile
 
 from crates import TOP
@@ -19,7 +18,11 @@ CALLED = re.compile(rb"(?m)^Usage: program\b")
 
 
 class NotTried(Exception):
-    """The program did not run to its end, and why."""
+    """The program did not run to its end, and why. What `rt` told of it is kept."""
+
+    def __init__(self, why, told=b""):
+        super().__init__(why)
+        self.told = told
 
 
 def file_places(words):
@@ -89,9 +92,8 @@ def run_of(words):
     lines = told.splitlines(keepends=True)
     ended = ENDED.match(lines[-1]) if lines else None
     if not ended or int(ended[1]) != status:
-        sys.stderr.buffer.write(told)
         how = f"status {status}" if status >= 0 else f"signal {-status}"
-        raise NotTried(f"the trial run gave no answer: rt try ended with {how}")
+        raise NotTried(f"the trial run gave no answer: rt try ended with {how}", told)
     del lines[-1]
     while lines and NOISE.match(lines[-1]):
         del lines[-1]
