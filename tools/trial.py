@@ -2,7 +2,9 @@
 import contextlib
 import os
 import re
+import signal
 import subprocess
+import sys
 import tempfile
 
 from crates import TOP
@@ -52,6 +54,13 @@ def handed_in(name, file, folder):
         return []
     except OSError as error:
         raise NotTried(f"{file} can't be handed to the trial run: {error.strerror}") from error
+
+
+def end_by_signals():
+    """Makes a signal that ends this process end what it has begun as well."""
+    for number in (signal.SIGTERM, signal.SIGHUP):
+        if signal.getsignal(number) == signal.SIG_DFL:
+            signal.signal(number, lambda number, _: sys.exit(128 + number))
 
 
 def let_end(run, fault):
