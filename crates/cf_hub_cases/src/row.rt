@@ -28,7 +28,8 @@ pub(crate) fn read(alloc: Global, line: &str) -> Option<Row> {
 /// The words of a call, where `@` stands for this port of loopback.
 pub(crate) fn words_at(alloc: Global, call: &str, port: u32) -> Option<Vec<String>> {
     let place = format!(in alloc; "127.0.0.1:{port}").ok()?;
-    words_in(alloc, call.replace(alloc, "@", place.as_str()).ok()?.as_str())
+    let call = call.replace(alloc, "@", place.as_str()).ok()?;
+    words_in(alloc, call.as_str())
 }
 
 /// The words of a call.

@@ -7,12 +7,11 @@ use cf_network::Network;
 use cf_serve::Link;
 use cf_tasks::InThreads;
 use cf_wires::{Delivery, Wires};
-use std::io;
 use std::rt::Clock;
 use std::sync::Wait;
-use std::thread;
 use std::thread::Threads;
 use std::time::Duration;
+use std::{io, thread};
 
 // The seconds that a tick tells, if that is the next delivery.
 fn tick<W: Wires>(wires: &mut W) -> Option<u32>

@@ -246,8 +246,7 @@ fn next_of<R: Clock + Notes>(
 }
 
 impl<R: Net<Listener = TcpListener, Stream = TcpStream> + Clock + Notes + Drop> Link
-    for TcpLink<R>
-{
+    for TcpLink<R> {
     type Conn = TcpConn;
 
     ghost faults = { λ l. l.faults };

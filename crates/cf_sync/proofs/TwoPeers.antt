@@ -48,7 +48,8 @@ use Rattle.cf_dispute.proofs.Genesis.{first_header_is}
 use Rattle.cf_sync.proofs.Asks.{first_is}
 use Rattle.cf_sync.proofs.Ranges.{filters_in, hashes_in, claims_reply, filters_reply}
 use Rattle.cf_sync.proofs.Filters.{only_items, only_filter_by_name, only_filter_hash_is}
-use Rattle.cf_sync.proofs.Chains.{same_from, same_self, same_true, cases_same, heads, Setting}
+use Rattle.cf_dispute.proofs.PutIn.{same_from, same_true}
+use Rattle.cf_sync.proofs.Chains.{same_self, cases_same, heads, Setting}
 use Rattle.cf_sync.proofs.Serving.{next_reply, block_found}
 use Rattle.cf_sync.proofs.Counted.{same_use, said_counts, counted_said, fetched_said}
 use Rattle.cf_sync.proofs.Settles.{committed_is}

@@ -14,7 +14,7 @@ use Rattle.cf_peer.specs.Trail.{Trail, Said, connected}
 use Rattle.cf_sync.specs.Fetching.{counted_part, IsGiven}
 use Rattle.cf_sync.specs.Kept.{HoldsGiven}
 use Rattle.cf_sync.proofs.Listed.{in_left, in_right, in_either}
-use Rattle.cf_sync.proofs.Chains.{same_true, same_from}
+use Rattle.cf_dispute.proofs.PutIn.{same_true, same_from}
 use Rattle.cf_sync.proofs.Counted.{same_use, said_counts, first_none}
 
 -- what one message gives
