@@ -57,6 +57,18 @@ def sources(name):
                 yield os.path.join(folder, file)
 
 
+def kept():
+    """The crates that were proved as they stand: their library is newer than each source of theirs and of the crates below them."""
+    found, libraries = set(), below()
+    for name in needed():
+        stamp = os.path.join(TOP, "crates", name, "out", "rlib", "stamp")
+        if os.path.exists(stamp) and all(it in found for it in libraries[name]):
+            made = os.stat(stamp).st_mtime_ns
+            if all(os.stat(file).st_mtime_ns <= made for file in sources(name)):
+                found.add(name)
+    return found
+
+
 def is_current():
     """Whether the program is built, and of the sources as they stand."""
     try:

@@ -6,6 +6,7 @@ import subprocess
 import threading
 
 from crates import BUILD, TIMES, TOP, last_times
+from trial import let_end
 
 TICK = os.sysconf("SC_CLK_TCK")
 EVERY = 0.5
@@ -79,12 +80,12 @@ class Sampler(threading.Thread):
             return crate, "tests"
         return crate, "proof"
 
-    def seconds(self, is_anew):
-        """The seconds by crate and kind. A proof over what earlier checks kept is of a kind of its own, but for those that begin anew."""
+    def seconds(self, is_whole):
+        """The seconds by crate and kind. A proof that isn't whole is of a kind of its own."""
         found = {}
         for key, seconds in self.spent.items():
             crate, kind = self.known[key]
-            if kind == "proof" and crate in self.kept and not is_anew:
+            if kind == "proof" and not is_whole(crate, self.kept):
                 kind = "again"
             found[crate, kind] = found.get((crate, kind), 0) + seconds
         return found
@@ -106,7 +107,22 @@ def note_times(command, seconds):
         pass
 
 
-def sampled(command, words, folder, is_anew=False, tell=None):
+def over_kept(crate, kept):
+    """Whether the proof of a crate is whole in a command that goes over what earlier checks kept."""
+    return crate not in kept
+
+
+def anew(_crate, _kept):
+    """The same in a command that proves from nothing."""
+    return True
+
+
+def partly(_crate, _kept):
+    """The same in a command that proves a part."""
+    return False
+
+
+def sampled(command, words, folder, is_whole=over_kept, tell=None):
     """Runs a command, notes its times, and gives its status. With `tell`, each line that it writes goes there."""
     how = {"stdout": subprocess.PIPE, "stderr": subprocess.STDOUT, "errors": "replace", "text": True} if tell else {}
     with subprocess.Popen(words, cwd=folder, stdin=subprocess.DEVNULL, **how) as run:
@@ -116,8 +132,11 @@ def sampled(command, words, folder, is_anew=False, tell=None):
             for line in run.stdout if tell else ():
                 tell(line)
             status = run.wait()
+        except BaseException as fault:
+            let_end(run, fault)
+            raise
         finally:
             sampler.ends.set()
             sampler.join()
-            note_times(command, sampler.seconds(is_anew))
+            note_times(command, sampler.seconds(is_whole))
     return status

@@ -1,6 +1,8 @@
 """A trial run of the program: `rt try` runs the sources as they stand, with checks and no proof, in a folder of its own."""
+import contextlib
 import os
 import re
+import signal
 import subprocess
 import sys
 import tempfile
@@ -18,7 +20,11 @@ CALLED = re.compile(rb"(?m)^Usage: program\b")
 
 
 class NotTried(Exception):
-    """The program did not run to its end, and why."""
+    """The program did not run to its end, and why. What `rt` told of it is kept."""
+
+    def __init__(self, why, told=b""):
+        super().__init__(why)
+        self.told = told
 
 
 def file_places(words):
@@ -50,6 +56,22 @@ def handed_in(name, file, folder):
         raise NotTried(f"{file} can't be handed to the trial run: {error.strerror}") from error
 
 
+def end_by_signals():
+    """Makes a signal that ends this process end what it has begun as well."""
+    for number in (signal.SIGTERM, signal.SIGHUP):
+        if signal.getsignal(number) == signal.SIG_DFL:
+            signal.signal(number, lambda number, _: sys.exit(128 + number))
+
+
+def let_end(run, fault):
+    """Lets `rt` end what it runs and remove its folders. An interrupt from the keyboard has reached it too, and of any other fault it is told."""
+    if isinstance(fault, KeyboardInterrupt):
+        with contextlib.suppress(subprocess.TimeoutExpired):
+            run.wait(5)
+    run.terminate()
+    run.wait()
+
+
 def tried(words):
     """What `rt try` wrote, told and ended with. Each file has a plain name in the run's folder, and what is told calls it as the words do."""
     names = {f"file-of-word-{place}": words[place] for place in file_places(words)}
@@ -60,12 +82,17 @@ def tried(words):
             data += handed_in(name, file, folder)
             given[int(name.rpartition("-")[2])] = name
         call = ["rt", "try", "--seconds", SECONDS, *data, "--", *given]
-        run = subprocess.run(call, cwd=os.path.join(TOP, "crates", "cf"), stdin=subprocess.DEVNULL, capture_output=True, check=False)
-    told = run.stderr
+        pipes = {"stdin": subprocess.DEVNULL, "stdout": subprocess.PIPE, "stderr": subprocess.PIPE}
+        with subprocess.Popen(call, cwd=os.path.join(TOP, "crates", "cf"), **pipes) as run:
+            try:
+                out, told = run.communicate()
+            except BaseException as fault:
+                let_end(run, fault)
+                raise
     if names:
         pattern = re.compile(("(" + "|".join(names) + r")(?!\d)").encode())
         told = pattern.sub(lambda found: os.fsencode(names[found[0].decode()]), told)
-    return run.stdout, told, run.returncode
+    return out, told, run.returncode
 
 
 def run_of(words):
@@ -74,9 +101,8 @@ def run_of(words):
     lines = told.splitlines(keepends=True)
     ended = ENDED.match(lines[-1]) if lines else None
     if not ended or int(ended[1]) != status:
-        sys.stderr.buffer.write(told)
         how = f"status {status}" if status >= 0 else f"signal {-status}"
-        raise NotTried(f"the trial run gave no answer: rt try ended with {how}")
+        raise NotTried(f"the trial run gave no answer: rt try ended with {how}", told)
     del lines[-1]
     while lines and NOISE.match(lines[-1]):
         del lines[-1]
