@@ -1,7 +1,8 @@
 //! What a call of the program goes over, made at once.
 ghost use Rattle.std.specs.Prelude.{◌≡◌, IfOk, [], false};
 ghost use Rattle.cf_network.specs.Standing.{HasThreads};
-ghost use Rattle.cf_played.specs.Told.{log_of as played_log, peers_of, keeps_of as has_kept, finished_of as has_finished};
+ghost use Rattle.cf_played.specs.Told.{log_of as played_log, peers_of};
+ghost use Rattle.cf_played.specs.Told.{keeps_of as has_kept, finished_of as has_finished};
 ghost use Rattle.cf_wires.specs.Log.{Tells};
 ghost use Rattle.cf_wires.specs.Memory.{log_of, script_of, failing_of, keeps_of, finished_of};
 
@@ -28,13 +29,13 @@ impl<R: Wait + Threads + Copy + Drop + Send + 'static> Edge<R> {
     pub fn new<K: Spawner>(
         rt: &HostRuntime,
         handle: R,
-        spawner: &mut K,
+        spawn: &mut K,
         peers: usize,
     ) -> Result<Edge<R>, NoMemory>
         ensures told { IfOk result (λ e. Tells [] e.network.told) }
         ensures finished { IfOk result (λ e. e.network.told.finished ≡ false) }
         ensures keeps { IfOk result (λ e. e.network.keeps ≡ false) }
-        ensures threads { IfOk result (λ e. HasThreads peers e.network (K.refusals spawner.old) (K.refusals spawner.new)) }
+        ensures threads { IfOk result (λ e. HasThreads peers e.network (K.refusals spawn.old) (K.refusals spawn.new)) }
         ensures tape_script { IfOk result (λ e. script_of e.tape ≡ record { dials = []; deliveries = [] }) }
         ensures tape_log { IfOk result (λ e. log_of e.tape ≡ []) }
         ensures tape_failing { IfOk result (λ e. failing_of e.tape ≡ []) }
@@ -48,7 +49,7 @@ impl<R: Wait + Threads + Copy + Drop + Send + 'static> Edge<R> {
         let tape = MemoryWires::new(rt.alloc())?;
         let played = Played::new(rt.alloc())?;
         Ok(Edge {
-            network: Network::new(rt, handle, spawner, peers)?,
+            network: Network::new(rt, handle, spawn, peers)?,
             tape,
             played,
         })
