@@ -32,6 +32,8 @@ impl<R: Threads + Drop> Spawner for Same<R> {
 
     ghost next = { λ s. s.way };
 
+    ghost moves = { λ _ _ _. Unit {0} };
+
     fn rt(&self) -> &R {
         &self.rt
     }

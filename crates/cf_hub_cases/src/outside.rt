@@ -351,6 +351,8 @@ impl<R: Threads + Drop> Spawner for Limited<R> {
 
     ghost next = { λ s. if s.left == 0 then Refuse else InThread };
 
+    ghost moves = { λ _ _ _. Unit {0} };
+
     fn rt(&self) -> &R {
         &self.rt
     }

@@ -1,6 +1,7 @@
 //! Tasks in threads of their own.
 ghost use Rattle.std.specs.Prelude.{◌≡◌, ◌≢◌, ◌⊎◌, ℕ, Bool, true, false, IfOk, IfErr, OnOk, OnErr};
 ghost use Rattle.cf_bytes.specs.Outside.{HasRisen};
+ghost use Rattle.cf_tasks.specs.Starting.{IsPut};
 ghost use Rattle.cf_tasks.specs.declared.threads.Back.TheVariants.{Done, Unrun};
 ghost use Rattle.cf_tasks.specs.declared.threads.Way.TheVariants.{There, Here};
 ghost use Rattle.cf_tasks.specs.declared.threads.Choice.{Choice as ChoiceOf};
@@ -192,6 +193,8 @@ pub trait Spawner: Drop {
     ghost refusals: { Self → ℕ };
     /// What is to be done with the next task.
     ghost next: { Self → ChoiceOf };
+    /// What a task that is put to it (true), and a failed start that it counts (false), make of it. It is known of those calls alone.
+    ghost moves: { Self → Bool → Self → Type 0 };
 
     /// The handle.
     fn rt(&self) -> &Self::Rt;
@@ -199,13 +202,15 @@ pub trait Spawner: Drop {
     /// What is to be done with the next task. A refusal is counted.
     fn choose(&mut self) -> Choice
         ensures next { result ≡ next self.old }
+        ensures moves { moves self.old true self.new }
         ensures refuse { result ≡ Refuse → HasRisen (refusals self.old) (refusals self.new) }
         ensures other { result ≢ Refuse → refusals self.new ≡ refusals self.old };
 
     /// Counts a start that failed: the platform told that no thread could be made, or that there was no memory for it.
     fn count(&mut self)
         requires lacks { (rt : Self.Rt) × (Self.Rt.made rt false ⊎ Self.Rt.found rt false) }
-        ensures { HasRisen (refusals self.old) (refusals self.new) };
+        ensures risen { HasRisen (refusals self.old) (refusals self.new) }
+        ensures moves { moves self.old false self.new };
 
     /// Starts a task. It comes back, unrun, only where the count of refusals rose in this call; and that only where the spawner is to refuse it, or
     /// where the platform told that there is no thread for it or no memory. One that is to run in a thread doesn't run before the platform was
@@ -220,8 +225,10 @@ pub trait Spawner: Drop {
         ensures ok { IfOk result (λ h. h ≡ task) }
         ensures err { IfErr result (λ t. (t ≡ task) × HasRisen (refusals self.old) (refusals self.new)) }
         ensures kept { OnOk result (refusals self.new ≡ refusals self.old) }
+        ensures put { IsPut moves self.old self.new }
         ensures asked { OnOk result (next self.old ≡ InThread → (rt : Self.Rt) × (b : Bool) × Self.Rt.made rt b) }
-        ensures cause { OnErr result ((next self.old ≡ Refuse) ⊎ ((rt : Self.Rt) × (Self.Rt.made rt false ⊎ Self.Rt.found rt false))) }
+        ensures cause { OnErr result ((next self.old ≡ Refuse)
+            ⊎ ((rt : Self.Rt) × (Self.Rt.made rt false ⊎ Self.Rt.found rt false))) }
     {
         match self.choose() {
             Choice::Refuse => Err(task),
@@ -267,6 +274,8 @@ impl<R: Platform + Drop> Spawner for InThreads<R> {
     ghost refusals = { λ s. s.refused };
 
     ghost next = { λ _. InThread };
+
+    ghost moves = { λ _ _ _. Unit {0} };
 
     fn rt(&self) -> &R {
         &self.rt

@@ -60,6 +60,8 @@ impl<R: Threads + Drop> Spawner for Refuses<R> {
 
     ghost next = { λ _. Refuse };
 
+    ghost moves = { λ _ _ _. Unit {0} };
+
     fn rt(&self) -> &R {
         &self.rt
     }
