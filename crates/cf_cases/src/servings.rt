@@ -17,19 +17,11 @@ use std::alloc::Global;
 use std::sync::Wait;
 use std::thread::Threads;
 
-// What is done with each task.
-#[derive(Clone, Copy)]
-enum Way {
-    InThread,
-    InPlace,
-    Refuse,
-}
-
 // Does the same with each task.
 #[derive(Drop)]
 pub(crate) struct Same<R> {
     rt: R,
-    way: Way,
+    way: Choice,
     refused: u64,
 }
 
@@ -38,19 +30,19 @@ impl<R: Threads + Drop> Spawner for Same<R> {
 
     ghost refusals = { λ s. s.refused };
 
+    ghost next = { λ s. s.way };
+
+    ghost moves = { λ _ _ _. Unit {0} };
+
     fn rt(&self) -> &R {
         &self.rt
     }
 
     fn choose(&mut self) -> Choice {
-        match self.way {
-            Way::InThread => Choice::InThread,
-            Way::InPlace => Choice::InPlace,
-            Way::Refuse => {
-                self.count();
-                Choice::Refuse
-            }
+        if let Choice::Refuse = self.way {
+            self.refused = self.refused.saturating_add(1);
         }
+        self.way
     }
 
     fn count(&mut self) {
@@ -60,9 +52,9 @@ impl<R: Threads + Drop> Spawner for Same<R> {
 
 fn spawner_in<R: Threads + Copy + Drop>(rt: R, field: &str) -> Option<Same<R>> {
     let way = match field {
-        "threads" => Way::InThread,
-        "place" => Way::InPlace,
-        "refused" => Way::Refuse,
+        "threads" => Choice::InThread,
+        "place" => Choice::InPlace,
+        "refused" => Choice::Refuse,
         _ => return None,
     };
     Some(Same {
@@ -76,7 +68,7 @@ fn spawner_in<R: Threads + Copy + Drop>(rt: R, field: &str) -> Option<Same<R>> {
 pub(crate) fn in_threads<R: Threads + Copy + Drop>(rt: R) -> Same<R> {
     Same {
         rt,
-        way: Way::InThread,
+        way: Choice::InThread,
         refused: 0,
     }
 }

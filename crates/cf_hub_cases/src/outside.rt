@@ -1,5 +1,6 @@
 //! The outside of a hub in memory: peers of which each is told by the name under which it is dialled, a pulse, and a spawner that refuses.
-ghost use Rattle.std.specs.Prelude.{◌≡◌, ◌≤◌, ◌<◌, None, Some, false, IfSome};
+ghost use Rattle.std.specs.Prelude.{◌≡◌, ◌≤◌, ◌<◌, ◌==◌, if◌then◌else◌, None, Some, false, IfSome};
+ghost use Rattle.cf_tasks.specs.declared.threads.Choice.TheVariants.{InThread, Refuse};
 
 use crate::doors::{Count, Door, SHUT, add, count, nap, same};
 use cf_bytes::{Failed, Sink, VecSink};
@@ -348,13 +349,17 @@ impl<R: Threads + Drop> Spawner for Limited<R> {
 
     ghost refusals = { λ s. s.refused };
 
+    ghost next = { λ s. if s.left == 0 then Refuse else InThread };
+
+    ghost moves = { λ _ _ _. Unit {0} };
+
     fn rt(&self) -> &R {
         &self.rt
     }
 
     fn choose(&mut self) -> Choice {
         if self.left == 0 {
-            self.count();
+            self.refused = self.refused.saturating_add(1);
             return Choice::Refuse;
         }
         self.left -= 1;
