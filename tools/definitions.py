@@ -12,7 +12,7 @@ PART = re.compile(r"Rattle\.(\w+)\.specs\.(.+)")
 
 
 class NotFound(Exception):
-    """No public function has the name, or several have it."""
+    """No public function and no definition has the name, or several have it."""
 
 
 @dataclass
@@ -210,8 +210,25 @@ class Repository:
                 yield found
 
 
-def function_named(repository, name):
-    """The public function of that name: with the source and the crate in which it stands."""
+def spec_files(crate):
+    for folder, _, files in sorted(os.walk(os.path.join(TOP, "crates", crate, "specs"))):
+        for file in sorted(files):
+            if file.endswith(".antt"):
+                yield os.path.relpath(os.path.join(folder, file), TOP)
+
+
+def definitions_named(repository, name):
+    """The definitions of that name, which may have its crate before it."""
+    wanted, found = name.split("::"), []
+    for crate in repository.names:
+        for file in spec_files(crate) if wanted[0] in (crate, wanted[-1]) else ():
+            path = file[len(f"crates/{crate}/specs/") : -len(".antt")].replace("/", ".")
+            found += [it for it in [repository.module(crate, path).own.get(wanted[-1])] if it]
+    return found
+
+
+def functions_named(repository, name):
+    """The public functions of that name, each with the crate, the source and the whole name. One that is no method goes before those that are."""
     wanted, found = name.split("::"), []
     for crate in repository.names:
         if len(wanted) > 1 and wanted[0] in repository.names and wanted[0] != crate:
@@ -222,21 +239,36 @@ def function_named(repository, name):
                 of = [crate, *([block.type or block.trait] if block else []), item.name]
                 if item.kind == "fn" and item.is_public and of[-1] == wanted[-1] and all(part in of for part in wanted):
                     found.append((crate, source, item, "::".join(of)))
-    if not found:
-        raise NotFound(f"no public function is named {name}")
-    if len(found) > 1:
-        raise NotFound(f"{name} may be any of {', '.join(sorted(it[3] for it in found))}")
-    return found[0]
+    return [it for it in found if not it[2].block] or found
 
 
-def reach_of(repository, crate, source, item):
-    """What the clauses of a function reach: definitions and items of code, and the names that are of the kit."""
+def named_once(repository, name):
+    """The lines that say what a name is, and what it names at once: by a function's clauses, or itself where it is a definition."""
+    functions = functions_named(repository, name)
+    if len(functions) == 1:
+        crate, source, item, full = functions[0]
+        told = f"{full}, {item.file}:{item.line}: {counted(len(item.clauses), 'clause')}"
+        return told, words_of(repository, crate, source, item)
+    found = [] if functions else definitions_named(repository, name)
+    if len(found) == 1:
+        return f"{found[0].name}, {found[0].file}:{found[0].first}", found
+    every = sorted([it[3] for it in functions] + [f"{it.scope.crate}::{it.name} ({it.file})" for it in found])
+    raise NotFound(f"{name} may be any of {', '.join(every)}" if every else f"no public function and no definition is named {name}")
+
+
+def words_of(repository, crate, source, item):
+    """What the clauses of a function, and the types that it takes and gives, name."""
     scope = repository.scope_of(crate, source)
     if item.block:
         scope.imports.update({name: (path, inner) for name, path, inner in item.block.imports})
     types = re.findall(r"\b[A-Z]\w*", item.head + (" " + item.block.head if item.block else ""))
     words = "\n".join([*(clause.text for clause in item.clauses), *types])
-    seen, kit, waiting = {}, set(), list(repository.reached(scope, words))
+    return list(repository.reached(scope, words))
+
+
+def reach_of(repository, named):
+    """What these reach: definitions and items of code, and the names that are of the kit."""
+    seen, kit, waiting = {}, set(), list(named)
     while waiting:
         found = waiting.pop()
         if isinstance(found, str):
@@ -248,14 +280,7 @@ def reach_of(repository, crate, source, item):
 
 
 def lines_of_specs():
-    count = 0
-    for name in below():
-        for folder, _, files in os.walk(os.path.join(TOP, "crates", name, "specs")):
-            for file in files:
-                if file.endswith(".antt"):
-                    with open(os.path.join(folder, file), "rb") as text:
-                        count += sum(1 for _ in text)
-    return count
+    return sum(text_of(file).count("\n") for name in below() for file in spec_files(name))
 
 
 def by_file(found, order):
@@ -283,16 +308,16 @@ def lines_in(found):
 
 
 def report(name):
-    """The lines of what the contract of a public function reaches."""
+    """The lines of what the contract of a public function reaches, or a definition."""
     repository = Repository()
-    crate, source, item, full = function_named(repository, name)
-    found, kit = reach_of(repository, crate, source, item)
+    told, named = named_once(repository, name)
+    found, kit = reach_of(repository, named)
     specs = [it for it in found if it.kind == "definition"]
     code = [it for it in found if it.kind != "definition"]
     order, whole = repository.names, lines_of_specs()
-    yield f"{full}, {item.file}:{item.line}: {counted(len(item.clauses), 'clause')}"
+    yield told
     yield ""
-    yield "Definitions that they reach"
+    yield "Definitions that it reaches"
     yield from listed(specs, order)
     if code:
         yield ""
