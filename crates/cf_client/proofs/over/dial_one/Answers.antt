@@ -1,4 +1,4 @@
-use Rattle.std.proofs.Common.{List, ◌+◌, [], ◌∷◌, ◌++◌, Err, refl, ap}
+use Rattle.std.proofs.Common.{◌+◌, [], ◌∷◌, ◌++◌, Err, refl, ap}
 use Rattle.cf_wires.specs.declared.event.Event.TheVariants.{Dialled, NotDialled}
 use Rattle.cf_client.specs.Stands.{words_by}
 use Rattle.cf_client.proofs.Courses.{dials_none, quiet_runs, dialled_one, missed_one, one_more_then}
