@@ -240,11 +240,6 @@ set_set [] i a b = refl
 set_set (x ∷ places) zero a b = refl
 set_set (x ∷ places) (suc i) a b = ap (λ (xs : List Place). x ∷ xs) (set_set places i a b)
 
-pub set_same : (places : List Place) (i : ℕ) (a : Place) → i < length places → get_or places i nobody ≡ a → set places i a ≡ places
-set_same [] i a lt e = absurd (omega arith)
-set_same (x ∷ places) zero a lt e = ap (λ y. y ∷ places) (sym e)
-set_same (x ∷ places) (suc i) a lt e = ap (λ (xs : List Place). x ∷ xs) (set_same places i a (omega arith) e)
-
 -- a piece of a connected peer, all of which is taken
 whole_at : {watch : List (List ℕ)} (places : List Place) (log : Log) (p : PeerNo) (piece : List ℕ) (peer : Peer) (seen now : Seen) (acts : List Act)
     → p.0 < length places → PlacesStand places log → connected (trail log p.0) ≡ true → IsAnswered (trail log p.0)

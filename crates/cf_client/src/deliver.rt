@@ -16,7 +16,6 @@ use cf_peer::{Act, Cause};
 use cf_tracker::Tracker;
 use cf_wires::Delivery;
 use std::alloc::Global;
-use std::mem;
 
 // Takes a piece of a peer's bytes. One of a peer that isn't connected has no effect.
 fn hear_from<H: HeaderStore, M: Matcher>(
@@ -36,19 +35,10 @@ fn hear_from<H: HeaderStore, M: Matcher>(
     if i >= places.len() {
         return Ok(());
     }
-    let gone = Place::Lost(Loss::Gone);
-    match mem::replace(&mut places[i], gone) {
-        Place::Lost(loss) => {
-            places[i] = Place::Lost(loss);
-            Ok(())
-        }
-        Place::Here(mut peer) => match hear_piece(
-            alloc, tracker, matcher, &mut peer, p, piece, acts,
-        )? {
-            None => {
-                places[i] = Place::Here(peer);
-                Ok(())
-            }
+    match &mut places[i] {
+        Place::Lost(_) => Ok(()),
+        Place::Here(peer) => match hear_piece(alloc, tracker, matcher, peer, p, piece, acts)? {
+            None => Ok(()),
             Some(cause) => {
                 acts.push(Act::Close(p, cause))?;
                 tracker.forget(p);

@@ -4,6 +4,7 @@ ghost use Rattle.cf_bytes.specs.Outside.{HasRisen};
 ghost use Rattle.cf_client.specs.Names.{names_in};
 ghost use Rattle.cf_sync.specs.Sync.{SyncTheorem};
 ghost use Rattle.cf_client.specs.Places.{MayAct, Allowed, after, entry_of, EndsTell, Words, TellsWords, ActTells};
+ghost use Rattle.cf_client.specs.Passing.{CountsOne, EndsWithin, Passes};
 ghost use Rattle.cf_client.specs.Run.{Followed, NobodyLeft, HasFailed, Course, Doing, HoldsOver, AreBytesOf, moment, Runs, Performs, Dials, Turns, IsOneMore, IsNoMore, HasDialled, HasNames, Turned, Stopped, IsEnd, IsInStep, IsEndTold};
 ghost use Rattle.cf_client.specs.Stands.{Reflects, Answers, IsReportOf, count_of, watch_by, words_by};
 ghost use Rattle.cf_client.specs.Versions.{KeepsWords, HasWords};
@@ -15,7 +16,7 @@ ghost use Rattle.cf_peer.specs.declared.act.Act.TheVariants.{Send, Close};
 ghost use Rattle.cf_peer.specs.Acts.{IsDoable, IsSendable, bytes_of};
 ghost use Rattle.cf_wires.specs.Log.{Log, Tells, tell};
 ghost use Rattle.cf_wires.specs.Wires.{HasCause};
-ghost use Rattle.cf_wires.specs.declared.event.Event.TheVariants.{Sent, SendFailed, Closed};
+ghost use Rattle.cf_wires.specs.declared.event.Event.TheVariants.{Dialled, Sent, SendFailed, Closed};
 
 use crate::client::Client;
 use crate::outcome::{End, Outcome};
@@ -205,6 +206,35 @@ fn carry_out<W: Wires, H: HeaderStore, M: Matcher>(
     Ok(())
 }
 
+// Tells the client of a peer that was dialled, and does what it then wants.
+fn greet<W: Wires, H: HeaderStore, M: Matcher>(
+    alloc: Global,
+    wires: &mut W,
+    client: &mut Client<H, M>,
+    progress: &mut Progress,
+    p: PeerNo,
+    name: &str,
+) -> Result<(), NoMemory>
+    requires room { p.0 ≤ 8 }
+    requires next { p.0 ≡ count_of client.old }
+    requires step { IsInStep (W.told wires.old) progress.old }
+    requires open { (W.told wires.old).finished ≡ false }
+    ensures holds { OnOk result ((called : List (List ℕ)) (log : Log) → Reflects client.old log
+        → ((acts : List Act) → Doing (watch_by client.old) acts progress.old called (Dialled p name.now ∷ log) (W.told wires.old))
+        → HoldsOver client.new progress.new called (W.told wires.new)) }
+    ensures versions { (called : List (List ℕ)) (log : Log) → Reflects client.old log
+        → ((acts : List Act) → Doing (watch_by client.old) acts progress.old called (Dialled p name.now ∷ log) (W.told wires.old))
+        → KeepsWords (words_by client.old) (W.told wires.old) (W.told wires.new) }
+    ensures counts { OnOk result (CountsOne client.old client.new) }
+    ensures performs { Performs
+        (moment (W.told wires.old) (W.faults wires.old) (W.script wires.old) (W.keeps wires.old) progress.old)
+        (moment (W.told wires.new) (W.faults wires.new) (W.script wires.new) (W.keeps wires.new) progress.new) }
+{
+    let acts = client.dialled(p, name)?;
+    carry_out(alloc, wires, client, &acts, progress)?;
+    Ok(())
+}
+
 // Dials the next peer.
 fn dial_one<W: Wires, H: HeaderStore, M: Matcher>(
     alloc: Global,
@@ -221,16 +251,13 @@ fn dial_one<W: Wires, H: HeaderStore, M: Matcher>(
     requires open { (W.told wires.old).finished ≡ false }
     ensures holds { OnOk result ((called : List (List ℕ)) → HoldsOver client.old progress.old called (W.told wires.old) → HoldsOver client.new progress.new (called ++ name.now ∷ []) (W.told wires.new)) }
     ensures versions { (called : List (List ℕ)) → HoldsOver client.old progress.old called (W.told wires.old) → KeepsWords (words_by client.old) (W.told wires.old) (W.told wires.new) }
-    ensures next { OnOk result (count_of client.new ≡ (W.told wires.new).tally.dials + 1) }
-    ensures watch { OnOk result (watch_by client.new ≡ watch_by client.old) }
-    ensures words { words_by client.new ≡ words_by client.old }
+    ensures counts { OnOk result (CountsOne client.old client.new) }
     ensures one { OnOk result (IsOneMore name.now (W.told wires.old) (W.told wires.new)) }
     ensures dials { Dials name.now (moment (W.told wires.old) (W.faults wires.old) (W.script wires.old) (W.keeps wires.old) progress.old) (moment (W.told wires.new) (W.faults wires.new) (W.script wires.new) (W.keeps wires.new) progress.new) }
 {
     match wires.dial(name) {
         Ok(p) => {
-            let acts = client.dialled(p, name)?;
-            carry_out(alloc, wires, client, &acts, progress)?;
+            greet(alloc, wires, client, progress, p, name)?;
             Ok(())
         }
         Err(WireFail::Failed) => {
@@ -307,7 +334,7 @@ fn dial_all<W: Wires, H: HeaderStore, M: Matcher>(
     ensures holds { OnOk result (HoldsOver client.old progress.old [] (W.told wires.old) → HoldsOver client.new progress.new (names_in names.now) (W.told wires.new)) }
     ensures versions { HoldsOver client.old progress.old [] (W.told wires.old) → KeepsWords (words_by client.old) (W.told wires.old) (W.told wires.new) }
     ensures watch { OnOk result (watch_by client.new ≡ watch_by client.old) }
-    ensures words { words_by client.new ≡ words_by client.old }
+    ensures words { OnOk result (words_by client.new ≡ words_by client.old) }
     ensures dialled { OnOk result ((W.told wires.new).tally.dials ≡ length names.now) }
     ensures first { HasNames [] (W.told wires.old) → HasDialled (names_in names.now) (W.told wires.new) }
     ensures taken { (W.told wires.new).tally.taken ≡ 0 }
@@ -407,16 +434,9 @@ fn follow<W: Wires, H: HeaderStore + Drop, M: Matcher + Drop>(
     ensures ends { IfOk result (λ o. IfSome (W.told wires.new).log (λ log. EndsTell o.ends.items log)) }
     ensures versions { HasWords (record { moment = moment; number = nonce }) (W.told wires.new) }
     ensures no_peers { IfOk result (λ o. (o.end ≡ End.NoPeers) ↔ NobodyLeft (W.told wires.new).tally) }
-    ensures tired { IfOk result (λ o. o.end ≡ End.Tired → (W.told wires.new).tally.taken ≡ turns) }
-    ensures ended { IfOk result (λ o. o.end ≡ End.Ended → (W.told wires.new).tally.ended ≡ 1) }
-    ensures early { IfOk result (λ o. o.end ≡ End.Ended → (W.told wires.new).tally.taken < turns) }
-    ensures dialled { OnOk result ((W.told wires.new).tally.dials ≡ length names.now) }
-    ensures first { HasDialled (names_in names.now) (W.told wires.new) }
-    ensures most { (W.told wires.new).tally.taken ≤ turns }
-    ensures once { (W.told wires.new).tally.ended ≤ 1 }
-    ensures finished { (W.told wires.new).finished ≡ (W.told wires.old).finished }
-    ensures keeps { W.keeps wires.new ≡ W.keeps wires.old }
-    ensures course { Course (W.told wires.old) (W.told wires.new) (W.faults wires.old) (W.faults wires.new) (W.script wires.old) (W.script wires.new) }
+    ensures within { IfOk result (λ o. EndsWithin o.end (length names.now) turns (W.told wires.new).tally) }
+    ensures passes { Passes (names_in names.now) turns (W.told wires.old) (W.told wires.new) (W.faults wires.old)
+        (W.faults wires.new) (W.script wires.old) (W.script wires.new) (W.keeps wires.old) (W.keeps wires.new) }
 {
     let mut client = Client::new(alloc, watch, store, matcher, moment, nonce)?;
     let mut progress = Progress::new(alloc);
