@@ -14,4 +14,4 @@ pub use in_memory::ListLink;
 pub use link::Link;
 pub use serving::serve;
 pub use task::{ServeTask, Served, Service};
-pub use tcp::{Notes, TcpConn, TcpEnd, TcpLink};
+pub use tcp::{TcpConn, TcpEnd, TcpLink};

@@ -5,7 +5,7 @@ ghost use Rattle.cf_bytes.specs.Outside.{HasRisen};
 use crate::link::Link;
 use cf_bytes::{Failed, Hash32, Sink};
 use cf_conn::{Duplex, Source};
-use std::io::{ErrorKind, Read, Write};
+use std::io::{Eprint, ErrorKind, Read, Write};
 use std::net::{Net, SocketAddr, TcpListener, TcpStream};
 use std::time::{Clock, Duration};
 use std::{io, thread};
@@ -16,23 +16,11 @@ const WRITE_SECONDS: u64 = 60;
 /// How long the system is given to get what it lacks for a connection, before one is accepted again, in milliseconds.
 const PAUSE: u64 = 100;
 
-/// How many seconds pass at least between two lines on what the system lacks for a connection.
-const SECONDS_BETWEEN: u64 = 60;
+/// How often at most it is told that the system lacks something for a connection, in seconds.
+const TELL_SECONDS: u64 = 60;
 
 /// How long a peer may be silent, in seconds.
 const READ_SECONDS: u64 = 1200;
-
-/// What tells the user that a link waits.
-pub trait Notes {
-    /// Tells that the next connection can't be accepted yet, and why.
-    fn tell_lack(&self, why: &io::Error);
-}
-
-impl Notes for HostRuntime {
-    fn tell_lack(&self, why: &io::Error) {
-        let _told = eprintln!(self; "cf: the next connection waits: {why}");
-    }
-}
 
 /// A connection over TCP.
 #[derive(Drop)]
@@ -126,13 +114,14 @@ impl Duplex for TcpConn {
     }
 }
 
-/// A listener over TCP. It tells neither addresses nor bytes.
+/// A listener over TCP. It tells neither addresses nor bytes. Where the system has no memory or no descriptor for the next connection, it waits, and
+/// tells that on standard error, at most once a minute.
 #[derive(Drop)]
 pub struct TcpLink<R> {
     rt: R,
     listener: Option<TcpListener>,
     reason: Option<io::Error>,
-    // When it was told last what the system lacked.
+    // When it was last told that something is lacking.
     told: Option<Duration>,
     faults: u64,
     accepted: u64,
@@ -201,28 +190,22 @@ fn is_lost(e: &io::Error) -> bool {
     )
 }
 
-// Tells what the system lacks for a connection, unless that was told less than a minute ago, and gives it some time.
-fn wait_for_more<R: Clock + Notes>(rt: &R, told: &mut Option<Duration>, why: &io::Error) {
-    if is_time(rt.monotonic().ok(), told) {
-        rt.tell_lack(why);
-    }
-    thread::sleep(rt, Duration::from_millis(PAUSE));
-}
-
-// Whether a line may be told at this moment, where the clock tells it. Then it counts as told.
-fn is_time(now: Option<Duration>, told: &mut Option<Duration>) -> bool {
-    match (now, *told) {
-        (Some(now), Some(then)) if now.saturating_sub(then).as_secs() < SECONDS_BETWEEN => false,
-        (Some(_), _) => {
-            *told = now;
-            true
+// Tells on standard error what the system lacks, unless that was told within the last minute.
+fn tell_want<R: Clock + Eprint>(rt: &R, told: &mut Option<Duration>, e: &io::Error) {
+    let Ok(now) = rt.monotonic() else {
+        return;
+    };
+    if let Some(last) = told {
+        if now.saturating_sub(*last) < Duration::from_secs(TELL_SECONDS) {
+            return;
         }
-        (None, _) => false,
     }
+    *told = Some(now);
+    let _told = eprintln!(rt; "cf: the next connection has to wait: {e}");
 }
 
 // The next connection. One that is lost before it was accepted is passed over, and what the system lacks is waited for.
-fn next_of<R: Clock + Notes>(
+fn next_of<R: Clock + Eprint>(
     rt: &R,
     listener: &Option<TcpListener>,
     told: &mut Option<Duration>,
@@ -238,14 +221,17 @@ fn next_of<R: Clock + Notes>(
                 }
             }
             Err(e) if is_lost(&e) => {}
-            Err(e) if is_want(&e) => wait_for_more(rt, told, &e),
+            Err(e) if is_want(&e) => {
+                tell_want(rt, told, &e);
+                thread::sleep(rt, Duration::from_millis(PAUSE));
+            }
             Err(e) => return Err(e),
         }
     }
     Err(io::Error::from(ErrorKind::ConnectionAborted))
 }
 
-impl<R: Net<Listener = TcpListener, Stream = TcpStream> + Clock + Notes + Drop> Link
+impl<R: Net<Listener = TcpListener, Stream = TcpStream> + Clock + Eprint + Drop> Link
     for TcpLink<R> {
     type Conn = TcpConn;
 
