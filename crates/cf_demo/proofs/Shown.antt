@@ -42,7 +42,8 @@ use Rattle.cf_sync.proofs.Listed.{in_right}
 use Rattle.cf_demo.specs.Playing.{IsRun, PlaysAlike}
 use Rattle.cf_demo.proofs.Beginnings.{word_of, words}
 use Rattle.cf_demo.proofs.Parts.{IsFine, agrees, said_hears}
-use Rattle.cf_demo.proofs.Played.{rightly_before, numbered_before, fine_of, says_first, chain_setting}
+use Rattle.cf_sync.proofs.HonestLemmas.{rightly_before}
+use Rattle.cf_demo.proofs.Played.{numbered_before, fine_of, says_first, chain_setting}
 
 -- ---- all that a peer has said
 

@@ -39,14 +39,14 @@ use Rattle.cf_sync.proofs.Asks.{claim_there}
 use Rattle.cf_sync.proofs.Chains.{up_all, headers_length, cases_same, one_height}
 use Rattle.cf_sync.proofs.Counted.{same_use}
 use Rattle.cf_sync.proofs.Entries.{at_either}
-use Rattle.cf_sync.proofs.HonestLemmas.{honest_good, own_whole}
+use Rattle.cf_sync.proofs.HonestLemmas.{rightly_before, honest_good, own_whole}
 use Rattle.cf_sync.proofs.Settles.{shared_whole}
 use Rattle.cf_demo.specs.Playing.{IsRun, Plays, PlaysSilent}
 use Rattle.cf_demo.proofs.Orderly.{WereGreeted, were_greeted}
 use Rattle.cf_demo.proofs.Beginnings.{word_of, words, AreSendable}
 use Rattle.cf_demo.proofs.Fits.{IsQuestion, replies_good, sendable_of}
 use Rattle.cf_demo.proofs.Parts.{IsFine, agrees, said_hears}
-use Rattle.cf_demo.proofs.Played.{questions, rightly_before, numbered_before, fine_of, says_first, chain_setting, honest_peer}
+use Rattle.cf_demo.proofs.Played.{questions, numbered_before, fine_of, says_first, chain_setting, honest_peer}
 
 -- ---- what it is told and what it says
 

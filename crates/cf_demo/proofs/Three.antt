@@ -31,7 +31,8 @@ use Rattle.cf_demo.proofs.Orderly.{WereGreeted, were_greeted}
 use Rattle.cf_demo.specs.Three.{AreTwoChains, AreThree}
 use Rattle.cf_demo.proofs.Fits.{sendable_of}
 use Rattle.cf_demo.proofs.Parts.{away, asked_there, off_read}
-use Rattle.cf_demo.proofs.Played.{answers_good, rightly_before, chain_setting, run_honest}
+use Rattle.cf_sync.proofs.HonestLemmas.{rightly_before}
+use Rattle.cf_demo.proofs.Played.{answers_good, chain_setting, run_honest}
 use Rattle.cf_demo.proofs.Shown.{IsUpTo, shows_part}
 use Rattle.cf_demo.proofs.Silent.{silent_apart}
 
