@@ -201,7 +201,7 @@ fn tell_want<R: Clock + Eprint>(rt: &R, told: &mut Option<Duration>, e: &io::Err
         }
     }
     *told = Some(now);
-    let _told = eprintln!(rt; "cf: the next connection has to wait: {e}");
+    let _told = eprintln!(rt; "cf: the next connection waits: {e}");
 }
 
 // The next connection. One that is lost before it was accepted is passed over, and what the system lacks is waited for.
