@@ -1,5 +1,5 @@
 -- What is known of each reader, and of the ticker, once they are joined.
-use Rattle.std.specs.Prelude.{◌<◌, ℕ, List, All, map}
+use Rattle.std.specs.Prelude.{◌<◌, ℕ, List, Option, Some, None, All, map}
 use Rattle.cf_line.specs.declared.entry.Entry.{Entry}
 use Rattle.cf_line.specs.declared.entry.Ended.{Ended}
 use Rattle.cf_line.specs.Queue.{of}
@@ -31,6 +31,11 @@ whose j = (j.number, j.before)
 -- a reader's number and source
 abbrev pub begun : {S R : Type 0} → Reader S R → ℕ × S
 begun t = (t.sender.number, t.source)
+
+-- the pulse, where there is one
+abbrev pub pulse_in : {X P : Type 0} → (X → P) → Option X → Option P
+pulse_in f None = None
+pulse_in f (Some x) = Some (f x)
 
 -- the numbers of readers, and of sources that were read
 abbrev pub numbers_of : {S R : Type 0} → List (Reader S R) → List ℕ

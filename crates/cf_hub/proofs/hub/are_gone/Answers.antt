@@ -1,7 +1,7 @@
 use Rattle.std.proofs.Common.{rules, arith, ◌≡◌, true, false, slice_index_or}
 use Rattle.cf_hub.specs.Over.{connected}
 use Rattle.cf_hub.proofs.Opened.{one_further, within}
-use Rattle.cf_hub.proofs.hub.is_over.Goals as goal
+use Rattle.cf_hub.proofs.hub.are_gone.Goals as goal
 
 pub loop-p-preserved : goal.loop-p-preserved
 loop-p-preserved g c =
