@@ -158,7 +158,8 @@ fn with_arg<'a>(
 ) -> Result<clap::Command<'a>, AllocError>
     requires command { IfOk command (λ c. (fields_of c).has_globals ≡ false) }
     requires arg { arg.global ≡ false }
-    ensures app { (a : App) (r : Rule) → IfOk command.entry (λ c. app_of c ≡ a) → rule_of arg.entry ≡ r → IfOk result (λ c. app_of c ≡ with_rule a r) }
+    ensures app { (a : App) (r : Rule) → IfOk command.entry (λ c. app_of c ≡ a) → rule_of arg.entry ≡ r
+        → IfOk result (λ c. app_of c ≡ with_rule a r) }
     ensures globals { IfOk result (λ c. (fields_of c).has_globals ≡ false) }
 {
     match command {
@@ -269,7 +270,8 @@ fn add<'a>(
 ) -> Result<clap::Command<'a>, AllocError>
     requires command { IfOk command (λ c. (fields_of c).has_globals ≡ false) }
     requires sub { IfOk sub (λ c. (fields_of c).has_globals ≡ false) }
-    ensures app { (a s : App) → IfOk command.entry (λ c. app_of c ≡ a) → IfOk sub.entry (λ c. app_of c ≡ s) → IfOk result (λ c. app_of c ≡ with_sub a s) }
+    ensures app { (a s : App) → IfOk command.entry (λ c. app_of c ≡ a) → IfOk sub.entry (λ c. app_of c ≡ s)
+        → IfOk result (λ c. app_of c ≡ with_sub a s) }
     ensures globals { IfOk result (λ c. (fields_of c).has_globals ≡ false) }
 {
     match command {
