@@ -32,6 +32,7 @@ pub record Around : Type 0 where
   pub link : LinkTold
   pub played : Log
 
+-- the same, told by what is handed in
 abbrev pub around : Option Named → Option (List ℕ) → Told → MemoryWires → Played → LinkTold → Around
 around files written wires tape players link = record {
   files = files;
