@@ -60,7 +60,7 @@ first_ticks answers b got k earlier xs t f was is =
     let rest : List ℕ = ticks c.1.0 ++ t.0 ∷ [] in (
       rest,
       all ∙ ap (λ l. earlier ++ (l ++ t.0 ∷ [])) split ∙ ap (λ l. earlier ++ l) (append_assoc (ticks (of 0 c.0)) (ticks c.1.0) (t.0 ∷ []))
-      ∙ ap (λ l. earlier ++ (l ++ rest)) (sym given) ∙ sym (append_assoc earlier (ticks_of (take k (given_of got))) rest),
+          ∙ ap (λ l. earlier ++ (l ++ rest)) (sym given) ∙ sym (append_assoc earlier (ticks_of (take k (given_of got))) rest),
     )
 
 module _ {S : Type 0} (left : S → Option (List ℕ)) (faults : S → ℕ) (ended : S → Bool) where

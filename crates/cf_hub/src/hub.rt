@@ -141,7 +141,11 @@ fn lines_in(alloc: Global) -> Result<Lines, AllocError> {
     let mut queue = Queue::new(alloc, 64)?;
     let sender = queue.sender()?;
     let spare = peer_senders(alloc, &mut queue)?;
-    Ok(Lines { queue, sender, spare })
+    Ok(Lines {
+        queue,
+        sender,
+        spare,
+    })
 }
 
 // Room for the writers, of whom nobody has number 0, for the tasks that read, and for what they come to.

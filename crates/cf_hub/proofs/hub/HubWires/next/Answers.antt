@@ -15,4 +15,4 @@ returns-then-is_finished-clause-last g c =
 pub returns-then-is_over-clause-last : goal.returns-then-is_over-clause-last
 returns-then-is_over-clause-last g c =
     λ _. (let a : AllGone c.loop.self.writers.items c.loop.self.gone = search rules in
-      ended_same _ _ _ _ (ap (λ w. connected w.items) c.note_end-then-is_over.ensures.writers) (ap (λ v. v.got) c.note_end-then-is_over.ensures.seat) (have_ended _ _ _ a c.loop.self.heard))
+    ended_same _ _ _ _ (ap (λ w. connected w.items) c.note_end-then-is_over.ensures.writers) (ap (λ v. v.got) c.note_end-then-is_over.ensures.seat) (have_ended _ _ _ a c.loop.self.heard))
