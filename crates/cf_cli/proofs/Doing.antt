@@ -21,7 +21,7 @@ use Rattle.cf_cli.specs.declared.status.Status.TheVariants.{NoMemory}
 use Rattle.cf_cli.specs.Doing.{Around, Does}
 use Rattle.cf_cli.specs.Proving.{Checks, Proves, TakesWhatIsProved}
 use Rattle.cf_cli.specs.Reading.{Filters, Scans, TellsFilter, TellsHeight}
-use Rattle.cf_cli.proofs.Plays.{early_plays, early_replayed, early_tallied, early_told, same_command}
+use Rattle.cf_cli.proofs.Plays.{early_plays, early_replayed, early_tallied, early_told, new_dialled, same_command}
 
 -- the same of the words, and of the same moment
 pub does_so : (found : Option Command) (c : Command) (status : Status) (z y : ℤ) (nonce : ℕ) (before after : Around) → found ≡ Some c → z ≡ y → Does c status z nonce before after
@@ -82,6 +82,7 @@ undone (Replay trace watch session) moment nonce a wires tape log = record {
 undone (Sync turns workers file watch peers) moment nonce a wires tape log = record {
   kept = early_told a.wires NoMemory (is_some file) false a.files watch peers a.written tt wires;
   tallied = early_tallied NoMemory turns (length peers) a.wires tt wires;
+  dialled = new_dialled peers a.wires wires;
   records = refl;
 }
 undone (Scan file watch) moment nonce a wires tape log = record {

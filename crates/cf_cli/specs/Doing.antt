@@ -2,6 +2,7 @@
 use Rattle.std.specs.Prelude.{◌≡◌, ℕ, ℤ, Bool, false, List, length, Option, is_some, IfSome}
 use Rattle.std.specs.FinMap as finite
 use Rattle.cf_bytes.specs.Files.{Named}
+use Rattle.cf_client.specs.Run.{HasDialled}
 use Rattle.cf_wires.specs.Log.{Log, Told}
 use Rattle.cf_wires.specs.Memory.{log_of, told_of}
 use Rattle.cf_wires.specs.declared.memory.MemoryWires.{MemoryWires}
@@ -44,10 +45,12 @@ around files written wires tape players link = record {
   played = played_log players;
 }
 
--- all that is promised of `sync`: the sync theorem over the log of the wires, where they tell it; what holds over any wires; and the files
+-- all that is promised of `sync`: the sync theorem over the log of the wires, where they tell it; what holds over any wires; that the names which were
+-- dialled are the first of those given; and the files
 pub record IsSynced (status : Status) (turns : ℕ) (file : Option (List ℕ)) (watch : List ℕ) (peers : List (List ℕ)) (before after : Around) : Type 0 where
   pub kept : IfSome after.wires.log (λ log. KeptOver status (is_some file) false before.files watch peers before.written after.written log)
   pub tallied : Tallied status turns (length peers) before.wires after.wires
+  pub dialled : HasDialled peers after.wires
   pub records : Records status file after.wires.log before.files after.files
 
 -- all that is promised of `replay`: the same over the tape, and that it plays the session

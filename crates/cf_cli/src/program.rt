@@ -3,7 +3,7 @@ ghost use Rattle.std.specs.Prelude.{◌≡◌, ◌≢◌, ◌≤◌, ◌⊎◌, 
 ghost use Rattle.std.specs.FinMap as finite;
 ghost use Rattle.cf_bytes.specs.Outside.{HasRisen};
 ghost use Rattle.cf_client.specs.Names.{names_in};
-ghost use Rattle.cf_client.specs.Run.{HasFailed};
+ghost use Rattle.cf_client.specs.Run.{HasDialled, HasFailed};
 ghost use Rattle.cf_client.specs.Versions.{HasWords, IsOfWords};
 ghost use Rattle.cf_wires.specs.Log.{Tells};
 ghost use Rattle.cf_wires.specs.Memory.{log_of, failing_of, finished_of, told_of};
@@ -117,6 +117,7 @@ fn sync<R: Wait + Threads + Copy + Drop + Send + 'static, F: Files, W: Wires, K:
     ensures judged { IfSome (F.files files.old) (λ m. IsJudged (watch_verdict (finite.get m watch.now)) result) }
     ensures kept { IfSome (W.told wires.new).log (λ log. KeptOver result (is_some log_file.now) false (F.files files.old) watch.now (names_in peers.now) (O.written out.old) (O.written out.new) log) }
     ensures tallied { Tallied result turns (length (names_in peers.now)) (W.told wires.old) (W.told wires.new) }
+    ensures dialled { HasDialled (names_in peers.now) (W.told wires.new) }
     ensures versions { HasWords (record { moment = moment; number = nonce }) (W.told wires.new) }
     ensures failures { IfSome (W.told wires.new).log (λ log. HasFailed log → HasRisen (W.faults wires.old) (W.faults wires.new)) }
     ensures records { Records result log_file.now (W.told wires.new).log (F.files files.old) (F.files files.new) }
