@@ -1,7 +1,7 @@
 #!/usr/bin/env python3
-"""What rows of crates/cf_hub_cases come to, by a model of a hub that has no threads.
+"""What rows of crates/cf_hub_cases come to, by a model of a hub that has no threads; those over TCP are of loopback.py.
 
-    bench/hubs.py        prints the rows of ROWS below, and what each comes to
+    bench/hubs.py        prints the rows of ROWS below and of loopback.py, and what each comes to: crates/cf_hub_cases/stdout
     bench/hubs.py rows   prints the rows alone: crates/cf_hub_cases/stdin
 
 A row of the kind `hub` has the number of threads for readers, how many threads start, how many have to be at the gate before the pulse
@@ -20,6 +20,7 @@ import os
 import sys
 
 sys.path.insert(0, os.path.dirname(os.path.abspath(__file__)))
+import loopback
 from conversation import GENESIS_HEADER, double, frame, version
 
 CHUNK = 4096
@@ -64,11 +65,12 @@ ROWS = [
     "# A close ends a read that waits, and the finish those that are left.",
     "hub 2 3 500000 dial:shut,0,0a0b,1 dial:sent,1,0c,1 close:1 take:3 pieces send:2:00 all pieces finish prompt joined",
     f"hub 8 9 500000 {dials(['shut,0,0a0b,1'] * 8)} finish pieces prompt joined",
-    "# A dial that finds no thread fails, and so does one without a ticker, and one after the finish.",
+    "# A dial that finds no thread fails, and so does one without a ticker.",
     "hub 1 2 500000 dial:free,0,01,1 dial:free,0,02,1 all pieces session recorded replay finish prompt joined",
     "hub 2 2 500000 dial:free,0,01,1 all session finish prompt joined",
     "hub 2 0 500000 dial:free,0,01,1 dial:free,0,02,1 all session finish prompt joined",
-    "hub 2 3 500000 dial:free,0,01,1 all finish dial:free,0,02,1 all session prompt joined",
+    "# After the finish nothing comes but the end.",
+    "hub 2 3 500000 dial:free,0,01,1 all finish all session prompt joined",
     "# Threads that get no task end.",
     "hub 8 9 500000 all finish joined all",
     "# The queue is full: 64 pieces wait, and each reader has one more. All of them come, or are let go at the finish.",
@@ -270,7 +272,12 @@ def answer(row):
     return " ".join(out)
 
 
-for row in ROWS:
-    print(row)
-    if sys.argv[1:] != ["rows"] and not row.startswith("#"):
-        print(answer(row))
+def main():
+    own = ((row, None if row.startswith("#") else answer(row)) for row in ROWS)
+    with_answers = sys.argv[1:] != ["rows"]
+    loopback.show(own, with_answers)
+    loopback.show(loopback.rows(), with_answers)
+
+
+if __name__ == "__main__":
+    main()

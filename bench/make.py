@@ -21,7 +21,7 @@ SEED = "7"
 
 
 def main():
-    subprocess.run([os.path.join(ROOT, "cf"), "--version"], check=True, stdout=subprocess.DEVNULL)
+    subprocess.run([os.path.join(ROOT, "dev"), "build"], check=True)
     with tempfile.TemporaryDirectory() as folder:
         plain, made, other, small = (os.path.join(folder, name) for name in ("plain", "made", "other", "small"))
         subprocess.run(["cc", "-O2", "-o", plain, os.path.join(BENCH, "plain.c")], check=True)

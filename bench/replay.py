@@ -57,7 +57,7 @@ def best(folder, watch, session):
 
 
 def main():
-    subprocess.run([os.path.join(ROOT, "cf"), "--version"], check=True, stdout=subprocess.DEVNULL)
+    subprocess.run([os.path.join(ROOT, "dev"), "build"], check=True)
     rows = [
         ("session, a frame on each line", lambda n: ("", session_of_lines(50_000 * n))),
         ("session, all frames on one line", lambda n: ("", session_of_one_line(50_000 * n))),

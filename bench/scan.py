@@ -19,7 +19,7 @@ SCRIPT = "01087551"
 
 
 def main():
-    subprocess.run([os.path.join(ROOT, "cf"), "--version"], check=True, stdout=subprocess.DEVNULL)
+    subprocess.run([os.path.join(ROOT, "dev"), "build"], check=True)
     with tempfile.TemporaryDirectory() as folder:
         plain, watch, small, large = (os.path.join(folder, name) for name in ("plain", "watch", "small", "large"))
         subprocess.run(["cc", "-O2", "-o", plain, os.path.join(BENCH, "plain.c")], check=True)

@@ -88,7 +88,7 @@ def best(watch, session, tip):
 
 
 def main():
-    subprocess.run([os.path.join(ROOT, "cf"), "--version"], check=True, stdout=subprocess.DEVNULL)
+    subprocess.run([os.path.join(ROOT, "dev"), "build"], check=True)
     costs = []
     with tempfile.TemporaryDirectory() as folder:
         watch, records, session = (os.path.join(folder, name) for name in ("watch", "chain", "session"))

@@ -1,9 +1,13 @@
 //! What went wrong, told on standard error.
+use cf_bytes::PeerNo;
 use cf_cli::Status;
 use cf_client::PeerEnd;
 use cf_input::{Command, mistake_text, read_words};
+use cf_network::Network;
 use std::fs;
 use std::io::{self, Read};
+use std::sync::Wait;
+use std::thread::Threads;
 
 // Why a file can't be read, as the system says now, or nothing where it can.
 fn reason(rt: &HostRuntime, name: &str) -> Option<io::Error> {
@@ -86,12 +90,36 @@ fn tell_mistake(rt: &HostRuntime, words: &[String]) -> io::Result<()> {
     }
 }
 
-// Tells how each peer was lost.
-fn tell_ends(rt: &HostRuntime, ends: &[PeerEnd]) -> io::Result<()> {
-    for (i, end) in ends.iter().enumerate() {
-        eprintln!(rt; "cf: peer {}: {end}", i.saturating_add(1))?;
+// Tells how each peer was lost, and what it was asked for where it was late with that.
+fn tell_ends<R: Wait + Threads + Copy + Drop>(
+    rt: &HostRuntime,
+    ends: &[PeerEnd],
+    network: &Network<R>,
+) -> io::Result<()> {
+    let mut p = 0u32;
+    for end in ends {
+        p = p.saturating_add(1);
+        match network.waited_for(PeerNo(p)) {
+            Some(asked) => eprintln!(rt; "cf: peer {p}: {end}, waiting for {asked}")?,
+            None => eprintln!(rt; "cf: peer {p}: {end}")?,
+        }
     }
     Ok(())
+}
+
+/// Tells how each peer stands at the end of a run.
+pub fn tell_stands<R: Wait + Threads + Copy + Drop>(
+    rt: &HostRuntime,
+    status: &Status,
+    network: &Network<R>,
+) -> io::Result<()> {
+    match status {
+        Status::NoPeers { ends } => {
+            eprintln!(rt; "cf: {status}")?;
+            tell_ends(rt, ends, network)
+        }
+        _ => network.tell_stands(),
+    }
 }
 
 // The command's name among the words.
@@ -123,10 +151,8 @@ pub fn tell(
         Status::Done => Ok(()),
         Status::Usage if !words.is_empty() => tell_mistake(rt, words),
         Status::FileFault => tell_unread(rt, words, reason),
-        Status::NoPeers { ends } => {
-            eprintln!(rt; "cf: {status}")?;
-            tell_ends(rt, ends)
-        }
+        // What is told of the peers says it.
+        Status::NoPeers { .. } => Ok(()),
         _ => eprintln!(rt; "cf: {status}{}", hint(status, name_of(words))),
     }
 }

@@ -9,9 +9,7 @@ mod outside;
 use crate::listener::Listener;
 use cf_bytes::{StdFiles, WriterSink, put_all};
 use cf_cli::{Status, own_text, run};
-use cf_network::Network;
-use cf_peer::MemoryWires;
-use cf_played::Played;
+use cf_edge::Edge;
 use cf_tasks::{InThreads, Spawner};
 use std::io;
 use std::process::ExitCode;
@@ -32,13 +30,6 @@ fn told(rt: &HostRuntime, words: &[String], status: Status, reason: &Option<io::
     status
 }
 
-// Tells how each peer stands, unless the status tells it.
-fn tell_stands<R: Wait + Threads + Copy + Drop>(network: &Network<R>, status: &Status) {
-    if !matches!(status, Status::NoPeers { .. }) {
-        let _told = network.tell_stands();
-    }
-}
-
 // Runs the command. `sync` goes over TCP.
 fn run_command<R: Wait + Threads + Sync + Copy + Drop + Send + 'static, K: Spawner>(
     rt: &HostRuntime,
@@ -47,14 +38,7 @@ fn run_command<R: Wait + Threads + Sync + Copy + Drop + Send + 'static, K: Spawn
     spawner: &mut K,
 ) -> Status {
     let alloc = rt.alloc();
-    let Ok(mut played) = Played::new(alloc) else {
-        return told(rt, words, Status::NoMemory, &None);
-    };
-    let peers = outside::peers(alloc, words);
-    let (Ok(mut network), Ok(mut tape)) = (
-        Network::new(rt, handle, spawner, peers),
-        MemoryWires::new(alloc),
-    ) else {
+    let Ok(mut edge) = Edge::new(rt, handle, spawner, outside::peers(alloc, words)) else {
         return told(rt, words, Status::NoMemory, &None);
     };
     let mut files = StdFiles::new(rt);
@@ -65,14 +49,14 @@ fn run_command<R: Wait + Threads + Sync + Copy + Drop + Send + 'static, K: Spawn
         outside::moment(rt),
         outside::nonce(rt),
         &mut files,
-        &mut network,
-        &mut tape,
-        &mut played,
+        &mut edge.network,
+        &mut edge.tape,
+        &mut edge.played,
         &mut Listener::new(*rt),
         spawner,
         &mut WriterSink::new(io::writer(rt)),
     );
-    tell_stands(&network, &status);
+    let _told = faults::tell_stands(rt, &status, &edge.network);
     told(rt, words, status, &files.reason())
 }
 

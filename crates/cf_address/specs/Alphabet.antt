@@ -3,6 +3,7 @@ use Rattle.std.specs.Prelude.{ℕ, ◌==◌, nat_lt, Bool, List, slice_index}
 use Rattle.std.specs.List.{position_or_len}
 use Rattle.std.specs.Prelude.{codes}
 
+-- the letters for the values 0 to 31, in their order
 unfoldable pub alphabet : List ℕ
 alphabet = codes "qpzry9x8gf2tvdw0s3jn54khce6mua7l"
 

@@ -21,5 +21,6 @@ pub record IsProgram (program : WitnessProgram) : Type 0 where
 abbrev pub opcode_of : ℕ → ℕ
 opcode_of version = if version == 0 then 0 else 0x50 + version
 
+-- the script that a program is: its version as one byte, how many bytes it has, and these bytes (BIP 141 "Witness program")
 abbrev pub script_of : WitnessProgram → List ℕ
 script_of program = opcode_of program.version ∷ length program.bytes ∷ program.bytes

@@ -1,4 +1,4 @@
--- Which transactions a header stands for.
+-- Which transactions a header stands for (Bitcoin developer reference, "Merkle Trees").
 use Rattle.std.specs.Prelude.{◌≡◌, ◌<◌, ◌==◌, ◌&&◌, ℕ, Bool, false, not, replicate, if◌then◌else◌, List, [], ◌∷◌, map, length, Option, Some, None, Result, Ok, Err, bytes_eq}
 use Rattle.std.specs.List.{list_any}
 use Rattle.cf_bytes.specs.declared.hash.Hash32.{Hash32}
@@ -28,6 +28,7 @@ pub record IsCommitted (b : Block) : Type 0 where
   pub unmutated : mutated (txids (spelled_txs b)) ≡ false
   pub none64 : None64 (spelled_txs b)
 
+-- these bytes are 64: a transaction of so many can be read as a node of the tree
 abbrev pub has_64 : List ℕ → Bool
 has_64 text = length text == 64
 
@@ -42,6 +43,7 @@ commit_fault b =
     else if list_any has_64 (spelled_txs b) then Some Tx64
     else None
 
+-- an answer tells this fault: it is Ok where there is none; want of memory may come in place of either
 abbrev pub FindsFault : Option CommitFault → Result (Unit {0}) (Refused CommitFault) → Type 0
 FindsFault fault (Ok x) = fault ≡ None
 FindsFault fault (Err (No e)) = fault ≡ Some e
@@ -53,5 +55,6 @@ makes_coins [] = false
 makes_coins (i ∷ []) = i.prev.index == 0xffffffff && bytes_eq i.prev.txid.0 (replicate 32 0)
 makes_coins (i ∷ j ∷ rest) = false
 
+-- a coinbase: one input, which names output 0xffffffff of the hash zero (developer reference, "Coinbase Input")
 abbrev pub is_coinbase_tx : Tx → Bool
 is_coinbase_tx t = makes_coins t.inputs

@@ -31,9 +31,11 @@ first_input = record { prev = record { txid = record { 0 = replicate 32 0 }; ind
 unfoldable pub first_output : Output
 first_output = record { value = 5000000000; script = paid_script }
 
+-- the one transaction of regtest's first block, with its published fields
 abbrev pub first_tx : Tx
 first_tx = record { version = pos 1; inputs = first_input ∷ []; outputs = first_output ∷ []; lock_time = 0 }
 
+-- regtest's first block: its header and its one transaction
 unfoldable pub first_block : Block
 first_block = record { header = genesis_header; txs = first_tx ∷ [] }
 

@@ -27,6 +27,7 @@ unfoldable pub root_within : ℕ → List (List ℕ) → List ℕ
 root_within zero level = first_of level
 root_within (suc n) level = if nat_le (length level) 1 then first_of level else root_within n (next_level level)
 
+-- the Merkle root over hashes, level by level; an odd last hash is paired with itself
 abbrev pub merkle_root_of : List (List ℕ) → List ℕ
 merkle_root_of level = root_within (length level) level
 
@@ -35,9 +36,11 @@ unfoldable pub mutated_within : ℕ → List (List ℕ) → Bool
 mutated_within zero level = false
 mutated_within (suc n) level = if nat_le (length level) 1 then false else has_twins level || mutated_within n (next_level level)
 
+-- on some level two hashes that are both there and are paired are equal, so another list has the same root (CVE-2012-2459)
 abbrev pub mutated : List (List ℕ) → Bool
 mutated level = mutated_within (length level) level
 
+-- a list of hashes is so: another one has the same root
 abbrev pub IsMutated : List (List ℕ) → Type 0
 IsMutated level = mutated level ≡ true
 

@@ -23,6 +23,7 @@ use Rattle.cf_block.specs.Tx.{max_block}
 abbrev pub IsBytes : List ℕ → Type 0
 IsBytes bytes = (i : ℕ) → get_or bytes i 0 < 256
 
+-- the fault of a field, as a block tells it
 abbrev pub kind_of : CutFault → BlockFaultKind
 kind_of CutShort = Short
 kind_of CutNotShortest = NotShortest
@@ -129,6 +130,7 @@ placed bytes (Err e) = Err (fault_at bytes e, bytes)
 unfoldable pub tx_at : List ℕ → Read Tx BlockFault
 tx_at bytes = placed bytes (tx_fields_at bytes)
 
+-- reading a block: the block and the bytes after it, or the first fault and the bytes from the refused field on
 unfoldable pub block_at : List ℕ → Read Block BlockFault
 block_at bytes = placed bytes (short_block_at bytes)
 

@@ -21,11 +21,13 @@ input_spelling i = i.prev.txid.0 ++ (to_le_bytes w32 i.prev.index ++ (counted_by
 unfoldable pub output_spelling : Output → List ℕ
 output_spelling o = to_le_bytes w64 o.value ++ counted_bytes o.script
 
+-- the bytes of a transaction, without witnesses
 unfoldable pub tx_spelling : Tx → List ℕ
 tx_spelling t =
     to_le_bytes w32 (cast_unsigned w32 t.version) ++ (compact (length t.inputs) ++ (flat_map input_spelling t.inputs
     ++ (compact (length t.outputs) ++ (flat_map output_spelling t.outputs ++ to_le_bytes w32 t.lock_time))))
 
+-- the bytes of a block: its header, how many transactions there are, and each of them
 unfoldable pub block_spelling : Block → List ℕ
 block_spelling b = header_spelling b.header ++ (compact (length b.txs) ++ flat_map tx_spelling b.txs)
 
@@ -45,6 +47,7 @@ pub record IsOutput (o : Output) : Type 0 where
   pub value : o.value ≤ max_value
   pub script : length o.script ≤ max_count
 
+-- a transaction that has a spelling: it has an input and an output, counts and numbers are in range, no value is above 21 million coins
 pub record IsTx (t : Tx) : Type 0 where
   pub version : FitsSigned w32 t.version
   pub some_inputs : 1 ≤ length t.inputs
@@ -59,6 +62,7 @@ pub record IsTx (t : Tx) : Type 0 where
 abbrev pub max_block : ℕ
 max_block = 1000000
 
+-- a block that has a spelling: it has a transaction, counts and numbers are in range, and it has at most 1,000,000 bytes
 pub record IsBlock (b : Block) : Type 0 where
   pub header : IsHeader b.header
   pub some_txs : 1 ≤ length b.txs

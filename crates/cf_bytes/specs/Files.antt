@@ -1,5 +1,5 @@
 -- Files by their names.
-use Rattle.std.specs.Prelude.{◌≡◌, ◌≢◌, ℕ, ◌<◌, ◌≤◌, List, length, map, Option, Some, None, Result, Ok, Err, String, Vec, string_bytes}
+use Rattle.std.specs.Prelude.{◌≡◌, ◌≢◌, ◌⊎◌, ℕ, ◌<◌, ◌≤◌, List, [], ◌∷◌, length, map, Option, Some, None, Result, Ok, Err, String, Vec, string_bytes}
 use Rattle.std.specs.Global.{Global}
 use Rattle.std.specs.Ordering.{nat_cmp}
 use Rattle.std.specs.Cmp.Lexicographic.{slice_cmp}
@@ -55,3 +55,30 @@ abbrev pub SameElsewhere : List ℕ → Option Named → Option Named → Type 0
 SameElsewhere name (Some before) (Some after) = (other : List ℕ) → other ≢ name → finite.get after other ≡ finite.get before other
 SameElsewhere name None None = Unit {0}
 SameElsewhere name before after = ⊥
+
+-- what a call of files reads: of a name and the most bytes that are asked for, the answer, and what it leaves
+abbrev pub Reads : Type 0 → Type 1
+Reads F = F → List ℕ → ℕ → Result (Vec ℕ Global) FileFail → F → Type 0
+
+-- the same of a write, of a name and its bytes
+abbrev pub Writes : Type 0 → Type 1
+Writes F = F → List ℕ → List ℕ → Result (Unit {0}) FileFail → F → Type 0
+
+-- the file of this name was read, by one call
+abbrev pub IsRead : {F : Type 0} → Reads F → List ℕ → F → F → Type 0
+IsRead reads name before after = (most : ℕ) × (result : Result (Vec ℕ Global) FileFail) × reads before name most result after
+
+-- the file of this name was written, by one call
+abbrev pub IsWritten : {F : Type 0} → Writes F → List ℕ → F → F → Type 0
+IsWritten writes name before after = (bytes : List ℕ) × (result : Result (Unit {0}) FileFail) × writes before name bytes result after
+
+-- of the files of these names the first ones were read, each once and in this order, and nothing else was asked of the files
+abbrev pub AreRead : {F : Type 0} → Reads F → List (List ℕ) → F → F → Type 0
+AreRead reads [] before after = after ≡ before
+AreRead {F} reads (name ∷ names) before after =
+    (after ≡ before) ⊎ ((between : F) × IsRead reads name before between × AreRead reads names between after)
+
+-- nothing was asked of the files, or this one file was written, by one call
+abbrev pub IsAtMostWritten : {F : Type 0} → Writes F → Option (List ℕ) → F → F → Type 0
+IsAtMostWritten writes None before after = after ≡ before
+IsAtMostWritten writes (Some name) before after = (after ≡ before) ⊎ IsWritten writes name before after

@@ -20,5 +20,6 @@ with_front front read = read >>= λ x. Ok (front ++ x.0, x.1)
 abbrev pub counted_bytes : List ℕ → List ℕ
 counted_bytes text = compact (length text) ++ text
 
+-- reading bytes with their count before them
 abbrev pub counted_bytes_at : List ℕ → Read (List ℕ) CutFault
 counted_bytes_at bytes = compact_at bytes >>= λ n. bytes_at n.0 n.1

@@ -1,5 +1,7 @@
 //! Files by their names, as a trait.
-ghost use Rattle.std.specs.Prelude.{◌≡◌, ℕ, Option, Err, OnOk, IsErrOf};
+ghost use Rattle.std.specs.Prelude.{◌≡◌, ℕ, List, Option, Result, Vec, Err, OnOk, IsErrOf};
+ghost use Rattle.std.specs.Global.{Global};
+ghost use Rattle.cf_bytes.specs.declared.files.FileFail.{FileFail};
 ghost use Rattle.cf_bytes.specs.declared.files.FileFail.TheVariants.{NoMemory as OutOfMemory};
 ghost use Rattle.cf_bytes.specs.Files.{Named, ReadIn, Counts, SameElsewhere, with_file};
 
@@ -42,13 +44,19 @@ pub trait Files {
     ghost files: { Self → Option Named };
     /// How often it has failed. The count stands still at the greatest u64.
     ghost faults: { Self → ℕ };
+    /// What one call of `read` answers, of a name and the most bytes that are asked for, and what it leaves,
+    /// where more of that is known than the other clauses say.
+    ghost reads: { Self → List ℕ → ℕ → Result (Vec ℕ Global) FileFail → Self → Type 0 };
+    /// The same of one call of `write`, of a name and its bytes.
+    ghost writes: { Self → List ℕ → List ℕ → Result (Unit {0}) FileFail → Self → Type 0 };
 
     /// The bytes of a file, which are at most `most`: `TooBig` exactly where it has more, and
     /// `Failed` where there is none. Reading changes no file.
     fn read(&mut self, alloc: Global, name: &str, most: usize) -> Result<Vec<u8>, FileFail>
         ensures answer { ReadIn (files self.old) name.now most result }
         ensures same { files self.new ≡ files self.old }
-        ensures count { Counts result (faults self.old) (faults self.new) };
+        ensures count { Counts result (faults self.old) (faults self.new) }
+        ensures exact { reads self.old name.now most result self.new };
 
     /// Sets the bytes of a name, and of no other. After `Failed` any bytes may stand under it, and
     /// where no memory is found nothing has changed. It doesn't answer `TooBig`.
@@ -57,5 +65,6 @@ pub trait Files {
         ensures failed { IsErrOf result FileFail.Failed → SameElsewhere name.now (files self.old) (files self.new) }
         ensures memory { IsErrOf result FileFail.NoMemory → files self.new ≡ files self.old }
         ensures fits { result ≡ Err FileFail.TooBig → ⊥ }
-        ensures count { Counts result (faults self.old) (faults self.new) };
+        ensures count { Counts result (faults self.old) (faults self.new) }
+        ensures exact { writes self.old name.now bytes.now result self.new };
 }

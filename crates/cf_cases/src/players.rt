@@ -6,8 +6,8 @@ use crate::chains::chain_in;
 use crate::fields::{bytes_in, put_digits, put_word};
 use cf_block::Script;
 use cf_bytes::{Listed, PeerNo};
-use cf_peer::{Delivery, Wires};
 use cf_played::{Kind, Played};
+use cf_wires::{Delivery, Wires};
 use std::alloc::Global;
 use std::thread::Threads;
 

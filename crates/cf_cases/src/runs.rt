@@ -1,14 +1,14 @@
 //! Whole calls of the program in memory.
 ghost use Rattle.std.specs.Prelude.{◌≡◌, [], IfSome, false};
-ghost use Rattle.cf_peer.specs.Memory.{log_of, finished_of};
+ghost use Rattle.cf_wires.specs.Memory.{log_of, finished_of};
 
 use crate::fields::{bytes_in, file_in, numbers_in, texts_in};
 use crate::servings::{in_threads, no_link};
 use cf_bytes::{FileFail, Files, MapFiles, VecSink};
 use cf_cli::{Status, run};
 use cf_input::read_session;
-use cf_peer::MemoryWires;
 use cf_played::Played;
+use cf_wires::MemoryWires;
 use std::alloc::Global;
 use std::sync::Wait;
 use std::thread::Threads;

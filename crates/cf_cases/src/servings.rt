@@ -1,6 +1,6 @@
 //! Calls of the program that serve connections in memory.
 ghost use Rattle.std.specs.Prelude.{◌≡◌, ◌≢◌, All, Some, [], IfSome, false};
-ghost use Rattle.cf_peer.specs.Memory.{finished_of, log_of};
+ghost use Rattle.cf_wires.specs.Memory.{finished_of, log_of};
 ghost use Rattle.cf_tasks.specs.declared.threads.Choice.TheVariants.{Refuse};
 
 use crate::conversations::conn_of;
@@ -9,27 +9,19 @@ use crate::runs::told;
 use cf_bytes::{Files, MapFiles, VecSink};
 use cf_cli::run;
 use cf_conn::{MemoryConn, MemoryEnd};
-use cf_peer::MemoryWires;
 use cf_played::Played;
 use cf_serve::ListLink;
 use cf_tasks::{Choice, Spawner};
+use cf_wires::MemoryWires;
 use std::alloc::Global;
 use std::sync::Wait;
 use std::thread::Threads;
-
-// What is done with each task.
-#[derive(Clone, Copy)]
-enum Way {
-    InThread,
-    InPlace,
-    Refuse,
-}
 
 // Does the same with each task.
 #[derive(Drop)]
 pub(crate) struct Same<R> {
     rt: R,
-    way: Way,
+    way: Choice,
     refused: u64,
 }
 
@@ -38,19 +30,19 @@ impl<R: Threads + Drop> Spawner for Same<R> {
 
     ghost refusals = { λ s. s.refused };
 
+    ghost next = { λ s. s.way };
+
+    ghost moves = { λ _ _ _. Unit {0} };
+
     fn rt(&self) -> &R {
         &self.rt
     }
 
     fn choose(&mut self) -> Choice {
-        match self.way {
-            Way::InThread => Choice::InThread,
-            Way::InPlace => Choice::InPlace,
-            Way::Refuse => {
-                self.count();
-                Choice::Refuse
-            }
+        if let Choice::Refuse = self.way {
+            self.refused = self.refused.saturating_add(1);
         }
+        self.way
     }
 
     fn count(&mut self) {
@@ -60,9 +52,9 @@ impl<R: Threads + Drop> Spawner for Same<R> {
 
 fn spawner_in<R: Threads + Copy + Drop>(rt: R, field: &str) -> Option<Same<R>> {
     let way = match field {
-        "threads" => Way::InThread,
-        "place" => Way::InPlace,
-        "refused" => Way::Refuse,
+        "threads" => Choice::InThread,
+        "place" => Choice::InPlace,
+        "refused" => Choice::Refuse,
         _ => return None,
     };
     Some(Same {
@@ -76,7 +68,7 @@ fn spawner_in<R: Threads + Copy + Drop>(rt: R, field: &str) -> Option<Same<R>> {
 pub(crate) fn in_threads<R: Threads + Copy + Drop>(rt: R) -> Same<R> {
     Same {
         rt,
-        way: Way::InThread,
+        way: Choice::InThread,
         refused: 0,
     }
 }

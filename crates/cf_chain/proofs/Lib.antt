@@ -1,2 +1,4 @@
 pub mod Places
 pub mod Answering
+pub mod Bounds
+pub mod Outpoints

@@ -34,6 +34,7 @@ with_outputs txid index coins (o ∷ os) = with_outputs txid (suc index) (insert
 abbrev pub after_tx : CoinMap → Tx → CoinMap
 after_tx coins t = with_outputs (txid_of t) 0 (without coins (spends_of t)) t.outputs
 
+-- the coins after a block's transactions, in their order
 abbrev pub after_block : CoinMap → Block → CoinMap
 after_block coins b = fold after_tx coins b.txs
 

@@ -1,4 +1,5 @@
--- Heights in a chain of blocks: genesis stands at height 0, and the blocks above it follow, the lowest first.
+-- Heights in a chain of blocks: genesis stands at height 0, and the blocks above it follow, the lowest first (Bitcoin
+-- developer reference, "Block Height And Forking").
 use Rattle.std.specs.Prelude.{ℕ, Bool, List, ◌∷◌, Option}
 use Rattle.std.specs.List.{position}
 use Rattle.cf_bytes.specs.declared.hash.Hash32.{Hash32}

@@ -71,6 +71,7 @@ range_end limit filter start stop blocks = if filter == 0 then within limit star
 abbrev pub filters_between : ℕ → ℕ → List Block → List Filtered
 filters_between start stop blocks = take (suc stop - start) (drop start (filters_of blocks))
 
+-- the message that carries a block's basic filter (BIP 157, "cfilter")
 abbrev pub cfilter_of : Filtered → Msg
 cfilter_of f = Cfilter 0 (record { 0 = f.block }) f.filter
 
@@ -88,6 +89,7 @@ abbrev pub header_before : ℕ → List Block → Hash32
 header_before zero blocks = record { 0 = replicate 32 0 }
 header_before (suc height) blocks = header_or_zeros (filter_at blocks height)
 
+-- the hashes of a range's filters, and the filter header before them (BIP 157, "cfheaders")
 abbrev pub cfheaders_of : ℕ → ℕ → Hash32 → List Block → Msg
 cfheaders_of start stop_height stop blocks =
     Cfheaders 0 stop (header_before start blocks) (map (λ f. record { 0 = filter_hash_of f.filter }) (filters_between start stop_height blocks))
@@ -134,6 +136,7 @@ replies_to now nonce blocks true m = reply_to blocks m
 replies_to now nonce blocks false (Version version services time to from number agent height relay) = version_reply now nonce blocks ∷ Verack ∷ []
 replies_to now nonce blocks false m = []
 
+-- whether a message is a version
 abbrev pub is_version : Msg → Bool
 is_version (Version version services time to from nonce agent height relay) = true
 is_version m = false

@@ -6,3 +6,4 @@ pub mod ProofTexts
 pub mod Retold
 pub mod Serves
 pub mod Demos
+pub mod Doing

@@ -12,12 +12,12 @@ use Rattle.cf_client.specs.declared.place.PeerEnd.{PeerEnd}
 use Rattle.cf_client.specs.Places.{Words}
 use Rattle.cf_client.specs.Versions.{IsOfWords, HasWords}
 use Rattle.cf_client.specs.Run.{NobodyLeft, HasDialled, HasFailed, names_of}
-use Rattle.cf_peer.specs.declared.event.Dial.{Dial}
-use Rattle.cf_peer.specs.declared.memory.MemoryWires.{MemoryWires}
-use Rattle.cf_peer.specs.Dials.{answered_at, goes_as_made}
-use Rattle.cf_peer.specs.Log.{Log, Told, Tells, Tally, tally_of, dials}
-use Rattle.cf_peer.specs.Memory.{script_of, log_of, failing_of, finished_of, told_of}
-use Rattle.cf_peer.specs.Wires.{Script, Made}
+use Rattle.cf_wires.specs.declared.event.Dial.{Dial}
+use Rattle.cf_wires.specs.declared.memory.MemoryWires.{MemoryWires}
+use Rattle.cf_wires.specs.Dials.{answered_at, goes_as_made}
+use Rattle.cf_wires.specs.Log.{Log, Told, Tells, Tally, tally_of, dials}
+use Rattle.cf_wires.specs.Memory.{script_of, log_of, failing_of, finished_of, told_of}
+use Rattle.cf_wires.specs.Wires.{Script, Made}
 use Rattle.cf_input.specs.declared.session.SessionFault.{SessionFault}
 use Rattle.cf_cli.specs.declared.status.Status.{Status}
 use Rattle.cf_cli.specs.declared.status.Status.TheVariants.{Done, NoMemory, Usage, BadFile, FileFault, OutFault, NoPeers, Tired, Ended, LinkFault, NoNonce, NoHeight, NotThere, NotAddress}
@@ -158,6 +158,7 @@ early_kept status recorded trace scripts names b log off none = subst (λ (l : L
   complete = λ p blocks serves. absurd (false≢true serves.honest.dialled);
   never = λ p blocks serves ne. tt;
   ran = λ is. absurd (false≢true (sym off ∙ is));
+  unrecorded = λ is. inl refl;
 })
 
 pub early_over : (status : Status) (recorded trace : Bool) (files : Option Named) (watch : List ℕ) (names : List (List ℕ)) (b : Option (List ℕ)) (log : Log) → IsOfFile status → log ≡ []
@@ -165,6 +166,7 @@ pub early_over : (status : Status) (recorded trace : Bool) (files : Option Named
 early_over status recorded trace files watch names b log is none = record {
   scripts = [];
   watched = λ made. absurd (false≢true (sym (no_run status is) ∙ made));
+  unrecorded = λ fault. inl none;
   kept = early_kept status recorded trace [] names b log (no_run status is) none;
 }
 
@@ -180,7 +182,7 @@ early_told t status recorded trace files watch names b is fresh = told_over t.lo
 pub over_watch : (status : Status) (recorded trace : Bool) (files : Option Named) (watch : List ℕ) (scripts names : List (List ℕ)) (before after : Option (List ℕ)) (log : Log)
     → IfSome files (λ m. IfSome (finite.get m watch) (λ bytes. watch_of bytes ≡ Ok scripts)) → Kept status recorded trace scripts names before after log
     → KeptOver status recorded trace files watch names before after log
-over_watch status recorded trace files watch scripts names before after log read kept = record { scripts = scripts; watched = λ made. read; kept = kept }
+over_watch status recorded trace files watch scripts names before after log read kept = record { scripts = scripts; watched = λ made. read; unrecorded = λ fault. inr read; kept = kept }
 
 pub told_over_watch : (o : Option Log) (status : Status) (recorded trace : Bool) (files : Option Named) (watch : List ℕ) (scripts names : List (List ℕ)) (before after : Option (List ℕ))
     → IfSome files (λ m. IfSome (finite.get m watch) (λ bytes. watch_of bytes ≡ Ok scripts)) → IfSome o (λ log. Kept status recorded trace scripts names before after log)

@@ -8,13 +8,13 @@ use Rattle.std.proofs.lemmas.List.{append_assoc, append-nil, length-append, map-
 use Rattle.hex.specs.Hex.{encode_lower}
 use Rattle.cf_bytes.specs.Cut.{◌>>=◌}
 use Rattle.cf_bytes.specs.declared.peer.PeerNo.{PeerNo}
-use Rattle.cf_peer.specs.declared.event.Delivery.{Delivery}
-use Rattle.cf_peer.specs.declared.event.Delivery.TheVariants.{Got, Gone, Tick, Ended}
-use Rattle.cf_peer.specs.declared.event.Dial.{Dial}
-use Rattle.cf_peer.specs.declared.event.Event.TheVariants.{Dialled, NotDialled, Sent, SendFailed, Closed, Took}
-use Rattle.cf_peer.specs.Log.{Log, dials}
-use Rattle.cf_peer.specs.Session.{dial_word, dial_line, delivery_line, delivery_lines, gone_line, session_text}
-use Rattle.cf_peer.specs.Wires.{Script}
+use Rattle.cf_wires.specs.declared.event.Delivery.{Delivery}
+use Rattle.cf_wires.specs.declared.event.Delivery.TheVariants.{Got, Gone, Tick, Ended}
+use Rattle.cf_wires.specs.declared.event.Dial.{Dial}
+use Rattle.cf_wires.specs.declared.event.Event.TheVariants.{Dialled, NotDialled, Sent, SendFailed, Closed, Took}
+use Rattle.cf_wires.specs.Log.{Log, dials}
+use Rattle.cf_wires.specs.Session.{dial_word, dial_line, delivery_line, delivery_lines, gone_line, session_text}
+use Rattle.cf_wires.specs.Wires.{Script}
 use Rattle.cf_input.specs.Lines.{lines_of, read_lines, bytes_of_hex}
 use Rattle.cf_input.specs.LineLaws.{IsLine, AreLines, ended}
 use Rattle.cf_input.specs.Name.{is_name, is_printable}

@@ -1,5 +1,5 @@
 -- What the end of a run says of the answer.
-use Rattle.std.proofs.Common.{◌≡◌, ◌≢◌, ℕ, Bool, true, false, List, length, Option, Some, None, refl, sym, ◌∙◌, ap, subst}
+use Rattle.std.proofs.Common.{◌≡◌, ◌≢◌, inr, ℕ, Bool, true, false, List, length, Option, Some, None, refl, sym, ◌∙◌, ap, subst}
 use Rattle.std.specs.Prelude.{IfSome}
 use Rattle.std.proofs.lemmas.Bool.{both_ways}
 use Rattle.cf_block.specs.declared.tx.Block.{Block}
@@ -14,7 +14,7 @@ use Rattle.cf_client.specs.declared.place.PeerEnd.{PeerEnd}
 use Rattle.cf_client.specs.Places.{EndsTell}
 use Rattle.cf_client.specs.Run.{Followed, IsEnd}
 use Rattle.cf_peer.specs.Asking.{is_open}
-use Rattle.cf_peer.specs.Log.{Log}
+use Rattle.cf_wires.specs.Log.{Log}
 use Rattle.cf_peer.specs.Trail.{trail, connected}
 use Rattle.cf_scan.specs.declared.history.Entry.{Entry}
 use Rattle.cf_scan.specs.HistoryText.{history_text}
@@ -111,6 +111,7 @@ kept_of watch end height tip entries lines names status recorded trace before af
       completes end status recorded before after (run_text trace lines end entries height tip) answer somebody;
   never = λ p blocks serves ne. theorem.never p blocks serves.apart serves.honest;
   ran = λ is. record { end = end; height = height; tip = tip; entries = entries; lines = lines; followed = followed; answered = answer; stands = stands };
+  unrecorded = λ is. absurd (subst (λ (s : Status). IsAnswerOf end s before after (run_text trace lines end entries height tip)) is answer);
 }
 
 -- where no memory is found nothing is said
@@ -122,24 +123,29 @@ kept_without (Some log) watch names recorded trace before after = record {
   complete = λ p blocks serves. tt;
   never = λ p blocks serves ne. absurd (ne refl);
   ran = λ is. cc;
+  unrecorded = λ is. cc;
 }
 
--- where the record can't be written nothing is said but that an honest peer was not closed
-kept_unrecorded : (watch names : List (List ℕ)) (height : ℕ) (tip : Hash32) (entries : List Entry) (recorded trace : Bool) (before after : Option (List ℕ)) (log : Log) → recorded ≡ true
-    → SyncTheorem watch height tip entries log → Kept FileFault recorded trace watch names before after log
-kept_unrecorded watch names height tip entries recorded trace before after log on theorem = record {
+-- where the record can't be written: the run followed the rules, and an honest peer was not closed
+kept_unrecorded : (watch names : List (List ℕ)) (end : End) (height : ℕ) (tip : Hash32) (entries : List Entry) (lines : List TraceLine) (recorded trace : Bool)
+    (before after : Option (List ℕ)) (log : Log) → recorded ≡ true
+    → Followed watch end height tip entries lines names log → SyncTheorem watch height tip entries log → Kept FileFault recorded trace watch names before after log
+kept_unrecorded watch names end height tip entries lines recorded trace before after log on followed theorem = record {
   writes = λ p blocks serves none is off. cc;
   answers = λ p blocks serves quiet. on;
   complete = λ p blocks serves. on;
   never = λ p blocks serves ne. theorem.never p blocks serves.apart serves.honest;
   ran = λ is. cc;
+  unrecorded = λ is. inr (record { end = end; height = height; tip = tip; entries = entries; lines = lines; followed = followed });
 }
 
-pub unrecorded_told : (o : Option Log) (watch names : List (List ℕ)) (height : ℕ) (tip : Hash32) (entries : List Entry) (recorded trace : Bool) (before after : Option (List ℕ)) → recorded ≡ true
-    → IfSome o (λ log. SyncTheorem watch height tip entries log) → IfSome o (λ log. Kept FileFault recorded trace watch names before after log)
-unrecorded_told None watch names height tip entries recorded trace before after on theorem = tt
-unrecorded_told (Some log) watch names height tip entries recorded trace before after on theorem =
-    kept_unrecorded watch names height tip entries recorded trace before after log on theorem
+pub unrecorded_told : (o : Option Log) (watch names : List (List ℕ)) (end : End) (height : ℕ) (tip : Hash32) (entries : List Entry) (lines : List TraceLine) (recorded trace : Bool)
+    (before after : Option (List ℕ)) → recorded ≡ true
+    → IfSome o (λ log. Followed watch end height tip entries lines names log) → IfSome o (λ log. SyncTheorem watch height tip entries log)
+    → IfSome o (λ log. Kept FileFault recorded trace watch names before after log)
+unrecorded_told None watch names end height tip entries lines recorded trace before after on followed theorem = tt
+unrecorded_told (Some log) watch names end height tip entries lines recorded trace before after on followed theorem =
+    kept_unrecorded watch names end height tip entries lines recorded trace before after log on followed theorem
 
 pub kept_told : (o : Option Log) (watch : List (List ℕ)) (end : End) (height : ℕ) (tip : Hash32) (entries : List Entry) (lines : List TraceLine) (names : List (List ℕ)) (status : Status) (recorded trace : Bool)
     (before after : Option (List ℕ))

@@ -14,7 +14,7 @@ use Rattle.cf_headers.specs.Chain.{tip_hash}
 use Rattle.cf_input.specs.declared.words.Command.{Command}
 use Rattle.cf_input.specs.declared.words.Command.TheVariants.{Demo as AsksDemo}
 use Rattle.cf_make.specs.Made.{StopsAt}
-use Rattle.cf_peer.specs.Log.{Log}
+use Rattle.cf_wires.specs.Log.{Log}
 use Rattle.cf_scan.specs.Extracts.{balance_of}
 use Rattle.cf_scan.specs.Scan.{scan_of}
 use Rattle.cf_cli.specs.declared.status.Status.{Status}

@@ -8,3 +8,4 @@ pub mod Theorem
 pub mod Proving
 pub mod Serving
 pub mod Demo
+pub mod Doing

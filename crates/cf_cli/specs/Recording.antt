@@ -5,8 +5,8 @@ use Rattle.cf_bytes.specs.Outside.{HasRisen}
 use Rattle.cf_bytes.specs.declared.memory.Refused.{Refused}
 use Rattle.cf_bytes.specs.declared.memory.Refused.TheVariants.{No, NoMemory as OutOfMemory}
 use Rattle.cf_bytes.specs.declared.outside.Failed.{Failed}
-use Rattle.cf_peer.specs.Log.{Log}
-use Rattle.cf_peer.specs.Session.{session_text}
+use Rattle.cf_wires.specs.Log.{Log}
+use Rattle.cf_wires.specs.Session.{session_text}
 use Rattle.cf_input.specs.declared.words.Command.{Command}
 use Rattle.cf_input.specs.declared.words.Command.TheVariants.{Make, Sync}
 use Rattle.cf_cli.specs.declared.status.Status.{Status}

@@ -7,7 +7,7 @@ use Rattle.cf_bytes.specs.declared.files.FileFail.TheVariants.{Failed, TooBig as
 use Rattle.cf_block.specs.declared.tx.Block.{Block}
 use Rattle.cf_index.specs.declared.cause.BadBlock.{BadBlock}
 use Rattle.cf_index.specs.Files.{blocks_at}
-use Rattle.cf_peer.specs.Wires.{Script}
+use Rattle.cf_wires.specs.Wires.{Script}
 use Rattle.cf_input.specs.declared.session.SessionFault.{SessionFault}
 use Rattle.cf_cli.specs.declared.status.FileCause.{FileCause}
 use Rattle.cf_cli.specs.declared.status.FileCause.TheVariants.{TooBig, Watch as OfWatch, Session as OfSession, Blocks as OfBlocks, Proof as OfProof}
@@ -24,6 +24,7 @@ use Rattle.cf_input.specs.declared.proof_file.Proven.{Proven}
 use Rattle.cf_input.specs.SessionFile.{session_of}
 use Rattle.cf_input.specs.WatchFile.{watch_of}
 
+-- the exit status of each answer
 abbrev pub code_of : Status → ℕ
 code_of Done = 0
 code_of NoMemory = 1
@@ -79,6 +80,7 @@ abbrev pub blocks_read : Result (List Block) BadBlock → Verdict
 blocks_read (Ok blocks) = Good
 blocks_read (Err bad) = Bad Blocks bad.number (OfBlocks bad.cause)
 
+-- what a file of blocks is judged as: missing, refused with its first bad record and cause, or good
 abbrev pub blocks_verdict : Option (List ℕ) → Verdict
 blocks_verdict None = Missing
 blocks_verdict (Some bytes) = if nat_lt most_blocks (length bytes) then Bad Blocks 0 TooBig else blocks_read (blocks_at bytes)
@@ -101,6 +103,7 @@ and_then Good later = later
 abbrev pub no_file : Verdict
 no_file = Good
 
+-- what the files of a command are judged as, in the order in which they are judged: the watch file first
 abbrev pub verdict_of : Named → Command → Verdict
 verdict_of files (Replay trace watch session) = and_then (watch_verdict (finite.get files watch)) (session_verdict (finite.get files session))
 verdict_of files (Sync turns workers file watch peers) = watch_verdict (finite.get files watch)

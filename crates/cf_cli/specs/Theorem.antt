@@ -17,9 +17,9 @@ use Rattle.cf_client.specs.Run.{Followed, NobodyLeft}
 use Rattle.cf_sync.specs.Fetching.{IsQuiet}
 use Rattle.cf_sync.specs.Honesty.{IsHonest, ShowsNoOther, IsNeverClosed}
 use Rattle.cf_sync.specs.Sync.{IsHashed}
-use Rattle.cf_peer.specs.Dials.{goes_as_made}
-use Rattle.cf_peer.specs.Log.{Log, Told, Tally, tally_of, deliveries, dials}
-use Rattle.cf_peer.specs.Wires.{Script}
+use Rattle.cf_wires.specs.Dials.{goes_as_made}
+use Rattle.cf_wires.specs.Log.{Log, Told, Tally, tally_of, deliveries, dials}
+use Rattle.cf_wires.specs.Wires.{Script}
 use Rattle.cf_scan.specs.declared.history.Entry.{Entry}
 use Rattle.cf_scan.specs.HistoryText.{history_text}
 use Rattle.cf_scan.specs.Scan.{scan_of}
@@ -53,6 +53,15 @@ pub record Ran (status : Status) (trace : Bool) (scripts names : List (List ℕ)
   pub followed : Followed scripts end height tip entries lines names log
   pub answered : IsAnswerOf end status before after (run_text trace lines end entries height tip)
   pub stands : TellsEnds status log
+
+-- a run over a log that followed the rules, whatever became of its record
+pub record WasFollowed (scripts names : List (List ℕ)) (log : Log) : Type 0 where
+  pub end : End
+  pub height : ℕ
+  pub tip : Hash32
+  pub entries : List Entry
+  pub lines : List TraceLine
+  pub followed : Followed scripts end height tip entries lines names log
 
 -- Done, or the answer of a sink that fails, of want of memory, or of a record that can't be written
 abbrev pub Settles : Status → Bool → Type 0
@@ -88,11 +97,13 @@ pub record Kept (status : Status) (recorded trace : Bool) (scripts names : List 
   pub complete : (p : ℕ) (blocks : List Block) → Serves log p blocks → IsComplete status recorded
   pub never : (p : ℕ) (blocks : List Block) → Serves log p blocks → status ≢ NoMemory → IsNeverClosed log p
   pub ran : has_run status ≡ true → Ran status trace scripts names before after log
+  pub unrecorded : status ≡ FileFault → (log ≡ []) ⊎ WasFollowed scripts names log
 
 -- the same with the scripts of the watch file
 pub record KeptOver (status : Status) (recorded trace : Bool) (files : Option Named) (watch : List ℕ) (names : List (List ℕ)) (before after : Option (List ℕ)) (log : Log) : Type 0 where
   pub scripts : List (List ℕ)
   pub watched : has_run status ≡ true → IfSome files (λ m. IfSome (finite.get m watch) (λ bytes. watch_of bytes ≡ Ok scripts))
+  pub unrecorded : status ≡ FileFault → (log ≡ []) ⊎ IfSome files (λ m. IfSome (finite.get m watch) (λ bytes. watch_of bytes ≡ Ok scripts))
   pub kept : Kept status recorded trace scripts names before after log
 
 -- an answer that comes only where a peer is connected

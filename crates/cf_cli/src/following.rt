@@ -4,7 +4,7 @@ ghost use Rattle.cf_bytes.specs.Outside.{HasRisen};
 ghost use Rattle.cf_client.specs.Names.{names_in};
 ghost use Rattle.cf_client.specs.Run.{Course, HasDialled, HasFailed};
 ghost use Rattle.cf_client.specs.Versions.{HasWords};
-ghost use Rattle.cf_peer.specs.Log.{Tells};
+ghost use Rattle.cf_wires.specs.Log.{Tells};
 ghost use Rattle.cf_cli.specs.Recording.{Records};
 ghost use Rattle.cf_cli.specs.Statuses.{has_run, was_refused, was_unbegun};
 ghost use Rattle.cf_cli.specs.Theorem.{Kept, Tallied, AnswersTo, IsOfRun};
@@ -17,8 +17,8 @@ use cf_client::{End, PeerEnd, sync_over};
 use cf_headers::Lists;
 use cf_input::Word;
 use cf_match::Matcher;
-use cf_peer::Wires;
 use cf_scan::Watch;
+use cf_wires::Wires;
 use std::alloc::Global;
 
 // The answer to a run whose text was written.

@@ -1,7 +1,7 @@
 //! What the definitions say of one another.
 ghost use Rattle.std.specs.Prelude.{◌≡◌, Ok};
-ghost use Rattle.cf_peer.specs.Log.{Log};
-ghost use Rattle.cf_peer.specs.Session.{session_text};
+ghost use Rattle.cf_wires.specs.Log.{Log};
+ghost use Rattle.cf_wires.specs.Session.{session_text};
 ghost use Rattle.cf_input.specs.SessionFile.{session_of};
 ghost use Rattle.cf_cli.specs.Retelling.{IsRetold, told_script};
 

@@ -9,7 +9,7 @@ ghost use Rattle.cf_input.specs.ProofFile.{proof_file_of};
 ghost use Rattle.cf_input.specs.SessionFile.{session_of};
 ghost use Rattle.cf_input.specs.Sessions.{script_in, AreNamed};
 ghost use Rattle.cf_input.specs.WatchFile.{watch_of};
-ghost use Rattle.cf_peer.specs.Log.{is_real};
+ghost use Rattle.cf_wires.specs.Log.{is_real};
 ghost use Rattle.cf_cli.specs.Statuses.{IsReadAs, IsUnread, IsOfFile, IsRefusal, watch_verdict, session_verdict, blocks_read, blocks_verdict, proof_verdict};
 
 use crate::status::{FileCause, Status, Which};

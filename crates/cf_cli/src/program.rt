@@ -1,29 +1,23 @@
 //! All that the program does.
-ghost use Rattle.std.specs.Prelude.{◌≡◌, ◌≢◌, ◌≤◌, ◌⊎◌, ℕ, Bool, true, false, List, [], ◌∷◌, length, Option, IfOk, IfErr, IfSome, IsErrOf, OnOk, is_some, Some, None, Ok};
+ghost use Rattle.std.specs.Prelude.{◌≡◌, ◌≢◌, ◌≤◌, ◌⊎◌, true, false, [], length, IfSome, is_some, Some, None};
 ghost use Rattle.std.specs.FinMap as finite;
 ghost use Rattle.cf_bytes.specs.Outside.{HasRisen};
 ghost use Rattle.cf_client.specs.Names.{names_in};
-ghost use Rattle.std.specs.List.{list_all};
-ghost use Rattle.cf_client.specs.Run.{HasFailed};
+ghost use Rattle.cf_client.specs.Run.{HasDialled, HasFailed};
 ghost use Rattle.cf_client.specs.Versions.{HasWords, IsOfWords};
-ghost use Rattle.cf_peer.specs.Log.{Tells, is_real};
-ghost use Rattle.cf_peer.specs.Memory.{log_of, failing_of, finished_of, told_of};
+ghost use Rattle.cf_wires.specs.Log.{Tells};
+ghost use Rattle.cf_wires.specs.Memory.{log_of, failing_of, finished_of, told_of};
 ghost use Rattle.cf_played.specs.Told.{log_of as played_log, peers_of, finished_of as has_finished};
 ghost use Rattle.cf_input.specs.SessionFile.{session_of};
-ghost use Rattle.cf_input.specs.Sessions.{script_in, AreNamed};
 ghost use Rattle.cf_cli.specs.Recording.{Records, may_write};
-ghost use Rattle.cf_cli.specs.Statuses.{IsJudged, IsReadAs, IsUnread, IsOfFile, has_run, was_refused, was_unbegun, may_dial, may_play, and_then, verdict_of, watch_verdict, session_verdict};
-ghost use Rattle.cf_bytes.specs.declared.hash.Hash32.{Hash32};
+ghost use Rattle.cf_cli.specs.Statuses.{IsJudged, has_run, was_refused, was_unbegun, may_dial, may_play, and_then, verdict_of, watch_verdict, session_verdict};
 ghost use Rattle.cf_serve.specs.Links.{link_now};
-ghost use Rattle.cf_cli.specs.Proving.{IsProved, IsChecked};
-ghost use Rattle.cf_cli.specs.Serving.{IsServing, may_serve};
-ghost use Rattle.cf_cli.specs.Making.{IsMaking};
-ghost use Rattle.cf_cli.specs.Demo.{IsDemoed, may_show};
-ghost use Rattle.cf_cli.specs.Reading.{IsScanned, IsFiltered, IsAddressed};
+ghost use Rattle.cf_cli.specs.Serving.{may_serve};
+ghost use Rattle.cf_cli.specs.Doing.{Does, around};
+ghost use Rattle.cf_cli.specs.Demo.{may_show};
 ghost use Rattle.cf_cli.specs.Theorem.{KeptOver, IsReplayed, Tallied, PlaysSession};
 ghost use Rattle.cf_input.specs.Words.{command_of, HasFewPeers};
 ghost use Rattle.cf_input.specs.declared.words.Command.{Command};
-ghost use Rattle.cf_input.specs.declared.words.Command.TheVariants.{Replay, Sync, Scan, Filter, Address, Prove, Check, Serve, Make, Demo};
 
 use crate::addressing::address;
 use crate::demoing::demo;
@@ -39,10 +33,10 @@ use cf_conn::Duplex;
 use cf_input::{Command, MOST_TURNS, Word, read_words};
 use cf_match::Plain;
 use cf_parallel::Parallel;
-use cf_peer::{MemoryWires, Wires};
 use cf_played::Played;
 use cf_serve::Link;
 use cf_tasks::Spawner;
+use cf_wires::{MemoryWires, Wires};
 use std::alloc::Global;
 use std::sync::Wait;
 use std::thread::Threads;
@@ -123,6 +117,7 @@ fn sync<R: Wait + Threads + Copy + Drop + Send + 'static, F: Files, W: Wires, K:
     ensures judged { IfSome (F.files files.old) (λ m. IsJudged (watch_verdict (finite.get m watch.now)) result) }
     ensures kept { IfSome (W.told wires.new).log (λ log. KeptOver result (is_some log_file.now) false (F.files files.old) watch.now (names_in peers.now) (O.written out.old) (O.written out.new) log) }
     ensures tallied { Tallied result turns (length (names_in peers.now)) (W.told wires.old) (W.told wires.new) }
+    ensures dialled { HasDialled (names_in peers.now) (W.told wires.new) }
     ensures versions { HasWords (record { moment = moment; number = nonce }) (W.told wires.new) }
     ensures failures { IfSome (W.told wires.new).log (λ log. HasFailed log → HasRisen (W.faults wires.old) (W.faults wires.new)) }
     ensures records { Records result log_file.now (W.told wires.new).log (F.files files.old) (F.files files.new) }
@@ -186,20 +181,13 @@ where
     requires unended { has_finished played.old ≡ false }
     requires few { HasFewPeers command }
     ensures judged { IfSome (F.files files.old) (λ m. IsJudged (verdict_of m command) result) }
-    ensures sync { (turns workers : ℕ) (file : Option (List ℕ)) (watch : List ℕ) (peers : List (List ℕ)) → command ≡ Sync turns workers file watch peers → IfSome (W.told wires.new).log (λ log. KeptOver result (is_some file) false (F.files files.old) watch peers (O.written out.old) (O.written out.new) log) × Tallied result turns (length peers) (W.told wires.old) (W.told wires.new) }
-    ensures replay { (trace : Bool) (watch session : List ℕ) → command ≡ Replay trace watch session → IsReplayed result MOST_TURNS trace (F.files files.old) watch (O.written out.old) (O.written out.new) (told_of tape.old) (told_of tape.new) (log_of tape.new) }
-    ensures plays { (trace : Bool) (watch session : List ℕ) → command ≡ Replay trace watch session → IfSome (F.files files.old) (λ m. IfSome (finite.get m session) (λ bytes. PlaysSession result (session_of bytes) (log_of tape.new))) }
+    ensures does { Does command result moment nonce
+        (around (F.files files.old) (O.written out.old) (W.told wires.old) tape.old played.old
+        (link_now L.addresses L.accepted L.owed L.conns L.given link.old))
+        (around (F.files files.new) (O.written out.new) (W.told wires.new) tape.new played.new
+        (link_now L.addresses L.accepted L.owed L.conns L.given link.new)) }
     ensures versions { HasWords (record { moment = moment; number = nonce }) (W.told wires.new) }
     ensures tape_versions { IsOfWords (record { moment = moment; number = nonce }) (log_of tape.new) }
-    ensures scan { (file watch : List ℕ) → command ≡ Scan file watch → IsScanned result (F.files files.old) watch file (O.written out.old) (O.written out.new) }
-    ensures filter { (file : List ℕ) (height : ℕ) → command ≡ Filter file height → IsFiltered result (F.files files.old) file height (O.written out.old) (O.written out.new) }
-    ensures address { (text : List ℕ) → command ≡ Address text → IsAddressed result text (O.written out.old) (O.written out.new) }
-    ensures prove { (file : List ℕ) (txid : Hash32) → command ≡ Prove file txid → IsProved result (F.files files.old) file txid (O.written out.old) (O.written out.new) }
-    ensures check { (file : List ℕ) → command ≡ Check file → IsChecked result (F.files files.old) file (O.written out.old) (O.written out.new) }
-    ensures serve { (count : ℕ) (file address : List ℕ) → command ≡ Serve count file address → IsServing result moment nonce (F.files files.old) file address count (link_now L.addresses L.accepted L.owed L.conns L.given link.old) (link_now L.addresses L.accepted L.owed L.conns L.given link.new) × (O.written out.new ≡ O.written out.old) }
-    ensures make { (seed blocks : ℕ) (file : List ℕ) → command ≡ Make seed blocks file → IsMaking result seed blocks file (F.files files.old) (F.files files.new) × (O.written out.new ≡ O.written out.old) }
-    ensures demo { (seed blocks : ℕ) → command ≡ Demo seed blocks → IsDemoed result seed blocks (O.written out.old) (O.written out.new) (played_log played.new) }
-    ensures records { (turns workers : ℕ) (file : Option (List ℕ)) (watch : List ℕ) (peers : List (List ℕ)) → command ≡ Sync turns workers file watch peers → Records result file (W.told wires.new).log (F.files files.old) (F.files files.new) }
     ensures unchanged { may_write (Some command) ≡ false → F.files files.new ≡ F.files files.old }
     ensures file_fault { result ≡ Status.FileFault → HasRisen (F.faults files.old) (F.faults files.new) }
     ensures out_fault { result ≡ Status.OutFault → HasRisen (O.faults out.old) (O.faults out.new) }
@@ -320,20 +308,13 @@ where
     ensures usage { result ≡ Status.Usage → command_of (names_in words.now) ≡ None }
     ensures unasked { command_of (names_in words.now) ≡ None → (result ≡ Status.Usage) ⊎ (result ≡ Status.NoMemory) }
     ensures judged { IfSome (F.files files.old) (λ m. (c : Command) → command_of (names_in words.now) ≡ Some c → IsJudged (verdict_of m c) result) }
-    ensures sync { (turns workers : ℕ) (file : Option (List ℕ)) (watch : List ℕ) (peers : List (List ℕ)) → command_of (names_in words.now) ≡ Some (Sync turns workers file watch peers) → IfSome (W.told wires.new).log (λ log. KeptOver result (is_some file) false (F.files files.old) watch peers (O.written out.old) (O.written out.new) log) × Tallied result turns (length peers) (W.told wires.old) (W.told wires.new) }
-    ensures replay { (trace : Bool) (watch session : List ℕ) → command_of (names_in words.now) ≡ Some (Replay trace watch session) → IsReplayed result MOST_TURNS trace (F.files files.old) watch (O.written out.old) (O.written out.new) (told_of tape.old) (told_of tape.new) (log_of tape.new) }
-    ensures plays { (trace : Bool) (watch session : List ℕ) → command_of (names_in words.now) ≡ Some (Replay trace watch session) → IfSome (F.files files.old) (λ m. IfSome (finite.get m session) (λ bytes. PlaysSession result (session_of bytes) (log_of tape.new))) }
+    ensures does { (c : Command) → command_of (names_in words.now) ≡ Some c → Does c result moment nonce
+        (around (F.files files.old) (O.written out.old) (W.told wires.old) tape.old played.old
+        (link_now L.addresses L.accepted L.owed L.conns L.given link.old))
+        (around (F.files files.new) (O.written out.new) (W.told wires.new) tape.new played.new
+        (link_now L.addresses L.accepted L.owed L.conns L.given link.new)) }
     ensures versions { HasWords (record { moment = moment; number = nonce }) (W.told wires.new) }
     ensures tape_versions { IsOfWords (record { moment = moment; number = nonce }) (log_of tape.new) }
-    ensures scan { (file watch : List ℕ) → command_of (names_in words.now) ≡ Some (Scan file watch) → IsScanned result (F.files files.old) watch file (O.written out.old) (O.written out.new) }
-    ensures filter { (file : List ℕ) (height : ℕ) → command_of (names_in words.now) ≡ Some (Filter file height) → IsFiltered result (F.files files.old) file height (O.written out.old) (O.written out.new) }
-    ensures address { (text : List ℕ) → command_of (names_in words.now) ≡ Some (Address text) → IsAddressed result text (O.written out.old) (O.written out.new) }
-    ensures prove { (file : List ℕ) (txid : Hash32) → command_of (names_in words.now) ≡ Some (Prove file txid) → IsProved result (F.files files.old) file txid (O.written out.old) (O.written out.new) }
-    ensures check { (file : List ℕ) → command_of (names_in words.now) ≡ Some (Check file) → IsChecked result (F.files files.old) file (O.written out.old) (O.written out.new) }
-    ensures serve { (count : ℕ) (file address : List ℕ) → command_of (names_in words.now) ≡ Some (Serve count file address) → IsServing result moment nonce (F.files files.old) file address count (link_now L.addresses L.accepted L.owed L.conns L.given link.old) (link_now L.addresses L.accepted L.owed L.conns L.given link.new) × (O.written out.new ≡ O.written out.old) }
-    ensures make { (seed blocks : ℕ) (file : List ℕ) → command_of (names_in words.now) ≡ Some (Make seed blocks file) → IsMaking result seed blocks file (F.files files.old) (F.files files.new) × (O.written out.new ≡ O.written out.old) }
-    ensures demo { (seed blocks : ℕ) → command_of (names_in words.now) ≡ Some (Demo seed blocks) → IsDemoed result seed blocks (O.written out.old) (O.written out.new) (played_log played.new) }
-    ensures records { (turns workers : ℕ) (file : Option (List ℕ)) (watch : List ℕ) (peers : List (List ℕ)) → command_of (names_in words.now) ≡ Some (Sync turns workers file watch peers) → Records result file (W.told wires.new).log (F.files files.old) (F.files files.new) }
     ensures unchanged { may_write (command_of (names_in words.now)) ≡ false → F.files files.new ≡ F.files files.old }
     ensures file_fault { result ≡ Status.FileFault → HasRisen (F.faults files.old) (F.faults files.new) }
     ensures out_fault { result ≡ Status.OutFault → HasRisen (O.faults out.old) (O.faults out.new) }

@@ -1,11 +1,11 @@
 //! The record of a run: what passed its wires, as a session file.
 ghost use Rattle.std.specs.Prelude.{◌≡◌, ◌≤◌, [], is_some, IsSome, true};
-ghost use Rattle.cf_peer.specs.Log.{Tells};
+ghost use Rattle.cf_wires.specs.Log.{Tells};
 ghost use Rattle.cf_cli.specs.Recording.{IsRecording, BlamesFiles};
 
 use cf_bytes::{Failed, FileFail, Files, Refused};
 use cf_input::Word;
-use cf_peer::Wires;
+use cf_wires::Wires;
 use std::alloc::Global;
 
 /// Makes new wires keep their log, where a file is named for it.

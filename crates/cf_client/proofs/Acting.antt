@@ -19,7 +19,7 @@ use Rattle.cf_peer.specs.declared.peer.Cause.{Cause}
 use Rattle.cf_peer.specs.declared.peer.Peer.{Peer}
 use Rattle.cf_peer.specs.declared.peer.Range.{Range}
 use Rattle.cf_peer.specs.Acts.{bytes_of, IsSendable}
-use Rattle.cf_peer.specs.Log.{Log}
+use Rattle.cf_wires.specs.Log.{Log}
 use Rattle.cf_peer.specs.Trail.{part_of, trail, connected, own, Asked}
 use Rattle.cf_peer.specs.Peer.{Holds, wants, is_idle_peer, asked_for_headers, asked_for_claims, asked_for_filters, asked_for_block}
 use Rattle.cf_peer.proofs.Peers.{asked_claims_holds, asked_filters_holds, asked_block_holds}
@@ -37,6 +37,7 @@ use Rattle.cf_client.specs.declared.place.Place.{Place}
 use Rattle.cf_client.specs.declared.place.Place.TheVariants.{Here}
 use Rattle.cf_client.specs.Places.{Keeps, nobody, after as done, AsksFor, Goes, is_fetching_at, IsQuestion}
 use Rattle.cf_client.specs.Settled.{chain_at}
+use Rattle.cf_client.proofs.Best.{Furthest, in_turn}
 use Rattle.cf_client.proofs.Standing.{after-append, wants_goes, send_goes, keeps_at, asked_keeps, idle_free, none_open}
 
 -- ---- what the calls of a tracker say, of what was seen
@@ -93,46 +94,54 @@ spare_none places spare is free = not-true (list_any is_fetching_at places) (sym
 
 -- for claims of filters
 pub claims_goes : (places : List Place) (acts : List Act) (log : Log) (s : Seen) (i : ℕ) (peer : Peer) (common : ℕ) (spare : Bool) (span : Span)
-    → i < length places → Goes s.watch places acts log → get_or places i nobody ≡ Here peer → is_idle_peer peer ≡ true → Tracks s (done acts log) → common ≤ length (chain_at s i)
+    → i < length places → Goes s.watch places acts log → get_or places i nobody ≡ Here peer → is_idle_peer peer ≡ true → peer.heard ≡ true → Furthest s i common (Claims span) → Tracks s (done acts log) → common ≤ length (chain_at s i)
     → IsWish s.table s.claims s.verdicts i (chain_at s i) common spare (Claims span) → IsSendable (GetCfheaders 0 span.start span.stop)
     → Goes s.watch (set places i (Here (asked_for_claims (range_in span) peer))) (acts ++ Send (record { 0 = i }) (GetCfheaders 0 span.start span.stop) ∷ []) log
-claims_goes places acts log s i peer common spare span lt goes here idle tracks low wish sendable =
+claims_goes places acts log s i peer common spare span lt goes here idle ended far tracks low wish sendable =
     let keeps : Keeps peer (part_of (done acts log) i) = keeps_at places acts log i peer goes here in
     let is : chain_at s i ≡ own (trail (done acts log) i) = own_tracked s (done acts log) i tracks keeps.holds.on in
-    let may = claims_send s (done acts log) i common spare span (chain_at s i) tracks is low (idle_free peer (trail (done acts log) i) keeps.holds idle) keeps.holds.clean wish in
+    let may = claims_send s (done acts log) i common spare span (chain_at s i) tracks is low (idle_free peer (part_of (done acts log) i) keeps idle) keeps.holds.clean wish in
     let sp = wish.1.1.0 in
-    send_goes places acts log i (asked_for_claims (range_in span) peer) (GetCfheaders 0 span.start span.stop) lt goes sendable may.0 may.1
+    send_goes places acts log i (asked_for_claims (range_in span) peer) (GetCfheaders 0 span.start span.stop) lt goes sendable may.0
+    (in_turn places (done acts log) s i common (Claims span) (GetCfheaders 0 span.start span.stop) goes.stand tracks is (sym keeps.holds.hearing ∙ ended) far wish (refl, refl))
     (asked_keeps (asked_for_claims (range_in span) peer) peer (part_of (done acts log) i) (GetCfheaders 0 span.start span.stop) keeps
     (asked_claims_holds peer (trail (done acts log) i) (range_in span) 0 span.start sp.part keeps.holds idle (ap (λ (c : Chain). back_to span.stop.0 c) (sym is) ∙ sp.tip) sp.parent sp.blocks) refl refl refl)
 
 -- for filters
 pub filters_goes : (places : List Place) (acts : List Act) (log : Log) (s : Seen) (i : ℕ) (peer : Peer) (common : ℕ) (spare : Bool) (span : Span)
-    → i < length places → Goes s.watch places acts log → get_or places i nobody ≡ Here peer → is_idle_peer peer ≡ true → Tracks s (done acts log) → common ≤ length (chain_at s i)
+    → i < length places → Goes s.watch places acts log → get_or places i nobody ≡ Here peer → is_idle_peer peer ≡ true → peer.heard ≡ true → Furthest s i common (Filters span) → Tracks s (done acts log) → common ≤ length (chain_at s i)
     → spare ≡ not (list_any is_fetching_at places) → IsWish s.table s.claims s.verdicts i (chain_at s i) common spare (Filters span) → IsSendable (GetCfilters 0 span.start span.stop)
     → Goes s.watch (set places i (Here (asked_for_filters span.blocks.items peer))) (acts ++ Send (record { 0 = i }) (GetCfilters 0 span.start span.stop) ∷ []) log
-filters_goes places acts log s i peer common spare span lt goes here idle tracks low free wish sendable =
+filters_goes places acts log s i peer common spare span lt goes here idle ended far tracks low free wish sendable =
     let keeps : Keeps peer (part_of (done acts log) i) = keeps_at places acts log i peer goes here in
     let is : chain_at s i ≡ own (trail (done acts log) i) = own_tracked s (done acts log) i tracks keeps.holds.on in
-    let may = filters_send s (done acts log) i common spare span (chain_at s i) tracks is low (idle_free peer (trail (done acts log) i) keeps.holds idle) keeps.holds.clean
+    let may = filters_send s (done acts log) i common spare span (chain_at s i) tracks is low (idle_free peer (part_of (done acts log) i) keeps idle) keeps.holds.clean
     (λ yes. none_open places (done acts log) goes.stand (spare_none places spare free yes)) wish in
     let sp = wish.1.1.0 in
-    send_goes places acts log i (asked_for_filters span.blocks.items peer) (GetCfilters 0 span.start span.stop) lt goes sendable may.0 may.1
+    send_goes places acts log i (asked_for_filters span.blocks.items peer) (GetCfilters 0 span.start span.stop) lt goes sendable may.0 (
+      may.1,
+      in_turn places (done acts log) s i common (Filters span) (GetCfilters 0 span.start span.stop) goes.stand tracks is (sym keeps.holds.hearing ∙ ended) far
+          (subst (λ (b : Bool). IsWish s.table s.claims s.verdicts i (chain_at s i) common b (Filters span)) wish.0.0 wish) (refl, refl),
+    )
     (asked_keeps (asked_for_filters span.blocks.items peer) peer (part_of (done acts log) i) (GetCfilters 0 span.start span.stop) keeps
     (asked_filters_holds peer (trail (done acts log) i) span.blocks.items 0 span.start span.stop sp.part keeps.holds idle (ap (λ (c : Chain). back_to span.stop.0 c) (sym is) ∙ sp.tip) sp.blocks) refl refl refl)
 
 -- for a block
 pub block_goes : (places : List Place) (acts : List Act) (log : Log) (s : Seen) (i : ℕ) (peer : Peer) (common : ℕ) (spare : Bool) (hash : Hash32) (m : Msg)
-    → i < length places → Goes s.watch places acts log → get_or places i nobody ≡ Here peer → is_idle_peer peer ≡ true → Tracks s (done acts log) → common ≤ length (chain_at s i)
+    → i < length places → Goes s.watch places acts log → get_or places i nobody ≡ Here peer → is_idle_peer peer ≡ true → peer.heard ≡ true → Furthest s i common (Block hash) → Tracks s (done acts log) → common ≤ length (chain_at s i)
     → spare ≡ not (list_any is_fetching_at places) → IsWish s.table s.claims s.verdicts i (chain_at s i) common spare (Block hash) → IsSendable m → AsksFor hash m
     → Goes s.watch (set places i (Here (asked_for_block hash peer))) (acts ++ Send (record { 0 = i }) m ∷ []) log
-block_goes places acts log s i peer common spare hash (GetData entries) lt goes here idle tracks low free wish sendable asks =
+block_goes places acts log s i peer common spare hash (GetData entries) lt goes here idle ended far tracks low free wish sendable asks =
     let keeps : Keeps peer (part_of (done acts log) i) = keeps_at places acts log i peer goes here in
     let is : chain_at s i ≡ own (trail (done acts log) i) = own_tracked s (done acts log) i tracks keeps.holds.on in
-    let may = block_send s (done acts log) i common spare hash (chain_at s i) tracks is low (idle_free peer (trail (done acts log) i) keeps.holds idle)
+    let may = block_send s (done acts log) i common spare hash (chain_at s i) tracks is low (idle_free peer (part_of (done acts log) i) keeps idle)
     (λ yes. none_open places (done acts log) goes.stand (spare_none places spare free yes)) wish in
     send_goes places acts log i (asked_for_block hash peer) (GetData entries) lt goes sendable
-    (subst (λ (es : List Entry). MaySend (done acts log) i (GetData es)) (sym asks) may.0)
-    (subst (λ (es : List Entry). IsNeeded s.watch (done acts log) i (GetData es)) (sym asks) may.1)
+    (subst (λ (es : List Entry). MaySend (done acts log) i (GetData es)) (sym asks) may.0) (
+      subst (λ (es : List Entry). IsNeeded s.watch (done acts log) i (GetData es)) (sym asks) may.1,
+      in_turn places (done acts log) s i common (Block hash) (GetData entries) goes.stand tracks is (sym keeps.holds.hearing ∙ ended) far
+          (subst (λ (b : Bool). IsWish s.table s.claims s.verdicts i (chain_at s i) common b (Block hash)) wish.1.0.0 wish) asks,
+    )
     (asked_keeps (asked_for_block hash peer) peer (part_of (done acts log) i) (GetData entries) keeps
     (subst (λ (es : List Entry). Holds (asked_for_block hash peer) (Asked (GetData es) ∷ trail (done acts log) i)) (sym asks) (asked_block_holds peer (trail (done acts log) i) hash keeps.holds idle)) refl refl refl)
-block_goes places acts log s i peer common spare hash m lt goes here idle tracks low free wish sendable asks = absurd asks
+block_goes places acts log s i peer common spare hash m lt goes here idle ended far tracks low free wish sendable asks = absurd asks

@@ -6,14 +6,14 @@ use Rattle.std.proofs.lemmas.Bool.{false≢true}
 use Rattle.std.proofs.lemmas.List.{map-append}
 use Rattle.cf_bytes.specs.Outside.{HasRisen}
 use Rattle.cf_bytes.specs.declared.peer.PeerNo.{PeerNo}
-use Rattle.cf_peer.specs.declared.event.Delivery.{Delivery}
-use Rattle.cf_peer.specs.declared.event.Delivery.TheVariants.{Got, Gone, Tick, Ended}
-use Rattle.cf_peer.specs.declared.event.Dial.{Dial}
-use Rattle.cf_peer.specs.declared.event.Event.{Event}
-use Rattle.cf_peer.specs.declared.event.Event.TheVariants.{Dialled, NotDialled, Took}
+use Rattle.cf_wires.specs.declared.event.Delivery.{Delivery}
+use Rattle.cf_wires.specs.declared.event.Delivery.TheVariants.{Got, Gone, Tick, Ended}
+use Rattle.cf_wires.specs.declared.event.Dial.{Dial}
+use Rattle.cf_wires.specs.declared.event.Event.{Event}
+use Rattle.cf_wires.specs.declared.event.Event.TheVariants.{Dialled, NotDialled, Took}
 use Rattle.cf_client.specs.declared.progress.Progress.{Progress}
-use Rattle.cf_peer.specs.Log.{Log, Told, Tells, tell, longer, dials}
-use Rattle.cf_peer.specs.Wires.{Made}
+use Rattle.cf_wires.specs.Log.{Log, Told, Tells, tell, longer, dials}
+use Rattle.cf_wires.specs.Wires.{Made}
 use Rattle.cf_client.specs.Run.{Course, SameCounts, NoFailure, HasFailed, is_failure, trouble, HasNames, names_of, Moment, moment, Runs, Performs, IsOneMore, IsNoMore, Dials, Turns, IsInStep}
 
 rises_then : (f g h : ℕ) → HasRisen f g → g ≤ h → HasRisen f h

@@ -3,7 +3,7 @@ use Rattle.std.proofs.Common.{◌≡◌, inl, inr, ℕ, ◌+◌, ◌<◌, ◌≤
 use Rattle.std.specs.Prelude.{IfSome, IfOk}
 use Rattle.std.specs.declared.alloc.Global.{Global}
 use Rattle.std.proofs.lemmas.List.{take-map, length-map}
-use Rattle.cf_peer.specs.Log.{Log, Told, Tally, Tells}
+use Rattle.cf_wires.specs.Log.{Log, Told, Tally, Tells}
 use Rattle.cf_bytes.specs.declared.memory.NoMemory.{NoMemory}
 use Rattle.cf_sync.specs.Sync.{SyncTheorem}
 use Rattle.cf_sync.proofs.Settles.{sync_theorem_of}

@@ -14,11 +14,11 @@ use Rattle.cf_msg.specs.declared.msg.Msg.TheVariants.{Version, Verack, Ping, Pon
 use Rattle.cf_msg.specs.Message.{command_of}
 use Rattle.cf_peer.specs.declared.act.Act.{Act}
 use Rattle.cf_peer.specs.declared.act.Act.TheVariants.{Send, Close}
-use Rattle.cf_peer.specs.declared.event.Event.{Event}
-use Rattle.cf_peer.specs.declared.event.Event.TheVariants.{Sent, SendFailed, Closed}
+use Rattle.cf_wires.specs.declared.event.Event.{Event}
+use Rattle.cf_wires.specs.declared.event.Event.TheVariants.{Sent, SendFailed, Closed}
 use Rattle.cf_peer.specs.declared.peer.Cause.{Cause}
 use Rattle.cf_peer.specs.Acts.{bytes_of}
-use Rattle.cf_peer.specs.Log.{Log, Told, Tells, tally_of, noted, tell, longer}
+use Rattle.cf_wires.specs.Log.{Log, Told, Tells, tally_of, noted, tell, longer}
 use Rattle.cf_peer.specs.Trail.{Trail, Part, Why, Item, Asked, Lost, Failing, Shutting, spelled, asks, with_item, part_of, trail, went_on, connected, failed, is_failing}
 use Rattle.cf_dispute.specs.Claims.{Table}
 use Rattle.cf_peer.specs.Asking.{request, is_open, is_spare, counted, fetched, given, Deserves, MayAsk}
@@ -334,6 +334,7 @@ sent_on acts progress trace called planned t p m command free line is may doing 
         planned = ((m, spells, (planned, (doing.plan, (may.2, may.3)))), doing.notes.planned);
         order = doing.notes.order;
         numbered = doing.notes.numbered;
+        first = doing.notes.first;
         traced = subst (λ (lines : List TraceLine). IsTraceOf (Sent p bytes ∷ doing.actual) lines) (sym (ap reverse line ∙ reverse_push progress.trace.items (SentLine p command)))
             ((refl, (m, spells, is)), doing.notes.traced);
         named = doing.notes.named;
@@ -409,6 +410,7 @@ closed_on acts progress trace called planned t p cause free line may doing =
         planned = doing.notes.planned;
         order = (replied_all, doing.notes.order);
         numbered = doing.notes.numbered;
+        first = doing.notes.first;
         traced = subst (λ (lines : List TraceLine). IsTraceOf (Closed p ∷ doing.actual) lines) (sym (ap reverse line ∙ reverse_push progress.trace.items (ClosedLine p cause)))
             ((refl, deserves), doing.notes.traced);
         named = doing.notes.named;
@@ -523,6 +525,7 @@ failed_on acts progress called planned t p m lt free may doing =
         planned = doing.notes.planned;
         order = (on_too, doing.notes.order);
         numbered = doing.notes.numbered;
+        first = doing.notes.first;
         traced = doing.notes.traced;
         named = doing.notes.named;
         off = λ q not_it. elim (cases_eq q p.0) [
@@ -652,6 +655,7 @@ told_one rest progress called planned t p cause lt is doing =
         planned = doing.notes.planned;
         order = doing.notes.order;
         numbered = doing.notes.numbered;
+        first = doing.notes.first;
         traced = doing.notes.traced;
         named = doing.notes.named;
         off = λ q not_it. elim (cases_eq q p.0) [

@@ -12,17 +12,18 @@ use Rattle.cf_msg.specs.declared.msg.Msg.{Msg}
 use Rattle.cf_msg.specs.declared.msg.Msg.TheVariants.{Version, GetHeaders}
 use Rattle.cf_peer.specs.declared.act.Act.{Act}
 use Rattle.cf_peer.specs.declared.act.Act.TheVariants.{Send, Close}
-use Rattle.cf_peer.specs.declared.event.Event.{Event}
-use Rattle.cf_peer.specs.declared.event.Event.TheVariants.{Dialled, NotDialled, Sent, Closed}
+use Rattle.cf_wires.specs.declared.event.Event.{Event}
+use Rattle.cf_wires.specs.declared.event.Event.TheVariants.{Dialled, NotDialled, Sent, Closed}
 use Rattle.cf_peer.specs.declared.peer.Cause.TheVariants.{Overdue}
 use Rattle.cf_peer.specs.declared.peer.Peer.{Peer}
 use Rattle.cf_peer.specs.Acts.{bytes_of, IsSendable}
-use Rattle.cf_peer.specs.Log.{Log, tally_of, noted}
-use Rattle.cf_peer.specs.Trail.{Trail, Part, Called, Asked, Lost as LostItem, Went, Shutting, part_of, trail, went_on, asks, spelled, with_item, called_part, connected, ready, own, replied, as_reply, is_version, IsClientVersion}
-use Rattle.cf_peer.specs.Asking.{OpenRequest, NothingOpen, HeadersOpen, ClaimsOpen, FiltersOpen, BlockOpen, request, age, is_open, is_spare, MayAsk, IsFree}
+use Rattle.cf_wires.specs.Log.{Log, tally_of, noted}
+use Rattle.cf_peer.specs.Trail.{owed, Trail, Part, Called, Asked, Lost as LostItem, Went, Shutting, part_of, trail, went_on, asks, spelled, with_item, called_part, connected, ready, own, replied, as_reply, is_version, IsClientVersion}
+use Rattle.cf_peer.specs.Asking.{counted, OpenRequest, NothingOpen, HeadersOpen, ClaimsOpen, FiltersOpen, BlockOpen, request, age, is_open, is_spare, MayAsk, IsFree}
 use Rattle.cf_peer.specs.declared.peer.Request.TheVariants.{Handshake}
 use Rattle.cf_peer.specs.Peer.{Holds, aged, wants, is_idle_peer, is_block, is_fetching, called_peer, asked_for_headers}
-use Rattle.cf_sync.specs.Fetching.{IsNoneFetching, IsNeeded, MaySend}
+use Rattle.cf_sync.specs.Fetching.{IsNoneFetching, MaySend}
+use Rattle.cf_sync.specs.Due.{IsCalledFor}
 use Rattle.cf_sync.specs.Honesty.{asked}
 use Rattle.cf_sync.proofs.Counted.{same_use}
 use Rattle.cf_peer.proofs.Peers.{open_by, idle_request, late_is, wants_is, asked_headers_holds, called_holds}
@@ -106,8 +107,11 @@ late_open (Here peer) part keeps is = late_is peer part.trail is keeps.holds
 late_open (Lost end) part off is = absurd (false≢true (sym is))
 
 -- a connected peer was answered; and of a place whose request is late one is connected
+pub all_replied : (peer : Peer) (part : Part) → Keeps peer part → replied part.trail ≡ owed (counted part.trail)
+all_replied peer part keeps = keeps.answered.replies ∙ sym (same_use part.trail keeps.holds.on keeps.holds.clean).owing
+
 pub kept_replied : (peer : Peer) (part : Part) → Keeps peer part → IsReplied part.trail
-kept_replied peer part keeps sound = keeps.answered.replies ∙ sym (same_use part.trail keeps.holds.on keeps.holds.clean).owing
+kept_replied peer part keeps sound = all_replied peer part keeps
 
 late_replied : (place : Place) (part : Part) → Fits place part → is_calm place ≡ false → IsReplied part.trail
 late_replied (Here peer) part keeps is = kept_replied peer part keeps
@@ -125,12 +129,12 @@ late_goes places acts log i lt goes is =
     (subst (λ (x : Part). IsLost (ClosedFor Overdue) x.trail) (sym (closed_here p part)) (shut_now part.trail Overdue (and_parts (connected part.trail) _ o.0).0 (inr (inr (refl, o.0, o.1)))))
 
 -- a peer to which nothing is open may be asked
-pub idle_free : (peer : Peer) (t : Trail) → Holds peer t → is_idle_peer peer ≡ true → IsFree t
-idle_free peer t h is = let idle = idle_request peer t h is in record { on = h.on; over = idle.0; idle = idle.1 }
+pub idle_free : (peer : Peer) (part : Part) → Keeps peer part → is_idle_peer peer ≡ true → IsFree part.trail
+idle_free peer part keeps is = let idle = idle_request peer part.trail keeps.holds is in record { on = keeps.holds.on; over = idle.0; idle = idle.1; answered = all_replied peer part keeps }
 
 -- a message is sent, where it may be sent and the place then holds what it is to hold
 pub send_goes : {watch : List (List ℕ)} (places : List Place) (acts : List Act) (log : Log) (i : ℕ) (now : Peer) (m : Msg)
-    → i < length places → Goes watch places acts log → IsSendable m → MaySend (after acts log) i m → IsNeeded watch (after acts log) i m
+    → i < length places → Goes watch places acts log → IsSendable m → MaySend (after acts log) i m → IsCalledFor watch (after acts log) i m
     → Keeps now (with_item (Asked m) (part_of (after acts log) i))
     → Goes watch (set places i (Here now)) (acts ++ Send (record { 0 = i }) m ∷ []) log
 send_goes places acts log i now m lt goes sendable may needed keeps =
@@ -168,11 +172,11 @@ asked_answered t m answered other none = record {
 }
 
 -- headers
-question_may : (log : Log) (p : ℕ) (peer : Peer) (m : Msg) → Holds peer (trail log p) → wants peer ≡ true → AsksAbove (own (trail log p)) m → MaySend log p m
-question_may log p peer (GetHeaders version locator stop) h is asks = let w = wants_is peer (trail log p) h is in record { of_its_part = (w.0, w.1, asks.0, asks.1, asks.2); wanted = tt; alone = tt }
+question_may : (log : Log) (p : ℕ) (peer : Peer) (m : Msg) → Keeps peer (part_of log p) → wants peer ≡ true → AsksAbove (own (trail log p)) m → MaySend log p m
+question_may log p peer (GetHeaders version locator stop) h is asks = let w = wants_is peer (trail log p) h.holds (all_replied peer (part_of log p) h) is in record { of_its_part = (w.0, w.1, asks.0, asks.1, asks.2); wanted = tt; alone = tt }
 question_may log p peer m h is asks = absurd asks
 
-question_needed : (watch : List (List ℕ)) (log : Log) (p : ℕ) (chain : Chain) (m : Msg) → AsksAbove chain m → IsNeeded watch log p m
+question_needed : (watch : List (List ℕ)) (log : Log) (p : ℕ) (chain : Chain) (m : Msg) → AsksAbove chain m → IsCalledFor watch log p m
 question_needed watch log p chain (GetHeaders version locator stop) asks = tt
 question_needed watch log p chain m asks = absurd asks
 
@@ -190,7 +194,7 @@ pub wants_goes : {watch : List (List ℕ)} (places : List Place) (acts : List Ac
 wants_goes {watch = watch} places acts log i peer chain m lt goes here is mine question =
     let keeps : Keeps peer (part_of (after acts log) i) = subst (λ (x : Place). Fits x (part_of (after acts log) i)) here (goes.stand.each i) in
     send_goes places acts log i (asked_for_headers peer) m lt goes question.sendable
-    (question_may (after acts log) i peer m keeps.holds is (subst (λ (c : Chain). AsksAbove c m) mine question.asks))
+    (question_may (after acts log) i peer m keeps is (subst (λ (c : Chain). AsksAbove c m) mine question.asks))
     (question_needed watch (after acts log) i chain m question.asks)
     (question_keeps peer (part_of (after acts log) i) chain m keeps is question.asks)
 
@@ -268,7 +272,7 @@ greeting_may log p t (Version version services time to from nonce agent height r
 }
 greeting_may log p t m here ours = absurd ours
 
-greeting_needed : (watch : List (List ℕ)) (log : Log) (p : ℕ) (m : Msg) → IsClientVersion m → IsNeeded watch log p m
+greeting_needed : (watch : List (List ℕ)) (log : Log) (p : ℕ) (m : Msg) → IsClientVersion m → IsCalledFor watch log p m
 greeting_needed watch log p (Version version services time to from nonce agent height relay) ours = tt
 greeting_needed watch log p m ours = absurd ours
 

@@ -15,10 +15,10 @@ use Rattle.cf_peer.specs.declared.act.Act.{Act}
 use Rattle.cf_peer.specs.declared.act.Act.TheVariants.{Send, Close}
 use Rattle.cf_peer.specs.declared.peer.Cause.TheVariants.{Overdue}
 use Rattle.cf_peer.specs.declared.peer.Peer.{Peer}
-use Rattle.cf_peer.specs.declared.event.Delivery.{Delivery}
-use Rattle.cf_peer.specs.declared.event.Event.TheVariants.{Took}
+use Rattle.cf_wires.specs.declared.event.Delivery.{Delivery}
+use Rattle.cf_wires.specs.declared.event.Event.TheVariants.{Took}
 use Rattle.cf_peer.specs.Acts.{IsDoable}
-use Rattle.cf_peer.specs.Log.{Log}
+use Rattle.cf_wires.specs.Log.{Log}
 use Rattle.cf_peer.specs.Peer.{IsRight, calm, wants, is_idle_peer, asked_for_headers, asked_for_claims, asked_for_filters, asked_for_block}
 use Rattle.cf_tracker.specs.declared.spans.Span.{Span}
 use Rattle.cf_tracker.specs.declared.spans.Wish.{Wish}
@@ -36,6 +36,7 @@ use Rattle.cf_client.specs.Steps.{Desk, Stands, IsInOrder, IsSent, IsSentFor, Wa
 use Rattle.cf_client.proofs.Standing.{set_is, late_goes, goes_start}
 use Rattle.cf_client.proofs.Settled.{set_each, set_other, settled_off, heard_by, idle_off, any_stays, asked_busy}
 use Rattle.cf_client.proofs.Rights.{right_of, right_set, claims_right, filters_right}
+use Rattle.cf_client.proofs.Best.{Furthest}
 use Rattle.cf_client.proofs.Acting.{range_in, closed_tracks, sent_tracks, headers_goes, claims_goes, filters_goes, block_goes, same_self, seen_same}
 
 -- ---- steps, put together
@@ -187,6 +188,9 @@ about_asks d i m change places acts lt order sent settled calm right goes =
 abbrev pub WishAt : Desk → ℕ → ℕ → Wish → Type 0
 WishAt d i common wish = IsWish d.seen.table d.seen.claims d.seen.verdicts i (chain_at d.seen i) common (not (list_any is_fetching_at d.places)) wish
 
+ended_by : (peer : Peer) → is_idle_peer peer ≡ true → is_settled (Here peer) ≡ true → peer.heard ≡ true
+ended_by peer idle was = heard_by peer idle (settled_off (Here peer) was)
+
 settled_by : (peer : Peer) (change : Peer → Peer) → is_idle_peer peer ≡ true → is_settled (Here peer) ≡ true → (change peer).heard ≡ peer.heard → calm (change peer) ≡ true → is_settled (Here (change peer)) ≡ true
 settled_by peer change idle was kept young =
     let off : wants peer ≡ false = settled_off (Here peer) was in
@@ -194,30 +198,30 @@ settled_by peer change idle was kept young =
     rw (young, ap (λ (b : Bool). not b) (kept ∙ heard)) refl
 
 pub claims_asks : (d : Desk) (i common : ℕ) (span : Span) (places : List Place) (acts : List Act) → i < length d.places → IsInOrder d → is_settled (get_or d.places i nobody) ≡ true → common ≤ length (chain_at d.seen i)
-    → WishAt d i common (Claims span) → IsSent i (GetCfheaders 0 span.start span.stop) (asked_for_claims (range_in span)) d.places places d.acts acts
+    → WishAt d i common (Claims span) → Furthest d.seen i common (Claims span) → IsSent i (GetCfheaders 0 span.start span.stop) (asked_for_claims (range_in span)) d.places places d.acts acts
     → Asks i d (record { places = places; seen = d.seen; acts = acts })
-claims_asks d i common span places acts lt order settled low wish sent =
+claims_asks d i common span places acts lt order settled low wish far sent =
     about_asks d i (GetCfheaders 0 span.start span.stop) (asked_for_claims (range_in span)) places acts lt order sent
     (settled_by sent.peer (asked_for_claims (range_in span)) sent.idle (subst (λ (x : Place). is_settled x ≡ true) sent.here settled) refl refl) refl
     (let le = wish.1.1.1 in claims_right d.seen.claims i (chain_at d.seen i) wish.1.0 span 0 wish.0.0 (omega (arith, le, low)) wish.1.1.0 wish.0.2 wish.1.1.3)
-    (λ log stood. claims_goes d.places d.acts log d.seen i sent.peer common (not (list_any is_fetching_at d.places)) span lt stood.goes sent.here sent.idle stood.tracks low wish sent.sendable)
+    (λ log stood. claims_goes d.places d.acts log d.seen i sent.peer common (not (list_any is_fetching_at d.places)) span lt stood.goes sent.here sent.idle (ended_by sent.peer sent.idle (subst (λ (x : Place). is_settled x ≡ true) sent.here settled)) far stood.tracks low wish sent.sendable)
 
 pub filters_asks : (d : Desk) (i common : ℕ) (span : Span) (places : List Place) (acts : List Act) → i < length d.places → IsInOrder d → is_settled (get_or d.places i nobody) ≡ true → common ≤ length (chain_at d.seen i)
-    → WishAt d i common (Filters span) → IsSent i (GetCfilters 0 span.start span.stop) (asked_for_filters span.blocks.items) d.places places d.acts acts
+    → WishAt d i common (Filters span) → Furthest d.seen i common (Filters span) → IsSent i (GetCfilters 0 span.start span.stop) (asked_for_filters span.blocks.items) d.places places d.acts acts
     → Asks i d (record { places = places; seen = d.seen; acts = acts })
-filters_asks d i common span places acts lt order settled low wish sent =
+filters_asks d i common span places acts lt order settled low wish far sent =
     about_asks d i (GetCfilters 0 span.start span.stop) (asked_for_filters span.blocks.items) places acts lt order sent
     (settled_by sent.peer (asked_for_filters span.blocks.items) sent.idle (subst (λ (x : Place). is_settled x ≡ true) sent.here settled) refl refl) refl
     (filters_right (chain_at d.seen i) wish.1.0 span wish.0.2 wish.1.1.0)
-    (λ log stood. filters_goes d.places d.acts log d.seen i sent.peer common (not (list_any is_fetching_at d.places)) span lt stood.goes sent.here sent.idle stood.tracks low refl wish sent.sendable)
+    (λ log stood. filters_goes d.places d.acts log d.seen i sent.peer common (not (list_any is_fetching_at d.places)) span lt stood.goes sent.here sent.idle (ended_by sent.peer sent.idle (subst (λ (x : Place). is_settled x ≡ true) sent.here settled)) far stood.tracks low refl wish sent.sendable)
 
 pub block_asks : (d : Desk) (i common : ℕ) (hash : Hash32) (places : List Place) (acts : List Act) → i < length d.places → IsInOrder d → is_settled (get_or d.places i nobody) ≡ true → common ≤ length (chain_at d.seen i)
-    → WishAt d i common (Block hash) → IsSentFor i hash d.places places d.acts acts
+    → WishAt d i common (Block hash) → Furthest d.seen i common (Block hash) → IsSentFor i hash d.places places d.acts acts
     → Asks i d (record { places = places; seen = d.seen; acts = acts })
-block_asks d i common hash places acts lt order settled low wish for =
+block_asks d i common hash places acts lt order settled low wish far for =
     about_asks d i for.message (asked_for_block hash) places acts lt order for.sent
     (settled_by for.sent.peer (asked_for_block hash) for.sent.idle (subst (λ (x : Place). is_settled x ≡ true) for.sent.here settled) refl refl) refl tt
-    (λ log stood. block_goes d.places d.acts log d.seen i for.sent.peer common (not (list_any is_fetching_at d.places)) hash for.message lt stood.goes for.sent.here for.sent.idle stood.tracks low refl wish for.sent.sendable for.asks)
+    (λ log stood. block_goes d.places d.acts log d.seen i for.sent.peer common (not (list_any is_fetching_at d.places)) hash for.message lt stood.goes for.sent.here for.sent.idle (ended_by for.sent.peer for.sent.idle (subst (λ (x : Place). is_settled x ≡ true) for.sent.here settled)) far stood.tracks low refl wish for.sent.sendable for.asks)
 
 -- what was seen is still that
 pub asks_seen : (i : ℕ) (d : Desk) (places : List Place) (acts : List Act) (after : Seen) → IsSameSeen d.seen after → Asks i d (record { places = places; seen = d.seen; acts = acts })

@@ -15,20 +15,21 @@ use Rattle.cf_msg.specs.declared.msg.Msg.TheVariants.{Verack, Pong}
 use Rattle.cf_msg.specs.Reading.{message_of}
 use Rattle.cf_peer.specs.declared.act.Act.{Act}
 use Rattle.cf_peer.specs.declared.act.Act.TheVariants.{Send, Close}
-use Rattle.cf_peer.specs.declared.event.Delivery.TheVariants.{Got, Gone, Tick}
-use Rattle.cf_peer.specs.declared.event.Event.TheVariants.{Sent, Closed, Took}
+use Rattle.cf_wires.specs.declared.event.Delivery.TheVariants.{Got, Gone, Tick}
+use Rattle.cf_wires.specs.declared.event.Event.TheVariants.{Sent, Closed, Took}
 use Rattle.cf_peer.specs.declared.peer.Cause.{Cause}
 use Rattle.cf_peer.specs.declared.peer.Cause.TheVariants.{SendFailed}
 use Rattle.cf_peer.specs.declared.peer.Peer.{Peer}
 use Rattle.cf_peer.specs.Acts.{bytes_of, IsSendable, IsDoable}
-use Rattle.cf_peer.specs.Log.{Log, tally_of}
+use Rattle.cf_wires.specs.Log.{Log, tally_of}
 use Rattle.cf_peer.specs.Trail.{Trail, Part, Asked, Lost as LostItem, Went, item_of, item_of_read, hears, hears_fault, heard_part, part_of, trail, went_on, with_item, connected, failed, greeted, met, own, heard, owed, replied, as_reply, is_version}
 use Rattle.cf_peer.specs.Asking.{claims, verdict, counted, IsNextReply}
 use Rattle.cf_peer.specs.Peer.{Holds, calm}
 use Rattle.cf_peer.specs.Hearing.{IsReply}
 use Rattle.cf_dispute.specs.Claims.{Table, no_claims}
 use Rattle.cf_headers.specs.Chain.{Hash}
-use Rattle.cf_sync.specs.Fetching.{MaySend, IsNeeded}
+use Rattle.cf_sync.specs.Fetching.{MaySend}
+use Rattle.cf_sync.specs.Due.{IsCalledFor}
 use Rattle.cf_sync.specs.Honesty.{asked}
 use Rattle.cf_sync.proofs.Counted.{same_use}
 use Rattle.cf_hear.specs.Hearing.{HeardWhole, HeardFault}
@@ -157,8 +158,8 @@ due_next r rs before after is here due =
     ap (λ (x : Part). owed (counted x.trail)) here ∙ due ∙ sym (append_assoc (replied before.trail) (r ∷ []) rs)
     ∙ ap (λ (xs : List Msg). (replied before.trail ++ xs) ++ rs) (sym (as_itself r is)) ∙ sym (ap (λ (x : Part). replied x.trail ++ rs) here)
 
-reply_needed : (watch : List (List ℕ)) (r : Msg) (log : Log) (p : ℕ) → IsReply r → IsNeeded watch log p r
-reply_needed watch r log p is = by_reply (IsNeeded watch log p) tt (λ number. tt) r is
+reply_needed : (watch : List (List ℕ)) (r : Msg) (log : Log) (p : ℕ) → IsReply r → IsCalledFor watch log p r
+reply_needed watch r log p is = by_reply (IsCalledFor watch log p) tt (λ number. tt) r is
 
 replies_done : {watch : List (List ℕ)} (p : PeerNo) (rs : List Msg) (log : Log) → p.0 ≤ (tally_of log).dials → AllByRecursion IsReply rs → AreSendable rs
     → connected (trail log p.0) ≡ true → (rs ≡ []) ⊎ (met (trail log p.0) ≡ true) → AreDue rs (trail log p.0) → RepliesDone watch p rs log
@@ -238,11 +239,6 @@ pub set_set : (places : List Place) (i : ℕ) (a b : Place) → set (set places 
 set_set [] i a b = refl
 set_set (x ∷ places) zero a b = refl
 set_set (x ∷ places) (suc i) a b = ap (λ (xs : List Place). x ∷ xs) (set_set places i a b)
-
-pub set_same : (places : List Place) (i : ℕ) (a : Place) → i < length places → get_or places i nobody ≡ a → set places i a ≡ places
-set_same [] i a lt e = absurd (omega arith)
-set_same (x ∷ places) zero a lt e = ap (λ y. y ∷ places) (sym e)
-set_same (x ∷ places) (suc i) a lt e = ap (λ (xs : List Place). x ∷ xs) (set_same places i a (omega arith) e)
 
 -- a piece of a connected peer, all of which is taken
 whole_at : {watch : List (List ℕ)} (places : List Place) (log : Log) (p : PeerNo) (piece : List ℕ) (peer : Peer) (seen now : Seen) (acts : List Act)

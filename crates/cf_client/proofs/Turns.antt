@@ -14,14 +14,14 @@ use Rattle.cf_headers.specs.declared.store.HeaderStore.{Ghosts}
 use Rattle.cf_msg.specs.declared.msg.Malformed.{Malformed}
 use Rattle.cf_msg.specs.declared.msg.Msg.{Msg}
 use Rattle.cf_msg.specs.Reading.{message_of}
-use Rattle.cf_peer.specs.declared.event.Delivery.{Delivery}
-use Rattle.cf_peer.specs.declared.event.Delivery.TheVariants.{Got, Gone, Tick, Ended}
-use Rattle.cf_peer.specs.declared.event.Dial.{Dial}
-use Rattle.cf_peer.specs.declared.event.Event.{Event}
-use Rattle.cf_peer.specs.declared.event.Event.TheVariants.{Dialled, NotDialled, Sent, SendFailed, Closed, Took}
-use Rattle.cf_peer.specs.declared.event.Mark.{Mark}
-use Rattle.cf_peer.specs.declared.event.Mark.TheVariants.{NotYet, Called, Missed, Left, Shut, Broken}
-use Rattle.cf_peer.specs.Log.{Log, Told, Tally, Tells, tally_of, tell, dials}
+use Rattle.cf_wires.specs.declared.event.Delivery.{Delivery}
+use Rattle.cf_wires.specs.declared.event.Delivery.TheVariants.{Got, Gone, Tick, Ended}
+use Rattle.cf_wires.specs.declared.event.Dial.{Dial}
+use Rattle.cf_wires.specs.declared.event.Event.{Event}
+use Rattle.cf_wires.specs.declared.event.Event.TheVariants.{Dialled, NotDialled, Sent, SendFailed, Closed, Took}
+use Rattle.cf_wires.specs.declared.event.Mark.{Mark}
+use Rattle.cf_wires.specs.declared.event.Mark.TheVariants.{NotYet, Called, Missed, Left, Shut, Broken}
+use Rattle.cf_wires.specs.Log.{Log, Told, Tally, Tells, tally_of, tell, dials}
 use Rattle.cf_peer.specs.Trail.{Trail, Part, Why, Lost, Failing, Shutting, Went, item_of, item_of_read, hears, hears_fault, heard_part, called_part, with_item, part_of, trail, went_on, connected, ready}
 use Rattle.cf_peer.specs.Asking.{is_open, is_idle, request}
 use Rattle.cf_scan.specs.declared.history.Entry.{Entry}
@@ -36,7 +36,7 @@ use Rattle.cf_client.specs.declared.trace.TraceLine.{TraceLine}
 use Rattle.cf_client.specs.Names.{names_in}
 use Rattle.cf_hear.proofs.Tracking.{tracks_ended}
 use Rattle.cf_client.specs.Stands.{Reflects, IsReportOf, seen_by, watch_by}
-use Rattle.cf_client.specs.Run.{IsOrderly, WasOrderly, AreNumbered, Notes, Doing, HoldsOver, Stopped, Finished, AreBytesOf, IsEnd, IsEndTold, IsTraceOf, names_of, is_lost, NobodyLeft, state_at, is_pending, is_fine}
+use Rattle.cf_client.specs.Run.{IsOrderly, WasOrderly, AreNumbered, IsUntaken, Notes, Doing, HoldsOver, Stopped, Finished, AreBytesOf, IsEnd, IsEndTold, IsTraceOf, names_of, is_lost, NobodyLeft, state_at, is_pending, is_fine}
 use Rattle.cf_peer.specs.declared.act.Act.{Act}
 use Rattle.cf_sync.specs.Planned.{is_untold, ArePlanned}
 use Rattle.cf_sync.proofs.Planning.{own_plan}
@@ -99,11 +99,15 @@ orderly c progress called t holds = record {
   told = holds.told_all;
 }
 
+-- wires from which nothing was taken
+untaken_so : (log : Log) (t : Told) → Tells log t → t.tally.taken ≡ 0 → t.tally.ended ≡ 0 → IsUntaken log
+untaken_so log t tells untaken unended = (sym (ap (λ (x : Tally). x.taken) tells.counts) ∙ untaken, sym (ap (λ (x : Tally). x.ended) tells.counts) ∙ unended)
+
 -- a peer is dialled
 pub dial_doing : {H M : Type 0} {g : Ghosts H} (c : Client H M g) (acts : List Act) (progress : Progress) (called : List (List ℕ)) (t : Told) (p : PeerNo) (name : List ℕ) (holds : HoldsOver c progress called t)
-    → p.0 ≡ t.tally.dials + 1 → t.tally.dials < 8
+    → p.0 ≡ t.tally.dials + 1 → t.tally.dials < 8 → t.tally.taken ≡ 0 → t.tally.ended ≡ 0
     → Doing (watch_by c) acts progress (called ++ name ∷ []) (Dialled p name ∷ holds.actual) (tell (Dialled p name) t)
-dial_doing c acts progress called t p name holds is room =
+dial_doing c acts progress called t p name holds is room untaken unended =
     let count : t.tally.dials ≡ (tally_of holds.actual).dials = ap (λ (x : Tally). x.dials) holds.notes.tells.counts in
     let past : (tally_of holds.actual).dials < p.0 = omega (arith, count, is) in
     same_doing c acts progress called (called ++ name ∷ []) t (tell (Dialled p name) t) holds (Dialled p name)
@@ -114,6 +118,7 @@ dial_doing c acts progress called t p name holds is room =
       planned = holds.notes.planned;
       order = holds.notes.order;
       numbered = (is ∙ ap (λ (n : ℕ). n + 1) count, holds.notes.numbered);
+      first = (untaken_so holds.actual t holds.notes.tells untaken unended, holds.notes.first);
       traced = holds.notes.traced;
       named = more_names holds.actual (record { name = name; answered = true }) called holds.notes.named;
       off = λ q not_it. let ne : q ≢ p.0 = λ e. both_ways (is_fine (state_at progress.sends q)) not_it (holds.notes.new q (omega (arith, past, e))).0 in
@@ -127,10 +132,10 @@ dial_doing c acts progress called t p name holds is room =
 
 -- a dial fails
 pub not_dialled_holds : {H M : Type 0} {g : Ghosts H} (c d : Client H M g) (progress : Progress) (called : List (List ℕ)) (t : Told) (p : PeerNo) (name : List ℕ) (holds : HoldsOver c progress called t)
-    → p.0 ≡ t.tally.dials + 1 → t.tally.dials < 8
+    → p.0 ≡ t.tally.dials + 1 → t.tally.dials < 8 → t.tally.taken ≡ 0 → t.tally.ended ≡ 0
     → watch_by d ≡ watch_by c → Reflects d (NotDialled p name ∷ holds.actual)
     → HoldsOver d progress (called ++ name ∷ []) (tell (NotDialled p name) t)
-not_dialled_holds c d progress called t p name holds is room watch reflects =
+not_dialled_holds c d progress called t p name holds is room untaken unended watch reflects =
     let count : t.tally.dials ≡ (tally_of holds.actual).dials = ap (λ (x : Tally). x.dials) holds.notes.tells.counts in
     record {
       actual = NotDialled p name ∷ holds.actual;
@@ -141,6 +146,7 @@ not_dialled_holds c d progress called t p name holds is room watch reflects =
         planned = subst (λ (w : List (List ℕ)). ArePlanned w holds.actual) (sym watch) holds.notes.planned;
         order = holds.notes.order;
         numbered = (is ∙ ap (λ (n : ℕ). n + 1) count, holds.notes.numbered);
+        first = (untaken_so holds.actual t holds.notes.tells untaken unended, holds.notes.first);
         traced = holds.notes.traced;
         named = more_names holds.actual (record { name = name; answered = false }) called holds.notes.named;
         off = λ q not_it. lost_off (p.0 == q) Went (part_of holds.actual q) (holds.notes.off q not_it);
@@ -183,6 +189,7 @@ took_notes progress called log t d is notes busy in_order = record {
   planned = notes.planned;
   order = (in_order, notes.order);
   numbered = notes.numbered;
+  first = notes.first;
   traced = notes.traced;
   named = notes.named;
   off = λ q not_it. off_took d q (part_of log q) (notes.off q not_it);
@@ -369,6 +376,7 @@ finishes end c progress called t height hash entries stopped told =
         was_orderly = holds.notes.order;
         orderly = orderly c progress called t holds;
         numbered = holds.notes.numbered;
+        first = holds.notes.first;
         traced = holds.notes.traced;
         named = holds.notes.named;
         why = stopped.why;
@@ -531,6 +539,7 @@ starts c progress t reflects sends closed trace tells =
         planned = tt;
         order = tt;
         numbered = tt;
+        first = tt;
         traced = subst (λ (xs : List TraceLine). IsTraceOf [] (reverse xs)) (sym trace) tt;
         named = refl;
         off = λ q not_it. refl;

@@ -8,17 +8,18 @@ use Rattle.cf_msg.specs.declared.msg.Msg.{Msg}
 use Rattle.cf_msg.specs.declared.msg.Msg.TheVariants.{Version, GetHeaders, GetData}
 use Rattle.cf_peer.specs.declared.act.Act.{Act}
 use Rattle.cf_peer.specs.declared.act.Act.TheVariants.{Send, Close}
-use Rattle.cf_peer.specs.declared.event.Event.{Event}
-use Rattle.cf_peer.specs.declared.event.Event.TheVariants.{Sent, Closed}
+use Rattle.cf_wires.specs.declared.event.Event.{Event}
+use Rattle.cf_wires.specs.declared.event.Event.TheVariants.{Sent, Closed}
 use Rattle.cf_peer.specs.declared.peer.Cause.{Cause}
 use Rattle.cf_peer.specs.declared.peer.Cause.TheVariants.{SendFailed}
 use Rattle.cf_peer.specs.declared.peer.Peer.{Peer}
 use Rattle.cf_peer.specs.Acts.{bytes_of, IsSendable}
-use Rattle.cf_peer.specs.Log.{Log, tally_of}
+use Rattle.cf_wires.specs.Log.{Log, tally_of}
 use Rattle.cf_peer.specs.Trail.{Why, Went, Failing, Shutting, Trail, Called, Said, Refused, Asked, Passed, Lost as LostItem, Part, part_of, trail, connected, ready, failed, owed, replied, is_version, IsClientVersion}
 use Rattle.cf_peer.specs.Asking.{Deserves, block_entry, counted, fetched, given}
 use Rattle.cf_peer.specs.Peer.{Holds, calm, busy, wants, is_ready_peer, is_idle_peer, is_fetching}
-use Rattle.cf_sync.specs.Fetching.{IsBusy, IsQuiet, IsConnected, MaySend, IsNeeded}
+use Rattle.cf_sync.specs.Fetching.{IsBusy, IsQuiet, IsConnected, MaySend}
+use Rattle.cf_sync.specs.Due.{IsCalledFor}
 use Rattle.cf_sync.specs.Honesty.{asked, was_called}
 use Rattle.cf_client.specs.declared.place.Place.{Place}
 use Rattle.cf_client.specs.declared.place.Place.TheVariants.{Here, Lost}
@@ -73,6 +74,7 @@ LostBy NotDialled t = (was_called t ≡ false) × (failed t ≡ false)
 LostBy Gone t = (failed t ≡ false) × FirstLost IsGoing t
 LostBy (ClosedFor cause) t = ((cause ≡ SendFailed) × (failed t ≡ true)) ⊎ ((failed t ≡ false) × FirstLost (IsShutFor cause) t)
 
+-- a peer isn't connected, and was lost so
 pub record IsLost (loss : Loss) (t : Trail) : Type 0 where
   pub off : connected t ≡ false
   pub by : LostBy loss t
@@ -107,10 +109,10 @@ after (a ∷ acts) log = after acts (entry_of a ∷ log)
 abbrev pub IsReplied : Trail → Type 0
 IsReplied t = failed t ≡ false → replied t ≡ owed (counted t)
 
--- an act may be done by a client that watches these scripts: what it sends may be sent to that peer, and filters and blocks that it asks for are needed; whom it closes was
+-- an act may be done by a client that watches these scripts: what it sends may be sent to that peer, and what it asks about blocks is called for; whom it closes was
 -- answered
 abbrev pub MayAct : List (List ℕ) → Act → Log → Type 0
-MayAct watch (Send p m) log = (p.0 ≤ (tally_of log).dials) × IsSendable m × MaySend log p.0 m × IsNeeded watch log p.0 m
+MayAct watch (Send p m) log = (p.0 ≤ (tally_of log).dials) × IsSendable m × MaySend log p.0 m × IsCalledFor watch log p.0 m
 MayAct watch (Close p cause) log = (p.0 ≤ (tally_of log).dials) × Deserves (trail log p.0) cause × IsReplied (trail log p.0)
 
 -- each act may be done when the ones before it are
@@ -136,6 +138,7 @@ abbrev pub is_idle : Place → Bool
 is_idle (Here peer) = is_idle_peer peer
 is_idle (Lost loss) = false
 
+-- filters or a block are open to the peer of this place
 abbrev pub is_fetching_at : Place → Bool
 is_fetching_at (Here peer) = is_fetching peer
 is_fetching_at (Lost loss) = false
@@ -169,6 +172,7 @@ abbrev pub is_busy : Place → Bool
 is_busy (Here peer) = busy peer
 is_busy (Lost loss) = false
 
+-- the peer of this place is connected
 abbrev pub is_here : Place → Bool
 is_here (Here peer) = true
 is_here (Lost loss) = false
@@ -200,6 +204,7 @@ abbrev pub TellsWords : Words → Msg → Type 0
 TellsWords words (Version version services time to from nonce agent height relay) = (time ≡ words.moment) × (nonce ≡ words.number)
 TellsWords words m = Unit {0}
 
+-- an act sends no version but one that tells these words
 abbrev pub ActTells : Words → Act → Type 0
 ActTells words (Send p m) = TellsWords words m
 ActTells words (Close p cause) = Unit {0}
@@ -225,6 +230,7 @@ end_by NotDialled = EndsNotDialled
 end_by Gone = EndsGone
 end_by (ClosedFor cause) = EndsClosed cause
 
+-- how a peer stands, by what is kept of it: connected with its handshake over, or still open, or how it was lost
 abbrev pub end_of : Place → PeerEnd
 end_of (Here peer) = if is_ready_peer peer then Ready else Waiting
 end_of (Lost loss) = end_by loss

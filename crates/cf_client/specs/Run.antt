@@ -9,16 +9,16 @@ use Rattle.cf_msg.specs.declared.msg.Msg.{Msg}
 use Rattle.cf_msg.specs.Message.{command_of}
 use Rattle.cf_peer.specs.declared.act.Act.{Act}
 use Rattle.cf_peer.specs.declared.act.Act.TheVariants.{Send, Close}
-use Rattle.cf_peer.specs.declared.event.Delivery.{Delivery}
-use Rattle.cf_peer.specs.declared.event.Delivery.TheVariants.{Got, Gone, Tick, Ended}
+use Rattle.cf_wires.specs.declared.event.Delivery.{Delivery}
+use Rattle.cf_wires.specs.declared.event.Delivery.TheVariants.{Got, Gone, Tick, Ended}
 use Rattle.cf_frame.specs.Stream.{IsBytes}
-use Rattle.cf_peer.specs.declared.event.Dial.{Dial}
-use Rattle.cf_peer.specs.declared.event.Event.{Event}
-use Rattle.cf_peer.specs.declared.event.Event.TheVariants.{Dialled, NotDialled, Sent, SendFailed, Closed, Took}
-use Rattle.cf_peer.specs.declared.event.Mark.{Mark}
-use Rattle.cf_peer.specs.declared.event.Mark.TheVariants.{NotYet, Called, Missed, Left, Shut, Broken}
-use Rattle.cf_peer.specs.Log.{Log, Told, Tally, Tells, tally_of, mark_of, dials}
-use Rattle.cf_peer.specs.Wires.{Made}
+use Rattle.cf_wires.specs.declared.event.Dial.{Dial}
+use Rattle.cf_wires.specs.declared.event.Event.{Event}
+use Rattle.cf_wires.specs.declared.event.Event.TheVariants.{Dialled, NotDialled, Sent, SendFailed, Closed, Took}
+use Rattle.cf_wires.specs.declared.event.Mark.{Mark}
+use Rattle.cf_wires.specs.declared.event.Mark.TheVariants.{NotYet, Called, Missed, Left, Shut, Broken}
+use Rattle.cf_wires.specs.Log.{Log, Told, Tally, Tells, tally_of, mark_of, dials}
+use Rattle.cf_wires.specs.Wires.{Made}
 use Rattle.cf_peer.specs.Trail.{trail, spelled, connected, failed}
 use Rattle.cf_peer.specs.Asking.{Deserves, given}
 use Rattle.cf_scan.specs.declared.history.Entry.{Entry}
@@ -42,11 +42,13 @@ use Rattle.cf_client.specs.Stands.{Reflects, IsInnocent, AreAnswered, watch_by}
 abbrev pub state_at : List SendState → ℕ → SendState
 state_at sends p = slice_index_or sends p Fine
 
+-- a send to the peer has failed, and the client isn't told of it yet
 abbrev pub is_pending : SendState → Bool
 is_pending Fine = false
 is_pending Pending = true
 is_pending Known = false
 
+-- no send to the peer has failed
 abbrev pub is_fine : SendState → Bool
 is_fine Fine = true
 is_fine Pending = false
@@ -58,6 +60,7 @@ weight Fine = 2
 weight Pending = 1
 weight Known = 0
 
+-- how much may still come of failed sends, over all peers
 abbrev pub trouble : Progress → ℕ
 trouble progress = sum_by weight progress.sends
 
@@ -94,6 +97,20 @@ AreNumbered (Sent p bytes ∷ log) = AreNumbered log
 AreNumbered (SendFailed p ∷ log) = AreNumbered log
 AreNumbered (Closed p ∷ log) = AreNumbered log
 AreNumbered (Took d ∷ log) = AreNumbered log
+
+-- nothing was taken yet
+abbrev pub IsUntaken : Log → Type 0
+IsUntaken log = ((tally_of log).taken ≡ 0) × ((tally_of log).ended ≡ 0)
+
+-- all peers were dialled before the first delivery was taken
+abbrev pub AreDialledFirst : Log → Type 0
+AreDialledFirst [] = Unit {0}
+AreDialledFirst (Dialled p name ∷ log) = IsUntaken log × AreDialledFirst log
+AreDialledFirst (NotDialled p name ∷ log) = IsUntaken log × AreDialledFirst log
+AreDialledFirst (Sent p bytes ∷ log) = AreDialledFirst log
+AreDialledFirst (SendFailed p ∷ log) = AreDialledFirst log
+AreDialledFirst (Closed p ∷ log) = AreDialledFirst log
+AreDialledFirst (Took d ∷ log) = AreDialledFirst log
 
 -- a line of the trace tells what was sent, or why a peer was closed
 abbrev pub IsSentLine : PeerNo → List ℕ → TraceLine → Type 0
@@ -133,6 +150,7 @@ pub record Notes (watch : List (List ℕ)) (progress : Progress) (called : List 
   pub planned : ArePlanned watch actual
   pub order : WasOrderly actual
   pub numbered : AreNumbered actual
+  pub first : AreDialledFirst actual
   pub traced : IsTraceOf actual (reverse progress.trace.items)
   pub named : names_of actual ≡ called
   pub off : (q : ℕ) → is_fine (state_at progress.sends q) ≡ false → connected (trail actual q) ≡ false
@@ -203,6 +221,7 @@ is_failure (SendFailed p) = true
 is_failure (Closed p) = false
 is_failure (Took d) = false
 
+-- a dial or a send has failed in this log
 abbrev pub HasFailed : Log → Type 0
 HasFailed log = list_any is_failure log ≡ true
 
@@ -233,6 +252,7 @@ pub record Moment : Type 0 where
   pub keeps : Bool
   pub progress : Progress
 
+-- the moment at which wires and run are so
 abbrev pub moment : Told → ℕ → Option Made → Bool → Progress → Moment
 moment told faults script keeps progress = record { told = told; faults = faults; script = script; keeps = keeps; progress = progress }
 
@@ -284,8 +304,8 @@ IsEnd NoPeers log = IsState HasNoPeers log
 IsEnd Tired log = IsBusy log
 IsEnd EndedFirst log = (before : Log) × ((log ≡ Took Ended ∷ before) × IsBusy before)
 
--- What a run that ended so has done, by its log. With nothing open each connected peer was heard out, and knows the filter header of each block of the
--- best chain where that is its own one; and each of that chain's blocks is settled.
+-- What a run that ended so has done, by its log. With nothing open each connected peer was heard out, and its filter header is known at each block that its own
+-- chain shares with the best one; and each of the best chain's blocks is settled.
 pub record Followed (watch : List (List ℕ)) (end : End) (height : ℕ) (hash : Hash32) (entries : List Entry) (lines : List TraceLine) (called : List (List ℕ)) (log : Log) : Type 0 where
   pub asked : HasAsked watch height hash entries log
   pub settled : end ≡ Synced → sync.Followed watch height hash entries log
@@ -293,6 +313,7 @@ pub record Followed (watch : List (List ℕ)) (end : End) (height : ℕ) (hash :
   pub was_orderly : WasOrderly log
   pub orderly : IsOrderly log
   pub numbered : AreNumbered log
+  pub first : AreDialledFirst log
   pub traced : IsTraceOf log (reverse lines)
   pub named : names_of log ≡ called
   pub why : IsEnd end log

@@ -24,6 +24,7 @@ abbrev pub IsRightAt : Place → Table → Type 0
 IsRightAt (Here peer) table = IsRight peer.request table
 IsRightAt (Lost loss) table = Unit {0}
 
+-- so it is of each peer
 abbrev pub AreRight : List Place → Tables → Type 0
 AreRight places tables = (p : ℕ) → IsRightAt (place_at places p) (tables p)
 

@@ -8,10 +8,10 @@ use Rattle.cf_msg.specs.declared.msg.Msg.{Msg}
 use Rattle.cf_peer.specs.declared.act.Act.{Act}
 use Rattle.cf_peer.specs.declared.act.Act.TheVariants.{Send}
 use Rattle.cf_peer.specs.declared.peer.Peer.{Peer}
-use Rattle.cf_peer.specs.declared.event.Delivery.{Delivery}
-use Rattle.cf_peer.specs.declared.event.Event.TheVariants.{Took}
+use Rattle.cf_wires.specs.declared.event.Delivery.{Delivery}
+use Rattle.cf_wires.specs.declared.event.Event.TheVariants.{Took}
 use Rattle.cf_peer.specs.Acts.{IsDoable, IsSendable}
-use Rattle.cf_peer.specs.Log.{Log}
+use Rattle.cf_wires.specs.Log.{Log}
 use Rattle.cf_peer.specs.Peer.{is_idle_peer, asked_for_block}
 use Rattle.cf_tracker.specs.declared.tracker.Tracker.{Tracker}
 use Rattle.cf_client.specs.declared.place.Place.{Place}

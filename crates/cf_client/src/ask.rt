@@ -2,9 +2,9 @@
 ghost use Rattle.std.specs.Prelude.{◌≡◌, ◌≢◌, ℕ, ◌<◌, ◌≤◌, ◌∷◌, OnOk, IfOk, IsSome, true, false, length};
 ghost use Rattle.std.specs.List.{list_any};
 ghost use Rattle.cf_headers.specs.Store.{own_of};
-ghost use Rattle.cf_peer.specs.Log.{Log};
-ghost use Rattle.cf_peer.specs.declared.event.Event.TheVariants.{Took};
-ghost use Rattle.cf_peer.specs.declared.event.Delivery.TheVariants.{Tick};
+ghost use Rattle.cf_wires.specs.Log.{Log};
+ghost use Rattle.cf_wires.specs.declared.event.Event.TheVariants.{Took};
+ghost use Rattle.cf_wires.specs.declared.event.Delivery.TheVariants.{Tick};
 ghost use Rattle.cf_tracker.specs.Tracker.{chains_of};
 ghost use Rattle.cf_peer.specs.Trail.{Part, Passed, with_item};
 ghost use Rattle.cf_dispute.specs.Claims.{Table, Tables};

@@ -15,9 +15,10 @@ use cf_bytes::{Hash32, NoMemory, PeerNo};
 use cf_headers::HeaderStore;
 use cf_match::Matcher;
 use cf_msg::{Bytes, Msg, NetAddress};
-use cf_peer::{Act, Delivery, Peer};
+use cf_peer::{Act, Peer};
 use cf_scan::{History, Watch};
 use cf_tracker::{Report, Tracker};
+use cf_wires::Delivery;
 use std::alloc::Global;
 
 /// A client of up to eight peers, over a store of the chains that they show and a matcher of filters.
@@ -124,8 +125,8 @@ fn greeting(alloc: Global, moment: i64, nonce: u64) -> Result<Msg, NoMemory>
 }
 
 impl<H: HeaderStore, M: Matcher> Client<H, M> {
-    ghost use Rattle.cf_peer.specs.Log.{Log};
-    ghost use Rattle.cf_peer.specs.declared.event.Event.TheVariants.{Took, Dialled, NotDialled};
+    ghost use Rattle.cf_wires.specs.Log.{Log};
+    ghost use Rattle.cf_wires.specs.declared.event.Event.TheVariants.{Took, Dialled, NotDialled};
     ghost use Rattle.cf_peer.specs.declared.act.Act.TheVariants.{Close};
     ghost use Rattle.cf_peer.specs.declared.peer.Cause.TheVariants.{SendFailed};
     ghost use Rattle.cf_client.specs.Places.{ActTells, CutFor, Greets, IsState, EndsTell};

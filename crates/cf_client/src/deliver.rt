@@ -2,7 +2,7 @@
 ghost use Rattle.std.specs.Prelude.{◌≡◌, ◌<◌, [], ◌∷◌, OnOk, length};
 ghost use Rattle.cf_peer.specs.declared.act.Act.TheVariants.{Close};
 ghost use Rattle.cf_peer.specs.declared.peer.Cause.TheVariants.{SendFailed};
-ghost use Rattle.cf_peer.specs.declared.event.Delivery.TheVariants.{Got, Gone};
+ghost use Rattle.cf_wires.specs.declared.event.Delivery.TheVariants.{Got, Gone};
 ghost use Rattle.cf_client.specs.Places.{AreCalm};
 ghost use Rattle.cf_client.specs.Steps.{desk, IsInOrder, Taking, CutOff, Moves};
 
@@ -12,10 +12,10 @@ use cf_bytes::{NoMemory, PeerNo};
 use cf_headers::HeaderStore;
 use cf_hear::hear_piece;
 use cf_match::Matcher;
-use cf_peer::{Act, Cause, Delivery};
+use cf_peer::{Act, Cause};
 use cf_tracker::Tracker;
+use cf_wires::Delivery;
 use std::alloc::Global;
-use std::mem;
 
 // Takes a piece of a peer's bytes. One of a peer that isn't connected has no effect.
 fn hear_from<H: HeaderStore, M: Matcher>(
@@ -35,19 +35,10 @@ fn hear_from<H: HeaderStore, M: Matcher>(
     if i >= places.len() {
         return Ok(());
     }
-    let gone = Place::Lost(Loss::Gone);
-    match mem::replace(&mut places[i], gone) {
-        Place::Lost(loss) => {
-            places[i] = Place::Lost(loss);
-            Ok(())
-        }
-        Place::Here(mut peer) => match hear_piece(
-            alloc, tracker, matcher, &mut peer, p, piece, acts,
-        )? {
-            None => {
-                places[i] = Place::Here(peer);
-                Ok(())
-            }
+    match &mut places[i] {
+        Place::Lost(_) => Ok(()),
+        Place::Here(peer) => match hear_piece(alloc, tracker, matcher, peer, p, piece, acts)? {
+            None => Ok(()),
             Some(cause) => {
                 acts.push(Act::Close(p, cause))?;
                 tracker.forget(p);

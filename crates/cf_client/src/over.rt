@@ -4,6 +4,7 @@ ghost use Rattle.cf_bytes.specs.Outside.{HasRisen};
 ghost use Rattle.cf_client.specs.Names.{names_in};
 ghost use Rattle.cf_sync.specs.Sync.{SyncTheorem};
 ghost use Rattle.cf_client.specs.Places.{MayAct, Allowed, after, entry_of, EndsTell, Words, TellsWords, ActTells};
+ghost use Rattle.cf_client.specs.Passing.{CountsOne, EndsWithin, Passes};
 ghost use Rattle.cf_client.specs.Run.{Followed, NobodyLeft, HasFailed, Course, Doing, HoldsOver, AreBytesOf, moment, Runs, Performs, Dials, Turns, IsOneMore, IsNoMore, HasDialled, HasNames, Turned, Stopped, IsEnd, IsInStep, IsEndTold};
 ghost use Rattle.cf_client.specs.Stands.{Reflects, Answers, IsReportOf, count_of, watch_by, words_by};
 ghost use Rattle.cf_client.specs.Versions.{KeepsWords, HasWords};
@@ -13,9 +14,9 @@ ghost use Rattle.cf_msg.specs.Message.{command_of};
 ghost use Rattle.cf_peer.specs.declared.act.Act.{Act};
 ghost use Rattle.cf_peer.specs.declared.act.Act.TheVariants.{Send, Close};
 ghost use Rattle.cf_peer.specs.Acts.{IsDoable, IsSendable, bytes_of};
-ghost use Rattle.cf_peer.specs.Log.{Log, Tells, tell};
-ghost use Rattle.cf_peer.specs.Wires.{HasCause};
-ghost use Rattle.cf_peer.specs.declared.event.Event.TheVariants.{Sent, SendFailed, Closed};
+ghost use Rattle.cf_wires.specs.Log.{Log, Tells, tell};
+ghost use Rattle.cf_wires.specs.Wires.{HasCause};
+ghost use Rattle.cf_wires.specs.declared.event.Event.TheVariants.{Dialled, Sent, SendFailed, Closed};
 
 use crate::client::Client;
 use crate::outcome::{End, Outcome};
@@ -27,8 +28,9 @@ use cf_frame::encode;
 use cf_headers::HeaderStore;
 use cf_match::Matcher;
 use cf_msg::{Msg, write};
-use cf_peer::{Act, Cause, Delivery, WireFail, Wires};
+use cf_peer::{Act, Cause};
 use cf_scan::Watch;
+use cf_wires::{Delivery, WireFail, Wires};
 use std::alloc::Global;
 
 // Writes a message and sends it.
@@ -38,7 +40,8 @@ fn send_message<W: Wires>(
     p: PeerNo,
     message: &Msg,
 ) -> Result<[u8; 12], WireFail>
-    requires { IsSendable message.now }
+    requires sendable { IsSendable message.now }
+    requires open { (W.told wires.old).finished ≡ false }
     ensures sent { IfOk result (λ command. (command ≡ command_of message.now) × (W.told wires.new ≡ tell (Sent p (bytes_of message.now)) (W.told wires.old))) }
     ensures not_sent { IsErrOf result WireFail.Failed → W.told wires.new ≡ tell (SendFailed p) (W.told wires.old) }
     ensures no_memory { IsErrOf result WireFail.NoMemory → W.told wires.new ≡ W.told wires.old }
@@ -63,6 +66,7 @@ fn perform_send<W: Wires>(
     requires number { p.0 < 9 }
     requires sendable { IsSendable message.now }
     requires step { IsInStep (W.told wires.old) progress.old }
+    requires open { (W.told wires.old).finished ≡ false }
     ensures doing { OnOk result ((watch : List (List ℕ)) (more : List Act) (called : List (List ℕ)) (planned : Log) → MayAct watch (Send p message.now) planned → Doing watch (Send p message.now ∷ more) progress.old called planned (W.told wires.old) → Doing watch more progress.new called (Sent p (bytes_of message.now) ∷ planned) (W.told wires.new)) }
     ensures versions { (words : Words) → TellsWords words message.now → KeepsWords words (W.told wires.old) (W.told wires.new) }
     ensures performs { Performs (moment (W.told wires.old) (W.faults wires.old) (W.script wires.old) (W.keeps wires.old) progress.old) (moment (W.told wires.new) (W.faults wires.new) (W.script wires.new) (W.keeps wires.new) progress.new) }
@@ -92,6 +96,7 @@ fn perform_close<W: Wires>(
 ) -> Result<(), NoMemory>
     requires number { p.0 < 9 }
     requires step { IsInStep (W.told wires.old) progress.old }
+    requires open { (W.told wires.old).finished ≡ false }
     ensures doing { OnOk result ((watch : List (List ℕ)) (more : List Act) (called : List (List ℕ)) (planned : Log) → MayAct watch (Close p cause) planned → Doing watch (Close p cause ∷ more) progress.old called planned (W.told wires.old) → Doing watch more progress.new called (Closed p ∷ planned) (W.told wires.new)) }
     ensures versions { (words : Words) → KeepsWords words (W.told wires.old) (W.told wires.new) }
     ensures performs { Performs (moment (W.told wires.old) (W.faults wires.old) (W.script wires.old) (W.keeps wires.old) progress.old) (moment (W.told wires.new) (W.faults wires.new) (W.script wires.new) (W.keeps wires.new) progress.new) }
@@ -117,6 +122,7 @@ fn perform_one<W: Wires>(
 ) -> Result<(), NoMemory>
     requires doable { IsDoable act.now }
     requires step { IsInStep (W.told wires.old) progress.old }
+    requires open { (W.told wires.old).finished ≡ false }
     ensures doing { OnOk result ((watch : List (List ℕ)) (more : List Act) (called : List (List ℕ)) (planned : Log) → MayAct watch act.now planned → Doing watch (act.now ∷ more) progress.old called planned (W.told wires.old) → Doing watch more progress.new called (entry_of act.now ∷ planned) (W.told wires.new)) }
     ensures versions { (words : Words) → ActTells words act.now → KeepsWords words (W.told wires.old) (W.told wires.new) }
     ensures performs { Performs (moment (W.told wires.old) (W.faults wires.old) (W.script wires.old) (W.keeps wires.old) progress.old) (moment (W.told wires.new) (W.faults wires.new) (W.script wires.new) (W.keeps wires.new) progress.new) }
@@ -142,6 +148,7 @@ fn perform<W: Wires>(
 ) -> Result<(), NoMemory>
     requires doable { All IsDoable acts.now }
     requires step { IsInStep (W.told wires.old) progress.old }
+    requires open { (W.told wires.old).finished ≡ false }
     ensures doing { OnOk result ((watch : List (List ℕ)) (called : List (List ℕ)) (planned : Log) → Allowed watch acts.now planned → Doing watch acts.now progress.old called planned (W.told wires.old) → Doing watch [] progress.new called (after acts.now planned) (W.told wires.new)) }
     ensures versions { (words : Words) → All (ActTells words) acts.now → KeepsWords words (W.told wires.old) (W.told wires.new) }
     ensures performs { Performs (moment (W.told wires.old) (W.faults wires.old) (W.script wires.old) (W.keeps wires.old) progress.old) (moment (W.told wires.new) (W.faults wires.new) (W.script wires.new) (W.keeps wires.new) progress.new) }
@@ -160,6 +167,7 @@ fn settle<W: Wires, H: HeaderStore, M: Matcher>(
     progress: &mut Progress,
 ) -> Result<(), NoMemory>
     requires step { IsInStep (W.told wires.old) progress.old }
+    requires open { (W.told wires.old).finished ≡ false }
     ensures holds { OnOk result ((called : List (List ℕ)) (planned : Log) → Reflects client.old planned → Doing (watch_by client.old) [] progress.old called planned (W.told wires.old) → HoldsOver client.new progress.new called (W.told wires.new)) }
     ensures versions { (called : List (List ℕ)) (planned : Log) → Reflects client.old planned → Doing (watch_by client.old) [] progress.old called planned (W.told wires.old) → KeepsWords (words_by client.old) (W.told wires.old) (W.told wires.new) }
     ensures count { OnOk result (count_of client.new ≡ count_of client.old) }
@@ -185,6 +193,7 @@ fn carry_out<W: Wires, H: HeaderStore, M: Matcher>(
 ) -> Result<(), NoMemory>
     requires doable { All IsDoable acts.now }
     requires step { IsInStep (W.told wires.old) progress.old }
+    requires open { (W.told wires.old).finished ≡ false }
     ensures holds { OnOk result ((called : List (List ℕ)) (log : Log) → Answers client.old acts.now log → Doing (watch_by client.old) acts.now progress.old called log (W.told wires.old) → HoldsOver client.new progress.new called (W.told wires.new)) }
     ensures versions { (called : List (List ℕ)) (log : Log) → Answers client.old acts.now log → Doing (watch_by client.old) acts.now progress.old called log (W.told wires.old) → All (ActTells (words_by client.old)) acts.now → KeepsWords (words_by client.old) (W.told wires.old) (W.told wires.new) }
     ensures count { OnOk result (count_of client.new ≡ count_of client.old) }
@@ -197,6 +206,35 @@ fn carry_out<W: Wires, H: HeaderStore, M: Matcher>(
     Ok(())
 }
 
+// Tells the client of a peer that was dialled, and does what it then wants.
+fn greet<W: Wires, H: HeaderStore, M: Matcher>(
+    alloc: Global,
+    wires: &mut W,
+    client: &mut Client<H, M>,
+    progress: &mut Progress,
+    p: PeerNo,
+    name: &str,
+) -> Result<(), NoMemory>
+    requires room { p.0 ≤ 8 }
+    requires next { p.0 ≡ count_of client.old }
+    requires step { IsInStep (W.told wires.old) progress.old }
+    requires open { (W.told wires.old).finished ≡ false }
+    ensures holds { OnOk result ((called : List (List ℕ)) (log : Log) → Reflects client.old log
+        → ((acts : List Act) → Doing (watch_by client.old) acts progress.old called (Dialled p name.now ∷ log) (W.told wires.old))
+        → HoldsOver client.new progress.new called (W.told wires.new)) }
+    ensures versions { (called : List (List ℕ)) (log : Log) → Reflects client.old log
+        → ((acts : List Act) → Doing (watch_by client.old) acts progress.old called (Dialled p name.now ∷ log) (W.told wires.old))
+        → KeepsWords (words_by client.old) (W.told wires.old) (W.told wires.new) }
+    ensures counts { OnOk result (CountsOne client.old client.new) }
+    ensures performs { Performs
+        (moment (W.told wires.old) (W.faults wires.old) (W.script wires.old) (W.keeps wires.old) progress.old)
+        (moment (W.told wires.new) (W.faults wires.new) (W.script wires.new) (W.keeps wires.new) progress.new) }
+{
+    let acts = client.dialled(p, name)?;
+    carry_out(alloc, wires, client, &acts, progress)?;
+    Ok(())
+}
+
 // Dials the next peer.
 fn dial_one<W: Wires, H: HeaderStore, M: Matcher>(
     alloc: Global,
@@ -206,20 +244,20 @@ fn dial_one<W: Wires, H: HeaderStore, M: Matcher>(
     name: &str,
 ) -> Result<(), NoMemory>
     requires room { (W.told wires.old).tally.dials < 8 }
+    requires untaken { (W.told wires.old).tally.taken ≡ 0 }
+    requires unended { (W.told wires.old).tally.ended ≡ 0 }
     requires next { count_of client.old ≡ (W.told wires.old).tally.dials + 1 }
     requires step { IsInStep (W.told wires.old) progress.old }
+    requires open { (W.told wires.old).finished ≡ false }
     ensures holds { OnOk result ((called : List (List ℕ)) → HoldsOver client.old progress.old called (W.told wires.old) → HoldsOver client.new progress.new (called ++ name.now ∷ []) (W.told wires.new)) }
     ensures versions { (called : List (List ℕ)) → HoldsOver client.old progress.old called (W.told wires.old) → KeepsWords (words_by client.old) (W.told wires.old) (W.told wires.new) }
-    ensures next { OnOk result (count_of client.new ≡ (W.told wires.new).tally.dials + 1) }
-    ensures watch { OnOk result (watch_by client.new ≡ watch_by client.old) }
-    ensures words { words_by client.new ≡ words_by client.old }
+    ensures counts { OnOk result (CountsOne client.old client.new) }
     ensures one { OnOk result (IsOneMore name.now (W.told wires.old) (W.told wires.new)) }
     ensures dials { Dials name.now (moment (W.told wires.old) (W.faults wires.old) (W.script wires.old) (W.keeps wires.old) progress.old) (moment (W.told wires.new) (W.faults wires.new) (W.script wires.new) (W.keeps wires.new) progress.new) }
 {
     match wires.dial(name) {
         Ok(p) => {
-            let acts = client.dialled(p, name)?;
-            carry_out(alloc, wires, client, &acts, progress)?;
+            greet(alloc, wires, client, progress, p, name)?;
             Ok(())
         }
         Err(WireFail::Failed) => {
@@ -252,6 +290,7 @@ fn take_turn<W: Wires, H: HeaderStore, M: Matcher>(
     progress: &mut Progress,
 ) -> Result<Option<End>, NoMemory>
     requires step { IsInStep (W.told wires.old) progress.old }
+    requires open { (W.told wires.old).finished ≡ false }
     ensures turned { IfOk result (λ end. (called : List (List ℕ)) → HoldsOver client.old progress.old called (W.told wires.old) → Turned end client.new progress.new called (W.told wires.new)) }
     ensures versions { (called : List (List ℕ)) → HoldsOver client.old progress.old called (W.told wires.old) → KeepsWords (words_by client.old) (W.told wires.old) (W.told wires.new) }
     ensures watch { OnOk result (watch_by client.new ≡ watch_by client.old) }
@@ -291,10 +330,11 @@ fn dial_all<W: Wires, H: HeaderStore, M: Matcher>(
     requires unended { (W.told wires.old).tally.ended ≡ 0 }
     requires next { count_of client.old ≡ 1 }
     requires step { IsInStep (W.told wires.old) progress.old }
+    requires open { (W.told wires.old).finished ≡ false }
     ensures holds { OnOk result (HoldsOver client.old progress.old [] (W.told wires.old) → HoldsOver client.new progress.new (names_in names.now) (W.told wires.new)) }
     ensures versions { HoldsOver client.old progress.old [] (W.told wires.old) → KeepsWords (words_by client.old) (W.told wires.old) (W.told wires.new) }
     ensures watch { OnOk result (watch_by client.new ≡ watch_by client.old) }
-    ensures words { words_by client.new ≡ words_by client.old }
+    ensures words { OnOk result (words_by client.new ≡ words_by client.old) }
     ensures dialled { OnOk result ((W.told wires.new).tally.dials ≡ length names.now) }
     ensures first { HasNames [] (W.told wires.old) → HasDialled (names_in names.now) (W.told wires.new) }
     ensures taken { (W.told wires.new).tally.taken ≡ 0 }
@@ -330,6 +370,7 @@ fn take_turns<W: Wires, H: HeaderStore, M: Matcher>(
     requires fresh { (W.told wires.old).tally.taken ≡ 0 }
     requires unended { (W.told wires.old).tally.ended ≡ 0 }
     requires step { IsInStep (W.told wires.old) progress.old }
+    requires open { (W.told wires.old).finished ≡ false }
     ensures stopped { IfOk result (λ end. (called : List (List ℕ)) → HoldsOver client.old progress.old called (W.told wires.old) → Stopped end client.new progress.new called (W.told wires.new)) }
     ensures versions { (called : List (List ℕ)) → HoldsOver client.old progress.old called (W.told wires.old) → KeepsWords (words_by client.old) (W.told wires.old) (W.told wires.new) }
     ensures watch { OnOk result (watch_by client.new ≡ watch_by client.old) }
@@ -386,22 +427,16 @@ fn follow<W: Wires, H: HeaderStore + Drop, M: Matcher + Drop>(
     turns: u32,
 ) -> Result<Outcome, NoMemory>
     requires fresh { Tells [] (W.told wires.old) }
+    requires open { (W.told wires.old).finished ≡ false }
     requires few { length names.now ≤ 8 }
     requires empty { (q : ℕ) → H.chain store q ≡ None }
     ensures followed { IfOk result (λ o. IfSome (W.told wires.new).log (λ log. Followed watch o.end o.height o.tip o.history o.trace.items (names_in names.now) log)) }
     ensures ends { IfOk result (λ o. IfSome (W.told wires.new).log (λ log. EndsTell o.ends.items log)) }
     ensures versions { HasWords (record { moment = moment; number = nonce }) (W.told wires.new) }
     ensures no_peers { IfOk result (λ o. (o.end ≡ End.NoPeers) ↔ NobodyLeft (W.told wires.new).tally) }
-    ensures tired { IfOk result (λ o. o.end ≡ End.Tired → (W.told wires.new).tally.taken ≡ turns) }
-    ensures ended { IfOk result (λ o. o.end ≡ End.Ended → (W.told wires.new).tally.ended ≡ 1) }
-    ensures early { IfOk result (λ o. o.end ≡ End.Ended → (W.told wires.new).tally.taken < turns) }
-    ensures dialled { OnOk result ((W.told wires.new).tally.dials ≡ length names.now) }
-    ensures first { HasDialled (names_in names.now) (W.told wires.new) }
-    ensures most { (W.told wires.new).tally.taken ≤ turns }
-    ensures once { (W.told wires.new).tally.ended ≤ 1 }
-    ensures finished { (W.told wires.new).finished ≡ (W.told wires.old).finished }
-    ensures keeps { W.keeps wires.new ≡ W.keeps wires.old }
-    ensures course { Course (W.told wires.old) (W.told wires.new) (W.faults wires.old) (W.faults wires.new) (W.script wires.old) (W.script wires.new) }
+    ensures within { IfOk result (λ o. EndsWithin o.end (length names.now) turns (W.told wires.new).tally) }
+    ensures passes { Passes (names_in names.now) turns (W.told wires.old) (W.told wires.new) (W.faults wires.old)
+        (W.faults wires.new) (W.script wires.old) (W.script wires.new) (W.keeps wires.old) (W.keeps wires.new) }
 {
     let mut client = Client::new(alloc, watch, store, matcher, moment, nonce)?;
     let mut progress = Progress::new(alloc);

@@ -17,6 +17,7 @@ pub record Lent : Type 0 where
   pub ended : Bool
   pub plan : Calls
 
+-- a source in memory with these bytes left
 abbrev pub lent_at : Pace → List ℕ → Lent
 lent_at p rest = record { rest = rest; most = p.most; ended = p.ended; plan = p.plan }
 
@@ -24,9 +25,11 @@ lent_at p rest = record { rest = rest; most = p.most; ended = p.ended; plan = p.
 abbrev pub given : Lent → ℕ → ℕ
 given s room = min (min (length s.rest) s.most) room
 
+-- what a read answers: a fault exactly where the call is to fail, else how many bytes it gives
 abbrev pub read_answer : Lent → ℕ → Result ℕ Failed
 read_answer s room = if is_refused s.plan true then Err (record {}) else Ok (given s room)
 
+-- what a read leaves: a failed one is counted and takes nothing, else the bytes that were given are gone
 abbrev pub after_read : Lent → ℕ → Lent
 after_read s room =
     if is_refused s.plan true then record s { plan = after_call s.plan true }

@@ -8,7 +8,7 @@ use Rattle.cf_chain.specs.Good.{IsGoodChain, max_height}
 use Rattle.cf_headers.specs.Chain.{IsIn, NoHashClash}
 use Rattle.cf_make.specs.Made.{IsExtension, seed_limit}
 use Rattle.cf_make.proofs.MadeLaws.{chain_is_good}
-use Rattle.cf_peer.specs.Log.{Log}
+use Rattle.cf_wires.specs.Log.{Log}
 use Rattle.cf_sync.specs.Sync.{IsHashed, strings_of_block}
 use Rattle.cf_demo.specs.Demo.{IsRefusedFor, IsUnmade, IsUnplayed, IsApart}
 use Rattle.cf_demo.specs.Three.{AreTwoChains}

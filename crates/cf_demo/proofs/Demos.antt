@@ -19,9 +19,9 @@ use Rattle.cf_client.specs.Names.{names_in}
 use Rattle.cf_client.specs.Run.{Followed, IsEnd}
 use Rattle.cf_headers.specs.Chain.{NoHashClash}
 use Rattle.cf_make.proofs.MadeLaws.{extension_one}
-use Rattle.cf_peer.specs.declared.event.Delivery.TheVariants.{Ended as EndedFirst}
-use Rattle.cf_peer.specs.declared.event.Event.TheVariants.{Took}
-use Rattle.cf_peer.specs.Log.{Log, tally_of}
+use Rattle.cf_wires.specs.declared.event.Delivery.TheVariants.{Ended as EndedFirst}
+use Rattle.cf_wires.specs.declared.event.Event.TheVariants.{Took}
+use Rattle.cf_wires.specs.Log.{Log, tally_of}
 use Rattle.cf_peer.specs.Trail.{trail, connected, ready}
 use Rattle.cf_peer.specs.Asking.{is_idle, request}
 use Rattle.cf_played.specs.declared.kind.Way.TheVariants.{Honest, Omits, Silent}

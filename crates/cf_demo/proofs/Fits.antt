@@ -22,8 +22,8 @@ use Rattle.cf_msg.specs.declared.msg.Msg.TheVariants.{Version, Verack, Ping, Get
 use Rattle.cf_peer.specs.Acts.{IsSendable}
 use Rattle.cf_peer.specs.Asking.{MayAsk}
 use Rattle.cf_peer.specs.Trail.{Trail}
-use Rattle.cf_played.proofs.Written.{written, version_fits, all_places, cfilter_fits, hashes_fit, before_fits}
-use Rattle.cf_server.proofs.Fitting.{IsFit, block_fits, filter_fits, hash_fits}
+use Rattle.cf_played.proofs.Written.{written, version_fits, all_places, cfilter_fits}
+use Rattle.cf_server.proofs.Fitting.{IsFit, before_fits, block_fits, filter_fits, hash_fits, hashes_fit}
 use Rattle.cf_server.proofs.Lists.{all-take, all-drop, all-append, all-map, all-flat_map}
 use Rattle.cf_sync.specs.Honesty.{is_chatter, IsAnswer}
 

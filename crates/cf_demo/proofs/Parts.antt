@@ -12,9 +12,9 @@ use Rattle.cf_msg.specs.declared.msg.Malformed.{Malformed}
 use Rattle.cf_msg.specs.declared.msg.Msg.{Msg}
 use Rattle.cf_msg.specs.declared.msg.Msg.TheVariants.{Version, Verack, Pong, GetHeaders, GetData, GetCfilters, GetCfheaders}
 use Rattle.cf_msg.specs.Reading.{message_of}
-use Rattle.cf_peer.specs.declared.event.Delivery.TheVariants.{Got, Gone, Tick, Ended}
-use Rattle.cf_peer.specs.declared.event.Event.TheVariants.{Dialled, NotDialled, Sent, SendFailed, Closed, Took}
-use Rattle.cf_peer.specs.Log.{Log, tally_of}
+use Rattle.cf_wires.specs.declared.event.Delivery.TheVariants.{Got, Gone, Tick, Ended}
+use Rattle.cf_wires.specs.declared.event.Event.TheVariants.{Dialled, NotDialled, Sent, SendFailed, Closed, Took}
+use Rattle.cf_wires.specs.Log.{Log, tally_of}
 use Rattle.cf_peer.specs.Trail.{Why, Trail, Part, Lost, Went, Failing, Shutting, called_part, with_item, item_of, item_of_read, hears, hears_fault, part_after, heard_part, spelled, asks, part_of, trail, connected}
 use Rattle.cf_peer.specs.Asking.{MayAsk}
 use Rattle.cf_sync.specs.Fetching.{Rightly}

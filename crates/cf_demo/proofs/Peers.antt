@@ -3,7 +3,7 @@ use Rattle.std.proofs.Common.{◌≡◌, ℕ, zero, suc, ◌<◌, List, [], ◌�
 use Rattle.std.proofs.Math.Logic.{∥∥₁_map}
 use Rattle.cf_block.specs.declared.tx.Block.{Block}
 use Rattle.cf_headers.specs.Chain.{NoHashClash}
-use Rattle.cf_peer.specs.Log.{Log, tally_of}
+use Rattle.cf_wires.specs.Log.{Log, tally_of}
 use Rattle.cf_played.specs.declared.kind.Way.{Way}
 use Rattle.cf_played.specs.declared.kind.Way.TheVariants.{Honest}
 use Rattle.cf_played.specs.Answers.{is_plain, HasBegun, HasAnswered, HasBegunAlike}

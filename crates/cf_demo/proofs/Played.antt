@@ -10,10 +10,10 @@ use Rattle.cf_chain.specs.Filters.{Filtered}
 use Rattle.cf_dispute.specs.Claims.{Table}
 use Rattle.cf_headers.specs.Chain.{Hash, IsWithinLimit, NoHashClash, height_limit}
 use Rattle.cf_msg.specs.declared.msg.Msg.{Msg}
-use Rattle.cf_peer.specs.declared.event.Delivery.TheVariants.{Got, Gone, Tick, Ended}
-use Rattle.cf_peer.specs.declared.event.Event.{Event}
-use Rattle.cf_peer.specs.declared.event.Event.TheVariants.{Dialled, NotDialled, Sent, SendFailed, Closed, Took}
-use Rattle.cf_peer.specs.Log.{Log, tally_of}
+use Rattle.cf_wires.specs.declared.event.Delivery.TheVariants.{Got, Gone, Tick, Ended}
+use Rattle.cf_wires.specs.declared.event.Event.{Event}
+use Rattle.cf_wires.specs.declared.event.Event.TheVariants.{Dialled, NotDialled, Sent, SendFailed, Closed, Took}
+use Rattle.cf_wires.specs.Log.{Log, tally_of}
 use Rattle.cf_frame.specs.declared.frame.Frame.{Frame}
 use Rattle.cf_frame.specs.declared.frame.FrameFault.{FrameFault}
 use Rattle.cf_frame.specs.Stream.{StreamRead, read_stream}
@@ -31,7 +31,7 @@ use Rattle.cf_sync.proofs.Chains.{Setting, headers_length}
 use Rattle.cf_sync.proofs.Entries.{at_either}
 use Rattle.cf_sync.proofs.Serves.{Owes}
 use Rattle.cf_sync.proofs.Settles.{setting_of}
-use Rattle.cf_sync.proofs.HonestLemmas.{honest_good}
+use Rattle.cf_sync.proofs.HonestLemmas.{honest_good, rightly_before}
 use Rattle.cf_played.specs.Answers.{came, told_to}
 use Rattle.cf_client.specs.Run.{AreNumbered}
 use Rattle.cf_played.specs.declared.kind.Way.TheVariants.{Honest}
@@ -108,14 +108,6 @@ pub says_first : (ms : List Msg) (log : Log) (p : ℕ) → AreSendable ms → ta
 says_first ms log p all begun a =
     let b = begun_of ms (came log p) all begun in
     record { first = b.said; left = b.left; joined = b.joined; says = a.says ∙ begun_words ms (came log p) all b }
-
-pub rightly_before : (e : Event) (log : Log) → Rightly (e ∷ log) → Rightly log
-rightly_before (Dialled q name) log r = r
-rightly_before (NotDialled q name) log r = r
-rightly_before (Sent q bytes) log r = r.1
-rightly_before (SendFailed q) log r = r
-rightly_before (Closed q) log r = r.1
-rightly_before (Took d) log r = r.1
 
 pub numbered_before : (e : Event) (log : Log) → AreNumbered (e ∷ log) → AreNumbered log
 numbered_before (Dialled q name) log n = n.1

@@ -23,9 +23,9 @@ use Rattle.cf_msg.specs.declared.msg.Malformed.{Malformed}
 use Rattle.cf_msg.specs.declared.msg.Msg.{Msg}
 use Rattle.cf_msg.specs.declared.msg.Msg.TheVariants.{Version, Ping, GetHeaders, Headers, GetData, Block as BlockMessage, GetCfilters, GetCfheaders, GetCfcheckpt}
 use Rattle.cf_msg.specs.Reading.{message_of}
-use Rattle.cf_peer.specs.declared.event.Delivery.TheVariants.{Got, Gone, Tick, Ended}
-use Rattle.cf_peer.specs.declared.event.Event.TheVariants.{Dialled, NotDialled, Sent, SendFailed, Closed, Took}
-use Rattle.cf_peer.specs.Log.{Log}
+use Rattle.cf_wires.specs.declared.event.Delivery.TheVariants.{Got, Gone, Tick, Ended}
+use Rattle.cf_wires.specs.declared.event.Event.TheVariants.{Dialled, NotDialled, Sent, SendFailed, Closed, Took}
+use Rattle.cf_wires.specs.Log.{Log}
 use Rattle.cf_peer.specs.Trail.{Trail, Part, Lost, Went, Failing, Shutting, called_part, with_item, item_of, item_of_read, hears, hears_fault, part_after, heard_part, spelled, asks, part_of, trail, own}
 use Rattle.cf_peer.specs.Asking.{lists, HasSaid, MayAsk}
 use Rattle.cf_played.specs.declared.kind.Way.{Way}
@@ -42,7 +42,8 @@ use Rattle.cf_sync.proofs.Listed.{in_right}
 use Rattle.cf_demo.specs.Playing.{IsRun, PlaysAlike}
 use Rattle.cf_demo.proofs.Beginnings.{word_of, words}
 use Rattle.cf_demo.proofs.Parts.{IsFine, agrees, said_hears}
-use Rattle.cf_demo.proofs.Played.{rightly_before, numbered_before, fine_of, says_first, chain_setting}
+use Rattle.cf_sync.proofs.HonestLemmas.{rightly_before}
+use Rattle.cf_demo.proofs.Played.{numbered_before, fine_of, says_first, chain_setting}
 
 -- ---- all that a peer has said
 

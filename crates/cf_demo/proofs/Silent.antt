@@ -19,13 +19,13 @@ use Rattle.cf_msg.specs.declared.msg.Malformed.{Malformed}
 use Rattle.cf_msg.specs.declared.msg.Msg.{Msg}
 use Rattle.cf_msg.specs.declared.msg.Msg.TheVariants.{Version, Verack, Ping, Pong, GetHeaders, Headers, GetData, GetCfilters, GetCfheaders, GetCfcheckpt}
 use Rattle.cf_msg.specs.Reading.{message_of}
-use Rattle.cf_peer.specs.declared.event.Delivery.TheVariants.{Got, Gone, Tick, Ended}
-use Rattle.cf_peer.specs.declared.event.Event.{Event}
-use Rattle.cf_peer.specs.declared.event.Event.TheVariants.{Dialled, NotDialled, Sent, SendFailed, Closed, Took}
+use Rattle.cf_wires.specs.declared.event.Delivery.TheVariants.{Got, Gone, Tick, Ended}
+use Rattle.cf_wires.specs.declared.event.Event.{Event}
+use Rattle.cf_wires.specs.declared.event.Event.TheVariants.{Dialled, NotDialled, Sent, SendFailed, Closed, Took}
 use Rattle.cf_scan.specs.declared.history.Entry.{Entry as HistoryEntry}
-use Rattle.cf_peer.specs.Log.{Log, tally_of}
+use Rattle.cf_wires.specs.Log.{Log, tally_of}
 use Rattle.cf_peer.specs.Trail.{Trail, Part, Asked, Lost, Went, Failing, Shutting, called_part, with_item, item_of, item_of_read, hears, hears_fault, part_after, heard_part, spelled, asks, part_of, trail, connected, ready, own, heard}
-use Rattle.cf_peer.specs.Asking.{OpenRequest, NothingOpen, HeadersOpen, ClaimsOpen, FiltersOpen, BlockOpen, claims_asked, filters_asked, block_asked, claims, claims_after, request, request_after, is_idle, is_open, hashes_of, MayAsk}
+use Rattle.cf_peer.specs.Asking.{HasHeader, OpenRequest, NothingOpen, HeadersOpen, ClaimsOpen, FiltersOpen, BlockOpen, claims_asked, filters_asked, block_asked, claims, claims_after, request, request_after, is_idle, is_open, hashes_of, MayAsk}
 use Rattle.cf_played.specs.declared.kind.Way.TheVariants.{Silent}
 use Rattle.cf_played.specs.Answers.{came, told_to, is_answered, HasBegun}
 use Rattle.cf_client.specs.Run.{AreNumbered}
@@ -39,13 +39,14 @@ use Rattle.cf_sync.proofs.Asks.{claim_there}
 use Rattle.cf_sync.proofs.Chains.{up_all, headers_length, cases_same, one_height}
 use Rattle.cf_sync.proofs.Counted.{same_use}
 use Rattle.cf_sync.proofs.Entries.{at_either}
-use Rattle.cf_sync.proofs.HonestLemmas.{honest_good, own_whole}
+use Rattle.cf_sync.proofs.HonestLemmas.{rightly_before, honest_good, own_whole}
+use Rattle.cf_sync.proofs.Settles.{shared_whole}
 use Rattle.cf_demo.specs.Playing.{IsRun, Plays, PlaysSilent}
 use Rattle.cf_demo.proofs.Orderly.{WereGreeted, were_greeted}
 use Rattle.cf_demo.proofs.Beginnings.{word_of, words, AreSendable}
 use Rattle.cf_demo.proofs.Fits.{IsQuestion, replies_good, sendable_of}
 use Rattle.cf_demo.proofs.Parts.{IsFine, agrees, said_hears}
-use Rattle.cf_demo.proofs.Played.{questions, rightly_before, numbered_before, fine_of, says_first, chain_setting, honest_peer}
+use Rattle.cf_demo.proofs.Played.{questions, numbered_before, fine_of, says_first, chain_setting, honest_peer}
 
 -- ---- what it is told and what it says
 
@@ -374,7 +375,7 @@ silent_apart watch height hash entries log p blocks good clash f numbered greets
           let long : length (headers_of blocks) ≡ length blocks = headers_length blocks in
           let tip : Hash = tip_hash (headers_of blocks) in
           let there : IsIn tip (hashes_of f.told.chain) = subst (λ (c : Chain). IsIn tip (hashes_of c)) (sym best) (tip_in (headers_of blocks) (omega (arith, long, tall))) in
-          let known = f.claimed p on (mine ∙ sym best) tip there in
+          let known = shared_whole (HasHeader (counted_part log p)) (own (counted_part log p)) f.told.chain (mine ∙ sym best) (f.claimed p on) tip there in
           let off : same (block_hash_of genesis_header) tip ≡ false = elim (cases_same (block_hash_of genesis_header) tip) [
             | inl here ↦ (let none = one_height blocks s 0 (length blocks) (omega arith) (omega arith) (here.0 ∙ sym (ap tip_hash (up_all blocks))) in absurd (omega (arith, none, tall)))
             | inr off ↦ off.0

@@ -10,9 +10,9 @@ use Rattle.cf_frame.specs.Stream.{read_stream}
 use Rattle.cf_headers.specs.Chain.{Chain}
 use Rattle.cf_headers.specs.Shown.{Shows}
 use Rattle.cf_msg.specs.declared.msg.Msg.{Msg}
-use Rattle.cf_peer.specs.declared.event.Delivery.TheVariants.{Got, Gone, Tick, Ended}
-use Rattle.cf_peer.specs.declared.event.Event.TheVariants.{Dialled, NotDialled, Sent, SendFailed, Closed, Took}
-use Rattle.cf_peer.specs.Log.{Log}
+use Rattle.cf_wires.specs.declared.event.Delivery.TheVariants.{Got, Gone, Tick, Ended}
+use Rattle.cf_wires.specs.declared.event.Event.TheVariants.{Dialled, NotDialled, Sent, SendFailed, Closed, Took}
+use Rattle.cf_wires.specs.Log.{Log}
 use Rattle.cf_peer.specs.Trail.{Part, Lost, Went, Failing, Shutting, called_part, with_item, heard_part, spelled, asks, part_of, trail, connected, own}
 use Rattle.cf_peer.specs.Asking.{lists, MayAsk}
 use Rattle.cf_played.specs.declared.kind.Way.TheVariants.{Honest, Omits}
@@ -31,7 +31,8 @@ use Rattle.cf_demo.proofs.Orderly.{WereGreeted, were_greeted}
 use Rattle.cf_demo.specs.Three.{AreTwoChains, AreThree}
 use Rattle.cf_demo.proofs.Fits.{sendable_of}
 use Rattle.cf_demo.proofs.Parts.{away, asked_there, off_read}
-use Rattle.cf_demo.proofs.Played.{answers_good, rightly_before, chain_setting, run_honest}
+use Rattle.cf_sync.proofs.HonestLemmas.{rightly_before}
+use Rattle.cf_demo.proofs.Played.{answers_good, chain_setting, run_honest}
 use Rattle.cf_demo.proofs.Shown.{IsUpTo, shows_part}
 use Rattle.cf_demo.proofs.Silent.{silent_apart}
 

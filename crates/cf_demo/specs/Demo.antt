@@ -24,9 +24,9 @@ use Rattle.cf_make.specs.Made.{IsExtension, StopsAt, script_of}
 use Rattle.cf_msg.specs.Command.{getdata_command}
 use Rattle.cf_msg.specs.declared.msg.Msg.{Msg}
 use Rattle.cf_msg.specs.declared.msg.Msg.TheVariants.{GetData}
-use Rattle.cf_peer.specs.declared.event.Event.{Event}
-use Rattle.cf_peer.specs.declared.event.Event.TheVariants.{Dialled, NotDialled, Sent, SendFailed, Closed, Took}
-use Rattle.cf_peer.specs.Log.{Log, tally_of}
+use Rattle.cf_wires.specs.declared.event.Event.{Event}
+use Rattle.cf_wires.specs.declared.event.Event.TheVariants.{Dialled, NotDialled, Sent, SendFailed, Closed, Took}
+use Rattle.cf_wires.specs.Log.{Log, tally_of}
 use Rattle.cf_peer.specs.Trail.{spelled}
 use Rattle.cf_played.specs.declared.kind.Kind.TheVariants.{Honest as HonestKind}
 use Rattle.cf_played.specs.declared.kind.Way.{Way}
@@ -46,9 +46,11 @@ use Rattle.cf_sync.specs.Sync.{IsHashed, SyncTheorem}
 abbrev pub demo_watch : List (List ℕ)
 demo_watch = script_of 0 ∷ script_of 1 ∷ []
 
+-- the names of a demo's three peers
 abbrev pub demo_names : List (List ℕ)
 demo_names = codes "peer1" ∷ codes "peer2" ∷ codes "peer3" ∷ []
 
+-- the name of a session's one peer
 abbrev pub session_names : List (List ℕ)
 session_names = codes "peer1" ∷ []
 
@@ -107,6 +109,7 @@ pub record HavePrepared (seed blocks : ℕ) (peers : List Peer) : Type 0 where
   pub made_longer : IsExtension [] (seed + 1) (blocks + 2) longer
   pub added : AreAdded chain longer peers
 
+-- one honest peer was added, on the chain of so many blocks that a seed makes
 pub record HasPrepared (seed blocks : ℕ) (peers : List Peer) : Type 0 where
   pub chain : List Block
   pub made : IsExtension [] seed blocks chain
@@ -147,6 +150,7 @@ abbrev pub is_fetch_line : TraceLine → Bool
 is_fetch_line (SentLine p command) = bytes_eq command getdata_command
 is_fetch_line (ClosedLine p cause) = false
 
+-- a line of a trace tells of a close
 abbrev pub is_close_line : TraceLine → Bool
 is_close_line (SentLine p command) = false
 is_close_line (ClosedLine p cause) = true

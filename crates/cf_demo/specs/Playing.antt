@@ -4,9 +4,9 @@ use Rattle.std.specs.List.{list_all}
 use Rattle.cf_block.specs.declared.tx.Block.{Block}
 use Rattle.cf_client.specs.Run.{AreNumbered, WasOrderly}
 use Rattle.cf_sync.specs.Fetching.{Rightly}
-use Rattle.cf_peer.specs.declared.event.Delivery.TheVariants.{Tick}
-use Rattle.cf_peer.specs.declared.event.Event.TheVariants.{Took}
-use Rattle.cf_peer.specs.Log.{Log}
+use Rattle.cf_wires.specs.declared.event.Delivery.TheVariants.{Tick}
+use Rattle.cf_wires.specs.declared.event.Event.TheVariants.{Took}
+use Rattle.cf_wires.specs.Log.{Log}
 use Rattle.cf_played.specs.declared.kind.Way.{Way}
 use Rattle.cf_played.specs.declared.kind.Way.TheVariants.{Honest, Silent}
 use Rattle.cf_played.specs.Peers.{Peer}

@@ -3,7 +3,7 @@ use Rattle.std.specs.Prelude.{◌≡◌, ◌<◌, List, length}
 use Rattle.cf_block.specs.declared.tx.Block.{Block}
 use Rattle.cf_chain.specs.Good.{IsGoodChain}
 use Rattle.cf_headers.specs.Chain.{NoHashClash}
-use Rattle.cf_peer.specs.Log.{Log, tally_of}
+use Rattle.cf_wires.specs.Log.{Log, tally_of}
 use Rattle.cf_played.specs.declared.kind.Way.TheVariants.{Omits}
 use Rattle.cf_sync.specs.Sync.{IsHashed}
 use Rattle.cf_demo.specs.Playing.{Plays, PlaysSilent, PlaysAlike}

@@ -6,7 +6,7 @@ ghost use Rattle.cf_chain.specs.Good.{IsGoodChain, headers_of};
 ghost use Rattle.cf_headers.specs.Chain.{Chain, IsPart, NoHashClash};
 ghost use Rattle.cf_headers.specs.Shown.{Shows};
 ghost use Rattle.cf_peer.specs.Asking.{is_open, lists};
-ghost use Rattle.cf_peer.specs.Log.{Log, tally_of};
+ghost use Rattle.cf_wires.specs.Log.{Log, tally_of};
 ghost use Rattle.cf_peer.specs.Trail.{trail, own};
 ghost use Rattle.cf_scan.specs.declared.history.Entry.{Entry};
 ghost use Rattle.cf_sync.specs.Fetching.{IsConnected, IsQuiet, counted_part};

@@ -17,9 +17,9 @@ use cf_client::Outcome;
 use cf_headers::Lists;
 use cf_make::{Chain, chain, script};
 use cf_match::Matcher;
-use cf_peer::Wires;
 use cf_played::{Kind, Played};
 use cf_scan::Watch;
+use cf_wires::Wires;
 use std::alloc::Global;
 use std::thread::Threads;
 

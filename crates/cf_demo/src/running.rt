@@ -6,7 +6,7 @@ ghost use Rattle.cf_client.specs.Run.{Followed};
 ghost use Rattle.cf_client.specs.Versions.{IsOfWords};
 ghost use Rattle.cf_demo.specs.Playing.{Accounts};
 ghost use Rattle.cf_headers.specs.Chain.{NoHashClash};
-ghost use Rattle.cf_peer.specs.Log.{tally_of};
+ghost use Rattle.cf_wires.specs.Log.{tally_of};
 ghost use Rattle.cf_played.specs.declared.kind.Way.TheVariants.{Honest};
 ghost use Rattle.cf_played.specs.Peers.{Peer, still};
 ghost use Rattle.cf_played.specs.Told.{log_of, finished_of, keeps_of, peers_of};

@@ -11,6 +11,7 @@ use Rattle.cf_golomb.specs.Meets.{hits, answer_by}
 abbrev pub first_key : List ℕ → ℕ
 first_key hash = from_le_bytes w64 (take 8 hash)
 
+-- the second half of the key: the next 8 bytes of the block's hash, the low byte first
 abbrev pub second_key : List ℕ → ℕ
 second_key hash = from_le_bytes w64 (take 8 (drop 8 hash))
 
@@ -18,9 +19,11 @@ second_key hash = from_le_bytes w64 (take 8 (drop 8 hash))
 unfoldable pub value_under : ℕ → ℕ → ℕ → List ℕ → ℕ
 value_under k0 k1 n item = ((sip24_of k0 k1 item % 2 ^ 64) * (n * 784931)) / 2 ^ 64
 
+-- the value of an item of n under a block's hash (BIP 158, "Hashing Data Objects")
 abbrev pub value_of : List ℕ → ℕ → List ℕ → ℕ
 value_of hash n item = value_under (first_key hash) (second_key hash) n item
 
+-- the values of items under a block's key, in the order of the items (BIP 158, "Hashing Data Objects")
 abbrev pub values_of : List ℕ → ℕ → List (List ℕ) → List ℕ
 values_of hash n items = map (value_of hash n) items
 
@@ -29,6 +32,7 @@ abbrev pub put_in : ℕ → List ℕ → List ℕ
 put_in v [] = v ∷ []
 put_in v (x ∷ xs) = if nat_le v x then v ∷ x ∷ xs else x ∷ put_in v xs
 
+-- a list of numbers in ascending order; equal ones stay
 abbrev pub ascending : List ℕ → List ℕ
 ascending [] = []
 ascending (v ∷ vs) = put_in v (ascending vs)
@@ -37,6 +41,7 @@ ascending (v ∷ vs) = put_in v (ascending vs)
 unfoldable pub basic_filter_of : List ℕ → List (List ℕ) → List ℕ
 basic_filter_of hash items = spelling (ascending (values_of hash (length items) items))
 
+-- a filter's hash: SHA-256 of SHA-256 of its bytes (BIP 157, "Filter Headers")
 unfoldable pub filter_hash_of : List ℕ → List ℕ
 filter_hash_of bytes = hash_of bytes
 

@@ -9,6 +9,7 @@ use Rattle.cf_frame.specs.declared.frame.Frame.{Frame}
 abbrev pub magic : List ℕ
 magic = 0xfa ∷ 0xbf ∷ 0xb5 ∷ 0xda ∷ []
 
+-- a byte that a command may have before its NULs
 abbrev pub is_printable : ℕ → Bool
 is_printable b = nat_le 0x20 b && nat_le b 0x7e
 

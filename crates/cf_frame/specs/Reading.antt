@@ -1,4 +1,4 @@
--- Reading a frame from the front of some bytes.
+-- Reading a frame from the front of some bytes (Bitcoin developer reference, "Message Headers").
 use Rattle.std.specs.Prelude.{◌≡◌, ℕ, nat_lt, not, if◌then◌else◌, List, ◌++◌, Option, Some, None, Result, Ok, Err}
 use Rattle.std.specs.Int.{w32}
 use Rattle.std.specs.Str.{bytes_eq}
@@ -48,6 +48,7 @@ abbrev pub header_front : Read Header CutFault → Front
 header_front (Err e) = Ok None
 header_front (Ok h) = judged_front (header_fault h.0) h.0 h.1
 
+-- what stands at the front of bytes: a frame and the rest, no whole frame yet, or the first fault
 unfoldable pub front_of : List ℕ → Front
 front_of bytes = header_front (header_at bytes)
 

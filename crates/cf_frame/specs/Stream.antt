@@ -59,6 +59,7 @@ pub record StreamRead : Type 0 where
   pub rest : List ℕ
   pub fault : Option FrameFault
 
+-- a stream that was read, with one frame more before it
 abbrev pub with_frame : Frame → StreamRead → StreamRead
 with_frame f read = record read { frames = f ∷ read.frames }
 
@@ -68,6 +69,7 @@ with_frames frames read = record read { frames = frames ++ read.frames }
 abbrev pub no_frames : List ℕ → Option FrameFault → StreamRead
 no_frames bytes fault = record { frames = []; rest = bytes; fault = fault }
 
+-- what a stream is read as, by what stands at its front and by how the bytes behind it are read
 abbrev pub from_front : (List ℕ → StreamRead) → List ℕ → Front → StreamRead
 from_front next bytes (Ok (Some x)) = with_frame x.0 (next x.1)
 from_front next bytes (Ok None) = no_frames bytes None

@@ -32,8 +32,8 @@ use Rattle.cf_sync.proofs.Listed.{in_left, in_right, in_either}
 use Rattle.cf_sync.proofs.VerdictsGrow.{said_gives}
 use Rattle.cf_tracker.specs.Wanting.{IsSameTables}
 use Rattle.cf_match.specs.declared.job.Job.{Job}
-use Rattle.cf_match.specs.declared.job.Verdict.{Verdict}
-use Rattle.cf_match.specs.Verdicts.{Verdicts, AreSameVerdicts, is_of, kept_or, verdict_of, with_verdict, with_verdicts}
+use Rattle.cf_match.specs.Verdicts.{Verdicts, AreSameVerdicts, with_verdict, with_verdicts}
+use Rattle.cf_tracker.proofs.Judgings.{same_all}
 use Rattle.std.specs.Prelude.{IsSome, option_map}
 use Rattle.cf_block.specs.Header.{genesis_header}
 use Rattle.cf_dispute.specs.declared.claim.Claim.{Claim}
@@ -63,13 +63,6 @@ blocks_append watch (b ∷ more) news now before is =
     λ hash. ap (λ (o : Option (List TxExtract)). with_block watch b (λ (h : Hash). o) hash) (blocks_append watch more news now before is hash)
 
 -- the verdicts on filters, after those on others
-same_one : (watch : List (List ℕ)) (job : Job) (a b : Verdicts) → AreSameVerdicts a b → AreSameVerdicts (with_verdict watch job a) (with_verdict watch job b)
-same_one watch job a b is block hash = ap (λ (o : Option Verdict). if is_of job block hash then Some (kept_or o (verdict_of watch job)) else o) (is block hash)
-
-same_all : (watch : List (List ℕ)) (jobs : List Job) (a b : Verdicts) → AreSameVerdicts a b → AreSameVerdicts (with_verdicts watch jobs a) (with_verdicts watch jobs b)
-same_all watch [] a b is = is
-same_all watch (job ∷ jobs) a b is = same_all watch jobs (with_verdict watch job a) (with_verdict watch job b) (same_one watch job a b is)
-
 verdicts_append : (watch : List (List ℕ)) (jobs more : List Job) (before : Verdicts) → AreSameVerdicts (with_verdicts watch more (with_verdicts watch jobs before)) (with_verdicts watch (jobs ++ more) before)
 verdicts_append watch [] more before block hash = refl
 verdicts_append watch (job ∷ jobs) more before block hash = verdicts_append watch jobs more (with_verdict watch job before) block hash

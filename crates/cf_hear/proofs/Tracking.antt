@@ -19,9 +19,9 @@ use Rattle.cf_msg.specs.Reading.{message_of}
 use Rattle.cf_peer.specs.declared.act.Act.{Act}
 use Rattle.cf_peer.specs.declared.peer.Cause.{Cause}
 use Rattle.cf_peer.specs.declared.peer.Peer.{Peer}
-use Rattle.cf_peer.specs.declared.event.Delivery.TheVariants.{Got, Gone, Tick, Ended}
-use Rattle.cf_peer.specs.declared.event.Event.TheVariants.{Dialled, NotDialled, Sent, Closed, Took}
-use Rattle.cf_peer.specs.Log.{Log}
+use Rattle.cf_wires.specs.declared.event.Delivery.TheVariants.{Got, Gone, Tick, Ended}
+use Rattle.cf_wires.specs.declared.event.Event.TheVariants.{Dialled, NotDialled, Sent, Closed, Took}
+use Rattle.cf_wires.specs.Log.{Log}
 use Rattle.cf_peer.specs.Trail.{Trail, Part, Said, Lost, Went, Shutting, part_of, trail, went_on, asks, spelled, with_item, called_part, heard_part, hears, hears_fault, item_of, item_of_read, connected, own}
 use Rattle.cf_peer.specs.Asking.{claims, counted, verdict, fetched, given, SameUse}
 use Rattle.cf_sync.specs.Fetching.{HoldsFetched, IsFetched}

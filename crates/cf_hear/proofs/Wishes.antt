@@ -18,7 +18,7 @@ use Rattle.cf_headers.proofs.Locators.{hash_in}
 use Rattle.cf_msg.specs.declared.msg.Entry.{Entry}
 use Rattle.cf_msg.specs.declared.msg.Msg.TheVariants.{GetCfheaders, GetCfilters, GetData}
 use Rattle.cf_peer.specs.Asking.{HasHeader, IsClaimed, IsFree, MayAsk, block_entry, claims, counted, hashes_of, verdict}
-use Rattle.cf_peer.specs.Log.{Log}
+use Rattle.cf_wires.specs.Log.{Log}
 use Rattle.cf_peer.specs.Trail.{Trail, trail, connected, own}
 use Rattle.cf_sync.specs.Fetching.{IsFilterWanted, IsNeeded, IsNoneFetching, IsBlockWanted, MaySend, blocks_in}
 use Rattle.cf_sync.proofs.Kept.{filter_by, block_by}

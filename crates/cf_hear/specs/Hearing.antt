@@ -112,6 +112,7 @@ pub record HeardFault (p : PeerNo) (seen now : Seen) (before after : List Act) (
   pub gives : IsGivenBetween start.trail end.trail jobs
   pub kept : Retains seen now p news jobs
 
+-- what a piece of a peer's bytes does: all of its messages were taken, or those before the first frame that deserves a cause
 abbrev pub HeardPiece : PeerNo → Peer → Seen → Seen → List Act → List Act → Part → Part → Option Cause → Type 0
 HeardPiece p new seen now before after start end None = HeardWhole p new seen now before after start end
 HeardPiece p new seen now before after start end (Some cause) = HeardFault p seen now before after start end cause

@@ -1,3 +1,4 @@
+mod Begins
 mod Books
 mod Bytes
 mod Causes

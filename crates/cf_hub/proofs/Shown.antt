@@ -50,15 +50,17 @@ module _ {S : Type 0} (left : S → Option (List ℕ)) (faults : S → ℕ) (end
         | inr x ↦ elim x.6 [ inl y ↦ inl y.0 | inr y ↦ inr y ]
       ]
 
-pub first_ticks : {P : Type 0} (answers : P → Option (List ℕ)) (b : Beat P) (got : List (Entry Kind)) (k : ℕ) (xs : List ℕ) → Ticked answers b.before b.sent b.after
-    → IsFront (of 0 got) b.sent → answers b.before ≡ Some [] → answers b.after ≡ Some xs → IsStart (ticks_of (take k (given_of got))) xs
-first_ticks answers b got k xs t f none is =
+pub first_ticks : {P : Type 0} (answers : P → Option (List ℕ)) (b : Beat P) (got : List (Entry Kind)) (k : ℕ) (earlier xs : List ℕ) → Ticked answers b.before b.sent b.after
+    → IsFront (of 0 got) b.sent → answers b.before ≡ Some earlier → answers b.after ≡ Some xs → IsStart (earlier ++ ticks_of (take k (given_of got))) xs
+first_ticks answers b got k earlier xs t f was is =
     let c = cut_of 0 k got b.sent f in
-    let all : xs ≡ ticks b.sent ++ t.0 ∷ [] = ap told (sym is ∙ t.1 ∙ ap (λ o. with_more o (ticks b.sent ++ t.0 ∷ [])) none) in
+    let all : xs ≡ earlier ++ (ticks b.sent ++ t.0 ∷ []) = ap told (sym is ∙ t.1 ∙ ap (λ o. with_more o (ticks b.sent ++ t.0 ∷ [])) was) in
     let split : ticks b.sent ≡ ticks (of 0 c.0) ++ ticks c.1.0 = ap ticks c.1.1 ∙ ticks-append (of 0 c.0) c.1.0 in
-    let given : ticks_of (take k (given_of got)) ≡ ticks (of 0 c.0) = ap ticks_of c.2 ∙ ticks_given c.0 in (
-      ticks c.1.0 ++ t.0 ∷ [],
-      all ∙ ap (λ l. l ++ t.0 ∷ []) split ∙ append_assoc (ticks (of 0 c.0)) (ticks c.1.0) (t.0 ∷ []) ∙ ap (λ l. l ++ (ticks c.1.0 ++ t.0 ∷ [])) (sym given),
+    let given : ticks_of (take k (given_of got)) ≡ ticks (of 0 c.0) = ap ticks_of c.2 ∙ ticks_given c.0 in
+    let rest : List ℕ = ticks c.1.0 ++ t.0 ∷ [] in (
+      rest,
+      all ∙ ap (λ l. earlier ++ (l ++ t.0 ∷ [])) split ∙ ap (λ l. earlier ++ l) (append_assoc (ticks (of 0 c.0)) (ticks c.1.0) (t.0 ∷ []))
+          ∙ ap (λ l. earlier ++ (l ++ rest)) (sym given) ∙ sym (append_assoc earlier (ticks_of (take k (given_of got))) rest),
     )
 
 module _ {S : Type 0} (left : S → Option (List ℕ)) (faults : S → ℕ) (ended : S → Bool) where
@@ -76,4 +78,4 @@ module _ {S : Type 0} (left : S → Option (List ℕ)) (faults : S → ℕ) (end
 
 pub shows_ticks : {P : Type 0} (answers : P → Option (List ℕ)) (o : Option (Beat P)) (got : List (Entry Kind)) (k : ℕ) → ForSome o (λ b. Ticked answers b.before b.sent b.after)
     → ForSome o (λ b. IsFront (of 0 got) b.sent) → ForSome o (ShowsTicks answers (take k (given_of got)))
-shows_ticks answers o got k t f = λ b is xs none all. first_ticks answers b got k xs (t b is) (f b is) none all
+shows_ticks answers o got k t f = λ b is earlier xs was all. first_ticks answers b got k earlier xs (t b is) (f b is) was all

@@ -1,17 +1,19 @@
 -- What a hub knows, as entries come and are noted.
-use Rattle.std.proofs.Common.{◌≡◌, ◌<◌, ◌≤◌, ◌+◌, ℕ, zero, suc, Bool, true, false, true≢false, List, [], ◌∷◌, ◌++◌, Option, Some, None, All, length, take, sym, refl, ap, ◌∙◌, subst, append-nil, arith}
+use Rattle.std.proofs.Common.{◌≡◌, ◌<◌, ◌≤◌, ◌+◌, ℕ, zero, suc, Bool, true, false, true≢false, List, [], ◌∷◌, ◌++◌, Option, Some, None, IfSome, IfNone, IsSome, ◌↔◌, ◌≢◌, All, length, take, sym, refl, ap, ◌∙◌, subst, append-nil, arith}
 use Rattle.std.specs.Option.{ForSome}
 use Rattle.std.proofs.lemmas.List.{length-append}
 use Rattle.cf_bytes.specs.declared.peer.PeerNo.{PeerNo}
-use Rattle.cf_peer.specs.declared.event.Event.{Event}
-use Rattle.cf_peer.specs.declared.event.Event.TheVariants.{Took, Dialled, NotDialled, Sent, SendFailed, Closed}
-use Rattle.cf_peer.specs.declared.event.Delivery.{Delivery}
-use Rattle.cf_peer.specs.declared.event.Delivery.TheVariants as gives
-use Rattle.cf_peer.specs.Log.{Log, Told, deliveries, is_real, tell, told_finished, longer}
+use Rattle.cf_wires.specs.declared.event.Event.{Event}
+use Rattle.cf_wires.specs.declared.event.Event.TheVariants.{Took, Dialled, NotDialled, Sent, SendFailed, Closed}
+use Rattle.cf_wires.specs.declared.event.Delivery.{Delivery}
+use Rattle.cf_wires.specs.declared.event.Delivery.TheVariants as gives
+use Rattle.cf_wires.specs.Log.{Log, Told, deliveries, is_real, tell, told_finished, longer}
 use Rattle.cf_line.specs.declared.entry.Entry.{Entry}
 use Rattle.cf_line.specs.Queue.{of, entry}
 use Rattle.cf_hub.specs.declared.entry.Kind.{Kind}
 use Rattle.cf_hub.specs.declared.entry.Kind.TheVariants as kinds
+use Rattle.cf_hub.specs.declared.book.Book.{Book}
+use Rattle.cf_hub.specs.Book.{told_of}
 use Rattle.cf_hub.specs.Gives.{delivery_of, given_of, LogGives, IsFront}
 use Rattle.cf_hub.specs.Finish.{Read, Fronts}
 use Rattle.cf_hub.specs.Over.{Heard}
@@ -19,6 +21,12 @@ use Rattle.cf_hub.proofs.Gives.{given_more, log_waits, log_grows, count_grows, l
 
 pub none_all : {X : Type 0} (P : X → Type 0) (xs : List X) → xs ≡ [] → All P xs
 none_all P xs e = λ k d l. let n = ap length e in absurd (omega (arith, l, n))
+
+pub some_same : {X : Type 0} (o o' : Option X) → o' ≡ o → IsSome o → IsSome o'
+some_same {X = X} o o' e h = let Q : Option X → Type 0 = λ x. IsSome x in subst Q (sym e) h
+
+pub some_of : {X Y : Type 0} (o : Option X) (u : Option Y) → (IsSome o ↔ IsSome u) → IsSome u → IsSome o
+some_of o u e h = e.1 h
 
 abbrev is_some : {X : Type 0} → Option X → Bool
 is_some None = false
@@ -84,6 +92,12 @@ finished_log t t' got e h = let Q : Told → Type 0 = λ x. LogGives x got in su
 pub same_log : (t t' : Told) (got got' : List (Entry Kind)) → t' ≡ t → got' ≡ got → LogGives t got → LogGives t' got'
 same_log t t' got got' e g h = let Q : Told → Type 0 = λ x. LogGives x got' in let R : List (Entry Kind) → Type 0 = LogGives t in subst Q (sym e) (subst R (sym g) h)
 
+-- what was received beside it gave nothing
+same_given : (t t' : Told) (got got' : List (Entry Kind)) → t' ≡ t → given_of got' ≡ given_of got → LogGives t got → LogGives t' got'
+same_given t t' got got' e g h =
+    let Q : Told → Type 0 = λ x. LogGives x got' in
+    subst Q (sym e) (λ log is. h log is ∙ ap (take t.tally.taken) (sym g))
+
 pub same_heard : (gone : List Bool) (got got' : List (Entry Kind)) → got' ≡ got → Heard gone got → Heard gone got'
 same_heard gone got got' g h = let R : List (Entry Kind) → Type 0 = Heard gone in subst R (sym g) h
 
@@ -141,3 +155,49 @@ failed_log t t' got p e h = let Q : Told → Type 0 = λ x. LogGives x got in su
 
 pub closed_log : (t t' : Told) (got : List (Entry Kind)) (p : PeerNo) → t' ≡ tell (Closed p) t → LogGives t got → LogGives t' got
 closed_log t t' got p e h = let Q : Told → Type 0 = λ x. LogGives x got in subst Q (sym e) (dial_log t (Closed p) got (λ _. refl) refl h)
+
+-- what a book and what was received keep as an entry is taken
+pub record Noted (b b' : Book) (got got' : List (Entry Kind)) : Type 0 where
+  pub dials : b'.dials ≡ b.dials
+  pub closed : b'.closed ≡ b.closed
+  pub finished : b'.finished ≡ b.finished
+  pub counts : b'.taken ≡ length (given_of got')
+  pub gives : LogGives (told_of b') got'
+
+same_dials : (d : Delivery) (t : Told) → (tell (Took d) t).tally.dials ≡ t.tally.dials
+same_dials (gives.Got p b) t = refl
+same_dials (gives.Gone p) t = refl
+same_dials (gives.Tick s) t = refl
+same_dials gives.Ended t = refl
+
+same_closed : (d : Delivery) (t : Told) → (tell (Took d) t).tally.closed ≡ t.tally.closed
+same_closed (gives.Got p b) t = refl
+same_closed (gives.Gone p) t = refl
+same_closed (gives.Tick s) t = refl
+same_closed gives.Ended t = refl
+
+real_is : (d : Delivery) → d ≢ gives.Ended → is_real d ≡ true
+real_is (gives.Got p b) n = refl
+real_is (gives.Gone p) n = refl
+real_is (gives.Tick s) n = refl
+real_is gives.Ended n = absurd (n refl)
+
+-- an entry was taken: it was noted where it is a delivery
+pub on_noted : (o : Option Delivery) (b b' : Book) (got got' : List (Entry Kind))
+    → IfSome o (λ d. (told_of b' ≡ tell (Took d) (told_of b)) × (given_of got' ≡ given_of got ++ d ∷ []))
+    → IfNone o ((b' ≡ b) × (given_of got' ≡ given_of got)) → IfSome o (λ d. d ≢ gives.Ended)
+    → b.taken ≡ length (given_of got) → LogGives (told_of b) got → Noted b b' got got'
+on_noted (Some d) b b' got got' s n r c h = record {
+  dials = ap (λ (t : Told). t.tally.dials) s.0 ∙ same_dials d (told_of b);
+  closed = ap (λ (t : Told). t.tally.closed) s.0 ∙ same_closed d (told_of b);
+  finished = ap (λ (t : Told). t.finished) s.0;
+  counts = took_count (told_of b) (told_of b') got got' d s.0 (real_is d r) s.1 c;
+  gives = took_log (told_of b) (told_of b') got got' d s.0 (real_is d r) s.1 c h;
+}
+on_noted None b b' got got' s n r c h = record {
+  dials = ap (λ (x : Book). x.dials) n.0;
+  closed = ap (λ (x : Book). x.closed) n.0;
+  finished = ap (λ (x : Book). x.finished) n.0;
+  counts = ap (λ (x : Book). x.taken) n.0 ∙ c ∙ sym (ap length n.1);
+  gives = same_given (told_of b) (told_of b') got got' (ap told_of n.0) n.1 h;
+}

@@ -1,10 +1,11 @@
 -- What a book tells.
 use Rattle.std.specs.Prelude.{◌+◌, ◌<◌, ◌≤◌, ◌-◌, ◌^◌, Bool, not, vec_len, vec_capacity}
 use Rattle.std.specs.List.{count_by}
-use Rattle.cf_peer.specs.Log.{Told}
+use Rattle.cf_wires.specs.Log.{Told}
 use Rattle.cf_hub.specs.Kept.{kept_log}
 use Rattle.cf_hub.specs.declared.book.Book.{Book}
 
+-- what the hub tells by its book: the log where it is kept, always the tally, and whether the hub is finished
 abbrev pub told_of : Book → Told
 told_of b = record {
   log = kept_log b.keeps b.log.items;
@@ -12,6 +13,7 @@ told_of b = record {
   finished = b.finished;
 }
 
+-- whether the log is kept
 abbrev pub keeps_of : Book → Bool
 keeps_of b = b.keeps
 

@@ -1,5 +1,5 @@
 -- What is known of each reader, and of the ticker, once they are joined.
-use Rattle.std.specs.Prelude.{◌<◌, ℕ, List, All, map}
+use Rattle.std.specs.Prelude.{◌<◌, ℕ, List, Option, Some, None, All, map}
 use Rattle.cf_line.specs.declared.entry.Entry.{Entry}
 use Rattle.cf_line.specs.declared.entry.Ended.{Ended}
 use Rattle.cf_line.specs.Queue.{of}
@@ -32,10 +32,16 @@ whose j = (j.number, j.before)
 abbrev pub begun : {S R : Type 0} → Reader S R → ℕ × S
 begun t = (t.sender.number, t.source)
 
+-- the pulse, where there is one
+abbrev pub pulse_in : {X P : Type 0} → (X → P) → Option X → Option P
+pulse_in f None = None
+pulse_in f (Some x) = Some (f x)
+
 -- the numbers of readers, and of sources that were read
 abbrev pub numbers_of : {S R : Type 0} → List (Reader S R) → List ℕ
 numbers_of ts = map (λ t. t.sender.number) ts
 
+-- the numbers of sources that were read
 abbrev pub read_numbers : {S : Type 0} → List (Read S) → List ℕ
 read_numbers js = map (λ j. j.number) js
 

@@ -1,9 +1,9 @@
 -- Which entries are deliveries.
 use Rattle.std.specs.Prelude.{◌≡◌, ◌==◌, ◌<◌, ◌≤◌, ℕ, zero, suc, Bool, false, ◌||◌, if◌then◌else◌, List, [], ◌∷◌, ◌++◌, length, take}
 use Rattle.std.specs.Option.{ForSome}
-use Rattle.cf_peer.specs.declared.event.Delivery.{Delivery}
-use Rattle.cf_peer.specs.declared.event.Delivery.TheVariants as gives
-use Rattle.cf_peer.specs.Log.{Told, deliveries}
+use Rattle.cf_wires.specs.declared.event.Delivery.{Delivery}
+use Rattle.cf_wires.specs.declared.event.Delivery.TheVariants as gives
+use Rattle.cf_wires.specs.Log.{Told, deliveries}
 use Rattle.cf_line.specs.declared.entry.Entry.{Entry}
 use Rattle.cf_hub.specs.declared.entry.Kind.{Kind}
 use Rattle.cf_hub.specs.declared.entry.Kind.TheVariants as kinds

@@ -1,7 +1,7 @@
 -- What the deliveries that were given show of the sources, and of the pulse.
-use Rattle.std.specs.Prelude.{◌≡◌, ◌⊎◌, ℕ, Bool, true, List, [], Option, Some}
+use Rattle.std.specs.Prelude.{◌≡◌, ◌⊎◌, ℕ, Bool, true, List, ◌++◌, Option, Some}
 use Rattle.cf_bytes.specs.Outside.{HasRisen}
-use Rattle.cf_peer.specs.declared.event.Delivery.{Delivery}
+use Rattle.cf_wires.specs.declared.event.Delivery.{Delivery}
 use Rattle.cf_line.specs.Queue.{IsStart}
 use Rattle.cf_hub.specs.Gives.{pieces_of, has_gone, ticks_of}
 use Rattle.cf_hub.specs.Finish.{Read, Beat}
@@ -13,6 +13,6 @@ pub record Shows {S : Type 0} (left : S → Option (List ℕ)) (faults : S → �
   pub whole : (xs : List ℕ) → left j.before ≡ Some xs → has_gone j.number ds ≡ true → ¬ HasRisen (faults j.before) (faults j.after) → pieces_of j.number ds ≡ xs
   pub cause : has_gone j.number ds ≡ true → (ended j.after ≡ true) ⊎ HasRisen (faults j.before) (faults j.after)
 
--- the ticks are the first answers of the pulse, where it told them
+-- the ticks are the first answers of the pulse after those that it had given before, where it told them
 abbrev pub ShowsTicks : {P : Type 0} → (P → Option (List ℕ)) → List Delivery → Beat P → Type 0
-ShowsTicks answers ds b = (xs : List ℕ) → answers b.before ≡ Some [] → answers b.after ≡ Some xs → IsStart (ticks_of ds) xs
+ShowsTicks answers ds b = (earlier xs : List ℕ) → answers b.before ≡ Some earlier → answers b.after ≡ Some xs → IsStart (earlier ++ ticks_of ds) xs

@@ -3,8 +3,8 @@ use Rattle.std.specs.Prelude.{◌≡◌, ◌⊎◌, ◌≤◌, ℕ, Bool, true, 
 use Rattle.std.specs.List.{sum_by, slice_get}
 use Rattle.cf_bytes.specs.Outside.{with_more}
 use Rattle.cf_hub.specs.Over.{connected}
-use Rattle.cf_peer.specs.declared.wires.WireFail.{WireFail}
-use Rattle.cf_peer.specs.declared.wires.WireFail.TheVariants as fails
+use Rattle.cf_wires.specs.declared.wires.WireFail.{WireFail}
+use Rattle.cf_wires.specs.declared.wires.WireFail.TheVariants as fails
 
 -- the count of a writer that may be there
 abbrev pub fault_in : {W : Type 0} → (W → ℕ) → Option W → ℕ

@@ -1,14 +1,14 @@
 //! What passed the wires: the log, where it is kept, and the tally.
 ghost use Rattle.std.specs.Prelude.{◌≡◌, ◌≤◌, ◌<◌, ◌+◌, ◌^◌, ◌-◌, ℕ, Some, reverse, [], ◌∷◌, OnOk, OnErr, IfOk, IsSome, true, false, not, vec_len, vec_capacity, length, string_bytes, IfSome, slice_set};
 ghost use Rattle.std.specs.List.{count_by};
-ghost use Rattle.cf_peer.specs.declared.event.Event.TheVariants.{Dialled, NotDialled, Sent, SendFailed, Closed, Took};
-ghost use Rattle.cf_peer.specs.declared.event.Delivery.TheVariants.{Got, Gone, Tick, Ended};
-ghost use Rattle.cf_peer.specs.Log.{Tells, tell, told_finished, longer, was_closed};
+ghost use Rattle.cf_wires.specs.declared.event.Event.TheVariants.{Dialled, NotDialled, Sent, SendFailed, Closed, Took};
+ghost use Rattle.cf_wires.specs.declared.event.Delivery.TheVariants.{Got, Gone, Tick, Ended};
+ghost use Rattle.cf_wires.specs.Log.{Tells, tell, told_finished, longer, was_closed};
 ghost use Rattle.cf_hub.specs.Kept.{kept_log};
-ghost use Rattle.cf_peer.specs.Session.{session_text};
+ghost use Rattle.cf_wires.specs.Session.{session_text};
 
 use cf_bytes::{NoMemory, PeerNo};
-use cf_peer::{Delivery, Event, Mark, Name, Piece, put_deliveries, put_dials};
+use cf_wires::{Delivery, Event, Mark, Name, Piece, put_deliveries, put_dials};
 use std::alloc::Global;
 
 /// What passed the wires.

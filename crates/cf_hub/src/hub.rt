@@ -8,16 +8,17 @@ ghost use Rattle.cf_hub.specs.Book.{told_of, keeps_of, IsReady};
 ghost use Rattle.cf_line.specs.Queue.{of, entry, receiver, with_got};
 ghost use Rattle.cf_hub.specs.declared.entry.Kind.TheVariants.{Last};
 ghost use Rattle.cf_hub.specs.Over.{AllGone, Heard, HaveEnded, connected, numbers_from};
-ghost use Rattle.cf_peer.specs.declared.event.Event.TheVariants.{Took, Dialled, NotDialled, Sent, SendFailed, Closed};
-ghost use Rattle.cf_peer.specs.Log.{Tells as IsTold, deliveries, tell, told_finished, was_closed};
-ghost use Rattle.cf_peer.specs.Wires.{HasCause};
+ghost use Rattle.cf_wires.specs.declared.event.Delivery.TheVariants.{Ended};
+ghost use Rattle.cf_wires.specs.declared.event.Event.TheVariants.{Took, Dialled, NotDialled, Sent, SendFailed, Closed};
+ghost use Rattle.cf_wires.specs.Log.{Tells as IsTold, deliveries, tell, told_finished, was_closed};
+ghost use Rattle.cf_wires.specs.Wires.{HasCause};
 ghost use Rattle.cf_hub.specs.Kept.{no_script};
-ghost use Rattle.cf_hub.specs.Finish.{whose, begun, numbers_of, read_numbers, Fronts};
+ghost use Rattle.cf_hub.specs.Finish.{whose, begun, numbers_of, read_numbers, Fronts, pulse_in};
 ghost use Rattle.cf_hub.specs.Gives.{delivery_of, given_of, IsProper, LogGives, IsFront};
-ghost use Rattle.cf_hub.specs.Lines.{Down, Up};
+ghost use Rattle.cf_hub.specs.Lines.{Down, IsTickers, Ring, Up, Waits};
 ghost use Rattle.cf_hub.specs.Writers.{faults_in, texts, Adds, AreOpen, AreShut, Opens, Sends, Shuts};
 ghost use Rattle.cf_hub.specs.Shown.{Shows, ShowsTicks};
-ghost use Rattle.cf_hub.specs.Threads.{HandsOver, MayHandOver, MayMiss, Takes};
+ghost use Rattle.cf_hub.specs.Threads.{HandsOver, HasOpened, MayHandOver, MayMiss, Moves, Takes};
 ghost use Rattle.cf_line.specs.Waiting.{HasGiven, HasFailed};
 ghost use Rattle.cf_hub.specs.Pieces.{is_last, is_open, Reads};
 
@@ -26,13 +27,14 @@ use crate::entry::{CHUNK, Kind};
 use crate::joining::{Joined, Rested, each_reads, it_ticks, join_readers, join_ticker};
 use crate::outside::{Dialer, Pulse, Writer};
 use crate::reader::Reader;
+use crate::stop::Stop;
 use crate::ticker::Ticker;
 use crate::writers::{put_to, shut_at};
 use cf_bytes::{Failed, NoMemory, PeerNo};
 use cf_conn::Source;
 use cf_line::{Busy, Entry, Queue, Sender, Workers};
-use cf_peer::{Delivery, Name, WireFail, Wires};
 use cf_tasks::Spawner;
+use cf_wires::{Delivery, Name, WireFail, Wires};
 use std::alloc::{AllocError, Global};
 use std::mem;
 use std::sync::atomic::{AtomicBool, Ordering};
@@ -47,7 +49,8 @@ pub const PEERS: usize = 8;
 struct Clock<P> {
     pulse: P,
     sender: Sender<Kind>,
-    stop: Arc<AtomicBool, Global>,
+    stop: Stop,
+    ghost unasked: { stop ≡ false },
 }
 
 /// Peers of which each has a reader in a thread of its own, and a ticker.
@@ -77,12 +80,13 @@ pub struct Hub<D: Dialer, P: Pulse, R: Wait + Threads + Copy + Drop> {
     // How many dials found no thread, or came too late, and how many sends found no writer.
     missed: u64,
     book: Book,
-    ghost waiting: { ForSome clock (λ c. (sends_on c.sender.line ≡ sends_on queue.line) × ((view c.sender.seat).sent ≡ []) × (c.sender.number ≡ 0)) },
-    ghost ticks: { ForSome ticking (λ b. (sends_on b.sender.line ≡ sends_on queue.line) × (b.sender.number ≡ 0)) },
+    ghost waiting: { ForSome clock (λ c. Waits queue c.sender) },
+    ghost ticks: { ForSome ticking (λ b. IsTickers queue b.sender) },
     ghost spares: { Down queue spare.items },
     ghost numbers: { vec_len spare + book.dials ≡ 8 },
     ghost one: { All (λ b. (sends_on b.sender.line ≡ sends_on queue.line) × (0 < b.sender.number)) reading.items },
-    ghost room: { vec_len reading ≤ vec_capacity done },
+    ghost room: { joined ≡ false → (8 ≤ vec_capacity reading) × (8 ≤ vec_capacity done) },
+    ghost few: { vec_len reading ≤ book.dials },
     ghost places: { vec_len writers ≡ book.dials + 1 },
     ghost holds: { 9 ≤ vec_capacity writers },
     ghost heard: { Heard gone (view queue.seat).got },
@@ -91,6 +95,8 @@ pub struct Hub<D: Dialer, P: Pulse, R: Wait + Threads + Copy + Drop> {
     ghost counts: { book.finished ≡ false → book.taken ≡ length (given_of (view queue.seat).got) },
     ghost undone: { joined ≡ false → done.items ≡ [] },
     ghost unrested: { joined ≡ false → rested ≡ None },
+    ghost runs: { joined ≡ false → clock ≡ None → IsSome ticking },
+    ghost owed: { joined ≡ true → clock ≡ None → IsSome rested },
     ghost stopped: { joined ≡ true → book.finished ≡ true },
     ghost over: { joined ≡ true → HaveEnded (connected writers.items) (view queue.seat).got },
     ghost fronts: { Fronts (view queue.seat).got done.items },
@@ -119,6 +125,140 @@ fn peer_senders(alloc: Global, queue: &mut Queue<Kind>) -> Result<Vec<Sender<Kin
     Ok(down)
 }
 
+// The queue, the ticker's sender, and those of the peers.
+#[derive(Drop)]
+struct Lines {
+    queue: Queue<Kind>,
+    sender: Sender<Kind>,
+    spare: Vec<Sender<Kind>>,
+    ghost waits: { Waits queue sender },
+    ghost spares: { Down queue spare.items },
+    ghost numbers: { vec_len spare ≡ 8 },
+    ghost none: { (view queue.seat).got ≡ [] },
+}
+
+fn lines_in(alloc: Global) -> Result<Lines, AllocError> {
+    let mut queue = Queue::new(alloc, 64)?;
+    let sender = queue.sender()?;
+    let spare = peer_senders(alloc, &mut queue)?;
+    Ok(Lines {
+        queue,
+        sender,
+        spare,
+    })
+}
+
+// Room for the writers, of whom nobody has number 0, for the tasks that read, and for what they come to.
+#[derive(Drop)]
+struct Lists<W, B, J> {
+    writers: Vec<Option<W>>,
+    reading: Vec<B>,
+    done: Vec<J>,
+    ghost nobody: { writers.items ≡ None ∷ [] },
+    ghost one: { vec_len writers ≡ 1 },
+    ghost holds: { 9 ≤ vec_capacity writers },
+    ghost unread: { reading.items ≡ [] },
+    ghost none: { vec_len reading ≡ 0 },
+    ghost seats: { 8 ≤ vec_capacity reading },
+    ghost undone: { done.items ≡ [] },
+    ghost room: { 8 ≤ vec_capacity done },
+}
+
+fn lists_in<W: Drop, B: Drop, J: Drop>(alloc: Global) -> Result<Lists<W, B, J>, AllocError> {
+    let mut writers = Vec::with_capacity(alloc, PEERS + 1)?;
+    let reading = Vec::with_capacity(alloc, PEERS)?;
+    let done = Vec::with_capacity(alloc, PEERS)?;
+    writers.push_reserved(None);
+    Ok(Lists {
+        writers,
+        reading,
+        done,
+    })
+}
+
+// All of a hub for which memory has to be found.
+#[derive(Drop)]
+struct Parts<W, B, J> {
+    lines: Lines,
+    lists: Lists<W, B, J>,
+    stop: Arc<AtomicBool, Global>,
+    theirs: Stop,
+    book: Book,
+    ghost unasked: { theirs ≡ false },
+}
+
+fn parts_in<W: Drop, B: Drop, J: Drop>(alloc: Global) -> Result<Parts<W, B, J>, NoMemory>
+    ensures told { IfOk result (λ s. IsTold [] (told_of s.book)) }
+    ensures finished { IfOk result (λ s. (told_of s.book).finished ≡ false) }
+    ensures keeps { IfOk result (λ s. keeps_of s.book ≡ false) }
+{
+    let stop = Arc::new(alloc, AtomicBool::new(false))?;
+    let theirs = Stop::new(Arc::try_clone(&stop)?);
+    let book = Book::new(alloc)?;
+    let lists = lists_in(alloc)?;
+    let lines = lines_in(alloc)?;
+    Ok(Parts {
+        lines,
+        lists,
+        stop,
+        theirs,
+        book,
+    })
+}
+
+// Hands a pulse over to a thread, unless that was done. False where none takes it.
+fn hand_over<P: Pulse, R: Wait + Drop + Copy>(
+    rt: R,
+    clock: &mut Option<Clock<P>>,
+    tickers: &mut Workers<Ticker<P, R>, R>,
+    ticking: &mut Option<Busy<Ticker<P, R>, R>>,
+) -> bool
+    requires { ForSome clock.old (λ c. (view c.sender.seat).sent ≡ []) }
+    ensures tickers { HandsOver result clock.old clock.new tickers.old tickers.new }
+    ensures pulse { Moves (pulse_in (λ c. c.pulse) clock.old) (pulse_in (λ c. c.pulse) clock.new) (pulse_in (λ t. t.pulse) ticking.old) (pulse_in (λ t. t.pulse) ticking.new) }
+    ensures runs { (clock.old ≡ None → IsSome ticking.old) → clock.new ≡ None → IsSome ticking.new }
+    ensures waiting { (q : Ring) → ForSome clock.old (λ c. Waits q c.sender) → ForSome clock.new (λ c. Waits q c.sender) }
+    ensures ticks { (q : Ring) → ForSome clock.old (λ c. Waits q c.sender) → ForSome ticking.old (λ b. IsTickers q b.sender) → ForSome ticking.new (λ b. IsTickers q b.sender) }
+{
+    let Some(
+        Clock {
+            pulse,
+            sender,
+            stop,
+        },
+    ) = clock.take()
+    else {
+        return true;
+    };
+    let ticker = Ticker {
+        rt,
+        pulse,
+        sender,
+        stop,
+    };
+    match tickers.give(ticker) {
+        Ok(busy) => {
+            *ticking = Some(busy);
+            true
+        }
+        Err(
+            Ticker {
+                pulse,
+                sender,
+                stop,
+                ..
+            },
+        ) => {
+            *clock = Some(Clock {
+                pulse,
+                sender,
+                stop,
+            });
+            false
+        }
+    }
+}
+
 impl<D: Dialer, P: Pulse, R: Wait + Threads + Copy + Drop> Hub<D, P, R> {
     /// A hub that has dialled nobody. `readers` and `tickers` are the threads that wait for its tasks.
     pub fn new(
@@ -135,14 +275,24 @@ impl<D: Dialer, P: Pulse, R: Wait + Threads + Copy + Drop> Hub<D, P, R> {
         ensures dialer { IfOk result (λ h. h.dialer ≡ dialer) }
         ensures missed { IfOk result (λ h. h.missed ≡ 0) }
         ensures threads { IfOk result (λ h. (h.readers ≡ readers) × (h.tickers ≡ tickers)) }
+        ensures pulse { IfOk result (λ h. pulse_in (λ c. c.pulse) h.clock ≡ Some pulse) }
     {
-        let mut writers = Vec::with_capacity(alloc, 9)?;
-        writers.push_reserved(None);
-        let stop = Arc::new(alloc, AtomicBool::new(false))?;
-        let theirs = Arc::try_clone(&stop)?;
-        let mut queue = Queue::new(alloc, 64)?;
-        let sender = queue.sender()?;
-        let spare = peer_senders(alloc, &mut queue)?;
+        let parts = parts_in(alloc)?;
+        let Parts {
+            lines: Lines {
+                queue,
+                sender,
+                spare,
+            },
+            lists: Lists {
+                writers,
+                reading,
+                done,
+            },
+            stop,
+            theirs,
+            book,
+        } = parts;
         Ok(Hub {
             rt,
             alloc,
@@ -157,15 +307,15 @@ impl<D: Dialer, P: Pulse, R: Wait + Threads + Copy + Drop> Hub<D, P, R> {
             }),
             ticking: None,
             spare,
-            reading: Vec::new(alloc),
-            done: Vec::new(alloc),
+            reading,
+            done,
             rested: None,
             joined: false,
             writers,
             queue,
             gone: [false; 9],
             missed: 0,
-            book: Book::new(alloc)?,
+            book,
         })
     }
 
@@ -185,10 +335,12 @@ impl<D: Dialer, P: Pulse, R: Wait + Threads + Copy + Drop> Hub<D, P, R> {
 
     /// Looks at all that was joined. What `next` gave is the first of what was received, as many as were taken: all of
     /// it until the hub is finished. Once it is, each peer whose dial went well has its place here, and a last entry
-    /// of it was received. What was given shows of each of them what its source held, and of the pulse what it answered.
+    /// of it was received, and where a ticker was started so has the pulse. What was given shows of each of them what its source held, and of the
+    /// pulse what it answered from then on.
     pub fn account(&self)
         ensures log { ForSome (told_of self.now.book).log (λ log. deliveries log ≡ take self.now.book.taken (given_of (view self.now.queue.seat).got)) }
         ensures peers { self.now.joined ≡ true → read_numbers self.now.done.items ≡ numbers_from 0 (connected self.now.writers.items) }
+        ensures ticker { self.now.joined ≡ true → self.now.clock ≡ None → IsSome self.now.rested }
         ensures ended { self.now.joined ≡ true → HaveEnded (connected self.now.writers.items) (view self.now.queue.seat).got }
         ensures sources { All (Shows D.Read.left D.Read.faults D.Read.ended (take self.now.book.taken (given_of (view self.now.queue.seat).got))) self.now.done.items }
         ensures ticks { ForSome self.now.rested (ShowsTicks P.answers (take self.now.book.taken (given_of (view self.now.queue.seat).got))) }
@@ -199,6 +351,7 @@ impl<D: Dialer, P: Pulse, R: Wait + Threads + Copy + Drop> Hub<D, P, R> {
 
     // Hands the pulse over to a thread, unless that was done. False where none takes it.
     fn starts_ticker(&mut self) -> bool
+        requires { self.old.joined ≡ false }
         ensures book { self.new.book ≡ self.old.book }
         ensures seat { view self.new.queue.seat ≡ view self.old.queue.seat }
         ensures dialer { self.new.dialer ≡ self.old.dialer }
@@ -210,44 +363,56 @@ impl<D: Dialer, P: Pulse, R: Wait + Threads + Copy + Drop> Hub<D, P, R> {
         ensures writers { self.new.writers ≡ self.old.writers }
         ensures readers { self.new.readers ≡ self.old.readers }
         ensures tickers { HandsOver result self.old.clock self.new.clock self.old.tickers self.new.tickers }
+        ensures pulse { Moves (pulse_in (λ c. c.pulse) self.old.clock) (pulse_in (λ c. c.pulse) self.new.clock) (pulse_in (λ t. t.pulse) self.old.ticking) (pulse_in (λ t. t.pulse) self.new.ticking) }
     {
-        let Some(
-            Clock {
-                pulse,
-                sender,
-                stop,
-            },
-        ) = self.clock.take()
-        else {
-            return true;
-        };
-        let ticker = Ticker {
-            rt: self.rt,
-            pulse,
-            sender,
-            stop,
-        };
-        match self.tickers.give(ticker) {
-            Ok(busy) => {
-                self.ticking = Some(busy);
-                true
-            }
-            Err(
-                Ticker {
-                    pulse,
-                    sender,
-                    stop,
-                    ..
-                },
-            ) => {
-                self.clock = Some(Clock {
-                    pulse,
-                    sender,
-                    stop,
-                });
-                false
-            }
-        }
+        hand_over(
+            self.rt,
+            &mut self.clock,
+            &mut self.tickers,
+            &mut self.ticking,
+        )
+    }
+
+    // Takes the room for one entry more.
+    fn make_room(&mut self) -> Result<(), NoMemory>
+        ensures told { told_of self.new.book ≡ told_of self.old.book }
+        ensures keeps { keeps_of self.new.book ≡ keeps_of self.old.book }
+        ensures ready { OnOk result (IsReady self.new.book) }
+        ensures seat { view self.new.queue.seat ≡ view self.old.queue.seat }
+        ensures dialer { self.new.dialer ≡ self.old.dialer }
+        ensures missed { self.new.missed ≡ self.old.missed }
+        ensures reading { self.new.reading ≡ self.old.reading }
+        ensures joined { self.new.joined ≡ self.old.joined }
+        ensures writers { self.new.writers ≡ self.old.writers }
+        ensures threads { (self.new.readers ≡ self.old.readers) × (self.new.tickers ≡ self.old.tickers) × (self.new.clock ≡ self.old.clock) × (self.new.ticking ≡ self.old.ticking) }
+    {
+        self.book.make_room()
+    }
+
+    // Room for a copy of so many bytes, where the log is kept.
+    fn copy_room(&self, most: usize) -> Result<Vec<u8>, NoMemory>
+        ensures none { IfOk result (λ v. v.items ≡ []) }
+        ensures room { IfOk result (λ v. keeps_of self.now.book ≡ true → most ≤ vec_capacity v) }
+    {
+        self.book.copy_room(self.alloc, most)
+    }
+
+    // Opens a connection by its name.
+    fn open(&mut self, name: &str) -> Result<(D::Read, D::Write), Failed>
+        ensures book { self.new.book ≡ self.old.book }
+        ensures missed { self.new.missed ≡ self.old.missed }
+        ensures reading { self.new.reading ≡ self.old.reading }
+        ensures joined { self.new.joined ≡ self.old.joined }
+        ensures writers { self.new.writers ≡ self.old.writers }
+        ensures threads { (self.new.readers ≡ self.old.readers) × (self.new.tickers ≡ self.old.tickers) × (self.new.clock ≡ self.old.clock) × (self.new.ticking ≡ self.old.ticking) }
+        ensures new { IfOk result (λ c. (D.Read.ended c.0 ≡ false) × (D.Read.faults c.0 ≡ 0) × (D.Write.faults c.1 ≡ 0) × (D.Write.was_shut c.1 ≡ false)) }
+        ensures kept { OnOk result (D.faults self.new.dialer ≡ D.faults self.old.dialer) }
+        ensures exact { D.dials self.old.dialer name.now result self.new.dialer }
+        ensures clean { IfOk result (λ c. IfSome (D.Write.written c.1) (λ bytes. bytes ≡ [])) }
+        ensures cause { OnErr result (HasRisen (D.faults self.old.dialer) (D.faults self.new.dialer)) }
+        ensures later { D.faults self.old.dialer ≤ D.faults self.new.dialer }
+    {
+        self.dialer.dial(name)
     }
 
     // One more that came too late, or found no thread.
@@ -260,7 +425,7 @@ impl<D: Dialer, P: Pulse, R: Wait + Threads + Copy + Drop> Hub<D, P, R> {
         ensures rested { self.new.rested ≡ self.old.rested }
         ensures joined { self.new.joined ≡ self.old.joined }
         ensures writers { self.new.writers ≡ self.old.writers }
-        ensures threads { (self.new.readers ≡ self.old.readers) × (self.new.tickers ≡ self.old.tickers) × (self.new.clock ≡ self.old.clock) }
+        ensures threads { (self.new.readers ≡ self.old.readers) × (self.new.tickers ≡ self.old.tickers) × (self.new.clock ≡ self.old.clock) × (self.new.ticking ≡ self.old.ticking) }
         ensures missed { HasRisen self.old.missed self.new.missed }
         ensures later { self.old.missed ≤ self.new.missed }
     {
@@ -276,8 +441,9 @@ impl<D: Dialer, P: Pulse, R: Wait + Threads + Copy + Drop> Hub<D, P, R> {
         ensures keeps { keeps_of self.new.book ≡ keeps_of self.old.book }
         ensures writers { self.new.writers.items ≡ self.old.writers.items ++ None ∷ [] }
         ensures dialer { self.new.dialer ≡ self.old.dialer }
+        ensures reading { self.new.reading ≡ self.old.reading }
         ensures missed { self.new.missed ≡ self.old.missed }
-        ensures threads { (self.new.readers ≡ self.old.readers) × (self.new.tickers ≡ self.old.tickers) × (self.new.clock ≡ self.old.clock) }
+        ensures threads { (self.new.readers ≡ self.old.readers) × (self.new.tickers ≡ self.old.tickers) × (self.new.clock ≡ self.old.clock) × (self.new.ticking ≡ self.old.ticking) }
     {
         let sender = self.spare.pop().unwrap();
         self.queue.take(sender);
@@ -294,7 +460,8 @@ impl<D: Dialer, P: Pulse, R: Wait + Threads + Copy + Drop> Hub<D, P, R> {
         ensures keeps { keeps_of self.new.book ≡ keeps_of self.old.book }
         ensures writers { self.new.writers.items ≡ self.old.writers.items ++ None ∷ [] }
         ensures dialer { self.new.dialer ≡ self.old.dialer }
-        ensures threads { (self.new.readers ≡ self.old.readers) × (self.new.tickers ≡ self.old.tickers) × (self.new.clock ≡ self.old.clock) }
+        ensures reading { self.new.reading ≡ self.old.reading }
+        ensures threads { (self.new.readers ≡ self.old.readers) × (self.new.tickers ≡ self.old.tickers) × (self.new.clock ≡ self.old.clock) × (self.new.ticking ≡ self.old.ticking) }
         ensures missed { HasRisen self.old.missed self.new.missed }
         ensures later { self.old.missed ≤ self.new.missed }
     {
@@ -313,17 +480,17 @@ impl<D: Dialer, P: Pulse, R: Wait + Threads + Copy + Drop> Hub<D, P, R> {
         requires ready { IsReady self.old.book }
         requires few { self.old.book.dials < 8 }
         requires next { p.0 ≡ self.old.book.dials + 1 }
-        requires more { vec_len self.old.reading < vec_capacity self.old.reading }
-        requires later { vec_len self.old.reading < vec_capacity self.old.done }
         requires begins { self.old.joined ≡ false }
         requires new { D.Write.was_shut writer ≡ false }
         ensures dialled { IfOk result (λ q. (q ≡ p) × (told_of self.new.book ≡ tell (Dialled p name) (told_of self.old.book))) }
         ensures not_dialled { OnErr result (told_of self.new.book ≡ tell (NotDialled p name) (told_of self.old.book)) }
         ensures keeps { keeps_of self.new.book ≡ keeps_of self.old.book }
+        ensures task { OnOk result (map begun self.new.reading.items ≡ map begun self.old.reading.items ++ (p.0, source) ∷ []) }
+        ensures no_task { OnErr result (self.new.reading ≡ self.old.reading) }
         ensures ok { OnOk result ((self.new.missed ≡ self.old.missed) × (self.new.writers.items ≡ self.old.writers.items ++ Some writer ∷ []) × HasGiven self.old.readers self.new.readers) }
         ensures err { OnErr result (HasRisen self.old.missed self.new.missed × (self.old.missed ≤ self.new.missed) × (self.new.writers.items ≡ self.old.writers.items ++ None ∷ []) × HasFailed self.old.readers self.new.readers) }
         ensures dialer { self.new.dialer ≡ self.old.dialer }
-        ensures tickers { (self.new.tickers ≡ self.old.tickers) × (self.new.clock ≡ self.old.clock) }
+        ensures tickers { (self.new.tickers ≡ self.old.tickers) × (self.new.clock ≡ self.old.clock) × (self.new.ticking ≡ self.old.ticking) }
     {
         let sender = self.spare.pop().unwrap();
         let reader = Reader {
@@ -354,7 +521,7 @@ impl<D: Dialer, P: Pulse, R: Wait + Threads + Copy + Drop> Hub<D, P, R> {
         ensures dialer { self.new.dialer ≡ self.old.dialer }
         ensures joined { self.new.joined ≡ self.old.joined }
         ensures seat { view self.new.queue.seat ≡ view self.old.queue.seat }
-        ensures threads { (self.new.readers ≡ self.old.readers) × (self.new.tickers ≡ self.old.tickers) × (self.new.clock ≡ self.old.clock) }
+        ensures threads { (self.new.readers ≡ self.old.readers) × (self.new.tickers ≡ self.old.tickers) × (self.new.clock ≡ self.old.clock) × (self.new.ticking ≡ self.old.ticking) }
         ensures missed { slice_index_or (connected self.old.writers.items) p.0 false ≡ true → self.new.missed ≡ self.old.missed }
         ensures ok { OnOk result ((self.new.missed ≡ self.old.missed) × Adds D.Write.written D.Write.was_shut p.0 bytes.now self.old.writers.items self.new.writers.items) }
         ensures err { OnErr result ((self.new.writers.items ≡ self.old.writers.items) ⊎ ((n : ℕ) × (n ≤ length bytes.now) × Adds D.Write.written D.Write.was_shut p.0 (take n bytes.now) self.old.writers.items self.new.writers.items)) }
@@ -380,7 +547,7 @@ impl<D: Dialer, P: Pulse, R: Wait + Threads + Copy + Drop> Hub<D, P, R> {
         ensures joined { self.new.joined ≡ self.old.joined }
         ensures seat { view self.new.queue.seat ≡ view self.old.queue.seat }
         ensures shut { Shuts D.Write.written D.Write.was_shut p.0 self.old.writers.items self.new.writers.items }
-        ensures threads { (self.new.readers ≡ self.old.readers) × (self.new.tickers ≡ self.old.tickers) × (self.new.clock ≡ self.old.clock) }
+        ensures threads { (self.new.readers ≡ self.old.readers) × (self.new.tickers ≡ self.old.tickers) × (self.new.clock ≡ self.old.clock) × (self.new.ticking ≡ self.old.ticking) }
         ensures written { texts D.Write.written self.new.writers.items ≡ texts D.Write.written self.old.writers.items }
         ensures faults { faults_in D.Write.faults self.new.writers.items ≡ faults_in D.Write.faults self.old.writers.items }
     {
@@ -399,6 +566,7 @@ impl<D: Dialer, P: Pulse, R: Wait + Threads + Copy + Drop> Hub<D, P, R> {
         ensures done { self.new.done ≡ self.old.done }
         ensures rested { self.new.rested ≡ self.old.rested }
         ensures joined { self.new.joined ≡ self.old.joined }
+        ensures ticking { self.new.ticking ≡ self.old.ticking }
         ensures faults { faults_in D.Write.faults self.new.writers.items ≡ faults_in D.Write.faults self.old.writers.items }
     {
         for p in 0..9u32 {
@@ -418,9 +586,23 @@ impl<D: Dialer, P: Pulse, R: Wait + Threads + Copy + Drop> Hub<D, P, R> {
         ensures rested { self.new.rested ≡ self.old.rested }
         ensures joined { self.new.joined ≡ self.old.joined }
         ensures writers { self.new.writers ≡ self.old.writers }
-        ensures threads { (self.new.readers ≡ self.old.readers) × (self.new.tickers ≡ self.old.tickers) × (self.new.clock ≡ self.old.clock) }
+        ensures threads { (self.new.readers ≡ self.old.readers) × (self.new.tickers ≡ self.old.tickers) × (self.new.clock ≡ self.old.clock) × (self.new.ticking ≡ self.old.ticking) }
     {
         let _passed = receive(&self.rt, &mut self.queue, &mut self.gone);
+    }
+
+    // Whether the last entry of each peer that has a writer was noted.
+    fn is_over(&self) -> bool
+        ensures { result ≡ true → AllGone self.now.writers.items self.now.gone }
+    {
+        are_gone(&self.writers, &self.gone)
+    }
+
+    // Whether that was so, and the ticker's last entry was noted where it runs.
+    fn is_drained(&self) -> bool
+        ensures { result ≡ true → AllGone self.now.writers.items self.now.gone }
+    {
+        self.is_over() && (self.ticking.is_none() || self.gone[0])
     }
 
     // Receives until each last entry has come.
@@ -434,7 +616,7 @@ impl<D: Dialer, P: Pulse, R: Wait + Threads + Copy + Drop> Hub<D, P, R> {
         ensures rested { self.new.rested ≡ self.old.rested }
         ensures joined { self.new.joined ≡ self.old.joined }
         ensures writers { self.new.writers ≡ self.old.writers }
-        ensures threads { (self.new.readers ≡ self.old.readers) × (self.new.tickers ≡ self.old.tickers) × (self.new.clock ≡ self.old.clock) }
+        ensures threads { (self.new.readers ≡ self.old.readers) × (self.new.tickers ≡ self.old.tickers) × (self.new.clock ≡ self.old.clock) × (self.new.ticking ≡ self.old.ticking) }
         ensures ended { HaveEnded (connected self.new.writers.items) (view self.new.queue.seat).got }
     {
         if self.joined {
@@ -442,10 +624,8 @@ impl<D: Dialer, P: Pulse, R: Wait + Threads + Copy + Drop> Hub<D, P, R> {
         }
         let rt = self.rt;
         for _ in rt.forever() {
-            if is_over(&self.writers, &self.gone) {
-                if self.ticking.is_none() || self.gone[0] {
-                    return;
-                }
+            if self.is_drained() {
+                return;
             }
             self.pass_one();
         }
@@ -463,6 +643,7 @@ impl<D: Dialer, P: Pulse, R: Wait + Threads + Copy + Drop> Hub<D, P, R> {
         ensures writers { self.new.writers ≡ self.old.writers }
         ensures joined { self.new.joined ≡ true }
         ensures whose { map whose self.new.done.items ≡ map begun self.old.reading.items }
+        ensures rests { pulse_in (λ b. b.before) self.new.rested ≡ pulse_in (λ t. t.pulse) self.old.ticking }
     {
         let rt = self.rt;
         let held = mem::replace(&mut self.reading, Vec::new(self.alloc));
@@ -481,7 +662,7 @@ impl<D: Dialer, P: Pulse, R: Wait + Threads + Copy + Drop> Hub<D, P, R> {
         ensures dialer { self.new.dialer ≡ self.old.dialer }
         ensures missed { self.new.missed ≡ self.old.missed }
         ensures writers { self.new.writers ≡ self.old.writers }
-        ensures threads { (self.new.readers ≡ self.old.readers) × (self.new.tickers ≡ self.old.tickers) × (self.new.clock ≡ self.old.clock) }
+        ensures threads { (self.new.readers ≡ self.old.readers) × (self.new.tickers ≡ self.old.tickers) × (self.new.clock ≡ self.old.clock) × (self.new.ticking ≡ self.old.ticking) }
         ensures some { IfOk result (λ o. IfSome o (λ d. (told_of self.new.book ≡ tell (Took d) (told_of self.old.book)) × (given_of (view self.new.queue.seat).got ≡ given_of (view self.old.queue.seat).got ++ d ∷ []))) }
         ensures none { IfOk result (λ o. IfNone o ((self.new.book ≡ self.old.book) × (given_of (view self.new.queue.seat).got ≡ given_of (view self.old.queue.seat).got))) }
         ensures err { OnErr result (self.new.book ≡ self.old.book) }
@@ -490,33 +671,29 @@ impl<D: Dialer, P: Pulse, R: Wait + Threads + Copy + Drop> Hub<D, P, R> {
         ensures proper { IfOk result (λ o. IfSome o (λ d. IsProper d)) }
     {
         let bytes = Vec::with_capacity(self.alloc, CHUNK)?;
-        let room = self.book.copy_room(self.alloc, CHUNK)?;
-        let Entry { from, kind } = receive(&self.rt, &mut self.queue, &mut self.gone);
-        let p = PeerNo(u32::from(from));
-        match kind {
-            Kind::Got(chunk) => {
-                if from == 0 {
-                    return Ok(None);
-                }
-                self.book.note_got(p, chunk.bytes(), room);
-                Ok(Some(Delivery::Got(p, filled(bytes, chunk.bytes()))))
-            }
-            Kind::Tick(seconds) => {
-                if from > 0 {
-                    return Ok(None);
-                }
-                let seconds = seconds.get();
-                self.book.note_tick(seconds);
-                Ok(Some(Delivery::Tick(seconds)))
-            }
-            Kind::Last => {
-                if from == 0 {
-                    return Ok(None);
-                }
-                self.book.note_gone(p);
-                Ok(Some(Delivery::Gone(p)))
-            }
-        }
+        let room = self.copy_room(CHUNK)?;
+        Ok(take_entry(
+            &self.rt,
+            &mut self.queue,
+            &mut self.gone,
+            &mut self.book,
+            bytes,
+            room,
+        ))
+    }
+
+    // Notes that nothing more comes.
+    fn note_end(&mut self)
+        requires ready { IsReady self.old.book }
+        ensures told { told_of self.new.book ≡ tell (Took Ended) (told_of self.old.book) }
+        ensures keeps { keeps_of self.new.book ≡ keeps_of self.old.book }
+        ensures seat { view self.new.queue.seat ≡ view self.old.queue.seat }
+        ensures dialer { self.new.dialer ≡ self.old.dialer }
+        ensures missed { self.new.missed ≡ self.old.missed }
+        ensures writers { self.new.writers ≡ self.old.writers }
+        ensures threads { (self.new.readers ≡ self.old.readers) × (self.new.tickers ≡ self.old.tickers) × (self.new.clock ≡ self.old.clock) × (self.new.ticking ≡ self.old.ticking) }
+    {
+        self.book.note_end();
     }
 }
 
@@ -592,6 +769,55 @@ fn receive<R: Wait>(rt: &R, queue: &mut Queue<Kind>, gone: &mut [bool; 9]) -> En
     entry
 }
 
+// Takes the next entry. Where it is a delivery, it is noted and given.
+fn take_entry<R: Wait>(
+    rt: &R,
+    queue: &mut Queue<Kind>,
+    gone: &mut [bool; 9],
+    book: &mut Book,
+    bytes: Vec<u8>,
+    room: Vec<u8>,
+) -> Option<Delivery>
+    requires ready { IsReady book.old }
+    requires empty { (bytes.items ≡ []) × (room.items ≡ []) }
+    requires most { 4096 ≤ vec_capacity bytes }
+    requires copy { keeps_of book.old ≡ true → 4096 ≤ vec_capacity room }
+    ensures ring { sends_on queue.new.line ≡ sends_on queue.old.line }
+    ensures heard { Heard gone.old (view queue.old.seat).got → Heard gone.new (view queue.new.seat).got }
+    ensures some { IfSome result (λ d. (told_of book.new ≡ tell (Took d) (told_of book.old)) × (given_of (view queue.new.seat).got ≡ given_of (view queue.old.seat).got ++ d ∷ [])) }
+    ensures real { IfSome result (λ d. d ≢ Delivery.Ended) }
+    ensures none { IfNone result ((book.new ≡ book.old) × (given_of (view queue.new.seat).got ≡ given_of (view queue.old.seat).got)) }
+    ensures keeps { keeps_of book.new ≡ keeps_of book.old }
+    ensures proper { IfSome result (λ d. IsProper d) }
+{
+    let Entry { from, kind } = receive(rt, queue, gone);
+    let p = PeerNo(u32::from(from));
+    match kind {
+        Kind::Got(chunk) => {
+            if from == 0 {
+                return None;
+            }
+            book.note_got(p, chunk.bytes(), room);
+            Some(Delivery::Got(p, filled(bytes, chunk.bytes())))
+        }
+        Kind::Tick(seconds) => {
+            if from > 0 {
+                return None;
+            }
+            let seconds = seconds.get();
+            book.note_tick(seconds);
+            Some(Delivery::Tick(seconds))
+        }
+        Kind::Last => {
+            if from == 0 {
+                return None;
+            }
+            book.note_gone(p);
+            Some(Delivery::Gone(p))
+        }
+    }
+}
+
 // Notes a last entry.
 fn note_last(gone: &mut [bool; 9], entry: &Entry<Kind>)
     ensures last { is_last entry.now.kind ≡ true → gone.new ≡ slice_set gone.old entry.now.from true }
@@ -633,7 +859,7 @@ fn is_left<W>(writers: &[Option<W>], gone: &[bool; 9], p: usize) -> bool
 }
 
 // Whether the last entry of each peer that has a writer was noted.
-fn is_over<W>(writers: &[Option<W>], gone: &[bool; 9]) -> bool
+fn are_gone<W>(writers: &[Option<W>], gone: &[bool; 9]) -> bool
     ensures { result ≡ true → AllGone writers.now gone.now }
 {
     for p in 0..writers.len() {
@@ -663,7 +889,7 @@ impl<D: Dialer, P: Pulse, R: Wait + Threads + Copy + Drop> Wires for Hub<D, P, R
         ensures same { no_script ≡ no_script }
         ensures writers { self.new.writers ≡ self.old.writers }
         ensures own { (self.new.missed ≡ self.old.missed) × (self.new.dialer ≡ self.old.dialer) }
-        ensures threads { (self.new.readers ≡ self.old.readers) × (self.new.tickers ≡ self.old.tickers) × (self.new.clock ≡ self.old.clock) }
+        ensures threads { (self.new.readers ≡ self.old.readers) × (self.new.tickers ≡ self.old.tickers) × (self.new.clock ≡ self.old.clock) × (self.new.ticking ≡ self.old.ticking) }
     {
         self.book.keep();
     }
@@ -680,11 +906,11 @@ impl<D: Dialer, P: Pulse, R: Wait + Threads + Copy + Drop> Wires for Hub<D, P, R
         ensures missed { (self.new.missed ≡ self.old.missed) ⊎ MayMiss self.old.book.finished self.old.readers self.new.readers self.new.clock self.old.tickers self.new.tickers }
         ensures readers { Takes result self.old.readers self.new.readers }
         ensures tickers { MayHandOver self.old.clock self.new.clock self.old.tickers self.new.tickers }
+        ensures pulse { Moves (pulse_in (λ c. c.pulse) self.old.clock) (pulse_in (λ c. c.pulse) self.new.clock) (pulse_in (λ t. t.pulse) self.old.ticking) (pulse_in (λ t. t.pulse) self.new.ticking) }
+        ensures opened { HasOpened D.dials D.Write.written result name.now self.old.dialer self.new.dialer (map begun self.old.reading.items) (map begun self.new.reading.items) self.old.writers.items self.new.writers.items }
     {
         let kept = Name::from_text(self.alloc, name)?;
-        self.book.make_room()?;
-        self.reading.reserve(1)?;
-        self.done.reserve(self.reading.len() + 1)?;
+        self.make_room()?;
         let p = PeerNo(self.book.dials() + 1);
         if self.book.is_finished() {
             self.turn_down(p, kept);
@@ -694,7 +920,7 @@ impl<D: Dialer, P: Pulse, R: Wait + Threads + Copy + Drop> Wires for Hub<D, P, R
             self.turn_down(p, kept);
             return Err(WireFail::Failed);
         }
-        match self.dialer.dial(name) {
+        match self.open(name) {
             Ok((source, writer)) => match self.begin(p, kept, source, writer) {
                 Ok(p) => Ok(p),
                 Err(_) => Err(WireFail::Failed),
@@ -716,10 +942,10 @@ impl<D: Dialer, P: Pulse, R: Wait + Threads + Copy + Drop> Wires for Hub<D, P, R
         ensures writes { Sends D.Write.written D.Write.was_shut result p.0 bytes.now self.old.writers.items self.new.writers.items }
         ensures missed { slice_index_or (connected self.old.writers.items) p.0 false ≡ true → self.new.missed ≡ self.old.missed }
         ensures dialer { self.new.dialer ≡ self.old.dialer }
-        ensures threads { (self.new.readers ≡ self.old.readers) × (self.new.tickers ≡ self.old.tickers) × (self.new.clock ≡ self.old.clock) }
+        ensures threads { (self.new.readers ≡ self.old.readers) × (self.new.tickers ≡ self.old.tickers) × (self.new.clock ≡ self.old.clock) × (self.new.ticking ≡ self.old.ticking) }
     {
-        self.book.make_room()?;
-        let room = self.book.copy_room(self.alloc, bytes.len())?;
+        self.make_room()?;
+        let room = self.copy_room(bytes.len())?;
         match self.put_out(p, bytes) {
             Ok(()) => {
                 self.book.note_sent(p, bytes, room);
@@ -741,7 +967,7 @@ impl<D: Dialer, P: Pulse, R: Wait + Threads + Copy + Drop> Wires for Hub<D, P, R
         ensures same { no_script ≡ no_script }
         ensures shuts { Shuts D.Write.written D.Write.was_shut p.0 self.old.writers.items self.new.writers.items }
         ensures own { (self.new.missed ≡ self.old.missed) × (self.new.dialer ≡ self.old.dialer) }
-        ensures threads { (self.new.readers ≡ self.old.readers) × (self.new.tickers ≡ self.old.tickers) × (self.new.clock ≡ self.old.clock) }
+        ensures threads { (self.new.readers ≡ self.old.readers) × (self.new.tickers ≡ self.old.tickers) × (self.new.clock ≡ self.old.clock) × (self.new.ticking ≡ self.old.ticking) }
     {
         self.book.note_closed(p);
         self.shut(p);
@@ -753,23 +979,24 @@ impl<D: Dialer, P: Pulse, R: Wait + Threads + Copy + Drop> Wires for Hub<D, P, R
         ensures later { D.faults self.old.dialer + (self.old.missed + faults_in D.Write.faults self.old.writers.items) ≤ D.faults self.new.dialer + (self.new.missed + faults_in D.Write.faults self.new.writers.items) }
         ensures keeps { keeps_of self.new.book ≡ keeps_of self.old.book }
         ensures same { no_script ≡ no_script }
-        ensures ended { IfOk result (λ d. d ≡ Delivery.Ended → HaveEnded (connected self.new.writers.items) (view self.new.queue.seat).got) }
+        ensures ended { (told_of self.old.book).finished ≡ true → IfOk result (λ d. d ≡ Delivery.Ended) }
+        ensures last { IfOk result (λ d. d ≡ Delivery.Ended → HaveEnded (connected self.new.writers.items) (view self.new.queue.seat).got) }
         ensures writers { self.new.writers ≡ self.old.writers }
         ensures proper { IfOk result (λ d. IsProper d) }
         ensures gave { IfOk result (λ d. d ≢ Delivery.Ended → given_of (view self.new.queue.seat).got ≡ given_of (view self.old.queue.seat).got ++ d ∷ []) }
         ensures own { (self.new.missed ≡ self.old.missed) × (self.new.dialer ≡ self.old.dialer) }
-        ensures threads { (self.new.readers ≡ self.old.readers) × (self.new.tickers ≡ self.old.tickers) × (self.new.clock ≡ self.old.clock) }
+        ensures threads { (self.new.readers ≡ self.old.readers) × (self.new.tickers ≡ self.old.tickers) × (self.new.clock ≡ self.old.clock) × (self.new.ticking ≡ self.old.ticking) }
     {
-        self.book.make_room()?;
+        self.make_room()?;
         if self.book.is_finished() {
             self.drain();
-            self.book.note_end();
+            self.note_end();
             return Ok(Delivery::Ended);
         }
         let rt = self.rt;
         for _ in rt.forever() {
-            if is_over(&self.writers, &self.gone) {
-                self.book.note_end();
+            if self.is_over() {
+                self.note_end();
                 return Ok(Delivery::Ended);
             }
             if let Some(delivery) = self.take_one()? {
@@ -787,6 +1014,7 @@ impl<D: Dialer, P: Pulse, R: Wait + Threads + Copy + Drop> Wires for Hub<D, P, R
         ensures same { no_script ≡ no_script }
         ensures joined { self.new.joined ≡ true }
         ensures whose { map whose self.new.done.items ≡ map begun self.old.reading.items }
+        ensures rests { pulse_in (λ b. b.before) self.new.rested ≡ pulse_in (λ t. t.pulse) self.old.ticking }
         ensures shut { AreShut D.Write.was_shut self.new.writers.items }
         ensures written { texts D.Write.written self.new.writers.items ≡ texts D.Write.written self.old.writers.items }
         ensures own { (self.new.missed ≡ self.old.missed) × (self.new.dialer ≡ self.old.dialer) }

@@ -4,7 +4,7 @@ ghost use Rattle.std.specs.Option.{ForSome};
 ghost use Rattle.crossbeam_channel.specs.Claims.{view as knows};
 ghost use Rattle.crossbeam_channel.specs.Ends.{sends_on};
 ghost use Rattle.cf_line.specs.Queue.{of};
-ghost use Rattle.cf_hub.specs.Finish.{whose, begun, Fronts};
+ghost use Rattle.cf_hub.specs.Finish.{whose, begun, Fronts, pulse_in};
 ghost use Rattle.cf_hub.specs.Gives.{IsFront};
 ghost use Rattle.cf_hub.specs.Pieces.{Reads};
 ghost use Rattle.cf_hub.specs.Ticks.{Ticked};
@@ -139,13 +139,14 @@ pub(crate) fn join_ticker<P: Pulse, R: Wait + Drop, T: Threads + Wait>(
     ensures ring { sends_on queue.new.line ≡ sends_on queue.old.line }
     ensures got { (knows queue.new.seat).got ≡ (knows queue.old.seat).got }
     ensures some { IsSome result ↔ IsSome held }
+    ensures whose { pulse_in (λ r. r.before) result ≡ pulse_in (λ h. h.pulse) held }
     ensures front { ForSome result (λ r. IsFront (of 0 (knows queue.new.seat).got) r.sent) }
 {
     let Some(busy) = held else {
         return None;
     };
     let of = Snapshot::of(&busy);
-    let Stopped { pulse, sender } = busy.wait(rt);
+    let Stopped { pulse, sender, .. } = busy.wait(rt);
     let seat = Snapshot::of(&sender);
     queue.take(sender);
     queue.account();

@@ -1,6 +1,6 @@
 -- What contracts see of wires that tell the user what passes.
 use Rattle.std.specs.Prelude.{ℕ, Bool}
-use Rattle.cf_peer.specs.Log.{Told}
+use Rattle.cf_wires.specs.Log.{Told}
 
 -- what they tell of what passed, how often the outside has failed, and whether they keep their log
 pub record Standing : Type 0 where

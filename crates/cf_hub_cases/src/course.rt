@@ -1,11 +1,11 @@
 //! A course of calls over any wires, and what came of them.
 ghost use Rattle.std.specs.Prelude.{◌≡◌, [], false};
-ghost use Rattle.cf_peer.specs.Log.{Tells};
+ghost use Rattle.cf_wires.specs.Log.{Tells};
 
 use crate::guide::{Guide, Joins};
 use crate::lines::{are_in_order, put_bytes, put_firsts, put_peers};
 use cf_bytes::PeerNo;
-use cf_peer::{Delivery, Wires};
+use cf_wires::{Delivery, Wires};
 use std::alloc::Global;
 
 /// The most deliveries that one step takes.

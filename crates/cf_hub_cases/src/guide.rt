@@ -1,9 +1,9 @@
 //! Wires that may be called in any order: a call that must not come is not made.
 ghost use Rattle.std.specs.Prelude.{◌≡◌, [], false};
-ghost use Rattle.cf_peer.specs.Log.{Tells};
+ghost use Rattle.cf_wires.specs.Log.{Tells};
 
 use cf_bytes::PeerNo;
-use cf_peer::{Delivery, MemoryWires, WireFail, Wires};
+use cf_wires::{Delivery, MemoryWires, WireFail, Wires};
 
 /// Wires that tell whether all that they started was joined.
 pub(crate) trait Joins {
@@ -50,9 +50,9 @@ impl<W: Wires + Joins + Drop> Guide<W> {
         self.dials
     }
 
-    /// Dials a peer. Whether it answers. `None` for a ninth dial, and for want of memory.
+    /// Dials a peer. Whether it answers. `None` for a ninth dial, for want of memory, and where the wires are finished.
     pub(crate) fn dial(&mut self, name: &str) -> Option<bool> {
-        if self.dials >= 8 {
+        if self.finished || self.dials >= 8 {
             return None;
         }
         match self.wires.dial(name) {
@@ -70,6 +70,9 @@ impl<W: Wires + Joins + Drop> Guide<W> {
 
     /// Sends to a peer. Whether that went well. `None` for want of memory.
     pub(crate) fn send(&mut self, p: PeerNo, bytes: &[u8]) -> Option<bool> {
+        if self.finished {
+            return None;
+        }
         match self.wires.send(p, bytes) {
             Ok(()) => Some(true),
             Err(WireFail::Failed) => Some(false),
@@ -80,7 +83,7 @@ impl<W: Wires + Joins + Drop> Guide<W> {
     /// Closes a peer. `None` for one that was closed, and for no number of a peer.
     pub(crate) fn close(&mut self, p: PeerNo) -> Option<()> {
         let place = p.0 as usize;
-        if place >= 9 || self.closed[place] {
+        if self.finished || place >= 9 || self.closed[place] {
             return None;
         }
         self.closed[place] = true;

@@ -1,14 +1,14 @@
 //! The hub of a row, as wires of which contracts see what they tell, and not how they are made.
 ghost use Rattle.std.specs.Prelude.{◌≡◌, None, IfOk, IfSome, [], false};
 ghost use Rattle.cf_hub.specs.Book.{told_of, keeps_of};
-ghost use Rattle.cf_peer.specs.Log.{Tells};
+ghost use Rattle.cf_wires.specs.Log.{Tells};
 
 use crate::doors::{Count, SHUT, add, same};
 use crate::guide::Joins;
 use crate::outside::{Counts, Limited, PlannedDialer, PlannedPulse, dialer_of, pulse_of};
 use cf_bytes::{NoMemory, PeerNo};
 use cf_hub::Hub;
-use cf_peer::{Delivery, WireFail, Wires};
+use cf_wires::{Delivery, WireFail, Wires};
 use std::marker::Model;
 use std::sync::Wait;
 use std::thread::Threads;

@@ -1,6 +1,6 @@
 //! Courses of calls over a hub whose outside is in memory.
 ghost use Rattle.std.specs.Prelude.{◌≡◌, [], false};
-ghost use Rattle.cf_peer.specs.Log.{Tells};
+ghost use Rattle.cf_wires.specs.Log.{Tells};
 
 use crate::course::{Course, Until};
 use crate::doors::{is_none, stands_at};
@@ -10,7 +10,7 @@ use crate::lines::without_ticks;
 use crate::outside::Counts;
 use crate::replays::replayed;
 use cf_bytes::PeerNo;
-use cf_peer::Wires;
+use cf_wires::Wires;
 use std::alloc::Global;
 use std::sync::Wait;
 use std::thread::Threads;

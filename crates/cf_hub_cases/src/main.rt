@@ -1,18 +1,26 @@
-//! `cf_hub_cases`: reads rows `KIND REST`, and prints each row and what it comes to. `docs/GATE.md` says how rows and kinds are added.
-//! A row that begins with `#` is a remark, and is printed as it is. A row that can't be read, or for which no memory is found, comes to `?`.
+//! `cf_hub_cases`: reads rows `KIND REST`, and prints each row and what it comes to. `docs/CONTRIBUTING.md` says how rows and kinds are added.
+//! A row of the kind `cf` begins with a call of the program, and is read with its first word. A row that begins with `#` is a remark, and is printed as it
+//! is. A row that can't be read, or for which no memory is found, comes to `?`.
 #![tactic(auto)]
 
 mod course;
 mod doors;
+mod following;
 mod guide;
 mod held;
 mod hubs;
 mod lines;
+mod link;
+mod loopback;
 mod outside;
+mod port;
 mod queues;
 mod replays;
+mod row;
 mod runs;
+mod serving;
 mod sockets;
+mod ticking;
 
 use std::process::ExitCode;
 use std::sync::Wait;
@@ -24,12 +32,14 @@ fn answer<R: Wait + Threads + Sync + Copy + Drop + Send + 'static>(
     handle: R,
     row: &str,
 ) -> Option<String> {
-    let (kind, rest) = row.split_once(' ')?;
+    let (kind, rest) = row.split_once(' ').unwrap_or((row, ""));
     match kind {
+        "cf" => loopback::answer(rt, handle, row),
         "dial" => sockets::reason(rt, rest),
         "hub" => hubs::answer(rt, handle, rest),
         "queue" => queues::answer(&handle, rt.alloc(), rest),
         "run" => runs::answer(rt, handle, rest),
+        "ticks" => ticking::answer(rt, handle, rest),
         _ => None,
     }
 }

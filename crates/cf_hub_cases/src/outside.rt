@@ -1,5 +1,6 @@
 //! The outside of a hub in memory: peers of which each is told by the name under which it is dialled, a pulse, and a spawner that refuses.
-ghost use Rattle.std.specs.Prelude.{◌≡◌, ◌≤◌, ◌<◌, None, Some, false, IfSome};
+ghost use Rattle.std.specs.Prelude.{◌≡◌, ◌≤◌, ◌<◌, ◌==◌, if◌then◌else◌, None, Some, [], false, IfSome};
+ghost use Rattle.cf_tasks.specs.declared.threads.Choice.TheVariants.{InThread, Refuse};
 
 use crate::doors::{Count, Door, SHUT, add, count, nap, same};
 use cf_bytes::{Failed, Sink, VecSink};
@@ -212,7 +213,7 @@ fn conn_in(alloc: Global, name: &str, plan: Plan) -> Option<MemoryConn>
 
 // The writer of a peer.
 fn writer_of(alloc: Global, fails: bool, count: Count) -> Option<PlannedWriter>
-    ensures { IfSome result (λ w. (w.faults ≡ 0) × (w.shut ≡ false)) }
+    ensures { IfSome result (λ w. (w.faults ≡ 0) × (w.shut ≡ false) × (w.sink.bytes ≡ [])) }
 {
     Some(PlannedWriter {
         sink: VecSink::new(alloc, 1000, 10_000).ok()?,
@@ -257,7 +258,7 @@ impl PlannedDialer {
 
     // Both sides of a peer.
     fn open(&self, name: &str) -> Option<(PlannedSource, PlannedWriter)>
-        ensures { IfSome result (λ c. (c.0.ended ≡ false) × (c.0.conn.source.plan.faults ≡ 0) × (c.1.faults ≡ 0) × (c.1.shut ≡ false)) }
+        ensures { IfSome result (λ c. (c.0.ended ≡ false) × (c.0.conn.source.plan.faults ≡ 0) × (c.1.faults ≡ 0) × (c.1.shut ≡ false) × (c.1.sink.bytes ≡ [])) }
     {
         let plan = plan_in(name)?;
         let own = count(self.alloc)?;
@@ -273,6 +274,8 @@ impl Dialer for PlannedDialer {
     type Write = PlannedWriter;
 
     ghost faults = { λ d. d.faults };
+
+    ghost dials = { λ _ _ _ _. Unit {0} };
 
     fn dial(&mut self, name: &str) -> Result<(PlannedSource, PlannedWriter), Failed> {
         if let Some(both) = self.open(name) {
@@ -348,13 +351,17 @@ impl<R: Threads + Drop> Spawner for Limited<R> {
 
     ghost refusals = { λ s. s.refused };
 
+    ghost next = { λ s. if s.left == 0 then Refuse else InThread };
+
+    ghost moves = { λ _ _ _. Unit {0} };
+
     fn rt(&self) -> &R {
         &self.rt
     }
 
     fn choose(&mut self) -> Choice {
         if self.left == 0 {
-            self.count();
+            self.refused = self.refused.saturating_add(1);
             return Choice::Refuse;
         }
         self.left -= 1;

@@ -1,36 +1,20 @@
 //! Whole calls of the program over hubs whose outside is in memory.
 ghost use Rattle.std.specs.Prelude.{◌≡◌, IfSome, [], false};
-ghost use Rattle.cf_peer.specs.Log.{Tells};
+ghost use Rattle.cf_wires.specs.Log.{Tells};
 
 use crate::held::Held;
 use crate::outside::Counts;
-use cf_bytes::{Files, MapFiles, VecSink};
-use cf_cli::{Status, run};
+use crate::row::{shown, watch_in, words_in};
+use cf_bytes::{MapFiles, VecSink};
+use cf_cli::run;
 use cf_conn::MemoryConn;
-use cf_peer::{MemoryWires, Wires};
 use cf_played::Played;
 use cf_serve::ListLink;
 use cf_tasks::InThreads;
+use cf_wires::{MemoryWires, Wires};
 use std::alloc::Global;
 use std::sync::Wait;
 use std::thread::Threads;
-
-// The words of a call.
-fn words_in(alloc: Global, text: &str) -> Option<Vec<String>> {
-    let mut words = Vec::new(alloc);
-    for word in text.split(' ') {
-        words.push(String::from_str(alloc, word).ok()?).ok()?;
-    }
-    Some(words)
-}
-
-// A watch file, `w`. Each of its lines ends at `;`.
-fn files_in(alloc: Global, watch: &str) -> Option<MapFiles> {
-    let watch = watch.replace(alloc, ";", "\n").ok()?;
-    let mut files = MapFiles::new(alloc);
-    files.write(alloc, "w", watch.as_bytes()).ok()?;
-    Some(files)
-}
 
 // A hub that has dialled nobody, as the numbers of a row tell it.
 fn wires_in<R: Wait + Threads + Copy + Drop + Send + 'static>(
@@ -53,16 +37,6 @@ fn wires_in<R: Wait + Threads + Copy + Drop + Send + 'static>(
 // A link to which nobody connects.
 fn no_link(alloc: Global) -> Option<ListLink<MemoryConn>> {
     ListLink::new(alloc, Vec::new(alloc)).ok()
-}
-
-// The exit status, the status, what went wrong, in words, and what was written.
-fn shown(alloc: Global, status: &Status, written: &[u8]) -> Option<String> {
-    let text = str::from_utf8(written).ok()?;
-    let code = status.code();
-    match status {
-        Status::Done => format!(in alloc; "{code} {status:?}\n{text}").ok(),
-        _ => format!(in alloc; "{code} {status:?}: {status}\n{text}").ok(),
-    }
 }
 
 // The answer to these words over these wires, and what was written.
@@ -140,7 +114,7 @@ pub(crate) fn answer<R: Wait + Threads + Sync + Copy + Drop + Send + 'static>(
 ) -> Option<String> {
     let (numbers, rest) = row.split_once('|')?;
     let (watch, calls) = rest.split_once('|')?;
-    let mut files = files_in(rt.alloc(), watch)?;
+    let mut files = watch_in(rt.alloc(), watch)?;
     match calls.split_once('|') {
         Some((first, second)) => twice(rt, handle, numbers, &mut files, first, second),
         None => called(rt, handle, numbers, &mut files, calls),

@@ -6,7 +6,6 @@ pub mod GenesisHash
 pub mod Growing
 pub mod RecordLaws
 pub mod Steps
-pub mod Bounds
 pub mod Walking
 pub mod Heading
 pub mod Baring

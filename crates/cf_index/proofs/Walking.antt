@@ -17,7 +17,7 @@ use Rattle.cf_filter.specs.Items.{paid_scripts}
 use Rattle.cf_index.specs.declared.block_filter.BlockFilter.{BlockFilter}
 use Rattle.cf_index.specs.Checked.{hashes_of, prevouts_in}
 use Rattle.cf_index.specs.Filtering.{shown, AreFirst}
-use Rattle.cf_index.proofs.Bounds.{block_few}
+use Rattle.cf_chain.proofs.Bounds.{block_few}
 
 -- ---- one block more
 

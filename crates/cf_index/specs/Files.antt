@@ -32,6 +32,7 @@ pub record IsFileOf (bytes : List ℕ) (blocks : List Block) : Type 0 where
       (bytes ≡ flat_map record_spelling blocks ++ replicate zeros 0)
       ⊎ (bytes ≡ record_spelling first_block ++ (flat_map record_spelling blocks ++ replicate zeros 0))
 
+-- the bytes are the records of a good chain's blocks; genesis's may stand before them, and zeros alone after them
 pub record IsGoodFile (bytes : List ℕ) (blocks : List Block) : Type 0 where
   pub file : IsFileOf bytes blocks
   pub chain : IsGoodChain blocks
@@ -104,6 +105,7 @@ genesis_record = record_spelling first_block
 abbrev pub begins_with_genesis : List ℕ → Bool
 begins_with_genesis bytes = bytes_eq (take (length genesis_record) bytes) genesis_record
 
+-- the blocks of a file above genesis, or its first bad record, by its number, and the first rule that it breaks
 unfoldable pub blocks_at : List ℕ → Result (List Block) BadBlock
 blocks_at bytes =
     if begins_with_genesis bytes then blocks_from 1 0 [] (drop (length genesis_record) bytes)

@@ -6,6 +6,7 @@ use Rattle.cf_chain.specs.Coins.{coins_after}
 use Rattle.cf_chain.specs.Filters.{Filtered, filtered_on, filters_of}
 use Rattle.cf_index.specs.declared.block_filter.BlockFilter.{BlockFilter}
 
+-- a block's filter as contracts see it: the block's hash, the filter, and the filter header
 abbrev pub shown : BlockFilter → Filtered
 shown f = record { block = f.block.0; filter = f.filter; header = f.header.0 }
 

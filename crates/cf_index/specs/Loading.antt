@@ -33,6 +33,7 @@ Indexes read (Err faults.TooBig) = ⊥
 Indexes read (Err faults.ReadFault) = ⊥
 Indexes read (Err faults.NoMemory) = Unit {0}
 
+-- why a source could not be read, as loading tells it
 abbrev pub IsUnread : ReadFail → LoadFault → Type 0
 IsUnread fails.Failed fault = fault ≡ faults.ReadFault
 IsUnread fails.TooBig fault = fault ≡ faults.TooBig

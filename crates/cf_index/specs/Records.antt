@@ -17,6 +17,7 @@ magic = 0xfa ∷ 0xbf ∷ 0xb5 ∷ 0xda ∷ []
 abbrev pub record_with : List ℕ → List ℕ
 record_with text = magic ++ (to_le_bytes w32 (length text) ++ text)
 
+-- the record of a block: the magic, the length and the block
 unfoldable pub record_spelling : Block → List ℕ
 record_spelling b = record_with (block_spelling b)
 

@@ -59,6 +59,7 @@ abbrev pub unless_fault : Option CoinFault → Result CoinMap CoinFault → Resu
 unless_fault None r = r
 unless_fault (Some fault) r = Err fault
 
+-- the coins after a block's transactions, or the first thing that is wrong with what they spend and make
 unfoldable pub spend_txs : CoinMap → List Tx → Result CoinMap CoinFault
 spend_txs coins txs = unless_fault (coinbase_fault txs) (spend_all coins txs)
 

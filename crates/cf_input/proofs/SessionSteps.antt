@@ -4,7 +4,7 @@ use Rattle.std.specs.Prelude.{Result, Ok, Err}
 use Rattle.cf_bytes.specs.Cut.{◌>>=◌}
 use Rattle.cf_bytes.specs.declared.memory.Refused.{Refused}
 use Rattle.cf_bytes.specs.declared.memory.Refused.TheVariants.{No, NoMemory}
-use Rattle.cf_peer.specs.Wires.{Script}
+use Rattle.cf_wires.specs.Wires.{Script}
 use Rattle.cf_input.specs.Lines.{GivesRead}
 use Rattle.cf_input.specs.SessionFile.{is_none, dialled}
 use Rattle.cf_input.specs.declared.session.SessionCause.TheVariants.{NoDial}

@@ -6,6 +6,7 @@ use Rattle.std.specs.List.{list_all, flat_map}
 abbrev pub IsLine : List ℕ → Type 0
 IsLine line = list_all (λ b. not (b == 10)) line ≡ true
 
+-- each of these is a line
 abbrev pub AreLines : List (List ℕ) → Type 0
 AreLines [] = Unit {0}
 AreLines (line ∷ lines) = IsLine line × AreLines lines

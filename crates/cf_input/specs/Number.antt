@@ -12,6 +12,7 @@ is_led_well [] = false
 is_led_well (b ∷ []) = true
 is_led_well (b ∷ c ∷ rest) = not (b == 48)
 
+-- decimal digits, at least one, without a leading zero unless it is the only one
 abbrev pub is_number : List ℕ → Bool
 is_number text = list_all is_digit text && is_led_well text
 

@@ -4,10 +4,10 @@ use Rattle.std.specs.List.{before_first, after_first}
 use Rattle.std.specs.Str.{bytes_eq}
 use Rattle.cf_bytes.specs.Cut.{◌>>=◌}
 use Rattle.cf_bytes.specs.declared.peer.PeerNo.{PeerNo}
-use Rattle.cf_peer.specs.Wires.{Script}
-use Rattle.cf_peer.specs.declared.event.Dial.{Dial}
-use Rattle.cf_peer.specs.declared.event.Delivery.{Delivery}
-use Rattle.cf_peer.specs.declared.event.Delivery.TheVariants.{Got, Gone, Tick}
+use Rattle.cf_wires.specs.Wires.{Script}
+use Rattle.cf_wires.specs.declared.event.Dial.{Dial}
+use Rattle.cf_wires.specs.declared.event.Delivery.{Delivery}
+use Rattle.cf_wires.specs.declared.event.Delivery.TheVariants.{Got, Gone, Tick}
 use Rattle.cf_input.specs.Lines.{lines_of, read_lines, bytes_of_hex}
 use Rattle.cf_input.specs.Name.{is_name}
 use Rattle.cf_input.specs.Number.{is_number, number_within}
@@ -96,6 +96,7 @@ taken_by s line None =
     if is_none s.dials then Err NoDial
     else delivery_of (length s.dials) line >>= λ d. Ok (record s { deliveries = s.deliveries ++ d ∷ [] })
 
+-- a session with one line more: a dial before all deliveries, or a delivery; or why the line is refused
 abbrev pub taken : Script → List ℕ → Result Script SessionCause
 taken s line = taken_by s line (dial_of line)
 

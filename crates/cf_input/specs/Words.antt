@@ -13,6 +13,7 @@ use Rattle.cf_input.specs.SessionFile.{max_dials}
 use Rattle.cf_input.specs.declared.words.Command.{Command}
 use Rattle.cf_input.specs.declared.words.Command.TheVariants.{Address, Check, Demo, Filter, Make, Prove, Replay, Scan, Serve, Sync}
 
+-- an argument that has to be there
 abbrev pub needed : Rule → Rule
 needed r = record r { required = true }
 
@@ -20,9 +21,11 @@ needed r = record r { required = true }
 abbrev pub several : Rule → Rule
 several r = record r { range = Some (record { start_inclusive = 1; end_inclusive = usize_max }) }
 
+-- the option of `replay` for the trace
 abbrev pub trace : Rule
 trace = record (new_rule (codes "trace")) { long = Some (codes "trace"); action = Some SetTrue }
 
+-- the option of `sync` for the most deliveries
 abbrev pub turns : Rule
 turns = record (new_rule (codes "turns")) { long = Some (codes "turns") }
 
@@ -30,9 +33,11 @@ turns = record (new_rule (codes "turns")) { long = Some (codes "turns") }
 abbrev pub replay_app : App
 replay_app = with_rule (with_rule (with_rule (new_app (codes "replay")) trace) (needed (new_rule (codes "watch")))) (needed (new_rule (codes "session")))
 
+-- the option of `sync` for how many threads judge filters
 abbrev pub workers : Rule
 workers = record (new_rule (codes "workers")) { long = Some (codes "workers") }
 
+-- the option of `sync` for the file of its record
 abbrev pub record_rule : Rule
 record_rule = record (new_rule (codes "record")) { long = Some (codes "record") }
 
@@ -72,6 +77,7 @@ prove_app = two_app (codes "prove") (codes "file") (codes "txid")
 abbrev pub check_app : App
 check_app = one_app (codes "check") (codes "file")
 
+-- the option of `serve` for how many connections
 abbrev pub connections : Rule
 connections = record (new_rule (codes "connections")) { long = Some (codes "connections") }
 
@@ -91,6 +97,7 @@ make_app = three_app (codes "make") (codes "seed") (codes "blocks") (codes "file
 abbrev pub demo_app : App
 demo_app = two_app (codes "demo") (codes "seed") (codes "blocks")
 
+-- clap's description of a program, with one subcommand more
 unfoldable pub with_sub : App → App → App
 with_sub a s = with_subcommand a s.top
 
@@ -106,6 +113,7 @@ cli_app = with_sub (with_sub (with_sub (with_sub (with_sub (with_sub (with_sub (
 abbrev pub Met : Type 0
 Met = Option (Text × List Row)
 
+-- this subcommand was met
 abbrev pub is_met : Text → Met → Bool
 is_met name None = false
 is_met name (Some p) = bytes_eq p.0 name
@@ -185,6 +193,7 @@ most_played = 99998
 abbrev pub played_of : Text → Option ℕ
 played_of text = number_within most_played text
 
+-- the command `replay`, by what was found for its arguments
 abbrev pub replay_of : Met → Option Command
 replay_of met =
     option_and_then (λ watch. option_and_then (λ session.
@@ -195,6 +204,7 @@ replay_of met =
 abbrev pub are_names : List Text → Bool
 are_names texts = list_all is_name texts && (nat_lt 0 (length texts) && nat_le (length texts) max_dials)
 
+-- the command `sync`, by what was found for its arguments
 abbrev pub sync_of : Met → Option Command
 sync_of met =
     option_and_then (λ turns. option_and_then (λ workers. option_and_then (λ watch. option_and_then (λ peers.
@@ -206,18 +216,21 @@ abbrev pub HasFewPeers : Command → Type 0
 HasFewPeers (Sync _ _ _ _ peers) = length peers ≤ max_dials
 HasFewPeers _ = Unit {0}
 
+-- the command `scan`, by what was found for its arguments
 abbrev pub scan_of : Met → Option Command
 scan_of met =
     option_and_then (λ file. option_and_then (λ watch.
     Some (Scan file watch))
     (text_of (codes "watch") met)) (text_of (codes "file") met)
 
+-- the command `filter`, by what was found for its arguments
 abbrev pub filter_of : Met → Option Command
 filter_of met =
     option_and_then (λ file. option_and_then (λ height.
     Some (Filter file height))
     (option_and_then height_of (text_of (codes "height") met))) (text_of (codes "file") met)
 
+-- the command `address`, by what was found for its arguments
 abbrev pub address_of : Met → Option Command
 address_of met = option_and_then (λ text. Some (Address text)) (text_of (codes "text") met)
 
@@ -225,12 +238,14 @@ address_of met = option_and_then (λ text. Some (Address text)) (text_of (codes 
 abbrev pub hash_in : Text → Option Hash32
 hash_in text = if length text == 64 then option_map (λ bytes. record { 0 = reverse bytes }) (bytes_of_hex text) else None
 
+-- the command `prove`, by what was found for its arguments
 abbrev pub prove_of : Met → Option Command
 prove_of met =
     option_and_then (λ file. option_and_then (λ txid.
     Some (Prove file txid))
     (option_and_then hash_in (text_of (codes "txid") met))) (text_of (codes "file") met)
 
+-- the command `check`, by what was found for its arguments
 abbrev pub check_of : Met → Option Command
 check_of met = option_and_then (λ file. Some (Check file)) (text_of (codes "file") met)
 
@@ -241,18 +256,21 @@ serve_of met =
     if is_name address then Some (Serve count file address) else None)
     (text_of (codes "address") met)) (text_of (codes "file") met)) (connections_of (text_of (codes "connections") met))
 
+-- the command `make`, by what was found for its arguments
 abbrev pub make_of : Met → Option Command
 make_of met =
     option_and_then (λ seed. option_and_then (λ blocks. option_and_then (λ file.
     Some (Make seed blocks file))
     (text_of (codes "file") met)) (option_and_then made_of (text_of (codes "blocks") met))) (option_and_then seed_of (text_of (codes "seed") met))
 
+-- the command `demo`, by what was found for its arguments
 abbrev pub demo_of : Met → Option Command
 demo_of met =
     option_and_then (λ seed. option_and_then (λ blocks.
     Some (Demo seed blocks))
     (option_and_then played_of (text_of (codes "blocks") met))) (option_and_then seed_of (text_of (codes "seed") met))
 
+-- the command that is asked for, by the subcommand that was met; none where a number or a name is out of range
 abbrev pub asked_of : Met → Option Command
 asked_of met =
     if is_met (codes "replay") met then replay_of met
@@ -277,8 +295,10 @@ abbrev pub command_of : List Text → Option Command
 command_of words =
     if is_faultless (fault_of cli_app words) then asked_of (subcommand_of cli_app words) else None
 
+-- a word that asks for the help
 abbrev pub is_help_word : Text → Bool
 is_help_word word = bytes_eq word (codes "help") || (bytes_eq word (codes "--help") || bytes_eq word (codes "-h"))
 
+-- a word that asks for the version
 abbrev pub is_version_word : Text → Bool
 is_version_word word = bytes_eq word (codes "--version") || bytes_eq word (codes "-V")

@@ -1,7 +1,7 @@
 //! The program's words, read by clap.
 ghost use Rattle.std.specs.Prelude.{◌≡◌, ◌==◌, IfOk, IfErr, [], map, false, length, codes, string_bytes, option_map};
 ghost use Rattle.std.specs.List.{list_any};
-ghost use Rattle.clap.specs.Words.{app_of, rule_of, new_rule, subcommand_of, subcommand_rows_of, fault_of, with_rule};
+ghost use Rattle.clap.specs.Words.{App, Rule, app_of, rule_of, new_rule, subcommand_of, subcommand_rows_of, fault_of, with_rule};
 ghost use Rattle.clap.specs.declared.builder.command.Command.TheViews.{out-Command as fields_of};
 ghost use Rattle.cf_input.specs.Words.{trace, turns, workers, record_rule, several, needed, replay_app, sync_options, sync_app, connections, serve_app, one_app, two_app, three_app, with_sub, client_app, cli_app, text_of, texts_of, is_met, is_set, turns_of, workers_of, connections_of, height_of, seed_of, made_of, played_of, replay_of, sync_of, scan_of, filter_of, address_of, hash_in, prove_of, check_of, serve_of, make_of, demo_of, HasFewPeers, asked_of, is_faultless, command_of, is_help_word, is_version_word};
 ghost use Rattle.cf_input.specs.Commands.{GivesOrUsage, IfUsage, refusal_of};
@@ -151,39 +151,59 @@ fn word_arg<'a>(alloc: Global, id: &'a str) -> Arg<'a>
     Arg::new(alloc, id).required(true)
 }
 
-// The command with one more argument.
-fn with_arg<'a>(command: clap::Command<'a>, arg: Arg<'a>) -> Result<clap::Command<'a>, AllocError>
-    requires { ((fields_of command).has_globals ≡ false) × (arg.global ≡ false) }
-    ensures { IfOk result (λ c. (app_of c ≡ with_rule (app_of command.entry) (rule_of arg.entry)) × ((fields_of c).has_globals ≡ false)) }
+// The command with one more argument, where it was made.
+fn with_arg<'a>(
+    command: Result<clap::Command<'a>, AllocError>,
+    arg: Arg<'a>,
+) -> Result<clap::Command<'a>, AllocError>
+    requires command { IfOk command (λ c. (fields_of c).has_globals ≡ false) }
+    requires arg { arg.global ≡ false }
+    ensures app { (a : App) (r : Rule) → IfOk command.entry (λ c. app_of c ≡ a) → rule_of arg.entry ≡ r
+        → IfOk result (λ c. app_of c ≡ with_rule a r) }
+    ensures globals { IfOk result (λ c. (fields_of c).has_globals ≡ false) }
 {
-    command.arg(arg)
+    match command {
+        Ok(command) => command.arg(arg),
+        Err(e) => Err(e),
+    }
 }
 
 // The command `sync` with its options alone.
 fn sync_options<'a>(alloc: Global) -> Result<clap::Command<'a>, AllocError>
-    ensures { IfOk result (λ c. (app_of c ≡ sync_options) × ((fields_of c).has_globals ≡ false)) }
+    ensures app { IfOk result (λ c. app_of c ≡ sync_options) }
+    ensures globals { IfOk result (λ c. (fields_of c).has_globals ≡ false) }
 {
-    let command = clap::Command::new(alloc, "sync");
-    let command = with_arg(command, turns_arg(alloc))?;
-    let command = with_arg(command, workers_arg(alloc))?;
+    let command = Ok(clap::Command::new(alloc, "sync"));
+    let command = with_arg(command, turns_arg(alloc));
+    let command = with_arg(command, workers_arg(alloc));
     with_arg(command, record_arg(alloc))
 }
 
 fn sync_command<'a>(alloc: Global) -> Result<clap::Command<'a>, AllocError>
-    ensures { IfOk result (λ c. (app_of c ≡ sync_app) × ((fields_of c).has_globals ≡ false)) }
+    ensures app { IfOk result (λ c. app_of c ≡ sync_app) }
+    ensures globals { IfOk result (λ c. (fields_of c).has_globals ≡ false) }
 {
-    let command = sync_options(alloc)?;
-    let command = with_arg(command, word_arg(alloc, "watch"))?;
+    let command = with_arg(sync_options(alloc), word_arg(alloc, "watch"));
     with_arg(command, peers_arg(alloc))
 }
 
 fn replay_command<'a>(alloc: Global) -> Result<clap::Command<'a>, AllocError>
-    ensures { IfOk result (λ c. (app_of c ≡ replay_app) × ((fields_of c).has_globals ≡ false)) }
+    ensures app { IfOk result (λ c. app_of c ≡ replay_app) }
+    ensures globals { IfOk result (λ c. (fields_of c).has_globals ≡ false) }
 {
-    let command = clap::Command::new(alloc, "replay");
-    let command = with_arg(command, trace_arg(alloc))?;
-    let command = with_arg(command, word_arg(alloc, "watch"))?;
+    let command = Ok(clap::Command::new(alloc, "replay"));
+    let command = with_arg(command, trace_arg(alloc));
+    let command = with_arg(command, word_arg(alloc, "watch"));
     with_arg(command, word_arg(alloc, "session"))
+}
+
+// A command of one word.
+fn one_word<'a>(alloc: Global, name: &'a str, one: &'a str) -> Result<clap::Command<'a>, AllocError>
+    ensures app { IfOk result (λ c. app_of c ≡ one_app name.entry.now one.entry.now) }
+    ensures globals { IfOk result (λ c. (fields_of c).has_globals ≡ false) }
+{
+    let command = Ok(clap::Command::new(alloc, name));
+    with_arg(command, word_arg(alloc, one))
 }
 
 // A command of two words.
@@ -193,9 +213,10 @@ fn two_words<'a>(
     one: &'a str,
     two: &'a str,
 ) -> Result<clap::Command<'a>, AllocError>
-    ensures { IfOk result (λ c. (app_of c ≡ two_app name.entry.now one.entry.now two.entry.now) × ((fields_of c).has_globals ≡ false)) }
+    ensures app { IfOk result (λ c. app_of c ≡ two_app name.entry.now one.entry.now two.entry.now) }
+    ensures globals { IfOk result (λ c. (fields_of c).has_globals ≡ false) }
 {
-    let command = with_arg(clap::Command::new(alloc, name), word_arg(alloc, one))?;
+    let command = one_word(alloc, name, one);
     with_arg(command, word_arg(alloc, two))
 }
 
@@ -207,17 +228,11 @@ fn three_words<'a>(
     two: &'a str,
     three: &'a str,
 ) -> Result<clap::Command<'a>, AllocError>
-    ensures { IfOk result (λ c. (app_of c ≡ three_app name.entry.now one.entry.now two.entry.now three.entry.now) × ((fields_of c).has_globals ≡ false)) }
+    ensures app { IfOk result (λ c. app_of c ≡ three_app name.entry.now one.entry.now two.entry.now three.entry.now) }
+    ensures globals { IfOk result (λ c. (fields_of c).has_globals ≡ false) }
 {
-    let command = two_words(alloc, name, one, two)?;
+    let command = two_words(alloc, name, one, two);
     with_arg(command, word_arg(alloc, three))
-}
-
-// A command of one word.
-fn one_word<'a>(alloc: Global, name: &'a str, one: &'a str) -> Result<clap::Command<'a>, AllocError>
-    ensures { IfOk result (λ c. (app_of c ≡ one_app name.entry.now one.entry.now) × ((fields_of c).has_globals ≡ false)) }
-{
-    with_arg(clap::Command::new(alloc, name), word_arg(alloc, one))
 }
 
 fn connections_arg<'a>(alloc: Global) -> Arg<'a>
@@ -227,10 +242,12 @@ fn connections_arg<'a>(alloc: Global) -> Arg<'a>
 }
 
 fn serve_command<'a>(alloc: Global) -> Result<clap::Command<'a>, AllocError>
-    ensures { IfOk result (λ c. (app_of c ≡ serve_app) × ((fields_of c).has_globals ≡ false)) }
+    ensures app { IfOk result (λ c. app_of c ≡ serve_app) }
+    ensures globals { IfOk result (λ c. (fields_of c).has_globals ≡ false) }
 {
-    let command = with_arg(clap::Command::new(alloc, "serve"), connections_arg(alloc))?;
-    let command = with_arg(command, word_arg(alloc, "file"))?;
+    let command = Ok(clap::Command::new(alloc, "serve"));
+    let command = with_arg(command, connections_arg(alloc));
+    let command = with_arg(command, word_arg(alloc, "file"));
     with_arg(command, word_arg(alloc, "address"))
 }
 
@@ -246,30 +263,54 @@ fn with_one_more<'a>(
     command.subcommand(sub)
 }
 
+// The same where both were made.
+fn add<'a>(
+    command: Result<clap::Command<'a>, AllocError>,
+    sub: Result<clap::Command<'a>, AllocError>,
+) -> Result<clap::Command<'a>, AllocError>
+    requires command { IfOk command (λ c. (fields_of c).has_globals ≡ false) }
+    requires sub { IfOk sub (λ c. (fields_of c).has_globals ≡ false) }
+    ensures app { (a s : App) → IfOk command.entry (λ c. app_of c ≡ a) → IfOk sub.entry (λ c. app_of c ≡ s)
+        → IfOk result (λ c. app_of c ≡ with_sub a s) }
+    ensures globals { IfOk result (λ c. (fields_of c).has_globals ≡ false) }
+{
+    match command {
+        Ok(command) => match sub {
+            Ok(sub) => with_one_more(command, sub),
+            Err(e) => Err(e),
+        },
+        Err(e) => Err(e),
+    }
+}
+
 // The command line, with the client's commands alone.
 fn client_command<'a>(alloc: Global) -> Result<clap::Command<'a>, AllocError>
-    ensures { IfOk result (λ c. (app_of c ≡ client_app) × ((fields_of c).has_globals ≡ false)) }
+    ensures app { IfOk result (λ c. app_of c ≡ client_app) }
+    ensures globals { IfOk result (λ c. (fields_of c).has_globals ≡ false) }
 {
-    let command = clap::Command::new(alloc, "cf");
-    let command = with_one_more(command, sync_command(alloc)?)?;
-    with_one_more(command, replay_command(alloc)?)
+    let command = Ok(clap::Command::new(alloc, "cf"));
+    let command = add(command, sync_command(alloc));
+    add(command, replay_command(alloc))
 }
 
 /// The whole command line: those over a block file come after them, then that over an address, those over proofs, the server, and
 /// those over a made chain.
 pub(crate) fn cli_command<'a>(alloc: Global) -> Result<clap::Command<'a>, AllocError>
-    ensures { IfOk result (λ c. (app_of c ≡ cli_app) × ((fields_of c).has_globals ≡ false)) }
+    ensures app { IfOk result (λ c. app_of c ≡ cli_app) }
+    ensures globals { IfOk result (λ c. (fields_of c).has_globals ≡ false) }
 {
-    let command = client_command(alloc)?;
-    let command = with_one_more(command, two_words(alloc, "scan", "file", "watch")?)?;
-    let command = with_one_more(command, two_words(alloc, "filter", "file", "height")?)?;
-    let command = with_one_more(command, one_word(alloc, "address", "text")?)?;
-    let command = with_one_more(command, two_words(alloc, "prove", "file", "txid")?)?;
-    let command = with_one_more(command, one_word(alloc, "check", "file")?)?;
-    let command = with_one_more(command, serve_command(alloc)?)?;
-    let made = three_words(alloc, "make", "seed", "blocks", "file")?;
-    let command = with_one_more(command, made)?;
-    with_one_more(command, two_words(alloc, "demo", "seed", "blocks")?)
+    let command = client_command(alloc);
+    let command = add(command, two_words(alloc, "scan", "file", "watch"));
+    let command = add(command, two_words(alloc, "filter", "file", "height"));
+    let command = add(command, one_word(alloc, "address", "text"));
+    let command = add(command, two_words(alloc, "prove", "file", "txid"));
+    let command = add(command, one_word(alloc, "check", "file"));
+    let command = add(command, serve_command(alloc));
+    let command = add(
+        command,
+        three_words(alloc, "make", "seed", "blocks", "file"),
+    );
+    add(command, two_words(alloc, "demo", "seed", "blocks"))
 }
 
 // Clap refuses the words, or finds no memory.

@@ -7,7 +7,8 @@ ghost use Rattle.cf_line.specs.Queue.{receiver, sender, with_sent, with_got, wit
 ghost use Rattle.cf_line.specs.declared.entry.Entry.{Entry};
 
 use crate::entry::{Entry, View};
-use crate::rule::{Account, InOrder, Made, Received, Sent, Taken};
+use crate::passing::Passing;
+use crate::rule::{Account, InOrder, Made, Received, Taken};
 use crossbeam_channel::{Pass, RuledReceiver, RuledSender, bounded_with};
 use std::alloc::{AllocError, Global};
 use std::sync::Wait;
@@ -52,14 +53,16 @@ impl<M: Drop> Sender<M> {
         self.returned
     }
 
-    /// Sends an entry under its number. It waits where the queue is full. An entry that comes back was not sent, and is counted.
-    pub fn send<R: Wait>(&mut self, rt: &R, kind: M) -> Result<(), M>
+    /// Sends an entry under its number. It waits where the queue is full. An entry that comes back was not sent, and is counted; it comes back only
+    /// where the queue's own call handed it back.
+    pub fn send<R: Passing>(&mut self, rt: &R, kind: M) -> Result<(), M>
         ensures ring { sends_on self.new.line ≡ sends_on self.old.line }
         ensures number { self.new.number ≡ self.old.number }
         ensures ok { IfOk result (λ _. view self.new.seat ≡ with_sent (view self.old.seat) (entry self.old.number kind)) }
         ensures err { IfErr result (λ k. (k ≡ kind) × (view self.new.seat ≡ view self.old.seat)) }
         ensures kept { OnOk result (self.new.returned ≡ self.old.returned) }
         ensures returned { OnErr result (HasRisen self.old.returned self.new.returned) }
+        ensures cause { OnErr result (R.hands_back rt.now) }
     {
         let Sender {
             line,
@@ -71,7 +74,7 @@ impl<M: Drop> Sender<M> {
             from: *number,
             kind,
         };
-        match line.send_as::<Sent, R>(rt, seat, entry) {
+        match rt.put(line, seat, entry) {
             Ok(()) => Ok(()),
             Err(e) => {
                 *returned = returned.saturating_add(1);
@@ -213,13 +216,14 @@ pub struct Taker<M: Drop> {
 }
 
 impl<M: Drop> Taker<M> {
-    /// The next entry. It waits for one; `None` where the sender is gone and nothing waits.
-    pub fn next<R: Wait>(&mut self, rt: &R) -> Option<Entry<M>>
+    /// The next entry. It waits for one; `None` where the sender is gone and nothing waits, as the queue's own call answers.
+    pub fn next<R: Passing>(&mut self, rt: &R) -> Option<Entry<M>>
         ensures ring { receives_on self.new.front ≡ receives_on self.old.front }
         ensures got { IfSome result (λ e. view self.new.seat ≡ with_got (view self.old.seat) e) }
         ensures none { IfNone result (view self.new.seat ≡ view self.old.seat) }
+        ensures cause { IfNone result (R.gets_none rt.now) }
     {
-        match self.front.recv_as::<Received, R>(rt, &mut self.seat) {
+        match rt.take(&self.front, &mut self.seat) {
             Ok(entry) => Some(entry),
             Err(_) => None,
         }

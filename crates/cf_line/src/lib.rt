@@ -4,10 +4,12 @@
 
 mod ends;
 mod entry;
+mod passing;
 mod rule;
 mod workers;
 
 pub use ends::{Back, Front, Line, Queue, Seat, Sender, Taker};
 pub use entry::{Ended, Entry, View};
+pub use passing::Passing;
 pub use rule::InOrder;
 pub use workers::{Answer, Busy, Waited, Waiter, Workers};

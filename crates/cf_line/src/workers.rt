@@ -1,14 +1,16 @@
 //! Threads that wait for a task each. A task is handed over without starting a thread, which not every function may do.
-ghost use Rattle.std.specs.Prelude.{◌≡◌, ◌≤◌, ◌+◌, ◌⊎◌, ℕ, IfOk, IfErr, IfSome, IfNone};
+ghost use Rattle.std.specs.Prelude.{◌≡◌, ◌≤◌, ◌+◌, ◌⊎◌, ℕ, IfOk, IfErr, IfSome, IfNone, OnOk, OnErr};
 ghost use Rattle.crossbeam_channel.specs.Claims.{view};
 ghost use Rattle.crossbeam_channel.specs.Ends.{sends_on, receives_on};
 ghost use Rattle.cf_bytes.specs.Outside.{HasRisen};
+ghost use Rattle.cf_tasks.specs.Starting.{IsPut, ArePut};
 ghost use Rattle.cf_line.specs.Queue.{receiver, sender, with_made};
 ghost use Rattle.cf_line.specs.Handing.{HasWaited};
 ghost use Rattle.cf_line.specs.Waiting.{HasGiven, HasFailed};
 
 use crate::ends::{Queue, Sender, Taker};
 use crate::entry::Entry;
+use crate::passing::Passing;
 use cf_tasks::{Running, Spawner, Task, joined};
 use std::alloc::{AllocError, Global};
 use std::marker::Model;
@@ -42,10 +44,10 @@ pub struct Waited<J: Drop, O> {
     answer: Option<Answer<J, O>>,
 }
 
-impl<J: Task, R: Wait + Drop> Task for Waiter<J, R> {
+impl<J: Task, R: Passing + Drop> Task for Waiter<J, R> {
     type Out = Waited<J, J::Out>;
 
-    ghost gives = { λ w o. (receives_on o.taker.front ≡ receives_on w.taker.front) × HasWaited J.gives (view w.taker.seat) (view o.taker.seat) o.answer };
+    ghost gives = { λ w o. (receives_on o.taker.front ≡ receives_on w.taker.front) × HasWaited J.gives (view w.taker.seat) (view o.taker.seat) o.answer × IfNone o.answer (R.gets_none w.rt) };
 
     fn run(self) -> Waited<J, J::Out> {
         let Waiter { rt, mut taker } = self;
@@ -68,7 +70,7 @@ impl<J: Task, R: Wait + Drop> Task for Waiter<J, R> {
 
 // A thread that waits, and the end by which its task is given to it.
 #[derive(Drop)]
-struct Ready<J: Task, R: Wait + Drop> {
+struct Ready<J: Task, R: Passing + Drop> {
     giver: Sender<J>,
     running: Running<Waiter<J, R>>,
     ghost ring: { receives_on running.taker.front ≡ sends_on giver.line },
@@ -78,13 +80,13 @@ struct Ready<J: Task, R: Wait + Drop> {
 
 /// A task that was handed over, and runs. Contracts see it as the task.
 #[derive(Drop)]
-pub struct Busy<J: Task, R: Wait + Drop> {
+pub struct Busy<J: Task, R: Passing + Drop> {
     giver: Sender<J>,
     running: Running<Waiter<J, R>>,
     of: Snapshot<J>,
 }
 
-impl<J: Task, R: Wait + Drop> Model for Busy<J, R> {
+impl<J: Task, R: Passing + Drop> Model for Busy<J, R> {
     ghost use Rattle.std.specs.Prelude.{◌≡◌};
     ghost use Rattle.crossbeam_channel.specs.Claims.{view as knows};
     ghost use Rattle.crossbeam_channel.specs.Ends.{sends_on, receives_on};
@@ -97,7 +99,7 @@ impl<J: Task, R: Wait + Drop> Model for Busy<J, R> {
     ghost invariant = { λ b. (receives_on b.running.taker.front ≡ sends_on b.giver.line) × (knows b.giver.seat ≡ with_sent (sender 0) (entry 0 b.of.value)) };
 }
 
-impl<J: Task, R: Wait + Drop> Busy<J, R> {
+impl<J: Task, R: Passing + Drop> Busy<J, R> {
     /// Waits for the task's answer. A task that its thread didn't take is run here.
     pub fn wait<T: Threads + Wait>(self, rt: &T) -> J::Out
         ensures { J.gives self result }
@@ -122,13 +124,13 @@ impl<J: Task, R: Wait + Drop> Busy<J, R> {
 
 /// Threads of which each waits for one task. Contracts see how many wait, and how often a thread's queue handed its task back.
 #[derive(Drop)]
-pub struct Workers<J: Task, R: Wait + Drop> {
+pub struct Workers<J: Task, R: Passing + Drop> {
     rt: R,
     ready: Vec<Ready<J, R>>,
     returned: u64,
 }
 
-impl<J: Task, R: Wait + Drop> Model for Workers<J, R> {
+impl<J: Task, R: Passing + Drop> Model for Workers<J, R> {
     ghost use Rattle.std.specs.Prelude.{vec_len};
     ghost use Rattle.cf_line.specs.Waiting.{Waiting};
 
@@ -138,7 +140,7 @@ impl<J: Task, R: Wait + Drop> Model for Workers<J, R> {
 }
 
 // Starts a thread that waits for a task; `None` where the start is refused.
-fn one_more<J: Task + Send + 'static, R: Wait + Drop + Send + 'static, K: Spawner>(
+fn one_more<J: Task + Send + 'static, R: Passing + Drop + Send + 'static, K: Spawner>(
     rt: R,
     alloc: Global,
     spawner: &mut K,
@@ -147,6 +149,7 @@ where
     J::Out: Drop + Send + 'static,
     ensures some { IfOk result (λ o. IfSome o (λ _. K.refusals spawner.new ≡ K.refusals spawner.old)) }
     ensures none { IfOk result (λ o. IfNone o (HasRisen (K.refusals spawner.old) (K.refusals spawner.new))) }
+    ensures put { OnOk result (IsPut K.moves spawner.old spawner.new) }
 {
     let (taker, giver) = Queue::new(alloc, 1)?.parted();
     match spawner.start(alloc, Waiter { rt, taker }) {
@@ -155,11 +158,11 @@ where
     }
 }
 
-impl<J: Task + Send + 'static, R: Wait + Drop + Copy + Send + 'static> Workers<J, R>
+impl<J: Task + Send + 'static, R: Passing + Drop + Copy + Send + 'static> Workers<J, R>
 where
     J::Out: Drop + Send + 'static,
 {
-    /// Starts so many threads. There are fewer only where the spawner's count of refusals rose.
+    /// Starts so many threads: so many tasks are put to the spawner. There are fewer only where its count of refusals rose.
     pub fn new<K: Spawner>(
         rt: R,
         alloc: Global,
@@ -168,6 +171,7 @@ where
     ) -> Result<Workers<J, R>, AllocError>
         ensures few { IfOk result (λ w. w.count ≤ count) }
         ensures fresh { IfOk result (λ w. w.returned ≡ 0) }
+        ensures put { OnOk result (ArePut K.moves count spawner.old spawner.new) }
         ensures cause { IfOk result (λ w. ((w.count ≡ count) × (K.refusals spawner.new ≡ K.refusals spawner.old)) ⊎ HasRisen (K.refusals spawner.old) (K.refusals spawner.new)) }
     {
         let mut ready = Vec::with_capacity(alloc, count)?;
@@ -184,12 +188,13 @@ where
     }
 }
 
-impl<J: Task, R: Wait + Drop> Workers<J, R> {
+impl<J: Task, R: Passing + Drop> Workers<J, R> {
     /// Hands a task over to a thread that waits. It comes back where none waits, or where the thread's queue hands it back, which is
-    /// counted.
+    /// counted: the queue's own call, and nothing else.
     pub fn give(&mut self, task: J) -> Result<Busy<J, R>, J>
         ensures ok { IfOk result (λ b. (b ≡ task) × HasGiven self.old self.new) }
         ensures err { IfErr result (λ t. (t ≡ task) × HasFailed self.old self.new) }
+        ensures cause { OnErr result ((self.old.count ≡ 0) ⊎ ((rt : R) × R.hands_back rt)) }
     {
         let Some(Ready { mut giver, running }) = self.ready.pop() else {
             return Err(task);

@@ -24,6 +24,7 @@ pub record IsMined (h : Header) (tries : ℕ) (mined : Header) : Type 0 where
   pub met : is_met h mined.nonce ≡ true
   pub least : NoneMeets h mined.nonce
 
+-- an answer of mining: the header with the least nonce that meets the target, or that none of so many nonces does
 abbrev pub Mines : Header → ℕ → Result Header NoNonce → Type 0
 Mines h tries (Ok mined) = IsMined h tries mined
 Mines h tries (Err e) = NoneMeets h tries

@@ -11,5 +11,6 @@ magic = 0xfa ∷ 0xbf ∷ 0xb5 ∷ 0xda ∷ []
 unfoldable pub record_of : Block → List ℕ
 record_of b = magic ++ (to_le_bytes w32 (length (block_spelling b)) ++ block_spelling b)
 
+-- the records of blocks, one after another
 abbrev pub records_of : List Block → List ℕ
 records_of blocks = flat_map record_of blocks

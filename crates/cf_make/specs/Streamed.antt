@@ -34,6 +34,7 @@ pub record AreRecordsTo (seed n : ℕ) (tip : Tip) (bytes : List ℕ) : Type 0 w
   pub spelled : bytes ≡ records_of whole
   pub top : tip ≡ tip_after genesis_tip whole
 
+-- a mined header, with its hash
 pub record IsMinedHashed (h : Header) (tries : ℕ) (done : Hashed) : Type 0 where
   pub mined : IsMined h tries done.header
   pub hash : done.hash.0 ≡ block_hash_of done.header
@@ -42,6 +43,7 @@ abbrev pub MinesHashed : Header → ℕ → Result Hashed NoNonce → Type 0
 MinesHashed h tries (Ok mined) = IsMinedHashed h tries mined
 MinesHashed h tries (Err e) = NoneMeets h tries
 
+-- a made block, with what the next one needs of it
 pub record IsTipped (seed height : ℕ) (tip : Tip) (made : Tipped) : Type 0 where
   pub block : IsMadeBlock seed height tip made.block
   pub next : made.tip ≡ tip_of made.block

@@ -35,9 +35,11 @@ is_of job block hash = same job.block.0 block && same (filter_hash_of job.filter
 abbrev pub with_verdict : List (List ℕ) → Job → Verdicts → Verdicts
 with_verdict watch job verdicts block hash = if is_of job block hash then Some (kept_or (verdicts block hash) (verdict_of watch job)) else verdicts block hash
 
+-- verdicts, with those on these filters more, in their order; one that stands isn't replaced
 abbrev pub with_verdicts : List (List ℕ) → List Job → Verdicts → Verdicts
 with_verdicts watch [] verdicts = verdicts
 with_verdicts watch (job ∷ jobs) verdicts = with_verdicts watch jobs (with_verdict watch job verdicts)
 
+-- the same verdicts, by block and filter
 abbrev pub AreSameVerdicts : Verdicts → Verdicts → Type 0
 AreSameVerdicts a b = (block hash : List ℕ) → a block hash ≡ b block hash

@@ -1,7 +1,7 @@
 -- What contracts see of wires that tell the user what passes.
 use Rattle.std.specs.Prelude.{◌≡◌, ◌⊎◌, min, ℕ, Bool}
 use Rattle.cf_bytes.specs.Outside.{HasRisen}
-use Rattle.cf_peer.specs.Log.{Told}
+use Rattle.cf_wires.specs.Log.{Told}
 
 -- what they tell of what passed, how often the outside has failed, whether they keep their log, and how many threads wait for a reader and for the ticker
 pub record Standing : Type 0 where

@@ -3,16 +3,16 @@ ghost use Rattle.std.specs.Prelude.{◌≡◌, ◌⊎◌, min, IfOk, None, [], f
 ghost use Rattle.cf_bytes.specs.Outside.{HasRisen};
 ghost use Rattle.cf_hub.specs.Book.{told_of, keeps_of};
 ghost use Rattle.cf_network.specs.Standing.{HasThreads};
-ghost use Rattle.cf_peer.specs.Log.{Tells};
+ghost use Rattle.cf_wires.specs.Log.{Tells};
 
 use crate::outside::SystemDialer;
-use crate::passed::{Passed, Stand, end_text};
-use crate::pulse::{Bell, Naps};
+use crate::passed::{Asked, Passed, Stand};
+use crate::pulse::{Asker, Bell, Naps};
 use cf_bytes::{NoMemory, PeerNo};
 use cf_hub::Hub;
 use cf_line::Workers;
-use cf_peer::{Delivery, WireFail, Wires};
 use cf_tasks::Spawner;
+use cf_wires::{Delivery, WireFail, Wires};
 use std::alloc::Global;
 use std::io::{self, IsTerminal};
 use std::marker::Model;
@@ -29,8 +29,8 @@ pub struct Network<R: Wait + Threads + Copy + Drop> {
     hub: Hub<SystemDialer, Naps<R>, R>,
     // Whether standard error is one.
     on_terminal: bool,
-    // At which the pulse ends.
-    bell: Arc<Bell, Global>,
+    // What asks the pulse for seconds, and ends it.
+    asker: Asker,
     passed: Passed,
 }
 
@@ -88,7 +88,7 @@ impl<R: Wait + Threads + Copy + Drop + Send + 'static> Network<R> {
             rt: *rt,
             hub: hub_of(rt, handle, pulse, spawner, peers)?,
             on_terminal: rt.stderr().is_terminal(),
-            bell,
+            asker: Asker::new(bell),
             passed: Passed::new(),
         })
     }
@@ -115,11 +115,16 @@ impl<R: Wait + Threads + Copy + Drop> Network<R> {
         )
     }
 
+    /// What a peer was asked for that was closed since it was late with that.
+    pub fn waited_for(&self, p: PeerNo) -> Option<Asked> {
+        self.passed.waited_for(p)
+    }
+
     /// Tells of each peer how it stands.
     pub fn tell_stands(&self) -> io::Result<()> {
         for (p, stand) in self.passed.stands().iter().enumerate() {
             if let Some(stand) = stand {
-                eprintln!(&self.rt; "cf: peer {p}: {}", end_text(*stand))?;
+                eprintln!(&self.rt; "cf: peer {p}: {stand}")?;
             }
         }
         Ok(())
@@ -154,6 +159,7 @@ impl<R: Wait + Threads + Copy + Drop> Wires for Network<R> {
     }
 
     fn send(&mut self, p: PeerNo, bytes: &[u8]) -> Result<(), WireFail> {
+        self.passed.note_sent(p, bytes);
         let answer = self.hub.send(p, bytes);
         if matches!(answer, Err(WireFail::Failed)) {
             self.passed.note_stand(p, Stand::Unsent);
@@ -167,8 +173,10 @@ impl<R: Wait + Threads + Copy + Drop> Wires for Network<R> {
     }
 
     fn next(&mut self) -> Result<Delivery, NoMemory> {
+        self.asker.ask();
         let answer = self.hub.next();
         if let Ok(delivery) = &answer {
+            self.asker.note(delivery);
             self.passed.note(delivery);
             if self.on_terminal && self.passed.is_time(self.rt.monotonic().ok()) {
                 let _told = self.tell_progress();
@@ -178,7 +186,7 @@ impl<R: Wait + Threads + Copy + Drop> Wires for Network<R> {
     }
 
     fn finish(&mut self) {
-        self.bell.ring();
+        self.asker.end();
         self.hub.finish();
     }
 

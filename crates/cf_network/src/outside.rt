@@ -30,6 +30,8 @@ impl Dialer for SystemDialer {
 
     ghost faults = { λ d. d.tcp.faults };
 
+    ghost dials = { λ _ _ _ _. Unit {0} };
+
     fn dial(&mut self, name: &str) -> Result<(TcpSource, TcpWriter), Failed> {
         self.tcp.dial(name)
     }

@@ -1,33 +1,69 @@
 //! What has passed the wires, as far as the user is told of it.
 use crate::counting::Counts;
 use cf_bytes::PeerNo;
-use cf_peer::Delivery;
+use cf_wires::Delivery;
 use std::time::Duration;
+use thiserror::Error;
 
 /// How many seconds pass at least between two lines on how far it has come.
 const SECONDS_BETWEEN: u64 = 1;
 
-/// How a peer stands.
-#[derive(Clone, Copy)]
-pub(crate) enum Stand {
-    Connected,
-    NotDialled,
-    Gone,
-    Unsent,
-    Late,
-    Closed,
+/// What a peer is asked for.
+#[derive(Clone, Copy, Debug, PartialEq, Eq, Error)]
+pub enum Asked {
+    /// To greet.
+    #[error("the handshake")]
+    Handshake,
+    /// `getheaders`.
+    #[error("headers")]
+    Headers,
+    /// `getcfheaders`.
+    #[error("filter hashes")]
+    FilterHashes,
+    /// `getcfilters`.
+    #[error("filters")]
+    Filters,
+    /// `getdata`.
+    #[error("a block")]
+    Block,
 }
 
-/// What is told of a peer at the end.
-pub(crate) fn end_text(stand: Stand) -> &'static str {
-    match stand {
-        Stand::Connected => "connected to the end",
-        Stand::NotDialled => "not dialled",
-        Stand::Gone => "gone",
-        Stand::Unsent => "closed: SendFailed",
-        Stand::Late => "closed: Overdue",
-        Stand::Closed => "closed for what it sent",
+// What a frame asks for, if it asks for anything.
+fn asked_by(frame: &[u8]) -> Option<Asked> {
+    let command = frame.get(4..16)?;
+    if command == b"version\0\0\0\0\0".as_slice() {
+        return Some(Asked::Handshake);
     }
+    if command == b"getheaders\0\0".as_slice() {
+        return Some(Asked::Headers);
+    }
+    if command == b"getcfheaders".as_slice() {
+        return Some(Asked::FilterHashes);
+    }
+    if command == b"getcfilters\0".as_slice() {
+        return Some(Asked::Filters);
+    }
+    if command == b"getdata\0\0\0\0\0".as_slice() {
+        return Some(Asked::Block);
+    }
+    None
+}
+
+/// How a peer stands, as it is told at the end.
+#[derive(Clone, Copy, Debug, Error)]
+pub(crate) enum Stand {
+    #[error("connected to the end")]
+    Connected,
+    #[error("not dialled")]
+    NotDialled,
+    #[error("gone")]
+    Gone,
+    #[error("closed: SendFailed")]
+    Unsent,
+    #[error("closed: Overdue, waiting for {0}")]
+    Late(Asked),
+    #[error("closed for what it sent")]
+    Closed,
 }
 
 /// What has passed the wires, as far as the user is told of it. Nobody has the number 0.
@@ -35,6 +71,8 @@ pub(crate) fn end_text(stand: Stand) -> &'static str {
 pub(crate) struct Passed {
     // None where the peer was not dialled yet.
     stands: [Option<Stand>; 9],
+    // What each peer was asked for last.
+    asked: [Asked; 9],
     counts: [Counts; 9],
     // Whether time was the last that was delivered.
     at_tick: bool,
@@ -47,6 +85,7 @@ impl Passed {
     pub(crate) fn new() -> Passed {
         Passed {
             stands: [None; 9],
+            asked: [Asked::Handshake; 9],
             counts: [Counts::new(); 9],
             at_tick: false,
             told: None,
@@ -75,12 +114,18 @@ impl Passed {
 
     /// A peer is closed: where time was the last that was delivered, since it was late.
     pub(crate) fn note_closed(&mut self, p: PeerNo) {
-        let stand = if self.at_tick {
-            Stand::Late
-        } else {
-            Stand::Closed
+        let stand = match self.asked.get(p.0 as usize) {
+            Some(asked) if self.at_tick => Stand::Late(*asked),
+            _ => Stand::Closed,
         };
         self.note_stand(p, stand);
+    }
+
+    /// A frame is sent to a peer.
+    pub(crate) fn note_sent(&mut self, p: PeerNo, frame: &[u8]) {
+        if let (Some(at), Some(asked)) = (self.asked.get_mut(p.0 as usize), asked_by(frame)) {
+            *at = asked;
+        }
     }
 
     fn note_got(&mut self, p: PeerNo, bytes: &[u8]) {
@@ -113,6 +158,14 @@ impl Passed {
         }
         self.told = Some(now);
         true
+    }
+
+    /// What a peer was asked for that was closed since it was late with that.
+    pub(crate) fn waited_for(&self, p: PeerNo) -> Option<Asked> {
+        match self.stands.get(p.0 as usize) {
+            Some(Some(Stand::Late(asked))) => Some(*asked),
+            _ => None,
+        }
     }
 
     /// How each peer stands, by its number; `None` of those that were not dialled yet.

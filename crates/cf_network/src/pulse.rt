@@ -1,58 +1,126 @@
-//! The pulse of `sync`, which ends at once when it is told to.
-ghost use Rattle.std.specs.Prelude.{◌≤◌, None};
+//! The pulse of `sync`, which tells a second only where one is asked for, and ends at once when it is told to.
+ghost use Rattle.std.specs.Prelude.{None};
 
 use cf_hub::Pulse;
+use cf_wires::Delivery;
 use std::alloc::Global;
 use std::sync::atomic::{AtomicU64, Ordering};
 use std::sync::{Arc, Wait};
 use std::time::{Clock, Duration};
+
+// Nothing is asked for, or what was asked for is waited for.
+const HELD: u64 = 0;
+
+// A second is asked for.
+const ASKED: u64 = 1;
+
+// Nothing is waited for any more.
+const RUNG: u64 = 2;
 
 // How long it waits for.
 fn second() -> Duration {
     Duration::from_secs(1)
 }
 
-/// Whether a pulse is to end, as those who wait for it see it.
+/// What a pulse is to do, as those who wait for it see it.
 #[derive(Drop)]
 pub(crate) struct Bell {
-    // 1 once it was rung, and 0 before.
-    rung: AtomicU64,
+    state: AtomicU64,
 }
 
 impl Bell {
-    /// It was not rung yet.
+    /// Nothing is asked for yet.
     pub(crate) fn new() -> Bell {
         Bell {
-            rung: AtomicU64::new(0),
+            state: AtomicU64::new(HELD),
         }
     }
 
-    /// Rings it for good, and wakes all who wait for it.
-    pub(crate) fn ring(&self) {
-        self.rung.store(1, Ordering::SeqCst);
-        self.rung.wake_all();
+    // Goes from one state to another, where it is in the first.
+    fn exchange(&self, from: u64, to: u64) -> bool {
+        self.state
+            .compare_exchange(from, to, Ordering::SeqCst, Ordering::SeqCst)
+            .is_ok()
+    }
+
+    // Asks for one second, and wakes who waits for that.
+    fn ask(&self) {
+        if self.exchange(HELD, ASKED) {
+            self.state.wake_all();
+        }
+    }
+
+    // Rings it for good, and wakes all who wait for it.
+    fn ring(&self) {
+        self.state.store(RUNG, Ordering::SeqCst);
+        self.state.wake_all();
     }
 
     // Whether it was rung.
     fn is_rung(&self) -> bool {
-        self.rung.load(Ordering::SeqCst) == 1
+        self.state.load(Ordering::SeqCst) == RUNG
+    }
+
+    // Waits until a second is asked for, which is then taken, or until it is rung.
+    fn take<R: Wait>(&self, handle: &R) {
+        for _ in handle.forever() {
+            if self.exchange(ASKED, HELD) || self.is_rung() {
+                return;
+            }
+            self.state.park(handle, HELD as u32);
+        }
     }
 
     // Waits for so long, or until it is rung. It may return sooner.
     fn wait<R: Wait>(&self, handle: &R, longest: Duration) {
-        self.rung.park_timeout(handle, 0, longest);
+        self.state.park_timeout(handle, HELD as u32, longest);
     }
 }
 
-/// A pulse of about a second, by the clock of the system that never falls. It tells no answers. Once its bell is rung it doesn't wait any more.
+/// What asks a pulse for seconds. Of those that are asked for and weren't delivered yet there is never more than one: else a run that was busy with
+/// others would find many in its queue, and take them for the age of what it asked for long after.
+#[derive(Drop)]
+pub(crate) struct Asker {
+    bell: Arc<Bell, Global>,
+    // Whether one is asked for that was not delivered yet.
+    waits: bool,
+}
+
+impl Asker {
+    /// None is asked for yet.
+    pub(crate) fn new(bell: Arc<Bell, Global>) -> Asker {
+        Asker { bell, waits: false }
+    }
+
+    /// Asks for one, unless one is asked for already.
+    pub(crate) fn ask(&mut self) {
+        if !self.waits {
+            self.bell.ask();
+            self.waits = true;
+        }
+    }
+
+    /// What was delivered.
+    pub(crate) fn note(&mut self, delivery: &Delivery) {
+        if matches!(delivery, Delivery::Tick(_)) {
+            self.waits = false;
+        }
+    }
+
+    /// Ends the pulse: it waits for nothing any more.
+    pub(crate) fn end(&self) {
+        self.bell.ring();
+    }
+}
+
+/// A pulse of about a second. It tells no answers. It waits until a second is asked for, and only then begins to count it, so that what nobody
+/// waited for isn't told: dials, work on a delivery, or a time in which the process was stopped. Once its bell is rung it doesn't wait any more.
 #[derive(Drop)]
 pub(crate) struct Naps<R> {
     rt: HostRuntime,
     // The handle by which it waits.
     handle: R,
     bell: Arc<Bell, Global>,
-    // The moment up to which seconds were told.
-    told: Option<Duration>,
 }
 
 // What is left of a second since a moment.
@@ -61,14 +129,9 @@ fn left_of(start: Duration, now: Duration) -> Duration {
 }
 
 impl<R: Wait> Naps<R> {
-    /// A pulse by the clock of this runtime, until the bell is rung. Its first answer counts from the first wait.
+    /// A pulse by the clock of this runtime, until the bell is rung.
     pub(crate) fn new(rt: HostRuntime, handle: R, bell: Arc<Bell, Global>) -> Naps<R> {
-        Naps {
-            rt,
-            handle,
-            bell,
-            told: None,
-        }
+        Naps { rt, handle, bell }
     }
 
     // Sleeps for a second, or until the bell is rung. Where the clock can't be read the second may be cut short.
@@ -91,26 +154,13 @@ impl<R: Wait> Naps<R> {
     }
 }
 
-// How many whole seconds have passed since a moment, from 1 to 86,400.
-fn seconds_between(before: Duration, now: Duration) -> u32
-    ensures { (1 ≤ result) × (result ≤ 86400) }
-{
-    let passed = now.saturating_sub(before).as_secs();
-    passed.clamp(1, 86_400) as u32
-}
-
 impl<R: Wait + Drop> Pulse for Naps<R> {
     ghost answers = { λ _. None };
 
-    /// What is left of a second is told with a later one. Where the clock can't be read, the answer is 1.
+    /// The second that was asked for is told as 1, however long it took.
     fn wait(&mut self) -> u32 {
-        let before = self.told.or(self.rt.monotonic().ok());
+        self.bell.take(&self.handle);
         self.sleep();
-        let (Some(before), Ok(now)) = (before, self.rt.monotonic()) else {
-            return 1;
-        };
-        let seconds = seconds_between(before, now);
-        self.told = before.checked_add(Duration::from_secs(u64::from(seconds)));
-        seconds
+        1
     }
 }

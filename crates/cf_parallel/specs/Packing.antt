@@ -7,6 +7,7 @@ use Rattle.cf_parallel.specs.declared.packed.Head.{Head}
 abbrev pub first_of : ℕ → List ℕ → List ℕ
 first_of n bytes = take (min n (length bytes)) bytes
 
+-- what stands behind the first n bytes: none where there are fewer
 abbrev pub rest_of : ℕ → List ℕ → List ℕ
 rest_of n bytes = drop (min n (length bytes)) bytes
 

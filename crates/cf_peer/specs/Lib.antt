@@ -1,8 +1,3 @@
-pub mod Log
-pub mod Wires
-pub mod Dials
-pub mod Memory
-pub mod Session
 pub mod Trail
 pub mod Asking
 pub mod Peer

@@ -10,13 +10,13 @@ use Rattle.cf_msg.specs.declared.msg.Msg.{Msg}
 use Rattle.cf_msg.specs.declared.msg.Msg.TheVariants.{Version, Verack, Ping, Pong, Headers}
 use Rattle.cf_msg.specs.declared.msg.NetAddress.{NetAddress}
 use Rattle.cf_msg.specs.Reading.{message_of}
-use Rattle.cf_peer.specs.declared.event.Delivery.{Delivery}
-use Rattle.cf_peer.specs.declared.event.Delivery.TheVariants.{Got, Gone, Tick, Ended}
-use Rattle.cf_peer.specs.declared.event.Event.{Event}
-use Rattle.cf_peer.specs.declared.event.Event.TheVariants.{Dialled, NotDialled, Sent, SendFailed, Closed, Took}
+use Rattle.cf_wires.specs.declared.event.Delivery.{Delivery}
+use Rattle.cf_wires.specs.declared.event.Delivery.TheVariants.{Got, Gone, Tick, Ended}
+use Rattle.cf_wires.specs.declared.event.Event.{Event}
+use Rattle.cf_wires.specs.declared.event.Event.TheVariants.{Dialled, NotDialled, Sent, SendFailed, Closed, Took}
 use Rattle.cf_peer.specs.declared.peer.Cause.{Cause}
 use Rattle.cf_peer.specs.declared.peer.Cause.TheVariants.{BadFrame, Malformed as IsMalformed, Unlinked as NotLinked, InvalidHeader, TooHigh as AboveLimit}
-use Rattle.cf_peer.specs.Log.{Log}
+use Rattle.cf_wires.specs.Log.{Log}
 
 -- how a peer is lost: it went, or was never there; a send to it failed; or it was closed
 pub data Why : Type 0 where
@@ -33,6 +33,7 @@ pub data Item : Type 0 where
   Passed : (seconds : ℕ) → Item
   Lost : (why : Why) → Item
 
+-- all that passed between the client and one peer, the newest first
 abbrev pub Trail : Type 0
 Trail = List Item
 
@@ -61,6 +62,7 @@ pub record Part : Type 0 where
 abbrev pub part_after : StreamRead → Trail → Part
 part_after r t = record { trail = hears_fault r.fault (hears r.frames t); waits = r.rest }
 
+-- a peer's part once a piece of its bytes has come behind those that wait
 abbrev pub heard_part : List ℕ → Part → Part
 heard_part piece part = part_after (read_stream (part.waits ++ piece)) part.trail
 
@@ -81,6 +83,7 @@ one_message (f ∷ g ∷ fs) rest = None
 abbrev pub message_of_stream : StreamRead → Option Msg
 message_of_stream r = one_message r.frames r.rest
 
+-- the message that bytes spell where they are one frame and nothing more
 abbrev pub spelled : List ℕ → Option Msg
 spelled bytes = message_of_stream (read_stream bytes)
 
@@ -114,6 +117,7 @@ abbrev pub part_of : Log → ℕ → Part
 part_of [] p = record { trail = []; waits = [] }
 part_of (e ∷ log) p = went_on e p (part_of log p)
 
+-- what of a log passed between the client and the peer with this number
 abbrev pub trail : Log → ℕ → Trail
 trail log p = (part_of log p).trail
 
@@ -182,6 +186,7 @@ abbrev pub own_after : Msg → Chain → Chain
 own_after (Headers hs) own = longer_of (accept hs own) own
 own_after m own = own
 
+-- a peer's own chain: the longest that its headers after the handshake have made, of several the one that was shown first
 abbrev pub own : Trail → Chain
 own [] = []
 own (Called ∷ t) = []
@@ -203,6 +208,7 @@ abbrev pub ends_with : Msg → Chain → Bool
 ends_with (Headers hs) own = ends_by (accept hs own) hs
 ends_with m own = false
 
+-- it has no more to tell: headers came that were empty, brought no longer chain, or were fewer than 2000
 abbrev pub heard : Trail → Bool
 heard [] = false
 heard (Called ∷ t) = false
@@ -245,6 +251,7 @@ reply_to (Version version services time to from nonce agent height relay) t = if
 reply_to (Ping number) t = if met t then Pong number ∷ [] else []
 reply_to m t = []
 
+-- all replies that its messages are owed, in order
 abbrev pub owed : Trail → List Msg
 owed [] = []
 owed (Called ∷ t) = []
@@ -260,6 +267,7 @@ as_reply Verack = Verack ∷ []
 as_reply (Pong number) = Pong number ∷ []
 as_reply m = []
 
+-- all replies that it was sent, in order
 abbrev pub replied : Trail → List Msg
 replied [] = []
 replied (Called ∷ t) = []
@@ -273,6 +281,7 @@ replied (Lost w ∷ t) = replied t
 abbrev pub no_address : NetAddress
 no_address = record { services = 0; ip = replicate 16 0; port = 0 }
 
+-- a message is the client's version, whatever moment and number it tells
 abbrev pub IsClientVersion : Msg → Type 0
 IsClientVersion (Version version services time to from nonce agent height relay) =
     (version ≡ pos 70016) × (services ≡ 0) × (to ≡ no_address) × (from ≡ no_address) × (agent ≡ codes "/cf:1/") × (height ≡ pos 0) × (relay ≡ Some 0)

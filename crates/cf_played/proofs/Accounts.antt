@@ -11,10 +11,10 @@ use Rattle.cf_bytes.specs.declared.peer.PeerNo.{PeerNo}
 use Rattle.cf_block.specs.declared.tx.Block.{Block}
 use Rattle.cf_chain.specs.Serve.{is_version, replies}
 use Rattle.cf_msg.specs.declared.msg.Msg.{Msg}
-use Rattle.cf_peer.specs.declared.event.Delivery.TheVariants.{Got, Tick}
-use Rattle.cf_peer.specs.declared.event.Event.{Event}
-use Rattle.cf_peer.specs.declared.event.Event.TheVariants.{Dialled, Sent, Closed, Took}
-use Rattle.cf_peer.specs.Log.{Log}
+use Rattle.cf_wires.specs.declared.event.Delivery.TheVariants.{Got, Tick}
+use Rattle.cf_wires.specs.declared.event.Event.{Event}
+use Rattle.cf_wires.specs.declared.event.Event.TheVariants.{Dialled, Sent, Closed, Took}
+use Rattle.cf_wires.specs.Log.{Log}
 use Rattle.cf_peer.specs.Trail.{spelled}
 use Rattle.cf_server.specs.declared.answering.Served.{Served}
 use Rattle.cf_server.specs.Taking.{served_after, text_on}

@@ -8,7 +8,7 @@ use Rattle.cf_frame.specs.Frame.{spelling}
 use Rattle.cf_msg.specs.declared.msg.Msg.{Msg}
 use Rattle.cf_msg.specs.Message.{frame_of}
 use Rattle.cf_peer.specs.Acts.{IsSendable}
-use Rattle.cf_peer.specs.Log.{Log}
+use Rattle.cf_wires.specs.Log.{Log}
 use Rattle.cf_server.specs.declared.reply.Reply.{Reply}
 use Rattle.cf_server.specs.Replies.{message_of, messages_of}
 use Rattle.cf_server.proofs.Lists.{all-append}

@@ -8,8 +8,8 @@ use Rattle.cf_block.specs.declared.tx.Block.{Block}
 use Rattle.cf_chain.specs.Good.{IsGoodChain}
 use Rattle.cf_make.specs.Records.{records_of}
 use Rattle.cf_msg.specs.declared.msg.Msg.{Msg}
-use Rattle.cf_peer.specs.declared.event.Dial.{Dial}
-use Rattle.cf_peer.specs.Wires.{Made}
+use Rattle.cf_wires.specs.declared.event.Dial.{Dial}
+use Rattle.cf_wires.specs.Wires.{Made}
 use Rattle.cf_played.specs.declared.kind.Way.{Way}
 use Rattle.cf_played.specs.declared.kind.Way.TheVariants.{Honest, Omits, Silent}
 use Rattle.cf_played.specs.declared.player.Player.{Player}

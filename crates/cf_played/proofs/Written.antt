@@ -1,12 +1,11 @@
 -- Which messages can be written: those of a good chain's machine, and others about filters.
-use Rattle.std.proofs.Common.{◌≡◌, ℕ, zero, suc, pos, ◌/◌, ◌≤◌, Bool, List, [], ◌∷◌, length, map, take, drop, refl, arith, lit<, lit≤, get_or}
+use Rattle.std.proofs.Common.{ℕ, suc, pos, ◌/◌, ◌≤◌, Bool, List, [], ◌∷◌, length, map, take, drop, refl, arith, lit<, lit≤, get_or}
 use Rattle.std.specs.List.{AllByRecursion}
 use Rattle.cf_bytes.specs.declared.hash.Hash32.{Hash32}
 use Rattle.cf_block.specs.declared.tx.Block.{Block}
 use Rattle.cf_block.specs.Genesis.{first_block}
 use Rattle.cf_block.specs.Header.{IsHash, IsHeader}
 use Rattle.cf_block.specs.Tx.{IsBlock}
-use Rattle.cf_block.proofs.Roots.{length-hash_of}
 use Rattle.cf_chain.specs.Filters.{Filtered, first_filtered, filters_of, filter_at}
 use Rattle.cf_chain.specs.Good.{IsGoodChain}
 use Rattle.cf_chain.specs.Heights.{all_blocks}
@@ -20,7 +19,7 @@ use Rattle.cf_peer.specs.Acts.{IsSendable}
 use Rattle.cf_server.specs.declared.reply.Reply.{Reply}
 use Rattle.cf_server.specs.declared.reply.Reply.TheVariants.{OwnVersion, OwnVerack, PongOf, HeadersOf, BlockAt, CfilterAt, CfheadersOf, CfcheckptOf}
 use Rattle.cf_server.specs.Replies.{IsReplyOf, message_of}
-use Rattle.cf_server.proofs.Fitting.{IsFit, block_fits, cfcheckpt_small, cfheaders_small, filter_fits, hash_fits, headers_small, shown_fits}
+use Rattle.cf_server.proofs.Fitting.{IsFit, before_fits, block_fits, cfcheckpt_small, cfheaders_small, checkpoints_fit, filter_fits, hash_fits, hashes_fit, headers_small}
 use Rattle.cf_server.proofs.Lists.{all-drop, all-map, all-take}
 use Rattle.cf_played.specs.Frames.{IsInRange, IsOther, machine}
 
@@ -57,22 +56,6 @@ pub cfilter_fits : (f : Filtered) → IsFit f → IsSendable (cfilter_of f)
 cfilter_fits f fit = written (cfilter_of f) (lit< tt, fit.0, within_it fit.1) fit.1 where
   within_it : length f.filter ≤ 3999900 → length f.filter ≤ 33554432
   within_it few = omega (arith, few)
-
-hash_long : (filter : List ℕ) → length (filter_hash_of filter) ≡ 32
-unfolding filter_hash_of
-hash_long filter = length-hash_of filter
-
-pub hashes_fit : (fs : List Filtered) → AllByRecursion IsHash (map (λ f. record { 0 = filter_hash_of f.filter }) fs)
-hashes_fit [] = tt
-hashes_fit (f ∷ fs) = (hash_long f.filter, hashes_fit fs)
-
-pub before_fits : (blocks : List Block) (h : ℕ) → IsGoodChain blocks → IsHash (header_before h blocks)
-before_fits blocks zero good = refl
-before_fits blocks (suc h) good = shown_fits blocks h good
-
-checkpoints_fit : (blocks : List Block) (hs : List ℕ) → IsGoodChain blocks → AllByRecursion IsHash (map (λ h. header_or_zeros (filter_at blocks h)) hs)
-checkpoints_fit blocks [] good = tt
-checkpoints_fit blocks (h ∷ hs) good = (shown_fits blocks h good, checkpoints_fit blocks hs good)
 
 -- each reply of a good chain's machine can be written
 pub reply_fits : (seen : Bool) (blocks : List Block) (reply : Reply) → IsGoodChain blocks → IsReplyOf blocks reply → IsInRange reply → IsSendable (message_of (machine seen) blocks reply)

@@ -6,10 +6,10 @@ use Rattle.cf_chain.specs.Serve.{is_version, replies}
 use Rattle.cf_msg.specs.declared.msg.Msg.{Msg}
 use Rattle.cf_msg.specs.declared.msg.Msg.TheVariants.{Version, GetHeaders, Cfilter, Cfheaders, Cfcheckpt}
 use Rattle.cf_peer.specs.Acts.{IsSendable}
-use Rattle.cf_peer.specs.declared.event.Delivery.TheVariants.{Got, Gone, Tick, Ended}
-use Rattle.cf_peer.specs.declared.event.Event.{Event}
-use Rattle.cf_peer.specs.declared.event.Event.TheVariants.{Dialled, NotDialled, Sent, SendFailed, Closed, Took}
-use Rattle.cf_peer.specs.Log.{Log}
+use Rattle.cf_wires.specs.declared.event.Delivery.TheVariants.{Got, Gone, Tick, Ended}
+use Rattle.cf_wires.specs.declared.event.Event.{Event}
+use Rattle.cf_wires.specs.declared.event.Event.TheVariants.{Dialled, NotDialled, Sent, SendFailed, Closed, Took}
+use Rattle.cf_wires.specs.Log.{Log}
 use Rattle.cf_peer.specs.Trail.{spelled}
 use Rattle.cf_played.specs.declared.kind.Way.{Way}
 use Rattle.cf_played.specs.declared.kind.Way.TheVariants.{Honest, Omits, Silent}
@@ -77,6 +77,7 @@ is_plain Silent = true
 abbrev pub HasBegun : Way → List Block → Log → ℕ → Type 0
 HasBegun way blocks log p = take (length (came log p)) (answered_to way blocks (told_to log p)) ≡ came log p
 
+-- what came from p is all that it answers to what it was told
 abbrev pub HasAnswered : Way → List Block → Log → ℕ → Type 0
 HasAnswered way blocks log p = came log p ≡ answered_to way blocks (told_to log p)
 
@@ -92,6 +93,7 @@ is_filtering m = false
 abbrev pub IsAlike : Msg → Msg → Type 0
 IsAlike m n = (m ≡ n) ⊎ ((is_filtering m ≡ true) × (is_filtering n ≡ true))
 
+-- messages are the same one by one, or both of two tell of filters
 abbrev pub AreAlike : List Msg → List Msg → Type 0
 AreAlike [] [] = Unit {0}
 AreAlike [] (n ∷ ns) = ⊥

@@ -3,8 +3,8 @@ use Rattle.std.specs.Prelude.{◌≡◌, ◌≢◌, ℕ, suc, List, [], ◌∷�
 use Rattle.cf_block.specs.declared.tx.Block.{Block}
 use Rattle.cf_chain.specs.Good.{IsGoodChain}
 use Rattle.cf_make.specs.Records.{records_of}
-use Rattle.cf_peer.specs.declared.event.Dial.{Dial}
-use Rattle.cf_peer.specs.Wires.{Made}
+use Rattle.cf_wires.specs.declared.event.Dial.{Dial}
+use Rattle.cf_wires.specs.Wires.{Made}
 use Rattle.cf_played.specs.declared.kind.Way.{Way}
 use Rattle.cf_played.specs.declared.kind.Way.TheVariants.{Honest, Omits, Silent}
 use Rattle.cf_played.specs.declared.player.Player.{Player}
@@ -15,6 +15,7 @@ pub record Peer : Type 0 where
   pub way : Way
   pub waiting : List ℕ
 
+-- a peer in memory as contracts see it: its blocks, its way, and the bytes that wait
 abbrev pub shown : Player → Peer
 shown player = record { blocks = player.index; way = player.way; waiting = player.waiting }
 

@@ -2,10 +2,10 @@
 use Rattle.std.specs.Prelude.{◌≡◌, ◌⊎◌, ℕ, pos, suc, ◌<◌, true, false, List, ◌∷◌, ◌++◌, slice_get, slice_set, drop, length, Option, Some, option_to_list}
 use Rattle.cf_chain.specs.Serve.{replies}
 use Rattle.cf_msg.specs.declared.msg.Msg.{Msg}
-use Rattle.cf_peer.specs.Log.{Log}
+use Rattle.cf_wires.specs.Log.{Log}
 use Rattle.cf_played.specs.declared.player.Player.{Player}
-use Rattle.cf_peer.specs.declared.event.Delivery.TheVariants.{Tick}
-use Rattle.cf_peer.specs.declared.event.Event.TheVariants.{Took}
+use Rattle.cf_wires.specs.declared.event.Delivery.TheVariants.{Tick}
+use Rattle.cf_wires.specs.declared.event.Event.TheVariants.{Took}
 use Rattle.cf_played.specs.Waiting.{front_of, behind_front}
 use Rattle.cf_played.specs.Answers.{came, told_to, heard_of, seen_after, frames_from, answered_to, is_plain, HasBegun, HasAnswered, HasBegunAlike}
 use Rattle.cf_played.specs.Frames.{AreFramesAlike}
@@ -30,6 +30,7 @@ pub record IsAccounted (log : Log) (p : ℕ) (player : Player) : Type 0 where
   pub alike : AreFramesAlike (replies (pos 0) 0 player.index false (heard_of player.way (told_to log p))) (came log p ++ player.waiting)
   pub alike_past : (k : ℕ) → HasBegunAlike player.way player.index (drop k log) p
 
+-- so it is of each peer
 pub record AreAccounted (log : Log) (players : List Player) : Type 0 where
   pub each : (i : ℕ) (player : Player) → slice_get players i ≡ Some player → IsAccounted log (suc i) player
 

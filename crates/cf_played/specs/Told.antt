@@ -9,17 +9,21 @@ use Rattle.cf_played.specs.declared.kind.Kind.{Kind}
 use Rattle.cf_played.specs.Ways.{way_of}
 use Rattle.cf_played.specs.declared.played.Played.{Played}
 use Rattle.cf_played.specs.Peers.{Peer, shown}
-use Rattle.cf_peer.specs.Log.{Log, Told, tally_of}
+use Rattle.cf_wires.specs.Log.{Log, Told, tally_of}
 
+-- the log, the newest entry first
 abbrev pub log_of : Played → Log
 log_of w = reverse w.log.items
 
+-- what these wires tell: always their log
 abbrev pub told_of : Played → Told
 told_of w = record { log = Some (log_of w); tally = tally_of (log_of w); finished = w.finished }
 
+-- whether the log is kept for a session
 abbrev pub keeps_of : Played → Bool
 keeps_of w = w.keeps
 
+-- whether the wires are finished
 abbrev pub finished_of : Played → Bool
 finished_of w = w.finished
 

@@ -4,6 +4,7 @@ use Rattle.cf_played.specs.declared.kind.Kind.TheVariants as kinds
 use Rattle.cf_played.specs.declared.kind.Way.{Way}
 use Rattle.cf_played.specs.declared.kind.Way.TheVariants.{Honest, Omits, Silent}
 
+-- the way in which a peer of this kind answers
 abbrev pub way_of : Kind → Way
 way_of kinds.Honest = Honest
 way_of (kinds.Omits scripts) = Omits

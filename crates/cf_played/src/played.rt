@@ -1,9 +1,9 @@
 //! Peers in memory, as wires.
 ghost use Rattle.std.specs.Prelude.{◌≡◌, ◌≢◌, ◌≤◌, ◌<◌, ◌+◌, ◌++◌, ◌∷◌, ℕ, suc, [], List, Some, map, reverse, length, OnOk, OnErr, IfOk, IsErrOf, IsSome, IfSome, true, false, not, vec_len, vec_capacity, slice_get, string_bytes, drop, slice_index_or, slice_set};
 ghost use Rattle.std.specs.List.{count_by, list_all};
-ghost use Rattle.cf_peer.specs.declared.event.Delivery.TheVariants.{Tick};
-ghost use Rattle.cf_peer.specs.declared.event.Event.TheVariants.{Closed, Took};
-ghost use Rattle.cf_peer.specs.Log.{Log, tally_of};
+ghost use Rattle.cf_wires.specs.declared.event.Delivery.TheVariants.{Tick};
+ghost use Rattle.cf_wires.specs.declared.event.Event.TheVariants.{Closed, Took};
+ghost use Rattle.cf_wires.specs.Log.{Log, tally_of};
 ghost use Rattle.cf_played.specs.Answers.{is_staying};
 ghost use Rattle.cf_peer.specs.Trail.{spelled};
 ghost use Rattle.cf_played.specs.Peers.{AreGood, shown};
@@ -20,7 +20,7 @@ use crate::waiting::Waiting;
 use cf_bytes::{Listed, NoMemory, PeerNo, Refused};
 use cf_index::{BadBlock, CheckedChain, Index};
 use cf_make::Chain;
-use cf_peer::{Delivery, Event, Name, Piece, WireFail, Wires, put_deliveries, put_dials};
+use cf_wires::{Delivery, Event, Name, Piece, WireFail, Wires, put_deliveries, put_dials};
 use std::alloc::Global;
 use std::thread::Threads;
 
@@ -154,7 +154,7 @@ fn give_at(alloc: Global, players: &mut [Player], place: usize) -> Result<Given,
 }
 
 impl Played {
-    ghost use Rattle.cf_peer.specs.Log.{Tells};
+    ghost use Rattle.cf_wires.specs.Log.{Tells};
     ghost use Rattle.cf_chain.specs.Good.{IsGoodChain};
     ghost use Rattle.cf_played.specs.Peers.{Peer, made_of, still};
     ghost use Rattle.cf_played.specs.Told.{HasAdded, IfRefused, log_of, told_of, keeps_of, finished_of, peers_of};
@@ -232,10 +232,10 @@ impl Played {
 }
 
 impl Wires for Played {
-    ghost use Rattle.cf_peer.specs.declared.event.Event.TheVariants.{Dialled, NotDialled, Sent, SendFailed};
-    ghost use Rattle.cf_peer.specs.Log.{tell};
-    ghost use Rattle.cf_peer.specs.Wires.{HasCause};
-    ghost use Rattle.cf_peer.specs.Log.{Tells, told_finished, was_closed};
+    ghost use Rattle.cf_wires.specs.declared.event.Event.TheVariants.{Dialled, NotDialled, Sent, SendFailed};
+    ghost use Rattle.cf_wires.specs.Log.{tell};
+    ghost use Rattle.cf_wires.specs.Wires.{HasCause};
+    ghost use Rattle.cf_wires.specs.Log.{Tells, told_finished, was_closed};
     ghost use Rattle.cf_played.specs.Peers.{HasMore, made_of};
     ghost use Rattle.cf_played.specs.Told.{log_of, told_of, keeps_of, peers_of};
     ghost use Rattle.cf_played.specs.Turns.{IsNext};

@@ -4,6 +4,7 @@ use Rattle.cf_bytes.specs.declared.cut.CutFault.TheVariants.{Short as CutShort, 
 use Rattle.cf_proof.specs.declared.fault.ProofFault.{ProofFault}
 use Rattle.cf_proof.specs.declared.fault.ProofFault.TheVariants.{Short, NotShortest, TooLarge}
 
+-- the fault of a field, as a proof tells it
 abbrev pub of_cut : CutFault → ProofFault
 of_cut CutShort = Short
 of_cut CutNotShortest = NotShortest

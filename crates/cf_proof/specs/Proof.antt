@@ -23,6 +23,7 @@ proof_spelling p = header_spelling p.header ++ (to_le_bytes w32 p.total ++ (comp
 abbrev pub flags_of_byte : ℕ → List Bool
 flags_of_byte b = (bit_at b 0 == 1) ∷ (bit_at b 1 == 1) ∷ (bit_at b 2 == 1) ∷ (bit_at b 3 == 1) ∷ (bit_at b 4 == 1) ∷ (bit_at b 5 == 1) ∷ (bit_at b 6 == 1) ∷ (bit_at b 7 == 1) ∷ []
 
+-- the bits of bytes, the least significant of each byte first (BIP 37)
 abbrev pub flags_of : List ℕ → List Bool
 flags_of bytes = flat_map flags_of_byte bytes
 
@@ -56,5 +57,6 @@ abbrev pub all_of : Read Proof ProofFault → Result Proof ProofFault
 all_of (Ok x) = if length x.1 == 0 then Ok x.0 else Err Rest
 all_of (Err e) = Err e.0
 
+-- what bytes are read as: a proof with nothing left, or the fault of the first field that can't be read
 unfoldable pub proof_at : List ℕ → Result Proof ProofFault
 proof_at bytes = all_of (fields_at bytes)

@@ -7,6 +7,7 @@ unfoldable pub height_within : ℕ → ℕ → ℕ
 height_within zero n = zero
 height_within (suc most) n = if nat_le n 1 then zero else suc (height_within most ((n + 1) / 2))
 
+-- the height of a tree's root over so many leaves
 abbrev pub height_of : ℕ → ℕ
 height_of total = height_within total total
 
@@ -19,5 +20,6 @@ unfoldable pub level_at : ℕ → List (List ℕ) → List (List ℕ)
 level_at zero leaves = leaves
 level_at (suc n) leaves = next_level (level_at n leaves)
 
+-- the node at this height and place over these leaves
 abbrev pub node_at : ℕ → ℕ → List (List ℕ) → List ℕ
 node_at height place leaves = get_or (level_at height leaves) place []

@@ -69,12 +69,12 @@ takes_none values coins (p ∷ ps) h =
     ∙ takes_none values coins ps h.1
 
 -- outputs to other scripts make no coin
-makes_none : (i : ℕ) (txid : List ℕ) (watch : List (List ℕ)) (os : List Output) → AllByRecursion (λ o. is_watched watch o.script ≡ false) os → made_from i txid watch os ≡ []
+pub makes_none : (i : ℕ) (txid : List ℕ) (watch : List (List ℕ)) (os : List Output) → AllByRecursion (λ o. is_watched watch o.script ≡ false) os → made_from i txid watch os ≡ []
 makes_none i txid watch [] h = refl
 makes_none i txid watch (o ∷ os) h =
     ap (λ b. (if b then (outpoint txid i, o.value) ∷ [] else []) ++ made_from (suc i) txid watch os) h.0 ∙ makes_none (suc i) txid watch os h.1
 
-idle_change : (height : ℕ) (s : Scanned) (txid : List ℕ) (spends : List OutPoint) (made : List (OutPoint × ℕ))
+pub idle_change : (height : ℕ) (s : Scanned) (txid : List ℕ) (spends : List OutPoint) (made : List (OutPoint × ℕ))
     → AllByRecursion (λ p. get s.coins p ≡ None) spends → made ≡ [] → after_change height s txid spends made ≡ s
 unfolding after_change touches coins_after take_out
 idle_change height s txid spends made names makes =

@@ -14,6 +14,7 @@ pub record IsIdleTx (coins : CoinMap) (watch : List (List ℕ)) (t : Tx) : Type 
   pub pays : AllByRecursion (λ o. is_watched watch o.script ≡ false) t.outputs
   pub spends : AllByRecursion (λ p. get coins p ≡ None) (spends_of t)
 
+-- no transaction of the block pays a watched script or spends a watched coin
 abbrev pub IsIdle : CoinMap → List (List ℕ) → Block → Type 0
 IsIdle coins watch b = AllByRecursion (IsIdleTx coins watch) b.txs
 

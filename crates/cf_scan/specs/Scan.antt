@@ -51,6 +51,7 @@ pub record Scanned : Type 0 where
   pub entries : List Entry
   pub coins : CoinMap
 
+-- nothing is scanned yet: no entries, no coins
 abbrev pub unscanned : Scanned
 unscanned = record { entries = []; coins = empty }
 

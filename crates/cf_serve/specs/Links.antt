@@ -1,5 +1,5 @@
 -- What a link tells.
-use Rattle.std.specs.Prelude.{◌≡◌, ℕ, Bool, false, List, [], ◌++◌, Option, Some, None}
+use Rattle.std.specs.Prelude.{◌≡◌, ℕ, Bool, false, not, ◌&&◌, nat_le, if◌then◌else◌, List, [], ◌∷◌, ◌++◌, length, Option, Some, None}
 use Rattle.std.specs.Option.{ForSome}
 use Rattle.cf_conn.specs.Told.{Told}
 
@@ -33,5 +33,14 @@ pub record LinkTold : Type 0 where
   -- what was given back, in order, where that is told
   pub given : Option (List Given)
 
+-- all that a link tells now, put together of what each of its parts tells
 abbrev pub link_now : {L : Type 0} → (L → Option (List (List ℕ))) → (L → ℕ) → (L → ℕ) → (L → Option (List Told)) → (L → Option (List Given)) → L → LinkTold
 link_now addresses accepted owed conns given link = record { addresses = addresses link; accepted = accepted link; owed = owed link; conns = conns link; given = given link }
+
+-- whether a link in memory can begin to listen at an address: it doesn't listen yet, and the address has at most 255 bytes
+abbrev pub can_listen : Bool → List ℕ → Bool
+can_listen listens address = not listens && nat_le (length address) 255
+
+-- the address at which it listens, if it does
+abbrev pub listened : Bool → List ℕ → List (List ℕ)
+listened listens address = if listens then address ∷ [] else []

@@ -1,8 +1,9 @@
 //! A link in memory, with calls that are to fail.
-ghost use Rattle.std.specs.Prelude.{◌≡◌, ◌≤◌, ◌<◌, ◌+◌, ◌-◌, [], ◌∷◌, length, take, drop, map, All, Some, IfOk, OnOk, OnErr, vec_len, vec_capacity, string_bytes};
+ghost use Rattle.std.specs.Prelude.{◌≡◌, ◌≤◌, ◌+◌, ◌-◌, ◌↔◌, [], ◌∷◌, ◌++◌, length, take, drop, map, All, Some, IfOk, OnOk, OnErr, IsErr, IsTrue, true, false, nat_lt, vec_len, vec_capacity};
 ghost use Rattle.std.specs.VecDeque.{deque_len};
-ghost use Rattle.cf_bytes.specs.Plan.{after_call};
-ghost use Rattle.cf_serve.specs.Links.{IsFresh, told_now};
+ghost use Rattle.cf_bytes.specs.Outside.{HasRisen};
+ghost use Rattle.cf_bytes.specs.Plan.{is_refused, after_call};
+ghost use Rattle.cf_serve.specs.Links.{IsFresh, can_listen, listened, longer_by, told_now};
 
 use crate::link::Link;
 use cf_bytes::{Failed, Hash32, NoMemory, Plan};
@@ -11,15 +12,19 @@ use std::alloc::Global;
 use std::collections::VecDeque;
 use std::snapshot::Snapshot;
 
-/// Gives connections from a list, and keeps what is given back, with calls that are to fail.
+/// The most bytes of an address.
+const MOST_ADDRESS: usize = 255;
+
+/// Gives connections from a list, and keeps what is given back, with calls that are to fail. It listens once, at an address of at most 255 bytes,
+/// for which it has room from the start.
 #[derive(Drop)]
 pub struct ListLink<C: Duplex + Drop>
 where
     C::End: Drop,
 {
-    alloc: Global,
     plan: Plan,
-    addresses: Vec<String>,
+    address: Vec<u8>,
+    listens: bool,
     waiting: VecDeque<C>,
     first: Snapshot<Vec<C>>,
     total: usize,
@@ -30,6 +35,8 @@ where
     ghost counted: { accepted + deque_len waiting ≡ total },
     ghost few: { vec_len given ≤ accepted },
     ghost room: { total ≤ vec_capacity given },
+    ghost place: { 255 ≤ vec_capacity address },
+    ghost silent: { listens ≡ false → address.items ≡ [] },
 }
 
 impl<C: Duplex + Drop> ListLink<C>
@@ -40,15 +47,15 @@ where
     pub fn new(alloc: Global, conns: Vec<C>) -> Result<ListLink<C>, NoMemory>
         requires { All (λ c. IsFresh (told_now C.left C.written C.ended C.Source.faults C.Sink.faults c)) conns.items }
         ensures waiting { IfOk result (λ l. l.waiting.items ≡ conns.items) }
-        ensures first { IfOk result (λ l. (l.accepted ≡ 0) × (l.addresses.items ≡ []) × (l.given.items ≡ [])) }
+        ensures first { IfOk result (λ l. (l.accepted ≡ 0) × (l.listens ≡ false) × (l.given.items ≡ [])) }
         ensures plan { IfOk result (λ l. l.plan ≡ record { calls = 0; failing = []; faults = 0 }) }
     {
         let total = conns.len();
         let given = Vec::with_capacity(alloc, total)?;
         Ok(ListLink {
-            alloc,
             plan: Plan::new(alloc),
-            addresses: Vec::new(alloc),
+            address: Vec::with_capacity(alloc, MOST_ADDRESS)?,
+            listens: false,
             first: Snapshot::of(&conns),
             waiting: VecDeque::from_vec(conns),
             total,
@@ -65,7 +72,7 @@ where
         ensures accepted { self.new.accepted ≡ self.old.accepted }
         ensures first { self.new.first ≡ self.old.first }
         ensures given { self.new.given ≡ self.old.given }
-        ensures addresses { self.new.addresses ≡ self.old.addresses }
+        ensures listens { (self.new.listens ≡ self.old.listens) × (self.new.address ≡ self.old.address) }
     {
         self.plan.set(calls)
     }
@@ -78,15 +85,6 @@ where
     }
 }
 
-// A copy of an address, and room for it.
-fn copy_of(alloc: Global, addresses: &mut Vec<String>, address: &str) -> Result<String, NoMemory>
-    ensures items { addresses.new.items ≡ addresses.old.items }
-    ensures ok { IfOk result (λ s. (string_bytes s ≡ address.now) × (vec_len addresses.new < vec_capacity addresses.new)) }
-{
-    addresses.reserve(1)?;
-    Ok(String::from_str(alloc, address)?)
-}
-
 impl<C: Duplex + Drop> Link for ListLink<C>
 where
     C::End: Drop,
@@ -95,7 +93,7 @@ where
 
     ghost faults = { λ l. l.plan.faults };
 
-    ghost addresses = { λ l. Some (map (λ s. string_bytes s) l.addresses.items) };
+    ghost addresses = { λ l. Some (listened l.listens l.address.items) };
 
     ghost accepted = { λ l. l.accepted };
 
@@ -105,20 +103,42 @@ where
 
     ghost given = { λ l. Some (map (λ g. record { end = C.tells g.0; how = g.1 }) l.given.items) };
 
-    fn listen(&mut self, address: &str) -> Result<(), Failed> {
-        match copy_of(self.alloc, &mut self.addresses, address) {
-            Ok(address) => {
-                self.plan.call(true)?;
-                self.addresses.push_reserved(address);
-                Ok(())
-            }
-            Err(NoMemory) => self.plan.call(false),
-        }
+    /// It fails exactly where that call is to fail, where it listens already, or where the address is too long.
+    fn listen(&mut self, address: &str) -> Result<(), Failed>
+        ensures ok { OnOk result ((self.old.listens ≡ false) × (self.new.listens ≡ true) × (self.new.address.items ≡ address.now)) }
+        ensures err { OnErr result ((self.new.listens ≡ self.old.listens) × (self.new.address ≡ self.old.address)) }
+        ensures kept { OnOk result (self.new.plan.faults ≡ self.old.plan.faults) }
+        ensures cause { OnErr result (HasRisen self.old.plan.faults self.new.plan.faults) }
+        ensures accepted { (self.new.accepted ≡ self.old.accepted) × (self.new.first ≡ self.old.first) }
+        ensures given { self.new.given ≡ self.old.given }
+        ensures waiting { self.new.waiting ≡ self.old.waiting }
+        ensures answer { IsErr result ↔ IsTrue (is_refused self.old.plan (can_listen self.old.listens address.now)) }
+        ensures after { self.new.plan ≡ after_call self.old.plan (can_listen self.old.listens address.now) }
+    {
+        self.plan
+            .call(!self.listens && address.len() <= MOST_ADDRESS)?;
+        self.address.extend_from_slice(address.as_bytes()).unwrap();
+        self.listens = true;
+        Ok(())
     }
 
     fn announce(&mut self, _height: u32, _tip: &Hash32) {}
 
-    fn accept(&mut self) -> Result<C, Failed> {
+    /// It fails exactly where that call is to fail, or where no connection is left.
+    fn accept(&mut self) -> Result<C, Failed>
+        ensures fresh { IfOk result (λ c. IsFresh (told_now C.left C.written C.ended C.Source.faults C.Sink.faults c)) }
+        ensures ok { IfOk result (λ c. map (told_now C.left C.written C.ended C.Source.faults C.Sink.faults) (take self.new.accepted self.new.first.value.items)
+            ≡ map (told_now C.left C.written C.ended C.Source.faults C.Sink.faults) (take self.old.accepted self.old.first.value.items)
+            ++ told_now C.left C.written C.ended C.Source.faults C.Sink.faults c ∷ []) }
+        ensures count { OnOk result (self.new.accepted ≡ self.old.accepted + 1) }
+        ensures err { OnErr result ((self.new.accepted ≡ self.old.accepted) × (self.new.first ≡ self.old.first)) }
+        ensures kept { OnOk result (self.new.plan.faults ≡ self.old.plan.faults) }
+        ensures cause { OnErr result (HasRisen self.old.plan.faults self.new.plan.faults) }
+        ensures listens { (self.new.listens ≡ self.old.listens) × (self.new.address ≡ self.old.address) }
+        ensures given { self.new.given ≡ self.old.given }
+        ensures answer { IsErr result ↔ IsTrue (is_refused self.old.plan (nat_lt 0 (deque_len self.old.waiting))) }
+        ensures after { self.new.plan ≡ after_call self.old.plan (nat_lt 0 (deque_len self.old.waiting)) }
+    {
         self.plan.call(!self.waiting.is_empty())?;
         match self.waiting.pop_front() {
             Some(conn) => {

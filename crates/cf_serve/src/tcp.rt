@@ -5,13 +5,19 @@ ghost use Rattle.cf_bytes.specs.Outside.{HasRisen};
 use crate::link::Link;
 use cf_bytes::{Failed, Hash32, Sink};
 use cf_conn::{Duplex, Source};
-use std::io;
-use std::io::{ErrorKind, Read, Write};
+use std::io::{Eprint, ErrorKind, Read, Write};
 use std::net::{Net, SocketAddr, TcpListener, TcpStream};
-use std::time::Duration;
+use std::time::{Clock, Duration};
+use std::{io, thread};
 
 /// How long a peer may take until it reads something of what is written to it, in seconds.
 const WRITE_SECONDS: u64 = 60;
+
+/// How long the system is given to get what it lacks for a connection, before one is accepted again, in milliseconds.
+const PAUSE: u64 = 100;
+
+/// How often at most it is told that the system lacks something for a connection, in seconds.
+const TELL_SECONDS: u64 = 60;
 
 /// How long a peer may be silent, in seconds.
 const READ_SECONDS: u64 = 1200;
@@ -108,12 +114,15 @@ impl Duplex for TcpConn {
     }
 }
 
-/// A listener over TCP. It tells neither addresses nor bytes.
+/// A listener over TCP. It tells neither addresses nor bytes. Where the system has no memory or no descriptor for the next connection, it waits, and
+/// tells that on standard error, at most once a minute.
 #[derive(Drop)]
 pub struct TcpLink<R> {
     rt: R,
     listener: Option<TcpListener>,
     reason: Option<io::Error>,
+    // When it was last told that something is lacking.
+    told: Option<Duration>,
     faults: u64,
     accepted: u64,
     returned: u64,
@@ -129,6 +138,7 @@ impl<R: Net<Listener = TcpListener, Stream = TcpStream>> TcpLink<R> {
             rt,
             listener: None,
             reason: None,
+            told: None,
             faults: 0,
             accepted: 0,
             returned: 0,
@@ -165,8 +175,41 @@ fn set_limits(stream: &TcpStream) -> io::Result<()> {
     stream.set_nodelay(true)
 }
 
-// The next connection. One that its peer has given up before it was accepted is passed over.
-fn next_of(listener: &Option<TcpListener>) -> io::Result<TcpStream> {
+// Whether the system lacked something for a connection that it may have later: memory, or descriptors, of its own or of this process, which
+// connections give back as they end. (ENOMEM, ENFILE, EMFILE, ENOBUFS)
+fn is_want(e: &io::Error) -> bool {
+    matches!(e.raw_os_error(), Some(12 | 23 | 24 | 105))
+}
+
+// Whether a connection was given up, forbidden or cut before it was accepted. The next one may do.
+// (EPERM, ENONET, EPROTO, ENOPROTOOPT, ENETDOWN, ENETUNREACH, ECONNABORTED, EHOSTDOWN, EHOSTUNREACH)
+fn is_lost(e: &io::Error) -> bool {
+    matches!(
+        e.raw_os_error(),
+        Some(1 | 64 | 71 | 92 | 100 | 101 | 103 | 112 | 113)
+    )
+}
+
+// Tells on standard error what the system lacks, unless that was told within the last minute.
+fn tell_want<R: Clock + Eprint>(rt: &R, told: &mut Option<Duration>, e: &io::Error) {
+    let Ok(now) = rt.monotonic() else {
+        return;
+    };
+    if let Some(last) = told {
+        if now.saturating_sub(*last) < Duration::from_secs(TELL_SECONDS) {
+            return;
+        }
+    }
+    *told = Some(now);
+    let _told = eprintln!(rt; "cf: the next connection waits: {e}");
+}
+
+// The next connection. One that is lost before it was accepted is passed over, and what the system lacks is waited for.
+fn next_of<R: Clock + Eprint>(
+    rt: &R,
+    listener: &Option<TcpListener>,
+    told: &mut Option<Duration>,
+) -> io::Result<TcpStream> {
     let Some(listener) = listener else {
         return Err(io::Error::from(ErrorKind::NotConnected));
     };
@@ -177,14 +220,19 @@ fn next_of(listener: &Option<TcpListener>) -> io::Result<TcpStream> {
                     return Ok(stream);
                 }
             }
-            Err(e) if e.kind() == ErrorKind::ConnectionAborted => {}
+            Err(e) if is_lost(&e) => {}
+            Err(e) if is_want(&e) => {
+                tell_want(rt, told, &e);
+                thread::sleep(rt, Duration::from_millis(PAUSE));
+            }
             Err(e) => return Err(e),
         }
     }
     Err(io::Error::from(ErrorKind::ConnectionAborted))
 }
 
-impl<R: Net<Listener = TcpListener, Stream = TcpStream> + Drop> Link for TcpLink<R> {
+impl<R: Net<Listener = TcpListener, Stream = TcpStream> + Clock + Eprint + Drop> Link
+    for TcpLink<R> {
     type Conn = TcpConn;
 
     ghost faults = { λ l. l.faults };
@@ -215,7 +263,7 @@ impl<R: Net<Listener = TcpListener, Stream = TcpStream> + Drop> Link for TcpLink
         if self.accepted == u64::MAX {
             return Err(self.failed(io::Error::from(ErrorKind::QuotaExceeded)));
         }
-        match next_of(&self.listener) {
+        match next_of(&self.rt, &self.listener, &mut self.told) {
             Ok(stream) => {
                 self.accepted += 1;
                 Ok(TcpConn {

@@ -30,7 +30,7 @@ use Rattle.cf_chain.specs.Good.{IsGoodChain, AreGoodBlocks}
 use Rattle.cf_chain.specs.Heights.{all_blocks, has_hash, block_height}
 use Rattle.cf_chain.specs.Serve.{header_or_zeros, header_before, filters_between, thousands, cfilter_of}
 use Rattle.cf_chain.proofs.Places.{height_within, length-filters_of}
-use Rattle.cf_index.proofs.Bounds.{txs_longer}
+use Rattle.cf_chain.proofs.Bounds.{txs_longer}
 use Rattle.cf_index.proofs.GenesisHash.{first_length}
 use Rattle.cf_server.proofs.FilterLength.{length-basic_filter}
 use Rattle.cf_server.proofs.Lists.{all-take, all-drop, all-at, all-map}
@@ -166,11 +166,11 @@ shown_of (f ∷ fs) (suc h) each = shown_of fs h each.1
 pub shown_fits : (blocks : List Block) (h : ℕ) → IsGoodChain blocks → IsHash (header_or_zeros (filter_at blocks h))
 shown_fits blocks h good = shown_of (filters_of blocks) h (filters_fit blocks good)
 
-before_fits : (blocks : List Block) (h : ℕ) → IsGoodChain blocks → IsHash (header_before h blocks)
+pub before_fits : (blocks : List Block) (h : ℕ) → IsGoodChain blocks → IsHash (header_before h blocks)
 before_fits blocks zero good = refl
 before_fits blocks (suc h) good = shown_fits blocks h good
 
-hashes_fit : (fs : List Filtered) → AllByRecursion IsHash (map (λ f. record { 0 = filter_hash_of f.filter }) fs)
+pub hashes_fit : (fs : List Filtered) → AllByRecursion IsHash (map (λ f. record { 0 = filter_hash_of f.filter }) fs)
 hashes_fit [] = tt
 hashes_fit (f ∷ fs) = (hash_length f.filter, hashes_fit fs)
 
@@ -189,7 +189,7 @@ length-thousands : (n : ℕ) → length (thousands n) ≡ n
 length-thousands zero = refl
 length-thousands (suc n) = omega (arith, length-append (thousands n) ((1000 * suc n) ∷ []), length-thousands n)
 
-checkpoints_fit : (blocks : List Block) (hs : List ℕ) → IsGoodChain blocks → AllByRecursion IsHash (map (λ h. header_or_zeros (filter_at blocks h)) hs)
+pub checkpoints_fit : (blocks : List Block) (hs : List ℕ) → IsGoodChain blocks → AllByRecursion IsHash (map (λ h. header_or_zeros (filter_at blocks h)) hs)
 checkpoints_fit blocks [] good = tt
 checkpoints_fit blocks (h ∷ hs) good = (shown_fits blocks h good, checkpoints_fit blocks hs good)
 

@@ -7,3 +7,4 @@ pub mod Streams
 pub mod Telling
 pub mod Texts
 pub mod Walking
+mod Turns

@@ -3,3 +3,4 @@ pub mod Plans
 pub mod Outcomes
 pub mod Serving
 pub mod Taking
+pub mod Turns

@@ -3,6 +3,7 @@ use Rattle.std.specs.Prelude.{ℕ}
 use Rattle.cf_server.specs.declared.outcome.Outcome.{Outcome}
 use Rattle.cf_server.specs.declared.outcome.Outcome.TheVariants.{Closed, BadFrame, Malformed, ReadFault, WriteFault, Tired, NoMemory}
 
+-- the number of an outcome, by which a service gives it back
 abbrev pub number_of : Outcome → ℕ
 number_of Closed = 0
 number_of (BadFrame fault) = 1

@@ -64,6 +64,7 @@ abbrev pub greeting_plan : Msg → List Reply
 greeting_plan (Version version services time to from nonce agent height relay) = OwnVersion ∷ OwnVerack ∷ []
 greeting_plan m = []
 
+-- the replies to a message, by heights, after a version has come and before
 abbrev pub plan_of : Bool → List Block → Msg → List Reply
 plan_of true blocks m = plan_for blocks m
 plan_of false blocks m = greeting_plan m

@@ -23,6 +23,7 @@ message_of served blocks (CfilterAt height) = cfilter_of (slice_index_or (filter
 message_of served blocks (CfheadersOf start stop_height stop) = cfheaders_of start stop_height stop blocks
 message_of served blocks (CfcheckptOf stop_height stop) = cfcheckpt_of stop_height stop blocks
 
+-- the messages that replies stand for, in order
 abbrev pub messages_of : Served → List Block → List Reply → List Msg
 messages_of served blocks replies = map (message_of served blocks) replies
 
@@ -37,6 +38,7 @@ IsReplyOf blocks (CfilterAt height) = height ≤ length blocks
 IsReplyOf blocks (CfheadersOf start stop_height stop) = (start ≤ stop_height) × (stop_height < start + 2000) × (block_height stop blocks ≡ Some stop_height)
 IsReplyOf blocks (CfcheckptOf stop_height stop) = block_height stop blocks ≡ Some stop_height
 
+-- each of these replies names heights that are in the chain, within the limits
 abbrev pub AreRepliesOf : List Block → List Reply → Type 0
 AreRepliesOf blocks replies = AllByRecursion (IsReplyOf blocks) replies
 

@@ -5,6 +5,7 @@ ghost use Rattle.cf_msg.specs.Message.{frame_of};
 ghost use Rattle.cf_msg.specs.Reading.{message_of as message_in};
 ghost use Rattle.cf_server.specs.Replies.{IsReplyOf, AreRepliesOf, message_of, messages_of};
 ghost use Rattle.cf_server.specs.Serving.{IsServed, Counts, Ends, text_of};
+ghost use Rattle.cf_server.specs.Turns.{AnswersFirst, owed_for};
 ghost use Rattle.cf_server.specs.Taking.{Sends, CountsWrites, AnswersFrame, FindsFrame, TakesFrames, Idles, ComesInside};
 
 use crate::answering::{Served, answer};
@@ -178,7 +179,8 @@ fn take_piece<C: Duplex>(
 }
 
 /// Serves a connection: reads its bytes, and writes the replies to its messages in their order, until the source of bytes ends,
-/// the bytes are at fault, reading or writing fails, or 1,000,000 frames were taken. A last frame that is cut off is passed over.
+/// the bytes are at fault, reading or writing fails, or 1,000,000 frames were taken. A last frame that is cut off is passed over. What was read is
+/// answered before more is read.
 pub fn serve_one<C: Duplex>(
     alloc: Global,
     index: &Index,
@@ -187,6 +189,7 @@ pub fn serve_one<C: Duplex>(
     nonce: u64,
 ) -> Outcome
     ensures served { IfSome (C.left conn.old) (λ bytes. IsServed now nonce index.now result bytes (C.left conn.new) (C.written conn.old) (C.written conn.new)) }
+    ensures in_turn { IfSome (C.left conn.old) (λ bytes. AnswersFirst C.left C.written (owed_for now nonce index.now) bytes (C.written conn.old) (C.left conn.new)) }
     ensures ends { Ends result (C.ended conn.new) (C.left conn.new) }
     ensures counts { Counts result (C.Source.faults conn.old) (C.Source.faults conn.new) (C.Sink.faults conn.old) (C.Sink.faults conn.new) }
 {

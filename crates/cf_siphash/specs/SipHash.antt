@@ -59,5 +59,6 @@ last_word len bytes = from_le_bytes w64 (bytes ++ replicate (7 - length bytes) 0
 unfoldable pub all_words : ℕ → List ℕ → List ℕ
 all_words len bytes = words_of (length bytes / 8) bytes ++ last_word len (drop (length bytes / 8 * 8) bytes) ∷ []
 
+-- SipHash-2-4 of bytes, by the two halves of its key
 unfoldable pub sip24_of : ℕ → ℕ → List ℕ → ℕ
 sip24_of k0 k1 bytes = finish (fold absorb (start k0 k1) (all_words (length bytes) bytes))

@@ -1,5 +1,5 @@
 -- The run of two peers that ends where a filter clears the block: all premises of the sync theorem are met.
-use Rattle.std.proofs.Common.{◌≡◌, inl, inr, ℕ, ◌≤◌, List, [], ◌∷◌, length, Some, None, true, false, refl, sym, ◌∙◌, ap, subst, arith}
+use Rattle.std.proofs.Common.{◌≡◌, inl, inr, ℕ, ◌≤◌, List, [], ◌∷◌, length, Some, None, true, refl, sym, ◌∙◌, ap, subst, arith}
 use Rattle.std.proofs.lemmas.Bool.{false≢true}
 use Rattle.std.specs.Prelude.{option_map}
 use Rattle.cf_bytes.specs.declared.hash.Hash32.{Hash32}
@@ -8,17 +8,18 @@ use Rattle.cf_dispute.specs.Claims.{Table}
 use Rattle.cf_filter.specs.Filter.{match_of}
 use Rattle.cf_match.specs.Verdicts.{is_miss}
 use Rattle.cf_headers.specs.Chain.{IsIn}
-use Rattle.cf_peer.specs.Asking.{filter_of, claims, hash_claimed, given, verdict, counted, hashes_of}
-use Rattle.cf_peer.specs.Log.{Log}
+use Rattle.cf_headers.specs.Heights.{hash_at}
+use Rattle.cf_peer.specs.Asking.{filter_of, claims, hash_claimed, given, counted, hashes_of}
+use Rattle.cf_wires.specs.Log.{Log}
 use Rattle.cf_peer.specs.Trail.{Trail, part_of, connected, own, heard}
 use Rattle.cf_scan.specs.Watching.{IsWatch}
 use Rattle.cf_sync.specs.Example.{only_header, only_hash, cleared_run, other_watch, only_filter, only_filter_hash}
-use Rattle.cf_sync.specs.Fetching.{IsCleared}
+use Rattle.cf_sync.specs.Fetching.{counted_part, IsCleared}
 use Rattle.cf_sync.specs.Sync.{HasAsked}
 use Rattle.cf_sync.proofs.Filters.{only_filter_hash_is, only_misses}
 use Rattle.cf_sync.proofs.Computed.{name_is}
 use Rattle.cf_sync.proofs.Written.{at_rest}
-use Rattle.cf_sync.proofs.TwoPeers.{t_11, part_18, u_7, other_20, of_part, AreOfTwo, all_of_two, at_each, of_cleared, only_claim, none_fetched, cleared_right, counts_11, given_11, same_other, cleared_bytes, settled, ClaimsIt, claims_it, other_claims, nobody_claims, one_long, other_long, nobody_below}
+use Rattle.cf_sync.proofs.TwoPeers.{t_11, part_18, u_7, other_20, of_part, AreOfTwo, all_of_two, at_each, of_cleared, only_claim, none_fetched, cleared_right, counts_11, given_11, same_other, cleared_bytes, SharesIt, shares_it, other_shares, nobody_shares, ClaimsIt, claims_it, other_claims, nobody_claims, one_long, other_long, nobody_below}
 
 -- ---- the run in which the block is cleared
 
@@ -84,7 +85,7 @@ cleared_asked = record {
   };
   asked_out = λ p on idle. record {
     heard_out = of_cleared (λ t. connected t ≡ true → heard (counted t) ≡ true) p (λ is1. counts_11.heard_out) (λ is1. same_other.hearing) (λ is1. absurd (false≢true is1)) on;
-    claimed = of_cleared ClaimsIt p (claims_it t_11 only_claim counts_11.claimed) other_claims nobody_claims;
-    settled = λ spare mine block i above. inr (cleared_settled block i);
+    claimed = of_cleared ClaimsIt p (claims_it t_11 only_claim counts_11.claimed counts_11.chain) other_claims nobody_claims;
+    settled = λ spare h one le above. inr (cleared_settled (hash_at (own (counted_part cleared_run p)) h) (inl (of_cleared SharesIt p (shares_it t_11 counts_11.chain) other_shares nobody_shares h one le)));
   };
 }

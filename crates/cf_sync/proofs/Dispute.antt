@@ -8,25 +8,26 @@ use Rattle.cf_block.specs.declared.tx.Block.{Block}
 use Rattle.cf_block.specs.Header.{block_hash_of, genesis_header}
 use Rattle.cf_dispute.specs.declared.claim.Claim.{Claim}
 use Rattle.cf_dispute.specs.Claims.{Table, claim_of, no_claims, with_claim}
+use Rattle.cf_headers.specs.Heights.{hash_at}
 use Rattle.cf_headers.specs.Chain.{Chain, Accepted, back_to, IsIn, NoHashClash}
 use Rattle.cf_msg.specs.declared.msg.Msg.{Msg}
 use Rattle.cf_msg.specs.declared.msg.Msg.TheVariants.{Verack, Cfheaders, Block as BlockMessage}
 use Rattle.cf_msg.specs.Message.{payload_of}
 use Rattle.cf_peer.specs.Acts.{bytes_of, IsSendable}
 use Rattle.cf_peer.specs.Asking.{is_spare, NothingOpen, ClaimsOpen, FiltersOpen, claims_asked, claims, claims_after, claims_fault, hash_claimed, fault_of, request, request_after, is_idle, is_open, verdict, counted, fetched, hashes_of, HasSaid, MayAsk, SameUse}
-use Rattle.cf_peer.specs.Log.{Log}
+use Rattle.cf_wires.specs.Log.{Log}
 use Rattle.cf_peer.specs.Trail.{Trail, Said, Asked, part_of, trail, connected, own, heard, longer_of, ends_by, fault_in, first}
 use Rattle.cf_scan.specs.Scan.{scan_of}
 use Rattle.cf_scan.specs.Watching.{IsWatch}
 use Rattle.cf_sync.specs.Example.{only_header, only_block, only_hash, chain_of_one, honest_peer, liar, its_version, question, its_headers, ask_claims, its_claims, false_claims, ask_filter, its_filter, fetch, its_block, false_version, genesis_filter_header, only_filter_hash, false_filter_hash, other_watch, log_8, dispute_9, dispute_10, dispute_11, dispute_12, dispute_13, dispute_14, dispute_15, dispute_16, dispute_17, dispute_18, dispute_19, dispute_20, dispute_21, disputed_run}
-use Rattle.cf_sync.specs.Fetching.{IsQuiet, AreBytes, IsFetched, IsFetchedHash, IsCleared, IsDisputed, IsBlockWanted, IsNoneFetching, Rightly}
+use Rattle.cf_sync.specs.Fetching.{counted_part, IsQuiet, AreBytes, IsFetched, IsFetchedHash, IsCleared, IsDisputed, IsBlockWanted, IsNoneFetching, Rightly}
 use Rattle.cf_sync.specs.Honesty.{IsHonestOver, IsHonest, was_called, ShowsNoOther}
 use Rattle.cf_sync.specs.Sync.{strings_of, IsHashed, HasAsked}
 use Rattle.cf_sync.proofs.Chains.{same_self}
 use Rattle.cf_sync.proofs.Computed.{name_is, small_bytes, version_small, false_version_small, verack_small, headers_small, claims_small, false_claims_small, filter_small, block_small}
 use Rattle.cf_sync.proofs.Counted.{same_use}
 use Rattle.cf_sync.proofs.Written.{at_rest, sent_part, got_part, spelled_is, name_length, its_sendable, verack_sendable, question_sendable, headers_sendable, claims_sendable, filter_sendable, ask_claims_sendable, ask_filter_sendable, fetch_sendable, block_sendable}
-use Rattle.cf_sync.proofs.TwoPeers.{part_2, other_8, of_part, AreOfTwo, at_each, accepted, no_clash, IsKnown, SaysKnown, says_13, headers_known, chain_known, good_chain, has_room, at_log, honest_9, says_2, says_3, says_4, says_5, says_6, heard_7, heard_8, heard_9, heard_10, heard_11, heard_12, heard_13, own_7, other_hash, self_hash, may_ask_of, may_ask_claims, request_8, request_9, request_10, request_11, first_same, may_ask_filter, may_fetch, HasNone, unsaid, no_block_11, IsSpare, busy_1, right_9, open_where, only_wanted, still_true, counts_13, counts_11, fetched_13, ShowsOnly, only_of, ClaimsIt, nobody_claims, claims_it, one_long, nobody_below, only_claim, first_byte, t_2, t_3, t_4, t_5, t_6, t_7, t_8, t_9, t_10, t_11, t_12, t_13, u_6}
+use Rattle.cf_sync.proofs.TwoPeers.{part_2, other_8, of_part, AreOfTwo, at_each, accepted, no_clash, IsKnown, SaysKnown, says_13, headers_known, chain_known, good_chain, has_room, at_log, honest_9, says_2, says_3, says_4, says_5, says_6, heard_7, heard_8, heard_9, heard_10, heard_11, heard_12, heard_13, own_7, other_hash, self_hash, may_ask_of, may_ask_claims, request_8, request_9, request_10, request_11, first_same, may_ask_filter, may_fetch, HasNone, unsaid, no_block_11, IsSpare, busy_1, right_9, open_where, only_wanted, still_true, counts_13, counts_11, fetched_13, ShowsOnly, only_of, SharesIt, shares_it, nobody_shares, ClaimsIt, nobody_claims, claims_it, one_long, nobody_below, only_claim, first_byte, t_2, t_3, t_4, t_5, t_6, t_7, t_8, t_9, t_10, t_11, t_12, t_13, u_6}
 use Rattle.cf_sync.proofs.Cleared.{cleared_by, silent_agrees}
 
 -- ---- what the second claims
@@ -200,7 +201,7 @@ back_only : back_to only_hash.0 (own v_7) ≡ Some (only_header ∷ [])
 back_only = ap (λ (c : Chain). back_to only_hash.0 c) chain_7 ∙ rw (other_hash, self_hash) refl
 
 may_ask : MayAsk v_7 ask_claims
-may_ask = may_ask_of v_7 (record { on = refl; over = refl; idle = refl }) (chain_7 ∙ sym own_7) (λ block. refl)
+may_ask = may_ask_of v_7 (record { on = refl; over = refl; idle = refl; answered = sym (same_use v_7 refl clean_7).owing }) (chain_7 ∙ sym own_7) (λ block. refl)
 
 open_8 : request v_8 ≡ ClaimsOpen only_hash.0 (block_hash_of genesis_header) (only_hash.0 ∷ [])
 open_8 = ap (λ o. claims_asked 1 only_hash.0 o) back_only
@@ -257,7 +258,7 @@ right_15 : Rightly dispute_15
 right_15 = (
   (1, of_part (λ t. is_open t ≡ true) (part_of dispute_14 1) t_6 part_14 refl),
   (
-    (question, spelled_is question question_sendable, record { of_its_part = of_part (λ t. MayAsk t question) (part_of dispute_13 1) t_5 part_13 (record { on = refl; over = refl; idle = refl }, refl, refl, refl, refl); wanted = tt; alone = tt }),
+    (question, spelled_is question question_sendable, record { of_its_part = of_part (λ t. MayAsk t question) (part_of dispute_13 1) t_5 part_13 (record { on = refl; over = refl; idle = refl; answered = refl }, refl, refl, refl, refl); wanted = tt; alone = tt }),
     (
       (1, of_part (λ t. is_open t ≡ true) (part_of dispute_12 1) t_4 part_12 refl),
       (
@@ -369,7 +370,7 @@ disputed_asked watch fits = record {
   };
   asked_out = λ p on idle. record {
     heard_out = of_each (λ t. connected t ≡ true → heard (counted t) ≡ true) p (λ is1. counts_13.heard_out) (λ is1. same_9.hearing ∙ still_true (heard v_7) heard_out_7) (λ is1. absurd (false≢true is1)) on;
-    claimed = of_each ClaimsIt p (claims_it t_13 only_claim counts_13.claimed) (claims_it v_9 false_claim claimed_9) nobody_claims;
-    settled = λ spare mine block i above. inl (settled block i);
+    claimed = of_each ClaimsIt p (claims_it t_13 only_claim counts_13.claimed counts_13.chain) (claims_it v_9 false_claim claimed_9 other_chain) nobody_claims;
+    settled = λ spare h one le above. inl (settled (hash_at (own (counted_part disputed_run p)) h) (inl (of_each SharesIt p (shares_it t_13 counts_13.chain) (shares_it v_9 other_chain) nobody_shares h one le)));
   };
 }

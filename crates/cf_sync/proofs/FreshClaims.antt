@@ -15,7 +15,7 @@ use Rattle.cf_msg.specs.declared.msg.Msg.{Msg}
 use Rattle.cf_msg.specs.declared.msg.Msg.TheVariants.{GetHeaders, Headers, GetData, Block as BlockMessage, GetCfheaders, Cfheaders, GetCfilters, Cfilter}
 use Rattle.cf_peer.specs.declared.peer.Cause.{Cause}
 use Rattle.cf_peer.specs.declared.peer.Cause.TheVariants.{WrongCount, WrongPrevious}
-use Rattle.cf_peer.specs.Log.{Log}
+use Rattle.cf_wires.specs.Log.{Log}
 use Rattle.cf_peer.specs.Trail.{Trail, Called, Said, Refused, Asked, Passed, Lost, trail, connected, own, WasAsked}
 use Rattle.cf_peer.specs.Asking.{OpenRequest, NothingOpen, ClaimsOpen, is_answer_of, is_this, blocks_from, block_below, claims_asked, claims, claims_after, claims_fault, request, request_for, request_after, fault_of, verdict, lists, IsClaimed, MayAsk}
 use Rattle.cf_sync.specs.Fetching.{AreBytes, IsConnected, MaySend, Rightly}
@@ -25,7 +25,7 @@ use Rattle.cf_sync.proofs.Counted.{first_none, same_use}
 use Rattle.cf_sync.proofs.Fresh.{shown_more, own_is_shown}
 use Rattle.cf_sync.proofs.Listed.{in_right}
 use Rattle.cf_sync.proofs.Remembers.{AskedRightly, asked_rightly}
-use Rattle.cf_sync.proofs.Serving.{back_ends}
+use Rattle.cf_tracker.proofs.Stops.{back_ends}
 use Rattle.cf_sync.proofs.Settles.{shown_apart}
 
 -- ---- claims stay, and an answer claims all that was asked for

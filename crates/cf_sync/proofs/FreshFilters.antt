@@ -14,12 +14,13 @@ use Rattle.cf_msg.specs.declared.msg.Entry.{Entry}
 use Rattle.cf_msg.specs.declared.msg.Msg.{Msg}
 use Rattle.cf_msg.specs.declared.msg.Msg.TheVariants.{GetHeaders, Headers, GetData, Block as BlockMessage, GetCfheaders, Cfheaders, GetCfilters, Cfilter}
 use Rattle.cf_peer.specs.declared.peer.Cause.TheVariants.{OtherFilter}
-use Rattle.cf_peer.specs.Log.{Log}
+use Rattle.cf_wires.specs.Log.{Log}
 use Rattle.cf_peer.specs.Trail.{Trail, Called, Said, Refused, Asked, Passed, Lost, trail, connected, own, WasAsked}
 use Rattle.cf_peer.specs.Asking.{OpenRequest, NothingOpen, HeadersOpen, ClaimsOpen, FiltersOpen, BlockOpen, is_answer_of, is_this, is_wanted, blocks_from, block_below, claims_asked, filters_asked, filters_left, filter_of, filter_fault, claims, claims_after, given, given_by, hash_claimed, request, request_for, request_after, fault_of, verdict, counted, lists, IsClaimed, MayAsk}
 use Rattle.cf_sync.specs.Fetching.{AreBytes, IsConnected, IsFilterWanted, IsNeeded, MaySend, Rightly, blocks_in}
 use Rattle.cf_sync.specs.Sync.{IsHashed}
-use Rattle.cf_sync.proofs.Chains.{cases_same, same_true}
+use Rattle.cf_dispute.proofs.PutIn.{same_true}
+use Rattle.cf_sync.proofs.Chains.{cases_same}
 use Rattle.cf_sync.proofs.Counted.{first_none, same_use}
 use Rattle.cf_sync.proofs.Fresh.{shown_more, own_is_shown}
 use Rattle.cf_sync.proofs.FreshClaims.{one_part, some_block}

@@ -12,7 +12,7 @@ use Rattle.cf_match.specs.declared.job.Verdict.{Verdict}
 use Rattle.cf_match.specs.declared.job.Verdict.TheVariants.{Miss, Hit}
 use Rattle.cf_match.specs.Verdicts.{Verdicts, misses, verdict_of}
 use Rattle.cf_peer.specs.Asking.{claims, counted}
-use Rattle.cf_peer.specs.Log.{Log}
+use Rattle.cf_wires.specs.Log.{Log}
 use Rattle.cf_peer.specs.Trail.{Trail, trail, connected}
 use Rattle.cf_scan.specs.declared.extracts.TxExtract.{TxExtract}
 use Rattle.cf_tracker.specs.Tables.{Table}

@@ -6,7 +6,6 @@ pub mod Serving
 pub mod Ranges
 pub mod Serves
 pub mod Asks
-pub mod Bounds
 pub mod Untouched
 pub mod HonestLemmas
 pub mod Counted
@@ -22,7 +21,6 @@ pub mod FreshClaims
 pub mod Computed
 pub mod Filters
 pub mod Kept
-pub mod Stops
 pub mod VerdictsGrow
 pub mod FreshFilters
 pub mod Written

@@ -6,10 +6,10 @@ use Rattle.cf_block.specs.declared.tx.Block.{Block}
 use Rattle.cf_block.specs.Header.{block_hash_of}
 use Rattle.cf_headers.specs.Rules.{same}
 use Rattle.cf_headers.specs.Chain.{Hash, IsIn}
-use Rattle.cf_peer.specs.declared.event.Delivery.TheVariants.{Got}
-use Rattle.cf_peer.specs.declared.event.Event.{Event}
-use Rattle.cf_peer.specs.declared.event.Event.TheVariants.{Took}
-use Rattle.cf_peer.specs.Log.{Log}
+use Rattle.cf_wires.specs.declared.event.Delivery.TheVariants.{Got}
+use Rattle.cf_wires.specs.declared.event.Event.{Event}
+use Rattle.cf_wires.specs.declared.event.Event.TheVariants.{Took}
+use Rattle.cf_wires.specs.Log.{Log}
 use Rattle.cf_peer.specs.Trail.{Part}
 use Rattle.cf_peer.specs.Asking.{counted, fetched}
 use Rattle.cf_scan.specs.declared.extracts.TxExtract.{TxExtract}

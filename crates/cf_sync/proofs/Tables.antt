@@ -5,7 +5,7 @@ use Rattle.cf_block.specs.declared.header.Header.{Header}
 use Rattle.cf_block.specs.declared.tx.Block.{Block}
 use Rattle.cf_block.specs.Header.{block_hash_of}
 use Rattle.cf_headers.specs.Chain.{Chain}
-use Rattle.cf_peer.specs.Log.{Log}
+use Rattle.cf_wires.specs.Log.{Log}
 use Rattle.cf_scan.specs.declared.extracts.Placed.{Placed}
 use Rattle.cf_scan.specs.declared.extracts.TxExtract.{TxExtract}
 use Rattle.cf_scan.specs.Scan.{Scanned, unscanned, after_tx, scan_from}

@@ -27,26 +27,29 @@ use Rattle.cf_match.specs.declared.job.Job.{Job}
 use Rattle.cf_chain.specs.Serve.{data_reply, headers_reply, range_end, cfheaders_reply, cfilters_reply}
 use Rattle.cf_headers.specs.Rules.{same, is_worked}
 use Rattle.cf_headers.specs.Chain.{Chain, no_hash, height_limit, fits, back_to, accept, Accepted, Longer, IsValidChain, IsIn, NoHashClash}
+use Rattle.cf_headers.specs.Heights.{hash_at, common_of}
+use Rattle.cf_headers.proofs.Commons.{common_own}
 use Rattle.cf_headers.specs.Shown.{IsShown, Shows, IsShownSpelling}
 use Rattle.cf_msg.specs.declared.msg.Msg.{Msg}
 use Rattle.cf_msg.specs.declared.msg.Msg.TheVariants.{Verack, Block as BlockMessage, Cfheaders, Cfilter}
-use Rattle.cf_peer.specs.declared.event.Delivery.TheVariants.{Got}
-use Rattle.cf_peer.specs.declared.event.Event.TheVariants.{Dialled, Sent, Took}
+use Rattle.cf_wires.specs.declared.event.Delivery.TheVariants.{Got}
+use Rattle.cf_wires.specs.declared.event.Event.TheVariants.{Dialled, Sent, Took}
 use Rattle.cf_peer.specs.Acts.{bytes_of}
 use Rattle.cf_peer.specs.Asking.{OpenRequest, is_spare, NothingOpen, ClaimsOpen, FiltersOpen, BlockOpen, claims_asked, filters_asked, filter_of, claims, claims_after, claims_fault, filter_fault, fault_of, request_after, is_idle, given, given_by, HasHeader, IsFree, IsRange, request, is_wanted, is_committed, is_open, block_fault, verdict, counted, lists, fetched, fetched_by, block_entry, HasSaid, hashes_of, MayAsk, SameUse}
-use Rattle.cf_peer.specs.Log.{Log}
+use Rattle.cf_wires.specs.Log.{Log}
 use Rattle.cf_peer.specs.Trail.{Trail, Part, Called, Said, Asked, called_part, heard_part, spelled, asks, part_of, trail, connected, ready, own, heard, longer_of, ends_by, fault_in, first}
 use Rattle.cf_scan.specs.Scan.{scan_of}
 use Rattle.cf_scan.specs.Watching.{IsWatch}
 use Rattle.cf_sync.specs.Example.{only_tx, only_header, only_block, only_hash, chain_of_one, honest_peer, liar, genesis_hash, no_stop, our_version, its_version, false_version, question, its_headers, false_headers, fetch, its_block, log_1, log_2, log_3, log_4, log_5, log_6, log_7, log_8, log_9, log_10, log_11, log_12, log_13, log_14, log_15, log_16, log_17, log_18, log_19, run_of_two, cleared_run, only_filter, only_filter_hash, genesis_filter_header, ask_claims, its_claims, ask_filter, its_filter}
-use Rattle.cf_sync.specs.Fetching.{IsQuiet, IsBusy, AreBytes, IsFetched, IsFetchedHash, IsConnected, IsNoneFetching, Rightly}
+use Rattle.cf_sync.specs.Fetching.{counted_part, IsQuiet, IsBusy, AreBytes, IsFetched, IsFetchedHash, IsConnected, IsNoneFetching, Rightly}
 use Rattle.cf_sync.specs.Honesty.{Leaves, answers, AnswersAs, IsHonestOver, IsHonest, was_called, ShowsNoOther, filters_above}
 use Rattle.cf_sync.specs.Sync.{strings_of, IsOfBlocks, IsHashed, HasAsked}
 use Rattle.cf_dispute.proofs.Genesis.{first_header_is}
 use Rattle.cf_sync.proofs.Asks.{first_is}
 use Rattle.cf_sync.proofs.Ranges.{filters_in, hashes_in, claims_reply, filters_reply}
 use Rattle.cf_sync.proofs.Filters.{only_items, only_filter_by_name, only_filter_hash_is}
-use Rattle.cf_sync.proofs.Chains.{same_from, same_self, same_true, cases_same, heads, Setting}
+use Rattle.cf_dispute.proofs.PutIn.{same_from, same_true}
+use Rattle.cf_sync.proofs.Chains.{same_self, cases_same, heads, Setting}
 use Rattle.cf_sync.proofs.Serving.{next_reply, block_found}
 use Rattle.cf_sync.proofs.Counted.{same_use, said_counts, counted_said, fetched_said}
 use Rattle.cf_sync.proofs.Settles.{committed_is}
@@ -623,7 +626,7 @@ unfolding range_of_one
 may_ask_of t free e none = (free, (range_of_one 2000 t (omega arith) e, (λ block i. absurd i), λ block i c. let no : None ≡ Some c.0 = sym (none block) ∙ c.1 in cc))
 
 pub may_ask_claims : MayAsk t_7 ask_claims
-may_ask_claims = may_ask_of t_7 (record { on = refl; over = refl; idle = refl }) refl (λ block. refl)
+may_ask_claims = may_ask_of t_7 (record { on = refl; over = refl; idle = refl; answered = sym (same_use t_7 refl clean_7).owing }) refl (λ block. refl)
 
 pub request_8 : request t_8 ≡ ClaimsOpen only_hash.0 (block_hash_of genesis_header) (only_hash.0 ∷ [])
 request_8 = ap (λ o. claims_asked 1 only_hash.0 o) back_only
@@ -653,7 +656,7 @@ clean_9 = ap (λ x. first x (fault_of its_claims t_8)) clean_7 ∙ claims_fine
 pub may_ask_filter : MayAsk t_9 ask_filter
 unfolding range_of_one
 may_ask_filter = (
-  record { on = refl; over = refl; idle = request_9 },
+  record { on = refl; over = refl; idle = request_9; answered = sym (same_use t_9 refl clean_9).owing },
   (range_of_one 1000 t_9 (omega arith) refl, λ block i. elim i [ inl e ↦ (only_claim, ap (λ (x : List ℕ). claims t_9 x) e ∙ claim_found) | inr none ↦ absurd none ]),
 )
 
@@ -674,7 +677,7 @@ request_11 = ap (λ r. request_after its_filter r) request_10 ∙ rw self_hash r
 
 pub may_fetch : MayAsk t_11 fetch
 may_fetch = (
-  record { on = refl; over = refl; idle = request_11 },
+  record { on = refl; over = refl; idle = request_11; answered = sym (same_use t_11 refl clean_11).owing },
   (only_hash, refl, subst (λ (c : Chain). IsIn only_hash.0 (hashes_of c)) (sym own_7) (inl refl)),
 )
 
@@ -719,7 +722,7 @@ pub right_9 : Rightly log_9
 right_9 = (
   busy_1 log_8 part_2,
   (
-    (question, spelled_is question question_sendable, record { of_its_part = of_part (λ t. MayAsk t question) (part_of log_7 2) u_5 other_7 (record { on = refl; over = refl; idle = refl }, refl, refl, refl, refl); wanted = tt; alone = tt }),
+    (question, spelled_is question question_sendable, record { of_its_part = of_part (λ t. MayAsk t question) (part_of log_7 2) u_5 other_7 (record { on = refl; over = refl; idle = refl; answered = refl }, refl, refl, refl, refl); wanted = tt; alone = tt }),
     (
       busy_1 log_6 part_2,
       (
@@ -740,7 +743,7 @@ right_14 : Rightly log_14
 right_14 = (
   (1, of_part (λ t. is_open t ≡ true) (part_of log_13 1) t_6 part_13 refl),
   (
-    (question, spelled_is question question_sendable, record { of_its_part = of_part (λ t. MayAsk t question) (part_of log_12 1) t_5 part_12 (record { on = refl; over = refl; idle = refl }, refl, refl, refl, refl); wanted = tt; alone = tt }),
+    (question, spelled_is question question_sendable, record { of_its_part = of_part (λ t. MayAsk t question) (part_of log_12 1) t_5 part_12 (record { on = refl; over = refl; idle = refl; answered = refl }, refl, refl, refl, refl); wanted = tt; alone = tt }),
     (
       (1, of_part (λ t. is_open t ≡ true) (part_of log_11 1) t_4 part_11 refl),
       (
@@ -904,19 +907,42 @@ pub settled : (block : List ℕ) → IsIn block (hashes_of (only_header ∷ []))
 settled block (inl e) = (only_block, is_fetched, sym e)
 settled block (inr none) = absurd none
 
--- a peer with this chain claims its block
-abbrev pub ClaimsIt : Trail → Type 0
-ClaimsIt t = own (counted t) ≡ only_header ∷ [] → (block : List ℕ) → IsIn block (hashes_of (only_header ∷ [])) → HasHeader (counted t) block
+-- the one block is all that a chain shares with this one
+abbrev pub SharesIt : Trail → Type 0
+SharesIt t = (h : ℕ) → 1 ≤ h → h ≤ common_of (own (counted t)) (only_header ∷ []) → hash_at (own (counted t)) h ≡ block_hash_of only_header
 
-pub claims_it : (t : Trail) (claim : Claim) → claims (counted t) only_hash.0 ≡ Some claim → ClaimsIt t
-claims_it t claim claimed mine block (inl e) = subst (λ (x : List ℕ). HasHeader (counted t) x) (sym e) (rw (other_hash, claimed) refl)
-claims_it t claim claimed mine block (inr none) = absurd none
+shares_of : (own : Chain) → own ≡ only_header ∷ [] → (h : ℕ) → 1 ≤ h → h ≤ common_of own (only_header ∷ []) → hash_at own h ≡ block_hash_of only_header
+shares_of own is h one le =
+    let all : common_of own (only_header ∷ []) ≡ 1 = ap (λ (c : Chain). common_of c (only_header ∷ [])) is ∙ common_own (only_header ∷ []) in
+    let here : h ≡ 1 = omega (arith, one, le, all) in
+    ap (λ (c : Chain). hash_at c h) is ∙ ap (hash_at (only_header ∷ [])) here
+
+shares_none : (own : Chain) → own ≡ [] → (h : ℕ) → 1 ≤ h → h ≤ common_of own (only_header ∷ []) → hash_at own h ≡ block_hash_of only_header
+shares_none own is h one le = absurd (let none : common_of own (only_header ∷ []) ≡ 0 = ap (λ (c : Chain). common_of c (only_header ∷ [])) is in omega (arith, one, le, none))
+
+pub shares_it : (t : Trail) → own (counted t) ≡ only_header ∷ [] → SharesIt t
+shares_it t is = shares_of (own (counted t)) is
+
+pub other_shares : SharesIt u_7
+other_shares = shares_none (own (counted u_7)) same_other.chain
+
+pub nobody_shares : SharesIt []
+nobody_shares = shares_none [] refl
+
+-- a peer claims the block that its chain shares with this one
+abbrev pub ClaimsIt : Trail → Type 0
+ClaimsIt t = (h : ℕ) → 1 ≤ h → h ≤ common_of (own (counted t)) (only_header ∷ []) → HasHeader (counted t) (hash_at (own (counted t)) h)
+
+pub claims_it : (t : Trail) (claim : Claim) → claims (counted t) only_hash.0 ≡ Some claim → own (counted t) ≡ only_header ∷ [] → ClaimsIt t
+claims_it t claim claimed is h one le =
+    let known : HasHeader (counted t) (block_hash_of only_header) = rw (other_hash, claimed) refl in
+    subst (λ (x : List ℕ). HasHeader (counted t) x) (sym (shares_it t is h one le)) known
 
 pub other_claims : ClaimsIt u_7
-other_claims mine block i = absurd (let none : [] ≡ only_header ∷ [] = sym same_other.chain ∙ mine in cc)
+other_claims h one le = absurd (let none : common_of (own (counted u_7)) (only_header ∷ []) ≡ 0 = ap (λ (c : Chain). common_of c (only_header ∷ [])) same_other.chain in omega (arith, one, le, none))
 
 pub nobody_claims : ClaimsIt []
-nobody_claims mine block i = absurd (let none : [] ≡ only_header ∷ [] = mine in cc)
+nobody_claims h one le = absurd (omega (arith, one, le))
 
 pub one_long : (t : Trail) → own (counted t) ≡ only_header ∷ [] → length (own (counted t)) ≤ 1
 one_long t chain = let e = ap (λ (x : Chain). length x) chain in omega (arith, e)
@@ -952,7 +978,7 @@ has_asked watch fits = record {
   };
   asked_out = λ p on idle. record {
     heard_out = of_each (λ t. connected t ≡ true → heard (counted t) ≡ true) p (λ is1. counts_13.heard_out) (λ is1. same_other.hearing) (λ is1. absurd (false≢true is1)) on;
-    claimed = of_each ClaimsIt p (claims_it t_13 only_claim counts_13.claimed) other_claims nobody_claims;
-    settled = λ spare mine block i above. inl (settled block i);
+    claimed = of_each ClaimsIt p (claims_it t_13 only_claim counts_13.claimed counts_13.chain) other_claims nobody_claims;
+    settled = λ spare h one le above. inl (settled (hash_at (own (counted_part run_of_two p)) h) (inl (of_each SharesIt p (shares_it t_13 counts_13.chain) other_shares nobody_shares h one le)));
   };
 }

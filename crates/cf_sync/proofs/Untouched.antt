@@ -1,13 +1,11 @@
 -- A block of whose items none is watched is idle, so a scan may take it as empty.
-use Rattle.std.proofs.Common.{◌≡◌, ◌≢◌, inl, inr, ℕ, suc, ◌<◌, ◌≤◌, cond, List, [], ◌∷◌, ◌++◌, map, length, Option, Some, None, Ok, Bool, true, false, not, ◌||◌, ◌==◌, if◌then◌else◌, refl, sym, ◌∙◌, ap, subst, arith, append-nil}
+use Rattle.std.proofs.Common.{◌≡◌, ◌≢◌, inl, inr, ℕ, suc, ◌<◌, ◌≤◌, cond, List, [], ◌∷◌, ◌++◌, map, length, Option, Some, None, Ok, Bool, true, false, if◌then◌else◌, refl, sym, ◌∙◌, ap, subst, arith}
 use Rattle.std.specs.Prelude.{fold, Contains}
 use Rattle.std.specs.List.{flat_map, AllByRecursion}
 use Rattle.std.specs.Option.{option_to_list}
 use Rattle.std.specs.FinMap.{get, insert, remove, empty, get-insert, get-remove, get-empty, nat_cmp-IsAntisymmetric, slice_cmp-IsAntisymmetric}
-use Rattle.std.specs.Ordering.{eq_by_cmp, is_eq, nat_cmp}
+use Rattle.std.specs.Ordering.{eq_by_cmp, nat_cmp}
 use Rattle.std.specs.Prelude.{nat_eq, slice_index_or}
-use Rattle.std.specs.declared.cmp.Ordering.{Ordering}
-use Rattle.std.specs.declared.cmp.Ordering.TheVariants.{Less, Equal, Greater}
 use Rattle.std.specs.Cmp.Lexicographic.{slice_cmp, pointwise, texts_ties}
 use Rattle.std.proofs.lemmas.Map.Views.{Contains-from_any}
 use Rattle.cf_block.specs.declared.tx.OutPoint.{OutPoint}
@@ -20,6 +18,8 @@ use Rattle.cf_block.specs.Header.{block_hash_of}
 use Rattle.cf_chain.specs.Coins.{CoinMap, without, with_outputs, spent, spent_by, after_block, after_tx as good_after}
 use Rattle.cf_chain.specs.Good.{NoneStands, IsGoodTx, AreGoodTxs}
 use Rattle.cf_chain.specs.Filters.{prevouts}
+use Rattle.cf_chain.proofs.Bounds.{block_few}
+use Rattle.cf_chain.proofs.Outpoints.{outpoint_total, is_equal, same_name}
 use Rattle.cf_filter.specs.Items.{paid_scripts, items_of, IsItem}
 use Rattle.cf_filter.specs.Filter.{basic_filter_of, match_of}
 use Rattle.cf_filter.proofs.Values.{no_member}
@@ -27,37 +27,13 @@ use Rattle.cf_filter.proofs.Among.{members_are, items_few}
 use Rattle.cf_headers.specs.Chain.{IsIn}
 use Rattle.cf_scan.specs.Coins as watched
 use Rattle.cf_scan.specs.Watching.{is_watched, IsWatch}
-use Rattle.cf_scan.specs.Scan.{Scanned, Taking, take_one, take_out, put_one, coins_after, touches, entry_of, after_change, made_from, after_tx}
+use Rattle.cf_scan.specs.Scan.{Scanned, take_one, take_out, put_one, coins_after, after_change, made_from, after_tx}
 use Rattle.cf_scan.specs.Idle.{IsIdleTx}
-use Rattle.cf_scan.proofs.CoinMaps.{outpoint_total, outpoint_same}
-use Rattle.cf_scan.proofs.Totals.{remove_absent}
+use Rattle.cf_scan.proofs.HistoryLaws.{idle_change, makes_none}
 use Rattle.cf_scan.proofs.WatchLaws.{watch_is}
-use Rattle.cf_sync.proofs.Bounds.{block_few}
 use Rattle.cf_sync.proofs.Listed.{in_left, in_right}
 
--- ---- idle transactions change nothing (cf_scan has these lemmas, for itself)
-
-takes_none : (values : List ℕ) (coins : watched.CoinMap) (ps : List OutPoint) → AllByRecursion (λ p. get coins p ≡ None) ps → fold take_one (values, coins) ps ≡ (values, coins)
-takes_none values coins [] h = refl
-takes_none values coins (p ∷ ps) h =
-    ap (λ (t : Taking). fold take_one t ps) (λ i. ((ap (λ o. values ++ option_to_list o) h.0 ∙ append-nil values) i, remove_absent outpoint_total outpoint_same coins p h.0 i))
-    ∙ takes_none values coins ps h.1
-
-makes_none : (i : ℕ) (txid : List ℕ) (watch : List (List ℕ)) (os : List Output) → AllByRecursion (λ o. is_watched watch o.script ≡ false) os → made_from i txid watch os ≡ []
-makes_none i txid watch [] h = refl
-makes_none i txid watch (o ∷ os) h =
-    ap (λ b. (if b then (outpoint txid i, o.value) ∷ [] else []) ++ made_from (suc i) txid watch os) h.0 ∙ makes_none (suc i) txid watch os h.1
-
-idle_change : (height : ℕ) (s : Scanned) (txid : List ℕ) (spends : List OutPoint) (made : List (OutPoint × ℕ))
-    → AllByRecursion (λ p. get s.coins p ≡ None) spends → made ≡ [] → after_change height s txid spends made ≡ s
-unfolding after_change touches coins_after take_out
-idle_change height s txid spends made names makes =
-    let none : fold take_one ([], s.coins) spends ≡ ([], s.coins) = takes_none [] s.coins spends names in
-    let untouched : touches s.coins spends made ≡ false = λ i. not (length (none i).0 == 0) || not (length (makes i) == 0) in
-    let stay : coins_after s.coins spends made ≡ s.coins = λ i. fold put_one (none i).1 (makes i) in
-    let entries : s.entries ++ (if touches s.coins spends made then entry_of height txid s.coins spends made ∷ [] else []) ≡ s.entries =
-    ap (λ b. s.entries ++ (if b then entry_of height txid s.coins spends made ∷ [] else [])) untouched ∙ append-nil s.entries in
-    λ i. record { entries = entries i; coins = stay i }
+-- ---- idle transactions change nothing
 
 idle_tx : (watch : List (List ℕ)) (height : ℕ) (s : Scanned) (t : Tx) → IsIdleTx s.coins watch t → after_tx watch height s t ≡ s
 idle_tx watch height s t h = idle_change height s (txid_of t) (spends_of t) _ h.spends (makes_none 0 (txid_of t) watch t.outputs h.pays)
@@ -74,14 +50,6 @@ AreCoins watch held coins = (p : OutPoint) (v : ℕ) → get held p ≡ Some v �
 
 pub none_held : (watch : List (List ℕ)) (coins : CoinMap) → AreCoins watch empty coins
 none_held watch coins p v e = absurd (let no : None ≡ Some v = sym (get-empty outpoint_cmp p) ∙ e in cc)
-
-is_equal : (r : Ordering) → is_eq r ≡ true → r ≡ Equal
-is_equal Less e = cc
-is_equal Equal e = refl
-is_equal Greater e = cc
-
-same_name : (p k : OutPoint) → eq_by_cmp outpoint_cmp p k ≡ true → p ≡ k
-same_name p k e = outpoint_same p k (is_equal (outpoint_cmp p k) e)
 
 get_removed : {X : Type 0} (b : Bool) (o : Option X) (v : X) → cond b None o ≡ Some v → (b ≡ false) × (o ≡ Some v)
 get_removed true o v e = cc

@@ -9,12 +9,12 @@ use Rattle.cf_match.specs.declared.job.Verdict.{Verdict}
 use Rattle.cf_match.specs.Verdicts.{Verdicts, verdict_of, kept_or, is_of, with_verdict, with_verdicts, AreSameVerdicts}
 use Rattle.cf_msg.specs.declared.msg.Msg.{Msg}
 use Rattle.cf_peer.specs.Asking.{request, fault_of, verdict, counted, given, given_by}
-use Rattle.cf_peer.specs.Log.{Log}
+use Rattle.cf_wires.specs.Log.{Log}
 use Rattle.cf_peer.specs.Trail.{Trail, Said, connected}
 use Rattle.cf_sync.specs.Fetching.{counted_part, IsGiven}
 use Rattle.cf_sync.specs.Kept.{HoldsGiven}
 use Rattle.cf_sync.proofs.Listed.{in_left, in_right, in_either}
-use Rattle.cf_sync.proofs.Chains.{same_true, same_from}
+use Rattle.cf_dispute.proofs.PutIn.{same_true, same_from}
 use Rattle.cf_sync.proofs.Counted.{same_use, said_counts, first_none}
 
 -- what one message gives

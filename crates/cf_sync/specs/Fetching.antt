@@ -7,23 +7,24 @@ use Rattle.cf_block.specs.Header.{block_hash_of, genesis_header}
 use Rattle.cf_frame.specs.Stream.{IsBytes}
 use Rattle.cf_filter.specs.Filter.{filter_hash_of}
 use Rattle.cf_headers.specs.Chain.{Hash, Chain, back_to, IsIn}
+use Rattle.cf_headers.specs.Heights.{hash_at, common_of}
 use Rattle.cf_match.specs.declared.job.Job.{Job}
 use Rattle.cf_match.specs.Verdicts.{misses}
 use Rattle.cf_msg.specs.declared.msg.Entry.{Entry as Wanted}
 use Rattle.cf_msg.specs.declared.msg.Msg.{Msg}
 use Rattle.cf_msg.specs.declared.msg.Msg.TheVariants.{GetData, GetCfilters}
-use Rattle.cf_peer.specs.declared.event.Delivery.TheVariants.{Got, Gone, Tick, Ended}
-use Rattle.cf_peer.specs.declared.event.Event.{Event}
-use Rattle.cf_peer.specs.declared.event.Event.TheVariants.{Dialled, NotDialled, Sent, SendFailed, Closed, Took}
+use Rattle.cf_wires.specs.declared.event.Delivery.TheVariants.{Got, Gone, Tick, Ended}
+use Rattle.cf_wires.specs.declared.event.Event.{Event}
+use Rattle.cf_wires.specs.declared.event.Event.TheVariants.{Dialled, NotDialled, Sent, SendFailed, Closed, Took}
 use Rattle.cf_peer.specs.declared.peer.Cause.{Cause}
-use Rattle.cf_peer.specs.Log.{Log}
+use Rattle.cf_wires.specs.Log.{Log}
 use Rattle.cf_peer.specs.Trail.{Trail, trail, spelled, connected, own, heard}
 use Rattle.cf_scan.specs.declared.extracts.TxExtract.{TxExtract}
 use Rattle.cf_scan.specs.declared.history.Entry.{Entry}
 use Rattle.cf_scan.specs.Extracts.{extract_of}
 use Rattle.cf_scan.specs.Scan.{scan_of}
 use Rattle.cf_tracker.specs.Tables.{Table}
-use Rattle.cf_peer.specs.Asking.{is_spare, request, is_open, counted, claims, hash_claimed, HasHeader, fetched, given, blocks_from, hashes_of, Deserves, MayAsk}
+use Rattle.cf_peer.specs.Asking.{is_spare, request, is_open, counted, claims, hash_claimed, HasHeader, fetched, given, blocks_from, Deserves, MayAsk}
 
 -- ---- peers
 
@@ -31,6 +32,7 @@ use Rattle.cf_peer.specs.Asking.{is_spare, request, is_open, counted, claims, ha
 abbrev pub counted_part : Log → ℕ → Trail
 counted_part log p = counted (trail log p)
 
+-- the peer with this number is connected
 abbrev pub IsConnected : Log → ℕ → Type 0
 IsConnected log p = connected (trail log p) ≡ true
 
@@ -38,6 +40,7 @@ IsConnected log p = connected (trail log p) ≡ true
 abbrev pub IsQuiet : Log → Type 0
 IsQuiet log = (p : ℕ) → is_open (trail log p) ≡ false
 
+-- something is open to somebody
 abbrev pub IsBusy : Log → Type 0
 IsBusy log = (p : ℕ) × (is_open (trail log p) ≡ true)
 
@@ -60,6 +63,7 @@ AreBytes (Closed p ∷ log) = AreBytes log
 abbrev pub IsFetched : Log → Block → Type 0
 IsFetched log block = (p : ℕ) × IsIn block (fetched (counted_part log p))
 
+-- a block with this hash was fetched
 abbrev pub IsFetchedHash : Log → Hash → Type 0
 IsFetchedHash log hash = (block : Block) × IsFetched log block × (block_hash_of block.header ≡ hash)
 
@@ -104,6 +108,7 @@ pub record IsJudged (watch : List (List ℕ)) (log : Log) (block : Hash) (miss :
   pub this : filter_hash_of filter.filter ≡ hash.0
   pub verdict : misses watch filter ≡ miss
 
+-- the connected peers agree on a filter of this block that was given, and it misses the watched scripts
 abbrev pub IsCleared : List (List ℕ) → Log → Hash → Type 0
 IsCleared watch log block = IsJudged watch log block true
 
@@ -209,13 +214,14 @@ pub record IsBest (log : Log) (chain : Chain) : Type 0 where
 abbrev pub IsAbove : Hash → Type 0
 IsAbove block = block ≡ block_hash_of genesis_header → ⊥
 
--- What the rule of asking leaves true of a connected peer with nothing open to it: it was heard out; where its own chain is the best one,
--- the filter header is known at each block of that chain; and where besides neither filters nor a block are open to anybody, each block of that chain
--- is settled. (A block with genesis's hash would never be asked about. Where no hashes clash there is none.)
+-- What the rule of asking leaves true of a connected peer with nothing open to it: it was heard out; of the blocks that its own chain shares with the best one
+-- the filter header is known at each; and where besides neither filters nor a block are open to anybody, each is settled.
+-- (A block with genesis's hash would never be asked about. Where no hashes clash there is none.)
 pub record IsAskedOut (watch : List (List ℕ)) (log : Log) (chain : Chain) (p : ℕ) : Type 0 where
   pub heard_out : heard (counted_part log p) ≡ true
-  pub claimed : own (counted_part log p) ≡ chain → (block : Hash) → IsIn block (hashes_of chain) → HasHeader (counted_part log p) block
-  pub settled : IsNoneFetching log → own (counted_part log p) ≡ chain → (block : Hash) → IsIn block (hashes_of chain) → IsAbove block → IsSettled watch log block
+  pub claimed : (h : ℕ) → 1 ≤ h → h ≤ common_of (own (counted_part log p)) chain → HasHeader (counted_part log p) (hash_at (own (counted_part log p)) h)
+  pub settled : IsNoneFetching log → (h : ℕ) → 1 ≤ h → h ≤ common_of (own (counted_part log p)) chain → IsAbove (hash_at (own (counted_part log p)) h)
+      → IsSettled watch log (hash_at (own (counted_part log p)) h)
 
 -- ---- the history
 

@@ -1,11 +1,12 @@
 -- The log as a client knew it that wasn't told yet of some failed sends.
 use Rattle.std.specs.Prelude.{◌≡◌, ◌⊎◌, ℕ, ◌==◌, Bool, true, false, not, ◌&&◌, ◌||◌, if◌then◌else◌, List, [], ◌∷◌, ◌++◌, Some}
 use Rattle.cf_msg.specs.declared.msg.Msg.{Msg}
-use Rattle.cf_peer.specs.declared.event.Event.TheVariants.{Dialled, NotDialled, Sent, SendFailed, Closed, Took}
-use Rattle.cf_peer.specs.Log.{Log, tally_of}
+use Rattle.cf_wires.specs.declared.event.Event.TheVariants.{Dialled, NotDialled, Sent, SendFailed, Closed, Took}
+use Rattle.cf_wires.specs.Log.{Log, tally_of}
 use Rattle.cf_peer.specs.Trail.{Trail, Part, Called, Said, Refused, Asked, Passed, Lost, part_of, trail, spelled, connected, failed}
 use Rattle.cf_peer.specs.Asking.{counted, fetched, given}
-use Rattle.cf_sync.specs.Fetching.{MaySend, IsNeeded}
+use Rattle.cf_sync.specs.Fetching.{MaySend}
+use Rattle.cf_sync.specs.Due.{IsCalledFor}
 
 -- a send to this peer has failed since the last delivery, and the peer wasn't closed for it yet, so the client isn't told
 abbrev pub is_untold : Log → ℕ → Bool
@@ -43,19 +44,20 @@ Alike t u =
     (t ≡ u)
     ⊎ ((connected t.trail ≡ false) × (connected u.trail ≡ false) × (failed t.trail ≡ true) × (failed u.trail ≡ true) × (fetched (counted t.trail) ≡ fetched (counted u.trail)) × (given (counted t.trail) ≡ given (counted u.trail)))
 
--- of a peer whose failed send isn't told its part just before that send, with what was planned on top; of all others the actual part
+-- of a peer whose failed send isn't told its part just before that send, with what was planned on top; of all others the actual part, or one that is alike: cut
+-- off by a failed send as well, with the same blocks and filters brought; and as many peers were dialled
 pub record IsPlanned (planned log : Log) : Type 0 where
   pub told : (q : ℕ) → is_untold log q ≡ false → Alike (part_of planned q) (part_of log q)
   pub untold : (q : ℕ) → is_untold log q ≡ true
       → (more : Trail) × (IsMeant more × (part_of planned q ≡ record (part_of (before_failure log q) q) { trail = more ++ trail (before_failure log q) q }))
   pub dials : (tally_of planned).dials ≡ (tally_of log).dials
 
--- what was sent was wanted and needed by a client that knew of no failure that it wasn't told of yet
+-- what was sent was wanted and called for by a client that knew of no failure that it wasn't told of yet
 abbrev pub ArePlanned : List (List ℕ) → Log → Type 0
 ArePlanned watch [] = Unit {0}
 ArePlanned watch (Dialled p name ∷ log) = ArePlanned watch log
 ArePlanned watch (NotDialled p name ∷ log) = ArePlanned watch log
-ArePlanned watch (Sent p bytes ∷ log) = ((m : Msg) × (spelled bytes ≡ Some m) × ((planned : Log) × (IsPlanned planned log × (MaySend planned p.0 m × IsNeeded watch planned p.0 m)))) × ArePlanned watch log
+ArePlanned watch (Sent p bytes ∷ log) = ((m : Msg) × (spelled bytes ≡ Some m) × ((planned : Log) × (IsPlanned planned log × (MaySend planned p.0 m × IsCalledFor watch planned p.0 m)))) × ArePlanned watch log
 ArePlanned watch (SendFailed p ∷ log) = ArePlanned watch log
 ArePlanned watch (Closed p ∷ log) = ArePlanned watch log
 ArePlanned watch (Took d ∷ log) = ArePlanned watch log

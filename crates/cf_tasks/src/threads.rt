@@ -1,16 +1,18 @@
 //! Tasks in threads of their own.
-ghost use Rattle.std.specs.Prelude.{◌≡◌, ◌≢◌, ℕ, IfOk, IfErr, OnOk};
+ghost use Rattle.std.specs.Prelude.{◌≡◌, ◌≢◌, ◌⊎◌, ℕ, Bool, true, false, IfOk, IfErr, OnOk, OnErr};
 ghost use Rattle.cf_bytes.specs.Outside.{HasRisen};
+ghost use Rattle.cf_tasks.specs.Starting.{IsPut};
 ghost use Rattle.cf_tasks.specs.declared.threads.Back.TheVariants.{Done, Unrun};
 ghost use Rattle.cf_tasks.specs.declared.threads.Way.TheVariants.{There, Here};
-ghost use Rattle.cf_tasks.specs.declared.threads.Choice.TheVariants.{Refuse};
+ghost use Rattle.cf_tasks.specs.declared.threads.Choice.{Choice as ChoiceOf};
+ghost use Rattle.cf_tasks.specs.declared.threads.Choice.TheVariants.{InThread, Refuse};
 
+use crate::platform::{Flag, Platform};
 use crate::task::{Ran, Task, already, run_now};
 use std::alloc::Global;
 use std::marker::{Model, PhantomData};
 use std::snapshot::Snapshot;
-use std::sync::Arc;
-use std::sync::atomic::{AtomicBool, Ordering};
+use std::sync::atomic::Ordering;
 use std::thread::{Promise, PromisedHandle, SpawnError, Threads, spawn_with};
 
 /// What comes back of a thread.
@@ -34,7 +36,7 @@ impl<J: Task> Promise<Back<J, J::Out>> for Runs<J> {
 #[derive(Drop)]
 struct Job<J, O> {
     task: J,
-    unrun: Arc<AtomicBool, Global>,
+    unrun: Flag,
     gives: PhantomData<O>,
 }
 
@@ -98,16 +100,18 @@ fn there<J: Task>(of: Snapshot<J>, handle: PromisedHandle<Back<J, J::Out>, Runs<
 
 // Starts the task in a thread, or gives it back: where no thread can be made, what was to run there is called here, with the flag
 // set.
-fn started<J: Task + Send + 'static, R: Threads>(
+fn started<J: Task + Send + 'static, R: Platform>(
     rt: &R,
-    unrun: Arc<AtomicBool, Global>,
-    theirs: Arc<AtomicBool, Global>,
+    unrun: Flag,
+    theirs: Flag,
     task: J,
 ) -> Result<Running<J>, J>
 where
     J::Out: Drop + Send + 'static,
     ensures ok { IfOk result (λ h. h ≡ task) }
     ensures err { IfErr result (λ t. t ≡ task) }
+    ensures asked { OnOk result ((b : Bool) × R.made rt.now b) }
+    ensures cause { OnErr result (R.made rt.now false) }
 {
     let of = Snapshot::of(&task);
     let again = Snapshot::of(&task);
@@ -117,7 +121,7 @@ where
         unrun: theirs,
         gives: PhantomData,
     };
-    match spawn_with(rt, promise, move || run_unless(job)) {
+    match rt.noted(spawn_with(rt, promise, move || run_unless(job))) {
         Ok(handle) => Ok(there(of, handle)),
         Err(SpawnError { value }) => {
             unrun.store(true, Ordering::SeqCst);
@@ -130,7 +134,7 @@ where
 }
 
 // Starts the task in a thread, or gives it back where there is no memory or no thread.
-fn started_in<J: Task + Send + 'static, R: Threads>(
+fn started_in<J: Task + Send + 'static, R: Platform>(
     rt: &R,
     alloc: Global,
     task: J,
@@ -139,11 +143,10 @@ where
     J::Out: Drop + Send + 'static,
     ensures ok { IfOk result (λ h. h ≡ task) }
     ensures err { IfErr result (λ t. t ≡ task) }
+    ensures asked { OnOk result ((b : Bool) × R.made rt.now b) }
+    ensures cause { OnErr result (R.made rt.now false ⊎ R.found rt.now false) }
 {
-    let Ok(unrun) = Arc::new(alloc, AtomicBool::new(false)) else {
-        return Err(task);
-    };
-    let Ok(theirs) = Arc::try_clone(&unrun) else {
+    let Ok((unrun, theirs)) = rt.flag(alloc) else {
         return Err(task);
     };
     started(rt, unrun, theirs, task)
@@ -171,6 +174,7 @@ fn waited<J: Task, R: Threads>(rt: &R, way: Way<J>) -> J::Out
 }
 
 /// What a spawner does with a task that it is to start.
+#[derive(Clone, Copy)]
 pub enum Choice {
     /// It is to run in a thread of its own.
     InThread,
@@ -183,24 +187,34 @@ pub enum Choice {
 /// What starts tasks, and joins them. An implementation says what is done with the next task, and counts the starts that were refused.
 pub trait Spawner: Drop {
     /// The handle by which threads are started.
-    type Rt: Threads;
+    type Rt: Platform;
 
     /// How many starts were refused. The count stands still at the greatest u64.
     ghost refusals: { Self → ℕ };
+    /// What is to be done with the next task.
+    ghost next: { Self → ChoiceOf };
+    /// What a task that is put to it (true), and a failed start that it counts (false), make of it. It is known of those calls alone.
+    ghost moves: { Self → Bool → Self → Type 0 };
 
     /// The handle.
     fn rt(&self) -> &Self::Rt;
 
     /// What is to be done with the next task. A refusal is counted.
     fn choose(&mut self) -> Choice
+        ensures next { result ≡ next self.old }
+        ensures moves { moves self.old true self.new }
         ensures refuse { result ≡ Refuse → HasRisen (refusals self.old) (refusals self.new) }
         ensures other { result ≢ Refuse → refusals self.new ≡ refusals self.old };
 
-    /// Counts a start that failed: no thread could be made, or no memory was found for it.
+    /// Counts a start that failed: the platform told that no thread could be made, or that there was no memory for it.
     fn count(&mut self)
-        ensures { HasRisen (refusals self.old) (refusals self.new) };
+        requires lacks { (rt : Self.Rt) × (Self.Rt.made rt false ⊎ Self.Rt.found rt false) }
+        ensures risen { HasRisen (refusals self.old) (refusals self.new) }
+        ensures moves { moves self.old false self.new };
 
-    /// Starts a task. It comes back, unrun, only where the count of refusals rose in this call.
+    /// Starts a task. It comes back, unrun, only where the count of refusals rose in this call; and that only where the spawner is to refuse it, or
+    /// where the platform told that there is no thread for it or no memory. One that is to run in a thread doesn't run before the platform was
+    /// asked for a thread.
     final fn start<J: Task + Send + 'static>(
         &mut self,
         alloc: Global,
@@ -211,6 +225,10 @@ pub trait Spawner: Drop {
         ensures ok { IfOk result (λ h. h ≡ task) }
         ensures err { IfErr result (λ t. (t ≡ task) × HasRisen (refusals self.old) (refusals self.new)) }
         ensures kept { OnOk result (refusals self.new ≡ refusals self.old) }
+        ensures put { IsPut moves self.old self.new }
+        ensures asked { OnOk result (next self.old ≡ InThread → (rt : Self.Rt) × (b : Bool) × Self.Rt.made rt b) }
+        ensures cause { OnErr result ((next self.old ≡ Refuse)
+            ⊎ ((rt : Self.Rt) × (Self.Rt.made rt false ⊎ Self.Rt.found rt false))) }
     {
         match self.choose() {
             Choice::Refuse => Err(task),
@@ -241,7 +259,7 @@ pub struct InThreads<R> {
     refused: u64,
 }
 
-impl<R: Threads> InThreads<R> {
+impl<R: Platform> InThreads<R> {
     /// A spawner over this handle; it has refused nothing yet.
     pub fn new(rt: R) -> Self
         ensures { result.refused ≡ 0 }
@@ -250,10 +268,14 @@ impl<R: Threads> InThreads<R> {
     }
 }
 
-impl<R: Threads + Drop> Spawner for InThreads<R> {
+impl<R: Platform + Drop> Spawner for InThreads<R> {
     type Rt = R;
 
     ghost refusals = { λ s. s.refused };
+
+    ghost next = { λ _. InThread };
+
+    ghost moves = { λ _ _ _. Unit {0} };
 
     fn rt(&self) -> &R {
         &self.rt

@@ -1,4 +1,6 @@
 //! Batches that several threads judge in parts.
+ghost use Rattle.cf_tasks.specs.declared.threads.Choice.TheVariants.{Refuse};
+
 use cf_block::Script;
 use cf_bytes::{Hash32, Listed};
 use cf_match::{Job, Matcher};
@@ -56,12 +58,16 @@ impl<R: Threads + Drop> Spawner for Refuses<R> {
 
     ghost refusals = { λ s. s.refused };
 
+    ghost next = { λ _. Refuse };
+
+    ghost moves = { λ _ _ _. Unit {0} };
+
     fn rt(&self) -> &R {
         &self.rt
     }
 
     fn choose(&mut self) -> Choice {
-        self.count();
+        self.refused = self.refused.saturating_add(1);
         Choice::Refuse
     }
 

@@ -1,15 +1,16 @@
 //! Wires in memory: the session lines of a short log.
-ghost use Rattle.std.specs.Prelude.{◌≡◌, [], IfOk};
-ghost use Rattle.cf_peer.specs.Memory.{log_of};
+ghost use Rattle.std.specs.Prelude.{◌≡◌, [], IfOk, false};
+ghost use Rattle.cf_wires.specs.Memory.{log_of, finished_of};
 
 use cf_bytes::PeerNo;
-use cf_peer::{Delivery, MemoryWires, Name, Piece, Scripted, Wires};
+use cf_wires::{Delivery, MemoryWires, Name, Piece, Scripted, Wires};
 use std::alloc::Global;
 use std::test::*;
 
 // Two dials, the second one failing, two deliveries, and a send that fails.
 fn short_wires(alloc: Global) -> Result<MemoryWires, Fail>
-    ensures { IfOk result (λ w. log_of w ≡ []) }
+    ensures log { IfOk result (λ w. log_of w ≡ []) }
+    ensures finished { IfOk result (λ w. finished_of w ≡ false) }
 {
     let mut wires = MemoryWires::new(alloc)?;
     wires.add(Scripted::Dial(Name::from_text(alloc, "a")?))?;
@@ -22,7 +23,8 @@ fn short_wires(alloc: Global) -> Result<MemoryWires, Fail>
 }
 
 fn pass_all(wires: &mut MemoryWires) -> Result<(), Fail>
-    requires { log_of wires.old ≡ [] }
+    requires log { log_of wires.old ≡ [] }
+    requires open { finished_of wires.old ≡ false }
 {
     wires.dial("a").ok().ok_or("no dial")?;
     let missed = wires.dial("b").err().ok_or("dialled")?;

@@ -70,6 +70,12 @@ impl Files for MapFiles {
 
     ghost faults = { λ f. f.plan.faults };
 
+    ghost reads = { λ before name _ _ after. after ≡ record before { plan = after_call before.plan (has_file before name) } };
+
+    ghost writes = { λ before name bytes result after.
+        OnOk result (after ≡ record { files = finite.insert before.files name bytes; plan = after_call before.plan true })
+        × OnErr result (after ≡ record before { plan = after_call before.plan true }) };
+
     /// Fails where the call is to fail, and where no file has this name.
     fn read(&mut self, alloc: Global, name: &str, most: usize) -> Result<Vec<u8>, FileFail>
         ensures answer { ReadOf (finite.get self.old.files name.now) most result }

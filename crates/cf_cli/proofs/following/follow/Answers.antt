@@ -95,8 +95,9 @@ pub returns-in-Err-No-clause-kept : goal.returns-in-Err-No-clause-kept
 returns-in-Err-No-clause-kept g c =
     let o = c.in-Ok-sync_over.outcome in
     let files = rw c.in-Err-No.field-0-is at c.in-Err-No.ensures.files in
-    unrecorded_told (g.W.Wires.told c.sync_over.new.wires).log c.args.watch (names_in c.args.names.now) o.height o.tip o.history (is_some c.args.log_file.now) c.args.trace
-    (g.O.Sink.written c.args.out.now) (g.O.Sink.written c.args.out.now) files.0 c.in-Ok-sync_over.ensures.theorem
+    unrecorded_told (g.W.Wires.told c.sync_over.new.wires).log c.args.watch (names_in c.args.names.now) o.end o.height o.tip o.history o.trace.items
+    (is_some c.args.log_file.now) c.args.trace (g.O.Sink.written c.args.out.now) (g.O.Sink.written c.args.out.now) files.0
+    c.in-Ok-sync_over.ensures.followed c.in-Ok-sync_over.ensures.theorem
 
 pub returns-in-Err-NoMemory-clause-versions : goal.returns-in-Err-NoMemory-clause-versions
 returns-in-Err-NoMemory-clause-versions g c =

@@ -1,7 +1,9 @@
-use Rattle.std.proofs.Common.{rules}
+use Rattle.std.proofs.Common.{ℤ, rules, refl, subst}
 use Rattle.std.proofs.Math.Facts.{to_z-of_z}
 use Rattle.std.specs.Int.{w64}
-use Rattle.cf_peer.specs.Memory.{told_of}
+use Rattle.cf_serve.specs.Links.{LinkTold, link_now}
+use Rattle.cf_cli.specs.Serving.{IsServing}
+use Rattle.cf_wires.specs.Memory.{told_of}
 use Rattle.cf_client.proofs.Versions.{new_words}
 use Rattle.cf_cli.proofs.Plays.{versions_so, unplayed_words, judged_replay, judged_sync, new_unfailed}
 use Rattle.cf_cli.proofs.Records.{sync_writes}
@@ -119,3 +121,45 @@ returns-in-Demo-clause-tape_versions g c = unplayed_words _ _ c.requires.log
 
 pub returns-in-Demo-clause-unshown : goal.returns-in-Demo-clause-unshown
 returns-in-Demo-clause-unshown g c = demo_uses c.args.command c.in-Demo.seed c.in-Demo.blocks c.in-Demo.is
+
+pub returns-in-Replay-clause-does : goal.returns-in-Replay-clause-does
+returns-in-Replay-clause-does g c = rw c.in-Replay.is (record {
+  replayed = rw c.as_str.ensures at c.replay.ensures.replayed;
+  plays = rw c.as_str-in-Replay.ensures at c.replay.ensures.plays;
+})
+
+pub returns-in-Sync-clause-does : goal.returns-in-Sync-clause-does
+returns-in-Sync-clause-does g c = rw c.in-Sync.is (record {
+  kept = rw (c.as_str-in-Sync.ensures, c.as_slice.ensures) at c.sync.ensures.kept;
+  tallied = rw c.as_slice.ensures at c.sync.ensures.tallied;
+  dialled = rw c.as_slice.ensures at c.sync.ensures.dialled;
+  records = c.sync.ensures.records;
+})
+
+pub returns-in-Scan-clause-does : goal.returns-in-Scan-clause-does
+returns-in-Scan-clause-does g c = rw c.in-Scan.is (rw (c.as_str-in-Scan.ensures, c.as_str-in-Scan-2.ensures) at c.scan.ensures.scanned)
+
+pub returns-in-Filter-clause-does : goal.returns-in-Filter-clause-does
+returns-in-Filter-clause-does g c = rw c.in-Filter.is (rw c.as_str-in-Filter.ensures at c.filter.ensures.filtered)
+
+pub returns-in-Address-clause-does : goal.returns-in-Address-clause-does
+returns-in-Address-clause-does g c = rw c.in-Address.is (rw c.as_str-in-Address.ensures at c.address.ensures.addressed)
+
+pub returns-in-Prove-clause-does : goal.returns-in-Prove-clause-does
+returns-in-Prove-clause-does g c = rw c.in-Prove.is (rw c.as_str-in-Prove.ensures at c.prove.ensures.proved)
+
+pub returns-in-Check-clause-does : goal.returns-in-Check-clause-does
+returns-in-Check-clause-does g c = rw c.in-Check.is (rw c.as_str-in-Check.ensures at c.check.ensures.checked)
+
+pub returns-in-Serve-clause-does : goal.returns-in-Serve-clause-does
+returns-in-Serve-clause-does g c =
+    let link = g.L.Link in
+    let tell : g.row.L.Denot → LinkTold = link_now link.addresses link.accepted link.owed link.conns link.given in
+    let P : ℤ → Type 0 = λ m. IsServing c.serve.result m c.args.nonce (g.F.Files.files c.args.files.now) c.in-Serve.file c.in-Serve.address c.in-Serve.connections (tell c.args.link.now) (tell c.serve.new.link) in
+    rw c.in-Serve.is (subst P (to_z-of_z {w = w64} {z = c.args.moment} (search rules)) (rw (c.as_str-in-Serve.ensures, c.as_str-in-Serve-2.ensures) at c.serve.ensures.serving), refl)
+
+pub returns-in-Make-clause-does : goal.returns-in-Make-clause-does
+returns-in-Make-clause-does g c = rw c.in-Make.is (rw c.as_str-in-Make.ensures at c.make.ensures.made, refl)
+
+pub returns-in-Demo-clause-does : goal.returns-in-Demo-clause-does
+returns-in-Demo-clause-does g c = rw c.in-Demo.is c.demo.ensures.demoed

@@ -2,9 +2,9 @@ use Rattle.std.proofs.Common.{false, Some, length, rules, ◌∙◌, ap, subst}
 use Rattle.std.proofs.Math.Facts.{to_z-of_z}
 use Rattle.std.specs.Int.{w64}
 use Rattle.cf_client.specs.Names.{names_in}
-use Rattle.cf_peer.specs.Log.{Told}
-use Rattle.cf_peer.specs.Memory.{log_of, failing_of, told_of}
-use Rattle.cf_peer.specs.Wires.{Script}
+use Rattle.cf_wires.specs.Log.{Told}
+use Rattle.cf_wires.specs.Memory.{log_of, failing_of, told_of}
+use Rattle.cf_wires.specs.Wires.{Script}
 use Rattle.cf_cli.proofs.Plays.{versions_so, unplayed_words, made, plays_of, told_so, told_plays, early_replayed, early_plays, new_tape, same_told, over_watch}
 use Rattle.cf_cli.specs.Theorem.{Tallied}
 use Rattle.cf_cli.proofs.program.replay.Goals as goal

@@ -4,7 +4,7 @@ use Rattle.std.specs.Int.{w64}
 use Rattle.std.specs.Prelude.{is_some}
 use Rattle.cf_client.specs.Names.{names_in}
 use Rattle.cf_client.proofs.Versions.{new_words}
-use Rattle.cf_cli.proofs.Plays.{versions_so, early_told, early_tallied, new_unfailed, told_over_watch}
+use Rattle.cf_cli.proofs.Plays.{versions_so, early_told, early_tallied, new_dialled, new_unfailed, told_over_watch}
 use Rattle.cf_cli.proofs.Records.{early_records, judged_once_begun, records_from}
 use Rattle.cf_cli.proofs.program.sync.Goals as goal
 
@@ -29,6 +29,12 @@ returns-clause-records g c =
 
 pub returns-in-Err-clause-tallied : goal.returns-in-Err-clause-tallied
 returns-in-Err-clause-tallied g c = early_tallied c.in-Err.status _ _ _ c.in-Err.ensures.only c.requires.fresh
+
+pub returns-in-Err-clause-dialled : goal.returns-in-Err-clause-dialled
+returns-in-Err-clause-dialled g c = new_dialled _ _ c.requires.fresh
+
+pub returns-in_default-clause-dialled : goal.returns-in_default-clause-dialled
+returns-in_default-clause-dialled g c = new_dialled _ _ c.requires.fresh
 
 pub returns-in-Err-clause-failures : goal.returns-in-Err-clause-failures
 returns-in-Err-clause-failures g c = new_unfailed _ _ _ c.requires.fresh

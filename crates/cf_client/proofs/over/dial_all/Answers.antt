@@ -1,4 +1,4 @@
-use Rattle.std.proofs.Common.{ℕ, ◌+◌, List, take, ◌∙◌, ap, subst, arith}
+use Rattle.std.proofs.Common.{ℕ, ◌+◌, List, take, sym, ◌∙◌, ap, subst, arith}
 use Rattle.cf_client.specs.Names.{names_in}
 use Rattle.cf_client.specs.Run.{HoldsOver}
 use Rattle.cf_client.proofs.Courses.{runs_then}
@@ -27,9 +27,9 @@ loop-name-preserved g c = record {
   dials = c.in_ok-dial_one.ensures.one.dials ∙ ap (λ (n : ℕ). n + 1) c.loop-name.invariant.dials;
   taken = c.in_ok-dial_one.ensures.dials.taken ∙ c.loop-name.invariant.taken;
   unended = c.in_ok-dial_one.ensures.dials.ended ∙ c.loop-name.invariant.unended;
-  watch = c.in_ok-dial_one.ensures.watch ∙ c.loop-name.invariant.watch;
-  words = c.in_ok-dial_one.ensures.words ∙ c.loop-name.invariant.words;
-  next = c.in_ok-dial_one.ensures.next;
+  watch = c.in_ok-dial_one.ensures.counts.watch ∙ c.loop-name.invariant.watch;
+  words = c.in_ok-dial_one.ensures.counts.words ∙ c.loop-name.invariant.words;
+  next = c.in_ok-dial_one.ensures.counts.count ∙ ap (λ (n : ℕ). n + 1) (c.loop-name.invariant.next ∙ sym c.in_ok-dial_one.ensures.one.dials);
   runs = runs_then c.loop-name.invariant.runs c.in_ok-dial_one.ensures.dials.runs;
 }
 

@@ -1,4 +1,4 @@
-use Rattle.std.proofs.Common.{List, ℕ, ◌∙◌, subst, rules}
+use Rattle.std.proofs.Common.{List, ℕ, sym, ◌∙◌, subst, rules}
 use Rattle.std.proofs.Math.Facts.{to_z-of_z}
 use Rattle.std.specs.Int.{w64}
 use Rattle.std.specs.Prelude.{IfSome}
@@ -8,6 +8,8 @@ use Rattle.cf_client.specs.Run.{Followed}
 use Rattle.cf_client.specs.Stands.{watch_by, words_by}
 use Rattle.cf_client.proofs.Versions.{new_words, has_so, words_then, words_so}
 use Rattle.cf_client.proofs.Turns.{starts, finishes, no_peers, told_so}
+use Rattle.cf_client.proofs.Dialling.{none_named}
+use Rattle.cf_client.proofs.Passing.{passes_none, passes_dials, passes_turns}
 use Rattle.cf_client.proofs.over.follow.Goals as goal
 
 pub returns-clause-followed : goal.returns-clause-followed
@@ -74,3 +76,41 @@ returns-clause-versions g c =
     let dialled = c.in_ok-dial_all.ensures.versions start (new_words (words_by c.in_ok-client.client) (g.W.Wires.told c.args.wires.now) c.requires.fresh) in
     words_then (words_by c.in_ok-client.client) (words_by c.dial_all.new.client) _ (g.W.Wires.told c.dial_all.new.wires) (g.W.Wires.told c.take_turns.new.wires) words c.in_ok-dial_all.ensures.words dialled
     (c.in_ok-end.ensures.versions (names_in c.args.names.now) (c.in_ok-dial_all.ensures.holds start))
+
+pub returns-clause-within : goal.returns-clause-within
+returns-clause-within g c =
+    let e = c.in_ok-end.ensures in
+    let end = sym c.in_ok-outcome.ensures.end in
+    record {
+      dialled = e.same.dials ∙ c.in_ok-dial_all.ensures.dialled;
+      tired = λ is. e.tired (end ∙ is);
+      ended = λ is. e.ended (end ∙ is);
+      early = λ is. e.early (end ∙ is);
+    }
+
+pub returns-in_err-client-clause-passes : goal.returns-in_err-client-clause-passes
+returns-in_err-client-clause-passes g c =
+    passes_none (names_in c.args.names.now) c.args.turns (g.W.Wires.told c.args.wires.now) (g.W.Wires.faults c.args.wires.now) (g.W.Wires.script c.args.wires.now) (g.W.Wires.keeps c.args.wires.now) c.requires.fresh
+
+pub returns-in_err-dial_all-clause-passes : goal.returns-in_err-dial_all-clause-passes
+returns-in_err-dial_all-clause-passes g c =
+    let d = c.in_err-dial_all.ensures in
+    passes_dials (names_in c.args.names.now) c.args.turns (d.first (none_named (g.W.Wires.told c.args.wires.now) c.requires.fresh)) d.taken d.unended d.runs
+
+pub returns-in_err-end-clause-passes : goal.returns-in_err-end-clause-passes
+returns-in_err-end-clause-passes g c =
+    let d = c.in_ok-dial_all.ensures in
+    let e = c.in_err-end.ensures in
+    passes_turns (names_in c.args.names.now) c.args.turns (d.first (none_named (g.W.Wires.told c.args.wires.now) c.requires.fresh)) d.runs e.same e.most e.once e.runs
+
+pub returns-in_err-outcome-clause-passes : goal.returns-in_err-outcome-clause-passes
+returns-in_err-outcome-clause-passes g c =
+    let d = c.in_ok-dial_all.ensures in
+    let e = c.in_ok-end.ensures in
+    passes_turns (names_in c.args.names.now) c.args.turns (d.first (none_named (g.W.Wires.told c.args.wires.now) c.requires.fresh)) d.runs e.same e.most e.once e.runs
+
+pub returns-clause-passes : goal.returns-clause-passes
+returns-clause-passes g c =
+    let d = c.in_ok-dial_all.ensures in
+    let e = c.in_ok-end.ensures in
+    passes_turns (names_in c.args.names.now) c.args.turns (d.first (none_named (g.W.Wires.told c.args.wires.now) c.requires.fresh)) d.runs e.same e.most e.once e.runs

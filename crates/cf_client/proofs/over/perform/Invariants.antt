@@ -1,5 +1,5 @@
 use Rattle.std.proofs.Common.{List, ℕ, drop}
-use Rattle.cf_peer.specs.Log.{Log}
+use Rattle.cf_wires.specs.Log.{Log}
 use Rattle.std.specs.List.{All}
 use Rattle.cf_client.specs.Places.{Allowed, after, Words, ActTells}
 use Rattle.cf_client.specs.Versions.{KeepsWords}

@@ -1,7 +1,7 @@
 use Rattle.std.proofs.Common.{◌≡◌, true, false, get_or, sym, ◌∙◌}
 use Rattle.cf_client.specs.Run.{is_pending, state_at}
 use Rattle.cf_client.proofs.Performs.{skipped_close, closed_again, closed_on}
-use Rattle.cf_peer.specs.declared.event.Event.TheVariants.{Closed}
+use Rattle.cf_wires.specs.declared.event.Event.TheVariants.{Closed}
 use Rattle.cf_client.proofs.Versions.{entry_keeps}
 use Rattle.cf_client.proofs.over.perform_close.Goals as goal
 

@@ -1,7 +1,7 @@
 use Rattle.std.proofs.Common.{◌≡◌, ◌<◌, length, Err, true, false, sym, ◌∙◌, ap, arith}
 use Rattle.cf_client.specs.Run.{is_pending, state_at}
 use Rattle.cf_client.proofs.Performs.{skipped_send, sent_on, failed_on, may_send}
-use Rattle.cf_peer.specs.declared.event.Event.TheVariants.{SendFailed}
+use Rattle.cf_wires.specs.declared.event.Event.TheVariants.{SendFailed}
 use Rattle.cf_client.proofs.Versions.{sent_keeps, entry_keeps, same_keeps}
 use Rattle.cf_client.proofs.over.perform_send.Goals as goal
 

@@ -1,6 +1,6 @@
 use Rattle.std.proofs.Common.{List, ◌∷◌, ◌<◌, [], length, set, sym, ◌∙◌, ap, subst}
 use Rattle.cf_peer.specs.declared.act.Act.{Act}
-use Rattle.cf_peer.specs.declared.event.Event.TheVariants.{SendFailed}
+use Rattle.cf_wires.specs.declared.event.Event.TheVariants.{SendFailed}
 use Rattle.cf_peer.specs.declared.peer.Cause.TheVariants.{SendFailed as SendFault}
 use Rattle.cf_client.specs.declared.progress.Progress.{Progress}
 use Rattle.cf_client.specs.declared.progress.SendState.TheVariants.{Known}

@@ -1,5 +1,5 @@
 use Rattle.std.proofs.Common.{◌≡◌, List, [], ℕ}
-use Rattle.cf_peer.specs.Log.{Log}
+use Rattle.cf_wires.specs.Log.{Log}
 use Rattle.cf_client.specs.Stands.{Reflects, count_of, watch_by, words_by}
 use Rattle.cf_client.specs.Versions.{KeepsWords}
 use Rattle.cf_client.specs.Run.{Doing, Waits, trouble, moment, Performs}

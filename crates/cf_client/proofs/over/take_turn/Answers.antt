@@ -1,8 +1,8 @@
 use Rattle.std.proofs.Common.{◌≡◌, List, ◌∷◌, sym, ◌∙◌, ap, subst, refl}
 use Rattle.cf_peer.specs.declared.act.Act.{Act}
-use Rattle.cf_peer.specs.declared.event.Delivery.{Delivery}
-use Rattle.cf_peer.specs.declared.event.Event.TheVariants.{Took}
-use Rattle.cf_peer.specs.Log.{tell, Told}
+use Rattle.cf_wires.specs.declared.event.Delivery.{Delivery}
+use Rattle.cf_wires.specs.declared.event.Event.TheVariants.{Took}
+use Rattle.cf_wires.specs.Log.{tell, Told}
 use Rattle.cf_client.specs.Stands.{Answers, words_by}
 use Rattle.cf_client.proofs.Versions.{entry_keeps, same_keeps, acts_tell_so, keeps_then}
 use Rattle.cf_client.proofs.Turns.{took_doing, doing_watch, ended_stops, took_counts, took_closed}

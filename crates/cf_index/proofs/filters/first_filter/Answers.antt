@@ -1,7 +1,7 @@
 use Rattle.std.proofs.Common.{length, flat_map, ap, arith}
 use Rattle.cf_block.specs.declared.tx.Block.{Block}
 use Rattle.cf_filter.specs.Items.{paid_scripts}
-use Rattle.cf_index.proofs.Bounds.{genesis_few}
+use Rattle.cf_chain.proofs.Bounds.{genesis_few}
 use Rattle.cf_index.proofs.filters.first_filter.Goals as goal
 
 pub bare_filter-requires-clause-few : goal.bare_filter-requires-clause-few

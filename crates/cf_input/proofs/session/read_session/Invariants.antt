@@ -1,6 +1,6 @@
 use Rattle.std.proofs.Common.{◌≡◌, ◌+◌, ◌≤◌, [], length, true}
 use Rattle.std.specs.List.{list_all}
-use Rattle.cf_peer.specs.Log.{is_real}
+use Rattle.cf_wires.specs.Log.{is_real}
 use Rattle.cf_input.specs.Lines.{lines_of, read_lines}
 use Rattle.cf_input.specs.SessionFile.{max_dials, line_after, lines_in}
 use Rattle.cf_input.specs.Sessions.{script_in, AreNamed}

@@ -1,10 +1,15 @@
-use Rattle.std.proofs.Common.{◌∙◌, ap₂, sym}
+use Rattle.std.proofs.Common.{◌∙◌, sym}
 use Rattle.std.proofs.lemmas.Result.{IfOk-weaker}
-use Rattle.cf_input.specs.Words.{with_sub}
+use Rattle.std.specs.Prelude.{codes}
+use Rattle.clap.specs.Words.{new_app}
+use Rattle.cf_input.specs.Words.{replay_app, sync_app, with_sub}
 use Rattle.cf_input.proofs.Simple.{client_is}
 use Rattle.cf_input.proofs.words.client_command.Goals as goal
 
-pub returns : goal.returns
-returns c =
-    let one = c.in_ok-command.ensures.0 ∙ ap₂ with_sub c.new-command.ensures.app c.in_ok-sync_command.ensures.0 in
-    IfOk-weaker c.with_one_more-2.result _ _ (λ k h. (h.0 ∙ ap₂ with_sub one c.in_ok-replay_command.ensures.0 ∙ sym client_is, h.1)) c.with_one_more-2.ensures
+pub returns-clause-app : goal.returns-clause-app
+returns-clause-app c =
+    let one = c.add-command.ensures.app (new_app (codes "cf")) sync_app c.new.ensures.app c.sync_command.ensures.app in
+    IfOk-weaker c.add.result _ _ (λ k h. h ∙ sym client_is) (c.add.ensures.app (with_sub (new_app (codes "cf")) sync_app) replay_app one c.replay_command.ensures.app)
+
+pub returns-clause-globals : goal.returns-clause-globals
+returns-clause-globals c = c.add.ensures.globals

@@ -1,6 +1,6 @@
 use Rattle.std.proofs.Common.{◌≤◌, ◌∷◌, length, refl, arith}
 use Rattle.std.proofs.Math.Logic.{∥∥₁_map}
-use Rattle.cf_peer.specs.declared.event.Event.TheVariants.{Dialled}
+use Rattle.cf_wires.specs.declared.event.Event.TheVariants.{Dialled}
 use Rattle.cf_peer.specs.Acts.{bytes_of}
 use Rattle.cf_hear.specs.Seen.{seen_of}
 use Rattle.cf_client.proofs.Standing.{called_goes}

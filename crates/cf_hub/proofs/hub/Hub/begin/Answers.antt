@@ -1,10 +1,11 @@
 use Rattle.std.proofs.Common.{arith, ◌≡◌, ◌≤◌, ◌<◌, ◌+◌, ◌∙◌, ◌++◌, ◌∷◌, [], sym, ap, refl, true≢false, vec_len, vec_capacity, length}
 use Rattle.crossbeam_channel.specs.Claims.{view}
 use Rattle.crossbeam_channel.specs.Ends.{sends_on}
-use Rattle.cf_peer.specs.Log.{Told}
+use Rattle.cf_wires.specs.Log.{Told}
 use Rattle.cf_hub.specs.Book.{told_of}
 use Rattle.cf_hub.specs.Gives.{given_of}
 use Rattle.cf_hub.proofs.Takes.{no_fronts, none_for, same_log, same_heard, same_within, dialled_log, missed_log}
+use Rattle.cf_hub.proofs.Begins.{task_more}
 use Rattle.cf_hub.proofs.Lines.{down_popped, reading_pushed}
 use Rattle.cf_hub.proofs.Opened.{opens_same, opens_more, opens_none, numbers_none, reading_more}
 use Rattle.cf_hub.proofs.hub.Hub.begin.Goals as goal
@@ -25,7 +26,8 @@ invariant_of-self g c =
       spares = p.1;
       numbers = (let h : vec_len c.pop.new.self + c.note_dialled.new.self.dials ≡ 8 = omega (arith, pl, dn, c.args.self.now.numbers) in h);
       one = reading_pushed c.args.self.now.queue _ _ c.in-Ok.busy c.push_reserved.ensures.items c.args.self.now.one (ap (λ b. sends_on b.sender.line) c.in-Ok.ensures.ok.0 ∙ p.0.1.0, (let h : 0 < c.in-Ok.busy.sender.number = omega (arith, number, c.args.self.now.places) in h));
-      room = (let h : vec_len c.push_reserved.new.self ≤ vec_capacity c.args.self.now.done = omega (arith, c.push_reserved.ensures.len, c.requires.later) in h);
+      room = λ j. let r = c.args.self.now.room j in ((let h : 8 ≤ vec_capacity c.push_reserved.new.self = omega (arith, c.push_reserved.ensures.capacity, r.0) in h), r.1);
+      few = (let h : vec_len c.push_reserved.new.self ≤ c.note_dialled.new.self.dials = omega (arith, dn, c.push_reserved.ensures.len, c.args.self.now.few) in h);
       places = (let h : vec_len c.push_reserved-in-Ok.new.self ≡ c.note_dialled.new.self.dials + 1 = omega (arith, dn, c.push_reserved-in-Ok.ensures.len, c.args.self.now.places) in h);
       holds = (let h : 9 ≤ vec_capacity c.push_reserved-in-Ok.new.self = omega (arith, c.push_reserved-in-Ok.ensures.capacity, c.args.self.now.holds) in h);
       heard = c.args.self.now.heard;
@@ -34,6 +36,8 @@ invariant_of-self g c =
       counts = λ r. tn ∙ c.args.self.now.counts (sym fn ∙ r);
       undone = c.args.self.now.undone;
       unrested = c.args.self.now.unrested;
+      runs = c.args.self.now.runs;
+      owed = c.args.self.now.owed;
       stopped = λ j. fn ∙ c.args.self.now.stopped j;
       over = λ j. absurd (true≢false (sym j ∙ c.requires.begins));
       fronts = c.args.self.now.fronts;
@@ -42,6 +46,20 @@ invariant_of-self g c =
       reading_are = λ j. reading_more _ _ c.in-Ok.busy _ _ _ c.push_reserved.ensures.items c.push_reserved-in-Ok.ensures.items (number ∙ c.args.self.now.writers.ok.0) (c.args.self.now.reading_are j);
       done_are = λ j. absurd (true≢false (sym j ∙ c.requires.begins));
     }
+
+pub returns-in-Ok-clause-task : goal.returns-in-Ok-clause-task
+returns-in-Ok-clause-task g c =
+    let was : c.args.self.now.spare.items ≡ c.pop.new.self.items ++ c.unwrap-sender.result ∷ [] = rw c.unwrap-sender.ensures at c.pop.ensures.items in
+    let p = down_popped c.args.self.now.queue c.args.self.now.spare.items c.pop.new.self.items c.unwrap-sender.result was c.args.self.now.spares in
+    let pl : vec_len c.pop.new.self + 1 ≡ vec_len c.args.self.now.spare = rw c.unwrap-sender.ensures at c.pop.ensures.len in
+    let number : c.in-Ok.busy.sender.number ≡ vec_len c.args.self.now.writers = (let n : c.in-Ok.busy.sender.number ≡ c.unwrap-sender.result.number = ap (λ b. b.sender.number) c.in-Ok.ensures.ok.0 in omega (arith, n, p.0.0, pl, c.args.self.now.numbers, c.args.self.now.places)) in
+    let same : c.in-Ok.busy.sender.number ≡ c.args.p.0 = omega (arith, number, c.args.self.now.places, c.requires.next) in
+    task_more _ _ c.in-Ok.busy _ _ c.push_reserved.ensures.items same (ap (λ b. b.source) c.in-Ok.ensures.ok.0)
+
+pub push_reserved-requires : goal.push_reserved-requires
+push_reserved-requires g c =
+    let r = c.args.self.now.room c.requires.begins in
+    (let h : vec_len c.args.self.now.reading < vec_capacity c.args.self.now.reading = omega (arith, r.0, c.args.self.now.few, c.requires.few) in h)
 
 pub take-requires : goal.take-requires
 take-requires g c =
@@ -66,6 +84,7 @@ invariant_of-self-in-Err g c =
       numbers = (let h : vec_len c.pop.new.self + c.note_not_dialled.new.self.dials ≡ 8 = omega (arith, pl, dn, c.args.self.now.numbers) in h);
       one = λ k d l. let h = c.args.self.now.one k d l in (h.0 ∙ sym (c.take.ensures.ring), h.1);
       room = c.args.self.now.room;
+      few = (let h : vec_len c.args.self.now.reading ≤ c.note_not_dialled.new.self.dials = omega (arith, dn, c.args.self.now.few) in h);
       places = (let h : vec_len c.push_reserved-in-Err.new.self ≡ c.note_not_dialled.new.self.dials + 1 = omega (arith, dn, c.push_reserved-in-Err.ensures.len, c.args.self.now.places) in h);
       holds = (let h : 9 ≤ vec_capacity c.push_reserved-in-Err.new.self = omega (arith, c.push_reserved-in-Err.ensures.capacity, c.args.self.now.holds) in h);
       heard = same_heard _ _ _ gs c.args.self.now.heard;
@@ -74,6 +93,8 @@ invariant_of-self-in-Err g c =
       counts = λ r. tn ∙ c.args.self.now.counts (sym fn ∙ r) ∙ ap (λ l. length (given_of l)) (sym gs);
       undone = c.args.self.now.undone;
       unrested = c.args.self.now.unrested;
+      runs = c.args.self.now.runs;
+      owed = c.args.self.now.owed;
       stopped = λ j. fn ∙ c.args.self.now.stopped j;
       over = λ j. absurd (true≢false (sym j ∙ c.requires.begins));
       fronts = no_fronts (view c.take.new.self.seat).got _ (c.args.self.now.undone c.requires.begins);

@@ -14,4 +14,5 @@ invariant-loop g l = record {
   readers : l.self.readers ≡ l.initial.self.readers;
   tickers : l.self.tickers ≡ l.initial.self.tickers;
   clock : l.self.clock ≡ l.initial.self.clock;
+  ticking : l.self.ticking ≡ l.initial.self.ticking;
 }

@@ -1,6 +1,6 @@
 use Rattle.std.proofs.Common.{arith, ◌≡◌, ◌≤◌, ◌∙◌, [], sym, ap, refl, true≢false, vec_len, vec_capacity, length}
 use Rattle.cf_hub.specs.Book.{told_of}
-use Rattle.cf_hub.proofs.Takes.{none_for, same_log, same_heard, same_within, same_front}
+use Rattle.cf_hub.proofs.Takes.{none_for, some_of, some_same, same_log, same_heard, same_within, same_front}
 use Rattle.cf_hub.proofs.Lines.{reading_ringed}
 use Rattle.cf_hub.proofs.Opened.{same_numbers, ended_same}
 use Rattle.cf_hub.specs.Finish.{numbers_of}
@@ -17,7 +17,8 @@ invariant_of-self g c =
       spares = λ k d l. let h = c.args.self.now.spares k d l in (h.0, (h.1.0 ∙ sym ((c.join_readers.ensures.ring ∙ c.join_ticker.ensures.ring)), h.1.1));
       numbers = c.args.self.now.numbers;
       one = λ k d l. let n = ap length noread in absurd (omega (arith, l, n));
-      room = (let h : vec_len c.replace-held.new.dest ≤ vec_capacity c.join_readers.new.done = omega (arith, nolen) in h);
+      room = λ r. absurd (true≢false r);
+      few = (let h : vec_len c.replace-held.new.dest ≤ c.args.self.now.book.dials = omega (arith, nolen) in h);
       places = c.args.self.now.places;
       holds = c.args.self.now.holds;
       heard = same_heard _ _ _ (c.join_readers.ensures.got ∙ c.join_ticker.ensures.got) c.args.self.now.heard;
@@ -26,6 +27,8 @@ invariant_of-self g c =
       counts = λ r. absurd (true≢false (sym c.requires.finished ∙ r));
       undone = λ r. absurd (true≢false r);
       unrested = λ r. absurd (true≢false r);
+      runs = λ r. absurd (true≢false r);
+      owed = λ _ n. some_of _ _ c.join_ticker.ensures.some (some_same _ _ c.take-ticking.ensures.value (c.args.self.now.runs c.requires.joined n));
       stopped = λ _. c.requires.finished;
       over = λ _. ended_same _ _ _ _ refl (c.join_readers.ensures.got ∙ c.join_ticker.ensures.got) c.requires.ended;
       fronts = c.join_readers.ensures.fronts;
@@ -38,3 +41,9 @@ invariant_of-self g c =
 pub join_readers-requires-clause-one : goal.join_readers-requires-clause-one
 join_readers-requires-clause-one g c =
     reading_ringed c.args.self.now.queue c.join_ticker.new.queue _ _ (ap (λ v. v.items) c.replace-held.ensures.value) c.join_ticker.ensures.ring c.args.self.now.one
+
+pub join_readers-requires-clause-room : goal.join_readers-requires-clause-room
+join_readers-requires-clause-room g c =
+    let v = ap (λ v. vec_len v) c.replace-held.ensures.value in
+    let r = c.args.self.now.room c.requires.joined in
+    (let h : vec_len c.replace-held.result ≤ vec_capacity c.args.self.now.done = omega (arith, v, r.1, c.args.self.now.few, c.args.self.now.numbers) in h)

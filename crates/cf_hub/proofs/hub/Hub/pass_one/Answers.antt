@@ -13,6 +13,7 @@ invariant_of-self g c =
       numbers = c.args.self.now.numbers;
       one = λ k d l. let h = c.args.self.now.one k d l in (h.0 ∙ sym (c.receive-passed.ensures.ring), h.1);
       room = c.args.self.now.room;
+      few = c.args.self.now.few;
       places = c.args.self.now.places;
       holds = c.args.self.now.holds;
       heard = c.receive-passed.ensures.heard c.args.self.now.heard;
@@ -21,6 +22,8 @@ invariant_of-self g c =
       counts = λ r. absurd (true≢false (sym c.requires.finished ∙ r));
       undone = c.args.self.now.undone;
       unrested = c.args.self.now.unrested;
+      runs = c.args.self.now.runs;
+      owed = c.args.self.now.owed;
       stopped = c.args.self.now.stopped;
       over = λ j. absurd (true≢false (sym j ∙ c.requires.joined));
       fronts = no_fronts (view c.receive-passed.new.queue.seat).got _ (c.args.self.now.undone c.requires.joined);

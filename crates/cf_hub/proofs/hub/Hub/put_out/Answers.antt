@@ -12,6 +12,7 @@ invariant_of-self g c =
       numbers = c.args.self.now.numbers;
       one = c.args.self.now.one;
       room = c.args.self.now.room;
+      few = c.args.self.now.few;
       places = (let h : vec_len c.put_to.new.writers ≡ c.args.self.now.book.dials + 1 = omega (arith, c.put_to.ensures.len, c.args.self.now.places) in h);
       holds = (let h : 9 ≤ vec_capacity c.put_to.new.writers = omega (arith, c.put_to.ensures.capacity, c.args.self.now.holds) in h);
       heard = c.args.self.now.heard;
@@ -20,6 +21,8 @@ invariant_of-self g c =
       counts = c.args.self.now.counts;
       undone = c.args.self.now.undone;
       unrested = c.args.self.now.unrested;
+      runs = c.args.self.now.runs;
+      owed = c.args.self.now.owed;
       stopped = c.args.self.now.stopped;
       over = λ j. ended_same _ _ _ _ c.put_to.ensures.there refl (c.args.self.now.over j);
       fronts = c.args.self.now.fronts;
@@ -38,6 +41,7 @@ invariant_of-self-2 g c =
       numbers = c.args.self.now.numbers;
       one = c.args.self.now.one;
       room = c.args.self.now.room;
+      few = c.args.self.now.few;
       places = (let h : vec_len c.put_to.new.writers ≡ c.args.self.now.book.dials + 1 = omega (arith, c.put_to.ensures.len, c.args.self.now.places) in h);
       holds = (let h : 9 ≤ vec_capacity c.put_to.new.writers = omega (arith, c.put_to.ensures.capacity, c.args.self.now.holds) in h);
       heard = c.args.self.now.heard;
@@ -46,6 +50,8 @@ invariant_of-self-2 g c =
       counts = c.args.self.now.counts;
       undone = c.args.self.now.undone;
       unrested = c.args.self.now.unrested;
+      runs = c.args.self.now.runs;
+      owed = c.args.self.now.owed;
       stopped = c.args.self.now.stopped;
       over = λ j. ended_same _ _ _ _ c.put_to.ensures.there refl (c.args.self.now.over j);
       fronts = c.args.self.now.fronts;

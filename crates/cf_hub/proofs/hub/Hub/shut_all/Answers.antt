@@ -13,6 +13,7 @@ loop-p-preserved g c =
       done = c.shut.ensures.done ∙ i.done;
       rested = c.shut.ensures.rested ∙ i.rested;
       joined = c.shut.ensures.joined ∙ i.joined;
+      ticking = c.shut.ensures.threads.3 ∙ i.ticking;
       shut = one_shut g.D.Write.Sink.written g.D.Write.Writer.was_shut c.loop-p.p c.loop-p.self.writers.items c.shut.new.self.writers.items c.shut.ensures.shut i.shut;
       written = c.shut.ensures.written ∙ i.written;
       faults = c.shut.ensures.faults ∙ i.faults;

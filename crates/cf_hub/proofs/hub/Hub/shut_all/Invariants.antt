@@ -12,6 +12,7 @@ invariant-loop-p g l = record {
   done : l.self.done ≡ l.initial.self.done;
   rested : l.self.rested ≡ l.initial.self.rested;
   joined : l.self.joined ≡ l.initial.self.joined;
+  ticking : l.self.ticking ≡ l.initial.self.ticking;
   shut : FirstShut g.D.Write.Writer.was_shut l.p l.self.writers.items;
   written : texts g.D.Write.Sink.written l.self.writers.items ≡ texts g.D.Write.Sink.written l.initial.self.writers.items;
   faults : faults_in g.D.Write.Sink.faults l.self.writers.items ≡ faults_in g.D.Write.Sink.faults l.initial.self.writers.items;

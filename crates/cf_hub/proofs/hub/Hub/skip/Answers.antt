@@ -1,6 +1,6 @@
 use Rattle.std.proofs.Common.{arith, ◌≡◌, ◌≤◌, ◌+◌, ◌∙◌, ◌++◌, ◌∷◌, [], sym, ap, refl, vec_len, vec_capacity, length}
 use Rattle.crossbeam_channel.specs.Claims.{view}
-use Rattle.cf_peer.specs.Log.{Told}
+use Rattle.cf_wires.specs.Log.{Told}
 use Rattle.cf_hub.specs.Book.{told_of}
 use Rattle.cf_hub.specs.Gives.{given_of}
 use Rattle.cf_hub.proofs.Takes.{same_log, same_heard, same_within, same_front, missed_log, moved_fronts}
@@ -25,6 +25,7 @@ invariant_of-self g c =
       numbers = (let h : vec_len c.pop.new.self + c.note_not_dialled.new.self.dials ≡ 8 = omega (arith, pl, dn, c.args.self.now.numbers) in h);
       one = λ k d l. let h = c.args.self.now.one k d l in (h.0 ∙ sym c.take.ensures.ring, h.1);
       room = c.args.self.now.room;
+      few = (let h : vec_len c.args.self.now.reading ≤ c.note_not_dialled.new.self.dials = omega (arith, dn, c.args.self.now.few) in h);
       places = (let h : vec_len c.push_reserved.new.self ≡ c.note_not_dialled.new.self.dials + 1 = omega (arith, dn, c.push_reserved.ensures.len, c.args.self.now.places) in h);
       holds = (let h : 9 ≤ vec_capacity c.push_reserved.new.self = omega (arith, c.push_reserved.ensures.capacity, c.args.self.now.holds) in h);
       heard = same_heard _ _ _ gs c.args.self.now.heard;
@@ -33,6 +34,8 @@ invariant_of-self g c =
       counts = λ r. tn ∙ c.args.self.now.counts (sym fn ∙ r) ∙ ap (λ l. length (given_of l)) (sym gs);
       undone = c.args.self.now.undone;
       unrested = c.args.self.now.unrested;
+      runs = c.args.self.now.runs;
+      owed = c.args.self.now.owed;
       stopped = λ j. fn ∙ c.args.self.now.stopped j;
       over = λ j. ended_same _ _ _ _ refl gs (ended_none _ _ _ c.push_reserved.ensures.items (c.args.self.now.over j));
       fronts = moved_fronts _ _ _ gs c.args.self.now.fronts;

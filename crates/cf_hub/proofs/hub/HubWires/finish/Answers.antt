@@ -1,6 +1,6 @@
-use Rattle.std.proofs.Common.{arith, ◌≡◌, ◌+◌, ◌∙◌, sym, ap, refl, true, true≢false, vec_len}
+use Rattle.std.proofs.Common.{arith, ◌≡◌, ◌≤◌, ◌+◌, ◌∙◌, sym, ap, refl, true, true≢false, vec_len}
 use Rattle.crossbeam_channel.specs.Claims.{view}
-use Rattle.cf_peer.specs.Log.{Told}
+use Rattle.cf_wires.specs.Log.{Told}
 use Rattle.cf_hub.specs.Book.{told_of}
 use Rattle.cf_hub.proofs.Takes.{finished_log, same_within}
 use Rattle.cf_hub.proofs.Opened.{still_shut}
@@ -18,6 +18,7 @@ invariant_of-self g c =
       numbers = (let h : vec_len c.args.self.now.spare + c.note_finished.new.self.dials ≡ 8 = omega (arith, dn, c.args.self.now.numbers) in h);
       one = c.args.self.now.one;
       room = c.args.self.now.room;
+      few = (let h : vec_len c.args.self.now.reading ≤ c.note_finished.new.self.dials = omega (arith, dn, c.args.self.now.few) in h);
       places = (let h : vec_len c.args.self.now.writers ≡ c.note_finished.new.self.dials + 1 = omega (arith, dn, c.args.self.now.places) in h);
       holds = c.args.self.now.holds;
       heard = c.args.self.now.heard;
@@ -26,6 +27,8 @@ invariant_of-self g c =
       counts = λ r. absurd (true≢false (sym fn ∙ r));
       undone = c.args.self.now.undone;
       unrested = c.args.self.now.unrested;
+      runs = c.args.self.now.runs;
+      owed = c.args.self.now.owed;
       stopped = λ _. fn;
       over = c.args.self.now.over;
       fronts = c.args.self.now.fronts;

@@ -12,5 +12,6 @@ invariant-loop g l = record {
   readers : l.self.readers ≡ l.initial.self.readers;
   tickers : l.self.tickers ≡ l.initial.self.tickers;
   clock : l.self.clock ≡ l.initial.self.clock;
+  ticking : l.self.ticking ≡ l.initial.self.ticking;
   given : given_of (view l.self.queue.seat).got ≡ given_of (view l.initial.self.queue.seat).got;
 }

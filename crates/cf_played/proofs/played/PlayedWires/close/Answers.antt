@@ -1,6 +1,6 @@
 use Rattle.std.proofs.Common.{refl, sym, ◌∙◌, ap, List, Bool, true, false}
 use Rattle.std.specs.Prelude.{slice_index_or, slice_set}
-use Rattle.cf_peer.specs.Log.{Tally}
+use Rattle.cf_wires.specs.Log.{Tally}
 use Rattle.cf_played.proofs.Notes.{stays_on, tally_on, turn_on}
 use Rattle.cf_played.proofs.Accounts.{closed_so}
 use Rattle.cf_played.proofs.played.PlayedWires.close.Goals as goal

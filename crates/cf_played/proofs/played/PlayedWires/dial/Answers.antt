@@ -1,5 +1,5 @@
 use Rattle.std.proofs.Common.{refl, ◌∙◌, ap}
-use Rattle.cf_peer.specs.Log.{Tally}
+use Rattle.cf_wires.specs.Log.{Tally}
 use Rattle.cf_played.proofs.Notes.{stays_kept, stays_on, tally_kept, tally_on, turn_kept, turn_on}
 use Rattle.cf_played.proofs.Accounts.{dialled_so, kept_so}
 use Rattle.cf_played.proofs.played.PlayedWires.dial.Goals as goal

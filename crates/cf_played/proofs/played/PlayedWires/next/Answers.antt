@@ -1,10 +1,10 @@
 use Rattle.std.proofs.Common.{refl, sym, Some, ◌∙◌, ap, subst, ℕ, List, [], ◌∷◌, ◌++◌, ◌+◌, length, arith}
 use Rattle.std.specs.Prelude.{map, reverse}
-use Rattle.cf_peer.specs.Log.{Tally}
+use Rattle.cf_wires.specs.Log.{Tally}
 use Rattle.cf_played.proofs.Notes.{stays_kept, stays_on, tally_kept, tally_on, turn_kept, turn_on}
 use Rattle.cf_played.specs.declared.player.Player.{Player}
-use Rattle.cf_peer.specs.declared.event.Delivery.TheVariants.{Got}
-use Rattle.cf_peer.specs.declared.event.Event.TheVariants.{Took}
+use Rattle.cf_wires.specs.declared.event.Delivery.TheVariants.{Got}
+use Rattle.cf_wires.specs.declared.event.Event.TheVariants.{Took}
 use Rattle.cf_played.specs.Peers.{made_of, shown}
 use Rattle.cf_played.specs.Players.{AreAccounted, Gives}
 use Rattle.cf_played.specs.Turns.{HasGiven, IsTurn, Rest}

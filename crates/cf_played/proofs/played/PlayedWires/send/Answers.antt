@@ -1,7 +1,7 @@
 use Rattle.std.proofs.Common.{refl, sym, ◌∙◌, ap, subst, ℕ, List, [], ◌∷◌, ◌++◌}
 use Rattle.std.specs.Prelude.{map, reverse}
-use Rattle.cf_peer.specs.declared.event.Event.TheVariants.{Sent}
-use Rattle.cf_peer.specs.Log.{Tally}
+use Rattle.cf_wires.specs.declared.event.Event.TheVariants.{Sent}
+use Rattle.cf_wires.specs.Log.{Tally}
 use Rattle.cf_peer.specs.Trail.{spelled}
 use Rattle.cf_played.specs.declared.player.Player.{Player}
 use Rattle.cf_played.specs.Peers.{HasMore, made_of, shown}

@@ -14,4 +14,6 @@ invariant_of-self-in-Some g c =
       counted = (let n = now.counted in let m = e.cases in omega (arith, n, m));
       few = (let n = now.few in omega (arith, n));
       room = now.room;
+      place = now.place;
+      silent = now.silent;
     }

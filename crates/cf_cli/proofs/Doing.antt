@@ -1,0 +1,108 @@
+-- What a command does, told of its words, and where no memory is found for them.
+use Rattle.std.proofs.Common.{◌≡◌, inl, ℕ, ℤ, Bool, true, false, List, [], length, Option, Some, None, Result, Ok, Err, refl, subst}
+use Rattle.std.specs.Prelude.{is_some, nat_lt, IfSome}
+use Rattle.std.specs.FinMap as finite
+use Rattle.cf_bytes.specs.Files.{Named}
+use Rattle.cf_bytes.specs.declared.hash.Hash32.{Hash32}
+use Rattle.cf_block.specs.declared.tx.Block.{Block}
+use Rattle.cf_chain.specs.Filters.{Filtered, filter_at}
+use Rattle.cf_index.specs.declared.cause.BadBlock.{BadBlock}
+use Rattle.cf_index.specs.Files.{blocks_at}
+use Rattle.cf_input.specs.declared.proof_file.ProofFileFault.{ProofFileFault}
+use Rattle.cf_input.specs.declared.proof_file.Proven.{Proven}
+use Rattle.cf_input.specs.declared.watch_file.WatchFileFault.{WatchFileFault}
+use Rattle.cf_input.specs.declared.words.Command.{Command}
+use Rattle.cf_input.specs.declared.words.Command.TheVariants.{Replay, Sync, Scan, Filter, Address, Prove, Check, Serve, Make, Demo}
+use Rattle.cf_input.specs.ProofFile.{proof_file_of}
+use Rattle.cf_input.specs.WatchFile.{watch_of}
+use Rattle.cf_wires.specs.Log.{Tells}
+use Rattle.cf_cli.specs.declared.status.Status.{Status}
+use Rattle.cf_cli.specs.declared.status.Status.TheVariants.{NoMemory}
+use Rattle.cf_cli.specs.Doing.{Around, Does}
+use Rattle.cf_cli.specs.Proving.{Checks, Proves, TakesWhatIsProved}
+use Rattle.cf_cli.specs.Reading.{Filters, Scans, TellsFilter, TellsHeight}
+use Rattle.cf_cli.proofs.Plays.{early_plays, early_replayed, early_tallied, early_told, new_dialled, same_command}
+
+-- the same of the words, and of the same moment
+pub does_so : (found : Option Command) (c : Command) (status : Status) (z y : ℤ) (nonce : ℕ) (before after : Around) → found ≡ Some c → z ≡ y → Does c status z nonce before after
+    → (x : Command) → found ≡ Some x → Does x status y nonce before after
+does_so found c status z y nonce before after is same did x asked =
+    subst (λ (k : Command). Does k status y nonce before after) (same_command found c x is asked) (subst (λ (m : ℤ). Does c status m nonce before after) same did)
+
+-- ---- nothing was done
+
+no_scan : (b : Option (List ℕ)) (scripts : Result (List (List ℕ)) WatchFileFault) (blocks : Result (List Block) BadBlock) → Scans NoMemory b b scripts blocks
+no_scan b (Ok scripts) (Ok blocks) = refl
+no_scan b (Ok scripts) (Err bad) = refl
+no_scan b (Err fault) blocks = refl
+
+no_lines : (b : Option (List ℕ)) (filtered : Option Filtered) → TellsFilter NoMemory b b filtered
+no_lines b None = refl
+no_lines b (Some filtered) = refl
+
+no_height : (b : Option (List ℕ)) (blocks : List Block) (height : ℕ) (above : Bool) → TellsHeight NoMemory b b blocks height above
+no_height b blocks height true = refl
+no_height b blocks height false = no_lines b (filter_at blocks height)
+
+no_filter : (b : Option (List ℕ)) (height : ℕ) (blocks : Result (List Block) BadBlock) → Filters NoMemory b b height blocks
+no_filter b height (Ok blocks) = no_height b blocks height (nat_lt (length blocks) height)
+no_filter b height (Err bad) = refl
+
+no_proof : (b : Option (List ℕ)) (txid : Hash32) (blocks : Result (List Block) BadBlock) → Proves NoMemory txid blocks b b
+no_proof b txid (Ok blocks) = refl
+no_proof b txid (Err bad) = refl
+
+no_check : (b : Option (List ℕ)) (proven : Result Proven ProofFileFault) → Checks NoMemory proven b b
+no_check b (Ok proven) = refl
+no_check b (Err fault) = refl
+
+-- what holds of any bytes holds of those that stand under a name
+under : (o : Option Named) (name : List ℕ) {P : List ℕ → Type 0} → ((bytes : List ℕ) → P bytes) → IfSome o (λ m. IfSome (finite.get m name) P)
+under None name h = tt
+under (Some m) name {P} h = held (finite.get m name) where
+  held : (o : Option (List ℕ)) → IfSome o P
+  held None = tt
+  held (Some bytes) = h bytes
+
+under_both : (o : Option Named) (one two : List ℕ) {P : List ℕ → List ℕ → Type 0} → ((a b : List ℕ) → P a b)
+    → IfSome o (λ m. IfSome (finite.get m one) (λ a. IfSome (finite.get m two) (P a)))
+under_both None one two h = tt
+under_both (Some m) one two {P} h = held (finite.get m one) (finite.get m two) where
+  held : (a b : Option (List ℕ)) → IfSome a (λ x. IfSome b (P x))
+  held None b = tt
+  held (Some a) None = tt
+  held (Some a) (Some b) = h a b
+
+-- where no memory is found for the words nothing has changed, and all that is promised of each command holds
+pub undone : (c : Command) (moment : ℤ) (nonce : ℕ) (a : Around) → Tells [] a.wires → Tells [] a.tape → a.taped ≡ [] → Does c NoMemory moment nonce a a
+undone (Replay trace watch session) moment nonce a wires tape log = record {
+  replayed = early_replayed NoMemory _ trace a.files watch a.written a.tape a.taped tt tape log;
+  plays = early_plays a.files session NoMemory a.taped tt log;
+}
+undone (Sync turns workers file watch peers) moment nonce a wires tape log = record {
+  kept = early_told a.wires NoMemory (is_some file) false a.files watch peers a.written tt wires;
+  tallied = early_tallied NoMemory turns (length peers) a.wires tt wires;
+  dialled = new_dialled peers a.wires wires;
+  records = refl;
+}
+undone (Scan file watch) moment nonce a wires tape log = record {
+  answers = refl;
+  told = under_both a.files watch file (λ w b. no_scan a.written (watch_of w) (blocks_at b));
+}
+undone (Filter file height) moment nonce a wires tape log = record {
+  answers = refl;
+  told = under a.files file (λ b. no_filter a.written height (blocks_at b));
+}
+undone (Address text) moment nonce a wires tape log = refl
+undone (Prove file txid) moment nonce a wires tape log = record {
+  answers = refl;
+  told = under a.files file (λ b. no_proof a.written txid (blocks_at b));
+}
+undone (Check file) moment nonce a wires tape log = record {
+  answers = refl;
+  told = under a.files file (λ b. no_check a.written (proof_file_of b));
+  takes = under a.files file {P = λ b. TakesWhatIsProved NoMemory b a.written a.written} (λ b txid blocks good made. refl);
+}
+undone (Serve count file address) moment nonce a wires tape log = (inl refl, refl)
+undone (Make seed blocks file) moment nonce a wires tape log = (refl, refl)
+undone (Demo seed blocks) moment nonce a wires tape log = refl

@@ -1,0 +1,6 @@
+//! What a call of the program goes over.
+#![tactic(auto)]
+
+mod edge;
+
+pub use edge::Edge;

@@ -1,0 +1,64 @@
+//! The call that follows.
+use crate::link::ToldLink;
+use crate::port::port;
+use crate::row::{shown, watch_in, words_at};
+use cf_bytes::{MapFiles, VecSink};
+use cf_cli::run;
+use cf_edge::Edge;
+use cf_tasks::{InThreads, Spawner};
+use std::sync::Wait;
+use std::thread::Threads;
+
+// The most peers that a call names.
+const PEERS: usize = 8;
+
+// How a call ends that goes over TCP, and what it writes.
+fn followed<R: Wait + Threads + Sync + Copy + Drop + Send + 'static, K: Spawner>(
+    rt: HostRuntime,
+    handle: R,
+    words: &[String],
+    files: &mut MapFiles,
+    spawner: &mut K,
+) -> Option<String> {
+    let alloc = rt.alloc();
+    let mut link = ToldLink::new(rt, port(alloc)?);
+    let mut out = VecSink::new(alloc, 7, 1000).ok()?;
+    let Ok(mut edge) = Edge::new(&rt, handle, spawner, PEERS) else {
+        return None;
+    };
+    let status = run(
+        handle,
+        alloc,
+        words,
+        0,
+        0,
+        files,
+        &mut edge.network,
+        &mut edge.tape,
+        &mut edge.played,
+        &mut link,
+        spawner,
+        &mut out,
+    );
+    shown(alloc, &status, out.bytes())
+}
+
+/// How calls end that dial this port, one after another, and what each writes. They are parted by `;`, and the files that one writes are there for the next.
+pub(crate) fn follow<R: Wait + Threads + Sync + Copy + Drop + Send + 'static>(
+    rt: HostRuntime,
+    handle: R,
+    calls: &str,
+    watch: &str,
+    port: u32,
+) -> Option<String> {
+    let alloc = rt.alloc();
+    let mut files = watch_in(alloc, watch)?;
+    let mut spawner = InThreads::new(handle);
+    let mut text = String::new(alloc);
+    for call in calls.split(';') {
+        let words = words_at(alloc, call, port)?;
+        text.push_str(&followed(rt, handle, &words, &mut files, &mut spawner)?)
+            .ok()?;
+    }
+    Some(text)
+}

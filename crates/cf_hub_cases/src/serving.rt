@@ -1,0 +1,57 @@
+//! The call that serves.
+use crate::link::ToldLink;
+use crate::port::Port;
+use crate::row::{chain_in, shown, words_at};
+use cf_bytes::VecSink;
+use cf_cli::run;
+use cf_played::Played;
+use cf_tasks::InThreads;
+use cf_wires::MemoryWires;
+use std::sync::Wait;
+use std::thread::Threads;
+
+// How the call ends, and what it writes. The port is told once it listens.
+fn served<R: Wait + Threads + Sync + Copy + Drop + Send + 'static>(
+    rt: HostRuntime,
+    handle: R,
+    call: &str,
+    blocks: &str,
+    port: Port,
+) -> Option<String> {
+    let alloc = rt.alloc();
+    let words = words_at(alloc, call, 0)?;
+    let mut files = chain_in(alloc, blocks)?;
+    let mut wires = MemoryWires::new(alloc).ok()?;
+    let mut tape = MemoryWires::new(alloc).ok()?;
+    let mut played = Played::new(alloc).ok()?;
+    let mut out = VecSink::new(alloc, 7, 1000).ok()?;
+    let status = run(
+        handle,
+        alloc,
+        &words,
+        0,
+        0,
+        &mut files,
+        &mut wires,
+        &mut tape,
+        &mut played,
+        &mut ToldLink::new(rt, port),
+        &mut InThreads::new(handle),
+        &mut out,
+    );
+    shown(alloc, &status, out.bytes())
+}
+
+/// Whether the call, at any port, ends with `Done` and writes nothing. The port is told once it listens.
+pub(crate) fn serve<R: Wait + Threads + Sync + Copy + Drop + Send + 'static>(
+    rt: HostRuntime,
+    handle: R,
+    call: String,
+    blocks: String,
+    port: Port,
+) -> bool {
+    match served(rt, handle, call.as_str(), blocks.as_str(), port) {
+        Some(text) => text.as_str() == "0 Done\n",
+        None => false,
+    }
+}

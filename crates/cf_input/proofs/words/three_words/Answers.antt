@@ -1,0 +1,10 @@
+use Rattle.clap.specs.Words.{new_rule}
+use Rattle.cf_input.specs.Words.{needed, two_app}
+use Rattle.cf_input.proofs.words.three_words.Goals as goal
+
+pub returns-clause-app : goal.returns-clause-app
+returns-clause-app c =
+    c.with_arg.ensures.app (two_app c.args.name.now c.args.one.now c.args.two.now) (needed (new_rule c.args.three.now)) c.two_words-command.ensures.app c.word_arg.ensures.0
+
+pub returns-clause-globals : goal.returns-clause-globals
+returns-clause-globals c = c.with_arg.ensures.globals

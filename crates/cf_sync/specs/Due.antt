@@ -1,0 +1,49 @@
+-- What is to be asked next, by all that a log holds.
+use Rattle.std.specs.Prelude.{◌≡◌, ℕ, true, List, [], ◌∷◌}
+use Rattle.cf_dispute.specs.Claims.{Tables}
+use Rattle.cf_headers.specs.Chain.{Chain}
+use Rattle.cf_headers.specs.Heights.{common_of}
+use Rattle.cf_match.specs.Verdicts.{Verdicts}
+use Rattle.cf_msg.specs.declared.msg.Msg.{Msg}
+use Rattle.cf_msg.specs.declared.msg.Msg.TheVariants.{GetData, GetCfheaders, GetCfilters}
+use Rattle.cf_peer.specs.Asking.{block_entry}
+use Rattle.cf_wires.specs.Log.{Log}
+use Rattle.cf_peer.specs.Trail.{trail, own, heard}
+use Rattle.cf_sync.specs.Fetching.{IsBest, IsNeeded, HoldsFetched}
+use Rattle.cf_sync.specs.Kept.{HoldsClaims, HoldsGiven}
+use Rattle.cf_tracker.specs.declared.spans.Wish.{Wish}
+use Rattle.cf_tracker.specs.declared.spans.Wish.TheVariants.{Claims, Filters, Block}
+use Rattle.cf_tracker.specs.Spans.{IsWish, GoesFar}
+use Rattle.cf_tracker.specs.Tables.{Table}
+
+-- a message puts a question
+abbrev pub Puts : Wish → Msg → Type 0
+Puts (Claims span) (GetCfheaders filter start stop) = (start ≡ span.start) × (stop ≡ span.stop)
+Puts (Filters span) (GetCfilters filter start stop) = (start ≡ span.start) × (stop ≡ span.stop)
+Puts (Block hash) (GetData entries) = entries ≡ block_entry hash ∷ []
+Puts wish m = ⊥
+
+-- It is p's turn to be asked this. It was heard out; and of the blocks that its own chain shares with the best one, by what was fetched, claimed and given, the
+-- question is for the claims from the lowest that it doesn't claim; where it claims all, for the filters from the lowest that isn't judged; and where there is none of
+-- these, for the lowest block that is to be fetched. It goes as far as it may.
+pub record IsInTurn (watch : List (List ℕ)) (log : Log) (p : ℕ) (m : Msg) : Type 0 where
+  pub heard_out : heard (trail log p) ≡ true
+  pub chain : Chain
+  pub best : IsBest log chain
+  pub extracts : Table
+  pub tables : Tables
+  pub verdicts : Verdicts
+  pub fetched : HoldsFetched watch log extracts
+  pub claimed : HoldsClaims log tables
+  pub given : HoldsGiven watch log verdicts
+  pub wish : Wish
+  pub wished : IsWish extracts tables verdicts p (own (trail log p)) (common_of (own (trail log p)) chain) true wish
+  pub far : GoesFar extracts tables verdicts p (own (trail log p)) (common_of (own (trail log p)) chain) wish
+  pub puts : Puts wish m
+
+-- what a client is to ask for that stands for this log, and when: each question about blocks in its turn
+abbrev pub IsCalledFor : List (List ℕ) → Log → ℕ → Msg → Type 0
+IsCalledFor watch log p (GetCfheaders filter start stop) = IsInTurn watch log p (GetCfheaders filter start stop)
+IsCalledFor watch log p (GetCfilters filter start stop) = IsNeeded watch log p (GetCfilters filter start stop) × IsInTurn watch log p (GetCfilters filter start stop)
+IsCalledFor watch log p (GetData entries) = IsNeeded watch log p (GetData entries) × IsInTurn watch log p (GetData entries)
+IsCalledFor watch log p m = Unit {0}

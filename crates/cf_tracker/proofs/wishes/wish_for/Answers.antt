@@ -1,0 +1,175 @@
+use Rattle.std.proofs.Common.{subst, arith}
+use Rattle.cf_dispute.specs.Of.{tables_of}
+use Rattle.cf_headers.specs.Store.{own_of}
+use Rattle.cf_tracker.specs.declared.want.Want.TheVariants.{Claims, Filters, Block}
+use Rattle.cf_tracker.specs.Extracts.{table_in}
+use Rattle.cf_tracker.specs.Judged.{verdicts_in}
+use Rattle.cf_tracker.specs.Wants.{IsWant}
+use Rattle.cf_tracker.proofs.Stops.{apart_claims, apart_filters, far_claims, far_filters, wish_claims, wish_filters}
+use Rattle.cf_tracker.proofs.wishes.wish_for.Goals as goal
+
+pub claims_end-end-requires-clause-low : goal.claims_end-end-requires-clause-low
+claims_end-end-requires-clause-low g c =
+    let own = own_of (g.H.HeaderStore.chain c.args.store.now) c.args.p in
+    let extracts = table_in c.args.extracts.now in
+    let tables = tables_of c.args.claims.now in
+    let verdicts = verdicts_in c.args.judged.now in
+    let spare = c.requires.wanted.0 in
+    let want : IsWant extracts tables verdicts c.args.p.0 own c.args.common spare (Claims c.in-Claims.start) = subst (IsWant extracts tables verdicts c.args.p.0 own c.args.common spare) c.in-Claims.is c.requires.wanted.1 in
+    want.1
+
+pub claims_end-end-requires-clause-above : goal.claims_end-end-requires-clause-above
+claims_end-end-requires-clause-above g c =
+    let own = own_of (g.H.HeaderStore.chain c.args.store.now) c.args.p in
+    let extracts = table_in c.args.extracts.now in
+    let tables = tables_of c.args.claims.now in
+    let verdicts = verdicts_in c.args.judged.now in
+    let spare = c.requires.wanted.0 in
+    let want : IsWant extracts tables verdicts c.args.p.0 own c.args.common spare (Claims c.in-Claims.start) = subst (IsWant extracts tables verdicts c.args.p.0 own c.args.common spare) c.in-Claims.is c.requires.wanted.1 in
+    want.3
+
+pub claims_end-end-requires-clause-new : goal.claims_end-end-requires-clause-new
+claims_end-end-requires-clause-new g c =
+    let own = own_of (g.H.HeaderStore.chain c.args.store.now) c.args.p in
+    let extracts = table_in c.args.extracts.now in
+    let tables = tables_of c.args.claims.now in
+    let verdicts = verdicts_in c.args.judged.now in
+    let spare = c.requires.wanted.0 in
+    let want : IsWant extracts tables verdicts c.args.p.0 own c.args.common spare (Claims c.in-Claims.start) = subst (IsWant extracts tables verdicts c.args.p.0 own c.args.common spare) c.in-Claims.is c.requires.wanted.1 in
+    want.4
+
+pub span_of-requires-clause-up : goal.span_of-requires-clause-up
+span_of-requires-clause-up g c =
+    let own = own_of (g.H.HeaderStore.chain c.args.store.now) c.args.p in
+    let extracts = table_in c.args.extracts.now in
+    let tables = tables_of c.args.claims.now in
+    let verdicts = verdicts_in c.args.judged.now in
+    let spare = c.requires.wanted.0 in
+    let want : IsWant extracts tables verdicts c.args.p.0 own c.args.common spare (Claims c.in-Claims.start) = subst (IsWant extracts tables verdicts c.args.p.0 own c.args.common spare) c.in-Claims.is c.requires.wanted.1 in
+    want.0
+
+pub span_of-requires-clause-apart : goal.span_of-requires-clause-apart
+span_of-requires-clause-apart g c =
+    let own = own_of (g.H.HeaderStore.chain c.args.store.now) c.args.p in
+    let extracts = table_in c.args.extracts.now in
+    let tables = tables_of c.args.claims.now in
+    let verdicts = verdicts_in c.args.judged.now in
+    let spare = c.requires.wanted.0 in
+    let want : IsWant extracts tables verdicts c.args.p.0 own c.args.common spare (Claims c.in-Claims.start) = subst (IsWant extracts tables verdicts c.args.p.0 own c.args.common spare) c.in-Claims.is c.requires.wanted.1 in
+    let last = c.claims_end-end.ensures.new c.claims_end-end.result c.claims_end-end.ensures.up (omega arith) in
+    apart_claims tables c.args.p.0 own c.in-Claims.start c.claims_end-end.result want.2 last.0 last.1
+
+pub filters_end-end-requires-clause-low : goal.filters_end-end-requires-clause-low
+filters_end-end-requires-clause-low g c =
+    let own = own_of (g.H.HeaderStore.chain c.args.store.now) c.args.p in
+    let extracts = table_in c.args.extracts.now in
+    let tables = tables_of c.args.claims.now in
+    let verdicts = verdicts_in c.args.judged.now in
+    let spare = c.requires.wanted.0 in
+    let want : IsWant extracts tables verdicts c.args.p.0 own c.args.common spare (Filters c.in-Filters.start) = subst (IsWant extracts tables verdicts c.args.p.0 own c.args.common spare) c.in-Filters.is c.requires.wanted.1 in
+    want.3
+
+pub filters_end-end-requires-clause-above : goal.filters_end-end-requires-clause-above
+filters_end-end-requires-clause-above g c =
+    let own = own_of (g.H.HeaderStore.chain c.args.store.now) c.args.p in
+    let extracts = table_in c.args.extracts.now in
+    let tables = tables_of c.args.claims.now in
+    let verdicts = verdicts_in c.args.judged.now in
+    let spare = c.requires.wanted.0 in
+    let want : IsWant extracts tables verdicts c.args.p.0 own c.args.common spare (Filters c.in-Filters.start) = subst (IsWant extracts tables verdicts c.args.p.0 own c.args.common spare) c.in-Filters.is c.requires.wanted.1 in
+    want.5
+
+pub filters_end-end-requires-clause-unjudged : goal.filters_end-end-requires-clause-unjudged
+filters_end-end-requires-clause-unjudged g c =
+    let own = own_of (g.H.HeaderStore.chain c.args.store.now) c.args.p in
+    let extracts = table_in c.args.extracts.now in
+    let tables = tables_of c.args.claims.now in
+    let verdicts = verdicts_in c.args.judged.now in
+    let spare = c.requires.wanted.0 in
+    let want : IsWant extracts tables verdicts c.args.p.0 own c.args.common spare (Filters c.in-Filters.start) = subst (IsWant extracts tables verdicts c.args.p.0 own c.args.common spare) c.in-Filters.is c.requires.wanted.1 in
+    want.6
+
+pub span_of-requires-in-Filters-clause-up : goal.span_of-requires-in-Filters-clause-up
+span_of-requires-in-Filters-clause-up g c =
+    let own = own_of (g.H.HeaderStore.chain c.args.store.now) c.args.p in
+    let extracts = table_in c.args.extracts.now in
+    let tables = tables_of c.args.claims.now in
+    let verdicts = verdicts_in c.args.judged.now in
+    let spare = c.requires.wanted.0 in
+    let want : IsWant extracts tables verdicts c.args.p.0 own c.args.common spare (Filters c.in-Filters.start) = subst (IsWant extracts tables verdicts c.args.p.0 own c.args.common spare) c.in-Filters.is c.requires.wanted.1 in
+    want.2
+
+pub span_of-requires-in-Filters-clause-apart : goal.span_of-requires-in-Filters-clause-apart
+span_of-requires-in-Filters-clause-apart g c =
+    let own = own_of (g.H.HeaderStore.chain c.args.store.now) c.args.p in
+    let extracts = table_in c.args.extracts.now in
+    let tables = tables_of c.args.claims.now in
+    let verdicts = verdicts_in c.args.judged.now in
+    let spare = c.requires.wanted.0 in
+    let want : IsWant extracts tables verdicts c.args.p.0 own c.args.common spare (Filters c.in-Filters.start) = subst (IsWant extracts tables verdicts c.args.p.0 own c.args.common spare) c.in-Filters.is c.requires.wanted.1 in
+    let last = c.filters_end-end.ensures.un c.filters_end-end.result c.filters_end-end.ensures.up (omega arith) in
+    apart_filters extracts tables verdicts c.args.p.0 own c.in-Filters.start c.filters_end-end.result want.4 last.0 last.1
+
+pub hash_at-requires-clause-within : goal.hash_at-requires-clause-within
+hash_at-requires-clause-within g c =
+    let own = own_of (g.H.HeaderStore.chain c.args.store.now) c.args.p in
+    let extracts = table_in c.args.extracts.now in
+    let tables = tables_of c.args.claims.now in
+    let verdicts = verdicts_in c.args.judged.now in
+    let spare = c.requires.wanted.0 in
+    let want : IsWant extracts tables verdicts c.args.p.0 own c.args.common spare (Block c.in-Block.height) = subst (IsWant extracts tables verdicts c.args.p.0 own c.args.common spare) c.in-Block.is c.requires.wanted.1 in
+    omega (arith, c.requires.within, want.3)
+
+pub returns-in-Nothing-clause-wish : goal.returns-in-Nothing-clause-wish
+returns-in-Nothing-clause-wish g c = λ spare want.
+    let own = own_of (g.H.HeaderStore.chain c.args.store.now) c.args.p in
+    let extracts = table_in c.args.extracts.now in
+    let tables = tables_of c.args.claims.now in
+    let verdicts = verdicts_in c.args.judged.now in
+    subst (IsWant extracts tables verdicts c.args.p.0 own c.args.common spare) c.in-Nothing.is want
+
+pub returns-in_ok-span-in-Claims-clause-wish : goal.returns-in_ok-span-in-Claims-clause-wish
+returns-in_ok-span-in-Claims-clause-wish g c = λ spare want.
+    let own = own_of (g.H.HeaderStore.chain c.args.store.now) c.args.p in
+    let extracts = table_in c.args.extracts.now in
+    let tables = tables_of c.args.claims.now in
+    let verdicts = verdicts_in c.args.judged.now in
+    let e = c.claims_end-end.ensures in
+    wish_claims extracts tables verdicts c.args.p.0 own c.args.common spare c.in-Claims.start c.claims_end-end.result c.in_ok-span-in-Claims.span (subst (IsWant extracts tables verdicts c.args.p.0 own c.args.common spare) c.in-Claims.is want)
+    c.in_ok-span-in-Claims.ensures e.low e.few e.new
+
+pub returns-in_ok-span-in-Filters-clause-wish : goal.returns-in_ok-span-in-Filters-clause-wish
+returns-in_ok-span-in-Filters-clause-wish g c = λ spare want.
+    let own = own_of (g.H.HeaderStore.chain c.args.store.now) c.args.p in
+    let extracts = table_in c.args.extracts.now in
+    let tables = tables_of c.args.claims.now in
+    let verdicts = verdicts_in c.args.judged.now in
+    let e = c.filters_end-end.ensures in
+    wish_filters extracts tables verdicts c.args.p.0 own c.args.common spare c.in-Filters.start c.filters_end-end.result c.in_ok-span-in-Filters.span (subst (IsWant extracts tables verdicts c.args.p.0 own c.args.common spare) c.in-Filters.is want)
+    c.in_ok-span-in-Filters.ensures e.low e.few e.un
+
+pub returns-in-Block-clause-wish : goal.returns-in-Block-clause-wish
+returns-in-Block-clause-wish g c = λ spare want.
+    let own = own_of (g.H.HeaderStore.chain c.args.store.now) c.args.p in
+    let extracts = table_in c.args.extracts.now in
+    let tables = tables_of c.args.claims.now in
+    let verdicts = verdicts_in c.args.judged.now in
+    (c.in-Block.height, (subst (IsWant extracts tables verdicts c.args.p.0 own c.args.common spare) c.in-Block.is want, c.hash_at.ensures))
+
+pub returns-in_ok-span-in-Claims-clause-far : goal.returns-in_ok-span-in-Claims-clause-far
+returns-in_ok-span-in-Claims-clause-far g c =
+    let own = own_of (g.H.HeaderStore.chain c.args.store.now) c.args.p in
+    let extracts = table_in c.args.extracts.now in
+    let tables = tables_of c.args.claims.now in
+    let verdicts = verdicts_in c.args.judged.now in
+    let e = c.claims_end-end.ensures in
+    far_claims extracts tables verdicts c.args.p.0 own c.args.common c.in-Claims.start c.claims_end-end.result c.in_ok-span-in-Claims.span c.in_ok-span-in-Claims.ensures e.new e.last
+
+pub returns-in_ok-span-in-Filters-clause-far : goal.returns-in_ok-span-in-Filters-clause-far
+returns-in_ok-span-in-Filters-clause-far g c =
+    let own = own_of (g.H.HeaderStore.chain c.args.store.now) c.args.p in
+    let extracts = table_in c.args.extracts.now in
+    let tables = tables_of c.args.claims.now in
+    let verdicts = verdicts_in c.args.judged.now in
+    let e = c.filters_end-end.ensures in
+    far_filters extracts tables verdicts c.args.p.0 own c.args.common c.in-Filters.start c.filters_end-end.result c.in_ok-span-in-Filters.span c.in_ok-span-in-Filters.ensures e.un e.last

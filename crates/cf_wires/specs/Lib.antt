@@ -1,0 +1,5 @@
+pub mod Log
+pub mod Wires
+pub mod Dials
+pub mod Memory
+pub mod Session
