@@ -1,5 +1,9 @@
 //! Matchers: they give verdicts on filters.
-ghost use Rattle.std.specs.Prelude.{◌≡◌, length, map, IfOk};
+ghost use Rattle.std.specs.Prelude.{◌≡◌, ℕ, List, Result, Vec, length, map, IfOk};
+ghost use Rattle.std.specs.Global.{Global};
+ghost use Rattle.cf_bytes.specs.declared.memory.NoMemory.{NoMemory};
+ghost use Rattle.cf_match.specs.declared.job.Job.{Job};
+ghost use Rattle.cf_match.specs.declared.job.Verdict.{Verdict};
 ghost use Rattle.cf_match.specs.Verdicts.{verdict_of};
 
 use crate::job::{Job, Verdict};
@@ -10,10 +14,15 @@ use std::alloc::Global;
 
 /// Matches filters with the watched scripts.
 pub trait Matcher {
+    /// What one call of `run` answers, of filters and watched scripts, and what it leaves, where more of
+    /// that is known than the other clauses say.
+    ghost judges: { Self → List Job → List (List ℕ) → Result (Vec Verdict Global) NoMemory → Self → Type 0 };
+
     /// The verdict on each filter, in the order of the filters: `Miss` exactly where it is a Golomb code that has no watched script's value
     /// under its block's key, else `Hit`.
     fn run(&mut self, jobs: &[Job], watch: &Watch) -> Result<Vec<Verdict>, NoMemory>
-        ensures { IfOk result (λ verdicts. verdicts.items ≡ map (verdict_of watch.now) jobs.now) };
+        ensures verdicts { IfOk result (λ verdicts. verdicts.items ≡ map (verdict_of watch.now) jobs.now) }
+        ensures exact { judges self.old jobs.now watch.now result self.new };
 }
 
 /// A matcher that takes one filter after the other.
@@ -43,6 +52,8 @@ impl Plain {
 }
 
 impl Matcher for Plain {
+    ghost judges = { λ before _ _ _ after. after ≡ before };
+
     fn run(&mut self, jobs: &[Job], watch: &Watch) -> Result<Vec<Verdict>, NoMemory> {
         let mut scratch = vec![in self.alloc; 0u64; watch.scripts().len()]?;
         let mut verdicts = Vec::with_capacity(self.alloc, jobs.len())?;
