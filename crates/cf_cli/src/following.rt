@@ -14,7 +14,7 @@ use crate::status::Status;
 use crate::texts::text_of;
 use cf_bytes::{Files, Refused, Sink, put_all};
 use cf_client::{End, PeerEnd, sync_over};
-use cf_headers::Lists;
+use cf_headers::Tree;
 use cf_input::Word;
 use cf_match::Matcher;
 use cf_scan::Watch;
@@ -68,7 +68,7 @@ pub(crate) fn follow<F: Files, W: Wires, M: Matcher + Drop, O: Sink>(
     ensures unwritten { has_run result ≡ false → O.written out.new ≡ O.written out.old }
     ensures begun { was_unbegun result (is_some log_file.now) ≡ false }
 {
-    let Ok(store) = Lists::new(alloc) else {
+    let Ok(store) = Tree::new(alloc) else {
         return Status::NoMemory;
     };
     keep_where(wires, log_file);

@@ -14,7 +14,7 @@ use crate::unplayed::Unplayed;
 use cf_block::Script;
 use cf_bytes::{Listed, NoMemory, Refused};
 use cf_client::Outcome;
-use cf_headers::Lists;
+use cf_headers::Tree;
 use cf_make::{Chain, chain, script};
 use cf_match::Matcher;
 use cf_played::{Kind, Played};
@@ -142,7 +142,7 @@ fn run<M: Matcher + Drop>(
     ensures finished { OnOk result (finished_of played.new ≡ true) }
     ensures keeps { keeps_of played.new ≡ keeps_of played.old }
 {
-    let store = Lists::new(alloc)?;
+    let store = Tree::new(alloc)?;
     sync_played(
         alloc,
         played,
