@@ -3,8 +3,8 @@ use Rattle.std.proofs.Common.{◌≡◌, ℕ, Bool, true, false, true≢false, L
 use Rattle.std.proofs.lemmas.List.{map-append}
 use Rattle.cf_wires.specs.Log.{Log, Tally, Told, Tells, deliveries}
 use Rattle.cf_line.specs.declared.entry.Entry.{Entry}
-use Rattle.cf_hub.specs.declared.entry.Kind.{Kind}
-use Rattle.cf_hub.specs.declared.reader.Reader.{Reader}
+use Rattle.cf_outside.specs.declared.entry.Kind.{Kind}
+use Rattle.cf_outside.specs.declared.reader.Reader.{Reader}
 use Rattle.cf_hub.specs.Finish.{begun}
 use Rattle.cf_hub.specs.Gives.{given_of, LogGives}
 

@@ -1,11 +1,11 @@
 -- What joining the readers adds up to.
 use Rattle.std.proofs.Common.{◌≡◌, ◌+◌, ◌<◌, ℕ, zero, suc, get_or, List, [], ◌∷◌, Option, Some, None, ◌++◌, All, map, length, sym, ap, ◌∙◌, subst, append_assoc, append-nil, arith}
 use Rattle.cf_line.specs.declared.entry.Entry.{Entry}
-use Rattle.cf_hub.specs.declared.entry.Kind.{Kind}
+use Rattle.cf_outside.specs.declared.entry.Kind.{Kind}
 use Rattle.cf_line.specs.declared.entry.Ended.{Ended}
 use Rattle.cf_line.specs.Queue.{of, Stays}
 use Rattle.cf_hub.specs.Gives.{IsFront}
-use Rattle.cf_hub.specs.declared.reader.Reader.{Reader}
+use Rattle.cf_outside.specs.declared.reader.Reader.{Reader}
 use Rattle.cf_hub.specs.Finish.{Read, Beat, end_of, whose, begun, Fronts}
 use Rattle.cf_line.proofs.Moves.{of_append}
 use Rattle.cf_hub.proofs.Gives.{start_front}

@@ -12,10 +12,10 @@ use Rattle.cf_wires.specs.Log.{Log, Told, deliveries, with_delivery, is_real, te
 use Rattle.cf_line.specs.declared.entry.Entry.{Entry}
 use Rattle.cf_line.specs.Queue.{of, entry, IsStart}
 use Rattle.cf_line.proofs.Moves.{of_append}
-use Rattle.cf_hub.specs.declared.entry.Kind.{Kind}
-use Rattle.cf_hub.specs.declared.entry.Kind.TheVariants as kinds
-use Rattle.cf_hub.specs.Pieces.{bytes_of, joined, is_last, is_open}
-use Rattle.cf_hub.specs.Ticks.{seconds_of, ticks}
+use Rattle.cf_outside.specs.declared.entry.Kind.{Kind}
+use Rattle.cf_outside.specs.declared.entry.Kind.TheVariants as kinds
+use Rattle.cf_outside.specs.Pieces.{bytes_of, joined, is_last, is_open}
+use Rattle.cf_outside.specs.Ticks.{seconds_of, ticks}
 use Rattle.cf_hub.specs.Gives.{delivery_of, given_of, LogGives, piece_in, pieces_of, is_gone_of, has_gone, tick_in, ticks_of, IsFront}
 
 pub given-append : (xs ys : List (Entry Kind)) → given_of (xs ++ ys) ≡ given_of xs ++ given_of ys

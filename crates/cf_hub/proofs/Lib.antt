@@ -1,6 +1,5 @@
 mod Begins
 mod Books
-mod Bytes
 mod Causes
 mod Crossing
 mod Finishes
@@ -8,9 +7,7 @@ mod Gives
 mod Heard
 mod Lines
 mod Opened
-mod Readers
 mod Sent
 mod Shown
 mod Takes
-mod Tickers
 mod WriterFaults

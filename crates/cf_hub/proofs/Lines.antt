@@ -4,8 +4,8 @@ use Rattle.std.proofs.Common.{All}
 use Rattle.crossbeam_channel.specs.Ends.{sends_on}
 use Rattle.cf_line.specs.declared.ends.Queue.{Queue}
 use Rattle.cf_line.specs.declared.ends.Sender.{Sender}
-use Rattle.cf_hub.specs.declared.entry.Kind.{Kind}
-use Rattle.cf_hub.specs.declared.reader.Reader.{Reader}
+use Rattle.cf_outside.specs.declared.entry.Kind.{Kind}
+use Rattle.cf_outside.specs.declared.reader.Reader.{Reader}
 use Rattle.cf_hub.specs.Lines.{AllAt, IsNew, Down, Up}
 
 pub below : (k n : ℕ) → k < n + 1 → (k < n) ⊎ (k ≡ n)

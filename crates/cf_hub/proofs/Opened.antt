@@ -5,9 +5,9 @@ use Rattle.std.proofs.lemmas.List.{map-append}
 use Rattle.std.proofs.lemmas.Option.{get_or_from_slice_get, slice_get_within}
 use Rattle.std.proofs.Math.Seq.{map-set_same}
 use Rattle.cf_line.specs.declared.entry.Entry.{Entry}
-use Rattle.cf_hub.specs.declared.entry.Kind.{Kind}
+use Rattle.cf_outside.specs.declared.entry.Kind.{Kind}
 use Rattle.cf_hub.proofs.Lines.{below}
-use Rattle.cf_hub.specs.declared.reader.Reader.{Reader}
+use Rattle.cf_outside.specs.declared.reader.Reader.{Reader}
 use Rattle.cf_hub.specs.Finish.{Read, whose, begun, numbers_of, read_numbers}
 use Rattle.cf_hub.specs.Over.{is_there, connected, numbers_from, AllGone, Heard, HaveEnded}
 use Rattle.cf_hub.specs.Writers.{text_in, texts, AreOpen, AreShut, Shuts}

@@ -3,17 +3,17 @@ use Rattle.std.proofs.Common.{◌≡◌, ◌⊎◌, ◌<◌, ℕ, Bool, true, fa
 use Rattle.cf_bytes.specs.Outside.{HasRisen, with_more}
 use Rattle.cf_line.specs.declared.entry.Entry.{Entry}
 use Rattle.cf_line.specs.Queue.{of, IsStart}
-use Rattle.cf_hub.specs.declared.entry.Kind.{Kind}
-use Rattle.cf_hub.specs.Pieces.{is_open, Reads, HasLast}
-use Rattle.cf_hub.specs.Ticks.{ticks, Ticked}
+use Rattle.cf_outside.specs.declared.entry.Kind.{Kind}
+use Rattle.cf_outside.specs.Pieces.{is_open, Reads, HasLast}
+use Rattle.cf_outside.specs.Ticks.{ticks, Ticked}
 use Rattle.std.specs.Option.{ForSome}
 use Rattle.cf_hub.specs.Finish.{Read, Beat, Fronts}
 use Rattle.cf_hub.specs.Shown.{Shows, ShowsTicks}
 use Rattle.cf_hub.specs.Gives.{given_of, pieces_of, has_gone, ticks_of, IsFront}
 use Rattle.cf_hub.proofs.Gives.{cut_of, pieces_given, ticks_given, gone_given}
-use Rattle.cf_hub.proofs.Bytes.{first_bytes, all_bytes}
-use Rattle.cf_hub.proofs.Heard.{last_stays}
-use Rattle.cf_hub.proofs.Tickers.{ticks-append}
+use Rattle.cf_outside.proofs.Bytes.{first_bytes, all_bytes}
+use Rattle.cf_outside.proofs.Lasts.{last_stays}
+use Rattle.cf_outside.proofs.Tickers.{ticks-append}
 
 was_true : (b : Bool) → not b ≡ true → b ≡ false
 was_true true h = absurd (true≢false (sym h))

@@ -10,8 +10,8 @@ use Rattle.cf_wires.specs.declared.event.Delivery.TheVariants as gives
 use Rattle.cf_wires.specs.Log.{Log, Told, deliveries, is_real, tell, told_finished, longer}
 use Rattle.cf_line.specs.declared.entry.Entry.{Entry}
 use Rattle.cf_line.specs.Queue.{of, entry}
-use Rattle.cf_hub.specs.declared.entry.Kind.{Kind}
-use Rattle.cf_hub.specs.declared.entry.Kind.TheVariants as kinds
+use Rattle.cf_outside.specs.declared.entry.Kind.{Kind}
+use Rattle.cf_outside.specs.declared.entry.Kind.TheVariants as kinds
 use Rattle.cf_hub.specs.declared.book.Book.{Book}
 use Rattle.cf_hub.specs.Book.{told_of}
 use Rattle.cf_hub.specs.Gives.{delivery_of, given_of, LogGives, IsFront}

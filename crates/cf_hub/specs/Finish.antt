@@ -3,8 +3,8 @@ use Rattle.std.specs.Prelude.{◌<◌, ℕ, List, Option, Some, None, All, map}
 use Rattle.cf_line.specs.declared.entry.Entry.{Entry}
 use Rattle.cf_line.specs.declared.entry.Ended.{Ended}
 use Rattle.cf_line.specs.Queue.{of}
-use Rattle.cf_hub.specs.declared.entry.Kind.{Kind}
-use Rattle.cf_hub.specs.declared.reader.Reader.{Reader}
+use Rattle.cf_outside.specs.declared.entry.Kind.{Kind}
+use Rattle.cf_outside.specs.declared.reader.Reader.{Reader}
 use Rattle.cf_hub.specs.Gives.{IsFront}
 
 -- a source as it was dialled, what its reader sent of it under which number, and what it came to

@@ -5,8 +5,8 @@ use Rattle.cf_wires.specs.declared.event.Delivery.{Delivery}
 use Rattle.cf_wires.specs.declared.event.Delivery.TheVariants as gives
 use Rattle.cf_wires.specs.Log.{Told, deliveries}
 use Rattle.cf_line.specs.declared.entry.Entry.{Entry}
-use Rattle.cf_hub.specs.declared.entry.Kind.{Kind}
-use Rattle.cf_hub.specs.declared.entry.Kind.TheVariants as kinds
+use Rattle.cf_outside.specs.declared.entry.Kind.{Kind}
+use Rattle.cf_outside.specs.declared.entry.Kind.TheVariants as kinds
 
 -- the ticker, whose number is 0, gives ticks alone, and a reader its pieces and its end
 abbrev pub delivery_of : ℕ → Kind → List Delivery

@@ -1,5 +1,3 @@
-pub mod Pieces
-pub mod Ticks
 pub mod Kept
 pub mod Book
 pub mod Over

@@ -2,8 +2,8 @@
 use Rattle.std.specs.Prelude.{◌≡◌, ℕ, ◌+◌, Bool, true, false, List, [], ◌∷◌, Option, Some, None, map, slice_index_or}
 use Rattle.cf_line.specs.declared.entry.Entry.{Entry}
 use Rattle.cf_line.specs.Queue.{of}
-use Rattle.cf_hub.specs.declared.entry.Kind.{Kind}
-use Rattle.cf_hub.specs.Pieces.{is_open}
+use Rattle.cf_outside.specs.declared.entry.Kind.{Kind}
+use Rattle.cf_outside.specs.Pieces.{is_open}
 
 abbrev pub is_there : {W : Type 0} → Option W → Bool
 is_there None = false

@@ -6,7 +6,7 @@ ghost use Rattle.crossbeam_channel.specs.Ends.{sends_on};
 ghost use Rattle.cf_bytes.specs.Outside.{HasRisen, with_more};
 ghost use Rattle.cf_hub.specs.Book.{told_of, keeps_of, IsReady};
 ghost use Rattle.cf_line.specs.Queue.{of, entry, receiver, with_got};
-ghost use Rattle.cf_hub.specs.declared.entry.Kind.TheVariants.{Last};
+ghost use Rattle.cf_outside.specs.declared.entry.Kind.TheVariants.{Last};
 ghost use Rattle.cf_hub.specs.Over.{AllGone, Heard, HaveEnded, connected, numbers_from};
 ghost use Rattle.cf_wires.specs.declared.event.Delivery.TheVariants.{Ended};
 ghost use Rattle.cf_wires.specs.declared.event.Event.TheVariants.{Took, Dialled, NotDialled, Sent, SendFailed, Closed};
@@ -20,19 +20,17 @@ ghost use Rattle.cf_hub.specs.Writers.{faults_in, texts, Adds, AreOpen, AreShut,
 ghost use Rattle.cf_hub.specs.Shown.{Shows, ShowsTicks};
 ghost use Rattle.cf_hub.specs.Threads.{HandsOver, HasOpened, MayHandOver, MayMiss, Moves, Takes};
 ghost use Rattle.cf_line.specs.Waiting.{HasGiven, HasFailed};
-ghost use Rattle.cf_hub.specs.Pieces.{is_last, is_open, Reads};
+ghost use Rattle.cf_outside.specs.Pieces.{is_last, is_open, Reads};
 
-use crate::book::{Book, filled};
-use crate::entry::{CHUNK, Kind};
+use crate::book::Book;
 use crate::joining::{Joined, Rested, each_reads, it_ticks, join_readers, join_ticker};
-use crate::outside::{Dialer, Pulse, Writer};
-use crate::reader::Reader;
-use crate::stop::Stop;
-use crate::ticker::Ticker;
+use crate::making::{Lines, Lists, Parts, parts_in};
+use crate::taking::{are_gone, receive, take_entry};
 use crate::writers::{put_to, shut_at};
 use cf_bytes::{Failed, NoMemory, PeerNo};
 use cf_conn::Source;
 use cf_line::{Busy, Entry, Queue, Sender, Workers};
+use cf_outside::{CHUNK, Dialer, Kind, Pulse, Reader, Stop, Ticker, Writer};
 use cf_tasks::Spawner;
 use cf_wires::{Delivery, Name, WireFail, Wires};
 use std::alloc::{AllocError, Global};
@@ -40,9 +38,6 @@ use std::mem;
 use std::sync::atomic::{AtomicBool, Ordering};
 use std::sync::{Arc, Wait};
 use std::thread::Threads;
-
-/// The most peers that are dialled.
-pub const PEERS: usize = 8;
 
 // A pulse, the sender of its ticks, and the flag that stops them, until a thread has them.
 #[derive(Drop)]
@@ -104,106 +99,6 @@ pub struct Hub<D: Dialer, P: Pulse, R: Wait + Threads + Copy + Drop> {
     ghost unshut: { book.finished ≡ false → AreOpen D.Write.was_shut book.closed writers.items },
     ghost reading_are: { joined ≡ false → numbers_of reading.items ≡ numbers_from 0 (connected writers.items) },
     ghost done_are: { joined ≡ true → read_numbers done.items ≡ numbers_from 0 (connected writers.items) },
-}
-
-// A sender for each peer, that of the first last.
-fn peer_senders(alloc: Global, queue: &mut Queue<Kind>) -> Result<Vec<Sender<Kind>>, AllocError>
-    requires { queue.old.made ≡ 1 }
-    ensures ring { sends_on queue.new.line ≡ sends_on queue.old.line }
-    ensures got { (view queue.new.seat).got ≡ (view queue.old.seat).got }
-    ensures len { IfOk result (λ v. vec_len v ≡ 8) }
-    ensures each { IfOk result (λ v. Down queue.new v.items) }
-{
-    let mut up = Vec::with_capacity(alloc, 8)?;
-    let mut down = Vec::with_capacity(alloc, 8)?;
-    for _ in 0..8u32 {
-        up.push_reserved(queue.sender()?);
-    }
-    while let Some(sender) = up.pop() {
-        down.push_reserved(sender);
-    }
-    Ok(down)
-}
-
-// The queue, the ticker's sender, and those of the peers.
-#[derive(Drop)]
-struct Lines {
-    queue: Queue<Kind>,
-    sender: Sender<Kind>,
-    spare: Vec<Sender<Kind>>,
-    ghost waits: { Waits queue sender },
-    ghost spares: { Down queue spare.items },
-    ghost numbers: { vec_len spare ≡ 8 },
-    ghost none: { (view queue.seat).got ≡ [] },
-}
-
-fn lines_in(alloc: Global) -> Result<Lines, AllocError> {
-    let mut queue = Queue::new(alloc, 64)?;
-    let sender = queue.sender()?;
-    let spare = peer_senders(alloc, &mut queue)?;
-    Ok(Lines {
-        queue,
-        sender,
-        spare,
-    })
-}
-
-// Room for the writers, of whom nobody has number 0, for the tasks that read, and for what they come to.
-#[derive(Drop)]
-struct Lists<W, B, J> {
-    writers: Vec<Option<W>>,
-    reading: Vec<B>,
-    done: Vec<J>,
-    ghost nobody: { writers.items ≡ None ∷ [] },
-    ghost one: { vec_len writers ≡ 1 },
-    ghost holds: { 9 ≤ vec_capacity writers },
-    ghost unread: { reading.items ≡ [] },
-    ghost none: { vec_len reading ≡ 0 },
-    ghost seats: { 8 ≤ vec_capacity reading },
-    ghost undone: { done.items ≡ [] },
-    ghost room: { 8 ≤ vec_capacity done },
-}
-
-fn lists_in<W: Drop, B: Drop, J: Drop>(alloc: Global) -> Result<Lists<W, B, J>, AllocError> {
-    let mut writers = Vec::with_capacity(alloc, PEERS + 1)?;
-    let reading = Vec::with_capacity(alloc, PEERS)?;
-    let done = Vec::with_capacity(alloc, PEERS)?;
-    writers.push_reserved(None);
-    Ok(Lists {
-        writers,
-        reading,
-        done,
-    })
-}
-
-// All of a hub for which memory has to be found.
-#[derive(Drop)]
-struct Parts<W, B, J> {
-    lines: Lines,
-    lists: Lists<W, B, J>,
-    stop: Arc<AtomicBool, Global>,
-    theirs: Stop,
-    book: Book,
-    ghost unasked: { theirs ≡ false },
-}
-
-fn parts_in<W: Drop, B: Drop, J: Drop>(alloc: Global) -> Result<Parts<W, B, J>, NoMemory>
-    ensures told { IfOk result (λ s. IsTold [] (told_of s.book)) }
-    ensures finished { IfOk result (λ s. (told_of s.book).finished ≡ false) }
-    ensures keeps { IfOk result (λ s. keeps_of s.book ≡ false) }
-{
-    let stop = Arc::new(alloc, AtomicBool::new(false))?;
-    let theirs = Stop::new(Arc::try_clone(&stop)?);
-    let book = Book::new(alloc)?;
-    let lists = lists_in(alloc)?;
-    let lines = lines_in(alloc)?;
-    Ok(Parts {
-        lines,
-        lists,
-        stop,
-        theirs,
-        book,
-    })
 }
 
 // Hands a pulse over to a thread, unless that was done. False where none takes it.
@@ -276,6 +171,7 @@ impl<D: Dialer, P: Pulse, R: Wait + Threads + Copy + Drop> Hub<D, P, R> {
         ensures missed { IfOk result (λ h. h.missed ≡ 0) }
         ensures threads { IfOk result (λ h. (h.readers ≡ readers) × (h.tickers ≡ tickers)) }
         ensures pulse { IfOk result (λ h. pulse_in (λ c. c.pulse) h.clock ≡ Some pulse) }
+        ensures idle { IfOk result (λ h. h.reading.items ≡ []) }
     {
         let parts = parts_in(alloc)?;
         let Parts {
@@ -522,6 +418,7 @@ impl<D: Dialer, P: Pulse, R: Wait + Threads + Copy + Drop> Hub<D, P, R> {
         ensures joined { self.new.joined ≡ self.old.joined }
         ensures seat { view self.new.queue.seat ≡ view self.old.queue.seat }
         ensures threads { (self.new.readers ≡ self.old.readers) × (self.new.tickers ≡ self.old.tickers) × (self.new.clock ≡ self.old.clock) × (self.new.ticking ≡ self.old.ticking) }
+        ensures reading { self.new.reading ≡ self.old.reading }
         ensures missed { slice_index_or (connected self.old.writers.items) p.0 false ≡ true → self.new.missed ≡ self.old.missed }
         ensures ok { OnOk result ((self.new.missed ≡ self.old.missed) × Adds D.Write.written D.Write.was_shut p.0 bytes.now self.old.writers.items self.new.writers.items) }
         ensures err { OnErr result ((self.new.writers.items ≡ self.old.writers.items) ⊎ ((n : ℕ) × (n ≤ length bytes.now) × Adds D.Write.written D.Write.was_shut p.0 (take n bytes.now) self.old.writers.items self.new.writers.items)) }
@@ -663,6 +560,7 @@ impl<D: Dialer, P: Pulse, R: Wait + Threads + Copy + Drop> Hub<D, P, R> {
         ensures missed { self.new.missed ≡ self.old.missed }
         ensures writers { self.new.writers ≡ self.old.writers }
         ensures threads { (self.new.readers ≡ self.old.readers) × (self.new.tickers ≡ self.old.tickers) × (self.new.clock ≡ self.old.clock) × (self.new.ticking ≡ self.old.ticking) }
+        ensures reading { self.new.reading ≡ self.old.reading }
         ensures some { IfOk result (λ o. IfSome o (λ d. (told_of self.new.book ≡ tell (Took d) (told_of self.old.book)) × (given_of (view self.new.queue.seat).got ≡ given_of (view self.old.queue.seat).got ++ d ∷ []))) }
         ensures none { IfOk result (λ o. IfNone o ((self.new.book ≡ self.old.book) × (given_of (view self.new.queue.seat).got ≡ given_of (view self.old.queue.seat).got))) }
         ensures err { OnErr result (self.new.book ≡ self.old.book) }
@@ -692,6 +590,7 @@ impl<D: Dialer, P: Pulse, R: Wait + Threads + Copy + Drop> Hub<D, P, R> {
         ensures missed { self.new.missed ≡ self.old.missed }
         ensures writers { self.new.writers ≡ self.old.writers }
         ensures threads { (self.new.readers ≡ self.old.readers) × (self.new.tickers ≡ self.old.tickers) × (self.new.clock ≡ self.old.clock) × (self.new.ticking ≡ self.old.ticking) }
+        ensures reading { self.new.reading ≡ self.old.reading }
     {
         self.book.note_end();
     }
@@ -751,123 +650,13 @@ where
         ensures missed { IfOk result (λ h. h.missed ≡ 0) }
         ensures threads { IfOk result (λ h. ((h.readers.count ≡ peers) × (h.tickers.count ≡ 1)) ⊎ HasRisen (K.refusals spawner.old) (K.refusals spawner.new)) }
         ensures fresh { IfOk result (λ h. (h.readers.returned ≡ 0) × (h.tickers.returned ≡ 0)) }
+        ensures pulse { IfOk result (λ h. pulse_in (λ c. c.pulse) h.clock ≡ Some pulse) }
+        ensures idle { IfOk result (λ h. h.reading.items ≡ []) }
     {
         let readers = reader_threads(rt, alloc, spawner, peers)?;
         let tickers = ticker_thread(rt, alloc, spawner)?;
         Hub::new(rt, alloc, dialer, readers, tickers, pulse)
     }
-}
-
-// Takes the next entry, and notes whose last it is.
-fn receive<R: Wait>(rt: &R, queue: &mut Queue<Kind>, gone: &mut [bool; 9]) -> Entry<Kind>
-    ensures ring { sends_on queue.new.line ≡ sends_on queue.old.line }
-    ensures got { (view queue.new.seat).got ≡ (view queue.old.seat).got ++ entry result.from result.kind ∷ [] }
-    ensures heard { Heard gone.old (view queue.old.seat).got → Heard gone.new (view queue.new.seat).got }
-{
-    let entry = queue.next(rt);
-    note_last(gone, &entry);
-    entry
-}
-
-// Takes the next entry. Where it is a delivery, it is noted and given.
-fn take_entry<R: Wait>(
-    rt: &R,
-    queue: &mut Queue<Kind>,
-    gone: &mut [bool; 9],
-    book: &mut Book,
-    bytes: Vec<u8>,
-    room: Vec<u8>,
-) -> Option<Delivery>
-    requires ready { IsReady book.old }
-    requires empty { (bytes.items ≡ []) × (room.items ≡ []) }
-    requires most { 4096 ≤ vec_capacity bytes }
-    requires copy { keeps_of book.old ≡ true → 4096 ≤ vec_capacity room }
-    ensures ring { sends_on queue.new.line ≡ sends_on queue.old.line }
-    ensures heard { Heard gone.old (view queue.old.seat).got → Heard gone.new (view queue.new.seat).got }
-    ensures some { IfSome result (λ d. (told_of book.new ≡ tell (Took d) (told_of book.old)) × (given_of (view queue.new.seat).got ≡ given_of (view queue.old.seat).got ++ d ∷ [])) }
-    ensures real { IfSome result (λ d. d ≢ Delivery.Ended) }
-    ensures none { IfNone result ((book.new ≡ book.old) × (given_of (view queue.new.seat).got ≡ given_of (view queue.old.seat).got)) }
-    ensures keeps { keeps_of book.new ≡ keeps_of book.old }
-    ensures proper { IfSome result (λ d. IsProper d) }
-{
-    let Entry { from, kind } = receive(rt, queue, gone);
-    let p = PeerNo(u32::from(from));
-    match kind {
-        Kind::Got(chunk) => {
-            if from == 0 {
-                return None;
-            }
-            book.note_got(p, chunk.bytes(), room);
-            Some(Delivery::Got(p, filled(bytes, chunk.bytes())))
-        }
-        Kind::Tick(seconds) => {
-            if from > 0 {
-                return None;
-            }
-            let seconds = seconds.get();
-            book.note_tick(seconds);
-            Some(Delivery::Tick(seconds))
-        }
-        Kind::Last => {
-            if from == 0 {
-                return None;
-            }
-            book.note_gone(p);
-            Some(Delivery::Gone(p))
-        }
-    }
-}
-
-// Notes a last entry.
-fn note_last(gone: &mut [bool; 9], entry: &Entry<Kind>)
-    ensures last { is_last entry.now.kind ≡ true → gone.new ≡ slice_set gone.old entry.now.from true }
-    ensures other { is_last entry.now.kind ≡ false → gone.new ≡ gone.old }
-{
-    match &entry.kind {
-        Kind::Last => {
-            if entry.from < 9 {
-                gone[entry.from as usize] = true;
-            }
-        }
-        Kind::Got(_) | Kind::Tick(_) => {}
-    }
-}
-
-// Whether a peer has a writer.
-#[tactic(auto, using(crate::proofs::Opened::there_at, crate::proofs::Opened::none_at))]
-fn is_connected<W>(writers: &[Option<W>], p: usize) -> bool
-    ensures { result ≡ slice_index_or (connected writers.now) p false }
-{
-    match writers.get(p) {
-        Some(Some(_)) => true,
-        Some(None) | None => false,
-    }
-}
-
-// Whether the last entry of a peer was noted.
-fn is_noted(gone: &[bool; 9], p: usize) -> bool
-    ensures { result ≡ slice_index_or gone.now p false }
-{
-    p < gone.len() && gone[p]
-}
-
-// Whether a peer has a writer, and its last entry was not noted.
-fn is_left<W>(writers: &[Option<W>], gone: &[bool; 9], p: usize) -> bool
-    ensures { result ≡ false → slice_index_or (connected writers.now) p false ≡ true → slice_index_or gone.now p false ≡ true }
-{
-    is_connected(writers, p) && !is_noted(gone, p)
-}
-
-// Whether the last entry of each peer that has a writer was noted.
-fn are_gone<W>(writers: &[Option<W>], gone: &[bool; 9]) -> bool
-    ensures { result ≡ true → AllGone writers.now gone.now }
-{
-    for p in 0..writers.len() {
-        if is_left(writers, gone, p) {
-            return false;
-        }
-    }
-    true
 }
 
 impl<D: Dialer, P: Pulse, R: Wait + Threads + Copy + Drop> Wires for Hub<D, P, R> {
@@ -890,6 +679,7 @@ impl<D: Dialer, P: Pulse, R: Wait + Threads + Copy + Drop> Wires for Hub<D, P, R
         ensures writers { self.new.writers ≡ self.old.writers }
         ensures own { (self.new.missed ≡ self.old.missed) × (self.new.dialer ≡ self.old.dialer) }
         ensures threads { (self.new.readers ≡ self.old.readers) × (self.new.tickers ≡ self.old.tickers) × (self.new.clock ≡ self.old.clock) × (self.new.ticking ≡ self.old.ticking) }
+        ensures reading { self.new.reading ≡ self.old.reading }
     {
         self.book.keep();
     }
@@ -906,6 +696,7 @@ impl<D: Dialer, P: Pulse, R: Wait + Threads + Copy + Drop> Wires for Hub<D, P, R
         ensures missed { (self.new.missed ≡ self.old.missed) ⊎ MayMiss self.old.book.finished self.old.readers self.new.readers self.new.clock self.old.tickers self.new.tickers }
         ensures readers { Takes result self.old.readers self.new.readers }
         ensures tickers { MayHandOver self.old.clock self.new.clock self.old.tickers self.new.tickers }
+        ensures runs { OnOk result (self.new.clock ≡ None) }
         ensures pulse { Moves (pulse_in (λ c. c.pulse) self.old.clock) (pulse_in (λ c. c.pulse) self.new.clock) (pulse_in (λ t. t.pulse) self.old.ticking) (pulse_in (λ t. t.pulse) self.new.ticking) }
         ensures opened { HasOpened D.dials D.Write.written result name.now self.old.dialer self.new.dialer (map begun self.old.reading.items) (map begun self.new.reading.items) self.old.writers.items self.new.writers.items }
     {
@@ -943,6 +734,7 @@ impl<D: Dialer, P: Pulse, R: Wait + Threads + Copy + Drop> Wires for Hub<D, P, R
         ensures missed { slice_index_or (connected self.old.writers.items) p.0 false ≡ true → self.new.missed ≡ self.old.missed }
         ensures dialer { self.new.dialer ≡ self.old.dialer }
         ensures threads { (self.new.readers ≡ self.old.readers) × (self.new.tickers ≡ self.old.tickers) × (self.new.clock ≡ self.old.clock) × (self.new.ticking ≡ self.old.ticking) }
+        ensures reading { self.new.reading ≡ self.old.reading }
     {
         self.make_room()?;
         let room = self.copy_room(bytes.len())?;
@@ -968,6 +760,7 @@ impl<D: Dialer, P: Pulse, R: Wait + Threads + Copy + Drop> Wires for Hub<D, P, R
         ensures shuts { Shuts D.Write.written D.Write.was_shut p.0 self.old.writers.items self.new.writers.items }
         ensures own { (self.new.missed ≡ self.old.missed) × (self.new.dialer ≡ self.old.dialer) }
         ensures threads { (self.new.readers ≡ self.old.readers) × (self.new.tickers ≡ self.old.tickers) × (self.new.clock ≡ self.old.clock) × (self.new.ticking ≡ self.old.ticking) }
+        ensures reading { self.new.reading ≡ self.old.reading }
     {
         self.book.note_closed(p);
         self.shut(p);
@@ -986,6 +779,7 @@ impl<D: Dialer, P: Pulse, R: Wait + Threads + Copy + Drop> Wires for Hub<D, P, R
         ensures gave { IfOk result (λ d. d ≢ Delivery.Ended → given_of (view self.new.queue.seat).got ≡ given_of (view self.old.queue.seat).got ++ d ∷ []) }
         ensures own { (self.new.missed ≡ self.old.missed) × (self.new.dialer ≡ self.old.dialer) }
         ensures threads { (self.new.readers ≡ self.old.readers) × (self.new.tickers ≡ self.old.tickers) × (self.new.clock ≡ self.old.clock) × (self.new.ticking ≡ self.old.ticking) }
+        ensures reading { self.new.reading ≡ self.old.reading }
     {
         self.make_room()?;
         if self.book.is_finished() {

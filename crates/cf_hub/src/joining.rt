@@ -6,15 +6,12 @@ ghost use Rattle.crossbeam_channel.specs.Ends.{sends_on};
 ghost use Rattle.cf_line.specs.Queue.{of};
 ghost use Rattle.cf_hub.specs.Finish.{whose, begun, Fronts, pulse_in};
 ghost use Rattle.cf_hub.specs.Gives.{IsFront};
-ghost use Rattle.cf_hub.specs.Pieces.{Reads};
-ghost use Rattle.cf_hub.specs.Ticks.{Ticked};
+ghost use Rattle.cf_outside.specs.Pieces.{Reads};
+ghost use Rattle.cf_outside.specs.Ticks.{Ticked};
 
-use crate::entry::Kind;
-use crate::outside::Pulse;
-use crate::reader::{Finished, Reader};
-use crate::ticker::{Stopped, Ticker};
 use cf_conn::Source;
 use cf_line::{Busy, Queue, Sender};
+use cf_outside::{Finished, Kind, Pulse, Reader, Stopped, Ticker};
 use std::marker::Model;
 use std::snapshot::Snapshot;
 use std::sync::Wait;
@@ -32,7 +29,7 @@ pub struct Joined<S: Source + Drop, R: Wait + Drop> {
 impl<S: Source + Drop, R: Wait + Drop> Model for Joined<S, R> {
     ghost use Rattle.crossbeam_channel.specs.Claims.{view as knows};
     ghost use Rattle.cf_hub.specs.Finish.{Read};
-    ghost use Rattle.cf_hub.specs.Pieces.{Reads};
+    ghost use Rattle.cf_outside.specs.Pieces.{Reads};
 
     ghost Value = { Read S };
 
@@ -70,7 +67,7 @@ pub struct Rested<P: Pulse, R: Wait + Drop> {
 impl<P: Pulse, R: Wait + Drop> Model for Rested<P, R> {
     ghost use Rattle.crossbeam_channel.specs.Claims.{view as knows};
     ghost use Rattle.cf_hub.specs.Finish.{Beat};
-    ghost use Rattle.cf_hub.specs.Ticks.{Ticked};
+    ghost use Rattle.cf_outside.specs.Ticks.{Ticked};
 
     ghost Value = { Beat P };
 

@@ -4,8 +4,8 @@ ghost use Rattle.cf_bytes.specs.Outside.{HasRisen, with_more};
 ghost use Rattle.cf_hub.specs.Over.{connected};
 ghost use Rattle.cf_hub.specs.Writers.{faults_in, texts, Adds, AreOpen, Shuts};
 
-use crate::outside::Writer;
 use cf_bytes::{Failed, PeerNo};
+use cf_outside::Writer;
 
 // Writes all the bytes. Where the writer fails, it has got the first of them.
 #[tactic(auto, using(crate::proofs::Sent::sent_more, std::proofs::lemmas::List::take_rest, std::proofs::lemmas::Grind::common_steps))]

@@ -5,7 +5,7 @@ ghost use Rattle.cf_tasks.specs.declared.threads.Choice.TheVariants.{InThread, R
 use crate::doors::{Count, Door, SHUT, add, count, nap, same};
 use cf_bytes::{Failed, Sink, VecSink};
 use cf_conn::{MemoryConn, Source};
-use cf_hub::{Dialer, Pulse, Writer};
+use cf_outside::{Dialer, Pulse, Writer};
 use cf_tasks::{Choice, Spawner};
 use std::alloc::Global;
 use std::thread::Threads;

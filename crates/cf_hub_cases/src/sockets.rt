@@ -1,5 +1,5 @@
 //! Dials over TCP.
-use cf_hub::{Dialer, TcpDialer};
+use cf_outside::{Dialer, TcpDialer};
 
 /// Why a dial of this name fails.
 pub(crate) fn reason(rt: HostRuntime, name: &str) -> Option<String> {

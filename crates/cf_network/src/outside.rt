@@ -1,7 +1,7 @@
 //! What opens the connections of a network.
 
 use cf_bytes::Failed;
-use cf_hub::{Dialer, FailedDial, TcpDialer, TcpSource, TcpWriter};
+use cf_outside::{Dialer, FailedDial, TcpDialer, TcpSource, TcpWriter};
 
 /// Opens connections over TCP, by the system.
 #[derive(Drop)]

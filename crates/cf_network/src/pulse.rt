@@ -1,7 +1,7 @@
 //! The pulse of `sync`, which tells a second only where one is asked for, and ends at once when it is told to.
 ghost use Rattle.std.specs.Prelude.{None};
 
-use cf_hub::Pulse;
+use cf_outside::Pulse;
 use cf_wires::Delivery;
 use std::alloc::Global;
 use std::sync::atomic::{AtomicU64, Ordering};

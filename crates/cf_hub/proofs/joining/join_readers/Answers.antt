@@ -1,7 +1,7 @@
 use Rattle.std.proofs.Common.{arith, ◌∙◌, ap, sym, length, refl, map}
 use Rattle.cf_line.specs.declared.entry.Entry.{Entry}
 use Rattle.cf_line.specs.declared.entry.View.{View}
-use Rattle.cf_hub.specs.declared.entry.Kind.{Kind}
+use Rattle.cf_outside.specs.declared.entry.Kind.{Kind}
 use Rattle.crossbeam_channel.specs.Claims.{view}
 use Rattle.cf_hub.specs.Finish.{whose, begun}
 use Rattle.cf_hub.proofs.Finishes.{moves_on, one_less, finishes, positive, none_left, no_more, whose_more, ended_more}

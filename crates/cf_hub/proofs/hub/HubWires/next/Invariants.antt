@@ -8,6 +8,7 @@ invariant-loop g l = record {
   book : l.self.book ≡ l.initial.self.book;
   dialer : l.self.dialer ≡ l.initial.self.dialer;
   missed : l.self.missed ≡ l.initial.self.missed;
+  reading : l.self.reading ≡ l.initial.self.reading;
   writers : l.self.writers ≡ l.initial.self.writers;
   readers : l.self.readers ≡ l.initial.self.readers;
   tickers : l.self.tickers ≡ l.initial.self.tickers;

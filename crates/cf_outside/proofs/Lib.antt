@@ -1,0 +1,4 @@
+pub mod Bytes
+pub mod Lasts
+pub mod Readers
+pub mod Tickers

@@ -1,0 +1,16 @@
+//! What runs in the threads of a hub, and what it reaches: readers, tickers, dialers, writers and pulses. Over TCP, too.
+#![tactic(auto)]
+
+mod entry;
+mod outside;
+mod reader;
+mod stop;
+mod tcp;
+mod ticker;
+
+pub use entry::{CHUNK, Chunk, Kind, Seconds};
+pub use outside::{Dialer, Pulse, Writer};
+pub use reader::{Finished, Reader};
+pub use stop::Stop;
+pub use tcp::{FailedDial, TcpDialer, TcpSource, TcpWriter};
+pub use ticker::{Stopped, Ticker};
