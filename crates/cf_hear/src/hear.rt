@@ -5,9 +5,11 @@ ghost use Rattle.cf_msg.specs.declared.msg.Msg.TheVariants.{Headers, Block as Bl
 ghost use Rattle.cf_peer.specs.Acts.{IsDoable};
 ghost use Rattle.cf_peer.specs.Trail.{Trail, Part, heard_part};
 ghost use Rattle.cf_peer.specs.Peer.{Holds, calm, IsReplySendable, IsRight};
-ghost use Rattle.cf_tracker.specs.Tracker.{chains_of, claims_of, watch_of};
+ghost use Rattle.cf_match.specs.Verdicts.{AreSameVerdicts};
+ghost use Rattle.cf_tracker.specs.Tracker.{chains_of, claims_of, verdicts_of, watch_of};
 ghost use Rattle.cf_hear.specs.Seen.{Follows, seen_of};
 ghost use Rattle.cf_hear.specs.Hearing.{HearsSeen, HearsNext, HeardPiece, goes_on};
+ghost use Rattle.cf_hear.specs.Judging.{IsJudgedBy, AreJudgedBy, judging_of};
 
 use cf_block::{Block, Header, block_hash, check_commitment_by, txids};
 use cf_bytes::{Hash32, NoMemory, PeerNo, Refused};
@@ -34,6 +36,7 @@ fn hear_headers<H: HeaderStore>(
     ensures others { OnOk result ((q : ℕ) → q ≢ p.0 → chains_of tracker.new q ≡ chains_of tracker.old q) }
     ensures claims { OnOk result ((q : ℕ) → q ≢ p.0 → (block : List ℕ) → claims_of tracker.new q block ≡ claims_of tracker.old q block) }
     ensures watch { OnOk result (watch_of tracker.new ≡ watch_of tracker.old) }
+    ensures verdicts { OnOk result (AreSameVerdicts (verdicts_of tracker.new) (verdicts_of tracker.old)) }
     ensures waits { peer.new.framer ≡ peer.old.framer }
     ensures calm { calm peer.old ≡ true → calm peer.new ≡ true }
 {
@@ -63,6 +66,7 @@ fn hear_block<H: HeaderStore>(
     ensures chains { OnOk result ((q : ℕ) → chains_of tracker.new q ≡ chains_of tracker.old q) }
     ensures claims { OnOk result ((q : ℕ) → q ≢ p.0 → (block : List ℕ) → claims_of tracker.new q block ≡ claims_of tracker.old q block) }
     ensures watch { OnOk result (watch_of tracker.new ≡ watch_of tracker.old) }
+    ensures verdicts { OnOk result (AreSameVerdicts (verdicts_of tracker.new) (verdicts_of tracker.old)) }
     ensures waits { peer.new.framer ≡ peer.old.framer }
     ensures calm { calm peer.old ≡ true → calm peer.new ≡ true }
 {
@@ -100,6 +104,7 @@ fn hear_claims<H: HeaderStore>(
     ensures chains { OnOk result ((q : ℕ) → chains_of tracker.new q ≡ chains_of tracker.old q) }
     ensures claims { OnOk result ((q : ℕ) → q ≢ p.0 → (block : List ℕ) → claims_of tracker.new q block ≡ claims_of tracker.old q block) }
     ensures watch { OnOk result (watch_of tracker.new ≡ watch_of tracker.old) }
+    ensures verdicts { OnOk result (AreSameVerdicts (verdicts_of tracker.new) (verdicts_of tracker.old)) }
     ensures waits { peer.new.framer ≡ peer.old.framer }
     ensures calm { calm peer.old ≡ true → calm peer.new ≡ true }
 {
@@ -132,6 +137,8 @@ fn hear_filter<H: HeaderStore, M: Matcher>(
     ensures chains { OnOk result ((q : ℕ) → chains_of tracker.new q ≡ chains_of tracker.old q) }
     ensures claims { OnOk result ((q : ℕ) → q ≢ p.0 → (block : List ℕ) → claims_of tracker.new q block ≡ claims_of tracker.old q block) }
     ensures watch { OnOk result (watch_of tracker.new ≡ watch_of tracker.old) }
+    ensures judged { OnOk result (IsJudgedBy M.judges (watch_of tracker.old)
+        (judging_of tracker.old matcher.old) (judging_of tracker.new matcher.new)) }
     ensures waits { peer.new.framer ≡ peer.old.framer }
     ensures calm { calm peer.old ≡ true → calm peer.new ≡ true }
 {
@@ -165,6 +172,8 @@ fn hear<H: HeaderStore, M: Matcher>(
     ensures others { OnOk result ((q : ℕ) → q ≢ p.0 → chains_of tracker.new q ≡ chains_of tracker.old q) }
     ensures claims { OnOk result ((q : ℕ) → q ≢ p.0 → (block : List ℕ) → claims_of tracker.new q block ≡ claims_of tracker.old q block) }
     ensures watch { OnOk result (watch_of tracker.new ≡ watch_of tracker.old) }
+    ensures judged { OnOk result (IsJudgedBy M.judges (watch_of tracker.old)
+        (judging_of tracker.old matcher.old) (judging_of tracker.new matcher.new)) }
     ensures waits { peer.new.framer ≡ peer.old.framer }
     ensures calm { calm peer.old ≡ true → calm peer.new ≡ true }
 {
@@ -226,6 +235,8 @@ fn hear_next<H: HeaderStore, M: Matcher>(
     ensures others { OnOk result ((q : ℕ) → q ≢ p.0 → chains_of tracker.new q ≡ chains_of tracker.old q) }
     ensures claims { OnOk result ((q : ℕ) → q ≢ p.0 → (block : List ℕ) → claims_of tracker.new q block ≡ claims_of tracker.old q block) }
     ensures watch { OnOk result (watch_of tracker.new ≡ watch_of tracker.old) }
+    ensures judged { OnOk result (IsJudgedBy M.judges (watch_of tracker.old)
+        (judging_of tracker.old matcher.old) (judging_of tracker.new matcher.new)) }
     ensures calm { calm peer.old ≡ true → calm peer.new ≡ true }
 {
     match peer.next(alloc)? {
@@ -239,7 +250,7 @@ fn hear_next<H: HeaderStore, M: Matcher>(
 }
 
 /// Takes a piece of a tracked peer's bytes, up to the first frame that deserves a cause, and adds the replies that are owed to
-/// its messages to the acts.
+/// its messages to the acts. Filters are judged by this matcher alone.
 pub fn hear_piece<H: HeaderStore, M: Matcher>(
     alloc: Global,
     tracker: &mut Tracker<H>,
@@ -259,6 +270,8 @@ pub fn hear_piece<H: HeaderStore, M: Matcher>(
     ensures others { OnOk result ((q : ℕ) → q ≢ p.0 → chains_of tracker.new q ≡ chains_of tracker.old q) }
     ensures claims { OnOk result ((q : ℕ) → q ≢ p.0 → (block : List ℕ) → claims_of tracker.new q block ≡ claims_of tracker.old q block) }
     ensures watch { OnOk result (watch_of tracker.new ≡ watch_of tracker.old) }
+    ensures judged { OnOk result (AreJudgedBy M.judges (watch_of tracker.old)
+        (judging_of tracker.old matcher.old) (judging_of tracker.new matcher.new)) }
     ensures calm { OnOk result (calm peer.old ≡ true → calm peer.new ≡ true) }
 {
     peer.feed(piece)?;

@@ -1,4 +1,4 @@
-use Rattle.std.proofs.Common.{List, [], refl, sym, ◌∙◌, ap, subst}
+use Rattle.std.proofs.Common.{ℕ, List, [], Ok, inl, inr, refl, sym, ◌∙◌, ap, subst}
 use Rattle.cf_dispute.specs.Claims.{Tables}
 use Rattle.cf_match.specs.declared.job.Job.{Job}
 use Rattle.cf_match.specs.Verdicts.{AreSameVerdicts, with_verdicts}
@@ -44,3 +44,22 @@ pub returns-in_ok-judge-in-Whole-clause-right : goal.returns-in_ok-judge-in-Whol
 returns-in_ok-judge-in-Whole-clause-right g c =
     right_same c.hear_filter.new.self.request (claims_of c.args.tracker.now c.args.p.0) (claims_of c.judge.new.self c.args.p.0) (c.in_ok-judge-in-Whole.ensures.claims c.args.p.0)
     (subst (λ (tables : Tables). IsRight c.hear_filter.new.self.request (tables c.args.p.0)) c.claims.ensures.claims c.in_ok-hear_filter.ensures.right)
+
+pub returns-in-Nothing-clause-judged : goal.returns-in-Nothing-clause-judged
+returns-in-Nothing-clause-judged g c = inl (record { same = refl; kept = λ block hash. refl })
+
+pub returns-in-Close-clause-judged : goal.returns-in-Close-clause-judged
+returns-in-Close-clause-judged g c = inl (record { same = refl; kept = λ block hash. refl })
+
+pub returns-in_ok-judge-in-Whole-clause-judged : goal.returns-in_ok-judge-in-Whole-clause-judged
+returns-in_ok-judge-in-Whole-clause-judged g c =
+    let judges = g.M.Matcher.judges in
+    let answer = c.in_ok-verdicts-in-Whole.verdicts in
+    inr (record {
+      jobs = c.in-Whole.jobs;
+      answer = answer;
+      judged = subst (λ (js : List Job). judges c.args.matcher.now js (watch_of c.args.tracker.now) (Ok answer) c.run.new.self) c.as_slice.ensures
+          (subst (λ (w : List (List ℕ)). judges c.args.matcher.now c.as_slice.result.now w (Ok answer) c.run.new.self) c.watch.ensures c.in_ok-verdicts-in-Whole.ensures.exact);
+      kept = subst (λ (js : List Job). AreSameVerdicts (verdicts_of c.judge.new.self) (with_verdicts (watch_of c.args.tracker.now) js (verdicts_of c.args.tracker.now)))
+          c.as_slice-in-Whole.ensures c.in_ok-judge-in-Whole.ensures.ok;
+    })

@@ -4,10 +4,12 @@ use Rattle.cf_peer.specs.declared.peer.Peer.{Peer}
 use Rattle.cf_peer.specs.declared.peer.Reply.{Reply}
 use Rattle.cf_peer.specs.Trail.{heard_part}
 use Rattle.cf_peer.specs.Peer.{IsRight, calm, IsReplySendable}
-use Rattle.cf_tracker.specs.Tracker.{claims_of}
+use Rattle.cf_tracker.specs.Tracker.{claims_of, watch_of}
 use Rattle.cf_hear.specs.Seen.{seen_of}
 use Rattle.cf_hear.specs.Hearing.{HearsNext}
+use Rattle.cf_hear.specs.Judging.{judging_of}
 use Rattle.cf_hear.proofs.Hearing.{midway_fed, midway_quiet, midway_reply, midway_fault, doable_with}
+use Rattle.cf_hear.proofs.Judging.{judged_none, judged_then}
 use Rattle.cf_hear.proofs.hear.hear_piece.Goals as goal
 
 pub loop-reply-init : goal.loop-reply-init
@@ -20,6 +22,7 @@ loop-reply-init g c = record {
   others = λ q ne. refl;
   claims = λ q ne block. refl;
   watch = refl;
+  judged = judged_none g.M.Matcher.judges (watch_of c.args.tracker.now) (judging_of c.args.tracker.now c.args.matcher.now);
   quiet = λ is. ap (λ (x : Peer). calm x) c.in_ok-feed.ensures.fed ∙ is;
 }
 
@@ -37,6 +40,9 @@ loop-reply-preserved-in-Nothing g c = record {
   others = λ q ne. c.in_ok-reply.ensures.others q ne ∙ c.loop-reply.invariant.others q ne;
   claims = λ q ne block. c.in_ok-reply.ensures.claims q ne block ∙ c.loop-reply.invariant.claims q ne block;
   watch = c.in_ok-reply.ensures.watch ∙ c.loop-reply.invariant.watch;
+  judged = judged_then g.M.Matcher.judges (watch_of c.args.tracker.now) (watch_of c.loop-reply.tracker) (judging_of c.args.tracker.now c.args.matcher.now)
+      (judging_of c.loop-reply.tracker c.loop-reply.matcher) (judging_of c.hear_next.new.tracker c.hear_next.new.matcher)
+      c.loop-reply.invariant.judged c.loop-reply.invariant.watch c.in_ok-reply.ensures.judged;
   quiet = λ is. c.in_ok-reply.ensures.calm (c.loop-reply.invariant.quiet is);
 }
 
@@ -55,6 +61,9 @@ loop-reply-preserved g c = record {
   others = λ q ne. c.in_ok-reply.ensures.others q ne ∙ c.loop-reply.invariant.others q ne;
   claims = λ q ne block. c.in_ok-reply.ensures.claims q ne block ∙ c.loop-reply.invariant.claims q ne block;
   watch = c.in_ok-reply.ensures.watch ∙ c.loop-reply.invariant.watch;
+  judged = judged_then g.M.Matcher.judges (watch_of c.args.tracker.now) (watch_of c.loop-reply.tracker) (judging_of c.args.tracker.now c.args.matcher.now)
+      (judging_of c.loop-reply.tracker c.loop-reply.matcher) (judging_of c.hear_next.new.tracker c.hear_next.new.matcher)
+      c.loop-reply.invariant.judged c.loop-reply.invariant.watch c.in_ok-reply.ensures.judged;
   quiet = λ is. c.in_ok-reply.ensures.calm (c.loop-reply.invariant.quiet is);
 }
 
@@ -65,3 +74,15 @@ returns-in-Close-clause-heard g c = λ part holds waits f.
     let stops = subst (λ (o : Option Reply). HearsNext (seen_of c.loop-reply.tracker) (seen_of c.hear_next.new.tracker) c.args.p c.loop-reply.peer c.hear_next.new.peer midway.so_far o) (c.in-Some.is ∙ ap Some c.in-Close.is) answer in
     midway_fault c.args.p c.loop-reply.peer (seen_of c.args.tracker.now) (seen_of c.loop-reply.tracker) (seen_of c.hear_next.new.tracker)
     c.args.acts.now.items c.loop-reply.acts.items part (heard_part c.args.piece.now part) c.in-Close.cause midway stops
+
+pub returns-in-Close-clause-judged : goal.returns-in-Close-clause-judged
+returns-in-Close-clause-judged g c =
+    judged_then g.M.Matcher.judges (watch_of c.args.tracker.now) (watch_of c.loop-reply.tracker) (judging_of c.args.tracker.now c.args.matcher.now)
+    (judging_of c.loop-reply.tracker c.loop-reply.matcher) (judging_of c.hear_next.new.tracker c.hear_next.new.matcher)
+    c.loop-reply.invariant.judged c.loop-reply.invariant.watch c.in_ok-reply.ensures.judged
+
+pub returns-clause-judged : goal.returns-clause-judged
+returns-clause-judged g c =
+    judged_then g.M.Matcher.judges (watch_of c.args.tracker.now) (watch_of c.loop-reply.tracker) (judging_of c.args.tracker.now c.args.matcher.now)
+    (judging_of c.loop-reply.tracker c.loop-reply.matcher) (judging_of c.hear_next.new.tracker c.hear_next.new.matcher)
+    c.loop-reply.invariant.judged c.loop-reply.invariant.watch c.in_ok-reply.ensures.judged
