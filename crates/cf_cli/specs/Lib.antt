@@ -3,7 +3,6 @@ pub mod Reading
 pub mod Retelling
 pub mod Recording
 pub mod Statuses
-pub mod Texts
 pub mod Theorem
 pub mod Proving
 pub mod Serving

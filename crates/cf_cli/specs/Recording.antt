@@ -9,8 +9,8 @@ use Rattle.cf_wires.specs.Log.{Log}
 use Rattle.cf_wires.specs.Session.{session_text}
 use Rattle.cf_input.specs.declared.words.Command.{Command}
 use Rattle.cf_input.specs.declared.words.Command.TheVariants.{Make, Sync}
-use Rattle.cf_cli.specs.declared.status.Status.{Status}
-use Rattle.cf_cli.specs.declared.status.Status.TheVariants.{Done, FileFault, OutFault, NoPeers, Tired, Ended}
+use Rattle.cf_answers.specs.declared.status.Status.{Status}
+use Rattle.cf_answers.specs.declared.status.Status.TheVariants.{Done, FileFault, OutFault, NoPeers, Tired, Ended}
 
 -- the log is told, and its session lines stand under this name; nothing else has changed
 pub record IsRecorded (name : List ℕ) (log : Option Log) (before after : Option Named) : Type 0 where

@@ -10,8 +10,7 @@ ghost use Rattle.cf_cli.specs.Statuses.{has_run, was_refused, was_unbegun};
 ghost use Rattle.cf_cli.specs.Theorem.{Kept, Tallied, AnswersTo, IsOfRun};
 
 use crate::recording::{keep_where, write_record};
-use crate::status::Status;
-use crate::texts::text_of;
+use cf_answers::{Status, text_of};
 use cf_bytes::{Files, Refused, Sink, put_all};
 use cf_client::{End, PeerEnd, sync_over};
 use cf_headers::Lists;

@@ -12,7 +12,7 @@ ghost use Rattle.cf_input.specs.WatchFile.{watch_of};
 ghost use Rattle.cf_wires.specs.Log.{is_real};
 ghost use Rattle.cf_cli.specs.Statuses.{IsReadAs, IsUnread, IsOfFile, IsRefusal, watch_verdict, session_verdict, blocks_read, blocks_verdict, proof_verdict};
 
-use crate::status::{FileCause, Status, Which};
+use cf_answers::{FileCause, Status, Which};
 use cf_bytes::{FileFail, Files, Refused};
 use cf_index::{CheckedChain, read_chain};
 use cf_input::{Proven, Session, read_proof_file, read_session, read_watch};

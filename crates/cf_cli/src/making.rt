@@ -3,7 +3,7 @@ ghost use Rattle.std.specs.Prelude.{◌≡◌};
 ghost use Rattle.cf_bytes.specs.Outside.{HasRisen};
 ghost use Rattle.cf_cli.specs.Making.{IsMaking};
 
-use crate::status::Status;
+use cf_answers::Status;
 use cf_bytes::{FileFail, Files, Refused};
 use cf_make::made_records;
 use std::alloc::Global;

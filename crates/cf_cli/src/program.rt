@@ -27,7 +27,7 @@ use crate::making::make;
 use crate::proving::{check, prove};
 use crate::reading::{filter, scan};
 use crate::serving::serve;
-use crate::status::Status;
+use cf_answers::Status;
 use cf_bytes::{Files, Refused, Sink};
 use cf_conn::Duplex;
 use cf_input::{Command, MOST_TURNS, Word, read_words};

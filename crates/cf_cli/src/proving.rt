@@ -13,7 +13,7 @@ ghost use Rattle.cf_cli.specs.Statuses.{IsJudged, has_run, blocks_verdict, proof
 
 use crate::loading::{load_chain, load_proof};
 use crate::reading::{bytes_line, write};
-use crate::status::Status;
+use cf_answers::Status;
 use cf_block::{Block, Tx, write_tx};
 use cf_bytes::{Files, Hash32, NoMemory, Sink, show};
 use cf_index::{CheckedChain, TxIndex};

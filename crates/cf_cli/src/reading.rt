@@ -9,7 +9,7 @@ ghost use Rattle.cf_cli.specs.Reading.{scan_text, named_line, filter_text, IsWri
 ghost use Rattle.cf_cli.specs.Statuses.{IsJudged, has_run, and_then, watch_verdict, blocks_verdict};
 
 use crate::loading::{load_chain, load_watch};
-use crate::status::Status;
+use cf_answers::Status;
 use cf_bytes::{Files, Hash32, NoMemory, Sink, put_all, show};
 use cf_index::{CheckedChain, Index};
 use cf_scan::{Watch, scan as scan_blocks};

@@ -8,7 +8,7 @@ ghost use Rattle.cf_cli.specs.Serving.{ServesAt, MayServe, ServesChain, IsServin
 ghost use Rattle.cf_cli.specs.Statuses.{IsJudged, blocks_verdict, was_refused};
 
 use crate::loading::load_chain;
-use crate::status::Status;
+use cf_answers::Status;
 use cf_bytes::{Files, Hash32, NoMemory};
 use cf_conn::Duplex;
 use cf_index::{CheckedChain, Index};
