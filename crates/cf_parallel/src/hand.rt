@@ -1,6 +1,7 @@
 //! A thread that judges, as seen by what hands parts over to it.
-ghost use Rattle.std.specs.Prelude.{◌≡◌, map, IfOk, IfSome, IfNone};
+ghost use Rattle.std.specs.Prelude.{◌≡◌, map, IfOk, IfSome, IfNone, OnOk};
 ghost use Rattle.cf_bytes.specs.Outside.{HasRisen};
+ghost use Rattle.cf_tasks.specs.Starting.{IsPut};
 ghost use Rattle.cf_match.specs.Verdicts.{verdict_of};
 
 use crate::gate::Gate;
@@ -52,6 +53,7 @@ pub(crate) fn start<
 ) -> Result<Option<Hand<G, R>>, NoMemory>
     ensures some { IfOk result (λ o. IfSome o (λ _. K.refusals spawner.new ≡ K.refusals spawner.old)) }
     ensures none { IfOk result (λ o. IfNone o (HasRisen (K.refusals spawner.old) (K.refusals spawner.new))) }
+    ensures put { OnOk result (IsPut K.moves spawner.old spawner.new) }
 {
     let gate = Arc::try_clone(gate)?;
     let (parts, theirs) = bounded(alloc, 1)?;

@@ -1,6 +1,7 @@
 //! The matcher of several threads.
-ghost use Rattle.std.specs.Prelude.{◌≡◌, ◌<◌, ◌≤◌, map, IfOk, IfSome};
+ghost use Rattle.std.specs.Prelude.{◌≡◌, ◌<◌, ◌≤◌, ◌-◌, map, IfOk, IfSome};
 ghost use Rattle.std.specs.Arc.{arc_value};
+ghost use Rattle.cf_tasks.specs.Starting.{ArePut};
 ghost use Rattle.cf_match.specs.Verdicts.{verdict_of};
 ghost use Rattle.cf_parallel.specs.Parts.{part_of, in_parts, joined};
 ghost use Rattle.cf_parallel.specs.Sharing.{HasStarted};
@@ -44,7 +45,8 @@ impl<G: Gate, R: Wait + Threads + Drop> Model for Parallel<G, R> {
 }
 
 impl<R: Wait + Threads + Copy + Drop + Send + 'static> Parallel<Open, R> {
-    /// A matcher over so many threads, the caller's among them. There are fewer only where the spawner's count of refusals rose.
+    /// A matcher over so many threads, the caller's among them: for each other one a task is put to the spawner. There are fewer only where its count of
+    /// refusals rose.
     pub fn new<K: Spawner>(
         rt: R,
         alloc: Global,
@@ -55,6 +57,7 @@ impl<R: Wait + Threads + Copy + Drop + Send + 'static> Parallel<Open, R> {
         requires most { workers ≤ 64 }
         ensures parts { IfOk result (λ p. p.parts ≡ workers) }
         ensures threads { IfOk result (λ p. HasStarted p (K.refusals spawner.old) (K.refusals spawner.new)) }
+        ensures put { IfOk result (λ p. ArePut K.moves (p.parts - 1) spawner.old spawner.new) }
     {
         Parallel::with_gate(rt, alloc, spawner, workers, Open)
     }
@@ -76,6 +79,7 @@ impl<G: Gate + Send + Sync + 'static, R: Wait + Threads + Copy + Drop + Send + '
         requires most { workers ≤ 64 }
         ensures parts { IfOk result (λ p. p.parts ≡ workers) }
         ensures threads { IfOk result (λ p. HasStarted p (K.refusals spawner.old) (K.refusals spawner.new)) }
+        ensures put { IfOk result (λ p. ArePut K.moves (p.parts - 1) spawner.old spawner.new) }
     {
         let workers = workers as usize;
         let gate = Arc::new(alloc, gate)?;
@@ -205,6 +209,8 @@ fn put_together(
 }
 
 impl<G: Gate, R: Wait + Threads + Drop> Matcher for Parallel<G, R> {
+    ghost judges = { λ before _ _ _ after. after ≡ before };
+
     fn run(&mut self, jobs: &[Job], watch: &Watch) -> Result<Vec<Verdict>, NoMemory> {
         let parts = self.judge_in_parts(jobs, watch)?;
         put_together(self.alloc, parts.as_slice(), jobs.len())
