@@ -1,3 +1,4 @@
+pub mod Asking
 pub mod Making
 pub mod Reading
 pub mod Retelling

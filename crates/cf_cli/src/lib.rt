@@ -1,4 +1,4 @@
-//! The program: its answers, what it writes, and what is promised of its runs.
+//! The program: what each command does, and what is promised of its runs.
 #![tactic(auto)]
 
 mod addressing;
