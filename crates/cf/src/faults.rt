@@ -1,6 +1,6 @@
 //! What went wrong, told on standard error.
+use cf_answers::Status;
 use cf_bytes::PeerNo;
-use cf_cli::Status;
 use cf_client::PeerEnd;
 use cf_input::{Command, mistake_text, read_words};
 use cf_network::Network;

@@ -7,8 +7,9 @@ mod listener;
 mod outside;
 
 use crate::listener::Listener;
+use cf_answers::{Status, own_text};
 use cf_bytes::{StdFiles, WriterSink, put_all};
-use cf_cli::{Status, own_text, run};
+use cf_cli::run;
 use cf_edge::Edge;
 use cf_tasks::{InThreads, Spawner};
 use std::io;

@@ -1,5 +1,5 @@
 //! What the process is given.
-use cf_cli::Status;
+use cf_answers::Status;
 use cf_input::{Command, read_words};
 use std::alloc::Global;
 use std::random::RandomSource;

@@ -1,7 +1,7 @@
 //! What a user gives: words, watch files and sessions.
 use crate::fields::{file_in, put_digits, put_word, texts_in};
+use cf_answers::own_text;
 use cf_bytes::{Refused, show};
-use cf_cli::own_text;
 use cf_input::{
     Command, PeerNames, Session, Word, mistake_text, read_session, read_watch, read_words,
 };

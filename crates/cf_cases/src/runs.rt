@@ -4,8 +4,9 @@ ghost use Rattle.cf_wires.specs.Memory.{log_of, finished_of};
 
 use crate::fields::{bytes_in, file_in, numbers_in, texts_in};
 use crate::servings::{in_threads, no_link};
+use cf_answers::Status;
 use cf_bytes::{FileFail, Files, MapFiles, VecSink};
-use cf_cli::{Status, run};
+use cf_cli::run;
 use cf_input::read_session;
 use cf_played::Played;
 use cf_wires::MemoryWires;

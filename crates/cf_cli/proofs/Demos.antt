@@ -7,8 +7,8 @@ use Rattle.cf_demo.specs.Demo.{IsDemo}
 use Rattle.cf_input.specs.declared.words.Command.{Command}
 use Rattle.cf_input.specs.declared.words.Command.TheVariants.{Demo as AsksDemo}
 use Rattle.cf_wires.specs.Log.{Log}
-use Rattle.cf_cli.specs.declared.status.Status.{Status}
-use Rattle.cf_cli.specs.declared.status.Status.TheVariants.{Done, NoMemory, Usage, BadFile, FileFault, OutFault, NoPeers, Tired, Ended, LinkFault, NoNonce, NoHeight, NotThere, NotAddress}
+use Rattle.cf_answers.specs.declared.status.Status.{Status}
+use Rattle.cf_answers.specs.declared.status.Status.TheVariants.{Done, NoMemory, Usage, BadFile, FileFault, OutFault, NoPeers, Tired, Ended, LinkFault, NoNonce, NoHeight, NotThere, NotAddress}
 use Rattle.cf_cli.specs.Demo.{IsDemoText, IsDemoed, IsUntold, demo_lines, lines_over, may_show}
 use Rattle.cf_cli.specs.Reading.{IsOfText, IsWritten}
 

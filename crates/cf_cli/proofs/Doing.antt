@@ -16,8 +16,8 @@ use Rattle.cf_input.specs.declared.words.Command.TheVariants.{Replay, Sync, Scan
 use Rattle.cf_input.specs.ProofFile.{proof_file_of}
 use Rattle.cf_input.specs.WatchFile.{watch_of}
 use Rattle.cf_wires.specs.Log.{Tells}
-use Rattle.cf_cli.specs.declared.status.Status.{Status}
-use Rattle.cf_cli.specs.declared.status.Status.TheVariants.{NoMemory}
+use Rattle.cf_answers.specs.declared.status.Status.{Status}
+use Rattle.cf_answers.specs.declared.status.Status.TheVariants.{NoMemory}
 use Rattle.cf_cli.specs.Doing.{Around, Does}
 use Rattle.cf_cli.specs.Proving.{Checks, Proves, TakesWhatIsProved}
 use Rattle.cf_cli.specs.Reading.{Filters, Scans, TellsFilter, TellsHeight}

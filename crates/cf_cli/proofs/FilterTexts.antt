@@ -6,8 +6,8 @@ use Rattle.std.proofs.lemmas.Option.{slice_get_within, slice_get_cases}
 use Rattle.cf_block.specs.declared.tx.Block.{Block}
 use Rattle.cf_chain.specs.Filters.{Filtered, filters_of, filter_at}
 use Rattle.cf_sync.proofs.Ranges.{filters_length}
-use Rattle.cf_cli.specs.declared.status.Status.{Status}
-use Rattle.cf_cli.specs.declared.status.Status.TheVariants.{NoHeight}
+use Rattle.cf_answers.specs.declared.status.Status.{Status}
+use Rattle.cf_answers.specs.declared.status.Status.TheVariants.{NoHeight}
 use Rattle.cf_cli.specs.Reading.{filter_text, IsWritten, TellsFilter, TellsHeight}
 
 above_by : (blocks : List Block) (height : ℕ) → filter_at blocks height ≡ None

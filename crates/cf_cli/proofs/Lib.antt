@@ -1,3 +1,4 @@
+pub mod Asking
 pub mod Records
 pub mod Runs
 pub mod Plays

@@ -19,8 +19,8 @@ use Rattle.cf_wires.specs.Log.{Log, Told, Tells, Tally, tally_of, dials}
 use Rattle.cf_wires.specs.Memory.{script_of, log_of, failing_of, finished_of, told_of}
 use Rattle.cf_wires.specs.Wires.{Script, Made}
 use Rattle.cf_input.specs.declared.session.SessionFault.{SessionFault}
-use Rattle.cf_cli.specs.declared.status.Status.{Status}
-use Rattle.cf_cli.specs.declared.status.Status.TheVariants.{Done, NoMemory, Usage, BadFile, FileFault, OutFault, NoPeers, Tired, Ended, LinkFault, NoNonce, NoHeight, NotThere, NotAddress}
+use Rattle.cf_answers.specs.declared.status.Status.{Status}
+use Rattle.cf_answers.specs.declared.status.Status.TheVariants.{Done, NoMemory, Usage, BadFile, FileFault, OutFault, NoPeers, Tired, Ended, LinkFault, NoNonce, NoHeight, NotThere, NotAddress}
 use Rattle.cf_input.specs.declared.words.Command.{Command}
 use Rattle.cf_input.specs.declared.words.Command.TheVariants.{Replay, Sync}
 use Rattle.cf_input.specs.SessionFile.{session_of}

@@ -21,9 +21,9 @@ use Rattle.cf_scan.specs.HistoryText.{history_text}
 use Rattle.cf_scan.specs.Scan.{scan_of}
 use Rattle.cf_sync.specs.Fetching.{IsQuiet, IsBusy, IsConnected}
 use Rattle.cf_sync.specs.Sync.{SyncTheorem, IsHistoryOf}
-use Rattle.cf_cli.specs.declared.status.Status.{Status}
-use Rattle.cf_cli.specs.declared.status.Status.TheVariants.{Done, NoMemory, Usage, BadFile, FileFault, OutFault, NoPeers, Tired, Ended, LinkFault, NoNonce, NoHeight, NotThere, NotAddress}
-use Rattle.cf_cli.specs.Texts.{run_text}
+use Rattle.cf_answers.specs.declared.status.Status.{Status}
+use Rattle.cf_answers.specs.declared.status.Status.TheVariants.{Done, NoMemory, Usage, BadFile, FileFault, OutFault, NoPeers, Tired, Ended, LinkFault, NoNonce, NoHeight, NotThere, NotAddress}
+use Rattle.cf_answers.specs.Texts.{run_text}
 use Rattle.cf_cli.specs.Theorem.{IsAnswerOf, Settles, IsComplete, Kept, TellsEnds, AnswersTo}
 
 -- the answer, where the text was written

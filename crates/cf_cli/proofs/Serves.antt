@@ -11,8 +11,8 @@ use Rattle.cf_serve.specs.Serving.{Serves}
 use Rattle.cf_serve.specs.declared.fail.ServeFail.{ServeFail}
 use Rattle.cf_serve.specs.declared.fail.ServeFail.TheVariants.{Failed, NoMemory as OutOfMemory}
 use Rattle.cf_service.specs.Machine.{Machine, IsServedBy}
-use Rattle.cf_cli.specs.declared.status.Status.{Status}
-use Rattle.cf_cli.specs.declared.status.Status.TheVariants.{Done, NoMemory, Usage, BadFile, FileFault, OutFault, NoPeers, Tired, Ended, LinkFault, NoNonce, NoHeight, NotThere, NotAddress}
+use Rattle.cf_answers.specs.declared.status.Status.{Status}
+use Rattle.cf_answers.specs.declared.status.Status.TheVariants.{Done, NoMemory, Usage, BadFile, FileFault, OutFault, NoPeers, Tired, Ended, LinkFault, NoNonce, NoHeight, NotThere, NotAddress}
 use Rattle.cf_cli.specs.Statuses.{was_refused}
 use Rattle.cf_cli.specs.Serving.{listening, ServesAt, MayServe, ServesChain, IsServing, answer_of, may_serve}
 use Rattle.cf_input.specs.declared.words.Command.{Command}

@@ -13,7 +13,7 @@ use Rattle.cf_input.specs.declared.words.Command.{Command}
 use Rattle.cf_input.specs.declared.words.Command.TheVariants.{Replay, Sync, Scan, Filter, Address, Prove, Check, Serve, Make, Demo}
 use Rattle.cf_input.specs.SessionFile.{session_of}
 use Rattle.cf_input.specs.Words.{most_turns}
-use Rattle.cf_cli.specs.declared.status.Status.{Status}
+use Rattle.cf_answers.specs.declared.status.Status.{Status}
 use Rattle.cf_cli.specs.Demo.{IsDemoed}
 use Rattle.cf_cli.specs.Making.{IsMaking}
 use Rattle.cf_cli.specs.Proving.{IsProved, IsChecked}

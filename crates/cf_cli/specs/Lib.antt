@@ -1,9 +1,9 @@
+pub mod Asking
 pub mod Making
 pub mod Reading
 pub mod Retelling
 pub mod Recording
 pub mod Statuses
-pub mod Texts
 pub mod Theorem
 pub mod Proving
 pub mod Serving

@@ -4,8 +4,8 @@ use Rattle.cf_bytes.specs.Files.{Named, SameElsewhere, with_file}
 use Rattle.cf_block.specs.declared.tx.Block.{Block}
 use Rattle.cf_make.specs.Made.{IsExtension, StopsAt}
 use Rattle.cf_make.specs.Records.{records_of}
-use Rattle.cf_cli.specs.declared.status.Status.{Status}
-use Rattle.cf_cli.specs.declared.status.Status.TheVariants.{Done, NoMemory, FileFault, NoNonce}
+use Rattle.cf_answers.specs.declared.status.Status.{Status}
+use Rattle.cf_answers.specs.declared.status.Status.TheVariants.{Done, NoMemory, FileFault, NoNonce}
 
 -- the records of the chain of so many blocks that the seed tells stand under this name, and nothing else has changed
 pub record IsMade (seed blocks : ℕ) (file : List ℕ) (before after : Option Named) : Type 0 where

@@ -17,8 +17,8 @@ use Rattle.cf_index.specs.Finding.{first_place, StandsAt}
 use Rattle.cf_input.specs.ProofFile.{proof_file_of}
 use Rattle.cf_input.specs.declared.proof_file.ProofFileFault.{ProofFileFault}
 use Rattle.cf_input.specs.declared.proof_file.Proven.{Proven}
-use Rattle.cf_cli.specs.declared.status.Status.{Status}
-use Rattle.cf_cli.specs.declared.status.Status.TheVariants.{Done, BadFile, OutFault, NotThere}
+use Rattle.cf_answers.specs.declared.status.Status.{Status}
+use Rattle.cf_answers.specs.declared.status.Status.TheVariants.{Done, BadFile, OutFault, NotThere}
 use Rattle.cf_cli.specs.Reading.{named_line, IsWritten, IsUnwritten, IsOfScan, IsOfText}
 
 -- ---- prove

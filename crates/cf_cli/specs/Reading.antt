@@ -16,8 +16,8 @@ use Rattle.cf_input.specs.WatchFile.{watch_of}
 use Rattle.cf_input.specs.declared.watch_file.WatchFileFault.{WatchFileFault}
 use Rattle.cf_scan.specs.HistoryText.{history_text}
 use Rattle.cf_scan.specs.Scan.{scan_of}
-use Rattle.cf_cli.specs.declared.status.Status.{Status}
-use Rattle.cf_cli.specs.declared.status.Status.TheVariants.{Done, NoMemory, BadFile, FileFault, OutFault, NoHeight, NotAddress}
+use Rattle.cf_answers.specs.declared.status.Status.{Status}
+use Rattle.cf_answers.specs.declared.status.Status.TheVariants.{Done, NoMemory, BadFile, FileFault, OutFault, NoHeight, NotAddress}
 
 -- the history of these scripts by a plain scan of every block above genesis, and the chain's tip
 abbrev pub scan_text : List (List ℕ) → List Block → List ℕ

@@ -8,9 +8,9 @@ use Rattle.cf_bytes.specs.declared.outside.Failed.{Failed}
 use Rattle.cf_wires.specs.Log.{Log}
 use Rattle.cf_wires.specs.Session.{session_text}
 use Rattle.cf_input.specs.declared.words.Command.{Command}
-use Rattle.cf_input.specs.declared.words.Command.TheVariants.{Make, Sync}
-use Rattle.cf_cli.specs.declared.status.Status.{Status}
-use Rattle.cf_cli.specs.declared.status.Status.TheVariants.{Done, FileFault, OutFault, NoPeers, Tired, Ended}
+use Rattle.cf_cli.specs.Asking.{name_written}
+use Rattle.cf_answers.specs.declared.status.Status.{Status}
+use Rattle.cf_answers.specs.declared.status.Status.TheVariants.{Done, FileFault, OutFault, NoPeers, Tired, Ended}
 
 -- the log is told, and its session lines stand under this name; nothing else has changed
 pub record IsRecorded (name : List ℕ) (log : Option Log) (before after : Option Named) : Type 0 where
@@ -51,8 +51,7 @@ abbrev pub BlamesFiles : Result (Unit {0}) (Refused Failed) → ℕ → ℕ → 
 BlamesFiles (Err (No failed)) before after = HasRisen before after
 BlamesFiles answer before after = after ≡ before
 
--- whether a command may change a file
+-- whether a command may change a file: where it writes one
 abbrev pub may_write : Option Command → Bool
-may_write (Some (Sync turns workers file watch peers)) = is_some file
-may_write (Some (Make seed blocks file)) = true
-may_write command = false
+may_write (Some command) = is_some (name_written command)
+may_write None = false

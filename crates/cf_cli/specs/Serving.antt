@@ -12,8 +12,8 @@ use Rattle.cf_serve.specs.Serving.{Serves}
 use Rattle.cf_serve.specs.declared.fail.ServeFail.{ServeFail}
 use Rattle.cf_serve.specs.declared.fail.ServeFail.TheVariants.{Failed, NoMemory as OutOfMemory}
 use Rattle.cf_service.specs.Machine.{Machine, IsServedBy}
-use Rattle.cf_cli.specs.declared.status.Status.{Status}
-use Rattle.cf_cli.specs.declared.status.Status.TheVariants.{Done, NoMemory, BadFile, FileFault, LinkFault}
+use Rattle.cf_answers.specs.declared.status.Status.{Status}
+use Rattle.cf_answers.specs.declared.status.Status.TheVariants.{Done, NoMemory, BadFile, FileFault, LinkFault}
 use Rattle.cf_cli.specs.Statuses.{was_refused}
 
 -- it listens at one more address

@@ -9,12 +9,12 @@ use Rattle.cf_index.specs.declared.cause.BadBlock.{BadBlock}
 use Rattle.cf_index.specs.Files.{blocks_at}
 use Rattle.cf_wires.specs.Wires.{Script}
 use Rattle.cf_input.specs.declared.session.SessionFault.{SessionFault}
-use Rattle.cf_cli.specs.declared.status.FileCause.{FileCause}
-use Rattle.cf_cli.specs.declared.status.FileCause.TheVariants.{TooBig, Watch as OfWatch, Session as OfSession, Blocks as OfBlocks, Proof as OfProof}
-use Rattle.cf_cli.specs.declared.status.Status.{Status}
-use Rattle.cf_cli.specs.declared.status.Status.TheVariants.{Done, NoMemory, Usage, BadFile, FileFault, OutFault, NoPeers, Tired, Ended, LinkFault, NoNonce, NoHeight, NotThere, NotAddress}
-use Rattle.cf_cli.specs.declared.status.Which.{Which}
-use Rattle.cf_cli.specs.declared.status.Which.TheVariants.{Watch, Session, Blocks, Proof}
+use Rattle.cf_answers.specs.declared.status.FileCause.{FileCause}
+use Rattle.cf_answers.specs.declared.status.FileCause.TheVariants.{TooBig, Watch as OfWatch, Session as OfSession, Blocks as OfBlocks, Proof as OfProof}
+use Rattle.cf_answers.specs.declared.status.Status.{Status}
+use Rattle.cf_answers.specs.declared.status.Status.TheVariants.{Done, NoMemory, Usage, BadFile, FileFault, OutFault, NoPeers, Tired, Ended, LinkFault, NoNonce, NoHeight, NotThere, NotAddress}
+use Rattle.cf_answers.specs.declared.status.Which.{Which}
+use Rattle.cf_answers.specs.declared.status.Which.TheVariants.{Watch, Session, Blocks, Proof}
 use Rattle.cf_input.specs.declared.watch_file.WatchFileFault.{WatchFileFault}
 use Rattle.cf_input.specs.declared.words.Command.{Command}
 use Rattle.cf_input.specs.declared.words.Command.TheVariants.{Replay, Sync, Scan, Filter, Address, Prove, Check, Serve, Make, Demo}
@@ -23,23 +23,6 @@ use Rattle.cf_input.specs.declared.proof_file.ProofFileFault.{ProofFileFault}
 use Rattle.cf_input.specs.declared.proof_file.Proven.{Proven}
 use Rattle.cf_input.specs.SessionFile.{session_of}
 use Rattle.cf_input.specs.WatchFile.{watch_of}
-
--- the exit status of each answer
-abbrev pub code_of : Status → ℕ
-code_of Done = 0
-code_of NoMemory = 1
-code_of Usage = 2
-code_of (BadFile which place cause) = 3
-code_of FileFault = 4
-code_of OutFault = 5
-code_of (NoPeers ends) = 6
-code_of Tired = 7
-code_of Ended = 8
-code_of LinkFault = 9
-code_of (NoNonce height) = 10
-code_of (NoHeight tip) = 11
-code_of (NotThere txid) = 12
-code_of (NotAddress cause) = 13
 
 -- the most bytes that a watch file, a session file, a block file and the file of a proof may have
 abbrev pub most_watch : ℕ

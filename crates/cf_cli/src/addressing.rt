@@ -5,7 +5,7 @@ ghost use Rattle.cf_cli.specs.Reading.{IsAddressed, IsOfText};
 ghost use Rattle.cf_cli.specs.Statuses.{IsJudged, has_run, no_file};
 
 use crate::reading::write;
-use crate::status::Status;
+use cf_answers::Status;
 use cf_bytes::{NoMemory, Refused, Sink};
 use cf_input::other_form;
 use std::alloc::Global;

@@ -10,7 +10,7 @@ ghost use Rattle.cf_cli.specs.Demo.{IsDemoText, IsDemoed, IsUnrecorded, IsUntold
 ghost use Rattle.cf_cli.specs.Statuses.{IsJudged, has_run, no_file};
 
 use crate::reading::{hash_line, write};
-use crate::status::Status;
+use cf_answers::Status;
 use cf_bytes::{NoMemory, Sink};
 use cf_client::End;
 use cf_demo::{Demo, Unplayed, play_demo, play_session};

@@ -1,5 +1,6 @@
 //! A run of the client over any wires, and what is written of it.
 ghost use Rattle.std.specs.Prelude.{◌≡◌, ◌≤◌, [], length, IfSome, is_some, true, false};
+ghost use Rattle.cf_bytes.specs.Files.{IsAtMostWritten};
 ghost use Rattle.cf_bytes.specs.Outside.{HasRisen};
 ghost use Rattle.cf_client.specs.Names.{names_in};
 ghost use Rattle.cf_client.specs.Run.{Course, HasDialled, HasFailed};
@@ -10,8 +11,7 @@ ghost use Rattle.cf_cli.specs.Statuses.{has_run, was_refused, was_unbegun};
 ghost use Rattle.cf_cli.specs.Theorem.{Kept, Tallied, AnswersTo, IsOfRun};
 
 use crate::recording::{keep_where, write_record};
-use crate::status::Status;
-use crate::texts::text_of;
+use cf_answers::{Status, text_of};
 use cf_bytes::{Files, Refused, Sink, put_all};
 use cf_client::{End, PeerEnd, sync_over};
 use cf_headers::Tree;
@@ -39,6 +39,7 @@ fn status_of(end: End, ends: Vec<PeerEnd>) -> Status
 /// Follows the chains that the peers of these names show, and writes the trace where it is asked for, and the history of the watched scripts and
 /// the tip once nothing is open. The wires are new, and not finished. Where a file is named for the log, its session lines are written to it before
 /// any text.
+#[tactic(auto, using(crate::proofs::Asking::unwritten))]
 pub(crate) fn follow<F: Files, W: Wires, M: Matcher + Drop, O: Sink>(
     alloc: Global,
     files: &mut F,
@@ -67,6 +68,7 @@ pub(crate) fn follow<F: Files, W: Wires, M: Matcher + Drop, O: Sink>(
     ensures out_fault { result ≡ Status.OutFault → HasRisen (O.faults out.old) (O.faults out.new) }
     ensures unwritten { has_run result ≡ false → O.written out.new ≡ O.written out.old }
     ensures begun { was_unbegun result (is_some log_file.now) ≡ false }
+    ensures written { IsAtMostWritten F.writes log_file.now files.old files.new }
 {
     let Ok(store) = Tree::new(alloc) else {
         return Status::NoMemory;

@@ -2,6 +2,7 @@
 ghost use Rattle.std.specs.Prelude.{◌≡◌, ◌≤◌, true, length, IfOk, IfErr, IfSome, IsErrOf, OnOk, Ok};
 ghost use Rattle.std.specs.FinMap as finite;
 ghost use Rattle.std.specs.List.{list_all};
+ghost use Rattle.cf_bytes.specs.Files.{IsRead};
 ghost use Rattle.cf_bytes.specs.Outside.{HasRisen};
 ghost use Rattle.cf_chain.specs.Good.{IsGoodChain};
 ghost use Rattle.cf_index.specs.Files.{blocks_at};
@@ -12,7 +13,7 @@ ghost use Rattle.cf_input.specs.WatchFile.{watch_of};
 ghost use Rattle.cf_wires.specs.Log.{is_real};
 ghost use Rattle.cf_cli.specs.Statuses.{IsReadAs, IsUnread, IsOfFile, IsRefusal, watch_verdict, session_verdict, blocks_read, blocks_verdict, proof_verdict};
 
-use crate::status::{FileCause, Status, Which};
+use cf_answers::{FileCause, Status, Which};
 use cf_bytes::{FileFail, Files, Refused};
 use cf_index::{CheckedChain, read_chain};
 use cf_input::{Proven, Session, read_proof_file, read_session, read_watch};
@@ -47,6 +48,7 @@ fn unread(fail: FileFail, which: Which) -> Status
 }
 
 /// Reads the scripts that are watched.
+#[tactic(auto, using(crate::proofs::Asking::is_read))]
 pub(crate) fn load_watch<F: Files>(
     alloc: Global,
     files: &mut F,
@@ -58,6 +60,7 @@ pub(crate) fn load_watch<F: Files>(
     ensures fault { IsErrOf result Status.FileFault → HasRisen (F.faults files.old) (F.faults files.new) }
     ensures kept { OnOk result (F.faults files.new ≡ F.faults files.old) }
     ensures only { IfErr result IsOfFile }
+    ensures files { IsRead F.reads name.now files.old files.new }
 {
     match files.read(alloc, name, MOST_WATCH) {
         Ok(bytes) => match read_watch(alloc, &bytes) {
@@ -74,6 +77,7 @@ pub(crate) fn load_watch<F: Files>(
 }
 
 /// Reads a session.
+#[tactic(auto, using(crate::proofs::Asking::is_read))]
 pub(crate) fn load_session<F: Files>(
     alloc: Global,
     files: &mut F,
@@ -87,6 +91,7 @@ pub(crate) fn load_session<F: Files>(
     ensures same { F.files files.new ≡ F.files files.old }
     ensures fault { IsErrOf result Status.FileFault → HasRisen (F.faults files.old) (F.faults files.new) }
     ensures only { IfErr result IsOfFile }
+    ensures files { IsRead F.reads name.now files.old files.new }
 {
     match files.read(alloc, name, MOST_SESSION) {
         Ok(bytes) => match read_session(alloc, &bytes) {
@@ -121,6 +126,7 @@ fn chain_of(alloc: Global, bytes: Vec<u8>) -> Result<CheckedChain, Status>
 }
 
 /// Reads a chain of blocks, and checks it.
+#[tactic(auto, using(crate::proofs::Asking::is_read))]
 pub(crate) fn load_chain<F: Files>(
     alloc: Global,
     files: &mut F,
@@ -132,6 +138,7 @@ pub(crate) fn load_chain<F: Files>(
     ensures same { F.files files.new ≡ F.files files.old }
     ensures fault { IsErrOf result Status.FileFault → HasRisen (F.faults files.old) (F.faults files.new) }
     ensures only { IfErr result IsOfFile }
+    ensures files { IsRead F.reads name.now files.old files.new }
 {
     match files.read(alloc, name, MOST_BLOCKS) {
         Ok(bytes) => chain_of(alloc, bytes),
@@ -140,6 +147,7 @@ pub(crate) fn load_chain<F: Files>(
 }
 
 /// Reads what the file of a proof proves.
+#[tactic(auto, using(crate::proofs::Asking::is_read))]
 pub(crate) fn load_proof<F: Files>(
     alloc: Global,
     files: &mut F,
@@ -150,6 +158,7 @@ pub(crate) fn load_proof<F: Files>(
     ensures same { F.files files.new ≡ F.files files.old }
     ensures fault { IsErrOf result Status.FileFault → HasRisen (F.faults files.old) (F.faults files.new) }
     ensures only { IfErr result IsOfFile }
+    ensures files { IsRead F.reads name.now files.old files.new }
 {
     match files.read(alloc, name, MOST_PROOF) {
         Ok(bytes) => match read_proof_file(alloc, &bytes) {

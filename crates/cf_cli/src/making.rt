@@ -1,9 +1,10 @@
 //! A made chain, written to a block file.
-ghost use Rattle.std.specs.Prelude.{◌≡◌};
+ghost use Rattle.std.specs.Prelude.{◌≡◌, Some};
+ghost use Rattle.cf_bytes.specs.Files.{IsAtMostWritten};
 ghost use Rattle.cf_bytes.specs.Outside.{HasRisen};
 ghost use Rattle.cf_cli.specs.Making.{IsMaking};
 
-use crate::status::Status;
+use cf_answers::Status;
 use cf_bytes::{FileFail, Files, Refused};
 use cf_make::made_records;
 use std::alloc::Global;
@@ -22,6 +23,7 @@ pub(crate) fn make<F: Files>(
 ) -> Status
     ensures made { IsMaking result seed blocks file.now (F.files files.old) (F.files files.new) }
     ensures file_fault { result ≡ Status.FileFault → HasRisen (F.faults files.old) (F.faults files.new) }
+    ensures files { IsAtMostWritten F.writes (Some file.now) files.old files.new }
 {
     if blocks > MOST_BLOCKS {
         return Status::NoMemory;

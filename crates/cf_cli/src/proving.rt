@@ -3,6 +3,7 @@ ghost use Rattle.std.specs.Prelude.{◌≡◌, ◌<◌, ◌≤◌, false, length
 ghost use Rattle.std.specs.FinMap as finite;
 ghost use Rattle.hex.specs.Hex.{IsBytes};
 ghost use Rattle.cf_block.specs.Tx.{tx_spelling};
+ghost use Rattle.cf_bytes.specs.Files.{IsRead};
 ghost use Rattle.cf_bytes.specs.Outside.{HasRisen};
 ghost use Rattle.cf_chain.specs.Good.{IsGoodChain};
 ghost use Rattle.cf_cli.specs.Proving.{proof_text, in_text, IsTextAt, GivesProofText, TellsProof, Checks, IsOfFind, IsOfProve, IsProved, IsChecked};
@@ -13,7 +14,7 @@ ghost use Rattle.cf_cli.specs.Statuses.{IsJudged, has_run, blocks_verdict, proof
 
 use crate::loading::{load_chain, load_proof};
 use crate::reading::{bytes_line, write};
-use crate::status::Status;
+use cf_answers::Status;
 use cf_block::{Block, Tx, write_tx};
 use cf_bytes::{Files, Hash32, NoMemory, Sink, show};
 use cf_index::{CheckedChain, TxIndex};
@@ -95,6 +96,7 @@ pub(crate) fn prove<F: Files, O: Sink>(
     ensures judged { IfSome (F.files files.old) (λ m. IsJudged (blocks_verdict (finite.get m file.now)) result) }
     ensures proved { IsProved result (F.files files.old) file.now txid.now (O.written out.old) (O.written out.new) }
     ensures unchanged { F.files files.new ≡ F.files files.old }
+    ensures files { IsRead F.reads file.now files.old files.new }
     ensures unwritten { has_run result ≡ false → O.written out.new ≡ O.written out.old }
     ensures file_fault { result ≡ Status.FileFault → HasRisen (F.faults files.old) (F.faults files.new) }
     ensures out_fault { result ≡ Status.OutFault → HasRisen (O.faults out.old) (O.faults out.new) }
@@ -149,6 +151,7 @@ fn check_file<F: Files, O: Sink>(alloc: Global, files: &mut F, file: &str, out: 
     ensures answers { IsOfScan result (O.written out.old) (O.written out.new) }
     ensures told { IfSome (F.files files.old) (λ m. IfSome (finite.get m file.now) (λ b. Checks result (proof_file_of b) (O.written out.old) (O.written out.new))) }
     ensures unchanged { F.files files.new ≡ F.files files.old }
+    ensures files { IsRead F.reads file.now files.old files.new }
     ensures unwritten { has_run result ≡ false → O.written out.new ≡ O.written out.old }
     ensures file_fault { result ≡ Status.FileFault → HasRisen (F.faults files.old) (F.faults files.new) }
     ensures out_fault { result ≡ Status.OutFault → HasRisen (O.faults out.old) (O.faults out.new) }
@@ -169,6 +172,7 @@ pub(crate) fn check<F: Files, O: Sink>(
     ensures judged { IfSome (F.files files.old) (λ m. IsJudged (proof_verdict (finite.get m file.now)) result) }
     ensures checked { IsChecked result (F.files files.old) file.now (O.written out.old) (O.written out.new) }
     ensures unchanged { F.files files.new ≡ F.files files.old }
+    ensures files { IsRead F.reads file.now files.old files.new }
     ensures unwritten { has_run result ≡ false → O.written out.new ≡ O.written out.old }
     ensures file_fault { result ≡ Status.FileFault → HasRisen (F.faults files.old) (F.faults files.new) }
     ensures out_fault { result ≡ Status.OutFault → HasRisen (O.faults out.old) (O.faults out.new) }

@@ -1,5 +1,6 @@
 //! The record of a run: what passed its wires, as a session file.
 ghost use Rattle.std.specs.Prelude.{◌≡◌, ◌≤◌, [], is_some, IsSome, true};
+ghost use Rattle.cf_bytes.specs.Files.{IsAtMostWritten};
 ghost use Rattle.cf_wires.specs.Log.{Tells};
 ghost use Rattle.cf_cli.specs.Recording.{IsRecording, BlamesFiles};
 
@@ -35,6 +36,7 @@ pub(crate) fn write_record<F: Files, W: Wires>(
     requires told { is_some log_file.now ≡ true → IsSome (W.told wires.now).log }
     ensures files { IsRecording result log_file.now (W.told wires.now).log (F.files files.old) (F.files files.new) }
     ensures count { BlamesFiles result (F.faults files.old) (F.faults files.new) }
+    ensures written { IsAtMostWritten F.writes log_file.now files.old files.new }
 {
     let Some(name) = log_file else {
         return Ok(());

@@ -1,6 +1,6 @@
 //! Rows with calls of the program, and what of them several calls need.
+use cf_answers::Status;
 use cf_bytes::{Files, MapFiles};
-use cf_cli::Status;
 use std::alloc::Global;
 
 /// A row of a chain that is served and followed.

@@ -1,4 +1,4 @@
-use Rattle.std.proofs.Common.{ℤ, rules, refl, subst}
+use Rattle.std.proofs.Common.{ℤ, inr, rules, refl, subst}
 use Rattle.std.proofs.Math.Facts.{to_z-of_z}
 use Rattle.std.specs.Int.{w64}
 use Rattle.cf_serve.specs.Links.{LinkTold, link_now}
@@ -163,3 +163,33 @@ returns-in-Make-clause-does g c = rw c.in-Make.is (rw c.as_str-in-Make.ensures a
 
 pub returns-in-Demo-clause-does : goal.returns-in-Demo-clause-does
 returns-in-Demo-clause-does g c = rw c.in-Demo.is c.demo.ensures.demoed
+
+pub returns-in-Replay-clause-files : goal.returns-in-Replay-clause-files
+returns-in-Replay-clause-files g c = rw c.in-Replay.is (rw (c.as_str.ensures, c.as_str-in-Replay.ensures) at c.replay.ensures.files)
+
+pub returns-in-Sync-clause-files : goal.returns-in-Sync-clause-files
+returns-in-Sync-clause-files g c = rw c.in-Sync.is (rw c.as_str-in-Sync.ensures at c.sync.ensures.files)
+
+pub returns-in-Scan-clause-files : goal.returns-in-Scan-clause-files
+returns-in-Scan-clause-files g c = rw c.in-Scan.is (c.scan.new.files, rw (c.as_str-in-Scan.ensures, c.as_str-in-Scan-2.ensures) at c.scan.ensures.files, refl)
+
+pub returns-in-Filter-clause-files : goal.returns-in-Filter-clause-files
+returns-in-Filter-clause-files g c = rw c.in-Filter.is (c.filter.new.files, inr (c.filter.new.files, rw c.as_str-in-Filter.ensures at c.filter.ensures.files, refl), refl)
+
+pub returns-in-Address-clause-files : goal.returns-in-Address-clause-files
+returns-in-Address-clause-files g c = rw c.in-Address.is (c.args.files.now, refl, refl)
+
+pub returns-in-Prove-clause-files : goal.returns-in-Prove-clause-files
+returns-in-Prove-clause-files g c = rw c.in-Prove.is (c.prove.new.files, inr (c.prove.new.files, rw c.as_str-in-Prove.ensures at c.prove.ensures.files, refl), refl)
+
+pub returns-in-Check-clause-files : goal.returns-in-Check-clause-files
+returns-in-Check-clause-files g c = rw c.in-Check.is (c.check.new.files, inr (c.check.new.files, rw c.as_str-in-Check.ensures at c.check.ensures.files, refl), refl)
+
+pub returns-in-Serve-clause-files : goal.returns-in-Serve-clause-files
+returns-in-Serve-clause-files g c = rw c.in-Serve.is (c.serve.new.files, inr (c.serve.new.files, rw c.as_str-in-Serve.ensures at c.serve.ensures.files, refl), refl)
+
+pub returns-in-Make-clause-files : goal.returns-in-Make-clause-files
+returns-in-Make-clause-files g c = rw c.in-Make.is (c.args.files.now, refl, rw c.as_str-in-Make.ensures at c.make.ensures.files)
+
+pub returns-in-Demo-clause-files : goal.returns-in-Demo-clause-files
+returns-in-Demo-clause-files g c = rw c.in-Demo.is (c.args.files.now, refl, refl)

@@ -1,8 +1,11 @@
 use Rattle.std.proofs.Common.{rules, w64}
 use Rattle.std.proofs.Math.Facts.{to_z-of_z}
+use Rattle.cf_client.specs.Names.{names_in}
+use Rattle.cf_input.specs.Words.{command_of}
 use Rattle.cf_wires.specs.Memory.{told_of}
 use Rattle.cf_client.proofs.Versions.{new_words}
 use Rattle.cf_cli.proofs.Plays.{versions_so, unplayed_words, new_tape, new_unfailed, judged_for, unused_wires, unused_tape}
+use Rattle.cf_cli.proofs.Asking.{asked_so, unasked}
 use Rattle.cf_cli.proofs.Records.{unused_files}
 use Rattle.cf_cli.proofs.Demos.{unused_played}
 use Rattle.cf_cli.proofs.Serves.{unused_link}
@@ -65,3 +68,9 @@ returns-in-Ok-clause-does g c =
 
 pub returns-in-Err-NoMemory-clause-does : goal.returns-in-Err-NoMemory-clause-does
 returns-in-Err-NoMemory-clause-does g c = λ command asked. undone command c.args.moment c.args.nonce _ c.requires.wires (new_tape c.args.tape.now c.requires.log) c.requires.log
+
+pub returns-in-Ok-clause-files : goal.returns-in-Ok-clause-files
+returns-in-Ok-clause-files g c = asked_so g.F.Files.reads g.F.Files.writes _ c.in-Ok.command _ _ c.in-Ok.ensures.exact c.perform.ensures.files
+
+pub returns-in-Err-NoMemory-clause-files : goal.returns-in-Err-NoMemory-clause-files
+returns-in-Err-NoMemory-clause-files g c = unasked g.F.Files.reads g.F.Files.writes (command_of (names_in c.args.words.now)) c.args.files.now

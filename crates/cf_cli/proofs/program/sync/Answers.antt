@@ -1,10 +1,11 @@
-use Rattle.std.proofs.Common.{false, rules}
+use Rattle.std.proofs.Common.{false, inr, refl, rules}
 use Rattle.std.proofs.Math.Facts.{to_z-of_z}
 use Rattle.std.specs.Int.{w64}
 use Rattle.std.specs.Prelude.{is_some}
 use Rattle.cf_client.specs.Names.{names_in}
 use Rattle.cf_client.proofs.Versions.{new_words}
 use Rattle.cf_cli.proofs.Plays.{versions_so, early_told, early_tallied, new_dialled, new_unfailed, told_over_watch}
+use Rattle.cf_cli.proofs.Asking.{unwritten}
 use Rattle.cf_cli.proofs.Records.{early_records, judged_once_begun, records_from}
 use Rattle.cf_cli.proofs.program.sync.Goals as goal
 
@@ -50,3 +51,11 @@ returns-clause-versions g c =
 pub returns-clause-judged : goal.returns-clause-judged
 returns-clause-judged g c =
     judged_once_begun (g.F.Files.files c.args.files.now) c.args.watch.now c.follow.result (is_some c.args.log_file.now) c.in-Ok.ensures.answer c.follow.ensures.begun
+
+pub returns-in-Err-clause-files : goal.returns-in-Err-clause-files
+returns-in-Err-clause-files g c =
+    (c.load_watch.new.files, inr (c.load_watch.new.files, c.load_watch.ensures.files, refl), unwritten g.F.Files.writes c.args.log_file.now c.load_watch.new.files)
+
+pub returns-in_default-clause-files : goal.returns-in_default-clause-files
+returns-in_default-clause-files g c =
+    (c.load_watch.new.files, inr (c.load_watch.new.files, c.load_watch.ensures.files, refl), unwritten g.F.Files.writes c.args.log_file.now c.load_watch.new.files)

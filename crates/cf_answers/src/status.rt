@@ -1,8 +1,8 @@
 //! The answers of the program.
 ghost use Rattle.std.specs.Prelude.{◌≡◌, ◌≢◌};
-ghost use Rattle.cf_cli.specs.Statuses.{code_of};
-ghost use Rattle.cf_cli.specs.declared.status.Which.TheVariants.{Blocks};
-ghost use Rattle.cf_cli.specs.declared.status.Spot.TheVariants.{Line, Nowhere, Record};
+ghost use Rattle.cf_answers.specs.Codes.{code_of};
+ghost use Rattle.cf_answers.specs.declared.status.Which.TheVariants.{Blocks};
+ghost use Rattle.cf_answers.specs.declared.status.Spot.TheVariants.{Line, Nowhere, Record};
 
 use cf_bytes::Hash32;
 use cf_client::PeerEnd;

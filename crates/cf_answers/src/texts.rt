@@ -1,6 +1,6 @@
 //! What the program writes of a run.
 ghost use Rattle.std.specs.Prelude.{◌≡◌, ◌≤◌, ◌++◌, length, IfOk, OnOk};
-ghost use Rattle.cf_cli.specs.Texts.{cause_name as cause_of, command_name as command_of, trace_line, trace_text, end_text, run_text};
+ghost use Rattle.cf_answers.specs.Texts.{cause_name as cause_of, command_name as command_of, trace_line, trace_text, end_text, run_text};
 
 use cf_bytes::{Hash32, NoMemory};
 use cf_client::{End, Outcome, TraceLine};
@@ -99,7 +99,7 @@ fn put_end(
 }
 
 /// The text of a run: its trace where it is asked for, and then, where it is synced, the history and the tip.
-pub(crate) fn text_of(alloc: Global, outcome: &Outcome, trace: bool) -> Result<Vec<u8>, NoMemory>
+pub fn text_of(alloc: Global, outcome: &Outcome, trace: bool) -> Result<Vec<u8>, NoMemory>
     ensures { IfOk result (λ text. text.items ≡ run_text trace outcome.now.trace.items outcome.now.end outcome.now.history outcome.now.height outcome.now.tip) }
 {
     let mut text = Vec::new(alloc);
