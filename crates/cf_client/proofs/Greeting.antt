@@ -6,6 +6,7 @@ use Rattle.std.proofs.lemmas.Bool.{cases_eq, both_ways}
 use Rattle.std.proofs.lemmas.List.Elements.{All-nil, All-cons}
 use Rattle.cf_bytes.specs.declared.peer.PeerNo.{PeerNo}
 use Rattle.cf_headers.specs.declared.store.HeaderStore.{Ghosts}
+use Rattle.cf_match.specs.declared.matcher.Matcher.{Ghosts as MatcherGhosts}
 use Rattle.cf_msg.specs.declared.msg.Msg.{Msg}
 use Rattle.cf_msg.specs.declared.msg.Msg.TheVariants.{Version}
 use Rattle.cf_peer.specs.declared.act.Act.{Act}
@@ -65,14 +66,14 @@ place_greeted : (place : Place) (part : Part) → Fits place part → IsGreetedO
 place_greeted (Here peer) part keeps = λ on. keeps.holds.called
 place_greeted (LostPlace loss) part lost = off_greeted part.trail lost.off
 
-pub reflects_greeted : {H M : Type 0} {g : Ghosts H} (c : Client H M g) (log : Log) → Reflects c log → AreGreeted log
+pub reflects_greeted : {H M : Type 0} {g : Ghosts H} {j : MatcherGhosts M} (c : Client H M g j) (log : Log) → Reflects c log → AreGreeted log
 reflects_greeted c log reflects = λ p. place_greeted (place_at c.places.items p) (part_of log p) (reflects.places.each p)
 
 -- after a delivery, and after a failed send
-pub reflects_took : {H M : Type 0} {g : Ghosts H} (c : Client H M g) (log : Log) (d : Delivery) → Reflects c log → AreGreeted (Took d ∷ log)
+pub reflects_took : {H M : Type 0} {g : Ghosts H} {j : MatcherGhosts M} (c : Client H M g j) (log : Log) (d : Delivery) → Reflects c log → AreGreeted (Took d ∷ log)
 reflects_took c log d reflects = took_greeted log d (reflects_greeted c log reflects)
 
-pub reflects_cut : {H M : Type 0} {g : Ghosts H} (c : Client H M g) (p : PeerNo) (log cut : Log) → CutFor p log cut → Reflects c log → AreGreeted cut
+pub reflects_cut : {H M : Type 0} {g : Ghosts H} {j : MatcherGhosts M} (c : Client H M g j) (p : PeerNo) (log cut : Log) → CutFor p log cut → Reflects c log → AreGreeted cut
 reflects_cut c p log cut is reflects = λ q. elim (cases_eq q p.0) [
   | inl same ↦ off_greeted (trail cut q) (ap (λ (k : ℕ). connected (trail cut k)) same ∙ is.off)
   | inr other ↦ subst (λ (x : Part). IsGreetedOn x.trail) (sym (is.others q other)) (reflects_greeted c log reflects q)

@@ -4,6 +4,7 @@ use Rattle.std.specs.Prelude.{not, ◌&&◌, ◌||◌, nat_le}
 use Rattle.std.proofs.lemmas.Bool.{cases_Bool, both_ways, false≢true, and_parts}
 use Rattle.std.proofs.lemmas.Bool.Decides.{nat_tests}
 use Rattle.cf_headers.specs.declared.store.HeaderStore.{Ghosts}
+use Rattle.cf_match.specs.declared.matcher.Matcher.{Ghosts as MatcherGhosts}
 use Rattle.cf_peer.specs.declared.peer.Cause.{Cause}
 use Rattle.cf_peer.specs.declared.peer.Peer.{Peer}
 use Rattle.cf_wires.specs.Log.{Log}
@@ -52,7 +53,7 @@ place_innocent : (place : Place) (part : Part) (cause : Cause) → Fits place pa
 place_innocent (Here peer) part cause fits is on deserves = peer_innocent peer part.trail cause fits.holds is deserves
 place_innocent (LostPlace end) part cause lost is on deserves = both_ways (connected part.trail) lost.off on
 
-pub innocent : {H M : Type 0} {g : Ghosts H} (c : Client H M g) (log : Log) → Reflects c log → IsInnocent log
+pub innocent : {H M : Type 0} {g : Ghosts H} {j : MatcherGhosts M} (c : Client H M g j) (log : Log) → Reflects c log → IsInnocent log
 innocent c log reflects = λ p on cause deserves.
     place_innocent (place_at c.places.items p) (part_of log p) cause (reflects.places.each p) (settled_calm (place_at c.places.items p) ((c.settled reflects.alive).each p)) on deserves
 
@@ -60,5 +61,5 @@ place_answered : (place : Place) (part : Part) → Fits place part → connected
 place_answered (Here peer) part keeps on = keeps.answered
 place_answered (LostPlace end) part lost on = absurd (both_ways (connected part.trail) lost.off on)
 
-pub answered : {H M : Type 0} {g : Ghosts H} (c : Client H M g) (log : Log) → Reflects c log → AreAnswered log
+pub answered : {H M : Type 0} {g : Ghosts H} {j : MatcherGhosts M} (c : Client H M g j) (log : Log) → Reflects c log → AreAnswered log
 answered c log reflects = λ p on. place_answered (place_at c.places.items p) (part_of log p) (reflects.places.each p) on

@@ -23,6 +23,7 @@ use Rattle.cf_peer.specs.Trail.{Trail, Part, Why, Item, Asked, Lost, Failing, Sh
 use Rattle.cf_dispute.specs.Claims.{Table}
 use Rattle.cf_peer.specs.Asking.{request, is_open, is_spare, counted, fetched, given, Deserves, MayAsk}
 use Rattle.cf_headers.specs.declared.store.HeaderStore.{Ghosts}
+use Rattle.cf_match.specs.declared.matcher.Matcher.{Ghosts as MatcherGhosts}
 use Rattle.cf_sync.specs.Fetching.{IsNoneFetching, IsAlone, counted_part}
 use Rattle.cf_sync.specs.Kept.{claims_kept}
 use Rattle.cf_sync.proofs.VerdictsGrow.{same_given}
@@ -711,7 +712,7 @@ claims_alike t u (inl same) = ap (λ (x : Part). claims_kept x.trail) same
 claims_alike t u (inr off) = rw (off.0, off.1) refl
 
 -- with no failure pending the client reflects the actual log
-pub all_told : {H M : Type 0} {g : Ghosts H} (c : Client H M g) (progress : Progress) (called : List (List ℕ)) (planned : Log) (t : Told) → ((q : ℕ) → is_pending (state_at progress.sends q) ≡ false)
+pub all_told : {H M : Type 0} {g : Ghosts H} {j : MatcherGhosts M} (c : Client H M g j) (progress : Progress) (called : List (List ℕ)) (planned : Log) (t : Told) → ((q : ℕ) → is_pending (state_at progress.sends q) ≡ false)
     → Reflects c planned → Doing (watch_by c) [] progress called planned t → HoldsOver c progress called t
 all_told c progress called planned t none reflects doing =
     let told : (q : ℕ) → is_untold doing.actual q ≡ false = λ q. elim (cases_Bool (is_untold doing.actual q)) [
@@ -747,6 +748,6 @@ in_use acts progress called planned t p is doing = elim (cases_lt (tally_of doin
 ]
 
 -- and so it has a number that the client uses
-pub in_count : {H M : Type 0} {g : Ghosts H} {watch : List (List ℕ)} (c : Client H M g) (acts : List Act) (progress : Progress) (called : List (List ℕ)) (planned : Log) (t : Told) (p : ℕ)
+pub in_count : {H M : Type 0} {g : Ghosts H} {j : MatcherGhosts M} {watch : List (List ℕ)} (c : Client H M g j) (acts : List Act) (progress : Progress) (called : List (List ℕ)) (planned : Log) (t : Told) (p : ℕ)
     → is_pending (state_at progress.sends p) ≡ true → Reflects c planned → Doing watch acts progress called planned t → p < count_of c
 in_count c acts progress called planned t p is reflects doing = (let used = in_use acts progress called planned t p is doing in omega (arith, used, reflects.places.count))

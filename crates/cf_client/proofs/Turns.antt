@@ -11,6 +11,7 @@ use Rattle.cf_frame.specs.declared.frame.Frame.{Frame}
 use Rattle.cf_frame.specs.declared.frame.FrameFault.{FrameFault}
 use Rattle.cf_frame.specs.Stream.{read_stream}
 use Rattle.cf_headers.specs.declared.store.HeaderStore.{Ghosts}
+use Rattle.cf_match.specs.declared.matcher.Matcher.{Ghosts as MatcherGhosts}
 use Rattle.cf_msg.specs.declared.msg.Malformed.{Malformed}
 use Rattle.cf_msg.specs.declared.msg.Msg.{Msg}
 use Rattle.cf_msg.specs.Reading.{message_of}
@@ -77,7 +78,7 @@ pub doing_watch : {watch now : List (List ℕ)} {acts : List Act} {progress : Pr
 doing_watch {acts = acts} {progress = progress} {called = called} {planned = planned} {t = t} same doing = subst (λ (w : List (List ℕ)). Doing w acts progress called planned t) (sym same) doing
 
 -- with every failed send told, the client's log is as it is, whatever is to be done
-same_doing : {H M : Type 0} {g : Ghosts H} (c : Client H M g) (acts : List Act) (progress : Progress) (called : List (List ℕ)) (names : List (List ℕ)) (t u : Told) (holds : HoldsOver c progress called t) (e : Event)
+same_doing : {H M : Type 0} {g : Ghosts H} {j : MatcherGhosts M} (c : Client H M g j) (acts : List Act) (progress : Progress) (called : List (List ℕ)) (names : List (List ℕ)) (t u : Told) (holds : HoldsOver c progress called t) (e : Event)
     → Notes (watch_by c) progress names (e ∷ holds.actual) u → ((q : ℕ) → is_untold (e ∷ holds.actual) q ≡ false) → Doing (watch_by c) acts progress names (e ∷ holds.actual) u
 same_doing c acts progress called names t u holds e notes told = record {
   actual = e ∷ holds.actual;
@@ -92,7 +93,7 @@ same_doing c acts progress called names t u holds e notes told = record {
 }
 
 -- between two calls of the client its log is in order
-pub orderly : {H M : Type 0} {g : Ghosts H} (c : Client H M g) (progress : Progress) (called : List (List ℕ)) (t : Told) (holds : HoldsOver c progress called t) → IsOrderly holds.actual
+pub orderly : {H M : Type 0} {g : Ghosts H} {j : MatcherGhosts M} (c : Client H M g j) (progress : Progress) (called : List (List ℕ)) (t : Told) (holds : HoldsOver c progress called t) → IsOrderly holds.actual
 orderly c progress called t holds = record {
   innocent = innocent c holds.actual holds.reflects;
   answered = answered c holds.actual holds.reflects;
@@ -104,7 +105,7 @@ untaken_so : (log : Log) (t : Told) → Tells log t → t.tally.taken ≡ 0 → 
 untaken_so log t tells untaken unended = (sym (ap (λ (x : Tally). x.taken) tells.counts) ∙ untaken, sym (ap (λ (x : Tally). x.ended) tells.counts) ∙ unended)
 
 -- a peer is dialled
-pub dial_doing : {H M : Type 0} {g : Ghosts H} (c : Client H M g) (acts : List Act) (progress : Progress) (called : List (List ℕ)) (t : Told) (p : PeerNo) (name : List ℕ) (holds : HoldsOver c progress called t)
+pub dial_doing : {H M : Type 0} {g : Ghosts H} {j : MatcherGhosts M} (c : Client H M g j) (acts : List Act) (progress : Progress) (called : List (List ℕ)) (t : Told) (p : PeerNo) (name : List ℕ) (holds : HoldsOver c progress called t)
     → p.0 ≡ t.tally.dials + 1 → t.tally.dials < 8 → t.tally.taken ≡ 0 → t.tally.ended ≡ 0
     → Doing (watch_by c) acts progress (called ++ name ∷ []) (Dialled p name ∷ holds.actual) (tell (Dialled p name) t)
 dial_doing c acts progress called t p name holds is room untaken unended =
@@ -131,7 +132,7 @@ dial_doing c acts progress called t p name holds is room untaken unended =
     holds.told_all
 
 -- a dial fails
-pub not_dialled_holds : {H M : Type 0} {g : Ghosts H} (c d : Client H M g) (progress : Progress) (called : List (List ℕ)) (t : Told) (p : PeerNo) (name : List ℕ) (holds : HoldsOver c progress called t)
+pub not_dialled_holds : {H M : Type 0} {g : Ghosts H} {j : MatcherGhosts M} (c d : Client H M g j) (progress : Progress) (called : List (List ℕ)) (t : Told) (p : PeerNo) (name : List ℕ) (holds : HoldsOver c progress called t)
     → p.0 ≡ t.tally.dials + 1 → t.tally.dials < 8 → t.tally.taken ≡ 0 → t.tally.ended ≡ 0
     → watch_by d ≡ watch_by c → Reflects d (NotDialled p name ∷ holds.actual)
     → HoldsOver d progress (called ++ name ∷ []) (tell (NotDialled p name) t)
@@ -199,13 +200,13 @@ took_notes progress called log t d is notes busy in_order = record {
 }
 
 -- a delivery is taken
-pub took_doing : {H M : Type 0} {g : Ghosts H} (c : Client H M g) (acts : List Act) (progress : Progress) (called : List (List ℕ)) (t : Told) (d : Delivery) → AreBytesOf d → (holds : HoldsOver c progress called t) → IsBusy holds.actual
+pub took_doing : {H M : Type 0} {g : Ghosts H} {j : MatcherGhosts M} (c : Client H M g j) (acts : List Act) (progress : Progress) (called : List (List ℕ)) (t : Told) (d : Delivery) → AreBytesOf d → (holds : HoldsOver c progress called t) → IsBusy holds.actual
     → Doing (watch_by c) acts progress called (Took d ∷ holds.actual) (tell (Took d) t)
 took_doing c acts progress called t d is holds busy =
     same_doing c acts progress called called t (tell (Took d) t) holds (Took d) (took_notes progress called holds.actual t d is holds.notes busy (orderly c progress called t holds)) (λ q. refl)
 
 -- the wires have no more to give
-pub ended_stops : {H M : Type 0} {g : Ghosts H} (c : Client H M g) (progress : Progress) (called : List (List ℕ)) (t : Told) (holds : HoldsOver c progress called t) → IsBusy holds.actual
+pub ended_stops : {H M : Type 0} {g : Ghosts H} {j : MatcherGhosts M} (c : Client H M g j) (progress : Progress) (called : List (List ℕ)) (t : Told) (holds : HoldsOver c progress called t) → IsBusy holds.actual
     → Stopped EndedFirst c progress called (tell (Took Ended) t)
 ended_stops c progress called t holds busy = record {
   holds = record {
@@ -346,13 +347,13 @@ somebody EndedFirst log why =
     inl (busy.0, subst (λ (l : Log). connected (trail l busy.0) ≡ true) (sym why.1.0) (open_on (trail why.0 busy.0) busy.1))
 
 -- a client that is the same tells the same
-pub report_same : {H M : Type 0} {g : Ghosts H} (c d : Client H M g) (height : ℕ) (hash : Hash32) (entries : List Entry) → d ≡ c → ((log : Log) → Reflects d log → IsReportOf (watch_by d) height hash entries log)
+pub report_same : {H M : Type 0} {g : Ghosts H} {j : MatcherGhosts M} (c d : Client H M g j) (height : ℕ) (hash : Hash32) (entries : List Entry) → d ≡ c → ((log : Log) → Reflects d log → IsReportOf (watch_by d) height hash entries log)
     → (log : Log) → Reflects c log → IsReportOf (watch_by c) height hash entries log
-report_same {H = H} {M = M} {g = g} c d height hash entries same told =
-    subst (λ (x : Client H M g). (log : Log) → Reflects x log → IsReportOf (watch_by x) height hash entries log) same told
+report_same {H = H} {M = M} {g = g} {j = j} c d height hash entries same told =
+    subst (λ (x : Client H M g j). (log : Log) → Reflects x log → IsReportOf (watch_by x) height hash entries log) same told
 
 -- what a run that stopped has done
-pub finishes : {H M : Type 0} {g : Ghosts H} (end : End) (c : Client H M g) (progress : Progress) (called : List (List ℕ)) (t : Told) (height : ℕ) (hash : Hash32) (entries : List Entry)
+pub finishes : {H M : Type 0} {g : Ghosts H} {j : MatcherGhosts M} (end : End) (c : Client H M g j) (progress : Progress) (called : List (List ℕ)) (t : Told) (height : ℕ) (hash : Hash32) (entries : List Entry)
     → Stopped end c progress called t → ((log : Log) → Reflects c log → IsReportOf (watch_by c) height hash entries log)
     → Finished (watch_by c) end height hash entries progress.trace.items called t
 finishes end c progress called t height hash entries stopped told =
@@ -385,7 +386,7 @@ finishes end c progress called t height hash entries stopped told =
     }
 
 -- a run that ended so, by its client
-pub stops : {H M : Type 0} {g : Ghosts H} (end : End) (c : Client H M g) (progress : Progress) (called : List (List ℕ)) (t : Told) → HoldsOver c progress called t
+pub stops : {H M : Type 0} {g : Ghosts H} {j : MatcherGhosts M} (end : End) (c : Client H M g j) (progress : Progress) (called : List (List ℕ)) (t : Told) → HoldsOver c progress called t
     → ((log : Log) → Reflects c log → IsEnd end log) → Stopped end c progress called t
 stops end c progress called t holds why = record { holds = holds; why = why holds.actual holds.reflects }
 
@@ -525,7 +526,7 @@ open_all (suc k) zero = refl
 open_all (suc k) (suc q) = open_all k q
 
 -- nothing has passed
-pub starts : {H M : Type 0} {g : Ghosts H} (c : Client H M g) (progress : Progress) (t : Told) → Reflects c [] → progress.sends ≡ replicate 9 Fine → progress.closed ≡ replicate 9 false → progress.trace.items ≡ []
+pub starts : {H M : Type 0} {g : Ghosts H} {j : MatcherGhosts M} (c : Client H M g j) (progress : Progress) (t : Told) → Reflects c [] → progress.sends ≡ replicate 9 Fine → progress.closed ≡ replicate 9 false → progress.trace.items ≡ []
     → Tells [] t → HoldsOver c progress [] t
 starts c progress t reflects sends closed trace tells =
     let fine : (q : ℕ) → state_at progress.sends q ≡ Fine = λ q. ap (λ (xs : List SendState). get_or xs q Fine) sends ∙ fine_all 9 q in

@@ -1,6 +1,7 @@
 -- What a dial leaves of the client, and what a whole run leaves of its wires.
 use Rattle.std.specs.Prelude.{◌≡◌, ℕ, ◌+◌, ◌≤◌, ◌<◌, Bool, List, Option}
 use Rattle.cf_headers.specs.declared.store.HeaderStore.{Ghosts}
+use Rattle.cf_match.specs.declared.matcher.Matcher.{Ghosts as MatcherGhosts}
 use Rattle.cf_wires.specs.Log.{Told, Tally}
 use Rattle.cf_wires.specs.Wires.{Made}
 use Rattle.cf_client.specs.declared.client.Client.{Client}
@@ -10,7 +11,7 @@ use Rattle.cf_client.specs.Run.{Course, HasDialled}
 use Rattle.cf_client.specs.Stands.{count_of, watch_by, words_by}
 
 -- the client counts one peer more, and watches and tells the same
-pub record CountsOne {H M : Type 0} {g : Ghosts H} (c d : Client H M g) : Type 0 where
+pub record CountsOne {H M : Type 0} {g : Ghosts H} {j : MatcherGhosts M} (c d : Client H M g j) : Type 0 where
   pub count : count_of d ≡ count_of c + 1
   pub watch : watch_by d ≡ watch_by c
   pub words : words_by d ≡ words_by c

@@ -5,6 +5,7 @@ use Rattle.cf_bytes.specs.Outside.{HasRisen}
 use Rattle.cf_bytes.specs.declared.hash.Hash32.{Hash32}
 use Rattle.cf_bytes.specs.declared.peer.PeerNo.{PeerNo}
 use Rattle.cf_headers.specs.declared.store.HeaderStore.{Ghosts}
+use Rattle.cf_match.specs.declared.matcher.Matcher.{Ghosts as MatcherGhosts}
 use Rattle.cf_msg.specs.declared.msg.Msg.{Msg}
 use Rattle.cf_msg.specs.Message.{command_of}
 use Rattle.cf_peer.specs.declared.act.Act.{Act}
@@ -192,7 +193,7 @@ pub record Doing (watch : List (List ℕ)) (acts : List Act) (progress : Progres
   pub known : (q : ℕ) → is_untold actual q ≡ true → is_pending (state_at progress.sends q) ≡ false → IsBroken planned q
 
 -- the client reflects the log that the wires tell, and every failure is told
-pub record HoldsOver {H M : Type 0} {g : Ghosts H} (c : Client H M g) (progress : Progress) (called : List (List ℕ)) (t : Told) : Type 0 where
+pub record HoldsOver {H M : Type 0} {g : Ghosts H} {j : MatcherGhosts M} (c : Client H M g j) (progress : Progress) (called : List (List ℕ)) (t : Told) : Type 0 where
   pub actual : Log
   pub notes : Notes (watch_by c) progress called actual t
   pub reflects : Reflects c actual
@@ -207,7 +208,7 @@ pub record ActsLeft (watch : List (List ℕ)) (acts : List Act) (end : Log) (pro
   pub doing : Doing watch acts progress called planned t
 
 -- the client reflects a planned log, and waits to be told of pending failures
-pub record Waits {H M : Type 0} {g : Ghosts H} (c : Client H M g) (progress : Progress) (called : List (List ℕ)) (t : Told) : Type 0 where
+pub record Waits {H M : Type 0} {g : Ghosts H} {j : MatcherGhosts M} (c : Client H M g j) (progress : Progress) (called : List (List ℕ)) (t : Told) : Type 0 where
   pub planned : Log
   pub reflects : Reflects c planned
   pub doing : Doing (watch_by c) [] progress called planned t
@@ -326,12 +327,12 @@ pub record Finished (watch : List (List ℕ)) (end : End) (height : ℕ) (hash :
   pub few : (tally_of actual).dials ≤ 8
 
 -- a run stops for this reason
-pub record Stopped {H M : Type 0} {g : Ghosts H} (end : End) (c : Client H M g) (progress : Progress) (called : List (List ℕ)) (t : Told) : Type 0 where
+pub record Stopped {H M : Type 0} {g : Ghosts H} {j : MatcherGhosts M} (end : End) (c : Client H M g j) (progress : Progress) (called : List (List ℕ)) (t : Told) : Type 0 where
   pub holds : HoldsOver c progress called t
   pub why : IsEnd end holds.actual
 
 -- a turn: the run goes on, or it ends
-abbrev pub Turned : {H M : Type 0} → {g : Ghosts H} → Option End → Client H M g → Progress → List (List ℕ) → Told → Type 0
+abbrev pub Turned : {H M : Type 0} → {g : Ghosts H} {j : MatcherGhosts M} → Option End → Client H M g j → Progress → List (List ℕ) → Told → Type 0
 Turned None c progress called t = HoldsOver c progress called t
 Turned (Some end) c progress called t = Stopped end c progress called t
 

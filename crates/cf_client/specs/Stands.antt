@@ -3,6 +3,7 @@ use Rattle.std.specs.Prelude.{◌≡◌, ℕ, zero, suc, ◌+◌, Bool, false, i
 use Rattle.cf_bytes.specs.declared.hash.Hash32.{Hash32}
 use Rattle.cf_headers.specs.Chain.{Chain, tip_hash}
 use Rattle.cf_headers.specs.declared.store.HeaderStore.{Ghosts}
+use Rattle.cf_match.specs.declared.matcher.Matcher.{Ghosts as MatcherGhosts}
 use Rattle.cf_peer.specs.declared.act.Act.{Act}
 use Rattle.cf_wires.specs.Log.{Log, tally_of}
 use Rattle.cf_peer.specs.Trail.{trail}
@@ -15,30 +16,31 @@ use Rattle.cf_sync.specs.Sync.{IsToldOf}
 use Rattle.cf_client.specs.declared.client.Client.{Client}
 use Rattle.cf_client.specs.Places.{Words, IsAnswered, PlacesStand, after, Allowed}
 use Rattle.cf_tracker.specs.Tracker.{watch_of}
+use Rattle.cf_hear.specs.Judging.{Judging, judging_of}
 use Rattle.cf_hear.specs.Seen.{Seen, seen_of}
 use Rattle.cf_hear.specs.Tracks.{Tracks}
 
 -- what the client has seen, over its store's chains
-abbrev pub seen_by : {H M : Type 0} → {g : Ghosts H} → Client H M g → Seen
+abbrev pub seen_by : {H M : Type 0} → {g : Ghosts H} {j : MatcherGhosts M} → Client H M g j → Seen
 seen_by c = seen_of c.tracker
 
 -- what the client keeps is a function of the log; after want of memory it reflects nothing
-pub record Reflects {H M : Type 0} {g : Ghosts H} (c : Client H M g) (log : Log) : Type 0 where
+pub record Reflects {H M : Type 0} {g : Ghosts H} {j : MatcherGhosts M} (c : Client H M g j) (log : Log) : Type 0 where
   pub alive : c.dead ≡ false
   pub places : PlacesStand c.places.items log
   pub tracks : Tracks (seen_by c) log
 
 -- the scripts that it watches
-abbrev pub watch_by : {H M : Type 0} → {g : Ghosts H} → Client H M g → List (List ℕ)
+abbrev pub watch_by : {H M : Type 0} → {g : Ghosts H} {j : MatcherGhosts M} → Client H M g j → List (List ℕ)
 watch_by c = watch_of c.tracker
 
 -- the client reflects the log with the acts, each of which was allowed
-pub record Answers {H M : Type 0} {g : Ghosts H} (c : Client H M g) (acts : List Act) (log : Log) : Type 0 where
+pub record Answers {H M : Type 0} {g : Ghosts H} {j : MatcherGhosts M} (c : Client H M g j) (acts : List Act) (log : Log) : Type 0 where
   pub stand : Reflects c (after acts log)
   pub allowed : Allowed (watch_by c) acts log
 
 -- it found no memory once, and answers so from then on
-abbrev pub is_dead : {H M : Type 0} → {g : Ghosts H} → Client H M g → Bool
+abbrev pub is_dead : {H M : Type 0} → {g : Ghosts H} {j : MatcherGhosts M} → Client H M g j → Bool
 is_dead c = c.dead
 
 -- no connected peer deserves to be closed
@@ -59,12 +61,20 @@ abbrev pub open_count : Log → ℕ
 open_count log = count_below (λ (p : ℕ). is_open (trail log p)) ((tally_of log).dials + 1)
 
 -- how many numbers are in use, 0 among them
-abbrev pub count_of : {H M : Type 0} → {g : Ghosts H} → Client H M g → ℕ
+abbrev pub count_of : {H M : Type 0} → {g : Ghosts H} {j : MatcherGhosts M} → Client H M g j → ℕ
 count_of c = length c.places.items
 
 -- what its version tells
-abbrev pub words_by : {H M : Type 0} → {g : Ghosts H} → Client H M g → Words
+abbrev pub words_by : {H M : Type 0} → {g : Ghosts H} {j : MatcherGhosts M} → Client H M g j → Words
 words_by c = record { moment = c.moment; number = c.nonce }
+
+-- the matcher that it was handed
+abbrev pub matcher_by : {H M : Type 0} → {g : Ghosts H} {j : MatcherGhosts M} → Client H M g j → M
+matcher_by c = c.matcher
+
+-- its matcher, and the verdicts that it keeps
+abbrev pub judging_by : {H M : Type 0} → {g : Ghosts H} {j : MatcherGhosts M} → Client H M g j → Judging M
+judging_by c = judging_of c.tracker c.matcher
 
 -- the height and the hash of the best chain's tip
 pub record IsTip (height : ℕ) (hash : Hash32) (log : Log) : Type 0 where
