@@ -332,7 +332,7 @@ pub record Stopped {H M : Type 0} {g : Ghosts H} {j : Judges M} (end : End) (c :
   pub why : IsEnd end holds.actual
 
 -- a turn: the run goes on, or it ends
-abbrev pub Turned : {H M : Type 0} → {g : Ghosts H} → {j : Judges M} → Option End → Client H M g j → Progress → List (List ℕ) → Told → Type 0
+abbrev pub Turned : {H M : Type 0} → {g : Ghosts H} {j : Judges M} → Option End → Client H M g j → Progress → List (List ℕ) → Told → Type 0
 Turned None c progress called t = HoldsOver c progress called t
 Turned (Some end) c progress called t = Stopped end c progress called t
 

@@ -16,11 +16,12 @@ use Rattle.cf_sync.specs.Sync.{IsToldOf}
 use Rattle.cf_client.specs.declared.client.Client.{Client}
 use Rattle.cf_client.specs.Places.{Words, IsAnswered, PlacesStand, after, Allowed}
 use Rattle.cf_tracker.specs.Tracker.{watch_of}
+use Rattle.cf_hear.specs.Judging.{Judging, judging_of}
 use Rattle.cf_hear.specs.Seen.{Seen, seen_of}
 use Rattle.cf_hear.specs.Tracks.{Tracks}
 
 -- what the client has seen, over its store's chains
-abbrev pub seen_by : {H M : Type 0} → {g : Ghosts H} → {j : Judges M} → Client H M g j → Seen
+abbrev pub seen_by : {H M : Type 0} → {g : Ghosts H} {j : Judges M} → Client H M g j → Seen
 seen_by c = seen_of c.tracker
 
 -- what the client keeps is a function of the log; after want of memory it reflects nothing
@@ -30,7 +31,7 @@ pub record Reflects {H M : Type 0} {g : Ghosts H} {j : Judges M} (c : Client H M
   pub tracks : Tracks (seen_by c) log
 
 -- the scripts that it watches
-abbrev pub watch_by : {H M : Type 0} → {g : Ghosts H} → {j : Judges M} → Client H M g j → List (List ℕ)
+abbrev pub watch_by : {H M : Type 0} → {g : Ghosts H} {j : Judges M} → Client H M g j → List (List ℕ)
 watch_by c = watch_of c.tracker
 
 -- the client reflects the log with the acts, each of which was allowed
@@ -39,7 +40,7 @@ pub record Answers {H M : Type 0} {g : Ghosts H} {j : Judges M} (c : Client H M 
   pub allowed : Allowed (watch_by c) acts log
 
 -- it found no memory once, and answers so from then on
-abbrev pub is_dead : {H M : Type 0} → {g : Ghosts H} → {j : Judges M} → Client H M g j → Bool
+abbrev pub is_dead : {H M : Type 0} → {g : Ghosts H} {j : Judges M} → Client H M g j → Bool
 is_dead c = c.dead
 
 -- no connected peer deserves to be closed
@@ -60,12 +61,20 @@ abbrev pub open_count : Log → ℕ
 open_count log = count_below (λ (p : ℕ). is_open (trail log p)) ((tally_of log).dials + 1)
 
 -- how many numbers are in use, 0 among them
-abbrev pub count_of : {H M : Type 0} → {g : Ghosts H} → {j : Judges M} → Client H M g j → ℕ
+abbrev pub count_of : {H M : Type 0} → {g : Ghosts H} {j : Judges M} → Client H M g j → ℕ
 count_of c = length c.places.items
 
 -- what its version tells
-abbrev pub words_by : {H M : Type 0} → {g : Ghosts H} → {j : Judges M} → Client H M g j → Words
+abbrev pub words_by : {H M : Type 0} → {g : Ghosts H} {j : Judges M} → Client H M g j → Words
 words_by c = record { moment = c.moment; number = c.nonce }
+
+-- the matcher that it was handed
+abbrev pub matcher_by : {H M : Type 0} → {g : Ghosts H} {j : Judges M} → Client H M g j → M
+matcher_by c = c.matcher
+
+-- its matcher, and the verdicts that it keeps
+abbrev pub judging_by : {H M : Type 0} → {g : Ghosts H} {j : Judges M} → Client H M g j → Judging M
+judging_by c = judging_of c.tracker c.matcher
 
 -- the height and the hash of the best chain's tip
 pub record IsTip (height : ℕ) (hash : Hash32) (log : Log) : Type 0 where

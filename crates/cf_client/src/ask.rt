@@ -5,7 +5,8 @@ ghost use Rattle.cf_headers.specs.Store.{own_of};
 ghost use Rattle.cf_wires.specs.Log.{Log};
 ghost use Rattle.cf_wires.specs.declared.event.Event.TheVariants.{Took};
 ghost use Rattle.cf_wires.specs.declared.event.Delivery.TheVariants.{Tick};
-ghost use Rattle.cf_tracker.specs.Tracker.{chains_of};
+ghost use Rattle.cf_match.specs.Verdicts.{AreSameVerdicts};
+ghost use Rattle.cf_tracker.specs.Tracker.{chains_of, verdicts_of};
 ghost use Rattle.cf_peer.specs.Trail.{Part, Passed, with_item};
 ghost use Rattle.cf_dispute.specs.Claims.{Table, Tables};
 ghost use Rattle.cf_hear.specs.Seen.{seen_of};
@@ -60,6 +61,7 @@ fn close_if_late<H: HeaderStore>(
     ensures moves { OnOk result (Moves Same (desk tracker.old places.old acts.old.items) (desk tracker.new places.new acts.new.items)) }
     ensures done { OnOk result (is_calm (place_at places.new i) ≡ true) }
     ensures others { OnOk result ((p : ℕ) → p ≢ i → place_at places.new p ≡ place_at places.old p) }
+    ensures verdicts { OnOk result (AreSameVerdicts (verdicts_of tracker.new) (verdicts_of tracker.old)) }
 {
     if places[i].is_late() {
         let p = PeerNo(i as u32);
@@ -80,6 +82,7 @@ pub(crate) fn close_late<H: HeaderStore>(
     requires { IsInOrder (desk tracker.old places.old acts.old.items) }
     ensures moves { OnOk result (Moves Same (desk tracker.old places.old acts.old.items) (desk tracker.new places.new acts.new.items)) }
     ensures calm { OnOk result (AreCalm places.new) }
+    ensures verdicts { OnOk result (AreSameVerdicts (verdicts_of tracker.new) (verdicts_of tracker.old)) }
 {
     for i in 0..places.len() {
         close_if_late(tracker, places, acts, i)?;
@@ -291,6 +294,7 @@ pub(crate) fn ask_all<H: HeaderStore>(
     ensures moves { OnOk result (Moves Same (desk tracker.old places.old acts.old.items) (desk tracker.new places.new acts.new.items)) }
     ensures settled { OnOk result ((p : ℕ) → is_settled (place_at places.new p) ≡ true) }
     ensures through { OnOk result (AreAskedThrough places.new (seen_of tracker.new)) }
+    ensures verdicts { OnOk result (AreSameVerdicts (verdicts_of tracker.new) (verdicts_of tracker.old)) }
 {
     for i in 0..places.len() {
         ask_if_wanted(alloc, tracker, places, acts, i)?;

@@ -5,6 +5,7 @@ ghost use Rattle.cf_peer.specs.Acts.{IsDoable};
 ghost use Rattle.cf_client.specs.Places.{state_of, is_busy, is_here, IsGreeting, TellsWords, end_of};
 ghost use Rattle.cf_client.specs.Settled.{AreSettled, AreRight};
 ghost use Rattle.cf_hear.specs.Seen.{seen_of};
+ghost use Rattle.cf_hear.specs.Judging.{AreJudgedBy, IsUnjudged};
 ghost use Rattle.cf_tracker.specs.Tracker.{claims_of};
 
 use crate::ask::ask_all;
@@ -131,7 +132,7 @@ impl<H: HeaderStore, M: Matcher> Client<H, M> {
     ghost use Rattle.cf_peer.specs.declared.peer.Cause.TheVariants.{SendFailed};
     ghost use Rattle.cf_client.specs.Places.{ActTells, CutFor, Greets, IsState, EndsTell};
     ghost use Rattle.cf_client.specs.Steps.{Extends};
-    ghost use Rattle.cf_client.specs.Stands.{Reflects, Answers, IsTip, IsReportOf, IsHistoryTold, IsInnocent, AreAnswered, is_dead, open_count, count_of, watch_by, words_by};
+    ghost use Rattle.cf_client.specs.Stands.{Reflects, Answers, IsTip, IsReportOf, IsHistoryTold, IsInnocent, AreAnswered, is_dead, open_count, count_of, watch_by, words_by, matcher_by, judging_by};
 
     /// A client that knows of no peer yet, over a store in which no peer is entered. It watches these scripts, and matches filters with them
     /// by this matcher. Its `version` tells this moment, in seconds since 1970, and this number.
@@ -151,6 +152,7 @@ impl<H: HeaderStore, M: Matcher> Client<H, M> {
         ensures watch { IfOk result (λ c. watch_by c ≡ watch) }
         ensures words { IfOk result (λ c. words_by c ≡ record { moment = moment; number = nonce }) }
         ensures count { IfOk result (λ c. count_of c ≡ 1) }
+        ensures matcher { IfOk result (λ c. matcher_by c ≡ matcher) }
     {
         let mut places = Vec::new(alloc);
         places.push(Place::Lost(Loss::NotDialled))?;
@@ -177,6 +179,7 @@ impl<H: HeaderStore, M: Matcher> Client<H, M> {
         ensures count { OnOk result (count_of self.new ≡ count_of self.old + 1) }
         ensures watch { OnOk result (watch_by self.new ≡ watch_by self.old) }
         ensures words { words_by self.new ≡ words_by self.old }
+        ensures judged { OnOk result (IsUnjudged (judging_by self.old) (judging_by self.new)) }
         ensures dead { is_dead self.old ≡ true → IsErr result }
         ensures err { OnErr result (is_dead self.new ≡ true) }
     {
@@ -200,6 +203,7 @@ impl<H: HeaderStore, M: Matcher> Client<H, M> {
         ensures count { OnOk result (count_of self.new ≡ count_of self.old + 1) }
         ensures watch { OnOk result (watch_by self.new ≡ watch_by self.old) }
         ensures words { words_by self.new ≡ words_by self.old }
+        ensures judged { OnOk result (IsUnjudged (judging_by self.old) (judging_by self.new)) }
         ensures dead { is_dead self.old ≡ true → IsErr result }
         ensures err { OnErr result (is_dead self.new ≡ true) }
     {
@@ -212,7 +216,7 @@ impl<H: HeaderStore, M: Matcher> Client<H, M> {
         Ok(())
     }
 
-    /// Takes a delivery, and says what is to be done.
+    /// Takes a delivery, and says what is to be done. Filters that come are judged by the client's matcher alone.
     pub fn step(&mut self, d: &Delivery) -> Result<Vec<Act>, NoMemory>
         ensures answers { IfOk result (λ acts. (log : Log) → Reflects self.old log → Answers self.new acts.items (Took d.now ∷ log)) }
         ensures tells { IfOk result (λ acts. (log : Log) → Reflects self.old log → All (ActTells (words_by self.old)) acts.items) }
@@ -220,6 +224,8 @@ impl<H: HeaderStore, M: Matcher> Client<H, M> {
         ensures count { count_of self.new ≡ count_of self.old }
         ensures watch { OnOk result (watch_by self.new ≡ watch_by self.old) }
         ensures words { words_by self.new ≡ words_by self.old }
+        ensures judged { OnOk result (AreJudgedBy M.judges (watch_by self.old)
+            (judging_by self.old) (judging_by self.new)) }
         ensures dead { is_dead self.old ≡ true → IsErr result }
         ensures err { OnErr result (is_dead self.new ≡ true) }
     {
@@ -251,6 +257,7 @@ impl<H: HeaderStore, M: Matcher> Client<H, M> {
         ensures count { count_of self.new ≡ count_of self.old }
         ensures watch { OnOk result (watch_by self.new ≡ watch_by self.old) }
         ensures words { words_by self.new ≡ words_by self.old }
+        ensures judged { OnOk result (IsUnjudged (judging_by self.old) (judging_by self.new)) }
         ensures dead { is_dead self.old ≡ true → IsErr result }
         ensures err { OnErr result (is_dead self.new ≡ true) }
     {

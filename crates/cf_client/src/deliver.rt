@@ -3,6 +3,9 @@ ghost use Rattle.std.specs.Prelude.{◌≡◌, ◌<◌, [], ◌∷◌, OnOk, len
 ghost use Rattle.cf_peer.specs.declared.act.Act.TheVariants.{Close};
 ghost use Rattle.cf_peer.specs.declared.peer.Cause.TheVariants.{SendFailed};
 ghost use Rattle.cf_wires.specs.declared.event.Delivery.TheVariants.{Got, Gone};
+ghost use Rattle.cf_match.specs.Verdicts.{AreSameVerdicts};
+ghost use Rattle.cf_tracker.specs.Tracker.{verdicts_of, watch_of};
+ghost use Rattle.cf_hear.specs.Judging.{AreJudgedBy, judging_of};
 ghost use Rattle.cf_client.specs.Places.{AreCalm};
 ghost use Rattle.cf_client.specs.Steps.{desk, IsInOrder, Taking, CutOff, Moves};
 
@@ -29,7 +32,9 @@ fn hear_from<H: HeaderStore, M: Matcher>(
 ) -> Result<(), NoMemory>
     requires none { acts.old.items ≡ [] }
     requires order { IsInOrder (desk tracker.old places.old acts.old.items) }
-    ensures { OnOk result (Moves (Taking (Got p piece.now)) (desk tracker.old places.old acts.old.items) (desk tracker.new places.new acts.new.items)) }
+    ensures moves { OnOk result (Moves (Taking (Got p piece.now)) (desk tracker.old places.old acts.old.items) (desk tracker.new places.new acts.new.items)) }
+    ensures judged { OnOk result (AreJudgedBy M.judges (watch_of tracker.old)
+        (judging_of tracker.old matcher.old) (judging_of tracker.new matcher.new)) }
 {
     let i = p.0 as usize;
     if i >= places.len() {
@@ -52,7 +57,8 @@ fn hear_from<H: HeaderStore, M: Matcher>(
 // A peer has gone.
 fn lose<H: HeaderStore>(tracker: &mut Tracker<H>, places: &mut [Place], p: PeerNo)
     requires { IsInOrder (desk tracker.old places.old []) }
-    ensures { Moves (Taking (Gone p)) (desk tracker.old places.old []) (desk tracker.new places.new []) }
+    ensures moves { Moves (Taking (Gone p)) (desk tracker.old places.old []) (desk tracker.new places.new []) }
+    ensures verdicts { AreSameVerdicts (verdicts_of tracker.new) (verdicts_of tracker.old) }
 {
     let i = p.0 as usize;
     if i < places.len() && places[i].is_here() {
@@ -72,6 +78,7 @@ pub(crate) fn cut_off<H: HeaderStore>(
     requires order { IsInOrder (desk tracker.old places.old acts.old.items) }
     ensures moves { OnOk result (Moves (CutOff p places.old) (desk tracker.old places.old acts.old.items) (desk tracker.new places.new acts.new.items)) }
     ensures first { OnOk result (p.0 < length places.old → acts.new.items ≡ Close p SendFailed ∷ []) }
+    ensures verdicts { AreSameVerdicts (verdicts_of tracker.new) (verdicts_of tracker.old) }
 {
     let i = p.0 as usize;
     if i >= places.len() {
@@ -95,7 +102,9 @@ pub(crate) fn deliver<H: HeaderStore, M: Matcher>(
     requires calm { AreCalm places.old }
     requires none { acts.old.items ≡ [] }
     requires order { IsInOrder (desk tracker.old places.old acts.old.items) }
-    ensures { OnOk result (Moves (Taking d.now) (desk tracker.old places.old acts.old.items) (desk tracker.new places.new acts.new.items)) }
+    ensures moves { OnOk result (Moves (Taking d.now) (desk tracker.old places.old acts.old.items) (desk tracker.new places.new acts.new.items)) }
+    ensures judged { OnOk result (AreJudgedBy M.judges (watch_of tracker.old)
+        (judging_of tracker.old matcher.old) (judging_of tracker.new matcher.new)) }
 {
     match d {
         Delivery::Got(p, piece) => {

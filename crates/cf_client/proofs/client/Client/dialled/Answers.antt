@@ -46,3 +46,6 @@ returns-clause-answers g c = λ log reflects.
       };
       allowed = rw (c.in_ok-push.ensures.items, c.new-acts.ensures.items) goes.allowed;
     }
+
+pub returns-clause-judged : goal.returns-clause-judged
+returns-clause-judged g c = record { same = refl; kept = c.in_ok-enter.ensures.verdicts }

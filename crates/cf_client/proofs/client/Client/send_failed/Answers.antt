@@ -1,4 +1,4 @@
-use Rattle.std.proofs.Common.{◌<◌, List, length, refl, sym, subst, ap, arith}
+use Rattle.std.proofs.Common.{◌<◌, List, length, refl, sym, ◌∙◌, subst, ap, arith}
 use Rattle.std.proofs.lemmas.List.{with_items_is}
 use Rattle.cf_client.specs.declared.place.Place.{Place}
 use Rattle.cf_client.specs.Places.{PlacesStand, after}
@@ -56,3 +56,6 @@ returns-clause-answers g c = λ log cut lt reflects is.
 pub returns-clause-tells : goal.returns-clause-tells
 returns-clause-tells g c = λ log cut lt reflects is.
     acts_tell (watch_of c.ask_all.new.tracker) (words_by c.args.self.now) c.ask_all.new.acts.items cut (reflects_cut c.args.self.now c.args.p log cut is reflects) (returns-clause-answers g c log cut lt reflects is).allowed
+
+pub returns-clause-judged : goal.returns-clause-judged
+returns-clause-judged g c = record { same = refl; kept = λ block hash. c.in_ok-ask_all.ensures.verdicts block hash ∙ c.in_ok-cut_off.ensures.verdicts block hash }
