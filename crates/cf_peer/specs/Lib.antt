@@ -3,3 +3,4 @@ pub mod Asking
 pub mod Peer
 pub mod Hearing
 pub mod Acts
+pub mod Held

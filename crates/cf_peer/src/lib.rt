@@ -5,6 +5,7 @@ mod act;
 mod claims;
 mod filters;
 mod hear;
+mod held;
 mod peer;
 
 pub use act::Act;
