@@ -349,7 +349,7 @@ somebody EndedFirst log why =
 -- a client that is the same tells the same
 pub report_same : {H M : Type 0} {g : Ghosts H} {j : Judges M} (c d : Client H M g j) (height : ℕ) (hash : Hash32) (entries : List Entry) → d ≡ c → ((log : Log) → Reflects d log → IsReportOf (watch_by d) height hash entries log)
     → (log : Log) → Reflects c log → IsReportOf (watch_by c) height hash entries log
-report_same {H = H} {M = M} {g = g} c d height hash entries same told =
+report_same {H = H} {M = M} {g = g} {j = j} c d height hash entries same told =
     subst (λ (x : Client H M g j). (log : Log) → Reflects x log → IsReportOf (watch_by x) height hash entries log) same told
 
 -- what a run that stopped has done
