@@ -10,6 +10,7 @@ ghost use Rattle.cf_tracker.specs.Tracker.{claims_of};
 
 use crate::ask::ask_all;
 use crate::deliver::{cut_off, deliver};
+use crate::held::{Held, held_of};
 use crate::place::{Loss, PeerEnd, Place};
 use crate::state::State;
 use cf_bytes::{Hash32, NoMemory, PeerNo};
@@ -132,7 +133,8 @@ impl<H: HeaderStore, M: Matcher> Client<H, M> {
     ghost use Rattle.cf_peer.specs.declared.peer.Cause.TheVariants.{SendFailed};
     ghost use Rattle.cf_client.specs.Places.{ActTells, CutFor, Greets, IsState, EndsTell};
     ghost use Rattle.cf_client.specs.Steps.{Extends};
-    ghost use Rattle.cf_client.specs.Stands.{Reflects, Answers, IsTip, IsReportOf, IsHistoryTold, IsInnocent, AreAnswered, is_dead, open_count, count_of, watch_by, words_by, matcher_by, judging_by};
+    ghost use Rattle.cf_client.specs.Holding.{Counts, HoldsNoMore};
+    ghost use Rattle.cf_client.specs.Stands.{Reflects, Answers, IsTip, IsReportOf, IsHistoryTold, IsInnocent, AreAnswered, is_dead, open_count, count_of, seen_by, watch_by, words_by, matcher_by, judging_by};
 
     /// A client that knows of no peer yet, over a store in which no peer is entered. It watches these scripts, and matches filters with them
     /// by this matcher. Its `version` tells this moment, in seconds since 1970, and this number.
@@ -302,6 +304,14 @@ impl<H: HeaderStore, M: Matcher> Client<H, M> {
         ensures { (log : Log) → Reflects self.now log → result ≡ open_count log }
     {
         count_busy(self.places.as_slice()) as u32
+    }
+
+    /// How much it keeps: no more than the log calls for. It takes no memory.
+    pub fn held(&self) -> Held
+        ensures counted { Counts (seen_by self.now) result }
+        ensures few { (log : Log) → Reflects self.now log → HoldsNoMore H.counts result log }
+    {
+        held_of(&self.tracker, self.places.as_slice())
     }
 
     /// The best chain's tip, and the history of its blocks that were fetched, both of one moment.

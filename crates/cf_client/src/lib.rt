@@ -4,6 +4,8 @@
 mod ask;
 mod client;
 mod deliver;
+mod held;
+mod laws;
 mod outcome;
 mod over;
 mod place;
@@ -12,6 +14,8 @@ mod state;
 mod trace;
 
 pub use client::Client;
+pub use held::Held;
+pub use laws::laws_of_holding;
 pub use outcome::{End, Outcome};
 pub use over::sync_over;
 pub use place::{Loss, PeerEnd, Place};

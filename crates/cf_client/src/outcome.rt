@@ -1,4 +1,5 @@
 //! How a run ends.
+use crate::held::Held;
 use crate::place::PeerEnd;
 use crate::trace::TraceLine;
 use cf_bytes::Hash32;
@@ -32,4 +33,6 @@ pub struct Outcome {
     pub trace: Vec<TraceLine>,
     /// How each peer stands, by its number from 1.
     pub ends: Vec<PeerEnd>,
+    /// How much the client kept when it ended.
+    pub held: Held,
 }

@@ -1,6 +1,7 @@
 //! The run of a client over any wires: the dials, the turns, and the finish.
 ghost use Rattle.std.specs.Prelude.{◌≡◌, ◌≢◌, ◌↔◌, ℕ, None, ◌<◌, ◌≤◌, ◌+◌, ◌∷◌, ◌++◌, [], List, map, OnOk, IfOk, OnErr, IfNone, IfSome, IsErrOf, true, false, length, take};
 ghost use Rattle.cf_bytes.specs.Outside.{HasRisen};
+ghost use Rattle.cf_client.specs.Holding.{HoldsNoMore};
 ghost use Rattle.cf_client.specs.Names.{names_in};
 ghost use Rattle.cf_sync.specs.Sync.{SyncTheorem};
 ghost use Rattle.cf_client.specs.Places.{MayAct, Allowed, after, entry_of, EndsTell, Words, TellsWords, ActTells};
@@ -401,7 +402,9 @@ fn outcome_of<H: HeaderStore, M: Matcher>(
     ensures trace { IfOk result (λ o. o.trace ≡ progress.trace) }
     ensures report { IfOk result (λ o. (log : Log) → Reflects client.old log → IsReportOf (watch_by client.old) o.height o.tip o.history log) }
     ensures ends { IfOk result (λ o. (log : Log) → Reflects client.old log → EndsTell o.ends.items log) }
+    ensures held { IfOk result (λ o. (log : Log) → Reflects client.old log → HoldsNoMore H.counts o.held log) }
 {
+    let held = client.held();
     let ends = client.ends()?;
     let report = client.report()?;
     Ok(Outcome {
@@ -411,6 +414,7 @@ fn outcome_of<H: HeaderStore, M: Matcher>(
         history: report.history,
         trace: progress.trace,
         ends,
+        held,
     })
 }
 
@@ -432,6 +436,7 @@ fn follow<W: Wires, H: HeaderStore + Drop, M: Matcher + Drop>(
     requires empty { (q : ℕ) → H.chain store q ≡ None }
     ensures followed { IfOk result (λ o. IfSome (W.told wires.new).log (λ log. Followed watch o.end o.height o.tip o.history o.trace.items (names_in names.now) log)) }
     ensures ends { IfOk result (λ o. IfSome (W.told wires.new).log (λ log. EndsTell o.ends.items log)) }
+    ensures held { IfOk result (λ o. IfSome (W.told wires.new).log (λ log. HoldsNoMore H.counts o.held log)) }
     ensures versions { HasWords (record { moment = moment; number = nonce }) (W.told wires.new) }
     ensures no_peers { IfOk result (λ o. (o.end ≡ End.NoPeers) ↔ NobodyLeft (W.told wires.new).tally) }
     ensures within { IfOk result (λ o. EndsWithin o.end (length names.now) turns (W.told wires.new).tally) }
@@ -467,6 +472,7 @@ pub fn sync_over<W: Wires, H: HeaderStore + Drop, M: Matcher + Drop>(
     requires empty { (q : ℕ) → H.chain store q ≡ None }
     ensures followed { IfOk result (λ o. IfSome (W.told wires.new).log (λ log. Followed watch o.end o.height o.tip o.history o.trace.items (names_in names.now) log)) }
     ensures ends { IfOk result (λ o. IfSome (W.told wires.new).log (λ log. EndsTell o.ends.items log)) }
+    ensures held { IfOk result (λ o. IfSome (W.told wires.new).log (λ log. HoldsNoMore H.counts o.held log)) }
     ensures versions { HasWords (record { moment = moment; number = nonce }) (W.told wires.new) }
     ensures theorem { IfOk result (λ o. IfSome (W.told wires.new).log (λ log. SyncTheorem watch o.height o.tip o.history log)) }
     ensures no_peers { IfOk result (λ o. (o.end ≡ End.NoPeers) ↔ NobodyLeft (W.told wires.new).tally) }

@@ -2,6 +2,7 @@ use Rattle.std.proofs.Common.{List, ℕ, sym, ◌∙◌, subst, rules}
 use Rattle.std.proofs.Math.Facts.{to_z-of_z}
 use Rattle.std.specs.Int.{w64}
 use Rattle.std.specs.Prelude.{IfSome}
+use Rattle.cf_client.specs.Holding.{HoldsNoMore}
 use Rattle.cf_client.specs.Names.{names_in}
 use Rattle.cf_client.specs.Places.{EndsTell}
 use Rattle.cf_client.specs.Run.{Followed}
@@ -33,6 +34,15 @@ returns-clause-ends g c =
     let stopped = c.in_ok-end.ensures.stopped called (c.in_ok-dial_all.ensures.holds start) in
     let holds = stopped.holds in
     told_so t.log holds.actual (EndsTell c.in_ok-outcome.outcome.ends.items) holds.notes.tells.content (c.in_ok-outcome.ensures.ends holds.actual holds.reflects)
+
+pub returns-clause-held : goal.returns-clause-held
+returns-clause-held g c =
+    let t = g.W.Wires.told c.take_turns.new.wires in
+    let called = names_in c.args.names.now in
+    let start = starts c.in_ok-client.client c.new-progress.result (g.W.Wires.told c.args.wires.now) c.in_ok-client.ensures.reflects c.new-progress.ensures.sends c.new-progress.ensures.closed c.new-progress.ensures.trace c.requires.fresh in
+    let stopped = c.in_ok-end.ensures.stopped called (c.in_ok-dial_all.ensures.holds start) in
+    let holds = stopped.holds in
+    told_so t.log holds.actual (HoldsNoMore g.H.HeaderStore.counts c.in_ok-outcome.outcome.held) holds.notes.tells.content (c.in_ok-outcome.ensures.held holds.actual holds.reflects)
 
 pub returns-clause-no_peers : goal.returns-clause-no_peers
 returns-clause-no_peers g c =

@@ -1,0 +1,128 @@
+-- How much a client keeps, and that it is no more than the log calls for.
+use Rattle.std.specs.Prelude.{◌≡◌, ℕ, zero, suc, ◌+◌, ◌*◌, ◌≤◌, ◌<◌, Bool, true, false, ◌&&◌, if◌then◌else◌, List, [], ◌∷◌, ◌++◌, length, Option}
+use Rattle.cf_bytes.specs.declared.hash.Hash32.{Hash32}
+use Rattle.cf_block.specs.declared.tx.Block.{Block}
+use Rattle.cf_dispute.specs.Counts.{CountsClaims}
+use Rattle.cf_headers.specs.Chain.{Chain, IsIn, IsPart}
+use Rattle.cf_headers.specs.Counts.{AreApart}
+use Rattle.cf_headers.specs.Store.{Chains}
+use Rattle.cf_hear.specs.Seen.{Seen}
+use Rattle.cf_hear.specs.Tracks.{chain_kept}
+use Rattle.cf_match.specs.declared.job.Job.{Job}
+use Rattle.cf_msg.specs.declared.msg.Msg.{Msg}
+use Rattle.cf_msg.specs.declared.msg.Msg.TheVariants.{Cfheaders}
+use Rattle.cf_peer.specs.Trail.{Trail, Called, Said, Refused, Asked, Passed, Lost, trail, connected, own}
+use Rattle.cf_peer.specs.Asking.{OpenRequest, NothingOpen, HeadersOpen, ClaimsOpen, FiltersOpen, BlockOpen, is_answer_of, request, counted, fetched, given}
+use Rattle.cf_sync.specs.Fetching.{IsConnected, Rightly}
+use Rattle.cf_tracker.specs.Held.{CountsBlocks, CountsVerdicts}
+use Rattle.cf_wires.specs.Log.{Log, tally_of}
+use Rattle.cf_peer.specs.Held.{count_came}
+use Rattle.cf_client.specs.declared.held.Held.{Held}
+use Rattle.cf_client.specs.declared.place.Place.{Place}
+use Rattle.cf_client.specs.declared.place.Place.TheVariants.{Here, Lost as NotHere}
+use Rattle.cf_client.specs.Stands.{count_below}
+
+-- the lists of the numbers below one, joined
+abbrev pub below : {A : Type 0} → (ℕ → List A) → ℕ → List A
+below f zero = []
+below f (suc p) = below f p ++ f p
+
+-- what each peer's part of a log has of something, over all peers that were dialled
+abbrev pub of_all : {A : Type 0} → (Trail → List A) → Log → List A
+of_all f log = below (λ (p : ℕ). f (trail log p)) ((tally_of log).dials + 1)
+
+-- the blocks that were fetched, and the filters that were given, of whatever peer
+abbrev pub blocks_fetched : Trail → List Block
+blocks_fetched t = fetched (counted t)
+
+-- the filters that came in whole answers
+abbrev pub filters_given : Trail → List Job
+filters_given t = given (counted t)
+
+-- the filter hashes of an answer to an open question for claims
+abbrev pub hashes_told : Msg → OpenRequest → List Hash32
+hashes_told (Cfheaders filter stop previous hashes) (ClaimsOpen wanted parent blocks) = if is_answer_of filter stop.0 wanted then hashes else []
+hashes_told m r = []
+
+-- the filter hashes of all such answers since the peer was dialled, the newest answer first
+abbrev pub hashes_claimed : Trail → List Hash32
+hashes_claimed [] = []
+hashes_claimed (Called ∷ t) = []
+hashes_claimed (Said m ∷ t) = hashes_told m (request t) ++ hashes_claimed t
+hashes_claimed (Refused c ∷ t) = hashes_claimed t
+hashes_claimed (Asked m ∷ t) = hashes_claimed t
+hashes_claimed (Passed s ∷ t) = hashes_claimed t
+hashes_claimed (Lost w ∷ t) = hashes_claimed t
+
+-- those that count, while the peer is connected
+abbrev pub hashes_kept : Trail → List Hash32
+hashes_kept t = if connected t then hashes_claimed (counted t) else []
+
+-- the filters that have come of an open request
+abbrev pub filters_in : OpenRequest → List Job
+filters_in NothingOpen = []
+filters_in HeadersOpen = []
+filters_in (ClaimsOpen stop parent blocks) = []
+filters_in (FiltersOpen left came) = came
+filters_in (BlockOpen block) = []
+
+-- those of a connected peer's open request
+abbrev pub filters_kept : Trail → List Job
+filters_kept t = if connected t then filters_in (request t) else []
+
+-- how many have come of what is open to the peer at a place
+abbrev pub came_at : Place → ℕ
+came_at (Here peer) = count_came peer.request
+came_at (NotHere loss) = 0
+
+-- filters are open
+abbrev pub is_for_filters : OpenRequest → Bool
+is_for_filters NothingOpen = false
+is_for_filters HeadersOpen = false
+is_for_filters (ClaimsOpen stop parent blocks) = false
+is_for_filters (FiltersOpen left came) = true
+is_for_filters (BlockOpen block) = false
+
+-- filters are open to a connected peer
+abbrev pub is_giving : Trail → Bool
+is_giving t = connected t && is_for_filters (request t)
+
+-- to how many peers filters are open
+abbrev pub count_giving : Log → ℕ
+count_giving log = count_below (λ (p : ℕ). is_giving (trail log p)) ((tally_of log).dials + 1)
+
+-- the chains that are kept: of each connected peer its own
+abbrev pub chains_kept : Log → Chains
+chains_kept log p = chain_kept (trail log p)
+
+-- a header above genesis on the own chain of a connected peer, with all that stands below it
+pub record IsKeptHeader (log : Log) (part : Chain) : Type 0 where
+  pub peer : ℕ
+  pub there : IsConnected log peer
+  pub lies : IsPart part (own (trail log peer))
+  pub above : 0 < length part
+
+-- there are so many such headers, each counted once however many peers show it; two that stand on different headers are two
+pub record KeepsHeaders (log : Log) (n : ℕ) : Type 0 where
+  pub parts : List Chain
+  pub many : length parts ≡ n
+  pub kept : (part : Chain) → IsIn part parts → IsKeptHeader log part
+  pub all : (part : Chain) → IsKeptHeader log part → IsIn part parts
+  pub apart : AreApart parts
+
+-- of what was seen, so many claims, verdicts and extracts
+pub record Counts (s : Seen) (held : Held) : Type 0 where
+  pub claims : CountsClaims s.claims held.claims
+  pub verdicts : CountsVerdicts s.verdicts held.verdicts
+  pub extracts : CountsBlocks s.table held.extracts
+
+-- The headers are those that the store's count finds on the connected peers' own chains. There are no more claims than hashes in the connected peers' right
+-- answers about claims, no more verdicts than filters that were given, and no more extracts than blocks that were fetched. The filters are those that have
+-- come of open requests, where each question was one that might be asked, and at most 1000 for each request.
+pub record HoldsNoMore (counts : Chains → ℕ → Type 0) (held : Held) (log : Log) : Type 0 where
+  pub headers : counts (chains_kept log) held.headers
+  pub claims : held.claims ≤ length (of_all hashes_kept log)
+  pub verdicts : held.verdicts ≤ length (of_all filters_given log)
+  pub extracts : held.extracts ≤ length (of_all blocks_fetched log)
+  pub filters : Rightly log → held.filters ≡ length (of_all filters_kept log)
+  pub few_filters : Rightly log → held.filters ≤ 1000 * count_giving log
