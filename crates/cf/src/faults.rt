@@ -1,9 +1,9 @@
 //! What went wrong, told on standard error.
 use cf_answers::Status;
 use cf_bytes::PeerNo;
-use cf_client::PeerEnd;
 use cf_input::{Command, mistake_text, read_words};
 use cf_network::Network;
+use cf_place::PeerEnd;
 use std::fs;
 use std::io::{self, Read};
 use std::sync::Wait;

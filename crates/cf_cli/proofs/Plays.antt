@@ -8,8 +8,8 @@ use Rattle.cf_bytes.specs.Files.{Named}
 use Rattle.cf_bytes.specs.Outside.{HasRisen}
 use Rattle.cf_client.specs.declared.outcome.End.{End}
 use Rattle.cf_client.specs.declared.outcome.End.TheVariants.{Synced as IsSynced, NoPeers as HasNoPeers, Tired as IsTired, Ended as HasEnded}
-use Rattle.cf_client.specs.declared.place.PeerEnd.{PeerEnd}
-use Rattle.cf_client.specs.Places.{Words}
+use Rattle.cf_place.specs.declared.place.PeerEnd.{PeerEnd}
+use Rattle.cf_place.specs.Places.{Words}
 use Rattle.cf_client.specs.Versions.{IsOfWords, HasWords}
 use Rattle.cf_client.specs.Run.{NobodyLeft, HasDialled, HasFailed, names_of}
 use Rattle.cf_wires.specs.declared.event.Dial.{Dial}

@@ -10,9 +10,9 @@ use Rattle.cf_headers.specs.Chain.{tip_hash, NoHashClash}
 use Rattle.cf_chain.specs.Good.{headers_of}
 use Rattle.cf_client.specs.declared.outcome.End.{End}
 use Rattle.cf_client.specs.declared.outcome.End.TheVariants.{Synced as IsSynced, NoPeers as HasNoPeers, Tired as IsTired, Ended as HasEnded}
-use Rattle.cf_client.specs.declared.place.PeerEnd.{PeerEnd}
+use Rattle.cf_place.specs.declared.place.PeerEnd.{PeerEnd}
 use Rattle.cf_client.specs.declared.trace.TraceLine.{TraceLine}
-use Rattle.cf_client.specs.Places.{EndsTell}
+use Rattle.cf_place.specs.Places.{EndsTell}
 use Rattle.cf_client.specs.Run.{Followed, NobodyLeft}
 use Rattle.cf_sync.specs.Fetching.{IsQuiet}
 use Rattle.cf_sync.specs.Honesty.{IsHonest, ShowsNoOther, IsNeverClosed}

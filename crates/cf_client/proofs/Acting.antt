@@ -33,9 +33,9 @@ use Rattle.cf_hear.specs.Seen.{Seen, IsSameSeen}
 use Rattle.cf_hear.specs.Tracks.{Tracks, IsPut}
 use Rattle.cf_hear.proofs.Tracking.{tracks_sent, tracks_closed}
 use Rattle.cf_hear.proofs.Wishes.{claims_send, filters_send, block_send}
-use Rattle.cf_client.specs.declared.place.Place.{Place}
-use Rattle.cf_client.specs.declared.place.Place.TheVariants.{Here}
-use Rattle.cf_client.specs.Places.{Keeps, nobody, after as done, AsksFor, Goes, is_fetching_at, IsQuestion}
+use Rattle.cf_place.specs.declared.place.Place.{Place}
+use Rattle.cf_place.specs.declared.place.Place.TheVariants.{Here}
+use Rattle.cf_place.specs.Places.{Keeps, nobody, after as done, AsksFor, Goes, is_fetching_at, IsQuestion}
 use Rattle.cf_client.specs.Settled.{chain_at}
 use Rattle.cf_client.proofs.Best.{Furthest, in_turn}
 use Rattle.cf_client.proofs.Standing.{after-append, wants_goes, send_goes, keeps_at, asked_keeps, idle_free, none_open}

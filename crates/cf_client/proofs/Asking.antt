@@ -18,7 +18,7 @@ use Rattle.cf_msg.proofs.Sizes.{version_size, getheaders_size, entries_size, ran
 use Rattle.cf_peer.specs.Acts.{IsSendable}
 use Rattle.cf_peer.specs.Asking.{block_entry}
 use Rattle.cf_peer.specs.Trail.{no_address}
-use Rattle.cf_client.specs.Places.{IsGreeting, IsQuestion, IsFetch}
+use Rattle.cf_place.specs.Places.{IsGreeting, IsQuestion, IsFetch}
 
 -- the hashes of a locator have 32 bytes each
 abbrev IsLong : List ℕ → Type 0

@@ -20,9 +20,9 @@ use Rattle.cf_hear.specs.Tracks.{Tracks, chain_kept}
 use Rattle.cf_tracker.specs.declared.spans.Wish.{Wish}
 use Rattle.cf_tracker.specs.Spans.{IsWish, GoesFar}
 use Rattle.cf_tracker.specs.Tracking.{IsBestChain}
-use Rattle.cf_client.specs.declared.place.Place.{Place}
-use Rattle.cf_client.specs.declared.place.Place.TheVariants.{Here, Lost}
-use Rattle.cf_client.specs.Places.{Keeps, Fits, nobody, PlacesStand}
+use Rattle.cf_place.specs.declared.place.Place.{Place}
+use Rattle.cf_place.specs.declared.place.Place.TheVariants.{Here, Lost}
+use Rattle.cf_place.specs.Places.{Keeps, Fits, nobody, PlacesStand}
 use Rattle.cf_client.specs.Settled.{chain_at}
 
 -- ---- a connected peer

@@ -6,8 +6,8 @@ use Rattle.std.proofs.lemmas.List.Sums.{sum_by_more}
 use Rattle.cf_wires.specs.Log.{Log}
 use Rattle.cf_peer.specs.Trail.{part_of, trail}
 use Rattle.cf_peer.specs.Asking.{is_open}
-use Rattle.cf_client.specs.declared.place.Place.{Place}
-use Rattle.cf_client.specs.Places.{PlacesStand, nobody, is_busy}
+use Rattle.cf_place.specs.declared.place.Place.{Place}
+use Rattle.cf_place.specs.Places.{PlacesStand, nobody, is_busy}
 use Rattle.cf_client.specs.Stands.{count_below, open_count}
 use Rattle.cf_client.proofs.Standing.{busy_open}
 

@@ -19,9 +19,9 @@ use Rattle.cf_wires.specs.Log.{Log}
 use Rattle.cf_peer.specs.Trail.{Trail, Part, Lost, Went, Shutting, part_of, trail, asks, spelled, with_item, heard_part, connected, greeted, is_version}
 use Rattle.cf_peer.specs.Asking.{MayAsk}
 use Rattle.cf_client.specs.declared.client.Client.{Client}
-use Rattle.cf_client.specs.declared.place.Place.{Place}
-use Rattle.cf_client.specs.declared.place.Place.TheVariants.{Here, Lost as LostPlace}
-use Rattle.cf_client.specs.Places.{Fits, CutFor, Words, TellsWords, ActTells, Allowed, place_at}
+use Rattle.cf_place.specs.declared.place.Place.{Place}
+use Rattle.cf_place.specs.declared.place.Place.TheVariants.{Here, Lost as LostPlace}
+use Rattle.cf_place.specs.Places.{Fits, CutFor, Words, TellsWords, ActTells, Allowed, place_at}
 use Rattle.cf_client.specs.Stands.{Reflects}
 use Rattle.cf_client.proofs.Taking.{heard_says}
 

@@ -31,13 +31,13 @@ use Rattle.cf_tracker.specs.Wanting.{IsAbove}
 use Rattle.cf_hear.specs.Seen.{Seen}
 use Rattle.cf_hear.specs.Tracks.{Tracks}
 use Rattle.cf_tracker.specs.Tracking.{IsBestChain, IsReport}
-use Rattle.cf_client.specs.declared.place.Loss.{Loss}
-use Rattle.cf_client.specs.declared.place.Loss.TheVariants.{NotDialled, Gone, Closed as ClosedFor}
-use Rattle.cf_client.specs.declared.place.PeerEnd.{PeerEnd}
-use Rattle.cf_client.specs.declared.place.PeerEnd.TheVariants.{Ready, Waiting, NotDialled as EndsNotDialled}
-use Rattle.cf_client.specs.declared.place.Place.{Place}
-use Rattle.cf_client.specs.declared.place.Place.TheVariants.{Here, Lost}
-use Rattle.cf_client.specs.Places.{IsLost, Fits, nobody, PlacesStand, EndTells, EndsTell, end_by, end_of, is_idle, is_fetching_at, is_settled}
+use Rattle.cf_place.specs.declared.place.Loss.{Loss}
+use Rattle.cf_place.specs.declared.place.Loss.TheVariants.{NotDialled, Gone, Closed as ClosedFor}
+use Rattle.cf_place.specs.declared.place.PeerEnd.{PeerEnd}
+use Rattle.cf_place.specs.declared.place.PeerEnd.TheVariants.{Ready, Waiting, NotDialled as EndsNotDialled}
+use Rattle.cf_place.specs.declared.place.Place.{Place}
+use Rattle.cf_place.specs.declared.place.Place.TheVariants.{Here, Lost}
+use Rattle.cf_place.specs.Places.{IsLost, Fits, nobody, PlacesStand, EndTells, EndsTell, end_by, end_of, is_idle, is_fetching_at, is_settled}
 use Rattle.cf_client.specs.Stands.{IsTip, IsReportOf}
 use Rattle.cf_client.specs.Settled.{AreSettled, IsAskedThrough, IsThrough, chain_at}
 use Rattle.cf_client.proofs.Standing.{any_at}

@@ -26,9 +26,9 @@ use Rattle.cf_tracker.specs.declared.spans.Span.{Span}
 use Rattle.cf_tracker.specs.Ends.{AreUnclaimed}
 use Rattle.cf_tracker.specs.Spans.{IsSpan}
 use Rattle.cf_tracker.specs.Wanting.{IsAbove, AreClaimed}
-use Rattle.cf_client.specs.declared.place.Place.{Place}
-use Rattle.cf_client.specs.declared.place.Place.TheVariants.{Here, Lost}
-use Rattle.cf_client.specs.Places.{nobody}
+use Rattle.cf_place.specs.declared.place.Place.{Place}
+use Rattle.cf_place.specs.declared.place.Place.TheVariants.{Here, Lost}
+use Rattle.cf_place.specs.Places.{nobody}
 use Rattle.cf_client.specs.Settled.{IsRightAt, AreRight}
 use Rattle.cf_client.proofs.Standing.{set_is, push_is}
 

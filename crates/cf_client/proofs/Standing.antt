@@ -27,10 +27,10 @@ use Rattle.cf_sync.specs.Due.{IsCalledFor}
 use Rattle.cf_sync.specs.Honesty.{asked}
 use Rattle.cf_sync.proofs.Counted.{same_use}
 use Rattle.cf_peer.proofs.Peers.{open_by, idle_request, late_is, wants_is, asked_headers_holds, called_holds}
-use Rattle.cf_client.specs.declared.place.Place.{Place}
-use Rattle.cf_client.specs.declared.place.Place.TheVariants.{Here, Lost}
-use Rattle.cf_client.specs.declared.place.Loss.TheVariants.{NotDialled as NeverCalled, Closed as ClosedFor}
-use Rattle.cf_client.specs.Places.{IsGreetedBy, IsAnswered, IsReplied, IsLost, Keeps, Fits, nobody, PlacesStand, entry_of, after, MayAct, Allowed, Goes, is_calm, is_busy, is_here, is_fetching_at, state_of, IsState, IsGreeting, IsQuestion, AsksAbove}
+use Rattle.cf_place.specs.declared.place.Place.{Place}
+use Rattle.cf_place.specs.declared.place.Place.TheVariants.{Here, Lost}
+use Rattle.cf_place.specs.declared.place.Loss.TheVariants.{NotDialled as NeverCalled, Closed as ClosedFor}
+use Rattle.cf_place.specs.Places.{IsGreetedBy, IsAnswered, IsReplied, IsLost, Keeps, Fits, nobody, PlacesStand, entry_of, after, MayAct, Allowed, Goes, is_calm, is_busy, is_here, is_fetching_at, state_of, IsState, IsGreeting, IsQuestion, AsksAbove}
 use Rattle.cf_client.proofs.Spelled.{spelled_bytes}
 use Rattle.cf_client.proofs.Losing.{lost_went, shut_now}
 

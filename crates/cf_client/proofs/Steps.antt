@@ -26,11 +26,11 @@ use Rattle.cf_tracker.specs.declared.spans.Wish.TheVariants.{Claims, Filters, Bl
 use Rattle.cf_tracker.specs.Spans.{IsWish}
 use Rattle.cf_hear.specs.Seen.{Seen, IsSameSeen}
 use Rattle.cf_hear.specs.Tracks.{Tracks, IsPut}
-use Rattle.cf_client.specs.declared.place.Place.{Place}
-use Rattle.cf_client.specs.declared.place.Place.TheVariants.{Here, Lost}
-use Rattle.cf_client.specs.declared.place.Loss.{Loss}
-use Rattle.cf_client.specs.declared.place.Loss.TheVariants.{Closed as ClosedFor}
-use Rattle.cf_client.specs.Places.{Goes, PlacesStand, after as done, nobody, is_calm, is_here, is_idle, is_fetching_at, is_settled, IsQuestion}
+use Rattle.cf_place.specs.declared.place.Place.{Place}
+use Rattle.cf_place.specs.declared.place.Place.TheVariants.{Here, Lost}
+use Rattle.cf_place.specs.declared.place.Loss.{Loss}
+use Rattle.cf_place.specs.declared.place.Loss.TheVariants.{Closed as ClosedFor}
+use Rattle.cf_place.specs.Places.{Goes, PlacesStand, after as done, nobody, is_calm, is_here, is_idle, is_fetching_at, is_settled, IsQuestion}
 use Rattle.cf_client.specs.Settled.{AreEntered, AreRight, AreSettled, IsAskedThrough, IsRightAt, chain_at}
 use Rattle.cf_client.specs.Steps.{Desk, Stands, IsInOrder, IsSent, IsSentFor, Way, Same, Taking, Extends, Moves, Asks}
 use Rattle.cf_client.proofs.Standing.{set_is, late_goes, goes_start}

@@ -36,11 +36,11 @@ use Rattle.cf_hear.specs.Hearing.{HeardWhole, HeardFault}
 use Rattle.cf_hear.specs.Seen.{Seen, Follows}
 use Rattle.cf_hear.specs.Tracks.{Tracks, IsPut}
 use Rattle.cf_hear.proofs.Tracking.{tracks_sent, tracks_closed, tracks_gone, tracks_away, tracks_tick, tracks_lost, tracks_deaf, tracks_heard, tracks_faulty, put_off}
-use Rattle.cf_client.specs.declared.place.Place.{Place}
-use Rattle.cf_client.specs.declared.place.Place.TheVariants.{Here, Lost}
-use Rattle.cf_client.specs.declared.place.Loss.{Loss}
-use Rattle.cf_client.specs.declared.place.Loss.TheVariants.{Gone as HasGone, Closed as ClosedFor}
-use Rattle.cf_client.specs.Places.{IsGreetedBy, IsAnswered, IsLost, Keeps, Fits, nobody, PlacesStand, after, Allowed, Goes, CutFor, AreCalm, is_calm, is_here}
+use Rattle.cf_place.specs.declared.place.Place.{Place}
+use Rattle.cf_place.specs.declared.place.Place.TheVariants.{Here, Lost}
+use Rattle.cf_place.specs.declared.place.Loss.{Loss}
+use Rattle.cf_place.specs.declared.place.Loss.TheVariants.{Gone as HasGone, Closed as ClosedFor}
+use Rattle.cf_place.specs.Places.{IsGreetedBy, IsAnswered, IsLost, Keeps, Fits, nobody, PlacesStand, after, Allowed, Goes, CutFor, AreCalm, is_calm, is_here}
 use Rattle.cf_client.specs.Steps.{Desk, Stands, IsInOrder, Taking, CutOff, Same, Moves}
 use Rattle.cf_client.proofs.Standing.{greeted_more, after-append, allowed-append, set_is, stand_at, stand_same, here_on, goes_start, sent_others, sent_here, closed_others, closed_here, number_within}
 use Rattle.cf_client.proofs.Losing.{lost_said, lost_refused, lost_went, goes_now, shut_now, cut_now}

@@ -18,8 +18,8 @@ use Rattle.cf_tracker.specs.Held.{CountsBlocks, CountsVerdicts}
 use Rattle.cf_wires.specs.Log.{Log, tally_of}
 use Rattle.cf_peer.specs.Held.{count_came}
 use Rattle.cf_client.specs.declared.held.Held.{Held}
-use Rattle.cf_client.specs.declared.place.Place.{Place}
-use Rattle.cf_client.specs.declared.place.Place.TheVariants.{Here, Lost as NotHere}
+use Rattle.cf_place.specs.declared.place.Place.{Place}
+use Rattle.cf_place.specs.declared.place.Place.TheVariants.{Here, Lost as NotHere}
 use Rattle.cf_client.specs.Stands.{count_below}
 
 -- the lists of the numbers below one, joined

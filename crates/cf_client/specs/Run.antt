@@ -33,10 +33,10 @@ use Rattle.cf_client.specs.declared.outcome.End.TheVariants.{Synced, NoPeers, Ti
 use Rattle.cf_client.specs.declared.progress.Progress.{Progress}
 use Rattle.cf_client.specs.declared.progress.SendState.{SendState}
 use Rattle.cf_client.specs.declared.progress.SendState.TheVariants.{Fine, Pending, Known}
-use Rattle.cf_client.specs.declared.state.State.TheVariants.{Synced as IsSynced, NoPeers as HasNoPeers}
+use Rattle.cf_place.specs.declared.state.State.TheVariants.{Synced as IsSynced, NoPeers as HasNoPeers}
 use Rattle.cf_client.specs.declared.trace.TraceLine.{TraceLine}
 use Rattle.cf_client.specs.declared.trace.TraceLine.TheVariants.{Sent as SentLine, Closed as ClosedLine}
-use Rattle.cf_client.specs.Places.{after, Allowed, IsReplied, IsState}
+use Rattle.cf_place.specs.Places.{after, Allowed, IsReplied, IsState}
 use Rattle.cf_client.specs.Stands.{Reflects, IsInnocent, AreAnswered, watch_by}
 
 -- how the sends to a peer have gone

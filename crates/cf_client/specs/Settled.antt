@@ -11,9 +11,9 @@ use Rattle.cf_match.specs.Verdicts.{Verdicts}
 use Rattle.cf_peer.specs.Peer.{IsRight}
 use Rattle.cf_tracker.specs.Tables as extracts
 use Rattle.cf_tracker.specs.Wanting.{IsAbove, IsUnjudged, IsToFetch, AreClaimed}
-use Rattle.cf_client.specs.declared.place.Place.{Place}
-use Rattle.cf_client.specs.declared.place.Place.TheVariants.{Here, Lost}
-use Rattle.cf_client.specs.Places.{place_at, is_here, is_idle, is_fetching_at, is_settled}
+use Rattle.cf_place.specs.declared.place.Place.{Place}
+use Rattle.cf_place.specs.declared.place.Place.TheVariants.{Here, Lost}
+use Rattle.cf_place.specs.Places.{place_at, is_here, is_idle, is_fetching_at, is_settled}
 
 -- the peers that are connected are those that are tracked
 abbrev pub AreEntered : List Place → Seen → Type 0

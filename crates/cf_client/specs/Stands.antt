@@ -14,7 +14,7 @@ use Rattle.cf_scan.specs.Watching.{IsWatch}
 use Rattle.cf_sync.specs.Fetching.{IsBest, IsConnected, IsAskedOut}
 use Rattle.cf_sync.specs.Sync.{IsToldOf}
 use Rattle.cf_client.specs.declared.client.Client.{Client}
-use Rattle.cf_client.specs.Places.{Words, IsAnswered, PlacesStand, after, Allowed}
+use Rattle.cf_place.specs.Places.{Words, IsAnswered, PlacesStand, after, Allowed}
 use Rattle.cf_tracker.specs.Tracker.{watch_of}
 use Rattle.cf_hear.specs.Judging.{Judging, judging_of}
 use Rattle.cf_hear.specs.Seen.{Seen, seen_of}

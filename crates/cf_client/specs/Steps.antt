@@ -14,9 +14,9 @@ use Rattle.cf_peer.specs.Acts.{IsDoable, IsSendable}
 use Rattle.cf_wires.specs.Log.{Log}
 use Rattle.cf_peer.specs.Peer.{is_idle_peer, asked_for_block}
 use Rattle.cf_tracker.specs.declared.tracker.Tracker.{Tracker}
-use Rattle.cf_client.specs.declared.place.Place.{Place}
-use Rattle.cf_client.specs.declared.place.Place.TheVariants.{Here}
-use Rattle.cf_client.specs.Places.{Goes, AreCalm, AsksFor, CutFor, after, is_settled, place_at}
+use Rattle.cf_place.specs.declared.place.Place.{Place}
+use Rattle.cf_place.specs.declared.place.Place.TheVariants.{Here}
+use Rattle.cf_place.specs.Places.{Goes, AreCalm, AsksFor, CutFor, after, is_settled, place_at}
 use Rattle.cf_hear.specs.Seen.{Seen, IsSameSeen, seen_of}
 use Rattle.cf_hear.specs.Tracks.{Tracks}
 use Rattle.cf_client.specs.Settled.{AreEntered, AreRight}

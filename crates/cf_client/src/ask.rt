@@ -12,15 +12,15 @@ ghost use Rattle.cf_dispute.specs.Claims.{Table, Tables};
 ghost use Rattle.cf_hear.specs.Seen.{seen_of};
 ghost use Rattle.cf_msg.specs.declared.msg.Msg.TheVariants.{GetCfheaders, GetCfilters};
 ghost use Rattle.cf_peer.specs.Peer.{asked_for_claims, asked_for_filters};
-ghost use Rattle.cf_client.specs.Places.{Fits, PlacesStand, AreCalm, is_calm, is_idle, is_wanting, is_settled, is_fetching_at, is_here, place_at, IsQuestion, IsFetch};
+ghost use Rattle.cf_place.specs.Places.{Fits, PlacesStand, AreCalm, is_calm, is_idle, is_wanting, is_settled, is_fetching_at, is_here, place_at, IsQuestion, IsFetch};
 ghost use Rattle.cf_client.specs.Settled.{AreRight, IsRightAt, IsAskedThrough, AreAskedThrough};
 ghost use Rattle.cf_client.specs.Steps.{desk, IsInOrder, Same, Moves, Asks, IsSent, IsSentFor};
 
-use crate::place::{Loss, Place};
 use cf_bytes::{Hash32, NoMemory, PeerNo};
 use cf_headers::HeaderStore;
 use cf_msg::{Entries, Entry, Hashes, Msg};
 use cf_peer::{Act, Cause, Range};
+use cf_place::{Loss, Place};
 use cf_tracker::{Span, Tracker, Wish};
 use std::alloc::Global;
 

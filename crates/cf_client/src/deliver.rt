@@ -6,16 +6,16 @@ ghost use Rattle.cf_wires.specs.declared.event.Delivery.TheVariants.{Got, Gone};
 ghost use Rattle.cf_match.specs.Verdicts.{AreSameVerdicts};
 ghost use Rattle.cf_tracker.specs.Tracker.{verdicts_of, watch_of};
 ghost use Rattle.cf_hear.specs.Judging.{AreJudgedBy, judging_of};
-ghost use Rattle.cf_client.specs.Places.{AreCalm};
+ghost use Rattle.cf_place.specs.Places.{AreCalm};
 ghost use Rattle.cf_client.specs.Steps.{desk, IsInOrder, Taking, CutOff, Moves};
 
 use crate::ask::{close_late, pass_all};
-use crate::place::{Loss, Place};
 use cf_bytes::{NoMemory, PeerNo};
 use cf_headers::HeaderStore;
 use cf_hear::hear_piece;
 use cf_match::Matcher;
 use cf_peer::{Act, Cause};
+use cf_place::{Loss, Place};
 use cf_tracker::Tracker;
 use cf_wires::Delivery;
 use std::alloc::Global;

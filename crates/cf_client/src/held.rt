@@ -5,11 +5,11 @@ ghost use Rattle.cf_block.specs.Size.{capped};
 ghost use Rattle.cf_wires.specs.Log.{Log};
 ghost use Rattle.cf_hear.specs.Seen.{seen_of};
 ghost use Rattle.cf_hear.specs.Tracks.{Tracks};
-ghost use Rattle.cf_client.specs.Places.{PlacesStand};
+ghost use Rattle.cf_place.specs.Places.{PlacesStand};
 ghost use Rattle.cf_client.specs.Holding.{Counts, HoldsNoMore, came_at};
 
-use crate::place::Place;
 use cf_headers::HeaderStore;
+use cf_place::Place;
 use cf_tracker::Tracker;
 
 /// How much a client keeps.

@@ -8,9 +8,7 @@ mod held;
 mod laws;
 mod outcome;
 mod over;
-mod place;
 mod progress;
-mod state;
 mod trace;
 
 pub use client::Client;
@@ -18,6 +16,4 @@ pub use held::Held;
 pub use laws::laws_of_holding;
 pub use outcome::{End, Outcome};
 pub use over::sync_over;
-pub use place::{Loss, PeerEnd, Place};
-pub use state::State;
 pub use trace::TraceLine;

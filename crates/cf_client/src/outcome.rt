@@ -1,8 +1,8 @@
 //! How a run ends.
 use crate::held::Held;
-use crate::place::PeerEnd;
 use crate::trace::TraceLine;
 use cf_bytes::Hash32;
+use cf_place::PeerEnd;
 use cf_scan::History;
 
 /// Why a run ended.

@@ -13,8 +13,8 @@ use Rattle.cf_chain.specs.Good.{IsGoodChain, max_height}
 use Rattle.cf_client.specs.declared.outcome.End.{End}
 use Rattle.cf_client.specs.declared.outcome.End.TheVariants.{Synced, NoPeers, Tired, Ended}
 use Rattle.cf_client.specs.declared.outcome.Outcome.{Outcome}
-use Rattle.cf_client.specs.declared.place.PeerEnd.{PeerEnd}
-use Rattle.cf_client.specs.Places.{EndsTell}
+use Rattle.cf_place.specs.declared.place.PeerEnd.{PeerEnd}
+use Rattle.cf_place.specs.Places.{EndsTell}
 use Rattle.cf_client.specs.Names.{names_in}
 use Rattle.cf_client.specs.Run.{Followed, IsEnd}
 use Rattle.cf_headers.specs.Chain.{NoHashClash}

@@ -1,6 +1,7 @@
 //! What a demo tells.
 use cf_bytes::Hash32;
-use cf_client::{End, PeerEnd};
+use cf_client::End;
+use cf_place::PeerEnd;
 
 /// What a demo came to.
 #[derive(Drop)]

@@ -1,5 +1,5 @@
 use Rattle.std.proofs.Common.{◌≡◌, ◌<◌, ◌^◌, length, rules, sym, ◌∙◌, ap, refl, arith}
-use Rattle.cf_client.specs.Places.{is_idle, nobody}
+use Rattle.cf_place.specs.Places.{is_idle, nobody}
 use Rattle.cf_client.proofs.Asking.{claims_sendable}
 use Rattle.cf_client.proofs.Standing.{any_default}
 use Rattle.cf_client.proofs.ask.ask_for_claims.Goals as goal

@@ -2,8 +2,8 @@ use Rattle.std.proofs.Common.{◌≡◌, ◌≢◌, inl, inr, ℕ, ◌<◌, leng
 use Rattle.std.specs.Prelude.{slice_set}
 use Rattle.std.proofs.lemmas.Bool.{cases_eq}
 use Rattle.cf_peer.specs.Trail.{Passed, with_item}
-use Rattle.cf_client.specs.declared.place.Place.{Place}
-use Rattle.cf_client.specs.Places.{Fits, is_here, nobody, place_at}
+use Rattle.cf_place.specs.declared.place.Place.{Place}
+use Rattle.cf_place.specs.Places.{Fits, is_here, nobody, place_at}
 use Rattle.cf_client.specs.Settled.{IsRightAt}
 use Rattle.cf_client.proofs.Settled.{set_other}
 use Rattle.cf_client.proofs.Standing.{any_default, set_is}

@@ -2,7 +2,7 @@ use Rattle.std.proofs.Common.{◌≡◌, ℕ, ◌<◌, ◌≤◌}
 use Rattle.cf_peer.specs.Trail.{Part, with_item, Passed}
 use Rattle.cf_dispute.specs.Claims.{Table}
 use Rattle.cf_client.specs.Settled.{IsRightAt}
-use Rattle.cf_client.specs.Places.{Fits, place_at, is_here}
+use Rattle.cf_place.specs.Places.{Fits, place_at, is_here}
 use Rattle.cf_client.proofs.ask.pass_all.Given as goal
 
 abbrev pub invariant-loop-place : goal.invariant-loop-place

@@ -1,5 +1,5 @@
 use Rattle.std.proofs.Common.{◌≡◌, map, take}
-use Rattle.cf_client.specs.Places.{end_of}
+use Rattle.cf_place.specs.Places.{end_of}
 use Rattle.cf_client.proofs.client.ends_of.Given as goal
 
 abbrev pub invariant-loop-place : goal.invariant-loop-place

@@ -1,4 +1,4 @@
-use Rattle.cf_client.specs.Places.{after}
+use Rattle.cf_place.specs.Places.{after}
 use Rattle.cf_client.specs.Stands.{watch_by, words_by}
 use Rattle.cf_client.proofs.Courses.{performs_then}
 use Rattle.cf_client.proofs.over.carry_out.Goals as goal

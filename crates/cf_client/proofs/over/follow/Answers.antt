@@ -4,7 +4,7 @@ use Rattle.std.specs.Int.{w64}
 use Rattle.std.specs.Prelude.{IfSome}
 use Rattle.cf_client.specs.Holding.{HoldsNoMore}
 use Rattle.cf_client.specs.Names.{names_in}
-use Rattle.cf_client.specs.Places.{EndsTell}
+use Rattle.cf_place.specs.Places.{EndsTell}
 use Rattle.cf_client.specs.Run.{Followed}
 use Rattle.cf_client.specs.Stands.{watch_by, words_by}
 use Rattle.cf_client.proofs.Versions.{new_words, has_so, words_then, words_so}

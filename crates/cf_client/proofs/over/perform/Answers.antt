@@ -1,5 +1,5 @@
 use Rattle.std.proofs.Common.{arith}
-use Rattle.cf_client.specs.Places.{after}
+use Rattle.cf_place.specs.Places.{after}
 use Rattle.cf_client.proofs.Courses.{performs_then}
 use Rattle.cf_client.proofs.Performs.{acts_more, acts_done}
 use Rattle.cf_client.proofs.Versions.{one_tells}

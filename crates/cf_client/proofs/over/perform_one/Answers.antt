@@ -1,5 +1,5 @@
 use Rattle.std.proofs.Common.{subst}
-use Rattle.cf_client.specs.Places.{ActTells}
+use Rattle.cf_place.specs.Places.{ActTells}
 use Rattle.cf_client.proofs.over.perform_one.Goals as goal
 
 pub returns-in_ok-perform_send-in-Send-clause-versions : goal.returns-in_ok-perform_send-in-Send-clause-versions

@@ -4,7 +4,7 @@ use Rattle.cf_wires.specs.declared.event.Event.TheVariants.{SendFailed}
 use Rattle.cf_peer.specs.declared.peer.Cause.TheVariants.{SendFailed as SendFault}
 use Rattle.cf_client.specs.declared.progress.Progress.{Progress}
 use Rattle.cf_client.specs.declared.progress.SendState.TheVariants.{Known}
-use Rattle.cf_client.specs.Places.{Allowed, after}
+use Rattle.cf_place.specs.Places.{Allowed, after}
 use Rattle.cf_client.specs.Run.{Doing}
 use Rattle.cf_client.proofs.Courses.{noted_performs, performs_then}
 use Rattle.cf_client.specs.Stands.{watch_by}

@@ -7,7 +7,7 @@ use Rattle.cf_client.proofs.Standing.{called_goes}
 use Rattle.cf_hear.proofs.Tracking.{tracks_dialled, tracks_sent, put_entered, none_claimed}
 use Rattle.cf_tracker.specs.Tracker.{claims_of}
 use Rattle.cf_peer.specs.Peer.{called_peer}
-use Rattle.cf_client.specs.declared.place.Place.TheVariants.{Here}
+use Rattle.cf_place.specs.declared.place.Place.TheVariants.{Here}
 use Rattle.cf_client.proofs.Settled.{settled_called}
 use Rattle.cf_client.proofs.Standing.{past_nobody}
 use Rattle.cf_client.proofs.Rights.{right_push}

@@ -2,8 +2,8 @@ use Rattle.std.proofs.Common.{◌≡◌, List, [], ◌∷◌, ◌++◌, sym, ◌
 use Rattle.cf_dispute.proofs.Genesis.{first_header_is}
 use Rattle.cf_hear.specs.Seen.{seen_of}
 use Rattle.cf_tracker.specs.Tracker.{claims_of}
-use Rattle.cf_client.specs.declared.place.Place.{Place}
-use Rattle.cf_client.specs.Places.{nobody}
+use Rattle.cf_place.specs.declared.place.Place.{Place}
+use Rattle.cf_place.specs.Places.{nobody}
 use Rattle.cf_client.specs.Settled.{AreSettled, AreRight}
 use Rattle.cf_client.proofs.Settled.{settled_first}
 use Rattle.cf_client.proofs.Rights.{right_first}

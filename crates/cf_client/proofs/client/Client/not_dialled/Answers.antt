@@ -1,11 +1,11 @@
 use Rattle.std.proofs.Common.{refl, arith}
 use Rattle.std.proofs.Math.Logic.{∥∥₁_map}
 use Rattle.cf_hear.specs.Seen.{seen_of}
-use Rattle.cf_client.specs.declared.place.Loss.TheVariants.{NotDialled}
+use Rattle.cf_place.specs.declared.place.Loss.TheVariants.{NotDialled}
 use Rattle.cf_client.proofs.Standing.{refused_stand}
 use Rattle.cf_hear.proofs.Tracking.{tracks_missed}
 use Rattle.cf_tracker.specs.Tracker.{claims_of}
-use Rattle.cf_client.specs.declared.place.Place.TheVariants.{Lost}
+use Rattle.cf_place.specs.declared.place.Place.TheVariants.{Lost}
 use Rattle.cf_client.proofs.Standing.{past_nobody}
 use Rattle.cf_client.proofs.Settled.{settled_missed}
 use Rattle.cf_client.proofs.Rights.{right_push}

@@ -1,6 +1,6 @@
 use Rattle.std.proofs.Common.{◌∙◌, ap}
 use Rattle.std.specs.List.{count_by}
-use Rattle.cf_client.specs.Places.{is_busy}
+use Rattle.cf_place.specs.Places.{is_busy}
 use Rattle.cf_client.proofs.Counting.{open_is}
 use Rattle.cf_client.proofs.client.Client.open_requests.Goals as goal
 

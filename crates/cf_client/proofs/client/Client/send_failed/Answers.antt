@@ -1,7 +1,7 @@
 use Rattle.std.proofs.Common.{◌<◌, List, length, refl, sym, ◌∙◌, subst, ap, arith}
 use Rattle.std.proofs.lemmas.List.{with_items_is}
-use Rattle.cf_client.specs.declared.place.Place.{Place}
-use Rattle.cf_client.specs.Places.{PlacesStand, after}
+use Rattle.cf_place.specs.declared.place.Place.{Place}
+use Rattle.cf_place.specs.Places.{PlacesStand, after}
 use Rattle.cf_hear.specs.Seen.{seen_of}
 use Rattle.cf_client.specs.Stands.{words_by}
 use Rattle.cf_tracker.specs.Tracker.{claims_of, watch_of}

@@ -21,14 +21,14 @@ use Rattle.cf_peer.specs.Peer.{Holds, calm, busy, wants, is_ready_peer, is_idle_
 use Rattle.cf_sync.specs.Fetching.{IsBusy, IsQuiet, IsConnected, MaySend}
 use Rattle.cf_sync.specs.Due.{IsCalledFor}
 use Rattle.cf_sync.specs.Honesty.{asked, was_called}
-use Rattle.cf_client.specs.declared.place.Place.{Place}
-use Rattle.cf_client.specs.declared.place.Place.TheVariants.{Here, Lost}
-use Rattle.cf_client.specs.declared.place.Loss.{Loss}
-use Rattle.cf_client.specs.declared.place.Loss.TheVariants.{NotDialled, Gone, Closed as ClosedFor}
-use Rattle.cf_client.specs.declared.place.PeerEnd.{PeerEnd}
-use Rattle.cf_client.specs.declared.place.PeerEnd.TheVariants.{Ready, Waiting, NotDialled as EndsNotDialled, Gone as EndsGone, Closed as EndsClosed}
-use Rattle.cf_client.specs.declared.state.State.{State}
-use Rattle.cf_client.specs.declared.state.State.TheVariants.{Working, Synced, NoPeers}
+use Rattle.cf_place.specs.declared.place.Place.{Place}
+use Rattle.cf_place.specs.declared.place.Place.TheVariants.{Here, Lost}
+use Rattle.cf_place.specs.declared.place.Loss.{Loss}
+use Rattle.cf_place.specs.declared.place.Loss.TheVariants.{NotDialled, Gone, Closed as ClosedFor}
+use Rattle.cf_place.specs.declared.place.PeerEnd.{PeerEnd}
+use Rattle.cf_place.specs.declared.place.PeerEnd.TheVariants.{Ready, Waiting, NotDialled as EndsNotDialled, Gone as EndsGone, Closed as EndsClosed}
+use Rattle.cf_place.specs.declared.state.State.{State}
+use Rattle.cf_place.specs.declared.state.State.TheVariants.{Working, Synced, NoPeers}
 
 -- the first of the messages is the client's version, and no other is a version
 abbrev pub IsGreetedBy : List Msg → Type 0
