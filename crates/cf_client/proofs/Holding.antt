@@ -1,8 +1,8 @@
 -- What a client keeps is no more than the log calls for.
-use Rattle.std.proofs.Common.{◌≡◌, ◌⊎◌, inl, inr, ℕ, zero, suc, ◌+◌, ◌*◌, ◌-◌, ◌<◌, ◌≤◌, List, [], ◌∷◌, ◌++◌, length, map, take, get_or, pred, Option, Some, None, Bool, true, false, ◌&&◌, if◌then◌else◌, refl, sym, ◌∙◌, ap, subst, arith}
+use Rattle.std.proofs.Common.{◌≡◌, ◌⊎◌, inl, inr, ℕ, zero, suc, ◌+◌, ◌*◌, ◌-◌, ◌<◌, ◌≤◌, List, [], ◌∷◌, ◌++◌, length, map, take, get_or, Option, Some, None, Bool, true, false, ◌&&◌, if◌then◌else◌, refl, sym, ◌∙◌, ap, subst, arith}
 use Rattle.std.proofs.Math.Path.{fun_ext}
 use Rattle.std.proofs.lemmas.Grind.{common_steps}
-use Rattle.std.proofs.lemmas.Bool.{cases_eq, cases_lt, false≢true}
+use Rattle.std.proofs.lemmas.Bool.{cases_eq, cases_lt}
 use Rattle.std.proofs.lemmas.List.{length-map, length-append, take_all}
 use Rattle.std.proofs.lemmas.List.Sums.{sum_by_more}
 use Rattle.std.specs.Prelude.{IsSome, is_none}
@@ -16,7 +16,7 @@ use Rattle.cf_dispute.specs.Claims.{Table, with_claim, with_claims, claim_of, no
 use Rattle.cf_dispute.specs.Counts.{CountsClaims}
 use Rattle.cf_dispute.proofs.PutIn.{same_true}
 use Rattle.cf_filter.specs.Filter.{filter_hash_of}
-use Rattle.cf_headers.specs.Chain.{Hash, Chain, IsIn, IsPart, back_to, above}
+use Rattle.cf_headers.specs.Chain.{Hash, Chain, IsIn, IsPart, back_to}
 use Rattle.cf_headers.specs.Rules.{same}
 use Rattle.cf_headers.specs.Store.{Chains}
 use Rattle.cf_headers.specs.Counts.{CountsOnce, IsKeptPart}
@@ -130,10 +130,10 @@ unfolding hash_of_block
 few_extracts places s log n stand holds c =
     let blocks = of_all blocks_fetched log in
     let less = fewer c.blocks (map hash_of_block blocks) c.apart (λ hash i.
-        let e = some_is (s.table hash) (c.kept hash i) in
-        let w = holds.sound hash e.0 e.1 in
-        let there : IsIn w.0 blocks = in_all blocks_fetched places log stand no_blocks w.1.0 w.0 w.1.1 in
-        subst (λ (h : Hash). IsIn h (map hash_of_block blocks)) w.2 (in_map hash_of_block w.0 blocks there)) in
+    let e = some_is (s.table hash) (c.kept hash i) in
+    let w = holds.sound hash e.0 e.1 in
+    let there : IsIn w.0 blocks = in_all blocks_fetched places log stand no_blocks w.1.0 w.0 w.1.1 in
+    subst (λ (h : Hash). IsIn h (map hash_of_block blocks)) w.2 (in_map hash_of_block w.0 blocks there)) in
     let as_many = length-map blocks hash_of_block in
     let many = c.many in
     omega (arith, less, as_many, many)
@@ -148,11 +148,11 @@ pub few_verdicts : (places : List Place) (s : Seen) (log : Log) (n : ℕ) → Pl
 few_verdicts places s log n stand holds c =
     let jobs = of_all filters_given log in
     let less = fewer c.filters (map name_of jobs) c.apart (λ f i.
-        let e = some_is (s.verdicts f.0 f.1) (c.kept f i) in
-        let w = holds.sound f.0 f.1 e.0 e.1 in
-        let there : IsIn w.0 jobs = in_all filters_given places log stand no_filters w.1.0 w.0 w.1.1 in
-        let is : name_of w.0 ≡ f = ap (λ (h : Hash). named h (filter_hash_of w.0.filter)) w.2 ∙ ap (λ (h : Hash). named f.0 h) w.3 in
-        subst (λ (x : Hash × Hash). IsIn x (map name_of jobs)) is (in_map name_of w.0 jobs there)) in
+    let e = some_is (s.verdicts f.0 f.1) (c.kept f i) in
+    let w = holds.sound f.0 f.1 e.0 e.1 in
+    let there : IsIn w.0 jobs = in_all filters_given places log stand no_filters w.1.0 w.0 w.1.1 in
+    let is : name_of w.0 ≡ f = ap (λ (h : Hash). named h (filter_hash_of w.0.filter)) w.2 ∙ ap (λ (h : Hash). named f.0 h) w.3 in
+    subst (λ (x : Hash × Hash). IsIn x (map name_of jobs)) is (in_map name_of w.0 jobs there)) in
     let as_many = length-map jobs name_of in
     let many = c.many in
     omega (arith, less, as_many, many)
@@ -277,8 +277,8 @@ kept_made t block claim e = by (connected t) e where
 pub few_claims : (places : List Place) (s : Seen) (log : Log) (n : ℕ) → PlacesStand places log → HoldsClaims log s.claims → CountsClaims s.claims n → n ≤ length (of_all hashes_kept log)
 few_claims places s log n stand holds c =
     let less = fewer c.rows (of_all rows_kept log) c.apart (λ r i.
-        let w = c.kept r i in
-        in_all rows_kept places log stand no_rows w.0 r (kept_made (trail log w.0) r.0 r.1 (sym (holds w.0 r.0) ∙ w.1))) in
+    let w = c.kept r i in
+    in_all rows_kept places log stand no_rows w.0 r (kept_made (trail log w.0) r.0 r.1 (sym (holds w.0 r.0) ∙ w.1))) in
     let shorter = shorter_below (λ (p : ℕ). rows_kept (trail log p)) (λ (p : ℕ). hashes_kept (trail log p)) (λ p. rows_short (trail log p)) ((tally_of log).dials + 1) in
     let many = c.many in
     omega (arith, less, shorter, many)
@@ -296,9 +296,9 @@ fits_came : (place : Place) (part : Part) → Fits place part → came_at place 
 fits_came (Here peer) part k =
     ap count_came k.holds.open_one ∙ by_stage (ready part.trail) refl
     ∙ ap (λ (b : Bool). length (if b then filters_in (request part.trail) else [])) (sym k.holds.on) where
-  by_stage : (b : Bool) → ready part.trail ≡ b → count_came (request_of part.trail) ≡ length (filters_in (request part.trail))
-  by_stage true e = rw e (aged_came (request part.trail) (age part.trail))
-  by_stage false e = rw e (ap (λ (r : OpenRequest). length (filters_in r)) (sym (k.holds.orderly e)))
+      by_stage : (b : Bool) → ready part.trail ≡ b → count_came (request_of part.trail) ≡ length (filters_in (request part.trail))
+      by_stage true e = rw e (aged_came (request part.trail) (age part.trail))
+      by_stage false e = rw e (ap (λ (r : OpenRequest). length (filters_in r)) (sym (k.holds.orderly e)))
 fits_came (NotHere loss) part f = ap (λ (b : Bool). length (if b then filters_in (request part.trail) else [])) (sym f.off)
 
 sums_below : (f : ℕ → List Job) (places : List Place) → ((i : ℕ) → came_at (get_or places i nobody) ≡ length (f i)) → (k : ℕ) → k ≤ length places → length (below f k) ≡ sum_by came_at (take k places)
@@ -396,9 +396,9 @@ thousand_below f test each (suc n) =
     let before = thousand_below f test each n in
     let now = by (test n) (each n) in
     omega (arith, one, before, now) where
-  by : (b : Bool) → length (f n) ≤ thousand_if b → length (f n) ≤ 1000 * (if b then 1 else 0)
-  by true le = omega (arith, le)
-  by false le = omega (arith, le)
+      by : (b : Bool) → length (f n) ≤ thousand_if b → length (f n) ≤ 1000 * (if b then 1 else 0)
+      by true le = omega (arith, le)
+      by false le = omega (arith, le)
 
 pub few_filters : (log : Log) → Rightly log → length (of_all filters_kept log) ≤ 1000 * count_giving log
 few_filters log right = thousand_below (λ (p : ℕ). filters_kept (trail log p)) (λ (p : ℕ). is_giving (trail log p)) (λ p. kept_few (trail log p) (asked_rightly log p right)) ((tally_of log).dials + 1)
