@@ -1,8 +1,8 @@
 -- What a client keeps is no more than the log calls for.
-use Rattle.std.proofs.Common.{◌≡◌, ◌⊎◌, inl, inr, ℕ, zero, suc, ◌+◌, ◌*◌, ◌-◌, ◌<◌, ◌≤◌, List, [], ◌∷◌, ◌++◌, length, map, take, get_or, pred, Option, Some, None, Bool, true, false, ◌&&◌, if◌then◌else◌, refl, sym, ◌∙◌, ap, subst, arith}
+use Rattle.std.proofs.Common.{◌≡◌, ◌⊎◌, inl, inr, ℕ, zero, suc, ◌+◌, ◌*◌, ◌-◌, ◌<◌, ◌≤◌, List, [], ◌∷◌, ◌++◌, length, map, take, get_or, Option, Some, None, Bool, true, false, ◌&&◌, if◌then◌else◌, refl, sym, ◌∙◌, ap, subst, arith}
 use Rattle.std.proofs.Math.Path.{fun_ext}
 use Rattle.std.proofs.lemmas.Grind.{common_steps}
-use Rattle.std.proofs.lemmas.Bool.{cases_eq, cases_lt, false≢true}
+use Rattle.std.proofs.lemmas.Bool.{cases_eq, cases_lt}
 use Rattle.std.proofs.lemmas.List.{length-map, length-append, take_all}
 use Rattle.std.proofs.lemmas.List.Sums.{sum_by_more}
 use Rattle.std.specs.Prelude.{IsSome, is_none}
@@ -16,7 +16,7 @@ use Rattle.cf_dispute.specs.Claims.{Table, with_claim, with_claims, claim_of, no
 use Rattle.cf_dispute.specs.Counts.{CountsClaims}
 use Rattle.cf_dispute.proofs.PutIn.{same_true}
 use Rattle.cf_filter.specs.Filter.{filter_hash_of}
-use Rattle.cf_headers.specs.Chain.{Hash, Chain, IsIn, IsPart, back_to, above}
+use Rattle.cf_headers.specs.Chain.{Hash, Chain, IsIn, IsPart, back_to}
 use Rattle.cf_headers.specs.Rules.{same}
 use Rattle.cf_headers.specs.Store.{Chains}
 use Rattle.cf_headers.specs.Counts.{CountsOnce, IsKeptPart}
