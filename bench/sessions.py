@@ -1,5 +1,6 @@
 #!/usr/bin/env python3
-"""Prints rows `run` of cf_cases, each with what it comes to: sessions in which peers serve made chains with their filters, some of them falsely.
+"""Prints rows `run` of cf_cases, each with what it comes to: sessions in which peers serve made chains with their filters, some of them falsely. With
+`stores` as its argument it prints rows `stores`: sessions that are followed over each of the two stores of headers.
 
 The frames are written out from the layouts of the Bitcoin developer reference, BIP 157 and BIP 158. The histories are those of a scan of every
 block of the best chain. What is sent is told by hand, from the rules by which a wallet asks: headers, then filter headers, then filters, and last
@@ -110,12 +111,75 @@ class Session:
         print("".join(line + "\n" for line in self.trace) + text)
 
 
+    def stores(self, end, text, watched, shown, claims, filters, verdicts, extracts):
+        """A row `stores`. The chains are those that the connected peers have shown; a claim is a chain and a height."""
+        watch = "".join(script(k).hex() + ";" for k in watched)
+        print("stores %s|%s;" % (watch, ";".join(self.lines)))
+        each = sum(chain.tip for chain in shown)
+        once = len({tuple(chain.hashes[1:height + 1]) for chain in shown for height in range(1, chain.tip + 1)})
+        rows = len({(chain.hashes[h], chain.filters[h][1], chain.filters[h][2]) for chain, h in claims})
+        for store, headers in (("lists", each), ("tree", once)):
+            print("%s %s %d %d %d %d %d\n%s" % (store, end, headers, rows, filters, verdicts, extracts, text), end="")
+        print()
+
+
 def asks(p, *commands):
     return ["> %d %s" % (p, command) for command in commands]
 
 
 ENDED = "8 Ended: nothing more came, and an answer was still to come"
 DONE = "0 Done"
+
+
+def stores():
+    a = Chain((7, 3))
+    liar = a.without(2, script(14))
+    longer = Chain((7, 1), (8, 3))
+
+    def text(chain, ks):
+        return chain.history([script(k) for k in ks])
+
+    def all_of(*chains):
+        return [(chain, h) for chain in chains for h in range(1, chain.tip + 1)]
+
+    genesis = "synced 0 %s\n" % a.hashes[0][::-1].hex()
+
+    print("# stores WATCH|SESSION: what comes of a session over a store of lists, and over a tree: how it ends, how many headers, claims, filters, verdicts")
+    print("# and extracts the client keeps then, and the history and the tip. The rows and answers are those of bench/sessions.py stores.")
+    print("# Two peers that differ on a filter; or the second one is gone while the block is still to come.")
+    for gone in (False, True):
+        s = Session(2).shows(1, liar).shows(2, a).got(1, liar.cfheaders(1, 3)).got(2, a.cfheaders(1, 3))
+        s.got(1, liar.cfilter(1)).got(1, liar.cfilter(2)).got(1, liar.cfilter(3))
+        if gone:
+            s.lines.append("gone 2")
+            s.stores("Ended", text(a, []), [14], [liar], all_of(liar), 0, 3, 0)
+        else:
+            s.got(1, a.block(2)).stores("Synced", text(a, [14]), [14], [liar, a], all_of(liar, a), 0, 3, 1)
+
+    print("# A longer chain takes the place of one that is settled; then its peer is gone.")
+    for gone in (False, True):
+        s = Session(2).shows(1, a).got(1, a.cfheaders(1, 3))
+        s.got(1, a.cfilter(1)).got(1, a.cfilter(2)).got(1, a.cfilter(3)).got(1, a.block(1)).got(1, a.block(2))
+        s.shows(2, longer).got(2, longer.cfheaders(1, 4)).got(2, longer.cfilter(2)).got(2, longer.cfilter(3)).got(2, longer.cfilter(4))
+        s.got(2, longer.block(3)).got(2, longer.block(4))
+        if gone:
+            s.lines.append("gone 2")
+            s.stores("Synced", text(a, [8, 11]), [8, 11], [a], all_of(a), 0, 6, 4)
+        else:
+            s.stores("Synced", text(longer, [8, 11]), [8, 11], [a, longer], all_of(a, longer), 0, 6, 4)
+
+    print("# Eight peers show one chain; all but one are gone; and the last one is.")
+    for left in (8, 1, 0):
+        s = Session(8)
+        for p in range(1, 9):
+            s.shows(p, a)
+        s.lines += ["gone %d" % p for p in range(8, left, -1)]
+        s.stores("Ended" if left else "NoPeers", text(a, []) if left else genesis, [8], [a] * left, [], 0, 0, 0)
+
+    print("# Filters that have come of a question that is open; and a peer whose last header is another one.")
+    other = Chain((7, 2), (9, 1))
+    s = Session(2).shows(1, a).shows(2, other).got(1, a.cfheaders(1, 3)).got(1, a.cfilter(1)).got(1, a.cfilter(2))
+    s.stores("Ended", text(a, []), [8], [a, other], all_of(a), 2, 0, 0)
 
 
 def main():
@@ -228,4 +292,4 @@ def main():
 
 
 if __name__ == "__main__":
-    main()
+    stores() if sys.argv[1:] == ["stores"] else main()

@@ -19,6 +19,7 @@ mod players;
 mod proofs;
 mod runs;
 mod servings;
+mod stores;
 mod streams;
 mod verdicts;
 
@@ -64,6 +65,7 @@ fn answer<R: Wait + Threads + Sync + Copy + Drop + Send + 'static>(
         "serving" => servings::answer(rt, alloc, rest),
         "session" => inputs::session(alloc, rest),
         "siphash" => filters::siphash(alloc, rest),
+        "stores" => stores::answer(alloc, rest),
         "stream" => streams::answer(alloc, rest),
         "target" => headers::target(alloc, rest),
         "text" => inputs::text(alloc, rest),

@@ -26,7 +26,7 @@ fn files_of(alloc: Global, watch: &str, session: &str, blocks: &str) -> Option<M
 }
 
 // Wires that give what a good session says, and else dial no one. These calls of theirs fail.
-fn wires_of(alloc: Global, session: &str, failing: &str) -> Option<MemoryWires>
+pub(crate) fn wires_of(alloc: Global, session: &str, failing: &str) -> Option<MemoryWires>
     ensures { IfSome result (λ w. (log_of w ≡ []) × (finished_of w ≡ false)) }
 {
     let mut wires = MemoryWires::new(alloc).ok()?;

@@ -1,0 +1,85 @@
+//! Sessions that are followed over each store of chains.
+ghost use Rattle.std.specs.Prelude.{◌≡◌, ℕ, None};
+
+use crate::fields::file_in;
+use crate::runs::wires_of;
+use cf_client::{Held, Outcome, sync_over};
+use cf_headers::{HeaderStore, Lists, Tree};
+use cf_input::{read_session, read_watch};
+use cf_match::Plain;
+use std::alloc::Global;
+
+// How many headers, claims, filters, verdicts and extracts a client keeps.
+fn counts(alloc: Global, held: Held) -> Option<String> {
+    let Held {
+        headers,
+        claims,
+        filters,
+        verdicts,
+        extracts,
+    } = held;
+    format!(in alloc; "{headers} {claims} {filters} {verdicts} {extracts}").ok()
+}
+
+// How a run ended, how much the client kept then, and the history and the tip.
+fn shown(alloc: Global, outcome: &Outcome) -> Option<String> {
+    let end = outcome.end;
+    let counts = counts(alloc, outcome.held)?;
+    let text = outcome
+        .history
+        .text(alloc, outcome.height, &outcome.tip)
+        .ok()?;
+    format!(in alloc; "{end:?} {counts}\n{text}").ok()
+}
+
+// What comes of a session over a store.
+fn followed<H: HeaderStore + Drop>(
+    alloc: Global,
+    store: H,
+    watch: &str,
+    session: &str,
+) -> Option<String>
+    requires { (q : ℕ) → H.chain store q ≡ None }
+{
+    let mut wires = wires_of(alloc, session, "-")?;
+    let watch = read_watch(alloc, watch.as_bytes()).ok()?;
+    if session.len() >= 1_000_000 {
+        return None;
+    }
+    let session = read_session(alloc, session.as_bytes()).ok()?;
+    let outcome = sync_over(
+        alloc,
+        &mut wires,
+        &session.names,
+        watch,
+        store,
+        Plain::new(alloc),
+        0,
+        0,
+        1_000_000,
+    )
+    .ok()?;
+    shown(alloc, &outcome)
+}
+
+// The same over lists.
+fn over_lists(alloc: Global, watch: &str, session: &str) -> Option<String> {
+    let store = Lists::new(alloc).ok()?;
+    followed(alloc, store, watch, session)
+}
+
+// The same over a tree.
+fn over_tree(alloc: Global, watch: &str, session: &str) -> Option<String> {
+    let store = Tree::new(alloc).ok()?;
+    followed(alloc, store, watch, session)
+}
+
+/// What comes of a row's session with its watched scripts: over a store of lists, and over a tree.
+pub(crate) fn answer(alloc: Global, row: &str) -> Option<String> {
+    let (watch, session) = row.split_once('|')?;
+    let watch = file_in(alloc, watch)?;
+    let session = file_in(alloc, session)?;
+    let lists = over_lists(alloc, &watch, &session)?;
+    let tree = over_tree(alloc, &watch, &session)?;
+    format!(in alloc; "lists {lists}tree {tree}").ok()
+}
