@@ -156,17 +156,17 @@ def stores():
         else:
             s.got(1, a.block(2)).stores("Synced", text(a, [14]), [14], [liar, a], all_of(liar, a), 0, 3, 1)
 
-    print("# A longer chain takes the place of one that is settled; then its peer is gone.")
+    print("# A longer chain takes the place of one that is settled; or its peer is gone while a block is still to come.")
     for gone in (False, True):
         s = Session(2).shows(1, a).got(1, a.cfheaders(1, 3))
         s.got(1, a.cfilter(1)).got(1, a.cfilter(2)).got(1, a.cfilter(3)).got(1, a.block(1)).got(1, a.block(2))
         s.shows(2, longer).got(2, longer.cfheaders(1, 4)).got(2, longer.cfilter(2)).got(2, longer.cfilter(3)).got(2, longer.cfilter(4))
-        s.got(2, longer.block(3)).got(2, longer.block(4))
+        s.got(2, longer.block(3))
         if gone:
             s.lines.append("gone 2")
-            s.stores("Synced", text(a, [8, 11]), [8, 11], [a], all_of(a), 0, 6, 4)
+            s.stores("Synced", text(a, [8, 11]), [8, 11], [a], all_of(a), 0, 6, 3)
         else:
-            s.stores("Synced", text(longer, [8, 11]), [8, 11], [a, longer], all_of(a, longer), 0, 6, 4)
+            s.got(2, longer.block(4)).stores("Synced", text(longer, [8, 11]), [8, 11], [a, longer], all_of(a, longer), 0, 6, 4)
 
     print("# Eight peers show one chain; all but one are gone; and the last one is.")
     for left in (8, 1, 0):
