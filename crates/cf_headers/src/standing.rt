@@ -5,6 +5,7 @@ ghost use Rattle.cf_headers.specs.Entries.{IsChecked};
 
 use crate::check::{Hashing, check_all};
 use crate::entry::{Checked, Entry};
+use crate::past::Past;
 use crate::pool::Pool;
 use crate::ways::{Way, names_above};
 use cf_block::Header;
@@ -72,16 +73,17 @@ impl Hashing for Standing<'_> {
     }
 }
 
-/// Judges headers, each on the one before it, and the first on one with this hash. Nodes of these names may have them:
-/// where one does, its header is compared and not hashed.
+/// Judges headers, each on the one before it, and the first on one with this hash, where these times count for it. Nodes of
+/// these names may have them: where one does, its header is compared and not hashed.
 pub(crate) fn check_standing(
     alloc: Global,
     pool: &Pool,
     names: &[u32],
     parent_hash: &Hash32,
+    past: Past,
     headers: &[Header],
 ) -> Result<Checked, NoMemory>
-    ensures { IfOk result (λ c. IsChecked parent_hash.now.0 headers.now c) }
+    ensures { IfOk result (λ c. IsChecked parent_hash.now.0 past headers.now c) }
 {
-    check_all(alloc, &Standing { pool, names }, parent_hash, headers)
+    check_all(alloc, &Standing { pool, names }, parent_hash, past, headers)
 }
