@@ -9,12 +9,12 @@ use Rattle.cf_block.specs.Tx.{txid_of, IsBlock}
 use Rattle.cf_block.specs.declared.tx.OutPoint.{OutPoint}
 use Rattle.cf_block.specs.declared.tx.Tx.{Tx}
 use Rattle.cf_block.specs.declared.tx.Block.{Block}
-use Rattle.cf_headers.specs.Chain.{Chain, IsValidChain}
+use Rattle.cf_headers.specs.Chain.{Chain, height_limit, IsValidChain}
 use Rattle.cf_chain.specs.Coins.{CoinMap, without, after_tx, after_block}
 
 -- the greatest height of a chain of blocks
 abbrev pub max_height : ℕ
-max_height = 100000
+max_height = height_limit
 
 -- the names are distinct, and each is a coin's
 abbrev pub AllStand : CoinMap → List OutPoint → Type 0
