@@ -1,5 +1,5 @@
 -- Laws of made chains.
-use Rattle.std.proofs.Common.{◌≡◌, ℕ, zero, suc, ◌+◌, ◌<◌, ◌≤◌, ◌^◌, true, false, nat_lt, List, [], ◌∷◌, ◌++◌, map, length, take, Option, Some, None, refl, sym, ◌∙◌, ap, subst, arith, append_assoc, inl, inr, bytes_eq}
+use Rattle.std.proofs.Common.{◌≡◌, ℕ, zero, suc, ◌+◌, ◌*◌, ◌<◌, ◌≤◌, ◌^◌, true, false, nat_lt, List, [], ◌∷◌, ◌++◌, map, length, take, Option, Some, None, refl, sym, ◌∙◌, ap, subst, arith, append_assoc, inl, inr, bytes_eq}
 use Rattle.std.specs.Prelude.{is_some, fold, ◌&&◌}
 use Rattle.std.specs.FinMap.{empty, get-empty}
 use Rattle.std.specs.List.{flat_map}
@@ -17,8 +17,9 @@ use Rattle.cf_block.specs.Output.{Output}
 use Rattle.cf_block.specs.Outpoint.{outpoint_cmp}
 use Rattle.cf_block.specs.Tx.{tx_spelling, txid_of}
 use Rattle.cf_block.specs.Commitment.{spelled_txs}
-use Rattle.cf_headers.specs.Rules.{same, is_worked}
-use Rattle.cf_headers.specs.Chain.{Chain, tip_hash, fits, IsValidChain}
+use Rattle.cf_headers.specs.Rules.{same, is_worked, is_timely}
+use Rattle.cf_headers.specs.Chain.{Chain, tip_hash, times_of, past_of, fits, IsValidChain}
+use Rattle.cf_headers.proofs.Rising.{AreBelow, below_more, rising_timely}
 use Rattle.cf_chain.specs.Coins.{CoinMap, after_tx, after_block}
 use Rattle.cf_chain.specs.Good.{max_height, AreGoodTxs, NoCoinbases, HasOneCoinbase, IsGoodBlock, AreGoodBlocks, headers_of, IsGoodChain}
 use Rattle.cf_make.specs.declared.making.Tip.{Tip}
@@ -202,21 +203,34 @@ blocks_known P (b ∷ bs) all =
 
 -- headers
 
-made_worked : (seed height nonce : ℕ) (t : Tip) (chain : Chain) → t.hash.0 ≡ tip_hash chain → is_met (made_header seed height t) nonce ≡ true → fits (with_nonce (made_header seed height t) nonce) chain ≡ true
+made_worked : (seed height nonce : ℕ) (t : Tip) (chain : Chain) → t.hash.0 ≡ tip_hash chain → AreBelow (1296688602 + 600 * height) (times_of chain)
+    → is_met (made_header seed height t) nonce ≡ true → fits (with_nonce (made_header seed height t) nonce) chain ≡ true
 unfolding made_header same is_worked
-made_worked seed height nonce t chain linked met =
+made_worked seed height nonce t chain linked below met =
     let one : bytes_eq t.hash.0 (tip_hash chain) ≡ true = (bytes_eq-Decides t.hash.0 (tip_hash chain)).1 linked in
-    λ i. one i && (true && met i)
+    let timely : is_timely (past_of chain) (with_nonce (made_header seed height t) nonce) ≡ true = rising_timely (with_nonce (made_header seed height t) nonce) chain below in
+    λ i. one i && ((true && met i) && timely i)
 
-made_fits : (seed height : ℕ) (t : Tip) (b : Block) (chain : Chain) → t.hash.0 ≡ tip_hash chain → IsMadeBlock seed height t b → fits b.header chain ≡ true
-made_fits seed height t b chain linked made =
-    ap (λ (h : Header). fits h chain) made.header.same ∙ made_worked seed height b.header.nonce t chain linked made.header.met
+made_fits : (seed height : ℕ) (t : Tip) (b : Block) (chain : Chain) → t.hash.0 ≡ tip_hash chain → AreBelow (1296688602 + 600 * height) (times_of chain)
+    → IsMadeBlock seed height t b → fits b.header chain ≡ true
+made_fits seed height t b chain linked below made =
+    ap (λ (h : Header). fits h chain) made.header.same ∙ made_worked seed height b.header.nonce t chain linked below made.header.met
 
-all_valid : (height : ℕ) (t : Tip) (bs : List Block) (chain : Chain) → t.hash.0 ≡ tip_hash chain → IsValidChain chain → AreMadeInTurn height t bs → IsValidChain (headers_of bs ++ chain)
-all_valid height t [] chain linked valid made = valid
-all_valid height t (b ∷ bs) chain linked valid made =
+made_time : (seed height : ℕ) (t : Tip) (b : Block) → IsMadeBlock seed height t b → b.header.time ≡ 1296688602 + 600 * height
+unfolding made_header
+made_time seed height t b made = ap (λ (h : Header). h.time) made.header.same
+
+-- made times rise by 600, so each is above all those below it
+all_valid : (height : ℕ) (t : Tip) (bs : List Block) (chain : Chain) → t.hash.0 ≡ tip_hash chain → IsValidChain chain → AreBelow (1296688602 + 600 * height) (times_of chain)
+    → AreMadeInTurn height t bs → IsValidChain (headers_of bs ++ chain)
+all_valid height t [] chain linked valid below made = valid
+all_valid height t (b ∷ bs) chain linked valid below made =
     let one : IsMadeBySome height t b = made.0 in
-    let rest : IsValidChain (headers_of bs ++ (b.header ∷ chain)) = all_valid (suc height) (tip_of b) bs (b.header ∷ chain) refl (made_fits one.seed height t b chain linked one.made, valid) made.1 in
+    let time = made_time one.seed height t b one.made in
+    let rises : AreBelow (1296688602 + 600 * suc height) (times_of (b.header ∷ chain)) =
+    (omega (arith, time), below_more (1296688602 + 600 * height) (1296688602 + 600 * suc height) (times_of chain) (omega arith) below) in
+    let rest : IsValidChain (headers_of bs ++ (b.header ∷ chain)) =
+    all_valid (suc height) (tip_of b) bs (b.header ∷ chain) refl (made_fits one.seed height t b chain linked below one.made, valid) rises made.1 in
     let turned : headers_of (b ∷ bs) ≡ headers_of bs ++ b.header ∷ [] = reverse-append (b.header ∷ []) (map (λ x. x.header) bs) in
     subst IsValidChain (sym (ap (λ (l : Chain). l ++ chain) turned ∙ append_assoc (headers_of bs) (b.header ∷ []) chain)) rest
 
@@ -225,11 +239,15 @@ nothing_stands p h =
     let e : is_some {T = Output} None ≡ true = ap (λ (x : Option Output). is_some x) (sym (get-empty outpoint_cmp p)) ∙ h in
     cc
 
+genesis_time : genesis_header.time < 1296688602 + 600 * 1
+unfolding genesis_header
+genesis_time = omega arith
+
 pub made_is_good : (blocks : List Block) → IsMadeChain blocks → length blocks ≤ max_height → NoClash (flat_map spelled_txs blocks) → IsGoodChain blocks
 made_is_good blocks made low apart =
     let P : List ℕ → Type 0 = Among (flat_map spelled_txs blocks) in
     let state : State P empty 1 genesis_tip = record { lower = λ p h. absurd (nothing_stands p h); tip = tt; hash = hash_fits genesis_header } in
-    let valid : IsValidChain (headers_of blocks ++ []) = all_valid 1 genesis_tip blocks [] refl tt made in
+    let valid : IsValidChain (headers_of blocks ++ []) = all_valid 1 genesis_tip blocks [] refl tt (genesis_time, tt) made in
     record {
       headers = subst IsValidChain (append-nil (headers_of blocks)) valid;
       height = low;

@@ -1,5 +1,5 @@
 -- Making the records of a chain, a block at a time.
-use Rattle.std.proofs.Common.{◌≡◌, ℕ, suc, ◌+◌, ◌<◌, List, [], ◌∷◌, ◌++◌, length, refl, sym, ◌∙◌, ap, arith}
+use Rattle.std.proofs.Common.{◌≡◌, ℕ, ◌+◌, ◌<◌, List, [], ◌∷◌, ◌++◌, refl, sym, ◌∙◌, ap, arith}
 use Rattle.std.specs.Prelude.{Some, Err}
 use Rattle.std.specs.List.{flat_map}
 use Rattle.std.proofs.lemmas.Grind.{flat_map-append}
@@ -12,9 +12,9 @@ use Rattle.cf_bytes.specs.declared.memory.Refused.{Refused}
 use Rattle.cf_bytes.specs.declared.memory.Refused.TheVariants.{No, NoMemory}
 use Rattle.cf_make.specs.declared.making.AtHeight.{AtHeight}
 use Rattle.cf_make.specs.declared.making.Tip.{Tip}
-use Rattle.cf_make.specs.Made.{IsExtension, IsMadeBlock, StopsAt, first_coin, genesis_tip, made_header, max_tries, tip_after, tip_of}
+use Rattle.cf_make.specs.Made.{IsMadeBlock, StopsAt, first_coin, genesis_tip, made_header, max_tries, tip_of}
 use Rattle.cf_make.specs.Mined.{NoneMeets}
-use Rattle.cf_make.specs.Records.{record_of, records_of}
+use Rattle.cf_make.specs.Records.{record_of}
 use Rattle.cf_make.specs.Streamed.{AreRecordsOf, AreRecordsTo, MakesTipped, StopsFor}
 use Rattle.cf_make.proofs.Blocks.{one_more, stops, tip_append}
 

@@ -36,7 +36,7 @@ pub(crate) const TRIES: u32 = 65_536;
 pub(crate) const GENESIS_TIME: u32 = 1_296_688_602;
 
 /// The chain of so many blocks that the seed tells. `NoNonce` comes exactly at the lowest height at which none of the
-/// nonces from 0 to 65,535 meets the target. Seeds are below 2 ^ 33, and there are at most 100,000 blocks.
+/// nonces from 0 to 65,535 meets the target. Seeds are below 2 ^ 33, and there are at most 500,000 blocks.
 pub fn chain(alloc: Global, seed: u64, blocks: u32) -> Result<Chain, Refused<AtHeight>>
     requires seeds { seed < seed_limit }
     requires heights { blocks ≤ max_height }
@@ -46,7 +46,7 @@ pub fn chain(alloc: Global, seed: u64, blocks: u32) -> Result<Chain, Refused<AtH
 }
 
 /// The chain up to a height, and above it so many blocks that the seed tells. `NoNonce` comes as for `chain`. The
-/// height is at most the chain's own, seeds are below 2 ^ 33, and no block comes above height 100,000.
+/// height is at most the chain's own, seeds are below 2 ^ 33, and no block comes above height 500,000.
 pub fn extend(
     alloc: Global,
     chain: &Chain,

@@ -128,7 +128,7 @@ fn first_tip() -> Tip
 }
 
 /// The records of the chain of so many blocks that the seed tells, the lowest first, as `records` gives them of `chain`. One
-/// block is held at a time. `NoNonce` comes as for `chain`. Seeds are below 2 ^ 33, and there are at most 100,000 blocks.
+/// block is held at a time. `NoNonce` comes as for `chain`. Seeds are below 2 ^ 33, and there are at most 500,000 blocks.
 pub fn made_records(alloc: Global, seed: u64, blocks: u32) -> Result<Vec<u8>, Refused<AtHeight>>
     requires seeds { seed < seed_limit }
     requires heights { blocks ≤ max_height }

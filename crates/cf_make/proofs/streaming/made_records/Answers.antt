@@ -1,8 +1,7 @@
-use Rattle.std.proofs.Common.{ℕ, List, ◌+◌, ◌++◌, Err, Result, sym, ◌∙◌, ap, subst, arith}
-use Rattle.std.specs.Prelude.{IfErr}
+use Rattle.std.proofs.Common.{ℕ, List, ◌+◌, Err, sym, ◌∙◌, ap, subst, arith}
 use Rattle.std.proofs.lemmas.Result.{err_from_is_err_and}
 use Rattle.cf_make.specs.Made.{IsMadeBlock}
-use Rattle.cf_make.specs.Streamed.{AreRecordsTo, MakesTipped, StopsFor}
+use Rattle.cf_make.specs.Streamed.{AreRecordsTo, MakesTipped}
 use Rattle.cf_make.proofs.StreamLemmas.{record_more, stops_for}
 use Rattle.cf_make.proofs.streaming.made_records.Goals as goal
 
