@@ -13,7 +13,7 @@ use Rattle.cf_block.specs.Reading.{block_at}
 use Rattle.cf_block.specs.Commitment.{commit_fault}
 use Rattle.cf_headers.specs.declared.rules.HeaderFault.{HeaderFault}
 use Rattle.cf_headers.specs.Rules.{fault_after}
-use Rattle.cf_headers.specs.Chain.{tip_hash}
+use Rattle.cf_headers.specs.Chain.{tip_hash, past_of}
 use Rattle.cf_chain.specs.Coins.{CoinMap, coins_after}
 use Rattle.cf_chain.specs.Good.{IsGoodChain, headers_of, max_height}
 use Rattle.cf_index.specs.declared.cause.CoinFault.{CoinFault}
@@ -68,7 +68,7 @@ or_else None later = later
 -- why a block may not stand on these blocks
 unfoldable pub cause_on : List Block → Block → Option RecordCause
 cause_on blocks b =
-    or_else (in_header (fault_after (tip_hash (headers_of blocks)) b.header))
+    or_else (in_header (fault_after (tip_hash (headers_of blocks)) (past_of (headers_of blocks)) b.header))
     (or_else (in_height (length blocks))
     (or_else (in_commitment (commit_fault b))
     (in_coins (spend_txs (coins_after empty blocks) b.txs))))

@@ -65,7 +65,7 @@ pub enum RecordCause {
     /// The header may not stand on the one before.
     #[error("no header here: {0}")]
     Header(HeaderFault),
-    /// The block would stand above height 100,000.
+    /// The block would stand above height 500,000.
     #[error("the chain is too high")]
     TooHigh,
     /// The header doesn't stand for the transactions.

@@ -15,17 +15,14 @@ use crate::coins::Coins;
 use crate::spend::{Spent, spend_block};
 use cf_block::{Block, Header, TxIds, block_hash, check_commitment_by, genesis_header, txids};
 use cf_bytes::{Hash32, Listed, NoMemory, Refused};
-use cf_headers::check_on;
+use cf_headers::{HEIGHT_LIMIT, Past, check_on};
 use std::alloc::Global;
 
 // The blocks of a chain above genesis, the lowest first.
 pub(crate) type Blocks = Listed<Block>;
 
-// The greatest height of a chain.
-const MAX_HEIGHT: usize = 100_000;
-
 // A good chain: its blocks, of each the hash, those of its transactions and the scripts that it spends, and what the next one is judged by: the hash of the highest
-// header, and the coins.
+// header, the times that count for the next one, and the coins.
 #[derive(Drop)]
 pub(crate) struct Chain {
     pub(crate) blocks: Blocks,
@@ -33,6 +30,7 @@ pub(crate) struct Chain {
     pub(crate) txids: Listed<TxIds>,
     pub(crate) spent: Listed<Spent>,
     pub(crate) tip: Hash32,
+    pub(crate) past: Past,
     pub(crate) coins: Coins,
 }
 
@@ -47,14 +45,20 @@ pub(crate) fn new_chain(alloc: Global) -> Chain
         txids: Listed::new(alloc),
         spent: Listed::new(alloc),
         tip: block_hash(&genesis_header()),
+        past: Past::of_genesis(),
         coins: Coins::new(alloc),
     }
 }
 
-fn judge_header(tip: &Hash32, header: &Header, hash: &Hash32) -> Result<(), Refused<RecordCause>>
-    ensures { FindsCause (in_header (fault_with tip.now.0 header.now hash.now.0)) result }
+fn judge_header(
+    tip: &Hash32,
+    past: &Past,
+    header: &Header,
+    hash: &Hash32,
+) -> Result<(), Refused<RecordCause>>
+    ensures { FindsCause (in_header (fault_with tip.now.0 past.now header.now hash.now.0)) result }
 {
-    match check_on(tip, header, hash) {
+    match check_on(tip, past.times(), header, hash) {
         Ok(()) => Ok(()),
         Err(fault) => Err(Refused::No(RecordCause::Header(fault))),
     }
@@ -63,7 +67,7 @@ fn judge_header(tip: &Hash32, header: &Header, hash: &Hash32) -> Result<(), Refu
 fn judge_height(height: usize) -> Result<(), Refused<RecordCause>>
     ensures { FindsCause (in_height height) result }
 {
-    if height >= MAX_HEIGHT {
+    if height >= HEIGHT_LIMIT as usize {
         return Err(Refused::No(RecordCause::TooHigh));
     }
     Ok(())
@@ -127,10 +131,11 @@ fn judge(
     ensures spent { IfOk result (λ found. found.spent ≡ prevouts chain.old.coins block.now) }
     ensures blocks { chain.new.blocks ≡ chain.old.blocks }
     ensures hashes { chain.new.hashes ≡ chain.old.hashes }
+    ensures past { chain.new.past ≡ chain.old.past }
     ensures txids { chain.new.txids ≡ chain.old.txids }
     ensures others { chain.new.spent ≡ chain.old.spent }
 {
-    match judge_header(&chain.tip, &block.header, hash) {
+    match judge_header(&chain.tip, &chain.past, &block.header, hash) {
         Ok(()) => {}
         Err(e) => return Err(e),
     }
@@ -162,6 +167,7 @@ pub(crate) fn put_on_chain(
 {
     let mut chain = chain;
     let hash = block_hash(&block.header);
+    let time = block.header.time;
     let found = match judge(alloc, &mut chain, &block, &hash) {
         Ok(found) => found,
         Err(e) => return Err(e),
@@ -171,5 +177,6 @@ pub(crate) fn put_on_chain(
     chain.txids.push(found.txids)?;
     chain.spent.push(found.spent)?;
     chain.tip = hash;
+    chain.past.push(time);
     Ok(chain)
 }
