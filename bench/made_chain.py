@@ -51,7 +51,11 @@ def mined(fields):
     raise SystemExit("no nonce")
 
 
-def records(*parts, others=0):
+def made_time(height):
+    return 1_296_688_602 + 600 * height
+
+
+def records(*parts, others=0, time_of=made_time):
     """The records of the parts of a chain, each of which is a seed and a number of blocks. Each coinbase has so many outputs more, at most 251."""
     previous = GENESIS_HASH
     coin = None
@@ -62,7 +66,7 @@ def records(*parts, others=0):
             txs.append(spending(seed, height, coin))
         txids = [double(tx) for tx in txs]
         root = double(b"".join(txids)) if len(txids) == 2 else txids[0]
-        header = mined(struct.pack("<i", 4) + previous + root + struct.pack("<II", 1_296_688_602 + 600 * height, 0x207FFFFF))
+        header = mined(struct.pack("<i", 4) + previous + root + struct.pack("<II", time_of(height), 0x207FFFFF))
         previous = double(header)
         coin = txids[0]
         block = header + bytes([len(txs)]) + b"".join(txs)
