@@ -19,6 +19,11 @@ TEXTS = {
 }
 
 
+def meets(block_hash):
+    """Whether a header's hash is at most the target."""
+    return block_hash[::-1] <= TARGET
+
+
 class Bad(Exception):
     """Bytes that are no spelling, or a peer that is to be closed for this cause."""
 
@@ -310,7 +315,7 @@ class Client:
             k = chain.index(headers[0][4:36])
             before = chain[k]
             for header in headers:
-                if header[4:36] != before or header[72:76] != b"\xff\xff\x7f\x20" or double(header)[::-1] > TARGET:
+                if header[4:36] != before or header[72:76] != b"\xff\xff\x7f\x20" or not meets(double(header)):
                     raise Bad("InvalidHeader")
                 before = double(header)
             if k + len(headers) > MOST_HEIGHT:
