@@ -17,7 +17,7 @@ Looked for are:
     text       standard output has something with a status that writes none, or lines of another form
     memory     none is found within 512 MB; or it is ten times that of the unchanged run, and ten times the files
     time       it is ten times that of the unchanged run: the best of three runs, and more than a tenth of a second
-    other      a session ends otherwise than by client.py, or a file of blocks than by a plain reader here
+    other      it ends otherwise than by client.py, or than by the plain readers of readers.py, or in another place
 
 A line is printed for each of them, then one for each kind of input, with the statuses. The status is 1 where something
 was found.
@@ -37,13 +37,13 @@ import tempfile
 import time
 
 import hostile
-from client import Bad, Play, Run, is_committed, meets, read_block
-from conversation import GENESIS_HEADER, GENESIS_TX, MAGIC, double, valued
-from sessions import Chain, script
+from client import Bad, Play, meets, read_block, root_of
+from conversation import GENESIS_HEADER, GENESIS_TX, MAGIC, double
+from readers import CHAIN, checked, filtered, lines_of, proof_of, replayed, scanned
+from sessions import script
 
 BENCH = os.path.dirname(os.path.abspath(__file__))
 ROOT = os.path.dirname(BENCH)
-CHAIN = Chain((7, 3))
 WATCHED = [script(k) for k in (8, 14)]
 TXID = "72c9f9a6d21d37da3363854f04dd2a7294bcfdbec0b806dc789bf7c9d3aab8a7"
 ADDRESS = "bcrt1qw508d6qejxtdg4y5r3zarvary0c5xw7kygt080"
@@ -204,12 +204,9 @@ def rooted(lot, block):
         return block[:80] + turned(lot, block[80:])
     if lot.random() < 0.3:
         txs = txs + [lot.choice(txs)]
-    names = [double(tx) for tx in txs]
-    while len(names) > 1:
-        names += names[-1:] * (len(names) % 2)
-        names = [double(names[i] + names[i + 1]) for i in range(0, len(names), 2)]
+    root, _ = root_of([double(tx) for tx in txs])
     for nonce in range(1000):
-        found = header[:36] + names[0] + header[68:76] + struct.pack("<I", nonce)
+        found = header[:36] + root + header[68:76] + struct.pack("<I", nonce)
         if meets(double(found)):
             break
     return found + bytes([len(txs)]) + b"".join(txs)
@@ -228,88 +225,6 @@ def changed_words(lot, words):
     return ["address"] if numbers and {"demo", "make"} & set(words) else words
 
 
-# ---- what has to come
-
-def lines_of(data):
-    """The lines of a session, or None where it has another form."""
-    lines = data.split(b"\n")
-    if lines[-1] == b"":
-        lines.pop()
-    try:
-        lines = [line.decode("ascii") for line in lines]
-    except UnicodeDecodeError:
-        return None
-    dials = 0
-    while dials < len(lines) and re.fullmatch("(no)?dial [!-~]{1,255}", lines[dials]):
-        dials += 1
-    rest = "got [1-%d] ([0-9a-fA-F]{2})+|gone [1-%d]|tick ([1-9][0-9]{0,4})" % (max(dials, 1), max(dials, 1))
-    for line in lines[dials:]:
-        found = re.fullmatch(rest, line)
-        if not found or int(found.group(2) or 1) > 86_400:
-            return None
-    return lines if 1 <= dials <= 8 else None
-
-
-def replayed(scripts, data):
-    """The status and the text of `replay --trace` of a session."""
-    lines = lines_of(data)
-    if lines is None:
-        return 3, ""
-    run = Run(lines, scripts, CHAIN.filters[0][2])
-    return int(run.status().split(" ")[0]), run.traced()
-
-
-def blocks_in(data):
-    """The records of a file, each as its block, or None where it is cut off or has another head."""
-    at = 0
-    while at < len(data) and any(data[at:]):
-        size = int.from_bytes(data[at + 4:at + 8], "little")
-        is_good = len(data) - at >= 8 and data[at:at + 4] == MAGIC and size <= 1_000_000 and len(data) - at - 8 >= size
-        yield data[at + 8:at + 8 + size] if is_good else None
-        at += 8 + size
-
-
-def is_coinbase(names):
-    return names == [(bytes(32), 0xFFFFFFFF)]
-
-
-def is_next(block, before, coins):
-    """Whether a block may stand on another one. The coins become those after it, as far as it is good."""
-    try:
-        header, _ = read_block(block)
-    except Bad:
-        return False
-    if header[4:36] != before or header[72:76] != b"\xff\xff\x7f\x20" or not meets(double(header)):
-        return False
-    if not is_committed(block):
-        return False
-    txs = list(valued(block))
-    if [is_coinbase(names) for _, names, _ in txs] != [True] + [False] * (len(txs) - 1):
-        return False
-    for place, (txid, names, outputs) in enumerate(txs):
-        for name in names if place else []:
-            if coins.pop(name, None) is None:
-                return False
-        if any((txid, i) in coins for i in range(len(outputs))):
-            return False
-        coins.update(((txid, i), output) for i, output in enumerate(outputs))
-    return True
-
-
-def scanned(data):
-    """The status and the text of `scan` of a file, and the number of the record that is refused, or 0."""
-    coins, good, number = {}, [CHAIN.blocks[0]], 0
-    for number, block in enumerate(blocks_in(data), 1):
-        if number == 1 and block == CHAIN.blocks[0]:
-            continue
-        if block is None or not is_next(block, double(good[-1][:80]), coins):
-            return 3, "", number
-        good.append(block)
-    chain = CHAIN.copy()
-    chain.blocks, chain.hashes, chain.tip = good, [double(block[:80]) for block in good], len(good) - 1
-    return 0, chain.history(WATCHED), 0
-
-
 # ---- runs
 
 def listed(scripts):
@@ -320,8 +235,10 @@ def listed(scripts):
 class Kind:
     """Input of one kind: what it is made of, its words, and how one is changed."""
 
-    def __init__(self, name, words, files, change, comes=None):
-        self.name, self.words, self.files, self.change, self.comes = name, words, files, change, comes
+    def __init__(self, name, words, files, change, comes=None, *asked):
+        self.name, self.words, self.files, self.change = name, words, files, change
+        # What has to come, and of which files.
+        self.comes, self.asked = comes, asked
         self.statuses, self.size, self.seconds = collections.Counter(), 0, 0
 
 
@@ -334,6 +251,10 @@ class Trial:
         self.restore()
         self.proof = self.run(["prove", "f", TXID]).text
         self.restore()
+
+    def read(self, name):
+        with open(os.path.join(self.folder, name), "rb") as file:
+            return file.read()
 
     def restore(self):
         """Writes the files that are not changed. Changed words may have written over them."""
@@ -384,10 +305,9 @@ def faults(trial, kind, words, size, found):
         if seconds > max(0.1, 10 * kind.seconds):
             yield "time", "%.3f seconds, and %.3f unchanged" % (seconds, kind.seconds)
     if kind.comes:
-        status, text, *number = kind.comes(trial)
-        is_told = not number or not number[0] or b"record %d:" % number[0] in found.told
-        if (found.status, found.text.decode(errors="replace")) != (status, text) or not is_told:
-            told = found.status, found.text[-200:], found.told[-200:], status, text[-200:], *number
+        status, text, place = kind.comes(*map(trial.read, kind.asked))
+        if (found.status, found.text.decode(errors="replace")) != (status, text) or place.encode() not in found.told:
+            told = found.status, found.text[-200:], found.told[-200:], status, text[-200:], place
             yield "other", " ".join(map(repr, told))
 
 
@@ -398,17 +318,13 @@ def sessions():
     with open(os.path.join(ROOT, "crates", "cf_cases", "stdin")) as rows:
         for row in rows:
             words, watch, session, *_ = (row + "||").split("|")[1:] if row.startswith("run ") else "|||".split("|")
-            lines = lines_of(session.replace(";", "\n").encode())
-            if "replay" in words and lines and re.fullmatch("((01[0-9a-f]{6})(;|$))*", watch):
+            lines, place = lines_of(session.replace(";", "\n").encode())
+            if "replay" in words and not place and re.fullmatch("((01[0-9a-f]{6})(;|$))*", watch):
                 yield [bytes.fromhex(text) for text in watch.split(";") if text], lines
 
 
 def kinds(trial):
     """The kinds, each with as many inputs as there are."""
-    def read(name):
-        with open(os.path.join(trial.folder, name), "rb") as file:
-            return file.read()
-
     def file_of(name):
         return lambda lot, data: trial.write(name, changed_text(lot, data))
 
@@ -420,22 +336,19 @@ def kinds(trial):
     def blocks(lot, data):
         trial.write("b", changed_blocks(lot, data))
 
-    def of_session(trial):
-        return replayed([bytes.fromhex(line) for line in read("x").decode().split()], read("s"))
-
-    def of_blocks(trial):
-        return scanned(read("b"))
+    def proved(data):
+        return proof_of(data, bytes.fromhex(TXID)[::-1])
 
     watch = listed(WATCHED) + ADDRESS.encode() + b"\n"
     words = ["address " + ADDRESS, "scan f w", "filter f 2", "prove f " + TXID, "check p", "replay --trace w s",
              "make 7 3 m", "demo 7 3", "serve --connections 1 g a", "sync --turns 9 --workers 2 --record r w a b",
              "--help"]
-    yield Kind("session", ["replay", "--trace", "x", "s"], list(sessions()), session, of_session)
-    yield Kind("blocks", ["scan", "b", "w"], [CHAIN.blocks[1:]], blocks, of_blocks)
-    yield Kind("watch", ["scan", "f", "v"], [watch], file_of("v"))
-    yield Kind("proof", ["check", "q"], [trial.proof], file_of("q"))
-    yield Kind("filter", ["filter", "b", "2"], [CHAIN.blocks[1:]], blocks)
-    yield Kind("prove", ["prove", "b", TXID], [CHAIN.blocks[1:]], blocks)
+    yield Kind("session", ["replay", "--trace", "x", "s"], list(sessions()), session, replayed, "x", "s")
+    yield Kind("blocks", ["scan", "b", "w"], [CHAIN.blocks[1:]], blocks, scanned, "w", "b")
+    yield Kind("watch", ["scan", "f", "v"], [watch], file_of("v"), scanned, "v", "f")
+    yield Kind("proof", ["check", "q"], [trial.proof], file_of("q"), checked, "q")
+    yield Kind("filter", ["filter", "b", "2"], [CHAIN.blocks[1:]], blocks, filtered, "b")
+    yield Kind("prove", ["prove", "b", TXID], [CHAIN.blocks[1:]], blocks, proved, "b")
     yield Kind("words", None, [text.split(" ") for text in words], None)
 
 

@@ -13,12 +13,12 @@ import sys
 
 sys.path.insert(0, os.path.dirname(os.path.abspath(__file__)))
 from client import TEXTS, Play, Run
-from conversation import NUMBER, THEIR_VERSION, compact, double, frame, greeting, version
+from conversation import MAGIC, NUMBER, THEIR_VERSION, compact, double, frame, greeting, version
 from proofs import parts, spelled
 from sessions import Chain, script
 
 NONE, ONE, THREE = Chain((7, 0)), Chain((7, 1)), Chain((7, 3))
-RECORDS = [frame("", block)[:4] + struct.pack("<I", len(block)) + block for block in THREE.blocks[1:]]
+RECORDS = [MAGIC + struct.pack("<I", len(block)) + block for block in THREE.blocks[1:]]
 WATCH = script(8)
 OUT = "5 OutFault: the text could not be written"
 FILE = "4 FileFault: a file could not be read"
