@@ -3,9 +3,10 @@
 
     changes.py [--program FILE] [--seed N] [--from N] [--runs N] [--seconds N] [--keep FOLDER]
 
-FILE is `.build/cf` unless it is named. Of sessions, watch files, files of blocks, proofs and words some bytes are
-turned, set to others, cut, doubled or left out, or lines are doubled, left out or changed for one another; and in the
-frames of a session and the records of a file also what stands under a checksum or a length, which is then made right.
+FILE is `.build/cf` unless it is named. Of sessions, watch files, files of blocks, proofs, words and what a peer sends
+to `serve` some bytes are turned, set to others, cut, doubled or left out, or lines are doubled, left out or changed for
+one another; and in frames and in the records of a file also what stands under a checksum or a length, which is then
+made right.
 The first runs are over each beginning of the file of blocks. Each run has a number, and its change comes from the seed
 and that number: so any of them can be made again, and with `--keep` FOLDER gets the files of those in which something
 was found.
@@ -30,6 +31,7 @@ import re
 import resource
 import shutil
 import signal
+import socket
 import struct
 import subprocess
 import sys
@@ -37,9 +39,10 @@ import tempfile
 import time
 
 import hostile
-from client import Bad, Play, meets, read_block, root_of
-from conversation import GENESIS_HEADER, GENESIS_TX, MAGIC, double
-from readers import CHAIN, checked, filtered, lines_of, proof_of, replayed, scanned
+from client import Bad, Play, meets, read_block, read_frames, root_of
+from conversation import GENESIS_HEADER, GENESIS_TX, MAGIC, double, whole
+from memory import without_choice
+from readers import CHAIN, CLOSED, checked, filtered, lines_of, proof_of, replayed, scanned, served
 from sessions import script
 
 BENCH = os.path.dirname(os.path.abspath(__file__))
@@ -48,6 +51,8 @@ WATCHED = [script(k) for k in (8, 14)]
 TXID = "72c9f9a6d21d37da3363854f04dd2a7294bcfdbec0b806dc789bf7c9d3aab8a7"
 ADDRESS = "bcrt1qw508d6qejxtdg4y5r3zarvary0c5xw7kygt080"
 MEMORY, SECONDS = 512 << 20, 60
+# Where `serve` listens.
+ANY = "127.0.0.1:0"
 STATUSES = range(14)
 # Bytes that may be a count.
 NUMBERS = [b"\0", b"\xff", b"\xfd", b"\xfe", b"\xfd\xff\xff", b"\xfe\0\0\0\2", b"\x80"]
@@ -132,18 +137,37 @@ def framed(command, payload):
     return MAGIC + command + struct.pack("<I", len(payload)) + double(payload)[:4] + payload
 
 
+def changed_frame(lot, data):
+    """A frame with another payload or another command, and its checksum."""
+    command, payload = data[4:16], data[24:]
+    if lot.random() < 0.2:
+        return framed(lot.choice(list(hostile.MESSAGES)).encode().ljust(12, b"\0"), payload)
+    return framed(command, turned(lot, payload))
+
+
 def changed_line(lot, line):
-    """A line of a session with another time, or whose frame has another payload or command, and its checksum."""
+    """A line of a session with another time, or with another frame."""
     words = line.split(" ")
     if words[0] != "got":
         return "tick %d" % lot.choice([1, 30, 59, 60, 86_400]) if words[0] == "tick" else line
-    data = bytes.fromhex(words[2])
-    command, payload = data[4:16], data[24:]
-    if lot.random() < 0.2:
-        command = lot.choice(list(hostile.MESSAGES)).encode().ljust(12, b"\0")
-    else:
-        payload = turned(lot, payload)
-    return "got %s %s" % (words[1], framed(command, payload).hex())
+    return "got %s %s" % (words[1], changed_frame(lot, bytes.fromhex(words[2])).hex())
+
+
+def changed_frames(lot, frames):
+    """What a peer sends, with some changes."""
+    frames = list(frames)
+    for _ in range(lot.choice([1, 1, 2, 4])):
+        at = lot.randrange(len(frames)) if frames else 0
+        which = lot.random()
+        if which < 0.3:
+            frames = shifted(lot, frames)
+        elif which < 0.6 and frames:
+            frames[at] = changed_frame(lot, frames[at])
+        elif which < 0.8:
+            frames.insert(at, lot.choice(list(hostile.MESSAGES.values())))
+        else:
+            frames = [turned(lot, b"".join(frames))]
+    return b"".join(frames)
 
 
 def changed_session(lot, lines):
@@ -275,11 +299,40 @@ class Trial:
             child = subprocess.Popen([self.program, *words], cwd=self.folder, preexec_fn=bound, **ends)
             signal.signal(signal.SIGALRM, lambda *_: child.kill())
             signal.alarm(SECONDS)
+            got = self.talk(child.pid, err) if words[-1:] == [ANY] else b""
             _, status, used = os.wait4(child.pid, 0)
             signal.alarm(0)
             child.returncode = os.waitstatus_to_exitcode(status)
             texts = [os.pread(file.fileno(), 1 << 24, 0) for file in (out, err)]
+            texts[0] += got
         return Found(child.returncode, *texts, used.ru_utime + used.ru_stime, used.ru_maxrss * 1024)
+
+
+    def talk(self, server, err):
+        """What the server that tells its address there writes to a peer that sends what stands in the file `c`."""
+        place, got = None, b""
+        while not place and not os.waitid(os.P_PID, server, os.WEXITED | os.WNOHANG | os.WNOWAIT):
+            place = re.search(rb"listening on \S+:(\d+)\n", os.pread(err.fileno(), 1 << 16, 0))
+            time.sleep(0.001)
+        try:
+            with socket.create_connection(("127.0.0.1", int(place.group(1))), timeout=SECONDS) as conn:
+                conn.sendall(self.read("c"))
+                conn.shutdown(socket.SHUT_WR)
+                while part := conn.recv(1 << 16):
+                    got += part
+        except (AttributeError, OSError):
+            pass
+        return without_choice(got)
+
+
+def is_as_told(found, text, place):
+    """Whether an answer is this one. What a server writes before it closes a connection that goes on may be lost."""
+    if isinstance(text, str):
+        is_right = found.text == text.encode()
+    else:
+        text = without_choice(text)
+        is_right = found.text == text or place != CLOSED and text.startswith(found.text)
+    return is_right and place.encode() in found.told
 
 
 def faults(trial, kind, words, size, found):
@@ -294,7 +347,7 @@ def faults(trial, kind, words, size, found):
     if "--trace" in words and found.status in (6, 7, 8):
         form = SITUATION
     is_own = found.status == 0 and {"help", "-h", "--help", "-V", "--version"} & set(words)
-    if not is_own and not re.fullmatch(form, found.text.decode(errors="replace")):
+    if words[-1:] != [ANY] and not is_own and not re.fullmatch(form, found.text.decode(errors="replace")):
         yield "text", "%d %r" % (found.status, found.text[:200])
     if found.status == 1:
         yield "memory", "none is found"
@@ -306,7 +359,7 @@ def faults(trial, kind, words, size, found):
             yield "time", "%.3f seconds, and %.3f unchanged" % (seconds, kind.seconds)
     if kind.comes:
         status, text, place = kind.comes(*map(trial.read, kind.asked))
-        if (found.status, found.text.decode(errors="replace")) != (status, text) or place.encode() not in found.told:
+        if found.status != status or not is_as_told(found, text, place):
             told = found.status, found.text[-200:], found.told[-200:], status, text[-200:], place
             yield "other", " ".join(map(repr, told))
 
@@ -336,6 +389,9 @@ def kinds(trial):
     def blocks(lot, data):
         trial.write("b", changed_blocks(lot, data))
 
+    def frames(lot, data):
+        trial.write("c", changed_frames(lot, data))
+
     def proved(data):
         return proof_of(data, bytes.fromhex(TXID)[::-1])
 
@@ -349,6 +405,8 @@ def kinds(trial):
     yield Kind("proof", ["check", "q"], [trial.proof], file_of("q"), checked, "q")
     yield Kind("filter", ["filter", "b", "2"], [CHAIN.blocks[1:]], blocks, filtered, "b")
     yield Kind("prove", ["prove", "b", TXID], [CHAIN.blocks[1:]], blocks, proved, "b")
+    asked = [framed(name.encode().ljust(12, b"\0"), payload) for name, payload in read_frames(whole(CHAIN)[0])[0]]
+    yield Kind("serve", ["serve", "--connections", "1", "f", ANY], [asked], frames, served, "c")
     yield Kind("words", None, [text.split(" ") for text in words], None)
 
 
@@ -361,6 +419,8 @@ def unchanged(trial, kind):
         trial.write("s", "".join(line + "\n" for line in kind.files[0][1]).encode())
     elif "b" in kind.words:
         trial.write("b", trial.blocks)
+    elif kind.name == "serve":
+        trial.write("c", b"".join(kind.files[0]))
     else:
         trial.write(kind.words[-1], kind.files[0])
     runs = [trial.run(kind.words) for _ in range(5)]
@@ -383,7 +443,7 @@ class Tests:
             self.trial.write("b", self.trial.blocks[:number])
             return self.kinds[1], self.kinds[1].words
         lot = random.Random("%d %d" % (self.seed, number))
-        kind = lot.choices(self.kinds, [8, 5, 2, 2, 1, 1, 4])[0]
+        kind = lot.choices(self.kinds, [8, 5, 2, 2, 1, 1, 2, 4])[0]
         data = lot.choice(kind.files)
         if kind.name == "words":
             return kind, changed_words(lot, data)

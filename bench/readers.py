@@ -1,18 +1,19 @@
 """Plain readers of the program's files, written from docs/MANUAL.md: what `replay`, `scan`, `filter`, `prove` and
-`check` have to come to.
+`check` have to come to; and what `serve` has to write to a peer, by BIP 157 and the Bitcoin developer reference.
 
-Each gives the status, the text, and of a file that is refused the words in which its place is told. `changes.py`
-compares the program with them.
+Each gives the status, the text, and the words in which the place of what is refused is told, or how a connection ended.
+`changes.py` compares the program with them.
 """
 import re
 
 from addresses import read
-from client import Bad, Cut, Run, is_committed, meets, read_block, read_tx
-from conversation import MAGIC, double, filters, valued
+from client import READERS, Bad, Cut, Run, is_committed, meets, read_block, read_frames, read_tx
+from conversation import MAGIC, double, filters, frame, greeting, valued
 from proofs import parts, spelled, width
 from sessions import Chain
 
 CHAIN = Chain((7, 3))
+CLOSED = "connection 1: the peer has closed it"
 HEX = "([0-9a-fA-F]{2})"
 MOST_SCRIPTS, MOST_BYTES, MOST_TXS = 1000, 10_000, 16_666
 
@@ -221,3 +222,69 @@ def checked(data):
     except Bad:
         return 3, "", "proof file, line 2:"
     return 0, "in %s %s\n" % (name[::-1].hex(), double(tx)[::-1].hex()), ""
+
+
+# ---- a server
+
+def range_of(payload, most):
+    """The first and the last height of a range that is asked for, or None where it is not answered."""
+    r = Cut(payload)
+    kind, start, stop = r.number(1), r.number(4), r.take(32)
+    if kind or stop not in CHAIN.hashes:
+        return None
+    last = CHAIN.hashes.index(stop)
+    return (start, last) if start <= last < start + most else None
+
+
+def headers_after(locator, stop):
+    if not locator:
+        return CHAIN.headers(*[CHAIN.hashes.index(stop)] * 2) if stop in CHAIN.hashes else b""
+    first = next((CHAIN.hashes.index(name) for name in locator if name in CHAIN.hashes), 0) + 1
+    last = CHAIN.hashes.index(stop) if stop in CHAIN.hashes[first:] else CHAIN.tip
+    return CHAIN.headers(first, last)
+
+
+def blocks_of(entries):
+    wanted = [entry[4:] for entry in entries if entry[:4] == b"\2\0\0\0"]
+    return b"".join(CHAIN.block(CHAIN.hashes.index(name)) for name in wanted if name in CHAIN.hashes)
+
+
+def answer_to(command, payload, message):
+    """What is written to a message of a peer that has told its version."""
+    if command == "ping":
+        return frame("pong", message)
+    if command == "getheaders":
+        return headers_after(*message[1:])
+    if command == "getdata":
+        return blocks_of(message)
+    if command == "getcfilters":
+        found = range_of(payload, 1000)
+        return b"".join(CHAIN.cfilter(height) for height in range(found[0], found[1] + 1)) if found else b""
+    if command == "getcfheaders":
+        found = range_of(payload, 2000)
+        return CHAIN.cfheaders(*found) if found else b""
+    if command == "getcfcheckpt" and payload[:1] == b"\0" and payload[1:] in CHAIN.hashes:
+        return CHAIN.cfcheckpt(CHAIN.hashes.index(payload[1:]))
+    return b""
+
+
+def served(data):
+    """What `serve` writes to a peer that sends these bytes and then is silent."""
+    has_version, written = False, b""
+    for found in read_frames(data)[0]:
+        if found is None:
+            return 0, written, "connection 1: what came is no frame"
+        command, payload = found
+        if command not in READERS:
+            continue
+        try:
+            r = Cut(payload)
+            message = READERS[command](r)
+            r.end()
+        except Bad:
+            return 0, written, "connection 1: a message could not be read"
+        if has_version:
+            written += answer_to(command, payload, message)
+        elif command == "version":
+            has_version, written = True, greeting(CHAIN.tip)
+    return 0, written, CLOSED
