@@ -11,7 +11,7 @@ from conversation import GENESIS_HEADER, Reader, double, frame, siphash, valued,
 
 MAGIC = bytes.fromhex("fabfb5da")
 TARGET = b"\x7f\xff\xff" + bytes(29)
-MOST_HEIGHT, MOST_COMPACT, MOST_VALUE = 100_000, 33_554_432, 2_100_000_000_000_000
+MOST_HEIGHT, MOST_COMPACT, MOST_VALUE = 500_000, 33_554_432, 2_100_000_000_000_000
 TEXTS = {
     "Done": "0 Done",
     "Tired": "7 Tired: the greatest number of deliveries was taken, and an answer was still to come",
@@ -22,6 +22,16 @@ TEXTS = {
 def meets(block_hash):
     """Whether a header's hash is at most the target."""
     return block_hash[::-1] <= TARGET
+
+
+def time_of(header):
+    return int.from_bytes(header[68:72], "little")
+
+
+def is_timely(times, header):
+    """Whether a header's time is above the median of the last eleven of these."""
+    past = sorted(times[-11:])
+    return time_of(header) > past[len(past) // 2]
 
 
 class Bad(Exception):
@@ -220,7 +230,7 @@ class Peer:
     def __init__(self):
         self.waiting, self.has_version, self.is_ready, self.is_heard = b"", False, False, False
         self.asked, self.age = ("handshake", None), 0
-        self.chain, self.claims = [double(GENESIS_HEADER)], {}
+        self.chain, self.times, self.claims = [double(GENESIS_HEADER)], [time_of(GENESIS_HEADER)], {}
 
     def ask(self, what, data):
         self.asked, self.age = (what, data), 0
@@ -313,16 +323,18 @@ class Client:
             if headers[0][4:36] not in chain:
                 raise Bad("Unlinked")
             k = chain.index(headers[0][4:36])
-            before = chain[k]
+            before, times = chain[k], peer.times[:k + 1]
             for header in headers:
-                if header[4:36] != before or header[72:76] != b"\xff\xff\x7f\x20" or not meets(double(header)):
+                is_linked = header[4:36] == before and header[72:76] == b"\xff\xff\x7f\x20"
+                if not is_linked or not meets(double(header)) or not is_timely(times, header):
                     raise Bad("InvalidHeader")
                 before = double(header)
+                times.append(time_of(header))
             if k + len(headers) > MOST_HEIGHT:
                 raise Bad("TooHigh")
             is_longer = k + len(headers) >= len(chain)
             if is_longer:
-                peer.chain = chain[:k + 1] + [double(header) for header in headers]
+                peer.chain, peer.times = chain[:k + 1] + [double(header) for header in headers], times
         if peer.asked and peer.asked[0] == "getheaders":
             peer.asked = None
         peer.is_heard |= not is_longer or len(headers) < 2000

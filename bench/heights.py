@@ -1,8 +1,8 @@
 #!/usr/bin/env python3
-"""The greatest height of a chain, 100,000, seen from outside: a made chain of so many blocks is taken, and of one more it is not.
+"""The greatest height of a chain, 500,000, seen from outside: a made chain of so many blocks is taken, and of one more it is not.
 
-A peer shows its headers, 2000 in a message: of 100,000 none deserves a cause, and the session ends while blocks are asked for (status 8); with one
-more the peer is closed with `TooHigh` (status 6). A file of so many blocks is scanned (status 0); in a file with one more the record 100,001 is
+A peer shows its headers, 2000 in a message: of 500,000 none deserves a cause, and the session ends while blocks are asked for (status 8); with one
+more the peer is closed with `TooHigh` (status 6). A file of so many blocks is scanned (status 0); in a file with one more the record 500,001 is
 `TooHigh` (status 3). The program is `.build/cf`, or the file that is named.
 """
 import os
@@ -14,7 +14,7 @@ from conversation import compact, frame, greeting
 from made_chain import records
 from sync import PROGRAM
 
-GREATEST = 100_000
+GREATEST = 500_000
 
 
 def write_headers(blocks, path):
@@ -55,7 +55,7 @@ def main():
                 expect("%d blocks" % count, (code, text.split()[:2]), (0, ["synced", str(GREATEST)]))
             else:
                 print(fault.strip())
-                expect("%d blocks" % count, (code, text, "100001" in fault), (3, "", True))
+                expect("%d blocks" % count, (code, text, str(GREATEST + 1) in fault), (3, "", True))
 
 
 if __name__ == "__main__":

@@ -7,7 +7,7 @@ Each gives the status, the text, and the words in which the place of what is ref
 import re
 
 from addresses import read
-from client import READERS, Bad, Cut, Run, is_committed, meets, read_block, read_frames, read_tx
+from client import READERS, Bad, Cut, Run, is_committed, is_timely, meets, read_block, read_frames, read_tx, time_of
 from conversation import MAGIC, double, filters, frame, greeting, valued
 from proofs import parts, spelled, width
 from sessions import Chain
@@ -84,15 +84,15 @@ def blocks_in(data):
         at += 8 + size
 
 
-def is_next(block, before, coins):
-    """Whether a block may stand on another one. The coins become those after it, as far as it is good."""
+def is_next(block, chain, coins):
+    """Whether a block may stand on a chain. The coins become those after it, as far as it is good."""
     try:
         header, _ = read_block(block)
     except Bad:
         return False
-    if header[4:36] != before or header[72:76] != b"\xff\xff\x7f\x20" or not meets(double(header)):
+    if header[4:36] != double(chain[-1][:80]) or header[72:76] != b"\xff\xff\x7f\x20" or not meets(double(header)):
         return False
-    if not is_committed(block):
+    if not is_timely([time_of(below) for below in chain[-11:]], header) or not is_committed(block):
         return False
     txs = list(valued(block))
     if [names == [(bytes(32), 0xFFFFFFFF)] for _, names, _ in txs] != [True] + [False] * (len(txs) - 1):
@@ -113,7 +113,7 @@ def chain_in(data):
     for number, block in enumerate(blocks_in(data), 1):
         if number == 1 and block == CHAIN.blocks[0]:
             continue
-        if block is None or not is_next(block, double(good[-1][:80]), coins):
+        if block is None or not is_next(block, good, coins):
             return None, "block file, record %d:" % number
         good.append(block)
     chain = CHAIN.copy()
