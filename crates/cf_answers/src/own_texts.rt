@@ -45,9 +45,9 @@ usage: cf scan FILE WATCH
   check    checks a proof that prove has printed to FILE, and prints the block
            and the transaction; it cannot tell whether the block is in a chain
   make     writes the blocks of a made chain to FILE, from height 1 to BLOCKS,
-           1 to 100000; SEED, 0 to 4294967295, says which chain
+           1 to 500000; SEED, 0 to 4294967295, says which chain
   demo     runs the client on three peers that are played, of which one is
-           honest and serves a made chain of BLOCKS, 1 to 99998, blocks
+           honest and serves a made chain of BLOCKS, 1 to 499998, blocks
 
   --trace    prints first what was sent to peer P, as `> P COMMAND`, and which
              peer was closed, as `x P CAUSE`

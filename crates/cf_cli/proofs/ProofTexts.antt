@@ -19,8 +19,8 @@ use Rattle.cf_bytes.specs.Compact.{compact}
 use Rattle.cf_block.specs.Reading.{tx_at}
 use Rattle.cf_block.specs.Tx.{IsTx, IsBlock, tx_spelling, txid_of, block_spelling}
 use Rattle.cf_block.proofs.Again.{tx_again}
-use Rattle.cf_headers.specs.Chain.{Chain, fits}
-use Rattle.cf_headers.specs.Rules.{same, is_worked, is_within_target}
+use Rattle.cf_headers.specs.Chain.{Chain, past_of, fits}
+use Rattle.cf_headers.specs.Rules.{same, is_worked, is_within_target, is_timely}
 use Rattle.cf_chain.specs.Good.{IsGoodChain}
 use Rattle.cf_proof.specs.Checks.{parts_fault}
 use Rattle.cf_proof.specs.Made.{IsProofOf}
@@ -122,7 +122,7 @@ tx_fits (x ∷ ts) (suc i) t all lt is = tx_fits ts i t all.1 (omega arith) is
 
 within_of : (h : Header) (chain : Chain) → fits h chain ≡ true → is_within_target (block_hash_of h) ≡ true
 unfolding is_worked
-within_of h chain fit = (and_parts (h.bits == 0x207fffff) (is_within_target (block_hash_of h)) (and_parts (same h.previous.0 _) (is_worked h) fit).1).1
+within_of h chain fit = (and_parts (h.bits == 0x207fffff) (is_within_target (block_hash_of h)) (and_parts (is_worked h) (is_timely (past_of chain) h) (and_parts (same h.previous.0 _) _ fit).1).0).1
 
 pub stands_good : (txid : List ℕ) (blocks : List Block) (height place : ℕ) → IsGoodChain blocks → (s : StandsAt txid blocks height place) → MayStand s.lower s.block
 stands_good txid blocks height place good s = part_stands s.lower s.block s.higher (subst IsGoodChain s.chain good)

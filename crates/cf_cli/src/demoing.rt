@@ -96,7 +96,7 @@ fn untold(alloc: Global, why: Unplayed) -> Status
     }
 }
 
-/// The text of the client's run over three played peers, and why there is none else. Peers 1 and 3 serve the made chain of so many blocks, 1 to 99,998, that the seed tells, and peer 2
+/// The text of the client's run over three played peers, and why there is none else. Peers 1 and 3 serve the made chain of so many blocks, 1 to 499,998, that the seed tells, and peer 2
 /// that of two blocks more that the next seed tells. Two scripts of made chains are watched, those of 0 and 1: peer 1 leaves them out of its filters. Peer 2 shows its chain and answers
 /// nothing else. Peer 3 is honest. Filters are judged in so many threads, 1 to 64.
 ///
@@ -131,7 +131,7 @@ pub fn demo_text<R: Wait + Threads + Sync + Copy + Drop + Send + 'static, K: Spa
     }
 }
 
-/// Writes the text of a demo whose filters are judged in four threads. No blocks, and more than 99,998, for which no words ask, are refused as for want of memory.
+/// Writes the text of a demo whose filters are judged in four threads. No blocks, and more than 499,998, for which no words ask, are refused as for want of memory.
 pub(crate) fn demo<R: Wait + Threads + Sync + Copy + Drop + Send + 'static, K: Spawner, O: Sink>(
     rt: R,
     alloc: Global,
@@ -158,7 +158,7 @@ pub(crate) fn demo<R: Wait + Threads + Sync + Copy + Drop + Send + 'static, K: S
     }
 }
 
-/// The session of the client's run over one honest peer that is played: it serves the made chain of so many blocks, at most 100,000, that the seed tells, and the same two scripts are watched. The lines
+/// The session of the client's run over one honest peer that is played: it serves the made chain of so many blocks, at most 500,000, that the seed tells, and the same two scripts are watched. The lines
 /// are those of the log, which `replay` reads. The run ends where nothing is open, or after 10,000,000 deliveries. `NoNonce` comes exactly at the lowest height where no nonce serves, and
 /// `NoPeers` only where two transactions of the chain have one hash; `NoMemory` may come in place of any other answer. The peers are new, as for `demo_text`.
 pub fn session(

@@ -6,11 +6,9 @@ ghost use Rattle.cf_cli.specs.Making.{IsMaking};
 
 use cf_answers::Status;
 use cf_bytes::{FileFail, Files, Refused};
+use cf_headers::HEIGHT_LIMIT;
 use cf_make::made_records;
 use std::alloc::Global;
-
-/// The most blocks that are made.
-const MOST_BLOCKS: u32 = 100_000;
 
 /// Makes the chain of so many blocks that a seed tells, and writes its records to a file. More blocks than a chain may have, for which no words ask,
 /// are refused as for want of memory.
@@ -25,7 +23,7 @@ pub(crate) fn make<F: Files>(
     ensures file_fault { result ≡ Status.FileFault → HasRisen (F.faults files.old) (F.faults files.new) }
     ensures files { IsAtMostWritten F.writes (Some file.now) files.old files.new }
 {
-    if blocks > MOST_BLOCKS {
+    if blocks > HEIGHT_LIMIT {
         return Status::NoMemory;
     }
     let records = match made_records(alloc, u64::from(seed), blocks) {

@@ -56,7 +56,7 @@ made_good seed n chain log small low made clash = chain_is_good seed n chain sma
 pub made_length : (seed n : ℕ) (chain : List Block) → IsExtension [] seed n chain → length chain ≡ n
 made_length seed n chain made = ap (λ (bs : List Block). length bs) made.joined ∙ made.count
 
-pub two_made : (seed n : ℕ) (chain longer : List Block) (log : Log) → seed < 2 ^ 32 → n ≤ 99998 → IsExtension [] seed n chain → IsExtension [] (seed + 1) (n + 2) longer → IsApart chain longer log
+pub two_made : (seed n : ℕ) (chain longer : List Block) (log : Log) → seed < 2 ^ 32 → n + 2 ≤ max_height → IsExtension [] seed n chain → IsExtension [] (seed + 1) (n + 2) longer → IsApart chain longer log
     → AreTwoChains chain longer log
 two_made seed n chain longer log small low made made_longer apart =
     let short = made_length seed n chain made in
@@ -75,7 +75,7 @@ refused_unmade seed n chain (NoNonce at) small low made refused = absurd refused
 refused_unmade seed n chain Clash small low made refused = (chain, made, λ apart. refused (chain_is_good seed n chain small low made apart))
 refused_unmade seed n chain NoMemory small low made refused = tt
 
-pub demo_unplayed : (seed n : ℕ) (chain longer : List Block) (why : Unplayed) → seed < 2 ^ 32 → n ≤ 99998 → IsExtension [] seed n chain → IsExtension [] (seed + 1) (n + 2) longer
+pub demo_unplayed : (seed n : ℕ) (chain longer : List Block) (why : Unplayed) → seed < 2 ^ 32 → n + 2 ≤ max_height → IsExtension [] seed n chain → IsExtension [] (seed + 1) (n + 2) longer
     → IsRefusedFor chain why ⊎ IsRefusedFor longer why → IsUnplayed seed n why
 demo_unplayed seed n chain longer why small low made made_longer (inl refused) = inl (refused_unmade seed n chain why (omega (arith, small)) (omega (arith, low)) made refused)
 demo_unplayed seed n chain longer why small low made made_longer (inr refused) = inr ((chain, made), refused_unmade (seed + 1) (n + 2) longer why (omega (arith, small)) (omega (arith, low)) made_longer refused)

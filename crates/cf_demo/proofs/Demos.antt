@@ -136,7 +136,7 @@ history_told chain height o demo told h = record {
   tip = ap (λ (t : Hash32). t.0) told.tip ∙ h.tip_is;
 }
 
-demo_on : (seed blocks : ℕ) (peers : List Peer) (o : Outcome) (demo : Demo) (log : Log) → seed < 2 ^ 32 → blocks ≤ 99998 → HavePrepared seed blocks peers
+demo_on : (seed blocks : ℕ) (peers : List Peer) (o : Outcome) (demo : Demo) (log : Log) → seed < 2 ^ 32 → blocks + 2 ≤ max_height → HavePrepared seed blocks peers
     → HasRunOver demo_watch peers demo_names o log → IsToldBy o demo → IsDemo seed blocks demo log
 demo_on seed blocks peers o demo log small low h ran told =
     let accounts : Accounts log (three_peers h.added.first h.added.second h.added.third) = subst (Accounts log) h.added.are ran.accounts in
@@ -171,7 +171,7 @@ demo_on seed blocks peers o demo log small low h ran told =
       unended = λ is. goes_on o.end log ran.followed.why ran.accounts.stays (sym told.end ∙ is);
     }
 
-pub demo_so : (seed blocks : ℕ) (watch : List (List ℕ)) (peers : List Peer) (names : List (List ℕ)) (o : Outcome) (demo : Demo) (log : Log) → seed < 2 ^ 32 → blocks ≤ 99998 → HavePrepared seed blocks peers
+pub demo_so : (seed blocks : ℕ) (watch : List (List ℕ)) (peers : List Peer) (names : List (List ℕ)) (o : Outcome) (demo : Demo) (log : Log) → seed < 2 ^ 32 → blocks + 2 ≤ max_height → HavePrepared seed blocks peers
     → watch ≡ demo_watch → names ≡ demo_names → HasRunOver watch peers names o log → IsToldBy o demo → IsDemo seed blocks demo log
 demo_so seed blocks watch peers names o demo log small low h watched named ran told =
     demo_on seed blocks peers o demo log small low h (subst (λ (w : List (List ℕ)). HasRunOver w peers demo_names o log) watched (subst (λ (n : List (List ℕ)). HasRunOver watch peers n o log) named ran)) told

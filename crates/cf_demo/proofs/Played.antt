@@ -8,7 +8,7 @@ use Rattle.cf_chain.specs.Good.{IsGoodChain, headers_of}
 use Rattle.cf_chain.specs.Serve.{replies, cfilter_of}
 use Rattle.cf_chain.specs.Filters.{Filtered}
 use Rattle.cf_dispute.specs.Claims.{Table}
-use Rattle.cf_headers.specs.Chain.{Hash, IsWithinLimit, NoHashClash, height_limit}
+use Rattle.cf_headers.specs.Chain.{Hash, IsWithinLimit, NoHashClash}
 use Rattle.cf_msg.specs.declared.msg.Msg.{Msg}
 use Rattle.cf_wires.specs.declared.event.Delivery.TheVariants.{Got, Gone, Tick, Ended}
 use Rattle.cf_wires.specs.declared.event.Event.{Event}
@@ -188,7 +188,6 @@ abbrev first_log : Log
 first_log = Dialled (record { 0 = 1 }) [] ∷ []
 
 pub within_limit : (blocks : List Block) → IsGoodChain blocks → IsWithinLimit (headers_of blocks)
-unfolding height_limit
 within_limit blocks good = omega (arith, headers_length blocks, good.height)
 
 pub chain_setting : (log : Log) (blocks : List Block) → NoHashClash (IsHashed log blocks) → IsGoodChain blocks → Setting blocks

@@ -182,7 +182,7 @@ fn prepare_demo(
 ) -> Result<Watch, Unplayed>
     requires new { log_of played.old ≡ [] }
     requires none { peers_of played.old ≡ [] }
-    requires most { blocks ≤ 99998 }
+    requires most { blocks + 2 ≤ max_height }
     ensures ok { OnOk result (HavePrepared seed blocks (peers_of played.new)) }
     ensures watch { IfOk result (λ watch. watch ≡ demo_watch) }
     ensures err { IfErr result (λ why. IsUnplayed seed blocks why) }
@@ -222,7 +222,7 @@ fn prepare_session(
     Ok(watch)
 }
 
-/// Plays a demo: the client runs over three peers in memory. Peers 1 and 3 are on the chain of so many blocks that the seed tells, 1 to 99,998, and peer 2 is on that of two blocks
+/// Plays a demo: the client runs over three peers in memory. Peers 1 and 3 are on the chain of so many blocks that the seed tells, 1 to 499,998, and peer 2 is on that of two blocks
 /// more that the next seed tells. Peer 1 leaves the two scripts that are watched out of its filters, peer 2 is silent, and peer 3 is honest. At most 10,000,000 deliveries are
 /// taken. `played` is new, has no peers yet, and isn't finished.
 ///
@@ -240,7 +240,7 @@ pub fn play_demo<M: Matcher + Drop>(
     requires none { peers_of played.old ≡ [] }
     requires open { finished_of played.old ≡ false }
     requires some { 1 ≤ blocks }
-    requires most { blocks ≤ 99998 }
+    requires most { blocks + 2 ≤ max_height }
     ensures ok { IfOk result (λ demo. IsDemo seed blocks demo (log_of played.new)) }
     ensures peers { OnOk result (ArePlayed seed blocks (peers_of played.new)) }
     ensures finished { OnOk result (finished_of played.new ≡ true) }
@@ -254,7 +254,7 @@ pub fn play_demo<M: Matcher + Drop>(
     Ok(tell(alloc, outcome)?)
 }
 
-/// Plays a session: the client runs over one peer in memory, an honest one on the chain of so many blocks that the seed tells, at most 100,000. It watches the scripts of a demo. The
+/// Plays a session: the client runs over one peer in memory, an honest one on the chain of so many blocks that the seed tells, at most 500,000. It watches the scripts of a demo. The
 /// peers keep their log, so that they then give the lines of the session. At most 10,000,000 deliveries are taken. `played` is new, has no peers yet, and isn't finished.
 ///
 /// `NoNonce` comes exactly at the lowest height at which no nonce serves. `Clash` comes only where two different transactions of the chain have one hash. Where either comes nobody

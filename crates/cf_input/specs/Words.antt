@@ -1,11 +1,12 @@
 -- The program's words, as clap reads them.
-use Rattle.std.specs.Prelude.{ℕ, ◌≤◌, ◌==◌, ◌&&◌, ◌||◌, nat_lt, nat_le, Bool, if◌then◌else◌, List, [], ◌∷◌, length, reverse, codes, Option, Some, None, true, option_and_then, option_map, false}
+use Rattle.std.specs.Prelude.{ℕ, ◌-◌, ◌≤◌, ◌==◌, ◌&&◌, ◌||◌, nat_lt, nat_le, Bool, if◌then◌else◌, List, [], ◌∷◌, length, reverse, codes, Option, Some, None, true, option_and_then, option_map, false}
 use Rattle.std.specs.List.{list_all}
 use Rattle.std.specs.Str.{bytes_eq}
 use Rattle.clap.specs.Words.{App, Rule, Row, Text, new_app, new_rule, with_rule, with_subcommand, all_of, first_of, fault_of, subcommand_of, Kinds}
 use Rattle.clap.specs.Lexer.{usize_max}
 use Rattle.clap.specs.declared.builder.ArgAction.TheVariants.{SetTrue}
 use Rattle.cf_bytes.specs.declared.hash.Hash32.{Hash32}
+use Rattle.cf_headers.specs.Chain.{height_limit}
 use Rattle.cf_input.specs.Lines.{bytes_of_hex}
 use Rattle.cf_input.specs.Number.{number_at_most, number_within}
 use Rattle.cf_input.specs.Name.{is_name}
@@ -177,17 +178,17 @@ most_seed = 4294967295
 abbrev pub seed_of : Text → Option ℕ
 seed_of text = number_at_most most_seed text
 
--- at most this many blocks are made
+-- at most this many blocks are made: what a chain may have
 abbrev pub most_made : ℕ
-most_made = 100000
+most_made = height_limit
 
 -- a number from 1 to the most
 abbrev pub made_of : Text → Option ℕ
 made_of text = number_within most_made text
 
--- at most this many blocks are played
+-- at most this many blocks are played: a peer beside has two more
 abbrev pub most_played : ℕ
-most_played = 99998
+most_played = height_limit - 2
 
 -- a number from 1 to the most
 abbrev pub played_of : Text → Option ℕ

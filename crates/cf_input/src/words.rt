@@ -9,6 +9,7 @@ ghost use Rattle.cf_input.specs.Commands.{GivesOrUsage, IfUsage, refusal_of};
 use crate::number::{number_at_most, number_within};
 use crate::text::{PeerNames, Word, are_names, is_name};
 use cf_bytes::{Hash32, NoMemory, Refused, read_hash};
+use cf_headers::HEIGHT_LIMIT;
 use clap::error::ErrorKind;
 use clap::{Arg, ArgAction, ArgMatches};
 use std::alloc::{AllocError, Global};
@@ -46,11 +47,11 @@ pub const MOST_HEIGHT: u32 = 4_294_967_295;
 /// The greatest number from which a chain is made.
 pub const MOST_SEED: u32 = 4_294_967_295;
 
-/// At most this many blocks are made.
-pub const MOST_MADE: u32 = 100_000;
+/// At most this many blocks are made: what a chain may have.
+pub const MOST_MADE: u32 = HEIGHT_LIMIT;
 
-/// At most this many blocks are played.
-pub const MOST_PLAYED: u32 = 99_998;
+/// At most this many blocks are played: a peer beside has two more.
+pub const MOST_PLAYED: u32 = HEIGHT_LIMIT - 2;
 
 /// What the words ask for.
 #[derive(Drop)]

@@ -1,5 +1,5 @@
 -- The run with two peers, moment by moment: one is honest, all that was asked might be asked, and the history is the honest chain's.
-use Rattle.std.proofs.Common.{if◌then◌else◌, ◌≡◌, ◌⊎◌, inl, inr, ℕ, ◌<◌, ◌≤◌, List, [], ◌∷◌, ◌++◌, map, length, get_or, Some, None, Bool, true, false, not, ◌||◌, ◌==◌, refl, sym, ◌∙◌, ap, subst, arith, le-ltb}
+use Rattle.std.proofs.Common.{if◌then◌else◌, ◌≡◌, ◌⊎◌, inl, inr, ℕ, ◌<◌, ◌≤◌, List, [], ◌∷◌, ◌++◌, map, length, get_or, Some, None, Bool, true, false, not, ◌&&◌, ◌||◌, ◌==◌, refl, sym, ◌∙◌, ap, subst, arith, le-ltb}
 use Rattle.std.specs.Prelude.{nat_lt}
 use Rattle.std.specs.List.{flat_map}
 use Rattle.std.specs.FinMap.{empty, get-empty}
@@ -25,8 +25,8 @@ use Rattle.cf_filter.specs.Items.{items_of}
 use Rattle.cf_filter.specs.Filter.{basic_filter_of, filter_hash_of}
 use Rattle.cf_match.specs.declared.job.Job.{Job}
 use Rattle.cf_chain.specs.Serve.{data_reply, headers_reply, range_end, cfheaders_reply, cfilters_reply}
-use Rattle.cf_headers.specs.Rules.{same, is_worked}
-use Rattle.cf_headers.specs.Chain.{Chain, no_hash, height_limit, fits, back_to, accept, Accepted, Longer, IsValidChain, IsIn, NoHashClash}
+use Rattle.cf_headers.specs.Rules.{same, is_worked, is_timely}
+use Rattle.cf_headers.specs.Chain.{Chain, no_hash, height_limit, past_of, fits, back_to, accept, Accepted, Longer, IsValidChain, IsIn, NoHashClash}
 use Rattle.cf_headers.specs.Heights.{hash_at, common_of}
 use Rattle.cf_headers.proofs.Commons.{common_own}
 use Rattle.cf_headers.specs.Shown.{IsShown, Shows, IsShownSpelling}
@@ -53,7 +53,7 @@ use Rattle.cf_sync.proofs.Chains.{same_self, cases_same, heads, Setting}
 use Rattle.cf_sync.proofs.Serving.{next_reply, block_found}
 use Rattle.cf_sync.proofs.Counted.{same_use, said_counts, counted_said, fetched_said}
 use Rattle.cf_sync.proofs.Settles.{committed_is}
-use Rattle.cf_sync.proofs.Computed.{genesis_is, name_is, txid_is, header_fits_type, worked, previous_is_genesis, block_fits, committed, small_bytes, version_small, false_version_small, verack_small, headers_small, false_headers_small, claims_small, filter_small, block_small}
+use Rattle.cf_sync.proofs.Computed.{genesis_is, name_is, txid_is, header_fits_type, worked, timely, previous_is_genesis, block_fits, committed, small_bytes, version_small, false_version_small, verack_small, headers_small, false_headers_small, claims_small, filter_small, block_small}
 use Rattle.cf_sync.proofs.Written.{spelled_is, at_rest, sent_part, got_part, our_sendable, its_sendable, false_sendable, verack_sendable, question_sendable, headers_sendable, none_sendable, fetch_sendable, claims_sendable, filter_sendable, ask_claims_sendable, ask_filter_sendable, block_sendable}
 
 -- ---- the parts, moment by moment
@@ -241,14 +241,13 @@ linked_back : same (block_hash_of genesis_header) only_header.previous.0 ≡ tru
 linked_back = same_from (block_hash_of genesis_header) only_header.previous.0 (sym previous_is_genesis)
 
 only_fits : fits only_header [] ≡ true
-only_fits = rw (linked, worked) refl
+only_fits = rw (linked, worked, timely) refl
 
 pub has_room : 1 ≤ height_limit
-unfolding height_limit
 has_room = omega arith
 
 pub accepted : accept (only_header ∷ []) [] ≡ Longer (only_header ∷ [])
-accepted = let low : nat_lt height_limit 1 ≡ false = le-ltb height_limit 1 has_room in rw (linked_back, linked, worked, low) refl
+accepted = let low : nat_lt height_limit 1 ≡ false = le-ltb height_limit 1 has_room in rw (linked_back, linked, worked, timely, low) refl
 
 makes_coins : is_coinbase_tx only_tx ≡ true
 unfolding only_tx
@@ -854,7 +853,7 @@ one_chain (x ∷ []) valid all long = ap (λ (h : Header). h ∷ []) (all x (inl
 one_chain (x ∷ y ∷ below) valid all long =
     let up : x ≡ only_header = all x (inl refl) in
     let down : y ≡ only_header = all y (inr (inl refl)) in
-    let link : x.previous.0 ≡ block_hash_of y = same_true x.previous.0 (block_hash_of y) (and_parts (same x.previous.0 (block_hash_of y)) (is_worked x) valid.0).0 in
+    let link : x.previous.0 ≡ block_hash_of y = same_true x.previous.0 (block_hash_of y) (and_parts (same x.previous.0 (block_hash_of y)) (is_worked x && is_timely (past_of (y ∷ below)) x) valid.0).0 in
     let both : block_hash_of genesis_header ≡ block_hash_of only_header = sym previous_is_genesis ∙ ap (λ (h : Header). h.previous.0) (sym up) ∙ link ∙ ap block_hash_of down in
     let f : 6 ≡ 191 = sym (ap first_byte genesis_is) ∙ ap first_byte both ∙ ap first_byte name_is in
     absurd (omega (arith, f))
