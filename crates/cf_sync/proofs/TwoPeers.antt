@@ -1,6 +1,5 @@
 -- The run with two peers, moment by moment: one is honest, all that was asked might be asked, and the history is the honest chain's.
-use Rattle.std.proofs.Common.{if◌then◌else◌, ◌≡◌, ◌⊎◌, inl, inr, ℕ, ◌<◌, ◌≤◌, List, [], ◌∷◌, ◌++◌, map, length, get_or, Some, None, Bool, true, false, not, ◌&&◌, ◌||◌, ◌==◌, refl, sym, ◌∙◌, ap, subst, arith, le-ltb}
-use Rattle.std.specs.Prelude.{nat_lt}
+use Rattle.std.proofs.Common.{if◌then◌else◌, ◌≡◌, ◌⊎◌, inl, inr, ℕ, ◌<◌, ◌≤◌, List, [], ◌∷◌, ◌++◌, map, length, get_or, Some, None, Bool, true, false, not, ◌&&◌, ◌||◌, ◌==◌, refl, sym, ◌∙◌, ap, subst, arith}
 use Rattle.std.specs.List.{flat_map}
 use Rattle.std.specs.FinMap.{empty, get-empty}
 use Rattle.std.proofs.lemmas.Bool.{cases_Bool, false≢true, and_parts, eqb-true}
@@ -247,7 +246,7 @@ pub has_room : 1 ≤ height_limit
 has_room = omega arith
 
 pub accepted : accept (only_header ∷ []) [] ≡ Longer (only_header ∷ [])
-accepted = let low : nat_lt height_limit 1 ≡ false = le-ltb height_limit 1 has_room in rw (linked_back, linked, worked, timely, low) refl
+accepted = rw (linked_back, linked, worked, timely) refl
 
 makes_coins : is_coinbase_tx only_tx ≡ true
 unfolding only_tx
