@@ -160,4 +160,5 @@ def main():
             print(script.hex() + " " + encode(hrp, version, program))
 
 
-main()
+if __name__ == "__main__":
+    main()

@@ -11,6 +11,8 @@ WANTED bytes were sent to it (`sent`), or once its connection is shut (`shut`). 
 WANTED fails. In HEX `z` stands for eight bytes that are zero. The model takes it that a door opens where its condition comes
 to hold, and that all comes that is given; so each row says only what is so in whatever order the threads run.
 
+A row of the kind `heard` has one peer, which tells its bytes to the contracts, and what is written to it; so does its pulse its seconds.
+
 A row of the kind `run` has the same three numbers, a watch file `w`, the words of a call over such a hub, and maybe those of a second one,
 over another hub that dials nobody. Each peer that is dialled greets and has no headers, as data/session.txt has it; so what is written is
 the tip, and that is genesis.
@@ -89,6 +91,11 @@ ROWS = [
     f"run 1 2 500000|01087551;|cf sync --record r w {SYNC[1]}|cf replay w r",
     f"run 8 9 500000|01087551;|cf sync --record r w {' '.join(SYNC)}|cf replay w r",
     "run 1 2 500000|01087551;|cf sync --record r w nobody nobody|cf replay w r",
+    "# heard MOST TICKS SENT HEX: what comes over a hub of its pulse and of one peer, which gives the bytes HEX, at most MOST with one read, once SENT were sent to it, "
+    "and that is after TICKS seconds: these, the bytes, whether the peer has gone, how many bytes were written to it (and 1000000 for its shut), and whether all were in time.",
+    "heard 4 3 0a0b 0102030405060708090a",
+    f"heard 1 0 ff {counting(0, 200)}",
+    "heard 9999 100 000102 7f",
     "# queue COUNT: what comes out of a queue of 64 places into which two senders put so many each, and whether more is taken once it is gone.",
     "queue 0",
     "queue 3",
@@ -260,6 +267,10 @@ def answer(row):
     kind, rest = row.split(" ", 1)
     if kind == "run":
         return run(rest)
+    if kind == "heard":
+        _, ticks, sent, digits = rest.split(" ")
+        seconds = "".join(f"{second} " for second in range(1, int(ticks) + 1))
+        return f"{seconds}{digits} gone {1000000 + len(sent) // 2} prompt"
     if kind == "dial":
         return f"{rest}: {REASONS.get(rest, 'it is not HOST:PORT')}"
     if kind == "queue":

@@ -232,4 +232,5 @@ def main():
     row(spelled(header, 2, hashes, bytes([flags[0] | 0xf8])), tx, double(header).hex())
 
 
-main()
+if __name__ == "__main__":
+    main()

@@ -39,7 +39,10 @@ fn run_command<R: Wait + Threads + Sync + Copy + Drop + Send + 'static, K: Spawn
     spawner: &mut K,
 ) -> Status {
     let alloc = rt.alloc();
-    let Ok(mut edge) = Edge::new(rt, handle, spawner, outside::peers(alloc, words)) else {
+    let Ok(peers) = outside::peers(alloc, words) else {
+        return told(rt, words, Status::NoMemory, &None);
+    };
+    let Ok(mut edge) = Edge::new(rt, handle, spawner, peers) else {
         return told(rt, words, Status::NoMemory, &None);
     };
     let mut files = StdFiles::new(rt);

@@ -1,5 +1,6 @@
 //! What the process is given.
 use cf_answers::Status;
+use cf_bytes::{NoMemory, Refused};
 use cf_input::{Command, read_words};
 use std::alloc::Global;
 use std::random::RandomSource;
@@ -22,11 +23,16 @@ fn unreadable(e: &io::Error) -> Status {
     }
 }
 
-/// How many peers the words name for `sync`; none for another command.
-pub fn peers(alloc: Global, words: &[String]) -> usize {
+/// How many peers the words name for `sync`; none for another command, and where they ask for nothing.
+///
+/// # Errors
+///
+/// Where no memory is found to read them.
+pub fn peers(alloc: Global, words: &[String]) -> Result<usize, NoMemory> {
     match &read_words(alloc, words) {
-        Ok(Command::Sync { peers, .. }) => peers.as_slice().len(),
-        _ => 0,
+        Ok(Command::Sync { peers, .. }) => Ok(peers.as_slice().len()),
+        Err(Refused::NoMemory) => Err(NoMemory),
+        _ => Ok(0),
     }
 }
 

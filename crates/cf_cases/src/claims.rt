@@ -63,7 +63,7 @@ fn given(
     claims.forget(p);
     let _first = claims.header(p, &parent)?;
     match claims.add(p, &parent, blocks, previous, hashes) {
-        Ok(()) => String::from_str(alloc, "taken").ok(),
+        Ok(_) => String::from_str(alloc, "taken").ok(),
         Err(Refused::No(fault)) => fault_text(alloc, fault),
         Err(Refused::NoMemory) => None,
     }

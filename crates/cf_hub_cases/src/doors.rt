@@ -37,6 +37,11 @@ pub(crate) fn is_none(count: &Count) -> bool {
     count.load(Ordering::SeqCst) == 0
 }
 
+/// How much was counted.
+pub(crate) fn amount(count: &Count) -> u32 {
+    count.load(Ordering::SeqCst)
+}
+
 /// Waits for a millisecond.
 pub(crate) fn nap(rt: &HostRuntime) {
     thread::sleep(rt, Duration::from_millis(1));

@@ -7,6 +7,7 @@ mod course;
 mod doors;
 mod following;
 mod guide;
+mod hearing;
 mod held;
 mod hubs;
 mod lines;
@@ -20,6 +21,7 @@ mod row;
 mod runs;
 mod serving;
 mod sockets;
+mod telling;
 mod ticking;
 
 use std::process::ExitCode;
@@ -36,6 +38,7 @@ fn answer<R: Wait + Threads + Sync + Copy + Drop + Send + 'static>(
     match kind {
         "cf" => loopback::answer(rt, handle, row),
         "dial" => sockets::reason(rt, rest),
+        "heard" => hearing::answer(rt, handle, rest),
         "hub" => hubs::answer(rt, handle, rest),
         "queue" => queues::answer(&handle, rt.alloc(), rest),
         "run" => runs::answer(rt, handle, rest),

@@ -211,8 +211,8 @@ fn conn_in(alloc: Global, name: &str, plan: Plan) -> Option<MemoryConn>
     Some(conn)
 }
 
-// The writer of a peer.
-fn writer_of(alloc: Global, fails: bool, count: Count) -> Option<PlannedWriter>
+/// The writer of a peer.
+pub(crate) fn writer_of(alloc: Global, fails: bool, count: Count) -> Option<PlannedWriter>
     ensures { IfSome result (λ w. (w.faults ≡ 0) × (w.shut ≡ false) × (w.sink.bytes ≡ [])) }
 {
     Some(PlannedWriter {

@@ -1,0 +1,123 @@
+-- What is done of one peer's chain is done of another's, as far as they are the same.
+use Rattle.std.proofs.Common.{◌≡◌, inl, inr, ℕ, zero, suc, ◌+◌, ◌≤◌, max, min, Bool, true, false, ◌&&◌, List, [], ◌∷◌, length, take, reverse, Option, Some, None, refl, sym, ◌∙◌, ap, subst, arith}
+use Rattle.std.specs.Prelude.{◌==◌, IsSome, bytes_eq, cond}
+use Rattle.std.specs.Ordering.{int_eq}
+use Rattle.std.specs.List.{common_prefix_len}
+use Rattle.std.proofs.lemmas.Bool.{cases_lt}
+use Rattle.std.proofs.lemmas.Bool.Decides.{Decides-eqb, Decides-int_eq}
+use Rattle.std.proofs.lemmas.Slice.Eq.{bytes_eq-Decides}
+use Rattle.std.proofs.lemmas.List.{reverse-reverse}
+use Rattle.cf_block.specs.declared.header.Header.{Header}
+use Rattle.cf_dispute.specs.Claims.{Tables}
+use Rattle.cf_headers.specs.Chain.{Chain, lower, tip_hash}
+use Rattle.cf_headers.specs.Heights.{hash_at, common_of, is_same_header}
+use Rattle.cf_headers.proofs.Stacks.{lower_reverse}
+use Rattle.cf_match.specs.Verdicts.{Verdicts}
+use Rattle.cf_tracker.specs.declared.cursors.Marks.{Marks}
+use Rattle.cf_tracker.specs.Cursors.{raised}
+use Rattle.cf_tracker.specs.Tables.{Table}
+use Rattle.cf_tracker.specs.Tracking.{IsMarked}
+use Rattle.cf_tracker.specs.Wanting.{IsDone, AreClaimed, AreDone}
+use Rattle.cf_tracker.proofs.Stays.{done_told}
+use Rattle.cf_tracker.proofs.Told.{low_done}
+
+-- ---- chains that share blocks
+
+both : (a b : Bool) → (a && b) ≡ true → (a ≡ true) × (b ≡ true)
+both true b e = (refl, e)
+both false b e = (e, absurd (let no : false ≡ true = e in cc no))
+
+six_true : (a b c d e f : Bool) → (a && b && c && d && e && f) ≡ true → (a ≡ true) × (b ≡ true) × (c ≡ true) × (d ≡ true) × (e ≡ true) × (f ≡ true)
+six_true a b c d e f all =
+    let five = both (a && b && c && d && e) f all in
+    let four = both (a && b && c && d) e five.0 in
+    let three = both (a && b && c) d four.0 in
+    let two = both (a && b) c three.0 in
+    let one = both a b two.0 in
+    (one.0, one.1, two.1, three.1, four.1, five.1)
+
+header_alike : (a b : Header) → a.version ≡ b.version → a.previous.0 ≡ b.previous.0 → a.root.0 ≡ b.root.0 → a.time ≡ b.time → a.bits ≡ b.bits → a.nonce ≡ b.nonce → a ≡ b
+header_alike a b version previous root time bits nonce =
+    λ i. record { version = version i; previous = record { 0 = previous i }; root = record { 0 = root i }; time = time i; bits = bits i; nonce = nonce i }
+
+-- headers that agree in each field are one
+header_same : (a b : Header) → is_same_header a b ≡ true → a ≡ b
+header_same a b all =
+    let each = six_true (int_eq a.version b.version) (bytes_eq a.previous.0 b.previous.0) (bytes_eq a.root.0 b.root.0) (a.time == b.time) (a.bits == b.bits) (a.nonce == b.nonce) all in
+    header_alike a b ((Decides-int_eq a.version b.version).0 each.0) ((bytes_eq-Decides a.previous.0 b.previous.0).0 each.1) ((bytes_eq-Decides a.root.0 b.root.0).0 each.2)
+    ((Decides-eqb a.time b.time).0 each.3) ((Decides-eqb a.bits b.bits).0 each.4) ((Decides-eqb a.nonce b.nonce).0 each.5)
+
+same_heads : (x y : Header) (xs ys : List Header) (k n : ℕ) (b : Bool) → is_same_header x y ≡ b → (k ≤ n → take k xs ≡ take k ys) → suc k ≤ cond b (1 + n) 0 → x ∷ take k xs ≡ y ∷ take k ys
+same_heads x y xs ys k n true e rest low = (let one = header_same x y e in let tails = rest (omega (arith, low)) in λ i. one i ∷ tails i)
+same_heads x y xs ys k n false e rest low = absurd (omega (arith, low))
+
+take_shared : (k : ℕ) (xs ys : List Header) → k ≤ common_prefix_len is_same_header xs ys → take k xs ≡ take k ys
+take_shared zero xs ys le = refl
+take_shared (suc k) [] ys le = absurd (omega (arith, le))
+take_shared (suc k) (x ∷ xs) [] le = absurd (omega (arith, le))
+take_shared (suc k) (x ∷ xs) (y ∷ ys) le =
+    same_heads x y xs ys k (common_prefix_len is_same_header xs ys) (is_same_header x y) refl (λ low. take_shared k xs ys low) le
+
+lower_take : (h : ℕ) (own : Chain) → lower h own ≡ reverse (take h (reverse own))
+lower_take h own = ap (λ (c : Chain). lower h c) (sym (reverse-reverse own)) ∙ lower_reverse h (reverse own)
+
+-- up to the common height the hashes are the same
+hash_shared : (own other : Chain) (h : ℕ) → h ≤ common_of own other → hash_at own h ≡ hash_at other h
+hash_shared own other h low =
+    ap tip_hash (lower_take h own ∙ ap reverse (take_shared h (reverse own) (reverse other) low) ∙ sym (lower_take h other))
+
+-- so what is done of the other chain is done
+done_shared : (extracts : Table) (tables : Tables) (verdicts : Verdicts) (own other : Chain) (k : ℕ) → k ≤ common_of own other → AreDone extracts tables verdicts other k → AreDone extracts tables verdicts own k
+done_shared extracts tables verdicts own other k shared are h up low above =
+    let e : hash_at own h ≡ hash_at other h = hash_shared own other h (omega (arith, low, shared)) in
+    subst (IsDone extracts tables verdicts) (sym e) (are h up low (λ f. above (e ∙ f)))
+
+high_done : (extracts : Table) (tables : Tables) (verdicts : Verdicts) (own : Chain) (c d : ℕ) → AreDone extracts tables verdicts own c → AreDone extracts tables verdicts own d → AreDone extracts tables verdicts own (max c d)
+high_done extracts tables verdicts own c d first second h up low above = elim (cases_lt c h) [
+  | inl lt ↦ second h up (omega (arith, lt, low)) above
+  | inr ge ↦ first h up ge above
+]
+
+pub done_higher : (extracts : Table) (tables : Tables) (verdicts : Verdicts) (own other : Chain) (from theirs common : ℕ) → common ≡ common_of own other
+    → AreDone extracts tables verdicts own from → AreDone extracts tables verdicts other theirs → AreDone extracts tables verdicts own (max from (min theirs common))
+done_higher extracts tables verdicts own other from theirs common is first second =
+    high_done extracts tables verdicts own from (min theirs common) first
+    (done_shared extracts tables verdicts own other (min theirs common) (omega (arith, is)) (low_done extracts tables verdicts other theirs (min theirs common) (omega arith) second))
+
+-- ---- marks that go up
+
+some_is : {A : Type 0} (o : Option A) → IsSome o → (x : A) × (o ≡ Some x)
+some_is None s = cc s
+some_is (Some x) s = (x, refl)
+
+raise : (extracts : Table) (tables : Tables) (verdicts : Verdicts) (p : ℕ) (own : Chain) (marks : Marks) (claimed height : ℕ) → IsMarked extracts tables verdicts p own marks
+    → marks.claimed ≤ claimed → claimed ≤ length own → AreClaimed tables p own claimed → AreDone extracts tables verdicts own height → IsMarked extracts tables verdicts p own (raised marks claimed height)
+raise extracts tables verdicts p own marks claimed height m up1 on mine shared =
+    let a = m.claims in
+    let b = m.tells in
+    let done : AreDone extracts tables verdicts own (max marks.done (min height claimed)) =
+    high_done extracts tables verdicts own marks.done (min height claimed) m.are.done (low_done extracts tables verdicts own height (min height claimed) (omega arith) shared) in
+    record {
+      on = on;
+      claims = omega (arith, a, b, up1);
+      tells = omega arith;
+      are = record {
+        claimed = mine;
+        told = λ h up low above. elim (cases_lt marks.told h) [
+          | inl lt ↦ (
+              let c = some_is (tables p (hash_at own h)) (mine h up (omega (arith, a, b, up1, low, lt)) above) in
+              done_told extracts tables verdicts p (hash_at own h) c.0 c.1 (done h up (omega (arith, low, lt)) above)
+              )
+          | inr ge ↦ m.are.told h up ge above
+        ];
+        done = done;
+      };
+    }
+
+-- marks of which the first climbed, no further than asked
+pub raised_marked : (extracts : Table) (tables : Tables) (verdicts : Verdicts) (p : ℕ) (own : Chain) (marks now : Marks) (claimed height common : ℕ) → now ≡ raised marks claimed height
+    → IsMarked extracts tables verdicts p own marks → marks.claimed ≤ claimed → claimed ≤ max marks.claimed common → common ≤ length own
+    → AreClaimed tables p own claimed → AreDone extracts tables verdicts own height → IsMarked extracts tables verdicts p own now
+raised_marked extracts tables verdicts p own marks now claimed height common is m up1 low within mine shared =
+    let a = m.on in
+    subst (IsMarked extracts tables verdicts p own) (sym is) (raise extracts tables verdicts p own marks claimed height m up1 (omega (arith, a, low, within)) mine shared)
