@@ -1,5 +1,6 @@
 #!/usr/bin/env python3
-"""Prints rows of cf_cases on blocks with witnesses in files, each with what it comes to: `witness.py KIND`, of the kinds `blocks` and `run`.
+"""Prints rows of cf_cases on blocks with witnesses in files, each with what it comes to: `witness.py KIND`, of the kinds `blocks`, `stored` and
+`run`.
 
 In a file a transaction may stand in the form with witnesses (BIP 144, "Serialization"): the version, the bytes 00 01, the inputs, the outputs, a stack
 for each input and the lock time. Its hash is that of the form without witnesses, and so is all that follows from it: the root, the block's hash, the
@@ -11,7 +12,7 @@ import sys
 
 sys.path.insert(0, os.path.dirname(os.path.abspath(__file__)))
 from client import Bad, Cut, read_block, read_body, read_tx
-from conversation import MAGIC, compact
+from conversation import MAGIC, compact, double
 from sessions import DONE, Chain, script
 
 RESERVED = bytes(32)
@@ -36,6 +37,18 @@ def extended(tx, *stacks):
     return tx[:4] + b"\0\1" + tx[4:-4] + b"".join(stacks) + tx[-4:]
 
 
+class Placed(Cut):
+    """A reader that stands, once it has refused a field, where that field begins."""
+
+    def count(self, *words):
+        self.counted = self.place
+        try:
+            return super().count(*words)
+        except Bad:
+            self.place = self.counted
+            raise
+
+
 def read_stack(r):
     """Reads a stack, and tells whether it has an item."""
     items = r.count()
@@ -52,22 +65,39 @@ def read_stored_tx(r):
     place = r.place
     inputs = read_body(r)
     body = r.data[place:r.place]
+    place = r.place
     if not any([read_stack(r) for _ in range(inputs)]):
+        r.place = place
         raise Bad("EmptyWitness")
     return start + body + r.take(4)
 
 
-def read_stored(data):
-    """The form without witnesses of a block whose transactions stand in either form."""
-    r = Cut(data)
+def read_stored_by(r):
+    """The same of a block."""
     header, count = r.take(80), r.count()
     if count == 0:
         raise Bad("NoTx")
     block = header + compact(count) + b"".join(read_stored_tx(r) for _ in range(count))
     if len(block) > 1_000_000:
+        r.place = 0
         raise Bad("TooLong")
     r.end()
     return block
+
+
+def read_stored(data):
+    return read_stored_by(Cut(data))
+
+
+def placed_fault(data):
+    """Why bytes store no block, and where the refused field begins; or None."""
+    r = Placed(data)
+    try:
+        read_stored_by(r)
+    except Bad as bad:
+        kind = {"TooMany": "TooLarge"}.get(str(bad), str(bad))
+        return kind, r.counted if kind.startswith("No") and kind != "NotShortest" else r.place
+    return None
 
 
 # ---- chains
@@ -144,31 +174,57 @@ def block_row(*records):
         print("%d %s %s %s %s 207fffff %d" % (height, shown(CHAIN.hashes[height]), text.hex(), shown(name), shown(header), block[80]))
 
 
+def each(row):
+    """Rows of records."""
+    print("# Behind genesis's record; some transactions with witnesses and some without; an input with several items; items of no bytes.")
+    row(plain(0), plain(1), spent(stack(bytes(72), bytes(33))), plain(3))
+    row(with_coinbase(1, stack(b"")), spent(stack(b"", b"", bytes(300)), coinbase=stack(RESERVED)))
+    print("# A stack that is empty, also where a lock time is missing; two stacks for one input; a stack that isn't there.")
+    row(with_coinbase(1, stack()))
+    row(first_with(lambda tx: tx[:-38] + b"\0"))
+    row(with_coinbase(1, stack(), stack(RESERVED)))
+    row(with_coinbase(1, stack(RESERVED), stack(RESERVED)))
+    row(with_coinbase(1))
+    print("# Items that are cut off; counts of items, and of an item's bytes, that are cut off, too long, or above the limit, or that no bytes follow.")
+    row(first_with(lambda tx: tx[:-5]))
+    for count in ("fd00", "fd0100", "fe01000002", "fe00000002", "ff0000000001000000"):
+        count = bytes.fromhex(count)
+        row(first_with(lambda tx: tx[:-38] + count))
+        row(first_with(lambda tx: tx[:-37] + count))
+    print("# No input behind 00 01; another byte than 01 behind 00; nothing behind 00 01.")
+    row(first_with(lambda tx: tx[:6] + b"\0" + tx[7:]))
+    row(first_with(lambda tx: tx[:5] + b"\0" + tx[6:]))
+    row(first_with(lambda tx: tx[:5] + b"\2" + tx[6:]))
+    row(first_with(lambda tx: tx[:6]))
+    print("# A lock time that is cut off, and a byte behind the last transaction.")
+    row(first_with(lambda tx: tx[:-1]))
+    row(record(made()[0][8:] + b"\0"))
+
+
 def blocks():
     print("# Witnesses: they change nothing of what the blocks come to. The rows and answers up to the next kind are those of bench/witness.py blocks.")
     block_row(*made())
-    print("# Behind genesis's record; some transactions with witnesses and some without; an input with several items; items of no bytes.")
-    block_row(plain(0), plain(1), spent(stack(bytes(72), bytes(33))), plain(3))
-    block_row(with_coinbase(1, stack(b"")), spent(stack(b"", b"", bytes(300)), coinbase=stack(RESERVED)))
-    print("# A stack that is empty, also where a lock time is missing; two stacks for one input; a stack that isn't there.")
-    block_row(with_coinbase(1, stack()))
-    block_row(first_with(lambda tx: tx[:-38] + b"\0"))
-    block_row(with_coinbase(1, stack(), stack(RESERVED)))
-    block_row(with_coinbase(1, stack(RESERVED), stack(RESERVED)))
-    block_row(with_coinbase(1))
-    print("# Items that are cut off; counts of items, and of an item's bytes, that are cut off, too long, or above the limit, or that no bytes follow.")
-    block_row(first_with(lambda tx: tx[:-5]))
-    for count in ("fd00", "fd0100", "fe01000002", "fe00000002", "ff0000000001000000"):
-        count = bytes.fromhex(count)
-        block_row(first_with(lambda tx: tx[:-38] + count))
-        block_row(first_with(lambda tx: tx[:-37] + count))
-    print("# No input behind 00 01; another byte than 01 behind 00; nothing behind 00 01.")
-    block_row(first_with(lambda tx: tx[:6] + b"\0" + tx[7:]))
-    block_row(first_with(lambda tx: tx[:5] + b"\0" + tx[6:]))
-    block_row(first_with(lambda tx: tx[:5] + b"\2" + tx[6:]))
-    block_row(first_with(lambda tx: tx[:6]))
-    print("# A byte behind the last transaction.")
-    block_row(record(made()[0][8:] + b"\0"))
+    each(block_row)
+
+
+def stored_row(*records):
+    """Rows `stored` of the first record that stores no block, or else of all."""
+    bad = judged(records)
+    for text in records[bad[0] - 1:bad[0]] if bad else records:
+        print("stored " + text[8:].hex())
+        fault = placed_fault(text[8:])
+        if fault:
+            print("No(BlockFault { kind: %s, place: %d })" % fault)
+            continue
+        header, txs = read_block(read_stored(text[8:]))
+        print("Ok(()) " + " ".join(map(shown, [double(header)] + [double(tx) for tx in txs])))
+
+
+def stored_rows():
+    print("# stored HEX: the same of a block as a file keeps it, with witnesses or without; the hashes are those of the forms without. The rows and answers up to the")
+    print("# next kind are those of bench/witness.py stored.")
+    stored_row(*made())
+    each(stored_row)
 
 
 def file_row(words, status, text, records):
@@ -197,4 +253,4 @@ def runs():
 
 
 if __name__ == "__main__":
-    {"blocks": blocks, "run": runs}[sys.argv[1]]()
+    {"blocks": blocks, "stored": stored_rows, "run": runs}[sys.argv[1]]()
