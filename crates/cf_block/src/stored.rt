@@ -158,13 +158,13 @@ fn read_stored(alloc: Global, cut: &mut Cut) -> Result<Block, Refused<BlockFault
 }
 
 /// The block whose bytes these are in a file, where each transaction may stand in the form with witnesses (BIP 144,
-/// "Serialization"). The witnesses aren't kept, and they take no memory. How many bytes there are is for the caller to bound.
+/// "Serialization"). The witnesses aren't kept, and they take no memory. The caller bounds how many bytes there are.
 ///
 /// # Errors
 ///
 /// The first field that is no spelling, with that field's place. A transaction whose witnesses are all empty is refused
-/// where they begin. A block whose form without witnesses has more than 1,000,000 bytes is refused at its start, after its
-/// last transaction was read and before a byte that follows.
+/// where they begin. A block whose form without witnesses has more than 1,000,000 bytes is refused at its start, after
+/// its last transaction was read and before a byte that follows.
 #[tactic(auto, unfolding(crate::specs::Stored::stored_block_at))]
 pub fn parse_stored(alloc: Global, b: &[u8]) -> Result<Block, Refused<BlockFault>>
     ensures exact { GivesAll (λ x. x) b.now (stored_block_at b.now) result }

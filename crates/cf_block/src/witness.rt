@@ -32,7 +32,7 @@ fn put_extended(t: &Tx, item: &[u8], out: &mut Vec<u8>) -> Result<(), NoMemory>
 }
 
 /// Writes the bytes of a transaction of one input at the end, in its form with witnesses (BIP 144, "Serialization"), this
-/// one item being the input's stack. Where no memory is found nothing is written, so they are first written apart.
+/// one item being its stack. Where no memory is found nothing is written, so they are first written apart.
 pub fn write_with_witness(t: &Tx, item: &[u8], out: &mut Vec<u8>) -> Result<(), NoMemory>
     ensures ok { OnOk result (out.new.items ≡ out.old.items ++ extended_spelling t.now ((item.now ∷ []) ∷ [])) }
     ensures err { OnErr result (out.new.items ≡ out.old.items) }

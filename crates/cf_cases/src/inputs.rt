@@ -78,9 +78,7 @@ fn told(alloc: Global, command: &Command) -> Option<String> {
             seed,
             blocks,
             file,
-        } => {
-            format!(in alloc; "make {witness} {seed} {blocks} {}", file.as_str()).ok()
-        }
+        } => { format!(in alloc; "make {witness} {seed} {blocks} {}", file.as_str()).ok() }
         Command::Demo { seed, blocks } => format!(in alloc; "demo {seed} {blocks}").ok(),
     }
 }

@@ -21,5 +21,6 @@ pub fn laws_of_made_chains()
 
 /// The bytes in the records of a good chain store its blocks, with the witnesses of their coinbases or without.
 pub fn laws_of_made_records()
-    ensures { (witness : Bool) (blocks : List Block) → IsGoodChain blocks → AllByRecursion (λ b. IsStored (text_of witness b) b) blocks }
+    ensures { (witness : Bool) (blocks : List Block) → IsGoodChain blocks
+        → AllByRecursion (λ b. IsStored (text_of witness b) b) blocks }
 {}
