@@ -72,10 +72,8 @@ class Cut(Reader):
             raise Bad("Rest")
 
 
-def read_tx(r):
-    """The transaction's bytes."""
-    start = r.place
-    r.take(4)
+def read_body(r):
+    """Reads the inputs and outputs of a transaction, and tells how many inputs there are."""
     inputs = r.count()
     if inputs == 0:
         raise Bad("NoInput")
@@ -90,6 +88,14 @@ def read_tx(r):
         if not 0 <= struct.unpack("<q", r.take(8))[0] <= MOST_VALUE:
             raise Bad("Value")
         r.var_bytes()
+    return inputs
+
+
+def read_tx(r):
+    """The transaction's bytes."""
+    start = r.place
+    r.take(4)
+    read_body(r)
     r.take(4)
     return r.data[start:r.place]
 

@@ -11,6 +11,7 @@ from client import READERS, Bad, Cut, Run, is_committed, is_timely, meets, read_
 from conversation import MAGIC, double, filters, frame, greeting, valued
 from proofs import parts, spelled, width
 from sessions import Chain
+from witness import read_stored
 
 CHAIN = Chain((7, 3))
 CLOSED = "connection 1: the peer has closed it"
@@ -74,14 +75,22 @@ def watched(data):
 
 
 def blocks_in(data):
-    """The records of a file, each as its block, or None where it is cut off or has another head."""
+    """The records of a file, each as its block's bytes, or None where it is cut off or has another head."""
     at = 0
     while at < len(data) and any(data[at:]):
         size = int.from_bytes(data[at + 4:at + 8], "little")
         is_whole = len(data) - at >= 8 and len(data) - at - 8 >= size
-        is_good = is_whole and data[at:at + 4] == MAGIC and size <= 1_000_000
+        is_good = is_whole and data[at:at + 4] == MAGIC and size <= 4_000_000
         yield data[at + 8:at + 8 + size] if is_good else None
         at += 8 + size
+
+
+def without_witnesses(stored):
+    """A record's block in its form without witnesses, or None."""
+    try:
+        return stored and read_stored(stored)
+    except Bad:
+        return None
 
 
 def is_next(block, chain, coins):
@@ -113,6 +122,7 @@ def chain_in(data):
     for number, block in enumerate(blocks_in(data), 1):
         if number == 1 and block == CHAIN.blocks[0]:
             continue
+        block = without_witnesses(block)
         if block is None or not is_next(block, good, coins):
             return None, "block file, record %d:" % number
         good.append(block)

@@ -26,7 +26,7 @@ usage: cf scan FILE WATCH
        cf address TEXT
        cf prove FILE TXID
        cf check FILE
-       cf make SEED BLOCKS FILE
+       cf make [--witness] SEED BLOCKS FILE
        cf demo SEED BLOCKS
        cf --help
        cf --version
@@ -55,13 +55,15 @@ usage: cf scan FILE WATCH
   --workers  judges filters in N threads, from 1 to 64 (else 4)
   --record   writes the dials and what came from the peers to FILE, as the
              lines of a session
+  --witness  gives the first transaction of each block a witness, as nodes do
 
 A line of the history, in hundred millionths of a coin:
     HEIGHT TXID +RECEIVED -SPENT BALANCE
 
 FILE holds blocks as nodes keep them, from height 1 upward: for each the bytes
-fabfb5da, its length in 4 bytes and the block. Genesis may stand first, and
-zeros at the end. The blocks must make a chain on which each may stand.
+fabfb5da, its length in 4 bytes and the block, with witnesses or without.
+Genesis may stand first, and zeros at the end. The blocks must make a chain on
+which each may stand.
 
 WATCH is a text file of the scripts that are watched: one on each line, in
 hexadecimal or by its address (bcrt1..), at most 1000. It may be empty.

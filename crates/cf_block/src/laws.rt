@@ -7,6 +7,7 @@ ghost use Rattle.cf_block.specs.Header.{IsHeader, header_spelling, header_at, bl
 ghost use Rattle.cf_block.specs.Genesis.{first_tx, first_block, first_tx_bytes, genesis_hash};
 ghost use Rattle.cf_block.specs.Tx.{IsTx, IsBlock, tx_spelling, block_spelling};
 ghost use Rattle.cf_block.specs.Reading.{IsBytes, tx_at, block_at};
+ghost use Rattle.cf_block.specs.Stored.{IsStored, stored_block_at};
 ghost use Rattle.cf_block.specs.Merkle.{hashed, NoClash};
 ghost use Rattle.cf_block.specs.Commitment.{spelled_txs, IsCommitted, commit_fault};
 
@@ -35,6 +36,15 @@ pub fn laws_of_blocks()
     ensures passes { (b : Block) → commit_fault b ≡ None → IsCommitted b }
     ensures good { (b : Block) → IsCommitted b → commit_fault b ≡ None }
     ensures one { (a b : Block) → IsBlock a → IsBlock b → IsCommitted a → IsCommitted b → NoClash (hashed (spelled_txs a) ++ hashed (spelled_txs b)) → a.header ≡ b.header → a ≡ b }
+{}
+
+/// A block that is stored is read again, whichever of its transactions stand there with witnesses, and what is read was
+/// stored. A block's bytes without witnesses are one way to store it, and no bytes store two blocks.
+pub fn laws_of_stored_blocks()
+    ensures plain { (b : Block) → IsBlock b → IsStored (block_spelling b) b }
+    ensures again { (bytes : List ℕ) (b : Block) → IsStored bytes b → stored_block_at bytes ≡ Ok (b, []) }
+    ensures taken { (bytes : List ℕ) (b : Block) (rest : List ℕ) → IsBytes bytes → stored_block_at bytes ≡ Ok (b, rest) → IsStored bytes b × (rest ≡ []) }
+    ensures one { (bytes : List ℕ) (a b : Block) → IsStored bytes a → IsStored bytes b → a ≡ b }
 {}
 
 /// The first block of regtest's chain has a spelling, its transaction and its hash are the published ones, and its

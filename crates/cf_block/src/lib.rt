@@ -11,7 +11,9 @@ mod merkle;
 mod parse;
 mod script;
 mod size;
+mod stored;
 mod tx;
+mod witness;
 mod write;
 
 pub use cf_bytes::Listed;
@@ -22,9 +24,13 @@ pub use fault::{BlockFault, BlockFaultKind};
 pub use feeding::txid;
 pub use genesis_block::genesis;
 pub use header::{Header, block_hash, genesis_header, parse_header, write_header};
-pub use laws::{laws_of_blocks, laws_of_genesis, laws_of_headers, laws_of_transactions};
+pub use laws::{
+    laws_of_blocks, laws_of_genesis, laws_of_headers, laws_of_stored_blocks, laws_of_transactions,
+};
 pub use merkle::{is_mutated, merkle_root};
 pub use parse::{parse_block, parse_tx};
 pub use script::Script;
+pub use stored::parse_stored;
 pub use tx::{Block, OutPoint, Tx, TxIn, TxIns, TxOut, TxOuts, Txs};
+pub use witness::write_with_witness;
 pub use write::{write_block, write_tx};

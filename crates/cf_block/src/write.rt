@@ -8,7 +8,7 @@ use crate::header::write_header;
 use crate::tx::{Block, Tx, TxIn, TxOut};
 use cf_bytes::{NoMemory, put_compact};
 
-fn put_counted(bytes: &[u8], out: &mut Vec<u8>) -> Result<(), NoMemory>
+pub(crate) fn put_counted(bytes: &[u8], out: &mut Vec<u8>) -> Result<(), NoMemory>
     ensures { OnOk result (out.new.items ≡ out.old.items ++ counted_bytes bytes.now) }
 {
     put_compact(out, bytes.len() as u64)?;
@@ -36,7 +36,7 @@ fn put_output(output: &TxOut, out: &mut Vec<u8>) -> Result<(), NoMemory>
     Ok(())
 }
 
-fn put_inputs(inputs: &[TxIn], out: &mut Vec<u8>) -> Result<(), NoMemory>
+pub(crate) fn put_inputs(inputs: &[TxIn], out: &mut Vec<u8>) -> Result<(), NoMemory>
     ensures { OnOk result (out.new.items ≡ out.old.items ++ flat_map input_spelling inputs.now) }
 {
     for input in inputs {
@@ -45,7 +45,7 @@ fn put_inputs(inputs: &[TxIn], out: &mut Vec<u8>) -> Result<(), NoMemory>
     Ok(())
 }
 
-fn put_outputs(outputs: &[TxOut], out: &mut Vec<u8>) -> Result<(), NoMemory>
+pub(crate) fn put_outputs(outputs: &[TxOut], out: &mut Vec<u8>) -> Result<(), NoMemory>
     ensures { OnOk result (out.new.items ≡ out.old.items ++ flat_map output_spelling outputs.now) }
 {
     for output in outputs {

@@ -2,7 +2,7 @@
 use crate::fields::{bytes_in, put_hash};
 use cf_block::{
     Block, Tx, block_hash, check_commitment, check_commitment_by, genesis, is_mutated, merkle_root,
-    parse_block, parse_tx, txid, txids, write_block, write_tx,
+    parse_block, parse_stored, parse_tx, txid, txids, write_block, write_tx,
 };
 use cf_bytes::{Cut, Hash32, read_hash, show};
 use std::alloc::Global;
@@ -74,6 +74,15 @@ pub(crate) fn block(alloc: Global, row: &str) -> Option<String> {
     let bytes = bytes_in(alloc, row)?;
     match parse_block(alloc, &bytes) {
         Ok(block) => block_text(alloc, &block, &bytes),
+        Err(fault) => format!(in alloc; "{fault:?}").ok(),
+    }
+}
+
+/// The same of the block that the bytes of a row store, with witnesses or without.
+pub(crate) fn stored(alloc: Global, row: &str) -> Option<String> {
+    let bytes = bytes_in(alloc, row)?;
+    match parse_stored(alloc, &bytes) {
+        Ok(block) => checked(alloc, &block),
         Err(fault) => format!(in alloc; "{fault:?}").ok(),
     }
 }

@@ -73,9 +73,12 @@ fn told(alloc: Global, command: &Command) -> Option<String> {
             )
             .ok()
         }
-        Command::Make { seed, blocks, file } => {
-            format!(in alloc; "make {seed} {blocks} {}", file.as_str()).ok()
-        }
+        Command::Make {
+            witness,
+            seed,
+            blocks,
+            file,
+        } => { format!(in alloc; "make {witness} {seed} {blocks} {}", file.as_str()).ok() }
         Command::Demo { seed, blocks } => format!(in alloc; "demo {seed} {blocks}").ok(),
     }
 }

@@ -65,6 +65,7 @@ fn answer<R: Wait + Threads + Sync + Copy + Drop + Send + 'static>(
         "serving" => servings::answer(rt, alloc, rest),
         "session" => inputs::session(alloc, rest),
         "siphash" => filters::siphash(alloc, rest),
+        "stored" => blocks::stored(alloc, rest),
         "stores" => stores::answer(alloc, rest),
         "stream" => streams::answer(alloc, rest),
         "target" => headers::target(alloc, rest),

@@ -104,5 +104,5 @@ undone (Check file) moment nonce a wires tape log = record {
   takes = under a.files file {P = λ b. TakesWhatIsProved NoMemory b a.written a.written} (λ b txid blocks good made. refl);
 }
 undone (Serve count file address) moment nonce a wires tape log = (inl refl, refl)
-undone (Make seed blocks file) moment nonce a wires tape log = (refl, refl)
+undone (Make witness seed blocks file) moment nonce a wires tape log = (refl, refl)
 undone (Demo seed blocks) moment nonce a wires tape log = refl

@@ -14,12 +14,12 @@ names_read (Address text) = []
 names_read (Prove file txid) = file ∷ []
 names_read (Check file) = file ∷ []
 names_read (Serve count file address) = file ∷ []
-names_read (Make seed blocks file) = []
+names_read (Make witness seed blocks file) = []
 names_read (Demo seed blocks) = []
 
 -- the file that a command writes: `make` its chain, and `sync` the record that is asked for
 abbrev pub name_written : Command → Option (List ℕ)
-name_written (Make seed blocks file) = Some file
+name_written (Make witness seed blocks file) = Some file
 name_written (Sync turns workers file watch peers) = file
 name_written command = None
 

@@ -96,7 +96,7 @@ verdict_of files (Address text) = no_file
 verdict_of files (Prove file txid) = blocks_verdict (finite.get files file)
 verdict_of files (Check file) = proof_verdict (finite.get files file)
 verdict_of files (Serve count file address) = blocks_verdict (finite.get files file)
-verdict_of files (Make seed blocks file) = no_file
+verdict_of files (Make witness seed blocks file) = no_file
 verdict_of files (Demo seed blocks) = no_file
 
 -- a file that is missing or refused is answered so, and no other is; a read may fail, and memory may be wanting

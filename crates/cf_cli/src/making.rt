@@ -10,23 +10,24 @@ use cf_headers::HEIGHT_LIMIT;
 use cf_make::made_records;
 use std::alloc::Global;
 
-/// Makes the chain of so many blocks that a seed tells, and writes its records to a file. More blocks than a chain may have, for which no words ask,
-/// are refused as for want of memory.
+/// Makes the chain of so many blocks that a seed tells, and writes its records to a file, their coinbases with a witness or
+/// without. More blocks than a chain may have, for which no words ask, are refused as for want of memory.
 pub(crate) fn make<F: Files>(
     alloc: Global,
     files: &mut F,
+    witness: bool,
     seed: u32,
     blocks: u32,
     file: &str,
 ) -> Status
-    ensures made { IsMaking result seed blocks file.now (F.files files.old) (F.files files.new) }
+    ensures made { IsMaking result witness seed blocks file.now (F.files files.old) (F.files files.new) }
     ensures file_fault { result ≡ Status.FileFault → HasRisen (F.faults files.old) (F.faults files.new) }
     ensures files { IsAtMostWritten F.writes (Some file.now) files.old files.new }
 {
     if blocks > HEIGHT_LIMIT {
         return Status::NoMemory;
     }
-    let records = match made_records(alloc, u64::from(seed), blocks) {
+    let records = match made_records(alloc, witness, u64::from(seed), blocks) {
         Ok(records) => records,
         Err(Refused::No(at)) => return Status::NoNonce { height: at.height },
         Err(Refused::NoMemory) => return Status::NoMemory,

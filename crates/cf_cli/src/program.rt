@@ -262,7 +262,12 @@ where
             link,
             spawner,
         ),
-        Command::Make { seed, blocks, file } => make(alloc, files, seed, blocks, file.as_str()),
+        Command::Make {
+            witness,
+            seed,
+            blocks,
+            file,
+        } => make(alloc, files, witness, seed, blocks, file.as_str()),
         Command::Demo { seed, blocks } => demo(rt, alloc, seed, blocks, spawner, played, out),
     }
 }

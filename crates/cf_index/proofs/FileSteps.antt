@@ -1,18 +1,16 @@
 -- Reading a file, a record at a time.
-use Rattle.std.proofs.Common.{◌≡◌, ℕ, zero, suc, ◌+◌, ◌-◌, ◌<◌, Bool, true, false, List, [], ◌∷◌, ◌++◌, length, drop, refl, sym, ◌∙◌, ap, arith, append_assoc, length-append, Result, Ok, Err}
+use Rattle.std.proofs.Common.{◌≡◌, ℕ, zero, suc, ◌+◌, ◌-◌, ◌<◌, ◌≤◌, Bool, true, false, List, [], ◌∷◌, ◌++◌, length, drop, refl, sym, ◌∙◌, ap, subst, arith, append_assoc, length-append, Result, Ok, Err}
 use Rattle.std.specs.Prelude.{if◌then◌else◌, IfOk}
-use Rattle.std.specs.List.{flat_map}
 use Rattle.std.proofs.lemmas.List.{drop_at, append-nil}
 use Rattle.cf_bytes.specs.Cut.{◌>>=◌}
 use Rattle.cf_bytes.specs.declared.memory.Refused.{Refused}
 use Rattle.cf_block.specs.declared.tx.Block.{Block}
-use Rattle.cf_block.specs.Reading.{block_at}
-use Rattle.cf_block.specs.Tx.{block_spelling}
+use Rattle.cf_block.specs.Stored.{IsStored, stored_block_at}
 use Rattle.cf_index.specs.declared.cause.RecordCause.{RecordCause}
 use Rattle.cf_index.specs.declared.chain.Chain.{Chain}
-use Rattle.cf_index.specs.Records.{Taken, record_with, record_spelling, record_at}
+use Rattle.cf_index.specs.Records.{Taken, record_with, max_record, IsRecordOf, AreRecords, joined, HasRecords, record_at}
 use Rattle.cf_index.specs.Files.{all_zeros, in_block, put_on, cause_on, next_at, numbered, blocks_from}
-use Rattle.cf_index.specs.Progress.{HasRecord}
+use Rattle.cf_index.specs.Progress.{HasRecord, IsRecordsOf}
 
 skip : (before k : ℕ) (blocks : List Block) (bytes : List ℕ) → blocks_from before k blocks bytes ≡ blocks_from before zero blocks (drop k bytes)
 unfolding blocks_from
@@ -39,15 +37,15 @@ more_by before blocks more a tail front rest e z is =
     ∙ ap (λ (l : List ℕ). blocks_from before zero more (drop (length front) l)) e
     ∙ ap (blocks_from before zero more) (drop_at front rest (length front) refl)
 
-tail_is : (a : ℕ) (tail rest : List ℕ) (block : Block) → a ∷ tail ≡ record_spelling block ++ rest → tail ≡ drop 1 (record_spelling block) ++ rest
-unfolding record_spelling
-tail_is a tail rest block e = ap (λ (l : List ℕ). drop 1 l) e
+tail_is : (a : ℕ) (tail rest text : List ℕ) → a ∷ tail ≡ record_with text ++ rest → tail ≡ drop 1 (record_with text) ++ rest
+tail_is a tail rest text e = ap (λ (l : List ℕ). drop 1 l) e
 
 pub one_more : (before : ℕ) (blocks more : List Block) (bytes rest : List ℕ) → all_zeros bytes ≡ false → next_at blocks bytes ≡ Ok (more, rest) → HasRecord blocks more bytes rest
     → blocks_from before zero blocks bytes ≡ blocks_from before zero more rest
 one_more before blocks more [] rest z is has = cc
 one_more before blocks more (a ∷ tail) rest z is has =
-    more_by before blocks more a tail (drop 1 (record_spelling has.block)) rest (tail_is a tail rest has.block has.spelled) z is
+    more_by before blocks more a tail (drop 1 (record_with has.is.text)) rest
+    (tail_is a tail rest has.is.text (has.spelled ∙ ap (λ (l : List ℕ). l ++ rest) has.is.spelled)) z is
 
 pub bad_here : (before : ℕ) (blocks : List Block) (bytes : List ℕ) (cause : RecordCause) → all_zeros bytes ≡ false → next_at blocks bytes ≡ Err cause
     → blocks_from before zero blocks bytes ≡ Err (record { number = suc (before + length blocks); cause = cause })
@@ -61,44 +59,68 @@ bad_here before blocks (a ∷ tail) cause z is =
 
 pub no_record : (blocks : List Block) (bytes : List ℕ) (cause : RecordCause) → record_at bytes ≡ Err cause → next_at blocks bytes ≡ Err cause
 unfolding next_at
-no_record blocks bytes cause h = ap (λ r. r >>= λ text. in_block (block_at text.0) >>= λ b. put_on (cause_on blocks b) blocks b >>= λ more. Ok (more, text.1)) h
+no_record blocks bytes cause h = ap (λ r. r >>= λ text. in_block (stored_block_at text.0) >>= λ b. put_on (cause_on blocks b) blocks b >>= λ more. Ok (more, text.1)) h
 
-pub no_block : (blocks : List Block) (bytes text rest : List ℕ) (cause : RecordCause) → record_at bytes ≡ Ok (text, rest) → in_block (block_at text) ≡ Err cause → next_at blocks bytes ≡ Err cause
+pub no_block : (blocks : List Block) (bytes text rest : List ℕ) (cause : RecordCause) → record_at bytes ≡ Ok (text, rest) → in_block (stored_block_at text) ≡ Err cause → next_at blocks bytes ≡ Err cause
 unfolding next_at
 no_block blocks bytes text rest cause h e =
-    ap (λ r. r >>= λ text. in_block (block_at text.0) >>= λ b. put_on (cause_on blocks b) blocks b >>= λ more. Ok (more, text.1)) h
+    ap (λ r. r >>= λ text. in_block (stored_block_at text.0) >>= λ b. put_on (cause_on blocks b) blocks b >>= λ more. Ok (more, text.1)) h
     ∙ ap (λ r. r >>= λ b. put_on (cause_on blocks b) blocks b >>= λ more. Ok (more, rest)) e
 
-pub next_is : (blocks : List Block) (bytes text rest : List ℕ) (b : Block) → record_at bytes ≡ Ok (text, rest) → in_block (block_at text) ≡ Ok b
+pub next_is : (blocks : List Block) (bytes text rest : List ℕ) (b : Block) → record_at bytes ≡ Ok (text, rest) → in_block (stored_block_at text) ≡ Ok b
     → next_at blocks bytes ≡ (put_on (cause_on blocks b) blocks b >>= λ more. Ok (more, rest))
 unfolding next_at
 next_is blocks bytes text rest b h e =
-    ap (λ r. r >>= λ text. in_block (block_at text.0) >>= λ b. put_on (cause_on blocks b) blocks b >>= λ more. Ok (more, text.1)) h
+    ap (λ r. r >>= λ text. in_block (stored_block_at text.0) >>= λ b. put_on (cause_on blocks b) blocks b >>= λ more. Ok (more, text.1)) h
     ∙ ap (λ r. r >>= λ b. put_on (cause_on blocks b) blocks b >>= λ more. Ok (more, rest)) e
 
 -- ---- the bytes so far
 
-pub spelled_more : (all bytes rest : List ℕ) (blocks more : List Block) → all ≡ flat_map record_spelling blocks ++ bytes → HasRecord blocks more bytes rest → all ≡ flat_map record_spelling more ++ rest
-spelled_more all bytes rest blocks more so_far has =
-    so_far
-    ∙ ap (λ l. flat_map record_spelling blocks ++ l) has.spelled
-    ∙ sym (append_assoc (flat_map record_spelling blocks) (record_spelling has.block) rest)
-    ∙ ap (λ l. l ++ rest) (sym (flat_one blocks has.block) ∙ ap (flat_map record_spelling) (sym has.added))
-  where
-    flat_one : (xs : List Block) (b : Block) → flat_map record_spelling (xs ++ b ∷ []) ≡ flat_map record_spelling xs ++ record_spelling b
-    flat_one [] b = append-nil (record_spelling b)
-    flat_one (x ∷ xs) b = ap (λ l. record_spelling x ++ l) (flat_one xs b) ∙ sym (append_assoc (record_spelling x) (flat_map record_spelling xs) (record_spelling b))
+-- none were read yet
+pub none_read : (bytes rest : List ℕ) (blocks : List Block) → rest ≡ bytes → blocks ≡ [] → HasRecords bytes blocks rest
+none_read bytes rest blocks same none =
+    subst (λ (l : List ℕ). HasRecords bytes blocks l) (sym same)
+    (subst (λ (bs : List Block). HasRecords bytes bs bytes) (sym none) (record { records = []; each = tt; spelled = refl }))
 
-some_bytes : (block : Block) → 0 < length (record_spelling block)
-unfolding record_spelling
-some_bytes block = omega arith
+-- all were read
+pub all_read : (bytes rest : List ℕ) (blocks told : List Block) → HasRecords bytes blocks rest → told ≡ blocks → all_zeros rest ≡ true → IsRecordsOf bytes told
+all_read bytes rest blocks told h same zeros = record { rest = rest; spelled = subst (λ (bs : List Block). HasRecords bytes bs rest) (sym same) h; zeros = zeros }
+
+each_more : (records : List (List ℕ)) (blocks : List Block) (r : List ℕ) (b : Block) → AreRecords records blocks → IsRecordOf r b → AreRecords (records ++ r ∷ []) (blocks ++ b ∷ [])
+each_more [] [] r b each is = (is, tt)
+each_more [] (x ∷ xs) r b each is = absurd each
+each_more (x ∷ xs) [] r b each is = absurd each
+each_more (x ∷ xs) (c ∷ cs) r b each is = (each.0, each_more xs cs r b each.1 is)
+
+joined_more : (records : List (List ℕ)) (r : List ℕ) → joined (records ++ r ∷ []) ≡ joined records ++ r
+joined_more [] r = append-nil r
+joined_more (x ∷ xs) r = ap (λ (l : List ℕ). x ++ l) (joined_more xs r) ∙ sym (append_assoc x (joined xs) r)
+
+pub spelled_more : (all bytes rest : List ℕ) (blocks more : List Block) → HasRecords all blocks bytes → HasRecord blocks more bytes rest → HasRecords all more rest
+spelled_more all bytes rest blocks more so_far has = record {
+  records = so_far.records ++ has.front ∷ [];
+  each = subst (AreRecords (so_far.records ++ has.front ∷ [])) (sym has.added) (each_more so_far.records blocks has.front has.block so_far.each has.is);
+  spelled =
+      so_far.spelled
+      ∙ ap (λ (l : List ℕ). joined so_far.records ++ l) has.spelled
+      ∙ sym (append_assoc (joined so_far.records) has.front rest)
+      ∙ ap (λ (l : List ℕ). l ++ rest) (sym (joined_more so_far.records has.front));
+}
+
+some_bytes : (text : List ℕ) → 0 < length (record_with text)
+some_bytes text = omega arith
 
 pub fewer : (blocks more : List Block) (bytes rest : List ℕ) → HasRecord blocks more bytes rest → length rest < length bytes
-fewer blocks more bytes rest has = omega (arith, ap length has.spelled, length-append (record_spelling has.block) rest, some_bytes has.block)
+fewer blocks more bytes rest has = omega (arith, ap length has.spelled, length-append has.front rest, ap length has.is.spelled, some_bytes has.is.text)
 
--- a block whose bytes stand in the record
-pub found_if : (blocks : List Block) (bytes text rest : List ℕ) (b : Block) (r : Result Chain (Refused RecordCause)) → bytes ≡ record_with text ++ rest → text ≡ block_spelling b
+-- a block that the record's bytes store
+pub found_if : (blocks : List Block) (bytes text rest : List ℕ) (b : Block) (r : Result Chain (Refused RecordCause)) → bytes ≡ record_with text ++ rest → length text ≤ max_record → IsStored text b
     → IfOk r (λ longer. longer.blocks ≡ blocks ++ b ∷ []) → IfOk r (λ longer. HasRecord blocks longer.blocks bytes rest)
-unfolding record_spelling
-found_if blocks bytes text rest b (Ok longer) e is more = record { block = b; added = more; spelled = e ∙ ap (λ t. record_with t ++ rest) is }
-found_if blocks bytes text rest b (Err x) e is more = tt
+found_if blocks bytes text rest b (Ok longer) e short stored more = record {
+  block = b;
+  added = more;
+  front = record_with text;
+  is = record { text = text; stored = stored; short = short; spelled = refl };
+  spelled = e;
+}
+found_if blocks bytes text rest b (Err x) e short stored more = tt

@@ -4,21 +4,20 @@ use Rattle.std.specs.Prelude.{if◌then◌else◌}
 use Rattle.std.specs.Int.{w32, to_le_bytes}
 use Rattle.cf_bytes.specs.Cut.{◌>>=◌}
 use Rattle.cf_bytes.proofs.Codecs.{bind_is, bytes_again, u32_again}
-use Rattle.cf_block.specs.Tx.{max_block}
 use Rattle.cf_index.specs.declared.cause.RecordCause.TheVariants.{Cut, TooLong}
-use Rattle.cf_index.specs.Records.{magic, record_with, cut_off, is_magic, is_short, magic_at, length_at, head_at, text_at, record_at}
+use Rattle.cf_index.specs.Records.{magic, record_with, max_record, cut_off, is_magic, is_short, magic_at, length_at, head_at, text_at, record_at}
 
 magic_again : (more : List ℕ) → magic_at (magic ++ more) ≡ Ok (magic, more)
 unfolding magic_at
 magic_again more = ap (λ r. cut_off r >>= is_magic) (bytes_again 4 magic more refl)
 
-length_again : (n : ℕ) (more : List ℕ) → n ≤ max_block → length_at (to_le_bytes w32 n ++ more) ≡ Ok (n, more)
+length_again : (n : ℕ) (more : List ℕ) → n ≤ max_record → length_at (to_le_bytes w32 n ++ more) ≡ Ok (n, more)
 unfolding length_at
 length_again n more small =
     ap (λ r. cut_off r >>= is_short) (u32_again n more (omega (arith, small)))
-    ∙ ap (λ (b : Bool). if b then Err TooLong else Ok (n, more)) (le-ltb max_block n small)
+    ∙ ap (λ (b : Bool). if b then Err TooLong else Ok (n, more)) (le-ltb max_record n small)
 
-head_again : (n : ℕ) (more : List ℕ) → n ≤ max_block → head_at (magic ++ (to_le_bytes w32 n ++ more)) ≡ Ok (n, more)
+head_again : (n : ℕ) (more : List ℕ) → n ≤ max_record → head_at (magic ++ (to_le_bytes w32 n ++ more)) ≡ Ok (n, more)
 unfolding head_at
 head_again n more small =
     let long : nat_lt (length (magic ++ (to_le_bytes w32 n ++ more))) 8 ≡ false = le-ltb (length (magic ++ (to_le_bytes w32 n ++ more))) 8 (omega (arith, length-append (to_le_bytes w32 n) more)) in
@@ -26,7 +25,7 @@ head_again n more small =
     ∙ bind_is (magic_at (magic ++ (to_le_bytes w32 n ++ more))) (magic, to_le_bytes w32 n ++ more) (λ m. length_at m.1) (magic_again (to_le_bytes w32 n ++ more))
     ∙ length_again n more small
 
-pub record_again : (text more : List ℕ) → length text ≤ max_block → record_at (record_with text ++ more) ≡ Ok (text, more)
+pub record_again : (text more : List ℕ) → length text ≤ max_record → record_at (record_with text ++ more) ≡ Ok (text, more)
 unfolding record_at
 record_again text more small =
     let regroup : record_with text ++ more ≡ magic ++ (to_le_bytes w32 (length text) ++ (text ++ more)) = ap (λ l. magic ++ l) (append_assoc (to_le_bytes w32 (length text)) text more) in

@@ -1,6 +1,6 @@
 -- Files of blocks: which are good, and the first bad record of the others.
 use Rattle.std.specs.Prelude.{◌≡◌, ◌⊎◌, ℕ, zero, suc, ◌+◌, ◌-◌, ◌==◌, Bool, true, false, nat_le, bytes_eq, if◌then◌else◌, List, [], ◌∷◌, ◌++◌, length, take, drop, replicate, Option, Some, None, Result, Ok, Err}
-use Rattle.std.specs.List.{flat_map, list_all}
+use Rattle.std.specs.List.{list_all}
 use Rattle.std.specs.FinMap.{empty}
 use Rattle.cf_bytes.specs.Cut.{Read, ◌>>=◌}
 use Rattle.cf_bytes.specs.declared.memory.Refused.{Refused}
@@ -9,7 +9,7 @@ use Rattle.cf_block.specs.declared.fault.BlockFault.{BlockFault}
 use Rattle.cf_block.specs.declared.commitment.CommitFault.{CommitFault}
 use Rattle.cf_block.specs.declared.tx.Block.{Block}
 use Rattle.cf_block.specs.Genesis.{first_block}
-use Rattle.cf_block.specs.Reading.{block_at}
+use Rattle.cf_block.specs.Stored.{stored_block_at}
 use Rattle.cf_block.specs.Commitment.{commit_fault}
 use Rattle.cf_headers.specs.declared.rules.HeaderFault.{HeaderFault}
 use Rattle.cf_headers.specs.Rules.{fault_after}
@@ -20,19 +20,24 @@ use Rattle.cf_index.specs.declared.cause.CoinFault.{CoinFault}
 use Rattle.cf_index.specs.declared.cause.RecordCause.{RecordCause}
 use Rattle.cf_index.specs.declared.cause.RecordCause.TheVariants.{Block as InBlock, Header as InHeader, TooHigh, Commit, Coins as InCoins}
 use Rattle.cf_index.specs.declared.cause.BadBlock.{BadBlock}
-use Rattle.cf_index.specs.Records.{Taken, record_spelling, record_at}
+use Rattle.cf_index.specs.Records.{Taken, record_spelling, HasRecords, record_at}
 use Rattle.cf_index.specs.Spending.{spend_txs}
 
 -- ---- good files
 
--- the records of blocks above genesis, the lowest first, before which genesis's may stand, and then zeros alone, any number of them
+-- the bytes are genesis's record, without witnesses, and then records of these blocks and the rest
+pub record HasGenesis (bytes : List ℕ) (blocks : List Block) (rest : List ℕ) : Type 0 where
+  pub more : List ℕ
+  pub spelled : bytes ≡ record_spelling first_block ++ more
+  pub others : HasRecords more blocks rest
+
+-- Records of blocks above genesis, the lowest first, each with witnesses or without; before them genesis's may stand, and
+-- after them zeros alone, any number of them.
 pub record IsFileOf (bytes : List ℕ) (blocks : List Block) : Type 0 where
   pub zeros : ℕ
-  pub spelled :
-      (bytes ≡ flat_map record_spelling blocks ++ replicate zeros 0)
-      ⊎ (bytes ≡ record_spelling first_block ++ (flat_map record_spelling blocks ++ replicate zeros 0))
+  pub spelled : HasRecords bytes blocks (replicate zeros 0) ⊎ HasGenesis bytes blocks (replicate zeros 0)
 
--- the bytes are the records of a good chain's blocks; genesis's may stand before them, and zeros alone after them
+-- the bytes are records of a good chain's blocks; genesis's may stand before them, and zeros alone after them
 pub record IsGoodFile (bytes : List ℕ) (blocks : List Block) : Type 0 where
   pub file : IsFileOf bytes blocks
   pub chain : IsGoodChain blocks
@@ -82,7 +87,7 @@ put_on (Some cause) blocks b = Err cause
 unfoldable pub next_at : List Block → List ℕ → Taken (List Block)
 next_at blocks bytes = do
   text ← record_at bytes
-  b ← in_block (block_at text.0)
+  b ← in_block (stored_block_at text.0)
   more ← put_on (cause_on blocks b) blocks b
   Ok (more, text.1)
 
@@ -113,13 +118,13 @@ blocks_at bytes =
 
 -- ---- bad files
 
--- The records of a good chain's blocks, and then what is neither zeros alone nor the record of a block that may stand on them: its
+-- Records of a good chain's blocks, and then what is neither zeros alone nor the record of a block that may stand on them: its
 -- number, where so many records stand before those of the blocks, and why.
 pub record StopsAt (bytes : List ℕ) (before : ℕ) (bad : BadBlock) : Type 0 where
   pub blocks : List Block
   pub rest : List ℕ
   pub good : IsGoodChain blocks
-  pub spelled : bytes ≡ flat_map record_spelling blocks ++ rest
+  pub spelled : HasRecords bytes blocks rest
   pub some : all_zeros rest ≡ false
   pub number : bad.number ≡ suc (before + length blocks)
   pub cause : next_at blocks rest ≡ Err bad.cause

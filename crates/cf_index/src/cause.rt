@@ -56,7 +56,7 @@ pub enum RecordCause {
     /// The record doesn't begin with regtest's magic.
     #[error("the record begins with another magic")]
     Magic,
-    /// Its length is above 1,000,000.
+    /// Its length is above 4,000,000.
     #[error("the record is too long")]
     TooLong,
     /// Its bytes are no block.

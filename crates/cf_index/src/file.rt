@@ -1,7 +1,7 @@
 //! Files of blocks.
 ghost use Rattle.std.specs.Prelude.{◌≡◌, ◌≤◌, ◌+◌, [], zero, suc, length, IfOk};
-ghost use Rattle.cf_block.specs.Reading.{block_at};
-ghost use Rattle.cf_block.specs.Tx.{IsBlock, block_spelling};
+ghost use Rattle.cf_block.specs.Stored.{IsStored, stored_block_at};
+ghost use Rattle.cf_block.specs.Tx.{IsBlock};
 ghost use Rattle.cf_chain.specs.Good.{IsGoodChain, max_height};
 ghost use Rattle.cf_index.specs.Files.{IsGoodFile, StopsAt, IsBadFile, IfBad, all_zeros, in_block, next_at, blocks_from, blocks_at, Answers};
 ghost use Rattle.cf_index.specs.Progress.{Keeps, GivesBlock, GivesNext, HasRecord, IsRecordsOf};
@@ -10,7 +10,7 @@ use crate::cause::{BadBlock, RecordCause};
 use crate::chain::{Blocks, Chain, new_chain, put_on_chain};
 use crate::checked::CheckedChain;
 use crate::record::{genesis_record, take_record};
-use cf_block::{Block, parse_block};
+use cf_block::{Block, parse_stored};
 use cf_bytes::{Cut, Refused};
 use std::alloc::Global;
 
@@ -20,13 +20,13 @@ fn is_end(bytes: &[u8]) -> bool
     bytes.iter().all(|b| *b == 0)
 }
 
-// The block whose bytes these are.
+// The block that these bytes store, with witnesses or without.
 fn block_of(alloc: Global, text: &[u8]) -> Result<Block, Refused<RecordCause>>
-    ensures exact { GivesBlock (in_block (block_at text.now)) result }
-    ensures found { IfOk result (λ b. text.now ≡ block_spelling b) }
+    ensures exact { GivesBlock (in_block (stored_block_at text.now)) result }
+    ensures found { IfOk result (λ b. IsStored text.now b) }
     ensures fits { IfOk result (λ b. IsBlock b) }
 {
-    match parse_block(alloc, text) {
+    match parse_stored(alloc, text) {
         Ok(block) => Ok(block),
         Err(Refused::NoMemory) => Err(Refused::NoMemory),
         Err(Refused::No(fault)) => Err(Refused::No(RecordCause::Block(fault.kind))),
@@ -81,8 +81,9 @@ fn read_records(alloc: Global, before: u32, bytes: &[u8]) -> Result<CheckedChain
 }
 
 /// The chain of the blocks of a file, each of which is read, hashed and judged once. The file is a run of records, each of regtest's magic
-/// fa bf b5 da (hexadecimal), the block's length in 4 bytes, the low byte first, and the block; the genesis block's may
-/// stand first, and zeros alone may stand at the end.
+/// fa bf b5 da (hexadecimal), the block's length in 4 bytes, the low byte first, and the block, whose transactions may
+/// stand with witnesses (BIP 144, "Serialization"), which aren't kept; the genesis block's may stand first, and zeros alone
+/// may stand at the end. A record's block has at most 4,000,000 bytes, and without witnesses at most 1,000,000.
 ///
 /// # Errors
 ///

@@ -2,8 +2,7 @@
 ghost use Rattle.std.specs.Prelude.{◌≡◌, ◌++◌, ◌≤◌, IfOk, length};
 ghost use Rattle.std.specs.Int.{w32, to_le_bytes};
 ghost use Rattle.cf_block.specs.Genesis.{first_block};
-ghost use Rattle.cf_block.specs.Tx.{max_block};
-ghost use Rattle.cf_index.specs.Records.{magic, record_with, record_spelling, magic_at, length_at, head_at, text_at, record_at, Takes};
+ghost use Rattle.cf_index.specs.Records.{magic, record_with, max_record, record_spelling, magic_at, length_at, head_at, text_at, record_at, Takes};
 
 use crate::cause::RecordCause;
 use cf_block::{genesis, write_block};
@@ -13,8 +12,8 @@ use std::alloc::Global;
 // Regtest's magic.
 const MAGIC: [u8; 4] = [0xfa, 0xbf, 0xb5, 0xda];
 
-// The most bytes that a block may have.
-const MAX_BLOCK: u32 = 1_000_000;
+// The most bytes of a block in a record, with its witnesses.
+const MAX_RECORD: u32 = 4_000_000;
 
 #[tactic(auto, unfolding(crate::specs::Records::magic_at))]
 fn take_magic(cut: &mut Cut) -> Result<[u8; 4], RecordCause>
@@ -35,12 +34,12 @@ fn take_magic(cut: &mut Cut) -> Result<[u8; 4], RecordCause>
 #[tactic(auto, unfolding(crate::specs::Records::length_at))]
 fn take_length(cut: &mut Cut) -> Result<u32, RecordCause>
     ensures exact { Takes (λ n. n) (length_at cut.old) result cut.new }
-    ensures found { IfOk result (λ n. (n ≤ max_block) × (cut.old ≡ to_le_bytes w32 n ++ cut.new)) }
+    ensures found { IfOk result (λ n. (n ≤ max_record) × (cut.old ≡ to_le_bytes w32 n ++ cut.new)) }
 {
     match cut.u32() {
         Err(_) => Err(RecordCause::Cut),
         Ok(length) => {
-            if length > MAX_BLOCK {
+            if length > MAX_RECORD {
                 return Err(RecordCause::TooLong);
             }
             Ok(length)
@@ -52,7 +51,7 @@ fn take_length(cut: &mut Cut) -> Result<u32, RecordCause>
 #[tactic(auto, unfolding(crate::specs::Records::head_at))]
 fn take_head(cut: &mut Cut) -> Result<u32, RecordCause>
     ensures exact { Takes (λ n. n) (head_at cut.old) result cut.new }
-    ensures found { IfOk result (λ n. (n ≤ max_block) × (cut.old ≡ magic ++ (to_le_bytes w32 n ++ cut.new))) }
+    ensures found { IfOk result (λ n. (n ≤ max_record) × (cut.old ≡ magic ++ (to_le_bytes w32 n ++ cut.new))) }
 {
     if cut.rest().len() < 8 {
         return Err(RecordCause::Cut);
@@ -77,7 +76,7 @@ fn take_text<'a>(size: u32, cut: &mut Cut<'a>) -> Result<&'a [u8], RecordCause>
 #[tactic(auto, unfolding(crate::specs::Records::record_at))]
 pub(crate) fn take_record<'a>(cut: &mut Cut<'a>) -> Result<&'a [u8], RecordCause>
     ensures exact { Takes (λ b. b.now) (record_at cut.old) result cut.new }
-    ensures found { IfOk result (λ b. (cut.old ≡ record_with b.now ++ cut.new) × (length b.now ≤ max_block)) }
+    ensures found { IfOk result (λ b. (cut.old ≡ record_with b.now ++ cut.new) × (length b.now ≤ max_record)) }
 {
     match take_head(cut) {
         Err(cause) => Err(cause),
@@ -85,7 +84,7 @@ pub(crate) fn take_record<'a>(cut: &mut Cut<'a>) -> Result<&'a [u8], RecordCause
     }
 }
 
-// The record of the genesis block.
+// The record of the genesis block, without witnesses.
 #[tactic(auto, unfolding(crate::specs::Records::record_spelling))]
 pub(crate) fn genesis_record(alloc: Global) -> Result<Vec<u8>, NoMemory>
     ensures { IfOk result (λ bytes. bytes.items ≡ record_spelling first_block) }

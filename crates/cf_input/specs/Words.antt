@@ -86,13 +86,15 @@ connections = record (new_rule (codes "connections")) { long = Some (codes "conn
 abbrev pub serve_app : App
 serve_app = with_rule (with_rule (with_rule (new_app (codes "serve")) connections) (needed (new_rule (codes "file")))) (needed (new_rule (codes "address")))
 
--- a command of three words, all needed
-abbrev pub three_app : Text → Text → Text → Text → App
-three_app name one two three = with_rule (two_app name one two) (needed (new_rule three))
+-- the option of `make` for coinbases with a witness
+abbrev pub witness_rule : Rule
+witness_rule = record (new_rule (codes "witness")) { long = Some (codes "witness"); action = Some SetTrue }
 
--- make SEED BLOCKS FILE
+-- make [--witness] SEED BLOCKS FILE
 abbrev pub make_app : App
-make_app = three_app (codes "make") (codes "seed") (codes "blocks") (codes "file")
+make_app =
+    with_rule (with_rule (with_rule (with_rule (new_app (codes "make")) witness_rule) (needed (new_rule (codes "seed")))) (needed (new_rule (codes "blocks"))))
+    (needed (new_rule (codes "file")))
 
 -- demo SEED BLOCKS
 abbrev pub demo_app : App
@@ -261,7 +263,7 @@ serve_of met =
 abbrev pub make_of : Met → Option Command
 make_of met =
     option_and_then (λ seed. option_and_then (λ blocks. option_and_then (λ file.
-    Some (Make seed blocks file))
+    Some (Make (is_set (codes "witness") met) seed blocks file))
     (text_of (codes "file") met)) (option_and_then made_of (text_of (codes "blocks") met))) (option_and_then seed_of (text_of (codes "seed") met))
 
 -- the command `demo`, by what was found for its arguments

@@ -3,7 +3,7 @@ ghost use Rattle.std.specs.Prelude.{◌≡◌, ◌==◌, IfOk, IfErr, [], map, f
 ghost use Rattle.std.specs.List.{list_any};
 ghost use Rattle.clap.specs.Words.{App, Rule, app_of, rule_of, new_rule, subcommand_of, subcommand_rows_of, fault_of, with_rule};
 ghost use Rattle.clap.specs.declared.builder.command.Command.TheViews.{out-Command as fields_of};
-ghost use Rattle.cf_input.specs.Words.{trace, turns, workers, record_rule, several, needed, replay_app, sync_options, sync_app, connections, serve_app, one_app, two_app, three_app, with_sub, client_app, cli_app, text_of, texts_of, is_met, is_set, turns_of, workers_of, connections_of, height_of, seed_of, made_of, played_of, replay_of, sync_of, scan_of, filter_of, address_of, hash_in, prove_of, check_of, serve_of, make_of, demo_of, HasFewPeers, asked_of, is_faultless, command_of, is_help_word, is_version_word};
+ghost use Rattle.cf_input.specs.Words.{trace, turns, workers, record_rule, several, needed, replay_app, sync_options, sync_app, connections, serve_app, one_app, two_app, witness_rule, make_app, with_sub, client_app, cli_app, text_of, texts_of, is_met, is_set, turns_of, workers_of, connections_of, height_of, seed_of, made_of, played_of, replay_of, sync_of, scan_of, filter_of, address_of, hash_in, prove_of, check_of, serve_of, make_of, demo_of, HasFewPeers, asked_of, is_faultless, command_of, is_help_word, is_version_word};
 ghost use Rattle.cf_input.specs.Commands.{GivesOrUsage, IfUsage, refusal_of};
 
 use crate::number::{number_at_most, number_within};
@@ -100,8 +100,9 @@ pub enum Command {
         file: Word,
         address: Word,
     },
-    /// The blocks of a made chain, from height 1 to so many, written to a file.
+    /// The blocks of a made chain, from height 1 to so many, written to a file, their coinbases with a witness or without.
     Make {
+        witness: bool,
         seed: u32,
         blocks: u32,
         file: Word,
@@ -221,21 +222,6 @@ fn two_words<'a>(
     with_arg(command, word_arg(alloc, two))
 }
 
-// A command of three words.
-fn three_words<'a>(
-    alloc: Global,
-    name: &'a str,
-    one: &'a str,
-    two: &'a str,
-    three: &'a str,
-) -> Result<clap::Command<'a>, AllocError>
-    ensures app { IfOk result (λ c. app_of c ≡ three_app name.entry.now one.entry.now two.entry.now three.entry.now) }
-    ensures globals { IfOk result (λ c. (fields_of c).has_globals ≡ false) }
-{
-    let command = two_words(alloc, name, one, two);
-    with_arg(command, word_arg(alloc, three))
-}
-
 fn connections_arg<'a>(alloc: Global) -> Arg<'a>
     ensures { (rule_of result ≡ connections) × (result.global ≡ false) }
 {
@@ -250,6 +236,25 @@ fn serve_command<'a>(alloc: Global) -> Result<clap::Command<'a>, AllocError>
     let command = with_arg(command, connections_arg(alloc));
     let command = with_arg(command, word_arg(alloc, "file"));
     with_arg(command, word_arg(alloc, "address"))
+}
+
+fn witness_arg<'a>(alloc: Global) -> Arg<'a>
+    ensures { (rule_of result ≡ witness_rule) × (result.global ≡ false) }
+{
+    Arg::new(alloc, "witness")
+        .long("witness")
+        .action(ArgAction::SetTrue)
+}
+
+fn make_command<'a>(alloc: Global) -> Result<clap::Command<'a>, AllocError>
+    ensures app { IfOk result (λ c. app_of c ≡ make_app) }
+    ensures globals { IfOk result (λ c. (fields_of c).has_globals ≡ false) }
+{
+    let command = Ok(clap::Command::new(alloc, "make"));
+    let command = with_arg(command, witness_arg(alloc));
+    let command = with_arg(command, word_arg(alloc, "seed"));
+    let command = with_arg(command, word_arg(alloc, "blocks"));
+    with_arg(command, word_arg(alloc, "file"))
 }
 
 // The command with one more subcommand.
@@ -307,10 +312,7 @@ pub(crate) fn cli_command<'a>(alloc: Global) -> Result<clap::Command<'a>, AllocE
     let command = add(command, two_words(alloc, "prove", "file", "txid"));
     let command = add(command, one_word(alloc, "check", "file"));
     let command = add(command, serve_command(alloc));
-    let command = add(
-        command,
-        three_words(alloc, "make", "seed", "blocks", "file"),
-    );
+    let command = add(command, make_command(alloc));
     add(command, two_words(alloc, "demo", "seed", "blocks"))
 }
 
@@ -559,8 +561,14 @@ fn read_make(alloc: Global, matches: &ArgMatches) -> Result<Command, Refused<Usa
     let blocks = text_of(matches, "blocks").ok_or(Usage)?;
     let blocks = made_of(blocks).ok_or(Usage)?;
     let file = text_of(matches, "file").ok_or(Usage)?;
+    let witness = is_set(matches, "witness");
     let file = Word::new(alloc, file)?;
-    Ok(Command::Make { seed, blocks, file })
+    Ok(Command::Make {
+        witness,
+        seed,
+        blocks,
+        file,
+    })
 }
 
 fn read_demo(matches: &ArgMatches) -> Result<Command, Refused<Usage>>

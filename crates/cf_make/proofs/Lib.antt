@@ -6,3 +6,4 @@ pub mod Blocks
 pub mod Fits
 pub mod MadeLaws
 pub mod StreamLemmas
+pub mod Witnessed

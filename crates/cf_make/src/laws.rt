@@ -1,11 +1,13 @@
-//! Laws of made chains: a function that does nothing, whose contract says them.
-ghost use Rattle.std.specs.Prelude.{◌≡◌, ◌≤◌, ◌<◌, ℕ, List, [], length, take};
-ghost use Rattle.std.specs.List.{flat_map};
+//! Laws of made chains: functions that do nothing, whose contracts say them.
+ghost use Rattle.std.specs.Prelude.{◌≡◌, ◌≤◌, ◌<◌, ℕ, Bool, List, [], length, take};
+ghost use Rattle.std.specs.List.{flat_map, AllByRecursion};
 ghost use Rattle.cf_block.specs.declared.tx.Block.{Block};
 ghost use Rattle.cf_block.specs.Commitment.{spelled_txs};
 ghost use Rattle.cf_block.specs.Merkle.{NoClash};
+ghost use Rattle.cf_block.specs.Stored.{IsStored};
 ghost use Rattle.cf_chain.specs.Good.{max_height, IsGoodChain};
 ghost use Rattle.cf_make.specs.Made.{seed_limit, IsExtension, StopsAt, IsMadeChain};
+ghost use Rattle.cf_make.specs.Records.{text_of};
 
 /// A seed tells one chain of each length above a given one, or a height at which none can be made. A made chain, also
 /// one that several seeds have made in turn, is a good chain where no two different transactions of it have one hash.
@@ -15,4 +17,10 @@ pub fn laws_of_made_chains()
     ensures extended { (base whole : List Block) (k seed n : ℕ) → seed < seed_limit → IsMadeChain base → IsExtension (take k base) seed n whole → IsMadeChain whole }
     ensures chain { (seed n : ℕ) (whole : List Block) → seed < seed_limit → n ≤ max_height → IsExtension [] seed n whole → NoClash (flat_map spelled_txs whole) → IsGoodChain whole }
     ensures good { (blocks : List Block) → IsMadeChain blocks → length blocks ≤ max_height → NoClash (flat_map spelled_txs blocks) → IsGoodChain blocks }
+{}
+
+/// The bytes in the records of a good chain store its blocks, with the witnesses of their coinbases or without.
+pub fn laws_of_made_records()
+    ensures { (witness : Bool) (blocks : List Block) → IsGoodChain blocks
+        → AllByRecursion (λ b. IsStored (text_of witness b) b) blocks }
 {}

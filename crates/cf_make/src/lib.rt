@@ -9,8 +9,9 @@ mod paying;
 mod recording;
 mod spending;
 mod streaming;
+mod witnessing;
 
-pub use laws::laws_of_made_chains;
+pub use laws::{laws_of_made_chains, laws_of_made_records};
 pub use making::{AtHeight, Chain, chain, extend};
 pub use mining::{NoNonce, mine};
 pub use paying::script;

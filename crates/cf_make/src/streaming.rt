@@ -4,16 +4,15 @@ ghost use Rattle.cf_block.specs.Tx.{tx_spelling};
 ghost use Rattle.cf_block.specs.Merkle.{merkle_root_of, txids as txids_of};
 ghost use Rattle.cf_chain.specs.Good.{max_height};
 ghost use Rattle.cf_make.specs.Made.{seed_limit, first_coin, genesis_tip};
-ghost use Rattle.cf_make.specs.Records.{record_of};
+ghost use Rattle.cf_make.specs.Records.{made_record};
 ghost use Rattle.cf_make.specs.Streamed.{MinesHashed, MakesTipped, AreRecordsOf, StopsFor};
 
 use crate::making::{AtHeight, GENESIS_TIME, TRIES, Tip};
 use crate::mining::NoNonce;
 use crate::recording::MAGIC;
 use crate::spending::make_txs;
-use cf_block::{
-    Block, Header, OutPoint, Tx, block_hash, genesis_header, merkle_root, txids, write_block,
-};
+use crate::witnessing::put_text;
+use cf_block::{Block, Header, OutPoint, Tx, block_hash, genesis_header, merkle_root, txids};
 use cf_bytes::{Hash32, NoMemory, Refused};
 use cf_headers::meets_target;
 use std::alloc::Global;
@@ -102,13 +101,18 @@ fn make_tipped(alloc: Global, seed: u64, height: u32, tip: Tip) -> Result<Tipped
     }
 }
 
-// Puts a block's record at the end. The buffer is spent.
-#[tactic(auto, unfolding(crate::specs::Records::record_of))]
-fn put_record_by(block: &Block, buffer: &mut Vec<u8>, out: &mut Vec<u8>) -> Result<(), NoMemory>
-    ensures { OnOk result (out.new.items ≡ out.old.items ++ record_of block.now) }
+// Puts a block's record at the end, with its coinbase's witness or without. The buffer is spent.
+#[tactic(auto, unfolding(crate::specs::Records::made_record))]
+fn put_record_by(
+    witness: bool,
+    block: &Block,
+    buffer: &mut Vec<u8>,
+    out: &mut Vec<u8>,
+) -> Result<(), NoMemory>
+    ensures { OnOk result (out.new.items ≡ out.old.items ++ made_record witness block.now) }
 {
     buffer.clear();
-    write_block(block, buffer)?;
+    put_text(witness, block, buffer)?;
     let Ok(len) = u32::try_from(buffer.len()) else {
         return Err(NoMemory);
     };
@@ -127,12 +131,18 @@ fn first_tip() -> Tip
     }
 }
 
-/// The records of the chain of so many blocks that the seed tells, the lowest first, as `records` gives them of `chain`. One
-/// block is held at a time. `NoNonce` comes as for `chain`. Seeds are below 2 ^ 33, and there are at most 500,000 blocks.
-pub fn made_records(alloc: Global, seed: u64, blocks: u32) -> Result<Vec<u8>, Refused<AtHeight>>
+/// The records of the chain of so many blocks that the seed tells, the lowest first: as `records` gives them of `chain`,
+/// or with a witness of 32 zero bytes in each coinbase, as nodes keep them (BIP 141, "Commitment structure"). One block is
+/// held at a time. `NoNonce` comes as for `chain`. Seeds are below 2 ^ 33, and there are at most 500,000 blocks.
+pub fn made_records(
+    alloc: Global,
+    witness: bool,
+    seed: u64,
+    blocks: u32,
+) -> Result<Vec<u8>, Refused<AtHeight>>
     requires seeds { seed < seed_limit }
     requires heights { blocks ≤ max_height }
-    ensures made { IfOk result (λ v. AreRecordsOf seed blocks v.items) }
+    ensures made { IfOk result (λ v. AreRecordsOf witness seed blocks v.items) }
     ensures stops { IfErr result (λ e. StopsFor seed blocks e) }
 {
     let mut tip = first_tip();
@@ -143,7 +153,7 @@ pub fn made_records(alloc: Global, seed: u64, blocks: u32) -> Result<Vec<u8>, Re
         height += 1;
         let made = make_tipped(alloc, seed, height, tip)?;
         tip = made.tip;
-        put_record_by(&made.block, &mut buffer, &mut out)?;
+        put_record_by(witness, &made.block, &mut buffer, &mut out)?;
     }
     Ok(out)
 }

@@ -1,8 +1,15 @@
-use Rattle.std.proofs.Common.{◌≡◌, false, ◌∙◌, sym, ap, subst, Ok, Err}
-use Rattle.cf_index.specs.Files.{all_zeros, next_at}
+use Rattle.std.proofs.Common.{◌≡◌, false, zero, ◌∙◌, sym, ap, subst, Ok, Err}
+use Rattle.cf_index.specs.Files.{all_zeros, next_at, blocks_from}
 use Rattle.cf_index.specs.Progress.{Stops}
-use Rattle.cf_index.proofs.FileSteps.{one_more, bad_here, ends, spelled_more, fewer}
+use Rattle.cf_index.proofs.FileSteps.{one_more, bad_here, ends, none_read, all_read, spelled_more, fewer}
 use Rattle.cf_index.proofs.file.read_records.Goals as goal
+
+pub loop-cut-init : goal.loop-cut-init
+loop-cut-init c = record {
+  kept = c.new_chain-chain.ensures.kept;
+  exact = λ i. blocks_from c.args.before zero (sym c.new_chain-chain.ensures.none i) (sym c.new-cut.ensures i);
+  spelled = none_read c.args.bytes.now c.new-cut.result c.new_chain-chain.result.blocks c.new-cut.ensures c.new_chain-chain.ensures.none;
+}
 
 pub loop-cut-smaller : goal.loop-cut-smaller
 loop-cut-smaller c = fewer c.loop-cut.chain.blocks c.in-Ok.longer.blocks c.loop-cut.cut c.take_next.new.cut c.in-Ok.ensures.found
@@ -40,3 +47,8 @@ returns-in-Err-No-clause-bad c =
 pub returns-clause-exact : goal.returns-clause-exact
 returns-clause-exact c = c.loop-cut.invariant.exact ∙ ends c.args.before c.loop-cut.chain.blocks c.loop-cut.cut (sym (ap all_zeros c.rest.ensures) ∙ sym c.loop-cut-test.ensures)
     ∙ ap Ok (sym c.of.ensures)
+
+pub returns-clause-found : goal.returns-clause-found
+returns-clause-found c =
+    all_read c.args.bytes.now c.loop-cut.cut c.loop-cut.chain.blocks c.of.result c.loop-cut.invariant.spelled c.of.ensures
+    (sym (ap all_zeros c.rest.ensures) ∙ sym c.loop-cut-test.ensures)

@@ -1,4 +1,4 @@
-use Rattle.cf_index.proofs.FileLaws.{taken, refused, apart, one}
+use Rattle.cf_index.proofs.FileLaws.{taken, refused, apart, one, plain}
 use Rattle.cf_index.proofs.laws.laws_of_files.Goals as goal
 
 pub returns-clause-taken : goal.returns-clause-taken
@@ -12,3 +12,6 @@ returns-clause-apart c = apart
 
 pub returns-clause-one : goal.returns-clause-one
 returns-clause-one c = one
+
+pub returns-clause-plain : goal.returns-clause-plain
+returns-clause-plain c = plain

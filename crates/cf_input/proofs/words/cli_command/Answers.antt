@@ -12,7 +12,7 @@ returns-clause-app c =
     let four = c.add-command-4.ensures.app (with_sub (with_sub (with_sub client_app scan_app) filter_app) address_app) prove_app three c.two_words-3.ensures.app in
     let five = c.add-command-5.ensures.app (with_sub (with_sub (with_sub (with_sub client_app scan_app) filter_app) address_app) prove_app) check_app four c.one_word-2.ensures.app in
     let six = c.add-command-6.ensures.app (with_sub (with_sub (with_sub (with_sub (with_sub client_app scan_app) filter_app) address_app) prove_app) check_app) serve_app five c.serve_command.ensures.app in
-    let seven = c.add-command-7.ensures.app (with_sub (with_sub (with_sub (with_sub (with_sub (with_sub client_app scan_app) filter_app) address_app) prove_app) check_app) serve_app) make_app six c.three_words.ensures.app in
+    let seven = c.add-command-7.ensures.app (with_sub (with_sub (with_sub (with_sub (with_sub (with_sub client_app scan_app) filter_app) address_app) prove_app) check_app) serve_app) make_app six c.make_command.ensures.app in
     IfOk-weaker c.add.result _ _ (λ k h. h ∙ sym cli_is) (c.add.ensures.app (with_sub (with_sub (with_sub (with_sub (with_sub (with_sub (with_sub client_app scan_app) filter_app) address_app) prove_app) check_app) serve_app) make_app) demo_app seven c.two_words-4.ensures.app)
 
 pub returns-clause-globals : goal.returns-clause-globals
