@@ -27,7 +27,7 @@ impl<'a> Model for WordReader<'a> {
 }
 
 impl<'a> WordReader<'a> {
-    #[tactic(auto, unfolding(crate::specs::Bits::bits_of))]
+    #[tactic(auto, unfolding(cf_bytes::specs::Bits::bits_of))]
     pub(crate) fn new(bytes: &'a [u8]) -> WordReader<'a>
         ensures { result ≡ unpack bytes.now }
     {

@@ -30,7 +30,7 @@ impl Model for Writer {
 }
 
 impl Writer {
-    #[tactic(auto, unfolding(crate::specs::Bits::bits_of, crate::specs::Bits::unpack))]
+    #[tactic(auto, unfolding(cf_bytes::specs::Bits::bits_of, crate::specs::Bits::unpack))]
     fn new(alloc: Global) -> Writer
         ensures { result ≡ [] }
     {
