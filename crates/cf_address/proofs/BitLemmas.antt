@@ -10,45 +10,14 @@ use Rattle.std.proofs.lemmas.List.{append-nil, append_cancel_left, take_at, drop
 use Rattle.std.proofs.lemmas.List.Elements.{All-push}
 use Rattle.std.proofs.lemmas.Bool.{cases_lt, lt-ltb, le-ltb}
 use Rattle.std.proofs.lemmas.Grind.{flat_map-append}
-use Rattle.cf_address.specs.Bits.{bits_of, all_bits, AreBelow, AreFivesOf}
+use Rattle.cf_bytes.proofs.Bits.{length-bits_of, bits_cat, bits_split}
+use Rattle.cf_bytes.specs.Bits.{bits_of}
+use Rattle.cf_address.specs.Bits.{all_bits, AreBelow, AreFivesOf}
 use Rattle.cf_address.specs.Faults.{left_over, is_more}
-
-pub length-bits_of : (k v : ℕ) → length (bits_of k v) ≡ k
-unfolding bits_of
-length-bits_of zero v = refl
-length-bits_of (suc k) v = ap suc (length-bits_of k v)
 
 pub length-all_bits : (k : ℕ) (vs : List ℕ) → length (all_bits k vs) ≡ k * length vs
 length-all_bits k [] = omega arith
 length-all_bits k (v ∷ vs) = length-append (bits_of k v) (all_bits k vs) ∙ omega (arith, length-bits_of k v, length-all_bits k vs)
-
--- the low bits don't see what stands above them
-bits_low : (j k a b : ℕ) → j ≤ k → bits_of j (a * 2 ^ k + b) ≡ bits_of j b
-unfolding bits_of
-bits_low zero k a b le = refl
-bits_low (suc j) k a b le =
-    let first : bit_at (a * 2 ^ k + b) j ≡ bit_at b j = bit_at_cat_low a k b j (omega arith) in
-    let others : bits_of j (a * 2 ^ k + b) ≡ bits_of j b = bits_low j k a b (omega arith) in
-    λ i. (first i == 1) ∷ others i
-
--- bits of a number, and then those of another below them
-pub bits_cat : (n k a b : ℕ) → b < 2 ^ k → bits_of (n + k) (a * 2 ^ k + b) ≡ bits_of n a ++ bits_of k b
-unfolding bits_of
-bits_cat zero k a b lt =
-    let none : zero + k ≡ k = omega arith in
-    ap (λ j. bits_of j (a * 2 ^ k + b)) none ∙ bits_low k k a b (omega arith)
-bits_cat (suc n) k a b lt =
-    let more : suc n + k ≡ suc (n + k) = omega arith in
-    let at : n + k - k ≡ n = omega arith in
-    let first : bit_at (a * 2 ^ k + b) (n + k) ≡ bit_at a n = bit_at_cat_high a k b (n + k) lt (omega arith) ∙ ap (bit_at a) at in
-    let others : bits_of (n + k) (a * 2 ^ k + b) ≡ bits_of n a ++ bits_of k b = bits_cat n k a b lt in
-    ap (λ j. bits_of j (a * 2 ^ k + b)) more ∙ (λ i. (first i == 1) ∷ others i)
-
--- the same, where the number is given
-pub bits_split : (n k v : ℕ) → bits_of (n + k) v ≡ bits_of n (v / 2 ^ k) ++ bits_of k (v % 2 ^ k)
-bits_split n k v =
-    let whole : v ≡ v / 2 ^ k * 2 ^ k + v % 2 ^ k = omega (arith, div-add-mod v (2 ^ k)) in
-    ap (bits_of (n + k)) whole ∙ bits_cat n k (v / 2 ^ k) (v % 2 ^ k) (mod-lt v (pow_pos k))
 
 pub one_shl : (j : ℕ) → j < 32 → 1 * 2 ^ j % 4294967296 ≡ 2 ^ j
 one_shl j lt =

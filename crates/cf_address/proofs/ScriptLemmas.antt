@@ -3,14 +3,16 @@ use Rattle.std.proofs.Common.{◌≡◌, ℕ, suc, zero, ◌+◌, ◌-◌, ◌*�
 use Rattle.std.specs.Prelude.{replicate, IsTrue, if◌then◌else◌}
 use Rattle.std.proofs.lemmas.Nat.{pow_pos}
 use Rattle.std.proofs.lemmas.List.{take_at, drop_at}
-use Rattle.cf_address.specs.Bits.{bits_of, all_bits, AreBelow, AreFivesOf}
+use Rattle.cf_bytes.specs.Bits.{bits_of}
+use Rattle.cf_address.specs.Bits.{all_bits, AreBelow, AreFivesOf}
 use Rattle.cf_address.specs.Alphabet.{letter_of}
 use Rattle.cf_address.specs.Witness.{WitnessProgram, IsProgram, script_of}
 use Rattle.cf_address.specs.Address.{is_prefix, IsAddressOf}
 use Rattle.cf_address.specs.Faults.{data_after}
 use Rattle.cf_address.specs.Scripts.{number_of_bits, bytes_of_bits, script_of_values, script_of_letters, address_script}
 use Rattle.cf_address.proofs.AlphabetLemmas.{values_of_letters}
-use Rattle.cf_address.proofs.BitLemmas.{length-bits_of, bits_cat, join_fits, same_number, fives_pass}
+use Rattle.cf_bytes.proofs.Bits.{length-bits_of, bits_cat}
+use Rattle.cf_address.proofs.BitLemmas.{join_fits, same_number, fives_pass}
 use Rattle.cf_address.proofs.AddressLemmas.{lower_is, values_below, letters_stand, data_again}
 
 digit_below : (b : Bool) → (if b then 1 else 0) < 2 ^ 1

@@ -1,12 +1,7 @@
 -- Numbers as lists of bits, the most significant first.
 use Rattle.std.specs.Prelude.{◌≡◌, ℕ, suc, zero, ◌<◌, ◌==◌, Bool, false, List, [], ◌∷◌, ◌++◌, replicate}
-use Rattle.std.specs.Int.{bit_at}
+use Rattle.cf_bytes.specs.Bits.{bits_of}
 use Rattle.std.specs.List.{All, flat_map}
-
--- the low k bits of a number
-unfoldable pub bits_of : ℕ → ℕ → List Bool
-bits_of zero v = []
-bits_of (suc k) v = (bit_at v k == 1) ∷ bits_of k v
 
 -- the bits of numbers of k bits each, one after another
 abbrev pub all_bits : ℕ → List ℕ → List Bool

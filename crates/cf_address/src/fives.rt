@@ -1,6 +1,7 @@
 //! Bits in groups of another size.
 ghost use Rattle.std.specs.Prelude.{◌≡◌, ◌++◌, ◌<◌, ◌≤◌, ◌^◌, ◌+◌, ◌-◌, ◌*◌, ◌/◌, ◌⊎◌, MatchBool, IfOk};
-ghost use Rattle.cf_address.specs.Bits.{bits_of, all_bits, AreBelow, AreFivesOf};
+ghost use Rattle.cf_bytes.specs.Bits.{bits_of};
+ghost use Rattle.cf_address.specs.Bits.{all_bits, AreBelow, AreFivesOf};
 ghost use Rattle.cf_address.specs.Steps.{GivesBytes};
 
 use crate::fault::AddressFault;

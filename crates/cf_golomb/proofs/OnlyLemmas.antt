@@ -9,12 +9,14 @@ use Rattle.cf_bytes.specs.Cut.{IsBytes, ◌>>=◌}
 use Rattle.cf_bytes.proofs.Codecs.{Takes, bind_ok, compact_taken}
 use Rattle.cf_golomb.specs.declared.fault.SetFault.{SetFault}
 use Rattle.cf_golomb.specs.declared.fault.SetFault.TheVariants.{Ends, Over, Padding, Excess}
-use Rattle.cf_golomb.specs.Bits.{bits_of, unpack, pack_from, pack, number_from, number_at, unary_at, one_more}
+use Rattle.cf_bytes.specs.Bits.{bits_of}
+use Rattle.cf_golomb.specs.Bits.{unpack, pack_from, pack, number_from, number_at, unary_at, one_more}
 use Rattle.cf_golomb.specs.Code.{code, codes, spelling, IsSet, with_low, low_after, code_at, below, value_at, values_at, end_at, ending, counted, head_at, body_at, set_at, HasSpelling}
 use Rattle.cf_golomb.specs.Answers.{GivesAll}
 use Rattle.std.specs.Prelude.{IfOk}
 use Rattle.cf_bytes.specs.declared.memory.Refused.{Refused}
-use Rattle.cf_golomb.proofs.BitLemmas.{bits_cat, bits_low, length-unpack}
+use Rattle.cf_bytes.proofs.Bits.{bits_cat, bits_low}
+use Rattle.cf_golomb.proofs.BitLemmas.{length-unpack}
 use Rattle.cf_golomb.proofs.AgainLemmas.{zeros_of, last_bit_of, bit_small}
 use Rattle.cf_golomb.proofs.WriteLemmas.{pack_bytes, nothing_more, full_byte, apart}
 

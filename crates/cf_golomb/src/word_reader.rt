@@ -1,6 +1,7 @@
 //! Bits from a word that is filled by bytes.
 ghost use Rattle.std.specs.Prelude.{◌≡◌, ◌+◌, ◌*◌, ◌<◌, ◌≤◌, ◌^◌, ◌-◌, ◌++◌, ◌∷◌, [], MatchOption, Some, None, length};
-ghost use Rattle.cf_golomb.specs.Bits.{bits_of, unpack, number_at};
+ghost use Rattle.cf_bytes.specs.Bits.{bits_of};
+ghost use Rattle.cf_golomb.specs.Bits.{unpack, number_at};
 
 use crate::source::BitSource;
 use std::marker::Model;
@@ -15,7 +16,8 @@ pub(crate) struct WordReader<'a> {
 
 impl<'a> Model for WordReader<'a> {
     ghost use Rattle.std.specs.Prelude.{List, Bool, ◌++◌, ◌≤◌, ◌<◌, ◌^◌};
-    ghost use Rattle.cf_golomb.specs.Bits.{bits_of, unpack};
+    ghost use Rattle.cf_bytes.specs.Bits.{bits_of};
+    ghost use Rattle.cf_golomb.specs.Bits.{unpack};
 
     ghost Value = { List Bool };
 
@@ -25,7 +27,7 @@ impl<'a> Model for WordReader<'a> {
 }
 
 impl<'a> WordReader<'a> {
-    #[tactic(auto, unfolding(crate::specs::Bits::bits_of))]
+    #[tactic(auto, unfolding(cf_bytes::specs::Bits::bits_of))]
     pub(crate) fn new(bytes: &'a [u8]) -> WordReader<'a>
         ensures { result ≡ unpack bytes.now }
     {

@@ -1,6 +1,7 @@
 //! Writing values as bits.
 ghost use Rattle.std.specs.Prelude.{◌≡◌, ◌++◌, ◌+◌, ◌-◌, ◌*◌, ◌%◌, ◌≤◌, ◌<◌, ◌^◌, [], OnOk, IfOk, length};
-ghost use Rattle.cf_golomb.specs.Bits.{bits_of, unpack, pack};
+ghost use Rattle.cf_bytes.specs.Bits.{bits_of};
+ghost use Rattle.cf_golomb.specs.Bits.{unpack, pack};
 ghost use Rattle.cf_golomb.specs.Code.{code, codes, spelling, IsSet, HasSpelling};
 
 use crate::word_reader::cut_word;
@@ -18,7 +19,8 @@ struct Writer {
 
 impl Model for Writer {
     ghost use Rattle.std.specs.Prelude.{List, Bool, ◌++◌, ◌<◌, ◌^◌};
-    ghost use Rattle.cf_golomb.specs.Bits.{bits_of, unpack};
+    ghost use Rattle.cf_bytes.specs.Bits.{bits_of};
+    ghost use Rattle.cf_golomb.specs.Bits.{unpack};
 
     ghost Value = { List Bool };
 
@@ -28,7 +30,7 @@ impl Model for Writer {
 }
 
 impl Writer {
-    #[tactic(auto, unfolding(crate::specs::Bits::bits_of, crate::specs::Bits::unpack))]
+    #[tactic(auto, unfolding(cf_bytes::specs::Bits::bits_of, crate::specs::Bits::unpack))]
     fn new(alloc: Global) -> Writer
         ensures { result ≡ [] }
     {

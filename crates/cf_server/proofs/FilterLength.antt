@@ -4,9 +4,10 @@ use Rattle.std.specs.Prelude.{◌==◌, if◌then◌else◌}
 use Rattle.std.proofs.lemmas.Bool.{cases_Bool, eqb-true, eqb-false}
 use Rattle.std.proofs.lemmas.List.{length-replicate, length-map}
 use Rattle.cf_bytes.specs.Compact.{compact}
-use Rattle.cf_golomb.specs.Bits.{bits_of, pack_from, pack}
+use Rattle.cf_bytes.specs.Bits.{bits_of}
+use Rattle.cf_golomb.specs.Bits.{pack_from, pack}
 use Rattle.cf_golomb.specs.Code.{code, codes, spelling, IsSet, HasSpelling}
-use Rattle.cf_golomb.proofs.BitLemmas.{length-bits_of}
+use Rattle.cf_bytes.proofs.Bits.{length-bits_of}
 use Rattle.cf_msg.proofs.Sizes.{length-compact}
 use Rattle.cf_filter.specs.Filter.{values_of, value_of, ascending, basic_filter_of}
 use Rattle.cf_filter.proofs.Ordered.{length-ascending}

@@ -8,7 +8,8 @@ use Rattle.cf_golomb.specs.Code.{code, codes, spelling}
 use Rattle.cf_golomb.specs.Code.{set_at}
 use Rattle.cf_golomb.specs.Meets.{answer_by}
 use Rattle.cf_filter.proofs.Values.{filter_again}
-use Rattle.cf_golomb.specs.Bits.{bits_of, pack_from}
+use Rattle.cf_bytes.specs.Bits.{bits_of}
+use Rattle.cf_golomb.specs.Bits.{pack_from}
 use Rattle.cf_filter.specs.Items.{items_of}
 use Rattle.cf_filter.specs.Filter.{value_under, basic_filter_of, filter_hash_of, ascending, values_of, has_value_of, match_of}
 use Rattle.cf_sync.specs.Example.{only_tx, only_block, only_filter, only_filter_hash}

@@ -1,5 +1,6 @@
 use Rattle.std.proofs.Common.{◌≡◌, ◌≤◌, ◌<◌, ◌^◌, ◌++◌}
-use Rattle.cf_address.specs.Bits.{bits_of, all_bits, AreBelow}
+use Rattle.cf_bytes.specs.Bits.{bits_of}
+use Rattle.cf_address.specs.Bits.{all_bits, AreBelow}
 use Rattle.cf_address.proofs.fives.flush.Given as goal
 
 abbrev pub invariant-loop-n : goal.invariant-loop-n

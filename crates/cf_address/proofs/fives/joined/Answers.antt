@@ -1,5 +1,6 @@
 use Rattle.std.proofs.Common.{arith}
-use Rattle.cf_address.proofs.BitLemmas.{bits_cat, one_shl, join_fits}
+use Rattle.cf_bytes.proofs.Bits.{bits_cat}
+use Rattle.cf_address.proofs.BitLemmas.{one_shl, join_fits}
 use Rattle.cf_address.proofs.fives.joined.Goals as goal
 
 pub returns-clause-bits : goal.returns-clause-bits

@@ -1,6 +1,6 @@
 use Rattle.std.proofs.Common.{◌<◌, ◌^◌, refl, arith}
 use Rattle.std.proofs.lemmas.List.Elements.{All-nil}
-use Rattle.cf_address.specs.Bits.{bits_of}
+use Rattle.cf_bytes.specs.Bits.{bits_of}
 use Rattle.cf_address.proofs.fives.regroup.Goals as goal
 
 pub loop-number-init : goal.loop-number-init

@@ -1,5 +1,6 @@
 use Rattle.std.proofs.Common.{◌≡◌, ◌≤◌, ◌<◌, ◌^◌, ◌++◌, length}
-use Rattle.cf_golomb.specs.Bits.{bits_of, unpack}
+use Rattle.cf_bytes.specs.Bits.{bits_of}
+use Rattle.cf_golomb.specs.Bits.{unpack}
 use Rattle.cf_golomb.proofs.word_reader.fill.Given as goal
 
 abbrev pub invariant-loop-n : goal.invariant-loop-n
