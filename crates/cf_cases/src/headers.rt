@@ -4,7 +4,8 @@ ghost use Rattle.std.specs.Prelude.{IsSome};
 use crate::chains::chain_in;
 use cf_block::Header;
 use cf_bytes::{Hash32, PeerNo, read_hash};
-use cf_headers::{HeaderStore, Lists, meets_target};
+use cf_headers::{HeaderStore, meets_target};
+use cf_lists::Lists;
 use std::alloc::Global;
 
 // The peer whose chain it is.

@@ -7,7 +7,7 @@ use cf_block::genesis_header;
 use std::marker::Model;
 
 /// Of how many headers the times count.
-pub(crate) const SPAN: usize = 11;
+pub const SPAN: usize = 11;
 
 /// The times of the last 11 headers of a chain, or of all from genesis on where they are fewer, the newest first: those that
 /// count for a header on it. No memory is taken.
