@@ -1,10 +1,10 @@
 //! The target of hashes, and the locators of chains of headers.
-ghost use Rattle.std.specs.Prelude.{IsSome};
+ghost use Rattle.std.specs.Prelude.{◌≡◌, ℕ, None, IsSome};
 
 use crate::chains::chain_in;
 use cf_block::Header;
 use cf_bytes::{Hash32, PeerNo, read_hash};
-use cf_headers::{HeaderStore, meets_target};
+use cf_headers::{HeaderStore, Tree, meets_target};
 use cf_lists::Lists;
 use std::alloc::Global;
 
@@ -59,14 +59,25 @@ fn located_on<H: HeaderStore>(alloc: Global, store: &mut H, headers: &[Header]) 
     }
 }
 
-/// The heights of the locator of the made chain that a row tells.
+// The same over a new store, which the peer enters.
+fn located_in<H: HeaderStore>(alloc: Global, mut store: H, headers: &[Header]) -> Option<String>
+    requires { (q : ℕ) → H.chain store q ≡ None }
+{
+    match store.enter(PEER) {
+        Ok(()) => located_on(alloc, &mut store, headers),
+        Err(_) => None,
+    }
+}
+
+/// The heights of the locator of the made chain that a row tells, over a store of lists and over a tree: one list of heights
+/// where they are the same, as they have to be.
 pub(crate) fn locator(alloc: Global, row: &str) -> Option<String> {
     let headers = headers_of(alloc, row)?;
-    let Ok(mut store) = Lists::new(alloc) else {
-        return None;
-    };
-    match store.enter(PEER) {
-        Ok(()) => located_on(alloc, &mut store, &headers),
-        Err(_) => None,
+    let lists = located_in(alloc, Lists::new(alloc).ok()?, &headers)?;
+    let tree = located_in(alloc, Tree::new(alloc).ok()?, &headers)?;
+    if lists == tree {
+        Some(lists)
+    } else {
+        format!(in alloc; "lists {lists} tree {tree}").ok()
     }
 }

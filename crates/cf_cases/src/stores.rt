@@ -5,8 +5,8 @@ use crate::fields::file_in;
 use crate::runs::wires_of;
 use cf_client::{Held, Outcome, sync_over};
 use cf_headers::{HeaderStore, Tree};
-use cf_lists::Lists;
 use cf_input::{read_session, read_watch};
+use cf_lists::Lists;
 use cf_match::Plain;
 use std::alloc::Global;
 
