@@ -255,7 +255,7 @@ def whole(c):
     say(of_range("getcfheaders", 0, 0, hashes[tip]), c.cfheaders(0, tip))
     say(of_range("getcfheaders", 0, 2, hashes[tip]), c.cfheaders(2, tip))
     say(of_range("getcfheaders", 1, 2, hashes[tip]))
-    say(of_range("getcfheaders", 0, 4, hashes[tip]))
+    say(of_range("getcfheaders", 0, tip + 1, hashes[tip]))
     say(frame("getcfcheckpt", b"\0" + hashes[tip]), c.cfcheckpt(tip))
     say(frame("getcfcheckpt", b"\x01" + hashes[tip]))
     say(frame("getcfcheckpt", b"\0" + unknown))

@@ -216,7 +216,7 @@ class Compared:
 
     def same(self, what, found, wanted):
         if found != wanted:
-            raise SystemExit("%s: %r, and not %r" % (what, found, wanted))
+            raise SystemExit("%s: %s, and not %s" % (what, repr(found)[:200], repr(wanted)[:200]))
         self.count += 1
 
     def ran(self, *words):
@@ -246,7 +246,9 @@ class Compared:
         self.same("serve", server.join().status, 0)
         # The server's own version has a time and a number that no one knows beforehand.
         first = len(greeting(0)) - len(frame("verack"))
-        self.same("serve", (len(found), found[first:]), (len(wanted), wanted[first:]))
+        self.same("serve", len(found), len(wanted))
+        at = next((i for i in range(first, len(wanted)) if found[i] != wanted[i]), len(wanted))
+        self.same("serve, from byte %d" % at, found[at:], wanted[at:])
 
     def refused(self, data, words):
         status, _, told = self.ran("filter", self.written("limit", data), "1")
