@@ -1,19 +1,28 @@
 //! Laws of the check: functions that do nothing, whose contracts say them.
-ghost use Rattle.std.specs.Prelude.{◌≡◌, ℕ, List, Ok, Err};
-ghost use Rattle.std.specs.List.{flat_map};
+ghost use Rattle.std.specs.Prelude.{◌≡◌, ◌≤◌, ◌++◌, ℕ, List, Ok, Err, length, replicate};
+ghost use Rattle.std.specs.List.{flat_map, AllByRecursion};
 ghost use Rattle.cf_block.specs.declared.tx.Block.{Block};
+ghost use Rattle.cf_block.specs.Genesis.{first_block};
+ghost use Rattle.cf_block.specs.Stored.{IsStored};
 ghost use Rattle.cf_chain.specs.Good.{IsGoodChain};
 ghost use Rattle.cf_index.specs.declared.cause.BadBlock.{BadBlock};
 ghost use Rattle.cf_index.specs.Files.{IsGoodFile, IsBadFile, blocks_at};
-ghost use Rattle.cf_index.specs.Records.{record_spelling};
+ghost use Rattle.cf_index.specs.Records.{record_with, max_record, record_spelling};
 
 /// A good file is read as its blocks, and so as no others; a bad one is refused for its first bad record; and no file is both.
 /// With `read_chain`'s clauses, a file is taken exactly where it is good, and refused exactly where it isn't. The records of
-/// a good chain's blocks, all of them without witnesses, are one good file.
+/// a good chain's blocks without witnesses are a good file, also behind genesis's record and before zeros, and so are the
+/// records of any bytes that store the blocks, 4,000,000 for a block at most.
 pub fn laws_of_files()
     ensures taken { (bytes : List ℕ) (blocks : List Block) → IsGoodFile bytes blocks → blocks_at bytes ≡ Ok blocks }
     ensures refused { (bytes : List ℕ) (bad : BadBlock) → IsBadFile bytes bad → blocks_at bytes ≡ Err bad }
     ensures apart { (bytes : List ℕ) (blocks : List Block) (bad : BadBlock) → IsGoodFile bytes blocks → IsBadFile bytes bad → ⊥ }
     ensures one { (bytes : List ℕ) (a b : List Block) → IsGoodFile bytes a → IsGoodFile bytes b → a ≡ b }
-    ensures plain { (blocks : List Block) → IsGoodChain blocks → IsGoodFile (flat_map record_spelling blocks) blocks }
+    ensures plain { (blocks : List Block) (zeros : ℕ) → IsGoodChain blocks
+        → IsGoodFile (flat_map record_spelling blocks ++ replicate zeros 0) blocks }
+    ensures first { (blocks : List Block) (zeros : ℕ) → IsGoodChain blocks
+        → IsGoodFile (record_spelling first_block ++ (flat_map record_spelling blocks ++ replicate zeros 0)) blocks }
+    ensures stored { (text : Block → List ℕ) (blocks : List Block) → IsGoodChain blocks
+        → AllByRecursion (λ b. IsStored (text b) b) blocks → AllByRecursion (λ b. length (text b) ≤ max_record) blocks
+        → IsGoodFile (flat_map (λ b. record_with (text b)) blocks) blocks }
 {}

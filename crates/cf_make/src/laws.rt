@@ -1,13 +1,14 @@
 //! Laws of made chains: functions that do nothing, whose contracts say them.
-ghost use Rattle.std.specs.Prelude.{◌≡◌, ◌≤◌, ◌<◌, ℕ, Bool, List, [], length, take};
+ghost use Rattle.std.specs.Prelude.{◌≡◌, ◌≤◌, ◌<◌, ◌+◌, ℕ, Bool, false, List, [], length, take};
 ghost use Rattle.std.specs.List.{flat_map, AllByRecursion};
 ghost use Rattle.cf_block.specs.declared.tx.Block.{Block};
 ghost use Rattle.cf_block.specs.Commitment.{spelled_txs};
 ghost use Rattle.cf_block.specs.Merkle.{NoClash};
 ghost use Rattle.cf_block.specs.Stored.{IsStored};
+ghost use Rattle.cf_block.specs.Tx.{block_spelling};
 ghost use Rattle.cf_chain.specs.Good.{max_height, IsGoodChain};
 ghost use Rattle.cf_make.specs.Made.{seed_limit, IsExtension, StopsAt, IsMadeChain};
-ghost use Rattle.cf_make.specs.Records.{text_of};
+ghost use Rattle.cf_make.specs.Records.{records_of, text_of, made_records_of};
 
 /// A seed tells one chain of each length above a given one, or a height at which none can be made. A made chain, also
 /// one that several seeds have made in turn, is a good chain where no two different transactions of it have one hash.
@@ -19,8 +20,12 @@ pub fn laws_of_made_chains()
     ensures good { (blocks : List Block) → IsMadeChain blocks → length blocks ≤ max_height → NoClash (flat_map spelled_txs blocks) → IsGoodChain blocks }
 {}
 
-/// The bytes in the records of a good chain store its blocks, with the witnesses of their coinbases or without.
+/// The bytes in the records of a good chain store its blocks, with the witnesses of their coinbases or without, and a
+/// witness takes 36 bytes. The records without witnesses are those that `records` gives.
 pub fn laws_of_made_records()
-    ensures { (witness : Bool) (blocks : List Block) → IsGoodChain blocks
+    ensures stored { (witness : Bool) (blocks : List Block) → IsGoodChain blocks
         → AllByRecursion (λ b. IsStored (text_of witness b) b) blocks }
+    ensures short { (witness : Bool) (blocks : List Block) → IsGoodChain blocks
+        → AllByRecursion (λ b. length (text_of witness b) ≤ length (block_spelling b) + 36) blocks }
+    ensures plain { (blocks : List Block) → made_records_of false blocks ≡ records_of blocks }
 {}

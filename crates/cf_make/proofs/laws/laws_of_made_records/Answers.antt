@@ -1,6 +1,12 @@
 use Rattle.std.specs.FinMap.{empty}
-use Rattle.cf_make.proofs.Witnessed.{all_stored}
+use Rattle.cf_make.proofs.Witnessed.{all_stored, all_short, records_plain}
 use Rattle.cf_make.proofs.laws.laws_of_made_records.Goals as goal
 
-pub returns : goal.returns
-returns c = λ witness blocks good. all_stored witness empty blocks good.each
+pub returns-clause-stored : goal.returns-clause-stored
+returns-clause-stored c = λ witness blocks good. all_stored witness empty blocks good.each
+
+pub returns-clause-short : goal.returns-clause-short
+returns-clause-short c = λ witness blocks good. all_short witness blocks
+
+pub returns-clause-plain : goal.returns-clause-plain
+returns-clause-plain c = records_plain
