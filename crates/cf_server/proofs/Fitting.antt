@@ -155,7 +155,7 @@ hash_fits hash blocks height is =
     sym (ap length (same_is (block_hash_of (get_or (all_blocks blocks) height first_block).header) hash.0 at.1)) ∙ block_hash_length (get_or (all_blocks blocks) height first_block).header
 
 -- checkpoints up to a height of a good chain are few
-pub checkpoints_few : (hash : Hash32) (blocks : List Block) (height : ℕ) → IsGoodChain blocks → block_height hash blocks ≡ Some height → height / 1000 ≤ 100
+pub checkpoints_few : (hash : Hash32) (blocks : List Block) (height : ℕ) → IsGoodChain blocks → block_height hash blocks ≡ Some height → height / 1000 ≤ 500
 checkpoints_few hash blocks height good is = omega (arith, height_within hash blocks height is, good.height)
 
 shown_of : (fs : List Filtered) (h : ℕ) → AllByRecursion IsFit fs → IsHash (header_or_zeros (slice_get fs h))

@@ -235,7 +235,7 @@ fn cfheaders_bytes(
 
 // Every thousandth filter header, so many of them.
 fn checkpoints(alloc: Global, index: &Index, count: u32) -> Result<Hashes, NoMemory>
-    requires { count ≤ 100 }
+    requires { count ≤ 500 }
     ensures { IfOk result (λ headers. headers ≡ map (λ h. header_shown (filter_at index.now h)) (thousands count)) }
 {
     let mut headers = Hashes::new(alloc);
