@@ -17,7 +17,7 @@ fn peers_mistake(matches: &ArgMatches) -> &'static str {
 // What is out of its range in the words of `sync`.
 fn sync_mistake(matches: &ArgMatches) -> &'static str {
     if turns_of(text_of(matches, "turns")).is_none() {
-        "N of --turns is a number from 1 to 50000000"
+        "N of --turns is a number from 1 to 10000000"
     } else if workers_of(text_of(matches, "workers")).is_none() {
         "N of --workers is a number from 1 to 64"
     } else {
@@ -28,7 +28,7 @@ fn sync_mistake(matches: &ArgMatches) -> &'static str {
 // What is out of its range in the words of `serve`.
 fn serve_mistake(matches: &ArgMatches) -> &'static str {
     match connections_of(text_of(matches, "connections")) {
-        None => "N of --connections is a number from 1 to 5000000",
+        None => "N of --connections is a number from 1 to 1000000",
         Some(_) => "ADDRESS has 1 to 255 characters, without spaces",
     }
 }
