@@ -1,5 +1,5 @@
 -- A coinbase with its witness is stored, and so is its block.
-use Rattle.std.proofs.Common.{◌≡◌, ℕ, ◌+◌, ◌≤◌, Bool, true, false, inr, List, [], ◌∷◌, ◌++◌, map, length, replicate, refl, sym, ap, arith, lit≤, length-append}
+use Rattle.std.proofs.Common.{◌≡◌, ℕ, ◌+◌, ◌≤◌, Bool, true, false, inr, List, [], ◌∷◌, ◌++◌, map, length, refl, sym, ap, arith, lit≤, length-append}
 use Rattle.std.specs.Int.{w32, to_le_bytes, cast_unsigned}
 use Rattle.std.specs.List.{flat_map, AllByRecursion}
 use Rattle.cf_bytes.specs.Compact.{compact}
