@@ -11,7 +11,7 @@ ghost use Rattle.cf_index.specs.Records.{record_with, max_record, record_spellin
 
 /// A good file is read as its blocks, and so as no others; a bad one is refused for its first bad record; and no file is both.
 /// With `read_chain`'s clauses, a file is taken exactly where it is good, and refused exactly where it isn't. The records of
-/// a good chain's blocks without witnesses are a good file, also behind genesis's record and before zeros, and so are the
+/// a good chain's blocks without witnesses are a good file, also behind genesis's record and before zeros; and so are
 /// records of any bytes that store the blocks, 4,000,000 for a block at most.
 pub fn laws_of_files()
     ensures taken { (bytes : List ℕ) (blocks : List Block) → IsGoodFile bytes blocks → blocks_at bytes ≡ Ok blocks }

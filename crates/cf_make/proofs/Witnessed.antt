@@ -1,5 +1,5 @@
 -- A coinbase with its witness is stored, and so is its block.
-use Rattle.std.proofs.Common.{◌≡◌, ℕ, ◌+◌, ◌≤◌, Bool, true, false, inr, List, [], ◌∷◌, ◌++◌, map, length, replicate, refl, sym, ◌∙◌, ap, arith, lit≤, length-append}
+use Rattle.std.proofs.Common.{◌≡◌, ℕ, ◌+◌, ◌≤◌, Bool, true, false, inr, List, [], ◌∷◌, ◌++◌, map, length, refl, sym, ap, arith, lit≤, length-append}
 use Rattle.std.specs.Int.{w32, to_le_bytes, cast_unsigned}
 use Rattle.std.specs.List.{flat_map, AllByRecursion}
 use Rattle.cf_bytes.specs.Compact.{compact}
@@ -70,8 +70,8 @@ stack_size = refl
 extended_size : (t : Tx) → length (extended_spelling t (reserved ∷ [])) ≡ length (tx_spelling t) + 36
 unfolding extended_spelling tx_spelling
 extended_size t =
-    marked (to_le_bytes w32 (cast_unsigned w32 t.version)) (compact (length t.inputs)) (flat_map input_spelling t.inputs)
-    (compact (length t.outputs)) (flat_map output_spelling t.outputs) (flat_map stack_spelling (reserved ∷ []))
+    marked (to_le_bytes w32 (cast_unsigned w32 t.version)) (compact (length t.inputs))
+    (flat_map input_spelling t.inputs) (compact (length t.outputs)) (flat_map output_spelling t.outputs) (flat_map stack_spelling (reserved ∷ []))
     (to_le_bytes w32 t.lock_time) stack_size
 
 txs_size : (ts : List Tx) → length (with_witness ts) ≤ length (flat_map tx_spelling ts) + 36
@@ -93,7 +93,8 @@ text_size true b =
     let v = length-append count (flat_map tx_spelling b.txs) in
     omega (arith, x, y, u, v, txs_size b.txs)
 
-pub all_short : (witness : Bool) (blocks : List Block) → AllByRecursion (λ b. length (text_of witness b) ≤ length (block_spelling b) + 36) blocks
+pub all_short : (witness : Bool) (blocks : List Block)
+    → AllByRecursion (λ b. length (text_of witness b) ≤ length (block_spelling b) + 36) blocks
 all_short witness [] = tt
 all_short witness (b ∷ bs) = (text_size witness b, all_short witness bs)
 

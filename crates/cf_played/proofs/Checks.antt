@@ -24,7 +24,8 @@ one_record b = refl
 
 pub read_again : (chain : List Block) (bytes : List ℕ) → bytes ≡ records_of chain → IsGoodChain chain → blocks_at bytes ≡ Ok chain
 read_again chain bytes is good =
-    ap blocks_at (is ∙ flat_map-same record_of record_spelling chain one_record ∙ sym (append-nil (flat_map record_spelling chain)))
+    ap blocks_at is ∙ ap blocks_at (flat_map-same record_of record_spelling chain one_record)
+    ∙ ap blocks_at (sym (append-nil (flat_map record_spelling chain)))
     ∙ taken (flat_map record_spelling chain ++ []) chain (plain chain 0 good)
 
 pub read_same : (chain : List Block) (bytes : List ℕ) (r : Result (List Block) (Refused BadBlock)) → bytes ≡ records_of chain → Answers (blocks_at bytes) r
@@ -39,15 +40,22 @@ read_bad chain bytes (Err NoMemory) is answers = tt
 
 -- ---- files that are made
 
-texts_short : (witness : Bool) (coins : CoinMap) (blocks : List Block) → AreGoodBlocks coins blocks → AllByRecursion (λ b. length (text_of witness b) ≤ max_record) blocks
+texts_short : (witness : Bool) (coins : CoinMap) (blocks : List Block) → AreGoodBlocks coins blocks
+    → AllByRecursion (λ b. length (text_of witness b) ≤ max_record) blocks
 texts_short witness coins [] good = tt
-texts_short witness coins (b ∷ bs) good = (omega (arith, text_size witness b, good.0.spelled.short), texts_short witness (after_block coins b) bs good.1)
+texts_short witness coins (b ∷ bs) good =
+    let first : length (text_of witness b) ≤ max_record = omega (arith, text_size witness b, good.0.spelled.short) in
+    (first, texts_short witness (after_block coins b) bs good.1)
 
 one_made : (witness : Bool) (b : Block) → made_record witness b ≡ record_with (text_of witness b)
 unfolding made_record
 one_made witness b = refl
 
-pub made_good : (witness : Bool) (blocks : List Block) → IsGoodChain blocks → IsGoodFile (made_records_of witness blocks) blocks
+pub made_good : (witness : Bool) (blocks : List Block) → IsGoodChain blocks
+    → IsGoodFile (made_records_of witness blocks) blocks
 made_good witness blocks good =
-    subst (λ (bytes : List ℕ). IsGoodFile bytes blocks) (sym (flat_map-same (made_record witness) (λ b. record_with (text_of witness b)) blocks (one_made witness)))
-    (good_of (text_of witness) blocks good (all_stored witness empty blocks good.each) (texts_short witness empty blocks good.each))
+    let same : made_records_of witness blocks ≡ flat_map (λ b. record_with (text_of witness b)) blocks =
+    flat_map-same (made_record witness) (λ b. record_with (text_of witness b)) blocks (one_made witness) in
+    let stored = all_stored witness empty blocks good.each in
+    let short = texts_short witness empty blocks good.each in
+    subst (λ (bytes : List ℕ). IsGoodFile bytes blocks) (sym same) (good_of (text_of witness) blocks good stored short)
