@@ -1,16 +1,20 @@
 -- The check of a chain's records.
-use Rattle.std.proofs.Common.{◌≡◌, ℕ, List, Ok, Err, Result, refl, ap, ◌∙◌}
+use Rattle.std.proofs.Common.{◌≡◌, ℕ, ◌≤◌, Bool, List, [], ◌∷◌, ◌++◌, Ok, Err, Result, length, refl, sym, ◌∙◌, ap, subst, arith}
 use Rattle.std.specs.Prelude.{IfOk}
-use Rattle.std.specs.List.{flat_map}
+use Rattle.std.specs.List.{flat_map, AllByRecursion}
+use Rattle.std.specs.FinMap.{empty}
+use Rattle.std.proofs.lemmas.List.{append-nil}
 use Rattle.cf_bytes.specs.declared.memory.Refused.{Refused}
 use Rattle.cf_bytes.specs.declared.memory.Refused.TheVariants.{No, NoMemory}
 use Rattle.cf_block.specs.declared.tx.Block.{Block}
-use Rattle.cf_chain.specs.Good.{IsGoodChain}
+use Rattle.cf_chain.specs.Coins.{CoinMap, after_block}
+use Rattle.cf_chain.specs.Good.{AreGoodBlocks, IsGoodChain}
 use Rattle.cf_index.specs.declared.cause.BadBlock.{BadBlock}
-use Rattle.cf_index.specs.Files.{Answers, blocks_at}
-use Rattle.cf_index.specs.Records.{record_spelling}
-use Rattle.cf_index.proofs.FileLaws.{plain, taken}
-use Rattle.cf_make.specs.Records.{record_of, records_of}
+use Rattle.cf_index.specs.Files.{IsGoodFile, Answers, blocks_at}
+use Rattle.cf_index.specs.Records.{record_with, max_record, record_spelling}
+use Rattle.cf_index.proofs.FileLaws.{plain, good_of, taken}
+use Rattle.cf_make.specs.Records.{record_of, records_of, text_of, made_record, made_records_of}
+use Rattle.cf_make.proofs.Witnessed.{all_stored, text_size}
 use Rattle.cf_server.proofs.Lists.{flat_map-same}
 use Rattle.cf_played.specs.Told.{IfRefused}
 
@@ -20,7 +24,8 @@ one_record b = refl
 
 pub read_again : (chain : List Block) (bytes : List ℕ) → bytes ≡ records_of chain → IsGoodChain chain → blocks_at bytes ≡ Ok chain
 read_again chain bytes is good =
-    ap blocks_at (is ∙ flat_map-same record_of record_spelling chain one_record) ∙ taken (flat_map record_spelling chain) chain (plain chain good)
+    ap blocks_at (is ∙ flat_map-same record_of record_spelling chain one_record ∙ sym (append-nil (flat_map record_spelling chain)))
+    ∙ taken (flat_map record_spelling chain ++ []) chain (plain chain 0 good)
 
 pub read_same : (chain : List Block) (bytes : List ℕ) (r : Result (List Block) (Refused BadBlock)) → bytes ≡ records_of chain → Answers (blocks_at bytes) r
     → IfOk r (λ blocks. IsGoodChain chain → blocks ≡ chain)
@@ -31,3 +36,18 @@ pub read_bad : (chain : List Block) (bytes : List ℕ) (r : Result (List Block) 
 read_bad chain bytes (Ok blocks) is answers = tt
 read_bad chain bytes (Err (No bad)) is answers = λ good. let e = read_again chain bytes is good in cc
 read_bad chain bytes (Err NoMemory) is answers = tt
+
+-- ---- files that are made
+
+texts_short : (witness : Bool) (coins : CoinMap) (blocks : List Block) → AreGoodBlocks coins blocks → AllByRecursion (λ b. length (text_of witness b) ≤ max_record) blocks
+texts_short witness coins [] good = tt
+texts_short witness coins (b ∷ bs) good = (omega (arith, text_size witness b, good.0.spelled.short), texts_short witness (after_block coins b) bs good.1)
+
+one_made : (witness : Bool) (b : Block) → made_record witness b ≡ record_with (text_of witness b)
+unfolding made_record
+one_made witness b = refl
+
+pub made_good : (witness : Bool) (blocks : List Block) → IsGoodChain blocks → IsGoodFile (made_records_of witness blocks) blocks
+made_good witness blocks good =
+    subst (λ (bytes : List ℕ). IsGoodFile bytes blocks) (sym (flat_map-same (made_record witness) (λ b. record_with (text_of witness b)) blocks (one_made witness)))
+    (good_of (text_of witness) blocks good (all_stored witness empty blocks good.each) (texts_short witness empty blocks good.each))

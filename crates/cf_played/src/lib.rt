@@ -6,6 +6,7 @@ mod filtered;
 mod frames;
 mod hearing;
 mod kind;
+mod laws;
 mod omitting;
 mod played;
 mod player;
@@ -13,4 +14,5 @@ mod turns;
 mod waiting;
 
 pub use kind::{Kind, Way};
+pub use laws::laws_of_made_files;
 pub use played::Played;
