@@ -60,7 +60,11 @@ fn located_on<H: HeaderStore>(alloc: Global, store: &mut H, headers: &[Header]) 
 }
 
 // The same over a new store, which the peer enters.
-fn located_in<H: HeaderStore>(alloc: Global, mut store: H, headers: &[Header]) -> Option<String>
+fn located_in<H: HeaderStore + Drop>(
+    alloc: Global,
+    mut store: H,
+    headers: &[Header],
+) -> Option<String>
     requires { (q : ℕ) → H.chain store q ≡ None }
 {
     match store.enter(PEER) {
