@@ -20,6 +20,7 @@ use Rattle.cf_msg.specs.declared.msg.Msg.TheVariants.{GetCfheaders, GetCfilters,
 use Rattle.cf_peer.specs.Asking.{HasHeader, IsClaimed, IsFree, MayAsk, block_entry, claims, counted, hashes_of, verdict}
 use Rattle.cf_wires.specs.Log.{Log}
 use Rattle.cf_peer.specs.Trail.{Trail, trail, connected, own}
+use Rattle.cf_sync.proofs.Alone.{none_filters, none_block}
 use Rattle.cf_sync.specs.Fetching.{IsFilterWanted, IsNeeded, IsNoneFetching, IsBlockWanted, MaySend, blocks_in}
 use Rattle.cf_sync.proofs.Kept.{filter_by, block_by}
 use Rattle.cf_tracker.specs.declared.spans.Span.{Span}
@@ -249,7 +250,7 @@ pub filters_send : (s : Seen) (log : Log) (p common : ℕ) (spare : Bool) (span 
     → IsFree (trail log p) → verdict (trail log p) ≡ None → (spare ≡ true → IsNoneFetching log) → IsWish s.table s.claims s.verdicts p chain common spare (Filters span)
     → MaySend log p (GetCfilters 0 span.start span.stop) × IsNeeded s.watch log p (GetCfilters 0 span.start span.stop)
 filters_send s log p common spare span chain tracks is low free clean none wish = (
-  record { of_its_part = filters_may s log p common spare span chain tracks is low free clean wish; wanted = tt; alone = none wish.0.0 },
+  record { of_its_part = filters_may s log p common spare span chain tracks is low free clean wish; wanted = tt; alone = none_filters log p 0 span.start span.stop (none wish.0.0) },
   filters_needed s log p common spare span chain tracks is low wish,
 )
 
@@ -258,6 +259,6 @@ pub block_send : (s : Seen) (log : Log) (p common : ℕ) (spare : Bool) (hash : 
     → MaySend log p (GetData (block_entry hash ∷ [])) × IsNeeded s.watch log p (GetData (block_entry hash ∷ []))
 block_send s log p common spare hash chain tracks is low free none wish =
     let needed = block_needed s log p common spare hash chain tracks wish in (
-      record { of_its_part = block_may log p common spare s hash chain is low free wish; wanted = λ entry i. (needed entry i).0; alone = none wish.1.0.0 },
+      record { of_its_part = block_may log p common spare s hash chain is low free wish; wanted = λ entry i. (needed entry i).0; alone = none_block log p (block_entry hash ∷ []) (none wish.1.0.0) },
       needed,
     )
