@@ -9,7 +9,7 @@ use Rattle.cf_msg.specs.declared.msg.Msg.TheVariants.{GetData, GetCfilters}
 use Rattle.cf_wires.specs.Log.{Log}
 use Rattle.cf_peer.specs.Trail.{Part, part_of, trail, connected, own}
 use Rattle.cf_peer.specs.Asking.{OpenRequest, is_spare, NothingOpen, HeadersOpen, ClaimsOpen, FiltersOpen, BlockOpen, request}
-use Rattle.cf_sync.specs.Fetching.{IsNoneFetching, IsConnected, filters_open, blocks_open, IsAlone, blocks_in}
+use Rattle.cf_sync.specs.Fetching.{IsConnected, filters_open, blocks_open, IsAlone, blocks_in}
 
 -- ---- the plan
 
@@ -23,6 +23,10 @@ alone_less planned log p (GetData entries) parts mine alone = λ entry i stands.
 alone_less planned log p m parts mine alone = tt
 
 -- ---- where nothing is being fetched
+
+-- neither filters nor a block are open to a connected peer
+abbrev pub IsNoneFetching : Log → Type 0
+IsNoneFetching log = (q : ℕ) → IsConnected log q → is_spare (request (trail log q)) ≡ true
 
 spare_filters : (r : OpenRequest) (b : Hash) → is_spare r ≡ true → IsIn b (filters_open r) → ⊥
 spare_filters NothingOpen b spare i = i

@@ -20,8 +20,8 @@ use Rattle.cf_peer.specs.Trail.{Trail, Said, Asked, part_of, trail, connected, o
 use Rattle.cf_scan.specs.Scan.{scan_of}
 use Rattle.cf_scan.specs.Watching.{IsWatch}
 use Rattle.cf_sync.specs.Example.{only_header, only_block, only_hash, chain_of_one, honest_peer, liar, its_version, question, its_headers, ask_claims, its_claims, false_claims, ask_filter, its_filter, fetch, its_block, false_version, genesis_filter_header, only_filter_hash, false_filter_hash, other_watch, log_8, dispute_9, dispute_10, dispute_11, dispute_12, dispute_13, dispute_14, dispute_15, dispute_16, dispute_17, dispute_18, dispute_19, dispute_20, dispute_21, disputed_run}
-use Rattle.cf_sync.specs.Fetching.{counted_part, IsQuiet, AreBytes, IsFetched, IsFetchedHash, IsCleared, IsDisputed, IsBlockWanted, IsNoneFetching, Rightly}
-use Rattle.cf_sync.proofs.Alone.{none_filters, none_block}
+use Rattle.cf_sync.specs.Fetching.{counted_part, IsQuiet, AreBytes, IsFetched, IsFetchedHash, IsCleared, IsDisputed, IsBlockWanted, Rightly}
+use Rattle.cf_sync.proofs.Alone.{IsNoneFetching, none_filters, none_block}
 use Rattle.cf_sync.specs.Honesty.{IsHonestOver, IsHonest, was_called, ShowsNoOther}
 use Rattle.cf_sync.specs.Sync.{strings_of, IsHashed, HasAsked}
 use Rattle.cf_sync.proofs.Chains.{same_self}
@@ -372,6 +372,6 @@ disputed_asked watch fits = record {
   asked_out = λ p on idle. record {
     heard_out = of_each (λ t. connected t ≡ true → heard (counted t) ≡ true) p (λ is1. counts_13.heard_out) (λ is1. same_9.hearing ∙ still_true (heard v_7) heard_out_7) (λ is1. absurd (false≢true is1)) on;
     claimed = of_each ClaimsIt p (claims_it t_13 only_claim counts_13.claimed counts_13.chain) (claims_it v_9 false_claim claimed_9 other_chain) nobody_claims;
-    settled = λ spare h one le above. inl (settled (hash_at (own (counted_part disputed_run p)) h) (inl (of_each SharesIt p (shares_it t_13 counts_13.chain) (shares_it v_9 other_chain) nobody_shares h one le)));
+    settled = λ h one le above no_filter no_block. inl (settled (hash_at (own (counted_part disputed_run p)) h) (inl (of_each SharesIt p (shares_it t_13 counts_13.chain) (shares_it v_9 other_chain) nobody_shares h one le)));
   };
 }

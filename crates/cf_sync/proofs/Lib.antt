@@ -25,6 +25,7 @@ pub mod VerdictsGrow
 pub mod FreshFilters
 pub mod Alone
 pub mod Once
+pub mod KeptOpens
 pub mod Written
 pub mod TwoPeers
 pub mod Cleared

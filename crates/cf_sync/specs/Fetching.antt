@@ -24,7 +24,7 @@ use Rattle.cf_scan.specs.declared.history.Entry.{Entry}
 use Rattle.cf_scan.specs.Extracts.{extract_of}
 use Rattle.cf_scan.specs.Scan.{scan_of}
 use Rattle.cf_tracker.specs.Tables.{Table}
-use Rattle.cf_peer.specs.Asking.{is_spare, OpenRequest, NothingOpen, HeadersOpen, ClaimsOpen, FiltersOpen, BlockOpen, request, is_open, counted, claims, hash_claimed, HasHeader, fetched, given, blocks_from, Deserves, MayAsk}
+use Rattle.cf_peer.specs.Asking.{OpenRequest, NothingOpen, HeadersOpen, ClaimsOpen, FiltersOpen, BlockOpen, request, is_open, counted, claims, hash_claimed, HasHeader, fetched, given, blocks_from, Deserves, MayAsk}
 
 -- ---- peers
 
@@ -163,10 +163,6 @@ abbrev pub IsWanted : Log → Msg → Type 0
 IsWanted log (GetData entries) = (entry : Wanted) → IsIn entry entries → IsFetchedHash log entry.hash.0 → ⊥
 IsWanted log m = Unit {0}
 
--- neither filters nor a block are open to a connected peer
-abbrev pub IsNoneFetching : Log → Type 0
-IsNoneFetching log = (q : ℕ) → IsConnected log q → is_spare (request (trail log q)) ≡ true
-
 -- the blocks of an open request for filters, those whose filter came before those whose filter is to come; and that of an open request for a block
 abbrev pub filters_open : OpenRequest → List Hash
 filters_open NothingOpen = []
@@ -236,13 +232,14 @@ pub record IsBest (log : Log) (chain : Chain) : Type 0 where
 abbrev pub IsAbove : Hash → Type 0
 IsAbove block = block ≡ block_hash_of genesis_header → ⊥
 
--- What the rule of asking leaves true of a connected peer with nothing open to it: it was heard out; of the blocks that its own chain shares with the best one
--- the filter header is known at each; and where besides neither filters nor a block are open to anybody, each is settled.
+-- What the rule of asking leaves true of a connected peer with nothing open to it: it was heard out; of the blocks that its own chain shares
+-- with the best one the filter header is known at each; and each of them that stands in no open request for filters or for a block is settled.
 -- (A block with genesis's hash would never be asked about. Where no hashes clash there is none.)
 pub record IsAskedOut (watch : List (List ℕ)) (log : Log) (chain : Chain) (p : ℕ) : Type 0 where
   pub heard_out : heard (counted_part log p) ≡ true
   pub claimed : (h : ℕ) → 1 ≤ h → h ≤ common_of (own (counted_part log p)) chain → HasHeader (counted_part log p) (hash_at (own (counted_part log p)) h)
-  pub settled : IsNoneFetching log → (h : ℕ) → 1 ≤ h → h ≤ common_of (own (counted_part log p)) chain → IsAbove (hash_at (own (counted_part log p)) h)
+  pub settled : (h : ℕ) → 1 ≤ h → h ≤ common_of (own (counted_part log p)) chain → IsAbove (hash_at (own (counted_part log p)) h)
+      → (IsFilterOpen log (hash_at (own (counted_part log p)) h) → ⊥) → (IsBlockOpen log (hash_at (own (counted_part log p)) h) → ⊥)
       → IsSettled watch log (hash_at (own (counted_part log p)) h)
 
 -- ---- the history
