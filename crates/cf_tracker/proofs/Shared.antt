@@ -1,5 +1,5 @@
 -- What is none of one peer's blocks is none of another's, as far as their chains are the same.
-use Rattle.std.proofs.Common.{◌≡◌, inl, inr, ℕ, zero, suc, ◌+◌, ◌≤◌, max, min, Bool, true, false, ◌&&◌, List, [], ◌∷◌, length, take, reverse, Option, Some, None, refl, sym, ◌∙◌, ap, subst, arith}
+use Rattle.std.proofs.Common.{◌≡◌, inl, inr, ℕ, zero, suc, ◌+◌, ◌≤◌, max, min, Bool, true, false, ◌&&◌, List, [], ◌∷◌, length, take, reverse, refl, sym, ◌∙◌, ap, subst, arith}
 use Rattle.std.specs.Prelude.{◌==◌, bytes_eq, cond}
 use Rattle.std.specs.Ordering.{int_eq}
 use Rattle.std.specs.List.{common_prefix_len}

@@ -1,4 +1,4 @@
-use Rattle.std.proofs.Common.{List, ℕ, false, true, ◌≡◌, subst}
+use Rattle.std.proofs.Common.{false, true, ◌≡◌, subst}
 use Rattle.cf_dispute.specs.Of.{tables_of}
 use Rattle.cf_tracker.specs.Extracts.{table_in}
 use Rattle.cf_tracker.specs.Judged.{verdicts_in}
