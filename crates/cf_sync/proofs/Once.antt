@@ -35,7 +35,7 @@ either : (P : OpenRequest → Type 0) (b : Bool) (x y : OpenRequest) → (b ≡ 
 either P true x y is off = is refl
 either P false x y is off = off refl
 
-blocks_said : (m : Msg) (r : OpenRequest) (block : Hash) → IsIn block (blocks_open (request_after m r)) → IsIn block (blocks_open r)
+pub blocks_said : (m : Msg) (r : OpenRequest) (block : Hash) → IsIn block (blocks_open (request_after m r)) → IsIn block (blocks_open r)
 blocks_said (Headers hs) NothingOpen block i = i
 blocks_said (Headers hs) HeadersOpen block i = i
 blocks_said (Headers hs) (ClaimsOpen stop parent bs) block i = i
@@ -77,10 +77,10 @@ moved_back [] j next left block e (inr i) = inr i
 moved_back (c ∷ came) j next left block e (inl f) = inl f
 moved_back (c ∷ came) j next left block e (inr i) = inr (moved_back came j next left block e i)
 
-answered : (filter : ℕ) (a b : Hash) → is_answer_of filter a b ≡ true → a ≡ b
+pub answered : (filter : ℕ) (a b : Hash) → is_answer_of filter a b ≡ true → a ≡ b
 answered filter a b e = same_true a b (and_parts (filter == 0) _ e).1
 
-filters_said : (m : Msg) (r : OpenRequest) (block : Hash) → IsIn block (filters_open (request_after m r)) → IsIn block (filters_open r)
+pub filters_said : (m : Msg) (r : OpenRequest) (block : Hash) → IsIn block (filters_open (request_after m r)) → IsIn block (filters_open r)
 filters_said (Headers hs) NothingOpen block i = i
 filters_said (Headers hs) HeadersOpen block i = i
 filters_said (Headers hs) (ClaimsOpen stop parent bs) block i = i
