@@ -26,11 +26,15 @@ use Rattle.cf_headers.specs.declared.store.HeaderStore.{Ghosts}
 use Rattle.cf_match.specs.declared.matcher.Matcher.{Ghosts as Judges}
 use Rattle.cf_sync.proofs.Alone.{alone_less}
 use Rattle.cf_sync.specs.Fetching.{IsAlone, counted_part}
-use Rattle.cf_sync.specs.Kept.{claims_kept}
+use Rattle.cf_sync.specs.Kept.{OpensAt, claims_kept}
 use Rattle.cf_sync.proofs.VerdictsGrow.{same_given}
 use Rattle.cf_sync.specs.Planned.{is_untold, before_failure, IsMeant, Alike}
 use Rattle.cf_sync.proofs.Planning.{planned_part}
 use Rattle.cf_hear.specs.Tracks.{chain_kept}
+use Rattle.cf_hear.proofs.Opening.{closes_off}
+use Rattle.cf_sync.proofs.KeptOpens.{opens_closed}
+use Rattle.cf_tracker.specs.Opens.{Opens}
+use Rattle.cf_tracker.specs.Tracker.{opens_of}
 use Rattle.cf_client.specs.declared.client.Client.{Client}
 use Rattle.cf_place.specs.declared.place.Place.{Place}
 use Rattle.cf_place.specs.declared.place.Place.TheVariants.{Here, Lost as LostPlace}
@@ -699,6 +703,11 @@ claims_alike : (t u : Part) → Alike t u → claims_kept t.trail ≡ claims_kep
 claims_alike t u (inl same) = ap (λ (x : Part). claims_kept x.trail) same
 claims_alike t u (inr off) = rw (off.0, off.1) refl
 
+opens_alike : (opens : Opens) (q : ℕ) (t u : Part) → Alike t u → OpensAt opens q t.trail → OpensAt opens q u.trail
+opens_alike opens q t u (inl same) at = subst (λ (x : Part). OpensAt opens q x.trail) same at
+opens_alike opens q t u (inr off) at =
+    opens_closed opens opens q u.trail (closes_off opens q t.trail at off.0) (λ on. absurd (both_ways (connected u.trail) off.1 on))
+
 -- with no failure pending the client reflects the actual log
 pub all_told : {H M : Type 0} {g : Ghosts H} {j : Judges M} (c : Client H M g j) (progress : Progress) (called : List (List ℕ)) (planned : Log) (t : Told) → ((q : ℕ) → is_pending (state_at progress.sends q) ≡ false)
     → Reflects c planned → Doing (watch_by c) [] progress called planned t → HoldsOver c progress called t
@@ -721,6 +730,7 @@ all_told c progress called planned t none reflects doing =
           claimed = λ q block. reflects.tracks.claimed q block ∙ ap (λ (c : Table). c block) (claims_alike (part_of planned q) (part_of doing.actual q) (doing.plan.told q (told q)));
           fetched = same_holds _ planned doing.actual _ doing.brought reflects.tracks.fetched;
           given = same_given _ planned doing.actual _ _ (λ q. sym (doing.gave q)) (λ block hash. refl) reflects.tracks.given;
+          opened = λ q. opens_alike (opens_of c.tracker) q (part_of planned q) (part_of doing.actual q) (doing.plan.told q (told q)) (reflects.tracks.opened q);
         };
       };
       told_all = told;
