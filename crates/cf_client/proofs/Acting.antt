@@ -1,18 +1,17 @@
 -- One act of the client of itself: what it does to the places, to what was seen and to the log.
 use Rattle.std.proofs.Common.{◌≡◌, ℕ, ◌<◌, ◌≤◌, if◌then◌else◌, List, [], ◌∷◌, ◌++◌, length, get_or, set, Option, Some, None, Bool, true, false, refl, sym, ◌∙◌, ap, subst}
 use Rattle.std.proofs.Math.Path.{fun_ext}
-use Rattle.std.specs.Prelude.{not, unwrap_or}
-use Rattle.std.specs.List.{list_any}
-use Rattle.std.proofs.lemmas.Bool.{not-true}
+use Rattle.std.specs.Prelude.{unwrap_or}
 use Rattle.cf_bytes.specs.declared.hash.Hash32.{Hash32}
 use Rattle.cf_bytes.specs.declared.peer.PeerNo.{PeerNo}
 use Rattle.cf_dispute.specs.Claims.{Tables, no_claims}
-use Rattle.cf_headers.specs.Chain.{Chain, back_to}
+use Rattle.cf_dispute.specs.Tables.{blocks_of}
+use Rattle.cf_headers.specs.Chain.{Hash, Chain, back_to}
 use Rattle.cf_headers.specs.Store.{Chains, Stays}
 use Rattle.cf_match.specs.Verdicts.{Verdicts, AreSameVerdicts}
 use Rattle.cf_msg.specs.declared.msg.Entry.{Entry}
 use Rattle.cf_msg.specs.declared.msg.Msg.{Msg}
-use Rattle.cf_msg.specs.declared.msg.Msg.TheVariants.{GetData, GetCfheaders, GetCfilters}
+use Rattle.cf_msg.specs.declared.msg.Msg.TheVariants.{Version, GetHeaders, GetData, GetCfheaders, GetCfilters}
 use Rattle.cf_peer.specs.declared.act.Act.TheVariants.{Send, Close}
 use Rattle.cf_peer.specs.declared.act.Act.{Act}
 use Rattle.cf_peer.specs.declared.peer.Cause.{Cause}
@@ -20,45 +19,83 @@ use Rattle.cf_peer.specs.declared.peer.Peer.{Peer}
 use Rattle.cf_peer.specs.declared.peer.Range.{Range}
 use Rattle.cf_peer.specs.Acts.{bytes_of, IsSendable}
 use Rattle.cf_wires.specs.Log.{Log}
-use Rattle.cf_peer.specs.Trail.{part_of, trail, connected, own, Asked}
+use Rattle.cf_peer.specs.Trail.{Trail, IsClientVersion, asks, part_of, trail, connected, own, Asked}
+use Rattle.cf_peer.specs.Asking.{FiltersOpen, NothingOpen, claims_asked, filters_asked, request}
 use Rattle.cf_peer.specs.Peer.{Holds, wants, is_idle_peer, asked_for_headers, asked_for_claims, asked_for_filters, asked_for_block}
-use Rattle.cf_peer.proofs.Peers.{asked_claims_holds, asked_filters_holds, asked_block_holds}
-use Rattle.cf_sync.specs.Fetching.{MaySend, IsNeeded}
+use Rattle.cf_peer.proofs.Peers.{idle_request, asked_claims_holds, asked_filters_holds, asked_block_holds}
+use Rattle.cf_sync.specs.Fetching.{MaySend, IsNeeded, blocks_open, filters_open}
+use Rattle.cf_sync.specs.Kept.{OpensAt}
+use Rattle.cf_sync.proofs.KeptOpens.{opens_block, opens_filters}
 use Rattle.cf_tracker.specs.declared.spans.Span.{Span}
 use Rattle.cf_tracker.specs.declared.spans.Wish.TheVariants.{Claims, Filters, Block}
+use Rattle.cf_tracker.specs.Opens.{IsSameElse, IsSameOpens, Opens, OpensBlock, OpensFilters}
+use Rattle.cf_tracker.specs.Seeking.{MoreOpens}
 use Rattle.cf_tracker.specs.Spans.{IsWish}
 use Rattle.cf_tracker.specs.Tables.{Table, IsSameTable}
 use Rattle.cf_tracker.specs.Wanting.{IsSameTables}
 use Rattle.cf_hear.specs.Seen.{Seen, IsSameSeen}
-use Rattle.cf_hear.specs.Tracks.{Tracks, IsPut}
-use Rattle.cf_hear.proofs.Tracking.{tracks_sent, tracks_closed}
+use Rattle.cf_hear.specs.Tracks.{HasOpened, Tracks, IsPut}
+use Rattle.cf_hear.proofs.Opening.{else_of, opens_asked, opens_on}
+use Rattle.cf_hear.proofs.Tracking.{opened_self, tracks_asked, tracks_closed}
 use Rattle.cf_hear.proofs.Wishes.{claims_send, filters_send, block_send}
 use Rattle.cf_place.specs.declared.place.Place.{Place}
 use Rattle.cf_place.specs.declared.place.Place.TheVariants.{Here}
-use Rattle.cf_place.specs.Places.{Keeps, nobody, after as done, AsksFor, Goes, is_fetching_at, IsQuestion}
+use Rattle.cf_place.specs.Places.{Keeps, nobody, after as done, AsksAbove, AsksFor, Goes, IsQuestion}
 use Rattle.cf_client.specs.Settled.{chain_at}
 use Rattle.cf_client.proofs.Best.{Furthest, in_turn}
-use Rattle.cf_client.proofs.Standing.{after-append, wants_goes, send_goes, keeps_at, asked_keeps, idle_free, none_open}
+use Rattle.cf_client.proofs.Standing.{after-append, wants_goes, send_goes, keeps_at, asked_keeps, idle_free}
+use Rattle.cf_client.proofs.Spelled.{spelled_bytes}
 
 -- ---- what the calls of a tracker say, of what was seen
 
+pub opened_is : (before after : Seen) (i : ℕ) → Stays before.chains after.chains → IsSameTables before.claims after.claims → IsSameTable before.table after.table → AreSameVerdicts after.verdicts before.verdicts
+    → after.watch ≡ before.watch → IsSameElse before.opens after.opens i → MoreOpens before.opens after.opens → HasOpened before after i
+opened_is before after i stays claims table verdicts watch others more =
+    record { watch = watch; chains = stays; claims = claims; table = λ hash. sym (table hash); verdicts = verdicts; opens = others; more = more }
+
+-- where the same is open no less is
+pub more_same : (before after : Opens) → IsSameOpens before after → MoreOpens before after
+more_same before after same = record {
+  filters = λ q block off. sym (same.filters q block) ∙ off;
+  blocks = λ q block off. sym (same.blocks q block) ∙ off;
+}
+
 pub same_is : (before after : Seen) → Stays before.chains after.chains → IsSameTables before.claims after.claims → IsSameTable before.table after.table → AreSameVerdicts after.verdicts before.verdicts
-    → after.watch ≡ before.watch → IsSameSeen before after
-same_is before after stays claims table verdicts watch = record { watch = watch; chains = stays; claims = claims; table = λ hash. sym (table hash); verdicts = verdicts }
+    → after.watch ≡ before.watch → IsSameOpens before.opens after.opens → IsSameSeen before after
+same_is before after stays claims table verdicts watch opens =
+    record { watch = watch; chains = stays; claims = claims; table = λ hash. sym (table hash); verdicts = verdicts; opens = opens }
 
-pub same_self : (s : Seen) → IsSameSeen s s
-same_self s = record { watch = refl; chains = λ q. refl; claims = λ p block. refl; table = λ hash. refl; verdicts = λ block hash. refl }
-
--- what was seen is what it was
-pub seen_same : (before after : Seen) → IsSameSeen before after → after ≡ before
-seen_same before after same =
+-- what was seen is what it was, but for what is open
+pub seen_but : (before after : Seen) (i : ℕ) → HasOpened before after i → after ≡ record before { opens = after.opens }
+seen_but before after i same =
     ap (λ w. seen w after.chains after.claims after.table after.verdicts) same.watch
     ∙ ap (λ c. seen before.watch c after.claims after.table after.verdicts) (fun_ext same.chains)
     ∙ ap (λ c. seen before.watch before.chains c after.table after.verdicts) (fun_ext (λ p. fun_ext (same.claims p)))
     ∙ ap (λ t. seen before.watch before.chains before.claims t after.verdicts) (fun_ext same.table)
     ∙ ap (λ v. seen before.watch before.chains before.claims before.table v) (fun_ext (λ block. fun_ext (same.verdicts block))) where
       seen : List (List ℕ) → Chains → Tables → Table → Verdicts → Seen
-      seen watch chains claims table verdicts = record { watch = watch; chains = chains; claims = claims; table = table; verdicts = verdicts }
+      seen watch chains claims table verdicts = record { watch = watch; chains = chains; claims = claims; table = table; verdicts = verdicts; opens = after.opens }
+
+abbrev opens_with : (ℕ → Hash → Bool) → (ℕ → Hash → Bool) → Opens
+opens_with filters blocks = record { filters = filters; blocks = blocks }
+
+opens_is : (a b : Opens) → IsSameOpens a b → b ≡ a
+opens_is a b same =
+    ap (λ (f : ℕ → Hash → Bool). opens_with f b.blocks) (fun_ext (λ q. fun_ext (λ block. same.filters q block)))
+    ∙ ap (λ (f : ℕ → Hash → Bool). opens_with a.filters f) (fun_ext (λ q. fun_ext (λ block. same.blocks q block)))
+
+-- what was seen is what it was
+pub seen_same : (before after : Seen) → IsSameSeen before after → after ≡ before
+seen_same before after same =
+    seen_but before after 0 (record {
+      watch = same.watch;
+      chains = same.chains;
+      claims = same.claims;
+      table = same.table;
+      verdicts = same.verdicts;
+      opens = else_of before.opens after.opens 0 same.opens;
+      more = more_same before.opens after.opens same.opens;
+    }) ∙ ap (λ (o : Opens). record before { opens = o }) (opens_is before.opens after.opens same.opens)
 
 -- ---- the chain that is kept of a peer
 
@@ -74,8 +111,79 @@ closed_tracks before now acts log p cause put tracks = subst (Tracks now) (sym (
 
 -- ---- a message is sent
 
-pub sent_tracks : (s : Seen) (acts : List Act) (log : Log) (p : PeerNo) (m : Msg) → Tracks s (done acts log) → Tracks s (done (acts ++ Send p m ∷ []) log)
-sent_tracks s acts log p m tracks = subst (Tracks s) (sym (after-append acts (Send p m) log)) (tracks_sent s p (bytes_of m) (done acts log) tracks)
+pub sent_tracks : (before after : Seen) (acts : List Act) (log : Log) (p : PeerNo) (m : Msg) → IsSendable m → HasOpened before after p.0 → OpensAt after.opens p.0 (Asked m ∷ trail (done acts log) p.0)
+    → Tracks before (done acts log) → Tracks after (done (acts ++ Send p m ∷ []) log)
+sent_tracks before after acts log p m sendable same at tracks =
+    subst (Tracks after) (sym (after-append acts (Send p m) log))
+    (tracks_asked before after p (bytes_of m) (done acts log) same
+    (subst (λ (o : Option Msg). OpensAt after.opens p.0 (asks o (trail (done acts log) p.0))) (sym (spelled_bytes m sendable)) at) tracks)
+
+-- a peer with nothing open, and what it was sent: headers, and claims
+asked_above : (m : Msg) (chain : Chain) (t : Trail) → AsksAbove chain m → request t ≡ NothingOpen
+    → (filters_open (request (Asked m ∷ t)) ≡ filters_open (request t)) × (blocks_open (request (Asked m ∷ t)) ≡ blocks_open (request t))
+asked_above (GetHeaders version locator stop) chain t asks idle = (sym (ap filters_open idle), sym (ap blocks_open idle))
+asked_above m chain t asks idle = absurd asks
+
+-- a version asks for nothing
+pub version_asks : (m : Msg) (t : Trail) → IsClientVersion m → (filters_open (request (Asked m ∷ t)) ≡ filters_open (request t)) × (blocks_open (request (Asked m ∷ t)) ≡ blocks_open (request t))
+version_asks (Version version services time to from nonce agent height relay) t ours = (refl, refl)
+version_asks m t ours = absurd ours
+
+idle_at : {watch : List (List ℕ)} (places : List Place) (acts : List Act) (log : Log) (i : ℕ) (peer : Peer) → Goes watch places acts log → get_or places i nobody ≡ Here peer
+    → is_idle_peer peer ≡ true → request (trail (done acts log) i) ≡ NothingOpen
+idle_at places acts log i peer goes here idle = (idle_request peer (trail (done acts log) i) (keeps_at places acts log i peer goes here).holds idle).1
+
+pub headers_tracks : {watch : List (List ℕ)} (places : List Place) (acts : List Act) (log : Log) (s : Seen) (i : ℕ) (peer : Peer) (m : Msg) → Goes watch places acts log
+    → get_or places i nobody ≡ Here peer → is_idle_peer peer ≡ true → IsQuestion (chain_at s i) m → Tracks s (done acts log)
+    → Tracks s (done (acts ++ Send (record { 0 = i }) m ∷ []) log)
+headers_tracks places acts log s i peer m goes here idle question tracks =
+    let t = trail (done acts log) i in
+    let same = asked_above m (chain_at s i) t question.asks (idle_at places acts log i peer goes here idle) in
+    sent_tracks s s acts log (record { 0 = i }) m question.sendable (opened_self s i) (opens_asked s.opens i m t same.0 same.1 (tracks.opened i)) tracks
+
+pub claims_tracks : (places : List Place) (acts : List Act) (log : Log) (s after : Seen) (i common : ℕ) (peer : Peer) (span : Span) → Goes s.watch places acts log
+    → get_or places i nobody ≡ Here peer → is_idle_peer peer ≡ true → IsSendable (GetCfheaders 0 span.start span.stop) → HasOpened s after i
+    → IsWish s.table s.claims s.verdicts s.opens i (chain_at s i) common (Claims span) → IsSameOpens s.opens after.opens → Tracks s (done acts log)
+    → Tracks after (done (acts ++ Send (record { 0 = i }) (GetCfheaders 0 span.start span.stop) ∷ []) log)
+claims_tracks places acts log s after i common peer span goes here idle sendable opened wish same tracks =
+    let l = done acts log in
+    let t = trail l i in
+    let m = GetCfheaders 0 span.start span.stop in
+    let sp = wish.1.1.0 in
+    let is : chain_at s i ≡ own t = own_tracked s l i tracks (keeps_at places acts log i peer goes here).holds.on in
+    let tip = ap (λ (c : Chain). back_to span.stop.0 c) (sym is) ∙ sp.tip in
+    let none = idle_at places acts log i peer goes here idle in
+    sent_tracks s after acts log (record { 0 = i }) m sendable opened
+    (opens_on s.opens after.opens i (Asked m ∷ t) same
+    (opens_asked s.opens i m t (ap (λ (o : Option Chain). filters_open (claims_asked span.start span.stop.0 o)) tip ∙ sym (ap filters_open none))
+    (ap (λ (o : Option Chain). blocks_open (claims_asked span.start span.stop.0 o)) tip ∙ sym (ap blocks_open none)) (tracks.opened i))) tracks
+
+pub filters_tracks : (places : List Place) (acts : List Act) (log : Log) (s after : Seen) (i common : ℕ) (peer : Peer) (span : Span) → Goes s.watch places acts log
+    → get_or places i nobody ≡ Here peer → is_idle_peer peer ≡ true → IsSendable (GetCfilters 0 span.start span.stop) → HasOpened s after i
+    → IsWish s.table s.claims s.verdicts s.opens i (chain_at s i) common (Filters span) → OpensFilters s.opens after.opens i (blocks_of span.blocks.items) → Tracks s (done acts log)
+    → Tracks after (done (acts ++ Send (record { 0 = i }) (GetCfilters 0 span.start span.stop) ∷ []) log)
+filters_tracks places acts log s after i common peer span goes here idle sendable opened wish opens tracks =
+    let l = done acts log in
+    let t = trail l i in
+    let m = GetCfilters 0 span.start span.stop in
+    let sp = wish.1.1.0 in
+    let on = (keeps_at places acts log i peer goes here).holds.on in
+    let is : chain_at s i ≡ own t = own_tracked s l i tracks on in
+    let tip = ap (λ (c : Chain). back_to span.stop.0 c) (sym is) ∙ sp.tip in
+    sent_tracks s after acts log (record { 0 = i }) m sendable opened
+    (opens_filters s.opens after.opens i t (Asked m ∷ t) (blocks_of span.blocks.items) (tracks.opened i) (idle_at places acts log i peer goes here idle) opens on
+    (ap (filters_asked span.start) tip ∙ ap (λ (bs : List Hash). FiltersOpen bs []) (sym sp.blocks))) tracks
+
+pub block_tracks : (places : List Place) (acts : List Act) (log : Log) (s after : Seen) (i : ℕ) (peer : Peer) (hash : Hash32) (m : Msg) → Goes s.watch places acts log
+    → get_or places i nobody ≡ Here peer → is_idle_peer peer ≡ true → IsSendable m → AsksFor hash m → HasOpened s after i
+    → OpensBlock s.opens after.opens i hash.0 → Tracks s (done acts log) → Tracks after (done (acts ++ Send (record { 0 = i }) m ∷ []) log)
+block_tracks places acts log s after i peer hash (GetData entries) goes here idle sendable asked opened opens tracks =
+    let l = done acts log in
+    let t = trail l i in
+    sent_tracks s after acts log (record { 0 = i }) (GetData entries) sendable opened
+    (opens_block s.opens after.opens i t (Asked (GetData entries) ∷ t) hash.0 (tracks.opened i) (idle_at places acts log i peer goes here idle) opens
+    (keeps_at places acts log i peer goes here).holds.on (ap (λ (es : List Entry). request (Asked (GetData es) ∷ t)) asked)) tracks
+block_tracks places acts log s after i peer hash m goes here idle sendable asked opened opens tracks = absurd asked
 
 -- for headers
 pub headers_goes : {watch : List (List ℕ)} (places : List Place) (acts : List Act) (log : Log) (s : Seen) (i : ℕ) (peer : Peer) (m : Msg)
@@ -88,19 +196,15 @@ headers_goes places acts log s i peer m lt goes here is tracks question =
 abbrev pub range_in : Span → Range
 range_in span = record { stop = span.stop; parent = span.parent; blocks = span.blocks.items }
 
--- where nothing is being fetched, neither filters nor a block are open to anybody
-spare_none : (places : List Place) (spare : Bool) → spare ≡ not (list_any is_fetching_at places) → spare ≡ true → list_any is_fetching_at places ≡ false
-spare_none places spare is free = not-true (list_any is_fetching_at places) (sym is ∙ free)
-
 -- for claims of filters
-pub claims_goes : (places : List Place) (acts : List Act) (log : Log) (s : Seen) (i : ℕ) (peer : Peer) (common : ℕ) (spare : Bool) (span : Span)
+pub claims_goes : (places : List Place) (acts : List Act) (log : Log) (s : Seen) (i : ℕ) (peer : Peer) (common : ℕ) (span : Span)
     → i < length places → Goes s.watch places acts log → get_or places i nobody ≡ Here peer → is_idle_peer peer ≡ true → peer.heard ≡ true → Furthest s i common (Claims span) → Tracks s (done acts log) → common ≤ length (chain_at s i)
-    → IsWish s.table s.claims s.verdicts i (chain_at s i) common spare (Claims span) → IsSendable (GetCfheaders 0 span.start span.stop)
+    → IsWish s.table s.claims s.verdicts s.opens i (chain_at s i) common (Claims span) → IsSendable (GetCfheaders 0 span.start span.stop)
     → Goes s.watch (set places i (Here (asked_for_claims (range_in span) peer))) (acts ++ Send (record { 0 = i }) (GetCfheaders 0 span.start span.stop) ∷ []) log
-claims_goes places acts log s i peer common spare span lt goes here idle ended far tracks low wish sendable =
+claims_goes places acts log s i peer common span lt goes here idle ended far tracks low wish sendable =
     let keeps : Keeps peer (part_of (done acts log) i) = keeps_at places acts log i peer goes here in
     let is : chain_at s i ≡ own (trail (done acts log) i) = own_tracked s (done acts log) i tracks keeps.holds.on in
-    let may = claims_send s (done acts log) i common spare span (chain_at s i) tracks is low (idle_free peer (part_of (done acts log) i) keeps idle) keeps.holds.clean wish in
+    let may = claims_send s (done acts log) i common span (chain_at s i) tracks is low (idle_free peer (part_of (done acts log) i) keeps idle) keeps.holds.clean wish in
     let sp = wish.1.1.0 in
     send_goes places acts log i (asked_for_claims (range_in span) peer) (GetCfheaders 0 span.start span.stop) lt goes sendable may.0
     (in_turn places (done acts log) s i common (Claims span) (GetCfheaders 0 span.start span.stop) goes.stand tracks is (sym keeps.holds.hearing ∙ ended) far wish (refl, refl))
@@ -108,40 +212,36 @@ claims_goes places acts log s i peer common spare span lt goes here idle ended f
     (asked_claims_holds peer (trail (done acts log) i) (range_in span) 0 span.start sp.part keeps.holds idle (ap (λ (c : Chain). back_to span.stop.0 c) (sym is) ∙ sp.tip) sp.parent sp.blocks) refl refl refl)
 
 -- for filters
-pub filters_goes : (places : List Place) (acts : List Act) (log : Log) (s : Seen) (i : ℕ) (peer : Peer) (common : ℕ) (spare : Bool) (span : Span)
+pub filters_goes : (places : List Place) (acts : List Act) (log : Log) (s : Seen) (i : ℕ) (peer : Peer) (common : ℕ) (span : Span)
     → i < length places → Goes s.watch places acts log → get_or places i nobody ≡ Here peer → is_idle_peer peer ≡ true → peer.heard ≡ true → Furthest s i common (Filters span) → Tracks s (done acts log) → common ≤ length (chain_at s i)
-    → spare ≡ not (list_any is_fetching_at places) → IsWish s.table s.claims s.verdicts i (chain_at s i) common spare (Filters span) → IsSendable (GetCfilters 0 span.start span.stop)
+    → IsWish s.table s.claims s.verdicts s.opens i (chain_at s i) common (Filters span) → IsSendable (GetCfilters 0 span.start span.stop)
     → Goes s.watch (set places i (Here (asked_for_filters span.blocks.items peer))) (acts ++ Send (record { 0 = i }) (GetCfilters 0 span.start span.stop) ∷ []) log
-filters_goes places acts log s i peer common spare span lt goes here idle ended far tracks low free wish sendable =
+filters_goes places acts log s i peer common span lt goes here idle ended far tracks low wish sendable =
     let keeps : Keeps peer (part_of (done acts log) i) = keeps_at places acts log i peer goes here in
     let is : chain_at s i ≡ own (trail (done acts log) i) = own_tracked s (done acts log) i tracks keeps.holds.on in
-    let may = filters_send s (done acts log) i common spare span (chain_at s i) tracks is low (idle_free peer (part_of (done acts log) i) keeps idle) keeps.holds.clean
-    (λ yes. none_open places (done acts log) goes.stand (spare_none places spare free yes)) wish in
+    let may = filters_send s (done acts log) i common span (chain_at s i) tracks is low (idle_free peer (part_of (done acts log) i) keeps idle) keeps.holds.clean wish in
     let sp = wish.1.1.0 in
     send_goes places acts log i (asked_for_filters span.blocks.items peer) (GetCfilters 0 span.start span.stop) lt goes sendable may.0 (
       may.1,
-      in_turn places (done acts log) s i common (Filters span) (GetCfilters 0 span.start span.stop) goes.stand tracks is (sym keeps.holds.hearing ∙ ended) far
-          (subst (λ (b : Bool). IsWish s.table s.claims s.verdicts i (chain_at s i) common b (Filters span)) wish.0.0 wish) (refl, refl),
+      in_turn places (done acts log) s i common (Filters span) (GetCfilters 0 span.start span.stop) goes.stand tracks is (sym keeps.holds.hearing ∙ ended) far wish (refl, refl),
     )
     (asked_keeps (asked_for_filters span.blocks.items peer) peer (part_of (done acts log) i) (GetCfilters 0 span.start span.stop) keeps
     (asked_filters_holds peer (trail (done acts log) i) span.blocks.items 0 span.start span.stop sp.part keeps.holds idle (ap (λ (c : Chain). back_to span.stop.0 c) (sym is) ∙ sp.tip) sp.blocks) refl refl refl)
 
 -- for a block
-pub block_goes : (places : List Place) (acts : List Act) (log : Log) (s : Seen) (i : ℕ) (peer : Peer) (common : ℕ) (spare : Bool) (hash : Hash32) (m : Msg)
+pub block_goes : (places : List Place) (acts : List Act) (log : Log) (s : Seen) (i : ℕ) (peer : Peer) (common : ℕ) (hash : Hash32) (m : Msg)
     → i < length places → Goes s.watch places acts log → get_or places i nobody ≡ Here peer → is_idle_peer peer ≡ true → peer.heard ≡ true → Furthest s i common (Block hash) → Tracks s (done acts log) → common ≤ length (chain_at s i)
-    → spare ≡ not (list_any is_fetching_at places) → IsWish s.table s.claims s.verdicts i (chain_at s i) common spare (Block hash) → IsSendable m → AsksFor hash m
+    → IsWish s.table s.claims s.verdicts s.opens i (chain_at s i) common (Block hash) → IsSendable m → AsksFor hash m
     → Goes s.watch (set places i (Here (asked_for_block hash peer))) (acts ++ Send (record { 0 = i }) m ∷ []) log
-block_goes places acts log s i peer common spare hash (GetData entries) lt goes here idle ended far tracks low free wish sendable asks =
+block_goes places acts log s i peer common hash (GetData entries) lt goes here idle ended far tracks low wish sendable asks =
     let keeps : Keeps peer (part_of (done acts log) i) = keeps_at places acts log i peer goes here in
     let is : chain_at s i ≡ own (trail (done acts log) i) = own_tracked s (done acts log) i tracks keeps.holds.on in
-    let may = block_send s (done acts log) i common spare hash (chain_at s i) tracks is low (idle_free peer (part_of (done acts log) i) keeps idle)
-    (λ yes. none_open places (done acts log) goes.stand (spare_none places spare free yes)) wish in
+    let may = block_send s (done acts log) i common hash (chain_at s i) tracks is low (idle_free peer (part_of (done acts log) i) keeps idle) wish in
     send_goes places acts log i (asked_for_block hash peer) (GetData entries) lt goes sendable
     (subst (λ (es : List Entry). MaySend (done acts log) i (GetData es)) (sym asks) may.0) (
       subst (λ (es : List Entry). IsNeeded s.watch (done acts log) i (GetData es)) (sym asks) may.1,
-      in_turn places (done acts log) s i common (Block hash) (GetData entries) goes.stand tracks is (sym keeps.holds.hearing ∙ ended) far
-          (subst (λ (b : Bool). IsWish s.table s.claims s.verdicts i (chain_at s i) common b (Block hash)) wish.1.0.0 wish) asks,
+      in_turn places (done acts log) s i common (Block hash) (GetData entries) goes.stand tracks is (sym keeps.holds.hearing ∙ ended) far wish asks,
     )
     (asked_keeps (asked_for_block hash peer) peer (part_of (done acts log) i) (GetData entries) keeps
     (subst (λ (es : List Entry). Holds (asked_for_block hash peer) (Asked (GetData es) ∷ trail (done acts log) i)) (sym asks) (asked_block_holds peer (trail (done acts log) i) hash keeps.holds idle)) refl refl refl)
-block_goes places acts log s i peer common spare hash m lt goes here idle ended far tracks low free wish sendable asks = absurd asks
+block_goes places acts log s i peer common hash m lt goes here idle ended far tracks low wish sendable asks = absurd asks

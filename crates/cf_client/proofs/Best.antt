@@ -84,7 +84,7 @@ pub record Furthest (s : Seen) (i common : ℕ) (wish : Wish) : Type 0 where
   pub best : PeerNo
   pub is : IsBestOf s.chains (Some best)
   pub shared : common ≡ common_of (chain_at s i) (chain_at s best.0)
-  pub far : GoesFar s.table s.claims s.verdicts i (chain_at s i) common wish
+  pub far : GoesFar s.table s.claims s.verdicts s.opens i (chain_at s i) common wish
 
 some_chain : (o : Option Chain) → 0 < rank o → o ≡ Some (unwrap_or o [])
 some_chain None low = absurd (omega (arith, low))
@@ -92,7 +92,7 @@ some_chain (Some own) low = refl
 
 -- what a tracker wishes of a peer that was heard out it is its turn to be asked
 pub in_turn : (places : List Place) (log : Log) (s : Seen) (i common : ℕ) (wish : Wish) (m : Msg) → PlacesStand places log → Tracks s log → chain_at s i ≡ own (trail log i) → heard (trail log i) ≡ true
-    → Furthest s i common wish → IsWish s.table s.claims s.verdicts i (chain_at s i) common true wish → Puts wish m → IsInTurn s.watch log i m
+    → Furthest s i common wish → IsWish s.table s.claims s.verdicts s.opens i (chain_at s i) common wish → Puts wish m → IsInTurn s.watch log i m
 in_turn places log s i common wish m stand tracks mine ended far wished puts =
     let chain : Chain = chain_at s far.best.0 in
     let low : 0 < rank (s.chains far.best.0) = (let some = far.is.0 in omega (arith, some)) in
@@ -105,9 +105,11 @@ in_turn places log s i common wish m stand tracks mine ended far wished puts =
       verdicts = s.verdicts;
       fetched = tracks.fetched;
       claimed = tracks.claimed;
+      opens = s.opens;
       given = tracks.given;
+      opened = tracks.opened;
       wish = wish;
-      wished = subst (λ (c : Chain). IsWish s.table s.claims s.verdicts i c (common_of c chain) true wish) mine (subst (λ (n : ℕ). IsWish s.table s.claims s.verdicts i (chain_at s i) n true wish) far.shared wished);
-      far = subst (λ (c : Chain). GoesFar s.table s.claims s.verdicts i c (common_of c chain) wish) mine (subst (λ (n : ℕ). GoesFar s.table s.claims s.verdicts i (chain_at s i) n wish) far.shared far.far);
+      wished = subst (λ (c : Chain). IsWish s.table s.claims s.verdicts s.opens i c (common_of c chain) wish) mine (subst (λ (n : ℕ). IsWish s.table s.claims s.verdicts s.opens i (chain_at s i) n wish) far.shared wished);
+      far = subst (λ (c : Chain). GoesFar s.table s.claims s.verdicts s.opens i c (common_of c chain) wish) mine (subst (λ (n : ℕ). GoesFar s.table s.claims s.verdicts s.opens i (chain_at s i) n wish) far.shared far.far);
       puts = puts;
     }

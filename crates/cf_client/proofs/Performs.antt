@@ -21,15 +21,20 @@ use Rattle.cf_peer.specs.Acts.{bytes_of}
 use Rattle.cf_wires.specs.Log.{Log, Told, Tells, tally_of, noted, tell, longer}
 use Rattle.cf_peer.specs.Trail.{Trail, Part, Why, Item, Asked, Lost, Failing, Shutting, spelled, asks, with_item, part_of, trail, went_on, connected, failed, is_failing}
 use Rattle.cf_dispute.specs.Claims.{Table}
-use Rattle.cf_peer.specs.Asking.{request, is_open, is_spare, counted, fetched, given, Deserves, MayAsk}
+use Rattle.cf_peer.specs.Asking.{request, is_open, counted, fetched, given, Deserves, MayAsk}
 use Rattle.cf_headers.specs.declared.store.HeaderStore.{Ghosts}
 use Rattle.cf_match.specs.declared.matcher.Matcher.{Ghosts as Judges}
-use Rattle.cf_sync.specs.Fetching.{IsNoneFetching, IsAlone, counted_part}
-use Rattle.cf_sync.specs.Kept.{claims_kept}
+use Rattle.cf_sync.proofs.Alone.{alone_less}
+use Rattle.cf_sync.specs.Fetching.{IsAlone, counted_part}
+use Rattle.cf_sync.specs.Kept.{OpensAt, claims_kept}
 use Rattle.cf_sync.proofs.VerdictsGrow.{same_given}
 use Rattle.cf_sync.specs.Planned.{is_untold, before_failure, IsMeant, Alike}
 use Rattle.cf_sync.proofs.Planning.{planned_part}
 use Rattle.cf_hear.specs.Tracks.{chain_kept}
+use Rattle.cf_hear.proofs.Opening.{closes_off}
+use Rattle.cf_sync.proofs.KeptOpens.{opens_closed}
+use Rattle.cf_tracker.specs.Opens.{Opens}
+use Rattle.cf_tracker.specs.Tracker.{opens_of}
 use Rattle.cf_client.specs.declared.client.Client.{Client}
 use Rattle.cf_place.specs.declared.place.Place.{Place}
 use Rattle.cf_place.specs.declared.place.Place.TheVariants.{Here, Lost as LostPlace}
@@ -214,33 +219,20 @@ known_told acts progress called planned t p free on doing = elim (cases_Bool (is
   | inr told ↦ told
 ]
 
--- where nothing is being fetched as planned, nothing is indeed
-none_fetching_too : {watch : List (List ℕ)} (acts : List Act) (progress : Progress) (called : List (List ℕ)) (planned : Log) (t : Told) → (doing : Doing watch acts progress called planned t) → IsNoneFetching planned → IsNoneFetching doing.actual
-none_fetching_too acts progress called planned t doing none q on = elim (cases_Bool (is_untold doing.actual q)) [
+-- who is connected has the part that was planned
+connected_same : {watch : List (List ℕ)} (acts : List Act) (progress : Progress) (called : List (List ℕ)) (planned : Log) (t : Told) → (doing : Doing watch acts progress called planned t) → (q : ℕ) → connected (trail doing.actual q) ≡ true → part_of planned q ≡ part_of doing.actual q
+connected_same acts progress called planned t doing q on = elim (cases_Bool (is_untold doing.actual q)) [
   | inl untold ↦ absurd (both_ways (connected (trail doing.actual q)) (doing.broken q untold).0 on)
   | inr told ↦ elim (doing.plan.told q told) [
-    | inl same ↦ subst (λ (x : Part). is_spare (request x.trail) ≡ true) same (none q (ap (λ (x : Part). connected x.trail) same ∙ on))
+    | inl same ↦ same
     | inr off ↦ absurd (both_ways (connected (trail doing.actual q)) off.1 on)
   ]
 ]
 
-alone_too : {watch : List (List ℕ)} (acts : List Act) (progress : Progress) (called : List (List ℕ)) (planned : Log) (t : Told) → (doing : Doing watch acts progress called planned t) → (m : Msg) → IsAlone planned m → IsAlone doing.actual m
-alone_too acts progress called planned t doing (GetData entries) alone = none_fetching_too acts progress called planned t doing alone
-alone_too acts progress called planned t doing (Version version services time to from nonce agent height relay) alone = tt
-alone_too acts progress called planned t doing Verack alone = tt
-alone_too acts progress called planned t doing (Ping number) alone = tt
-alone_too acts progress called planned t doing (Pong number) alone = tt
-alone_too acts progress called planned t doing (GetHeaders version locator stop) alone = tt
-alone_too acts progress called planned t doing (Headers hs) alone = tt
-alone_too acts progress called planned t doing (Inv entries) alone = tt
-alone_too acts progress called planned t doing (Block block) alone = tt
-alone_too acts progress called planned t doing (GetCfilters filter start stop) alone = none_fetching_too acts progress called planned t doing alone
-alone_too acts progress called planned t doing (Cfilter filter block bytes) alone = tt
-alone_too acts progress called planned t doing (GetCfheaders filter start stop) alone = tt
-alone_too acts progress called planned t doing (Cfheaders filter stop previous hashes) alone = tt
-alone_too acts progress called planned t doing (GetCfcheckpt filter stop) alone = tt
-alone_too acts progress called planned t doing (Cfcheckpt filter stop headers) alone = tt
-alone_too acts progress called planned t doing (Other command payload) alone = tt
+-- what is asked is open to nobody by the plan, and so indeed
+alone_too : {watch : List (List ℕ)} (acts : List Act) (progress : Progress) (called : List (List ℕ)) (planned : Log) (t : Told) → (doing : Doing watch acts progress called planned t) → (p : ℕ) (m : Msg) → part_of planned p ≡ part_of doing.actual p
+    → IsAlone planned p m → IsAlone doing.actual p m
+alone_too acts progress called planned t doing p m same alone = alone_less planned doing.actual p m (connected_same acts progress called planned t doing) same alone
 
 -- an act on a peer whose failed send is pending is planned, and not done
 skipped : {watch : List (List ℕ)} (a : Act) (acts : List Act) (progress : Progress) (called : List (List ℕ)) (planned : Log) (t : Told) (p : ℕ) (e : Event) (i : Item)
@@ -327,7 +319,7 @@ sent_on acts progress trace called planned t p m command free line is may doing 
             record {
               of_its_part = subst (λ (x : Part). MayAsk x.trail m) same may.2.of_its_part;
               wanted = same_wanted planned doing.actual doing.brought m may.2.wanted;
-              alone = alone_too (Send p m ∷ acts) progress called planned t doing m may.2.alone;
+              alone = alone_too (Send p m ∷ acts) progress called planned t doing p.0 m same may.2.alone;
             },
           ),
           doing.notes.rightly,
@@ -711,6 +703,11 @@ claims_alike : (t u : Part) → Alike t u → claims_kept t.trail ≡ claims_kep
 claims_alike t u (inl same) = ap (λ (x : Part). claims_kept x.trail) same
 claims_alike t u (inr off) = rw (off.0, off.1) refl
 
+opens_alike : (opens : Opens) (q : ℕ) (t u : Part) → Alike t u → OpensAt opens q t.trail → OpensAt opens q u.trail
+opens_alike opens q t u (inl same) at = subst (λ (x : Part). OpensAt opens q x.trail) same at
+opens_alike opens q t u (inr off) at =
+    opens_closed opens opens q u.trail (closes_off opens q t.trail at off.0) (λ on. absurd (both_ways (connected u.trail) off.1 on))
+
 -- with no failure pending the client reflects the actual log
 pub all_told : {H M : Type 0} {g : Ghosts H} {j : Judges M} (c : Client H M g j) (progress : Progress) (called : List (List ℕ)) (planned : Log) (t : Told) → ((q : ℕ) → is_pending (state_at progress.sends q) ≡ false)
     → Reflects c planned → Doing (watch_by c) [] progress called planned t → HoldsOver c progress called t
@@ -733,6 +730,7 @@ all_told c progress called planned t none reflects doing =
           claimed = λ q block. reflects.tracks.claimed q block ∙ ap (λ (c : Table). c block) (claims_alike (part_of planned q) (part_of doing.actual q) (doing.plan.told q (told q)));
           fetched = same_holds _ planned doing.actual _ doing.brought reflects.tracks.fetched;
           given = same_given _ planned doing.actual _ _ (λ q. sym (doing.gave q)) (λ block hash. refl) reflects.tracks.given;
+          opened = λ q. opens_alike (opens_of c.tracker) q (part_of planned q) (part_of doing.actual q) (doing.plan.told q (told q)) (reflects.tracks.opened q);
         };
       };
       told_all = told;

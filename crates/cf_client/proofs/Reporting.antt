@@ -2,8 +2,7 @@
 use Rattle.std.proofs.Common.{◌≡◌, ◌≢◌, inl, inr, ℕ, ◌+◌, ◌≤◌, List, [], length, map, drop, get_or, length-drop, Option, Some, None, Bool, true, false, if◌then◌else◌, refl, sym, ◌∙◌, ap, subst, arith}
 use Rattle.std.specs.Prelude.{unwrap_or}
 use Rattle.std.specs.Option.{IsSome}
-use Rattle.std.specs.List.{list_any}
-use Rattle.std.proofs.lemmas.Bool.{cases_Bool, both_ways, false≢true, not-false}
+use Rattle.std.proofs.lemmas.Bool.{not-false}
 use Rattle.std.proofs.lemmas.Grind.{get_or_after_one}
 use Rattle.std.proofs.lemmas.Option.{none-some}
 use Rattle.std.proofs.Math.ListN.{get_or-map}
@@ -14,18 +13,18 @@ use Rattle.cf_headers.specs.Heights.{hash_at, common_of}
 use Rattle.cf_peer.specs.declared.peer.Peer.{Peer}
 use Rattle.cf_wires.specs.Log.{Log}
 use Rattle.cf_peer.specs.Trail.{Trail, Part, part_of, trail, connected, ready, own}
-use Rattle.cf_peer.specs.Asking.{request, is_open, is_spare, claims}
+use Rattle.cf_peer.specs.Asking.{is_open, claims}
 use Rattle.cf_peer.specs.Peer.{Holds, wants, is_idle_peer, is_ready_peer}
-use Rattle.cf_peer.proofs.Peers.{open_by, fetching_is, ready_is}
+use Rattle.cf_peer.proofs.Peers.{open_by, ready_is}
 use Rattle.cf_dispute.specs.declared.claim.At.{At}
 use Rattle.cf_dispute.specs.declared.claim.At.TheVariants.{Nobody}
 use Rattle.cf_dispute.specs.declared.claim.Claim.{Claim}
 use Rattle.cf_dispute.specs.Claims.{IsAt, no_claims}
 use Rattle.cf_scan.specs.declared.history.Entry.{Entry}
 use Rattle.cf_scan.specs.Watching.{IsWatch}
-use Rattle.cf_sync.specs.Fetching.{IsConnected, IsAskedOut, IsNoneFetching, IsScanOver, IsSettled, counted_part}
+use Rattle.cf_sync.specs.Fetching.{IsBlockOpen, IsConnected, IsAskedOut, IsFilterOpen, IsScanOver, IsSettled, counted_part}
 use Rattle.cf_sync.proofs.Counted.{same_use}
-use Rattle.cf_sync.proofs.Kept.{settled_by, done_else}
+use Rattle.cf_sync.proofs.KeptOpens.{settled_else}
 use Rattle.cf_sync.proofs.Tables.{history_over}
 use Rattle.cf_tracker.specs.Wanting.{IsAbove}
 use Rattle.cf_hear.specs.Seen.{Seen}
@@ -37,10 +36,9 @@ use Rattle.cf_place.specs.declared.place.PeerEnd.{PeerEnd}
 use Rattle.cf_place.specs.declared.place.PeerEnd.TheVariants.{Ready, Waiting, NotDialled as EndsNotDialled}
 use Rattle.cf_place.specs.declared.place.Place.{Place}
 use Rattle.cf_place.specs.declared.place.Place.TheVariants.{Here, Lost}
-use Rattle.cf_place.specs.Places.{IsLost, Fits, nobody, PlacesStand, EndTells, EndsTell, end_by, end_of, is_idle, is_fetching_at, is_settled}
+use Rattle.cf_place.specs.Places.{IsLost, Fits, nobody, PlacesStand, EndTells, EndsTell, end_by, end_of, is_idle, is_settled}
 use Rattle.cf_client.specs.Stands.{IsTip, IsReportOf}
 use Rattle.cf_client.specs.Settled.{AreSettled, IsAskedThrough, IsThrough, chain_at}
-use Rattle.cf_client.proofs.Standing.{any_at}
 use Rattle.cf_client.proofs.Best.{on_kept, here_of, best_is}
 use Rattle.cf_client.proofs.Settled.{settled_off, heard_by}
 use Rattle.cf_client.proofs.Rights.{header_known}
@@ -53,44 +51,31 @@ tip_is places log s chain height hash stand tracks best high is = record { chain
 
 -- ---- what was asked
 
--- where neither filters nor a block are open to a connected peer, none are at any place
-fetching_here : (place : Place) (part : Part) → Fits place part → is_fetching_at place ≡ true → (connected part.trail ≡ true) × (is_spare (request part.trail) ≡ false)
-fetching_here (Here peer) part keeps is = (keeps.holds.on, fetching_is peer part.trail keeps.holds is)
-fetching_here (Lost end) part off is = absurd (false≢true is)
-
-none_fetching : (places : List Place) (log : Log) → PlacesStand places log → IsNoneFetching log → list_any is_fetching_at places ≡ false
-none_fetching places log stand spare = elim (cases_Bool (list_any is_fetching_at places)) [
-  | inl some ↦ absurd (
-      let i = any_at is_fetching_at places some in
-      let f = fetching_here (get_or places i.0 nobody) (part_of log i.0) (stand.each i.0) i.1 in
-      both_ways (is_spare (request (trail log i.0))) f.1 (spare i.0 f.0))
-  | inr none ↦ none
-]
-
 -- nothing is open to it, and it is to be asked nothing: it was heard out
 idle_of : (peer : Peer) (t : Trail) → Holds peer t → is_open t ≡ false → is_idle_peer peer ≡ true
 idle_of peer t h quiet = not-false (is_idle_peer peer) (sym (open_by peer t h) ∙ quiet)
 
--- a block of a peer's chain that it claims and that is neither to be judged nor to be fetched is settled
+-- a block of a peer's chain that it claims, that isn't open, and of which nothing is to be asked for that isn't open, is settled
 settled_at : (log : Log) (s : Seen) (p : ℕ) (own : Chain) (common h : ℕ) (at : At) → Tracks s log → IsAt s.claims (hash_at own h) at → 1 ≤ h → h ≤ common
-    → IsThrough s.table s.claims s.verdicts p own common false → IsAbove (hash_at own h) → IsSettled s.watch log (hash_at own h)
+    → IsThrough s.table s.claims s.verdicts s.opens p own common → IsAbove (hash_at own h) → (IsFilterOpen log (hash_at own h) → ⊥) → (IsBlockOpen log (hash_at own h) → ⊥)
+    → IsSettled s.watch log (hash_at own h)
 settled_at log s p own common h at tracks is one le through above =
     let somebody : at ≢ Nobody = λ none. claimed_by (s.claims p (hash_at own h)) (through.claimed h one le above) (subst (IsAt s.claims (hash_at own h)) none is p) in
-    settled_by s.watch log s.table s.claims s.verdicts tracks.fetched tracks.claimed tracks.given (hash_at own h)
-    (done_else s.table s.claims s.verdicts (hash_at own h) at is somebody (through.judged refl h one le above) (through.fetched refl h one le above)) where
+    settled_else s.watch log s.table s.claims s.verdicts s.opens tracks.fetched tracks.claimed tracks.given tracks.opened (hash_at own h) at is somebody above
+    (through.judged h one le) (through.fetched h one le) where
       claimed_by : (o : Option Claim) → IsSome o → o ≡ None → ⊥
       claimed_by None some none = cc some
       claimed_by (Some claim) some none = cc none
 
 -- what a connected peer is through with: the blocks that its own chain shares with the best one
-through_shared : (s : Seen) (p : ℕ) (place : Place) (fetching : Bool) (own chain : Chain) → IsAskedThrough place fetching s p → is_idle place ≡ true → s.chains p ≡ Some own → IsBestChain s.chains chain
-    → IsThrough s.table s.claims s.verdicts p own (common_of own chain) fetching
-through_shared s p place fetching own chain through idle kept (inl b) =
+through_shared : (s : Seen) (p : ℕ) (place : Place) (own chain : Chain) → IsAskedThrough place s p → is_idle place ≡ true → s.chains p ≡ Some own → IsBestChain s.chains chain
+    → IsThrough s.table s.claims s.verdicts s.opens p own (common_of own chain)
+through_shared s p place own chain through idle kept (inl b) =
     let this : chain_at s p ≡ own = ap (λ (o : Option Chain). unwrap_or o []) kept in
     let other : chain_at s b.0.0 ≡ chain = ap (λ (o : Option Chain). unwrap_or o []) b.2 in
-    subst (λ (c : Chain). IsThrough s.table s.claims s.verdicts p own (common_of own c) fetching) other
-    (subst (λ (c : Chain). IsThrough s.table s.claims s.verdicts p c (common_of c (chain_at s b.0.0)) fetching) this (through idle b.0 b.1))
-through_shared s p place fetching own chain through idle kept (inr none) = absurd (none-some own (sym (none.0 p) ∙ kept))
+    subst (λ (c : Chain). IsThrough s.table s.claims s.verdicts s.opens p own (common_of own c)) other
+    (subst (λ (c : Chain). IsThrough s.table s.claims s.verdicts s.opens p c (common_of c (chain_at s b.0.0))) this (through idle b.0 b.1))
+through_shared s p place own chain through idle kept (inr none) = absurd (none-some own (sym (none.0 p) ∙ kept))
 
 pub asked_out_of : (places : List Place) (log : Log) (s : Seen) (chain : Chain) → PlacesStand places log → Tracks s log → AreSettled places s → ((block : Hash) → (at : At) × IsAt s.claims block at) → IsBestChain s.chains chain
     → (p : ℕ) → IsConnected log p → is_open (trail log p) ≡ false → IsAskedOut s.watch log chain p
@@ -104,17 +89,16 @@ asked_out_of places log s chain stand tracks settled decided best p on quiet =
     let idle : is_idle_peer peer ≡ true = idle_of peer t holds quiet in
     let off : wants peer ≡ false = settled_off (Here peer) (subst (λ (x : Place). is_settled x ≡ true) here.1 (settled.each p)) in
     let kept : s.chains p ≡ Some mine = tracks.kept p ∙ on_kept t on ∙ ap (λ (c : Chain). Some c) (sym whole.chain) in
-    let through : IsThrough s.table s.claims s.verdicts p mine (common_of mine chain) (list_any is_fetching_at places) =
-    through_shared s p (get_or places p nobody) (list_any is_fetching_at places) mine chain (settled.through p) (ap is_idle here.1 ∙ idle) kept best in
+    let through : IsThrough s.table s.claims s.verdicts s.opens p mine (common_of mine chain) =
+    through_shared s p (get_or places p nobody) mine chain (settled.through p) (ap is_idle here.1 ∙ idle) kept best in
     record {
       heard_out = whole.hearing ∙ sym holds.hearing ∙ heard_by peer idle off;
       claimed = λ h one le.
           let same : s.claims p (hash_at mine h) ≡ claims (counted_part log p) (hash_at mine h) = tracks.claimed p (hash_at mine h) ∙ ap (λ (b : Bool). (if b then claims (counted_part log p) else no_claims) (hash_at mine h)) on in
           header_known (claims (counted_part log p)) (hash_at mine h) (λ above. subst IsSome same (through.claimed h one le above));
-      settled = λ spare h one le above.
+      settled = λ h one le above no_filter no_block.
           let d = decided (hash_at mine h) in
-          settled_at log s p mine (common_of mine chain) h d.0 tracks d.1 one le
-          (subst (λ (b : Bool). IsThrough s.table s.claims s.verdicts p mine (common_of mine chain) b) (none_fetching places log stand spare) through) above;
+          settled_at log s p mine (common_of mine chain) h d.0 tracks d.1 one le through above no_filter no_block;
     }
 
 -- ---- what is told

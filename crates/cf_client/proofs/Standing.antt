@@ -18,11 +18,11 @@ use Rattle.cf_peer.specs.declared.peer.Cause.TheVariants.{Overdue}
 use Rattle.cf_peer.specs.declared.peer.Peer.{Peer}
 use Rattle.cf_peer.specs.Acts.{bytes_of, IsSendable}
 use Rattle.cf_wires.specs.Log.{Log, tally_of, noted}
-use Rattle.cf_peer.specs.Trail.{owed, Trail, Part, Called, Asked, Lost as LostItem, Went, Shutting, part_of, trail, went_on, asks, spelled, with_item, called_part, connected, ready, own, replied, as_reply, is_version, IsClientVersion}
-use Rattle.cf_peer.specs.Asking.{counted, OpenRequest, NothingOpen, HeadersOpen, ClaimsOpen, FiltersOpen, BlockOpen, request, age, is_open, is_spare, MayAsk, IsFree}
+use Rattle.cf_peer.specs.Trail.{owed, Trail, Part, Called, Asked, Lost as LostItem, Went, Shutting, part_of, trail, went_on, asks, spelled, with_item, called_part, connected, own, replied, as_reply, is_version, IsClientVersion}
+use Rattle.cf_peer.specs.Asking.{counted, request, age, is_open, MayAsk, IsFree}
 use Rattle.cf_peer.specs.declared.peer.Request.TheVariants.{Handshake}
-use Rattle.cf_peer.specs.Peer.{Holds, aged, wants, is_idle_peer, is_block, is_fetching, called_peer, asked_for_headers}
-use Rattle.cf_sync.specs.Fetching.{IsNoneFetching, MaySend}
+use Rattle.cf_peer.specs.Peer.{Holds, wants, is_idle_peer, called_peer, asked_for_headers}
+use Rattle.cf_sync.specs.Fetching.{MaySend}
 use Rattle.cf_sync.specs.Due.{IsCalledFor}
 use Rattle.cf_sync.specs.Honesty.{asked}
 use Rattle.cf_sync.proofs.Counted.{same_use}
@@ -30,7 +30,7 @@ use Rattle.cf_peer.proofs.Peers.{open_by, idle_request, late_is, wants_is, asked
 use Rattle.cf_place.specs.declared.place.Place.{Place}
 use Rattle.cf_place.specs.declared.place.Place.TheVariants.{Here, Lost}
 use Rattle.cf_place.specs.declared.place.Loss.TheVariants.{NotDialled as NeverCalled, Closed as ClosedFor}
-use Rattle.cf_place.specs.Places.{IsGreetedBy, IsAnswered, IsReplied, IsLost, Keeps, Fits, nobody, PlacesStand, entry_of, after, MayAct, Allowed, Goes, is_calm, is_busy, is_here, is_fetching_at, state_of, IsState, IsGreeting, IsQuestion, AsksAbove}
+use Rattle.cf_place.specs.Places.{IsGreetedBy, IsAnswered, IsReplied, IsLost, Keeps, Fits, nobody, PlacesStand, entry_of, after, MayAct, Allowed, Goes, is_calm, is_busy, is_here, state_of, IsState, IsGreeting, IsQuestion, AsksAbove}
 use Rattle.cf_client.proofs.Spelled.{spelled_bytes}
 use Rattle.cf_client.proofs.Losing.{lost_went, shut_now}
 
@@ -197,25 +197,6 @@ wants_goes {watch = watch} places acts log i peer chain m lt goes here is mine q
     (question_may (after acts log) i peer m keeps is (subst (λ (c : Chain). AsksAbove c m) mine question.asks))
     (question_needed watch (after acts log) i chain m question.asks)
     (question_keeps peer (part_of (after acts log) i) chain m keeps is question.asks)
-
--- neither filters nor a block are open to anybody
-spare_by : (over : Bool) (r : OpenRequest) (age : ℕ) → is_block (if over then aged r age else Handshake age) ≡ false → (over ≡ false → r ≡ NothingOpen) → is_spare r ≡ true
-spare_by false r age off orderly = ap is_spare (orderly refl)
-spare_by true NothingOpen age off orderly = refl
-spare_by true HeadersOpen age off orderly = refl
-spare_by true (ClaimsOpen stop parent blocks) age off orderly = refl
-spare_by true (FiltersOpen left came) age off orderly = absurd (false≢true (sym off))
-spare_by true (BlockOpen block) age off orderly = absurd (false≢true (sym off))
-
-spare_is : (peer : Peer) (t : Trail) → Holds peer t → is_fetching peer ≡ false → is_spare (request t) ≡ true
-spare_is peer t h off = spare_by (ready t) (request t) (age t) (sym (ap is_block h.open_one) ∙ off) h.orderly
-
-spare_at : (place : Place) (part : Part) → Fits place part → is_fetching_at place ≡ false → connected part.trail ≡ true → is_spare (request part.trail) ≡ true
-spare_at (Here peer) part keeps off on = spare_is peer part.trail keeps.holds off
-spare_at (Lost end) part lost off on = absurd (both_ways (connected part.trail) lost.off on)
-
-pub none_open : (places : List Place) (log : Log) → PlacesStand places log → list_any is_fetching_at places ≡ false → IsNoneFetching log
-none_open places log stand none q on = spare_at (get_or places q nobody) (part_of log q) (stand.each q) (none_at is_fetching_at places refl none q) on
 
 -- a message is asked of a connected peer to which nothing is open
 pub keeps_at : {watch : List (List ℕ)} (places : List Place) (acts : List Act) (log : Log) (i : ℕ) (peer : Peer) → Goes watch places acts log → get_or places i nobody ≡ Here peer

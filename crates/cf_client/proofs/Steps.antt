@@ -1,11 +1,11 @@
 -- How steps of the client are put together, and what each single act is as a step.
 use Rattle.std.proofs.Common.{◌≡◌, ◌≢◌, inl, inr, ℕ, ◌<◌, ◌≤◌, Bool, List, [], ◌∷◌, ◌++◌, length, get_or, set, None, true, false, refl, sym, ◌∙◌, ap, subst, arith, append_assoc}
-use Rattle.std.proofs.lemmas.Bool.{cases_eq}
+use Rattle.std.proofs.lemmas.Bool.{and_parts, cases_eq}
 use Rattle.std.proofs.lemmas.List.{append-nil, length-set}
 use Rattle.std.proofs.lemmas.List.Elements.{All-push}
 use Rattle.std.specs.Prelude.{is_some, not}
 use Rattle.std.proofs.lemmas.Grind.{common_steps}
-use Rattle.std.specs.List.{All, list_any}
+use Rattle.std.specs.List.{All}
 use Rattle.cf_bytes.specs.declared.hash.Hash32.{Hash32}
 use Rattle.cf_dispute.specs.Claims.{no_claims}
 use Rattle.cf_headers.specs.Chain.{Hash}
@@ -23,21 +23,25 @@ use Rattle.cf_peer.specs.Peer.{IsRight, calm, wants, is_idle_peer, asked_for_hea
 use Rattle.cf_tracker.specs.declared.spans.Span.{Span}
 use Rattle.cf_tracker.specs.declared.spans.Wish.{Wish}
 use Rattle.cf_tracker.specs.declared.spans.Wish.TheVariants.{Claims, Filters, Block}
+use Rattle.cf_dispute.specs.Tables.{blocks_of}
+use Rattle.cf_tracker.specs.Opens.{IsSameOpens, OpensBlock, OpensFilters}
 use Rattle.cf_tracker.specs.Spans.{IsWish}
 use Rattle.cf_hear.specs.Seen.{Seen, IsSameSeen}
-use Rattle.cf_hear.specs.Tracks.{Tracks, IsPut}
+use Rattle.cf_hear.specs.Tracks.{HasOpened, Tracks, IsPut}
+use Rattle.cf_hear.proofs.Hearing.{right_same}
+use Rattle.cf_hear.proofs.Tracking.{opened_self}
 use Rattle.cf_place.specs.declared.place.Place.{Place}
 use Rattle.cf_place.specs.declared.place.Place.TheVariants.{Here, Lost}
 use Rattle.cf_place.specs.declared.place.Loss.{Loss}
 use Rattle.cf_place.specs.declared.place.Loss.TheVariants.{Closed as ClosedFor}
-use Rattle.cf_place.specs.Places.{Goes, PlacesStand, after as done, nobody, is_calm, is_here, is_idle, is_fetching_at, is_settled, IsQuestion}
+use Rattle.cf_place.specs.Places.{Goes, PlacesStand, after as done, nobody, is_calm, is_here, is_idle, is_settled, IsQuestion}
 use Rattle.cf_client.specs.Settled.{AreEntered, AreRight, AreSettled, IsAskedThrough, IsRightAt, chain_at}
 use Rattle.cf_client.specs.Steps.{Desk, Stands, IsInOrder, IsSent, IsSentFor, Way, Same, Taking, Extends, Moves, Asks}
 use Rattle.cf_client.proofs.Standing.{set_is, late_goes, goes_start}
-use Rattle.cf_client.proofs.Settled.{set_each, set_other, settled_off, heard_by, idle_off, any_stays, asked_busy}
+use Rattle.cf_client.proofs.Settled.{set_each, set_other, settled_off, heard_by, asked_busy}
 use Rattle.cf_client.proofs.Rights.{right_of, right_set, claims_right, filters_right}
 use Rattle.cf_client.proofs.Best.{Furthest}
-use Rattle.cf_client.proofs.Acting.{range_in, closed_tracks, sent_tracks, headers_goes, claims_goes, filters_goes, block_goes, same_self, seen_same}
+use Rattle.cf_client.proofs.Acting.{range_in, closed_tracks, headers_goes, claims_goes, filters_goes, block_goes, headers_tracks, claims_tracks, filters_tracks, block_tracks, seen_same}
 
 -- ---- steps, put together
 
@@ -155,15 +159,23 @@ late_moves d i after lt order late put =
     }))
 
 -- a connected peer is asked something
-sent_asks : (d : Desk) (i : ℕ) (peer now : Peer) (m : Msg) → i < length d.places → IsInOrder d → get_or d.places i nobody ≡ Here peer
-    → IsDoable (Send (record { 0 = i }) m) → is_settled (Here now) ≡ true → is_calm (Here now) ≡ true → IsRight now.request (d.seen.claims i)
+sent_asks : (d : Desk) (after : Seen) (i : ℕ) (peer now : Peer) (m : Msg) → i < length d.places → IsInOrder d → get_or d.places i nobody ≡ Here peer
+    → IsDoable (Send (record { 0 = i }) m) → is_settled (Here now) ≡ true → is_calm (Here now) ≡ true → IsRight now.request (d.seen.claims i) → HasOpened d.seen after i
     → ((log : Log) → Stands d log → Goes d.seen.watch (set d.places i (Here now)) (d.acts ++ Send (record { 0 = i }) m ∷ []) log)
-    → Asks i d (acted d i (Here now) d.seen (Send (record { 0 = i }) m))
-sent_asks d i peer now m lt order here doable settled calm right goes = record {
-  moves = set_moves i (Here now) lt order (record { watch = refl; others = λ q other. refl; here = sym (ap is_here here) ∙ order.entered i; claims = λ q other block. refl; right = right })
+    → ((log : Log) → Stands d log → Tracks after (done (d.acts ++ Send (record { 0 = i }) m ∷ []) log))
+    → Asks i d (acted d i (Here now) after (Send (record { 0 = i }) m))
+sent_asks d after i peer now m lt order here doable settled calm right opened goes tracks = record {
+  moves = set_moves i (Here now) lt order
+      (record {
+        watch = opened.watch;
+        others = λ q other. opened.chains q;
+        here = sym (ap is_here here) ∙ order.entered i ∙ ap is_some (sym (opened.chains i));
+        claims = λ q other block. opened.claims q block;
+        right = right_same now.request (d.seen.claims i) (after.claims i) (opened.claims i) right;
+      })
       (extends_one d.acts (Send (record { 0 = i }) m)) (λ all. All-push IsDoable d.acts (Send (record { 0 = i }) m) all doable) (λ was. calm)
-      (same (λ log stood. record { goes = goes log stood; tracks = sent_tracks d.seen d.acts log (record { 0 = i }) m stood.tracks }));
-  seen = same_self d.seen;
+      (same (λ log stood. record { goes = goes_watch opened.watch (goes log stood); tracks = tracks log stood }));
+  seen = opened;
   settled = ap is_settled (set_is d.places i (Here now) lt) ∙ settled;
   others = λ p other. set_other d.places i p (Here now) other;
 }
@@ -171,22 +183,24 @@ sent_asks d i peer now m lt order here doable settled calm right goes = record {
 pub question_asks : (d : Desk) (i : ℕ) (peer : Peer) (m : Msg) → i < length d.places → IsInOrder d → get_or d.places i nobody ≡ Here peer → wants peer ≡ true → IsQuestion (chain_at d.seen i) m
     → Asks i d (acted d i (Here (asked_for_headers peer)) d.seen (Send (record { 0 = i }) m))
 question_asks d i peer m lt order here wanted question =
-    sent_asks d i peer (asked_for_headers peer) m lt order here (omega (arith, lt, order.few), question.sendable) (grind (arith, common_steps)) refl tt
+    sent_asks d d.seen i peer (asked_for_headers peer) m lt order here (omega (arith, lt, order.few), question.sendable) (grind (arith, common_steps)) refl tt (opened_self d.seen i)
     (λ log stood. headers_goes d.places d.acts log d.seen i peer m lt stood.goes here wanted stood.tracks question)
+    (λ log stood. headers_tracks d.places d.acts log d.seen i peer m stood.goes here (and_parts (not peer.heard) (is_idle_peer peer) wanted).1 question stood.tracks)
 
 -- a message is asked about the blocks of its chain
-about_asks : (d : Desk) (i : ℕ) (m : Msg) (change : Peer → Peer) (places : List Place) (acts : List Act) → i < length d.places → IsInOrder d → (sent : IsSent i m change d.places places d.acts acts)
-    → is_settled (Here (change sent.peer)) ≡ true → is_calm (Here (change sent.peer)) ≡ true → IsRight (change sent.peer).request (d.seen.claims i)
+about_asks : (d : Desk) (after : Seen) (i : ℕ) (m : Msg) (change : Peer → Peer) (places : List Place) (acts : List Act) → i < length d.places → IsInOrder d → (sent : IsSent i m change d.places places d.acts acts)
+    → is_settled (Here (change sent.peer)) ≡ true → is_calm (Here (change sent.peer)) ≡ true → IsRight (change sent.peer).request (d.seen.claims i) → HasOpened d.seen after i
     → ((log : Log) → Stands d log → Goes d.seen.watch (set d.places i (Here (change sent.peer))) (d.acts ++ Send (record { 0 = i }) m ∷ []) log)
-    → Asks i d (record { places = places; seen = d.seen; acts = acts })
-about_asks d i m change places acts lt order sent settled calm right goes =
-    subst (λ (ps : List Place). Asks i d (record { places = ps; seen = d.seen; acts = acts })) (sym sent.kept)
-    (subst (λ (xs : List Act). Asks i d (record { places = set d.places i (Here (change sent.peer)); seen = d.seen; acts = xs })) (sym sent.added)
-    (sent_asks d i sent.peer (change sent.peer) m lt order sent.here (omega (arith, lt, order.few), sent.sendable) settled calm right goes))
+    → ((log : Log) → Stands d log → Tracks after (done (d.acts ++ Send (record { 0 = i }) m ∷ []) log))
+    → Asks i d (record { places = places; seen = after; acts = acts })
+about_asks d after i m change places acts lt order sent settled calm right opened goes tracks =
+    subst (λ (ps : List Place). Asks i d (record { places = ps; seen = after; acts = acts })) (sym sent.kept)
+    (subst (λ (xs : List Act). Asks i d (record { places = set d.places i (Here (change sent.peer)); seen = after; acts = xs })) (sym sent.added)
+    (sent_asks d after i sent.peer (change sent.peer) m lt order sent.here (omega (arith, lt, order.few), sent.sendable) settled calm right opened goes tracks))
 
 -- by what its tracker wishes of a peer that has nothing open
 abbrev pub WishAt : Desk → ℕ → ℕ → Wish → Type 0
-WishAt d i common wish = IsWish d.seen.table d.seen.claims d.seen.verdicts i (chain_at d.seen i) common (not (list_any is_fetching_at d.places)) wish
+WishAt d i common wish = IsWish d.seen.table d.seen.claims d.seen.verdicts d.seen.opens i (chain_at d.seen i) common wish
 
 ended_by : (peer : Peer) → is_idle_peer peer ≡ true → is_settled (Here peer) ≡ true → peer.heard ≡ true
 ended_by peer idle was = heard_by peer idle (settled_off (Here peer) was)
@@ -197,57 +211,55 @@ settled_by peer change idle was kept young =
     let heard : peer.heard ≡ true = heard_by peer idle off in
     rw (young, ap (λ (b : Bool). not b) (kept ∙ heard)) refl
 
-pub claims_asks : (d : Desk) (i common : ℕ) (span : Span) (places : List Place) (acts : List Act) → i < length d.places → IsInOrder d → is_settled (get_or d.places i nobody) ≡ true → common ≤ length (chain_at d.seen i)
-    → WishAt d i common (Claims span) → Furthest d.seen i common (Claims span) → IsSent i (GetCfheaders 0 span.start span.stop) (asked_for_claims (range_in span)) d.places places d.acts acts
-    → Asks i d (record { places = places; seen = d.seen; acts = acts })
-claims_asks d i common span places acts lt order settled low wish far sent =
-    about_asks d i (GetCfheaders 0 span.start span.stop) (asked_for_claims (range_in span)) places acts lt order sent
-    (settled_by sent.peer (asked_for_claims (range_in span)) sent.idle (subst (λ (x : Place). is_settled x ≡ true) sent.here settled) refl refl) refl
-    (let le = wish.1.1.1 in claims_right d.seen.claims i (chain_at d.seen i) wish.1.0 span 0 wish.0.0 (omega (arith, le, low)) wish.1.1.0 wish.0.2 wish.1.1.3)
-    (λ log stood. claims_goes d.places d.acts log d.seen i sent.peer common (not (list_any is_fetching_at d.places)) span lt stood.goes sent.here sent.idle (ended_by sent.peer sent.idle (subst (λ (x : Place). is_settled x ≡ true) sent.here settled)) far stood.tracks low wish sent.sendable)
-
-pub filters_asks : (d : Desk) (i common : ℕ) (span : Span) (places : List Place) (acts : List Act) → i < length d.places → IsInOrder d → is_settled (get_or d.places i nobody) ≡ true → common ≤ length (chain_at d.seen i)
-    → WishAt d i common (Filters span) → Furthest d.seen i common (Filters span) → IsSent i (GetCfilters 0 span.start span.stop) (asked_for_filters span.blocks.items) d.places places d.acts acts
-    → Asks i d (record { places = places; seen = d.seen; acts = acts })
-filters_asks d i common span places acts lt order settled low wish far sent =
-    about_asks d i (GetCfilters 0 span.start span.stop) (asked_for_filters span.blocks.items) places acts lt order sent
-    (settled_by sent.peer (asked_for_filters span.blocks.items) sent.idle (subst (λ (x : Place). is_settled x ≡ true) sent.here settled) refl refl) refl
-    (filters_right (chain_at d.seen i) wish.1.0 span wish.0.2 wish.1.1.0)
-    (λ log stood. filters_goes d.places d.acts log d.seen i sent.peer common (not (list_any is_fetching_at d.places)) span lt stood.goes sent.here sent.idle (ended_by sent.peer sent.idle (subst (λ (x : Place). is_settled x ≡ true) sent.here settled)) far stood.tracks low refl wish sent.sendable)
-
-pub block_asks : (d : Desk) (i common : ℕ) (hash : Hash32) (places : List Place) (acts : List Act) → i < length d.places → IsInOrder d → is_settled (get_or d.places i nobody) ≡ true → common ≤ length (chain_at d.seen i)
-    → WishAt d i common (Block hash) → Furthest d.seen i common (Block hash) → IsSentFor i hash d.places places d.acts acts
-    → Asks i d (record { places = places; seen = d.seen; acts = acts })
-block_asks d i common hash places acts lt order settled low wish far for =
-    about_asks d i for.message (asked_for_block hash) places acts lt order for.sent
-    (settled_by for.sent.peer (asked_for_block hash) for.sent.idle (subst (λ (x : Place). is_settled x ≡ true) for.sent.here settled) refl refl) refl tt
-    (λ log stood. block_goes d.places d.acts log d.seen i for.sent.peer common (not (list_any is_fetching_at d.places)) hash for.message lt stood.goes for.sent.here for.sent.idle (ended_by for.sent.peer for.sent.idle (subst (λ (x : Place). is_settled x ≡ true) for.sent.here settled)) far stood.tracks low refl wish for.sent.sendable for.asks)
-
--- what was seen is still that
-pub asks_seen : (i : ℕ) (d : Desk) (places : List Place) (acts : List Act) (after : Seen) → IsSameSeen d.seen after → Asks i d (record { places = places; seen = d.seen; acts = acts })
+pub claims_asks : (d : Desk) (after : Seen) (i common : ℕ) (span : Span) (places : List Place) (acts : List Act) → i < length d.places → IsInOrder d → is_settled (get_or d.places i nobody) ≡ true → common ≤ length (chain_at d.seen i)
+    → WishAt d i common (Claims span) → Furthest d.seen i common (Claims span) → HasOpened d.seen after i → IsSameOpens d.seen.opens after.opens
+    → IsSent i (GetCfheaders 0 span.start span.stop) (asked_for_claims (range_in span)) d.places places d.acts acts
     → Asks i d (record { places = places; seen = after; acts = acts })
-asks_seen i d places acts after kept asks = subst (λ (s : Seen). Asks i d (record { places = places; seen = s; acts = acts })) (sym (seen_same d.seen after kept)) asks
+claims_asks d after i common span places acts lt order settled low wish far opened opens sent =
+    about_asks d after i (GetCfheaders 0 span.start span.stop) (asked_for_claims (range_in span)) places acts lt order sent
+    (settled_by sent.peer (asked_for_claims (range_in span)) sent.idle (subst (λ (x : Place). is_settled x ≡ true) sent.here settled) refl refl) refl
+    (let le = wish.1.1.1 in claims_right d.seen.claims i (chain_at d.seen i) wish.1.0 span 0 wish.0.0 (omega (arith, le, low)) wish.1.1.0 wish.0.2 wish.1.1.3) opened
+    (λ log stood. claims_goes d.places d.acts log d.seen i sent.peer common span lt stood.goes sent.here sent.idle (ended_by sent.peer sent.idle (subst (λ (x : Place). is_settled x ≡ true) sent.here settled)) far stood.tracks low wish sent.sendable)
+    (λ log stood. claims_tracks d.places d.acts log d.seen after i common sent.peer span stood.goes sent.here sent.idle sent.sendable opened wish opens stood.tracks)
 
--- nothing is asked of a peer that is settled
+pub filters_asks : (d : Desk) (after : Seen) (i common : ℕ) (span : Span) (places : List Place) (acts : List Act) → i < length d.places → IsInOrder d → is_settled (get_or d.places i nobody) ≡ true → common ≤ length (chain_at d.seen i)
+    → WishAt d i common (Filters span) → Furthest d.seen i common (Filters span) → HasOpened d.seen after i → OpensFilters d.seen.opens after.opens i (blocks_of span.blocks.items)
+    → IsSent i (GetCfilters 0 span.start span.stop) (asked_for_filters span.blocks.items) d.places places d.acts acts
+    → Asks i d (record { places = places; seen = after; acts = acts })
+filters_asks d after i common span places acts lt order settled low wish far opened opens sent =
+    about_asks d after i (GetCfilters 0 span.start span.stop) (asked_for_filters span.blocks.items) places acts lt order sent
+    (settled_by sent.peer (asked_for_filters span.blocks.items) sent.idle (subst (λ (x : Place). is_settled x ≡ true) sent.here settled) refl refl) refl
+    (filters_right (chain_at d.seen i) wish.1.0 span wish.0.1 wish.1.1.0) opened
+    (λ log stood. filters_goes d.places d.acts log d.seen i sent.peer common span lt stood.goes sent.here sent.idle (ended_by sent.peer sent.idle (subst (λ (x : Place). is_settled x ≡ true) sent.here settled)) far stood.tracks low wish sent.sendable)
+    (λ log stood. filters_tracks d.places d.acts log d.seen after i common sent.peer span stood.goes sent.here sent.idle sent.sendable opened wish opens stood.tracks)
+
+pub block_asks : (d : Desk) (after : Seen) (i common : ℕ) (hash : Hash32) (places : List Place) (acts : List Act) → i < length d.places → IsInOrder d → is_settled (get_or d.places i nobody) ≡ true → common ≤ length (chain_at d.seen i)
+    → WishAt d i common (Block hash) → Furthest d.seen i common (Block hash) → HasOpened d.seen after i → OpensBlock d.seen.opens after.opens i hash.0
+    → IsSentFor i hash d.places places d.acts acts → Asks i d (record { places = places; seen = after; acts = acts })
+block_asks d after i common hash places acts lt order settled low wish far opened opens for =
+    about_asks d after i for.message (asked_for_block hash) places acts lt order for.sent
+    (settled_by for.sent.peer (asked_for_block hash) for.sent.idle (subst (λ (x : Place). is_settled x ≡ true) for.sent.here settled) refl refl) refl tt opened
+    (λ log stood. block_goes d.places d.acts log d.seen i for.sent.peer common hash for.message lt stood.goes for.sent.here for.sent.idle (ended_by for.sent.peer for.sent.idle (subst (λ (x : Place). is_settled x ≡ true) for.sent.here settled)) far stood.tracks low wish for.sent.sendable for.asks)
+    (λ log stood. block_tracks d.places d.acts log d.seen after i for.sent.peer hash for.message stood.goes for.sent.here for.sent.idle for.sent.sendable for.asks opened opens stood.tracks)
+
+-- nothing is asked of a peer that is settled, and what was seen stays
 pub none_asked : (d : Desk) (i : ℕ) → IsInOrder d → is_settled (get_or d.places i nobody) ≡ true → Asks i d d
 none_asked d i order settled = record {
   moves = moves_self d order;
-  seen = same_self d.seen;
+  seen = opened_self d.seen i;
   settled = settled;
   others = λ p other. refl;
 }
 
+pub quiet_asked : (d : Desk) (after : Seen) (i : ℕ) → IsInOrder d → is_settled (get_or d.places i nobody) ≡ true → IsSameSeen d.seen after
+    → Asks i d (record { places = d.places; seen = after; acts = d.acts })
+quiet_asked d after i order settled same =
+    subst (λ (s : Seen). Asks i d (record { places = d.places; seen = s; acts = d.acts })) (sym (seen_same d.seen after same)) (none_asked d i order settled)
+
 -- ---- and then it has nothing left to be asked, or something is open to it
 
 pub sent_busy : (i : ℕ) (m : Msg) (change : Peer → Peer) (places now : List Place) (acts more : List Act) (s : Seen) → i < length places → (sent : IsSent i m change places now acts more)
-    → is_idle_peer (change sent.peer) ≡ false → IsAskedThrough (get_or now i nobody) (list_any is_fetching_at now) s i
+    → is_idle_peer (change sent.peer) ≡ false → IsAskedThrough (get_or now i nobody) s i
 sent_busy i m change places now acts more s lt sent busy =
-    asked_busy (get_or now i nobody) (list_any is_fetching_at now) s i
+    asked_busy (get_or now i nobody) s i
     (ap (λ (ps : List Place). is_idle (get_or ps i nobody)) sent.kept ∙ ap is_idle (set_is places i (Here (change sent.peer)) lt) ∙ busy)
-
--- what is being fetched still is
-pub sent_fetching : (i : ℕ) (m : Msg) (change : Peer → Peer) (places now : List Place) (acts more : List Act) → i < length places → IsSent i m change places now acts more
-    → list_any is_fetching_at places ≡ true → list_any is_fetching_at now ≡ true
-sent_fetching i m change places now acts more lt sent some =
-    any_stays is_fetching_at places now i refl (ap is_fetching_at sent.here ∙ idle_off (Here sent.peer) sent.idle)
-    (λ p other. ap (λ (ps : List Place). get_or ps p nobody) sent.kept ∙ set_other places i p (Here (change sent.peer)) other) some

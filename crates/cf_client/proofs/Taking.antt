@@ -23,12 +23,12 @@ use Rattle.cf_peer.specs.declared.peer.Peer.{Peer}
 use Rattle.cf_peer.specs.Acts.{bytes_of, IsSendable, IsDoable}
 use Rattle.cf_wires.specs.Log.{Log, tally_of}
 use Rattle.cf_peer.specs.Trail.{Trail, Part, Asked, Lost as LostItem, Went, item_of, item_of_read, hears, hears_fault, heard_part, part_of, trail, went_on, with_item, connected, failed, greeted, met, own, heard, owed, replied, as_reply, is_version}
-use Rattle.cf_peer.specs.Asking.{claims, verdict, counted, IsNextReply}
+use Rattle.cf_peer.specs.Asking.{claims, request, verdict, counted, IsNextReply}
 use Rattle.cf_peer.specs.Peer.{Holds, calm}
 use Rattle.cf_peer.specs.Hearing.{IsReply}
 use Rattle.cf_dispute.specs.Claims.{Table, no_claims}
 use Rattle.cf_headers.specs.Chain.{Hash}
-use Rattle.cf_sync.specs.Fetching.{MaySend}
+use Rattle.cf_sync.specs.Fetching.{MaySend, blocks_open, filters_open}
 use Rattle.cf_sync.specs.Due.{IsCalledFor}
 use Rattle.cf_sync.specs.Honesty.{asked}
 use Rattle.cf_sync.proofs.Counted.{same_use}
@@ -45,6 +45,7 @@ use Rattle.cf_client.specs.Steps.{Desk, Stands, IsInOrder, Taking, CutOff, Same,
 use Rattle.cf_client.proofs.Standing.{greeted_more, after-append, allowed-append, set_is, stand_at, stand_same, here_on, goes_start, sent_others, sent_here, closed_others, closed_here, number_within}
 use Rattle.cf_client.proofs.Losing.{lost_said, lost_refused, lost_went, goes_now, shut_now, cut_now}
 use Rattle.cf_client.proofs.Settled.{set_other}
+use Rattle.cf_client.proofs.Spelled.{spelled_bytes}
 use Rattle.cf_client.proofs.Steps.{IsChanged, is_lost, goes_watch, extends_self, extends_none, extends_one, stands_start, start_places, start_tracks, stay_moves, set_moves, taken}
 
 -- what a peer says loses nobody, and nothing is sent by it
@@ -288,6 +289,7 @@ follows_is seen log p tracks on clean =
     record {
       chain = tracks.kept p ∙ ap (λ (b : Bool). if b then Some (own t) else None) on;
       claims = λ block. tracks.claimed p block ∙ ap (λ (b : Bool). (if b then claims (counted t) else no_claims) block) on ∙ ap (λ (c : Table). c block) (same_use t on clean).claiming;
+      opens = tracks.opened p;
     }
 
 -- what is heard of a piece, whatever p's part is
@@ -316,19 +318,28 @@ heard_goes places log p piece old peer seen now before acts lt none here stand t
     let whole = whole_of places log p piece old peer seen now before acts none here stand tracks heard in
     whole_at places log p piece peer seen now acts lt stand keeps.holds.on keeps.answered whole (sendable_by p whole.replies (subst (All IsDoable) whole.acts doable))
 
--- what is sent changes nothing that is seen
-sends_track : (p : PeerNo) (rs : List Msg) (s : Seen) (log : Log) → Tracks s log → Tracks s (after (sends p rs) log)
-sends_track p [] s log tracks = tracks
-sends_track p (r ∷ rs) s log tracks = sends_track p rs s (Sent p (bytes_of r) ∷ log) (tracks_sent s p (bytes_of r) log tracks)
+-- a reply asks for nothing
+reply_asks : (r : Msg) (t : Trail) → IsReply r → (filters_open (request (Asked r ∷ t)) ≡ filters_open (request t)) × (blocks_open (request (Asked r ∷ t)) ≡ blocks_open (request t))
+reply_asks Verack t is = (refl, refl)
+reply_asks (Pong number) t is = (refl, refl)
+reply_asks r t is = absurd is
+
+-- and changes nothing that is seen
+sends_track : (p : PeerNo) (rs : List Msg) (s : Seen) (log : Log) → AllByRecursion IsReply rs → AreSendable rs → Tracks s log → Tracks s (after (sends p rs) log)
+sends_track p [] s log are sendable tracks = tracks
+sends_track p (r ∷ rs) s log are sendable tracks =
+    let same = reply_asks r (trail log p.0) are.0 in
+    sends_track p rs s (Sent p (bytes_of r) ∷ log) are.1 sendable.1 (tracks_sent s p (bytes_of r) r log (spelled_bytes r sendable.0) same.0 same.1 tracks)
 
 -- a piece all of which was taken
 whole_tracks : (places : List Place) (log : Log) (p : PeerNo) (piece : List ℕ) (old peer : Peer) (seen now : Seen) (before acts : List Act)
     → before ≡ [] → get_or places p.0 nobody ≡ Here old → PlacesStand places log → Tracks seen log
-    → HearsWhole p piece old peer seen now before acts → Tracks now (after acts (Took (Got p piece) ∷ log))
-whole_tracks places log p piece old peer seen now before acts none here stand tracks heard =
+    → HearsWhole p piece old peer seen now before acts → All IsDoable acts → Tracks now (after acts (Took (Got p piece) ∷ log))
+whole_tracks places log p piece old peer seen now before acts none here stand tracks heard doable =
     let whole = whole_of places log p piece old peer seen now before acts none here stand tracks heard in
+    let sendable = sendable_by p whole.replies (subst (All IsDoable) whole.acts doable) in
     let next = Took (Got p piece) ∷ log in
-    subst (λ (xs : List Act). Tracks now (after xs next)) (sym whole.acts) (sends_track p whole.replies now next (tracks_heard p peer seen now [] acts piece log whole tracks))
+    subst (λ (xs : List Act). Tracks now (after xs next)) (sym whole.acts) (sends_track p whole.replies now next whole.are.each sendable (tracks_heard p peer seen now [] acts piece log whole tracks))
 
 -- a piece in which a frame deserves a cause: the peer is closed
 fault_at : {watch : List (List ℕ)} (places : List Place) (log : Log) (p : PeerNo) (piece : List ℕ) (cause : Cause) (seen now : Seen) (acts : List Act)
@@ -389,14 +400,15 @@ faulty_goes places log p piece old cause seen now before acts lt none here stand
 -- a piece in which a frame deserves a cause, and p's chain and claims given up
 faulty_tracks : (places : List Place) (log : Log) (p : PeerNo) (piece : List ℕ) (old : Peer) (cause : Cause) (seen now last : Seen) (before acts : List Act)
     → before ≡ [] → get_or places p.0 nobody ≡ Here old → PlacesStand places log → Tracks seen log
-    → HearsFault p piece old seen now before acts cause → IsPut now last p.0 None no_claims → Tracks last (after (acts ++ Close p cause ∷ []) (Took (Got p piece) ∷ log))
-faulty_tracks places log p piece old cause seen now last before acts none here stand tracks heard put =
+    → HearsFault p piece old seen now before acts cause → All IsDoable acts → IsPut now last p.0 None no_claims → Tracks last (after (acts ++ Close p cause ∷ []) (Took (Got p piece) ∷ log))
+faulty_tracks places log p piece old cause seen now last before acts none here stand tracks heard doable put =
     let fault = fault_of places log p piece old cause seen now before acts none here stand tracks heard in
     let next = Took (Got p piece) ∷ log in
     let rs = fault.replies in
+    let sendable = sendable_by p rs (subst (All IsDoable) fault.acts doable) in
     let read = tracks_faulty p seen now last [] acts piece log cause fault put tracks in
     subst (λ (xs : List Act). Tracks last (after (xs ++ Close p cause ∷ []) next)) (sym fault.acts)
-    (subst (λ (x : Log). Tracks last x) (sym (after-append (sends p rs) (Close p cause) next)) (tracks_closed read.0 last p (after (sends p rs) next) read.1.1 (sends_track p rs read.0 next read.1.0)))
+    (subst (λ (x : Log). Tracks last x) (sym (after-append (sends p rs) (Close p cause) next)) (tracks_closed read.0 last p (after (sends p rs) next) read.1.1 (sends_track p rs read.0 next fault.are.each sendable read.1.0)))
 
 -- a failed send cuts a peer off
 cut_tracks : (log cut : Log) (p : PeerNo) (seen last : Seen) → Tracks seen log → CutFor p log cut → IsPut seen last p.0 None no_claims → Tracks last (Closed p ∷ cut)
@@ -422,7 +434,7 @@ heard_moves d p piece old peer now acts lt none order here heard changed doable 
     set_moves p.0 (Here peer) lt order changed (extends_none d.acts acts none) (λ all. doable) (λ was. calms (subst (λ (y : Place). is_calm y ≡ true) here was))
     (taken (λ log stood. record {
       goes = goes_watch changed.watch (heard_goes d.places log p piece old peer d.seen now d.acts acts lt none here (start_places d log none stood) (start_tracks d log none stood) heard doable);
-      tracks = whole_tracks d.places log p piece old peer d.seen now d.acts acts none here (start_places d log none stood) (start_tracks d log none stood) heard;
+      tracks = whole_tracks d.places log p piece old peer d.seen now d.acts acts none here (start_places d log none stood) (start_tracks d log none stood) heard doable;
     }))
 
 -- a piece in which a frame deserves a cause, for which its peer is closed and forgotten
@@ -442,7 +454,7 @@ faulty_moves d p piece old cause now last acts lt none order here heard others c
     (λ all. All-push IsDoable acts (Close p cause) doable (omega (arith, lt, order.few))) (λ was. refl)
     (taken (λ log stood. record {
       goes = goes_watch (put.watch ∙ watch) (faulty_goes d.places log p piece old cause d.seen now d.acts acts lt none here (start_places d log none stood) (start_tracks d log none stood) heard doable);
-      tracks = faulty_tracks d.places log p piece old cause d.seen now last d.acts acts none here (start_places d log none stood) (start_tracks d log none stood) heard put;
+      tracks = faulty_tracks d.places log p piece old cause d.seen now last d.acts acts none here (start_places d log none stood) (start_tracks d log none stood) heard doable put;
     }))
 
 -- a peer has gone: one that is connected, or another

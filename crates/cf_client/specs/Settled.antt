@@ -1,19 +1,20 @@
 -- What is true of a client's places and of what it has seen between two calls.
-use Rattle.std.specs.Prelude.{◌≡◌, ◌≤◌, ℕ, true, false, Bool, List, [], is_some, unwrap_or, Some}
-use Rattle.std.specs.List.{list_any}
+use Rattle.std.specs.Prelude.{◌≡◌, ℕ, true, List, [], is_some, unwrap_or, Some}
 use Rattle.cf_bytes.specs.declared.peer.PeerNo.{PeerNo}
 use Rattle.cf_dispute.specs.Claims.{Table, Tables}
 use Rattle.cf_headers.specs.Chain.{Chain}
-use Rattle.cf_headers.specs.Heights.{hash_at, common_of}
+use Rattle.cf_headers.specs.Heights.{common_of}
 use Rattle.cf_headers.specs.Store.{IsBest}
 use Rattle.cf_hear.specs.Seen.{Seen}
 use Rattle.cf_match.specs.Verdicts.{Verdicts}
 use Rattle.cf_peer.specs.Peer.{IsRight}
 use Rattle.cf_tracker.specs.Tables as extracts
-use Rattle.cf_tracker.specs.Wanting.{IsAbove, IsUnjudged, IsToFetch, AreClaimed}
+use Rattle.cf_tracker.specs.Opens.{Opens}
+use Rattle.cf_tracker.specs.Seeking.{ArePassed, AreSought}
+use Rattle.cf_tracker.specs.Wanting.{AreClaimed}
 use Rattle.cf_place.specs.declared.place.Place.{Place}
 use Rattle.cf_place.specs.declared.place.Place.TheVariants.{Here, Lost}
-use Rattle.cf_place.specs.Places.{place_at, is_here, is_idle, is_fetching_at, is_settled}
+use Rattle.cf_place.specs.Places.{place_at, is_here, is_idle, is_settled}
 
 -- the peers that are connected are those that are tracked
 abbrev pub AreEntered : List Place → Seen → Type 0
@@ -32,21 +33,22 @@ AreRight places tables = (p : ℕ) → IsRightAt (place_at places p) (tables p)
 abbrev pub chain_at : Seen → ℕ → Chain
 chain_at s p = unwrap_or (s.chains p) []
 
--- Of the blocks of a peer's chain up to a height, but for one with genesis's hash: it claims each; and where nothing is being fetched, no filter is to
--- be asked for and no block.
-pub record IsThrough (extracts : extracts.Table) (tables : Tables) (verdicts : Verdicts) (p : ℕ) (own : Chain) (common : ℕ) (fetching : Bool) : Type 0 where
+-- Of the blocks of a peer's chain up to a height, but for one with genesis's hash: it claims each; and there is none whose filter is to be asked for, or
+-- that is to be fetched, and that is open to nobody.
+pub record IsThrough (extracts : extracts.Table) (tables : Tables) (verdicts : Verdicts) (opens : Opens) (p : ℕ) (own : Chain) (common : ℕ) : Type 0 where
   pub claimed : AreClaimed tables p own common
-  pub judged : fetching ≡ false → (h : ℕ) → 1 ≤ h → h ≤ common → IsAbove (hash_at own h) → IsUnjudged extracts tables verdicts (hash_at own h) → ⊥
-  pub fetched : fetching ≡ false → (h : ℕ) → 1 ≤ h → h ≤ common → IsAbove (hash_at own h) → IsToFetch extracts tables verdicts (hash_at own h) → ⊥
+  pub judged : AreSought extracts tables verdicts opens own common
+  pub fetched : ArePassed extracts tables verdicts opens own common
 
 -- a peer with nothing open has nothing left to be asked about what it shares with the best chain
-abbrev pub IsAskedThrough : Place → Bool → Seen → ℕ → Type 0
-IsAskedThrough place fetching s p =
-    is_idle place ≡ true → (best : PeerNo) → IsBest s.chains (Some best) → IsThrough s.table s.claims s.verdicts p (chain_at s p) (common_of (chain_at s p) (chain_at s best.0)) fetching
+abbrev pub IsAskedThrough : Place → Seen → ℕ → Type 0
+IsAskedThrough place s p =
+    is_idle place ≡ true → (best : PeerNo) → IsBest s.chains (Some best)
+    → IsThrough s.table s.claims s.verdicts s.opens p (chain_at s p) (common_of (chain_at s p) (chain_at s best.0))
 
--- so it is with each of them; while filters or a block are open to anybody no others are asked for
+-- so it is with each of them
 abbrev pub AreAskedThrough : List Place → Seen → Type 0
-AreAskedThrough places s = (p : ℕ) → IsAskedThrough (place_at places p) (list_any is_fetching_at places) s p
+AreAskedThrough places s = (p : ℕ) → IsAskedThrough (place_at places p) s p
 
 -- between two calls of the client: nobody's request is late, nobody is left to ask, and it tracks the connected peers
 pub record AreSettled (places : List Place) (s : Seen) : Type 0 where

@@ -1,6 +1,5 @@
 //! Whom the client asks, and whom it closes for its silence.
 ghost use Rattle.std.specs.Prelude.{◌≡◌, ◌≢◌, ℕ, ◌<◌, ◌≤◌, ◌∷◌, OnOk, IfOk, IsSome, true, false, length};
-ghost use Rattle.std.specs.List.{list_any};
 ghost use Rattle.cf_headers.specs.Store.{own_of};
 ghost use Rattle.cf_wires.specs.Log.{Log};
 ghost use Rattle.cf_wires.specs.declared.event.Event.TheVariants.{Took};
@@ -12,7 +11,7 @@ ghost use Rattle.cf_dispute.specs.Claims.{Table, Tables};
 ghost use Rattle.cf_hear.specs.Seen.{seen_of};
 ghost use Rattle.cf_msg.specs.declared.msg.Msg.TheVariants.{GetCfheaders, GetCfilters};
 ghost use Rattle.cf_peer.specs.Peer.{asked_for_claims, asked_for_filters};
-ghost use Rattle.cf_place.specs.Places.{Fits, PlacesStand, AreCalm, is_calm, is_idle, is_wanting, is_settled, is_fetching_at, is_here, place_at, IsQuestion, IsFetch};
+ghost use Rattle.cf_place.specs.Places.{Fits, PlacesStand, AreCalm, is_calm, is_idle, is_wanting, is_settled, is_here, place_at, IsQuestion, IsFetch};
 ghost use Rattle.cf_client.specs.Settled.{AreRight, IsRightAt, IsAskedThrough, AreAskedThrough};
 ghost use Rattle.cf_client.specs.Steps.{desk, IsInOrder, Same, Moves, Asks, IsSent, IsSentFor};
 
@@ -88,13 +87,6 @@ pub(crate) fn close_late<H: HeaderStore>(
         close_if_late(tracker, places, acts, i)?;
     }
     Ok(())
-}
-
-// Whether filters or a block are open to any of the peers.
-fn is_any_fetching(places: &[Place]) -> bool
-    ensures { result ≡ list_any is_fetching_at places.now }
-{
-    places.iter().any(|place| place.is_fetching())
 }
 
 // The question for headers above a tracked peer's chain.
@@ -218,7 +210,7 @@ fn ask_for_block(
 }
 
 // Asks the peer at this place, to which nothing is open and which was heard out, about the blocks that it shares with the best chain: for the claims that it
-// hasn't made; and, while neither filters nor a block are open to anybody, for filters that aren't judged yet, or else for a block.
+// hasn't made; else for filters that aren't judged yet and are open to nobody; or else for a block that is open to nobody.
 fn ask_about_blocks<H: HeaderStore>(
     alloc: Global,
     tracker: &mut Tracker<H>,
@@ -231,15 +223,13 @@ fn ask_about_blocks<H: HeaderStore>(
     requires settled { is_settled (place_at places.old i) ≡ true }
     requires order { IsInOrder (desk tracker.old places.old acts.old.items) }
     ensures asks { OnOk result (Asks i (desk tracker.old places.old acts.old.items) (desk tracker.new places.new acts.new.items)) }
-    ensures through { OnOk result (IsAskedThrough (place_at places.new i) (list_any is_fetching_at places.new) (seen_of tracker.new) i) }
-    ensures fetching { OnOk result (list_any is_fetching_at places.old ≡ true → list_any is_fetching_at places.new ≡ true) }
+    ensures through { OnOk result (IsAskedThrough (place_at places.new i) (seen_of tracker.new) i) }
 {
     let p = PeerNo(i as u32);
     let Some(best) = tracker.best() else {
         return Ok(());
     };
-    let spare = !is_any_fetching(places);
-    match tracker.next(p, best, spare)? {
+    match tracker.next(p, best)? {
         Wish::Nothing => Ok(()),
         Wish::Claims(span) => {
             ask_for_claims(places, acts, i, span)?;
@@ -268,8 +258,7 @@ fn ask_if_wanted<H: HeaderStore>(
     requires calm { AreCalm places.old }
     requires order { IsInOrder (desk tracker.old places.old acts.old.items) }
     ensures asks { OnOk result (Asks i (desk tracker.old places.old acts.old.items) (desk tracker.new places.new acts.new.items)) }
-    ensures through { OnOk result (IsAskedThrough (place_at places.new i) (list_any is_fetching_at places.new) (seen_of tracker.new) i) }
-    ensures fetching { OnOk result (list_any is_fetching_at places.old ≡ true → list_any is_fetching_at places.new ≡ true) }
+    ensures through { OnOk result (IsAskedThrough (place_at places.new i) (seen_of tracker.new) i) }
 {
     if places[i].wants_headers() {
         ask_for_headers(tracker, places, acts, i)?;

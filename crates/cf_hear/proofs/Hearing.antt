@@ -1,6 +1,7 @@
 -- What is taken of a piece of a peer's bytes, message by message.
 use Rattle.std.proofs.Common.{◌≡◌, ◌≢◌, ◌⊎◌, inl, inr, ℕ, List, [], ◌∷◌, ◌++◌, map, length, Option, Some, None, ◌<◌, Bool, true, false, if◌then◌else◌, refl, sym, ◌∙◌, ap, subst, append_assoc}
 use Rattle.std.specs.List.{All, AllByRecursion}
+use Rattle.std.proofs.lemmas.Bool.{cases_eq}
 use Rattle.std.proofs.lemmas.List.{append-nil}
 use Rattle.std.proofs.lemmas.List.Elements.{All-append, All-nil, All-cons}
 use Rattle.cf_bytes.specs.declared.hash.Hash32.{Hash32}
@@ -8,9 +9,11 @@ use Rattle.cf_bytes.specs.declared.peer.PeerNo.{PeerNo}
 use Rattle.cf_block.specs.declared.tx.Block.{Block}
 use Rattle.cf_block.specs.Header.{block_hash_of}
 use Rattle.cf_frame.specs.Stream.{read_stream}
-use Rattle.cf_headers.specs.Chain.{Hash, Chain, IsIn}
+use Rattle.cf_headers.specs.Chain.{Hash, Chain, Accepted, Longer, NoLonger, Unlinked, Invalid, TooHigh, IsIn, accept}
+use Rattle.cf_headers.specs.Changes.{chain_after}
+use Rattle.cf_headers.specs.Store.{Puts, own_of}
 use Rattle.cf_msg.specs.declared.msg.Msg.{Msg}
-use Rattle.cf_msg.specs.declared.msg.Msg.TheVariants.{Block as BlockMessage, Cfheaders, Cfilter}
+use Rattle.cf_msg.specs.declared.msg.Msg.TheVariants.{Headers, Block as BlockMessage, Cfheaders, Cfilter}
 use Rattle.cf_peer.specs.declared.act.Act.{Act}
 use Rattle.cf_peer.specs.declared.act.Act.TheVariants.{Send as SendTo}
 use Rattle.cf_peer.specs.declared.peer.Cause.{Cause}
@@ -18,11 +21,11 @@ use Rattle.cf_peer.specs.declared.peer.Peer.{Peer}
 use Rattle.cf_peer.specs.declared.peer.Reply.{Reply}
 use Rattle.cf_peer.specs.declared.peer.Reply.TheVariants.{Nothing as NoReply, Send, Close}
 use Rattle.cf_peer.specs.Acts.{IsSendable, IsDoable}
-use Rattle.cf_peer.specs.Trail.{Trail, Part, Said, part_after, heard_part, ready, met, own, owed}
-use Rattle.cf_peer.specs.Asking.{request, claims, counted, fetched, fetched_by, given, given_by}
+use Rattle.cf_peer.specs.Trail.{Trail, Part, Said, part_after, heard_part, fault_in, first, longer_of, ready, met, own, owed}
+use Rattle.cf_peer.specs.Asking.{OpenRequest, NothingOpen, request, claims, claims_after, counted, fault_of, fetched, fetched_by, given, given_by, verdict}
 use Rattle.cf_peer.specs.Hearing.{IsReply, Faulty}
-use Rattle.cf_peer.specs.Peer.{Holds, IsRight, TakesClaims, awaits, cause_of_claims}
-use Rattle.cf_peer.proofs.Peers.{other_block, reply_is, same_holds}
+use Rattle.cf_peer.specs.Peer.{Hears, Holds, IsRight, TakesClaims, awaits, cause_of_claims, is_plain, is_ready_peer}
+use Rattle.cf_peer.proofs.Peers.{early_headers, early_own, other_block, plain_said, reply_is, same_holds}
 use Rattle.cf_peer.proofs.Stream.{faulty_said, said_met}
 use Rattle.cf_scan.specs.declared.extracts.TxExtract.{TxExtract}
 use Rattle.cf_tracker.specs.Tables.{Table, IsSameTable, with_block, with_blocks}
@@ -34,7 +37,8 @@ use Rattle.cf_tracker.specs.Wanting.{IsSameTables}
 use Rattle.cf_match.specs.declared.job.Job.{Job}
 use Rattle.cf_match.specs.Verdicts.{Verdicts, AreSameVerdicts, with_verdict, with_verdicts}
 use Rattle.cf_tracker.proofs.Judgings.{same_all}
-use Rattle.std.specs.Prelude.{IsSome, option_map}
+use Rattle.std.specs.Prelude.{IsSome, option_map, unwrap_or}
+use Rattle.cf_block.specs.declared.header.Header.{Header}
 use Rattle.cf_block.specs.Header.{genesis_header}
 use Rattle.cf_dispute.specs.declared.claim.Claim.{Claim}
 use Rattle.cf_dispute.specs.declared.claim.ClaimFault.{ClaimFault}
@@ -44,17 +48,29 @@ use Rattle.cf_dispute.specs.Claims as dispute
 use Rattle.cf_headers.specs.Rules.{same as same_bytes}
 use Rattle.cf_peer.specs.declared.peer.Request.{Request}
 use Rattle.cf_peer.specs.declared.peer.Request.TheVariants.{Nothing, Handshake, Headers as HeadersAsked, Claims as ClaimsAsked, Filters as FiltersAsked, Block as BlockAsked}
+use Rattle.cf_tracker.specs.Opens.{Closes, IsSameElse, IsSameOpens}
+use Rattle.cf_sync.specs.Kept.{OpensAt}
+use Rattle.cf_sync.proofs.KeptOpens.{opens_closed}
 use Rattle.cf_hear.specs.Seen.{Seen, IsSameSeen, Follows}
 use Rattle.cf_hear.specs.Hearing.{Gains, IsGivenBetween, Retains, HearsSeen, HearsNext, Advances, Stops, Brings, Midway, HeardWhole, HeardFault}
+use Rattle.cf_hear.proofs.Opening.{else_of, else_self, else_then, opens_claims, opens_headers, opens_on, opens_other, opens_plain, opens_self}
 
 -- ---- what was seen
 
 pub same_seen : (s : Seen) → IsSameSeen s s
-same_seen s = record { watch = refl; chains = λ q. refl; claims = λ q block. refl; table = λ hash. refl; verdicts = λ block hash. refl }
+same_seen s = record { watch = refl; chains = λ q. refl; claims = λ q block. refl; table = λ hash. refl; verdicts = λ block hash. refl; opens = opens_self s.opens }
 
 -- nothing came, and p's chain and claims are those of this trail
 pub gains_none : (s : Seen) (p : PeerNo) (t : Trail) → Follows s p.0 t → Gains s s p t [] []
-gains_none s p t is = record { watch = refl; follows = is; others = λ q ne. refl; claims = λ q ne block. refl; table = λ hash. refl; verdicts = λ block hash. refl }
+gains_none s p t is = record {
+  watch = refl;
+  follows = is;
+  others = λ q ne. refl;
+  claims = λ q ne block. refl;
+  table = λ hash. refl;
+  verdicts = λ block hash. refl;
+  opens = else_self s.opens p.0;
+}
 
 -- the extracts of blocks, put in after those of others
 blocks_append : (watch : List (List ℕ)) (more news : List Block) (now before : Table) → IsSameTable now (with_blocks watch news before) → IsSameTable (with_blocks watch more now) (with_blocks watch (more ++ news) before)
@@ -76,6 +92,7 @@ gains_then a b c p t u news more jobs later x y = record {
   table = λ hash. y.table hash ∙ ap (λ (w : List (List ℕ)). with_blocks w more b.table hash) x.watch ∙ blocks_append a.watch more news b.table a.table x.table hash;
   verdicts = λ block hash. y.verdicts block hash ∙ ap (λ (w : List (List ℕ)). with_verdicts w later b.verdicts block hash) x.watch
       ∙ same_all a.watch later b.verdicts (with_verdicts a.watch jobs a.verdicts) x.verdicts block hash ∙ verdicts_append a.watch jobs later a.verdicts block hash;
+  opens = else_then a.opens b.opens c.opens p.0 x.opens y.opens;
 }
 
 -- p's chain and claims may be any after a fault
@@ -86,6 +103,7 @@ gains_retains a b c p t news jobs x y = record {
   claims = λ q ne block. y.claims q block ∙ x.claims q ne block;
   table = λ hash. y.table hash ∙ x.table hash;
   verdicts = λ block hash. y.verdicts block hash ∙ x.verdicts block hash;
+  opens = else_then a.opens b.opens c.opens p.0 x.opens (else_of b.opens c.opens p.0 y.opens);
 }
 
 -- ---- one message
@@ -97,9 +115,11 @@ block_own b t = alike (ready t) (own t) where
   alike true chain = refl
   alike false chain = refl
 
--- it follows a trail that one more message leaves with the same chain and claims
-pub follows_on : (s : Seen) (p : ℕ) (m : Msg) (t : Trail) → own (Said m ∷ t) ≡ own t → ((block : Hash) → claims (Said m ∷ t) block ≡ claims t block) → Follows s p t → Follows s p (Said m ∷ t)
-follows_on s p m t chain same f = record { chain = f.chain ∙ ap Some (sym chain); claims = λ block. f.claims block ∙ sym (same block) }
+-- it follows a trail that one more message leaves with the same chain and claims, and with the same open
+pub follows_on : (s : Seen) (p : ℕ) (m : Msg) (t : Trail) → own (Said m ∷ t) ≡ own t → ((block : Hash) → claims (Said m ∷ t) block ≡ claims t block)
+    → OpensAt s.opens p (Said m ∷ t) → Follows s p t → Follows s p (Said m ∷ t)
+follows_on s p m t chain same opens f =
+    record { chain = f.chain ∙ ap Some (sym chain); claims = λ block. f.claims block ∙ sym (same block); opens = opens }
 
 -- a block that isn't open to p
 pub other_hears : (seen : Seen) (p : PeerNo) (peer : Peer) (b : Block) (hash : Hash32) (t : Trail) → Holds peer t → awaits peer hash ≡ false → hash.0 ≡ block_hash_of b.header
@@ -107,22 +127,29 @@ pub other_hears : (seen : Seen) (p : PeerNo) (peer : Peer) (b : Block) (hash : H
 other_hears seen p peer b hash t h off is f =
     let o = other_block peer b hash t h off (sym is) in (
       (o.0, refl),
-      subst (λ (bs : List Block). Gains seen seen p (Said (BlockMessage b) ∷ t) bs []) (sym o.1) (gains_none seen p (Said (BlockMessage b) ∷ t) (follows_on seen p.0 (BlockMessage b) t (block_own b t) (λ block. refl) f)),
+      subst (λ (bs : List Block). Gains seen seen p (Said (BlockMessage b) ∷ t) bs []) (sym o.1) (gains_none seen p (Said (BlockMessage b) ∷ t)
+          (follows_on seen p.0 (BlockMessage b) t (block_own b t) (λ block. refl) (opens_other seen.opens p.0 peer b hash t h off is f.opens) f)),
     )
 
 -- the block that is open to it, once its extract is kept
 pub taken_hears : (before after : Seen) (p : PeerNo) (peer : Peer) (b : Block) (t : Trail) → Holds peer (Said (BlockMessage b) ∷ t) → fetched_by (BlockMessage b) (request t) ≡ b ∷ []
     → Follows before p.0 t → after.watch ≡ before.watch → ((q : ℕ) → after.chains q ≡ before.chains q) → IsSameTables before.claims after.claims → IsSameTable after.table (with_block before.watch b before.table)
-    → AreSameVerdicts after.verdicts before.verdicts → HearsSeen before after p peer (BlockMessage b) t NoReply
-taken_hears before after p peer b t h brought f watch chains claims table verdicts = (
+    → AreSameVerdicts after.verdicts before.verdicts → Closes before.opens after.opens p.0 → request (Said (BlockMessage b) ∷ t) ≡ NothingOpen
+    → HearsSeen before after p peer (BlockMessage b) t NoReply
+taken_hears before after p peer b t h brought f watch chains claims table verdicts closes ends = (
   (h, refl),
   subst (λ (bs : List Block). Gains before after p (Said (BlockMessage b) ∷ t) bs []) (sym brought) (record {
     watch = watch;
-    follows = record { chain = chains p.0 ∙ f.chain ∙ ap Some (sym (block_own b t)); claims = λ block. claims p.0 block ∙ f.claims block };
+    follows = record {
+      chain = chains p.0 ∙ f.chain ∙ ap Some (sym (block_own b t));
+      claims = λ block. claims p.0 block ∙ f.claims block;
+      opens = opens_closed before.opens after.opens p.0 (Said (BlockMessage b) ∷ t) closes (λ on. ends);
+    };
     others = λ q ne. chains q;
     claims = λ q ne block. claims q block;
     table = table;
     verdicts = verdicts;
+    opens = closes.others;
   }),
 )
 
@@ -167,16 +194,22 @@ cause_is o fault f cause all is this = all ∙ ap (option_map cause_of_claims) i
 pub claims_hears : (before after : Seen) (p : PeerNo) (peer : Peer) (filter : ℕ) (stop previous : Hash32) (hashes : List Hash32) (t : Trail)
     → TakesClaims peer (after.claims p.0) (Cfheaders filter stop previous hashes) t None → Follows before p.0 t → after.watch ≡ before.watch → ((q : ℕ) → after.chains q ≡ before.chains q)
     → ((q : ℕ) → q ≢ p.0 → (block : Hash) → after.claims q block ≡ before.claims q block) → IsSameTable after.table before.table → AreSameVerdicts after.verdicts before.verdicts
-    → HearsSeen before after p peer (Cfheaders filter stop previous hashes) t NoReply
-claims_hears before after p peer filter stop previous hashes t takes f watch chains others table verdicts = (
+    → IsSameOpens before.opens after.opens → HearsSeen before after p peer (Cfheaders filter stop previous hashes) t NoReply
+claims_hears before after p peer filter stop previous hashes t takes f watch chains others table verdicts opens = (
   (takes.0, refl),
   record {
     watch = watch;
-    follows = record { chain = chains p.0 ∙ f.chain ∙ ap Some (sym (claims_own filter stop previous hashes t)); claims = takes.1 };
+    follows = record {
+      chain = chains p.0 ∙ f.chain ∙ ap Some (sym (claims_own filter stop previous hashes t));
+      claims = takes.1;
+      opens = opens_on before.opens after.opens p.0 (Said (Cfheaders filter stop previous hashes) ∷ t) opens
+          (opens_claims before.opens p.0 filter stop previous hashes t f.opens);
+    };
     others = λ q ne. chains q;
     claims = others;
     table = table;
     verdicts = verdicts;
+    opens = else_of before.opens after.opens p.0 opens;
   },
 )
 
@@ -184,18 +217,131 @@ claims_hears before after p peer filter stop previous hashes t takes f watch cha
 pub filter_hears : (before after : Seen) (p : PeerNo) (peer : Peer) (filter : ℕ) (block : Hash32) (bytes : List ℕ) (jobs : List Job) (t : Trail)
     → Holds peer (Said (Cfilter filter block bytes) ∷ t) → given_by (Cfilter filter block bytes) (request t) ≡ jobs → Follows before p.0 t → after.watch ≡ before.watch → ((q : ℕ) → after.chains q ≡ before.chains q)
     → IsSameTables before.claims after.claims → IsSameTable after.table before.table → AreSameVerdicts after.verdicts (with_verdicts before.watch jobs before.verdicts)
+    → OpensAt after.opens p.0 (Said (Cfilter filter block bytes) ∷ t) → IsSameElse before.opens after.opens p.0
     → HearsSeen before after p peer (Cfilter filter block bytes) t NoReply
-filter_hears before after p peer filter block bytes jobs t h gives f watch chains claims table verdicts = (
+filter_hears before after p peer filter block bytes jobs t h gives f watch chains claims table verdicts opens others = (
   (h, refl),
   subst (λ (js : List Job). Gains before after p (Said (Cfilter filter block bytes) ∷ t) [] js) (sym gives) (record {
     watch = watch;
-    follows = record { chain = chains p.0 ∙ f.chain ∙ ap Some (sym (filter_own filter block bytes t)); claims = λ b. claims p.0 b ∙ f.claims b };
+    follows = record {
+      chain = chains p.0 ∙ f.chain ∙ ap Some (sym (filter_own filter block bytes t));
+      claims = λ b. claims p.0 b ∙ f.claims b;
+      opens = opens;
+    };
     others = λ q ne. chains q;
     claims = λ q ne b. claims q b;
     table = table;
     verdicts = verdicts;
+    opens = others;
   }),
 )
+
+-- headers that come before the handshake is over
+pub early_hears : (seen : Seen) (p : PeerNo) (peer : Peer) (hs : List Header) (t : Trail) → Holds peer t → is_ready_peer peer ≡ false → Follows seen p.0 t
+    → HearsSeen seen seen p peer (Headers hs) t NoReply
+early_hears seen p peer hs t h early f = (
+  (early_headers peer hs t h early, refl),
+  gains_none seen p (Said (Headers hs) ∷ t)
+      (follows_on seen p.0 (Headers hs) t (early_own peer hs t h early) (λ block. refl) (opens_headers seen.opens p.0 hs t f.opens) f),
+)
+
+-- headers that were taken
+longer_is : (a : Accepted) (own : Chain) → chain_after a own ≡ longer_of a own
+longer_is (Longer next) own = refl
+longer_is NoLonger own = refl
+longer_is Unlinked own = refl
+longer_is (Invalid place fault) own = refl
+longer_is TooHigh own = refl
+
+pub headers_hears : (before after : Seen) (p : PeerNo) (peer : Peer) (hs : List Header) (t : Trail) → Holds peer (Said (Headers hs) ∷ t) → ready t ≡ true
+    → Puts before.chains after.chains p (Some (chain_after (accept hs (own_of before.chains p)) (own_of before.chains p))) → Follows before p.0 t
+    → after.watch ≡ before.watch → IsSameTables before.claims after.claims → IsSameTable before.table after.table → AreSameVerdicts after.verdicts before.verdicts
+    → IsSameOpens before.opens after.opens → HearsSeen before after p peer (Headers hs) t NoReply
+headers_hears before after p peer hs t h over puts f watch claims table verdicts opens =
+    let mine : own_of before.chains p ≡ own t = ap (λ (o : Option Chain). unwrap_or o []) f.chain in (
+      (h, refl),
+      record {
+        watch = watch;
+        follows = record {
+          chain = puts.here ∙ ap (λ (c : Chain). Some (chain_after (accept hs c) c)) mine ∙ ap Some (longer_is (accept hs (own t)) (own t))
+              ∙ ap Some (sym (ap (λ (b : Bool). if b then longer_of (accept hs (own t)) (own t) else own t) over));
+          claims = λ block. claims p.0 block ∙ f.claims block;
+          opens = opens_on before.opens after.opens p.0 (Said (Headers hs) ∷ t) opens (opens_headers before.opens p.0 hs t f.opens);
+        };
+        others = puts.others;
+        claims = λ q ne block. claims q block;
+        table = λ hash. sym (table hash);
+        verdicts = verdicts;
+        opens = else_of before.opens after.opens p.0 opens;
+      },
+    )
+
+-- headers for which it is closed: its chain stays
+fault_same : (a : Accepted) (own : Chain) (cause : Cause) → fault_in a ≡ Some cause → chain_after a own ≡ own
+fault_same (Longer next) own cause e = cc
+fault_same NoLonger own cause e = refl
+fault_same Unlinked own cause e = refl
+fault_same (Invalid place fault) own cause e = refl
+fault_same TooHigh own cause e = refl
+
+pub headers_end : (before after : Seen) (p : PeerNo) (old peer : Peer) (hs : List Header) (t : Trail) (cause : Cause) → Holds old t → ready t ≡ true
+    → verdict (Said (Headers hs) ∷ t) ≡ Some cause
+    → Puts before.chains after.chains p (Some (chain_after (accept hs (own_of before.chains p)) (own_of before.chains p))) → Follows before p.0 t
+    → after.watch ≡ before.watch → IsSameTables before.claims after.claims → IsSameTable before.table after.table → AreSameVerdicts after.verdicts before.verdicts
+    → IsSameOpens before.opens after.opens → HearsSeen before after p peer (Headers hs) t (Close cause)
+headers_end before after p old peer hs t cause holds over gives puts f watch claims table verdicts opens =
+    let mine : own_of before.chains p ≡ own t = ap (λ (o : Option Chain). unwrap_or o []) f.chain in
+    let fault : fault_in (accept hs (own t)) ≡ Some cause =
+    sym (ap (λ (b : Bool). if b then fault_in (accept hs (own t)) else None) over) ∙ sym (ap (λ (o : Option Cause). first o (fault_of (Headers hs) t)) holds.clean) ∙ gives in
+    let here : after.chains p.0 ≡ before.chains p.0 =
+    puts.here ∙ ap (λ (c : Chain). Some (chain_after (accept hs c) c)) mine ∙ ap Some (fault_same (accept hs (own t)) (own t) cause fault) ∙ sym f.chain in (
+      gives,
+      record {
+        watch = watch;
+        chains = λ q. elim (cases_eq q p.0) [
+          | inl is ↦ subst (λ (k : ℕ). after.chains k ≡ before.chains k) (sym is) here
+          | inr ne ↦ puts.others q ne
+        ];
+        claims = claims;
+        table = λ hash. sym (table hash);
+        verdicts = verdicts;
+        opens = opens;
+      },
+    )
+
+-- a message that has to do with nothing that is kept beside the peer
+pub plain_else : (m : Msg) → ((hs : List Header) → m ≡ Headers hs → ⊥) → ((b : Block) → m ≡ BlockMessage b → ⊥)
+    → ((filter : ℕ) (block : Hash32) (bytes : List ℕ) → m ≡ Cfilter filter block bytes → ⊥)
+    → ((filter : ℕ) (stop previous : Hash32) (hashes : List Hash32) → m ≡ Cfheaders filter stop previous hashes → ⊥) → is_plain m ≡ true
+plain_else (Headers hs) headers block filter claims = absurd (headers hs refl)
+plain_else (BlockMessage b) headers block filter claims = absurd (block b refl)
+plain_else (Cfilter f b y) headers block filter claims = absurd (filter f b y refl)
+plain_else (Cfheaders f s p hs) headers block filter claims = absurd (claims f s p hs refl)
+plain_else m headers block filter claims = refl
+
+plain_given : (m : Msg) (r : OpenRequest) → is_plain m ≡ true → given_by m r ≡ []
+plain_given (Cfilter filter block bytes) r plain = cc plain
+plain_given m r plain = refl
+
+plain_claims : (m : Msg) (r : OpenRequest) (table : dispute.Table) → is_plain m ≡ true → claims_after m r table ≡ table
+plain_claims (Cfheaders filter stop previous hashes) r table plain = cc plain
+plain_claims m r table plain = refl
+
+gains_plain : (seen : Seen) (p : PeerNo) (m : Msg) (t : Trail) → is_plain m ≡ true → Follows seen p.0 t
+    → Gains seen seen p (Said m ∷ t) (fetched_by m (request t)) (given_by m (request t))
+gains_plain seen p m t plain f =
+    let said = plain_said m t plain in
+    subst (λ (bs : List Block). Gains seen seen p (Said m ∷ t) bs (given_by m (request t))) (sym said.2)
+    (subst (λ (js : List Job). Gains seen seen p (Said m ∷ t) [] js) (sym (plain_given m (request t) plain))
+    (gains_none seen p (Said m ∷ t)
+    (follows_on seen p.0 m t said.0 (λ block. ap (λ (c : dispute.Table). c block) (plain_claims m (request t) (claims t) plain))
+    (opens_plain seen.opens p.0 m t plain f.opens) f)))
+
+pub plain_hears : (seen : Seen) (p : PeerNo) (peer : Peer) (m : Msg) (t : Trail) (r : Reply) → is_plain m ≡ true → Hears peer m t r → Follows seen p.0 t
+    → HearsSeen seen seen p peer m t r
+plain_hears seen p peer m t NoReply plain hears f = (hears, gains_plain seen p m t plain f)
+plain_hears seen p peer m t (Send reply) plain hears f = (hears, gains_plain seen p m t plain f)
+plain_hears seen p peer m t (Close cause) plain hears f = (hears, same_seen seen)
 
 -- what a message that was read does to the peer and to what was seen
 pub hears_next : (before after : Seen) (p : PeerNo) (old new : Peer) (waits : List ℕ) (m : Msg) (t : Trail) (r : Reply)
@@ -318,11 +464,16 @@ midway_reply p old new seen now next before acts more start end r midway moves e
 gains_same : (a b c : Seen) (p : PeerNo) (t : Trail) (news : List Block) (jobs : List Job) → Gains a b p t news jobs → IsSameSeen b c → Gains a c p t news jobs
 gains_same a b c p t news jobs x y = record {
   watch = y.watch ∙ x.watch;
-  follows = record { chain = y.chains p.0 ∙ x.follows.chain; claims = λ block. y.claims p.0 block ∙ x.follows.claims block };
+  follows = record {
+    chain = y.chains p.0 ∙ x.follows.chain;
+    claims = λ block. y.claims p.0 block ∙ x.follows.claims block;
+    opens = opens_on b.opens c.opens p.0 t y.opens x.follows.opens;
+  };
   others = λ q ne. y.chains q ∙ x.others q ne;
   claims = λ q ne block. y.claims q block ∙ x.claims q ne block;
   table = λ hash. y.table hash ∙ x.table hash;
   verdicts = λ block hash. y.verdicts block hash ∙ x.verdicts block hash;
+  opens = else_then a.opens b.opens c.opens p.0 x.opens (else_of b.opens c.opens p.0 y.opens);
 }
 
 pub midway_whole : (p : PeerNo) (old new : Peer) (seen now next : Seen) (before acts : List Act) (start end : Part) (midway : Midway p old seen now before acts start end)

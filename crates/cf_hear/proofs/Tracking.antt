@@ -2,7 +2,7 @@
 use Rattle.std.proofs.Common.{◌≡◌, ◌≢◌, inl, inr, ℕ, List, [], ◌∷◌, ◌++◌, Option, Some, None, Ok, Err, Bool, true, false, ◌==◌, if◌then◌else◌, refl, sym, ◌∙◌, ap, subst, arith}
 use Rattle.std.specs.Prelude.{◌&&◌, is_none}
 use Rattle.std.proofs.lemmas.Grind.{common_steps}
-use Rattle.std.proofs.lemmas.Bool.{cases_eq}
+use Rattle.std.proofs.lemmas.Bool.{both_ways, cases_eq}
 use Rattle.cf_bytes.specs.declared.peer.PeerNo.{PeerNo}
 use Rattle.cf_block.specs.declared.tx.Block.{Block}
 use Rattle.cf_dispute.specs.Claims.{no_claims}
@@ -22,18 +22,21 @@ use Rattle.cf_peer.specs.declared.peer.Peer.{Peer}
 use Rattle.cf_wires.specs.declared.event.Delivery.TheVariants.{Got, Gone, Tick, Ended}
 use Rattle.cf_wires.specs.declared.event.Event.TheVariants.{Dialled, NotDialled, Sent, Closed, Took}
 use Rattle.cf_wires.specs.Log.{Log}
-use Rattle.cf_peer.specs.Trail.{Trail, Part, Said, Lost, Went, Shutting, part_of, trail, went_on, asks, spelled, with_item, called_part, heard_part, hears, hears_fault, item_of, item_of_read, connected, own}
-use Rattle.cf_peer.specs.Asking.{claims, counted, verdict, fetched, given, SameUse}
-use Rattle.cf_sync.specs.Fetching.{HoldsFetched, IsFetched}
-use Rattle.cf_sync.specs.Kept.{HoldsClaims, HoldsGiven, claims_kept}
+use Rattle.cf_peer.specs.Trail.{Trail, Part, Said, Asked, Lost, Went, Shutting, part_of, trail, went_on, asks, spelled, with_item, called_part, heard_part, hears, hears_fault, item_of, item_of_read, connected, own}
+use Rattle.cf_peer.specs.Asking.{NothingOpen, claims, counted, request, verdict, fetched, given, SameUse}
+use Rattle.cf_sync.specs.Fetching.{HoldsFetched, IsFetched, blocks_open, filters_open}
+use Rattle.cf_sync.specs.Kept.{HoldsClaims, HoldsGiven, HoldsOpens, OpensAt, claims_kept}
+use Rattle.cf_sync.proofs.KeptOpens.{opens_closed, opens_put}
 use Rattle.cf_sync.proofs.Counted.{same_use}
 use Rattle.cf_sync.proofs.TableGrows.{holds_after_piece}
 use Rattle.cf_sync.proofs.VerdictsGrow.{grown_between, same_given}
+use Rattle.cf_tracker.specs.Opens.{Closes, IsSameOpens}
 use Rattle.cf_tracker.specs.Tables.{Table, IsSameTable}
 use Rattle.cf_tracker.specs.Wanting.{ForgetsClaims, IsSameTables}
 use Rattle.cf_hear.specs.Hearing.{HeardWhole, HeardFault, IsGivenBetween}
 use Rattle.cf_hear.specs.Seen.{Seen, IsSameSeen}
-use Rattle.cf_hear.specs.Tracks.{Tracks, IsPut, chain_kept}
+use Rattle.cf_hear.specs.Tracks.{HasOpened, Tracks, IsPut, chain_kept}
+use Rattle.cf_hear.proofs.Opening.{closed_on, closes_off, closes_then, else_by, else_self, holds_by, opens_asked, opens_by, opens_kept, opens_on}
 
 -- ---- what is kept of fetched blocks, where two logs tell of the same
 
@@ -47,7 +50,7 @@ holds_on watch now log next table new same_watch same_table same h = subst (λ (
   complete = λ hash off got. h.complete hash (sym (same_table hash) ∙ off) (got.0, same_fetched next log (λ p. sym (same p)) got.0 got.1, got.2);
 })
 
--- ---- a log that tells the same, or that p's chain and claims became others
+-- ---- a log that tells the same, or that p's chain and claims became others, and nothing is open to it
 
 -- of each peer the same blocks and filters
 pub record IsSameBrought (log next : Log) : Type 0 where
@@ -55,29 +58,33 @@ pub record IsSameBrought (log next : Log) : Type 0 where
   pub filters : (q : ℕ) → given (counted (trail next q)) ≡ given (counted (trail log q))
 
 pub tracks_on : (before after : Seen) (log next : Log) → after.watch ≡ before.watch → IsSameTable after.table before.table → AreSameVerdicts after.verdicts before.verdicts
-    → ((q : ℕ) → after.chains q ≡ chain_kept (trail next q)) → HoldsClaims next after.claims → IsSameBrought log next → Tracks before log → Tracks after next
-tracks_on before after log next watch table verdicts kept claimed same tracks = record {
+    → ((q : ℕ) → after.chains q ≡ chain_kept (trail next q)) → HoldsClaims next after.claims → HoldsOpens next after.opens → IsSameBrought log next
+    → Tracks before log → Tracks after next
+tracks_on before after log next watch table verdicts kept claimed opened same tracks = record {
   kept = kept;
   claimed = claimed;
   fetched = holds_on before.watch after.watch log next before.table after.table watch table same.blocks tracks.fetched;
   given = subst (λ (w : List (List ℕ)). HoldsGiven w next after.verdicts) (sym watch) (same_given before.watch log next before.verdicts after.verdicts same.filters verdicts tracks.given);
+  opened = opened;
 }
 
 pub same_tracks : (before after : Seen) (log : Log) → IsSameSeen before after → Tracks before log → Tracks after log
 same_tracks before after log same tracks =
     tracks_on before after log log same.watch same.table same.verdicts (λ q. same.chains q ∙ tracks.kept q) (λ q block. same.claims q block ∙ tracks.claimed q block)
+    (λ q. opens_on before.opens after.opens q (trail log q) same.opens (tracks.opened q))
     (record { blocks = λ q. refl; filters = λ q. refl }) tracks
 
 -- the log goes on, and no chain changes and no claims
 pub tracks_same : (s : Seen) (log next : Log) → ((q : ℕ) → chain_kept (trail next q) ≡ chain_kept (trail log q)) → ((q : ℕ) → claims_kept (trail next q) ≡ claims_kept (trail log q))
-    → IsSameBrought log next → Tracks s log → Tracks s next
-tracks_same s log next chains claims same tracks =
-    tracks_on s s log next refl (λ hash. refl) (λ block hash. refl) (λ q. tracks.kept q ∙ sym (chains q)) (λ q block. tracks.claimed q block ∙ sym (ap (λ (t : dispute.Table). t block) (claims q))) same tracks
+    → HoldsOpens next s.opens → IsSameBrought log next → Tracks s log → Tracks s next
+tracks_same s log next chains claims opened same tracks =
+    tracks_on s s log next refl (λ hash. refl) (λ block hash. refl) (λ q. tracks.kept q ∙ sym (chains q)) (λ q block. tracks.claimed q block ∙ sym (ap (λ (t : dispute.Table). t block) (claims q))) opened same tracks
 
--- p's chain and claims become these, and no others
+-- p's chain and claims become these, and no others; and nothing is open to it
 pub tracks_put : (before after : Seen) (p : ℕ) (own : Option Chain) (table : dispute.Table) (log next : Log) → IsPut before after p own table → own ≡ chain_kept (trail next p) → table ≡ claims_kept (trail next p)
+    → (connected (trail next p) ≡ true → request (trail next p) ≡ NothingOpen)
     → ((q : ℕ) → q ≢ p → part_of next q ≡ part_of log q) → IsSameBrought log next → Tracks before log → Tracks after next
-tracks_put before after p own table log next put here claims others same tracks =
+tracks_put before after p own table log next put here claims idle others same tracks =
     tracks_on before after log next put.watch put.table put.verdicts
     (λ q. elim (cases_eq q p) [
       | inl is ↦ subst (λ (k : ℕ). after.chains k ≡ chain_kept (trail next k)) (sym is) (put.here ∙ here)
@@ -86,12 +93,14 @@ tracks_put before after p own table log next put here claims others same tracks 
     (λ q block. elim (cases_eq q p) [
       | inl is ↦ subst (λ (k : ℕ). after.claims k block ≡ claims_kept (trail next k) block) (sym is) (put.claims block ∙ ap (λ (t : dispute.Table). t block) claims)
       | inr other ↦ put.claims_others q other block ∙ tracks.claimed q block ∙ sym (ap (λ (x : Part). claims_kept x.trail block) (others q other))
-    ]) same tracks
+    ])
+    (opens_put log next before.opens after.opens p tracks.opened put.opens.others (λ q other. ap (λ (x : Part). x.trail) (others q other))
+    (opens_closed before.opens after.opens p (trail next p) put.opens idle)) same tracks
 
 -- by what a tracker's calls say: a peer is forgotten; one that claims nothing is entered
 pub put_forgotten : (before last : Seen) (p : PeerNo) → Puts before.chains last.chains p None → IsSameTable before.table last.table → ForgetsClaims before.claims last.claims p.0
-    → AreSameVerdicts last.verdicts before.verdicts → last.watch ≡ before.watch → IsPut before last p.0 None no_claims
-put_forgotten before last p puts table claims verdicts watch = record {
+    → AreSameVerdicts last.verdicts before.verdicts → last.watch ≡ before.watch → Closes before.opens last.opens p.0 → IsPut before last p.0 None no_claims
+put_forgotten before last p puts table claims verdicts watch closes = record {
   watch = watch;
   here = puts.here;
   others = puts.others;
@@ -99,11 +108,13 @@ put_forgotten before last p puts table claims verdicts watch = record {
   claims_others = claims.others;
   table = λ hash. sym (table hash);
   verdicts = verdicts;
+  opens = closes;
 }
 
 pub put_entered : (before last : Seen) (p : PeerNo) → Puts before.chains last.chains p (Some []) → IsSameTable before.table last.table → IsSameTables before.claims last.claims
-    → AreSameVerdicts last.verdicts before.verdicts → last.watch ≡ before.watch → ((block : Hash) → before.claims p.0 block ≡ None) → IsPut before last p.0 (Some []) no_claims
-put_entered before last p puts table claims verdicts watch none = record {
+    → AreSameVerdicts last.verdicts before.verdicts → last.watch ≡ before.watch → ((block : Hash) → before.claims p.0 block ≡ None) → IsSameOpens before.opens last.opens → Closes before.opens before.opens p.0
+    → IsPut before last p.0 (Some []) no_claims
+put_entered before last p puts table claims verdicts watch none opens idle = record {
   watch = watch;
   here = puts.here;
   others = puts.others;
@@ -111,6 +122,7 @@ put_entered before last p puts table claims verdicts watch none = record {
   claims_others = λ q ne block. claims q block;
   table = λ hash. sym (table hash);
   verdicts = verdicts;
+  opens = closed_on before.opens last.opens p.0 opens idle;
 }
 
 -- ---- the entries
@@ -134,7 +146,7 @@ pub tracks_lost : (before after : Seen) (p : PeerNo) (log next : Log) → IsPut 
 tracks_lost before after p log next put off others blocks filters tracks =
     tracks_put before after p.0 None no_claims log next put
     (sym (ap (λ (b : Bool). if b then Some (own (trail next p.0)) else None) off)) (sym (ap (λ (b : Bool). if b then claims (counted (trail next p.0)) else no_claims) off))
-    others (brought_at log next p.0 others blocks filters) tracks
+    (λ on. absurd (both_ways (connected (trail next p.0)) off on)) others (brought_at log next p.0 others blocks filters) tracks
 
 closed_here : (p : PeerNo) (part : Part) → went_on (Closed p) p.0 part ≡ with_item (Lost Shutting) part
 closed_here p part = grind (arith, common_steps)
@@ -171,7 +183,7 @@ tracks_dialled before after p name log put tracks =
     let here = called_here p name (part_of log p.0) in
     let next = Dialled p name ∷ log in
     tracks_put before after p.0 (Some []) no_claims log next put (sym (ap (λ (x : Part). chain_kept x.trail) here)) (sym (ap (λ (x : Part). claims_kept x.trail) here))
-    (λ q other. called_others p name q (part_of log q) other)
+    (λ on. ap (λ (x : Part). request x.trail) here) (λ q other. called_others p name q (part_of log q) other)
     (brought_at log next p.0 (λ q other. called_others p name q (part_of log q) other) (ap (λ (x : Part). fetched (counted x.trail)) here) (ap (λ (x : Part). given (counted x.trail)) here)) tracks
 
 -- what is sent changes nothing that is kept
@@ -185,19 +197,55 @@ sent_same A f p bytes log q some = by (p.0 == q) where
   by true = asked_same A f (spelled bytes) (trail log q) some
   by false = refl
 
-pub tracks_sent : (s : Seen) (p : PeerNo) (bytes : List ℕ) (log : Log) → Tracks s log → Tracks s (Sent p bytes ∷ log)
-tracks_sent s p bytes log tracks =
-    tracks_same s log (Sent p bytes ∷ log) (λ q. sent_same (Option Chain) chain_kept p bytes log q (λ m. refl)) (λ q. sent_same dispute.Table claims_kept p bytes log q (λ m. refl))
+sent_here : (p : PeerNo) (bytes : List ℕ) (part : Part) → went_on (Sent p bytes) p.0 part ≡ record part { trail = asks (spelled bytes) part.trail }
+sent_here p bytes part = grind (arith, common_steps)
+
+sent_others : (p : PeerNo) (bytes : List ℕ) (q : ℕ) (part : Part) → q ≢ p.0 → went_on (Sent p bytes) q part ≡ part
+sent_others p bytes q part ne = grind (arith, common_steps)
+
+-- a message was sent, and what is kept of it is open to p
+pub tracks_asked : (before after : Seen) (p : PeerNo) (bytes : List ℕ) (log : Log) → HasOpened before after p.0 → OpensAt after.opens p.0 (asks (spelled bytes) (trail log p.0))
+    → Tracks before log → Tracks after (Sent p bytes ∷ log)
+tracks_asked before after p bytes log same at tracks =
+    let next = Sent p bytes ∷ log in
+    tracks_on before after log next same.watch same.table same.verdicts
+    (λ q. same.chains q ∙ tracks.kept q ∙ sym (sent_same (Option Chain) chain_kept p bytes log q (λ m. refl)))
+    (λ q block. same.claims q block ∙ tracks.claimed q block ∙ sym (ap (λ (t : dispute.Table). t block) (sent_same dispute.Table claims_kept p bytes log q (λ m. refl))))
+    (opens_put log next before.opens after.opens p.0 tracks.opened same.opens (λ q ne. ap (λ (x : Part). x.trail) (sent_others p bytes q (part_of log q) ne))
+    (subst (OpensAt after.opens p.0) (sym (ap (λ (x : Part). x.trail) (sent_here p bytes (part_of log p.0)))) at))
     (record {
       blocks = λ q. sent_same (List Block) (λ t. fetched (counted t)) p bytes log q (λ m. refl);
       filters = λ q. sent_same (List Job) (λ t. given (counted t)) p bytes log q (λ m. refl);
     }) tracks
 
+pub opened_self : (s : Seen) (p : ℕ) → HasOpened s s p
+opened_self s p = record {
+  watch = refl;
+  chains = λ q. refl;
+  claims = λ q block. refl;
+  table = λ hash. refl;
+  verdicts = λ block hash. refl;
+  opens = else_self s.opens p;
+  more = record { filters = λ q block off. off; blocks = λ q block off. off };
+}
+
+-- a message that asks for neither filters nor a block
+pub tracks_sent : (s : Seen) (p : PeerNo) (bytes : List ℕ) (m : Msg) (log : Log) → spelled bytes ≡ Some m
+    → filters_open (request (Asked m ∷ trail log p.0)) ≡ filters_open (request (trail log p.0)) → blocks_open (request (Asked m ∷ trail log p.0)) ≡ blocks_open (request (trail log p.0))
+    → Tracks s log → Tracks s (Sent p bytes ∷ log)
+tracks_sent s p bytes m log is filters blocks tracks =
+    tracks_asked s s p bytes log (opened_self s p.0)
+    (subst (λ (o : Option Msg). OpensAt s.opens p.0 (asks o (trail log p.0))) (sym is) (opens_asked s.opens p.0 m (trail log p.0) filters blocks (tracks.opened p.0))) tracks
+
 pub tracks_tick : (s : Seen) (seconds : ℕ) (log : Log) → Tracks s log → Tracks s (Took (Tick seconds) ∷ log)
-tracks_tick s seconds log tracks = tracks_same s log (Took (Tick seconds) ∷ log) (λ q. refl) (λ q. refl) (record { blocks = λ q. refl; filters = λ q. refl }) tracks
+tracks_tick s seconds log tracks =
+    tracks_same s log (Took (Tick seconds) ∷ log) (λ q. refl) (λ q. refl) (λ q. opens_kept s.opens q (trail log q) (trail (Took (Tick seconds) ∷ log) q) refl refl (tracks.opened q))
+    (record { blocks = λ q. refl; filters = λ q. refl }) tracks
 
 pub tracks_ended : (s : Seen) (log : Log) → Tracks s log → Tracks s (Took Ended ∷ log)
-tracks_ended s log tracks = tracks_same s log (Took Ended ∷ log) (λ q. refl) (λ q. refl) (record { blocks = λ q. refl; filters = λ q. refl }) tracks
+tracks_ended s log tracks =
+    tracks_same s log (Took Ended ∷ log) (λ q. refl) (λ q. refl) (λ q. opens_kept s.opens q (trail log q) (trail (Took Ended ∷ log) q) refl refl (tracks.opened q))
+    (record { blocks = λ q. refl; filters = λ q. refl }) tracks
 
 -- ---- a peer that isn't connected
 
@@ -211,8 +259,13 @@ off_claims t block off = ap (λ (b : Bool). (if b then claims (counted t) else n
 pub none_claimed : (s : Seen) (log : Log) (p : ℕ) → connected (trail log p) ≡ false → Tracks s log → (block : Hash) → s.claims p block ≡ None
 none_claimed s log p off tracks block = tracks.claimed p block ∙ off_claims (trail log p) block off
 
+-- nor is anything open to it
+pub none_open : (s : Seen) (log : Log) (p : ℕ) → connected (trail log p) ≡ false → Tracks s log → Closes s.opens s.opens p
+none_open s log p off tracks = closes_off s.opens p (trail log p) (tracks.opened p) off
+
 pub put_off : (s : Seen) (log : Log) (p : ℕ) → connected (trail log p) ≡ false → Tracks s log → IsPut s s p None no_claims
 put_off s log p off tracks = record {
+  opens = none_open s log p off tracks;
   watch = refl;
   here = tracks.kept p ∙ off_chain (trail log p) off;
   others = λ q ne. refl;
@@ -320,6 +373,8 @@ tracks_heard p peer seen now before after piece log heard tracks =
           (holds_after_piece seen.watch p piece log heard.news seen.table now.table (ap (λ (x : Trail). fetched (counted x)) t ∙ heard.brings) heard.gains.table tracks.fetched);
       given = subst (λ (w : List (List ℕ)). HoldsGiven w next now.verdicts) (sym heard.gains.watch)
           (got_given p piece log seen.watch heard.jobs seen.verdicts now.verdicts heard.gives heard.gains.verdicts tracks.given);
+      opened = opens_put log next seen.opens now.opens p.0 tracks.opened heard.gains.opens (λ q other. ap (λ (x : Part). x.trail) (others q other))
+          (subst (OpensAt now.opens p.0) (sym t) heard.gains.follows.opens);
     }
 
 -- One in which a frame deserves a cause: what was seen stands for the log with the piece, but for p's chain and claims, which are given up with it.
@@ -330,7 +385,7 @@ tracks_faulty p seen now last before acts piece log cause fault put tracks =
     let next = Took (Got p piece) ∷ log in
     let others : (q : ℕ) → q ≢ p.0 → part_of next q ≡ part_of log q = λ q ne. got_others p piece q (part_of log q) ne in
     let t : trail next p.0 ≡ (heard_part piece (part_of log p.0)).trail = ap (λ (x : Part). x.trail) (got_here p piece (part_of log p.0)) in (
-      record { watch = last.watch; chains = λ q. chain_kept (trail next q); claims = λ q. claims_kept (trail next q); table = last.table; verdicts = last.verdicts },
+      record { watch = last.watch; chains = λ q. chain_kept (trail next q); claims = λ q. claims_kept (trail next q); table = last.table; verdicts = last.verdicts; opens = opens_by next },
       (
         record {
           kept = λ q. refl;
@@ -339,6 +394,7 @@ tracks_faulty p seen now last before acts piece log cause fault put tracks =
               (holds_after_piece seen.watch p piece log fault.news seen.table last.table (ap (λ (x : Trail). fetched (counted x)) t ∙ fault.brings) (λ hash. put.table hash ∙ fault.kept.table hash) tracks.fetched);
           given = subst (λ (w : List (List ℕ)). HoldsGiven w next last.verdicts) (sym (put.watch ∙ fault.kept.watch))
               (got_given p piece log seen.watch fault.jobs seen.verdicts last.verdicts fault.gives (λ block hash. put.verdicts block hash ∙ fault.kept.verdicts block hash) tracks.given);
+          opened = holds_by next;
         },
         record {
           watch = refl;
@@ -348,6 +404,8 @@ tracks_faulty p seen now last before acts piece log cause fault put tracks =
           claims_others = λ q other block. put.claims_others q other block ∙ fault.kept.claims q other block ∙ tracks.claimed q block ∙ sym (ap (λ (x : Part). claims_kept x.trail block) (others q other));
           table = λ hash. refl;
           verdicts = λ block hash. refl;
+          opens = closes_then (opens_by next) now.opens last.opens p.0
+              (else_by log next seen.opens now.opens p.0 tracks.opened (λ q other. ap (λ (x : Part). x.trail) (others q other)) fault.kept.opens) put.opens;
         },
       ),
     )

@@ -20,10 +20,12 @@ use Rattle.cf_msg.specs.declared.msg.Msg.TheVariants.{GetCfheaders, GetCfilters,
 use Rattle.cf_peer.specs.Asking.{HasHeader, IsClaimed, IsFree, MayAsk, block_entry, claims, counted, hashes_of, verdict}
 use Rattle.cf_wires.specs.Log.{Log}
 use Rattle.cf_peer.specs.Trail.{Trail, trail, connected, own}
-use Rattle.cf_sync.specs.Fetching.{IsFilterWanted, IsNeeded, IsNoneFetching, IsBlockWanted, MaySend, blocks_in}
+use Rattle.cf_sync.specs.Fetching.{IsFilterWanted, IsNeeded, IsBlockWanted, MaySend, blocks_in}
+use Rattle.cf_sync.proofs.KeptOpens.{block_alone, filters_alone}
 use Rattle.cf_sync.proofs.Kept.{filter_by, block_by}
 use Rattle.cf_tracker.specs.declared.spans.Span.{Span}
 use Rattle.cf_tracker.specs.declared.spans.Wish.TheVariants.{Claims, Filters, Block}
+use Rattle.cf_tracker.specs.Opens.{IsBlockFree, IsFilterFree}
 use Rattle.cf_tracker.specs.Spans.{IsWish}
 use Rattle.cf_tracker.specs.Wanting.{IsAbove, IsUnjudged, AreClaimed}
 use Rattle.cf_tracker.proofs.Along.{hash_of_next}
@@ -79,9 +81,9 @@ up_from zero h lt = omega arith
 up_from (suc n) h lt = omega (arith, lt)
 
 -- filters that are asked for are wanted of p
-pub filters_needed : (s : Seen) (log : Log) (p common : ℕ) (spare : Bool) (span : Span) (chain : Chain) → Tracks s log → chain ≡ own (trail log p) → common ≤ length chain
-    → IsWish s.table s.claims s.verdicts p chain common spare (Filters span) → IsNeeded s.watch log p (GetCfilters 0 span.start span.stop)
-filters_needed s log p common spare span chain tracks is low wish block i =
+pub filters_needed : (s : Seen) (log : Log) (p common : ℕ) (span : Span) (chain : Chain) → Tracks s log → chain ≡ own (trail log p) → common ≤ length chain
+    → IsWish s.table s.claims s.verdicts s.opens p chain common (Filters span) → IsNeeded s.watch log p (GetCfilters 0 span.start span.stop)
+filters_needed s log p common span chain tracks is low wish block i =
     let sp = wish.1.1.0 in
     let tip : back_to span.stop.0 (own (trail log p)) ≡ Some sp.part = subst (λ (c : Chain). back_to span.stop.0 c ≡ Some sp.part) is sp.tip in
     let high = sp.high in
@@ -90,14 +92,29 @@ filters_needed s log p common spare span chain tracks is low wish block i =
     let past = w.1 in
     let most = w.2 in
     let un = wish.1.1.3 w.0 (up_from span.start w.0 past) (omega (arith, most, high)) in
-    wanted_at s log p common chain w.0 block tracks wish.0.1 (omega (arith, past)) (omega (arith, most, high, le)) un.0 un.1 w.3
+    wanted_at s log p common chain w.0 block tracks wish.0.0 (omega (arith, past)) (omega (arith, most, high, le)) un.above un.un w.3
+
+-- and are open to nobody
+filters_free : (s : Seen) (log : Log) (p common : ℕ) (span : Span) (chain : Chain) → chain ≡ own (trail log p) → common ≤ length chain
+    → IsWish s.table s.claims s.verdicts s.opens p chain common (Filters span)
+    → (block : Hash) → IsIn block (blocks_in span.start (back_to span.stop.0 (own (trail log p)))) → IsFilterFree s.opens block
+filters_free s log p common span chain is low wish block i =
+    let sp = wish.1.1.0 in
+    let tip : back_to span.stop.0 (own (trail log p)) ≡ Some sp.part = subst (λ (c : Chain). back_to span.stop.0 c ≡ Some sp.part) is sp.tip in
+    let high = sp.high in
+    let le = wish.1.1.1 in
+    let w = in_span chain sp.part (length sp.part) (pred span.start) block sp.is (omega (arith, high, le, low)) (subst (λ (o : Option Chain). IsIn block (blocks_in span.start o)) tip i) in
+    let past = w.1 in
+    let most = w.2 in
+    let un = wish.1.1.3 w.0 (up_from span.start w.0 past) (omega (arith, most, high)) in
+    subst (λ (b : Hash). IsFilterFree s.opens b) (sym w.3) un.free
 
 -- a block that is asked for is wanted
-pub block_needed : (s : Seen) (log : Log) (p common : ℕ) (spare : Bool) (hash : Hash32) (chain : Chain) → Tracks s log
-    → IsWish s.table s.claims s.verdicts p chain common spare (Block hash) → IsNeeded s.watch log p (GetData (block_entry hash ∷ []))
-block_needed s log p common spare hash chain tracks wish entry (inr none) = absurd none
-block_needed s log p common spare hash chain tracks wish entry (inl e) =
-    let w : IsBlockWanted s.watch log hash.0 = subst (IsBlockWanted s.watch log) (sym wish.1.1) (block_by s.watch log s.table s.claims s.verdicts tracks.fetched tracks.claimed tracks.given (hash_at chain wish.0) wish.1.0.7) in
+pub block_needed : (s : Seen) (log : Log) (p common : ℕ) (hash : Hash32) (chain : Chain) → Tracks s log
+    → IsWish s.table s.claims s.verdicts s.opens p chain common (Block hash) → IsNeeded s.watch log p (GetData (block_entry hash ∷ []))
+block_needed s log p common hash chain tracks wish entry (inr none) = absurd none
+block_needed s log p common hash chain tracks wish entry (inl e) =
+    let w : IsBlockWanted s.watch log hash.0 = subst (IsBlockWanted s.watch log) (sym wish.1.1) (block_by s.watch log s.table s.claims s.verdicts tracks.fetched tracks.claimed tracks.given (hash_at chain wish.0) wish.1.0.5.due) in
     subst (λ (x : Entry). IsBlockWanted s.watch log x.hash.0) (sym e) w
 
 -- a block of the lower part of a chain stands at one of its heights
@@ -173,9 +190,9 @@ start_less : (n : ℕ) → 1 ≤ n → pred n + 1 ≡ n
 start_less zero le = absurd (omega (arith, le))
 start_less (suc n) le = omega arith
 
-pub claims_may : (s : Seen) (log : Log) (p common : ℕ) (spare : Bool) (span : Span) (chain : Chain) → Tracks s log → chain ≡ own (trail log p) → common ≤ length chain
-    → IsFree (trail log p) → verdict (trail log p) ≡ None → IsWish s.table s.claims s.verdicts p chain common spare (Claims span) → MayAsk (trail log p) (GetCfheaders 0 span.start span.stop)
-claims_may s log p common spare span chain tracks is low free clean wish =
+pub claims_may : (s : Seen) (log : Log) (p common : ℕ) (span : Span) (chain : Chain) → Tracks s log → chain ≡ own (trail log p) → common ≤ length chain
+    → IsFree (trail log p) → verdict (trail log p) ≡ None → IsWish s.table s.claims s.verdicts s.opens p chain common (Claims span) → MayAsk (trail log p) (GetCfheaders 0 span.start span.stop)
+claims_may s log p common span chain tracks is low free clean wish =
     let t = trail log p in
     let sp = wish.1.1.0 in
     let le = wish.1.1.1 in
@@ -206,9 +223,9 @@ claims_may s log p common spare span chain tracks is low free clean wish =
 claimed_at : (s : Seen) (t : Trail) (p : ℕ) (block : Hash) → ((x : Hash) → s.claims p x ≡ claims t x) → (claim : Claim) × (s.claims p block ≡ Some claim) → IsClaimed t block
 claimed_at s t p block cl mine = (mine.0, sym (cl block) ∙ mine.1)
 
-pub filters_may : (s : Seen) (log : Log) (p common : ℕ) (spare : Bool) (span : Span) (chain : Chain) → Tracks s log → chain ≡ own (trail log p) → common ≤ length chain
-    → IsFree (trail log p) → verdict (trail log p) ≡ None → IsWish s.table s.claims s.verdicts p chain common spare (Filters span) → MayAsk (trail log p) (GetCfilters 0 span.start span.stop)
-filters_may s log p common spare span chain tracks is low free clean wish =
+pub filters_may : (s : Seen) (log : Log) (p common : ℕ) (span : Span) (chain : Chain) → Tracks s log → chain ≡ own (trail log p) → common ≤ length chain
+    → IsFree (trail log p) → verdict (trail log p) ≡ None → IsWish s.table s.claims s.verdicts s.opens p chain common (Filters span) → MayAsk (trail log p) (GetCfilters 0 span.start span.stop)
+filters_may s log p common span chain tracks is low free clean wish =
     let t = trail log p in
     let sp = wish.1.1.0 in
     let le = wish.1.1.1 in
@@ -221,43 +238,51 @@ filters_may s log p common spare span chain tracks is low free clean wish =
     let tip : back_to span.stop.0 (own t) ≡ Some sp.part = subst (λ (c : Chain). back_to span.stop.0 c ≡ Some sp.part) is sp.tip in (
       free,
       (
-        record { basic = refl; part = sp.part; tip = tip; low = wish.0.2; high = start; bound = omega (arith, few, high, start) },
+        record { basic = refl; part = sp.part; tip = tip; low = wish.0.1; high = start; bound = omega (arith, few, high, start) },
         λ block i.
             let w = in_span chain sp.part (length sp.part) (pred span.start) block sp.is within i in
             let past = w.1 in
             let most = w.2 in
             let u = un w.0 (up_from span.start w.0 past) (omega (arith, most, high)) in
-            claimed_at s t p block cl (claim_at s p common chain w.0 block wish.0.1 (omega (arith, past)) (omega (arith, most, high, le)) u.0 w.3),
+            claimed_at s t p block cl (claim_at s p common chain w.0 block wish.0.0 (omega (arith, past)) (omega (arith, most, high, le)) u.above w.3),
       ),
     )
 
-pub block_may : (log : Log) (p common : ℕ) (spare : Bool) (s : Seen) (hash : Hash32) (chain : Chain) → chain ≡ own (trail log p) → common ≤ length chain → IsFree (trail log p)
-    → IsWish s.table s.claims s.verdicts p chain common spare (Block hash) → MayAsk (trail log p) (GetData (block_entry hash ∷ []))
-block_may log p common spare s hash chain is low free wish =
-    let le = wish.1.0.3 in
-    let among : IsIn (hash_at chain wish.0) (hashes_of chain) = hash_in chain wish.0 wish.1.0.2 (omega (arith, le, low)) in
+pub block_may : (log : Log) (p common : ℕ) (s : Seen) (hash : Hash32) (chain : Chain) → chain ≡ own (trail log p) → common ≤ length chain → IsFree (trail log p)
+    → IsWish s.table s.claims s.verdicts s.opens p chain common (Block hash) → MayAsk (trail log p) (GetData (block_entry hash ∷ []))
+block_may log p common s hash chain is low free wish =
+    let le = wish.1.0.2 in
+    let among : IsIn (hash_at chain wish.0) (hashes_of chain) = hash_in chain wish.0 wish.1.0.1 (omega (arith, le, low)) in
     (free, (hash, refl, subst (λ (c : Chain). IsIn hash.0 (hashes_of c)) is (subst (λ (h : Hash). IsIn h (hashes_of chain)) (sym wish.1.1) among)))
 
--- ---- and so may be sent, and is needed; filters and a block while none are open to anybody
+-- ---- and so may be sent, and is needed
 
-pub claims_send : (s : Seen) (log : Log) (p common : ℕ) (spare : Bool) (span : Span) (chain : Chain) → Tracks s log → chain ≡ own (trail log p) → common ≤ length chain
-    → IsFree (trail log p) → verdict (trail log p) ≡ None → IsWish s.table s.claims s.verdicts p chain common spare (Claims span)
+pub claims_send : (s : Seen) (log : Log) (p common : ℕ) (span : Span) (chain : Chain) → Tracks s log → chain ≡ own (trail log p) → common ≤ length chain
+    → IsFree (trail log p) → verdict (trail log p) ≡ None → IsWish s.table s.claims s.verdicts s.opens p chain common (Claims span)
     → MaySend log p (GetCfheaders 0 span.start span.stop) × IsNeeded s.watch log p (GetCfheaders 0 span.start span.stop)
-claims_send s log p common spare span chain tracks is low free clean wish = (record { of_its_part = claims_may s log p common spare span chain tracks is low free clean wish; wanted = tt; alone = tt }, tt)
+claims_send s log p common span chain tracks is low free clean wish = (record { of_its_part = claims_may s log p common span chain tracks is low free clean wish; wanted = tt; alone = tt }, tt)
 
-pub filters_send : (s : Seen) (log : Log) (p common : ℕ) (spare : Bool) (span : Span) (chain : Chain) → Tracks s log → chain ≡ own (trail log p) → common ≤ length chain
-    → IsFree (trail log p) → verdict (trail log p) ≡ None → (spare ≡ true → IsNoneFetching log) → IsWish s.table s.claims s.verdicts p chain common spare (Filters span)
+pub filters_send : (s : Seen) (log : Log) (p common : ℕ) (span : Span) (chain : Chain) → Tracks s log → chain ≡ own (trail log p) → common ≤ length chain
+    → IsFree (trail log p) → verdict (trail log p) ≡ None → IsWish s.table s.claims s.verdicts s.opens p chain common (Filters span)
     → MaySend log p (GetCfilters 0 span.start span.stop) × IsNeeded s.watch log p (GetCfilters 0 span.start span.stop)
-filters_send s log p common spare span chain tracks is low free clean none wish = (
-  record { of_its_part = filters_may s log p common spare span chain tracks is low free clean wish; wanted = tt; alone = none wish.0.0 },
-  filters_needed s log p common spare span chain tracks is low wish,
+filters_send s log p common span chain tracks is low free clean wish = (
+  record {
+    of_its_part = filters_may s log p common span chain tracks is low free clean wish;
+    wanted = tt;
+    alone = filters_alone log s.opens p 0 span.start span.stop tracks.opened (filters_free s log p common span chain is low wish);
+  },
+  filters_needed s log p common span chain tracks is low wish,
 )
 
-pub block_send : (s : Seen) (log : Log) (p common : ℕ) (spare : Bool) (hash : Hash32) (chain : Chain) → Tracks s log → chain ≡ own (trail log p) → common ≤ length chain
-    → IsFree (trail log p) → (spare ≡ true → IsNoneFetching log) → IsWish s.table s.claims s.verdicts p chain common spare (Block hash)
+pub block_send : (s : Seen) (log : Log) (p common : ℕ) (hash : Hash32) (chain : Chain) → Tracks s log → chain ≡ own (trail log p) → common ≤ length chain
+    → IsFree (trail log p) → IsWish s.table s.claims s.verdicts s.opens p chain common (Block hash)
     → MaySend log p (GetData (block_entry hash ∷ [])) × IsNeeded s.watch log p (GetData (block_entry hash ∷ []))
-block_send s log p common spare hash chain tracks is low free none wish =
-    let needed = block_needed s log p common spare hash chain tracks wish in (
-      record { of_its_part = block_may log p common spare s hash chain is low free wish; wanted = λ entry i. (needed entry i).0; alone = none wish.1.0.0 },
+block_send s log p common hash chain tracks is low free wish =
+    let needed = block_needed s log p common hash chain tracks wish in (
+      record {
+        of_its_part = block_may log p common s hash chain is low free wish;
+        wanted = λ entry i. (needed entry i).0;
+        alone = block_alone log s.opens p hash tracks.opened (subst (IsBlockFree s.opens) (sym wish.1.1) wish.1.0.5.free);
+      },
       needed,
     )

@@ -19,10 +19,11 @@ use Rattle.cf_tracker.specs.Tables.{IsSameTable, with_blocks}
 use Rattle.cf_match.specs.declared.job.Job.{Job}
 use Rattle.cf_match.specs.Verdicts.{AreSameVerdicts, with_verdicts}
 use Rattle.cf_headers.specs.Chain.{Hash, IsIn}
+use Rattle.cf_tracker.specs.Opens.{IsSameElse}
 use Rattle.cf_hear.specs.Seen.{Seen, IsSameSeen, Follows}
 
--- p's chain and claims are now those of this trail, the extracts of these blocks came, the last of them first, and the verdicts on these filters, the first of
--- them first
+-- p's chain and claims are now those of this trail, and what is open to it; the extracts of these blocks came, the last of them first, and the verdicts on
+-- these filters, the first of them first
 pub record Gains (before after : Seen) (p : PeerNo) (t : Trail) (news : List Block) (jobs : List Job) : Type 0 where
   pub watch : after.watch ≡ before.watch
   pub follows : Follows after p.0 t
@@ -30,6 +31,7 @@ pub record Gains (before after : Seen) (p : PeerNo) (t : Trail) (news : List Blo
   pub claims : (q : ℕ) → q ≢ p.0 → (block : Hash) → after.claims q block ≡ before.claims q block
   pub table : IsSameTable after.table (with_blocks before.watch news before.table)
   pub verdicts : AreSameVerdicts after.verdicts (with_verdicts before.watch jobs before.verdicts)
+  pub opens : IsSameElse before.opens after.opens p.0
 
 -- what one message does to the peer and to what was seen: the reply that is owed to it, or the cause that it gives
 abbrev pub HearsSeen : Seen → Seen → PeerNo → Peer → Msg → Trail → Reply → Type 0
@@ -92,13 +94,14 @@ pub record HeardWhole (p : PeerNo) (new : Peer) (seen now : Seen) (before after 
   pub gives : IsGivenBetween start.trail end.trail jobs
   pub gains : Gains seen now p end.trail news jobs
 
--- what came before a fault: p's chain and claims don't matter any more
+-- what came before a fault: p's chain and claims don't matter any more, nor what is open to it
 pub record Retains (before after : Seen) (p : PeerNo) (news : List Block) (jobs : List Job) : Type 0 where
   pub watch : after.watch ≡ before.watch
   pub others : (q : ℕ) → q ≢ p.0 → after.chains q ≡ before.chains q
   pub claims : (q : ℕ) → q ≢ p.0 → (block : Hash) → after.claims q block ≡ before.claims q block
   pub table : IsSameTable after.table (with_blocks before.watch news before.table)
   pub verdicts : AreSameVerdicts after.verdicts (with_verdicts before.watch jobs before.verdicts)
+  pub opens : IsSameElse before.opens after.opens p.0
 
 pub record HeardFault (p : PeerNo) (seen now : Seen) (before after : List Act) (start end : Part) (cause : Cause) : Type 0 where
   pub replies : List Msg

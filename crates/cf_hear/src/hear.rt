@@ -1,12 +1,16 @@
 //! How a peer's bytes are taken.
-ghost use Rattle.std.specs.Prelude.{◌≡◌, ◌≢◌, ◌<◌, ◌≤◌, ℕ, List, true, Some, None, IsSome, IfOk, IfSome, OnOk, length};
+ghost use Rattle.std.specs.Prelude.{◌≡◌, ◌≢◌, ◌<◌, ◌≤◌, ℕ, List, false, true, Some, None, IsSome, IfOk, IfSome, OnOk, length};
 ghost use Rattle.std.specs.List.{All};
 ghost use Rattle.cf_msg.specs.declared.msg.Msg.TheVariants.{Headers, Block as BlockMessage, Cfheaders, Cfilter};
 ghost use Rattle.cf_peer.specs.Acts.{IsDoable};
 ghost use Rattle.cf_peer.specs.Trail.{Trail, Part, heard_part};
-ghost use Rattle.cf_peer.specs.Peer.{Holds, calm, IsReplySendable, IsRight};
+ghost use Rattle.cf_peer.specs.Peer.{Holds, calm, is_idle_peer, IsReplySendable, IsRight};
 ghost use Rattle.cf_match.specs.Verdicts.{AreSameVerdicts};
-ghost use Rattle.cf_tracker.specs.Tracker.{chains_of, claims_of, verdicts_of, watch_of};
+ghost use Rattle.cf_headers.specs.Store.{Stays};
+ghost use Rattle.cf_tracker.specs.Opens.{Closes, IsSameElse, IsSameOpens};
+ghost use Rattle.cf_tracker.specs.Tables.{IsSameTable};
+ghost use Rattle.cf_tracker.specs.Tracker.{chains_of, claims_of, opens_of, table_of, verdicts_of, watch_of};
+ghost use Rattle.cf_tracker.specs.Wanting.{IsSameTables};
 ghost use Rattle.cf_hear.specs.Seen.{Follows, seen_of};
 ghost use Rattle.cf_hear.specs.Hearing.{HearsSeen, HearsNext, HeardPiece, goes_on};
 ghost use Rattle.cf_hear.specs.Judging.{IsJudgedBy, AreJudgedBy, judging_of};
@@ -82,6 +86,7 @@ fn hear_block<H: HeaderStore>(
     }
     tracker.keep(&hash, block, hashes.as_slice())?;
     peer.take_block(&hash);
+    tracker.answered(p);
     Ok(Reply::Nothing)
 }
 
@@ -118,6 +123,22 @@ fn hear_claims<H: HeaderStore>(
     }
 }
 
+// Has the tracker let go of what was open to a peer, once nothing is.
+fn let_go<H: HeaderStore>(tracker: &mut Tracker<H>, peer: &Peer, p: PeerNo)
+    ensures closes { is_idle_peer peer.now ≡ true → Closes (opens_of tracker.old) (opens_of tracker.new) p.0 }
+    ensures stays { is_idle_peer peer.now ≡ false → IsSameOpens (opens_of tracker.old) (opens_of tracker.new) }
+    ensures others { IsSameElse (opens_of tracker.old) (opens_of tracker.new) p.0 }
+    ensures chains { Stays (chains_of tracker.old) (chains_of tracker.new) }
+    ensures table { IsSameTable (table_of tracker.old) (table_of tracker.new) }
+    ensures claims { IsSameTables (claims_of tracker.old) (claims_of tracker.new) }
+    ensures verdicts { AreSameVerdicts (verdicts_of tracker.new) (verdicts_of tracker.old) }
+    ensures watch { watch_of tracker.new ≡ watch_of tracker.old }
+{
+    if peer.is_idle() {
+        tracker.answered(p);
+    }
+}
+
 // Takes a filter that a tracked peer sent. The last of a batch has all of them matched.
 fn hear_filter<H: HeaderStore, M: Matcher>(
     alloc: Global,
@@ -148,6 +169,7 @@ fn hear_filter<H: HeaderStore, M: Matcher>(
         Heard::Whole(jobs) => {
             let verdicts = matcher.run(jobs.as_slice(), tracker.watch())?;
             tracker.judge(jobs.as_slice(), verdicts.as_slice())?;
+            let_go(tracker, peer, p);
             Ok(Reply::Nothing)
         }
     }

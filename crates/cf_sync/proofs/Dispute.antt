@@ -14,13 +14,14 @@ use Rattle.cf_msg.specs.declared.msg.Msg.{Msg}
 use Rattle.cf_msg.specs.declared.msg.Msg.TheVariants.{Verack, Cfheaders, Block as BlockMessage}
 use Rattle.cf_msg.specs.Message.{payload_of}
 use Rattle.cf_peer.specs.Acts.{bytes_of, IsSendable}
-use Rattle.cf_peer.specs.Asking.{is_spare, NothingOpen, ClaimsOpen, FiltersOpen, claims_asked, claims, claims_after, claims_fault, hash_claimed, fault_of, request, request_after, is_idle, is_open, verdict, counted, fetched, hashes_of, HasSaid, MayAsk, SameUse}
+use Rattle.cf_peer.specs.Asking.{block_entry, is_spare, NothingOpen, ClaimsOpen, FiltersOpen, claims_asked, claims, claims_after, claims_fault, hash_claimed, fault_of, request, request_after, is_idle, is_open, verdict, counted, fetched, hashes_of, HasSaid, MayAsk, SameUse}
 use Rattle.cf_wires.specs.Log.{Log}
 use Rattle.cf_peer.specs.Trail.{Trail, Said, Asked, part_of, trail, connected, own, heard, longer_of, ends_by, fault_in, first}
 use Rattle.cf_scan.specs.Scan.{scan_of}
 use Rattle.cf_scan.specs.Watching.{IsWatch}
 use Rattle.cf_sync.specs.Example.{only_header, only_block, only_hash, chain_of_one, honest_peer, liar, its_version, question, its_headers, ask_claims, its_claims, false_claims, ask_filter, its_filter, fetch, its_block, false_version, genesis_filter_header, only_filter_hash, false_filter_hash, other_watch, log_8, dispute_9, dispute_10, dispute_11, dispute_12, dispute_13, dispute_14, dispute_15, dispute_16, dispute_17, dispute_18, dispute_19, dispute_20, dispute_21, disputed_run}
-use Rattle.cf_sync.specs.Fetching.{counted_part, IsQuiet, AreBytes, IsFetched, IsFetchedHash, IsCleared, IsDisputed, IsBlockWanted, IsNoneFetching, Rightly}
+use Rattle.cf_sync.specs.Fetching.{counted_part, IsQuiet, AreBytes, IsFetched, IsFetchedHash, IsCleared, IsDisputed, IsBlockWanted, Rightly}
+use Rattle.cf_sync.proofs.Alone.{IsNoneFetching, none_filters, none_block}
 use Rattle.cf_sync.specs.Honesty.{IsHonestOver, IsHonest, was_called, ShowsNoOther}
 use Rattle.cf_sync.specs.Sync.{strings_of, IsHashed, HasAsked}
 use Rattle.cf_sync.proofs.Chains.{same_self}
@@ -273,7 +274,7 @@ right_19 : Rightly dispute_19
 right_19 = (
   (1, of_part (λ t. is_open t ≡ true) (part_of dispute_18 1) t_10 part_18 (open_where t_10 (FiltersOpen (only_hash.0 ∷ []) []) refl request_10 refl)),
   (
-    (ask_filter, spelled_is ask_filter ask_filter_sendable, record { of_its_part = of_part (λ t. MayAsk t ask_filter) (part_of dispute_17 1) t_9 part_17 may_ask_filter; wanted = tt; alone = none_open_17 }),
+    (ask_filter, spelled_is ask_filter ask_filter_sendable, record { of_its_part = of_part (λ t. MayAsk t ask_filter) (part_of dispute_17 1) t_9 part_17 may_ask_filter; wanted = tt; alone = none_filters dispute_17 1 0 1 only_hash none_open_17 }),
     (
       (1, of_part (λ t. is_open t ≡ true) (part_of dispute_16 1) t_8 part_16 (open_where t_8 (ClaimsOpen only_hash.0 (block_hash_of genesis_header) (only_hash.0 ∷ [])) refl request_8 refl)),
       ((ask_claims, spelled_is ask_claims ask_claims_sendable, record { of_its_part = of_part (λ t. MayAsk t ask_claims) (part_of dispute_15 1) t_7 part_15 may_ask_claims; wanted = tt; alone = tt }), right_15),
@@ -285,7 +286,7 @@ disputed_right : Rightly disputed_run
 disputed_right = (
   (1, of_part (λ t. is_open t ≡ true) (part_of dispute_21 1) t_12 part_21 refl),
   (
-    (fetch, spelled_is fetch fetch_sendable, record { of_its_part = of_part (λ t. MayAsk t fetch) (part_of dispute_20 1) t_11 part_20 may_fetch; wanted = λ entry i got. none_fetched got.0 got.1; alone = none_open_20 }),
+    (fetch, spelled_is fetch fetch_sendable, record { of_its_part = of_part (λ t. MayAsk t fetch) (part_of dispute_20 1) t_11 part_20 may_fetch; wanted = λ entry i got. none_fetched got.0 got.1; alone = none_block dispute_20 1 (block_entry only_hash ∷ []) none_open_20 }),
     (
       (2, of_part (λ t. is_open t ≡ true) (part_of dispute_19 2) v_8 other_19 (open_where v_8 (ClaimsOpen only_hash.0 (block_hash_of genesis_header) (only_hash.0 ∷ [])) refl open_8 refl)),
       right_19,
@@ -371,6 +372,6 @@ disputed_asked watch fits = record {
   asked_out = λ p on idle. record {
     heard_out = of_each (λ t. connected t ≡ true → heard (counted t) ≡ true) p (λ is1. counts_13.heard_out) (λ is1. same_9.hearing ∙ still_true (heard v_7) heard_out_7) (λ is1. absurd (false≢true is1)) on;
     claimed = of_each ClaimsIt p (claims_it t_13 only_claim counts_13.claimed counts_13.chain) (claims_it v_9 false_claim claimed_9 other_chain) nobody_claims;
-    settled = λ spare h one le above. inl (settled (hash_at (own (counted_part disputed_run p)) h) (inl (of_each SharesIt p (shares_it t_13 counts_13.chain) (shares_it v_9 other_chain) nobody_shares h one le)));
+    settled = λ h one le above no_filter no_block. inl (settled (hash_at (own (counted_part disputed_run p)) h) (inl (of_each SharesIt p (shares_it t_13 counts_13.chain) (shares_it v_9 other_chain) nobody_shares h one le)));
   };
 }

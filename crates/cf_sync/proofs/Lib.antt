@@ -23,6 +23,9 @@ pub mod Filters
 pub mod Kept
 pub mod VerdictsGrow
 pub mod FreshFilters
+pub mod Alone
+pub mod Once
+pub mod KeptOpens
 pub mod Written
 pub mod TwoPeers
 pub mod Cleared

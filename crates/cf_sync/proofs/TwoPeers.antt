@@ -40,7 +40,8 @@ use Rattle.cf_peer.specs.Trail.{Trail, Part, Called, Said, Asked, called_part, h
 use Rattle.cf_scan.specs.Scan.{scan_of}
 use Rattle.cf_scan.specs.Watching.{IsWatch}
 use Rattle.cf_sync.specs.Example.{only_tx, only_header, only_block, only_hash, chain_of_one, honest_peer, liar, genesis_hash, no_stop, our_version, its_version, false_version, question, its_headers, false_headers, fetch, its_block, log_1, log_2, log_3, log_4, log_5, log_6, log_7, log_8, log_9, log_10, log_11, log_12, log_13, log_14, log_15, log_16, log_17, log_18, log_19, run_of_two, cleared_run, only_filter, only_filter_hash, genesis_filter_header, ask_claims, its_claims, ask_filter, its_filter}
-use Rattle.cf_sync.specs.Fetching.{counted_part, IsQuiet, IsBusy, AreBytes, IsFetched, IsFetchedHash, IsConnected, IsNoneFetching, Rightly}
+use Rattle.cf_sync.specs.Fetching.{counted_part, IsQuiet, IsBusy, AreBytes, IsFetched, IsFetchedHash, IsConnected, Rightly}
+use Rattle.cf_sync.proofs.Alone.{IsNoneFetching, none_filters, none_block}
 use Rattle.cf_sync.specs.Honesty.{Leaves, answers, AnswersAs, IsHonestOver, IsHonest, was_called, ShowsNoOther, filters_above}
 use Rattle.cf_sync.specs.Sync.{strings_of, IsOfBlocks, IsHashed, HasAsked}
 use Rattle.cf_dispute.proofs.Genesis.{first_header_is}
@@ -762,7 +763,7 @@ pub cleared_right : Rightly cleared_run
 cleared_right = (
   (1, of_part (λ t. is_open t ≡ true) (part_of log_17 1) t_10 part_17 (open_where t_10 (FiltersOpen (only_hash.0 ∷ []) []) refl request_10 refl)),
   (
-    (ask_filter, spelled_is ask_filter ask_filter_sendable, record { of_its_part = of_part (λ t. MayAsk t ask_filter) (part_of log_16 1) t_9 part_16 may_ask_filter; wanted = tt; alone = none_open_16 }),
+    (ask_filter, spelled_is ask_filter ask_filter_sendable, record { of_its_part = of_part (λ t. MayAsk t ask_filter) (part_of log_16 1) t_9 part_16 may_ask_filter; wanted = tt; alone = none_filters log_16 1 0 1 only_hash none_open_16 }),
     (
       (1, of_part (λ t. is_open t ≡ true) (part_of log_15 1) t_8 part_15 (open_where t_8 (ClaimsOpen only_hash.0 (block_hash_of genesis_header) (only_hash.0 ∷ [])) refl request_8 refl)),
       ((ask_claims, spelled_is ask_claims ask_claims_sendable, record { of_its_part = of_part (λ t. MayAsk t ask_claims) (part_of log_14 1) t_7 part_14 may_ask_claims; wanted = tt; alone = tt }), right_14),
@@ -774,7 +775,7 @@ pub is_right : Rightly run_of_two
 is_right = (
   (1, of_part (λ t. is_open t ≡ true) (part_of log_19 1) t_12 part_19 refl),
   (
-    (fetch, spelled_is fetch fetch_sendable, record { of_its_part = of_part (λ t. MayAsk t fetch) (part_of log_18 1) t_11 part_18 may_fetch; wanted = λ entry i got. none_fetched got.0 got.1; alone = none_open_18 }),
+    (fetch, spelled_is fetch fetch_sendable, record { of_its_part = of_part (λ t. MayAsk t fetch) (part_of log_18 1) t_11 part_18 may_fetch; wanted = λ entry i got. none_fetched got.0 got.1; alone = none_block log_18 1 (block_entry only_hash ∷ []) none_open_18 }),
     cleared_right,
   ),
 )
@@ -977,6 +978,6 @@ has_asked watch fits = record {
   asked_out = λ p on idle. record {
     heard_out = of_each (λ t. connected t ≡ true → heard (counted t) ≡ true) p (λ is1. counts_13.heard_out) (λ is1. same_other.hearing) (λ is1. absurd (false≢true is1)) on;
     claimed = of_each ClaimsIt p (claims_it t_13 only_claim counts_13.claimed counts_13.chain) other_claims nobody_claims;
-    settled = λ spare h one le above. inl (settled (hash_at (own (counted_part run_of_two p)) h) (inl (of_each SharesIt p (shares_it t_13 counts_13.chain) other_shares nobody_shares h one le)));
+    settled = λ h one le above no_filter no_block. inl (settled (hash_at (own (counted_part run_of_two p)) h) (inl (of_each SharesIt p (shares_it t_13 counts_13.chain) other_shares nobody_shares h one le)));
   };
 }

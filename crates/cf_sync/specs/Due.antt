@@ -10,9 +10,10 @@ use Rattle.cf_peer.specs.Asking.{block_entry}
 use Rattle.cf_wires.specs.Log.{Log}
 use Rattle.cf_peer.specs.Trail.{trail, own, heard}
 use Rattle.cf_sync.specs.Fetching.{IsBest, IsNeeded, HoldsFetched}
-use Rattle.cf_sync.specs.Kept.{HoldsClaims, HoldsGiven}
+use Rattle.cf_sync.specs.Kept.{HoldsClaims, HoldsGiven, HoldsOpens}
 use Rattle.cf_tracker.specs.declared.spans.Wish.{Wish}
 use Rattle.cf_tracker.specs.declared.spans.Wish.TheVariants.{Claims, Filters, Block}
+use Rattle.cf_tracker.specs.Opens.{Opens}
 use Rattle.cf_tracker.specs.Spans.{IsWish, GoesFar}
 use Rattle.cf_tracker.specs.Tables.{Table}
 
@@ -23,9 +24,10 @@ Puts (Filters span) (GetCfilters filter start stop) = (start ≡ span.start) × 
 Puts (Block hash) (GetData entries) = entries ≡ block_entry hash ∷ []
 Puts wish m = ⊥
 
--- It is p's turn to be asked this. It was heard out; and of the blocks that its own chain shares with the best one, by what was fetched, claimed and given, the
--- question is for the claims from the lowest that it doesn't claim; where it claims all, for the filters from the lowest that isn't judged; and where there is none of
--- these, for the lowest block that is to be fetched. It goes as far as it may.
+-- It is p's turn to be asked this. It was heard out; and of the blocks that its own chain shares with the best one, by what was fetched, claimed
+-- and given, and by what is open, the question is for the claims from the lowest that it doesn't claim; where it claims all, for the filters from
+-- the lowest that isn't judged and is open to nobody; and where there is none of these, for the lowest block that is to be fetched and is open to
+-- nobody. It goes as far as it may.
 pub record IsInTurn (watch : List (List ℕ)) (log : Log) (p : ℕ) (m : Msg) : Type 0 where
   pub heard_out : heard (trail log p) ≡ true
   pub chain : Chain
@@ -35,10 +37,12 @@ pub record IsInTurn (watch : List (List ℕ)) (log : Log) (p : ℕ) (m : Msg) : 
   pub verdicts : Verdicts
   pub fetched : HoldsFetched watch log extracts
   pub claimed : HoldsClaims log tables
+  pub opens : Opens
   pub given : HoldsGiven watch log verdicts
+  pub opened : HoldsOpens log opens
   pub wish : Wish
-  pub wished : IsWish extracts tables verdicts p (own (trail log p)) (common_of (own (trail log p)) chain) true wish
-  pub far : GoesFar extracts tables verdicts p (own (trail log p)) (common_of (own (trail log p)) chain) wish
+  pub wished : IsWish extracts tables verdicts opens p (own (trail log p)) (common_of (own (trail log p)) chain) wish
+  pub far : GoesFar extracts tables verdicts opens p (own (trail log p)) (common_of (own (trail log p)) chain) wish
   pub puts : Puts wish m
 
 -- what a client is to ask for that stands for this log, and when: each question about blocks in its turn

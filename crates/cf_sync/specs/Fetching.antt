@@ -1,5 +1,5 @@
 -- What a log says of blocks: which were fetched, what is claimed of them and which filters were given, which chain is the best, and the history over its fetched blocks.
-use Rattle.std.specs.Prelude.{◌≡◌, ◌≢◌, ◌⊎◌, ℕ, ◌≤◌, ◌<◌, Bool, true, false, List, [], ◌∷◌, length, reverse, Option, Some, None}
+use Rattle.std.specs.Prelude.{◌≡◌, ◌≢◌, ◌⊎◌, ℕ, ◌≤◌, ◌<◌, Bool, true, false, List, [], ◌∷◌, ◌++◌, map, length, reverse, Option, Some, None}
 use Rattle.cf_bytes.specs.declared.hash.Hash32.{Hash32}
 use Rattle.cf_block.specs.declared.header.Header.{Header}
 use Rattle.cf_block.specs.declared.tx.Block.{Block}
@@ -24,7 +24,7 @@ use Rattle.cf_scan.specs.declared.history.Entry.{Entry}
 use Rattle.cf_scan.specs.Extracts.{extract_of}
 use Rattle.cf_scan.specs.Scan.{scan_of}
 use Rattle.cf_tracker.specs.Tables.{Table}
-use Rattle.cf_peer.specs.Asking.{is_spare, request, is_open, counted, claims, hash_claimed, HasHeader, fetched, given, blocks_from, Deserves, MayAsk}
+use Rattle.cf_peer.specs.Asking.{OpenRequest, NothingOpen, HeadersOpen, ClaimsOpen, FiltersOpen, BlockOpen, request, is_open, counted, claims, hash_claimed, HasHeader, fetched, given, blocks_from, Deserves, MayAsk}
 
 -- ---- peers
 
@@ -163,21 +163,39 @@ abbrev pub IsWanted : Log → Msg → Type 0
 IsWanted log (GetData entries) = (entry : Wanted) → IsIn entry entries → IsFetchedHash log entry.hash.0 → ⊥
 IsWanted log m = Unit {0}
 
--- neither filters nor a block are open to a connected peer
-abbrev pub IsNoneFetching : Log → Type 0
-IsNoneFetching log = (q : ℕ) → IsConnected log q → is_spare (request (trail log q)) ≡ true
+-- the blocks of an open request for filters, those whose filter came before those whose filter is to come; and that of an open request for a block
+abbrev pub filters_open : OpenRequest → List Hash
+filters_open NothingOpen = []
+filters_open HeadersOpen = []
+filters_open (ClaimsOpen stop parent blocks) = []
+filters_open (FiltersOpen left came) = map (λ (j : Job). j.block.0) came ++ left
+filters_open (BlockOpen block) = []
 
--- filters and blocks are asked for only while none are open to anybody: of one peer at a time
-abbrev pub IsAlone : Log → Msg → Type 0
-IsAlone log (GetCfilters filter start stop) = IsNoneFetching log
-IsAlone log (GetData entries) = IsNoneFetching log
-IsAlone log m = Unit {0}
+abbrev pub blocks_open : OpenRequest → List Hash
+blocks_open NothingOpen = []
+blocks_open HeadersOpen = []
+blocks_open (ClaimsOpen stop parent blocks) = []
+blocks_open (FiltersOpen left came) = []
+blocks_open (BlockOpen block) = block ∷ []
+
+-- a block stands in a request for filters that is open to a connected peer; in one for a block
+abbrev pub IsFilterOpen : Log → Hash → Type 0
+IsFilterOpen log block = (q : ℕ) × (IsConnected log q × IsIn block (filters_open (request (trail log q))))
+
+abbrev pub IsBlockOpen : Log → Hash → Type 0
+IsBlockOpen log block = (q : ℕ) × (IsConnected log q × IsIn block (blocks_open (request (trail log q))))
+
+-- what is asked of p is open to nobody: no filter of a block whose filter is, and no block that is
+abbrev pub IsAlone : Log → ℕ → Msg → Type 0
+IsAlone log p (GetCfilters filter start stop) = (block : Hash) → IsIn block (blocks_in start (back_to stop.0 (own (trail log p)))) → IsFilterOpen log block → ⊥
+IsAlone log p (GetData entries) = (entry : Wanted) → IsIn entry entries → IsBlockOpen log entry.hash.0 → ⊥
+IsAlone log p m = Unit {0}
 
 -- a message may be sent to p, by all that the log holds
 pub record MaySend (log : Log) (p : ℕ) (m : Msg) : Type 0 where
   pub of_its_part : MayAsk (trail log p) m
   pub wanted : IsWanted log m
-  pub alone : IsAlone log m
+  pub alone : IsAlone log p m
 
 -- What a client is to ask for that stands for this log: filters that are wanted of p, and blocks that are wanted. It depends on who is
 -- connected, so that of a log with a failed send that the client isn't told of yet it need not hold.
@@ -214,13 +232,14 @@ pub record IsBest (log : Log) (chain : Chain) : Type 0 where
 abbrev pub IsAbove : Hash → Type 0
 IsAbove block = block ≡ block_hash_of genesis_header → ⊥
 
--- What the rule of asking leaves true of a connected peer with nothing open to it: it was heard out; of the blocks that its own chain shares with the best one
--- the filter header is known at each; and where besides neither filters nor a block are open to anybody, each is settled.
+-- What the rule of asking leaves true of a connected peer with nothing open to it: it was heard out; of the blocks that its own chain shares
+-- with the best one the filter header is known at each; and each of them that stands in no open request for filters or for a block is settled.
 -- (A block with genesis's hash would never be asked about. Where no hashes clash there is none.)
 pub record IsAskedOut (watch : List (List ℕ)) (log : Log) (chain : Chain) (p : ℕ) : Type 0 where
   pub heard_out : heard (counted_part log p) ≡ true
   pub claimed : (h : ℕ) → 1 ≤ h → h ≤ common_of (own (counted_part log p)) chain → HasHeader (counted_part log p) (hash_at (own (counted_part log p)) h)
-  pub settled : IsNoneFetching log → (h : ℕ) → 1 ≤ h → h ≤ common_of (own (counted_part log p)) chain → IsAbove (hash_at (own (counted_part log p)) h)
+  pub settled : (h : ℕ) → 1 ≤ h → h ≤ common_of (own (counted_part log p)) chain → IsAbove (hash_at (own (counted_part log p)) h)
+      → (IsFilterOpen log (hash_at (own (counted_part log p)) h) → ⊥) → (IsBlockOpen log (hash_at (own (counted_part log p)) h) → ⊥)
       → IsSettled watch log (hash_at (own (counted_part log p)) h)
 
 -- ---- the history

@@ -1,6 +1,6 @@
--- What is done of one peer's chain is done of another's, as far as they are the same.
-use Rattle.std.proofs.Common.{◌≡◌, inl, inr, ℕ, zero, suc, ◌+◌, ◌≤◌, max, min, Bool, true, false, ◌&&◌, List, [], ◌∷◌, length, take, reverse, Option, Some, None, refl, sym, ◌∙◌, ap, subst, arith}
-use Rattle.std.specs.Prelude.{◌==◌, IsSome, bytes_eq, cond}
+-- What is none of one peer's blocks is none of another's, as far as their chains are the same.
+use Rattle.std.proofs.Common.{◌≡◌, inl, inr, ℕ, zero, suc, ◌+◌, ◌≤◌, max, min, Bool, true, false, ◌&&◌, List, [], ◌∷◌, length, take, reverse, refl, sym, ◌∙◌, ap, subst, arith}
+use Rattle.std.specs.Prelude.{◌==◌, bytes_eq, cond}
 use Rattle.std.specs.Ordering.{int_eq}
 use Rattle.std.specs.List.{common_prefix_len}
 use Rattle.std.proofs.lemmas.Bool.{cases_lt}
@@ -9,17 +9,17 @@ use Rattle.std.proofs.lemmas.Slice.Eq.{bytes_eq-Decides}
 use Rattle.std.proofs.lemmas.List.{reverse-reverse}
 use Rattle.cf_block.specs.declared.header.Header.{Header}
 use Rattle.cf_dispute.specs.Claims.{Tables}
-use Rattle.cf_headers.specs.Chain.{Chain, lower, tip_hash}
+use Rattle.cf_headers.specs.Chain.{Hash, Chain, lower, tip_hash}
 use Rattle.cf_headers.specs.Heights.{hash_at, common_of, is_same_header}
 use Rattle.cf_headers.proofs.Stacks.{lower_reverse}
 use Rattle.cf_match.specs.Verdicts.{Verdicts}
 use Rattle.cf_tracker.specs.declared.cursors.Marks.{Marks}
 use Rattle.cf_tracker.specs.Cursors.{raised}
+use Rattle.cf_tracker.specs.Opens.{Opens}
+use Rattle.cf_tracker.specs.Seeking.{ArePassed, AreSought, IsToAsk, IsToGet}
 use Rattle.cf_tracker.specs.Tables.{Table}
 use Rattle.cf_tracker.specs.Tracking.{IsMarked}
-use Rattle.cf_tracker.specs.Wanting.{IsDone, AreClaimed, AreDone}
-use Rattle.cf_tracker.proofs.Stays.{done_told}
-use Rattle.cf_tracker.proofs.Told.{low_done}
+use Rattle.cf_tracker.specs.Wanting.{AreClaimed}
 
 -- ---- chains that share blocks
 
@@ -66,58 +66,45 @@ hash_shared : (own other : Chain) (h : ℕ) → h ≤ common_of own other → ha
 hash_shared own other h low =
     ap tip_hash (lower_take h own ∙ ap reverse (take_shared h (reverse own) (reverse other) low) ∙ sym (lower_take h other))
 
--- so what is done of the other chain is done
-done_shared : (extracts : Table) (tables : Tables) (verdicts : Verdicts) (own other : Chain) (k : ℕ) → k ≤ common_of own other → AreDone extracts tables verdicts other k → AreDone extracts tables verdicts own k
-done_shared extracts tables verdicts own other k shared are h up low above =
-    let e : hash_at own h ≡ hash_at other h = hash_shared own other h (omega (arith, low, shared)) in
-    subst (IsDone extracts tables verdicts) (sym e) (are h up low (λ f. above (e ∙ f)))
+-- what is none of the other chain's blocks is none of these, as far as they are shared
+none_shared : (P : Hash → Type 0) (own other : Chain) (k : ℕ) → k ≤ common_of own other → ((h : ℕ) → 1 ≤ h → h ≤ k → P (hash_at other h) → ⊥) → (h : ℕ) → 1 ≤ h → h ≤ k → P (hash_at own h) → ⊥
+none_shared P own other k shared none h up low is = none h up low (subst P (hash_shared own other h (omega (arith, low, shared))) is)
 
-high_done : (extracts : Table) (tables : Tables) (verdicts : Verdicts) (own : Chain) (c d : ℕ) → AreDone extracts tables verdicts own c → AreDone extracts tables verdicts own d → AreDone extracts tables verdicts own (max c d)
-high_done extracts tables verdicts own c d first second h up low above = elim (cases_lt c h) [
-  | inl lt ↦ second h up (omega (arith, lt, low)) above
-  | inr ge ↦ first h up ge above
+pub none_higher : (P : Hash → Type 0) (own other : Chain) (from theirs common : ℕ) → common ≡ common_of own other
+    → ((h : ℕ) → 1 ≤ h → h ≤ from → P (hash_at own h) → ⊥) → ((h : ℕ) → 1 ≤ h → h ≤ theirs → P (hash_at other h) → ⊥)
+    → (h : ℕ) → 1 ≤ h → h ≤ max from (min theirs common) → P (hash_at own h) → ⊥
+none_higher P own other from theirs common is first second h up low = elim (cases_lt from h) [
+  | inl lt ↦ none_shared P own other (min theirs common) (omega (arith, is)) (λ k one le. second k one (omega (arith, le))) h up (omega (arith, lt, low))
+  | inr ge ↦ first h up ge
 ]
-
-pub done_higher : (extracts : Table) (tables : Tables) (verdicts : Verdicts) (own other : Chain) (from theirs common : ℕ) → common ≡ common_of own other
-    → AreDone extracts tables verdicts own from → AreDone extracts tables verdicts other theirs → AreDone extracts tables verdicts own (max from (min theirs common))
-done_higher extracts tables verdicts own other from theirs common is first second =
-    high_done extracts tables verdicts own from (min theirs common) first
-    (done_shared extracts tables verdicts own other (min theirs common) (omega (arith, is)) (low_done extracts tables verdicts other theirs (min theirs common) (omega arith) second))
 
 -- ---- marks that go up
 
-some_is : {A : Type 0} (o : Option A) → IsSome o → (x : A) × (o ≡ Some x)
-some_is None s = cc s
-some_is (Some x) s = (x, refl)
+none_high : (P : ℕ → Type 0) (c d : ℕ) → ((h : ℕ) → 1 ≤ h → h ≤ c → P h → ⊥) → ((h : ℕ) → 1 ≤ h → h ≤ d → P h → ⊥) → (h : ℕ) → 1 ≤ h → h ≤ max c d → P h → ⊥
+none_high P c d first second h up low = elim (cases_lt c h) [
+  | inl lt ↦ second h up (omega (arith, lt, low))
+  | inr ge ↦ first h up ge
+]
 
-raise : (extracts : Table) (tables : Tables) (verdicts : Verdicts) (p : ℕ) (own : Chain) (marks : Marks) (claimed height : ℕ) → IsMarked extracts tables verdicts p own marks
-    → marks.claimed ≤ claimed → claimed ≤ length own → AreClaimed tables p own claimed → AreDone extracts tables verdicts own height → IsMarked extracts tables verdicts p own (raised marks claimed height)
-raise extracts tables verdicts p own marks claimed height m up1 on mine shared =
-    let a = m.claims in
-    let b = m.tells in
-    let done : AreDone extracts tables verdicts own (max marks.done (min height claimed)) =
-    high_done extracts tables verdicts own marks.done (min height claimed) m.are.done (low_done extracts tables verdicts own height (min height claimed) (omega arith) shared) in
+raise : (extracts : Table) (tables : Tables) (verdicts : Verdicts) (opens : Opens) (p : ℕ) (own : Chain) (marks : Marks) (claimed sought passed : ℕ) → IsMarked extracts tables verdicts opens p own marks
+    → marks.claimed ≤ claimed → claimed ≤ length own → AreClaimed tables p own claimed → AreSought extracts tables verdicts opens own sought → ArePassed extracts tables verdicts opens own passed
+    → IsMarked extracts tables verdicts opens p own (raised marks claimed sought passed)
+raise extracts tables verdicts opens p own marks claimed sought passed m up1 on mine asks gets =
+    let a = m.seeks in
+    let b = m.passes in
     record {
       on = on;
-      claims = omega (arith, a, b, up1);
-      tells = omega arith;
-      are = record {
-        claimed = mine;
-        told = λ h up low above. elim (cases_lt marks.told h) [
-          | inl lt ↦ (
-              let c = some_is (tables p (hash_at own h)) (mine h up (omega (arith, a, b, up1, low, lt)) above) in
-              done_told extracts tables verdicts p (hash_at own h) c.0 c.1 (done h up (omega (arith, low, lt)) above)
-              )
-          | inr ge ↦ m.are.told h up ge above
-        ];
-        done = done;
-      };
+      seeks = omega (arith, a, up1);
+      passes = omega (arith, b, up1);
+      claimed = mine;
+      sought = none_high (λ h. IsToAsk extracts tables verdicts opens (hash_at own h)) marks.sought (min sought claimed) m.sought (λ h up low. asks h up (omega (arith, low)));
+      passed = none_high (λ h. IsToGet extracts tables verdicts opens (hash_at own h)) marks.passed (min passed claimed) m.passed (λ h up low. gets h up (omega (arith, low)));
     }
 
 -- marks of which the first climbed, no further than asked
-pub raised_marked : (extracts : Table) (tables : Tables) (verdicts : Verdicts) (p : ℕ) (own : Chain) (marks now : Marks) (claimed height common : ℕ) → now ≡ raised marks claimed height
-    → IsMarked extracts tables verdicts p own marks → marks.claimed ≤ claimed → claimed ≤ max marks.claimed common → common ≤ length own
-    → AreClaimed tables p own claimed → AreDone extracts tables verdicts own height → IsMarked extracts tables verdicts p own now
-raised_marked extracts tables verdicts p own marks now claimed height common is m up1 low within mine shared =
+pub raised_marked : (extracts : Table) (tables : Tables) (verdicts : Verdicts) (opens : Opens) (p : ℕ) (own : Chain) (marks now : Marks) (claimed sought passed common : ℕ) → now ≡ raised marks claimed sought passed
+    → IsMarked extracts tables verdicts opens p own marks → marks.claimed ≤ claimed → claimed ≤ max marks.claimed common → common ≤ length own
+    → AreClaimed tables p own claimed → AreSought extracts tables verdicts opens own sought → ArePassed extracts tables verdicts opens own passed → IsMarked extracts tables verdicts opens p own now
+raised_marked extracts tables verdicts opens p own marks now claimed sought passed common is m up1 low within mine asks gets =
     let a = m.on in
-    subst (IsMarked extracts tables verdicts p own) (sym is) (raise extracts tables verdicts p own marks claimed height m up1 (omega (arith, a, low, within)) mine shared)
+    subst (IsMarked extracts tables verdicts opens p own) (sym is) (raise extracts tables verdicts opens p own marks claimed sought passed m up1 (omega (arith, a, low, within)) mine asks gets)

@@ -1,16 +1,19 @@
 //! The question that meets a want.
-ghost use Rattle.std.specs.Prelude.{◌≤◌, Bool, IsSome, IfOk, length};
+ghost use Rattle.std.specs.Prelude.{◌≤◌, IsSome, IfOk, length};
 ghost use Rattle.cf_dispute.specs.Of.{tables_of};
 ghost use Rattle.cf_headers.specs.Store.{own_of};
 ghost use Rattle.cf_tracker.specs.Extracts.{table_in};
 ghost use Rattle.cf_tracker.specs.Judged.{verdicts_in};
+ghost use Rattle.cf_tracker.specs.OpensAll.{opens_in};
+ghost use Rattle.cf_tracker.specs.Seeking.{IsSought};
 ghost use Rattle.cf_tracker.specs.Spans.{GoesFar, IsWish};
-ghost use Rattle.cf_tracker.specs.Wants.{IsWant};
 
-use crate::ends::{claims_end, filters_end};
+use crate::ends::claims_end;
 use crate::extracts::Extracts;
 use crate::first::First;
 use crate::judged::Judged;
+use crate::opens::Opens;
+use crate::seek::sought_end;
 use crate::spans::{Wish, span_of};
 use crate::want::Want;
 use cf_bytes::{NoMemory, PeerNo};
@@ -25,6 +28,7 @@ pub(crate) fn wish_for<H: HeaderStore>(
     extracts: &Extracts,
     claims: &Claims,
     judged: &Judged,
+    opens: &Opens,
     p: PeerNo,
     first: &First,
     want: Want,
@@ -32,13 +36,12 @@ pub(crate) fn wish_for<H: HeaderStore>(
 ) -> Result<Wish, NoMemory>
     requires entered { IsSome (H.chain store.now p.0) }
     requires within { common ≤ length (own_of (H.chain store.now) p) }
-    requires wanted { (spare : Bool) × IsWant (table_in extracts.now) (tables_of claims.now) (verdicts_in judged.now)
-        p.0 (own_of (H.chain store.now) p) common spare want }
-    ensures wish { IfOk result (λ w. (spare : Bool) → IsWant (table_in extracts.now) (tables_of claims.now)
-        (verdicts_in judged.now) p.0 (own_of (H.chain store.now) p) common spare want → IsWish (table_in extracts.now)
-        (tables_of claims.now) (verdicts_in judged.now) p.0 (own_of (H.chain store.now) p) common spare w) }
-    ensures far { IfOk result (GoesFar (table_in extracts.now) (tables_of claims.now) (verdicts_in judged.now) p.0
-        (own_of (H.chain store.now) p) common) }
+    requires wanted { IsSought (table_in extracts.now) (tables_of claims.now) (verdicts_in judged.now) (opens_in opens.now)
+        p.0 (own_of (H.chain store.now) p) common want }
+    ensures wish { IfOk result (IsWish (table_in extracts.now) (tables_of claims.now) (verdicts_in judged.now)
+        (opens_in opens.now) p.0 (own_of (H.chain store.now) p) common) }
+    ensures far { IfOk result (GoesFar (table_in extracts.now) (tables_of claims.now) (verdicts_in judged.now)
+        (opens_in opens.now) p.0 (own_of (H.chain store.now) p) common) }
 {
     match want {
         Want::Nothing => Ok(Wish::Nothing),
@@ -48,7 +51,9 @@ pub(crate) fn wish_for<H: HeaderStore>(
             Ok(Wish::Claims(span))
         }
         Want::Filters(start) => {
-            let end = filters_end(store, extracts, claims, judged, p, first, start, common);
+            let end = sought_end(
+                store, extracts, claims, judged, opens, p, first, start, common,
+            );
             let span = span_of(alloc, store, p, start, end)?;
             Ok(Wish::Filters(span))
         }

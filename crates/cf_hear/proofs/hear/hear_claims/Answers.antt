@@ -15,6 +15,7 @@ use Rattle.cf_tracker.specs.Tracker.{claims_of}
 use Rattle.cf_tracker.proofs.Marked.{all_same}
 use Rattle.cf_hear.specs.Seen.{seen_of}
 use Rattle.cf_hear.proofs.Hearing.{claims_hears, same_run, same_fault, cause_is}
+use Rattle.cf_hear.proofs.Opening.{opens_self}
 use Rattle.cf_hear.proofs.hear.hear_claims.Goals as goal
 
 pub returns-in_default-clause-heard : goal.returns-in_default-clause-heard
@@ -22,6 +23,7 @@ returns-in_default-clause-heard g c = λ t holds f.
     let seen = seen_of c.args.tracker.now in
     claims_hears seen seen c.args.p c.take_range.new.self c.args.filter c.args.stop.now c.args.previous.now c.args.hashes.now t
     (c.in_default.ensures.took.1 c.args.previous.now c.args.hashes.now t (claims_of c.args.tracker.now c.args.p.0) holds f.claims) f refl (λ q. refl) (λ q ne block. refl) (λ hash. refl) (λ block hash. refl)
+    (opens_self seen.opens)
 
 pub returns-in-Ok-clause-heard : goal.returns-in-Ok-clause-heard
 returns-in-Ok-clause-heard g c = λ t holds f.
@@ -35,7 +37,7 @@ returns-in-Ok-clause-heard g c = λ t holds f.
     (same_run c.args.previous.now c.as_slice.result.now range.blocks c.args.hashes.now table after c.as_slice.ensures c.in-Ok.ensures.ok) holds f.claims in
     claims_hears (seen_of c.args.tracker.now) (seen_of c.add_claims.new.self) c.args.p c.take_range.new.self c.args.filter c.args.stop.now c.args.previous.now c.args.hashes.now t
     (subst (λ (x : Peer). TakesClaims x after (Cfheaders c.args.filter c.args.stop.now c.args.previous.now c.args.hashes.now) t None) (sym took.2) takes)
-    f c.in-Ok.ensures.watch c.in-Ok.ensures.chains c.in-Ok.ensures.others (λ hash. sym (c.in-Ok.ensures.table hash)) c.in-Ok.ensures.verdicts
+    f c.in-Ok.ensures.watch c.in-Ok.ensures.chains c.in-Ok.ensures.others (λ hash. sym (c.in-Ok.ensures.table hash)) c.in-Ok.ensures.verdicts c.in-Ok.ensures.opens
 
 pub returns-in-Err-No-clause-heard : goal.returns-in-Err-No-clause-heard
 returns-in-Err-No-clause-heard g c = λ t holds f.
@@ -54,5 +56,6 @@ returns-in-Err-No-clause-heard g c = λ t holds f.
         claims = all_same (claims_of c.args.tracker.now) (claims_of c.add_claims.new.self) c.args.p.0 c.in-Err-No.ensures.err c.in-Err-No.ensures.others;
         table = λ hash. sym (c.in-Err-No.ensures.table hash);
         verdicts = c.in-Err-No.ensures.verdicts;
+        opens = c.in-Err-No.ensures.opens;
       },
     )

@@ -1,7 +1,8 @@
-use Rattle.std.proofs.Common.{◌≡◌, List, [], ◌∷◌, ◌++◌, sym, ◌∙◌, ap, subst}
+use Rattle.std.proofs.Common.{◌≡◌, List, [], ◌∷◌, ◌++◌, refl, rules, sym, ◌∙◌, ap, subst}
 use Rattle.cf_dispute.proofs.Genesis.{first_header_is}
 use Rattle.cf_hear.specs.Seen.{seen_of}
-use Rattle.cf_tracker.specs.Tracker.{claims_of}
+use Rattle.cf_hear.proofs.Opening.{holds_none}
+use Rattle.cf_tracker.specs.Tracker.{claims_of, opens_of}
 use Rattle.cf_place.specs.declared.place.Place.{Place}
 use Rattle.cf_place.specs.Places.{nobody}
 use Rattle.cf_client.specs.Settled.{AreSettled, AreRight}
@@ -21,3 +22,16 @@ pub invariant_of-result-clause-right : goal.invariant_of-result-clause-right
 invariant_of-result-clause-right g c = λ alive.
     let one : c.push.new.self.items ≡ nobody ∷ [] = c.in_ok-push.ensures.items ∙ ap (λ (places : List Place). places ++ nobody ∷ []) c.new-places.ensures.items in
     subst (λ (places : List Place). ∥ AreRight places (claims_of c.in_ok-tracker.tracker) ∥₁) (sym {A = List Place} one) ∣ right_first (claims_of c.in_ok-tracker.tracker) ∣₁
+
+pub returns-clause-reflects : goal.returns-clause-reflects
+returns-clause-reflects g c = record {
+  alive = refl;
+  places = search rules;
+  tracks = record {
+    kept = search rules;
+    claimed = search rules;
+    fetched = search rules;
+    given = search rules;
+    opened = holds_none (opens_of c.in_ok-tracker.tracker) c.in_ok-tracker.ensures.filters c.in_ok-tracker.ensures.blocks;
+  };
+}

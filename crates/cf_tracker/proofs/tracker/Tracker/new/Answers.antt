@@ -1,9 +1,10 @@
 use Rattle.cf_dispute.specs.Of.{tables_of}
 use Rattle.cf_tracker.specs.Extracts.{table_in}
 use Rattle.cf_tracker.specs.Judged.{verdicts_in}
+use Rattle.cf_tracker.specs.OpensAll.{opens_in}
 use Rattle.cf_tracker.proofs.Marked.{none_marked}
 use Rattle.cf_tracker.proofs.tracker.Tracker.new.Goals as goal
 
 pub invariant_of-result-clause-marks : goal.invariant_of-result-clause-marks
 invariant_of-result-clause-marks g c =
-    none_marked (g.H.HeaderStore.chain c.args.store) (table_in c.new-4.result) (tables_of c.in_ok-claims.claims) (verdicts_in c.new-5.result) c.in_ok-cursors.cursors 9 c.requires.none c.in_ok-claims.ensures.none c.in_ok-cursors.ensures
+    none_marked (g.H.HeaderStore.chain c.args.store) (table_in c.new-5.result) (tables_of c.in_ok-claims.claims) (verdicts_in c.new-6.result) (opens_in c.in_ok-opens.opens) c.in_ok-cursors.cursors 9 c.requires.none c.in_ok-claims.ensures.none c.in_ok-cursors.ensures

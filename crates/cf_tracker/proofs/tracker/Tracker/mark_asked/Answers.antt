@@ -1,0 +1,15 @@
+use Rattle.cf_dispute.specs.Of.{tables_of}
+use Rattle.cf_tracker.specs.Extracts.{table_in}
+use Rattle.cf_tracker.specs.Judged.{verdicts_in}
+use Rattle.cf_tracker.specs.OpensAll.{opens_in}
+use Rattle.cf_tracker.proofs.Marked.{opened_marked}
+use Rattle.cf_tracker.proofs.tracker.Tracker.mark_asked.Goals as goal
+
+pub invariant_of-self : goal.invariant_of-self
+invariant_of-self g c =
+    let now = c.args.self.now in
+    record {
+      first = now.first;
+      marks = opened_marked (g.H.HeaderStore.chain now.store) (table_in now.extracts) (tables_of now.claims) (verdicts_in now.judged) (opens_in now.opens)
+          (opens_in c.ask.new.self) now.cursors (c.ask.ensures.more (c.has_no_block.ensures c.if-not-has_no_block.false)) now.marks;
+    }
