@@ -7,7 +7,7 @@ ghost use Rattle.cf_scan.specs.Scan.{take_out as taken_of, put_one};
 ghost use Rattle.cf_scan.specs.Undo.{Goes, undo_back};
 ghost use Rattle.cf_scan.specs.UndoOf.{coins_of, log_of};
 
-use crate::extracts::{Extract, Paid, Placed, TxExtract};
+use crate::extracts::{Extract, Paid, TxExtract};
 use crate::history::{Entry, History};
 use crate::page::Page;
 use crate::undo::UndoCoins;
@@ -59,9 +59,11 @@ impl Book {
         })
     }
 
-    /// Adds a block. Where no memory is found the blocks are as before.
-    pub fn push(&mut self, block: &Placed) -> Result<(), NoMemory>
-        ensures ok { OnOk result ((blocks : List Placed) → Stands self.old blocks → Stands self.new (block.now ∷ blocks)) }
+    /// Adds a block at a height. It only reads the extract, so that a caller who keeps it need not copy it. Where no memory is
+    /// found the blocks are as before.
+    pub fn push(&mut self, height: u32, extract: &Extract) -> Result<(), NoMemory>
+        ensures ok { OnOk result ((blocks : List Placed) → Stands self.old blocks
+            → Stands self.new (record { height = height; extract = extract.now } ∷ blocks)) }
         ensures err { OnErr result ((blocks : List Placed) → Stands self.old blocks → Stands self.new blocks) }
     {
         let _room = u32::try_from(self.pages.len() + 1).map_err(|_| NoMemory)?;
@@ -70,7 +72,7 @@ impl Book {
             changes: self.coins.count(),
         };
         self.pages.push(page)?;
-        match self.add_block(block.height, &block.extract) {
+        match self.add_block(height, extract) {
             Ok(()) => Ok(()),
             Err(NoMemory) => {
                 self.pages.pop();
