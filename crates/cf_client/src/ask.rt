@@ -271,8 +271,8 @@ fn ask_if_wanted<H: HeaderStore>(
     Ok(())
 }
 
-/// Asks each peer that is to be asked, the lowest number first.
-pub(crate) fn ask_all<H: HeaderStore>(
+// Asks each peer that is to be asked, the lowest number first.
+fn ask_each<H: HeaderStore>(
     alloc: Global,
     tracker: &mut Tracker<H>,
     places: &mut [Place],
@@ -288,5 +288,24 @@ pub(crate) fn ask_all<H: HeaderStore>(
     for i in 0..places.len() {
         ask_if_wanted(alloc, tracker, places, acts, i)?;
     }
+    Ok(())
+}
+
+/// Asks each peer that is to be asked, the lowest number first, and writes what is settled of the best chain.
+pub(crate) fn ask_all<H: HeaderStore>(
+    alloc: Global,
+    tracker: &mut Tracker<H>,
+    places: &mut [Place],
+    acts: &mut Vec<Act>,
+) -> Result<(), NoMemory>
+    requires calm { AreCalm places.old }
+    requires order { IsInOrder (desk tracker.old places.old acts.old.items) }
+    ensures moves { OnOk result (Moves Same (desk tracker.old places.old acts.old.items) (desk tracker.new places.new acts.new.items)) }
+    ensures settled { OnOk result ((p : ℕ) → is_settled (place_at places.new p) ≡ true) }
+    ensures through { OnOk result (AreAskedThrough places.new (seen_of tracker.new)) }
+    ensures verdicts { OnOk result (AreSameVerdicts (verdicts_of tracker.new) (verdicts_of tracker.old)) }
+{
+    ask_each(alloc, tracker, places, acts)?;
+    tracker.write_up()?;
     Ok(())
 }

@@ -1,5 +1,6 @@
 -- A table that holds what was fetched, with the extracts of more blocks.
-use Rattle.std.proofs.Common.{◌≡◌, ◌⊎◌, inl, inr, ℕ, List, [], ◌∷◌, ◌++◌, Some, None, false, ◌==◌, refl, sym, ◌∙◌, ap, subst}
+use Rattle.std.proofs.Common.{◌≡◌, ◌⊎◌, inl, inr, ℕ, List, [], ◌∷◌, ◌++◌, Option, Some, None, false, ◌==◌, refl, sym, ◌∙◌, ap, subst}
+use Rattle.std.specs.Prelude.{unwrap_or}
 use Rattle.std.proofs.lemmas.Bool.{cases_Bool, eqb-true}
 use Rattle.cf_bytes.specs.declared.peer.PeerNo.{PeerNo}
 use Rattle.cf_block.specs.declared.tx.Block.{Block}
@@ -24,18 +25,28 @@ use Rattle.cf_sync.proofs.SameFetched.{no_piece_brings, piece_of_another, same_f
 abbrev IsOfOne : List (List ℕ) → List Block → Hash → List TxExtract → Type 0
 IsOfOne watch blocks hash e = (b : Block) × IsIn b blocks × (block_hash_of b.header ≡ hash) × (e ≡ extract_of b watch)
 
+-- the first of two extracts is kept
+kept_first : (o : Option (List TxExtract)) (x e : List TxExtract) → Some (unwrap_or o x) ≡ Some e → (x ≡ e) ⊎ (o ≡ Some e)
+kept_first None x e is = inl (let y : x ≡ e = cc in y)
+kept_first (Some y) x e is = inr is
+
+or_later : (watch : List (List ℕ)) (b : Block) (blocks : List Block) (table : Table) (hash : Hash) (e : List TxExtract) → IsOfOne watch blocks hash e ⊎ (table hash ≡ Some e)
+    → IsOfOne watch (b ∷ blocks) hash e ⊎ (table hash ≡ Some e)
+or_later watch b blocks table hash e (inl w) = inl (w.0, inr w.1, w.2, w.3)
+or_later watch b blocks table hash e (inr old) = inr old
+
 found_in : (watch : List (List ℕ)) (blocks : List Block) (table : Table) (hash : Hash) (e : List TxExtract) → with_blocks watch blocks table hash ≡ Some e
     → IsOfOne watch blocks hash e ⊎ (table hash ≡ Some e)
 found_in watch [] table hash e is = inr is
 found_in watch (b ∷ blocks) table hash e is = elim (cases_same (block_hash_of b.header) hash) [
-  | inl here ↦ (let x = rw here.1 at is in let y : extract_of b watch ≡ e = cc in inl (b, inl refl, here.0, sym y))
-  | inr off ↦ (
-      let x = rw off.0 at is in
-      elim (found_in watch blocks table hash e x) [
-        | inl w ↦ inl (w.0, inr w.1, w.2, w.3)
-        | inr old ↦ inr old
+  | inl here ↦ (
+      let x = rw here.1 at is in
+      elim (kept_first (with_blocks watch blocks table hash) (extract_of b watch) e x) [
+        | inl fresh ↦ inl (b, inl refl, here.0, sym fresh)
+        | inr kept ↦ or_later watch b blocks table hash e (found_in watch blocks table hash e kept)
       ]
       )
+  | inr off ↦ (let x = rw off.0 at is in or_later watch b blocks table hash e (found_in watch blocks table hash e x))
 ]
 
 missing_in : (watch : List (List ℕ)) (blocks : List Block) (table : Table) (hash : Hash) → with_blocks watch blocks table hash ≡ None

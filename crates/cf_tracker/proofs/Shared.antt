@@ -62,7 +62,7 @@ lower_take : (h : ℕ) (own : Chain) → lower h own ≡ reverse (take h (revers
 lower_take h own = ap (λ (c : Chain). lower h c) (sym (reverse-reverse own)) ∙ lower_reverse h (reverse own)
 
 -- up to the common height the hashes are the same
-hash_shared : (own other : Chain) (h : ℕ) → h ≤ common_of own other → hash_at own h ≡ hash_at other h
+pub hash_shared : (own other : Chain) (h : ℕ) → h ≤ common_of own other → hash_at own h ≡ hash_at other h
 hash_shared own other h low =
     ap tip_hash (lower_take h own ∙ ap reverse (take_shared h (reverse own) (reverse other) low) ∙ sym (lower_take h other))
 

@@ -37,6 +37,8 @@ invariant_of-self-2 g c =
     let opens = opens_in c.args.self.now.opens in
     record {
       first = c.args.self.now.first;
+      told = c.args.self.now.told;
+      stands = c.args.self.now.stands;
       marks = subst (λ (xs : List Marks). ∥ AreMarked chains extracts tables verdicts opens xs ∥₁) (sym c.put.ensures)
           (up_marked chains extracts tables verdicts opens c.args.self.now.cursors c.args.p c.next_sought-want.result.0 c.requires.first c.next_sought-want.ensures.marks c.args.self.now.marks);
     }

@@ -1,0 +1,28 @@
+use Rattle.std.proofs.Common.{◌≡◌, ℕ, true, inl, inr, refl, sym, ◌∙◌, ap, subst, arith}
+use Rattle.std.proofs.lemmas.Bool.{cases_eq}
+use Rattle.cf_place.specs.Places.{place_at, is_settled}
+use Rattle.cf_hear.specs.Seen.{seen_of}
+use Rattle.cf_client.proofs.Settled.{through_next, through_all}
+use Rattle.cf_client.proofs.Steps.{moves_self, moves_then}
+use Rattle.cf_client.proofs.ask.ask_each.Goals as goal
+
+pub loop-i-init : goal.loop-i-init
+loop-i-init g c = record { verdicts = λ block hash. refl; moves = moves_self _ c.requires.order; calm = c.requires.calm; done = λ p lt. absurd (omega (arith, lt)); through = λ p lt. absurd (omega (arith, lt)) }
+
+pub loop-i-preserved : goal.loop-i-preserved
+loop-i-preserved g c =
+    record {
+      verdicts = λ block hash. c.in_ok-ask_if_wanted.ensures.asks.seen.verdicts block hash ∙ c.loop-i.invariant.verdicts block hash;
+      moves = moves_then c.loop-i.invariant.moves c.in_ok-ask_if_wanted.ensures.asks.moves;
+      calm = c.in_ok-ask_if_wanted.ensures.asks.moves.calm c.loop-i.invariant.calm;
+      done = λ p lt. elim (cases_eq p c.loop-i.i) [
+        | inl same ↦ subst (λ (k : ℕ). is_settled (place_at c.ask_if_wanted.new.places k) ≡ true) (sym same) c.in_ok-ask_if_wanted.ensures.asks.settled
+        | inr other ↦ ap is_settled (c.in_ok-ask_if_wanted.ensures.asks.others p other) ∙ c.loop-i.invariant.done p (omega (arith, lt, other))
+      ];
+      through = through_next c.loop-i.places c.ask_if_wanted.new.places (seen_of c.loop-i.tracker) (seen_of c.ask_if_wanted.new.tracker) c.loop-i.i
+          c.in_ok-ask_if_wanted.ensures.asks.others c.in_ok-ask_if_wanted.ensures.asks.seen c.loop-i.invariant.through c.in_ok-ask_if_wanted.ensures.through;
+    }
+
+pub returns-clause-through : goal.returns-clause-through
+returns-clause-through g c =
+    through_all c.loop-i.places (seen_of c.loop-i.tracker) (λ p lt. c.loop-i.invariant.through p (omega (arith, lt, c.loop-i-test.false, c.loop-i.auto.places)))

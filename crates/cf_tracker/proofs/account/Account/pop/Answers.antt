@@ -1,0 +1,7 @@
+use Rattle.cf_tracker.proofs.Telling.{told_less}
+use Rattle.cf_tracker.proofs.account.Account.pop.Goals as goal
+
+pub returns-in-Some-clause-told : goal.returns-in-Some-clause-told
+returns-in-Some-clause-told c = λ table is.
+    told_less table c.args.self.now.book c.pop-2.new.self c.args.self.now.written.items c.pop.new.self.items c.in-Some.field-0
+    c.pop.ensures.items (λ block blocks s. (c.pop-2.ensures.some block blocks s).1) is

@@ -1,0 +1,13 @@
+use Rattle.std.proofs.Common.{◌≤◌}
+use Rattle.cf_dispute.specs.Of.{tables_of}
+use Rattle.cf_headers.specs.Store.{own_of}
+use Rattle.cf_tracker.specs.Extracts.{table_in}
+use Rattle.cf_tracker.specs.Judged.{verdicts_in}
+use Rattle.cf_tracker.specs.Writing.{AreDone}
+use Rattle.cf_tracker.proofs.write.climb_settled.Given as goal
+
+abbrev pub invariant-loop-height : goal.invariant-loop-height
+invariant-loop-height g l = record {
+  done : AreDone (table_in l.extracts) (tables_of l.claims) (verdicts_in l.judged) (own_of (g.H.HeaderStore.chain l.store) l.p) l.from l.height;
+  up : l.from ≤ l.height;
+}

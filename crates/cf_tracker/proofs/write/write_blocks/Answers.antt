@@ -1,0 +1,51 @@
+use Rattle.std.proofs.Common.{◌<◌, ◌≤◌, length, sym, subst, arith}
+use Rattle.cf_headers.specs.Store.{own_of}
+use Rattle.cf_tracker.specs.declared.account.Written.{Written}
+use Rattle.cf_tracker.specs.Account.{written_in}
+use Rattle.cf_tracker.specs.Extracts.{table_in}
+use Rattle.cf_tracker.specs.Written.{IsWrittenTo, written_as}
+use Rattle.cf_tracker.proofs.Writings.{pushed_long, take_long, written_low, written_push, written_take, written_whole}
+use Rattle.cf_tracker.proofs.write.write_blocks.Goals as goal
+
+pub loop-below-init : goal.loop-below-init
+loop-below-init g c =
+    let own = own_of (g.H.HeaderStore.chain c.args.store.now) c.args.p in
+    let table = table_in c.args.extracts.now in
+    record {
+      to = written_take table own (written_in c.args.account.now) (written_in c.pop_to.new.account) c.args.from c.pop_to.ensures.written c.requires.to;
+      long = take_long (written_in c.args.account.now) (written_in c.pop_to.new.account) c.args.from c.pop_to.ensures.written c.requires.to.long;
+      up = omega arith;
+      told = c.pop_to.ensures.told table;
+    }
+
+pub loop-below-preserved : goal.loop-below-preserved
+loop-below-preserved g c =
+    let own = own_of (g.H.HeaderStore.chain c.args.store.now) c.args.p in
+    let table = table_in c.args.extracts.now in
+    let before = c.loop-below.invariant in
+    let lt : c.loop-below.below < length own = omega (arith, c.loop-below-test.true, c.requires.most) in
+    record {
+      to = written_push table own (written_in c.loop-below.account) (written_in c.write.new.account) c.loop-below.below c.hash_at.result.0 c.in_ok-write.ensures.ok before.long lt c.hash_at.ensures before.to;
+      long = pushed_long (written_in c.loop-below.account) (written_in c.write.new.account) (written_as table c.hash_at.result.0) c.loop-below.below c.in_ok-write.ensures.ok before.long;
+      up = omega (arith, before.up);
+      told = λ is. c.in_ok-write.ensures.told (before.told is);
+    }
+
+pub returns-in_err-write-clause-to : goal.returns-in_err-write-clause-to
+returns-in_err-write-clause-to g c =
+    let own = own_of (g.H.HeaderStore.chain c.args.store.now) c.args.p in
+    let table = table_in c.args.extracts.now in
+    subst (λ (xs : List Written). IsWrittenTo table own xs c.args.from) (sym c.in_err-write.ensures.err)
+    (written_low table own (written_in c.loop-below.account) c.loop-below.below c.args.from c.loop-below.invariant.up c.loop-below.invariant.to)
+
+pub returns-in_err-write-clause-told : goal.returns-in_err-write-clause-told
+returns-in_err-write-clause-told g c = λ is. c.in_err-write.ensures.told (c.loop-below.invariant.told is)
+
+pub returns-clause-ok : goal.returns-clause-ok
+returns-clause-ok g c =
+    written_whole (table_in c.args.extracts.now) (own_of (g.H.HeaderStore.chain c.args.store.now) c.args.p) (written_in c.loop-below.account) c.loop-below.below c.args.most c.requires.most c.loop-below-test.false
+    c.loop-below.invariant.to c.loop-below.invariant.long
+
+pub returns-clause-to : goal.returns-clause-to
+returns-clause-to g c =
+    written_low (table_in c.args.extracts.now) (own_of (g.H.HeaderStore.chain c.args.store.now) c.args.p) (written_in c.loop-below.account) c.loop-below.below c.args.from c.loop-below.invariant.up c.loop-below.invariant.to

@@ -1,0 +1,61 @@
+-- The blocks whose history is written, and what is told of them.
+use Rattle.std.specs.Prelude.{◌≡◌, ℕ, suc, ◌+◌, ◌<◌, ◌≤◌, Bool, true, false, is_some, List, [], ◌∷◌, length, slice_index_or, Option, Some, unwrap_or}
+use Rattle.cf_headers.specs.Chain.{Hash, Chain}
+use Rattle.cf_headers.specs.Heights.{hash_at}
+use Rattle.cf_scan.specs.declared.extracts.Placed.{Placed}
+use Rattle.cf_scan.specs.declared.extracts.TxExtract.{TxExtract}
+use Rattle.cf_tracker.specs.declared.account.Written.{Written}
+use Rattle.cf_tracker.specs.Tables.{Table}
+
+-- a block that is told exactly where it has an extract
+abbrev pub written_as : Table → Hash → Written
+written_as table hash = record { hash = record { 0 = hash }; told = is_some (table hash) }
+
+-- what a history gets of a block
+abbrev pub extract_told : Bool → Option (List TxExtract) → List TxExtract
+extract_told true o = unwrap_or o []
+extract_told false o = []
+
+-- of blocks, the first of them at this height: the extract of each that is told, and an empty one of each other
+abbrev pub placed_written : Table → ℕ → List Written → List Placed
+placed_written table height [] = []
+placed_written table height (w ∷ ws) =
+    record { height = height; extract = extract_told w.told (table w.hash.0) } ∷ placed_written table (suc height) ws
+
+-- no extract changes
+abbrev pub KeepsExtracts : Table → Table → Type 0
+KeepsExtracts before after =
+    (hash : Hash) (extract : List TxExtract) → before hash ≡ Some extract → after hash ≡ Some extract
+
+-- the block at a place, counted from 0
+abbrev pub no_block : Written
+no_block = record { hash = record { 0 = [] }; told = false }
+
+abbrev pub written_at : List Written → ℕ → Written
+written_at written place = slice_index_or written place no_block
+
+-- it has this hash, and is told exactly where it has an extract
+pub record IsWrittenAs (table : Table) (hash : Hash) (block : Written) : Type 0 where
+  pub is : block.hash.0 ≡ hash
+  pub told : block.told ≡ is_some (table hash)
+
+-- one stands there, and is so
+pub record IsWrittenHere (table : Table) (hash : Hash) (written : List Written) (place : ℕ) : Type 0 where
+  pub here : place < length written
+  pub block : IsWrittenAs table hash (written_at written place)
+
+-- up to a height the blocks that are written are those of a chain above genesis
+pub record IsWrittenTo (table : Table) (own : Chain) (written : List Written) (height : ℕ) : Type 0 where
+  pub on : height ≤ length own
+  pub long : height ≤ length written
+  pub each : (h : ℕ) → h < height → IsWrittenAs table (hash_at own (h + 1)) (written_at written h)
+
+-- and up to no greater one
+pub record IsWrittenTop (table : Table) (own : Chain) (written : List Written) (height : ℕ) : Type 0 where
+  pub to : IsWrittenTo table own written height
+  pub most : (more : ℕ) → IsWrittenTo table own written more → more ≤ height
+
+-- they are a chain's, all of them
+pub record IsWrittenWhole (table : Table) (own : Chain) (written : List Written) : Type 0 where
+  pub to : IsWrittenTo table own written (length own)
+  pub long : length written ≡ length own
