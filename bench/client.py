@@ -3,7 +3,7 @@ whom it closes where peers deliver these bytes, how its run ends, and what it wr
 `changes.py` compare the program with it. It is plain, and made for few blocks.
 
 docs/ARCHITECTURE.md has the rules in words: headers, then claims of filters, then filters, and last the blocks whose
-filters match or are in dispute.
+filters match or are in dispute; and nobody is asked for what is open to another.
 """
 import struct
 
@@ -385,13 +385,20 @@ class Client:
         told = {peer.claims[block][0] for peer in self.peers.values() if block in peer.claims}
         return "Differ" if len(told) > 1 else next(iter(told), None)
 
+    def is_open(self, block, command):
+        """Whether somebody was asked by this command for a block's filter, or for the block, and hasn't answered yet."""
+        asked = [peer.asked[1] for peer in self.peers.values() if peer.asked and peer.asked[0] == command]
+        return any(block in (data[0] if command == "getcfilters" else [data]) for data in asked)
+
     def is_to_judge(self, block):
         told = self.filter_of(block)
-        return block not in self.blocks and told not in (None, "Differ") and (block, told) not in self.verdicts
+        is_wanted = block not in self.blocks and told not in (None, "Differ") and (block, told) not in self.verdicts
+        return is_wanted and not self.is_open(block, "getcfilters")
 
     def is_to_fetch(self, block):
         told = self.filter_of(block)
-        return block not in self.blocks and (told == "Differ" or self.verdicts.get((block, told)) == "Hit")
+        is_wanted = block not in self.blocks and (told == "Differ" or self.verdicts.get((block, told)) == "Hit")
+        return is_wanted and not self.is_open(block, "getdata")
 
     def asks(self):
         acts = []
@@ -408,7 +415,6 @@ class Client:
         best = self.peers[self.best()].chain
         shared = [mine for mine, other in zip(peer.chain, best) if mine == other]
         unclaimed = [height for height in range(1, len(shared)) if shared[height] not in peer.claims]
-        is_busy = any(other.asked and other.asked[0] in ("getcfilters", "getdata") for other in self.peers.values())
         if unclaimed:
             first = unclaimed[0]
             last = first
@@ -416,13 +422,13 @@ class Client:
                 last += 1
             before = peer.claims[shared[first - 1]][1] if first > 1 else self.before_first
             peer.ask("getcfheaders", (before, shared[first:last + 1]))
-        elif not is_busy and any(self.is_to_judge(block) for block in shared[1:]):
+        elif any(self.is_to_judge(block) for block in shared[1:]):
             first = next(height for height in range(1, len(shared)) if self.is_to_judge(shared[height]))
             last = first
             while last + 1 < len(shared) and last + 1 < first + 1000 and self.is_to_judge(shared[last + 1]):
                 last += 1
             peer.ask("getcfilters", (shared[first:last + 1], []))
-        elif not is_busy and any(self.is_to_fetch(block) for block in shared[1:]):
+        elif any(self.is_to_fetch(block) for block in shared[1:]):
             peer.ask("getdata", next(block for block in shared[1:] if self.is_to_fetch(block)))
         else:
             return

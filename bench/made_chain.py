@@ -55,21 +55,26 @@ def made_time(height):
     return 1_296_688_602 + 600 * height
 
 
+def block_after(previous, coin, seed, height, others=0, time=None):
+    """A block on one with this hash and this hash of its coinbase, and the hash of its own coinbase."""
+    txs = [coinbase(seed, height, others)]
+    if height > 1 and (seed + height) % 3 == 0:
+        txs.append(spending(seed, height, coin))
+    txids = [double(tx) for tx in txs]
+    root = double(b"".join(txids)) if len(txids) == 2 else txids[0]
+    time = made_time(height) if time is None else time
+    header = mined(struct.pack("<i", 4) + previous + root + struct.pack("<II", time, 0x207FFFFF))
+    return header + bytes([len(txs)]) + b"".join(txs), txids[0]
+
+
 def records(*parts, others=0, time_of=made_time):
     """The records of the parts of a chain, each of which is a seed and a number of blocks. Each coinbase has so many outputs more, at most 251."""
     previous = GENESIS_HASH
     coin = None
     seeds = [seed for seed, blocks in parts for _ in range(blocks)]
     for height, seed in enumerate(seeds, 1):
-        txs = [coinbase(seed, height, others)]
-        if height > 1 and (seed + height) % 3 == 0:
-            txs.append(spending(seed, height, coin))
-        txids = [double(tx) for tx in txs]
-        root = double(b"".join(txids)) if len(txids) == 2 else txids[0]
-        header = mined(struct.pack("<i", 4) + previous + root + struct.pack("<II", time_of(height), 0x207FFFFF))
-        previous = double(header)
-        coin = txids[0]
-        block = header + bytes([len(txs)]) + b"".join(txs)
+        block, coin = block_after(previous, coin, seed, height, others, time_of(height))
+        previous = double(block[:80])
         yield MAGIC + struct.pack("<I", len(block)) + block
 
 

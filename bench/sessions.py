@@ -4,7 +4,8 @@
 
 The frames are written out from the layouts of the Bitcoin developer reference, BIP 157 and BIP 158. The histories are those of a scan of every
 block of the best chain. What is sent is told by hand, from the rules by which a wallet asks: headers, then filter headers, then filters, and last
-the blocks whose filters match or are in dispute.
+the blocks whose filters match or are in dispute; each peer that has nothing else to answer, for what nobody is asked for yet. The client of
+client.py has to send the same, and to end in the same way.
 """
 import os
 import struct
@@ -13,10 +14,12 @@ import sys
 import tempfile
 
 sys.path.insert(0, os.path.dirname(os.path.abspath(__file__)))
+from client import Run
 from conversation import Served, basic_filter, compact, double, frame, transactions, valued, version
 
 BENCH = os.path.dirname(os.path.abspath(__file__))
 VERSION = version(65, 0, 0, b"/cf:1/", 0, b"\0")
+GENESIS_FILTER_HEADER = Served(b"").filters[0][2]
 COUNT, PREVIOUS, OTHER = "WrongCount", "WrongPrevious", "OtherFilter"
 
 
@@ -96,6 +99,11 @@ class Session:
         self.trace += sent
         return self
 
+    def gone(self, p, *sent):
+        self.lines.append("gone %d" % p)
+        self.trace += sent
+        return self
+
     def greet(self, p):
         return self.got(p, VERSION, "> %d verack" % p).got(p, frame("verack"), "> %d getheaders" % p)
 
@@ -103,16 +111,34 @@ class Session:
         """The peer greets and shows its whole chain."""
         return self.greet(p).got(p, chain.headers(1, chain.tip), *sent)
 
+    def shows_both(self, first, second):
+        """Two peers show their chains and claim their filters, the second one only what is asked of it then."""
+        self.shows(1, first, *asks(1, "getcfheaders")).shows(2, second, *asks(2, "getcfheaders"))
+        return self.got(1, first.cfheaders(1, first.tip), *asks(1, "getcfilters"))
+
+    def filters(self, p, chain, first, last, *sent):
+        """The filters of these heights, after the last of which this is sent."""
+        for height in range(first, last):
+            self.got(p, chain.cfilter(height))
+        return self.got(p, chain.cfilter(last), *sent)
+
+    def followed(self, watched):
+        """The run of the client of client.py over these lines."""
+        return Run(self.lines, [script(k) for k in watched], GENESIS_FILTER_HEADER)
+
     def row(self, status, text, watched):
+        run, traced = self.followed(watched), "".join(line + "\n" for line in self.trace) + text
+        assert (run.status(), run.traced()) == (status, traced), (status, traced, run.status(), run.traced())
         words = "cf replay --trace w s"
         watch = "".join(script(k).hex() + ";" for k in watched)
         print("run 4000 -|%s|%s|%s;|-" % (words, watch, ";".join(self.lines)))
         print(status)
-        print("".join(line + "\n" for line in self.trace) + text)
-
+        print(traced)
 
     def stores(self, end, text, watched, shown, claims, filters, verdicts, extracts):
         """A row `stores`. The chains are those that the connected peers have shown; a claim is a chain and a height."""
+        run = self.followed(watched)
+        assert (run.end.replace("Done", "Synced"), len(run.client.verdicts), len(run.client.blocks)) == (end, verdicts, extracts), run.end
         watch = "".join(script(k).hex() + ";" for k in watched)
         print("stores %s|%s;" % (watch, ";".join(self.lines)))
         each = sum(chain.tip for chain in shown)
@@ -125,6 +151,17 @@ class Session:
 
 def asks(p, *commands):
     return ["> %d %s" % (p, command) for command in commands]
+
+
+def two_blocks(chain):
+    """Two peers of one chain, of which the first has brought the filters, and each is asked for one of the two blocks that hit."""
+    s = Session(2).shows_both(chain, chain).got(2, chain.cfheaders(1, chain.tip))
+    return s.filters(1, chain, 1, chain.tip, *asks(1, "getdata"), *asks(2, "getdata"))
+
+
+def cut_short(block):
+    """A block of two transactions without the second one."""
+    return block[:80] + b"\1" + block[81:81 + 78]
 
 
 ENDED = "8 Ended: nothing more came, and an answer was still to come"
@@ -146,15 +183,16 @@ def stores():
 
     print("# stores WATCH|SESSION: what comes of a session over a store of lists, and over a tree: how it ends, how many headers, claims, filters, verdicts")
     print("# and extracts the client keeps then, and the history and the tip. The rows and answers are those of bench/sessions.py stores.")
-    print("# Two peers that differ on a filter; or the second one is gone while the block is still to come.")
-    for gone in (False, True):
+    print("# Two peers that differ on a filter; or the second one, which was asked for the block, is gone; or the first one is, and the second has still to answer.")
+    for gone in (0, 2, 1):
         s = Session(2).shows(1, liar).shows(2, a).got(1, liar.cfheaders(1, 3)).got(2, a.cfheaders(1, 3))
         s.got(1, liar.cfilter(1)).got(1, liar.cfilter(2)).got(1, liar.cfilter(3))
-        if gone:
-            s.lines.append("gone 2")
-            s.stores("Ended", text(a, []), [14], [liar], all_of(liar), 0, 3, 0)
+        if gone == 2:
+            s.gone(2).stores("Synced", text(a, []), [14], [liar], all_of(liar), 0, 3, 0)
+        elif gone == 1:
+            s.gone(1).stores("Ended", text(a, []), [14], [a], all_of(a), 0, 3, 0)
         else:
-            s.got(1, a.block(2)).stores("Synced", text(a, [14]), [14], [liar, a], all_of(liar, a), 0, 3, 1)
+            s.got(2, a.block(2)).stores("Synced", text(a, [14]), [14], [liar, a], all_of(liar, a), 0, 3, 1)
 
     print("# A longer chain takes the place of one that is settled; or its peer is gone while a block is still to come.")
     for gone in (False, True):
@@ -163,8 +201,7 @@ def stores():
         s.shows(2, longer).got(2, longer.cfheaders(1, 4)).got(2, longer.cfilter(2)).got(2, longer.cfilter(3)).got(2, longer.cfilter(4))
         s.got(2, longer.block(3))
         if gone:
-            s.lines.append("gone 2")
-            s.stores("Synced", text(a, [8, 11]), [8, 11], [a], all_of(a), 0, 6, 3)
+            s.gone(2).stores("Synced", text(a, [8, 11]), [8, 11], [a], all_of(a), 0, 6, 3)
         else:
             s.got(2, longer.block(4)).stores("Synced", text(longer, [8, 11]), [8, 11], [a, longer], all_of(a, longer), 0, 6, 4)
 
@@ -207,16 +244,16 @@ def main():
         s.got(1, a.cfilter(1)).got(1, a.cfilter(2)).got(1, a.cfilter(3))
         s.row(DONE, text(a, ks), ks)
 
-    print("# Two peers, of which the first leaves a script out of its filter at height 2: that block is in dispute, and is fetched.")
-    s = Session(2).shows(1, liar, *asks(1, "getcfheaders")).shows(2, a, *asks(2, "getcfheaders"))
-    s.got(1, liar.cfheaders(1, 3), *asks(1, "getcfilters")).got(2, a.cfheaders(1, 3))
-    s.got(1, liar.cfilter(1)).got(1, liar.cfilter(2)).got(1, liar.cfilter(3), *asks(1, "getdata")).got(1, a.block(2))
+    print("# Two peers, of which the first leaves a script out of its filter at height 2: that block is in dispute, and is fetched from the other one, while")
+    print("# the first one's filters are still to come.")
+    s = Session(2).shows_both(liar, a).got(2, a.cfheaders(1, 3), *asks(2, "getdata"))
+    s.filters(1, liar, 1, 3).got(2, a.block(2))
     s.row(DONE, text(a, watched), watched)
 
     print("# The same, where the other one claims first: it is asked for its filters, and the first one for the block.")
     s = Session(2).shows(1, liar, *asks(1, "getcfheaders")).shows(2, a, *asks(2, "getcfheaders"))
-    s.got(2, a.cfheaders(1, 3), *asks(2, "getcfilters")).got(1, liar.cfheaders(1, 3))
-    s.got(2, a.cfilter(1)).got(2, a.cfilter(2)).got(2, a.cfilter(3), *asks(1, "getdata")).got(1, a.block(2))
+    s.got(2, a.cfheaders(1, 3), *asks(2, "getcfilters")).got(1, liar.cfheaders(1, 3), *asks(1, "getdata"))
+    s.filters(2, a, 1, 3).got(1, a.block(2))
     s.row(DONE, text(a, watched), watched)
 
     print("# A longer chain whose peer answers no more is left after a minute, and not before.")
@@ -268,12 +305,19 @@ def main():
     s.got(2, a.cfilter(1)).got(2, a.cfilter(2)).got(2, a.cfilter(3), *asks(2, "getdata")).got(2, a.block(2))
     s.row(DONE, text(a, watched), watched)
 
-    print("# The claims of a peer that is closed count no more: the filter that the other claims is asked for.")
-    s = Session(2).shows(1, liar, *asks(1, "getcfheaders")).shows(2, a, *asks(2, "getcfheaders"))
-    s.got(1, liar.cfheaders(1, 3), *asks(1, "getcfilters")).got(2, a.cfheaders(1, 3))
-    s.got(1, liar.cfilter(1)).got(1, a.cfilter(2), "x 1 " + OTHER, *asks(2, "getcfilters"))
-    s.got(2, a.cfilter(1)).got(2, a.cfilter(2)).got(2, a.cfilter(3), *asks(2, "getdata")).got(2, a.block(2))
+    print("# What was asked of a peer that is closed is asked of the other one, once that one has answered: the filters below the block that it was asked for,")
+    print("# and then those above.")
+    s = Session(2).shows_both(liar, a).got(2, a.cfheaders(1, 3), *asks(2, "getdata"))
+    s.got(1, liar.cfilter(1)).got(1, a.cfilter(2), "x 1 " + OTHER).got(2, a.block(2), *asks(2, "getcfilters"))
+    s.got(2, a.cfilter(1), *asks(2, "getcfilters")).got(2, a.cfilter(3))
     s.row(DONE, text(a, watched), watched)
+
+    print("# The claims of a peer that is closed count no more: of the block that was in dispute, and that it was asked for, the filter that the other claims counts.")
+    s = Session(2).shows(1, liar, *asks(1, "getcfheaders")).shows(2, a, *asks(2, "getcfheaders"))
+    s.got(2, a.cfheaders(1, 3), *asks(2, "getcfilters")).got(1, liar.cfheaders(1, 3), *asks(1, "getdata"))
+    s.got(2, a.cfilter(1)).got(1, frame("block", cut_short(a.blocks[2])), "x 1 BadBlock")
+    s.filters(2, a, 2, 3)
+    s.row(DONE, text(a, [3]), [3])
 
     print("# Answers of another type, for another stop, out of order, or to no question are read over.")
     other_type = frame("cfheaders", b"\1" + a.cfheaders(1, 3)[25:])
@@ -284,6 +328,76 @@ def main():
     s.got(1, a.cfilter(2)).got(1, a.cfilter(3)).got(1, other_filter).got(1, a.block(2)).got(1, a.cfilter(1)).got(1, a.cfilter(1)).got(1, a.cfilter(2))
     s.got(1, a.cfilter(3), *asks(1, "getdata")).got(1, a.block(1)).got(1, a.block(2))
     s.row(DONE, text(a, watched), watched)
+
+    two = [8, 9]
+    print("# Two peers that claim the same: the filters are asked of the first one alone, and then of the two blocks that hit the lower one of the first, and the")
+    print("# other one of the second. Their answers may come in any order; what was asked of one and comes from the other is read over.")
+    for answers in ([(1, 1), (2, 2)], [(2, 2), (1, 1)], [(2, 1), (1, 2), (1, 1), (2, 2)]):
+        s = two_blocks(a)
+        for p, height in answers:
+            s.got(p, a.block(height))
+        s.row(DONE, text(a, two), two)
+    s = Session(2).shows_both(a, a).got(2, a.cfheaders(1, 3))
+    for height in (1, 2, 3):
+        s.got(2, a.cfilter(height))
+    s.filters(1, a, 1, 3, *asks(1, "getdata"), *asks(2, "getdata")).got(1, a.block(1)).got(2, a.block(2))
+    s.row(DONE, text(a, two), two)
+
+    print("# A peer that never answers its part is closed after a minute, and its part is asked of the other one in the same step: a block; all filters, also")
+    print("# where some of them have come. What the other one has answered is asked of nobody again.")
+    s = two_blocks(a).got(2, a.block(2)).tick(60, "x 1 Overdue", *asks(2, "getdata")).got(2, a.block(1))
+    s.row(DONE, text(a, two), two)
+    s = two_blocks(a).tick(59).got(2, a.block(2)).tick(1, "x 1 Overdue", *asks(2, "getdata")).got(2, a.block(1))
+    s.row(DONE, text(a, two), two)
+    s = Session(2).shows_both(a, a).got(2, a.cfheaders(1, 3)).got(1, a.cfilter(1)).got(1, a.cfilter(2)).tick(60, "x 1 Overdue", *asks(2, "getcfilters"))
+    s.filters(2, a, 1, 3, *asks(2, "getdata")).got(2, a.block(1), *asks(2, "getdata")).got(2, a.block(2))
+    s.row(DONE, text(a, two), two)
+
+    print("# A peer goes with a block open to it, and one is closed for the block that it sent: a third one, which has nothing to answer, is asked in the same step.")
+    s = Session(3)
+    for p in (1, 2, 3):
+        s.shows(p, a, *asks(p, "getcfheaders"))
+    s.got(1, a.cfheaders(1, 3), *asks(1, "getcfilters")).got(2, a.cfheaders(1, 3)).got(3, a.cfheaders(1, 3))
+    s.filters(1, a, 1, 3, *asks(1, "getdata"), *asks(2, "getdata")).gone(1, *asks(3, "getdata")).got(3, a.block(1))
+    s.got(2, frame("block", cut_short(a.blocks[2])), "x 2 BadBlock", *asks(3, "getdata")).got(3, a.block(2))
+    s.row(DONE, text(a, two), two)
+
+    print("# Claims come to differ while filters are open, of which the first has come: the block is fetched from the other one before the last of them comes.")
+    s = Session(2).shows_both(liar, a).got(1, liar.cfilter(1)).got(2, a.cfheaders(1, 3), *asks(2, "getdata"))
+    s.got(2, a.block(2)).filters(1, liar, 2, 3)
+    s.row(DONE, text(a, watched), watched)
+
+    print("# They come to differ on a block that is open to one who claims that it hits: it is fetched once.")
+    s = Session(2).shows(2, liar, *asks(2, "getcfheaders")).shows(1, a, *asks(1, "getcfheaders"))
+    s.got(1, a.cfheaders(1, 3), *asks(1, "getcfilters")).filters(1, a, 1, 3, *asks(1, "getdata")).got(2, liar.cfheaders(1, 3)).got(1, a.block(2))
+    s.row(DONE, text(a, watched), watched)
+
+    ours = [8, 9, 11]
+    print("# A longer chain takes the place of one of whose blocks filters are open, and then a block: the peer of the longer one is asked for what is open to nobody,")
+    print("# and what the other one then answers of the blocks that both chains have isn't asked for again.")
+    s = Session(2).shows(1, a, *asks(1, "getcfheaders")).got(1, a.cfheaders(1, 3), *asks(1, "getcfilters")).got(1, a.cfilter(1))
+    s.shows(2, longer, *asks(2, "getcfheaders")).got(2, longer.cfheaders(1, 4), *asks(2, "getcfilters"))
+    s.filters(2, longer, 2, 3).filters(1, a, 2, 3, *asks(1, "getdata")).got(2, longer.cfilter(4), *asks(2, "getdata"))
+    s.got(2, longer.block(3), *asks(2, "getdata")).got(1, a.block(1)).got(2, longer.block(4))
+    s.row(DONE, text(longer, ours), ours)
+
+    print("# The first peer itself shows the longer chain while a block of each peer is open. The second block, of the chain that is left, is taken, and is no part of")
+    print("# the history.")
+    s = two_blocks(a).got(1, longer.headers(2, 4)).got(2, a.block(2)).got(1, a.block(1), *asks(1, "getcfheaders"))
+    s.got(1, longer.cfheaders(2, 4), *asks(1, "getcfilters")).filters(1, longer, 2, 4, *asks(1, "getdata"))
+    s.got(1, longer.block(3), *asks(1, "getdata")).got(1, longer.block(4))
+    s.row(DONE, text(longer, ours), ours)
+
+    print("# A longer chain takes the place of one that is settled, and then the first one, which has grown, takes it back: no block is asked for twice, and a coin")
+    print("# that was spent on the first one stands again on the second.")
+    grown, both_ways = Chain((7, 5)), [8, 11]
+    s = Session(3).shows(1, a, *asks(1, "getcfheaders")).got(1, a.cfheaders(1, 3), *asks(1, "getcfilters"))
+    s.filters(1, a, 1, 3, *asks(1, "getdata")).got(1, a.block(1), *asks(1, "getdata")).got(1, a.block(2))
+    s.shows(2, longer, *asks(2, "getcfheaders")).got(2, longer.cfheaders(1, 4), *asks(2, "getcfilters"))
+    s.filters(2, longer, 2, 4, *asks(2, "getdata")).got(2, longer.block(3), *asks(2, "getdata")).got(2, longer.block(4))
+    s.shows(3, grown, *asks(3, "getcfheaders")).got(3, grown.cfheaders(1, 5), *asks(3, "getcfilters"))
+    s.filters(3, grown, 4, 5, *asks(3, "getdata")).got(3, grown.block(4), *asks(3, "getdata")).got(3, grown.block(5))
+    s.row(DONE, text(grown, both_ways), both_ways)
 
     print("# The age of a question for filters isn't set back by a part of the answer, nor is that of one for claims by anything else.")
     s = Session(1).shows(1, a, *asks(1, "getcfheaders")).tick(59).got(1, a.cfheaders(1, 3), *asks(1, "getcfilters")).tick(30)
