@@ -63,16 +63,16 @@ pub undone_at : (extracts : Table) (tables : Tables) (verdicts : Verdicts) (own 
     → from ≤ height → height < most
     → (IsDoneAbove extracts tables verdicts (hash_at own (height + 1)) → ⊥)
     → AreDone extracts tables verdicts own from most → ⊥
-undone_at extracts tables verdicts own from most height low lt no are = no (are (height + 1) (omega (arith, low)) (omega (arith, lt)))
+undone_at extracts tables verdicts own from most height low lt never are = never (are (height + 1) (omega (arith, low)) (omega (arith, lt)))
 
 -- ---- what is written
 
 pub writes_not : (extracts : Table) (tables : Tables) (verdicts : Verdicts) (own : Chain) (written : List Written) (height most : ℕ) → most ≡ length own → IsWrittenTop extracts own written height
     → (AreDone extracts tables verdicts own height most → ⊥) → WritesOver extracts tables verdicts own written written
-writes_not extracts tables verdicts own written height most end top no = record {
+writes_not extracts tables verdicts own written height most end top never = record {
   stood = height;
   top = top;
-  settled = λ are. absurd (no (subst (AreDone extracts tables verdicts own height) (sym end) are));
+  settled = λ are. absurd (never (subst (AreDone extracts tables verdicts own height) (sym end) are));
   left = λ off. refl;
 }
 

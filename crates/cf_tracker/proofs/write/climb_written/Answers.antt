@@ -1,4 +1,4 @@
-use Rattle.std.proofs.Common.{◌≡◌, ◌<◌, ℕ, length, refl, subst, arith}
+use Rattle.std.proofs.Common.{◌≡◌, ◌<◌, length, subst, arith}
 use Rattle.cf_headers.specs.Store.{own_of}
 use Rattle.cf_tracker.specs.Account.{written_in}
 use Rattle.cf_tracker.specs.Extracts.{table_in}
@@ -10,7 +10,7 @@ pub loop-height-preserved : goal.loop-height-preserved
 loop-height-preserved g c =
     let own = own_of (g.H.HeaderStore.chain c.args.store.now) c.args.p in
     let lt : c.loop-height.height < length own = omega (arith, c.loop-height-test.true, c.requires.most) in
-    written_next (table_in c.args.extracts.now) own (written_in c.args.account.now) c.loop-height.height c.hash_at.result.0 lt c.hash_at.ensures (c.if-not-is_written.ensures.yes refl) c.loop-height.invariant
+    written_next (table_in c.args.extracts.now) own (written_in c.args.account.now) c.loop-height.height c.hash_at.result.0 lt c.hash_at.ensures (c.is_written.ensures.yes c.if-not-is_written.false) c.loop-height.invariant
 
 pub returns-clause-to : goal.returns-clause-to
 returns-clause-to g c =

@@ -1,4 +1,4 @@
-use Rattle.std.proofs.Common.{◌<◌, ◌≤◌, length, sym, subst, arith}
+use Rattle.std.proofs.Common.{◌<◌, List, length, sym, subst, arith}
 use Rattle.cf_headers.specs.Store.{own_of}
 use Rattle.cf_tracker.specs.declared.account.Written.{Written}
 use Rattle.cf_tracker.specs.Account.{written_in}
@@ -12,8 +12,8 @@ loop-below-init g c =
     let own = own_of (g.H.HeaderStore.chain c.args.store.now) c.args.p in
     let table = table_in c.args.extracts.now in
     record {
-      to = written_take table own (written_in c.args.account.now) (written_in c.pop_to.new.account) c.args.from c.pop_to.ensures.written c.requires.to;
-      long = take_long (written_in c.args.account.now) (written_in c.pop_to.new.account) c.args.from c.pop_to.ensures.written c.requires.to.long;
+      to = written_take table own (written_in c.args.account.now) (written_in c.pop_to.new.self) c.args.from c.pop_to.ensures.written c.requires.to;
+      long = take_long (written_in c.args.account.now) (written_in c.pop_to.new.self) c.args.from c.pop_to.ensures.written c.requires.to.long;
       up = omega arith;
       told = c.pop_to.ensures.told table;
     }
@@ -25,8 +25,8 @@ loop-below-preserved g c =
     let before = c.loop-below.invariant in
     let lt : c.loop-below.below < length own = omega (arith, c.loop-below-test.true, c.requires.most) in
     record {
-      to = written_push table own (written_in c.loop-below.account) (written_in c.write.new.account) c.loop-below.below c.hash_at.result.0 c.in_ok-write.ensures.ok before.long lt c.hash_at.ensures before.to;
-      long = pushed_long (written_in c.loop-below.account) (written_in c.write.new.account) (written_as table c.hash_at.result.0) c.loop-below.below c.in_ok-write.ensures.ok before.long;
+      to = written_push table own (written_in c.loop-below.account) (written_in c.write.new.self) c.loop-below.below c.hash_at.result.0 c.in_ok-write.ensures.ok before.long lt c.hash_at.ensures before.to;
+      long = pushed_long (written_in c.loop-below.account) (written_in c.write.new.self) (written_as table c.hash_at.result.0) c.loop-below.below c.in_ok-write.ensures.ok before.long;
       up = omega (arith, before.up);
       told = λ is. c.in_ok-write.ensures.told (before.told is);
     }
