@@ -30,8 +30,8 @@ invariant_of-self g c =
 pub write_blocks-requires-clause-to : goal.write_blocks-requires-clause-to
 write_blocks-requires-clause-to g c = c.turn_to.ensures.top.to
 
-pub invariant_of-self-2 : goal.invariant_of-self-2
-invariant_of-self-2 g c =
+pub invariant_of-self-in-Break-1 : goal.invariant_of-self-in-Break-1
+invariant_of-self-in-Break-1 g c =
     let now = c.args.self.now in
     let mark = c.turn_to.new.bookmark in
     record {
@@ -41,8 +41,8 @@ invariant_of-self-2 g c =
       marks = now.marks;
     }
 
-pub invariant_of-self-3 : goal.invariant_of-self-3
-invariant_of-self-3 g c =
+pub invariant_of-self-2 : goal.invariant_of-self-2
+invariant_of-self-2 g c =
     let now = c.args.self.now in
     let mark = c.turn_to.new.bookmark in
     let own = own_of (g.H.HeaderStore.chain now.store) c.args.p in
