@@ -178,6 +178,7 @@ def each(row):
     """Rows of records."""
     print("# Behind genesis's record; some transactions with witnesses and some without; an input with several items; items of no bytes.")
     row(plain(0), plain(1), spent(stack(bytes(72), bytes(33))), plain(3))
+    row(with_coinbase(0, stack(RESERVED)), plain(1))
     row(with_coinbase(1, stack(b"")), spent(stack(b"", b"", bytes(300)), coinbase=stack(RESERVED)))
     print("# A stack that is empty, also where a lock time is missing; two stacks for one input; a stack that isn't there.")
     row(with_coinbase(1, stack()))

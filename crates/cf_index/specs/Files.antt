@@ -1,5 +1,5 @@
 -- Files of blocks: which are good, and the first bad record of the others.
-use Rattle.std.specs.Prelude.{◌≡◌, ◌⊎◌, ℕ, zero, suc, ◌+◌, ◌-◌, ◌==◌, Bool, true, false, nat_le, bytes_eq, if◌then◌else◌, List, [], ◌∷◌, ◌++◌, length, take, drop, replicate, Option, Some, None, Result, Ok, Err}
+use Rattle.std.specs.Prelude.{◌≡◌, ◌⊎◌, ℕ, zero, suc, ◌+◌, ◌-◌, ◌==◌, Bool, true, false, nat_le, bytes_eq, if◌then◌else◌, List, [], ◌∷◌, ◌++◌, length, replicate, Option, Some, None, Result, Ok, Err}
 use Rattle.std.specs.List.{list_all}
 use Rattle.std.specs.FinMap.{empty}
 use Rattle.cf_bytes.specs.Cut.{Read, ◌>>=◌}
@@ -10,6 +10,7 @@ use Rattle.cf_block.specs.declared.commitment.CommitFault.{CommitFault}
 use Rattle.cf_block.specs.declared.tx.Block.{Block}
 use Rattle.cf_block.specs.Genesis.{first_block}
 use Rattle.cf_block.specs.Stored.{stored_block_at}
+use Rattle.cf_block.specs.Tx.{block_spelling}
 use Rattle.cf_block.specs.Commitment.{commit_fault}
 use Rattle.cf_headers.specs.declared.rules.HeaderFault.{HeaderFault}
 use Rattle.cf_headers.specs.Rules.{fault_after}
@@ -20,15 +21,21 @@ use Rattle.cf_index.specs.declared.cause.CoinFault.{CoinFault}
 use Rattle.cf_index.specs.declared.cause.RecordCause.{RecordCause}
 use Rattle.cf_index.specs.declared.cause.RecordCause.TheVariants.{Block as InBlock, Header as InHeader, TooHigh, Commit, Coins as InCoins}
 use Rattle.cf_index.specs.declared.cause.BadBlock.{BadBlock}
-use Rattle.cf_index.specs.Records.{Taken, record_spelling, HasRecords, record_at}
+use Rattle.cf_index.specs.Records.{Taken, IsRecordOf, HasRecords, record_at}
 use Rattle.cf_index.specs.Spending.{spend_txs}
 
 -- ---- good files
 
--- the bytes are genesis's record, without witnesses, and then records of these blocks and the rest
+-- the bytes are a record of the genesis block, with witnesses or without, and then the rest
+pub record HasFirst (bytes rest : List ℕ) : Type 0 where
+  pub front : List ℕ
+  pub is : IsRecordOf front first_block
+  pub spelled : bytes ≡ front ++ rest
+
+-- the bytes are a record of the genesis block, and then records of these blocks and the rest
 pub record HasGenesis (bytes : List ℕ) (blocks : List Block) (rest : List ℕ) : Type 0 where
   pub more : List ℕ
-  pub spelled : bytes ≡ record_spelling first_block ++ more
+  pub first : HasFirst bytes more
   pub others : HasRecords more blocks rest
 
 -- Records of blocks above genesis, the lowest first, each with witnesses or without; before them genesis's may stand, and
@@ -104,17 +111,33 @@ blocks_from before zero blocks (b ∷ bytes) =
     if all_zeros (b ∷ bytes) then Ok blocks
     else numbered (suc (before + length blocks)) (next_at blocks (b ∷ bytes)) >>= λ x. blocks_from before (length bytes - length x.1) x.0 bytes
 
-unfoldable pub genesis_record : List ℕ
-genesis_record = record_spelling first_block
+-- the block of the record that stands here, and the bytes after it
+unfoldable pub block_here : List ℕ → Taken Block
+block_here bytes = do
+  text ← record_at bytes
+  b ← in_block (stored_block_at text.0)
+  Ok (b, text.1)
 
-abbrev pub begins_with_genesis : List ℕ → Bool
-begins_with_genesis bytes = bytes_eq (take (length genesis_record) bytes) genesis_record
+-- a block is the genesis block
+abbrev pub is_first : Block → Bool
+is_first b = bytes_eq (block_spelling b) (block_spelling first_block)
+
+-- the bytes after a record of the genesis block, where it is one
+abbrev pub behind_first : Taken Block → Option (List ℕ)
+behind_first (Ok x) = if is_first x.0 then Some x.1 else None
+behind_first (Err cause) = None
+
+unfoldable pub after_genesis : List ℕ → Option (List ℕ)
+after_genesis bytes = behind_first (block_here bytes)
+
+-- the blocks of all the bytes, or of those after a record of genesis
+abbrev pub blocks_after : List ℕ → Option (List ℕ) → Result (List Block) BadBlock
+blocks_after bytes None = blocks_from 0 0 [] bytes
+blocks_after bytes (Some more) = blocks_from 1 0 [] more
 
 -- the blocks of a file above genesis, or its first bad record, by its number, and the first rule that it breaks
 unfoldable pub blocks_at : List ℕ → Result (List Block) BadBlock
-blocks_at bytes =
-    if begins_with_genesis bytes then blocks_from 1 0 [] (drop (length genesis_record) bytes)
-    else blocks_from 0 0 [] bytes
+blocks_at bytes = blocks_after bytes (after_genesis bytes)
 
 -- ---- bad files
 
@@ -129,11 +152,11 @@ pub record StopsAt (bytes : List ℕ) (before : ℕ) (bad : BadBlock) : Type 0 w
   pub number : bad.number ≡ suc (before + length blocks)
   pub cause : next_at blocks rest ≡ Err bad.cause
 
--- a first record of the genesis block is passed over, and counted
+-- a first record of the genesis block, with witnesses or without, is passed over, and counted
 abbrev pub IsBadFile : List ℕ → BadBlock → Type 0
 IsBadFile bytes bad =
-    ((begins_with_genesis bytes ≡ false) × StopsAt bytes 0 bad)
-    ⊎ ((begins_with_genesis bytes ≡ true) × StopsAt (drop (length genesis_record) bytes) 1 bad)
+    ((after_genesis bytes ≡ None) × StopsAt bytes 0 bad)
+    ⊎ ((more : List ℕ) × (after_genesis bytes ≡ Some more) × StopsAt more 1 bad)
 
 -- what is said of a fault
 abbrev pub IfBad : Result (List Block) (Refused BadBlock) → (BadBlock → Type 0) → Type 0

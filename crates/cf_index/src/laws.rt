@@ -11,8 +11,8 @@ ghost use Rattle.cf_index.specs.Records.{record_with, max_record, record_spellin
 
 /// A good file is read as its blocks, and so as no others; a bad one is refused for its first bad record; and no file is both.
 /// With `read_chain`'s clauses, a file is taken exactly where it is good, and refused exactly where it isn't. The records of
-/// a good chain's blocks without witnesses are a good file, also behind genesis's record and before zeros; and so are
-/// records of any bytes that store the blocks, 4,000,000 for a block at most.
+/// a good chain's blocks without witnesses are a good file, also behind a record of genesis, with witnesses or without, and
+/// before zeros; and so are records of any bytes that store the blocks, 4,000,000 for a block at most.
 pub fn laws_of_files()
     ensures taken { (bytes : List ℕ) (blocks : List Block) → IsGoodFile bytes blocks → blocks_at bytes ≡ Ok blocks }
     ensures refused { (bytes : List ℕ) (bad : BadBlock) → IsBadFile bytes bad → blocks_at bytes ≡ Err bad }
@@ -22,6 +22,8 @@ pub fn laws_of_files()
         → IsGoodFile (flat_map record_spelling blocks ++ replicate zeros 0) blocks }
     ensures first { (blocks : List Block) (zeros : ℕ) → IsGoodChain blocks
         → IsGoodFile (record_spelling first_block ++ (flat_map record_spelling blocks ++ replicate zeros 0)) blocks }
+    ensures behind { (text : List ℕ) (blocks : List Block) (zeros : ℕ) → IsGoodChain blocks → IsStored text first_block
+        → length text ≤ max_record → IsGoodFile (record_with text ++ (flat_map record_spelling blocks ++ replicate zeros 0)) blocks }
     ensures stored { (text : Block → List ℕ) (blocks : List Block) → IsGoodChain blocks
         → AllByRecursion (λ b. IsStored (text b) b) blocks → AllByRecursion (λ b. length (text b) ≤ max_record) blocks
         → IsGoodFile (flat_map (λ b. record_with (text b)) blocks) blocks }

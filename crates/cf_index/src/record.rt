@@ -1,13 +1,10 @@
 //! The records of a file of blocks.
 ghost use Rattle.std.specs.Prelude.{◌≡◌, ◌++◌, ◌≤◌, IfOk, length};
 ghost use Rattle.std.specs.Int.{w32, to_le_bytes};
-ghost use Rattle.cf_block.specs.Genesis.{first_block};
-ghost use Rattle.cf_index.specs.Records.{magic, record_with, max_record, record_spelling, magic_at, length_at, head_at, text_at, record_at, Takes};
+ghost use Rattle.cf_index.specs.Records.{magic, record_with, max_record, magic_at, length_at, head_at, text_at, record_at, Takes};
 
 use crate::cause::RecordCause;
-use cf_block::{genesis, write_block};
-use cf_bytes::{Cut, NoMemory};
-use std::alloc::Global;
+use cf_bytes::Cut;
 
 // Regtest's magic.
 const MAGIC: [u8; 4] = [0xfa, 0xbf, 0xb5, 0xda];
@@ -82,20 +79,4 @@ pub(crate) fn take_record<'a>(cut: &mut Cut<'a>) -> Result<&'a [u8], RecordCause
         Err(cause) => Err(cause),
         Ok(size) => take_text(size, cut),
     }
-}
-
-// The record of the genesis block, without witnesses.
-#[tactic(auto, unfolding(crate::specs::Records::record_spelling))]
-pub(crate) fn genesis_record(alloc: Global) -> Result<Vec<u8>, NoMemory>
-    ensures { IfOk result (λ bytes. bytes.items ≡ record_spelling first_block) }
-{
-    let block = genesis(alloc)?;
-    let mut text = Vec::new(alloc);
-    write_block(&block, &mut text)?;
-    let length = text.len() as u32;
-    let mut record = Vec::new(alloc);
-    record.extend_from_slice(&MAGIC)?;
-    record.extend_from_slice(&length.to_le_bytes())?;
-    record.extend_from_slice(&text)?;
-    Ok(record)
 }

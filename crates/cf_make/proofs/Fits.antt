@@ -27,15 +27,19 @@ pub seconds_cases : (F : List Tx → Type 0) (o : Option OutPoint) (turn : ℕ) 
 seconds_cases F None turn none one = none
 seconds_cases F (Some c) turn none one = elim (turn % 3 == 0) as (λ b. F (if b then second_of c turn ∷ [] else [])) [ true ↦ one c refl | false ↦ none ]
 
--- one or two transactions that may stand in a block
-pub record AreFit (ts : List Tx) : Type 0 where
+-- one or two transactions that have a spelling, and so has a block of them
+pub record AreSpelled (ts : List Tx) : Type 0 where
   pub some : 1 ≤ length ts
   pub few : length ts ≤ 2
   pub each : AllByRecursion IsTx ts
-  pub none64 : None64 (map tx_spelling ts)
-  pub unmutated : mutated (txids (map tx_spelling ts)) ≡ false
   pub root : length (merkle_root_of (txids (map tx_spelling ts))) ≡ 32
   pub size : length (compact (length ts) ++ flat_map tx_spelling ts) ≤ 1000
+
+-- one or two transactions that may stand in a block
+pub record AreFit (ts : List Tx) : Type 0 where
+  pub spelled : AreSpelled ts
+  pub none64 : None64 (map tx_spelling ts)
+  pub unmutated : mutated (txids (map tx_spelling ts)) ≡ false
 
 apart_64 : (s : List ℕ) (n : ℕ) → length s ≡ n → 64 < n → length s ≢ 64
 apart_64 s n is lt e = absurd (omega (arith, is, lt, e))
@@ -70,17 +74,42 @@ two_root : (x y : List ℕ) → length (merkle_root_of (x ∷ y ∷ [])) ≡ 32
 unfolding root_within
 two_root x y = length-hash_of (x ++ y)
 
-one_fits : (seed height : ℕ) → AreFit (coinbase_of seed height ∷ [])
-one_fits seed height =
+one_spelled : (seed height : ℕ) → AreSpelled (coinbase_of seed height ∷ [])
+one_spelled seed height =
     let a : List ℕ = tx_spelling (coinbase_of seed height) in
     record {
       some = lit≤ tt;
       few = lit≤ tt;
       each = (coinbase_is_tx seed height, tt);
-      none64 = (apart_64 a 78 (coinbase_size seed height) (lit< tt), tt);
-      unmutated = one_unmutated (hash_of a);
       root = one_root (hash_of a) (length-hash_of a);
       size = one_size a (coinbase_size seed height);
+    }
+
+two_spelled : (seed height turn : ℕ) (c : OutPoint) → IsHash c.txid → c.index ≡ 0 → AreSpelled (coinbase_of seed height ∷ second_of c turn ∷ [])
+two_spelled seed height turn c hash first =
+    let a : List ℕ = tx_spelling (coinbase_of seed height) in
+    let b : List ℕ = tx_spelling (second_of c turn) in
+    record {
+      some = lit≤ tt;
+      few = lit≤ tt;
+      each = (coinbase_is_tx seed height, (second_is_tx c turn hash first, tt));
+      root = two_root (hash_of a) (hash_of b);
+      size = two_size a b (coinbase_size seed height) (second_size c turn hash);
+    }
+
+pub txs_spelled : (seed height : ℕ) (o : Option OutPoint) → ((c : OutPoint) → o ≡ Some c → IsHash c.txid × (c.index ≡ 0)) → AreSpelled (made_txs seed height o)
+txs_spelled seed height o coins =
+    seconds_cases (λ ts. AreSpelled (coinbase_of seed height ∷ ts)) o (seed + height)
+    (one_spelled seed height)
+    (λ c e. two_spelled seed height (seed + height) c (coins c e).0 (coins c e).1)
+
+one_fits : (seed height : ℕ) → AreFit (coinbase_of seed height ∷ [])
+one_fits seed height =
+    let a : List ℕ = tx_spelling (coinbase_of seed height) in
+    record {
+      spelled = one_spelled seed height;
+      none64 = (apart_64 a 78 (coinbase_size seed height) (lit< tt), tt);
+      unmutated = one_unmutated (hash_of a);
     }
 
 sizes_apart : (a b : List ℕ) → length a ≡ 78 → length b ≡ 77 → a ≡ b → ⊥
@@ -92,13 +121,9 @@ two_fit P apart seed height turn c hash first ka kb =
     let a : List ℕ = tx_spelling (coinbase_of seed height) in
     let b : List ℕ = tx_spelling (second_of c turn) in
     record {
-      some = lit≤ tt;
-      few = lit≤ tt;
-      each = (coinbase_is_tx seed height, (second_is_tx c turn hash first, tt));
+      spelled = two_spelled seed height turn c hash first;
       none64 = (apart_64 a 78 (coinbase_size seed height) (lit< tt), (apart_64 b 77 (second_size c turn hash) (lit< tt), tt));
       unmutated = two_unmutated (hash_of a) (hash_of b) (λ e. sizes_apart a b (coinbase_size seed height) (second_size c turn hash) (apart a b ka kb e));
-      root = two_root (hash_of a) (hash_of b);
-      size = two_size a b (coinbase_size seed height) (second_size c turn hash);
     }
 
 abbrev pub AllKnown : (List ℕ → Type 0) → List Tx → Type 0
@@ -130,13 +155,13 @@ pub header_root : (seed height nonce : ℕ) (t : Tip) → (with_nonce (made_head
 unfolding made_header
 header_root seed height nonce t = refl
 
-block_size : (h : Header) (ts : List Tx) → IsHeader h → AreFit ts → length (block_spelling (record { header = h; txs = ts })) ≤ 1000000
+block_size : (h : Header) (ts : List Tx) → IsHeader h → AreSpelled ts → length (block_spelling (record { header = h; txs = ts })) ≤ 1000000
 unfolding block_spelling
 block_size h ts is fit =
     let e = length-append (header_spelling h) (compact (length ts) ++ flat_map tx_spelling ts) in
     omega (arith, e, header_size h is.previous is.root, fit.size)
 
-pub block_fits : (h : Header) (ts : List Tx) → IsHeader h → AreFit ts → IsBlock (record { header = h; txs = ts })
+pub block_fits : (h : Header) (ts : List Tx) → IsHeader h → AreSpelled ts → IsBlock (record { header = h; txs = ts })
 block_fits h ts is fit = record {
   header = is;
   some_txs = fit.some;
@@ -146,4 +171,4 @@ block_fits h ts is fit = record {
 }
 
 pub block_committed : (h : Header) (ts : List Tx) → AreFit ts → h.root.0 ≡ merkle_root_of (txids (map tx_spelling ts)) → IsCommitted (record { header = h; txs = ts })
-block_committed h ts fit root = record { some = omega (arith, fit.some); root = root; unmutated = fit.unmutated; none64 = fit.none64 }
+block_committed h ts fit root = record { some = omega (arith, fit.spelled.some); root = root; unmutated = fit.unmutated; none64 = fit.none64 }

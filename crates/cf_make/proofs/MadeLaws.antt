@@ -1,8 +1,8 @@
 -- Laws of made chains.
-use Rattle.std.proofs.Common.{◌≡◌, ℕ, zero, suc, ◌+◌, ◌*◌, ◌<◌, ◌≤◌, ◌^◌, true, false, nat_lt, List, [], ◌∷◌, ◌++◌, map, length, take, Option, Some, None, refl, sym, ◌∙◌, ap, subst, arith, append_assoc, inl, inr, bytes_eq}
+use Rattle.std.proofs.Common.{◌≡◌, ℕ, zero, suc, ◌+◌, ◌*◌, ◌<◌, ◌≤◌, ◌^◌, Bool, true, false, nat_lt, List, [], ◌∷◌, ◌++◌, map, length, take, Option, Some, None, refl, sym, ◌∙◌, ap, subst, arith, append_assoc, inl, inr, bytes_eq}
 use Rattle.std.specs.Prelude.{is_some, fold, ◌&&◌}
 use Rattle.std.specs.FinMap.{empty, get-empty}
-use Rattle.std.specs.List.{flat_map}
+use Rattle.std.specs.List.{flat_map, AllByRecursion}
 use Rattle.std.proofs.lemmas.Bool.{ltb-true, ltb-false}
 use Rattle.std.proofs.lemmas.List.{reverse-append, append-nil}
 use Rattle.std.proofs.lemmas.Slice.Eq.{bytes_eq-Decides}
@@ -14,8 +14,9 @@ use Rattle.cf_block.specs.declared.tx.Block.{Block}
 use Rattle.cf_block.specs.Header.{IsHash, header_spelling, block_hash_of, genesis_header}
 use Rattle.cf_block.specs.Merkle.{Among, NoClash}
 use Rattle.cf_block.specs.Output.{Output}
-use Rattle.cf_block.specs.Outpoint.{outpoint_cmp}
-use Rattle.cf_block.specs.Tx.{tx_spelling, txid_of}
+use Rattle.cf_block.specs.Outpoint.{outpoint, outpoint_cmp}
+use Rattle.cf_block.specs.Stored.{IsStored}
+use Rattle.cf_block.specs.Tx.{IsBlock, tx_spelling, txid_of}
 use Rattle.cf_block.specs.Commitment.{spelled_txs}
 use Rattle.cf_headers.specs.Rules.{same, is_worked, is_timely}
 use Rattle.cf_headers.specs.Chain.{Chain, tip_hash, times_of, past_of, fits, IsValidChain}
@@ -25,12 +26,14 @@ use Rattle.cf_chain.specs.Good.{max_height, AreGoodTxs, NoCoinbases, HasOneCoinb
 use Rattle.cf_make.specs.declared.making.Tip.{Tip}
 use Rattle.cf_make.specs.Mined.{with_nonce, is_met, NoneMeets, IsMined}
 use Rattle.cf_make.specs.Made.{coinbase_of, second_of, made_txs, made_header, max_tries, first_coin, tip_of, genesis_tip, tip_after, IsMadeBlock, AreMade, IsExtension, StopsAt, seed_limit, IsMadeBySome, AreMadeInTurn, IsMadeChain}
+use Rattle.cf_make.specs.Records.{text_of}
 use Rattle.cf_make.proofs.CoinMaps.{Stands, put_stands, put_keeps}
 use Rattle.cf_make.proofs.Spelled.{coin_of, coin_hash}
 use Rattle.cf_make.proofs.Apart.{Apart, same_height}
 use Rattle.cf_make.proofs.Standing.{AllLower, all_lower_more, with_coinbase, good_coinbase, lower_with_coinbase, good_second, lower_with_second, second_keeps}
-use Rattle.cf_make.proofs.Fits.{seconds_cases, AreFit, AllKnown, txs_fit, header_fits, header_root, block_fits, block_committed}
+use Rattle.cf_make.proofs.Fits.{seconds_cases, AreSpelled, AreFit, AllKnown, txs_spelled, txs_fit, header_fits, header_root, block_fits, block_committed}
 use Rattle.cf_make.proofs.Blocks.{tip_append}
+use Rattle.cf_make.proofs.Witnessed.{BeginsWithCoinbase, block_stored}
 
 -- the tip's coin: genesis has none, and any other block's is its coinbase's, which stands
 pub record CoinStands (P : List ℕ → Type 0) (coins : CoinMap) (height : ℕ) (coin : OutPoint) : Type 0 where
@@ -46,14 +49,14 @@ abbrev pub TipStands : (List ℕ → Type 0) → CoinMap → ℕ → Option OutP
 TipStands P coins height None = Unit {0}
 TipStands P coins height (Some coin) = CoinStands P coins height coin
 
+some_is : (a b : OutPoint) → Some a ≡ Some b → a ≡ b
+some_is a b e = cc
+
 coin_fits : (P : List ℕ → Type 0) (coins : CoinMap) (height : ℕ) (o : Option OutPoint) → TipStands P coins height o → (c : OutPoint) → o ≡ Some c → IsHash c.txid × (c.index ≡ 0)
 coin_fits P coins height None tip c e = cc
 coin_fits P coins height (Some k) tip c e =
     let is : coin_of tip.seed tip.below ≡ c = sym tip.is ∙ some_is k c e in
     (subst (λ (q : OutPoint). IsHash q.txid) is (coin_hash tip.seed tip.below), ap (λ (q : OutPoint). q.index) (sym is))
-  where
-    some_is : (a b : OutPoint) → Some a ≡ Some b → a ≡ b
-    some_is a b e = cc
 
 -- the transactions after the coinbase
 record RestGood (P : List ℕ → Type 0) (coins : CoinMap) (seed height : ℕ) (ts : List Tx) : Type 0 where
@@ -154,7 +157,7 @@ stepped_as P apart coins seed height nonce t low within state known =
     let good : TxsGood P coins height ts = txs_good P apart coins seed height t.coin (omega (arith, low)) state.lower state.tip known in
     record {
       good = record {
-        spelled = block_fits h ts (header_fits seed height nonce t low within state.hash fit.root) fit;
+        spelled = block_fits h ts (header_fits seed height nonce t low within state.hash fit.spelled.root) fit.spelled;
         committed = block_committed h ts fit (header_root seed height nonce t);
         coinbase = good.one;
         txs = good.good;
@@ -169,6 +172,48 @@ stepped : (P : List ℕ → Type 0) → Apart P → (coins : CoinMap) (seed heig
 stepped P apart coins seed height t b low state made known =
     subst (Stepped P coins height) (remade b (with_nonce (made_header seed height t) b.header.nonce) (made_txs seed height t.coin) made.header.same made.txs)
     (stepped_as P apart coins seed height b.header.nonce t low made.header.within state (subst (AllKnown P) made.txs known))
+
+-- a tip as a block leaves it, whatever clashes
+record IsTip (t : Tip) : Type 0 where
+  hash : IsHash t.hash
+  coin : (c : OutPoint) → t.coin ≡ Some c → IsHash c.txid × (c.index ≡ 0)
+
+first_coin_fits : (ts : List Tx) (c : OutPoint) → first_coin ts ≡ Some c → IsHash c.txid × (c.index ≡ 0)
+unfolding txid_of
+first_coin_fits [] c e = cc
+first_coin_fits (t ∷ ts) c e =
+    let is : outpoint (txid_of t) 0 ≡ c = some_is (outpoint (txid_of t) 0) c e in
+    (subst (λ (q : OutPoint). IsHash q.txid) is (length-hash_of (tx_spelling t)), ap (λ (q : OutPoint). q.index) (sym is))
+
+tip_fits : (b : Block) → IsTip (tip_of b)
+tip_fits b = record { hash = hash_fits b.header; coin = first_coin_fits b.txs }
+
+genesis_tip_fits : IsTip genesis_tip
+genesis_tip_fits = record { hash = hash_fits genesis_header; coin = λ c e. cc }
+
+block_spelled : (seed height nonce : ℕ) (t : Tip) → height ≤ max_height → nonce < max_tries → IsTip t
+    → IsBlock (record { header = with_nonce (made_header seed height t) nonce; txs = made_txs seed height t.coin })
+block_spelled seed height nonce t low within tip =
+    let ts : AreSpelled (made_txs seed height t.coin) = txs_spelled seed height t.coin tip.coin in
+    block_fits (with_nonce (made_header seed height t) nonce) (made_txs seed height t.coin) (header_fits seed height nonce t low within tip.hash ts.root) ts
+
+made_spelled : (seed height : ℕ) (t : Tip) (b : Block) → height ≤ max_height → IsTip t → IsMadeBlock seed height t b → IsBlock b
+made_spelled seed height t b low tip made =
+    subst IsBlock (remade b (with_nonce (made_header seed height t) b.header.nonce) (made_txs seed height t.coin) made.header.same made.txs)
+    (block_spelled seed height b.header.nonce t low made.header.within tip)
+
+begins_made : (seed height : ℕ) (o : Option OutPoint) → BeginsWithCoinbase (made_txs seed height o)
+unfolding coinbase_of
+begins_made seed height o = refl
+
+all_made_stored : (witness : Bool) (height : ℕ) (t : Tip) (bs : List Block) → height + length bs ≤ suc max_height → IsTip t → AreMadeInTurn height t bs
+    → AllByRecursion (λ b. IsStored (text_of witness b) b) bs
+all_made_stored witness height t [] low tip made = tt
+all_made_stored witness height t (b ∷ bs) low tip made =
+    let one : IsMadeBySome height t b = made.0 in
+    let spelled : IsBlock b = made_spelled one.seed height t b (omega (arith, low)) tip one.made in
+    let begins : BeginsWithCoinbase b.txs = subst BeginsWithCoinbase (sym one.made.txs) (begins_made one.seed height t.coin) in
+    (block_stored witness b spelled begins, all_made_stored witness (suc height) (tip_of b) bs (omega (arith, low)) (tip_fits b) made.1)
 
 abbrev BlocksKnown : (List ℕ → Type 0) → List Block → Type 0
 BlocksKnown P [] = Unit {0}
@@ -277,6 +322,9 @@ extended base whole k seed n small made e =
     let above : AreMadeInTurn (1 + length low) (tip_after genesis_tip low) e.more =
     subst (λ (h : ℕ). AreMadeInTurn h (tip_after genesis_tip low) e.more) (let s : suc (length low) ≡ 1 + length low = omega arith in s) (by_some seed (suc (length low)) (tip_after genesis_tip low) e.more small e.made) in
     subst IsMadeChain (sym e.joined) (in_turn 1 genesis_tip low e.more (lower_part 1 k genesis_tip base made) above)
+
+pub made_stored : (witness : Bool) (blocks : List Block) → IsMadeChain blocks → length blocks ≤ max_height → AllByRecursion (λ b. IsStored (text_of witness b) b) blocks
+made_stored witness blocks made low = all_made_stored witness 1 genesis_tip blocks (omega (arith, low)) genesis_tip_fits made
 
 pub chain_is_good : (seed n : ℕ) (whole : List Block) → seed < seed_limit → n ≤ max_height → IsExtension [] seed n whole → NoClash (flat_map spelled_txs whole) → IsGoodChain whole
 chain_is_good seed n whole small low e apart =

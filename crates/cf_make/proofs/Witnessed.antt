@@ -7,12 +7,12 @@ use Rattle.cf_block.specs.declared.tx.TxIn.{TxIn}
 use Rattle.cf_block.specs.declared.tx.Tx.{Tx}
 use Rattle.cf_block.specs.declared.tx.Block.{Block}
 use Rattle.cf_block.specs.Header.{header_spelling}
-use Rattle.cf_block.specs.Tx.{input_spelling, output_spelling, tx_spelling, block_spelling}
+use Rattle.cf_block.specs.Tx.{IsBlock, input_spelling, output_spelling, tx_spelling, block_spelling}
 use Rattle.cf_block.specs.Commitment.{makes_coins, is_coinbase_tx}
 use Rattle.cf_block.specs.Stored.{stack_spelling, extended_spelling, IsExtended, AreStored, IsStored}
 use Rattle.cf_block.proofs.StoredLaws.{plain_stored, plain_each, plain_joined}
 use Rattle.cf_chain.specs.Coins.{CoinMap, after_block}
-use Rattle.cf_chain.specs.Good.{HasOneCoinbase, IsGoodBlock, AreGoodBlocks}
+use Rattle.cf_chain.specs.Good.{HasOneCoinbase, AreGoodBlocks}
 use Rattle.cf_make.specs.Records.{record_of, records_of, reserved, with_witness, witness_spelling, text_of, made_record, made_records_of}
 
 one_input : (inputs : List TxIn) → makes_coins inputs ≡ true → 1 ≡ length inputs
@@ -34,27 +34,37 @@ abbrev texts_of : List Tx → List (List ℕ)
 texts_of [] = []
 texts_of (t ∷ ts) = extended_spelling t (reserved ∷ []) ∷ map tx_spelling ts
 
-each_stored : (ts : List Tx) → HasOneCoinbase ts → AreStored (texts_of ts) ts
+-- the first transaction is a coinbase
+abbrev pub BeginsWithCoinbase : List Tx → Type 0
+BeginsWithCoinbase [] = ⊥
+BeginsWithCoinbase (t ∷ ts) = is_coinbase_tx t ≡ true
+
+begins : (ts : List Tx) → HasOneCoinbase ts → BeginsWithCoinbase ts
+begins [] has = has
+begins (t ∷ ts) has = has.0
+
+each_stored : (ts : List Tx) → BeginsWithCoinbase ts → AreStored (texts_of ts) ts
 each_stored [] has = absurd has
-each_stored (t ∷ ts) has = (inr (coinbase_stored t has.0), plain_each ts)
+each_stored (t ∷ ts) has = (inr (coinbase_stored t has), plain_each ts)
 
 texts_joined : (ts : List Tx) → with_witness ts ≡ flat_map (λ text. text) (texts_of ts)
 texts_joined [] = refl
 texts_joined (t ∷ ts) = ap (λ (l : List ℕ). extended_spelling t (reserved ∷ []) ++ l) (sym (plain_joined ts))
 
-block_stored : (witness : Bool) (coins : CoinMap) (b : Block) → IsGoodBlock coins b → IsStored (text_of witness b) b
+pub block_stored : (witness : Bool) (b : Block) → IsBlock b → BeginsWithCoinbase b.txs → IsStored (text_of witness b) b
 unfolding witness_spelling
-block_stored true coins b good = record {
+block_stored true b fits first = record {
   texts = texts_of b.txs;
-  txs = each_stored b.txs good.coinbase;
+  txs = each_stored b.txs first;
   spelled = ap (λ (l : List ℕ). header_spelling b.header ++ (compact (length b.txs) ++ l)) (texts_joined b.txs);
-  block = good.spelled;
+  block = fits;
 }
-block_stored false coins b good = plain_stored b good.spelled
+block_stored false b fits first = plain_stored b fits
 
 pub all_stored : (witness : Bool) (coins : CoinMap) (blocks : List Block) → AreGoodBlocks coins blocks → AllByRecursion (λ b. IsStored (text_of witness b) b) blocks
 all_stored witness coins [] good = tt
-all_stored witness coins (b ∷ bs) good = (block_stored witness coins b good.0, all_stored witness (after_block coins b) bs good.1)
+all_stored witness coins (b ∷ bs) good =
+    (block_stored witness b good.0.spelled (begins b.txs good.0.coinbase), all_stored witness (after_block coins b) bs good.1)
 
 -- ---- how long they are
 

@@ -20,12 +20,15 @@ pub fn laws_of_made_chains()
     ensures good { (blocks : List Block) → IsMadeChain blocks → length blocks ≤ max_height → NoClash (flat_map spelled_txs blocks) → IsGoodChain blocks }
 {}
 
-/// The bytes in the records of a good chain store its blocks, with the witnesses of their coinbases or without, and a
-/// witness takes 36 bytes. The records without witnesses are those that `records` gives.
+/// The bytes in the records of a good chain store its blocks, with the witnesses of their coinbases or without, and so do
+/// those of a made chain, whatever clashes. A witness takes 36 bytes at most. The records without witnesses are those that
+/// `records` gives.
 pub fn laws_of_made_records()
     ensures stored { (witness : Bool) (blocks : List Block) → IsGoodChain blocks
         → AllByRecursion (λ b. IsStored (text_of witness b) b) blocks }
-    ensures short { (witness : Bool) (blocks : List Block) → IsGoodChain blocks
+    ensures made { (witness : Bool) (blocks : List Block) → IsMadeChain blocks → length blocks ≤ max_height
+        → AllByRecursion (λ b. IsStored (text_of witness b) b) blocks }
+    ensures short { (witness : Bool) (blocks : List Block)
         → AllByRecursion (λ b. length (text_of witness b) ≤ length (block_spelling b) + 36) blocks }
     ensures plain { (blocks : List Block) → made_records_of false blocks ≡ records_of blocks }
 {}

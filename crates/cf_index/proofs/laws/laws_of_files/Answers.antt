@@ -1,4 +1,4 @@
-use Rattle.cf_index.proofs.FileLaws.{taken, refused, apart, one, plain, after_first_record, good_of}
+use Rattle.cf_index.proofs.FileLaws.{taken, refused, apart, one, plain, after_first_record, after_stored_record, good_of}
 use Rattle.cf_index.proofs.laws.laws_of_files.Goals as goal
 
 pub returns-clause-taken : goal.returns-clause-taken
@@ -18,6 +18,9 @@ returns-clause-plain c = plain
 
 pub returns-clause-first : goal.returns-clause-first
 returns-clause-first c = after_first_record
+
+pub returns-clause-behind : goal.returns-clause-behind
+returns-clause-behind c = after_stored_record
 
 pub returns-clause-stored : goal.returns-clause-stored
 returns-clause-stored c = good_of
