@@ -1,7 +1,7 @@
 //! Whether a block's header stands for its transactions.
 ghost use Rattle.std.specs.Prelude.{◌≡◌, map, IfOk};
 ghost use Rattle.std.specs.List.{list_any};
-ghost use Rattle.cf_bytes.specs.declared.memory.Refused.TheVariants.{No};
+ghost use Rattle.cf_block.specs.declared.tx.Block.{Block};
 ghost use Rattle.cf_block.specs.Tx.{tx_spelling};
 ghost use Rattle.cf_block.specs.Commitment.{AreTxids, has_64 as is_64, commit_fault, FindsFault, is_coinbase_tx};
 
@@ -25,14 +25,6 @@ pub enum CommitFault {
     /// A transaction has 64 bytes, so that it can be read as a node of the tree.
     #[error("a transaction has 64 bytes")]
     Tx64 = 7,
-}
-
-impl From<CommitFault> for Refused<CommitFault> {
-    ghost from_gives = { λ fault e. e ≡ No fault };
-
-    fn from(fault: CommitFault) -> Refused<CommitFault> {
-        Refused::No(fault)
-    }
 }
 
 /// The hashes of transactions, in order.
@@ -68,23 +60,23 @@ fn has_64(txs: &[Tx]) -> bool
     false
 }
 
-// The first of the three that a block breaks. The level holds the hashes of its transactions, and is spent.
-#[tactic(auto, unfolding(crate::specs::Commitment::commit_fault))]
-fn first_fault(b: &Block, level: &mut [Hash32]) -> Option<CommitFault>
-    requires { AreTxids level.old b.now.txs }
-    ensures { result ≡ commit_fault b.now }
+/// The first of the three rules that a block breaks whose header has this root: the level holds the hashes of its
+/// transactions, and is spent, and it is said whether one of them has 64 bytes. It takes no memory.
+pub fn fault_by(root: &Hash32, is_long: bool, level: &mut [Hash32]) -> Option<CommitFault>
+    ensures { (b : Block) → b.header.root.0 ≡ root.now.0 → AreTxids level.old b.txs
+        → is_long ≡ list_any is_64 (map tx_spelling b.txs) → result ≡ commit_fault b }
 {
     if level.is_empty() {
         return Some(CommitFault::Root);
     }
-    let tree = tree_over(level);
-    if tree.root != b.header.root {
+    let found = tree_over(level);
+    if found.root != *root {
         return Some(CommitFault::Root);
     }
-    if tree.is_doubled {
+    if found.is_doubled {
         return Some(CommitFault::Mutated);
     }
-    if has_64(b.txs.as_slice()) {
+    if is_long {
         return Some(CommitFault::Tx64);
     }
     None
@@ -101,7 +93,8 @@ pub fn check_commitment_by(
     ensures { FindsFault (commit_fault b.now) result }
 {
     let mut level = Vec::from_slice(alloc, txids)?;
-    match first_fault(b, level.as_mut_slice()) {
+    let is_long = has_64(b.txs.as_slice());
+    match fault_by(&b.header.root, is_long, level.as_mut_slice()) {
         Some(fault) => Err(Refused::No(fault)),
         None => Ok(()),
     }
@@ -113,7 +106,8 @@ pub fn check_commitment(alloc: Global, b: &Block) -> Result<(), Refused<CommitFa
     ensures { FindsFault (commit_fault b.now) result }
 {
     let mut level = hashes(alloc, b.txs.as_slice())?;
-    match first_fault(b, level.as_mut_slice()) {
+    let is_long = has_64(b.txs.as_slice());
+    match fault_by(&b.header.root, is_long, level.as_mut_slice()) {
         Some(fault) => Err(Refused::No(fault)),
         None => Ok(()),
     }

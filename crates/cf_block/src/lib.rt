@@ -18,7 +18,7 @@ mod write;
 
 pub use cf_bytes::Listed;
 pub use commitment::{
-    CommitFault, TxIds, check_commitment, check_commitment_by, is_coinbase, txids,
+    CommitFault, TxIds, check_commitment, check_commitment_by, fault_by, is_coinbase, txids,
 };
 pub use fault::{BlockFault, BlockFaultKind};
 pub use feeding::txid;
@@ -28,7 +28,10 @@ pub use laws::{
     laws_of_blocks, laws_of_genesis, laws_of_headers, laws_of_stored_blocks, laws_of_transactions,
 };
 pub use merkle::{is_mutated, merkle_root};
-pub use parse::{parse_block, parse_tx};
+pub use parse::{
+    MAX_BLOCK, parse_block, parse_tx, place, read_count, read_counted, read_header,
+    read_input_count, read_outpoint, read_u32, read_value, read_version,
+};
 pub use script::Script;
 pub use stored::parse_stored;
 pub use tx::{Block, OutPoint, Tx, TxIn, TxIns, TxOut, TxOuts, Txs};

@@ -6,6 +6,7 @@ use Rattle.std.specs.Cmp.Lexicographic.{slice_cmp}
 use Rattle.std.specs.FinMap as finite
 use Rattle.std.specs.Coded.{Coded, coded_list, coded_ℕ}
 use Rattle.cf_bytes.specs.Outside.{HasRisen}
+use Rattle.cf_bytes.specs.declared.outside.Failed.{Failed}
 use Rattle.cf_bytes.specs.declared.files.FileFail.{FileFail}
 use Rattle.cf_bytes.specs.declared.files.FileFail.TheVariants as fails
 
@@ -60,6 +61,14 @@ SameElsewhere name before after = ⊥
 abbrev pub Reads : Type 0 → Type 1
 Reads F = F → List ℕ → ℕ → Result (Vec ℕ Global) FileFail → F → Type 0
 
+-- the same of an opening
+abbrev pub Opens : Type 0 → Type 1
+Opens F = F → List ℕ → ℕ → Result (Unit {0}) FileFail → F → Type 0
+
+-- the same of a read of some bytes of the file that was opened last, of the room that is given
+abbrev pub Parts : Type 0 → Type 1
+Parts F = F → ℕ → Result ℕ Failed → F → Type 0
+
 -- the same of a write, of a name and its bytes
 abbrev pub Writes : Type 0 → Type 1
 Writes F = F → List ℕ → List ℕ → Result (Unit {0}) FileFail → F → Type 0
@@ -82,3 +91,17 @@ AreRead {F} reads (name ∷ names) before after =
 abbrev pub IsAtMostWritten : {F : Type 0} → Writes F → Option (List ℕ) → F → F → Type 0
 IsAtMostWritten writes None before after = after ≡ before
 IsAtMostWritten writes (Some name) before after = (after ≡ before) ⊎ IsWritten writes name before after
+
+-- what opening a file of at most so many bytes answers, by what stands under the name, and the bytes of it that are left then
+abbrev pub OpenOf : Option (List ℕ) → ℕ → Option (List ℕ) → Result (Unit {0}) FileFail → Type 0
+OpenOf (Some bytes) most left (Ok u) = (left ≡ Some bytes) × (length bytes ≤ most)
+OpenOf (Some bytes) most left (Err fails.TooBig) = most < length bytes
+OpenOf None most left (Ok u) = ⊥
+OpenOf None most left (Err fails.TooBig) = ⊥
+OpenOf held most left (Err fails.Failed) = Unit {0}
+OpenOf held most left (Err fails.NoMemory) = Unit {0}
+
+-- an opening of files that are told or not
+abbrev pub OpenIn : Option Named → List ℕ → ℕ → Option (List ℕ) → Result (Unit {0}) FileFail → Type 0
+OpenIn (Some m) name most left r = OpenOf (finite.get m name) most left r
+OpenIn None name most left r = Unit {0}

@@ -1,10 +1,13 @@
 //! Files by their names, as a trait.
-ghost use Rattle.std.specs.Prelude.{◌≡◌, ℕ, List, Option, Result, Vec, Err, OnOk, IsErrOf};
+ghost use Rattle.std.specs.Prelude.{◌≡◌, ℕ, ◌≤◌, ◌<◌, List, [], Option, Result, Vec, Err, length, take, drop, IfOk, IfSome, OnOk, OnErr, IsErrOf};
 ghost use Rattle.std.specs.Global.{Global};
 ghost use Rattle.cf_bytes.specs.declared.files.FileFail.{FileFail};
 ghost use Rattle.cf_bytes.specs.declared.files.FileFail.TheVariants.{NoMemory as OutOfMemory};
-ghost use Rattle.cf_bytes.specs.Files.{Named, ReadIn, Counts, SameElsewhere, with_file};
+ghost use Rattle.cf_bytes.specs.declared.outside.Failed.{Failed as Fault};
+ghost use Rattle.cf_bytes.specs.Outside.{HasRisen, with_front};
+ghost use Rattle.cf_bytes.specs.Files.{Named, ReadIn, OpenIn, Counts, SameElsewhere, with_file};
 
+use crate::outside::Failed;
 use std::alloc::{AllocError, AllocFailed, Global};
 use thiserror::Error;
 
@@ -42,11 +45,17 @@ impl From<AllocError> for FileFail {
 pub trait Files {
     /// What stands under each name, where it is told.
     ghost files: { Self → Option Named };
+    /// The bytes left of the file that was opened last, where they are told.
+    ghost opened: { Self → Option (List ℕ) };
     /// How often it has failed. The count stands still at the greatest u64.
     ghost faults: { Self → ℕ };
     /// What one call of `read` answers, of a name and the most bytes that are asked for, and what it leaves,
     /// where more of that is known than the other clauses say.
     ghost reads: { Self → List ℕ → ℕ → Result (Vec ℕ Global) FileFail → Self → Type 0 };
+    /// The same of one call of `open`.
+    ghost opens: { Self → List ℕ → ℕ → Result (Unit {0}) FileFail → Self → Type 0 };
+    /// The same of one call of `part`, of the room that is given.
+    ghost parts: { Self → ℕ → Result ℕ Fault → Self → Type 0 };
     /// The same of one call of `write`, of a name and its bytes.
     ghost writes: { Self → List ℕ → List ℕ → Result (Unit {0}) FileFail → Self → Type 0 };
 
@@ -55,8 +64,30 @@ pub trait Files {
     fn read(&mut self, alloc: Global, name: &str, most: usize) -> Result<Vec<u8>, FileFail>
         ensures answer { ReadIn (files self.old) name.now most result }
         ensures same { files self.new ≡ files self.old }
+        ensures stays { opened self.new ≡ opened self.old }
         ensures count { Counts result (faults self.old) (faults self.new) }
         ensures exact { reads self.old name.now most result self.new };
+
+    /// Opens a file of at most `most` bytes, whose bytes `part` gives from then on: `TooBig` exactly where it has more,
+    /// and `Failed` where there is none.
+    fn open(&mut self, name: &str, most: usize) -> Result<(), FileFail>
+        ensures answer { OpenIn (files self.old) name.now most (opened self.new) result }
+        ensures same { files self.new ≡ files self.old }
+        ensures count { Counts result (faults self.old) (faults self.new) }
+        ensures exact { opens self.old name.now most result self.new };
+
+    /// Reads some of the bytes that are left of the file opened last into the front of `into`, and answers how many: 0,
+    /// where there is room, at their end alone. It takes no memory.
+    fn part(&mut self, into: &mut [u8]) -> Result<usize, Failed>
+        ensures some { IfOk result (λ n. n ≤ length into.new) }
+        ensures rest { IfOk result (λ n. drop n into.new ≡ drop n into.old) }
+        ensures ok { IfOk result (λ n. opened self.old ≡ with_front (take n into.new) (opened self.new)) }
+        ensures end { IfOk result (λ n. 0 < length into.old → n ≡ 0 → IfSome (opened self.old) (λ bytes. bytes ≡ [])) }
+        ensures err { OnErr result (opened self.new ≡ opened self.old) }
+        ensures same { files self.new ≡ files self.old }
+        ensures kept { OnOk result (faults self.new ≡ faults self.old) }
+        ensures cause { OnErr result (HasRisen (faults self.old) (faults self.new)) }
+        ensures exact { parts self.old (length into.old) result self.new };
 
     /// Sets the bytes of a name, and of no other. After `Failed` any bytes may stand under it, and
     /// where no memory is found nothing has changed. It doesn't answer `TooBig`.
@@ -65,6 +96,7 @@ pub trait Files {
         ensures failed { IsErrOf result FileFail.Failed → SameElsewhere name.now (files self.old) (files self.new) }
         ensures memory { IsErrOf result FileFail.NoMemory → files self.new ≡ files self.old }
         ensures fits { result ≡ Err FileFail.TooBig → ⊥ }
+        ensures stays { opened self.new ≡ opened self.old }
         ensures count { Counts result (faults self.old) (faults self.new) }
         ensures exact { writes self.old name.now bytes.now result self.new };
 }

@@ -12,8 +12,10 @@ use std::{fs, io};
 
 /// The files of the system that the process runs on. A name is a path.
 #[derive(Drop)]
-pub struct StdFiles<R> {
+pub struct StdFiles<R: HostFiles> {
     rt: R,
+    // The file that was opened last.
+    opened: Option<R::File>,
     faults: u64,
     reason: Option<io::Error>,
     ghost told: { IsSome reason ↔ (0 < faults) },
@@ -26,6 +28,7 @@ impl<R: HostFiles> StdFiles<R> {
     {
         StdFiles {
             rt,
+            opened: None,
             faults: 0,
             reason: None,
         }
@@ -108,14 +111,59 @@ fn read_file<R: HostFiles>(
     Err(Unread::TooBig)
 }
 
+// A file, and how many bytes the system says that it has.
+fn open_file<R: HostFiles>(rt: &R, name: &str) -> Result<(R::File, u64), io::Error> {
+    let file = fs::open(rt, name)?;
+    let size = file.metadata()?.len();
+    Ok((file, size))
+}
+
 impl<R: HostFiles> Files for StdFiles<R> {
     ghost files = { λ _. None };
+
+    ghost opened = { λ _. None };
 
     ghost faults = { λ f. f.faults };
 
     ghost reads = { λ _ _ _ _ _. Unit {0} };
 
+    ghost opens = { λ _ _ _ _ _. Unit {0} };
+
+    ghost parts = { λ _ _ _ _. Unit {0} };
+
     ghost writes = { λ _ _ _ _ _. Unit {0} };
+
+    fn open(&mut self, name: &str, most: usize) -> Result<(), FileFail> {
+        let (file, size) = match open_file(&self.rt, name) {
+            Ok(x) => x,
+            Err(reason) => return Err(self.failed(reason)),
+        };
+        if size > most as u64 {
+            return Err(FileFail::TooBig);
+        }
+        self.opened = Some(file);
+        Ok(())
+    }
+
+    // Gives nothing where no file was opened. The bytes go by a buffer, since a reader of the system may leave anything behind those that it gives.
+    fn part(&mut self, into: &mut [u8]) -> Result<usize, Failed> {
+        let mut buffer = [0u8; 65_536];
+        let most = into.len().min(buffer.len());
+        let Some(file) = &mut self.opened else {
+            return Ok(0);
+        };
+        match file.read(&mut buffer[..most]) {
+            Ok(n) => {
+                into[..n].copy_from_slice(&buffer[..n]);
+                Ok(n)
+            }
+            Err(reason) => {
+                self.faults = self.faults.saturating_add(1);
+                self.reason = Some(reason);
+                Err(Failed)
+            }
+        }
+    }
 
     fn read(&mut self, alloc: Global, name: &str, most: usize) -> Result<Vec<u8>, FileFail> {
         match read_file(&self.rt, alloc, name, most) {

@@ -1,12 +1,13 @@
 //! Chains as they are served: what the serving machine of a chain answers.
 #![tactic(auto)]
 
-ghost use Rattle.std.specs.Prelude.{◌≡◌, ◌≢◌, ℕ, ℤ, suc, ◌+◌, ◌-◌, ◌<◌, ◌≤◌, List, [], ◌∷◌, length, slice_get, option_map, Some, None, false, true};
+ghost use Rattle.std.specs.Prelude.{◌≡◌, ◌≢◌, Bool, ℕ, ℤ, suc, ◌+◌, ◌-◌, ◌<◌, ◌≤◌, List, [], ◌∷◌, length, slice_get, option_map, Some, None, false, true};
 ghost use Rattle.cf_bytes.specs.declared.hash.Hash32.{Hash32};
 ghost use Rattle.cf_block.specs.declared.tx.Block.{Block};
 ghost use Rattle.cf_msg.specs.declared.msg.Msg.{Msg};
 ghost use Rattle.cf_msg.specs.declared.msg.Msg.TheVariants.{GetHeaders, Headers, GetCfilters, GetCfheaders, GetCfcheckpt};
 ghost use Rattle.cf_chain.specs.Filters.{filter_at};
+ghost use Rattle.cf_chain.specs.Grow.{Asking, IsAnsweredAlone, IsToldFirst, NotMet, Told, answered, grow_answer, mark_at};
 ghost use Rattle.cf_chain.specs.Heights.{block_height};
 ghost use Rattle.cf_chain.specs.Serve.{reply_to, replies_to, is_version, cfilter_of};
 
@@ -25,4 +26,16 @@ pub fn laws_of_replies()
     ensures long_headers { (blocks : List Block) (start last : ℕ) (stop : Hash32) → block_height stop blocks ≡ Some last → start + 2000 ≤ last → reply_to blocks (GetCfheaders 0 start stop) ≡ [] }
     ensures each { (blocks : List Block) (start last height : ℕ) (stop : Hash32) → block_height stop blocks ≡ Some last → start ≤ height → height ≤ last → last < start + 1000 → slice_get (reply_to blocks (GetCfilters 0 start stop)) (height - start) ≡ option_map cfilter_of (filter_at blocks height) }
     ensures no_more { (blocks : List Block) (start last : ℕ) (stop : Hash32) → block_height stop blocks ≡ Some last → start ≤ last → last < start + 1000 → length (reply_to blocks (GetCfilters 0 start stop)) ≡ suc last - start }
+{}
+
+/// A chain that grows, and many askers: each is answered as if it were alone and found the chain as it stood with each of its messages, whatever
+/// the others ask. Nothing is answered before a version. A tip that the asker wasn't told of is told first; at the mark the answer is the chain's own.
+pub fn laws_of_growing()
+    ensures alone { (now : ℤ) (nonce : ℕ) (fits : List Block → Block → Bool) (blocks : List Block) (asked : List Asking) (c : ℕ)
+        → IsAnsweredAlone now nonce fits blocks asked c }
+    ensures before { (now : ℤ) (nonce : ℕ) (blocks : List Block) (m : Msg) → is_version m ≡ false → (grow_answer now nonce blocks NotMet m).replies ≡ [] }
+    ensures at_mark { (now : ℤ) (nonce : ℕ) (blocks : List Block) (m : Msg)
+        → (grow_answer now nonce blocks (mark_at blocks) m).replies ≡ answered now nonce blocks true m }
+    ensures told { (now : ℤ) (nonce height : ℕ) (hash : List ℕ) (blocks : List Block) (m : Msg) → height < length blocks
+        → IsToldFirst now nonce blocks (grow_answer now nonce blocks (Told height hash) m) m }
 {}

@@ -3,12 +3,16 @@
 
 mod duplex;
 mod in_memory;
+mod opened;
 mod reading;
 mod sending;
 mod source;
+mod window;
 
 pub use duplex::Duplex;
 pub use in_memory::{MemoryConn, MemoryEnd, SliceSource};
+pub use opened::Opened;
 pub use reading::{ReadFail, read_all};
 pub use sending::send_all;
 pub use source::Source;
+pub use window::Window;

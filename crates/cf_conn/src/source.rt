@@ -13,6 +13,8 @@ pub trait Source {
     ghost ended: { Self → Bool };
     /// How often it has failed. The count stands still at the greatest u64.
     ghost faults: { Self → ℕ };
+    /// What one call of `read` leaves, where more of that is known than the other clauses say.
+    ghost reads: { Self → Self → Type 0 } = { λ _ _. Unit {0} };
 
     /// Reads some of the bytes that are left into the front of `into`, and answers how many: 0, where
     /// there is room, at their end alone.
@@ -24,5 +26,6 @@ pub trait Source {
         ensures ended { ended self.new ≡ (ended self.old || is_end (length into.old) result) }
         ensures err { OnErr result (left self.new ≡ left self.old) }
         ensures kept { OnOk result (faults self.new ≡ faults self.old) }
-        ensures cause { OnErr result (HasRisen (faults self.old) (faults self.new)) };
+        ensures cause { OnErr result (HasRisen (faults self.old) (faults self.new)) }
+        ensures exact { reads self.old self.new };
 }

@@ -63,10 +63,3 @@ Gives (Ok (Some f)) old new = front_of old ≡ Ok (Some (f, new))
 Gives (Ok None) old new = (front_of old ≡ Ok None) × (new ≡ old)
 Gives (Err (No fault)) old new = (front_of old ≡ Err fault) × (new ≡ old)
 Gives (Err NoMemory) old new = new ≡ old
-
--- the same of a reader, which stands anywhere where it took no frame
-abbrev pub Takes : Result (Option Frame) (Refused FrameFault) → List ℕ → List ℕ → Type 0
-Takes (Ok (Some f)) old new = front_of old ≡ Ok (Some (f, new))
-Takes (Ok None) old new = front_of old ≡ Ok None
-Takes (Err (No fault)) old new = front_of old ≡ Err fault
-Takes (Err NoMemory) old new = Unit {0}

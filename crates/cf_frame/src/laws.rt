@@ -1,10 +1,12 @@
 //! What holds of frames and of streams, whoever reads them.
-ghost use Rattle.std.specs.Prelude.{◌≡◌, ◌↔◌, ◌++◌, ◌<◌, [], ℕ, List, length, Ok, Err, Some, None};
+ghost use Rattle.std.specs.Prelude.{◌≡◌, ◌↔◌, ◌⊎◌, ◌++◌, ◌<◌, ◌≤◌, [], ℕ, List, length, take, Ok, Err, Some, None};
+ghost use Rattle.cf_frame.specs.Lending.{IsFilled};
 ghost use Rattle.cf_frame.specs.declared.frame.Frame.{Frame};
 ghost use Rattle.cf_frame.specs.declared.frame.FrameFault.{FrameFault};
 ghost use Rattle.cf_frame.specs.Frame.{IsFrame, spelling};
 ghost use Rattle.cf_frame.specs.Reading.{Begins, front_of};
-ghost use Rattle.cf_frame.specs.Stream.{IsBytes, IsBad, IsStreamOf, from_front, read_on, read_stream, with_frame};
+ghost use Rattle.cf_frame.specs.Stream.{IsBytes, IsBad, IsStreamOf, from_front, no_frames, read_on, read_stream};
+ghost use Rattle.cf_frame.specs.Stream.{with_frame};
 
 /// One frame. What is spelled is read, whatever follows, and nothing else is: no spelling begins another.
 /// A fault is told exactly where the bytes are bad, and stays. Bytes in which no frame is whole are few.
@@ -26,4 +28,22 @@ pub fn laws_of_streams()
     ensures whole { (bytes : List ℕ) → IsBytes bytes → IsStreamOf bytes (read_stream bytes).frames (read_stream bytes).rest }
     ensures only { (bytes : List ℕ) (frames : List Frame) (rest : List ℕ) → IsBytes bytes → IsStreamOf bytes frames rest → ((read_stream bytes).frames ≡ frames) × ((read_stream bytes).rest ≡ rest) }
     ensures bad { (bytes : List ℕ) (fault : FrameFault) → IsBytes bytes → ((read_stream bytes).fault ≡ Some fault) ↔ IsBad (read_stream bytes).rest fault }
+{}
+
+/// A piece of which bytes are taken up to the end of the frame that is being read. How many are taken is told. None are
+/// exactly where the piece is empty or what waits is a whole frame or at fault, and what waits then is never more than
+/// one frame. With no frame at the front the whole piece was taken. What is read of a frame at the front, or of a
+/// fault, is so whatever follows.
+pub fn laws_of_filling()
+    ensures one { (bytes piece : List ℕ) (n m : ℕ) → IsFilled bytes piece n → IsFilled bytes piece m → n ≡ m }
+    ensures none { (bytes piece : List ℕ) (n : ℕ) → IsFilled bytes piece n
+        → (n ≡ 0) ↔ ((piece ≡ []) ⊎ (front_of bytes ≡ Ok None → ⊥)) }
+    ensures few { (bytes piece : List ℕ) (n : ℕ) → IsFilled bytes piece n → 0 < n
+        → length (bytes ++ take n piece) ≤ 4000024 }
+    ensures all { (bytes piece : List ℕ) (n : ℕ) → IsFilled bytes piece n → front_of (bytes ++ take n piece) ≡ Ok None
+        → take n piece ≡ piece }
+    ensures leads { (bytes new more : List ℕ) (f : Frame) → front_of bytes ≡ Ok (Some (f, new))
+        → read_stream (bytes ++ more) ≡ with_frame f (read_stream (new ++ more)) }
+    ensures stops { (bytes more : List ℕ) (fault : FrameFault) → front_of bytes ≡ Err fault
+        → read_stream (bytes ++ more) ≡ no_frames (bytes ++ more) (Some fault) }
 {}

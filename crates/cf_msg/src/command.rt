@@ -34,7 +34,7 @@ pub(crate) const CFCHECKPT: [u8; 12] = *b"cfcheckpt\0\0\0";
 
 /// What a command announces.
 #[derive(Clone, Copy, Debug, PartialEq, Eq)]
-pub(crate) enum Kind {
+pub enum Kind {
     Version,
     Verack,
     Ping,
@@ -55,7 +55,7 @@ pub(crate) enum Kind {
 
 /// What this command announces.
 #[tactic(auto, unfolding(crate::specs::Command::kind_of))]
-pub(crate) fn kind_of(command: &[u8; 12]) -> Kind
+pub fn kind_of(command: &[u8; 12]) -> Kind
     ensures { result ≡ kind_of_command command.now }
 {
     if *command == VERSION {

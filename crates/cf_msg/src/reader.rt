@@ -13,16 +13,16 @@ use cf_frame::Frame;
 use std::alloc::Global;
 
 /// The most hashes of a locator.
-const MAX_LOCATOR: u64 = 101;
+pub const MAX_LOCATOR: u64 = 101;
 
 /// The most headers of one message.
-const MAX_HEADERS: u64 = 2000;
+pub const MAX_HEADERS: u64 = 2000;
 
 /// The most entries of an inventory.
-const MAX_ENTRIES: u64 = 50_000;
+pub const MAX_ENTRIES: u64 = 50_000;
 
 /// The most hashes or headers of filters in one message.
-const MAX_FILTER_HASHES: u64 = 2000;
+pub const MAX_FILTER_HASHES: u64 = 2000;
 
 /// The message that a frame carries. It is refused at the first field that can't be read: with the number of
 /// payload bytes before that field.
@@ -105,8 +105,9 @@ fn port_of(cut: &mut Cut) -> Result<u16, CutFault>
     Ok(u16::from_be_bytes(bytes))
 }
 
+/// A peer's address in a `version` message: its services, its address and its port.
 #[tactic(auto, unfolding(crate::specs::Reading::address_at))]
-fn address_of(cut: &mut Cut) -> Result<NetAddress, CutFault>
+pub fn address_of(cut: &mut Cut) -> Result<NetAddress, CutFault>
     ensures { Reads (λ a. a) (address_at cut.old) result cut.new }
 {
     let services = cut.u64()?;
@@ -124,7 +125,8 @@ fn counted_of(alloc: Global, cut: &mut Cut) -> Result<Bytes, Refused<Cause>>
     Ok(Bytes::from_vec(Vec::from_slice(alloc, bytes)?))
 }
 
-fn byte_or_none(cut: &mut Cut) -> Option<u8>
+/// The next byte, if one is left.
+pub fn byte_or_none(cut: &mut Cut) -> Option<u8>
     ensures { byte_or_none_at cut.old ≡ Ok (result, cut.new) }
 {
     cut.u8().ok()
@@ -172,8 +174,8 @@ fn pong_of(cut: &mut Cut) -> Result<Msg, Refused<Cause>>
     Ok(Msg::Pong(nonce))
 }
 
-// A count, which is refused where it begins.
-fn count_of(limit: u64, cut: &mut Cut) -> Result<u64, Cause>
+/// How many items follow: a count of at most this many. It is refused where it begins.
+pub fn count_of(limit: u64, cut: &mut Cut) -> Result<u64, Cause>
     ensures { Reads (λ n. n) (count_at limit cut.old) result cut.new }
 {
     let start = cut.rest();
@@ -185,7 +187,8 @@ fn count_of(limit: u64, cut: &mut Cut) -> Result<u64, Cause>
     Ok(count)
 }
 
-fn hash_of(cut: &mut Cut) -> Result<Hash32, Cause>
+/// A hash.
+pub fn hash_of(cut: &mut Cut) -> Result<Hash32, Cause>
     ensures { Reads (λ h. h) (hash_item_at cut.old) result cut.new }
 {
     Ok(cut.hash()?)
@@ -217,9 +220,9 @@ fn getheaders_of(alloc: Global, cut: &mut Cut) -> Result<Msg, Refused<Cause>>
     })
 }
 
-// A header and the zero after it.
+/// A header, and the zero after it that stands for the count of its transactions.
 #[tactic(auto, unfolding(crate::specs::Reading::header_item_at))]
-fn header_of(cut: &mut Cut) -> Result<Header, Cause>
+pub fn header_of(cut: &mut Cut) -> Result<Header, Cause>
     ensures { Reads (λ h. h) (header_item_at cut.old) result cut.new }
 {
     let Ok(header) = parse_header(cut) else {
@@ -253,8 +256,9 @@ fn headers_of(alloc: Global, cut: &mut Cut) -> Result<Msg, Refused<Cause>>
     Ok(Msg::Headers(headers))
 }
 
+/// An entry of an inventory: its kind and its hash.
 #[tactic(auto, unfolding(crate::specs::Reading::entry_at))]
-fn entry_of(cut: &mut Cut) -> Result<Entry, Cause>
+pub fn entry_of(cut: &mut Cut) -> Result<Entry, Cause>
     ensures { Reads (λ e. e) (entry_at cut.old) result cut.new }
 {
     let kind = cut.u32()?;

@@ -1,4 +1,4 @@
-use Rattle.std.proofs.Common.{◌≡◌, Ok, arith, sym, ap, ◌∙◌}
+use Rattle.std.proofs.Common.{arith, sym, ap, ◌∙◌}
 use Rattle.cf_block.specs.Stored.{stored_fields_at}
 use Rattle.cf_block.proofs.StoredLaws.{fields_stored}
 use Rattle.cf_block.proofs.stored.parse_stored.Goals as goal

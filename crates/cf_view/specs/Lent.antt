@@ -1,0 +1,41 @@
+-- What is read from lent bytes, item after item.
+use Rattle.std.specs.Prelude.{◌≡◌, ℕ, ◌-◌, List, [], ◌∷◌, ◌++◌, length, Bool, true, false, Option, Some, None, Result, Ok, Err}
+use Rattle.std.specs.List.{flat_map, AllByRecursion}
+use Rattle.cf_bytes.specs.Cut.{Read}
+use Rattle.cf_bytes.specs.Lists.{list_at, with_front}
+use Rattle.cf_block.specs.declared.fault.BlockFault.{BlockFault}
+
+-- the items that were read, where none was refused
+abbrev pub items_of : {X E : Type 0} → Read (List X) E → List X
+items_of (Ok x) = x.0
+items_of (Err e) = []
+
+abbrev pub is_read : {X E : Type 0} → Read X E → Bool
+is_read (Ok x) = true
+is_read (Err e) = false
+
+abbrev pub items_in : {X E : Type 0} → (List ℕ → Read X E) → ℕ → List ℕ → List X
+items_in item count bytes = items_of (list_at item count bytes)
+
+-- so many items stand there
+abbrev pub AreThere : {X E : Type 0} → (List ℕ → Read X E) → ℕ → List ℕ → Type 0
+AreThere item count bytes = is_read (list_at item count bytes) ≡ true
+
+-- Some of the items were read, and the others are to be read from here: what is kept while they are read over.
+pub record IsReading {X E : Type 0} (item : List ℕ → Read X E) (spell : X → List ℕ) (Fits : X → Type 0) (count i : ℕ)
+    (bytes rest : List ℕ) : Type 0 where
+  pub front : List X
+  pub exact : with_front front (list_at item (count - i) rest) ≡ list_at item count bytes
+  pub found : bytes ≡ flat_map spell front ++ rest
+  pub each : AllByRecursion Fits front
+  pub len : length front ≡ i
+
+-- what a call answered that reads all the bytes and lends them
+abbrev pub Lends : {X Y : Type 0} → (X → Y) → List ℕ → Read Y BlockFault → Result X BlockFault → Type 0
+Lends view bytes read (Ok x) = read ≡ Ok (view x, [])
+Lends view bytes read (Err e) = read ≡ Err (e, bytes)
+
+-- the first of those that are left is taken, where there is one
+abbrev pub GivesFirst : {X : Type 0} → List X → Option X → List X → Type 0
+GivesFirst old (Some x) new = old ≡ x ∷ new
+GivesFirst old None new = (old ≡ []) × (new ≡ [])
