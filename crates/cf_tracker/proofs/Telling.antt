@@ -20,7 +20,7 @@ use Rattle.cf_scan.specs.Scan.{Scanned, unscanned}
 use Rattle.cf_tracker.specs.declared.account.Account.{Account}
 use Rattle.cf_tracker.specs.declared.account.Written.{Written}
 use Rattle.cf_tracker.specs.Account.{IsTold, IsToldBy}
-use Rattle.cf_tracker.specs.Extracts.{put_extract, with_extract}
+use Rattle.cf_tracker.specs.Extracts.{with_extract}
 use Rattle.cf_tracker.specs.Tables.{IsSameTable, Table, placed_by, placed_one}
 use Rattle.cf_tracker.specs.Written.{IsWrittenAs, KeepsExtracts, extract_told, placed_written, written_as, written_at}
 use Rattle.cf_tracker.proofs.SoughtStays.{same_true}
@@ -41,29 +41,6 @@ pub keeps_put : (extracts more : Table) (at : Hash) (x : List TxExtract) (result
     → KeepsExtracts extracts more
 keeps_put extracts more at x (Ok u) ok err hash e is = ok hash ∙ kept_if (same at hash) (extracts hash) x e is
 keeps_put extracts more at x (Err n) ok err hash e is = err hash ∙ is
-
-none_or : (o : Option (List TxExtract)) (x : List TxExtract) → is_some o ≡ false → unwrap_or o x ≡ x
-none_or None x none = refl
-none_or (Some y) x none = cc none
-
-some_or : (o : Option (List TxExtract)) (x : List TxExtract) → is_some o ≡ true → o ≡ Some (unwrap_or o x)
-some_or None x some = cc some
-some_or (Some y) x some = refl
-
--- where none stands there it is put in; where one stands nothing changes
-pub put_fresh : (table : Table) (at : Hash) (x : List TxExtract) → is_some (table at) ≡ false → (hash : Hash)
-    → put_extract at x table hash ≡ with_extract at x table hash
-put_fresh table at x none hash = by (same at hash) refl where
-  by : (b : Bool) → same at hash ≡ b → (if b then Some x else table hash) ≡ (if b then Some (unwrap_or (table hash) x) else table hash)
-  by true e = ap (λ (y : List TxExtract). Some y) (sym (none_or (table hash) x (ap (λ (h : Hash). is_some (table h)) (sym (same_true at hash e)) ∙ none)))
-  by false e = refl
-
-pub kept_there : (table : Table) (at : Hash) (x : List TxExtract) → is_some (table at) ≡ true → (hash : Hash)
-    → table hash ≡ with_extract at x table hash
-kept_there table at x some hash = by (same at hash) refl where
-  by : (b : Bool) → same at hash ≡ b → table hash ≡ (if b then Some (unwrap_or (table hash) x) else table hash)
-  by true e = some_or (table hash) x (ap (λ (h : Hash). is_some (table h)) (sym (same_true at hash e)) ∙ some)
-  by false e = refl
 
 -- what is told stays told
 pub told_later : (before after : Table) (a : Account) → KeepsExtracts before after → ∥ IsTold before a ∥₁
