@@ -26,13 +26,13 @@ use Rattle.cf_peer.proofs.Peers.{idle_request, asked_claims_holds, asked_filters
 use Rattle.cf_sync.specs.Fetching.{MaySend, IsNeeded, blocks_open, filters_open}
 use Rattle.cf_sync.specs.Kept.{OpensAt}
 use Rattle.cf_sync.proofs.KeptOpens.{opens_block, opens_filters}
-use Rattle.cf_tracker.specs.declared.spans.Span.{Span}
-use Rattle.cf_tracker.specs.declared.spans.Wish.TheVariants.{Claims, Filters, Block}
-use Rattle.cf_tracker.specs.Opens.{IsSameElse, IsSameOpens, Opens, OpensBlock, OpensFilters}
-use Rattle.cf_tracker.specs.Seeking.{MoreOpens}
-use Rattle.cf_tracker.specs.Spans.{IsWish}
-use Rattle.cf_tracker.specs.Tables.{Table, IsSameTable}
-use Rattle.cf_tracker.specs.Wanting.{IsSameTables}
+use Rattle.cf_seek.specs.declared.spans.Span.{Span}
+use Rattle.cf_seek.specs.declared.spans.Wish.TheVariants.{Claims, Filters, Block}
+use Rattle.cf_seek.specs.Opens.{IsSameElse, IsSameOpens, Opens, OpensBlock, OpensFilters}
+use Rattle.cf_seek.specs.Seeking.{MoreOpens}
+use Rattle.cf_seek.specs.Spans.{IsWish}
+use Rattle.cf_seek.specs.Tables.{Table, IsSameTable}
+use Rattle.cf_seek.specs.Wanting.{IsSameTables}
 use Rattle.cf_hear.specs.Seen.{Seen, IsSameSeen}
 use Rattle.cf_hear.specs.Tracks.{HasOpened, Tracks, IsPut}
 use Rattle.cf_hear.proofs.Opening.{else_of, opens_asked, opens_on}

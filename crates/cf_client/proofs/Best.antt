@@ -17,9 +17,9 @@ use Rattle.cf_sync.specs.Due.{IsInTurn, Puts}
 use Rattle.cf_sync.proofs.Counted.{same_use}
 use Rattle.cf_hear.specs.Seen.{Seen}
 use Rattle.cf_hear.specs.Tracks.{Tracks, chain_kept}
-use Rattle.cf_tracker.specs.declared.spans.Wish.{Wish}
-use Rattle.cf_tracker.specs.Spans.{IsWish, GoesFar}
-use Rattle.cf_tracker.specs.Tracking.{IsBestChain}
+use Rattle.cf_seek.specs.declared.spans.Wish.{Wish}
+use Rattle.cf_seek.specs.Spans.{IsWish, GoesFar}
+use Rattle.cf_seek.specs.Tracking.{IsBestChain}
 use Rattle.cf_place.specs.declared.place.Place.{Place}
 use Rattle.cf_place.specs.declared.place.Place.TheVariants.{Here, Lost}
 use Rattle.cf_place.specs.Places.{Keeps, Fits, nobody, PlacesStand}

@@ -33,7 +33,7 @@ use Rattle.cf_sync.proofs.Planning.{planned_part}
 use Rattle.cf_hear.specs.Tracks.{chain_kept}
 use Rattle.cf_hear.proofs.Opening.{closes_off}
 use Rattle.cf_sync.proofs.KeptOpens.{opens_closed}
-use Rattle.cf_tracker.specs.Opens.{Opens}
+use Rattle.cf_seek.specs.Opens.{Opens}
 use Rattle.cf_tracker.specs.Tracker.{opens_of}
 use Rattle.cf_client.specs.declared.client.Client.{Client}
 use Rattle.cf_place.specs.declared.place.Place.{Place}

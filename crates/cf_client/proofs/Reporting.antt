@@ -26,10 +26,10 @@ use Rattle.cf_sync.specs.Fetching.{IsBlockOpen, IsConnected, IsAskedOut, IsFilte
 use Rattle.cf_sync.proofs.Counted.{same_use}
 use Rattle.cf_sync.proofs.KeptOpens.{settled_else}
 use Rattle.cf_sync.proofs.Tables.{history_over}
-use Rattle.cf_tracker.specs.Wanting.{IsAbove}
+use Rattle.cf_seek.specs.Wanting.{IsAbove}
 use Rattle.cf_hear.specs.Seen.{Seen}
 use Rattle.cf_hear.specs.Tracks.{Tracks}
-use Rattle.cf_tracker.specs.Tracking.{IsBestChain, IsReport}
+use Rattle.cf_seek.specs.Tracking.{IsBestChain, IsReport}
 use Rattle.cf_place.specs.declared.place.Loss.{Loss}
 use Rattle.cf_place.specs.declared.place.Loss.TheVariants.{NotDialled, Gone, Closed as ClosedFor}
 use Rattle.cf_place.specs.declared.place.PeerEnd.{PeerEnd}

@@ -20,12 +20,12 @@ use Rattle.cf_wires.specs.declared.event.Event.TheVariants.{Took}
 use Rattle.cf_peer.specs.Acts.{IsDoable}
 use Rattle.cf_wires.specs.Log.{Log}
 use Rattle.cf_peer.specs.Peer.{IsRight, calm, wants, is_idle_peer, asked_for_headers, asked_for_claims, asked_for_filters, asked_for_block}
-use Rattle.cf_tracker.specs.declared.spans.Span.{Span}
-use Rattle.cf_tracker.specs.declared.spans.Wish.{Wish}
-use Rattle.cf_tracker.specs.declared.spans.Wish.TheVariants.{Claims, Filters, Block}
+use Rattle.cf_seek.specs.declared.spans.Span.{Span}
+use Rattle.cf_seek.specs.declared.spans.Wish.{Wish}
+use Rattle.cf_seek.specs.declared.spans.Wish.TheVariants.{Claims, Filters, Block}
 use Rattle.cf_dispute.specs.Tables.{blocks_of}
-use Rattle.cf_tracker.specs.Opens.{IsSameOpens, OpensBlock, OpensFilters}
-use Rattle.cf_tracker.specs.Spans.{IsWish}
+use Rattle.cf_seek.specs.Opens.{IsSameOpens, OpensBlock, OpensFilters}
+use Rattle.cf_seek.specs.Spans.{IsWish}
 use Rattle.cf_hear.specs.Seen.{Seen, IsSameSeen}
 use Rattle.cf_hear.specs.Tracks.{HasOpened, Tracks, IsPut}
 use Rattle.cf_hear.proofs.Hearing.{right_same}

@@ -20,7 +20,8 @@ use cf_headers::HeaderStore;
 use cf_msg::{Entries, Entry, Hashes, Msg};
 use cf_peer::{Act, Cause, Range};
 use cf_place::{Loss, Place};
-use cf_tracker::{Span, Tracker, Wish};
+use cf_seek::{Span, Wish};
+use cf_tracker::Tracker;
 use std::alloc::Global;
 
 // Adds to the age of what is open to the peer at a place.

@@ -28,15 +28,15 @@ use Rattle.cf_peer.specs.Peer.{Hears, Holds, IsRight, TakesClaims, awaits, cause
 use Rattle.cf_peer.proofs.Peers.{early_headers, early_own, other_block, plain_said, reply_is, same_holds}
 use Rattle.cf_peer.proofs.Stream.{faulty_said, said_met}
 use Rattle.cf_scan.specs.declared.extracts.TxExtract.{TxExtract}
-use Rattle.cf_tracker.specs.Tables.{Table, IsSameTable, with_block, with_blocks}
+use Rattle.cf_seek.specs.Tables.{Table, IsSameTable, with_block, with_blocks}
 use Rattle.cf_sync.proofs.Counted.{same_use}
 use Rattle.cf_sync.proofs.Grows.{said_brings}
 use Rattle.cf_sync.proofs.Listed.{in_left, in_right, in_either}
 use Rattle.cf_sync.proofs.VerdictsGrow.{said_gives}
-use Rattle.cf_tracker.specs.Wanting.{IsSameTables}
+use Rattle.cf_seek.specs.Wanting.{IsSameTables}
 use Rattle.cf_match.specs.declared.job.Job.{Job}
 use Rattle.cf_match.specs.Verdicts.{Verdicts, AreSameVerdicts, with_verdict, with_verdicts}
-use Rattle.cf_tracker.proofs.Judgings.{same_all}
+use Rattle.cf_seek.proofs.Judgings.{same_all}
 use Rattle.std.specs.Prelude.{IsSome, option_map, unwrap_or}
 use Rattle.cf_block.specs.declared.header.Header.{Header}
 use Rattle.cf_block.specs.Header.{genesis_header}
@@ -48,7 +48,7 @@ use Rattle.cf_dispute.specs.Claims as dispute
 use Rattle.cf_headers.specs.Rules.{same as same_bytes}
 use Rattle.cf_peer.specs.declared.peer.Request.{Request}
 use Rattle.cf_peer.specs.declared.peer.Request.TheVariants.{Nothing, Handshake, Headers as HeadersAsked, Claims as ClaimsAsked, Filters as FiltersAsked, Block as BlockAsked}
-use Rattle.cf_tracker.specs.Opens.{Closes, IsSameElse, IsSameOpens}
+use Rattle.cf_seek.specs.Opens.{Closes, IsSameElse, IsSameOpens}
 use Rattle.cf_sync.specs.Kept.{OpensAt}
 use Rattle.cf_sync.proofs.KeptOpens.{opens_closed}
 use Rattle.cf_hear.specs.Seen.{Seen, IsSameSeen, Follows}

@@ -20,7 +20,7 @@ use Rattle.cf_peer.specs.Trail.{Trail, Said, Asked, connected, ready, trail}
 use Rattle.cf_peer.specs.Asking.{OpenRequest, NothingOpen, HeadersOpen, ClaimsOpen, FiltersOpen, BlockOpen, age, filter_of, given_by, is_answer_of, is_wanted, request, request_after}
 use Rattle.cf_peer.specs.Peer.{Holds, aged, awaits, is_block_of, is_idle_peer, is_nothing, is_plain}
 use Rattle.cf_peer.proofs.Peers.{awaits_is, idle_request, plain_said}
-use Rattle.cf_tracker.specs.Opens.{Opens, Closes, IsBlockFree, IsFilterFree, IsSameElse, IsSameOpens}
+use Rattle.cf_seek.specs.Opens.{Opens, Closes, IsBlockFree, IsFilterFree, IsSameElse, IsSameOpens}
 use Rattle.cf_sync.specs.Fetching.{blocks_open, filters_open}
 use Rattle.cf_sync.specs.Kept.{HoldsOpens, OpensAt}
 use Rattle.cf_sync.proofs.KeptOpens.{opens_closed, opens_same}

@@ -30,9 +30,9 @@ use Rattle.cf_sync.proofs.KeptOpens.{opens_closed, opens_put}
 use Rattle.cf_sync.proofs.Counted.{same_use}
 use Rattle.cf_sync.proofs.TableGrows.{holds_after_piece}
 use Rattle.cf_sync.proofs.VerdictsGrow.{grown_between, same_given}
-use Rattle.cf_tracker.specs.Opens.{Closes, IsSameOpens}
-use Rattle.cf_tracker.specs.Tables.{Table, IsSameTable}
-use Rattle.cf_tracker.specs.Wanting.{ForgetsClaims, IsSameTables}
+use Rattle.cf_seek.specs.Opens.{Closes, IsSameOpens}
+use Rattle.cf_seek.specs.Tables.{Table, IsSameTable}
+use Rattle.cf_seek.specs.Wanting.{ForgetsClaims, IsSameTables}
 use Rattle.cf_hear.specs.Hearing.{HeardWhole, HeardFault, IsGivenBetween}
 use Rattle.cf_hear.specs.Seen.{Seen, IsSameSeen}
 use Rattle.cf_hear.specs.Tracks.{HasOpened, Tracks, IsPut, chain_kept}

@@ -23,14 +23,14 @@ use Rattle.cf_peer.specs.Trail.{Trail, trail, connected, own}
 use Rattle.cf_sync.specs.Fetching.{IsFilterWanted, IsNeeded, IsBlockWanted, MaySend, blocks_in}
 use Rattle.cf_sync.proofs.KeptOpens.{block_alone, filters_alone}
 use Rattle.cf_sync.proofs.Kept.{filter_by, block_by}
-use Rattle.cf_tracker.specs.declared.spans.Span.{Span}
-use Rattle.cf_tracker.specs.declared.spans.Wish.TheVariants.{Claims, Filters, Block}
-use Rattle.cf_tracker.specs.Opens.{IsBlockFree, IsFilterFree}
-use Rattle.cf_tracker.specs.Spans.{IsWish}
-use Rattle.cf_tracker.specs.Wanting.{IsAbove, IsUnjudged, AreClaimed}
-use Rattle.cf_tracker.proofs.Along.{hash_of_next}
+use Rattle.cf_seek.specs.declared.spans.Span.{Span}
+use Rattle.cf_seek.specs.declared.spans.Wish.TheVariants.{Claims, Filters, Block}
+use Rattle.cf_seek.specs.Opens.{IsBlockFree, IsFilterFree}
+use Rattle.cf_seek.specs.Spans.{IsWish}
+use Rattle.cf_seek.specs.Wanting.{IsAbove, IsUnjudged, AreClaimed}
+use Rattle.cf_seek.proofs.Along.{hash_of_next}
 use Rattle.std.proofs.lemmas.Bool.{cases_lt, both_ways}
-use Rattle.cf_tracker.proofs.Stops.{above_part, lower_on, parent_is}
+use Rattle.cf_seek.proofs.Stops.{above_part, lower_on, parent_is}
 use Rattle.cf_hear.specs.Seen.{Seen}
 use Rattle.cf_hear.specs.Tracks.{Tracks}
 

@@ -15,11 +15,11 @@ use Rattle.cf_peer.specs.Trail.{Trail, Part, Said, part_after, met, owed, reply_
 use Rattle.cf_peer.specs.Asking.{request, verdict, counted, fetched, fetched_by, given, given_by}
 use Rattle.cf_peer.specs.Hearing.{IsReply, Faulty}
 use Rattle.cf_peer.specs.Peer.{Holds, Hears}
-use Rattle.cf_tracker.specs.Tables.{IsSameTable, with_blocks}
+use Rattle.cf_seek.specs.Tables.{IsSameTable, with_blocks}
 use Rattle.cf_match.specs.declared.job.Job.{Job}
 use Rattle.cf_match.specs.Verdicts.{AreSameVerdicts, with_verdicts}
 use Rattle.cf_headers.specs.Chain.{Hash, IsIn}
-use Rattle.cf_tracker.specs.Opens.{IsSameElse}
+use Rattle.cf_seek.specs.Opens.{IsSameElse}
 use Rattle.cf_hear.specs.Seen.{Seen, IsSameSeen, Follows}
 
 -- p's chain and claims are now those of this trail, and what is open to it; the extracts of these blocks came, the last of them first, and the verdicts on

@@ -11,11 +11,11 @@ use Rattle.cf_wires.specs.Log.{Log}
 use Rattle.cf_peer.specs.Trail.{trail, own, heard}
 use Rattle.cf_sync.specs.Fetching.{IsBest, IsNeeded, HoldsFetched}
 use Rattle.cf_sync.specs.Kept.{HoldsClaims, HoldsGiven, HoldsOpens}
-use Rattle.cf_tracker.specs.declared.spans.Wish.{Wish}
-use Rattle.cf_tracker.specs.declared.spans.Wish.TheVariants.{Claims, Filters, Block}
-use Rattle.cf_tracker.specs.Opens.{Opens}
-use Rattle.cf_tracker.specs.Spans.{IsWish, GoesFar}
-use Rattle.cf_tracker.specs.Tables.{Table}
+use Rattle.cf_seek.specs.declared.spans.Wish.{Wish}
+use Rattle.cf_seek.specs.declared.spans.Wish.TheVariants.{Claims, Filters, Block}
+use Rattle.cf_seek.specs.Opens.{Opens}
+use Rattle.cf_seek.specs.Spans.{IsWish, GoesFar}
+use Rattle.cf_seek.specs.Tables.{Table}
 
 -- a message puts a question
 abbrev pub Puts : Wish → Msg → Type 0

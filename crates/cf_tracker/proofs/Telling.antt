@@ -20,10 +20,10 @@ use Rattle.cf_scan.specs.Scan.{Scanned, unscanned}
 use Rattle.cf_tracker.specs.declared.account.Account.{Account}
 use Rattle.cf_tracker.specs.declared.account.Written.{Written}
 use Rattle.cf_tracker.specs.Account.{IsTold, IsToldBy}
-use Rattle.cf_tracker.specs.Extracts.{with_extract}
-use Rattle.cf_tracker.specs.Tables.{IsSameTable, Table, placed_by, placed_one}
+use Rattle.cf_seek.specs.Extracts.{with_extract}
+use Rattle.cf_seek.specs.Tables.{IsSameTable, Table, placed_by, placed_one}
 use Rattle.cf_tracker.specs.Written.{IsWrittenAs, KeepsExtracts, extract_told, placed_written, written_as, written_at}
-use Rattle.cf_tracker.proofs.SoughtStays.{same_true}
+use Rattle.cf_seek.proofs.SoughtStays.{same_true}
 
 -- ---- extracts that are kept
 

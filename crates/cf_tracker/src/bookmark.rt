@@ -4,9 +4,9 @@ ghost use Rattle.cf_headers.specs.Chain.{Chain};
 ghost use Rattle.cf_headers.specs.Heights.{hash_at};
 ghost use Rattle.cf_tracker.specs.Writing.{stands_after};
 
-use crate::seek::passed_below;
 use cf_bytes::{Hash32, PeerNo};
 use cf_headers::{Change, HeaderStore};
+use cf_seek::passed_below;
 
 /// Up to which height the blocks that are written are those of a peer's chain, each told exactly where it has an
 /// extract; and from where the best chain's blocks are looked at first, as they were found settled up to there.

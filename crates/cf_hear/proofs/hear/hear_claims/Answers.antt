@@ -12,7 +12,7 @@ use Rattle.cf_peer.specs.Trail.{Said}
 use Rattle.cf_peer.specs.Peer.{IsRight, TakesClaims}
 use Rattle.cf_peer.proofs.Claiming.{answer_fault, answer_holds}
 use Rattle.cf_tracker.specs.Tracker.{claims_of}
-use Rattle.cf_tracker.proofs.Marked.{all_same}
+use Rattle.cf_seek.proofs.Marked.{all_same}
 use Rattle.cf_hear.specs.Seen.{seen_of}
 use Rattle.cf_hear.proofs.Hearing.{claims_hears, same_run, same_fault, cause_is}
 use Rattle.cf_hear.proofs.Opening.{opens_self}

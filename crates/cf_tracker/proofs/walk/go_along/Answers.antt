@@ -1,6 +1,6 @@
 use Rattle.std.proofs.Common.{◌+◌, ◌≤◌, length, refl, arith}
 use Rattle.cf_headers.specs.Store.{own_of}
-use Rattle.cf_tracker.proofs.Along.{along_more}
+use Rattle.cf_seek.proofs.Along.{along_more}
 use Rattle.cf_tracker.proofs.walk.go_along.Goals as goal
 
 pub loop-block-preserved : goal.loop-block-preserved

@@ -1,6 +1,6 @@
 use Rattle.std.proofs.Common.{◌≤◌, length}
 use Rattle.cf_headers.specs.Store.{own_of}
-use Rattle.cf_tracker.specs.Tracking.{AreAmong}
+use Rattle.cf_seek.specs.Tracking.{AreAmong}
 use Rattle.cf_tracker.proofs.walk.go_along.Given as goal
 
 abbrev pub invariant-loop-block : goal.invariant-loop-block

@@ -1,8 +1,8 @@
 use Rattle.cf_dispute.specs.Of.{tables_of}
-use Rattle.cf_tracker.specs.Extracts.{table_in}
-use Rattle.cf_tracker.specs.Judged.{verdicts_in}
-use Rattle.cf_tracker.specs.OpensAll.{opens_in}
-use Rattle.cf_tracker.proofs.Marked.{answered_marked, unsought_all}
+use Rattle.cf_seek.specs.Extracts.{table_in}
+use Rattle.cf_seek.specs.Judged.{verdicts_in}
+use Rattle.cf_seek.specs.OpensAll.{opens_in}
+use Rattle.cf_seek.proofs.Marked.{answered_marked, unsought_all}
 use Rattle.cf_tracker.proofs.tracker.Tracker.answered.Goals as goal
 
 pub invariant_of-self : goal.invariant_of-self

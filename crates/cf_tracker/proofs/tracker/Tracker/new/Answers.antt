@@ -1,9 +1,9 @@
 use Rattle.cf_dispute.specs.Of.{tables_of}
 use Rattle.cf_tracker.specs.Account.{written_in}
-use Rattle.cf_tracker.specs.Extracts.{table_in}
-use Rattle.cf_tracker.specs.Judged.{verdicts_in}
-use Rattle.cf_tracker.specs.OpensAll.{opens_in}
-use Rattle.cf_tracker.proofs.Marked.{none_marked}
+use Rattle.cf_seek.specs.Extracts.{table_in}
+use Rattle.cf_seek.specs.Judged.{verdicts_in}
+use Rattle.cf_seek.specs.OpensAll.{opens_in}
+use Rattle.cf_seek.proofs.Marked.{none_marked}
 use Rattle.cf_tracker.proofs.Writings.{up_to_none}
 use Rattle.cf_tracker.proofs.tracker.Tracker.new.Goals as goal
 

@@ -1,14 +1,14 @@
 use Rattle.std.proofs.Common.{inr, ℕ, ◌<◌, max, min, ◌∙◌, ap, subst, sym, arith}
 use Rattle.cf_dispute.specs.Of.{tables_of}
 use Rattle.cf_headers.specs.Store.{own_of}
-use Rattle.cf_tracker.specs.declared.cursors.Marks.{Marks}
-use Rattle.cf_tracker.specs.Cursors.{marks_at}
-use Rattle.cf_tracker.specs.Extracts.{table_in}
-use Rattle.cf_tracker.specs.Judged.{verdicts_in}
-use Rattle.cf_tracker.specs.OpensAll.{opens_in}
-use Rattle.cf_tracker.specs.Seeking.{ArePassed, IsToGet}
-use Rattle.cf_tracker.proofs.Opening.{entered_by, opened}
-use Rattle.cf_tracker.proofs.Shared.{none_higher}
+use Rattle.cf_seek.specs.declared.cursors.Marks.{Marks}
+use Rattle.cf_seek.specs.Cursors.{marks_at}
+use Rattle.cf_seek.specs.Extracts.{table_in}
+use Rattle.cf_seek.specs.Judged.{verdicts_in}
+use Rattle.cf_seek.specs.OpensAll.{opens_in}
+use Rattle.cf_seek.specs.Seeking.{ArePassed, IsToGet}
+use Rattle.cf_seek.proofs.Opening.{entered_by, opened}
+use Rattle.cf_seek.proofs.Shared.{none_higher}
 use Rattle.cf_tracker.proofs.tracker.Tracker.passed_with.Goals as goal
 
 pub returns : goal.returns

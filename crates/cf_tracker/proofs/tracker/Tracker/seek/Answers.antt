@@ -1,14 +1,14 @@
 use Rattle.std.proofs.Common.{◌≤◌, ℕ, List, length, subst, sym, arith}
 use Rattle.cf_dispute.specs.Of.{tables_of}
 use Rattle.cf_headers.specs.Store.{own_of}
-use Rattle.cf_tracker.specs.declared.cursors.Marks.{Marks}
-use Rattle.cf_tracker.specs.Extracts.{table_in}
-use Rattle.cf_tracker.specs.Judged.{verdicts_in}
-use Rattle.cf_tracker.specs.OpensAll.{opens_in}
-use Rattle.cf_tracker.specs.Tracking.{IsMarked, AreMarked}
-use Rattle.cf_tracker.specs.Spans.{GoesFar, IsWish}
-use Rattle.cf_tracker.proofs.Along.{common_low}
-use Rattle.cf_tracker.proofs.Opening.{opened, up_marked}
+use Rattle.cf_seek.specs.declared.cursors.Marks.{Marks}
+use Rattle.cf_seek.specs.Extracts.{table_in}
+use Rattle.cf_seek.specs.Judged.{verdicts_in}
+use Rattle.cf_seek.specs.OpensAll.{opens_in}
+use Rattle.cf_seek.specs.Tracking.{IsMarked, AreMarked}
+use Rattle.cf_seek.specs.Spans.{GoesFar, IsWish}
+use Rattle.cf_seek.proofs.Along.{common_low}
+use Rattle.cf_seek.proofs.Opening.{opened, up_marked}
 use Rattle.cf_tracker.proofs.tracker.Tracker.seek.Goals as goal
 
 pub next_sought-want-requires-clause-within : goal.next_sought-want-requires-clause-within

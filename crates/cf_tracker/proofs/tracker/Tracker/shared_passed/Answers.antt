@@ -1,12 +1,12 @@
 use Rattle.std.proofs.Common.{subst, sym}
 use Rattle.cf_dispute.specs.Of.{tables_of}
 use Rattle.cf_headers.specs.Store.{own_of}
-use Rattle.cf_tracker.specs.declared.cursors.Marks.{Marks}
-use Rattle.cf_tracker.specs.Extracts.{table_in}
-use Rattle.cf_tracker.specs.Judged.{verdicts_in}
-use Rattle.cf_tracker.specs.OpensAll.{opens_in}
-use Rattle.cf_tracker.specs.Seeking.{ArePassed}
-use Rattle.cf_tracker.proofs.Opening.{opened}
+use Rattle.cf_seek.specs.declared.cursors.Marks.{Marks}
+use Rattle.cf_seek.specs.Extracts.{table_in}
+use Rattle.cf_seek.specs.Judged.{verdicts_in}
+use Rattle.cf_seek.specs.OpensAll.{opens_in}
+use Rattle.cf_seek.specs.Seeking.{ArePassed}
+use Rattle.cf_seek.proofs.Opening.{opened}
 use Rattle.cf_tracker.proofs.tracker.Tracker.shared_passed.Goals as goal
 
 pub loop-q-init : goal.loop-q-init

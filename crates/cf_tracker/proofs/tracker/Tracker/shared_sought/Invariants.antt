@@ -1,5 +1,5 @@
 use Rattle.cf_headers.specs.Store.{own_of}
-use Rattle.cf_tracker.specs.Seeking.{AreSought}
+use Rattle.cf_seek.specs.Seeking.{AreSought}
 use Rattle.cf_tracker.specs.Tracker.{chains_of, claims_of, opens_of, table_of, verdicts_of}
 use Rattle.cf_tracker.proofs.tracker.Tracker.shared_sought.Given as goal
 

@@ -1,6 +1,6 @@
 use Rattle.std.proofs.Common.{Some, None, refl}
-use Rattle.cf_tracker.specs.Extracts.{table_in}
-use Rattle.cf_tracker.proofs.Along.{best_entered}
+use Rattle.cf_seek.specs.Extracts.{table_in}
+use Rattle.cf_seek.proofs.Along.{best_entered}
 use Rattle.cf_tracker.proofs.Telling.{stands_now}
 use Rattle.cf_tracker.proofs.tracker.Tracker.write_up.Goals as goal
 

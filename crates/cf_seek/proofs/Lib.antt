@@ -1,0 +1,16 @@
+pub mod Along
+pub mod Told
+pub mod Judgings
+pub mod Stays
+pub mod Ending
+pub mod Marked
+pub mod Deciding
+pub mod Stops
+pub mod Opening
+pub mod Shared
+pub mod HeldLaws
+pub mod JudgedLaws
+pub mod Openings
+pub mod Sought
+pub mod SoughtStays
+pub mod Putting

@@ -1,0 +1,32 @@
+-- What putting an extract changes: where none stands it is put in, and where one stands nothing changes.
+use Rattle.std.proofs.Common.{◌≡◌, Bool, true, false, List, Option, Some, None, refl, sym, ◌∙◌, ap}
+use Rattle.std.specs.Prelude.{is_some, unwrap_or, if◌then◌else◌}
+use Rattle.cf_headers.specs.Chain.{Hash}
+use Rattle.cf_headers.specs.Rules.{same}
+use Rattle.cf_scan.specs.declared.extracts.TxExtract.{TxExtract}
+use Rattle.cf_seek.specs.Extracts.{put_extract, with_extract}
+use Rattle.cf_seek.specs.Tables.{Table}
+use Rattle.cf_seek.proofs.SoughtStays.{same_true}
+
+none_or : (o : Option (List TxExtract)) (x : List TxExtract) → is_some o ≡ false → unwrap_or o x ≡ x
+none_or None x none = refl
+none_or (Some y) x none = cc none
+
+some_or : (o : Option (List TxExtract)) (x : List TxExtract) → is_some o ≡ true → o ≡ Some (unwrap_or o x)
+some_or None x some = cc some
+some_or (Some y) x some = refl
+
+-- where none stands there it is put in; where one stands nothing changes
+pub put_fresh : (table : Table) (at : Hash) (x : List TxExtract) → is_some (table at) ≡ false → (hash : Hash)
+    → put_extract at x table hash ≡ with_extract at x table hash
+put_fresh table at x none hash = by (same at hash) refl where
+  by : (b : Bool) → same at hash ≡ b → (if b then Some x else table hash) ≡ (if b then Some (unwrap_or (table hash) x) else table hash)
+  by true e = ap (λ (y : List TxExtract). Some y) (sym (none_or (table hash) x (ap (λ (h : Hash). is_some (table h)) (sym (same_true at hash e)) ∙ none)))
+  by false e = refl
+
+pub kept_there : (table : Table) (at : Hash) (x : List TxExtract) → is_some (table at) ≡ true → (hash : Hash)
+    → table hash ≡ with_extract at x table hash
+kept_there table at x some hash = by (same at hash) refl where
+  by : (b : Bool) → same at hash ≡ b → table hash ≡ (if b then Some (unwrap_or (table hash) x) else table hash)
+  by true e = some_or (table hash) x (ap (λ (h : Hash). is_some (table h)) (sym (same_true at hash e)) ∙ some)
+  by false e = refl

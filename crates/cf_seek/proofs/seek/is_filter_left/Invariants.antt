@@ -1,0 +1,13 @@
+use Rattle.std.proofs.Common.{◌⊎◌, ℕ, List}
+use Rattle.std.specs.Map.{keys_of}
+use Rattle.cf_dispute.specs.Of.{tables_of}
+use Rattle.cf_dispute.specs.Tables.{blocks_of}
+use Rattle.cf_headers.specs.Chain.{IsIn}
+use Rattle.cf_seek.specs.Extracts.{table_in}
+use Rattle.cf_seek.specs.Judged.{verdicts_in}
+use Rattle.cf_seek.specs.Wanting.{IsUnjudged}
+use Rattle.cf_seek.proofs.seek.is_filter_left.Given as goal
+
+-- each key is still to come, or needn't be asked about
+abbrev pub invariant-loop-block : goal.invariant-loop-block
+invariant-loop-block l = (block : List ℕ) → IsIn block (blocks_of (keys_of l.at.filters.entries)) → IsIn block (blocks_of l.block-iterator) ⊎ (IsUnjudged (table_in l.extracts) (tables_of l.claims) (verdicts_in l.judged) block → ⊥)

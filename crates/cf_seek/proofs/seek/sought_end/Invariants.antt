@@ -1,0 +1,10 @@
+use Rattle.cf_dispute.specs.Of.{tables_of}
+use Rattle.cf_headers.specs.Store.{own_of}
+use Rattle.cf_seek.specs.Extracts.{table_in}
+use Rattle.cf_seek.specs.Judged.{verdicts_in}
+use Rattle.cf_seek.specs.OpensAll.{opens_in}
+use Rattle.cf_seek.specs.Seeking.{AreToAsk}
+use Rattle.cf_seek.proofs.seek.sought_end.Given as goal
+
+abbrev pub invariant-loop-height : goal.invariant-loop-height
+invariant-loop-height g l = AreToAsk (table_in l.extracts) (tables_of l.claims) (verdicts_in l.judged) (opens_in l.opens) (own_of (g.H.HeaderStore.chain l.store) l.p) l.start l.height

@@ -1,0 +1,383 @@
+//! What a peer is to be asked for next that isn't open to anybody.
+ghost use Rattle.std.specs.Prelude.{◌≡◌, ◌≢◌, ◌+◌, ◌<◌, ◌≤◌, ℕ, List, true, false, IsSome, length, max};
+ghost use Rattle.cf_dispute.specs.Of.{tables_of};
+ghost use Rattle.cf_headers.specs.Heights.{hash_at};
+ghost use Rattle.cf_headers.specs.Store.{own_of};
+ghost use Rattle.cf_seek.specs.Extracts.{table_in};
+ghost use Rattle.cf_seek.specs.Judged.{verdicts_in};
+ghost use Rattle.cf_seek.specs.OpensAll.{opens_in};
+ghost use Rattle.cf_seek.specs.OpensOf.{block_at, filter_at};
+ghost use Rattle.cf_seek.specs.Wanting.{IsToFetch, IsUnjudged};
+ghost use Rattle.cf_seek.specs.Cursors.{marks_at};
+ghost use Rattle.cf_seek.specs.Seeking.{ArePassedHits, IsToAsk, IsToGet, AreSought, ArePassed, IsSought, AreToAsk, IsLastToAsk};
+ghost use Rattle.cf_seek.specs.Tracking.{IsFallen, IsMarked, IsWithin};
+ghost use Rattle.cf_seek.specs.declared.kind.Kind.TheVariants.{ToFetch};
+
+use crate::cursors::{Cursors, Marks};
+use crate::extracts::Extracts;
+use crate::first::First;
+use crate::judged::Judged;
+use crate::kind::{Kind, is_unjudged, kind_above, kind_of};
+use crate::open_at::OpenAt;
+use crate::opens::Opens;
+use crate::want::{Want, climb_claimed};
+use cf_bytes::{Hash32, PeerNo};
+use cf_dispute::Claims;
+use cf_headers::HeaderStore;
+use cf_match::{Job, Verdict};
+
+// Whether a block is to be fetched.
+fn is_due(kind: Kind) -> bool
+    ensures yes { result ≡ true → kind ≡ ToFetch }
+    ensures no { result ≡ false → kind ≢ ToFetch }
+{
+    match kind {
+        Kind::ToFetch => true,
+        _ => false,
+    }
+}
+
+// Whether a block's filter is to be asked for, and open to nobody.
+fn is_to_ask(
+    extracts: &Extracts,
+    claims: &Claims,
+    judged: &Judged,
+    opens: &Opens,
+    first: &First,
+    block: &Hash32,
+) -> bool
+    ensures yes { result ≡ true → IsToAsk (table_in extracts.now) (tables_of claims.now) (verdicts_in judged.now) (opens_in opens.now) block.now.0 }
+    ensures no { result ≡ false → IsToAsk (table_in extracts.now) (tables_of claims.now) (verdicts_in judged.now) (opens_in opens.now) block.now.0 → ⊥ }
+{
+    let kind = kind_above(extracts, claims, judged, first, block);
+    if !is_unjudged(kind) {
+        return false;
+    }
+    opens.is_filter_free(block)
+}
+
+// Whether a block is to be fetched, and open to nobody.
+fn is_to_get(
+    extracts: &Extracts,
+    claims: &Claims,
+    judged: &Judged,
+    opens: &Opens,
+    first: &First,
+    block: &Hash32,
+) -> bool
+    ensures yes { result ≡ true → IsToGet (table_in extracts.now) (tables_of claims.now) (verdicts_in judged.now) (opens_in opens.now) block.now.0 }
+    ensures no { result ≡ false → IsToGet (table_in extracts.now) (tables_of claims.now) (verdicts_in judged.now) (opens_in opens.now) block.now.0 → ⊥ }
+{
+    let kind = kind_above(extracts, claims, judged, first, block);
+    if !is_due(kind) {
+        return false;
+    }
+    opens.is_block_free(block)
+}
+
+// How far no filter of a peer's blocks is to be asked for, from a height up to which none is, and no further than asked.
+fn climb_sought<H: HeaderStore>(
+    store: &H,
+    extracts: &Extracts,
+    claims: &Claims,
+    judged: &Judged,
+    opens: &Opens,
+    p: PeerNo,
+    first: &First,
+    from: u32,
+    most: u32,
+) -> u32
+    requires entered { IsSome (H.chain store.now p.0) }
+    requires within { most ≤ length (own_of (H.chain store.now) p) }
+    requires sought { AreSought (table_in extracts.now) (tables_of claims.now) (verdicts_in judged.now) (opens_in opens.now) (own_of (H.chain store.now) p) from }
+    ensures sought { AreSought (table_in extracts.now) (tables_of claims.now) (verdicts_in judged.now) (opens_in opens.now) (own_of (H.chain store.now) p) result }
+    ensures up { from ≤ result }
+    ensures low { result ≤ max from most }
+    ensures next { result < most → IsToAsk (table_in extracts.now) (tables_of claims.now) (verdicts_in judged.now) (opens_in opens.now) (hash_at (own_of (H.chain store.now) p) (result + 1)) }
+{
+    for height in from..most {
+        if is_to_ask(
+            extracts,
+            claims,
+            judged,
+            opens,
+            first,
+            &store.hash_at(p, height + 1),
+        ) {
+            return height;
+        }
+    }
+    from.max(most)
+}
+
+// How far none of a peer's blocks is to be fetched, from a height up to which none is, and no further than asked.
+fn climb_passed<H: HeaderStore>(
+    store: &H,
+    extracts: &Extracts,
+    claims: &Claims,
+    judged: &Judged,
+    opens: &Opens,
+    p: PeerNo,
+    first: &First,
+    from: u32,
+    most: u32,
+) -> u32
+    requires entered { IsSome (H.chain store.now p.0) }
+    requires within { most ≤ length (own_of (H.chain store.now) p) }
+    requires passed { ArePassed (table_in extracts.now) (tables_of claims.now) (verdicts_in judged.now) (opens_in opens.now) (own_of (H.chain store.now) p) from }
+    ensures passed { ArePassed (table_in extracts.now) (tables_of claims.now) (verdicts_in judged.now) (opens_in opens.now) (own_of (H.chain store.now) p) result }
+    ensures up { from ≤ result }
+    ensures low { result ≤ max from most }
+    ensures next { result < most → IsToGet (table_in extracts.now) (tables_of claims.now) (verdicts_in judged.now) (opens_in opens.now) (hash_at (own_of (H.chain store.now) p) (result + 1)) }
+{
+    for height in from..most {
+        if is_to_get(
+            extracts,
+            claims,
+            judged,
+            opens,
+            first,
+            &store.hash_at(p, height + 1),
+        ) {
+            return height;
+        }
+    }
+    from.max(most)
+}
+
+/// The last height, from one on whose block's filter is to be asked for, up to which filters may be asked for at once.
+pub fn sought_end<H: HeaderStore>(
+    store: &H,
+    extracts: &Extracts,
+    claims: &Claims,
+    judged: &Judged,
+    opens: &Opens,
+    p: PeerNo,
+    first: &First,
+    start: u32,
+    common: u32,
+) -> u32
+    requires entered { IsSome (H.chain store.now p.0) }
+    requires within { common ≤ length (own_of (H.chain store.now) p) }
+    requires low { start ≤ common }
+    requires this { IsToAsk (table_in extracts.now) (tables_of claims.now) (verdicts_in judged.now) (opens_in opens.now) (hash_at (own_of (H.chain store.now) p) start) }
+    ensures all { AreToAsk (table_in extracts.now) (tables_of claims.now) (verdicts_in judged.now) (opens_in opens.now) (own_of (H.chain store.now) p) start result }
+    ensures up { start ≤ result }
+    ensures low { result ≤ common }
+    ensures few { result < start + 1000 }
+    ensures last { IsLastToAsk (table_in extracts.now) (tables_of claims.now) (verdicts_in judged.now) (opens_in opens.now) (own_of (H.chain store.now) p) start result common }
+{
+    let most = start + (common - start).min(999);
+    for height in start..most {
+        if !is_to_ask(
+            extracts,
+            claims,
+            judged,
+            opens,
+            first,
+            &store.hash_at(p, height + 1),
+        ) {
+            return height;
+        }
+    }
+    most
+}
+
+/// What a peer is to be asked for next of the blocks up to a height, and where the next call goes on. Nothing is to be asked for of its
+/// blocks up to two other heights, whoever was asked about them.
+pub fn next_sought<H: HeaderStore>(
+    store: &H,
+    extracts: &Extracts,
+    claims: &Claims,
+    judged: &Judged,
+    opens: &Opens,
+    p: PeerNo,
+    first: &First,
+    from: Marks,
+    shared_sought: u32,
+    shared_passed: u32,
+    common: u32,
+) -> (Marks, Want)
+    requires entered { IsSome (H.chain store.now p.0) }
+    requires within { common ≤ length (own_of (H.chain store.now) p) }
+    requires sought { AreSought (table_in extracts.now) (tables_of claims.now) (verdicts_in judged.now) (opens_in opens.now)
+        (own_of (H.chain store.now) p) shared_sought }
+    requires passed { ArePassed (table_in extracts.now) (tables_of claims.now) (verdicts_in judged.now) (opens_in opens.now)
+        (own_of (H.chain store.now) p) shared_passed }
+    requires marks { IsMarked (table_in extracts.now) (tables_of claims.now) (verdicts_in judged.now) (opens_in opens.now) p.0
+        (own_of (H.chain store.now) p) from }
+    ensures marks { IsMarked (table_in extracts.now) (tables_of claims.now) (verdicts_in judged.now) (opens_in opens.now) p.0
+        (own_of (H.chain store.now) p) result.0 }
+    ensures want { IsSought (table_in extracts.now) (tables_of claims.now) (verdicts_in judged.now) (opens_in opens.now) p.0
+        (own_of (H.chain store.now) p) common result.1 }
+{
+    let claimed = climb_claimed(store, claims, p, first, from.claimed, common);
+    let marks = from.raised(claimed, shared_sought, shared_passed);
+    if claimed < common {
+        return (marks, Want::Claims(claimed + 1));
+    }
+    sought_of_claimed(
+        store, extracts, claims, judged, opens, p, first, marks, common,
+    )
+}
+
+// What a peer is to be asked for next of the blocks up to a height, all of which it claims, and where the next call goes on.
+fn sought_of_claimed<H: HeaderStore>(
+    store: &H,
+    extracts: &Extracts,
+    claims: &Claims,
+    judged: &Judged,
+    opens: &Opens,
+    p: PeerNo,
+    first: &First,
+    from: Marks,
+    common: u32,
+) -> (Marks, Want)
+    requires entered { IsSome (H.chain store.now p.0) }
+    requires within { common ≤ length (own_of (H.chain store.now) p) }
+    requires claimed { common ≤ from.claimed }
+    requires marks { IsMarked (table_in extracts.now) (tables_of claims.now) (verdicts_in judged.now) (opens_in opens.now) p.0
+        (own_of (H.chain store.now) p) from }
+    ensures marks { IsMarked (table_in extracts.now) (tables_of claims.now) (verdicts_in judged.now) (opens_in opens.now) p.0
+        (own_of (H.chain store.now) p) result.0 }
+    ensures want { IsSought (table_in extracts.now) (tables_of claims.now) (verdicts_in judged.now) (opens_in opens.now) p.0
+        (own_of (H.chain store.now) p) common result.1 }
+{
+    let Marks {
+        claimed,
+        sought,
+        passed,
+    } = from;
+    let sought = climb_sought(
+        store, extracts, claims, judged, opens, p, first, sought, common,
+    );
+    if sought < common {
+        return (
+            Marks {
+                claimed,
+                sought,
+                passed,
+            },
+            Want::Filters(sought + 1),
+        );
+    }
+    let passed = climb_passed(
+        store, extracts, claims, judged, opens, p, first, passed, common,
+    );
+    let marks = Marks {
+        claimed,
+        sought,
+        passed,
+    };
+    if passed < common {
+        return (marks, Want::Block(passed + 1));
+    }
+    (marks, Want::Nothing)
+}
+
+/// A mark of what is passed, no higher than below the lowest height at which a block stands in an entered peer's chain.
+pub fn passed_below<H: HeaderStore>(store: &H, p: PeerNo, passed: u32, block: &Hash32) -> u32
+    requires entered { IsSome (H.chain store.now p.0) }
+    requires within { passed ≤ length (own_of (H.chain store.now) p) }
+    ensures low { result ≤ passed }
+    ensures apart { (h : ℕ) → 1 ≤ h → h ≤ result → hash_at (own_of (H.chain store.now) p) h ≡ block.now.0 → ⊥ }
+{
+    match store.place(p, block) {
+        Some(at) => passed.min(at.saturating_sub(1)),
+        None => passed,
+    }
+}
+
+/// Whether something that is open to a peer is still to be asked for.
+pub fn is_any_left(extracts: &Extracts, claims: &Claims, judged: &Judged, at: &OpenAt) -> bool
+    ensures filters { result ≡ false → (block : List ℕ) → filter_at at.now block ≡ true
+        → IsUnjudged (table_in extracts.now) (tables_of claims.now) (verdicts_in judged.now) block → ⊥ }
+    ensures block { result ≡ false → (block : List ℕ) → block_at at.now block ≡ true
+        → IsToFetch (table_in extracts.now) (tables_of claims.now) (verdicts_in judged.now) block → ⊥ }
+{
+    is_block_left(extracts, claims, judged, at) || is_filter_left(extracts, claims, judged, at)
+}
+
+// Whether a block that is open to a peer is still to be fetched.
+fn is_block_left(extracts: &Extracts, claims: &Claims, judged: &Judged, at: &OpenAt) -> bool
+    ensures { result ≡ false → (block : List ℕ) → block_at at.now block ≡ true
+        → IsToFetch (table_in extracts.now) (tables_of claims.now) (verdicts_in judged.now) block → ⊥ }
+{
+    match &at.block {
+        Some(block) => is_due(kind_of(extracts, claims, judged, block)),
+        None => false,
+    }
+}
+
+// Whether a filter that is open to a peer is still to be asked for.
+fn is_filter_left(extracts: &Extracts, claims: &Claims, judged: &Judged, at: &OpenAt) -> bool
+    ensures { result ≡ false → (block : List ℕ) → filter_at at.now block ≡ true
+        → IsUnjudged (table_in extracts.now) (tables_of claims.now) (verdicts_in judged.now) block → ⊥ }
+{
+    for block in at.filters.keys() {
+        if is_unjudged(kind_of(extracts, claims, judged, block)) {
+            return true;
+        }
+    }
+    false
+}
+
+/// The same below each block whose filter hits, by verdicts on the filters of a batch in their order.
+pub fn passed_below_hits<H: HeaderStore>(
+    store: &H,
+    p: PeerNo,
+    passed: u32,
+    jobs: &[Job],
+    verdicts: &[Verdict],
+) -> u32
+    requires entered { IsSome (H.chain store.now p.0) }
+    requires within { passed ≤ length (own_of (H.chain store.now) p) }
+    ensures low { result ≤ passed }
+    ensures apart { ArePassedHits (own_of (H.chain store.now) p) result jobs.now verdicts.now (length jobs.now) }
+{
+    let mut passed = passed;
+    for (i, job) in jobs.iter().enumerate() {
+        if i >= verdicts.len() {
+            return passed;
+        }
+        if let Verdict::Hit = verdicts[i] {
+            passed = passed_below(store, p, passed, &job.block);
+        }
+    }
+    passed
+}
+
+/// The mark of each peer's blocks falls to below each block of a batch whose filter hits, by the verdicts on them in their order.
+pub fn fall_below_hits<H: HeaderStore>(
+    store: &H,
+    cursors: &mut Cursors,
+    jobs: &[Job],
+    verdicts: &[Verdict],
+)
+    requires { (q : ℕ) → IsWithin (H.chain store.now q) (marks_at cursors.old q) }
+    ensures { (q : ℕ) → IsFallen (H.chain store.now q) (marks_at cursors.old q) (marks_at cursors.new q) jobs.now verdicts.now }
+{
+    for q in 0..cursors.places() {
+        fall_at(store, cursors, PeerNo(q), jobs, verdicts);
+    }
+}
+
+// The same of one peer.
+fn fall_at<H: HeaderStore>(
+    store: &H,
+    cursors: &mut Cursors,
+    p: PeerNo,
+    jobs: &[Job],
+    verdicts: &[Verdict],
+)
+    requires { IsWithin (H.chain store.now p.0) (marks_at cursors.old p.0) }
+    ensures here { IsFallen (H.chain store.now p.0) (marks_at cursors.old p.0) (marks_at cursors.new p.0) jobs.now verdicts.now }
+    ensures others { (q : ℕ) → q ≢ p.0 → marks_at cursors.new q ≡ marks_at cursors.old q }
+{
+    let marks = cursors.of(p);
+    if marks.passed == 0 {
+        return;
+    }
+    let passed = passed_below_hits(store, p, marks.passed, jobs, verdicts);
+    cursors.put(p, Marks { passed, ..marks });
+}

@@ -1,0 +1,66 @@
+//! What one question is about.
+ghost use Rattle.std.specs.Prelude.{◌≡◌, ℕ, ◌<◌, ◌≤◌, IsSome, IfOk, length};
+ghost use Rattle.cf_headers.specs.Heights.{hash_at};
+ghost use Rattle.cf_headers.specs.Store.{own_of};
+ghost use Rattle.cf_seek.specs.Spans.{IsSpan};
+
+use cf_bytes::{Hash32, NoMemory, PeerNo};
+use cf_headers::HeaderStore;
+use std::alloc::Global;
+
+/// A run of blocks of a peer's chain. Hashes are in wire order.
+#[derive(Drop, Debug)]
+pub struct Span {
+    /// The height of the first of them, at least 1.
+    pub start: u32,
+    /// The hash of the last of them.
+    pub stop: Hash32,
+    /// The hash of the block below the first.
+    pub parent: Hash32,
+    /// Their hashes, the lowest first.
+    pub blocks: Vec<Hash32>,
+}
+
+/// What a peer is to be asked for next.
+#[derive(Drop, Debug)]
+pub enum Wish {
+    /// Nothing.
+    Nothing,
+    /// What it claims of the filters of some blocks, at most 2000.
+    Claims(Span),
+    /// The filters of some blocks, at most 1000.
+    Filters(Span),
+    /// The block with this hash.
+    Block(Hash32),
+}
+
+/// The blocks of a peer's chain from a height up to another, below which its hash stands at no lower height than the first; where it stands
+/// lower than at that other height, up to there.
+pub fn span_of<H: HeaderStore>(
+    alloc: Global,
+    store: &H,
+    p: PeerNo,
+    start: u32,
+    end: u32,
+) -> Result<Span, NoMemory>
+    requires entered { IsSome (H.chain store.now p.0) }
+    requires up { 1 ≤ start }
+    requires low { start ≤ end }
+    requires within { end ≤ length (own_of (H.chain store.now) p) }
+    requires apart { (h : ℕ) → h < start → hash_at (own_of (H.chain store.now) p) h ≡ hash_at (own_of (H.chain store.now) p) end → ⊥ }
+    ensures { IfOk result (λ s. IsSpan (own_of (H.chain store.now) p) start end s) }
+{
+    let stop = store.hash_at(p, end);
+    let top = store.place(p, &stop).unwrap_or(end);
+    let mut blocks = Vec::new(alloc);
+    for below in start - 1..top {
+        blocks.push(store.hash_at(p, below + 1))?;
+    }
+    let parent = store.hash_at(p, start - 1);
+    Ok(Span {
+        start,
+        stop,
+        parent,
+        blocks,
+    })
+}

@@ -1,0 +1,51 @@
+//! What a peer is to be asked for next.
+ghost use Rattle.std.specs.Prelude.{◌≡◌, ◌+◌, ◌<◌, ◌≤◌, None, IsSome, length, max};
+ghost use Rattle.cf_dispute.specs.Of.{tables_of};
+ghost use Rattle.cf_headers.specs.Heights.{hash_at};
+ghost use Rattle.cf_headers.specs.Store.{own_of};
+ghost use Rattle.cf_seek.specs.Wanting.{IsAbove, AreClaimed};
+
+use crate::first::First;
+use crate::kind::is_unclaimed;
+use cf_bytes::PeerNo;
+use cf_dispute::Claims;
+use cf_headers::HeaderStore;
+
+/// What a peer is to be asked for next, by the lowest height.
+#[derive(Clone, Copy, Debug)]
+pub enum Want {
+    /// Nothing.
+    Nothing,
+    /// What it claims of filters.
+    Claims(u32),
+    /// Filters.
+    Filters(u32),
+    /// A block.
+    Block(u32),
+}
+
+/// How far a peer claims its blocks, from a height up to which it does, and no further than asked.
+pub fn climb_claimed<H: HeaderStore>(
+    store: &H,
+    claims: &Claims,
+    p: PeerNo,
+    first: &First,
+    from: u32,
+    most: u32,
+) -> u32
+    requires entered { IsSome (H.chain store.now p.0) }
+    requires within { most ≤ length (own_of (H.chain store.now) p) }
+    requires claimed { AreClaimed (tables_of claims.now) p.0 (own_of (H.chain store.now) p) from }
+    ensures claimed { AreClaimed (tables_of claims.now) p.0 (own_of (H.chain store.now) p) result }
+    ensures up { from ≤ result }
+    ensures low { result ≤ max from most }
+    ensures above { result < most → IsAbove (hash_at (own_of (H.chain store.now) p) (result + 1)) }
+    ensures next { result < most → tables_of claims.now p.0 (hash_at (own_of (H.chain store.now) p) (result + 1)) ≡ None }
+{
+    for height in from..most {
+        if is_unclaimed(claims, p, first, &store.hash_at(p, height + 1)) {
+            return height;
+        }
+    }
+    from.max(most)
+}
