@@ -15,7 +15,9 @@ pub struct First {
 
 impl First {
     /// Makes it.
-    pub fn new() -> First {
+    pub fn new() -> First
+        ensures { result.hash.0 ≡ block_hash_of genesis_header }
+    {
         First {
             hash: block_hash(&genesis_header()),
         }
