@@ -45,6 +45,7 @@ fn answer<R: Wait + Threads + Sync + Copy + Drop + Send + 'static>(
         "compact" => hashes::compact(alloc, rest),
         "demo" => demos::demo(rt, alloc, rest),
         "fields" => hashes::fields(alloc, rest),
+        "fill" => streams::filled(alloc, rest),
         "filter" => filters::answer(alloc, rest),
         "golomb" => filters::golomb(alloc, rest),
         "hash" => hashes::answer(alloc, rest),

@@ -18,6 +18,7 @@ fn counts(alloc: Global, held: Held) -> Option<String> {
         filters,
         verdicts,
         extracts,
+        ..
     } = held;
     format!(in alloc; "{headers} {claims} {filters} {verdicts} {extracts}").ok()
 }

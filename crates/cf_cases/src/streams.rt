@@ -49,3 +49,59 @@ pub(crate) fn answer(alloc: Global, row: &str) -> Option<String> {
     }
     Some(out)
 }
+
+// Puts a word behind the others.
+fn put_next(word: &str, out: &mut String) -> Option<()> {
+    if !out.is_empty() {
+        out.push(' ').ok()?;
+    }
+    out.push_str(word).ok()
+}
+
+// One call of `fill`: how many bytes it takes, which is put behind the others.
+fn fill_once(alloc: Global, framer: &mut Framer, piece: &[u8], out: &mut String) -> Option<usize> {
+    let taken = framer.fill(piece).ok()?;
+    put_next(&format!(in alloc; "{taken}").ok()?, out)?;
+    Some(taken)
+}
+
+// Where a whole frame waits: how many bytes are taken of these, and then the frame is let go.
+fn let_go(alloc: Global, framer: &mut Framer, bytes: &[u8], out: &mut String) -> Option<()> {
+    if !matches!(framer.next_lent(), Ok(Some(_))) {
+        return Some(());
+    }
+    fill_once(alloc, framer, bytes, out)?;
+    if let Ok(Some(_)) = framer.next_lent() {
+        framer.done();
+    }
+    Some(())
+}
+
+// What waits at the end: no whole frame, or what is at fault.
+fn put_end(alloc: Global, framer: &Framer, out: &mut String) -> Option<()> {
+    match framer.next_lent() {
+        Ok(_) => put_next("waits", out),
+        Err(fault) => put_next(&format!(in alloc; "{fault:?}").ok()?, out),
+    }
+}
+
+/// How many of a row's bytes a framer takes in each call of `fill`.
+pub(crate) fn filled(alloc: Global, row: &str) -> Option<String> {
+    let (most, digits) = row.split_once(' ')?;
+    let most: usize = most.parse().ok()?;
+    let bytes = bytes_in(alloc, digits)?;
+    let mut framer = Framer::new(alloc);
+    let mut out = String::new(alloc);
+    let mut rest = bytes.as_slice();
+    for _call in 0..bytes.len() {
+        let piece = rest.get(..most).unwrap_or(rest);
+        let taken = fill_once(alloc, &mut framer, piece, &mut out)?;
+        let_go(alloc, &mut framer, &bytes, &mut out)?;
+        rest = rest.get(taken..)?;
+        if taken == 0 || rest.is_empty() {
+            break;
+        }
+    }
+    put_end(alloc, &framer, &mut out)?;
+    Some(out)
+}

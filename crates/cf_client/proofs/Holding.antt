@@ -42,7 +42,8 @@ use Rattle.cf_place.specs.declared.place.Place.{Place}
 use Rattle.cf_place.specs.declared.place.Place.TheVariants.{Here, Lost as NotHere}
 use Rattle.cf_place.specs.Places.{Fits, nobody, PlacesStand}
 use Rattle.cf_client.specs.Stands.{count_below}
-use Rattle.cf_client.specs.Holding.{below, of_all, blocks_fetched, filters_given, hashes_told, hashes_claimed, hashes_kept, filters_in, filters_kept, came_at, is_for_filters, is_giving, count_giving, chains_kept, IsKeptHeader, KeepsHeaders, Counts, HoldsNoMore}
+use Rattle.cf_client.specs.Holding.{below, of_all, blocks_fetched, filters_given, hashes_told, hashes_claimed, hashes_kept, filters_in, filters_kept, came_at, is_for_filters, is_giving, count_giving, chains_kept, IsKeptHeader, KeepsHeaders, Counts, HoldsNoMore, most_at}
+use Rattle.cf_client.proofs.Waiting.{most_is, most_few}
 
 -- ---- over all peers
 
@@ -412,15 +413,17 @@ giving_few test (suc n) = (let before = giving_few test n in let now = by (test 
 
 -- ---- all of it
 
-pub holds_no_more : (counts : Chains → ℕ → Type 0) (places : List Place) (s : Seen) (held : Held) (log : Log) → counts s.chains held.headers → Counts s held → held.filters ≡ capped (sum_by came_at places) → length places ≤ 9
+pub holds_no_more : (counts : Chains → ℕ → Type 0) (places : List Place) (s : Seen) (held : Held) (log : Log) → counts s.chains held.headers → Counts s held → held.filters ≡ capped (sum_by came_at places) → held.bytes ≡ most_at places (length places) → length places ≤ 9
     → PlacesStand places log → Tracks s log → HoldsNoMore counts held log
-holds_no_more counts places s held log headers counted filters few stand tracks = record {
+holds_no_more counts places s held log headers counted filters bytes few stand tracks = record {
   headers = subst (λ (chains : Chains). counts chains held.headers) (fun_ext (λ p. tracks.kept p)) headers;
   claims = few_claims places s log held.claims stand tracks.claimed counted.claims;
   verdicts = few_verdicts places s log held.verdicts stand tracks.given counted.verdicts;
   extracts = few_extracts places s log held.extracts stand tracks.fetched counted.extracts;
   filters = exact;
   few_filters = λ right. (let is = exact right in let most = few_filters log right in omega (arith, is, most));
+  waiting = bytes ∙ most_is places log stand;
+  few_bytes = (let most = most_few places log stand in omega (arith, bytes, most));
 } where
   exact : Rightly log → held.filters ≡ length (of_all filters_kept log)
   exact right =

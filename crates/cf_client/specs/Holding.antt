@@ -1,5 +1,5 @@
 -- How much a client keeps, and that it is no more than the log calls for.
-use Rattle.std.specs.Prelude.{◌≡◌, ℕ, zero, suc, ◌+◌, ◌*◌, ◌≤◌, ◌<◌, Bool, true, false, ◌&&◌, if◌then◌else◌, List, [], ◌∷◌, ◌++◌, length}
+use Rattle.std.specs.Prelude.{◌≡◌, ℕ, zero, suc, ◌+◌, ◌*◌, ◌≤◌, ◌<◌, max, Bool, true, false, ◌&&◌, if◌then◌else◌, List, [], ◌∷◌, ◌++◌, length}
 use Rattle.cf_bytes.specs.declared.hash.Hash32.{Hash32}
 use Rattle.cf_block.specs.declared.tx.Block.{Block}
 use Rattle.cf_dispute.specs.Counts.{CountsClaims}
@@ -11,7 +11,7 @@ use Rattle.cf_hear.specs.Tracks.{chain_kept}
 use Rattle.cf_match.specs.declared.job.Job.{Job}
 use Rattle.cf_msg.specs.declared.msg.Msg.{Msg}
 use Rattle.cf_msg.specs.declared.msg.Msg.TheVariants.{Cfheaders}
-use Rattle.cf_peer.specs.Trail.{Trail, Called, Said, Refused, Asked, Passed, Lost, trail, connected, own}
+use Rattle.cf_peer.specs.Trail.{Trail, Part, part_of, Called, Said, Refused, Asked, Passed, Lost, trail, connected, own}
 use Rattle.cf_peer.specs.Asking.{OpenRequest, NothingOpen, HeadersOpen, ClaimsOpen, FiltersOpen, BlockOpen, is_answer_of, request, counted, fetched, given}
 use Rattle.cf_sync.specs.Fetching.{IsConnected, Rightly}
 use Rattle.cf_seek.specs.Held.{CountsBlocks, CountsVerdicts}
@@ -20,6 +20,7 @@ use Rattle.cf_peer.specs.Held.{count_came}
 use Rattle.cf_client.specs.declared.held.Held.{Held}
 use Rattle.cf_place.specs.declared.place.Place.{Place}
 use Rattle.cf_place.specs.declared.place.Place.TheVariants.{Here, Lost as NotHere}
+use Rattle.cf_place.specs.Places.{place_at}
 use Rattle.cf_client.specs.Stands.{count_below}
 
 -- the lists of the numbers below one, joined
@@ -91,6 +92,27 @@ is_giving t = connected t && is_for_filters (request t)
 abbrev pub count_giving : Log → ℕ
 count_giving log = count_below (λ (p : ℕ). is_giving (trail log p)) ((tally_of log).dials + 1)
 
+-- the greatest that the numbers below one have, and 0 where none is below it
+abbrev pub greatest_below : (ℕ → ℕ) → ℕ → ℕ
+greatest_below f zero = 0
+greatest_below f (suc p) = max (greatest_below f p) (f p)
+
+-- how many bytes wait of the peer at a place, and the most at one of the first places
+abbrev pub waiting_at : Place → ℕ
+waiting_at (Here peer) = length peer.framer
+waiting_at (NotHere loss) = 0
+
+abbrev pub most_at : List Place → ℕ → ℕ
+most_at places n = greatest_below (λ (p : ℕ). waiting_at (place_at places p)) n
+
+-- how many bytes of a connected peer are no whole frame yet
+abbrev pub bytes_waiting : Part → ℕ
+bytes_waiting part = if connected part.trail then length part.waits else 0
+
+-- how many of the peer of which the most are none
+abbrev pub most_waiting : Log → ℕ
+most_waiting log = greatest_below (λ (p : ℕ). bytes_waiting (part_of log p)) ((tally_of log).dials + 1)
+
 -- the chains that are kept: of each connected peer its own
 abbrev pub chains_kept : Log → Chains
 chains_kept log p = chain_kept (trail log p)
@@ -118,7 +140,8 @@ pub record Counts (s : Seen) (held : Held) : Type 0 where
 
 -- The headers are those that the store's count finds on the connected peers' own chains. There are no more claims than hashes in the connected peers' right
 -- answers about claims, no more verdicts than filters that were given, and no more extracts than blocks that were fetched. The filters are those that have
--- come of open requests, where each question was one that might be asked, and at most 1000 for each request.
+-- come of open requests, where each question was one that might be asked, and at most 1000 for each request. The bytes that wait are those of the connected
+-- peer of which the most are no whole frame, and fewer than a header and the longest payload.
 pub record HoldsNoMore (counts : Chains → ℕ → Type 0) (held : Held) (log : Log) : Type 0 where
   pub headers : counts (chains_kept log) held.headers
   pub claims : held.claims ≤ length (of_all hashes_kept log)
@@ -126,3 +149,5 @@ pub record HoldsNoMore (counts : Chains → ℕ → Type 0) (held : Held) (log :
   pub extracts : held.extracts ≤ length (of_all blocks_fetched log)
   pub filters : Rightly log → held.filters ≡ length (of_all filters_kept log)
   pub few_filters : Rightly log → held.filters ≤ 1000 * count_giving log
+  pub waiting : held.bytes ≡ most_waiting log
+  pub few_bytes : held.bytes < 4000024

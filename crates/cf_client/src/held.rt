@@ -6,7 +6,7 @@ ghost use Rattle.cf_wires.specs.Log.{Log};
 ghost use Rattle.cf_hear.specs.Seen.{seen_of};
 ghost use Rattle.cf_hear.specs.Tracks.{Tracks};
 ghost use Rattle.cf_place.specs.Places.{PlacesStand};
-ghost use Rattle.cf_client.specs.Holding.{Counts, HoldsNoMore, came_at};
+ghost use Rattle.cf_client.specs.Holding.{Counts, HoldsNoMore, came_at, waiting_at, most_at};
 
 use cf_headers::HeaderStore;
 use cf_place::Place;
@@ -25,6 +25,8 @@ pub struct Held {
     pub verdicts: u64,
     /// Blocks of which an extract is kept.
     pub extracts: u64,
+    /// Bytes that wait of the connected peer of which the most wait, since they are no whole frame yet.
+    pub bytes: u64,
 }
 
 // How many filters have come of what is open to the peer at a place.
@@ -48,6 +50,28 @@ fn filters_at_all(places: &[Place]) -> u64
     total
 }
 
+// How many bytes wait of the peer at a place.
+fn bytes_at(place: &Place) -> u64
+    ensures { result ≡ waiting_at place.now }
+{
+    match place {
+        Place::Here(peer) => peer.bytes_held() as u64,
+        Place::Lost(_) => 0,
+    }
+}
+
+// How many wait at the place at which the most wait.
+#[tactic(auto, using(crate::proofs::Waiting::most_more))]
+fn most_bytes(places: &[Place]) -> u64
+    ensures { result ≡ most_at places.now (length places.now) }
+{
+    let mut most: u64 = 0;
+    for place in places {
+        most = most.max(bytes_at(place));
+    }
+    most
+}
+
 /// How much is kept by a tracker and at the places of peers. It takes no memory.
 pub(crate) fn held_of<H: HeaderStore>(tracker: &Tracker<H>, places: &[Place]) -> Held
     requires { length places.now ≤ 9 }
@@ -60,5 +84,6 @@ pub(crate) fn held_of<H: HeaderStore>(tracker: &Tracker<H>, places: &[Place]) ->
         filters: filters_at_all(places),
         verdicts: tracker.verdicts_held(),
         extracts: tracker.extracts_held(),
+        bytes: most_bytes(places),
     }
 }

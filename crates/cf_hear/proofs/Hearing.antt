@@ -1,15 +1,19 @@
 -- What is taken of a piece of a peer's bytes, message by message.
-use Rattle.std.proofs.Common.{◌≡◌, ◌≢◌, ◌⊎◌, inl, inr, ℕ, List, [], ◌∷◌, ◌++◌, map, length, Option, Some, None, ◌<◌, Bool, true, false, if◌then◌else◌, refl, sym, ◌∙◌, ap, subst, append_assoc}
+use Rattle.std.proofs.Common.{◌≡◌, ◌≢◌, ◌⊎◌, inl, inr, ℕ, List, [], ◌∷◌, ◌++◌, map, length, take, drop, Option, Some, None, Result, Ok, Err, ◌<◌, ◌≤◌, Bool, true, false, if◌then◌else◌, refl, sym, ◌∙◌, ap, subst, append_assoc, arith}
 use Rattle.std.specs.List.{All, AllByRecursion}
+use Rattle.std.proofs.lemmas.List.{append-nil, length-append, take-append-drop}
 use Rattle.std.proofs.lemmas.Bool.{cases_eq}
-use Rattle.std.proofs.lemmas.List.{append-nil}
 use Rattle.std.proofs.lemmas.List.Elements.{All-append, All-nil, All-cons}
 use Rattle.cf_bytes.specs.declared.hash.Hash32.{Hash32}
+use Rattle.cf_bytes.specs.declared.memory.NoMemory.{NoMemory}
 use Rattle.cf_bytes.specs.declared.peer.PeerNo.{PeerNo}
 use Rattle.cf_block.specs.declared.tx.Block.{Block}
 use Rattle.cf_block.specs.Header.{block_hash_of}
+use Rattle.cf_frame.specs.Lending.{HasFrame, IsFilled, after_frame}
+use Rattle.cf_frame.specs.Reading.{front_of}
 use Rattle.cf_frame.specs.Stream.{read_stream}
-use Rattle.cf_headers.specs.Chain.{Hash, Chain, Accepted, Longer, NoLonger, Unlinked, Invalid, TooHigh, IsIn, accept}
+use Rattle.cf_frame.proofs.Lending.{all_taken}
+use Rattle.cf_headers.specs.Chain.{Hash, Chain, IsIn, Accepted, Longer, NoLonger, Unlinked, Invalid, TooHigh, accept}
 use Rattle.cf_headers.specs.Changes.{chain_after}
 use Rattle.cf_headers.specs.Store.{Puts, own_of}
 use Rattle.cf_msg.specs.declared.msg.Msg.{Msg}
@@ -24,9 +28,10 @@ use Rattle.cf_peer.specs.Acts.{IsSendable, IsDoable}
 use Rattle.cf_peer.specs.Trail.{Trail, Part, Said, part_after, heard_part, fault_in, first, longer_of, ready, met, own, owed}
 use Rattle.cf_peer.specs.Asking.{OpenRequest, NothingOpen, request, claims, claims_after, counted, fault_of, fetched, fetched_by, given, given_by, verdict}
 use Rattle.cf_peer.specs.Hearing.{IsReply, Faulty}
-use Rattle.cf_peer.specs.Peer.{Hears, Holds, IsRight, TakesClaims, awaits, cause_of_claims, is_plain, is_ready_peer}
-use Rattle.cf_peer.proofs.Peers.{early_headers, early_own, other_block, plain_said, reply_is, same_holds}
-use Rattle.cf_peer.proofs.Stream.{faulty_said, said_met}
+use Rattle.cf_peer.specs.Peer.{Holds, IsRight, TakesClaims, awaits, cause_of_claims, Hears, is_plain, is_ready_peer}
+use Rattle.cf_peer.proofs.Peers.{other_block, reply_is, same_holds, early_headers, early_own, plain_said}
+use Rattle.cf_peer.proofs.LentLeads.{done_shorter}
+use Rattle.cf_peer.proofs.Stream.{faulty_said, said_met, waits_says}
 use Rattle.cf_scan.specs.declared.extracts.TxExtract.{TxExtract}
 use Rattle.cf_seek.specs.Tables.{Table, IsSameTable, with_block, with_blocks}
 use Rattle.cf_sync.proofs.Counted.{same_use}
@@ -37,7 +42,7 @@ use Rattle.cf_seek.specs.Wanting.{IsSameTables}
 use Rattle.cf_match.specs.declared.job.Job.{Job}
 use Rattle.cf_match.specs.Verdicts.{Verdicts, AreSameVerdicts, with_verdict, with_verdicts}
 use Rattle.cf_seek.proofs.Judgings.{same_all}
-use Rattle.std.specs.Prelude.{IsSome, option_map, unwrap_or}
+use Rattle.std.specs.Prelude.{IfOk, IsSome, option_map, unwrap_or}
 use Rattle.cf_block.specs.declared.header.Header.{Header}
 use Rattle.cf_block.specs.Header.{genesis_header}
 use Rattle.cf_dispute.specs.declared.claim.Claim.{Claim}
@@ -52,7 +57,7 @@ use Rattle.cf_seek.specs.Opens.{Closes, IsSameElse, IsSameOpens}
 use Rattle.cf_sync.specs.Kept.{OpensAt}
 use Rattle.cf_sync.proofs.KeptOpens.{opens_closed}
 use Rattle.cf_hear.specs.Seen.{Seen, IsSameSeen, Follows}
-use Rattle.cf_hear.specs.Hearing.{Gains, IsGivenBetween, Retains, HearsSeen, HearsNext, Advances, Stops, Brings, Midway, HeardWhole, HeardFault}
+use Rattle.cf_hear.specs.Hearing.{Gains, IsGivenBetween, Retains, HearsSeen, HearsNext, Advances, Stops, Brings, Midway, HeardWhole, HeardFault, HeardPiece}
 use Rattle.cf_hear.proofs.Opening.{else_of, else_self, else_then, opens_claims, opens_headers, opens_on, opens_other, opens_plain, opens_self}
 
 -- ---- what was seen
@@ -344,26 +349,74 @@ plain_hears seen p peer m t (Send reply) plain hears f = (hears, gains_plain see
 plain_hears seen p peer m t (Close cause) plain hears f = (hears, same_seen seen)
 
 -- what a message that was read does to the peer and to what was seen
-pub hears_next : (before after : Seen) (p : PeerNo) (old new : Peer) (waits : List ℕ) (m : Msg) (t : Trail) (r : Reply)
-    → part_after (read_stream old.framer) t ≡ part_after (read_stream waits) (Said m ∷ t) → new.framer ≡ waits → HearsSeen before after p new m t r → HearsNext before after p old new t (Some r)
-hears_next before after p old new waits m t NoReply leads same h = record {
-  message = m;
-  leads = leads ∙ ap (λ (w : List ℕ). part_after (read_stream w) (Said m ∷ t)) (sym same);
-  holds = h.0.0;
-  owes = h.0.1;
-  gains = h.1;
-}
-hears_next before after p old new waits m t (Send reply) leads same h = record {
-  message = m;
-  leads = leads ∙ ap (λ (w : List ℕ). part_after (read_stream w) (Said m ∷ t)) (sym same);
-  holds = h.0.0;
-  owes = h.0.1;
-  gains = h.1;
-}
-hears_next before after p old new waits m t (Close cause) leads same h = record {
-  faulty = subst (λ (x : Part). Faulty t x.trail cause) (sym leads) (faulty_said (read_stream waits) m cause t h.0);
+pub hears_next : (before after : Seen) (p : PeerNo) (bytes rest : List ℕ) (new : Peer) (m : Msg) (t : Trail) (r : Reply)
+    → part_after (read_stream bytes) t ≡ part_after (read_stream rest) (Said m ∷ t) → HearsSeen before after p new m t r
+    → HearsNext before after p bytes rest new t (Some r)
+hears_next before after p bytes rest new m t NoReply leads h =
+    record { message = m; leads = leads; holds = h.0.0; owes = h.0.1; gains = h.1 }
+hears_next before after p bytes rest new m t (Send reply) leads h =
+    record { message = m; leads = leads; holds = h.0.0; owes = h.0.1; gains = h.1 }
+hears_next before after p bytes rest new m t (Close cause) leads h = record {
+  faulty = subst (λ (x : Part). Faulty t x.trail cause) (sym leads) (faulty_said (read_stream rest) m cause t h.0);
   same = h.1;
 }
+
+-- ---- bytes of a piece that go to the framer
+
+-- no more are taken than there are
+pub taken_within : (bytes piece : List ℕ) (n : ℕ) → IsFilled bytes piece n → n ≤ length piece
+taken_within bytes piece n so = so.within
+
+-- those that were taken of it, and those that are left
+pub taken_joined : (bytes piece fed left : List ℕ) (n : ℕ) → fed ≡ bytes ++ take n piece → left ≡ drop n piece
+    → fed ++ left ≡ bytes ++ piece
+taken_joined bytes piece fed left n is rest =
+    ap (λ (l : List ℕ). l ++ left) is
+    ∙ append_assoc bytes (take n piece) left
+    ∙ ap (λ (l : List ℕ). bytes ++ l) (ap (λ (l : List ℕ). take n piece ++ l) rest ∙ take-append-drop n piece)
+
+none_of : (xs : List ℕ) → length xs ≡ 0 → xs ≡ []
+none_of [] e = refl
+none_of (x ∷ xs) e = absurd (omega (arith, e))
+
+left_none : (piece left : List ℕ) (n : ℕ) → take n piece ≡ piece → take n piece ++ left ≡ piece → left ≡ []
+left_none piece left n all both =
+    none_of left (omega (arith, ap length all, ap length both, length-append (take n piece) left))
+
+-- where no whole frame waits then, nothing is left
+pub taken_all : (bytes piece fed left : List ℕ) (n : ℕ) → IsFilled bytes piece n → fed ≡ bytes ++ take n piece
+    → left ≡ drop n piece → front_of fed ≡ Ok None → left ≡ []
+taken_all bytes piece fed left n so is rest front =
+    rest
+    ∙ left_none piece (drop n piece) n (all_taken bytes piece n so (ap front_of (sym is) ∙ front)) (take-append-drop n piece)
+
+-- the frame at the front of the bytes, once some of the piece were taken
+pub taken_leads : (bytes fed left new : List ℕ) (m : Msg) (t : Trail) → fed ++ left ≡ bytes
+    → part_after (read_stream (fed ++ left)) t ≡ part_after (read_stream (after_frame fed ++ left)) (Said m ∷ t)
+    → new ≡ after_frame fed → part_after (read_stream bytes) t ≡ part_after (read_stream (new ++ left)) (Said m ∷ t)
+taken_leads bytes fed left new m t joined reads done =
+    ap (λ (l : List ℕ). part_after (read_stream l) t) (sym joined)
+    ∙ reads
+    ∙ ap (λ (l : List ℕ). part_after (read_stream (l ++ left)) (Said m ∷ t)) (sym done)
+
+pub taken_waits : (bytes fed left : List ℕ) (t : Trail) → fed ++ left ≡ bytes → left ≡ [] → front_of fed ≡ Ok None
+    → part_after (read_stream bytes) t ≡ record { trail = t; waits = fed ++ left }
+taken_waits bytes fed left t joined none front =
+    let whole : fed ++ left ≡ fed = ap (λ (l : List ℕ). fed ++ l) none ∙ append-nil fed in
+    ap (λ (l : List ℕ). part_after (read_stream l) t) (sym joined) ∙ waits_says (fed ++ left) t (ap front_of whole ∙ front)
+
+pub taken_stops : (seen : Seen) (bytes fed left : List ℕ) (t : Trail) (cause : Cause) → fed ++ left ≡ bytes
+    → Faulty t (part_after (read_stream (fed ++ left)) t).trail cause → Stops seen seen bytes t cause
+taken_stops seen bytes fed left t cause joined faulty = record {
+  faulty = subst (λ (l : List ℕ). Faulty t (part_after (read_stream l) t).trail cause) joined faulty;
+  same = same_seen seen;
+}
+
+-- a frame was taken, and is done with: fewer bytes are left
+pub taken_fewer : (bytes fed left new : List ℕ) → fed ++ left ≡ bytes → HasFrame fed → new ≡ after_frame fed
+    → length (new ++ left) < length bytes
+taken_fewer bytes fed left new joined has done =
+    omega (arith, done_shorter fed has, ap length done, ap length joined, length-append new left, length-append fed left)
 
 -- ---- a piece
 
@@ -400,15 +453,17 @@ gives_said peer m start t jobs h is =
       ];
     }
 
-midway_start : (p : PeerNo) (peer : Peer) (seen : Seen) (acts : List Act) (piece : List ℕ) (start : Part) → Holds peer start.trail → peer.framer ≡ start.waits ++ piece
-    → Follows seen p.0 start.trail → Midway p peer seen seen acts acts start (heard_part piece start)
-midway_start p peer seen acts piece start holds e f = record {
+-- nothing of the piece was taken yet
+pub midway_start : (p : PeerNo) (peer : Peer) (waits : List ℕ) (seen : Seen) (acts : List Act) (piece : List ℕ) (start : Part)
+    → Holds peer start.trail → waits ≡ start.waits → Follows seen p.0 start.trail
+    → Midway p peer (waits ++ piece) seen seen acts acts start (heard_part piece start)
+midway_start p peer waits seen acts piece start holds e f = record {
   so_far = start.trail;
   replies = [];
   acts = sym (append-nil acts);
   are = record { each = tt; after_version = inl refl };
   holds = holds;
-  leads = ap (λ (w : List ℕ). part_after (read_stream w) start.trail) e;
+  leads = ap (λ (w : List ℕ). part_after (read_stream (w ++ piece)) start.trail) e;
   owes = sym (append-nil (owed start.trail));
   news = [];
   brings = refl;
@@ -417,16 +472,10 @@ midway_start p peer seen acts piece start holds e f = record {
   gains = gains_none seen p start.trail f;
 }
 
--- the piece is added to the bytes that wait
-pub midway_fed : (p : PeerNo) (old peer : Peer) (seen : Seen) (acts : List Act) (piece : List ℕ) (start : Part) → peer ≡ record old { framer = old.framer ++ piece } → Holds old start.trail → old.framer ≡ start.waits
-    → Follows seen p.0 start.trail → Midway p peer seen seen acts acts start (heard_part piece start)
-midway_fed p old peer seen acts piece start fed holds waits f =
-    midway_start p peer seen acts piece start (subst (λ (x : Peer). Holds x start.trail) (sym fed) (same_holds old (old.framer ++ piece) start.trail holds))
-    (ap (λ (x : Peer). x.framer) fed ∙ ap (λ (w : List ℕ). w ++ piece) waits) f
-
-pub midway_quiet : (p : PeerNo) (old new : Peer) (seen now next : Seen) (before acts : List Act) (start end : Part) (midway : Midway p old seen now before acts start end)
-    → Advances now next p old new midway.so_far [] → Midway p new seen next before acts start end
-midway_quiet p old new seen now next before acts start end midway moves = record {
+pub midway_quiet : (p : PeerNo) (old new : Peer) (bytes rest : List ℕ) (seen now next : Seen) (before acts : List Act)
+    (start end : Part) (midway : Midway p old bytes seen now before acts start end)
+    → Advances now next p bytes rest new midway.so_far [] → Midway p new rest seen next before acts start end
+midway_quiet p old new bytes rest seen now next before acts start end midway moves = record {
   so_far = Said moves.message ∷ midway.so_far;
   replies = midway.replies;
   acts = midway.acts;
@@ -441,9 +490,11 @@ midway_quiet p old new seen now next before acts start end midway moves = record
   gains = gains_then seen now next p midway.so_far (Said moves.message ∷ midway.so_far) midway.news (fetched_by moves.message (request midway.so_far)) midway.jobs (given_by moves.message (request midway.so_far)) midway.gains moves.gains;
 }
 
-pub midway_reply : (p : PeerNo) (old new : Peer) (seen now next : Seen) (before acts more : List Act) (start end : Part) (r : Msg) (midway : Midway p old seen now before acts start end)
-    → Advances now next p old new midway.so_far (r ∷ []) → more ≡ acts ++ SendTo p r ∷ [] → Midway p new seen next before more start end
-midway_reply p old new seen now next before acts more start end r midway moves e =
+pub midway_reply : (p : PeerNo) (old new : Peer) (bytes rest : List ℕ) (seen now next : Seen) (before acts more : List Act)
+    (start end : Part) (r : Msg) (midway : Midway p old bytes seen now before acts start end)
+    → Advances now next p bytes rest new midway.so_far (r ∷ []) → more ≡ acts ++ SendTo p r ∷ []
+    → Midway p new rest seen next before more start end
+midway_reply p old new bytes rest seen now next before acts more start end r midway moves e =
     let is = reply_is moves.message r midway.so_far moves.owes in
     record {
       so_far = Said moves.message ∷ midway.so_far;
@@ -476,16 +527,19 @@ gains_same a b c p t news jobs x y = record {
   opens = else_then a.opens b.opens c.opens p.0 x.opens (else_of b.opens c.opens p.0 y.opens);
 }
 
-pub midway_whole : (p : PeerNo) (old new : Peer) (seen now next : Seen) (before acts : List Act) (start end : Part) (midway : Midway p old seen now before acts start end)
-    → HearsNext now next p old new midway.so_far None → HeardWhole p new seen next before acts start end
-midway_whole p old new seen now next before acts start end midway answer =
-    let is : record { trail = midway.so_far; waits = new.framer } ≡ end = sym answer.1 ∙ midway.leads in
-    subst (λ (e : Part). HeardWhole p new seen next before acts start e) is (record {
+-- the framer is put back into the peer
+pub midway_whole : (p : PeerNo) (old new : Peer) (bytes waits left : List ℕ) (seen now next : Seen) (before acts : List Act)
+    (start end : Part) (midway : Midway p old bytes seen now before acts start end)
+    → HearsNext now next p bytes (waits ++ left) new midway.so_far None → left ≡ []
+    → HeardWhole p (record new { framer = waits }) seen next before acts start end
+midway_whole p old new bytes waits left seen now next before acts start end midway answer none =
+    let is : record { trail = midway.so_far; waits = waits ++ left } ≡ end = sym answer.1 ∙ midway.leads in
+    subst (λ (e : Part). HeardWhole p (record new { framer = waits }) seen next before acts start e) is (record {
       replies = midway.replies;
       acts = midway.acts;
       are = record { each = midway.are.each; after_version = midway.are.after_version };
-      holds = answer.0;
-      waits = refl;
+      holds = same_holds new waits midway.so_far answer.0;
+      waits = sym (ap (λ (l : List ℕ). waits ++ l) none ∙ append-nil waits);
       owes = midway.owes;
       news = midway.news;
       brings = midway.brings;
@@ -505,9 +559,10 @@ gives_late t end start jobs e is = record {
   only = λ job i. is.only job (subst (λ (js : List Job). IsIn job js) e i);
 }
 
-pub midway_fault : (p : PeerNo) (old : Peer) (seen now next : Seen) (before acts : List Act) (start end : Part) (cause : Cause) (midway : Midway p old seen now before acts start end)
-    → Stops now next old midway.so_far cause → HeardFault p seen next before acts start end cause
-midway_fault p old seen now next before acts start end cause midway stops =
+pub midway_fault : (p : PeerNo) (old : Peer) (bytes : List ℕ) (seen now next : Seen) (before acts : List Act) (start end : Part)
+    (cause : Cause) (midway : Midway p old bytes seen now before acts start end)
+    → Stops now next bytes midway.so_far cause → HeardFault p seen next before acts start end cause
+midway_fault p old bytes seen now next before acts start end cause midway stops =
     let faulty = subst (λ (x : Part). Faulty midway.so_far x.trail cause) midway.leads stops.faulty in
     record {
       replies = midway.replies;
@@ -521,6 +576,19 @@ midway_fault p old seen now next before acts start end cause midway stops =
       gives = gives_late midway.so_far end.trail start.trail midway.jobs faulty.same_given midway.gives;
       kept = gains_retains seen now next p midway.so_far midway.news midway.jobs midway.gains stops.same;
     }
+
+-- the framer is taken out of the peer for a piece, and put back
+pub put_back : (r : Result (Option Cause) NoMemory) (p : PeerNo) (old taken now new : Peer) (fed waits piece : List ℕ)
+    (seen next : Seen) (acts more : List Act)
+    → taken ≡ record old { framer = [] } → fed ≡ old.framer → new ≡ record now { framer = waits }
+    → IfOk r (λ o. (part : Part) → Holds taken part.trail → fed ≡ part.waits → Follows seen p.0 part.trail
+    → HeardPiece p (record now { framer = waits }) seen next acts more part (heard_part piece part) o)
+    → IfOk r (λ o. (part : Part) → Holds old part.trail → old.framer ≡ part.waits → Follows seen p.0 part.trail
+    → HeardPiece p new seen next acts more part (heard_part piece part) o)
+put_back (Ok o) p old taken now new fed waits piece seen next acts more out from back h = λ part holds is f.
+    subst (λ (x : Peer). HeardPiece p x seen next acts more part (heard_part piece part) o) (sym back)
+    (h part (subst (λ (x : Peer). Holds x part.trail) (sym out) (same_holds old [] part.trail holds)) (from ∙ is) f)
+put_back (Err e) p old taken now new fed waits piece seen next acts more out from back h = h
 
 -- one act more that can be done
 pub doable_with : (p : PeerNo) (m : Msg) (acts more : List Act) → p.0 < 9 → All IsDoable acts → IsSendable m → more ≡ acts ++ SendTo p m ∷ [] → All IsDoable more

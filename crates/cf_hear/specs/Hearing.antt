@@ -39,25 +39,27 @@ HearsSeen before after p peer m t NoReply = Hears peer m t NoReply × Gains befo
 HearsSeen before after p peer m t (Send r) = Hears peer m t (Send r) × Gains before after p (Said m ∷ t) (fetched_by m (request t)) (given_by m (request t))
 HearsSeen before after p peer m t (Close cause) = Hears peer m t (Close cause) × IsSameSeen before after
 
--- one frame was taken, with one message, and these replies are owed to it
-pub record Advances (before after : Seen) (p : PeerNo) (old new : Peer) (t : Trail) (replies : List Msg) : Type 0 where
+-- one frame was taken from the bytes, which left these, with one message, and these replies are owed to it
+pub record Advances (before after : Seen) (p : PeerNo) (bytes rest : List ℕ) (new : Peer) (t : Trail) (replies : List Msg)
+    : Type 0 where
   pub message : Msg
-  pub leads : part_after (read_stream old.framer) t ≡ part_after (read_stream new.framer) (Said message ∷ t)
+  pub leads : part_after (read_stream bytes) t ≡ part_after (read_stream rest) (Said message ∷ t)
   pub holds : Holds new (Said message ∷ t)
   pub owes : reply_to message t ≡ replies
   pub gains : Gains before after p (Said message ∷ t) (fetched_by message (request t)) (given_by message (request t))
 
--- the stream deserves a cause, and what was seen stays
-pub record Stops (before after : Seen) (old : Peer) (t : Trail) (cause : Cause) : Type 0 where
-  pub faulty : Faulty t (part_after (read_stream old.framer) t).trail cause
+-- the bytes deserve a cause, and what was seen stays
+pub record Stops (before after : Seen) (bytes : List ℕ) (t : Trail) (cause : Cause) : Type 0 where
+  pub faulty : Faulty t (part_after (read_stream bytes) t).trail cause
   pub same : IsSameSeen before after
 
--- what the next frame does, if one waits
-abbrev pub HearsNext : Seen → Seen → PeerNo → Peer → Peer → Trail → Option Reply → Type 0
-HearsNext before after p old new t None = Holds new t × (part_after (read_stream old.framer) t ≡ record { trail = t; waits = new.framer }) × IsSameSeen before after
-HearsNext before after p old new t (Some NoReply) = Advances before after p old new t []
-HearsNext before after p old new t (Some (Send r)) = Advances before after p old new t (r ∷ [])
-HearsNext before after p old new t (Some (Close cause)) = Stops before after old t cause
+-- what the frame at the front of the bytes does, if one is whole, and what bytes it leaves
+abbrev pub HearsNext : Seen → Seen → PeerNo → List ℕ → List ℕ → Peer → Trail → Option Reply → Type 0
+HearsNext before after p bytes rest new t None =
+    Holds new t × (part_after (read_stream bytes) t ≡ record { trail = t; waits = rest }) × IsSameSeen before after
+HearsNext before after p bytes rest new t (Some NoReply) = Advances before after p bytes rest new t []
+HearsNext before after p bytes rest new t (Some (Send r)) = Advances before after p bytes rest new t (r ∷ [])
+HearsNext before after p bytes rest new t (Some (Close cause)) = Stops before after bytes t cause
 
 abbrev pub goes_on : Option Reply → Bool
 goes_on None = false
@@ -120,14 +122,15 @@ abbrev pub HeardPiece : PeerNo → Peer → Seen → Seen → List Act → List 
 HeardPiece p new seen now before after start end None = HeardWhole p new seen now before after start end
 HeardPiece p new seen now before after start end (Some cause) = HeardFault p seen now before after start end cause
 
--- on the way through a piece: what is left of it leads to its end
-pub record Midway (p : PeerNo) (peer : Peer) (seen now : Seen) (before after : List Act) (start end : Part) : Type 0 where
+-- on the way through a piece: the bytes that wait, with what is left of it behind them, lead to its end
+pub record Midway (p : PeerNo) (peer : Peer) (bytes : List ℕ) (seen now : Seen) (before after : List Act) (start end : Part)
+    : Type 0 where
   pub so_far : Trail
   pub replies : List Msg
   pub acts : after ≡ before ++ map (λ (m : Msg). SendTo p m) replies
   pub are : AreReplies replies so_far
   pub holds : Holds peer so_far
-  pub leads : part_after (read_stream peer.framer) so_far ≡ end
+  pub leads : part_after (read_stream bytes) so_far ≡ end
   pub owes : owed so_far ≡ owed start.trail ++ replies
   pub news : List Block
   pub brings : Brings start.trail so_far news

@@ -1,7 +1,9 @@
 //! How a peer's bytes are taken.
-ghost use Rattle.std.specs.Prelude.{◌≡◌, ◌≢◌, ◌<◌, ◌≤◌, ℕ, List, false, true, Some, None, IsSome, IfOk, IfSome, OnOk, length};
+ghost use Rattle.std.specs.Prelude.{◌≡◌, ◌≢◌, ◌<◌, ◌≤◌, ◌++◌, ℕ, List, [], true, Some, None, Ok, IsSome, IfOk, IfSome, IfNone, OnOk, length, false};
 ghost use Rattle.std.specs.List.{All};
+ghost use Rattle.cf_frame.specs.Reading.{front_of};
 ghost use Rattle.cf_msg.specs.declared.msg.Msg.TheVariants.{Headers, Block as BlockMessage, Cfheaders, Cfilter};
+ghost use Rattle.cf_lent.specs.View.{msg_of};
 ghost use Rattle.cf_peer.specs.Acts.{IsDoable};
 ghost use Rattle.cf_peer.specs.Trail.{Trail, Part, heard_part};
 ghost use Rattle.cf_peer.specs.Peer.{Holds, calm, is_idle_peer, IsReplySendable, IsRight};
@@ -15,13 +17,16 @@ ghost use Rattle.cf_hear.specs.Seen.{Follows, seen_of};
 ghost use Rattle.cf_hear.specs.Hearing.{HearsSeen, HearsNext, HeardPiece, goes_on};
 ghost use Rattle.cf_hear.specs.Judging.{IsJudgedBy, AreJudgedBy, judging_of};
 
-use cf_block::{Block, Header, block_hash, check_commitment_by, txids};
-use cf_bytes::{Hash32, NoMemory, PeerNo, Refused};
+use crate::lists::{hashes_in, headers_in};
+use cf_block::{Header, block_hash};
+use cf_bytes::{Cut, Hash32, NoMemory, PeerNo, Refused};
+use cf_frame::Framer;
 use cf_headers::HeaderStore;
+use cf_lent::View;
 use cf_match::Matcher;
-use cf_msg::Msg;
-use cf_peer::{Act, Cause, Heard, Incoming, Peer, Reply, cause_of};
+use cf_peer::{Act, Cause, Coming, Heard, Peer, Reply, cause_of, next_coming};
 use cf_tracker::Tracker;
+use cf_view::{BlockView, check_view_by, view_txids};
 use std::alloc::Global;
 
 // Takes headers that a tracked peer sent. Those of a peer that isn't ready are read over.
@@ -60,7 +65,7 @@ fn hear_block<H: HeaderStore>(
     tracker: &mut Tracker<H>,
     peer: &mut Peer,
     p: PeerNo,
-    block: &Block,
+    block: &BlockView,
 ) -> Result<Reply, NoMemory>
     requires entered { IsSome (chains_of tracker.old p.0) }
     requires right { IsRight peer.old.request (claims_of tracker.old p.0) }
@@ -74,12 +79,12 @@ fn hear_block<H: HeaderStore>(
     ensures waits { peer.new.framer ≡ peer.old.framer }
     ensures calm { calm peer.old ≡ true → calm peer.new ≡ true }
 {
-    let hash = block_hash(&block.header);
+    let hash = block_hash(block.header());
     if !peer.awaits(&hash) {
         return Ok(Reply::Nothing);
     }
-    let hashes = txids(alloc, block.txs.as_slice())?;
-    match check_commitment_by(alloc, block, hashes.as_slice()) {
+    let hashes = view_txids(alloc, block)?;
+    match check_view_by(alloc, block, hashes.as_slice()) {
         Ok(()) => {}
         Err(Refused::No(_)) => return Ok(Reply::Close(Cause::BadBlock)),
         Err(Refused::NoMemory) => return Err(NoMemory),
@@ -182,12 +187,13 @@ fn hear<H: HeaderStore, M: Matcher>(
     matcher: &mut M,
     peer: &mut Peer,
     p: PeerNo,
-    message: &Msg,
+    message: View,
 ) -> Result<Reply, NoMemory>
     requires low { p.0 ≤ 8 }
     requires entered { IsSome (chains_of tracker.old p.0) }
     requires right { IsRight peer.old.request (claims_of tracker.old p.0) }
-    ensures heard { IfOk result (λ r. (t : Trail) → Holds peer.old t → Follows (seen_of tracker.old) p.0 t → HearsSeen (seen_of tracker.old) (seen_of tracker.new) p peer.new message.now t r) }
+    ensures heard { IfOk result (λ r. (t : Trail) → Holds peer.old t → Follows (seen_of tracker.old) p.0 t
+        → HearsSeen (seen_of tracker.old) (seen_of tracker.new) p peer.new (msg_of message.entry) t r) }
     ensures sendable { IfOk result IsReplySendable }
     ensures entered { OnOk result (IsSome (chains_of tracker.new p.0)) }
     ensures right { OnOk result (IsRight peer.new.request (claims_of tracker.new p.0)) }
@@ -200,24 +206,34 @@ fn hear<H: HeaderStore, M: Matcher>(
     ensures calm { calm peer.old ≡ true → calm peer.new ≡ true }
 {
     match message {
-        Msg::Headers(headers) => {
+        View::Headers(headers) => {
+            let headers = headers_in(alloc, headers)?;
             let reply = hear_headers(tracker, peer, p, headers.as_slice())?;
             Ok(reply)
         }
-        Msg::Block(block) => {
-            let reply = hear_block(alloc, tracker, peer, p, block)?;
+        View::Block(block) => {
+            let reply = hear_block(alloc, tracker, peer, p, &block)?;
             Ok(reply)
         }
-        Msg::Cfheaders {
+        View::Cfheaders {
             filter,
             stop,
             previous,
             hashes,
         } => {
-            let reply = hear_claims(tracker, peer, p, *filter, stop, previous, hashes.as_slice())?;
+            let hashes = hashes_in(alloc, hashes)?;
+            let reply = hear_claims(
+                tracker,
+                peer,
+                p,
+                filter,
+                &stop,
+                &previous,
+                hashes.as_slice(),
+            )?;
             Ok(reply)
         }
-        Msg::Cfilter {
+        View::Cfilter {
             filter,
             block,
             bytes,
@@ -228,30 +244,49 @@ fn hear<H: HeaderStore, M: Matcher>(
                 matcher,
                 peer,
                 p,
-                *filter,
-                block,
+                filter,
+                &block,
                 bytes.as_slice(),
             )?;
             Ok(reply)
         }
-        _ => Ok(peer.hear(message)),
+        other => Ok(peer.hear(&other)),
     }
 }
 
-// Takes the next frame of a tracked peer, if one waits whole.
+// Takes bytes of a piece up to the end of the frame that is being read.
+#[tactic(auto, using(crate::proofs::Hearing::taken_within, crate::proofs::Hearing::taken_joined, crate::proofs::Hearing::taken_all))]
+fn take_bytes(framer: &mut Framer, piece: &mut Cut) -> Result<(), NoMemory>
+    ensures joined { OnOk result (framer.new ++ piece.new ≡ framer.old ++ piece.old) }
+    ensures all { OnOk result (front_of framer.new ≡ Ok None → piece.new ≡ []) }
+{
+    let rest = piece.rest();
+    let taken = framer.fill(rest)?;
+    *piece = Cut::new(&rest[taken..]);
+    Ok(())
+}
+
+// Takes bytes of a piece of a tracked peer up to the end of a frame, and then that frame, if it is whole. Where none
+// is, nothing is left of the piece.
 fn hear_next<H: HeaderStore, M: Matcher>(
     alloc: Global,
     tracker: &mut Tracker<H>,
     matcher: &mut M,
+    framer: &mut Framer,
     peer: &mut Peer,
     p: PeerNo,
+    piece: &mut Cut,
 ) -> Result<Option<Reply>, NoMemory>
     requires low { p.0 ≤ 8 }
     requires entered { IsSome (chains_of tracker.old p.0) }
     requires right { IsRight peer.old.request (claims_of tracker.old p.0) }
-    ensures heard { IfOk result (λ o. (t : Trail) → Holds peer.old t → Follows (seen_of tracker.old) p.0 t → HearsNext (seen_of tracker.old) (seen_of tracker.new) p peer.old peer.new t o) }
+    ensures heard { IfOk result (λ o. (t : Trail) → Holds peer.old t → Follows (seen_of tracker.old) p.0 t
+        → HearsNext (seen_of tracker.old) (seen_of tracker.new) p
+        (framer.old ++ piece.old) (framer.new ++ piece.new) peer.new t o) }
+    ensures whole { IfOk result (λ o. IfNone o (piece.new ≡ [])) }
     ensures sendable { IfOk result (λ o. IfSome o IsReplySendable) }
-    ensures shorter { IfOk result (λ o. goes_on o ≡ true → length peer.new.framer < length peer.old.framer) }
+    ensures shorter { IfOk result (λ o. goes_on o ≡ true
+        → length (framer.new ++ piece.new) < length (framer.old ++ piece.old)) }
     ensures entered { OnOk result (IsSome (chains_of tracker.new p.0)) }
     ensures right { OnOk result (IsRight peer.new.request (claims_of tracker.new p.0)) }
     ensures others { OnOk result ((q : ℕ) → q ≢ p.0 → chains_of tracker.new q ≡ chains_of tracker.old q) }
@@ -261,14 +296,55 @@ fn hear_next<H: HeaderStore, M: Matcher>(
         (judging_of tracker.old matcher.old) (judging_of tracker.new matcher.new)) }
     ensures calm { calm peer.old ≡ true → calm peer.new ≡ true }
 {
-    match peer.next(alloc)? {
+    take_bytes(framer, piece)?;
+    match next_coming(framer) {
         None => Ok(None),
-        Some(Incoming::Fault(cause)) => Ok(Some(Reply::Close(cause))),
-        Some(Incoming::Message(message)) => {
-            let reply = hear(alloc, tracker, matcher, peer, p, &message)?;
+        Some(Coming::Fault(cause)) => Ok(Some(Reply::Close(cause))),
+        Some(Coming::Message(message)) => {
+            let reply = hear(alloc, tracker, matcher, peer, p, message)?;
+            framer.done();
             Ok(Some(reply))
         }
     }
+}
+
+// Takes a piece of a tracked peer's bytes by the framer that was taken out of the peer.
+fn hear_frames<H: HeaderStore, M: Matcher>(
+    alloc: Global,
+    tracker: &mut Tracker<H>,
+    matcher: &mut M,
+    framer: &mut Framer,
+    peer: &mut Peer,
+    p: PeerNo,
+    piece: &[u8],
+    acts: &mut Vec<Act>,
+) -> Result<Option<Cause>, NoMemory>
+    requires low { p.0 ≤ 8 }
+    requires entered { IsSome (chains_of tracker.old p.0) }
+    requires right { IsRight peer.old.request (claims_of tracker.old p.0) }
+    ensures heard { IfOk result (λ o. (part : Part) → Holds peer.old part.trail → framer.old ≡ part.waits
+        → Follows (seen_of tracker.old) p.0 part.trail
+        → HeardPiece p (record peer.new { framer = framer.new }) (seen_of tracker.old) (seen_of tracker.new)
+        acts.old.items acts.new.items part (heard_part piece.now part) o) }
+    ensures doable { OnOk result (p.0 < 9 → All IsDoable acts.old.items → All IsDoable acts.new.items) }
+    ensures entered { OnOk result (IsSome (chains_of tracker.new p.0)) }
+    ensures right { OnOk result (IsRight peer.new.request (claims_of tracker.new p.0)) }
+    ensures others { OnOk result ((q : ℕ) → q ≢ p.0 → chains_of tracker.new q ≡ chains_of tracker.old q) }
+    ensures claims { OnOk result ((q : ℕ) → q ≢ p.0 → (block : List ℕ) → claims_of tracker.new q block ≡ claims_of tracker.old q block) }
+    ensures watch { OnOk result (watch_of tracker.new ≡ watch_of tracker.old) }
+    ensures judged { OnOk result (AreJudgedBy M.judges (watch_of tracker.old)
+        (judging_of tracker.old matcher.old) (judging_of tracker.new matcher.new)) }
+    ensures calm { OnOk result (calm peer.old ≡ true → calm peer.new ≡ true) }
+{
+    let mut rest = Cut::new(piece);
+    while let Some(reply) = hear_next(alloc, tracker, matcher, framer, peer, p, &mut rest)? {
+        match reply {
+            Reply::Nothing => {}
+            Reply::Send(message) => acts.push(Act::Send(p, message))?,
+            Reply::Close(cause) => return Ok(Some(cause)),
+        }
+    }
+    Ok(None)
 }
 
 /// Takes a piece of a tracked peer's bytes, up to the first frame that deserves a cause, and adds the replies that are owed to
@@ -296,13 +372,8 @@ pub fn hear_piece<H: HeaderStore, M: Matcher>(
         (judging_of tracker.old matcher.old) (judging_of tracker.new matcher.new)) }
     ensures calm { OnOk result (calm peer.old ≡ true → calm peer.new ≡ true) }
 {
-    peer.feed(piece)?;
-    while let Some(reply) = hear_next(alloc, tracker, matcher, peer, p)? {
-        match reply {
-            Reply::Nothing => {}
-            Reply::Send(message) => acts.push(Act::Send(p, message))?,
-            Reply::Close(cause) => return Ok(Some(cause)),
-        }
-    }
-    Ok(None)
+    let mut framer = peer.take_framer(alloc);
+    let heard = hear_frames(alloc, tracker, matcher, &mut framer, peer, p, piece, acts);
+    peer.put_framer(framer);
+    heard
 }

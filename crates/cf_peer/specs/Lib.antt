@@ -4,3 +4,4 @@ pub mod Peer
 pub mod Hearing
 pub mod Acts
 pub mod Held
+pub mod Lent

@@ -1,5 +1,5 @@
 //! How much is kept of one peer.
-ghost use Rattle.std.specs.Prelude.{◌≡◌};
+ghost use Rattle.std.specs.Prelude.{◌≡◌, length};
 ghost use Rattle.cf_peer.specs.Held.{count_came};
 
 use crate::peer::{Peer, Request};
@@ -13,5 +13,12 @@ impl Peer {
             Request::Filters(batch, _) => batch.came.len(),
             _ => 0,
         }
+    }
+
+    /// How many of its bytes wait: no frame of theirs is whole yet. It takes no memory.
+    pub fn bytes_held(&self) -> usize
+        ensures { result ≡ length self.now.framer }
+    {
+        self.framer.len()
     }
 }

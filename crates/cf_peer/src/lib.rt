@@ -4,12 +4,12 @@
 mod act;
 mod claims;
 mod filters;
-mod hear;
 mod held;
+mod lent;
 mod peer;
 
 pub use act::Act;
 pub use claims::cause_of;
 pub use filters::Heard;
-pub use hear::Incoming;
+pub use lent::{Coming, next_coming};
 pub use peer::{Batch, Cause, Peer, Range, Reply, Request};

@@ -9,6 +9,7 @@ ghost use Rattle.cf_headers.specs.Chain.{accept};
 ghost use Rattle.cf_headers.specs.Changes.{link_height, change_of};
 ghost use Rattle.cf_msg.specs.declared.msg.Msg.{Msg};
 ghost use Rattle.cf_msg.specs.declared.msg.Msg.TheVariants.{Headers, Block as BlockMessage};
+ghost use Rattle.cf_lent.specs.View.{msg_of};
 ghost use Rattle.cf_peer.specs.Trail.{Trail, Said, Passed, Asked, own, reply_to};
 ghost use Rattle.cf_peer.specs.Asking.{request, verdict, fetched_by};
 ghost use Rattle.cf_peer.specs.Peer.{Holds, Hears, IsRight, TakesHeaders, calm, called_peer, is_ready_peer, is_idle_peer, is_plain, IsVersionOf, busy, wants, awaits as awaits_block, is_fetching as fetches, asked_for_headers, asked_for_block, IsReplySendable};
@@ -16,6 +17,7 @@ ghost use Rattle.cf_peer.specs.Peer.{Holds, Hears, IsRight, TakesHeaders, calm, 
 use cf_bytes::{Hash32, Listed};
 use cf_frame::Framer;
 use cf_headers::Change;
+use cf_lent::View;
 use cf_match::Job;
 use cf_msg::{Hashes, Msg};
 use std::alloc::Global;
@@ -141,23 +143,23 @@ impl Peer {
 
     /// Takes one message that is neither headers nor claims, a filter or a block.
     #[tactic(auto, unfolding(cf_msg::specs::Message::payload_of))]
-    pub fn hear(&mut self, message: &Msg) -> Reply
-        requires plain { is_plain message.now ≡ true }
+    pub fn hear(&mut self, message: &View) -> Reply
+        requires plain { is_plain (msg_of message.now) ≡ true }
         ensures sendable { IsReplySendable result }
-        ensures heard { (t : Trail) → Holds self.old t → Hears self.new message.now t result }
+        ensures heard { (t : Trail) → Holds self.old t → Hears self.new (msg_of message.now) t result }
         ensures right { (table : Table) → IsRight self.old.request table → IsRight self.new.request table }
         ensures waits { self.new.framer ≡ self.old.framer }
         ensures calm { calm self.old ≡ true → calm self.new ≡ true }
     {
         match message {
-            Msg::Version { services, .. } => self.hear_version(*services),
-            Msg::Verack => {
+            View::Version { services, .. } => self.hear_version(*services),
+            View::Verack => {
                 if self.met && !self.is_ready() {
                     self.request = Request::Nothing;
                 }
                 Reply::Nothing
             }
-            Msg::Ping(number) => {
+            View::Ping(number) => {
                 if self.met {
                     Reply::Send(Msg::Pong(*number))
                 } else {

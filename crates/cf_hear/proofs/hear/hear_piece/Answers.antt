@@ -1,88 +1,10 @@
-use Rattle.std.proofs.Common.{Option, Some, refl, sym, ◌∙◌, ap, subst}
-use Rattle.std.specs.Prelude.{IfSome}
-use Rattle.cf_peer.specs.declared.peer.Peer.{Peer}
-use Rattle.cf_peer.specs.declared.peer.Reply.{Reply}
-use Rattle.cf_peer.specs.Trail.{heard_part}
-use Rattle.cf_peer.specs.Peer.{IsRight, calm, IsReplySendable}
-use Rattle.cf_tracker.specs.Tracker.{claims_of, watch_of}
 use Rattle.cf_hear.specs.Seen.{seen_of}
-use Rattle.cf_hear.specs.Hearing.{HearsNext}
-use Rattle.cf_hear.specs.Judging.{judging_of}
-use Rattle.cf_hear.proofs.Hearing.{midway_fed, midway_quiet, midway_reply, midway_fault, doable_with}
-use Rattle.cf_hear.proofs.Judging.{judged_none, judged_then}
+use Rattle.cf_hear.proofs.Hearing.{put_back}
 use Rattle.cf_hear.proofs.hear.hear_piece.Goals as goal
 
-pub loop-reply-init : goal.loop-reply-init
-loop-reply-init g c = record {
-  midway = λ part holds waits chain.
-      midway_fed c.args.p c.args.peer.now c.feed.new.self (seen_of c.args.tracker.now) c.args.acts.now.items c.args.piece.now part c.in_ok-feed.ensures.fed holds waits chain;
-  doable = λ number all. all;
-  entered = c.requires.entered;
-  right = subst (λ (x : Peer). IsRight x.request (claims_of c.args.tracker.now c.args.p.0)) (sym c.in_ok-feed.ensures.fed) c.requires.right;
-  others = λ q ne. refl;
-  claims = λ q ne block. refl;
-  watch = refl;
-  judged = judged_none g.M.Matcher.judges (watch_of c.args.tracker.now) (judging_of c.args.tracker.now c.args.matcher.now);
-  quiet = λ is. ap (λ (x : Peer). calm x) c.in_ok-feed.ensures.fed ∙ is;
-}
-
-pub loop-reply-preserved-in-Nothing : goal.loop-reply-preserved-in-Nothing
-loop-reply-preserved-in-Nothing g c = record {
-  midway = λ part holds waits chain.
-      let midway = c.loop-reply.invariant.midway part holds waits chain in
-      let answer = c.in_ok-reply.ensures.heard midway.so_far midway.holds midway.gains.follows in
-      let moves = subst (λ (o : Option Reply). HearsNext (seen_of c.loop-reply.tracker) (seen_of c.hear_next.new.tracker) c.args.p c.loop-reply.peer c.hear_next.new.peer midway.so_far o) (c.in-Some.is ∙ ap Some c.in-Nothing.is) answer in
-      midway_quiet c.args.p c.loop-reply.peer c.hear_next.new.peer (seen_of c.args.tracker.now) (seen_of c.loop-reply.tracker) (seen_of c.hear_next.new.tracker)
-      c.args.acts.now.items c.loop-reply.acts.items part (heard_part c.args.piece.now part) midway moves;
-  doable = c.loop-reply.invariant.doable;
-  entered = c.in_ok-reply.ensures.entered;
-  right = c.in_ok-reply.ensures.right;
-  others = λ q ne. c.in_ok-reply.ensures.others q ne ∙ c.loop-reply.invariant.others q ne;
-  claims = λ q ne block. c.in_ok-reply.ensures.claims q ne block ∙ c.loop-reply.invariant.claims q ne block;
-  watch = c.in_ok-reply.ensures.watch ∙ c.loop-reply.invariant.watch;
-  judged = judged_then g.M.Matcher.judges (watch_of c.args.tracker.now) (watch_of c.loop-reply.tracker) (judging_of c.args.tracker.now c.args.matcher.now)
-      (judging_of c.loop-reply.tracker c.loop-reply.matcher) (judging_of c.hear_next.new.tracker c.hear_next.new.matcher)
-      c.loop-reply.invariant.judged c.loop-reply.invariant.watch c.in_ok-reply.ensures.judged;
-  quiet = λ is. c.in_ok-reply.ensures.calm (c.loop-reply.invariant.quiet is);
-}
-
-pub loop-reply-preserved : goal.loop-reply-preserved
-loop-reply-preserved g c = record {
-  midway = λ part holds waits chain.
-      let midway = c.loop-reply.invariant.midway part holds waits chain in
-      let answer = c.in_ok-reply.ensures.heard midway.so_far midway.holds midway.gains.follows in
-      let moves = subst (λ (o : Option Reply). HearsNext (seen_of c.loop-reply.tracker) (seen_of c.hear_next.new.tracker) c.args.p c.loop-reply.peer c.hear_next.new.peer midway.so_far o) (c.in-Some.is ∙ ap Some c.in-Send.is) answer in
-      midway_reply c.args.p c.loop-reply.peer c.hear_next.new.peer (seen_of c.args.tracker.now) (seen_of c.loop-reply.tracker) (seen_of c.hear_next.new.tracker)
-      c.args.acts.now.items c.loop-reply.acts.items c.push.new.self.items part (heard_part c.args.piece.now part) c.in-Send.message midway moves c.in_ok-push-in-Send.ensures.items;
-  doable = λ number all. doable_with c.args.p c.in-Send.message c.loop-reply.acts.items c.push.new.self.items number (c.loop-reply.invariant.doable number all)
-      (subst (λ (o : Option Reply). IfSome o IsReplySendable) (c.in-Some.is ∙ ap Some c.in-Send.is) c.in_ok-reply.ensures.sendable) c.in_ok-push-in-Send.ensures.items;
-  entered = c.in_ok-reply.ensures.entered;
-  right = c.in_ok-reply.ensures.right;
-  others = λ q ne. c.in_ok-reply.ensures.others q ne ∙ c.loop-reply.invariant.others q ne;
-  claims = λ q ne block. c.in_ok-reply.ensures.claims q ne block ∙ c.loop-reply.invariant.claims q ne block;
-  watch = c.in_ok-reply.ensures.watch ∙ c.loop-reply.invariant.watch;
-  judged = judged_then g.M.Matcher.judges (watch_of c.args.tracker.now) (watch_of c.loop-reply.tracker) (judging_of c.args.tracker.now c.args.matcher.now)
-      (judging_of c.loop-reply.tracker c.loop-reply.matcher) (judging_of c.hear_next.new.tracker c.hear_next.new.matcher)
-      c.loop-reply.invariant.judged c.loop-reply.invariant.watch c.in_ok-reply.ensures.judged;
-  quiet = λ is. c.in_ok-reply.ensures.calm (c.loop-reply.invariant.quiet is);
-}
-
-pub returns-in-Close-clause-heard : goal.returns-in-Close-clause-heard
-returns-in-Close-clause-heard g c = λ part holds waits f.
-    let midway = c.loop-reply.invariant.midway part holds waits f in
-    let answer = c.in_ok-reply.ensures.heard midway.so_far midway.holds midway.gains.follows in
-    let stops = subst (λ (o : Option Reply). HearsNext (seen_of c.loop-reply.tracker) (seen_of c.hear_next.new.tracker) c.args.p c.loop-reply.peer c.hear_next.new.peer midway.so_far o) (c.in-Some.is ∙ ap Some c.in-Close.is) answer in
-    midway_fault c.args.p c.loop-reply.peer (seen_of c.args.tracker.now) (seen_of c.loop-reply.tracker) (seen_of c.hear_next.new.tracker)
-    c.args.acts.now.items c.loop-reply.acts.items part (heard_part c.args.piece.now part) c.in-Close.cause midway stops
-
-pub returns-in-Close-clause-judged : goal.returns-in-Close-clause-judged
-returns-in-Close-clause-judged g c =
-    judged_then g.M.Matcher.judges (watch_of c.args.tracker.now) (watch_of c.loop-reply.tracker) (judging_of c.args.tracker.now c.args.matcher.now)
-    (judging_of c.loop-reply.tracker c.loop-reply.matcher) (judging_of c.hear_next.new.tracker c.hear_next.new.matcher)
-    c.loop-reply.invariant.judged c.loop-reply.invariant.watch c.in_ok-reply.ensures.judged
-
-pub returns-clause-judged : goal.returns-clause-judged
-returns-clause-judged g c =
-    judged_then g.M.Matcher.judges (watch_of c.args.tracker.now) (watch_of c.loop-reply.tracker) (judging_of c.args.tracker.now c.args.matcher.now)
-    (judging_of c.loop-reply.tracker c.loop-reply.matcher) (judging_of c.hear_next.new.tracker c.hear_next.new.matcher)
-    c.loop-reply.invariant.judged c.loop-reply.invariant.watch c.in_ok-reply.ensures.judged
+pub returns-clause-heard : goal.returns-clause-heard
+returns-clause-heard g c =
+    put_back c.hear_frames-heard.result c.args.p c.args.peer.now c.take_framer-framer.new.self c.hear_frames-heard.new.peer c.put_framer.new.self
+    c.take_framer-framer.result c.hear_frames-heard.new.framer c.args.piece.now (seen_of c.args.tracker.now) (seen_of c.hear_frames-heard.new.tracker)
+    c.args.acts.now.items c.hear_frames-heard.new.acts.items
+    c.take_framer-framer.ensures.others c.take_framer-framer.ensures.framer c.put_framer.ensures c.hear_frames-heard.ensures.heard

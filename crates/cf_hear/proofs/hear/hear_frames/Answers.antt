@@ -1,0 +1,96 @@
+use Rattle.std.proofs.Common.{ℕ, List, ◌++◌, Option, Some, refl, sym, ◌∙◌, ap, subst}
+use Rattle.std.specs.Prelude.{IfSome}
+use Rattle.cf_peer.specs.declared.peer.Reply.{Reply}
+use Rattle.cf_peer.specs.Trail.{heard_part}
+use Rattle.cf_peer.specs.Peer.{IsReplySendable}
+use Rattle.cf_tracker.specs.Tracker.{watch_of}
+use Rattle.cf_hear.specs.Seen.{seen_of}
+use Rattle.cf_hear.specs.Hearing.{HearsNext, Midway}
+use Rattle.cf_hear.specs.Judging.{judging_of}
+use Rattle.cf_hear.proofs.Hearing.{midway_start, midway_quiet, midway_reply, midway_fault, doable_with}
+use Rattle.cf_hear.proofs.Judging.{judged_none, judged_then}
+use Rattle.cf_hear.proofs.hear.hear_frames.Goals as goal
+
+pub loop-reply-init : goal.loop-reply-init
+loop-reply-init g c = record {
+  midway = λ part holds waits chain.
+      subst (λ (rest : List ℕ). Midway c.args.p c.args.peer.now (c.args.framer.now ++ rest) (seen_of c.args.tracker.now)
+      (seen_of c.args.tracker.now) c.args.acts.now.items c.args.acts.now.items part (heard_part c.args.piece.now part))
+      (sym c.new-rest.ensures)
+      (midway_start c.args.p c.args.peer.now c.args.framer.now (seen_of c.args.tracker.now) c.args.acts.now.items
+      c.args.piece.now part holds waits chain);
+  doable = λ number all. all;
+  entered = c.requires.entered;
+  right = c.requires.right;
+  others = λ q ne. refl;
+  claims = λ q ne block. refl;
+  watch = refl;
+  judged = judged_none g.M.Matcher.judges (watch_of c.args.tracker.now) (judging_of c.args.tracker.now c.args.matcher.now);
+  quiet = λ is. is;
+}
+
+pub loop-reply-preserved-in-Nothing : goal.loop-reply-preserved-in-Nothing
+loop-reply-preserved-in-Nothing g c = record {
+  midway = λ part holds waits chain.
+      let midway = c.loop-reply.invariant.midway part holds waits chain in
+      let answer = c.in_ok-reply.ensures.heard midway.so_far midway.holds midway.gains.follows in
+      let moves = subst (λ (o : Option Reply). HearsNext (seen_of c.loop-reply.tracker) (seen_of c.hear_next.new.tracker) c.args.p
+      (c.loop-reply.framer ++ c.loop-reply.rest) (c.hear_next.new.framer ++ c.hear_next.new.piece) c.hear_next.new.peer midway.so_far o) (c.in-Some.is ∙ ap Some c.in-Nothing.is) answer in
+      midway_quiet c.args.p c.loop-reply.peer c.hear_next.new.peer (c.loop-reply.framer ++ c.loop-reply.rest)
+      (c.hear_next.new.framer ++ c.hear_next.new.piece) (seen_of c.args.tracker.now) (seen_of c.loop-reply.tracker) (seen_of c.hear_next.new.tracker)
+      c.args.acts.now.items c.loop-reply.acts.items part (heard_part c.args.piece.now part) midway moves;
+  doable = c.loop-reply.invariant.doable;
+  entered = c.in_ok-reply.ensures.entered;
+  right = c.in_ok-reply.ensures.right;
+  others = λ q ne. c.in_ok-reply.ensures.others q ne ∙ c.loop-reply.invariant.others q ne;
+  claims = λ q ne block. c.in_ok-reply.ensures.claims q ne block ∙ c.loop-reply.invariant.claims q ne block;
+  watch = c.in_ok-reply.ensures.watch ∙ c.loop-reply.invariant.watch;
+  judged = judged_then g.M.Matcher.judges (watch_of c.args.tracker.now) (watch_of c.loop-reply.tracker) (judging_of c.args.tracker.now c.args.matcher.now)
+      (judging_of c.loop-reply.tracker c.loop-reply.matcher) (judging_of c.hear_next.new.tracker c.hear_next.new.matcher)
+      c.loop-reply.invariant.judged c.loop-reply.invariant.watch c.in_ok-reply.ensures.judged;
+  quiet = λ is. c.in_ok-reply.ensures.calm (c.loop-reply.invariant.quiet is);
+}
+
+pub loop-reply-preserved : goal.loop-reply-preserved
+loop-reply-preserved g c = record {
+  midway = λ part holds waits chain.
+      let midway = c.loop-reply.invariant.midway part holds waits chain in
+      let answer = c.in_ok-reply.ensures.heard midway.so_far midway.holds midway.gains.follows in
+      let moves = subst (λ (o : Option Reply). HearsNext (seen_of c.loop-reply.tracker) (seen_of c.hear_next.new.tracker) c.args.p
+      (c.loop-reply.framer ++ c.loop-reply.rest) (c.hear_next.new.framer ++ c.hear_next.new.piece) c.hear_next.new.peer midway.so_far o) (c.in-Some.is ∙ ap Some c.in-Send.is) answer in
+      midway_reply c.args.p c.loop-reply.peer c.hear_next.new.peer (c.loop-reply.framer ++ c.loop-reply.rest)
+      (c.hear_next.new.framer ++ c.hear_next.new.piece) (seen_of c.args.tracker.now) (seen_of c.loop-reply.tracker) (seen_of c.hear_next.new.tracker)
+      c.args.acts.now.items c.loop-reply.acts.items c.push.new.self.items part (heard_part c.args.piece.now part) c.in-Send.message midway moves c.in_ok-push-in-Send.ensures.items;
+  doable = λ number all. doable_with c.args.p c.in-Send.message c.loop-reply.acts.items c.push.new.self.items number (c.loop-reply.invariant.doable number all)
+      (subst (λ (o : Option Reply). IfSome o IsReplySendable) (c.in-Some.is ∙ ap Some c.in-Send.is) c.in_ok-reply.ensures.sendable) c.in_ok-push-in-Send.ensures.items;
+  entered = c.in_ok-reply.ensures.entered;
+  right = c.in_ok-reply.ensures.right;
+  others = λ q ne. c.in_ok-reply.ensures.others q ne ∙ c.loop-reply.invariant.others q ne;
+  claims = λ q ne block. c.in_ok-reply.ensures.claims q ne block ∙ c.loop-reply.invariant.claims q ne block;
+  watch = c.in_ok-reply.ensures.watch ∙ c.loop-reply.invariant.watch;
+  judged = judged_then g.M.Matcher.judges (watch_of c.args.tracker.now) (watch_of c.loop-reply.tracker) (judging_of c.args.tracker.now c.args.matcher.now)
+      (judging_of c.loop-reply.tracker c.loop-reply.matcher) (judging_of c.hear_next.new.tracker c.hear_next.new.matcher)
+      c.loop-reply.invariant.judged c.loop-reply.invariant.watch c.in_ok-reply.ensures.judged;
+  quiet = λ is. c.in_ok-reply.ensures.calm (c.loop-reply.invariant.quiet is);
+}
+
+pub returns-in-Close-clause-heard : goal.returns-in-Close-clause-heard
+returns-in-Close-clause-heard g c = λ part holds waits f.
+    let midway = c.loop-reply.invariant.midway part holds waits f in
+    let answer = c.in_ok-reply.ensures.heard midway.so_far midway.holds midway.gains.follows in
+    let stops = subst (λ (o : Option Reply). HearsNext (seen_of c.loop-reply.tracker) (seen_of c.hear_next.new.tracker) c.args.p
+    (c.loop-reply.framer ++ c.loop-reply.rest) (c.hear_next.new.framer ++ c.hear_next.new.piece) c.hear_next.new.peer midway.so_far o) (c.in-Some.is ∙ ap Some c.in-Close.is) answer in
+    midway_fault c.args.p c.loop-reply.peer (c.loop-reply.framer ++ c.loop-reply.rest) (seen_of c.args.tracker.now) (seen_of c.loop-reply.tracker) (seen_of c.hear_next.new.tracker)
+    c.args.acts.now.items c.loop-reply.acts.items part (heard_part c.args.piece.now part) c.in-Close.cause midway stops
+
+pub returns-in-Close-clause-judged : goal.returns-in-Close-clause-judged
+returns-in-Close-clause-judged g c =
+    judged_then g.M.Matcher.judges (watch_of c.args.tracker.now) (watch_of c.loop-reply.tracker) (judging_of c.args.tracker.now c.args.matcher.now)
+    (judging_of c.loop-reply.tracker c.loop-reply.matcher) (judging_of c.hear_next.new.tracker c.hear_next.new.matcher)
+    c.loop-reply.invariant.judged c.loop-reply.invariant.watch c.in_ok-reply.ensures.judged
+
+pub returns-clause-judged : goal.returns-clause-judged
+returns-clause-judged g c =
+    judged_then g.M.Matcher.judges (watch_of c.args.tracker.now) (watch_of c.loop-reply.tracker) (judging_of c.args.tracker.now c.args.matcher.now)
+    (judging_of c.loop-reply.tracker c.loop-reply.matcher) (judging_of c.hear_next.new.tracker c.hear_next.new.matcher)
+    c.loop-reply.invariant.judged c.loop-reply.invariant.watch c.in_ok-reply.ensures.judged
