@@ -15,7 +15,7 @@ use Rattle.cf_msg.specs.declared.msg.Msg.TheVariants.{Verack, Pong}
 use Rattle.cf_msg.specs.Reading.{message_of}
 use Rattle.cf_peer.specs.declared.act.Act.{Act}
 use Rattle.cf_peer.specs.declared.act.Act.TheVariants.{Send, Close}
-use Rattle.cf_wires.specs.declared.event.Delivery.TheVariants.{Got, Gone, Tick}
+use Rattle.cf_wires.specs.declared.event.Delivery.TheVariants.{Got, Gone, Tick, Ended}
 use Rattle.cf_wires.specs.declared.event.Event.TheVariants.{Sent, Closed, Took}
 use Rattle.cf_peer.specs.declared.peer.Cause.{Cause}
 use Rattle.cf_peer.specs.declared.peer.Cause.TheVariants.{SendFailed}
@@ -35,7 +35,7 @@ use Rattle.cf_sync.proofs.Counted.{same_use}
 use Rattle.cf_hear.specs.Hearing.{HeardWhole, HeardFault}
 use Rattle.cf_hear.specs.Seen.{Seen, Follows}
 use Rattle.cf_hear.specs.Tracks.{Tracks, IsPut}
-use Rattle.cf_hear.proofs.Tracking.{tracks_sent, tracks_closed, tracks_gone, tracks_away, tracks_tick, tracks_lost, tracks_deaf, tracks_heard, tracks_faulty, put_off}
+use Rattle.cf_hear.proofs.Tracking.{tracks_sent, tracks_closed, tracks_gone, tracks_away, tracks_tick, tracks_ended, tracks_lost, tracks_deaf, tracks_heard, tracks_faulty, put_off}
 use Rattle.cf_place.specs.declared.place.Place.{Place}
 use Rattle.cf_place.specs.declared.place.Place.TheVariants.{Here, Lost}
 use Rattle.cf_place.specs.declared.place.Loss.{Loss}
@@ -491,6 +491,13 @@ away_moves d p none order away = stay_moves order (taken (λ log stood.
     stands_start d.places d.seen d.acts (Took (Gone p) ∷ log) none
     (stand_same d.places log (Took (Gone p)) stand (λ q fits. gone_fits (get_or d.places q nobody) p q (part_of log q) (λ same. ap (λ (k : ℕ). is_here (get_or d.places k nobody)) same ∙ away) fits) refl)
     (tracks_away d.seen p log (here_on (get_or d.places p.0 nobody) (part_of log p.0) (stand.each p.0) ∙ away) (start_tracks d log none stood))))
+
+-- the end of all deliveries changes nothing
+pub ended_moves : (d : Desk) → d.acts ≡ [] → IsInOrder d → Moves (Taking Ended) d d
+ended_moves d none order = stay_moves order (taken (λ log stood.
+    stands_start d.places d.seen d.acts (Took Ended ∷ log) none
+    (stand_same d.places log (Took Ended) (start_places d log none stood) (λ q fits. fits) refl)
+    (tracks_ended d.seen log (start_tracks d log none stood))))
 
 -- the send to a peer has failed, and it is closed
 cut_goes : {watch : List (List ℕ)} (places : List Place) (log cut : Log) (p : PeerNo) → p.0 < length places → PlacesStand places log → CutFor p log cut → Goes watch (set places p.0 (Lost (ClosedFor SendFailed))) (Close p SendFailed ∷ []) cut

@@ -1,10 +1,11 @@
-use Rattle.std.proofs.Common.{◌+◌, [], ◌∷◌, ◌++◌, Err, refl, ap}
+use Rattle.std.proofs.Common.{ℕ, ◌+◌, [], ◌∷◌, ◌++◌, Err, refl, ◌∙◌, ap, subst}
+use Rattle.cf_bytes.specs.declared.peer.PeerNo.{PeerNo}
 use Rattle.cf_wires.specs.declared.event.Event.TheVariants.{Dialled, NotDialled}
-use Rattle.cf_client.specs.Stands.{words_by}
+use Rattle.cf_client.specs.Stands.{Reflects, words_by}
 use Rattle.cf_client.proofs.Courses.{dials_none, quiet_runs, dialled_one, missed_one, one_more_then}
 use Rattle.cf_client.proofs.Passing.{dialled_then, missed_alone, keeps_after}
 use Rattle.cf_client.proofs.Versions.{entry_keeps, same_keeps}
-use Rattle.cf_client.proofs.Turns.{dial_doing}
+use Rattle.cf_client.proofs.Turns.{dial_doing, not_dialled_holds}
 use Rattle.cf_client.proofs.over.dial_one.Goals as goal
 
 pub returns-in_ok-greet-in-Ok-clause-holds : goal.returns-in_ok-greet-in-Ok-clause-holds
@@ -45,6 +46,15 @@ pub returns-in_err-greet-in-Ok-clause-dials : goal.returns-in_err-greet-in-Ok-cl
 returns-in_err-greet-in-Ok-clause-dials g c =
     dialled_then c.in-Ok.p c.args.name.now _ c.in-Ok.ensures.dialled.1 c.in-Ok.ensures.cause.later c.in-Ok.ensures.same c.in-Ok.ensures.keeps refl c.requires.step
     c.in_err-greet-in-Ok.ensures.performs
+
+pub returns-in_ok-not_dialled-in-Err-Failed-clause-holds : goal.returns-in_ok-not_dialled-in-Err-Failed-clause-holds
+returns-in_ok-not_dialled-in-Err-Failed-clause-holds g c = λ called holds.
+    let e = c.in_ok-not_dialled-in-Err-Failed.ensures in
+    let p : PeerNo = record { 0 = (g.W.Wires.told c.args.wires.now).tally.dials + 1 } in
+    rw (c.in-Err-Failed.ensures.not_dialled (ap Err c.in-Err-Failed.field-0-is))
+    (not_dialled_holds c.args.client.now c.not_dialled.new.self c.args.progress.now called (g.W.Wires.told c.args.wires.now) p c.args.name.now holds refl c.requires.room c.requires.untaken c.requires.unended e.watch
+    (subst (λ (q : PeerNo). Reflects c.not_dialled.new.self (NotDialled q c.args.name.now ∷ holds.actual))
+    (ap (λ (n : ℕ). record { 0 = n }) (c.next_number.ensures ∙ c.requires.next)) (e.reflects holds.actual holds.reflects)))
 
 pub returns-in_ok-not_dialled-in-Err-Failed-clause-versions : goal.returns-in_ok-not_dialled-in-Err-Failed-clause-versions
 returns-in_ok-not_dialled-in-Err-Failed-clause-versions g c = λ called holds.
