@@ -16,6 +16,9 @@ use Rattle.cf_frame.proofs.Lending.{all_taken}
 use Rattle.cf_headers.specs.Chain.{Hash, Chain, IsIn, Accepted, Longer, NoLonger, Unlinked, Invalid, TooHigh, accept}
 use Rattle.cf_headers.specs.Changes.{chain_after}
 use Rattle.cf_headers.specs.Store.{Puts, own_of}
+use Rattle.cf_lent.specs.declared.views.View.{View}
+use Rattle.cf_lent.specs.declared.views.View.TheVariants as lents
+use Rattle.cf_lent.specs.View.{msg_of}
 use Rattle.cf_msg.specs.declared.msg.Msg.{Msg}
 use Rattle.cf_msg.specs.declared.msg.Msg.TheVariants.{Headers, Block as BlockMessage, Cfheaders, Cfilter}
 use Rattle.cf_peer.specs.declared.act.Act.{Act}
@@ -314,15 +317,16 @@ headers_end before after p old peer hs t cause holds over gives puts f watch cla
       },
     )
 
--- a message that has to do with nothing that is kept beside the peer
-pub plain_else : (m : Msg) → ((hs : List Header) → m ≡ Headers hs → ⊥) → ((b : Block) → m ≡ BlockMessage b → ⊥)
-    → ((filter : ℕ) (block : Hash32) (bytes : List ℕ) → m ≡ Cfilter filter block bytes → ⊥)
-    → ((filter : ℕ) (stop previous : Hash32) (hashes : List Hash32) → m ≡ Cfheaders filter stop previous hashes → ⊥) → is_plain m ≡ true
-plain_else (Headers hs) headers block filter claims = absurd (headers hs refl)
-plain_else (BlockMessage b) headers block filter claims = absurd (block b refl)
-plain_else (Cfilter f b y) headers block filter claims = absurd (filter f b y refl)
-plain_else (Cfheaders f s p hs) headers block filter claims = absurd (claims f s p hs refl)
-plain_else m headers block filter claims = refl
+-- a message that is lent, and has to do with nothing that is kept beside the peer
+pub plain_lent : (v : View) → ((hs : List Header) → v ≡ lents.Headers hs → ⊥) → ((b : Block) → v ≡ lents.Block b → ⊥)
+    → ((filter : ℕ) (block : Hash32) (bytes : List ℕ) → v ≡ lents.Cfilter filter block bytes → ⊥)
+    → ((filter : ℕ) (stop previous : Hash32) (hashes : List Hash32) → v ≡ lents.Cfheaders filter stop previous hashes → ⊥)
+    → is_plain (msg_of v) ≡ true
+plain_lent (lents.Headers hs) headers block filter claims = absurd (headers hs refl)
+plain_lent (lents.Block b) headers block filter claims = absurd (block b refl)
+plain_lent (lents.Cfilter f b y) headers block filter claims = absurd (filter f b y refl)
+plain_lent (lents.Cfheaders f s p hs) headers block filter claims = absurd (claims f s p hs refl)
+plain_lent v headers block filter claims = refl
 
 plain_given : (m : Msg) (r : OpenRequest) → is_plain m ≡ true → given_by m r ≡ []
 plain_given (Cfilter filter block bytes) r plain = cc plain

@@ -1,9 +1,10 @@
+use Rattle.cf_lent.specs.View.{msg_of}
 use Rattle.cf_hear.specs.Seen.{seen_of}
-use Rattle.cf_hear.proofs.Hearing.{plain_else, plain_hears}
+use Rattle.cf_hear.proofs.Hearing.{plain_lent, plain_hears}
 use Rattle.cf_hear.proofs.hear.hear.Goals as goal
 
 pub returns-in_default-clause-heard : goal.returns-in_default-clause-heard
 returns-in_default-clause-heard g c = λ t h f.
     let d = c.in_default in
-    plain_hears (seen_of c.args.tracker.now) c.args.p c.hear.new.self c.args.message.now t c.hear.result
-    (plain_else c.args.message.now d.not-Headers d.not-Block d.not-Cfilter d.not-Cfheaders) (c.hear.ensures.heard t h) f
+    plain_hears (seen_of c.args.tracker.now) c.args.p c.hear.new.self (msg_of c.args.message) t c.hear.result
+    (plain_lent c.args.message d.not-Headers d.not-Block d.not-Cfilter d.not-Cfheaders) (c.hear.ensures.heard t h) f
