@@ -1,4 +1,7 @@
 //! The call that serves.
+ghost use Rattle.std.specs.Prelude.{◌≡◌, [], false, IfSome};
+ghost use Rattle.cf_wires.specs.Memory.{failing_of, finished_of, log_of};
+
 use crate::link::ToldLink;
 use crate::port::Port;
 use crate::row::{chain_in, shown, words_at};
@@ -7,8 +10,18 @@ use cf_cli::run;
 use cf_played::Played;
 use cf_tasks::InThreads;
 use cf_wires::MemoryWires;
+use std::alloc::Global;
 use std::sync::Wait;
 use std::thread::Threads;
+
+// Wires in memory, over which nothing has passed and no call fails.
+fn new_wires(alloc: Global) -> Option<MemoryWires>
+    ensures log { IfSome result (λ w. log_of w ≡ []) }
+    ensures failing { IfSome result (λ w. failing_of w ≡ []) }
+    ensures finished { IfSome result (λ w. finished_of w ≡ false) }
+{
+    MemoryWires::new(alloc).ok()
+}
 
 // How the call ends, and what it writes. The port is told once it listens.
 fn served<R: Wait + Threads + Sync + Copy + Drop + Send + 'static>(
@@ -21,8 +34,8 @@ fn served<R: Wait + Threads + Sync + Copy + Drop + Send + 'static>(
     let alloc = rt.alloc();
     let words = words_at(alloc, call, 0)?;
     let mut files = chain_in(alloc, blocks)?;
-    let mut wires = MemoryWires::new(alloc).ok()?;
-    let mut tape = MemoryWires::new(alloc).ok()?;
+    let mut wires = new_wires(alloc)?;
+    let mut tape = new_wires(alloc)?;
     let mut played = Played::new(alloc).ok()?;
     let mut out = VecSink::new(alloc, 7, 1000).ok()?;
     let status = run(
