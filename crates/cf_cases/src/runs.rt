@@ -7,6 +7,7 @@ use crate::servings::{in_threads, no_link};
 use cf_answers::Status;
 use cf_bytes::{FileFail, Files, MapFiles, VecSink};
 use cf_cli::run;
+use cf_grow::Nobody;
 use cf_input::read_session;
 use cf_played::Played;
 use cf_wires::MemoryWires;
@@ -99,6 +100,7 @@ fn answered<R: Wait + Threads + Sync + Copy + Drop + Send + 'static>(
     let status = run(
         rt,
         alloc,
+        Nobody,
         words,
         0,
         0,

@@ -13,7 +13,7 @@ names_read (Filter file height) = file ∷ []
 names_read (Address text) = []
 names_read (Prove file txid) = file ∷ []
 names_read (Check file) = file ∷ []
-names_read (Serve count file address) = file ∷ []
+names_read (Serve grow count file address) = file ∷ []
 names_read (Make witness seed blocks file) = []
 names_read (Demo seed blocks) = []
 

@@ -31,6 +31,7 @@ use crate::serving::serve;
 use cf_answers::Status;
 use cf_bytes::{Files, Refused, Sink};
 use cf_conn::Duplex;
+use cf_grow::Joins;
 use cf_input::{Command, MOST_TURNS, Word, read_words};
 use cf_match::Plain;
 use cf_parallel::Parallel;
@@ -152,6 +153,7 @@ fn threads_of(workers: u32) -> u32
 // Does what a command asks.
 fn perform<
     R: Wait + Threads + Sync + Copy + Drop + Send + 'static,
+    J: Joins + Copy + Drop + Send + 'static,
     F: Files,
     W: Wires,
     L: Link,
@@ -160,6 +162,7 @@ fn perform<
 >(
     rt: R,
     alloc: Global,
+    joins: J,
     command: Command,
     moment: i64,
     nonce: u64,
@@ -247,13 +250,16 @@ where
         Command::Prove { file, txid } => prove(alloc, files, file.as_str(), &txid, out),
         Command::Check { file } => check(alloc, files, file.as_str(), out),
         Command::Serve {
+            grow,
             connections,
             file,
             address,
         } => serve(
-            &rt,
+            rt,
             alloc,
             files,
+            grow,
+            joins,
             file.as_str(),
             address.as_str(),
             connections,
@@ -275,7 +281,8 @@ where
 /// All that the program does. The first word is the program's name; `moment` is the time in seconds since 1970 and `nonce` a random number, which
 /// the client's `version` tells. `sync` goes over `wires`, `replay` over `tape`, and `demo` over the peers that it adds to `played`; all three are new,
 /// nothing has passed them, they aren't finished, no call of `tape` is to fail, and `played` has no peers. `serve` goes over `link`, and starts its
-/// connections by `spawner`, and so do `sync` and `demo` the threads that judge filters. The text goes to `out`.
+/// connections by `spawner`, and so do `sync` and `demo` the threads that judge filters. With `--grow` it tells `joins` of each block that joins its
+/// chain. The text goes to `out`.
 ///
 /// `NoMemory` may come in place of any other answer. `Usage` comes where the words ask for nothing. The watch file is judged first, then the session
 /// file: what is missing, refused or good is answered so. After that the run is made; a record of it, where `sync` is asked for one, is put into its
@@ -285,6 +292,7 @@ where
 /// command names are read, the watch file first and each once, and after that at most the one that it writes is written, once.
 pub fn run<
     R: Wait + Threads + Sync + Copy + Drop + Send + 'static,
+    J: Joins + Copy + Drop + Send + 'static,
     F: Files,
     W: Wires,
     L: Link,
@@ -293,6 +301,7 @@ pub fn run<
 >(
     rt: R,
     alloc: Global,
+    joins: J,
     words: &[String],
     moment: i64,
     nonce: u64,
@@ -339,7 +348,7 @@ where
 {
     match read_words(alloc, words) {
         Ok(command) => perform(
-            rt, alloc, command, moment, nonce, files, wires, tape, played, link, spawner, out,
+            rt, alloc, joins, command, moment, nonce, files, wires, tape, played, link, spawner, out,
         ),
         Err(Refused::No(_)) => Status::Usage,
         Err(Refused::NoMemory) => Status::NoMemory,

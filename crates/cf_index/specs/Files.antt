@@ -17,12 +17,12 @@ use Rattle.cf_headers.specs.Rules.{fault_after}
 use Rattle.cf_headers.specs.Chain.{tip_hash, past_of}
 use Rattle.cf_chain.specs.Coins.{CoinMap, coins_after}
 use Rattle.cf_chain.specs.Good.{IsGoodChain, headers_of, max_height}
-use Rattle.cf_index.specs.declared.cause.CoinFault.{CoinFault}
+use Rattle.cf_coins.specs.declared.fault.CoinFault.{CoinFault}
 use Rattle.cf_index.specs.declared.cause.RecordCause.{RecordCause}
 use Rattle.cf_index.specs.declared.cause.RecordCause.TheVariants.{Block as InBlock, Header as InHeader, TooHigh, Commit, Coins as InCoins}
 use Rattle.cf_index.specs.declared.cause.BadBlock.{BadBlock}
 use Rattle.cf_index.specs.Records.{Taken, IsRecordOf, HasRecords, record_at}
-use Rattle.cf_index.specs.Spending.{spend_txs}
+use Rattle.cf_coins.specs.Spending.{spend_txs}
 
 -- ---- good files
 

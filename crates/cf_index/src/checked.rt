@@ -10,9 +10,10 @@ ghost use Rattle.cf_index.specs.Progress.{Keeps};
 use crate::block_filter::BareFilter;
 use crate::chain::{Blocks, Chain};
 use crate::filters::bare_filters;
-use crate::spend::Spent;
 use cf_block::{Block, TxIds};
 use cf_bytes::{Hash32, Listed, NoMemory};
+use cf_coins::Spent;
+use cf_headers::Past;
 use std::alloc::Global;
 use std::marker::Model;
 use std::thread::Threads;
@@ -26,12 +27,13 @@ pub struct CheckedChain {
     pub(crate) txids: Listed<TxIds>,
     pub(crate) spent: Listed<Spent>,
     pub(crate) tip: Hash32,
+    pub(crate) past: Past,
 }
 
 impl Model for CheckedChain {
     ghost use Rattle.std.specs.Prelude.{◌≡◌, List};
     ghost use Rattle.cf_block.specs.declared.tx.Block.{Block};
-    ghost use Rattle.cf_headers.specs.Chain.{tip_hash};
+    ghost use Rattle.cf_headers.specs.Chain.{tip_hash, past_of};
     ghost use Rattle.cf_chain.specs.Good.{headers_of};
     ghost use Rattle.cf_index.specs.Checked.{IsChecked};
 
@@ -39,7 +41,8 @@ impl Model for CheckedChain {
 
     ghost view = { λ s. s.blocks };
 
-    ghost invariant = { λ s. IsChecked s.blocks s.hashes s.txids s.spent × (s.tip.0 ≡ tip_hash (headers_of s.blocks)) };
+    ghost invariant = { λ s. IsChecked s.blocks s.hashes s.txids s.spent
+        × (s.tip.0 ≡ tip_hash (headers_of s.blocks)) × (s.past ≡ past_of (headers_of s.blocks)) };
 }
 
 impl CheckedChain {
@@ -54,6 +57,7 @@ impl CheckedChain {
             txids: chain.txids,
             spent: chain.spent,
             tip: chain.tip,
+            past: chain.past,
         }
     }
 

@@ -1,0 +1,10 @@
+use Rattle.std.proofs.Common.{◌≡◌, false, sym, ◌∙◌, ap}
+use Rattle.cf_index.specs.Files.{all_zeros}
+use Rattle.cf_index.proofs.WalkSteps.{walks_refused}
+use Rattle.cf_index.proofs.judge.walk_on.Goals as goal
+
+pub returns-in-Err-judge_on-clause-exact : goal.returns-in-Err-judge_on-clause-exact
+returns-in-Err-judge_on-clause-exact c =
+    let some : all_zeros c.args.cut.now ≡ false = sym (ap all_zeros c.rest.ensures) ∙ sym c.is_end.ensures ∙ c.if-is_end.false in
+    walks_refused c.args.judge.now c.args.cut.now c.take_record.new.cut c.in-Ok.text.now c.take_record.new.cut c.in-Ok-block_of.block c.in-Err-judge_on.e some
+    c.in-Ok.ensures.exact c.in-Ok-block_of.ensures.exact c.in-Err-judge_on.ensures.exact
