@@ -16,4 +16,5 @@ pub mod WalkSteps
 pub mod WalkFirm
 pub mod WalkSource
 pub mod Strides
+pub mod Sources
 pub mod Judging

@@ -159,7 +159,7 @@ many_bytes : (bytes : List ℕ) → 0 < length (behind_them bytes) → most_byte
 unfolding behind_them
 many_bytes bytes some = omega (arith, some, length-drop most_bytes bytes)
 
-all_count : (bytes : List ℕ) → length bytes ≤ most_bytes → that_count bytes ≡ bytes
+pub all_count : (bytes : List ℕ) → length bytes ≤ most_bytes → that_count bytes ≡ bytes
 unfolding that_count
 all_count bytes few = take_all most_bytes bytes few
 

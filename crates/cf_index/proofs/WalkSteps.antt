@@ -6,9 +6,13 @@ use Rattle.cf_bytes.proofs.Codecs.{value_of}
 use Rattle.cf_bytes.specs.declared.memory.Refused.{Refused}
 use Rattle.cf_bytes.specs.declared.memory.Refused.TheVariants.{No, NoMemory}
 use Rattle.cf_block.specs.declared.tx.Block.{Block}
-use Rattle.cf_block.specs.Commitment.{commit_fault}
+use Rattle.cf_block.specs.declared.tx.Tx.{Tx}
+use Rattle.cf_block.specs.Commitment.{AreTxids, commit_fault}
 use Rattle.cf_block.specs.Stored.{IsStored, stored_block_at}
-use Rattle.cf_block.specs.Tx.{IsBlock}
+use Rattle.cf_block.specs.Tx.{IsBlock, txid_of}
+use Rattle.cf_block.specs.Views.{bytes_of}
+use Rattle.cf_bytes.specs.declared.hash.Hash32.{Hash32}
+use Rattle.std.specs.Prelude.{map, IfSome}
 use Rattle.cf_headers.specs.Rules.{fault_after, past_after}
 use Rattle.cf_headers.specs.Chain.{tip_hash, past_of}
 use Rattle.cf_headers.proofs.Pasts.{past_more}
@@ -76,14 +80,41 @@ next_good : (j : Judge) (bytes more : List ℕ) (x : Block) → next_by j bytes 
 unfolding next_by
 next_good j bytes more x e = text_none (cause_by j.tip.0 j.past j.height j.coins) x more (record_at bytes) e
 
-pub stands_more : (j : Judge) (blocks : List Block) (b : Block) (bytes more : List ℕ) → StandsOn j blocks → next_by j bytes ≡ Ok (b, more) → IsBlock b → StandsOn (after_by j b) (blocks ++ b ∷ [])
-stands_more j blocks b bytes more s e fits = record {
-  good = good_more blocks b s.good fits (sym (cause_is j blocks b s) ∙ next_good j bytes more b e);
+stands_after : (j : Judge) (blocks : List Block) (b : Block) → StandsOn j blocks → cause_by j.tip.0 j.past j.height j.coins b ≡ None → IsBlock b → StandsOn (after_by j b) (blocks ++ b ∷ [])
+stands_after j blocks b s none fits = record {
+  good = good_more blocks b s.good fits (sym (cause_is j blocks b s) ∙ none);
   tip = sym (ap tip_hash (headers_more blocks b));
   past = ap (past_after b.header.time) s.past ∙ sym (ap past_of (headers_more blocks b) ∙ past_more b.header (headers_of blocks));
   height = omega (arith, s.height, length-append blocks (b ∷ []));
   coins = ap (λ (m : CoinMap). after_block m b) s.coins ∙ sym (coins_more empty blocks b);
 }
+
+pub stands_more : (j : Judge) (blocks : List Block) (b : Block) (bytes more : List ℕ) → StandsOn j blocks → next_by j bytes ≡ Ok (b, more) → IsBlock b → StandsOn (after_by j b) (blocks ++ b ∷ [])
+stands_more j blocks b bytes more s e fits = stands_after j blocks b s (next_good j bytes more b e) fits
+
+-- what is kept then stands on the block too
+pub stands_with : (j new : Judge) (b : Block) → cause_by j.tip.0 j.past j.height j.coins b ≡ None → IsBlock b → new ≡ after_by j b
+    → (blocks : List Block) → StandsOn j blocks → StandsOn new (blocks ++ b ∷ [])
+stands_with j new b none fits is blocks s = subst (λ (x : Judge). StandsOn x (blocks ++ b ∷ [])) (sym is) (stands_after j blocks b s none fits)
+
+-- ---- the hashes of its transactions
+
+pub ids_are : (ids : List Hash32) (txs : List Tx) → AreTxids ids txs → ids ≡ map (λ t. record { 0 = txid_of t }) txs
+ids_are [] [] e = refl
+ids_are [] (t ∷ ts) e = cc
+ids_are (h ∷ hs) [] e = cc
+ids_are (h ∷ hs) (t ∷ ts) e =
+    let first : h.0 ≡ txid_of t = cc in
+    let rest : bytes_of hs ≡ map txid_of ts = cc in
+    λ i. record { 0 = first i } ∷ ids_are hs ts rest i
+
+named_so : (txs : List Tx) → AreTxids (map (λ t. record { 0 = txid_of t }) txs) txs
+named_so [] = refl
+named_so (t ∷ ts) = ap (λ (l : List (List ℕ)). txid_of t ∷ l) (named_so ts)
+
+pub hashed_so : (o : Option Block) (old new : Judge) → IfSome o (λ b. new ≡ after_by old b) → IfSome o (λ b. AreTxids new.txids b.txs)
+hashed_so None old new is = tt
+hashed_so (Some b) old new is = ap (λ (j : Judge). bytes_of j.txids) is ∙ named_so b.txs
 
 -- ---- a block that is refused
 

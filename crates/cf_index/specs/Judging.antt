@@ -1,17 +1,20 @@
 -- What is kept of a chain's blocks to judge the next one, and what a step along a file's records answers where no block is kept.
-use Rattle.std.specs.Prelude.{◌≡◌, ◌⊎◌, ℕ, suc, ◌<◌, ◌≤◌, List, [], ◌∷◌, ◌++◌, length, Option, Some, None, IfSome, Result, Ok, Err, true, false}
+use Rattle.std.specs.Prelude.{◌≡◌, ◌⊎◌, ℕ, suc, ◌<◌, ◌≤◌, List, [], ◌∷◌, ◌++◌, length, map, Option, Some, None, IfSome, Result, Ok, Err, true, false}
 use Rattle.std.specs.FinMap.{empty}
 use Rattle.cf_bytes.specs.Cut.{◌>>=◌}
 use Rattle.cf_bytes.specs.Outside.{HasRisen}
+use Rattle.cf_bytes.specs.declared.hash.Hash32.{Hash32}
 use Rattle.cf_bytes.specs.declared.memory.Refused.{Refused}
 use Rattle.cf_bytes.specs.declared.memory.Refused.TheVariants.{No, NoMemory}
 use Rattle.cf_block.specs.declared.tx.Block.{Block}
 use Rattle.cf_block.specs.Commitment.{commit_fault}
 use Rattle.cf_block.specs.Header.{block_hash_of}
 use Rattle.cf_block.specs.Stored.{stored_block_at}
+use Rattle.cf_block.specs.Tx.{txid_of}
 use Rattle.cf_headers.specs.Rules.{fault_after, past_after}
 use Rattle.cf_headers.specs.Chain.{tip_hash, past_of}
 use Rattle.cf_chain.specs.Coins.{CoinMap, after_block, coins_after}
+use Rattle.cf_chain.specs.Filters.{prevouts}
 use Rattle.cf_chain.specs.Good.{IsGoodChain, headers_of}
 use Rattle.cf_conn.specs.Window.{Pane, IsOver}
 use Rattle.cf_conn.specs.declared.reading.ReadFail.{ReadFail}
@@ -44,13 +47,19 @@ next_by j bytes = do
   b ← in_block (stored_block_at text.0)
   passed (cause_by j.tip.0 j.past j.height j.coins b) b text.1
 
--- what is kept once this block was taken
+-- the hashes of a block's transactions
+abbrev pub txids_of : Block → List Hash32
+txids_of b = map (λ t. record { 0 = txid_of t }) b.txs
+
+-- what is kept once this block was taken, and what was found of it
 abbrev pub after_by : Judge → Block → Judge
 after_by j b = record {
   tip = record { 0 = block_hash_of b.header };
   past = past_after b.header.time j.past;
   height = suc j.height;
   coins = after_block j.coins b;
+  txids = txids_of b;
+  spent = prevouts j.coins b;
 }
 
 -- the bytes begin with a record of this block

@@ -50,6 +50,15 @@ Gives bytes blocks (Err faults.TooBig) w left = (most_bytes < length bytes) × N
 Gives bytes blocks (Err faults.ReadFault) w left = Unit {0}
 Gives bytes blocks (Err faults.NoMemory) w left = Unit {0}
 
+-- what reading all the bytes answers: their blocks; the first record that fails within the bytes that count; or that there are more
+-- bytes, where none fails within those
+abbrev pub ReadsAs : List ℕ → Result (List Block) LoadFault → Type 0
+ReadsAs bytes (Ok blocks) = (length bytes ≤ most_bytes) × (blocks_at bytes ≡ Ok blocks)
+ReadsAs bytes (Err (faults.BadBlock bad)) = (blocks_at (that_count bytes) ≡ Err bad) × (bad.cause ≡ Cut → length bytes ≤ most_bytes)
+ReadsAs bytes (Err faults.TooBig) = (most_bytes < length bytes) × NoneFails (blocks_at (that_count bytes))
+ReadsAs bytes (Err faults.ReadFault) = Unit {0}
+ReadsAs bytes (Err faults.NoMemory) = Unit {0}
+
 -- what a call does to the source's count of faults
 abbrev pub CountsLoad : {X : Type 0} → Result X LoadFault → ℕ → ℕ → Type 0
 CountsLoad (Err faults.ReadFault) before after = HasRisen before after

@@ -154,9 +154,9 @@ pub(crate) fn judge_before_coins(
 
 // What the check finds of a block: the hashes of its transactions, and the scripts that it spends.
 #[derive(Drop)]
-struct Found {
-    txids: TxIds,
-    spent: Spent,
+pub(crate) struct Found {
+    pub(crate) txids: TxIds,
+    pub(crate) spent: Spent,
 }
 
 // Judges a block against the chain that it is to stand on, and puts the chain's coins after it.

@@ -14,6 +14,7 @@ mod laws;
 mod load;
 mod record;
 mod shared;
+mod source;
 mod tx_index;
 mod walk;
 
@@ -26,5 +27,6 @@ pub use index::Index;
 pub use laws::{laws_of_adding, laws_of_files};
 pub use load::LoadFault;
 pub use shared::SharedBlock;
+pub use source::read_source;
 pub use tx_index::TxIndex;
 pub use walk::Walk;

@@ -1,6 +1,7 @@
 //! A walk over the records of a source, one block in memory at a time.
 ghost use Rattle.std.specs.Prelude.{◌≡◌, ◌⊎◌, ◌+◌, ◌^◌, ◌≤◌, ◌<◌, ◌++◌, ◌∷◌, [], List, ℕ, Option, Some, None, Bool, true, false, drop, length, option_map, IfOk, IfSome, IfNone, OnOk, OnErr};
 ghost use Rattle.cf_block.specs.declared.tx.Block.{Block};
+ghost use Rattle.cf_block.specs.Commitment.{AreTxids};
 ghost use Rattle.cf_block.specs.Tx.{IsBlock};
 ghost use Rattle.cf_conn.specs.Source.{with_front};
 ghost use Rattle.cf_conn.specs.Steps.{Steps};
@@ -14,14 +15,16 @@ ghost use Rattle.cf_index.specs.Judging.{CountsStop, EndsWith};
 ghost use Rattle.cf_index.specs.Striding.{CountsLoad, Gives, IsWalking};
 
 use crate::cause::{BadBlock, RecordCause};
+use crate::chain::Found;
 use crate::file::{after_genesis, is_end};
 use crate::judge::{Judge, new_judge, number_at, walk_on};
 use crate::load::{LoadFault, MOST_BYTES, fault_of};
 use crate::record::{take_head, take_record};
 use cf_block::Block;
-use cf_bytes::{Cut, Hash32, NoMemory, Refused};
+use cf_bytes::{Cut, Hash32, Listed, NoMemory, Refused};
 use cf_conn::{ReadFail, Source, Window};
 use std::alloc::Global;
+use std::mem;
 
 // Why a walk goes no further: a record is refused, there are more bytes than count, or no more was read.
 #[derive(Clone, Copy, Debug)]
@@ -165,6 +168,7 @@ fn walk_held(
     ensures kept { IfOk result (λ o. IfNone o (window.new.held ≡ window.old.held)) }
     ensures still { OnErr result (window.new.held ≡ window.old.held) }
     ensures after { IfOk result (λ o. IfSome o (λ b. judge.new ≡ after_by judge.old b)) }
+    ensures stands { (blocks : List Block) → StandsOn judge.old blocks → IfOk result (λ o. IfSome o (λ b. StandsOn judge.new (blocks ++ b ∷ []))) }
     ensures found { IfOk result (λ o. IfSome o (λ b. BeginsWith b window.old.held window.new.held)) }
     ensures fits { IfOk result (λ o. IfSome o (λ b. IsBlock b)) }
 {
@@ -194,6 +198,7 @@ fn walk_ready<S: Source>(
         → beyond window.old (S.left source.old) ≡ Some others
         → WalksOver (next_by judge.old bytes) bytes others (seen window.new (S.left source.new)) (beyond window.new (S.left source.new)) result }
     ensures after { IfOk result (λ o. IfSome o (λ b. judge.new ≡ after_by judge.old b)) }
+    ensures stands { (blocks : List Block) → StandsOn judge.old blocks → IfOk result (λ o. IfSome o (λ b. StandsOn judge.new (blocks ++ b ∷ []))) }
     ensures found { (bytes : List ℕ) → seen window.old (S.left source.old) ≡ Some bytes
         → IfOk result (λ o. IfSome o (λ b. IfSome (seen window.new (S.left source.new)) (λ rest. BeginsWith b bytes rest))) }
     ensures fits { IfOk result (λ o. IfSome o (λ b. IsBlock b)) }
@@ -225,6 +230,7 @@ fn walk_source<S: Source>(
         → beyond window.old (S.left source.old) ≡ Some others
         → WalksOver (next_by judge.old bytes) bytes others (seen window.new (S.left source.new)) (beyond window.new (S.left source.new)) result }
     ensures after { IfOk result (λ o. IfSome o (λ b. judge.new ≡ after_by judge.old b)) }
+    ensures stands { (blocks : List Block) → StandsOn judge.old blocks → IfOk result (λ o. IfSome o (λ b. StandsOn judge.new (blocks ++ b ∷ []))) }
     ensures found { (bytes : List ℕ) → seen window.old (S.left source.old) ≡ Some bytes
         → IfOk result (λ o. IfSome o (λ b. IfSome (seen window.new (S.left source.new)) (λ rest. BeginsWith b bytes rest))) }
     ensures fits { IfOk result (λ o. IfSome o (λ b. IsBlock b)) }
@@ -326,6 +332,9 @@ impl Walk {
         ensures walks { (bytes : List ℕ) (blocks : List Block) → IsWalking bytes self.old (S.left source.old) blocks
             → Gives bytes blocks result self.new (S.left source.new) }
         ensures after { IfOk result (λ o. IfSome o (λ b. self.new.judge ≡ after_by self.old.judge b)) }
+        ensures stands { (blocks : List Block) → StandsOn self.old.judge blocks
+            → IfOk result (λ o. IfSome o (λ b. StandsOn self.new.judge (blocks ++ b ∷ []))) }
+        ensures hashed { IfOk result (λ o. IfSome o (λ b. AreTxids self.new.judge.txids b.txs)) }
         ensures fits { IfOk result (λ o. IfSome o (λ b. IsBlock b)) }
         ensures ended { IfOk result (λ o. IfNone o (S.ended source.new ≡ true)) }
         ensures count { CountsLoad result (S.faults source.old) (S.faults source.new) }
@@ -356,5 +365,26 @@ impl Walk {
         ensures { (blocks : List Block) → StandsOn self.now.judge blocks → result.0 ≡ tip_hash (headers_of blocks) }
     {
         self.judge.tip
+    }
+
+    /// The hashes of the transactions of the last block that was given.
+    pub fn txids(&self) -> &[Hash32]
+        ensures { result.now ≡ self.now.judge.txids }
+    {
+        self.judge.txids.as_slice()
+    }
+
+    // What was found of the last block that was given, which the walk lets go.
+    pub(crate) fn take_found(&mut self, alloc: Global) -> Found
+        ensures txids { result.txids ≡ self.old.judge.txids }
+        ensures spent { result.spent ≡ self.old.judge.spent }
+        ensures stands { (blocks : List Block) → StandsOn self.old.judge blocks → StandsOn self.new.judge blocks }
+        ensures walks { (bytes : List ℕ) (left : Option (List ℕ)) (blocks : List Block) → IsWalking bytes self.old left blocks
+            → IsWalking bytes self.new left blocks }
+    {
+        Found {
+            txids: mem::replace(&mut self.judge.txids, Listed::new(alloc)),
+            spent: mem::replace(&mut self.judge.spent, Listed::new(alloc)),
+        }
     }
 }

@@ -1,4 +1,4 @@
-use Rattle.std.proofs.Common.{◌≡◌, List, ℕ, Option, Some, None, Result, Ok, Err, false, true, sym, ◌∙◌, ap, subst}
+use Rattle.std.proofs.Common.{◌≡◌, ◌++◌, ◌∷◌, [], List, ℕ, Option, Some, None, Result, Ok, Err, false, true, sym, ◌∙◌, ap, subst}
 use Rattle.cf_bytes.specs.declared.memory.Refused.{Refused}
 use Rattle.cf_bytes.specs.declared.memory.Refused.TheVariants.{No}
 use Rattle.cf_block.specs.declared.tx.Block.{Block}
@@ -6,7 +6,7 @@ use Rattle.cf_block.specs.Tx.{IsBlock}
 use Rattle.cf_index.specs.declared.cause.RecordCause.{RecordCause}
 use Rattle.cf_index.specs.declared.cause.RecordCause.TheVariants.{Cut}
 use Rattle.cf_index.specs.declared.judge.Judge.{Judge}
-use Rattle.cf_index.specs.Judging.{Walks, after_by, next_by}
+use Rattle.cf_index.specs.Judging.{StandsOn, Walks, after_by, next_by}
 use Rattle.cf_index.proofs.WalkSource.{bad_over, begins_over, cut_over, cut_whole, given_over, none_over, none_then, over_here}
 use Rattle.cf_index.proofs.walk.walk_ready.Goals as goal
 
@@ -28,6 +28,9 @@ returns-in-Ok-None-clause-exact g c = λ bytes others is behind.
 
 pub returns-in-Ok-None-clause-after : goal.returns-in-Ok-None-clause-after
 returns-in-Ok-None-clause-after g c = none_then c.ends.result (λ (b : Block). c.walk_held.new.judge ≡ after_by c.args.judge.now b) c.ends.ensures.none
+
+pub returns-in-Ok-None-clause-stands : goal.returns-in-Ok-None-clause-stands
+returns-in-Ok-None-clause-stands g c = λ blocks s. none_then c.ends.result (λ (b : Block). StandsOn c.walk_held.new.judge (blocks ++ b ∷ [])) c.ends.ensures.none
 
 pub returns-in-Ok-None-clause-fits : goal.returns-in-Ok-None-clause-fits
 returns-in-Ok-None-clause-fits g c = none_then c.ends.result IsBlock c.ends.ensures.none
@@ -51,6 +54,9 @@ returns-in-Cut-clause-exact g c = λ bytes others is behind.
 
 pub returns-in-Cut-clause-after : goal.returns-in-Cut-clause-after
 returns-in-Cut-clause-after g c = none_then c.ends-in-Cut.result (λ (b : Block). c.walk_held.new.judge ≡ after_by c.args.judge.now b) c.ends-in-Cut.ensures.none
+
+pub returns-in-Cut-clause-stands : goal.returns-in-Cut-clause-stands
+returns-in-Cut-clause-stands g c = λ blocks s. none_then c.ends-in-Cut.result (λ (b : Block). StandsOn c.walk_held.new.judge (blocks ++ b ∷ [])) c.ends-in-Cut.ensures.none
 
 pub returns-in-Cut-clause-fits : goal.returns-in-Cut-clause-fits
 returns-in-Cut-clause-fits g c = none_then c.ends-in-Cut.result IsBlock c.ends-in-Cut.ensures.none

@@ -1,9 +1,9 @@
-use Rattle.std.proofs.Common.{◌≡◌, List, ℕ, Option, Some, ◌∙◌, sym, ap, subst}
+use Rattle.std.proofs.Common.{◌≡◌, ◌++◌, ◌∷◌, [], List, ℕ, Option, Some, ◌∙◌, sym, ap, subst}
 use Rattle.std.specs.Prelude.{IfSome}
 use Rattle.cf_block.specs.declared.tx.Block.{Block}
 use Rattle.cf_block.specs.Tx.{IsBlock}
 use Rattle.cf_conn.specs.Window.{beyond, seen}
-use Rattle.cf_index.specs.Judging.{BeginsWith, IsBlank, after_by}
+use Rattle.cf_index.specs.Judging.{BeginsWith, IsBlank, StandsOn, after_by}
 use Rattle.cf_index.proofs.WalkSource.{beyond_same, none_then, ready_so, seen_same}
 use Rattle.cf_index.proofs.walk.walk_source.Goals as goal
 
@@ -24,6 +24,9 @@ returns-then-is_blank-clause-exact g c = λ bytes others is behind.
 
 pub returns-then-is_blank-clause-after : goal.returns-then-is_blank-clause-after
 returns-then-is_blank-clause-after g c = none_then c.walk_zeros.result (λ (b : Block). c.args.judge.now ≡ after_by c.args.judge.now b) c.walk_zeros.ensures.none
+
+pub returns-then-is_blank-clause-stands : goal.returns-then-is_blank-clause-stands
+returns-then-is_blank-clause-stands g c = λ blocks s. none_then c.walk_zeros.result (λ (b : Block). StandsOn c.args.judge.now (blocks ++ b ∷ [])) c.walk_zeros.ensures.none
 
 pub returns-then-is_blank-clause-found : goal.returns-then-is_blank-clause-found
 returns-then-is_blank-clause-found g c = λ bytes is.

@@ -1,8 +1,10 @@
 use Rattle.std.proofs.Common.{◌≡◌, List, ℕ, Option, Some, Result, Ok, Err, refl, sym, ◌∙◌, ap, subst}
 use Rattle.cf_conn.specs.Window.{beyond, seen}
 use Rattle.cf_index.specs.declared.walk.Stop.{Stop}
-use Rattle.cf_index.specs.Judging.{CountsStop, WalksOver, next_by}
+use Rattle.cf_index.specs.declared.judge.Judge.{Judge}
+use Rattle.cf_index.specs.Judging.{CountsStop, StandsOn, WalksOver, next_by}
 use Rattle.cf_index.specs.Striding.{behind_them}
+use Rattle.cf_index.proofs.WalkSteps.{hashed_so}
 use Rattle.cf_index.proofs.Strides.{as_reads, counts_read, gives_bad, gives_more, gives_ok, gives_read}
 use Rattle.cf_index.proofs.walk.Walk.next_block.Goals as goal
 
@@ -34,3 +36,10 @@ returns-in-Err-TooBig-clause-walks g c = λ bytes blocks way.
     let step = c.in-Err-TooBig.ensures.exact on.rest (behind_them bytes) on.told on.others in
     let w = subst (λ (s : Stop). WalksOver (next_by mid.judge on.rest) on.rest (behind_them bytes) (seen c.walk_source.new.window later) (beyond c.walk_source.new.window later) (Err s)) c.in-Err-TooBig.field-0-is step in
     gives_more bytes mid (g.S.Source.left c.begin.new.source) blocks on e.begun w.0 w.1
+
+pub returns-in-Ok-walk_source-clause-stands : goal.returns-in-Ok-walk_source-clause-stands
+returns-in-Ok-walk_source-clause-stands g c = λ blocks s.
+    c.in-Ok-walk_source.ensures.stands blocks (subst (λ (j : Judge). StandsOn j blocks) (sym c.begin.ensures.judge) s)
+
+pub returns-in-Ok-walk_source-clause-hashed : goal.returns-in-Ok-walk_source-clause-hashed
+returns-in-Ok-walk_source-clause-hashed g c = hashed_so c.in-Ok-walk_source.block _ _ c.in-Ok-walk_source.ensures.after
