@@ -8,6 +8,7 @@ use Rattle.cf_bytes.specs.declared.memory.Refused.TheVariants.{No, NoMemory}
 use Rattle.cf_block.specs.declared.tx.Block.{Block}
 use Rattle.cf_block.specs.declared.tx.Tx.{Tx}
 use Rattle.cf_block.specs.Commitment.{AreTxids, commit_fault}
+use Rattle.cf_block.specs.Header.{block_hash_of}
 use Rattle.cf_block.specs.Stored.{IsStored, stored_block_at}
 use Rattle.cf_block.specs.Tx.{IsBlock, txid_of}
 use Rattle.cf_block.specs.Views.{bytes_of}
@@ -96,6 +97,14 @@ stands_more j blocks b bytes more s e fits = stands_after j blocks b s (next_goo
 pub stands_with : (j new : Judge) (b : Block) → cause_by j.tip.0 j.past j.height j.coins b ≡ None → IsBlock b → new ≡ after_by j b
     → (blocks : List Block) → StandsOn j blocks → StandsOn new (blocks ++ b ∷ [])
 stands_with j new b none fits is blocks s = subst (λ (x : Judge). StandsOn x (blocks ++ b ∷ [])) (sym is) (stands_after j blocks b s none fits)
+
+-- the same, by what is kept of it
+pub stands_so : (j new : Judge) (b : Block) → cause_by j.tip.0 j.past j.height j.coins b ≡ None → IsBlock b → new.tip.0 ≡ block_hash_of b.header
+    → new.past ≡ past_after b.header.time j.past → new.height ≡ suc j.height → new.coins ≡ after_block j.coins b
+    → (blocks : List Block) → StandsOn j blocks → StandsOn new (blocks ++ b ∷ [])
+stands_so j new b none fits tip past height coins blocks s =
+    let after = stands_after j blocks b s none fits in
+    record { good = after.good; tip = tip ∙ after.tip; past = past ∙ after.past; height = height ∙ after.height; coins = coins ∙ after.coins }
 
 -- ---- the hashes of its transactions
 

@@ -42,4 +42,4 @@ returns-in-Ok-walk_source-clause-stands g c = λ blocks s.
     c.in-Ok-walk_source.ensures.stands blocks (subst (λ (j : Judge). StandsOn j blocks) (sym c.begin.ensures.judge) s)
 
 pub returns-in-Ok-walk_source-clause-hashed : goal.returns-in-Ok-walk_source-clause-hashed
-returns-in-Ok-walk_source-clause-hashed g c = hashed_so c.in-Ok-walk_source.block _ _ c.in-Ok-walk_source.ensures.after
+returns-in-Ok-walk_source-clause-hashed g c = hashed_so c.in-Ok-walk_source.block c.begin.new.self.judge c.walk_source.new.judge c.in-Ok-walk_source.ensures.after
