@@ -1,9 +1,9 @@
 -- An index with one block more.
-use Rattle.std.proofs.Common.{◌≡◌, ℕ, zero, suc, ◌+◌, ◌<◌, List, [], ◌∷◌, ◌++◌, ◌≤◌, add-one, get_or, take, take_all, cond, map, length, refl, sym, ◌∙◌, ap, subst, arith, length-append, append_assoc, Option, Some, None}
+use Rattle.std.proofs.Common.{◌≡◌, ℕ, suc, ◌+◌, ◌<◌, List, [], ◌∷◌, ◌++◌, ◌≤◌, add-one, get_or, take, take_all, cond, length, refl, sym, ◌∙◌, ap, subst, arith, append_assoc, Option, Some, None}
 use Rattle.std.specs.Prelude.{slice_get, option_map, All}
 use Rattle.std.specs.Option.{option_or}
 use Rattle.std.specs.List.{position}
-use Rattle.std.specs.FinMap.{empty, get}
+use Rattle.std.specs.FinMap.{empty}
 use Rattle.std.proofs.lemmas.List.{append-nil, map-append}
 use Rattle.cf_bytes.specs.declared.hash.Hash32.{Hash32}
 use Rattle.cf_block.specs.declared.tx.Block.{Block}

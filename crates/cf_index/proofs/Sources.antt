@@ -1,5 +1,5 @@
 -- A chain that is kept as a walk gives its blocks.
-use Rattle.std.proofs.Common.{◌≡◌, refl, ℕ, ◌<◌, ◌≤◌, ◌-◌, List, [], ◌∷◌, ◌++◌, length, Option, Some, None, Result, Ok, Err, sym, ◌∙◌, ap, subst, arith, length-append}
+use Rattle.std.proofs.Common.{◌≡◌, refl, ℕ, ◌<◌, ◌-◌, List, [], ◌∷◌, ◌++◌, Option, None, Ok, Err, sym, ◌∙◌, ap, subst, arith, length-append}
 use Rattle.std.specs.FinMap.{empty}
 use Rattle.cf_block.specs.declared.tx.Block.{Block}
 use Rattle.cf_bytes.specs.declared.hash.Hash32.{Hash32}

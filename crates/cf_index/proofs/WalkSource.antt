@@ -1,5 +1,5 @@
 -- A step over a source.
-use Rattle.std.proofs.Common.{◌≡◌, ℕ, zero, suc, ◌<◌, ◌≤◌, ◌+◌, ◌⊎◌, inl, inr, Bool, true, false, ◌&&◌, ◌==◌, List, [], ◌∷◌, ◌++◌, length, Option, Some, None, Result, Ok, Err, refl, sym, ◌∙◌, ap, subst, arith, append_assoc, le-ltb, length-append}
+use Rattle.std.proofs.Common.{◌≡◌, ℕ, zero, suc, ◌≤◌, ◌+◌, ◌⊎◌, inl, inr, Bool, true, false, ◌&&◌, ◌==◌, List, [], ◌∷◌, ◌++◌, length, Option, Some, None, Result, Ok, Err, refl, sym, ◌∙◌, ap, subst, arith, append_assoc, le-ltb, length-append}
 use Rattle.std.specs.Prelude.{take, option_map, IfOk, IfSome, if◌then◌else◌, nat_le, nat_lt, drop, ◌-◌}
 use Rattle.cf_chain.specs.Good.{max_height}
 use Rattle.std.proofs.lemmas.List.{append-nil, drop_at, drop_all}

@@ -1,5 +1,5 @@
 -- A step along the records, by the blocks that were walked over.
-use Rattle.std.proofs.Common.{◌≡◌, ℕ, zero, suc, ◌<◌, ◌≤◌, ◌+◌, List, [], ◌∷◌, ◌++◌, length, Option, Some, None, Result, Ok, Err, true, false, refl, sym, ◌∙◌, ap, subst, arith, length-append}
+use Rattle.std.proofs.Common.{◌≡◌, ℕ, zero, suc, ◌≤◌, ◌+◌, List, [], ◌∷◌, ◌++◌, length, Option, Some, None, Result, Ok, Err, false, refl, sym, ◌∙◌, ap, subst, arith, length-append}
 use Rattle.std.specs.FinMap.{empty}
 use Rattle.cf_bytes.specs.Cut.{◌>>=◌}
 use Rattle.cf_bytes.proofs.Codecs.{value_of}
@@ -17,9 +17,8 @@ use Rattle.std.specs.Prelude.{map, IfSome}
 use Rattle.cf_headers.specs.Rules.{fault_after, past_after}
 use Rattle.cf_headers.specs.Chain.{tip_hash, past_of}
 use Rattle.cf_headers.proofs.Pasts.{past_more}
-use Rattle.cf_chain.specs.Coins.{CoinMap, after_block, coins_after}
-use Rattle.cf_chain.specs.Good.{IsGoodChain, headers_of}
-use Rattle.cf_index.specs.declared.cause.BadBlock.{BadBlock}
+use Rattle.cf_chain.specs.Coins.{CoinMap, after_block}
+use Rattle.cf_chain.specs.Good.{headers_of}
 use Rattle.cf_index.specs.declared.cause.RecordCause.{RecordCause}
 use Rattle.cf_index.specs.declared.judge.Judge.{Judge}
 use Rattle.cf_index.specs.Records.{Taken, record_with, max_record, record_at}
@@ -28,7 +27,7 @@ use Rattle.cf_index.specs.Files.{all_zeros, in_block, in_header, in_height, in_c
 use Rattle.cf_index.specs.Progress.{HasRecord, RefusesFor}
 use Rattle.cf_index.specs.Judging.{BeginsWith, StandsOn, Walks, cause_by, passed, next_by, after_by, added}
 use Rattle.cf_index.proofs.Growing.{headers_more, coins_more, good_more}
-use Rattle.cf_index.proofs.FileSteps.{one_more, bad_here, ends}
+use Rattle.cf_index.proofs.FileSteps.{one_more, bad_here}
 
 cause_is : (j : Judge) (blocks : List Block) (b : Block) → StandsOn j blocks → cause_by j.tip.0 j.past j.height j.coins b ≡ cause_on blocks b
 unfolding cause_on

@@ -17,7 +17,6 @@ use Rattle.cf_chain.specs.Coins.{CoinMap, after_block, coins_after}
 use Rattle.cf_chain.specs.Filters.{prevouts}
 use Rattle.cf_chain.specs.Good.{IsGoodChain, headers_of}
 use Rattle.cf_conn.specs.Window.{Pane, IsOver}
-use Rattle.cf_conn.specs.declared.reading.ReadFail.{ReadFail}
 use Rattle.cf_conn.specs.declared.reading.ReadFail.TheVariants as fails
 use Rattle.cf_index.specs.declared.cause.RecordCause.{RecordCause}
 use Rattle.cf_index.specs.declared.cause.RecordCause.TheVariants.{Cut}

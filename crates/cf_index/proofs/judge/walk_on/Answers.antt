@@ -1,4 +1,4 @@
-use Rattle.std.proofs.Common.{◌≡◌, ◌+◌, suc, false, sym, ◌∙◌, ap, arith}
+use Rattle.std.proofs.Common.{◌≡◌, false, sym, ◌∙◌, ap, arith}
 use Rattle.cf_index.specs.Files.{all_zeros}
 use Rattle.cf_headers.specs.Rules.{past_after}
 use Rattle.cf_index.proofs.WalkSteps.{stands_so, walks_refused}

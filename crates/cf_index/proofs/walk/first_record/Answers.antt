@@ -1,4 +1,4 @@
-use Rattle.std.proofs.Common.{◌≡◌, ◌-◌, length, drop, Some, ◌∙◌, ap}
+use Rattle.std.proofs.Common.{◌≡◌, ◌-◌, length, Some, ◌∙◌, ap}
 use Rattle.cf_index.proofs.WalkSource.{drop_end}
 use Rattle.cf_index.proofs.walk.first_record.Goals as goal
 

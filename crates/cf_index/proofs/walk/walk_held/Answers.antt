@@ -1,9 +1,7 @@
-use Rattle.std.proofs.Common.{◌≡◌, ◌++◌, ◌-◌, List, ℕ, Option, Some, None, Result, Ok, Err, length, drop, sym, ◌∙◌, ap, subst}
+use Rattle.std.proofs.Common.{◌≡◌, ◌-◌, List, ℕ, Option, Some, Ok, length, drop, sym, ◌∙◌, ap, subst}
 use Rattle.std.specs.Prelude.{IfSome}
-use Rattle.cf_bytes.specs.declared.memory.Refused.{Refused}
 use Rattle.cf_block.specs.declared.tx.Block.{Block}
 use Rattle.cf_conn.specs.Window.{Pane}
-use Rattle.cf_index.specs.declared.cause.RecordCause.{RecordCause}
 use Rattle.cf_index.specs.Judging.{BeginsWith, Walks, next_by}
 use Rattle.cf_index.proofs.WalkSource.{drop_end}
 use Rattle.cf_index.proofs.walk.walk_held.Goals as goal

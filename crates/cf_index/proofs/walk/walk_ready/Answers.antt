@@ -1,13 +1,11 @@
-use Rattle.std.proofs.Common.{◌≡◌, ◌++◌, ◌∷◌, [], List, ℕ, Option, Some, None, Result, Ok, Err, false, true, sym, ◌∙◌, ap, subst}
+use Rattle.std.proofs.Common.{◌≡◌, ◌++◌, ◌∷◌, [], Option, None, Ok, Err, ◌∙◌, ap, subst}
 use Rattle.cf_bytes.specs.declared.memory.Refused.{Refused}
 use Rattle.cf_bytes.specs.declared.memory.Refused.TheVariants.{No}
 use Rattle.cf_block.specs.declared.tx.Block.{Block}
 use Rattle.cf_block.specs.Tx.{IsBlock}
 use Rattle.cf_index.specs.declared.cause.RecordCause.{RecordCause}
-use Rattle.cf_index.specs.declared.cause.RecordCause.TheVariants.{Cut}
-use Rattle.cf_index.specs.declared.judge.Judge.{Judge}
 use Rattle.cf_index.specs.Judging.{StandsOn, Walks, after_by, next_by}
-use Rattle.cf_index.proofs.WalkSource.{bad_over, begins_over, cut_over, cut_whole, given_over, none_over, none_then, over_here}
+use Rattle.cf_index.proofs.WalkSource.{bad_over, cut_over, cut_whole, given_over, none_over, none_then, over_here}
 use Rattle.cf_index.proofs.walk.walk_ready.Goals as goal
 
 pub returns-in-Ok-Some-clause-exact : goal.returns-in-Ok-Some-clause-exact

@@ -1,8 +1,8 @@
-use Rattle.std.proofs.Common.{◌≡◌, ◌++◌, ◌∷◌, [], List, ℕ, Option, Some, ◌∙◌, sym, ap, subst}
+use Rattle.std.proofs.Common.{◌≡◌, ◌++◌, ◌∷◌, [], List, ℕ, ◌∙◌, subst}
 use Rattle.std.specs.Prelude.{IfSome}
 use Rattle.cf_block.specs.declared.tx.Block.{Block}
 use Rattle.cf_block.specs.Tx.{IsBlock}
-use Rattle.cf_conn.specs.Window.{beyond, seen}
+use Rattle.cf_conn.specs.Window.{seen}
 use Rattle.cf_index.specs.Judging.{BeginsWith, IsBlank, StandsOn, after_by}
 use Rattle.cf_index.proofs.WalkSource.{beyond_same, none_then, ready_so, seen_same}
 use Rattle.cf_index.proofs.walk.walk_source.Goals as goal

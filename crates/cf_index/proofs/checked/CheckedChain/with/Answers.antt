@@ -17,7 +17,7 @@ invariant_of-result c =
     let taken : found.spent ≡ prevouts (coins_after empty old.blocks) b = c.requires.spent ∙ ap (λ (l : List Block). prevouts (coins_after empty l) b) is in
     let more = c.in_ok-push.ensures.ok in (
       checked_more old.blocks _ old.hashes _ old.txids _ old.spent _ b c.args.hash found.txids found.spent c.self.invariant.0 good c.requires.hash c.requires.hashed taken
-      more c.in_ok-push-2.ensures.ok c.in_ok-push-3.ensures.ok c.in_ok-push-4.ensures.ok,
+          more c.in_ok-push-2.ensures.ok c.in_ok-push-3.ensures.ok c.in_ok-push-4.ensures.ok,
       tip_more old.blocks _ b c.args.hash.0 c.requires.hash more,
       past_on old.blocks _ b old.past _ c.self.invariant.2 c.push.ensures more,
     )

@@ -1,4 +1,4 @@
-use Rattle.std.proofs.Common.{◌≡◌, List, ℕ, drop, Some, None, refl, sym, ◌∙◌, subst}
+use Rattle.std.proofs.Common.{◌≡◌, List, ℕ, drop, Some, None, refl, sym, subst}
 use Rattle.cf_index.specs.Files.{after_genesis}
 use Rattle.cf_index.proofs.Strides.{begins_after, begins_alone}
 use Rattle.cf_index.proofs.walk.Walk.begin.Goals as goal

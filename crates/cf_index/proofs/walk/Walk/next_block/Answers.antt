@@ -1,11 +1,11 @@
-use Rattle.std.proofs.Common.{◌≡◌, List, ℕ, Option, Some, Result, Ok, Err, refl, sym, ◌∙◌, ap, subst}
+use Rattle.std.proofs.Common.{Err, refl, sym, subst}
 use Rattle.cf_conn.specs.Window.{beyond, seen}
 use Rattle.cf_index.specs.declared.walk.Stop.{Stop}
 use Rattle.cf_index.specs.declared.judge.Judge.{Judge}
-use Rattle.cf_index.specs.Judging.{CountsStop, StandsOn, WalksOver, next_by}
+use Rattle.cf_index.specs.Judging.{StandsOn, WalksOver, next_by}
 use Rattle.cf_index.specs.Striding.{behind_them}
 use Rattle.cf_index.proofs.WalkSteps.{hashed_so}
-use Rattle.cf_index.proofs.Strides.{as_reads, counts_read, gives_bad, gives_more, gives_ok, gives_read}
+use Rattle.cf_index.proofs.Strides.{gives_bad, gives_more, gives_ok}
 use Rattle.cf_index.proofs.walk.Walk.next_block.Goals as goal
 
 pub returns-in-Ok-walk_source-clause-walks : goal.returns-in-Ok-walk_source-clause-walks
