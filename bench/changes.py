@@ -41,6 +41,7 @@ import time
 import hostile
 from client import Bad, Play, meets, read_block, read_frames, root_of
 from conversation import GENESIS_HEADER, GENESIS_TX, MAGIC, double, whole
+from growing import bringing, grown
 from memory import without_choice
 from readers import CHAIN, CLOSED, checked, filtered, lines_of, proof_of, replayed, scanned, served
 from sessions import script
@@ -405,8 +406,9 @@ def kinds(trial):
     yield Kind("proof", ["check", "q"], [trial.proof], file_of("q"), checked, "q")
     yield Kind("filter", ["filter", "b", "2"], [CHAIN.blocks[1:]], blocks, filtered, "b")
     yield Kind("prove", ["prove", "b", TXID], [CHAIN.blocks[1:]], blocks, proved, "b")
-    asked = [framed(name.encode().ljust(12, b"\0"), payload) for name, payload in read_frames(whole(CHAIN)[0])[0]]
+    asked, told = ([framed(name.encode().ljust(12, b"\0"), payload) for name, payload in read_frames(data)[0]] for data in (whole(CHAIN)[0], bringing()))
     yield Kind("serve", ["serve", "--connections", "1", "f", ANY], [asked], frames, served, "c")
+    yield Kind("grow", ["serve", "--grow", "--connections", "1", "f", ANY], [told, asked], frames, grown, "c")
     yield Kind("words", None, [text.split(" ") for text in words], None)
 
 
@@ -419,7 +421,7 @@ def unchanged(trial, kind):
         trial.write("s", "".join(line + "\n" for line in kind.files[0][1]).encode())
     elif "b" in kind.words:
         trial.write("b", trial.blocks)
-    elif kind.name == "serve":
+    elif kind.name in ("serve", "grow"):
         trial.write("c", b"".join(kind.files[0]))
     else:
         trial.write(kind.words[-1], kind.files[0])

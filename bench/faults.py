@@ -1,6 +1,6 @@
 #!/usr/bin/env python3
-"""Prints rows of cf_cases in which calls fail, each with what it comes to: files that are not there, sinks without
-room, dials and sends, listening and accepting, reads and writes of a connection; and block files that are cut off.
+"""Prints rows of cf_cases in which calls fail, each with what it comes to: files that are not there or can't be read to their
+end, sinks without room, dials and sends, listening and accepting, reads and writes of a connection; and block files that are cut off.
 `faults.py run`, `faults.py serve` and `faults.py serving` print the rows of that kind.
 
 What is sent is laid out from the layouts of the standards; what a client sends and how its run ends is that of
@@ -84,6 +84,15 @@ def files():
     row(1000, "-", "scan x w", FILE)
     row(1000, "-", "sync x a", FILE, session="dial a")
     row(1000, "-", "replay x y", FILE)
+
+
+def reads():
+    print("# Calls of the files that fail: the read of the watch file, the opening of the block file, and each read of that, of which the last two find")
+    print("# that nothing is left. None fails of the last row.")
+    text = "synced 3 %s\n" % THREE.hashes[3][::-1].hex()
+    for number in range(4, 10):
+        answer = (FILE,) if number < 9 else ("0 Done", text)
+        row(1000, "-/%d" % number, "scan f w", *answer, blocks=b"".join(RECORDS))
 
 
 def sinks():
@@ -221,7 +230,7 @@ def links():
 
 def main():
     if sys.argv[1:] == ["run"]:
-        files(), sinks(), wires(), prefixes()
+        files(), reads(), sinks(), wires(), prefixes()
     elif sys.argv[1:] == ["serve"]:
         connections()
     elif sys.argv[1:] == ["serving"]:

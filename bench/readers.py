@@ -236,46 +236,54 @@ def checked(data):
 
 # ---- a server
 
-def range_of(payload, most):
+def range_of(chain, payload, most):
     """The first and the last height of a range that is asked for, or None where it is not answered."""
     r = Cut(payload)
     kind, start, stop = r.number(1), r.number(4), r.take(32)
-    if kind or stop not in CHAIN.hashes:
+    if kind or stop not in chain.hashes:
         return None
-    last = CHAIN.hashes.index(stop)
+    last = chain.hashes.index(stop)
     return (start, last) if start <= last < start + most else None
 
 
-def headers_after(locator, stop):
+def headers_after(chain, locator, stop):
     if not locator:
-        return CHAIN.headers(*[CHAIN.hashes.index(stop)] * 2) if stop in CHAIN.hashes else b""
-    first = next((CHAIN.hashes.index(name) for name in locator if name in CHAIN.hashes), 0) + 1
-    last = CHAIN.hashes.index(stop) if stop in CHAIN.hashes[first:] else CHAIN.tip
-    return CHAIN.headers(first, last)
+        return chain.headers(*[chain.hashes.index(stop)] * 2) if stop in chain.hashes else b""
+    first = next((chain.hashes.index(name) for name in locator if name in chain.hashes), 0) + 1
+    last = chain.hashes.index(stop) if stop in chain.hashes[first:] else chain.tip
+    return chain.headers(first, min(last, first + 1999))
 
 
-def blocks_of(entries):
+def blocks_of(chain, entries):
     wanted = [entry[4:] for entry in entries if entry[:4] == b"\2\0\0\0"]
-    return b"".join(CHAIN.block(CHAIN.hashes.index(name)) for name in wanted if name in CHAIN.hashes)
+    return b"".join(chain.block(chain.hashes.index(name)) for name in wanted if name in chain.hashes)
 
 
-def answer_to(command, payload, message):
-    """What is written to a message of a peer that has told its version."""
+def answer_to(chain, command, payload, message):
+    """What is written to a message of a peer that has told its version, by a server of this chain."""
     if command == "ping":
         return frame("pong", message)
     if command == "getheaders":
-        return headers_after(*message[1:])
+        return headers_after(chain, *message[1:])
     if command == "getdata":
-        return blocks_of(message)
+        return blocks_of(chain, message)
     if command == "getcfilters":
-        found = range_of(payload, 1000)
-        return b"".join(CHAIN.cfilter(height) for height in range(found[0], found[1] + 1)) if found else b""
+        found = range_of(chain, payload, 1000)
+        return b"".join(chain.cfilter(height) for height in range(found[0], found[1] + 1)) if found else b""
     if command == "getcfheaders":
-        found = range_of(payload, 2000)
-        return CHAIN.cfheaders(*found) if found else b""
-    if command == "getcfcheckpt" and payload[:1] == b"\0" and payload[1:] in CHAIN.hashes:
-        return CHAIN.cfcheckpt(CHAIN.hashes.index(payload[1:]))
+        found = range_of(chain, payload, 2000)
+        return chain.cfheaders(*found) if found else b""
+    if command == "getcfcheckpt" and payload[:1] == b"\0" and payload[1:] in chain.hashes:
+        return chain.cfcheckpt(chain.hashes.index(payload[1:]))
     return b""
+
+
+def message_in(command, payload):
+    """The message of a frame of a known command. `Bad` is raised where it can't be read."""
+    r = Cut(payload)
+    message = READERS[command](r)
+    r.end()
+    return message
 
 
 def served(data):
@@ -288,13 +296,11 @@ def served(data):
         if command not in READERS:
             continue
         try:
-            r = Cut(payload)
-            message = READERS[command](r)
-            r.end()
+            message = message_in(command, payload)
         except Bad:
             return 0, written, "connection 1: a message could not be read"
         if has_version:
-            written += answer_to(command, payload, message)
+            written += answer_to(CHAIN, command, payload, message)
         elif command == "version":
             has_version, written = True, greeting(CHAIN.tip)
     return 0, written, CLOSED

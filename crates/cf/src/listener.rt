@@ -58,6 +58,7 @@ fn way(how: u8) -> &'static str {
         3 => "reading from it failed",
         4 => "writing to it failed",
         5 => "1000000 frames have come",
+        7 => "the chain is another than it was told",
         _ => "there was not enough memory",
     }
 }

@@ -3,9 +3,11 @@
 #![tactic(auto)]
 
 mod faults;
+mod joined;
 mod listener;
 mod outside;
 
+use crate::joined::Joined;
 use crate::listener::Listener;
 use cf_answers::{Status, own_text};
 use cf_bytes::{StdFiles, WriterSink, put_all};
@@ -49,6 +51,7 @@ fn run_command<R: Wait + Threads + Sync + Copy + Drop + Send + 'static, K: Spawn
     let status = run(
         handle,
         alloc,
+        Joined::new(*rt),
         words,
         outside::moment(rt),
         outside::nonce(rt),

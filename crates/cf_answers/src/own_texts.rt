@@ -22,7 +22,7 @@ usage: cf scan FILE WATCH
        cf filter FILE HEIGHT
        cf replay [--trace] WATCH SESSION
        cf sync [--turns N] [--workers N] [--record FILE] WATCH PEER..
-       cf serve [--connections N] FILE ADDRESS
+       cf serve [--grow] [--connections N] FILE ADDRESS
        cf address TEXT
        cf prove FILE TXID
        cf check FILE
@@ -51,6 +51,8 @@ usage: cf scan FILE WATCH
 
   --trace    prints first what was sent to peer P, as `> P COMMAND`, and which
              peer was closed, as `x P CAUSE`
+  --grow     takes the blocks that the connections bring, and tells of them;
+             FILE stays as it is
   --turns    takes at most N deliveries, from 1 to 10000000 (else 10000000)
   --workers  judges filters in N threads, from 1 to 64 (else 4)
   --record   writes the dials and what came from the peers to FILE, as the

@@ -2,9 +2,24 @@
 use cf_bytes::{Cut, Hash32, show};
 use std::alloc::Global;
 
-/// The bytes that a field spells in hexadecimal. `-` is none.
+// Puts the bytes of a part behind others.
+fn put_part(alloc: Global, part: &str, out: &mut Vec<u8>) -> Option<()> {
+    let (digits, times) = part.split_once('*').unwrap_or((part, "1"));
+    let times: u32 = times.parse().ok()?;
+    let some = hex::decode(alloc, digits).ok()?;
+    for _ in 0..times {
+        out.extend_from_slice(&some).ok()?;
+    }
+    Some(())
+}
+
+/// The bytes that a field spells: parts that are joined by `+`, each in hexadecimal, or `HEX*N` where its bytes come so often. `-` is none.
 pub(crate) fn bytes_in(alloc: Global, field: &str) -> Option<Vec<u8>> {
-    hex::decode(alloc, field.trim_start_matches('-')).ok()
+    let mut bytes = Vec::new(alloc);
+    for part in field.trim_start_matches('-').split('+') {
+        put_part(alloc, part, &mut bytes)?;
+    }
+    Some(bytes)
 }
 
 /// Bytes in hexadecimal, or `-` where there is none.

@@ -62,12 +62,13 @@ fn told(alloc: Global, command: &Command) -> Option<String> {
         }
         Command::Check { file } => format!(in alloc; "check {}", file.as_str()).ok(),
         Command::Serve {
+            grow,
             connections,
             file,
             address,
         } => {
             format!(in alloc;
-                "serve {connections} {} {}",
+                "serve {grow} {connections} {} {}",
                 file.as_str(),
                 address.as_str()
             )

@@ -11,6 +11,7 @@ mod demos;
 mod fields;
 mod files;
 mod filters;
+mod growths;
 mod hashes;
 mod headers;
 mod inputs;
@@ -48,6 +49,7 @@ fn answer<R: Wait + Threads + Sync + Copy + Drop + Send + 'static>(
         "fill" => streams::filled(alloc, rest),
         "filter" => filters::answer(alloc, rest),
         "golomb" => filters::golomb(alloc, rest),
+        "grow" => growths::answer(rt, alloc, rest),
         "hash" => hashes::answer(alloc, rest),
         "items" => filters::items_left(alloc, rest),
         "locator" => headers::locator(alloc, rest),

@@ -7,6 +7,7 @@ use crate::servings::{in_threads, no_link};
 use cf_answers::Status;
 use cf_bytes::{FileFail, Files, MapFiles, VecSink};
 use cf_cli::run;
+use cf_grow::Nobody;
 use cf_input::read_session;
 use cf_played::Played;
 use cf_wires::MemoryWires;
@@ -99,6 +100,7 @@ fn answered<R: Wait + Threads + Sync + Copy + Drop + Send + 'static>(
     let status = run(
         rt,
         alloc,
+        Nobody,
         words,
         0,
         0,
@@ -121,18 +123,21 @@ fn answered<R: Wait + Threads + Sync + Copy + Drop + Send + 'static>(
     )
 }
 
-// The answer over the wires of a session, where the first field tells the room and the calls of the wires that fail.
+// The answer over the wires of a session, where the first field tells the room, the calls of the wires that fail, and behind a `/` those of the
+// files.
 fn answered_over<R: Wait + Threads + Sync + Copy + Drop + Send + 'static>(
     rt: R,
     alloc: Global,
     limits: &str,
     words: &[String],
-    files: MapFiles,
+    mut files: MapFiles,
     session: &str,
 ) -> Option<String> {
     let (room, failing) = limits.split_once(' ')?;
+    let (failing, unread) = failing.split_once('/').unwrap_or((failing, "-"));
     let room = room.parse().ok()?;
     let wires = wires_of(alloc, session, failing)?;
+    files.failing(&numbers_in(alloc, unread)?).ok()?;
     answered(rt, alloc, words, files, wires, room)
 }
 

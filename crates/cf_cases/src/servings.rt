@@ -9,6 +9,7 @@ use crate::runs::told;
 use cf_bytes::{Files, MapFiles, VecSink};
 use cf_cli::run;
 use cf_conn::{MemoryConn, MemoryEnd};
+use cf_grow::Nobody;
 use cf_played::Played;
 use cf_serve::ListLink;
 use cf_tasks::{Choice, Spawner};
@@ -131,6 +132,7 @@ fn served<R: Wait + Threads + Sync + Copy + Drop + Send + 'static>(
     let status = run(
         rt,
         alloc,
+        Nobody,
         words,
         1_700_000_000,
         0x1122_3344_5566_7788,

@@ -10,11 +10,11 @@ use Rattle.cf_serve.specs.Links.{LinkTold}
 use Rattle.cf_serve.specs.Serving.{Serves}
 use Rattle.cf_serve.specs.declared.fail.ServeFail.{ServeFail}
 use Rattle.cf_serve.specs.declared.fail.ServeFail.TheVariants.{Failed, NoMemory as OutOfMemory}
-use Rattle.cf_service.specs.Machine.{Machine, IsServedBy}
+use Rattle.cf_conn.specs.Told.{Told}
 use Rattle.cf_answers.specs.declared.status.Status.{Status}
 use Rattle.cf_answers.specs.declared.status.Status.TheVariants.{Done, NoMemory, Usage, BadFile, FileFault, OutFault, NoPeers, Tired, Ended, LinkFault, NoNonce, NoHeight, NotThere, NotAddress}
 use Rattle.cf_cli.specs.Statuses.{was_refused}
-use Rattle.cf_cli.specs.Serving.{listening, ServesAt, MayServe, ServesChain, IsServing, answer_of, may_serve}
+use Rattle.cf_cli.specs.Serving.{listening, ServesAt, MayServe, ServesChain, IsServing, answer_of, may_serve, served_by}
 use Rattle.cf_input.specs.declared.words.Command.{Command}
 use Rattle.cf_input.specs.declared.words.Command.TheVariants.{Serve}
 
@@ -31,9 +31,9 @@ refused_by true is = refl
 refused_by false is = cc
 
 -- a link that stays where nothing was begun may have been used by a command that serves
-pub serve_uses : {X : Type 0} (c : Command) (count : ℕ) (file address : List ℕ) (status : Status) (before after : X) → c ≡ Serve count file address → (was_refused status ≡ true → after ≡ before)
+pub serve_uses : {X : Type 0} (c : Command) (grow : Bool) (count : ℕ) (file address : List ℕ) (status : Status) (before after : X) → c ≡ Serve grow count file address → (was_refused status ≡ true → after ≡ before)
     → may_serve (Some c) status ≡ false → after ≡ before
-serve_uses c count file address status before after is kept =
+serve_uses c grow count file address status before after is kept =
     subst (λ (x : Command). may_serve (Some x) status ≡ false → after ≡ before) (sym is) (λ off. kept (refused_by (was_refused status) off))
 
 -- two links tell the same
@@ -41,33 +41,33 @@ pub same_told : (a b : LinkTold) → a.addresses ≡ b.addresses → a.accepted 
 same_told a b p q r s t = λ i. record { addresses = p i; accepted = q i; owed = r i; conns = s i; given = t i }
 
 -- what was served since the link listens
-pub since : (machine : Machine) (address : List ℕ) (most : ℕ) (was mid now : LinkTold) → mid ≡ listening was address → Serves (IsServedBy machine) mid now → now.accepted ≤ mid.accepted + most
-    → ServesAt machine address most was now
-since machine address most was mid now is served few =
-    let P : LinkTold → Type 0 = λ t. Serves (IsServedBy machine) t now × (now.accepted ≤ t.accepted + most) in subst P is (served, few)
+pub since : (served : Told → ℕ → Told → Type 0) (address : List ℕ) (most : ℕ) (was mid now : LinkTold) → mid ≡ listening was address → Serves served mid now → now.accepted ≤ mid.accepted + most
+    → ServesAt served address most was now
+since served address most was mid now is given few =
+    let P : LinkTold → Type 0 = λ t. Serves served t now × (now.accepted ≤ t.accepted + most) in subst P is (given, few)
 
 -- by the way in which serving ended
-pub chain_served : (answer : Result (Unit {0}) ServeFail) (machine : Machine) (address : List ℕ) (count : ℕ) (was now : LinkTold) → MayServe machine address count was now
-    → OnOk answer (ServesAt machine address count was now) → OnOk answer (now.accepted ≡ was.accepted + count) → ServesChain (answer_of answer) machine address count was now
-chain_served (Ok done) machine address count was now may at all = (at, all)
-chain_served (Err Failed) machine address count was now may at all = may
-chain_served (Err OutOfMemory) machine address count was now may at all = may
+pub chain_served : (answer : Result (Unit {0}) ServeFail) (served : Told → ℕ → Told → Type 0) (address : List ℕ) (count : ℕ) (was now : LinkTold) → MayServe served address count was now
+    → OnOk answer (ServesAt served address count was now) → OnOk answer (now.accepted ≡ was.accepted + count) → ServesChain (answer_of answer) served address count was now
+chain_served (Ok done) served address count was now may at all = (at, all)
+chain_served (Err Failed) served address count was now may at all = may
+chain_served (Err OutOfMemory) served address count was now may at all = may
 
 -- the same of the file
-pub file_served : (status : Status) (moment : ℤ) (nonce : ℕ) (files : Option Named) (file address : List ℕ) (count : ℕ) (was now : LinkTold) (blocks : List Block) → IsGoodChain blocks
-    → IfSome files (λ m. IfSome (finite.get m file) (λ bytes. blocks_at bytes ≡ Ok blocks)) → ServesChain status (record { blocks = blocks; moment = moment; nonce = nonce }) address count was now
-    → IsServing status moment nonce files file address count was now
-file_served Done moment nonce files file address count was now blocks good is served = (blocks, good, is, served)
-file_served LinkFault moment nonce files file address count was now blocks good is served = (blocks, good, is, served)
-file_served NoMemory moment nonce files file address count was now blocks good is served = inr (blocks, good, is, served)
-file_served Usage moment nonce files file address count was now blocks good is served = absurd served
-file_served (BadFile which place cause) moment nonce files file address count was now blocks good is served = absurd served
-file_served FileFault moment nonce files file address count was now blocks good is served = absurd served
-file_served OutFault moment nonce files file address count was now blocks good is served = absurd served
-file_served (NoPeers ends) moment nonce files file address count was now blocks good is served = absurd served
-file_served Tired moment nonce files file address count was now blocks good is served = absurd served
-file_served Ended moment nonce files file address count was now blocks good is served = absurd served
-file_served (NoNonce height) moment nonce files file address count was now blocks good is served = absurd served
-file_served (NoHeight tip) moment nonce files file address count was now blocks good is served = absurd served
-file_served (NotThere txid) moment nonce files file address count was now blocks good is served = absurd served
-file_served (NotAddress cause) moment nonce files file address count was now blocks good is served = absurd served
+pub file_served : (grow : Bool) (status : Status) (moment : ℤ) (nonce : ℕ) (files : Option Named) (file address : List ℕ) (count : ℕ) (was now : LinkTold) (blocks : List Block) → IsGoodChain blocks
+    → IfSome files (λ m. IfSome (finite.get m file) (λ bytes. blocks_at bytes ≡ Ok blocks)) → ServesChain status (served_by grow blocks moment nonce) address count was now
+    → IsServing grow status moment nonce files file address count was now
+file_served grow Done moment nonce files file address count was now blocks good is served = (blocks, good, is, served)
+file_served grow LinkFault moment nonce files file address count was now blocks good is served = (blocks, good, is, served)
+file_served grow NoMemory moment nonce files file address count was now blocks good is served = inr (blocks, good, is, served)
+file_served grow Usage moment nonce files file address count was now blocks good is served = absurd served
+file_served grow (BadFile which place cause) moment nonce files file address count was now blocks good is served = absurd served
+file_served grow FileFault moment nonce files file address count was now blocks good is served = absurd served
+file_served grow OutFault moment nonce files file address count was now blocks good is served = absurd served
+file_served grow (NoPeers ends) moment nonce files file address count was now blocks good is served = absurd served
+file_served grow Tired moment nonce files file address count was now blocks good is served = absurd served
+file_served grow Ended moment nonce files file address count was now blocks good is served = absurd served
+file_served grow (NoNonce height) moment nonce files file address count was now blocks good is served = absurd served
+file_served grow (NoHeight tip) moment nonce files file address count was now blocks good is served = absurd served
+file_served grow (NotThere txid) moment nonce files file address count was now blocks good is served = absurd served
+file_served grow (NotAddress cause) moment nonce files file address count was now blocks good is served = absurd served

@@ -6,6 +6,8 @@ use Rattle.cf_bytes.specs.declared.files.FileFail.{FileFail}
 use Rattle.cf_bytes.specs.declared.files.FileFail.TheVariants.{Failed, TooBig as TooMuch, NoMemory as OutOfMemory}
 use Rattle.cf_block.specs.declared.tx.Block.{Block}
 use Rattle.cf_index.specs.declared.cause.BadBlock.{BadBlock}
+use Rattle.cf_index.specs.declared.load.LoadFault.{LoadFault}
+use Rattle.cf_index.specs.declared.load.LoadFault.TheVariants as faults
 use Rattle.cf_index.specs.Files.{blocks_at}
 use Rattle.cf_wires.specs.Wires.{Script}
 use Rattle.cf_input.specs.declared.session.SessionFault.{SessionFault}
@@ -95,7 +97,7 @@ verdict_of files (Filter file height) = blocks_verdict (finite.get files file)
 verdict_of files (Address text) = no_file
 verdict_of files (Prove file txid) = blocks_verdict (finite.get files file)
 verdict_of files (Check file) = proof_verdict (finite.get files file)
-verdict_of files (Serve count file address) = blocks_verdict (finite.get files file)
+verdict_of files (Serve grow count file address) = blocks_verdict (finite.get files file)
 verdict_of files (Make witness seed blocks file) = no_file
 verdict_of files (Demo seed blocks) = no_file
 
@@ -165,8 +167,9 @@ IsUnread which Failed status = status ≡ FileFault
 IsUnread which TooMuch status = status ≡ BadFile which 0 TooBig
 IsUnread which OutOfMemory status = status ≡ NoMemory
 
--- the answers to the bytes of a file
-abbrev pub IsRefusal : Status → Type 0
-IsRefusal NoMemory = Unit {0}
-IsRefusal (BadFile which place cause) = Unit {0}
-IsRefusal status = ⊥
+-- the answer where no chain was read from a file that was opened
+abbrev pub IsUnloaded : LoadFault → Status → Type 0
+IsUnloaded (faults.BadBlock bad) status = status ≡ BadFile Blocks bad.number (OfBlocks bad.cause)
+IsUnloaded faults.TooBig status = status ≡ BadFile Blocks 0 TooBig
+IsUnloaded faults.ReadFault status = status ≡ FileFault
+IsUnloaded faults.NoMemory status = status ≡ NoMemory

@@ -11,6 +11,7 @@ mod program;
 mod proving;
 mod reading;
 mod recording;
+mod scanning;
 mod serving;
 
 pub use demoing::{demo_text, session};

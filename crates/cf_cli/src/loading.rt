@@ -1,21 +1,25 @@
 //! Files, read and judged.
-ghost use Rattle.std.specs.Prelude.{◌≡◌, ◌≤◌, true, length, IfOk, IfErr, IfSome, IsErrOf, OnOk, Ok};
+ghost use Rattle.std.specs.Prelude.{◌≡◌, ◌≤◌, true, length, IfOk, IfErr, IfSome, IsErrOf, OnOk, Ok, string_bytes};
 ghost use Rattle.std.specs.FinMap as finite;
 ghost use Rattle.std.specs.List.{list_all};
 ghost use Rattle.cf_bytes.specs.Files.{IsRead};
 ghost use Rattle.cf_bytes.specs.Outside.{HasRisen};
 ghost use Rattle.cf_chain.specs.Good.{IsGoodChain};
+ghost use Rattle.cf_conn.specs.Opened.{IsReadByParts};
 ghost use Rattle.cf_index.specs.Files.{blocks_at};
 ghost use Rattle.cf_input.specs.ProofFile.{proof_file_of};
 ghost use Rattle.cf_input.specs.SessionFile.{session_of};
 ghost use Rattle.cf_input.specs.Sessions.{script_in, AreNamed};
 ghost use Rattle.cf_input.specs.WatchFile.{watch_of};
 ghost use Rattle.cf_wires.specs.Log.{is_real};
-ghost use Rattle.cf_cli.specs.Statuses.{IsReadAs, IsUnread, IsOfFile, IsRefusal, watch_verdict, session_verdict, blocks_read, blocks_verdict, proof_verdict};
+ghost use Rattle.cf_cli.specs.Scanning.{IsScanOf};
+ghost use Rattle.cf_cli.specs.Statuses.{IsReadAs, IsUnloaded, IsUnread, IsOfFile, watch_verdict, session_verdict, blocks_verdict, proof_verdict};
 
+use crate::scanning::scan_source;
 use cf_answers::{FileCause, Status, Which};
 use cf_bytes::{FileFail, Files, Refused};
-use cf_index::{CheckedChain, read_chain};
+use cf_conn::Opened;
+use cf_index::{CheckedChain, LoadFault, read_source};
 use cf_input::{Proven, Session, read_proof_file, read_session, read_watch};
 use cf_scan::Watch;
 use std::alloc::Global;
@@ -107,26 +111,24 @@ pub(crate) fn load_session<F: Files>(
     }
 }
 
-// The chain in the bytes of a file, which are let go then.
-fn chain_of(alloc: Global, bytes: Vec<u8>) -> Result<CheckedChain, Status>
-    ensures answer { IsReadAs (blocks_read (blocks_at bytes.items)) result }
-    ensures blocks { IfOk result (λ b. blocks_at bytes.items ≡ Ok b) }
-    ensures good { IfOk result (λ b. IsGoodChain b) }
-    ensures only { IfErr result IsRefusal }
+// The answer where no chain was read from a file that was opened.
+fn unloaded(fault: LoadFault) -> Status
+    ensures { IsUnloaded fault result }
 {
-    match read_chain(alloc, &bytes) {
-        Ok(chain) => Ok(chain),
-        Err(Refused::No(bad)) => Err(Status::BadFile {
+    match fault {
+        LoadFault::BadBlock(bad) => Status::BadFile {
             which: Which::Blocks,
             place: bad.number,
             cause: FileCause::Blocks(bad.cause),
-        }),
-        Err(Refused::NoMemory) => Err(Status::NoMemory),
+        },
+        LoadFault::TooBig => unread(FileFail::TooBig, Which::Blocks),
+        LoadFault::ReadFault => Status::FileFault,
+        LoadFault::NoMemory => Status::NoMemory,
     }
 }
 
-/// Reads a chain of blocks, and checks it.
-#[tactic(auto, using(crate::proofs::Asking::is_read))]
+/// Reads a chain of blocks by parts, and checks it.
+#[tactic(auto, using(crate::proofs::Asking::is_opened))]
 pub(crate) fn load_chain<F: Files>(
     alloc: Global,
     files: &mut F,
@@ -138,11 +140,42 @@ pub(crate) fn load_chain<F: Files>(
     ensures same { F.files files.new ≡ F.files files.old }
     ensures fault { IsErrOf result Status.FileFault → HasRisen (F.faults files.old) (F.faults files.new) }
     ensures only { IfErr result IsOfFile }
-    ensures files { IsRead F.reads name.now files.old files.new }
+    ensures files { IsReadByParts F.opens F.parts name.now files.old files.new }
 {
-    match files.read(alloc, name, MOST_BLOCKS) {
-        Ok(bytes) => chain_of(alloc, bytes),
-        Err(fail) => Err(unread(fail, Which::Blocks)),
+    match files.open(name, MOST_BLOCKS) {
+        Ok(()) => {}
+        Err(fail) => return Err(unread(fail, Which::Blocks)),
+    }
+    let mut source = Opened::new(files);
+    match read_source(alloc, &mut source) {
+        Ok(chain) => Ok(chain),
+        Err(fault) => Err(unloaded(fault)),
+    }
+}
+
+/// The text of a scan of a file of blocks, which is read by parts, and checked.
+#[tactic(auto, using(crate::proofs::Asking::is_opened))]
+pub(crate) fn scan_file<F: Files>(
+    alloc: Global,
+    files: &mut F,
+    name: &str,
+    watch: &Watch,
+) -> Result<String, Status>
+    ensures answer { IfSome (F.files files.old) (λ m. IsReadAs (blocks_verdict (finite.get m name.now)) result) }
+    ensures text { IfOk result (λ t. IfSome (F.files files.old) (λ m. IfSome (finite.get m name.now) (λ bytes. IsScanOf bytes watch.now (string_bytes t)))) }
+    ensures same { F.files files.new ≡ F.files files.old }
+    ensures fault { IsErrOf result Status.FileFault → HasRisen (F.faults files.old) (F.faults files.new) }
+    ensures only { IfErr result IsOfFile }
+    ensures files { IsReadByParts F.opens F.parts name.now files.old files.new }
+{
+    match files.open(name, MOST_BLOCKS) {
+        Ok(()) => {}
+        Err(fail) => return Err(unread(fail, Which::Blocks)),
+    }
+    let mut source = Opened::new(files);
+    match scan_source(alloc, &mut source, watch) {
+        Ok(text) => Ok(text),
+        Err(fault) => Err(unloaded(fault)),
     }
 }
 

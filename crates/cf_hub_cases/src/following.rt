@@ -5,6 +5,7 @@ use crate::row::{shown, watch_in, words_at};
 use cf_bytes::{MapFiles, VecSink};
 use cf_cli::run;
 use cf_edge::Edge;
+use cf_grow::Nobody;
 use cf_tasks::{InThreads, Spawner};
 use std::sync::Wait;
 use std::thread::Threads;
@@ -29,6 +30,7 @@ fn followed<R: Wait + Threads + Sync + Copy + Drop + Send + 'static, K: Spawner>
     let status = run(
         handle,
         alloc,
+        Nobody,
         words,
         0,
         0,

@@ -8,6 +8,7 @@ use crate::row::{shown, watch_in, words_in};
 use cf_bytes::{MapFiles, VecSink};
 use cf_cli::run;
 use cf_conn::MemoryConn;
+use cf_grow::Nobody;
 use cf_played::Played;
 use cf_serve::ListLink;
 use cf_tasks::InThreads;
@@ -59,6 +60,7 @@ fn answered<R: Wait + Threads + Sync + Copy + Drop + Send + 'static, W: Wires + 
     let status = run(
         rt,
         alloc,
+        Nobody,
         words,
         0,
         0,

@@ -7,6 +7,7 @@ use crate::port::Port;
 use crate::row::{chain_in, shown, words_at};
 use cf_bytes::VecSink;
 use cf_cli::run;
+use cf_grow::Nobody;
 use cf_played::Played;
 use cf_tasks::InThreads;
 use cf_wires::MemoryWires;
@@ -41,6 +42,7 @@ fn served<R: Wait + Threads + Sync + Copy + Drop + Send + 'static>(
     let status = run(
         handle,
         alloc,
+        Nobody,
         &words,
         0,
         0,

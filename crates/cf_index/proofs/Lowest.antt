@@ -17,7 +17,7 @@ use Rattle.cf_bytes.specs.declared.hash.Hash32.{Hash32}
 use Rattle.cf_headers.specs.Rules.{same}
 use Rattle.cf_index.specs.ByHash.{hash_cmp, ByHash, with_first}
 use Rattle.cf_index.specs.HeightMap.{HeightMap}
-use Rattle.cf_index.proofs.Maps.{found, inserted}
+use Rattle.cf_coins.proofs.Maps.{found, inserted}
 
 hash_total : IsTotalOrder hash_cmp
 hash_total = on_total (λ (h : Hash32). h.0) nat_list_cmp_total

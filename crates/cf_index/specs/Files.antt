@@ -1,5 +1,5 @@
 -- Files of blocks: which are good, and the first bad record of the others.
-use Rattle.std.specs.Prelude.{◌≡◌, ◌⊎◌, ℕ, zero, suc, ◌+◌, ◌-◌, ◌==◌, Bool, true, false, nat_le, bytes_eq, if◌then◌else◌, List, [], ◌∷◌, ◌++◌, length, replicate, Option, Some, None, Result, Ok, Err}
+use Rattle.std.specs.Prelude.{◌≡◌, ◌⊎◌, ℕ, zero, suc, ◌+◌, ◌-◌, ◌==◌, Bool, false, nat_le, bytes_eq, if◌then◌else◌, List, [], ◌∷◌, ◌++◌, length, replicate, Option, Some, None, Result, Ok, Err}
 use Rattle.std.specs.List.{list_all}
 use Rattle.std.specs.FinMap.{empty}
 use Rattle.cf_bytes.specs.Cut.{Read, ◌>>=◌}
@@ -17,12 +17,12 @@ use Rattle.cf_headers.specs.Rules.{fault_after}
 use Rattle.cf_headers.specs.Chain.{tip_hash, past_of}
 use Rattle.cf_chain.specs.Coins.{CoinMap, coins_after}
 use Rattle.cf_chain.specs.Good.{IsGoodChain, headers_of, max_height}
-use Rattle.cf_index.specs.declared.cause.CoinFault.{CoinFault}
+use Rattle.cf_coins.specs.declared.fault.CoinFault.{CoinFault}
 use Rattle.cf_index.specs.declared.cause.RecordCause.{RecordCause}
 use Rattle.cf_index.specs.declared.cause.RecordCause.TheVariants.{Block as InBlock, Header as InHeader, TooHigh, Commit, Coins as InCoins}
 use Rattle.cf_index.specs.declared.cause.BadBlock.{BadBlock}
 use Rattle.cf_index.specs.Records.{Taken, IsRecordOf, HasRecords, record_at}
-use Rattle.cf_index.specs.Spending.{spend_txs}
+use Rattle.cf_coins.specs.Spending.{spend_txs}
 
 -- ---- good files
 

@@ -1,8 +1,9 @@
-pub mod Spending
+pub mod Adding
 pub mod Records
 pub mod Files
 pub mod Checked
 pub mod Progress
+pub mod Judging
 pub mod Filtering
 pub mod Bare
 pub mod ByHash
@@ -10,3 +11,4 @@ pub mod HeightMap
 pub mod Indexed
 pub mod Finding
 pub mod Loading
+pub mod Striding

@@ -15,14 +15,14 @@ use cf_block::{Block, genesis, parse_stored, write_block};
 use cf_bytes::{Cut, NoMemory, Refused};
 use std::alloc::Global;
 
-fn is_end(bytes: &[u8]) -> bool
+pub(crate) fn is_end(bytes: &[u8]) -> bool
     ensures { result ≡ all_zeros bytes.now }
 {
     bytes.iter().all(|b| *b == 0)
 }
 
 // The block that these bytes store, with witnesses or without.
-fn block_of(alloc: Global, text: &[u8]) -> Result<Block, Refused<RecordCause>>
+pub(crate) fn block_of(alloc: Global, text: &[u8]) -> Result<Block, Refused<RecordCause>>
     ensures exact { GivesBlock (in_block (stored_block_at text.now)) result }
     ensures found { IfOk result (λ b. IsStored text.now b) }
     ensures fits { IfOk result (λ b. IsBlock b) }
@@ -102,7 +102,10 @@ fn is_genesis(alloc: Global, block: &Block) -> Result<bool, NoMemory>
 
 // The bytes after the first record, where it is one of the genesis block.
 #[tactic(auto, unfolding(crate::specs::Files::after_genesis, crate::specs::Files::block_here))]
-fn after_genesis<'a>(alloc: Global, bytes: &'a [u8]) -> Result<Option<&'a [u8]>, NoMemory>
+pub(crate) fn after_genesis<'a>(
+    alloc: Global,
+    bytes: &'a [u8],
+) -> Result<Option<&'a [u8]>, NoMemory>
     ensures exact { IfOk result (λ rest. option_map (λ s. s.now) rest ≡ after_genesis bytes.now) }
     ensures found { IfOk result (λ rest. IfSome rest (λ s. HasFirst bytes.now s.now)) }
 {

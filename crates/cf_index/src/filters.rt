@@ -11,9 +11,9 @@ ghost use Rattle.cf_index.specs.Bare.{AreKept, GoOn, IsBare, IsBareAt};
 ghost use Rattle.cf_index.specs.Filtering.{shown};
 
 use crate::block_filter::{BareFilter, BlockFilter};
-use crate::spend::Spent;
 use cf_block::{Block, Script, block_hash, genesis};
 use cf_bytes::{Hash32, Listed, NoMemory};
+use cf_coins::Spent;
 use cf_filter::{build, filter_hash, filter_header, items};
 use rayon::prelude::*;
 use std::alloc::Global;
@@ -23,7 +23,7 @@ use std::thread::{Threads, join};
 const BLOCKS_AT_ONCE: usize = 16_384;
 
 // The filter of a block of this hash, which spends these scripts.
-fn bare_filter(
+pub(crate) fn bare_filter(
     alloc: Global,
     block: &Block,
     name: &Hash32,
@@ -44,7 +44,7 @@ fn bare_filter(
 }
 
 // The filter with its header, where this is the filter header before it.
-fn with_header(bare: BareFilter, previous: &Hash32) -> BlockFilter
+pub(crate) fn with_header(bare: BareFilter, previous: &Hash32) -> BlockFilter
     ensures { (scripts : List (List ℕ)) (b : BlockOf) → IsBare scripts b bare → shown result ≡ filtered scripts previous.now.0 b }
 {
     let BareFilter {

@@ -1,26 +1,38 @@
 //! The index of a checked chain: its blocks by their heights and their hashes, with their filters.
-ghost use Rattle.std.specs.Prelude.{◌≡◌, ◌≤◌, ◌∷◌, length, map, IfOk, option_map, option_copied, position, slice_get};
-ghost use Rattle.std.specs.FinMap.{get};
+ghost use Rattle.std.specs.Prelude.{All, None, ◌≡◌, ◌≤◌, ◌<◌, ◌+◌, ◌∷◌, ◌++◌, [], length, OnOk, OnErr, map, IfOk, option_map, option_copied, position, slice_get};
+ghost use Rattle.std.specs.FinMap.{get, empty};
 ghost use Rattle.std.specs.Thread.{IsSync};
 ghost use Rattle.cf_bytes.specs.declared.hash.Hash32.{Hash32};
+ghost use Rattle.cf_block.specs.Commitment.{AreTxids};
 ghost use Rattle.cf_block.specs.Header.{block_hash_of};
 ghost use Rattle.cf_chain.specs.Filters.{filter_at, filters_of};
-ghost use Rattle.cf_chain.specs.Good.{IsGoodChain, max_height};
+ghost use Rattle.cf_block.specs.Tx.{IsBlock};
+ghost use Rattle.cf_chain.specs.Coins.{after_block, coins_after};
+ghost use Rattle.cf_chain.specs.Good.{IsGoodChain, headers_of, max_height};
 ghost use Rattle.cf_chain.specs.Heights.{all_blocks, block_height};
+ghost use Rattle.cf_coins.specs.Spending.{spend_txs};
 ghost use Rattle.cf_filter.specs.Filter.{filter_hash_of};
+ghost use Rattle.cf_headers.specs.Chain.{tip_hash};
 ghost use Rattle.cf_headers.specs.Rules.{same};
+ghost use Rattle.cf_index.specs.Adding.{AreTheirs, last_header};
 ghost use Rattle.cf_index.specs.Bare.{AreKept};
+ghost use Rattle.cf_index.specs.ByHash.{with_first};
+ghost use Rattle.cf_index.specs.Files.{cause_on, in_coins};
 ghost use Rattle.cf_index.specs.Filtering.{shown};
 ghost use Rattle.cf_index.specs.HeightMap.{AreHeightsOf, first_hash};
+ghost use Rattle.cf_index.specs.Progress.{FindsCause};
 
 use crate::block_filter::BlockFilter;
-use crate::chain::Blocks;
+use crate::cause::RecordCause;
+use crate::chain::{judge_before_coins, judge_by};
 use crate::checked::CheckedChain;
-use crate::filters::all_filters;
+use crate::filters::{all_filters, bare_filter, with_header};
 use crate::heights::{Heights, heights_of};
-use crate::spend::Spent;
-use cf_block::{Block, Header, TxIds, genesis};
-use cf_bytes::{Hash32, Listed, NoMemory};
+use crate::shared::{SharedBlock, SharedBlocks, shared_blocks};
+use cf_block::{Block, Header, TxIds, block_hash, genesis, txids};
+use cf_bytes::{Hash32, Listed, NoMemory, Refused};
+use cf_coins::{Coins, Spent, spend_block};
+use cf_headers::Past;
 use std::alloc::Global;
 use std::marker::Model;
 use std::thread::{Threads, join};
@@ -55,25 +67,125 @@ fn filters_and_heights<R: Threads + Sync>(
     Ok((filters?, heights?))
 }
 
+// Puts the outputs of a block of a good chain in, and takes what it spends out.
+fn spend_on(alloc: Global, coins: &mut Coins, block: &Block) -> Result<(), NoMemory>
+    requires { IsBlock block.now }
+    ensures { OnOk result (coins.new ≡ after_block coins.old block.now) }
+{
+    let ids = txids(alloc, block.txs.as_slice())?;
+    match spend_block(alloc, coins, block, ids.as_slice()) {
+        Ok(_spent) => Ok(()),
+        Err(_fault) => Err(NoMemory),
+    }
+}
+
+// The coins of a good chain.
+fn coins_of(alloc: Global, blocks: &[SharedBlock]) -> Result<Coins, NoMemory>
+    requires { All IsBlock blocks.now }
+    ensures { IfOk result (λ coins. coins ≡ coins_after empty blocks.now) }
+{
+    let mut coins = Coins::new(alloc);
+    for block in blocks {
+        spend_on(alloc, &mut coins, block.block())?;
+    }
+    Ok(coins)
+}
+
+// Takes the coins out, or finds them.
+fn take_coins(
+    alloc: Global,
+    coins: &mut Option<Coins>,
+    blocks: &[SharedBlock],
+) -> Result<Coins, NoMemory>
+    requires { AreTheirs coins.old blocks.now × IsGoodChain blocks.now }
+    ensures found { IfOk result (λ all. all ≡ coins_after empty blocks.now) }
+    ensures none { coins.new ≡ None }
+{
+    match coins.take() {
+        Some(all) => Ok(all),
+        None => coins_of(alloc, blocks),
+    }
+}
+
+// Judges what a block spends and makes by the coins of a good chain, which are found where they weren't yet, and stay as they are.
+fn judge_on(
+    alloc: Global,
+    coins: &mut Option<Coins>,
+    blocks: &[SharedBlock],
+    block: &Block,
+    txids: &[Hash32],
+) -> Result<(), Refused<RecordCause>>
+    requires chain { AreTheirs coins.old blocks.now × IsGoodChain blocks.now }
+    requires block { IsBlock block.now }
+    requires hashes { AreTxids txids.now block.now.txs }
+    ensures exact { FindsCause (in_coins (spend_txs (coins_after empty blocks.now) block.now.txs)) result }
+    ensures theirs { AreTheirs coins.new blocks.now }
+{
+    let all = take_coins(alloc, coins, blocks)?;
+    let judged = judge_by(alloc, &all, block, txids);
+    *coins = Some(all);
+    judged
+}
+
+// Puts a block, its filter and its height at the end. Where no memory is found nothing has changed.
+fn put_all(
+    blocks: &mut SharedBlocks,
+    filters: &mut Listed<BlockFilter>,
+    heights: &mut Heights,
+    block: SharedBlock,
+    filter: BlockFilter,
+    hash: Hash32,
+) -> Result<(), NoMemory>
+    requires { length blocks.old < max_height }
+    ensures blocks { OnOk result (blocks.new ≡ blocks.old ++ block ∷ []) }
+    ensures filters { OnOk result (filters.new ≡ filters.old ++ filter ∷ []) }
+    ensures heights { OnOk result (heights.new ≡ with_first heights.old hash (length blocks.old + 1)) }
+    ensures kept { OnErr result ((blocks.new ≡ blocks.old) × (filters.new ≡ filters.old) × (heights.new ≡ heights.old)) }
+{
+    let below = blocks.len();
+    let told = filters.len();
+    filters.push(filter)?;
+    match blocks.push(block) {
+        Ok(()) => {}
+        Err(e) => {
+            filters.truncate(told);
+            return Err(e);
+        }
+    }
+    match heights.add(hash, below as u32 + 1) {
+        Ok(()) => Ok(()),
+        Err(e) => {
+            blocks.truncate(below);
+            filters.truncate(told);
+            Err(e)
+        }
+    }
+}
+
 /// A checked chain with its filters, by height and by hash. Contracts see the list of its blocks above genesis, the lowest first.
 #[derive(Drop)]
 pub struct Index {
-    genesis: Block,
-    blocks: Blocks,
+    genesis: SharedBlock,
+    blocks: SharedBlocks,
     filters: Listed<BlockFilter>,
     heights: Heights,
+    // The times that count for the next block.
+    past: Past,
+    // The coins after the highest block, once a block was put on.
+    coins: Option<Coins>,
 }
 
 impl Model for Index {
     ghost use Rattle.std.specs.Prelude.{List};
     ghost use Rattle.cf_block.specs.declared.tx.Block.{Block};
+    ghost use Rattle.cf_index.specs.Adding.{Awaits};
     ghost use Rattle.cf_index.specs.Indexed.{IsIndexed};
 
     ghost Value = { List Block };
 
     ghost view = { λ s. s.blocks };
 
-    ghost invariant = { λ s. IsIndexed s.genesis s.blocks s.filters s.heights };
+    ghost invariant = { λ s. IsIndexed s.genesis s.blocks s.filters s.heights × Awaits s.past s.coins s.blocks };
 }
 
 impl Index {
@@ -92,8 +204,10 @@ impl Index {
             txids,
             spent,
             tip: _,
+            past,
         } = chain;
-        let genesis = genesis(alloc)?;
+        let first = genesis(alloc)?;
+        let genesis = SharedBlock::new(alloc, first)?;
         let (filters, heights) = filters_and_heights(
             rt,
             alloc,
@@ -102,12 +216,83 @@ impl Index {
             spent.as_slice(),
             txids,
         )?;
+        let blocks = shared_blocks(alloc, blocks)?;
         Ok(Index {
             genesis,
             blocks,
             filters,
             heights,
+            past,
+            coins: None,
         })
+    }
+
+    /// Puts a block on the chain where the chain with it is good. Otherwise nothing has changed, and the cause is answered. The chain's coins are
+    /// found by the first call that comes to them, and kept, whether it puts its block on or not; want of memory may lose them again.
+    #[tactic(auto, using(cf_chain::proofs::Bounds::block_few))]
+    pub fn add(&mut self, alloc: Global, block: Block) -> Result<(), Refused<RecordCause>>
+        requires block { IsBlock block }
+        ensures exact { FindsCause (cause_on self.old block) result }
+        ensures more { OnOk result (self.new ≡ self.old ++ block ∷ []) }
+        ensures kept { OnErr result (self.new ≡ self.old) }
+    {
+        let hash = block_hash(&block.header);
+        let time = block.header.time;
+        let tip = self.top_hash();
+        let last = self.last_header();
+        let height = self.blocks.len();
+        let txids = match judge_before_coins(alloc, &tip, &self.past, height, &block, &hash) {
+            Ok(txids) => txids,
+            Err(e) => return Err(e),
+        };
+        match judge_on(
+            alloc,
+            &mut self.coins,
+            self.blocks.as_slice(),
+            &block,
+            txids.as_slice(),
+        ) {
+            Ok(()) => {}
+            Err(e) => return Err(e),
+        }
+        let mut coins = take_coins(alloc, &mut self.coins, self.blocks.as_slice())?;
+        let Ok(spent) = spend_block(alloc, &mut coins, &block, txids.as_slice()) else {
+            return Err(Refused::NoMemory);
+        };
+        let bare = bare_filter(alloc, &block, &hash, spent.as_slice())?;
+        let filter = with_header(bare, &last);
+        let shared = SharedBlock::new(alloc, block)?;
+        put_all(
+            &mut self.blocks,
+            &mut self.filters,
+            &mut self.heights,
+            shared,
+            filter,
+            hash,
+        )?;
+        self.past.push(time);
+        self.coins = Some(coins);
+        Ok(())
+    }
+
+    // The hash of the highest block.
+    fn top_hash(&self) -> Hash32
+        ensures { result.0 ≡ tip_hash (headers_of self.now) }
+    {
+        match self.hash(self.tip()) {
+            Some(hash) => hash,
+            None => Hash32([0; 32]),
+        }
+    }
+
+    // The filter header of the highest block.
+    fn last_header(&self) -> Hash32
+        ensures { result.0 ≡ last_header self.now }
+    {
+        match self.filter_header(self.tip()) {
+            Some(header) => header,
+            None => Hash32([0; 32]),
+        }
     }
 
     /// The height of the chain.
@@ -127,6 +312,13 @@ impl Index {
 
     /// The block at a height, genesis at 0, where the chain is as high.
     pub fn block(&self, height: u32) -> Option<&Block>
+        ensures { option_copied result ≡ slice_get (all_blocks self.now) height }
+    {
+        self.shared(height).map(|shared| shared.block())
+    }
+
+    /// The same, to be shared.
+    pub fn shared(&self, height: u32) -> Option<&SharedBlock>
         ensures { option_copied result ≡ slice_get (all_blocks self.now) height }
     {
         if height == 0 {

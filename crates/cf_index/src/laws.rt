@@ -1,12 +1,13 @@
 //! Laws of the check: functions that do nothing, whose contracts say them.
-ghost use Rattle.std.specs.Prelude.{◌≡◌, ◌≤◌, ◌++◌, ℕ, List, Ok, Err, length, replicate};
+ghost use Rattle.std.specs.Prelude.{◌≡◌, ◌≤◌, ◌++◌, ◌∷◌, [], ℕ, List, Ok, Err, None, length, replicate};
 ghost use Rattle.std.specs.List.{flat_map, AllByRecursion};
 ghost use Rattle.cf_block.specs.declared.tx.Block.{Block};
 ghost use Rattle.cf_block.specs.Genesis.{first_block};
 ghost use Rattle.cf_block.specs.Stored.{IsStored};
+ghost use Rattle.cf_block.specs.Tx.{IsBlock};
 ghost use Rattle.cf_chain.specs.Good.{IsGoodChain};
 ghost use Rattle.cf_index.specs.declared.cause.BadBlock.{BadBlock};
-ghost use Rattle.cf_index.specs.Files.{IsGoodFile, IsBadFile, blocks_at};
+ghost use Rattle.cf_index.specs.Files.{IsGoodFile, IsBadFile, blocks_at, cause_on};
 ghost use Rattle.cf_index.specs.Records.{record_with, max_record, record_spelling};
 
 /// A good file is read as its blocks, and so as no others; a bad one is refused for its first bad record; and no file is both.
@@ -27,4 +28,11 @@ pub fn laws_of_files()
     ensures stored { (text : Block → List ℕ) (blocks : List Block) → IsGoodChain blocks
         → AllByRecursion (λ b. IsStored (text b) b) blocks → AllByRecursion (λ b. length (text b) ≤ max_record) blocks
         → IsGoodFile (flat_map (λ b. record_with (text b)) blocks) blocks }
+{}
+
+/// A block may stand on a good chain exactly where the chain with it is good: no cause is found of it there. With the clauses of `Index::add`, a
+/// block is put on exactly where the chain with it is good.
+pub fn laws_of_adding()
+    ensures good { (blocks : List Block) (b : Block) → IsGoodChain blocks → IsBlock b → cause_on blocks b ≡ None → IsGoodChain (blocks ++ b ∷ []) }
+    ensures only { (blocks : List Block) (b : Block) → IsGoodChain (blocks ++ b ∷ []) → cause_on blocks b ≡ None }
 {}

@@ -14,7 +14,7 @@ use std::thread::Threads;
 use thiserror::Error;
 
 // The most bytes of a file of blocks.
-const MOST_BYTES: usize = 1_073_741_824;
+pub(crate) const MOST_BYTES: usize = 1_073_741_824;
 
 /// Why no index was loaded.
 #[derive(Clone, Copy, Debug, PartialEq, Eq, Error)]
@@ -34,7 +34,7 @@ pub enum LoadFault {
 }
 
 // The answer where not all bytes were read.
-fn fault_of(fail: ReadFail) -> LoadFault
+pub(crate) fn fault_of(fail: ReadFail) -> LoadFault
     ensures { IsUnread fail result }
 {
     match fail {

@@ -46,7 +46,7 @@ fn take_length(cut: &mut Cut) -> Result<u32, RecordCause>
 
 // The length of the block of the record that stands here.
 #[tactic(auto, unfolding(crate::specs::Records::head_at))]
-fn take_head(cut: &mut Cut) -> Result<u32, RecordCause>
+pub(crate) fn take_head(cut: &mut Cut) -> Result<u32, RecordCause>
     ensures exact { Takes (λ n. n) (head_at cut.old) result cut.new }
     ensures found { IfOk result (λ n. (n ≤ max_record) × (cut.old ≡ magic ++ (to_le_bytes w32 n ++ cut.new))) }
 {

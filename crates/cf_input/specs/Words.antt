@@ -82,9 +82,15 @@ check_app = one_app (codes "check") (codes "file")
 abbrev pub connections : Rule
 connections = record (new_rule (codes "connections")) { long = Some (codes "connections") }
 
--- serve [--connections N] FILE ADDRESS
+-- the option of `serve` for a chain that grows
+abbrev pub grow_rule : Rule
+grow_rule = record (new_rule (codes "grow")) { long = Some (codes "grow"); action = Some SetTrue }
+
+-- serve [--grow] [--connections N] FILE ADDRESS
 abbrev pub serve_app : App
-serve_app = with_rule (with_rule (with_rule (new_app (codes "serve")) connections) (needed (new_rule (codes "file")))) (needed (new_rule (codes "address")))
+serve_app =
+    with_rule (with_rule (with_rule (with_rule (new_app (codes "serve")) grow_rule) connections) (needed (new_rule (codes "file"))))
+    (needed (new_rule (codes "address")))
 
 -- the option of `make` for coinbases with a witness
 abbrev pub witness_rule : Rule
@@ -256,7 +262,7 @@ check_of met = option_and_then (λ file. Some (Check file)) (text_of (codes "fil
 abbrev pub serve_of : Met → Option Command
 serve_of met =
     option_and_then (λ count. option_and_then (λ file. option_and_then (λ address.
-    if is_name address then Some (Serve count file address) else None)
+    if is_name address then Some (Serve (is_set (codes "grow") met) count file address) else None)
     (text_of (codes "address") met)) (text_of (codes "file") met)) (connections_of (text_of (codes "connections") met))
 
 -- the command `make`, by what was found for its arguments

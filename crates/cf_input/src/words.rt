@@ -3,7 +3,7 @@ ghost use Rattle.std.specs.Prelude.{◌≡◌, ◌==◌, IfOk, IfErr, [], map, f
 ghost use Rattle.std.specs.List.{list_any};
 ghost use Rattle.clap.specs.Words.{App, Rule, app_of, rule_of, new_rule, subcommand_of, subcommand_rows_of, fault_of, with_rule};
 ghost use Rattle.clap.specs.declared.builder.command.Command.TheViews.{out-Command as fields_of};
-ghost use Rattle.cf_input.specs.Words.{trace, turns, workers, record_rule, several, needed, replay_app, sync_options, sync_app, connections, serve_app, one_app, two_app, witness_rule, make_app, with_sub, client_app, cli_app, text_of, texts_of, is_met, is_set, turns_of, workers_of, connections_of, height_of, seed_of, made_of, played_of, replay_of, sync_of, scan_of, filter_of, address_of, hash_in, prove_of, check_of, serve_of, make_of, demo_of, HasFewPeers, asked_of, is_faultless, command_of, is_help_word, is_version_word};
+ghost use Rattle.cf_input.specs.Words.{trace, turns, workers, record_rule, several, needed, replay_app, sync_options, sync_app, connections, grow_rule, serve_app, one_app, two_app, witness_rule, make_app, with_sub, client_app, cli_app, text_of, texts_of, is_met, is_set, turns_of, workers_of, connections_of, height_of, seed_of, made_of, played_of, replay_of, sync_of, scan_of, filter_of, address_of, hash_in, prove_of, check_of, serve_of, make_of, demo_of, HasFewPeers, asked_of, is_faultless, command_of, is_help_word, is_version_word};
 ghost use Rattle.cf_input.specs.Commands.{GivesOrUsage, IfUsage, refusal_of};
 
 use crate::number::{number_at_most, number_within};
@@ -94,8 +94,9 @@ pub enum Command {
     Check {
         file: Word,
     },
-    /// The chain of a block file, served to so many connections to an address.
+    /// The chain of a block file, served to so many connections to an address. It stands still, or grows by the blocks that the connections bring.
     Serve {
+        grow: bool,
         connections: u32,
         file: Word,
         address: Word,
@@ -228,11 +229,20 @@ fn connections_arg<'a>(alloc: Global) -> Arg<'a>
     Arg::new(alloc, "connections").long("connections")
 }
 
+fn grow_arg<'a>(alloc: Global) -> Arg<'a>
+    ensures { (rule_of result ≡ grow_rule) × (result.global ≡ false) }
+{
+    Arg::new(alloc, "grow")
+        .long("grow")
+        .action(ArgAction::SetTrue)
+}
+
 fn serve_command<'a>(alloc: Global) -> Result<clap::Command<'a>, AllocError>
     ensures app { IfOk result (λ c. app_of c ≡ serve_app) }
     ensures globals { IfOk result (λ c. (fields_of c).has_globals ≡ false) }
 {
     let command = Ok(clap::Command::new(alloc, "serve"));
+    let command = with_arg(command, grow_arg(alloc));
     let command = with_arg(command, connections_arg(alloc));
     let command = with_arg(command, word_arg(alloc, "file"));
     with_arg(command, word_arg(alloc, "address"))
@@ -546,7 +556,9 @@ fn read_serve(alloc: Global, matches: &ArgMatches) -> Result<Command, Refused<Us
     }
     let file = Word::new(alloc, file)?;
     let address = Word::new(alloc, address)?;
+    let grow = is_set(matches, "grow");
     Ok(Command::Serve {
+        grow,
         connections,
         file,
         address,

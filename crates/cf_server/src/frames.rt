@@ -77,7 +77,8 @@ fn frame_bytes(alloc: Global, frame: &Frame) -> Result<Vec<u8>, NoMemory>
     encode(alloc, &frame.command, frame.payload.as_slice())
 }
 
-fn message_bytes(alloc: Global, msg: &Msg) -> Result<Vec<u8>, NoMemory>
+/// The bytes of the frame of a message, where they fit into one.
+pub fn message_bytes(alloc: Global, msg: &Msg) -> Result<Vec<u8>, NoMemory>
     requires limits { IsWithinLimits msg.now }
     requires fits { length (payload_of msg.now) ≤ 4000000 }
     ensures { IfOk result (λ bytes. bytes.items ≡ spelling (frame_of msg.now)) }

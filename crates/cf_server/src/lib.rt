@@ -10,8 +10,8 @@ mod reply;
 mod serve;
 
 pub use answering::{Served, answer};
-pub use frames::write_reply;
+pub use frames::{message_bytes, write_reply};
 pub use laws::laws_of_courses;
 pub use outcome::Outcome;
 pub use reply::{Replies, Reply};
-pub use serve::serve_one;
+pub use serve::{flush, serve_one};

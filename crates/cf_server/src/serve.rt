@@ -44,8 +44,8 @@ fn put_reply(
     Ok(())
 }
 
-// Writes the bytes that wait.
-fn flush<C: Duplex>(conn: &mut C, waiting: &mut Vec<u8>) -> Result<(), Outcome>
+/// Writes the bytes that wait.
+pub fn flush<C: Duplex>(conn: &mut C, waiting: &mut Vec<u8>) -> Result<(), Outcome>
     ensures sends { Sends result (C.written conn.old) (C.written conn.new) waiting.old.items }
     ensures none { OnOk result (waiting.new.items ≡ []) }
     ensures count { CountsWrites result (C.Sink.faults conn.old) (C.Sink.faults conn.new) }

@@ -47,7 +47,7 @@ pub returns-in-Serve-clause-failures : goal.returns-in-Serve-clause-failures
 returns-in-Serve-clause-failures g c = new_unfailed _ _ _ c.requires.wires
 
 pub returns-in-Serve-clause-unserved : goal.returns-in-Serve-clause-unserved
-returns-in-Serve-clause-unserved g c = serve_uses c.args.command c.in-Serve.connections c.in-Serve.file c.in-Serve.address c.serve.result _ _ c.in-Serve.is c.serve.ensures.unused
+returns-in-Serve-clause-unserved g c = serve_uses c.args.command c.in-Serve.grow c.in-Serve.connections c.in-Serve.file c.in-Serve.address c.serve.result _ _ c.in-Serve.is c.serve.ensures.unused
 
 pub returns-in-Replay-clause-versions : goal.returns-in-Replay-clause-versions
 returns-in-Replay-clause-versions g c = new_words _ _ c.requires.wires

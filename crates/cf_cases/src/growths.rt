@@ -1,0 +1,143 @@
+//! Conversations with a server whose chain grows.
+ghost use Rattle.std.specs.Prelude.{Some};
+ghost use Rattle.cf_conn.specs.MemoryConn.{Writes};
+
+use crate::conversations::{conn_of, index_in, shown as bytes_shown};
+use crate::fields::bytes_in;
+use cf_bytes::{Failed, Sink};
+use cf_conn::{Duplex, MemoryConn, MemoryEnd, Source};
+use cf_grow::{Ending, Grown, Nobody, serve_grown};
+use std::alloc::Global;
+use std::marker::Model;
+use std::sync::{Arc, Mutex, Wait};
+use std::thread::Threads;
+
+// What the server's `version` tells.
+const MOMENT: i64 = 1_700_000_000;
+const NONCE: u64 = 0x1122_3344_5566_7788;
+
+// The most bytes that are written to a connection.
+const ROOM: usize = 4_000_000;
+
+/// A connection by which another one is served, whole, before one of its reads.
+#[derive(Drop)]
+struct Around<R: Wait + Copy + Drop> {
+    rt: R,
+    alloc: Global,
+    grown: Arc<Mutex<Grown>, Global>,
+    conn: MemoryConn,
+    within: MemoryConn,
+    // How many reads come before.
+    before: u32,
+    how: Option<Ending>,
+}
+
+impl<R: Wait + Copy + Drop> Model for Around<R> {
+    ghost use Rattle.cf_conn.specs.MemoryConn.{BothWays};
+
+    ghost Value = { BothWays };
+
+    ghost view = { λ c. c.conn };
+}
+
+impl<R: Wait + Copy + Drop> Around<R> {
+    // Serves the one within, once so many reads have come.
+    fn serve_within(&mut self) {
+        if self.before > 0 {
+            self.before -= 1;
+            return;
+        }
+        if self.how.is_none() {
+            let ending = serve_grown(
+                &self.rt,
+                self.alloc,
+                &self.grown,
+                &Nobody,
+                &mut self.within,
+                MOMENT,
+                NONCE,
+            );
+            self.how = Some(ending);
+        }
+    }
+}
+
+impl<R: Wait + Copy + Drop> Source for Around<R> {
+    ghost left = { λ c. Some c.source.rest };
+
+    ghost ended = { λ c. c.source.ended };
+
+    ghost faults = { λ c. c.source.plan.faults };
+
+    fn read(&mut self, into: &mut [u8]) -> Result<usize, Failed> {
+        self.receive(into)
+    }
+}
+
+impl<R: Wait + Copy + Drop> Sink for Around<R> {
+    ghost written = { λ c. Some c.sink.bytes };
+
+    ghost faults = { λ c. c.sink.plan.faults };
+
+    ghost writes = { Writes };
+
+    fn write(&mut self, from: &[u8]) -> Result<usize, Failed> {
+        self.send(from)
+    }
+}
+
+impl<R: Wait + Copy + Drop> Duplex for Around<R> {
+    type End = MemoryEnd;
+
+    ghost tells = { λ end. end };
+
+    fn receive(&mut self, into: &mut [u8]) -> Result<usize, Failed> {
+        self.serve_within();
+        self.conn.receive(into)
+    }
+
+    fn send(&mut self, from: &[u8]) -> Result<usize, Failed> {
+        self.conn.send(from)
+    }
+
+    fn close(self) -> MemoryEnd {
+        self.conn.close()
+    }
+}
+
+// How a connection ended, and what was written to it.
+fn shown(alloc: Global, how: &Option<Ending>, conn: &MemoryConn) -> Option<String> {
+    let text = bytes_shown(alloc, conn.written())?;
+    match how {
+        Some(ending) => format!(in alloc; "{ending:?} {text}").ok(),
+        None => format!(in alloc; "unserved {text}").ok(),
+    }
+}
+
+/// How two connections end over a chain that grows, and what is written. The first one is served whole, once so many reads of the second have come.
+pub(crate) fn answer<R: Wait + Threads + Sync + Copy + Drop>(
+    rt: R,
+    alloc: Global,
+    row: &str,
+) -> Option<String> {
+    let (chain, rest) = row.split_once(' ')?;
+    let (most, rest) = rest.split_once(' ')?;
+    let (before, rest) = rest.split_once(' ')?;
+    let (within, around) = rest.split_once(' ')?;
+    let grown = Mutex::new(Grown::new(index_in(&rt, alloc, chain)?));
+    let grown = Arc::new(alloc, grown).ok()?;
+    let most = most.parse().ok()?;
+    let mut conn = Around {
+        rt,
+        alloc,
+        grown: Arc::try_clone(&grown).ok()?,
+        conn: conn_of(alloc, bytes_in(alloc, around)?, most, ROOM)?,
+        within: conn_of(alloc, bytes_in(alloc, within)?, most, ROOM)?,
+        before: before.parse().ok()?,
+        how: None,
+    };
+    let how = serve_grown(&rt, alloc, &grown, &Nobody, &mut conn, MOMENT, NONCE);
+    let first = shown(alloc, &conn.how, &conn.within)?;
+    let second = shown(alloc, &Some(how), &conn.conn)?;
+    format!(in alloc; "{first}\n{second}").ok()
+}

@@ -1,0 +1,52 @@
+-- What is known of a file that was opened and read by parts.
+use Rattle.std.proofs.Common.{◌≡◌, ◌≤◌, ◌<◌, ℕ, Bool, true, false, List, length, Option, Some, None, Result, Ok, Err, refl, sym, ◌∙◌, ap, subst, arith}
+use Rattle.std.specs.Prelude.{nat_lt, if◌then◌else◌, IfSome}
+use Rattle.std.proofs.lemmas.Bool.Decides.{nat_tests}
+use Rattle.std.specs.FinMap as finite
+use Rattle.cf_bytes.specs.Files.{Named, OpenIn, OpenOf}
+use Rattle.cf_block.specs.declared.tx.Block.{Block}
+use Rattle.cf_index.specs.declared.cause.BadBlock.{BadBlock}
+use Rattle.cf_index.specs.declared.load.LoadFault.{LoadFault}
+use Rattle.cf_index.specs.declared.load.LoadFault.TheVariants as faults
+use Rattle.cf_index.specs.Files.{blocks_at}
+use Rattle.cf_index.specs.Striding.{ReadsAs}
+use Rattle.cf_index.proofs.Strides.{all_count}
+use Rattle.cf_answers.specs.declared.status.Status.{Status}
+use Rattle.cf_cli.specs.Statuses.{Verdict, Good, IsReadAs, IsUnloaded, blocks_read, blocks_verdict, most_blocks}
+
+-- few enough bytes are judged by what they are read as
+few_verdict : (bytes : List ℕ) → length bytes ≤ most_blocks → blocks_verdict (Some bytes) ≡ blocks_read (blocks_at bytes)
+few_verdict bytes few = grind (arith, nat_tests)
+
+-- a chain was read of the file's bytes
+good_of : (o left : Option (List ℕ)) (blocks : List Block) → OpenOf o most_blocks left (Ok tt) → ((bytes : List ℕ) → left ≡ Some bytes → ReadsAs bytes (Ok blocks))
+    → (blocks_verdict o ≡ Good) × IfSome o (λ bytes. blocks_at bytes ≡ Ok blocks)
+good_of None left blocks opened reads = absurd opened
+good_of (Some bytes) left blocks opened reads =
+    let read = reads bytes opened.0 in
+    (few_verdict bytes opened.1 ∙ ap blocks_read read.1, read.1)
+
+pub good_in : (m : Named) (name : List ℕ) (left : Option (List ℕ)) (blocks : List Block) → OpenIn (Some m) name most_blocks left (Ok tt)
+    → ((bytes : List ℕ) → left ≡ Some bytes → ReadsAs bytes (Ok blocks))
+    → (blocks_verdict (finite.get m name) ≡ Good) × IfSome (finite.get m name) (λ bytes. blocks_at bytes ≡ Ok blocks)
+good_in m name left blocks opened reads = good_of (finite.get m name) left blocks opened reads
+
+-- none was: the file is judged so
+bad_of : {X : Type 0} (o left : Option (List ℕ)) (fault : LoadFault) (status : Status) → OpenOf o most_blocks left (Ok tt) → ((bytes : List ℕ) → left ≡ Some bytes → ReadsAs bytes (Err fault))
+    → IsUnloaded fault status → IsReadAs {X} (blocks_verdict o) (Err status)
+bad_of {X} None left fault status opened reads told = absurd opened
+bad_of {X} (Some bytes) left (faults.BadBlock bad) status opened reads told =
+    let read = reads bytes opened.0 in
+    subst (λ (s : Status). IsReadAs {X} (blocks_verdict (Some bytes)) (Err s)) (sym told)
+    (few_verdict bytes opened.1 ∙ ap blocks_read (sym (ap blocks_at (all_count bytes opened.1)) ∙ read.0))
+bad_of {X} (Some bytes) left faults.TooBig status opened reads told =
+    let read = reads bytes opened.0 in
+    let few = opened.1 in
+    let many = read.0 in
+    absurd (omega (arith, few, many))
+bad_of {X} (Some bytes) left faults.ReadFault status opened reads told = subst (λ (s : Status). IsReadAs {X} (blocks_verdict (Some bytes)) (Err s)) (sym told) tt
+bad_of {X} (Some bytes) left faults.NoMemory status opened reads told = subst (λ (s : Status). IsReadAs {X} (blocks_verdict (Some bytes)) (Err s)) (sym told) tt
+
+pub bad_in : {X : Type 0} (m : Named) (name : List ℕ) (left : Option (List ℕ)) (fault : LoadFault) (status : Status) → OpenIn (Some m) name most_blocks left (Ok tt)
+    → ((bytes : List ℕ) → left ≡ Some bytes → ReadsAs bytes (Err fault)) → IsUnloaded fault status → IsReadAs {X} (blocks_verdict (finite.get m name)) (Err status)
+bad_in {X} m name left fault status opened reads told = bad_of {X} (finite.get m name) left fault status opened reads told

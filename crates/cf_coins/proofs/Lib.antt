@@ -1,0 +1,4 @@
+pub mod CoinMaps
+pub mod Maps
+pub mod Steps
+pub mod Touching

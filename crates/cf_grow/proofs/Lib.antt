@@ -1,0 +1,6 @@
+pub mod Marks
+pub mod Grows
+pub mod Holding
+pub mod PartTexts
+pub mod Serving
+pub mod Stepping

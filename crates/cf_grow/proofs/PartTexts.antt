@@ -1,0 +1,62 @@
+-- The parts of an answer are written one after another.
+use Rattle.std.proofs.Common.{◌≡◌, ℕ, ◌+◌, ◌<◌, List, [], ◌∷◌, ◌++◌, length, take, drop, get_or, Option, Err, sym, ap, ◌∙◌, subst, append_assoc}
+use Rattle.std.proofs.lemmas.List.{append-nil, take_more, take-append-drop}
+use Rattle.std.proofs.lemmas.List.Concat.{flat_map-append}
+use Rattle.cf_grow.specs.declared.held.Held.{Held}
+use Rattle.cf_grow.specs.Held.{text_in, texts_in}
+use Rattle.cf_server.specs.declared.outcome.Outcome.{Outcome}
+use Rattle.cf_server.specs.declared.outcome.Outcome.TheVariants.{Closed, BadFrame, Malformed as MalformedFrame, ReadFault, WriteFault, Tired, NoMemory}
+use Rattle.cf_server.specs.Serving.{Beginning}
+use Rattle.cf_server.specs.Taking.{Sends}
+use Rattle.cf_server.proofs.Steps.{Waiting}
+use Rattle.cf_server.proofs.Texts.{beginning_more, beginning_whole}
+
+texts_on : (parts : List Held) (i : ℕ) (part : Held) → i < length parts → part ≡ get_or parts i part
+    → texts_in (take (i + 1) parts) ≡ texts_in (take i parts) ++ text_in part
+texts_on parts i part lt at =
+    ap texts_in (take_more parts i part lt)
+    ∙ flat_map-append text_in (take i parts) (get_or parts i part ∷ [])
+    ∙ ap (λ (t : List ℕ). texts_in (take i parts) ++ t) (append-nil (text_in (get_or parts i part)) ∙ ap text_in (sym at))
+
+texts_split : (parts : List Held) (n : ℕ) → texts_in parts ≡ texts_in (take n parts) ++ texts_in (drop n parts)
+texts_split parts n = ap texts_in (sym (take-append-drop n parts))
+    ∙ flat_map-append text_in (take n parts) (drop n parts)
+
+-- one more part waits
+pub parts_more : (parts : List Held) (i : ℕ) (part : Held) (v w : List ℕ) (o p : Option (List ℕ)) → i < length parts
+    → part ≡ get_or parts i part
+    → Waiting o p v (texts_in (take i parts)) → w ≡ v ++ text_in part → Waiting o p w (texts_in (take (i + 1) parts))
+parts_more parts i part v w o p lt at waiting put = record {
+  sent = waiting.sent;
+  whole = waiting.whole;
+  all = texts_on parts i part lt at ∙ ap (λ (t : List ℕ). t ++ text_in part) waiting.all
+      ∙ append_assoc waiting.sent v (text_in part)
+      ∙ ap (λ (t : List ℕ). waiting.sent ++ t) (sym put);
+}
+
+-- nothing more is written
+pub parts_kept : (parts : List Held) (i : ℕ) (w : List ℕ) (o p : Option (List ℕ))
+    → Waiting o p w (texts_in (take i parts)) → Beginning o p (texts_in parts)
+parts_kept parts i w o p waiting =
+    let front : List ℕ = texts_in (take i parts) in
+    let begins : Beginning o p front = subst (Beginning o p) (sym waiting.all) (beginning_more o p waiting.sent w (beginning_whole o p waiting.sent waiting.whole)) in
+    subst (Beginning o p) (sym (texts_split parts i)) (beginning_more o p front (texts_in (drop i parts)) begins)
+
+-- a front of the parts was sent in part
+pub parts_front : (parts : List Held) (n : ℕ) (outcome : Outcome) (o q : Option (List ℕ))
+    → Sends (Err outcome) o q (texts_in (take n parts))
+    → Sends (Err outcome) o q (texts_in parts)
+parts_front parts n outcome o q sends = in_part outcome sends
+  where
+    begins : Beginning o q (texts_in (take n parts)) → Beginning o q (texts_in parts)
+    begins part = subst (Beginning o q) (sym (texts_split parts n)) (beginning_more o q (texts_in (take n parts)) (texts_in (drop n parts)) part)
+
+    in_part : (outcome : Outcome) → Sends (Err outcome) o q (texts_in (take n parts))
+        → Sends (Err outcome) o q (texts_in parts)
+    in_part WriteFault h = begins h
+    in_part NoMemory h = begins h
+    in_part Closed h = absurd h
+    in_part (BadFrame fault) h = absurd h
+    in_part (MalformedFrame fault) h = absurd h
+    in_part ReadFault h = absurd h
+    in_part Tired h = absurd h

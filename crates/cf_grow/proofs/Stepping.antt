@@ -1,0 +1,70 @@
+-- A frame is answered by one step under the lock.
+use Rattle.std.proofs.Common.{◌≡◌, ℕ, ℤ, Bool, true, false, inl, inr, List, Option, Some, Result, Ok, Err, refl, ap, ◌∙◌, subst}
+use Rattle.std.specs.Prelude.{IfOk}
+use Rattle.cf_bytes.specs.declared.hash.Hash32.{Hash32}
+use Rattle.cf_bytes.specs.declared.memory.Refused.{Refused}
+use Rattle.cf_block.specs.declared.tx.Block.{Block}
+use Rattle.cf_chain.specs.Grow.{Mark as Told, is_met}
+use Rattle.cf_frame.specs.declared.frame.Frame.{Frame}
+use Rattle.cf_frame.specs.Frame.{IsFrame}
+use Rattle.cf_frame.specs.Stream.{IsBytes}
+use Rattle.cf_grow.specs.declared.held.Held.{Held}
+use Rattle.cf_grow.specs.declared.ending.Ending.TheVariants.{Served}
+use Rattle.cf_grow.specs.declared.mark.Mark.{Mark}
+use Rattle.cf_grow.specs.declared.mark.TakeFail.{TakeFail}
+use Rattle.cf_grow.specs.declared.mark.TakeFail.TheVariants.{Shrunk as NotThere, NoMemory as OutOfMemory}
+use Rattle.cf_grow.specs.Growing.{hash_in, told_by, mark_of, StandsOn, IsAfterVersion, IsStep}
+use Rattle.cf_grow.specs.Held.{texts_in}
+use Rattle.cf_grow.specs.Serving.{Answers, Answered, AnswersFrame, ending_of}
+use Rattle.cf_msg.specs.declared.msg.Msg.{Msg}
+use Rattle.cf_msg.specs.declared.msg.Malformed.{Malformed}
+use Rattle.cf_msg.specs.Message.{HasSpelling}
+use Rattle.cf_msg.specs.Reading.{message_of, Answers as ReadsAs}
+use Rattle.cf_msg.proofs.Table.{carried}
+use Rattle.cf_server.specs.declared.outcome.Outcome.{Outcome}
+use Rattle.cf_server.specs.declared.outcome.Outcome.TheVariants.{Closed, BadFrame, Malformed as MalformedFrame, ReadFault, WriteFault, Tired, NoMemory}
+use Rattle.cf_server.specs.Serving.{Whole}
+use Rattle.cf_server.specs.Taking.{Sends}
+
+-- what was read is spelled
+pub spelled_of : (f : Frame) (payload : List ℕ) (r : Result Msg (Refused Malformed)) → ReadsAs (message_of f) r → IsFrame f → payload ≡ f.payload → IsBytes payload
+    → IfOk r HasSpelling
+spelled_of f payload (Ok m) reads frame same bytes = (carried f m frame (subst IsBytes same bytes) reads).fits
+spelled_of f payload (Err e) reads frame same bytes = tt
+
+stands_by : (blocks : List Block) (seen : Bool) (height : ℕ) (hash : Hash32) → (seen ≡ true → hash_in blocks height ≡ Some hash) → StandsOn blocks (told_by seen height hash)
+stands_by blocks true height hash has = has refl
+stands_by blocks false height hash has = tt
+
+-- a step answers the message by a good chain on which the mark stands
+pub step_answers : (mark now : Mark) (m : Msg) (parts sent : List Held) → sent ≡ parts → IsStep mark now m parts
+    → Answers mark.served.time mark.served.nonce (mark_of mark) m (mark_of now) (texts_in sent)
+step_answers mark now m parts sent same step = record {
+  chain = step.chain;
+  good = step.good;
+  stands = stands_by step.chain mark.served.seen mark.height mark.hash step.has;
+  written = ap texts_in same ∙ step.answer;
+  moved = step.next;
+}
+
+-- a frame whose message is refused
+pub refused_frame : (fail : TakeFail) (now : ℤ) (nonce : ℕ) (read : Result Msg Malformed) (m : Msg) (mark : Mark) (next : Told) (o : Option (List ℕ)) → read ≡ Ok m → IsAfterVersion mark fail
+    → AnswersFrame (Err (ending_of fail)) now nonce read (mark_of mark) next o o
+refused_frame (NotThere s) now nonce read m mark next o is met = ((m, is), ap (λ (b : Bool). is_met (told_by b mark.height mark.hash)) met, refl)
+refused_frame OutOfMemory now nonce read m mark next o is met = inl refl
+
+-- one whose answer is sent in part
+pub frame_failed : (outcome : Outcome) (now : ℤ) (nonce : ℕ) (read : Result Msg Malformed) (m : Msg) (mark next : Told) (text : List ℕ) (o p : Option (List ℕ)) → read ≡ Ok m
+    → Answers now nonce mark m next text → Sends (Err outcome) o p text → AnswersFrame (Err (Served outcome)) now nonce read mark next o p
+frame_failed WriteFault now nonce read m mark next text o p is answers sends = inr (record { message = m; is = is; next = next; text = text; answers = answers; begins = sends })
+frame_failed NoMemory now nonce read m mark next text o p is answers sends = inr (record { message = m; is = is; next = next; text = text; answers = answers; begins = sends })
+frame_failed Closed now nonce read m mark next text o p is answers sends = absurd sends
+frame_failed (BadFrame fault) now nonce read m mark next text o p is answers sends = absurd sends
+frame_failed (MalformedFrame fault) now nonce read m mark next text o p is answers sends = absurd sends
+frame_failed ReadFault now nonce read m mark next text o p is answers sends = absurd sends
+frame_failed Tired now nonce read m mark next text o p is answers sends = absurd sends
+
+-- one whose answer is sent whole
+pub frame_answered : (now : ℤ) (nonce : ℕ) (read : Result Msg Malformed) (m : Msg) (mark next : Told) (text : List ℕ) (o p : Option (List ℕ)) → read ≡ Ok m
+    → Answers now nonce mark m next text → Whole o p text → Answered now nonce read mark next o p
+frame_answered now nonce read m mark next text o p is answers whole = record { message = m; is = is; text = text; answers = answers; written = whole }

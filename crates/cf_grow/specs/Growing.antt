@@ -1,0 +1,103 @@
+-- What a growing chain tells a connection, by a step.
+use Rattle.std.specs.Prelude.{◌≡◌, ℕ, Bool, true, false, if◌then◌else◌, List, [], ◌∷◌, ◌++◌, length, nat_lt, slice_get, Option, Some, None, is_none, option_map, Result, Ok, Err}
+use Rattle.cf_bytes.specs.declared.hash.Hash32.{Hash32}
+use Rattle.cf_block.specs.declared.tx.Block.{Block}
+use Rattle.cf_block.specs.Header.{block_hash_of}
+use Rattle.cf_chain.specs.Good.{IsGoodChain}
+use Rattle.cf_chain.specs.Heights.{all_blocks}
+use Rattle.cf_chain.specs.Grow.{GrowAnswer, Mark as Told, NotMet, Told as IsTold, mark_at, announcement, asked_for, grow_answer}
+use Rattle.cf_grow.specs.declared.held.Held.{Held}
+use Rattle.cf_grow.specs.declared.mark.Mark.{Mark}
+use Rattle.cf_grow.specs.declared.mark.TakeFail.{TakeFail}
+use Rattle.cf_grow.specs.declared.mark.TakeFail.TheVariants.{Shrunk, NoMemory}
+use Rattle.cf_grow.specs.declared.taking.Answer.{Answer}
+use Rattle.cf_grow.specs.Held.{texts_in}
+use Rattle.cf_index.specs.Files.{cause_on}
+use Rattle.cf_msg.specs.declared.msg.Msg.{Msg}
+use Rattle.cf_server.specs.declared.answering.Served.{Served}
+use Rattle.cf_server.specs.Replies.{messages_of, AreRepliesOf}
+use Rattle.cf_server.specs.Serving.{text_of}
+
+-- the hash at a height
+abbrev pub hash_in : List Block → ℕ → Option Hash32
+hash_in blocks height = option_map (λ b. record { 0 = block_hash_of b.header }) (slice_get (all_blocks blocks) height)
+
+-- what was told, by what is kept of it
+abbrev pub told_by : Bool → ℕ → Hash32 → Told
+told_by true height hash = IsTold height hash.0
+told_by false height hash = NotMet
+
+abbrev pub mark_of : Mark → Told
+mark_of mark = told_by mark.served.seen mark.height mark.hash
+
+-- the answer to a message of a connection with this mark, by a chain
+abbrev pub answer_at : Mark → List Block → Msg → GrowAnswer
+answer_at mark blocks m = grow_answer mark.served.time mark.served.nonce blocks (mark_of mark) m
+
+-- the mark stands on the chain, once something was told
+abbrev pub HasMark : List Block → Mark → Type 0
+HasMark blocks mark = mark.served.seen ≡ true → hash_in blocks mark.height ≡ Some mark.hash
+
+-- the same of what was told
+abbrev pub StandsOn : List Block → Told → Type 0
+StandsOn blocks NotMet = Unit {0}
+StandsOn blocks (IsTold height hash) = hash_in blocks height ≡ Some (record { 0 = hash })
+
+-- where the mark stands then, by whether a version has come by then
+abbrev pub moved : List Block → Told → Bool → Told
+moved blocks NotMet true = mark_at blocks
+moved blocks NotMet false = NotMet
+moved blocks (IsTold height hash) seen = if nat_lt height (length blocks) then mark_at blocks else IsTold height hash
+
+-- the messages that an answer stands for
+abbrev pub news_in : Option Hash32 → List Msg
+news_in None = []
+news_in (Some hash) = announcement hash.0 ∷ []
+
+abbrev pub messages_in : Served → List Block → Answer → List Msg
+messages_in served blocks a = news_in a.news ++ (asked_for a.wants ++ messages_of served blocks a.plain)
+
+pub record IsAnswerOf (served : Served) (blocks : List Block) (a : Answer) (messages : List Msg) : Type 0 where
+  pub told : messages_in served blocks a ≡ messages
+  pub each : AreRepliesOf blocks a.plain
+
+-- it is refused only where the mark doesn't stand on the chain, and carries both hashes
+abbrev pub IsRefusal : List Block → Mark → TakeFail → Type 0
+IsRefusal blocks mark (Shrunk s) = (HasMark blocks mark → ⊥) × (s.seen ≡ mark.hash) × (s.found ≡ hash_in blocks mark.height)
+IsRefusal blocks mark NoMemory = Unit {0}
+
+abbrev pub Refuses : {X : Type 0} → List Block → Mark → Result X TakeFail → Type 0
+Refuses blocks mark (Ok x) = Unit {0}
+Refuses blocks mark (Err e) = IsRefusal blocks mark e
+
+-- a chain that isn't the one that was told is found only once a version has come
+abbrev pub IsAfterVersion : Mark → TakeFail → Type 0
+IsAfterVersion mark (Shrunk s) = mark.served.seen ≡ true
+IsAfterVersion mark NoMemory = Unit {0}
+
+abbrev pub ShrinksAfter : {X : Type 0} → Mark → Result X TakeFail → Type 0
+ShrinksAfter mark (Ok x) = Unit {0}
+ShrinksAfter mark (Err e) = IsAfterVersion mark e
+
+-- the time and the nonce of the server's own version stay
+abbrev pub HasMomentOf : Mark → Mark → Type 0
+HasMomentOf old new = (new.served.time ≡ old.served.time) × (new.served.nonce ≡ old.served.nonce)
+
+-- one message was answered by a good chain on which the mark stands
+pub record IsStep (mark now : Mark) (m : Msg) (parts : List Held) : Type 0 where
+  pub chain : List Block
+  pub good : IsGoodChain chain
+  pub has : HasMark chain mark
+  pub answer : texts_in parts ≡ text_of (answer_at mark chain m).replies
+  pub next : mark_of now ≡ (answer_at mark chain m).mark
+
+-- a block may stand on a chain
+abbrev pub fits_on : List Block → Block → Bool
+fits_on blocks b = is_none (cause_on blocks b)
+
+-- the height of the block that has joined, where one has
+abbrev pub height_joined : ℕ → ℕ → Option ℕ
+height_joined before now = if nat_lt before now then Some now else None
+
+abbrev pub joined_in : List Block → List Block → Option ℕ
+joined_in old new = height_joined (length old) (length new)

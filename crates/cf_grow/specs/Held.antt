@@ -1,0 +1,17 @@
+-- What an answer holds: bytes, and blocks that it shares with the chain.
+use Rattle.std.specs.Prelude.{ℕ, List}
+use Rattle.std.specs.List.{flat_map}
+use Rattle.cf_frame.specs.Frame.{spelling}
+use Rattle.cf_grow.specs.declared.held.Held.{Held}
+use Rattle.cf_grow.specs.declared.held.Held.TheVariants.{Bytes, Block}
+use Rattle.cf_msg.specs.declared.msg.Msg.TheVariants.{Block as BlockMessage}
+use Rattle.cf_msg.specs.Message.{frame_of}
+
+-- the bytes that a part stands for
+abbrev pub text_in : Held → List ℕ
+text_in (Bytes bytes) = bytes
+text_in (Block block) = spelling (frame_of (BlockMessage block))
+
+-- those of parts, joined
+abbrev pub texts_in : List Held → List ℕ
+texts_in parts = flat_map text_in parts

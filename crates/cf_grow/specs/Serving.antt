@@ -1,0 +1,179 @@
+-- What a connection is served by a chain that grows, message by message.
+use Rattle.std.specs.Prelude.{◌≡◌, ◌⊎◌, ℕ, ℤ, Bool, true, List, [], ◌∷◌, ◌++◌, Option, Some, None, Result, Ok, Err}
+use Rattle.cf_bytes.specs.Outside.{HasRisen}
+use Rattle.cf_conn.specs.Source.{with_front}
+use Rattle.cf_block.specs.declared.tx.Block.{Block}
+use Rattle.cf_chain.specs.Good.{IsGoodChain}
+use Rattle.cf_chain.specs.Grow.{Mark as Told, NotMet, grow_answer, is_met}
+use Rattle.cf_frame.specs.declared.frame.Frame.{Frame}
+use Rattle.cf_frame.specs.Reading.{front_of}
+use Rattle.cf_grow.specs.declared.ending.Ending.{Ending}
+use Rattle.cf_grow.specs.declared.ending.Ending.TheVariants.{Served, Shrunk}
+use Rattle.cf_grow.specs.declared.mark.TakeFail.{TakeFail}
+use Rattle.cf_grow.specs.declared.mark.TakeFail.TheVariants.{Shrunk as NotThere, NoMemory as OutOfMemory}
+use Rattle.cf_grow.specs.Growing.{StandsOn}
+use Rattle.cf_msg.specs.declared.msg.Msg.{Msg}
+use Rattle.cf_msg.specs.declared.msg.Malformed.{Malformed}
+use Rattle.cf_server.specs.declared.outcome.Outcome.TheVariants.{BadFrame, Malformed as MalformedFrame, WriteFault, NoMemory}
+use Rattle.cf_server.specs.Outcomes.{number_of}
+use Rattle.cf_server.specs.Serving.{Stop, course, most_frames, text_of, Whole, Beginning, ComesAt, Counts, Ends}
+use Rattle.cf_server.specs.Taking.{with_messages, ComesInside}
+
+-- ---- message by message
+
+-- one message was answered by a good chain on which the mark stands: this is written, and the mark stands there next
+pub record Answers (now : ℤ) (nonce : ℕ) (mark : Told) (m : Msg) (next : Told) (text : List ℕ) : Type 0 where
+  pub chain : List Block
+  pub good : IsGoodChain chain
+  pub stands : StandsOn chain mark
+  pub written : text ≡ text_of (grow_answer now nonce chain mark m).replies
+  pub moved : next ≡ (grow_answer now nonce chain mark m).mark
+
+-- the same of messages, one after another, each with the mark that the one before has left
+abbrev pub AnswersEach : ℤ → ℕ → Told → List Msg → Told → List ℕ → Type 0
+AnswersEach now nonce mark [] last text = (last ≡ mark) × (text ≡ [])
+AnswersEach now nonce mark (m ∷ ms) last text =
+    (next : Told) × (first : List ℕ) × (rest : List ℕ)
+    × Answers now nonce mark m next first × AnswersEach now nonce next ms last rest × (text ≡ first ++ rest)
+
+-- ---- how serving ends
+
+-- the number of an ending, by which a service gives it back
+abbrev pub ending_number : Ending → ℕ
+ending_number (Served outcome) = number_of outcome
+ending_number (Shrunk s) = 7
+
+-- the ending where a message isn't answered
+abbrev pub ending_of : TakeFail → Ending
+ending_of (NotThere s) = Shrunk s
+ending_of OutOfMemory = Served NoMemory
+
+-- all messages were answered
+pub record AllWritten (now : ℤ) (nonce : ℕ) (mark : Told) (messages : List Msg) (before after : Option (List ℕ)) : Type 0 where
+  pub last : Told
+  pub text : List ℕ
+  pub each : AnswersEach now nonce mark messages last text
+  pub whole : Whole before after text
+
+-- some of them from the first on were answered, and of what is written for these a beginning stands
+pub record SomeWritten (now : ℤ) (nonce : ℕ) (mark : Told) (messages : List Msg) (before after : Option (List ℕ)) : Type 0 where
+  pub answered : List Msg
+  pub others : List Msg
+  pub split : messages ≡ answered ++ others
+  pub last : Told
+  pub text : List ℕ
+  pub each : AnswersEach now nonce mark answered last text
+  pub begins : Beginning before after text
+
+-- all before one of them were answered, and that one finds a mark which its `version` has set
+pub record WrittenBefore (now : ℤ) (nonce : ℕ) (mark : Told) (messages : List Msg) (before after : Option (List ℕ)) : Type 0 where
+  pub answered : List Msg
+  pub refused : Msg
+  pub others : List Msg
+  pub split : messages ≡ answered ++ refused ∷ others
+  pub last : Told
+  pub met : is_met last ≡ true
+  pub text : List ℕ
+  pub each : AnswersEach now nonce mark answered last text
+  pub whole : Whole before after text
+
+-- what is written by then
+abbrev pub Writes : Ending → ℤ → ℕ → Told → List Msg → Option (List ℕ) → Option (List ℕ) → Type 0
+Writes (Served WriteFault) now nonce mark messages before after = SomeWritten now nonce mark messages before after
+Writes (Served NoMemory) now nonce mark messages before after = SomeWritten now nonce mark messages before after
+Writes (Served outcome) now nonce mark messages before after = AllWritten now nonce mark messages before after
+Writes (Shrunk s) now nonce mark messages before after = WrittenBefore now nonce mark messages before after
+
+-- an outcome comes exactly there
+abbrev pub Comes : Ending → Stop → Type 0
+Comes (Served outcome) stop = ComesAt outcome stop
+Comes (Shrunk s) stop = Unit {0}
+
+-- Of a connection whose source told these bytes: those of them that were taken, where the ending comes, and what was written for them.
+pub record IsServedGrowing (now : ℤ) (nonce : ℕ) (ending : Ending) (bytes : List ℕ) (left before after : Option (List ℕ)) : Type 0 where
+  pub taken : List ℕ
+  pub rest : Some bytes ≡ with_front taken left
+  pub comes : Comes ending (course most_frames taken).stop
+  pub writes : Writes ending now nonce NotMet (course most_frames taken).messages before after
+
+-- a fault comes only where its count has risen; the counts of reading and of writing stand still otherwise
+abbrev pub CountsOf : Ending → ℕ → ℕ → ℕ → ℕ → Type 0
+CountsOf (Served outcome) reads reads_after writes writes_after = Counts outcome reads reads_after writes writes_after
+CountsOf (Shrunk s) reads reads_after writes writes_after = (reads_after ≡ reads) × (writes_after ≡ writes)
+
+-- at the source's end nothing is left
+abbrev pub EndsOf : Ending → Bool → Option (List ℕ) → Type 0
+EndsOf (Served outcome) ended left = Ends outcome ended left
+EndsOf (Shrunk s) ended left = Unit {0}
+
+-- ---- the steps
+
+-- the count of failed writes
+abbrev pub CountsSends : Result (Unit {0}) Ending → ℕ → ℕ → Type 0
+CountsSends (Err (Served WriteFault)) before after = HasRisen before after
+CountsSends result before after = after ≡ before
+
+-- what became of a frame
+pub record Answered (now : ℤ) (nonce : ℕ) (read : Result Msg Malformed) (old new : Told) (before after : Option (List ℕ)) : Type 0 where
+  pub message : Msg
+  pub is : read ≡ Ok message
+  pub text : List ℕ
+  pub answers : Answers now nonce old message new text
+  pub written : Whole before after text
+
+pub record Begun (now : ℤ) (nonce : ℕ) (read : Result Msg Malformed) (old : Told) (before after : Option (List ℕ)) : Type 0 where
+  pub message : Msg
+  pub is : read ≡ Ok message
+  pub next : Told
+  pub text : List ℕ
+  pub answers : Answers now nonce old message next text
+  pub begins : Beginning before after text
+
+-- a frame that can't be answered has nothing written for it, or a beginning
+abbrev pub Fails : ℤ → ℕ → Result Msg Malformed → Told → Option (List ℕ) → Option (List ℕ) → Type 0
+Fails now nonce read old before after = (after ≡ before) ⊎ Begun now nonce read old before after
+
+abbrev pub AnswersFrame : Result (Unit {0}) Ending → ℤ → ℕ → Result Msg Malformed → Told → Told → Option (List ℕ) → Option (List ℕ) → Type 0
+AnswersFrame (Ok x) now nonce read old new before after = Answered now nonce read old new before after
+AnswersFrame (Err (Served (MalformedFrame fault))) now nonce read old new before after = (read ≡ Err fault) × (after ≡ before)
+AnswersFrame (Err (Served WriteFault)) now nonce read old new before after = Fails now nonce read old before after
+AnswersFrame (Err (Served NoMemory)) now nonce read old new before after = Fails now nonce read old before after
+AnswersFrame (Err (Served outcome)) now nonce read old new before after = ⊥
+AnswersFrame (Err (Shrunk s)) now nonce read old new before after = ((message : Msg) × (read ≡ Ok message)) × (is_met old ≡ true) × (after ≡ before)
+
+-- the next frame, if one waits
+abbrev pub FindsFrame : Result (Option Frame) Ending → List ℕ → List ℕ → Type 0
+FindsFrame (Ok None) old new = (front_of old ≡ Ok None) × (new ≡ old)
+FindsFrame (Ok (Some f)) old new = front_of old ≡ Ok (Some (f, new))
+FindsFrame (Err (Served (BadFrame fault))) old new = front_of old ≡ Err fault
+FindsFrame (Err (Served NoMemory)) old new = Unit {0}
+FindsFrame (Err ending) old new = ⊥
+
+-- Frames were taken and answered: so many may still come, and these bytes wait. Whatever follows, what is left leads to the same end.
+pub record Moves (now : ℤ) (nonce : ℕ) (frames frames_after : ℕ) (waits waits_after : List ℕ) (old new : Told) (before after : Option (List ℕ)) : Type 0 where
+  pub messages : List Msg
+  pub leads : (more : List ℕ) → course frames (waits ++ more) ≡ with_messages messages (course frames_after (waits_after ++ more))
+  pub text : List ℕ
+  pub each : AnswersEach now nonce old messages new text
+  pub written : Whole before after text
+
+-- an end of serving: where it comes, and what is written by then
+pub record Stops (now : ℤ) (nonce : ℕ) (ending : Ending) (frames : ℕ) (waits : List ℕ) (mark : Told) (before after : Option (List ℕ)) : Type 0 where
+  pub comes : Comes ending (course frames waits).stop
+  pub writes : Writes ending now nonce mark (course frames waits).messages before after
+
+-- all frames that wait were taken, or serving ends
+abbrev pub TakesFrames : Result (Unit {0}) Ending → ℤ → ℕ → ℕ → ℕ → List ℕ → List ℕ → Told → Told → Option (List ℕ) → Option (List ℕ) → Type 0
+TakesFrames (Ok x) now nonce frames frames_after waits waits_after old new before after = Moves now nonce frames frames_after waits waits_after old new before after
+TakesFrames (Err ending) now nonce frames frames_after waits waits_after old new before after = Stops now nonce ending frames waits old before after
+
+-- on the way through the bytes that a source told
+pub record Midway (now : ℤ) (nonce : ℕ) (bytes : List ℕ) (left : Option (List ℕ)) (frames : ℕ) (waits : List ℕ) (mark : Told) (before after : Option (List ℕ)) : Type 0 where
+  pub taken : List ℕ
+  pub rest : Some bytes ≡ with_front taken left
+  pub moves : Moves now nonce most_frames frames taken waits NotMet mark before after
+
+-- an ending that the frames which wait may lead to: the connection's reads don't
+abbrev pub EndsInside : Ending → Type 0
+EndsInside (Served outcome) = ComesInside outcome
+EndsInside (Shrunk s) = Unit {0}

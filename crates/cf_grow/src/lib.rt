@@ -1,0 +1,18 @@
+//! The serving machine of a chain that grows: it takes the blocks that its connections bring, and tells each of them of the new tip.
+#![tactic(auto)]
+
+mod ending;
+mod grown;
+mod held;
+mod joins;
+mod mark;
+mod sending;
+mod serve;
+mod taking;
+
+pub use ending::Ending;
+pub use grown::{Grown, Taken, take_locked};
+pub use held::{Held, HeldBlock, Parts};
+pub use joins::{Joins, Nobody};
+pub use mark::{Mark, Shrunk, TakeFail};
+pub use serve::serve_grown;

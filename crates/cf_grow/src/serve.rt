@@ -1,0 +1,188 @@
+//! Serving a connection from a chain that grows.
+ghost use Rattle.std.specs.Prelude.{◌≡◌, ◌≤◌, ◌++◌, IfSome, IfOk, IfErr, OnOk};
+ghost use Rattle.cf_frame.specs.Frame.{IsFrame};
+ghost use Rattle.cf_frame.specs.Stream.{IsBytes};
+ghost use Rattle.cf_grow.specs.Growing.{HasMomentOf, mark_of};
+ghost use Rattle.cf_grow.specs.Serving.{AnswersFrame, CountsOf, CountsSends, EndsInside, EndsOf, FindsFrame, IsServedGrowing, TakesFrames};
+ghost use Rattle.cf_msg.specs.Message.{HasSpelling};
+ghost use Rattle.cf_msg.specs.Reading.{Answers, message_of as message_in};
+ghost use Rattle.cf_server.specs.Taking.{Idles};
+
+use crate::ending::Ending;
+use crate::grown::{Grown, take_locked};
+use crate::joins::Joins;
+use crate::mark::Mark;
+use crate::sending::send_parts;
+use cf_bytes::Refused;
+use cf_conn::Duplex;
+use cf_frame::{Frame, Framer};
+use cf_msg::{Malformed, Msg, read};
+use cf_server::Outcome;
+use std::alloc::Global;
+use std::sync::{Mutex, Wait};
+
+/// The most frames that are taken of one connection.
+const MOST_FRAMES: u32 = 1_000_000;
+
+/// The most bytes of one read.
+const PIECE: usize = 4096;
+
+// What a slice of bytes holds are bytes: its type says so.
+fn are_bytes(bytes: &[u8])
+    ensures { IsBytes bytes.now }
+{}
+
+// Reads a frame's message.
+fn read_spelled(alloc: Global, frame: &Frame) -> Result<Msg, Refused<Malformed>>
+    requires { IsFrame frame.now }
+    ensures exact { Answers (message_in frame.now) result }
+    ensures spelled { IfOk result HasSpelling }
+{
+    are_bytes(frame.payload.as_slice());
+    read(alloc, frame)
+}
+
+// Tells the height of the block that has joined, where one has.
+fn tell<J: Joins>(joins: &J, height: Option<u32>) {
+    if let Some(height) = height {
+        joins.joined(height);
+    }
+}
+
+// Reads a frame's message, takes one step under the lock, and writes what the message is answered with once the lock is let go.
+fn answer_frame<R: Wait, J: Joins, C: Duplex>(
+    rt: &R,
+    alloc: Global,
+    grown: &Mutex<Grown>,
+    joins: &J,
+    conn: &mut C,
+    mark: &mut Mark,
+    frame: &Frame,
+) -> Result<(), Ending>
+    requires { IsFrame frame.now }
+    ensures answers { AnswersFrame result mark.old.served.time mark.old.served.nonce (message_in frame.now) (mark_of mark.old) (mark_of mark.new) (C.written conn.old) (C.written conn.new) }
+    ensures moment { HasMomentOf mark.old mark.new }
+    ensures count { CountsSends result (C.Sink.faults conn.old) (C.Sink.faults conn.new) }
+    ensures left { C.left conn.new ≡ C.left conn.old }
+    ensures ended { C.ended conn.new ≡ C.ended conn.old }
+    ensures read_faults { C.Source.faults conn.new ≡ C.Source.faults conn.old }
+{
+    let msg = match read_spelled(alloc, frame) {
+        Ok(msg) => msg,
+        Err(Refused::No(fault)) => return Err(Ending::Served(Outcome::Malformed(fault))),
+        Err(Refused::NoMemory) => return Err(Ending::Served(Outcome::NoMemory)),
+    };
+    let taken = take_locked(rt, alloc, grown, mark, msg)?;
+    tell(joins, taken.joined);
+    send_parts(alloc, conn, taken.parts.as_slice())?;
+    Ok(())
+}
+
+// What is kept of a connection: the bytes that wait for the rest of their frame, what it was told, and how many frames may still come.
+#[derive(Drop)]
+struct Session {
+    framer: Framer,
+    mark: Mark,
+    left: u32,
+}
+
+// Takes the next whole frame, if one waits.
+fn next_frame(framer: &mut Framer) -> Result<Option<Frame>, Ending>
+    ensures finds { FindsFrame result framer.old framer.new }
+    ensures frame { IfOk result (λ found. IfSome found IsFrame) }
+{
+    match framer.next() {
+        Ok(frame) => Ok(frame),
+        Err(Refused::No(fault)) => Err(Ending::Served(Outcome::BadFrame(fault))),
+        Err(Refused::NoMemory) => Err(Ending::Served(Outcome::NoMemory)),
+    }
+}
+
+// Takes and answers the whole frames that wait.
+fn take_frames<R: Wait, J: Joins, C: Duplex>(
+    rt: &R,
+    alloc: Global,
+    grown: &Mutex<Grown>,
+    joins: &J,
+    conn: &mut C,
+    session: &mut Session,
+) -> Result<(), Ending>
+    requires { 1 ≤ session.old.left }
+    ensures takes { TakesFrames result session.old.mark.served.time session.old.mark.served.nonce session.old.left session.new.left session.old.framer session.new.framer (mark_of session.old.mark) (mark_of session.new.mark) (C.written conn.old) (C.written conn.new) }
+    ensures moment { HasMomentOf session.old.mark session.new.mark }
+    ensures idles { OnOk result (Idles session.old.left session.new.left session.old.framer session.new.framer) }
+    ensures inside { IfErr result EndsInside }
+    ensures count { CountsSends result (C.Sink.faults conn.old) (C.Sink.faults conn.new) }
+    ensures left { C.left conn.new ≡ C.left conn.old }
+    ensures ended { C.ended conn.new ≡ C.ended conn.old }
+    ensures read_faults { C.Source.faults conn.new ≡ C.Source.faults conn.old }
+{
+    while let Some(frame) = next_frame(&mut session.framer)? {
+        answer_frame(rt, alloc, grown, joins, conn, &mut session.mark, &frame)?;
+        session.left -= 1;
+        if session.left == 0 {
+            return Err(Ending::Served(Outcome::Tired));
+        }
+    }
+    Ok(())
+}
+
+// Takes the next piece of the connection's bytes.
+fn take_piece<R: Wait, J: Joins, C: Duplex>(
+    rt: &R,
+    alloc: Global,
+    grown: &Mutex<Grown>,
+    joins: &J,
+    conn: &mut C,
+    session: &mut Session,
+    piece: &[u8],
+) -> Result<(), Ending>
+    requires { 1 ≤ session.old.left }
+    ensures takes { TakesFrames result session.old.mark.served.time session.old.mark.served.nonce session.old.left session.new.left (session.old.framer ++ piece.now) session.new.framer (mark_of session.old.mark) (mark_of session.new.mark) (C.written conn.old) (C.written conn.new) }
+    ensures moment { HasMomentOf session.old.mark session.new.mark }
+    ensures idles { OnOk result (Idles session.old.left session.new.left (session.old.framer ++ piece.now) session.new.framer) }
+    ensures inside { IfErr result EndsInside }
+    ensures count { CountsSends result (C.Sink.faults conn.old) (C.Sink.faults conn.new) }
+    ensures left { C.left conn.new ≡ C.left conn.old }
+    ensures ended { C.ended conn.new ≡ C.ended conn.old }
+    ensures read_faults { C.Source.faults conn.new ≡ C.Source.faults conn.old }
+{
+    match session.framer.feed(piece) {
+        Ok(()) => take_frames(rt, alloc, grown, joins, conn, session),
+        Err(_) => Err(Ending::Served(Outcome::NoMemory)),
+    }
+}
+
+/// Serves a connection from a chain that grows: message by message the answer is that of a good chain on which the mark stands that the message
+/// before has left. It ends as serving from a chain that stands still does, or where the chain is another than the one that was told. Nothing is
+/// written while the lock is held. Each block that joins is told of, once the lock is let go.
+pub fn serve_grown<R: Wait, J: Joins, C: Duplex>(
+    rt: &R,
+    alloc: Global,
+    grown: &Mutex<Grown>,
+    joins: &J,
+    conn: &mut C,
+    now: i64,
+    nonce: u64,
+) -> Ending
+    ensures served { IfSome (C.left conn.old) (λ bytes. IsServedGrowing now nonce result bytes (C.left conn.new) (C.written conn.old) (C.written conn.new)) }
+    ensures ends { EndsOf result (C.ended conn.new) (C.left conn.new) }
+    ensures counts { CountsOf result (C.Source.faults conn.old) (C.Source.faults conn.new) (C.Sink.faults conn.old) (C.Sink.faults conn.new) }
+{
+    let mut session = Session {
+        framer: Framer::new(alloc),
+        mark: Mark::new(now, nonce),
+        left: MOST_FRAMES,
+    };
+    let mut piece = [0u8; PIECE];
+    loop {
+        let n = match conn.receive(&mut piece) {
+            Ok(0) => return Ending::Served(Outcome::Closed),
+            Ok(n) => n,
+            Err(_) => return Ending::Served(Outcome::ReadFault),
+        };
+        if let Err(ending) = take_piece(rt, alloc, grown, joins, conn, &mut session, &piece[..n]) {
+            return ending;
+        }
+    }
+}

@@ -1,0 +1,167 @@
+//! The answer to a message, by the chain as it stands.
+ghost use Rattle.std.specs.Prelude.{◌≡◌, ◌++◌, IfOk, OnOk, OnErr, true, false};
+ghost use Rattle.std.specs.List.{flat_map};
+ghost use Rattle.cf_chain.specs.Grow.{is_unknown, told_first, top_hash, unknown_entry, wanted};
+ghost use Rattle.cf_grow.specs.Growing.{HasMark, HasMomentOf, IsAnswerOf, Refuses, answer_at, mark_of, moved, news_in};
+
+use crate::mark::{Mark, Shrunk, TakeFail};
+use cf_bytes::{Hash32, NoMemory};
+use cf_index::Index;
+use cf_msg::{Entries, Entry, Msg};
+use cf_server::{Replies, Served, answer};
+use std::alloc::Global;
+
+/// The kind of an inventory's entry that tells of a block.
+const BLOCK_KIND: u32 = 2;
+
+/// The answer to one message: the tip that is told first, the blocks that are asked for, and the replies, by heights.
+#[derive(Drop)]
+pub(crate) struct Answer {
+    pub(crate) news: Option<Hash32>,
+    pub(crate) wants: Entries,
+    pub(crate) plain: Replies,
+}
+
+// Whether the mark still stands on the chain.
+#[tactic(auto, unfolding(cf_headers::specs::Rules::same))]
+fn has_mark(index: &Index, mark: &Mark) -> bool
+    ensures has { result ≡ true → HasMark index.now mark.now }
+    ensures lacks { result ≡ false → HasMark index.now mark.now → ⊥ }
+{
+    if !mark.served.seen {
+        return true;
+    }
+    match index.hash(mark.height) {
+        Some(hash) => hash == mark.hash,
+        None => false,
+    }
+}
+
+// The hash of the highest block.
+fn top_of(index: &Index) -> Hash32
+    ensures { result.0 ≡ top_hash index.now }
+{
+    let tip = index.tip();
+    match index.hash(tip) {
+        Some(hash) => hash,
+        None => Hash32([0; 32]),
+    }
+}
+
+// The tip that is told first.
+#[tactic(auto, using(crate::proofs::Marks::news_none, crate::proofs::Marks::news_up, crate::proofs::Marks::news_at))]
+fn news_of(index: &Index, mark: &Mark) -> Option<Hash32>
+    ensures { news_in result ≡ told_first index.now (mark_of mark.now) }
+{
+    if !mark.served.seen {
+        return None;
+    }
+    if mark.height < index.tip() {
+        return Some(top_of(index));
+    }
+    None
+}
+
+// Whether an entry tells of a block that isn't in the chain.
+fn is_news(index: &Index, entry: &Entry) -> bool
+    ensures { result ≡ is_unknown index.now entry.now }
+{
+    entry.kind == BLOCK_KIND && index.height_of(&entry.hash).is_none()
+}
+
+fn put_news(index: &Index, entry: &Entry, out: &mut Entries) -> Result<(), NoMemory>
+    ensures { OnOk result (out.new ≡ out.old ++ unknown_entry index.now entry.now) }
+{
+    if is_news(index, entry) {
+        out.push(*entry)?;
+    }
+    Ok(())
+}
+
+// The blocks that an inventory tells of and that aren't in the chain.
+fn find_news(index: &Index, entries: &[Entry], out: &mut Entries) -> Result<(), NoMemory>
+    ensures { OnOk result (out.new ≡ out.old ++ flat_map (unknown_entry index.now) entries.now) }
+{
+    for entry in entries {
+        put_news(index, entry, out)?;
+    }
+    Ok(())
+}
+
+// What is asked for by an inventory, once a version has come.
+fn wants_of(alloc: Global, index: &Index, seen: bool, msg: &Msg) -> Result<Entries, NoMemory>
+    ensures { IfOk result (λ wants. wants ≡ wanted index.now seen msg.now) }
+{
+    let mut wants = Entries::new(alloc);
+    if !seen {
+        return Ok(wants);
+    }
+    if let Msg::Inv(entries) = msg {
+        find_news(index, entries.as_slice(), &mut wants)?;
+    }
+    Ok(wants)
+}
+
+// Moves the mark to the tip, where the tip was told.
+#[tactic(auto, using(crate::proofs::Marks::moves_first, crate::proofs::Marks::moves_up, crate::proofs::Marks::moves_not))]
+fn move_mark(index: &Index, mark: &mut Mark, served: Served)
+    requires { mark.old.served.seen ≡ true → served.seen ≡ true }
+    ensures mark { mark_of mark.new ≡ moved index.now (mark_of mark.old) served.seen }
+    ensures served { mark.new.served ≡ served }
+{
+    let height = index.tip();
+    let hash = top_of(index);
+    if !mark.served.seen {
+        *mark = Mark {
+            served,
+            height,
+            hash,
+        };
+        return;
+    }
+    if mark.height < height {
+        *mark = Mark {
+            served,
+            height,
+            hash,
+        };
+        return;
+    }
+    mark.served = served;
+}
+
+/// Answers a message by the chain that the index holds, the tip first where the connection wasn't told of it, and moves the mark.
+/// It is refused exactly where the chain hasn't the mark's hash at its height. After a refusal the mark is unchanged.
+#[tactic(auto, using(crate::proofs::Marks::answer_is, crate::proofs::Marks::mark_moved))]
+pub(crate) fn take_at(
+    alloc: Global,
+    index: &Index,
+    mark: &mut Mark,
+    msg: &Msg,
+) -> Result<Answer, TakeFail>
+    ensures has { OnOk result (HasMark index.now mark.old) }
+    ensures answer { IfOk result (λ a. IsAnswerOf mark.old.served index.now a (answer_at mark.old index.now msg.now).replies) }
+    ensures wants { IfOk result (λ a. a.wants ≡ wanted index.now mark.old.served.seen msg.now) }
+    ensures mark { OnOk result (mark_of mark.new ≡ (answer_at mark.old index.now msg.now).mark) }
+    ensures moment { HasMomentOf mark.old mark.new }
+    ensures refused { Refuses index.now mark.old result }
+    ensures kept { OnErr result (mark.new ≡ mark.old) }
+{
+    if !has_mark(index, mark) {
+        return Err(TakeFail::Shrunk(Shrunk {
+            seen: mark.hash,
+            found: index.hash(mark.height),
+        }));
+    }
+    let news = news_of(index, mark);
+    let Ok(wants) = wants_of(alloc, index, mark.served.seen, msg) else {
+        return Err(TakeFail::NoMemory);
+    };
+    let mut plain = Replies::new(alloc);
+    let mut served = mark.served;
+    let Ok(()) = answer(index, &mut served, msg, &mut plain) else {
+        return Err(TakeFail::NoMemory);
+    };
+    move_mark(index, mark, served);
+    Ok(Answer { news, wants, plain })
+}

@@ -1,9 +1,0 @@
-use Rattle.std.proofs.Common.{sym, ◌∙◌}
-use Rattle.cf_index.proofs.CoinMaps.{got, removed_coin}
-use Rattle.cf_index.proofs.coins.Coins.take.Goals as goal
-
-pub returns-clause-value : goal.returns-clause-value
-returns-clause-value c = rw c.self.view_is at (c.remove.ensures.value ∙ sym (got c.self.inside.map.entries c.args.name))
-
-pub returns-clause-after : goal.returns-clause-after
-returns-clause-after c = rw (← c.self.view_is) (removed_coin c.self.inside.map.entries c.remove.new.self.entries c.args.name c.remove.ensures.updates.0)
