@@ -1,6 +1,6 @@
 pub mod Asking
 pub mod Opening
-pub mod Scanning
+pub mod Scans
 pub mod Records
 pub mod Runs
 pub mod Plays

@@ -1,18 +1,20 @@
 //! Files, read and judged.
-ghost use Rattle.std.specs.Prelude.{◌≡◌, ◌≤◌, true, length, IfOk, IfErr, IfSome, IsErrOf, OnOk, Ok, string_bytes};
+ghost use Rattle.std.specs.Prelude.{◌≡◌, ◌≤◌, ℕ, List, true, length, IfOk, IfErr, IfSome, IsErrOf, OnOk, Ok, Some, string_bytes};
 ghost use Rattle.std.specs.FinMap as finite;
 ghost use Rattle.std.specs.List.{list_all};
 ghost use Rattle.cf_bytes.specs.Files.{IsRead};
 ghost use Rattle.cf_bytes.specs.Outside.{HasRisen};
 ghost use Rattle.cf_chain.specs.Good.{IsGoodChain};
-ghost use Rattle.cf_conn.specs.Opened.{IsReadByParts};
+ghost use Rattle.cf_conn.specs.Opened.{IsPartRead, IsReadByParts};
+ghost use Rattle.cf_conn.specs.Steps.{Steps};
 ghost use Rattle.cf_index.specs.Files.{blocks_at};
+ghost use Rattle.cf_index.specs.Striding.{CountsLoad, ReadsAs};
 ghost use Rattle.cf_input.specs.ProofFile.{proof_file_of};
 ghost use Rattle.cf_input.specs.SessionFile.{session_of};
 ghost use Rattle.cf_input.specs.Sessions.{script_in, AreNamed};
 ghost use Rattle.cf_input.specs.WatchFile.{watch_of};
 ghost use Rattle.cf_wires.specs.Log.{is_real};
-ghost use Rattle.cf_cli.specs.Scanning.{IsScanOf};
+ghost use Rattle.cf_cli.specs.Scanning.{IsScanOf, TellsScan};
 ghost use Rattle.cf_cli.specs.Statuses.{IsReadAs, IsUnloaded, IsUnread, IsOfFile, watch_verdict, session_verdict, blocks_verdict, proof_verdict};
 
 use crate::scanning::scan_source;
@@ -127,8 +129,35 @@ fn unloaded(fault: LoadFault) -> Status
     }
 }
 
+// The chain of the blocks of a file that was opened.
+fn read_opened<F: Files>(
+    alloc: Global,
+    source: &mut Opened<'_, F>,
+) -> Result<CheckedChain, LoadFault>
+    ensures reads { (bytes : List ℕ) → F.opened source.old.files.now ≡ Some bytes → ReadsAs bytes result }
+    ensures good { IfOk result (λ b. IsGoodChain b) }
+    ensures same_reference { source.new.files.ghost_name ≡ source.old.files.ghost_name }
+    ensures same { F.files source.new.files.now ≡ F.files source.old.files.now }
+    ensures count { CountsLoad result (F.faults source.old.files.now) (F.faults source.new.files.now) }
+    ensures steps { Steps (IsPartRead F.parts) source.old.files.now source.new.files.now }
+{
+    read_source(alloc, source)
+}
+
+// The chain of the blocks of the file that was opened last.
+fn chain_in<F: Files>(alloc: Global, files: &mut F) -> Result<CheckedChain, LoadFault>
+    ensures reads { (bytes : List ℕ) → F.opened files.old ≡ Some bytes → ReadsAs bytes result }
+    ensures good { IfOk result (λ b. IsGoodChain b) }
+    ensures same { F.files files.new ≡ F.files files.old }
+    ensures count { CountsLoad result (F.faults files.old) (F.faults files.new) }
+    ensures steps { Steps (IsPartRead F.parts) files.old files.new }
+{
+    let mut source = Opened::new(files);
+    read_opened(alloc, &mut source)
+}
+
 /// Reads a chain of blocks by parts, and checks it.
-#[tactic(auto, using(crate::proofs::Asking::is_opened))]
+#[tactic(auto, using(crate::proofs::Asking::read_by_parts))]
 pub(crate) fn load_chain<F: Files>(
     alloc: Global,
     files: &mut F,
@@ -146,15 +175,40 @@ pub(crate) fn load_chain<F: Files>(
         Ok(()) => {}
         Err(fail) => return Err(unread(fail, Which::Blocks)),
     }
-    let mut source = Opened::new(files);
-    match read_source(alloc, &mut source) {
+    match chain_in(alloc, files) {
         Ok(chain) => Ok(chain),
         Err(fault) => Err(unloaded(fault)),
     }
 }
 
+// The text of a scan of a file that was opened.
+fn scan_opened<F: Files>(
+    alloc: Global,
+    source: &mut Opened<'_, F>,
+    watch: &Watch,
+) -> Result<String, LoadFault>
+    ensures told { (bytes : List ℕ) → F.opened source.old.files.now ≡ Some bytes → TellsScan bytes watch.now result }
+    ensures same_reference { source.new.files.ghost_name ≡ source.old.files.ghost_name }
+    ensures same { F.files source.new.files.now ≡ F.files source.old.files.now }
+    ensures count { CountsLoad result (F.faults source.old.files.now) (F.faults source.new.files.now) }
+    ensures steps { Steps (IsPartRead F.parts) source.old.files.now source.new.files.now }
+{
+    scan_source(alloc, source, watch)
+}
+
+// The text of a scan of the file that was opened last.
+fn scan_in<F: Files>(alloc: Global, files: &mut F, watch: &Watch) -> Result<String, LoadFault>
+    ensures told { (bytes : List ℕ) → F.opened files.old ≡ Some bytes → TellsScan bytes watch.now result }
+    ensures same { F.files files.new ≡ F.files files.old }
+    ensures count { CountsLoad result (F.faults files.old) (F.faults files.new) }
+    ensures steps { Steps (IsPartRead F.parts) files.old files.new }
+{
+    let mut source = Opened::new(files);
+    scan_opened(alloc, &mut source, watch)
+}
+
 /// The text of a scan of a file of blocks, which is read by parts, and checked.
-#[tactic(auto, using(crate::proofs::Asking::is_opened))]
+#[tactic(auto, using(crate::proofs::Opening::scanned_file, crate::proofs::Opening::scan_in_file, crate::proofs::Asking::read_by_parts))]
 pub(crate) fn scan_file<F: Files>(
     alloc: Global,
     files: &mut F,
@@ -172,8 +226,7 @@ pub(crate) fn scan_file<F: Files>(
         Ok(()) => {}
         Err(fail) => return Err(unread(fail, Which::Blocks)),
     }
-    let mut source = Opened::new(files);
-    match scan_source(alloc, &mut source, watch) {
+    match scan_in(alloc, files, watch) {
         Ok(text) => Ok(text),
         Err(fault) => Err(unloaded(fault)),
     }

@@ -93,7 +93,7 @@ pub(crate) fn write<O: Sink>(text: &[u8], out: &mut O) -> Status
 }
 
 /// Writes the history of the watched scripts in a file of blocks. The watch file is read first.
-#[tactic(auto, using(crate::proofs::Asking::read_first, crate::proofs::Asking::read_then, crate::proofs::Scanning::scans_so))]
+#[tactic(auto, using(crate::proofs::Asking::read_first, crate::proofs::Asking::read_then, crate::proofs::Scans::scans_so))]
 pub(crate) fn scan<F: Files, O: Sink>(
     alloc: Global,
     files: &mut F,

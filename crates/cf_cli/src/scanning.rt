@@ -2,9 +2,7 @@
 ghost use Rattle.std.specs.Prelude.{◌≡◌, ℕ, List, Some, length, IfOk, string_bytes};
 ghost use Rattle.cf_block.specs.declared.tx.Block.{Block};
 ghost use Rattle.cf_block.specs.Commitment.{AreTxids};
-ghost use Rattle.cf_chain.specs.Good.{headers_of};
 ghost use Rattle.cf_conn.specs.Steps.{Steps};
-ghost use Rattle.cf_headers.specs.Chain.{tip_hash};
 ghost use Rattle.cf_index.specs.Judging.{StandsOn};
 ghost use Rattle.cf_index.specs.Striding.{CountsLoad};
 ghost use Rattle.cf_scan.specs.Extracts.{after_placed, extract_of};
@@ -12,14 +10,14 @@ ghost use Rattle.cf_scan.specs.HistoryText.{history_text};
 ghost use Rattle.cf_cli.specs.Scanning.{TellsScan};
 
 use cf_block::Block;
-use cf_bytes::NoMemory;
+use cf_bytes::{Hash32, NoMemory};
 use cf_conn::Source;
 use cf_index::{LoadFault, Walk};
 use cf_scan::{Ledger, Watch, extract_by};
 use std::alloc::Global;
 
 // How many blocks a walk has given.
-#[tactic(auto, using(crate::proofs::Scanning::few_blocks))]
+#[tactic(auto, using(crate::proofs::Scans::few_blocks))]
 fn height_of(walk: &Walk) -> u32
     ensures { (blocks : List Block) → StandsOn walk.now.judge blocks → result ≡ length blocks }
 {
@@ -42,18 +40,22 @@ fn add_last(
     ledger.add_block(height_of(walk), &extract)
 }
 
-// The history of a ledger, and the tip of a walk that is at its end.
-fn text_of_walk(alloc: Global, walk: &Walk, ledger: Ledger) -> Result<String, NoMemory>
-    ensures { (blocks : List Block) → StandsOn walk.now.judge blocks
-        → IfOk result (λ text. string_bytes text ≡ history_text ledger.entries (length blocks) (tip_hash (headers_of blocks))) }
+// The history of a ledger of so many blocks, of which the last one has this hash.
+fn text_of(
+    alloc: Global,
+    ledger: Ledger,
+    height: u32,
+    tip_hash: &Hash32,
+) -> Result<String, NoMemory>
+    ensures { IfOk result (λ text. string_bytes text ≡ history_text ledger.entries height tip_hash.now.0) }
 {
     let history = ledger.into_history();
-    history.text(alloc, height_of(walk), &walk.tip_hash())
+    history.text(alloc, height, tip_hash)
 }
 
 /// The history of the watched scripts in the blocks that a source gives, and the tip. Of the blocks one is held at a time, and
 /// the text is made at the end.
-#[tactic(auto, using(crate::proofs::Scanning::scanned_more, crate::proofs::Scanning::text_so, cf_conn::proofs::Stepping::no_steps, cf_conn::proofs::Stepping::more_steps))]
+#[tactic(auto, using(cf_conn::proofs::Stepping::more_steps))]
 pub(crate) fn scan_source<S: Source>(
     alloc: Global,
     source: &mut S,
@@ -65,17 +67,19 @@ pub(crate) fn scan_source<S: Source>(
 {
     let mut walk = Walk::new(alloc);
     let mut ledger = Ledger::new(alloc);
-    loop {
+    let (height, tip_hash) = loop {
+        let height = height_of(&walk);
+        let tip_hash = walk.tip_hash();
         match walk.next_block(alloc, source) {
             Ok(Some(block)) => match add_last(alloc, ledger, &walk, &block, watch) {
                 Ok(more) => ledger = more,
                 Err(NoMemory) => return Err(LoadFault::NoMemory),
             },
-            Ok(None) => break,
+            Ok(None) => break (height, tip_hash),
             Err(fault) => return Err(fault),
         }
-    }
-    match text_of_walk(alloc, &walk, ledger) {
+    };
+    match text_of(alloc, ledger, height, &tip_hash) {
         Ok(text) => Ok(text),
         Err(NoMemory) => Err(LoadFault::NoMemory),
     }

@@ -40,10 +40,11 @@ scanned_more watch ledger more blocks b so_far is =
     ∙ sym (placed_more watch 1 unscanned blocks b (length (blocks ++ b ∷ [])) (omega (arith, length-append blocks (b ∷ []))))
 
 -- the text at the end
-pub text_so : (watch : List (List ℕ)) (ledger : Scanned) (blocks : List Block) (text : List ℕ) → ledger ≡ fold after_placed unscanned (extracts_of blocks watch)
-    → text ≡ history_text ledger.entries (length blocks) (tip_hash (headers_of blocks)) → text ≡ scan_text watch blocks
-text_so watch ledger blocks text so_far is =
-    is ∙ ap (λ entries. history_text entries (length blocks) (tip_hash (headers_of blocks))) (ap (λ (s : Scanned). s.entries) so_far ∙ history_is_scan blocks watch)
+pub text_so : (watch : List (List ℕ)) (ledger : Scanned) (blocks : List Block) (height : ℕ) (tip text : List ℕ) → ledger ≡ fold after_placed unscanned (extracts_of blocks watch)
+    → height ≡ length blocks → tip ≡ tip_hash (headers_of blocks) → text ≡ history_text ledger.entries height tip → text ≡ scan_text watch blocks
+text_so watch ledger blocks height tip text so_far many last is =
+    is ∙ ap (λ n. history_text ledger.entries n tip) many ∙ ap (λ hash. history_text ledger.entries (length blocks) hash) last
+    ∙ ap (λ entries. history_text entries (length blocks) (tip_hash (headers_of blocks))) (ap (λ (s : Scanned). s.entries) so_far ∙ history_is_scan blocks watch)
 
 -- the text of a scan is written
 pub scans_so : (status : Status) (before after : Option (List ℕ)) (w bytes text : List ℕ) (scripts : List (List ℕ)) → watch_of w ≡ Ok scripts → IsScanOf bytes scripts text
