@@ -14,6 +14,7 @@ use std::thread::Threads;
 
 // What the server's `version` tells.
 const MOMENT: i64 = 1_700_000_000;
+
 const NONCE: u64 = 0x1122_3344_5566_7788;
 
 // The most bytes that are written to a connection.
