@@ -1,5 +1,5 @@
 //! Conversations with a server whose chain grows.
-ghost use Rattle.std.specs.Prelude.{Some};
+ghost use Rattle.std.specs.Prelude.{◌≡◌, Some};
 ghost use Rattle.cf_conn.specs.MemoryConn.{Writes};
 
 use crate::conversations::{conn_of, index_in, shown as bytes_shown};
@@ -42,8 +42,10 @@ impl<R: Wait + Copy + Drop> Model for Around<R> {
 }
 
 impl<R: Wait + Copy + Drop> Around<R> {
-    // Serves the one within, once so many reads have come.
-    fn serve_within(&mut self) {
+    // Serves the one within, once so many reads have come. This connection stays as it is.
+    fn serve_within(&mut self)
+        ensures { self.new ≡ self.old }
+    {
         if self.before > 0 {
             self.before -= 1;
             return;
