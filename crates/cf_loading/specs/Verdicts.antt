@@ -1,5 +1,6 @@
 -- What stands under a name that a command reads, and what reading it answers.
 use Rattle.std.specs.Prelude.{◌≡◌, ℕ, nat_lt, if◌then◌else◌, List, length, Option, Some, None, Result, Ok, Err}
+use Rattle.cf_bytes.specs.Outside.{HasRisen}
 use Rattle.cf_bytes.specs.declared.files.FileFail.{FileFail}
 use Rattle.cf_bytes.specs.declared.files.FileFail.TheVariants.{Failed, TooBig as TooMuch, NoMemory as OutOfMemory}
 use Rattle.cf_block.specs.declared.tx.Block.{Block}
@@ -81,6 +82,11 @@ IsReadAs verdict (Err FileFault) = Unit {0}
 IsReadAs verdict (Err NoMemory) = Unit {0}
 IsReadAs verdict (Err (BadFile w p c)) = verdict ≡ Bad w p c
 IsReadAs verdict (Err status) = ⊥
+
+-- what reading a file does to the count of faults: it rises where the answer is FileFault, and else stays
+abbrev pub CountsFile : {X : Type 0} → Result X Status → ℕ → ℕ → Type 0
+CountsFile (Err FileFault) before after = HasRisen before after
+CountsFile result before after = after ≡ before
 
 -- the answers to files
 abbrev pub IsOfFile : Status → Type 0

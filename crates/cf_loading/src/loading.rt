@@ -15,7 +15,7 @@ ghost use Rattle.cf_input.specs.Sessions.{script_in, AreNamed};
 ghost use Rattle.cf_input.specs.WatchFile.{watch_of};
 ghost use Rattle.cf_wires.specs.Log.{is_real};
 ghost use Rattle.cf_loading.specs.Scanning.{IsScanOf, TellsScan};
-ghost use Rattle.cf_loading.specs.Verdicts.{IsReadAs, IsUnloaded, IsUnread, IsOfFile, watch_verdict, session_verdict, blocks_verdict, proof_verdict};
+ghost use Rattle.cf_loading.specs.Verdicts.{CountsFile, IsReadAs, IsUnloaded, IsUnread, IsOfFile, watch_verdict, session_verdict, blocks_verdict, proof_verdict};
 
 use crate::scanning::scan_source;
 use cf_answers::{FileCause, Status, Which};
@@ -65,6 +65,7 @@ pub fn load_watch<F: Files>(alloc: Global, files: &mut F, name: &str) -> Result<
     ensures scripts { IfOk result (λ w. IfSome (F.files files.old) (λ m. IfSome (finite.get m name.now) (λ bytes. watch_of bytes ≡ Ok w))) }
     ensures same { F.files files.new ≡ F.files files.old }
     ensures fault { IsErrOf result Status.FileFault → HasRisen (F.faults files.old) (F.faults files.new) }
+    ensures count { CountsFile result (F.faults files.old) (F.faults files.new) }
     ensures kept { OnOk result (F.faults files.new ≡ F.faults files.old) }
     ensures only { IfErr result IsOfFile }
     ensures files { IsRead F.reads name.now files.old files.new }
@@ -99,6 +100,7 @@ pub fn load_session<F: Files>(alloc: Global, files: &mut F, name: &str) -> Resul
     ensures real { IfOk result (λ s. list_all is_real s.deliveries.items ≡ true) }
     ensures same { F.files files.new ≡ F.files files.old }
     ensures fault { IsErrOf result Status.FileFault → HasRisen (F.faults files.old) (F.faults files.new) }
+    ensures count { CountsFile result (F.faults files.old) (F.faults files.new) }
     ensures only { IfErr result IsOfFile }
     ensures files { IsRead F.reads name.now files.old files.new }
 {
@@ -177,6 +179,7 @@ pub fn load_chain<F: Files>(
     ensures good { IfOk result (λ b. IsGoodChain b) }
     ensures same { F.files files.new ≡ F.files files.old }
     ensures fault { IsErrOf result Status.FileFault → HasRisen (F.faults files.old) (F.faults files.new) }
+    ensures count { CountsFile result (F.faults files.old) (F.faults files.new) }
     ensures only { IfErr result IsOfFile }
     ensures files { IsReadByParts F.opens F.parts name.now files.old files.new }
 {
@@ -233,6 +236,7 @@ pub fn scan_file<F: Files>(
     ensures text { IfOk result (λ t. IfSome (F.files files.old) (λ m. IfSome (finite.get m name.now) (λ bytes. IsScanOf bytes watch.now (string_bytes t)))) }
     ensures same { F.files files.new ≡ F.files files.old }
     ensures fault { IsErrOf result Status.FileFault → HasRisen (F.faults files.old) (F.faults files.new) }
+    ensures count { CountsFile result (F.faults files.old) (F.faults files.new) }
     ensures only { IfErr result IsOfFile }
     ensures files { IsReadByParts F.opens F.parts name.now files.old files.new }
 {
@@ -259,6 +263,7 @@ pub fn load_proof<F: Files>(alloc: Global, files: &mut F, name: &str) -> Result<
     ensures proven { IfOk result (λ p. IfSome (F.files files.old) (λ m. IfSome (finite.get m name.now) (λ bytes. proof_file_of bytes ≡ Ok p))) }
     ensures same { F.files files.new ≡ F.files files.old }
     ensures fault { IsErrOf result Status.FileFault → HasRisen (F.faults files.old) (F.faults files.new) }
+    ensures count { CountsFile result (F.faults files.old) (F.faults files.new) }
     ensures only { IfErr result IsOfFile }
     ensures files { IsRead F.reads name.now files.old files.new }
 {
