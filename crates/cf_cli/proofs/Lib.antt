@@ -1,5 +1,4 @@
 pub mod Asking
-pub mod Opening
 pub mod Scans
 pub mod Records
 pub mod Runs

@@ -40,7 +40,8 @@ use Rattle.cf_answers.specs.declared.status.Status.{Status}
 use Rattle.cf_answers.specs.declared.status.Status.TheVariants.{Done, NoMemory, Usage, BadFile, FileFault, OutFault, NoPeers, Tired, Ended, LinkFault, NoNonce, NoHeight, NotThere, NotAddress}
 use Rattle.cf_cli.specs.Proving.{proof_text, IsTextAt, IsProofText, in_text, Checks, Takes, TakesWhatIsProved}
 use Rattle.cf_cli.specs.Reading.{named_line, IsWritten}
-use Rattle.cf_cli.specs.Statuses.{Good, IsJudged, proof_verdict}
+use Rattle.cf_cli.specs.Statuses.{IsJudged}
+use Rattle.cf_loading.specs.Verdicts.{Good, proof_verdict}
 
 -- ---- lines of hexadecimal digits
 

@@ -1,7 +1,6 @@
 pub mod Asking
 pub mod Making
 pub mod Reading
-pub mod Scanning
 pub mod Retelling
 pub mod Recording
 pub mod Statuses

@@ -11,15 +11,16 @@ ghost use Rattle.cf_cli.specs.Proving.{proof_text, in_text, IsTextAt, GivesProof
 ghost use Rattle.cf_cli.specs.Reading.{IsWritten, IsOfScan, IsOfText};
 ghost use Rattle.cf_index.specs.Finding.{first_place, StandsAt};
 ghost use Rattle.cf_input.specs.ProofFile.{proof_file_of};
-ghost use Rattle.cf_cli.specs.Statuses.{IsJudged, has_run, blocks_verdict, proof_verdict};
+ghost use Rattle.cf_cli.specs.Statuses.{IsJudged, has_run};
+ghost use Rattle.cf_loading.specs.Verdicts.{blocks_verdict, proof_verdict};
 
-use crate::loading::{load_chain, load_proof};
 use crate::reading::{bytes_line, write};
 use cf_answers::Status;
 use cf_block::{Block, Tx, write_tx};
 use cf_bytes::{Files, Hash32, NoMemory, Sink, show};
 use cf_index::{CheckedChain, TxIndex};
 use cf_input::Proven;
+use cf_loading::{load_chain, load_proof};
 use cf_proof::make_proof;
 use std::alloc::Global;
 

@@ -8,12 +8,13 @@ ghost use Rattle.cf_chain.specs.Filters.{filter_at as filter_in};
 ghost use Rattle.cf_conn.specs.Opened.{IsReadByParts};
 ghost use Rattle.cf_cli.specs.Asking.{AreRead, Whole, ByParts};
 ghost use Rattle.cf_cli.specs.Reading.{named_line, filter_text, IsWritten, IsScanned, IsFiltered, IsOfText, IsOfFilter, IsOfHeight, TellsHeight};
-ghost use Rattle.cf_cli.specs.Statuses.{IsJudged, has_run, and_then, watch_verdict, blocks_verdict};
+ghost use Rattle.cf_cli.specs.Statuses.{IsJudged, has_run, and_then};
+ghost use Rattle.cf_loading.specs.Verdicts.{watch_verdict, blocks_verdict};
 
-use crate::loading::{load_chain, load_watch, scan_file};
 use cf_answers::Status;
 use cf_bytes::{Files, Hash32, NoMemory, Sink, put_all, show};
 use cf_index::{CheckedChain, Index};
+use cf_loading::{load_chain, load_watch, scan_file};
 use std::alloc::Global;
 use std::thread::Threads;
 

@@ -6,14 +6,15 @@ ghost use Rattle.cf_conn.specs.Opened.{IsReadByParts};
 ghost use Rattle.cf_serve.specs.Links.{link_now};
 ghost use Rattle.cf_serve.specs.Serving.{Counts};
 ghost use Rattle.cf_cli.specs.Serving.{ServesAt, MayServe, ServesChain, IsServing, answer_of, served_by};
-ghost use Rattle.cf_cli.specs.Statuses.{IsJudged, blocks_verdict, was_refused};
+ghost use Rattle.cf_cli.specs.Statuses.{IsJudged, was_refused};
+ghost use Rattle.cf_loading.specs.Verdicts.{blocks_verdict};
 
-use crate::loading::load_chain;
 use cf_answers::Status;
 use cf_bytes::{Files, Hash32, NoMemory};
 use cf_conn::Duplex;
 use cf_grow::Joins;
 use cf_index::{CheckedChain, Index};
+use cf_loading::load_chain;
 use cf_serve::{Link, ServeFail, Service, serve as serve_all};
 use cf_service::{GrowingServer, Server};
 use cf_tasks::Spawner;

@@ -1,5 +1,5 @@
-use Rattle.cf_cli.proofs.Opening.{kept_reference, kept_files, parts_read}
-use Rattle.cf_cli.proofs.loading.scan_opened.Goals as goal
+use Rattle.cf_loading.proofs.Opening.{kept_reference, kept_files, parts_read}
+use Rattle.cf_loading.proofs.loading.scan_opened.Goals as goal
 
 pub returns-clause-same_reference : goal.returns-clause-same_reference
 returns-clause-same_reference g c =

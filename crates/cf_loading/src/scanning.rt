@@ -7,7 +7,7 @@ ghost use Rattle.cf_index.specs.Judging.{StandsOn};
 ghost use Rattle.cf_index.specs.Striding.{CountsLoad};
 ghost use Rattle.cf_scan.specs.Extracts.{after_placed, extract_of};
 ghost use Rattle.cf_scan.specs.HistoryText.{history_text};
-ghost use Rattle.cf_cli.specs.Scanning.{TellsScan};
+ghost use Rattle.cf_loading.specs.Scanning.{TellsScan};
 
 use cf_block::Block;
 use cf_bytes::{Hash32, NoMemory};

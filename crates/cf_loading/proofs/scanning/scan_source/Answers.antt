@@ -5,8 +5,8 @@ use Rattle.cf_conn.proofs.Stepping.{more_steps, no_steps}
 use Rattle.cf_index.specs.Judging.{StandsOn}
 use Rattle.cf_index.specs.Striding.{Gives, IsWalking}
 use Rattle.cf_index.proofs.Sources.{reads_fault, reads_none}
-use Rattle.cf_cli.proofs.Scans.{scanned_more, text_so}
-use Rattle.cf_cli.proofs.scanning.scan_source.Goals as goal
+use Rattle.cf_loading.proofs.Scans.{scanned_more, text_so}
+use Rattle.cf_loading.proofs.scanning.scan_source.Goals as goal
 
 pub loop-block-init : goal.loop-block-init
 loop-block-init g c =

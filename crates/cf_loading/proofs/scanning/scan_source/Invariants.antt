@@ -1,8 +1,8 @@
 use Rattle.std.proofs.Common.{◌≡◌, ◌-◌}
 use Rattle.cf_chain.specs.Good.{max_height}
 use Rattle.cf_conn.specs.Steps.{Steps}
-use Rattle.cf_cli.specs.Scanning.{IsOnTheWay}
-use Rattle.cf_cli.proofs.scanning.scan_source.Given as goal
+use Rattle.cf_loading.specs.Scanning.{IsOnTheWay}
+use Rattle.cf_loading.proofs.scanning.scan_source.Given as goal
 
 abbrev pub invariant-loop-block : goal.invariant-loop-block
 invariant-loop-block g l = record {

@@ -14,8 +14,8 @@ ghost use Rattle.cf_input.specs.SessionFile.{session_of};
 ghost use Rattle.cf_input.specs.Sessions.{script_in, AreNamed};
 ghost use Rattle.cf_input.specs.WatchFile.{watch_of};
 ghost use Rattle.cf_wires.specs.Log.{is_real};
-ghost use Rattle.cf_cli.specs.Scanning.{IsScanOf, TellsScan};
-ghost use Rattle.cf_cli.specs.Statuses.{IsReadAs, IsUnloaded, IsUnread, IsOfFile, watch_verdict, session_verdict, blocks_verdict, proof_verdict};
+ghost use Rattle.cf_loading.specs.Scanning.{IsScanOf, TellsScan};
+ghost use Rattle.cf_loading.specs.Verdicts.{CountsFile, IsReadAs, IsUnloaded, IsUnread, IsOfFile, watch_verdict, session_verdict, blocks_verdict, proof_verdict};
 
 use crate::scanning::scan_source;
 use cf_answers::{FileCause, Status, Which};
@@ -53,17 +53,19 @@ fn unread(fail: FileFail, which: Which) -> Status
     }
 }
 
-/// Reads the scripts that are watched.
+/// Reads the scripts that are watched, of the watch file of this name (`read_watch`). It is read whole, by one call.
+///
+/// # Errors
+///
+/// `BadFile` of the watch file where it has more than 33,554,432 bytes, at place 0, or else for its first line that is
+/// refused, counted from 1. `FileFault` where there is no such file, or it can't be read.
 #[tactic(auto, using(crate::proofs::Asking::is_read))]
-pub(crate) fn load_watch<F: Files>(
-    alloc: Global,
-    files: &mut F,
-    name: &str,
-) -> Result<Watch, Status>
+pub fn load_watch<F: Files>(alloc: Global, files: &mut F, name: &str) -> Result<Watch, Status>
     ensures answer { IfSome (F.files files.old) (λ m. IsReadAs (watch_verdict (finite.get m name.now)) result) }
     ensures scripts { IfOk result (λ w. IfSome (F.files files.old) (λ m. IfSome (finite.get m name.now) (λ bytes. watch_of bytes ≡ Ok w))) }
     ensures same { F.files files.new ≡ F.files files.old }
     ensures fault { IsErrOf result Status.FileFault → HasRisen (F.faults files.old) (F.faults files.new) }
+    ensures count { CountsFile result (F.faults files.old) (F.faults files.new) }
     ensures kept { OnOk result (F.faults files.new ≡ F.faults files.old) }
     ensures only { IfErr result IsOfFile }
     ensures files { IsRead F.reads name.now files.old files.new }
@@ -82,13 +84,15 @@ pub(crate) fn load_watch<F: Files>(
     }
 }
 
-/// Reads a session.
+/// Reads the session of the session file of this name (`read_session`): the names of 1 to 8 dials, and what is
+/// delivered. The file is read whole, by one call.
+///
+/// # Errors
+///
+/// `BadFile` of the session file where it has more than 1,073,741,824 bytes, at place 0, or else for its first line
+/// that is refused, counted from 1. `FileFault` where there is no such file, or it can't be read.
 #[tactic(auto, using(crate::proofs::Asking::is_read))]
-pub(crate) fn load_session<F: Files>(
-    alloc: Global,
-    files: &mut F,
-    name: &str,
-) -> Result<Session, Status>
+pub fn load_session<F: Files>(alloc: Global, files: &mut F, name: &str) -> Result<Session, Status>
     ensures answer { IfSome (F.files files.old) (λ m. IsReadAs (session_verdict (finite.get m name.now)) result) }
     ensures script { IfOk result (λ s. IfSome (F.files files.old) (λ m. IfSome (finite.get m name.now) (λ bytes. session_of bytes ≡ Ok (script_in s)))) }
     ensures named { IfOk result AreNamed }
@@ -96,6 +100,7 @@ pub(crate) fn load_session<F: Files>(
     ensures real { IfOk result (λ s. list_all is_real s.deliveries.items ≡ true) }
     ensures same { F.files files.new ≡ F.files files.old }
     ensures fault { IsErrOf result Status.FileFault → HasRisen (F.faults files.old) (F.faults files.new) }
+    ensures count { CountsFile result (F.faults files.old) (F.faults files.new) }
     ensures only { IfErr result IsOfFile }
     ensures files { IsRead F.reads name.now files.old files.new }
 {
@@ -156,9 +161,15 @@ fn chain_in<F: Files>(alloc: Global, files: &mut F) -> Result<CheckedChain, Load
     read_opened(alloc, &mut source)
 }
 
-/// Reads a chain of blocks by parts, and checks it.
+/// Reads the chain of the file of blocks of this name (`read_source`), and checks it. The file is opened by one call,
+/// and then read by parts, up to its end or to the first record that is refused.
+///
+/// # Errors
+///
+/// `BadFile` of the file of blocks where it has more than 1,073,741,824 bytes, at place 0, or else for its first record
+/// that is refused, counted from 1. `FileFault` where there is no such file, or it can't be read.
 #[tactic(auto, using(crate::proofs::Asking::read_by_parts))]
-pub(crate) fn load_chain<F: Files>(
+pub fn load_chain<F: Files>(
     alloc: Global,
     files: &mut F,
     name: &str,
@@ -168,6 +179,7 @@ pub(crate) fn load_chain<F: Files>(
     ensures good { IfOk result (λ b. IsGoodChain b) }
     ensures same { F.files files.new ≡ F.files files.old }
     ensures fault { IsErrOf result Status.FileFault → HasRisen (F.faults files.old) (F.faults files.new) }
+    ensures count { CountsFile result (F.faults files.old) (F.faults files.new) }
     ensures only { IfErr result IsOfFile }
     ensures files { IsReadByParts F.opens F.parts name.now files.old files.new }
 {
@@ -207,9 +219,14 @@ fn scan_in<F: Files>(alloc: Global, files: &mut F, watch: &Watch) -> Result<Stri
     scan_opened(alloc, &mut source, watch)
 }
 
-/// The text of a scan of a file of blocks, which is read by parts, and checked.
+/// The text of a scan of the file of blocks of this name, which is read by parts, and checked: the history of the
+/// watched scripts in it, and its tip. Of the blocks one is held at a time, and the text is made at the end.
+///
+/// # Errors
+///
+/// Those of `load_chain`.
 #[tactic(auto, using(crate::proofs::Opening::scanned_file, crate::proofs::Opening::scan_in_file, crate::proofs::Asking::read_by_parts))]
-pub(crate) fn scan_file<F: Files>(
+pub fn scan_file<F: Files>(
     alloc: Global,
     files: &mut F,
     name: &str,
@@ -219,6 +236,7 @@ pub(crate) fn scan_file<F: Files>(
     ensures text { IfOk result (λ t. IfSome (F.files files.old) (λ m. IfSome (finite.get m name.now) (λ bytes. IsScanOf bytes watch.now (string_bytes t)))) }
     ensures same { F.files files.new ≡ F.files files.old }
     ensures fault { IsErrOf result Status.FileFault → HasRisen (F.faults files.old) (F.faults files.new) }
+    ensures count { CountsFile result (F.faults files.old) (F.faults files.new) }
     ensures only { IfErr result IsOfFile }
     ensures files { IsReadByParts F.opens F.parts name.now files.old files.new }
 {
@@ -232,17 +250,20 @@ pub(crate) fn scan_file<F: Files>(
     }
 }
 
-/// Reads what the file of a proof proves.
+/// Reads what the file of a proof of this name proves (`read_proof_file`): the hashes of a transaction and of a block
+/// in which it stands. The file is read whole, by one call.
+///
+/// # Errors
+///
+/// `BadFile` of the file of a proof where it has more than 4,000,000 bytes, at place 0, or else for its first line that
+/// is refused, counted from 1. `FileFault` where there is no such file, or it can't be read.
 #[tactic(auto, using(crate::proofs::Asking::is_read))]
-pub(crate) fn load_proof<F: Files>(
-    alloc: Global,
-    files: &mut F,
-    name: &str,
-) -> Result<Proven, Status>
+pub fn load_proof<F: Files>(alloc: Global, files: &mut F, name: &str) -> Result<Proven, Status>
     ensures answer { IfSome (F.files files.old) (λ m. IsReadAs (proof_verdict (finite.get m name.now)) result) }
     ensures proven { IfOk result (λ p. IfSome (F.files files.old) (λ m. IfSome (finite.get m name.now) (λ bytes. proof_file_of bytes ≡ Ok p))) }
     ensures same { F.files files.new ≡ F.files files.old }
     ensures fault { IsErrOf result Status.FileFault → HasRisen (F.faults files.old) (F.faults files.new) }
+    ensures count { CountsFile result (F.faults files.old) (F.faults files.new) }
     ensures only { IfErr result IsOfFile }
     ensures files { IsRead F.reads name.now files.old files.new }
 {

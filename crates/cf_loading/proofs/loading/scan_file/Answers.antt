@@ -1,9 +1,9 @@
 use Rattle.std.specs.Prelude.{String}
 use Rattle.std.specs.Global.{Global}
-use Rattle.cf_cli.specs.Statuses.{most_blocks}
-use Rattle.cf_cli.proofs.Asking.{is_opened}
-use Rattle.cf_cli.proofs.Opening.{bad_file}
-use Rattle.cf_cli.proofs.loading.scan_file.Goals as goal
+use Rattle.cf_loading.specs.Verdicts.{most_blocks}
+use Rattle.cf_loading.proofs.Asking.{is_opened}
+use Rattle.cf_loading.proofs.Opening.{bad_file}
+use Rattle.cf_loading.proofs.loading.scan_file.Goals as goal
 
 pub returns-in-Err-clause-files : goal.returns-in-Err-clause-files
 returns-in-Err-clause-files g c = is_opened g.F.Files.opens g.F.Files.parts c.args.name.now most_blocks _ c.args.files.now c.open.new.self c.in-Err.ensures.exact
