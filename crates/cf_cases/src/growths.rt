@@ -2,8 +2,7 @@
 ghost use Rattle.std.specs.Prelude.{◌≡◌, Some};
 ghost use Rattle.cf_conn.specs.MemoryConn.{Writes};
 
-use crate::conversations::{conn_of, index_in, shown as bytes_shown};
-use crate::fields::bytes_in;
+use crate::conversations::{conn_in, index_in, shown as bytes_shown};
 use cf_bytes::{Failed, Sink};
 use cf_conn::{Duplex, MemoryConn, MemoryEnd, Source};
 use cf_grow::{Ending, Grown, Nobody, serve_grown};
@@ -134,8 +133,8 @@ pub(crate) fn answer<R: Wait + Threads + Sync + Copy + Drop>(
         rt,
         alloc,
         grown: Arc::try_clone(&grown).ok()?,
-        conn: conn_of(alloc, bytes_in(alloc, around)?, most, ROOM)?,
-        within: conn_of(alloc, bytes_in(alloc, within)?, most, ROOM)?,
+        conn: conn_in(alloc, around, most, ROOM)?,
+        within: conn_in(alloc, within, most, ROOM)?,
         before: before.parse().ok()?,
         how: None,
     };
