@@ -14,6 +14,7 @@ pub mod Indexes
 pub mod Finding
 pub mod WalkSteps
 pub mod WalkFirm
+pub mod Holding
 pub mod WalkSource
 pub mod Strides
 pub mod Sources

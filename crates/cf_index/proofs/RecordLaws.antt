@@ -1,8 +1,10 @@
--- A record is read again from its bytes, whatever follows.
-use Rattle.std.proofs.Common.{◌≡◌, ℕ, ◌≤◌, Bool, false, nat_lt, List, ◌++◌, length, refl, ◌∙◌, ap, arith, append_assoc, length-append, le-ltb, Ok, Err}
+-- A record is read again from its bytes, whatever follows; and what is cut off is short.
+use Rattle.std.proofs.Common.{◌≡◌, ℕ, ◌≤◌, ◌<◌, Bool, false, nat_lt, inl, inr, List, ◌++◌, length, refl, ◌∙◌, ap, arith, append_assoc, length-append, le-ltb, Ok, Err}
 use Rattle.std.specs.Prelude.{if◌then◌else◌}
 use Rattle.std.specs.Int.{w32, to_le_bytes}
-use Rattle.cf_bytes.specs.Cut.{◌>>=◌}
+use Rattle.std.proofs.lemmas.Bool.{cases_lt}
+use Rattle.cf_bytes.specs.Cut.{bytes_at, number_at, ◌>>=◌}
+use Rattle.cf_bytes.specs.declared.cut.CutFault.{CutFault}
 use Rattle.cf_bytes.proofs.Codecs.{bind_is, bytes_again, u32_again}
 use Rattle.cf_index.specs.declared.cause.RecordCause.TheVariants.{Cut, TooLong}
 use Rattle.cf_index.specs.Records.{magic, record_with, max_record, cut_off, is_magic, is_short, magic_at, length_at, head_at, text_at, record_at}
@@ -32,3 +34,16 @@ record_again text more small =
     ap (λ b. head_at b >>= λ n. text_at n.0 n.1) regroup
     ∙ bind_is (head_at (magic ++ (to_le_bytes w32 (length text) ++ (text ++ more)))) (length text, text ++ more) (λ n. text_at n.0 n.1) (head_again (length text) (text ++ more) small)
     ∙ ap cut_off (bytes_again (length text) text more refl)
+
+-- bytes that aren't there
+pub short_bytes : (n : ℕ) (bytes rest : List ℕ) (fault : CutFault) → bytes_at n bytes ≡ Err (fault, rest) → length bytes < n
+short_bytes n bytes rest fault is = elim (cases_lt (length bytes) n) [
+  | inl few ↦ few
+  | inr many ↦ let whole : nat_lt (length bytes) n ≡ false = le-ltb (length bytes) n many in cc
+]
+
+pub short_number : (bytes rest : List ℕ) (fault : CutFault) → number_at w32 bytes ≡ Err (fault, rest) → length bytes < 4
+short_number bytes rest fault is = elim (cases_lt (length bytes) 4) [
+  | inl few ↦ few
+  | inr many ↦ let whole : nat_lt (length bytes) 4 ≡ false = le-ltb (length bytes) 4 many in cc
+]

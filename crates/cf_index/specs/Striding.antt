@@ -2,7 +2,7 @@
 use Rattle.std.specs.Prelude.{◌≡◌, ℕ, zero, ◌<◌, ◌≤◌, Bool, true, false, List, [], ◌∷◌, ◌++◌, length, take, drop, Option, Some, None, Result, Ok, Err}
 use Rattle.cf_bytes.specs.Outside.{HasRisen}
 use Rattle.cf_block.specs.declared.tx.Block.{Block}
-use Rattle.cf_conn.specs.Window.{seen, beyond}
+use Rattle.cf_conn.specs.Window.{Pane, seen, beyond}
 use Rattle.cf_index.specs.declared.cause.BadBlock.{BadBlock}
 use Rattle.cf_index.specs.declared.cause.RecordCause.TheVariants.{Cut}
 use Rattle.cf_index.specs.declared.load.LoadFault.{LoadFault}
@@ -11,6 +11,18 @@ use Rattle.cf_index.specs.declared.walk.Walk.{Walk}
 use Rattle.cf_index.specs.Files.{blocks_from, blocks_at}
 use Rattle.cf_index.specs.Judging.{StandsOn}
 use Rattle.cf_index.specs.Loading.{most_bytes}
+
+-- the most bytes of a record, and those of a piece that is read at once
+abbrev pub most_held : ℕ
+most_held = 4065544
+
+-- fewer bytes than these are held, where fewer were
+abbrev pub StaysFew : Pane → Pane → Type 0
+StaysFew before after = length before.held < most_held → length after.held < most_held
+
+-- a walk holds fewer bytes than those of one record and one piece
+abbrev pub HoldsFew : Walk → Type 0
+HoldsFew w = length w.window.held < most_held
 
 -- the bytes of a source that count, and those behind them
 unfoldable pub that_count : List ℕ → List ℕ

@@ -1,7 +1,8 @@
 //! The records of a file of blocks.
-ghost use Rattle.std.specs.Prelude.{◌≡◌, ◌++◌, ◌≤◌, IfOk, length};
+ghost use Rattle.std.specs.Prelude.{◌≡◌, ◌++◌, ◌+◌, ◌≤◌, ◌<◌, IfOk, Err, length};
 ghost use Rattle.std.specs.Int.{w32, to_le_bytes};
 ghost use Rattle.cf_index.specs.Records.{magic, record_with, max_record, magic_at, length_at, head_at, text_at, record_at, Takes};
+ghost use Rattle.cf_index.specs.declared.cause.RecordCause.TheVariants as causes;
 
 use crate::cause::RecordCause;
 use cf_bytes::Cut;
@@ -12,10 +13,11 @@ const MAGIC: [u8; 4] = [0xfa, 0xbf, 0xb5, 0xda];
 // The most bytes of a block in a record, with its witnesses.
 const MAX_RECORD: u32 = 4_000_000;
 
-#[tactic(auto, unfolding(crate::specs::Records::magic_at))]
+#[tactic(auto, using(crate::proofs::RecordLaws::short_bytes), unfolding(crate::specs::Records::magic_at))]
 fn take_magic(cut: &mut Cut) -> Result<[u8; 4], RecordCause>
     ensures exact { Takes (λ b. b) (magic_at cut.old) result cut.new }
     ensures found { IfOk result (λ b. (b ≡ magic) × (cut.old ≡ b ++ cut.new)) }
+    ensures short { result ≡ Err causes.Cut → length cut.old < 4 }
 {
     match cut.array::<4>() {
         Err(_) => Err(RecordCause::Cut),
@@ -28,10 +30,11 @@ fn take_magic(cut: &mut Cut) -> Result<[u8; 4], RecordCause>
     }
 }
 
-#[tactic(auto, unfolding(crate::specs::Records::length_at))]
+#[tactic(auto, using(crate::proofs::RecordLaws::short_number), unfolding(crate::specs::Records::length_at))]
 fn take_length(cut: &mut Cut) -> Result<u32, RecordCause>
     ensures exact { Takes (λ n. n) (length_at cut.old) result cut.new }
     ensures found { IfOk result (λ n. (n ≤ max_record) × (cut.old ≡ to_le_bytes w32 n ++ cut.new)) }
+    ensures short { result ≡ Err causes.Cut → length cut.old < 4 }
 {
     match cut.u32() {
         Err(_) => Err(RecordCause::Cut),
@@ -49,6 +52,7 @@ fn take_length(cut: &mut Cut) -> Result<u32, RecordCause>
 pub(crate) fn take_head(cut: &mut Cut) -> Result<u32, RecordCause>
     ensures exact { Takes (λ n. n) (head_at cut.old) result cut.new }
     ensures found { IfOk result (λ n. (n ≤ max_record) × (cut.old ≡ magic ++ (to_le_bytes w32 n ++ cut.new))) }
+    ensures short { result ≡ Err causes.Cut → length cut.old < 8 }
 {
     if cut.rest().len() < 8 {
         return Err(RecordCause::Cut);
@@ -59,9 +63,11 @@ pub(crate) fn take_head(cut: &mut Cut) -> Result<u32, RecordCause>
     }
 }
 
+#[tactic(auto, using(crate::proofs::RecordLaws::short_bytes))]
 fn take_text<'a>(size: u32, cut: &mut Cut<'a>) -> Result<&'a [u8], RecordCause>
     ensures exact { Takes (λ b. b.now) (text_at size cut.old) result cut.new }
     ensures found { IfOk result (λ b. (cut.old ≡ b.now ++ cut.new) × (length b.now ≡ size)) }
+    ensures short { result ≡ Err causes.Cut → length cut.old < size }
 {
     match cut.bytes(size as usize) {
         Err(_) => Err(RecordCause::Cut),
@@ -74,6 +80,7 @@ fn take_text<'a>(size: u32, cut: &mut Cut<'a>) -> Result<&'a [u8], RecordCause>
 pub(crate) fn take_record<'a>(cut: &mut Cut<'a>) -> Result<&'a [u8], RecordCause>
     ensures exact { Takes (λ b. b.now) (record_at cut.old) result cut.new }
     ensures found { IfOk result (λ b. (cut.old ≡ record_with b.now ++ cut.new) × (length b.now ≤ max_record)) }
+    ensures short { result ≡ Err causes.Cut → length cut.old < max_record + 8 }
 {
     match take_head(cut) {
         Err(cause) => Err(cause),

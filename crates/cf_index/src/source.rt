@@ -12,7 +12,8 @@ use cf_conn::Source;
 use std::alloc::Global;
 
 /// The chain of the blocks that a source gives, whose bytes are those of a file of blocks (`read_chain`). Each block is read, hashed and judged
-/// once, as its bytes come: of these no more are held than a record has. Of the source the first 1,073,741,824 bytes count.
+/// once, as its bytes come: of these fewer than 4,065,544 are held,
+/// those of one record and one piece that is read at once (`Walk`). Of the source the first 1,073,741,824 bytes count.
 ///
 /// # Errors
 ///

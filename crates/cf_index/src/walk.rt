@@ -12,7 +12,8 @@ ghost use Rattle.cf_index.specs.Files.{after_genesis, all_zeros};
 ghost use Rattle.cf_index.specs.declared.judge.Judge.{Judge};
 ghost use Rattle.cf_index.specs.Judging.{BeginsWith, IsBlank, IsReady, IsWhole, StandsOn, Strips, Walks, WalksOver, after_by, next_by};
 ghost use Rattle.cf_index.specs.Judging.{CountsStop, EndsWith};
-ghost use Rattle.cf_index.specs.Striding.{CountsLoad, Gives, IsWalking};
+ghost use Rattle.cf_index.specs.Records.{max_record};
+ghost use Rattle.cf_index.specs.Striding.{CountsLoad, Gives, HoldsFew, IsWalking, StaysFew};
 
 use crate::cause::{BadBlock, RecordCause};
 use crate::chain::Found;
@@ -36,7 +37,8 @@ pub(crate) enum Stop {
 
 // Whether there is something to judge, which isn't cut off.
 fn is_whole(bytes: &[u8]) -> bool
-    ensures { result ≡ true → IsWhole bytes.now }
+    ensures yes { result ≡ true → IsWhole bytes.now }
+    ensures no { result ≡ false → (all_zeros bytes.now ≡ true) ⊎ (length bytes.now < max_record + 8) }
 {
     if is_end(bytes) {
         return false;
@@ -57,10 +59,12 @@ fn is_blank(bytes: &[u8]) -> bool
     bytes.len() >= 8 && is_end(bytes)
 }
 
-// How many bytes to want: more than there are, and those of the record that begins here.
+// How many bytes to want: more than there are, and those of the record that begins here; no more than a record may have,
+// where fewer are there.
 fn wanted(bytes: &[u8]) -> usize
     requires { length bytes.now < 2 ^ 63 }
-    ensures { length bytes.now < result }
+    ensures more { length bytes.now < result }
+    ensures few { length bytes.now < max_record + 8 → result ≤ max_record + 8 }
 {
     let mut cut = Cut::new(bytes);
     let more = bytes.len() + 1;
@@ -71,13 +75,14 @@ fn wanted(bytes: &[u8]) -> usize
 }
 
 // Reads on until a whole record is held, or zeros that are none, or no more comes.
-#[tactic(auto, using(cf_conn::proofs::Stepping::no_steps, cf_conn::proofs::Stepping::more_steps))]
+#[tactic(auto, using(crate::proofs::Holding::short_so_far, crate::proofs::Holding::few_wanted, cf_conn::proofs::Stepping::no_steps, cf_conn::proofs::Stepping::more_steps))]
 fn prepare<S: Source>(window: &mut Window, source: &mut S) -> Result<(), ReadFail>
     ensures same { with_front window.new.held (S.left source.new) ≡ with_front window.old.held (S.left source.old) }
     ensures bound { length window.new.held + window.new.room ≡ length window.old.held + window.old.room }
     ensures ready { OnOk result (IsReady window.new (S.left source.new)) }
     ensures count { CountsReads result (S.faults source.old) (S.faults source.new) }
     ensures steps { Steps S.reads source.old source.new }
+    ensures few { StaysFew window.old window.new }
 {
     loop {
         let held = window.held();
@@ -102,6 +107,7 @@ fn only_zeros<S: Source>(window: &mut Window, source: &mut S) -> Result<bool, Re
     ensures yes { IfOk result (λ only. only ≡ true → (window.new.held ≡ []) × IsOver window.new (S.left source.new)) }
     ensures count { CountsReads result (S.faults source.old) (S.faults source.new) }
     ensures steps { Steps S.reads source.old source.new }
+    ensures few { StaysFew window.old window.new }
 {
     while is_end(window.held()) {
         let n = window.held().len();
@@ -149,6 +155,7 @@ fn walk_zeros<S: Source>(window: &mut Window, source: &mut S) -> Result<Option<B
     ensures ended { IfOk result (λ o. S.ended source.new ≡ true) }
     ensures count { CountsStop result (S.faults source.old) (S.faults source.new) }
     ensures steps { Steps S.reads source.old source.new }
+    ensures few { StaysFew window.old window.new }
 {
     match only_zeros(window, source) {
         Err(fail) => Err(Stop::Read(fail)),
@@ -171,6 +178,7 @@ fn walk_held(
     ensures stands { (blocks : List Block) → StandsOn judge.old blocks → IfOk result (λ o. IfSome o (λ b. StandsOn judge.new (blocks ++ b ∷ []))) }
     ensures found { IfOk result (λ o. IfSome o (λ b. BeginsWith b window.old.held window.new.held)) }
     ensures fits { IfOk result (λ o. IfSome o (λ b. IsBlock b)) }
+    ensures few { StaysFew window.old window.new }
 {
     let held = window.held();
     let mut cut = Cut::new(held);
@@ -205,6 +213,7 @@ fn walk_ready<S: Source>(
     ensures ended { IfOk result (λ o. IfNone o (S.ended source.new ≡ true)) }
     ensures count { CountsStop result (S.faults source.old) (S.faults source.new) }
     ensures steps { Steps S.reads source.old source.new }
+    ensures few { StaysFew window.old window.new }
 {
     match walk_held(alloc, judge, window) {
         Ok(Some(block)) => Ok(Some(block)),
@@ -237,6 +246,7 @@ fn walk_source<S: Source>(
     ensures ended { IfOk result (λ o. IfNone o (S.ended source.new ≡ true)) }
     ensures count { CountsStop result (S.faults source.old) (S.faults source.new) }
     ensures steps { Steps S.reads source.old source.new }
+    ensures few { StaysFew window.old window.new }
 {
     match prepare(window, source) {
         Ok(()) => {}
@@ -263,7 +273,8 @@ fn first_record(alloc: Global, bytes: &[u8]) -> Result<Option<usize>, NoMemory>
 
 /// A walk over the records of a file of blocks (`read_chain`), which gives the blocks above genesis one by one, each judged by
 /// those before it, and keeps none: only what the next one is judged by, the coins above all. It is lent its source at each call,
-/// the same one each time. Of the source the first 1,073,741,824 bytes count.
+/// the same one each time. Of the source the first 1,073,741,824 bytes count. Of its bytes the walk holds fewer than
+/// 4,065,544: those of one record, and those of one piece of 65,536 that is read at once.
 #[derive(Drop)]
 pub struct Walk {
     judge: Judge,
@@ -279,6 +290,7 @@ impl Walk {
     pub fn new(alloc: Global) -> Walk
         ensures stands { StandsOn result.judge [] }
         ensures walks { (bytes : List ℕ) → IsWalking bytes result (Some bytes) [] }
+        ensures few { HoldsFew result }
     {
         Walk {
             judge: new_judge(alloc),
@@ -297,6 +309,7 @@ impl Walk {
             → OnOk result (IsWalking bytes self.new (S.left source.new) blocks) }
         ensures count { CountsReads result (S.faults source.old) (S.faults source.new) }
         ensures steps { Steps S.reads source.old source.new }
+        ensures few { HoldsFew self.old → HoldsFew self.new }
     {
         if self.begun {
             return Ok(());
@@ -339,6 +352,7 @@ impl Walk {
         ensures ended { IfOk result (λ o. IfNone o (S.ended source.new ≡ true)) }
         ensures count { CountsLoad result (S.faults source.old) (S.faults source.new) }
         ensures steps { Steps S.reads source.old source.new }
+        ensures few { HoldsFew self.old → HoldsFew self.new }
     {
         match self.begin(alloc, source) {
             Ok(()) => {}
@@ -381,6 +395,7 @@ impl Walk {
         ensures stands { (blocks : List Block) → StandsOn self.old.judge blocks → StandsOn self.new.judge blocks }
         ensures walks { (bytes : List ℕ) (left : Option (List ℕ)) (blocks : List Block) → IsWalking bytes self.old left blocks
             → IsWalking bytes self.new left blocks }
+        ensures few { HoldsFew self.old → HoldsFew self.new }
     {
         Found {
             txids: mem::replace(&mut self.judge.txids, Listed::new(alloc)),

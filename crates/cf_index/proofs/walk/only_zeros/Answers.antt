@@ -1,7 +1,8 @@
-use Rattle.std.proofs.Common.{◌≡◌, length, true, sym, ◌∙◌, ap}
+use Rattle.std.proofs.Common.{◌≡◌, length, true, sym, ◌∙◌, ap, arith}
 use Rattle.cf_conn.specs.Window.{beyond, seen}
 use Rattle.cf_conn.proofs.Stepping.{more_steps}
 use Rattle.cf_index.specs.Files.{all_zeros}
+use Rattle.cf_index.proofs.Holding.{few_taken, few_wanted}
 use Rattle.cf_index.proofs.WalkSource.{strips_more, behind_more}
 use Rattle.cf_index.proofs.walk.only_zeros.Goals as goal
 
@@ -36,4 +37,6 @@ loop-window-preserved g c =
           (length c.held-n.result.now) c.loop-window.invariant.beyond c.take.ensures e.same e.bound;
       count = e.count ∙ c.loop-window.invariant.count;
       steps = more_steps g.S.Source.reads c.args.source.now c.loop-window.source c.want.new.source c.loop-window.invariant.steps e.steps;
+      few = λ few. few_wanted c.take.new.self c.want.new.self 1 (omega arith) e.few
+          (few_taken c.loop-window.window c.take.new.self (length c.held-n.result.now) c.take.ensures (c.loop-window.invariant.few few));
     }
