@@ -4,19 +4,19 @@ use Rattle.std.specs.Prelude.{fold}
 use Rattle.cf_block.specs.declared.tx.Block.{Block}
 use Rattle.cf_chain.specs.Good.{headers_of, max_height}
 use Rattle.cf_headers.specs.Chain.{tip_hash}
-use Rattle.cf_index.specs.declared.judge.Judge.{Judge}
-use Rattle.cf_index.specs.declared.load.LoadFault.{LoadFault}
-use Rattle.cf_index.specs.declared.walk.Walk.{Walk}
-use Rattle.cf_index.specs.Judging.{StandsOn}
-use Rattle.cf_index.specs.Striding.{Gives, IsWalking, ReadsAs}
+use Rattle.cf_walk.specs.declared.judge.Judge.{Judge}
+use Rattle.cf_walk.specs.declared.fault.LoadFault.{LoadFault}
+use Rattle.cf_walk.specs.declared.walk.Walk.{Walk}
+use Rattle.cf_walk.specs.Judging.{StandsOn}
+use Rattle.cf_walk.specs.Striding.{Gives, IsWalking, ReadsAs}
 use Rattle.cf_index.proofs.Sources.{reads_fault, reads_none}
 use Rattle.cf_scan.specs.Scan.{Scanned, unscanned, scan_of}
 use Rattle.cf_scan.specs.Extracts.{after_placed, extract_of, extracts_of, placed_from}
 use Rattle.cf_scan.specs.HistoryText.{history_text}
 use Rattle.cf_scan.proofs.HistoryLaws.{history_is_scan}
 use Rattle.cf_answers.specs.declared.status.Status.{Status}
-use Rattle.cf_index.specs.declared.cause.BadBlock.{BadBlock}
-use Rattle.cf_index.specs.Files.{blocks_at}
+use Rattle.cf_walk.specs.declared.cause.BadBlock.{BadBlock}
+use Rattle.cf_walk.specs.Files.{blocks_at}
 use Rattle.cf_input.specs.WatchFile.{watch_of}
 use Rattle.cf_input.specs.declared.watch_file.WatchFileFault.{WatchFileFault}
 use Rattle.cf_cli.specs.Reading.{IsWritten, Scans, scan_text}

@@ -2,10 +2,10 @@
 use Rattle.std.specs.Prelude.{◌≡◌, ℕ, List, Option, Some, Result, Ok, Err, String, fold, string_bytes}
 use Rattle.std.specs.Global.{Global}
 use Rattle.cf_block.specs.declared.tx.Block.{Block}
-use Rattle.cf_index.specs.Striding.{IsWalking, ReadsAs}
-use Rattle.cf_index.specs.Judging.{StandsOn}
-use Rattle.cf_index.specs.declared.load.LoadFault.{LoadFault}
-use Rattle.cf_index.specs.declared.walk.Walk.{Walk}
+use Rattle.cf_walk.specs.Striding.{IsWalking, ReadsAs}
+use Rattle.cf_walk.specs.Judging.{StandsOn}
+use Rattle.cf_walk.specs.declared.fault.LoadFault.{LoadFault}
+use Rattle.cf_walk.specs.declared.walk.Walk.{Walk}
 use Rattle.cf_scan.specs.Extracts.{after_placed, extracts_of}
 use Rattle.cf_scan.specs.Scan.{Scanned, unscanned}
 use Rattle.cf_cli.specs.Reading.{scan_text}

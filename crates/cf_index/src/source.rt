@@ -2,13 +2,12 @@
 ghost use Rattle.std.specs.Prelude.{◌≡◌, ℕ, List, Some, true, IfOk};
 ghost use Rattle.cf_chain.specs.Good.{IsGoodChain};
 ghost use Rattle.cf_conn.specs.Steps.{Steps};
-ghost use Rattle.cf_index.specs.Striding.{CountsLoad, ReadsAs};
+ghost use Rattle.cf_walk.specs.Striding.{CountsLoad, ReadsAs};
 
 use crate::checked::CheckedChain;
-use crate::load::LoadFault;
-use crate::walk::Walk;
 use cf_bytes::NoMemory;
 use cf_conn::Source;
+use cf_walk::{LoadFault, Walk};
 use std::alloc::Global;
 
 /// The chain of the blocks that a source gives, whose bytes are those of a file of blocks (`read_chain`). Each block is read, hashed and judged
