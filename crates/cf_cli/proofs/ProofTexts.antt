@@ -29,7 +29,7 @@ use Rattle.cf_proof.specs.declared.proof.Proof.{Proof}
 use Rattle.cf_proof.proofs.Again.{made_passes, made_short}
 use Rattle.cf_index.specs.Finding.{first_place, StandsAt}
 use Rattle.cf_index.proofs.Finding.{block_txs_few}
-use Rattle.cf_index.proofs.Growing.{MayStand, part_stands}
+use Rattle.cf_walk.proofs.Growing.{MayStand, part_stands}
 use Rattle.cf_input.specs.Lines.{bytes_of_hex}
 use Rattle.cf_input.specs.LineLaws.{IsLine}
 use Rattle.cf_input.specs.ProofFile.{bytes_after, whole_tx, as_tx, tx_of, tx_in_line, worked, unless_fault, block_by, block_of, block_told, block_in_line, block_from, line_of, after_line, proven, proof_file_of}

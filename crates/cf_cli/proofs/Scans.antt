@@ -1,8 +1,8 @@
 -- A scan that was told is written.
 use Rattle.std.proofs.Common.{◌≡◌, subst, ℕ, List, Option, Result, Ok, sym}
 use Rattle.cf_block.specs.declared.tx.Block.{Block}
-use Rattle.cf_index.specs.declared.cause.BadBlock.{BadBlock}
-use Rattle.cf_index.specs.Files.{blocks_at}
+use Rattle.cf_walk.specs.declared.cause.BadBlock.{BadBlock}
+use Rattle.cf_walk.specs.Files.{blocks_at}
 use Rattle.cf_input.specs.WatchFile.{watch_of}
 use Rattle.cf_input.specs.declared.watch_file.WatchFileFault.{WatchFileFault}
 use Rattle.cf_answers.specs.declared.status.Status.{Status}

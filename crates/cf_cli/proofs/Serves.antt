@@ -5,7 +5,7 @@ use Rattle.std.specs.FinMap as finite
 use Rattle.cf_bytes.specs.Files.{Named}
 use Rattle.cf_block.specs.declared.tx.Block.{Block}
 use Rattle.cf_chain.specs.Good.{IsGoodChain}
-use Rattle.cf_index.specs.Files.{blocks_at}
+use Rattle.cf_walk.specs.Files.{blocks_at}
 use Rattle.cf_serve.specs.Links.{LinkTold}
 use Rattle.cf_serve.specs.Serving.{Serves}
 use Rattle.cf_serve.specs.declared.fail.ServeFail.{ServeFail}

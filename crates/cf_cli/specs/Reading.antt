@@ -7,8 +7,8 @@ use Rattle.cf_bytes.specs.Hash.{shown}
 use Rattle.cf_bytes.specs.Outside.{with_more}
 use Rattle.cf_block.specs.declared.tx.Block.{Block}
 use Rattle.cf_chain.specs.Filters.{Filtered, filter_at}
-use Rattle.cf_index.specs.declared.cause.BadBlock.{BadBlock}
-use Rattle.cf_index.specs.Files.{blocks_at}
+use Rattle.cf_walk.specs.declared.cause.BadBlock.{BadBlock}
+use Rattle.cf_walk.specs.Files.{blocks_at}
 use Rattle.cf_input.specs.Addresses.{IsOtherForm, HasNoForm}
 use Rattle.cf_input.specs.WatchFile.{watch_of}
 use Rattle.cf_input.specs.declared.watch_file.WatchFileFault.{WatchFileFault}

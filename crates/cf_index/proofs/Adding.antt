@@ -19,11 +19,11 @@ use Rattle.cf_headers.specs.Rules.{same}
 use Rattle.cf_index.specs.declared.block_filter.BlockFilter.{BlockFilter}
 use Rattle.cf_index.specs.Adding.{last_of, last_header}
 use Rattle.cf_index.specs.ByHash.{with_first}
-use Rattle.cf_index.specs.Files.{cause_on}
+use Rattle.cf_walk.specs.Files.{cause_on}
 use Rattle.cf_index.specs.Filtering.{shown}
 use Rattle.cf_index.specs.HeightMap.{HeightMap, AreHeightsOf}
 use Rattle.cf_index.specs.Indexed.{IsIndexed}
-use Rattle.cf_index.proofs.Growing.{good_more, coins_more}
+use Rattle.cf_walk.proofs.Growing.{good_more, coins_more}
 use Rattle.cf_index.proofs.Lowest.{place_more, with_first_gives}
 use Rattle.cf_index.proofs.Walking.{spelled_at, coins_step}
 

@@ -11,14 +11,14 @@ use Rattle.cf_headers.proofs.Pasts.{past_more}
 use Rattle.cf_chain.specs.Coins.{CoinMap, coins_after}
 use Rattle.cf_chain.specs.Filters.{prevouts}
 use Rattle.cf_chain.specs.Good.{IsGoodChain, headers_of, max_height}
-use Rattle.cf_index.specs.declared.judge.Judge.{Judge}
-use Rattle.cf_index.specs.declared.load.LoadFault.{LoadFault}
-use Rattle.cf_index.specs.declared.load.LoadFault.TheVariants.{BadBlock, TooBig, ReadFault, NoMemory}
-use Rattle.cf_index.specs.declared.walk.Walk.{Walk}
+use Rattle.cf_walk.specs.declared.judge.Judge.{Judge}
+use Rattle.cf_walk.specs.declared.fault.LoadFault.{LoadFault}
+use Rattle.cf_walk.specs.declared.fault.LoadFault.TheVariants.{BadBlock, TooBig, ReadFault, NoMemory}
+use Rattle.cf_walk.specs.declared.walk.Walk.{Walk}
 use Rattle.cf_index.specs.Checked.{IsChecked}
-use Rattle.cf_index.specs.Judging.{StandsOn, after_by}
-use Rattle.cf_index.specs.Striding.{Gives, ReadsAs}
-use Rattle.cf_index.proofs.Growing.{headers_more}
+use Rattle.cf_walk.specs.Judging.{StandsOn, after_by}
+use Rattle.cf_walk.specs.Striding.{Gives, ReadsAs}
+use Rattle.cf_walk.proofs.Growing.{headers_more}
 use Rattle.cf_index.proofs.Walking.{named_more, hashed_more, taken_more}
 
 -- what a walk answers at its end is what reading all the bytes answers

@@ -12,12 +12,13 @@ ghost use Rattle.cf_headers.specs.Chain.{tip_hash};
 ghost use Rattle.cf_index.specs.Progress.{Keeps};
 
 use crate::block_filter::BareFilter;
-use crate::chain::{Blocks, Chain, Found};
+use crate::chain::{Blocks, Chain};
 use crate::filters::bare_filters;
 use cf_block::{Block, TxIds, block_hash, genesis_header};
 use cf_bytes::{Hash32, Listed, NoMemory};
 use cf_coins::Spent;
 use cf_headers::Past;
+use cf_walk::Found;
 use std::alloc::Global;
 use std::marker::Model;
 use std::thread::Threads;

@@ -2,17 +2,17 @@
 ghost use Rattle.std.specs.Prelude.{◌≡◌, ℕ, List, Some, true, IfOk};
 ghost use Rattle.cf_chain.specs.Good.{IsGoodChain};
 ghost use Rattle.cf_conn.specs.Steps.{Steps};
-ghost use Rattle.cf_index.specs.Striding.{CountsLoad, ReadsAs};
+ghost use Rattle.cf_walk.specs.Striding.{CountsLoad, ReadsAs};
 
 use crate::checked::CheckedChain;
-use crate::load::LoadFault;
-use crate::walk::Walk;
 use cf_bytes::NoMemory;
 use cf_conn::Source;
+use cf_walk::{LoadFault, Walk};
 use std::alloc::Global;
 
 /// The chain of the blocks that a source gives, whose bytes are those of a file of blocks (`read_chain`). Each block is read, hashed and judged
-/// once, as its bytes come: of these no more are held than a record has. Of the source the first 1,073,741,824 bytes count.
+/// once, as its bytes come: of these fewer than 4,065,544 are held,
+/// those of one record and one piece that is read at once (`Walk`). Of the source the first 1,073,741,824 bytes count.
 ///
 /// # Errors
 ///

@@ -8,12 +8,12 @@ use Rattle.cf_conn.specs.Opened.{IsPartRead}
 use Rattle.cf_conn.specs.Steps.{Steps}
 use Rattle.cf_conn.proofs.Stepping.{kept, mapped}
 use Rattle.cf_block.specs.declared.tx.Block.{Block}
-use Rattle.cf_index.specs.declared.cause.BadBlock.{BadBlock}
-use Rattle.cf_index.specs.declared.load.LoadFault.{LoadFault}
-use Rattle.cf_index.specs.declared.load.LoadFault.TheVariants as faults
-use Rattle.cf_index.specs.Files.{blocks_at}
-use Rattle.cf_index.specs.Striding.{ReadsAs}
-use Rattle.cf_index.proofs.Strides.{all_count}
+use Rattle.cf_walk.specs.declared.cause.BadBlock.{BadBlock}
+use Rattle.cf_walk.specs.declared.fault.LoadFault.{LoadFault}
+use Rattle.cf_walk.specs.declared.fault.LoadFault.TheVariants as faults
+use Rattle.cf_walk.specs.Files.{blocks_at}
+use Rattle.cf_walk.specs.Striding.{ReadsAs}
+use Rattle.cf_walk.proofs.Strides.{all_count}
 use Rattle.cf_answers.specs.declared.status.Status.{Status}
 use Rattle.cf_loading.specs.Scanning.{IsScanOf}
 use Rattle.cf_loading.specs.Verdicts.{Verdict, Good, IsReadAs, IsUnloaded, blocks_read, blocks_verdict, most_blocks}

@@ -4,8 +4,8 @@ use Rattle.std.specs.Prelude.{fold}
 use Rattle.cf_block.specs.declared.tx.Block.{Block}
 use Rattle.cf_chain.specs.Good.{headers_of, max_height}
 use Rattle.cf_headers.specs.Chain.{tip_hash}
-use Rattle.cf_index.specs.declared.walk.Walk.{Walk}
-use Rattle.cf_index.specs.Judging.{StandsOn}
+use Rattle.cf_walk.specs.declared.walk.Walk.{Walk}
+use Rattle.cf_walk.specs.Judging.{StandsOn}
 use Rattle.cf_scan.specs.Scan.{Scanned, unscanned}
 use Rattle.cf_scan.specs.Extracts.{after_placed, extract_of, extracts_of, placed_from}
 use Rattle.cf_scan.specs.HistoryText.{history_text}

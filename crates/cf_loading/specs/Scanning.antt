@@ -4,10 +4,10 @@ use Rattle.std.specs.Global.{Global}
 use Rattle.cf_block.specs.declared.tx.Block.{Block}
 use Rattle.cf_headers.specs.Chain.{tip_hash}
 use Rattle.cf_chain.specs.Good.{headers_of}
-use Rattle.cf_index.specs.Striding.{IsWalking, ReadsAs}
-use Rattle.cf_index.specs.Judging.{StandsOn}
-use Rattle.cf_index.specs.declared.load.LoadFault.{LoadFault}
-use Rattle.cf_index.specs.declared.walk.Walk.{Walk}
+use Rattle.cf_walk.specs.Striding.{IsWalking, ReadsAs}
+use Rattle.cf_walk.specs.Judging.{StandsOn}
+use Rattle.cf_walk.specs.declared.fault.LoadFault.{LoadFault}
+use Rattle.cf_walk.specs.declared.walk.Walk.{Walk}
 use Rattle.cf_scan.specs.Extracts.{after_placed, extracts_of}
 use Rattle.cf_scan.specs.HistoryText.{history_text}
 use Rattle.cf_scan.specs.Scan.{Scanned, scan_of, unscanned}

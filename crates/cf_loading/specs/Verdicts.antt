@@ -4,10 +4,10 @@ use Rattle.cf_bytes.specs.Outside.{HasRisen}
 use Rattle.cf_bytes.specs.declared.files.FileFail.{FileFail}
 use Rattle.cf_bytes.specs.declared.files.FileFail.TheVariants.{Failed, TooBig as TooMuch, NoMemory as OutOfMemory}
 use Rattle.cf_block.specs.declared.tx.Block.{Block}
-use Rattle.cf_index.specs.declared.cause.BadBlock.{BadBlock}
-use Rattle.cf_index.specs.declared.load.LoadFault.{LoadFault}
-use Rattle.cf_index.specs.declared.load.LoadFault.TheVariants as faults
-use Rattle.cf_index.specs.Files.{blocks_at}
+use Rattle.cf_walk.specs.declared.cause.BadBlock.{BadBlock}
+use Rattle.cf_walk.specs.declared.fault.LoadFault.{LoadFault}
+use Rattle.cf_walk.specs.declared.fault.LoadFault.TheVariants as faults
+use Rattle.cf_walk.specs.Files.{blocks_at}
 use Rattle.cf_wires.specs.Wires.{Script}
 use Rattle.cf_input.specs.declared.session.SessionFault.{SessionFault}
 use Rattle.cf_input.specs.declared.watch_file.WatchFileFault.{WatchFileFault}

@@ -7,8 +7,8 @@ ghost use Rattle.cf_bytes.specs.Outside.{HasRisen};
 ghost use Rattle.cf_chain.specs.Good.{IsGoodChain};
 ghost use Rattle.cf_conn.specs.Opened.{IsPartRead, IsReadByParts};
 ghost use Rattle.cf_conn.specs.Steps.{Steps};
-ghost use Rattle.cf_index.specs.Files.{blocks_at};
-ghost use Rattle.cf_index.specs.Striding.{CountsLoad, ReadsAs};
+ghost use Rattle.cf_walk.specs.Files.{blocks_at};
+ghost use Rattle.cf_walk.specs.Striding.{CountsLoad, ReadsAs};
 ghost use Rattle.cf_input.specs.ProofFile.{proof_file_of};
 ghost use Rattle.cf_input.specs.SessionFile.{session_of};
 ghost use Rattle.cf_input.specs.Sessions.{script_in, AreNamed};
@@ -21,9 +21,10 @@ use crate::scanning::scan_source;
 use cf_answers::{FileCause, Status, Which};
 use cf_bytes::{FileFail, Files, Refused};
 use cf_conn::Opened;
-use cf_index::{CheckedChain, LoadFault, read_source};
+use cf_index::{CheckedChain, read_source};
 use cf_input::{Proven, Session, read_proof_file, read_session, read_watch};
 use cf_scan::Watch;
+use cf_walk::LoadFault;
 use std::alloc::Global;
 
 /// The most bytes that a watch file may have.

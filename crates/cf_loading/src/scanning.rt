@@ -3,8 +3,8 @@ ghost use Rattle.std.specs.Prelude.{◌≡◌, ℕ, List, Some, length, IfOk, st
 ghost use Rattle.cf_block.specs.declared.tx.Block.{Block};
 ghost use Rattle.cf_block.specs.Commitment.{AreTxids};
 ghost use Rattle.cf_conn.specs.Steps.{Steps};
-ghost use Rattle.cf_index.specs.Judging.{StandsOn};
-ghost use Rattle.cf_index.specs.Striding.{CountsLoad};
+ghost use Rattle.cf_walk.specs.Judging.{StandsOn};
+ghost use Rattle.cf_walk.specs.Striding.{CountsLoad};
 ghost use Rattle.cf_scan.specs.Extracts.{after_placed, extract_of};
 ghost use Rattle.cf_scan.specs.HistoryText.{history_text};
 ghost use Rattle.cf_loading.specs.Scanning.{TellsScan};
@@ -12,8 +12,8 @@ ghost use Rattle.cf_loading.specs.Scanning.{TellsScan};
 use cf_block::Block;
 use cf_bytes::{Hash32, NoMemory};
 use cf_conn::Source;
-use cf_index::{LoadFault, Walk};
 use cf_scan::{Ledger, Watch, extract_by};
+use cf_walk::{LoadFault, Walk};
 use std::alloc::Global;
 
 // How many blocks a walk has given.

@@ -1,8 +1,8 @@
 use Rattle.std.proofs.Common.{◌≡◌, ◌-◌, ℕ, List, Some}
 use Rattle.cf_conn.specs.Steps.{Steps}
 use Rattle.cf_chain.specs.Good.{max_height}
-use Rattle.cf_index.specs.Judging.{StandsOn}
-use Rattle.cf_index.specs.Striding.{IsWalking}
+use Rattle.cf_walk.specs.Judging.{StandsOn}
+use Rattle.cf_walk.specs.Striding.{IsWalking}
 use Rattle.cf_index.proofs.source.read_source.Given as goal
 
 abbrev pub invariant-loop-block : goal.invariant-loop-block

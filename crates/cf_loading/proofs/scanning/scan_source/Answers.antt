@@ -2,8 +2,8 @@ use Rattle.std.proofs.Common.{◌≡◌, ◌++◌, ◌∷◌, [], ℕ, List, Opt
 use Rattle.std.specs.Prelude.{IfSome, string_bytes}
 use Rattle.cf_block.specs.declared.tx.Block.{Block}
 use Rattle.cf_conn.proofs.Stepping.{more_steps, no_steps}
-use Rattle.cf_index.specs.Judging.{StandsOn}
-use Rattle.cf_index.specs.Striding.{Gives, IsWalking}
+use Rattle.cf_walk.specs.Judging.{StandsOn}
+use Rattle.cf_walk.specs.Striding.{Gives, IsWalking}
 use Rattle.cf_index.proofs.Sources.{reads_fault, reads_none}
 use Rattle.cf_loading.proofs.Scans.{scanned_more, text_so}
 use Rattle.cf_loading.proofs.scanning.scan_source.Goals as goal
