@@ -100,7 +100,8 @@ def fails(words, *calls, **fields):
     text = fields.pop("text", "")
     for number in calls:
         row(1000, "-/%d" % number, words, FILE, **fields)
-    row(1000, "-/%d" % (calls[-1] + 1), words, "0 Done", text, behind, **fields)
+    # Two reads come after the command, which show the files that stand behind the text.
+    row(1000, "-/%d" % (calls[-1] + 3 if behind else calls[-1] + 1), words, "0 Done", text, behind, **fields)
 
 
 def long_chain():
