@@ -8,6 +8,7 @@ pub mod Deciding
 pub mod Stops
 pub mod Opening
 pub mod Shared
+pub mod Falling
 pub mod HeldLaws
 pub mod JudgedLaws
 pub mod Openings

@@ -1,8 +1,8 @@
 -- What is to be asked for that isn't open to anybody.
-use Rattle.std.specs.Prelude.{◌≡◌, ℕ, ◌≤◌, ◌+◌, ◌-◌, ◌⊎◌, false, None, ◌<◌, List, length, slice_index_or}
+use Rattle.std.specs.Prelude.{◌≡◌, ℕ, ◌≤◌, ◌+◌, ◌-◌, ◌⊎◌, false, None, Some, ◌<◌, List, length, slice_index_or}
 use Rattle.cf_dispute.specs.Claims.{Tables}
 use Rattle.cf_headers.specs.Chain.{Hash, Chain}
-use Rattle.cf_headers.specs.Heights.{hash_at}
+use Rattle.cf_headers.specs.Heights.{hash_at, height_of}
 use Rattle.cf_match.specs.declared.job.Job.{Job}
 use Rattle.cf_match.specs.declared.job.Verdict.{Verdict}
 use Rattle.cf_match.specs.declared.job.Verdict.TheVariants.{Hit}
@@ -62,3 +62,10 @@ pub record MoreOpens (before after : Opens) : Type 0 where
 abbrev pub ArePassedHits : Chain → ℕ → List Job → List Verdict → ℕ → Type 0
 ArePassedHits own most jobs verdicts count =
     (h : ℕ) → 1 ≤ h → h ≤ most → (k : ℕ) (d : Job) (v : Verdict) → k < count → k < length verdicts → slice_index_or verdicts k v ≡ Hit → hash_at own h ≡ (slice_index_or jobs k d).block.0 → ⊥
+
+-- right above a height stands a block of a batch whose filter hits, or that block is genesis
+abbrev pub IsBelowAHit : Chain → ℕ → List Job → List Verdict → Type 0
+IsBelowAHit own most jobs verdicts =
+    (k : ℕ) × (height : ℕ) × (k < length jobs) × (k < length verdicts)
+    × ((v : Verdict) → slice_index_or verdicts k v ≡ Hit)
+    × ((d : Job) → height_of (slice_index_or jobs k d).block.0 own ≡ Some height) × (most ≡ height - 1)

@@ -1,5 +1,5 @@
 -- What a tracker holds.
-use Rattle.std.specs.Prelude.{◌≡◌, ◌⊎◌, ℕ, ◌<◌, ◌≤◌, List, [], Option, Some, None, length, reverse}
+use Rattle.std.specs.Prelude.{◌≡◌, ◌⊎◌, ℕ, ◌<◌, ◌≤◌, List, [], Option, Some, None, length, max, min, reverse}
 use Rattle.cf_bytes.specs.declared.hash.Hash32.{Hash32}
 use Rattle.cf_bytes.specs.declared.peer.PeerNo.{PeerNo}
 use Rattle.cf_dispute.specs.Claims.{Tables}
@@ -16,7 +16,7 @@ use Rattle.cf_seek.specs.declared.cursors.Marks.{Marks}
 use Rattle.cf_seek.specs.Cursors.{marks_at}
 use Rattle.cf_seek.specs.Tables.{Table, placed_by}
 use Rattle.cf_seek.specs.Opens.{Opens}
-use Rattle.cf_seek.specs.Seeking.{ArePassed, ArePassedHits, AreSought}
+use Rattle.cf_seek.specs.Seeking.{ArePassed, ArePassedHits, AreSought, IsBelowAHit}
 use Rattle.cf_seek.specs.Wanting.{AreClaimed}
 
 -- the marks of an entered peer stand on its chain, none higher than what it claims: it claims its blocks up to one; up to another no filter is to be asked
@@ -46,12 +46,19 @@ AreMarked chains extracts tables verdicts opens cursors = (p : ℕ) → MarkedAt
 abbrev pub IsWithin : Option Chain → Marks → Type 0
 IsWithin chain marks = 0 < marks.passed → (own : Chain) × ((chain ≡ Some own) × (marks.passed ≤ length own))
 
--- marks of which that of the blocks fell to below each block of a batch whose filter hits
+-- marks of which that of the blocks fell to below each block of a batch whose filter hits, and no further
 pub record IsFallen (chain : Option Chain) (before after : Marks) (jobs : List Job) (verdicts : List Verdict) : Type 0 where
   pub claimed : after.claimed ≡ before.claimed
   pub sought : after.sought ≡ before.sought
   pub low : after.passed ≤ before.passed
   pub apart : (own : Chain) → chain ≡ Some own → ArePassedHits own after.passed jobs verdicts (length jobs)
+  pub tight : (own : Chain) → chain ≡ Some own → after.passed < before.passed → IsBelowAHit own after.passed jobs verdicts
+
+-- marks that rose, those of filters and blocks at least to where any peer's stand, as far as is claimed
+pub record AreRaised (before after : Marks) (shared_sought shared_passed : ℕ) : Type 0 where
+  pub claimed : before.claimed ≤ after.claimed
+  pub sought : max before.sought (min shared_sought after.claimed) ≤ after.sought
+  pub passed : max before.passed (min shared_passed after.claimed) ≤ after.passed
 
 -- the longest of the chains, of several that of the peer with the smallest number; genesis's where there is none
 abbrev pub IsBestChain : Chains → Chain → Type 0

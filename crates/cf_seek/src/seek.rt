@@ -9,8 +9,8 @@ ghost use Rattle.cf_seek.specs.OpensAll.{opens_in};
 ghost use Rattle.cf_seek.specs.OpensOf.{block_at, filter_at};
 ghost use Rattle.cf_seek.specs.Wanting.{IsToFetch, IsUnjudged};
 ghost use Rattle.cf_seek.specs.Cursors.{marks_at, passed_under};
-ghost use Rattle.cf_seek.specs.Seeking.{ArePassedHits, IsToAsk, IsToGet, AreSought, ArePassed, IsSought, AreToAsk, IsLastToAsk};
-ghost use Rattle.cf_seek.specs.Tracking.{IsFallen, IsMarked, IsWithin};
+ghost use Rattle.cf_seek.specs.Seeking.{ArePassedHits, IsToAsk, IsToGet, AreSought, ArePassed, IsSought, AreToAsk, IsLastToAsk, IsBelowAHit};
+ghost use Rattle.cf_seek.specs.Tracking.{AreRaised, IsFallen, IsMarked, IsWithin};
 ghost use Rattle.cf_seek.specs.declared.kind.Kind.TheVariants.{ToFetch};
 
 use crate::cursors::{Cursors, Marks};
@@ -210,6 +210,7 @@ pub fn next_sought<H: HeaderStore>(
         (own_of (H.chain store.now) p) result.0 }
     ensures want { IsSought (table_in extracts.now) (tables_of claims.now) (verdicts_in judged.now) (opens_in opens.now) p.0
         (own_of (H.chain store.now) p) common result.1 }
+    ensures up { AreRaised from result.0 shared_sought shared_passed }
 {
     let claimed = climb_claimed(store, claims, p, first, from.claimed, common);
     let marks = from.raised(claimed, shared_sought, shared_passed);
@@ -242,6 +243,7 @@ fn sought_of_claimed<H: HeaderStore>(
         (own_of (H.chain store.now) p) result.0 }
     ensures want { IsSought (table_in extracts.now) (tables_of claims.now) (verdicts_in judged.now) (opens_in opens.now) p.0
         (own_of (H.chain store.now) p) common result.1 }
+    ensures up { (result.0.claimed ≡ from.claimed) × (from.sought ≤ result.0.sought) × (from.passed ≤ result.0.passed) }
 {
     let Marks {
         claimed,
@@ -344,6 +346,7 @@ pub fn passed_below_hits<H: HeaderStore>(
     requires within { passed ≤ length (own_of (H.chain store.now) p) }
     ensures low { result ≤ passed }
     ensures apart { ArePassedHits (own_of (H.chain store.now) p) result jobs.now verdicts.now (length jobs.now) }
+    ensures tight { result < passed → IsBelowAHit (own_of (H.chain store.now) p) result jobs.now verdicts.now }
 {
     let mut passed = passed;
     for (i, job) in jobs.iter().enumerate() {
