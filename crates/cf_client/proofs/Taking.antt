@@ -377,7 +377,7 @@ fault_at {watch = watch} places log p piece cause seen now acts lt stand on answ
               (subst (λ t. Fits (get_or places q nobody) t) (sym (closed_others p q (part_of later q) other ∙ done.others q other ∙ got_others p piece q (part_of log q) other)) (stand.each q))
         ];
       });
-      allowed = allowed-append watch (sends p rs) (Close p cause) next done.allowed (count, inl (up, guilty), λ sound. replied_all);
+      allowed = allowed-append watch (sends p rs) (Close p cause) next done.allowed (count, inl (inl (up, guilty)), inl (λ sound. replied_all));
     })
 
 fault_of : (places : List Place) (log : Log) (p : PeerNo) (piece : List ℕ) (old : Peer) (cause : Cause) (seen now : Seen) (before acts : List Act)
@@ -512,7 +512,7 @@ cut_goes places log cut p lt stand is = record {
           (subst (λ t. Fits (get_or places q nobody) t) (sym (closed_others p q (part_of cut q) other ∙ is.others q other)) (stand.each q))
     ];
   };
-  allowed = ((omega (arith, number_within places log p.0 stand lt, is.dials), inr (inl (refl, is.broken)), λ sound. absurd (both_ways (failed (trail cut p.0)) sound is.broken)), tt);
+  allowed = ((omega (arith, number_within places log p.0 stand lt, is.dials), inl (inr (inl (refl, is.broken))), inl (λ sound. absurd (both_ways (failed (trail cut p.0)) sound is.broken))), tt);
 }
 
 pub cut_moves : (d : Desk) (p : PeerNo) (after : Seen) → d.acts ≡ [] → p.0 < length d.places → IsInOrder d → IsPut d.seen after p.0 None no_claims

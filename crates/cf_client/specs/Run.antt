@@ -21,9 +21,9 @@ use Rattle.cf_wires.specs.declared.event.Mark.TheVariants.{NotYet, Called, Misse
 use Rattle.cf_wires.specs.Log.{Log, Told, Tally, Tells, tally_of, mark_of, dials}
 use Rattle.cf_wires.specs.Wires.{Made}
 use Rattle.cf_peer.specs.Trail.{trail, spelled, connected, failed}
-use Rattle.cf_peer.specs.Asking.{Deserves, given}
+use Rattle.cf_peer.specs.Asking.{given}
 use Rattle.cf_scan.specs.declared.history.Entry.{Entry}
-use Rattle.cf_sync.specs.Fetching.{IsBusy, IsConnected, IsSameFetched, Rightly, AreBytes, counted_part}
+use Rattle.cf_sync.specs.Fetching.{IsBusy, IsConnected, IsSameFetched, Rightly, AreBytes, counted_part, DeservesIn}
 use Rattle.cf_sync.specs.Planned.{is_untold, IsPlanned, ArePlanned}
 use Rattle.cf_sync.specs.Sync.{HasAsked}
 use Rattle.cf_sync.specs.Sync as sync
@@ -36,7 +36,7 @@ use Rattle.cf_client.specs.declared.progress.SendState.TheVariants.{Fine, Pendin
 use Rattle.cf_place.specs.declared.state.State.TheVariants.{Synced as IsSynced, NoPeers as HasNoPeers}
 use Rattle.cf_client.specs.declared.trace.TraceLine.{TraceLine}
 use Rattle.cf_client.specs.declared.trace.TraceLine.TheVariants.{Sent as SentLine, Closed as ClosedLine}
-use Rattle.cf_place.specs.Places.{after, Allowed, IsReplied, IsState}
+use Rattle.cf_place.specs.Places.{after, Allowed, IsRepliedIn, IsState}
 use Rattle.cf_client.specs.Stands.{Reflects, IsInnocent, AreAnswered, watch_by}
 
 -- how the sends to a peer have gone
@@ -86,7 +86,7 @@ WasOrderly (Dialled p name ∷ log) = WasOrderly log
 WasOrderly (NotDialled p name ∷ log) = WasOrderly log
 WasOrderly (Sent p bytes ∷ log) = WasOrderly log
 WasOrderly (SendFailed p ∷ log) = IsConnected log p.0 × WasOrderly log
-WasOrderly (Closed p ∷ log) = IsReplied (trail log p.0) × WasOrderly log
+WasOrderly (Closed p ∷ log) = IsRepliedIn log p.0 × WasOrderly log
 WasOrderly (Took d ∷ log) = IsOrderly log × WasOrderly log
 
 -- the peers are numbered from 1 in the order in which they were dialled
@@ -120,7 +120,7 @@ IsSentLine p bytes (ClosedLine q cause) = ⊥
 
 abbrev pub IsClosedLine : Log → PeerNo → TraceLine → Type 0
 IsClosedLine log p (SentLine q command) = ⊥
-IsClosedLine log p (ClosedLine q cause) = (q ≡ p) × Deserves (trail log p.0) cause
+IsClosedLine log p (ClosedLine q cause) = (q ≡ p) × DeservesIn log p.0 cause
 
 -- the lines, the newest first, are those of the log: one for each message sent, and one for each close, with a cause that the peer deserved then
 abbrev pub IsTraceOf : Log → List TraceLine → Type 0

@@ -20,7 +20,7 @@ use Rattle.cf_msg.specs.declared.msg.Msg.TheVariants.{GetCfheaders, GetCfilters,
 use Rattle.cf_peer.specs.Asking.{HasHeader, IsClaimed, IsFree, MayAsk, block_entry, claims, counted, hashes_of, verdict}
 use Rattle.cf_wires.specs.Log.{Log}
 use Rattle.cf_peer.specs.Trail.{Trail, trail, connected, own}
-use Rattle.cf_sync.specs.Fetching.{IsFilterWanted, IsNeeded, IsBlockWanted, MaySend, blocks_in}
+use Rattle.cf_sync.specs.Fetching.{IsFilterWanted, AreFiltersWanted, IsNeeded, IsBlockWanted, MaySend, blocks_in}
 use Rattle.cf_sync.proofs.KeptOpens.{block_alone, filters_alone}
 use Rattle.cf_sync.proofs.Kept.{filter_by, block_by}
 use Rattle.cf_seek.specs.declared.spans.Span.{Span}
@@ -82,7 +82,7 @@ up_from (suc n) h lt = omega (arith, lt)
 
 -- filters that are asked for are wanted of p
 pub filters_needed : (s : Seen) (log : Log) (p common : ℕ) (span : Span) (chain : Chain) → Tracks s log → chain ≡ own (trail log p) → common ≤ length chain
-    → IsWish s.table s.claims s.verdicts s.opens p chain common (Filters span) → IsNeeded s.watch log p (GetCfilters 0 span.start span.stop)
+    → IsWish s.table s.claims s.verdicts s.opens p chain common (Filters span) → AreFiltersWanted log p span.start span.stop.0
 filters_needed s log p common span chain tracks is low wish block i =
     let sp = wish.1.1.0 in
     let tip : back_to span.stop.0 (own (trail log p)) ≡ Some sp.part = subst (λ (c : Chain). back_to span.stop.0 c ≡ Some sp.part) is sp.tip in
@@ -271,7 +271,7 @@ filters_send s log p common span chain tracks is low free clean wish = (
     wanted = tt;
     alone = filters_alone log s.opens p 0 span.start span.stop tracks.opened (filters_free s log p common span chain is low wish);
   },
-  filters_needed s log p common span chain tracks is low wish,
+  inl (filters_needed s log p common span chain tracks is low wish),
 )
 
 pub block_send : (s : Seen) (log : Log) (p common : ℕ) (hash : Hash32) (chain : Chain) → Tracks s log → chain ≡ own (trail log p) → common ≤ length chain

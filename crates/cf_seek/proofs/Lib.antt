@@ -14,3 +14,4 @@ pub mod Openings
 pub mod Sought
 pub mod SoughtStays
 pub mod Putting
+pub mod Trials

@@ -11,3 +11,5 @@ pub mod Opens
 pub mod OpensOf
 pub mod OpensAll
 pub mod Seeking
+pub mod Testing
+pub mod Outputs

@@ -17,7 +17,7 @@ use Rattle.cf_peer.specs.declared.peer.Cause.TheVariants.{OtherFilter}
 use Rattle.cf_wires.specs.Log.{Log}
 use Rattle.cf_peer.specs.Trail.{Trail, Called, Said, Refused, Asked, Passed, Lost, trail, connected, own, WasAsked}
 use Rattle.cf_peer.specs.Asking.{OpenRequest, NothingOpen, HeadersOpen, ClaimsOpen, FiltersOpen, BlockOpen, is_answer_of, is_this, is_wanted, blocks_from, block_below, claims_asked, filters_asked, filters_left, filter_of, filter_fault, claims, claims_after, given, given_by, hash_claimed, request, request_for, request_after, fault_of, verdict, counted, lists, IsClaimed, MayAsk}
-use Rattle.cf_sync.specs.Fetching.{AreBytes, IsConnected, IsFilterWanted, IsNeeded, MaySend, Rightly, blocks_in}
+use Rattle.cf_sync.specs.Fetching.{AreBytes, IsConnected, IsFilterWanted, AreFiltersWanted, MaySend, Rightly, blocks_in}
 use Rattle.cf_sync.specs.Sync.{IsHashed}
 use Rattle.cf_dispute.proofs.PutIn.{same_true}
 use Rattle.cf_sync.proofs.Chains.{cases_same}
@@ -68,7 +68,7 @@ open_before (BlockMessage b) (BlockOpen wanted) table stop parent blocks e = by 
 open_before m r table stop parent blocks e = (e, λ block. refl)
 
 -- of the blocks whose claims are asked for none is claimed
-abbrev AreFresh : Trail → Type 0
+abbrev pub AreFresh : Trail → Type 0
 AreFresh t = (stop parent : Hash) (blocks : List Hash) → request t ≡ ClaimsOpen stop parent blocks → (block : Hash) → IsIn block blocks → IsClaimed t block → ⊥
 
 asked_fresh : (m : Msg) (t : Trail) → MayAsk t m → AreFresh t → AreFresh (Asked m ∷ t)
@@ -83,7 +83,7 @@ asked_fresh (GetData entries) t may fresh stop parent blocks e block i claimed =
     absurd (let no : BlockOpen may.1.0.0 ≡ ClaimsOpen stop parent blocks = sym (ap (λ (es : List Entry). request_for (GetData es) (own t) (request t)) may.1.1) ∙ e in cc)
 asked_fresh m t may fresh stop parent blocks e block i claimed = fresh stop parent blocks e block i claimed
 
-are_fresh : (t : Trail) → connected t ≡ true → verdict t ≡ None → AskedRightly t → AreFresh t
+pub are_fresh : (t : Trail) → connected t ≡ true → verdict t ≡ None → AskedRightly t → AreFresh t
 are_fresh [] on clean right stop parent blocks e block i claimed = absurd (false≢true on)
 are_fresh (Called ∷ t) on clean right stop parent blocks e block i claimed = absurd (let no : NothingOpen ≡ ClaimsOpen stop parent blocks = e in cc)
 are_fresh (Said m ∷ t) on clean right stop parent blocks e block i claimed =
@@ -109,16 +109,20 @@ claim_stays m t fresh block claim is = by m (request t) fresh where
 -- ---- since it was asked for filters of a range
 
 -- the filter is the one that it claims of its block
-abbrev IsItsOwn : Trail → Job → Type 0
+abbrev pub IsItsOwn : Trail → Job → Type 0
 IsItsOwn t job = (claim : Claim) × (claims t job.block.0 ≡ Some claim) × (claim.hash.0 ≡ filter_hash_of job.filter)
 
 -- some of the filters came; all of them were given
-record AreComing (t : Trail) (blocks : List Hash) : Type 0 where
-  left : List Hash
-  came : List Job
-  is : request t ≡ FiltersOpen left came
-  true_ones : (job : Job) → IsIn job came → IsItsOwn t job
-  each : (block : Hash) → IsIn block blocks → ((job : Job) × IsIn job came × (job.block.0 ≡ block)) ⊎ IsIn block left
+pub record AreComing (t : Trail) (blocks : List Hash) : Type 0 where
+  pub left : List Hash
+  pub came : List Job
+  pub is : request t ≡ FiltersOpen left came
+  pub true_ones : (job : Job) → IsIn job came → IsItsOwn t job
+  pub each : (block : Hash) → IsIn block blocks → ((job : Job) × IsIn job came × (job.block.0 ≡ block)) ⊎ IsIn block left
+
+-- a message gives all of them
+abbrev pub AreGivenBy : Msg → Trail → List Hash → Type 0
+AreGivenBy m t blocks = (block : Hash) → IsIn block blocks → (job : Job) × IsIn job (given_by m (request t)) × (job.block.0 ≡ block) × IsItsOwn (Said m ∷ t) job
 
 abbrev AreGiven : Trail → List Hash → Type 0
 AreGiven t blocks = (block : Hash) → IsIn block blocks → (job : Job) × IsIn job (given (counted t)) × (job.block.0 ≡ block) × IsItsOwn t job
@@ -132,7 +136,7 @@ record Since (t : Trail) (start : ℕ) (stop : Hash) : Type 0 where
   high : start ≤ length part
   since : AreComing t (blocks_from start part) ⊎ AreGiven t (blocks_from start part)
 
-its_own : (m : Msg) (t : Trail) → AreFresh t → (job : Job) → IsItsOwn t job → IsItsOwn (Said m ∷ t) job
+pub its_own : (m : Msg) (t : Trail) → AreFresh t → (job : Job) → IsItsOwn t job → IsItsOwn (Said m ∷ t) job
 its_own m t fresh job w = (w.0, claim_stays m t fresh job.block.0 w.0 w.1, w.2)
 
 this_is : (o : Option Hash32) (hash : Hash) → (if is_this o hash then None else Some OtherFilter) ≡ None → (h : Hash32) × (o ≡ Some h) × (h.0 ≡ hash)
@@ -150,7 +154,7 @@ claim_by (Some c) h e = (c, refl, cc)
 next_came : (filter : ℕ) (block : Hash32) (bytes : List ℕ) (t : Trail) (next : Hash) (more : List Hash) (came : List Job) (blocks : List Hash) → connected t ≡ true → verdict (Said (Cfilter filter block bytes) ∷ t) ≡ None
     → AreFresh t → request t ≡ FiltersOpen (next ∷ more) came → is_answer_of filter block.0 next ≡ true → ((job : Job) → IsIn job came → IsItsOwn t job)
     → ((x : Hash) → IsIn x blocks → ((job : Job) × IsIn job came × (job.block.0 ≡ x)) ⊎ IsIn x (next ∷ more))
-    → AreComing (Said (Cfilter filter block bytes) ∷ t) blocks ⊎ AreGiven (Said (Cfilter filter block bytes) ∷ t) blocks
+    → AreComing (Said (Cfilter filter block bytes) ∷ t) blocks ⊎ AreGivenBy (Cfilter filter block bytes) t blocks
 next_came filter block bytes t next more came blocks on clean fresh e answer true_ones each = by more refl where
   m : Msg
   m = Cfilter filter block bytes
@@ -190,13 +194,12 @@ next_came filter block bytes t next more came blocks on clean fresh e answer tru
   now_open : (left : List Hash) → more ≡ left → request (Said m ∷ t) ≡ filters_left left all
   now_open left is = ap (λ r. request_after m r) e ∙ ap (λ (b : Bool). if b then filters_left more all else FiltersOpen (next ∷ more) came) answer ∙ ap (λ (l : List Hash). filters_left l all) is
 
-  by : (left : List Hash) → more ≡ left → AreComing (Said m ∷ t) blocks ⊎ AreGiven (Said m ∷ t) blocks
+  by : (left : List Hash) → more ≡ left → AreComing (Said m ∷ t) blocks ⊎ AreGivenBy m t blocks
   by [] is =
       let gives : given_by m (request t) ≡ all =
       ap (λ r. given_by m r) e ∙ ap (λ (l : List Hash). given_by m (FiltersOpen (next ∷ l) came)) is ∙ ap (λ (b : Bool). if b then all else []) answer in
-      let now : given (counted (Said m ∷ t)) ≡ all ++ given (counted t) = said_gives m t on clean ∙ ap (λ (js : List Job). js ++ given (counted t)) gives in
       inr (λ x i. elim (among x i) [
-        | inl w ↦ (w.0, subst (λ (js : List Job). IsIn w.0 js) (sym now) (in_left w.0 all (given (counted t)) w.1), w.2, all_own w.0 w.1)
+        | inl w ↦ (w.0, subst (λ (js : List Job). IsIn w.0 js) (sym gives) w.1, w.2, all_own w.0 w.1)
         | inr later ↦ absurd (subst (λ (l : List Hash). IsIn x l) is later)
       ])
   by (y ∷ left) is = inl (record { left = more; came = all; is = now_open (y ∷ left) is ∙ ap (λ (l : List Hash). FiltersOpen l all) (sym is); true_ones = all_own; each = among })
@@ -211,9 +214,9 @@ stays_coming m t blocks w fresh same = record {
   each = w.each;
 }
 
-coming_said : (m : Msg) (t : Trail) (blocks : List Hash) → connected t ≡ true → verdict (Said m ∷ t) ≡ None → AreFresh t → AreComing t blocks → AreComing (Said m ∷ t) blocks ⊎ AreGiven (Said m ∷ t) blocks
+pub coming_said : (m : Msg) (t : Trail) (blocks : List Hash) → connected t ≡ true → verdict (Said m ∷ t) ≡ None → AreFresh t → AreComing t blocks → AreComing (Said m ∷ t) blocks ⊎ AreGivenBy m t blocks
 coming_said (Cfilter filter block bytes) t blocks on clean fresh w = by w.left refl where
-  by : (left : List Hash) → w.left ≡ left → AreComing (Said (Cfilter filter block bytes) ∷ t) blocks ⊎ AreGiven (Said (Cfilter filter block bytes) ∷ t) blocks
+  by : (left : List Hash) → w.left ≡ left → AreComing (Said (Cfilter filter block bytes) ∷ t) blocks ⊎ AreGivenBy (Cfilter filter block bytes) t blocks
   by [] is = inl (stays_coming (Cfilter filter block bytes) t blocks w fresh
       (ap (λ (l : List Hash). request_after (Cfilter filter block bytes) (FiltersOpen l w.came)) is ∙ ap (λ (l : List Hash). FiltersOpen l w.came) (sym is)))
   by (next ∷ more) is = elim (cases_Bool (is_answer_of filter block.0 next)) [
@@ -242,12 +245,15 @@ after_said m t start stop on clean fresh w = record {
   low = w.low;
   high = w.high;
   since = elim w.since [
-    | inl coming ↦ coming_said m t (blocks_from start w.part) on clean fresh coming
+    | inl coming ↦ elim (coming_said m t (blocks_from start w.part) on clean fresh coming) [
+      | inl more ↦ inl more
+      | inr now ↦ inr (λ x i. (let g = now x i in (g.0, subst (λ (js : List Job). IsIn g.0 js) (sym (said_gives m t on clean)) (in_left g.0 (given_by m (request t)) (given (counted t)) g.1), g.2, g.3)))
+    ]
     | inr all ↦ inr (given_said m t (blocks_from start w.part) on clean fresh all)
   ];
 }
 
-still_coming : (m : Msg) (t : Trail) (left : List Hash) (came : List Job) → MayAsk t m → request t ≡ FiltersOpen left came → request (Asked m ∷ t) ≡ FiltersOpen left came
+pub still_coming : (m : Msg) (t : Trail) (left : List Hash) (came : List Job) → MayAsk t m → request t ≡ FiltersOpen left came → request (Asked m ∷ t) ≡ FiltersOpen left came
 still_coming (GetHeaders version locator s) t left came may e = absurd (let no : FiltersOpen left came ≡ NothingOpen = sym e ∙ may.0.idle in cc)
 still_coming (GetCfheaders filter start s) t left came may e = absurd (let no : FiltersOpen left came ≡ NothingOpen = sym e ∙ may.0.idle in cc)
 still_coming (GetCfilters filter start s) t left came may e = absurd (let no : FiltersOpen left came ≡ NothingOpen = sym e ∙ may.0.idle in cc)
@@ -308,9 +314,9 @@ has_since (Lost w ∷ t) on clean right filter start stop was = absurd (false≢
 
 -- ---- so it isn't asked for them again
 
-pub filters_not_again : (watch : List (List ℕ)) (log : Log) (p : ℕ) → Rightly log → AreBytes log → NoHashClash (IsHashed log []) → IsConnected log p → verdict (trail log p) ≡ None
-    → (filter start : ℕ) (stop : Hash32) → MaySend log p (GetCfilters filter start stop) → IsNeeded watch log p (GetCfilters filter start stop) → WasAsked (trail log p) (GetCfilters filter start stop) → ⊥
-filters_not_again watch log p right bytes clash on clean filter start stop may needed was =
+pub filters_not_again : (log : Log) (p : ℕ) → Rightly log → AreBytes log → NoHashClash (IsHashed log []) → IsConnected log p → verdict (trail log p) ≡ None
+    → (filter start : ℕ) (stop : Hash32) → MaySend log p (GetCfilters filter start stop) → AreFiltersWanted log p start stop.0 → WasAsked (trail log p) (GetCfilters filter start stop) → ⊥
+filters_not_again log p right bytes clash on clean filter start stop may needed was =
     let t : Trail = trail log p in
     let apart : AreApart (lists t) = subst AreApart (same_use t on clean).showing (shown_apart log p [] bytes clash) in
     let w = has_since t on clean (asked_rightly log p right) filter start stop was in
