@@ -15,3 +15,5 @@ pub mod Sought
 pub mod SoughtStays
 pub mod Putting
 pub mod Trials
+pub mod Disputed
+pub mod Aiming

@@ -13,3 +13,5 @@ pub mod OpensAll
 pub mod Seeking
 pub mod Testing
 pub mod Outputs
+pub mod Aims
+pub mod Trials

@@ -1,5 +1,5 @@
 -- Which filter is to be tested next: one that a peer claims of a fetched block on which they differ.
-use Rattle.std.specs.Prelude.{◌≡◌, ℕ, ◌≤◌, List, Bool, false, Option, Some, None, IsSome, unwrap_or, if◌then◌else◌, ◌&&◌, ◌||◌}
+use Rattle.std.specs.Prelude.{◌≡◌, ℕ, ◌≤◌, List, [], ◌∷◌, Bool, true, false, Option, Some, None, IsSome, unwrap_or, if◌then◌else◌, ◌&&◌, ◌||◌}
 use Rattle.std.specs.Ordering.{is_eq, nat_cmp, ordering_then}
 use Rattle.std.specs.Cmp.Lexicographic.{slice_cmp}
 use Rattle.std.specs.Map.{lookup}
@@ -10,6 +10,8 @@ use Rattle.cf_headers.specs.Chain.{Hash, Chain, IsIn}
 use Rattle.cf_headers.specs.Heights.{height_of}
 use Rattle.cf_headers.specs.Rules.{same}
 use Rattle.cf_seek.specs.declared.tests.Tests.{Tests}
+use Rattle.cf_seek.specs.declared.spans.Wish.{Wish}
+use Rattle.cf_seek.specs.declared.spans.Wish.TheVariants.{Nothing, Claims, Filters, Block, Test}
 use Rattle.cf_seek.specs.declared.testing.Trial.{Trial}
 use Rattle.cf_seek.specs.Tables.{Table}
 
@@ -59,3 +61,20 @@ IsNextTrial extracts tables told p own common listed None = (block : Hash) → I
 IsNextTrial extracts tables told p own common listed (Some t) =
     IsIn t.block.0 listed × IsTrial extracts tables told p own common t.block.0 t.height
     × ((block : Hash) → IsIn block listed → (h : ℕ) → IsTrial extracts tables told p own common block h → t.height ≤ h)
+
+-- a block is one of these
+abbrev pub is_listed : Hash → List Hash → Bool
+is_listed block [] = false
+is_listed block (x ∷ xs) = same block x || is_listed block xs
+
+-- each fetched block on which they differ is one of these
+abbrev pub AreDisputesIn : Table → Tables → List Hash → Type 0
+AreDisputesIn extracts tables listed = (block : Hash) → IsSome (extracts block) → IsAt tables block Differ → is_listed block listed ≡ true
+
+-- a question for a filter that is to be tested is for the lowest such; nothing at all is asked only where there is none
+abbrev pub IsTrying : Table → Tables → Told → ℕ → Chain → ℕ → List Hash → Wish → Type 0
+IsTrying extracts tables told p own common listed Nothing = IsNextTrial extracts tables told p own common listed None
+IsTrying extracts tables told p own common listed (Claims span) = Unit {0}
+IsTrying extracts tables told p own common listed (Filters span) = Unit {0}
+IsTrying extracts tables told p own common listed (Block hash) = Unit {0}
+IsTrying extracts tables told p own common listed (Test trial) = IsNextTrial extracts tables told p own common listed (Some trial)

@@ -1,7 +1,9 @@
 //! What a client keeps of filters and of the blocks that it fetched, what is open to its peers, and what one of them is to be asked for next.
 #![tactic(auto)]
 
+mod aims;
 mod cursors;
+mod disputes;
 mod ends;
 mod extracts;
 mod first;
@@ -18,7 +20,9 @@ mod tests;
 mod want;
 mod wishes;
 
+pub use aims::Aims;
 pub use cursors::{Cursors, PLACES};
+pub use disputes::Disputes;
 pub use extracts::Extracts;
 pub use first::First;
 pub use judged::Judged;

@@ -1,6 +1,6 @@
 //! What the outputs of fetched blocks pay.
-ghost use Rattle.std.specs.Prelude.{◌≡◌, ℕ, List, None, IfOk, OnOk, OnErr};
-ghost use Rattle.cf_seek.specs.Outputs.{lacks_kept, outputs_in, put_outputs};
+ghost use Rattle.std.specs.Prelude.{◌≡◌, ℕ, List, None, is_some, IfOk, OnOk, OnErr};
+ghost use Rattle.cf_seek.specs.Outputs.{lacks_kept, outputs_in, put_outputs, set_outputs};
 
 use cf_bytes::{Hash32, NoMemory};
 use cf_filter::{Items, lacks};
@@ -24,11 +24,30 @@ impl Outputs {
         }
     }
 
-    /// Keeps the items of a block's outputs under its hash, in the place of what stands. Where no memory is found nothing has
-    /// changed.
-    #[tactic(auto, unfolding(crate::specs::Outputs::outputs_in))]
+    /// Keeps the items of a block's outputs under its hash, where none stand. Where no memory is found nothing has changed.
     pub fn put(&mut self, hash: Hash32, items: Items) -> Result<(), NoMemory>
         ensures ok { OnOk result ((at : List ℕ) → outputs_in self.new at ≡ put_outputs hash.0 items (outputs_in self.old) at) }
+        ensures err { OnErr result ((at : List ℕ) → outputs_in self.new at ≡ outputs_in self.old at) }
+    {
+        if self.has(&hash) {
+            return Ok(());
+        }
+        self.insert(hash, items)?;
+        Ok(())
+    }
+
+    // Whether the items of the block with this hash are there.
+    #[tactic(auto, unfolding(crate::specs::Outputs::outputs_in))]
+    fn has(&self, hash: &Hash32) -> bool
+        ensures { result ≡ is_some (outputs_in self.now hash.now.0) }
+    {
+        self.map.contains_key(hash)
+    }
+
+    // Keeps items, in the place of those that stand.
+    #[tactic(auto, unfolding(crate::specs::Outputs::outputs_in))]
+    fn insert(&mut self, hash: Hash32, items: Items) -> Result<(), NoMemory>
+        ensures ok { OnOk result ((at : List ℕ) → outputs_in self.new at ≡ set_outputs hash.0 items (outputs_in self.old) at) }
         ensures err { OnErr result ((at : List ℕ) → outputs_in self.new at ≡ outputs_in self.old at) }
     {
         self.map.insert(hash, items)?;
