@@ -1,6 +1,6 @@
 -- What is kept of filters that were tested, and of what fetched blocks pay, says what is to be tested and what was; and how it goes on.
 use Rattle.std.proofs.Common.{◌≡◌, ◌⊎◌, inl, inr, ℕ, ◌≤◌, List, [], ◌∷◌, length, Option, Some, None, Bool, true, false, ◌&&◌, ◌==◌, if◌then◌else◌, refl, sym, ◌∙◌, ap, subst, arith}
-use Rattle.std.specs.Prelude.{IsSome, option_map}
+use Rattle.std.specs.Prelude.{IsSome, option_map, unwrap_or}
 use Rattle.std.proofs.lemmas.Bool.{both_ways, and_from, and_parts, false≢true}
 use Rattle.std.proofs.lemmas.List.{append_cancel_right}
 use Rattle.cf_bytes.specs.declared.hash.Hash32.{Hash32}
@@ -31,17 +31,18 @@ use Rattle.cf_scan.specs.declared.extracts.TxExtract.{TxExtract}
 use Rattle.cf_seek.specs.declared.testing.Trial.{Trial}
 use Rattle.cf_seek.specs.Outputs.{Paid, lacks_kept, put_outputs}
 use Rattle.cf_seek.specs.Tables.{Table}
-use Rattle.cf_seek.specs.Testing.{Told, IsToTest, IsTrial, IsNextTrial, found_too, with_test}
+use Rattle.cf_seek.specs.Testing.{AreDisputesIn, Told, IsToTest, IsTrial, IsNextTrial, found_too}
+use Rattle.cf_seek.specs.Trials.{with_found}
 use Rattle.cf_seek.proofs.Along.{common_low}
+use Rattle.cf_seek.proofs.Disputed.{in_among}
 use Rattle.cf_seek.proofs.Stops.{back_ends, found_low}
 use Rattle.cf_sync.specs.Blame.{IsTestedThrough}
 use Rattle.cf_sync.specs.Fetching.{counted_part, IsAbove, IsConnected, IsDisputed, IsFetched, IsFetchedHash, IsNoPiece, IsOmission, IsSameFetched, IsTest, IsTested, IsTestedWith, IsTestOf, IsTestWanted, HoldsFetched, Rightly, test_after}
-use Rattle.cf_sync.specs.Kept.{AreListed, HoldsClaims, HoldsOutputs, HoldsTests}
+use Rattle.cf_sync.specs.Kept.{AreClean, AreListed, HoldsClaims, HoldsOutputs, HoldsTests}
 use Rattle.cf_sync.proofs.Blamed.{tested_stays}
 use Rattle.cf_sync.proofs.Grows.{fetched_before, fetched_stays}
 use Rattle.cf_sync.proofs.Kept.{by_claims, claims_by, disputed_by, some_is}
 use Rattle.cf_sync.proofs.Bodies.{one_body}
-use Rattle.cf_sync.proofs.Once.{newly, open_unfetched}
 use Rattle.cf_sync.proofs.Plans.{only_pieces_test}
 use Rattle.cf_sync.proofs.SameFetched.{same_fetched}
 
@@ -87,6 +88,11 @@ has_extract watch l extracts f block got = by (extracts block) refl where
 some_part : (block : Hash) (part : Chain) → tip_hash part ≡ block → IsAbove block → 1 ≤ length part
 some_part block [] tip above = absurd (above (sym tip))
 some_part block (h ∷ below) tip above = omega arith
+
+-- the disputed ones among the fetched blocks are listed
+pub listed_by : (watch : List (List ℕ)) (l : Log) (extracts : Table) (tables : Tables) (listed : List Hash) → HoldsFetched watch l extracts → HoldsClaims l tables
+    → AreDisputesIn extracts tables listed → AreListed l listed
+listed_by watch l extracts tables listed f h are block got disputed = in_among block listed (are block (has_extract watch l extracts f block got) (differ_by l tables h block disputed))
 
 -- where none of the listed blocks is to be tested, what p claims of the disputed ones was
 pub tested_through : (watch : List (List ℕ)) (l : Log) (extracts : Table) (tables : Tables) (told : Told) (listed : List Hash) (chain : Chain) (p : ℕ)
@@ -153,67 +159,48 @@ tested_fetched (Sent q bytes ∷ l) job t = later (Sent q bytes) l job.block.0 (
 tested_fetched (SendFailed q ∷ l) job t = later (SendFailed q) l job.block.0 (tested_fetched l job t)
 tested_fetched (Closed q ∷ l) job t = later (Closed q) l job.block.0 (tested_fetched l job t)
 
--- a body that is fetched now, of a block that was fetched, was fetched before
-body_before : (e : Event) (l : Log) → Rightly l → (body : Block) → IsFetched (e ∷ l) body → IsFetchedHash l (block_hash_of body.header) → IsFetched l body
-body_before e l right body got before = elim (newly e l body got) [
-  | inl old ↦ old
-  | inr new ↦ absurd (open_unfetched l right new.0 (block_hash_of body.header) new.1.0 before)
-]
-
 omission_on : (e : Event) (l : Log) (block : Hash) (filter : List ℕ) → IsOmission l block filter → IsOmission (e ∷ l) block filter
 omission_on e l block filter o = record { body = o.body; fetched = fetched_stays e l o.body o.fetched; of_block = o.of_block; lacking = o.lacking }
 
 abbrev with_on : (e : Event) (l : Log) (block : Hash) (hash : Hash32) → IsTestedWith l block hash → IsTestedWith (e ∷ l) block hash
 with_on e l block hash t = record { filter = t.filter; tested = tested_stays e l t.filter t.tested; of_block = t.of_block; this = t.this }
 
--- an omission of a block that was fetched before was one before
-omission_before : (e : Event) (l : Log) → Rightly l → (block : Hash) (filter : List ℕ) → IsFetchedHash l block → IsOmission (e ∷ l) block filter → IsOmission l block filter
-omission_before e l right block filter before o = record {
-  body = o.body;
-  fetched = body_before e l right o.body o.fetched (subst (λ (x : Hash). IsFetchedHash l x) (sym o.of_block) before);
-  of_block = o.of_block;
-  lacking = o.lacking;
-}
+-- no filter is tested with an entry
+abbrev pub TestsNone : Event → Log → Type 0
+TestsNone e l = (job : Job) → IsTested (e ∷ l) job → IsTested l job
 
--- where no filter is tested with an entry, what is kept stays
-pub tests_stay : (e : Event) (l : Log) (told : Told) → Rightly l → ((job : Job) → IsTested (e ∷ l) job → IsTested l job) → HoldsTests l told → HoldsTests (e ∷ l) told
-tests_stay e l told right none k = record {
+with_before : (e : Event) (l : Log) → TestsNone e l → (block : Hash) (hash : Hash32) → IsTestedWith (e ∷ l) block hash → IsTestedWith l block hash
+with_before e l none block hash t = record { filter = t.filter; tested = none t.filter t.tested; of_block = t.of_block; this = t.this }
+
+-- then what is kept stays
+pub tests_stay : (e : Event) (l : Log) (told : Told) → TestsNone e l → HoldsTests l told → HoldsTests (e ∷ l) told
+tests_stay e l told none k = record {
   lacking = λ block hash is. let w = k.lacking block hash is in (with_on e l block hash w.0, omission_on e l block w.0.filter.filter w.1);
   holding = λ block hash is. with_on e l block hash (k.holding block hash is);
-  clean = λ block hash is t o.
-      let was : IsTestedWith l block hash = before block hash t in
-      k.clean block hash is was (omission_before e l right block t.filter.filter (subst (λ (x : Hash). IsFetchedHash l x) t.of_block (tested_fetched l t.filter (none t.filter t.tested))) o);
-  complete = λ block hash is t. k.complete block hash is (before block hash t);
-} where
-  before : (block : Hash) (hash : Hash32) → IsTestedWith (e ∷ l) block hash → IsTestedWith l block hash
-  before block hash t = record { filter = t.filter; tested = none t.filter t.tested; of_block = t.of_block; this = t.this }
+  complete = λ block hash is t. k.complete block hash is (with_before e l none block hash t);
+}
 
--- what isn't a piece tests nothing, and a piece of a peer whose question was no test doesn't
-pub no_piece_tests : (e : Event) (l : Log) (told : Told) → Rightly l → IsNoPiece e → HoldsTests l told → HoldsTests (e ∷ l) told
-no_piece_tests e l told right none k = tests_stay e l told right (λ job t. only_pieces_test e l job none t) k
+pub clean_stays : (e : Event) (l : Log) (paid : Paid) (told : Told) → TestsNone e l → AreClean l paid told → AreClean (e ∷ l) paid told
+clean_stays e l paid told none clean block hash is t = clean block hash is (with_before e l none block hash t)
+
+-- so it is with what isn't a piece
+pub no_piece_tests : (e : Event) (l : Log) → IsNoPiece e → TestsNone e l
+no_piece_tests e l none job t = only_pieces_test e l job none t
 
 -- ---- one filter more is tested
-
-none_by : (o : Option Bool) → (o ≡ Some true → ⊥) → (o ≡ Some false) ⊎ (o ≡ None)
-none_by None off = inr refl
-none_by (Some true) off = absurd (off refl)
-none_by (Some false) off = inl refl
 
 too_true : (o : Option Bool) (v : Bool) → found_too o v ≡ true → (o ≡ Some true) ⊎ (v ≡ true)
 too_true None v e = inr e
 too_true (Some true) v e = inl refl
 too_true (Some false) v e = inr e
 
-too_false : (o : Option Bool) (v : Bool) → found_too o v ≡ false → (o ≡ Some true → ⊥) × (v ≡ false)
-too_false None v e = (λ no. cc, e)
+too_false : (o : Option Bool) (v : Bool) → found_too o v ≡ false → ((o ≡ Some false) ⊎ (o ≡ None)) × (v ≡ false)
+too_false None v e = (inr refl, e)
 too_false (Some true) v e = absurd (false≢true (sym e))
-too_false (Some false) v e = (λ no. cc, e)
+too_false (Some false) v e = (inl refl, e)
 
-lacks_alike : (a b : Hash) (x y : Block) (i j : Job) → a ≡ b → x ≡ y → i ≡ j → lacks b (output_items_of y) j.filter ≡ true → lacks a (output_items_of x) i.filter ≡ true
-lacks_alike a b x y i j e same one h = (λ k. lacks (e k) (output_items_of (same k)) ((one k).filter)) ∙ h
-
-module _ (q : PeerNo) (piece : List ℕ) (l : Log) (told : Told) (paid : Paid) (job : Job) (right : Rightly l) (k : HoldsTests l told) (outputs : HoldsOutputs l paid) (test : IsTest l q.0 job.block.0)
-    (given_is : given (counted_part (Took (Got q piece) ∷ l) q.0) ≡ job ∷ given (counted_part l q.0)) where
+module _ (q : PeerNo) (piece : List ℕ) (l : Log) (told : Told) (paid : Paid) (job : Job) (k : HoldsTests l told) (clean : AreClean l paid told) (outputs : HoldsOutputs l paid)
+    (test : IsTest l q.0 job.block.0) (given_is : given (counted_part (Took (Got q piece) ∷ l) q.0) ≡ job ∷ given (counted_part l q.0)) where
   abbrev e : Event
   e = Took (Got q piece)
 
@@ -265,21 +252,15 @@ module _ (q : PeerNo) (piece : List ℕ) (l : Log) (told : Told) (paid : Paid) (
         (same_from (filter_hash_of job.filter) hash.0 (sym (ap (λ (j : Job). filter_hash_of j.filter) this) ∙ t.this))))
   ]
 
-  clean_old : (block : Hash) (hash : Hash32) → (told block hash.0 ≡ Some true → ⊥) → (t : IsTestedWith (e ∷ l) block hash) → IsTested l t.filter → IsOmission (e ∷ l) block t.filter.filter → ⊥
-  clean_old block hash off t old o = elim (none_by (told block hash.0) off) [
-    | inl is ↦ k.clean block hash is (was block hash t old) (omission_before e l right block t.filter.filter (subst (λ (x : Hash). IsFetchedHash l x) t.of_block (tested_fetched l t.filter old)) o)
-    | inr none ↦ k.complete block hash none (was block hash t old)
-  ]
+  clean_old : (block : Hash) (hash : Hash32) → (told block hash.0 ≡ Some false) ⊎ (told block hash.0 ≡ None) → (t : IsTestedWith (e ∷ l) block hash) → IsTested l t.filter
+      → lacks_kept block t.filter.filter (paid block) ≡ false
+  clean_old block hash (inl is) t old = clean block hash is (was block hash t old)
+  clean_old block hash (inr none) t old = absurd (k.complete block hash none (was block hash t old))
 
-  clean_new : (block : Hash) (hash : Hash32) → found ≡ false → (t : IsTestedWith (e ∷ l) block hash) → t.filter ≡ job → IsOmission (e ∷ l) block t.filter.filter → ⊥
-  clean_new block hash off t this o =
+  clean_new : (block : Hash) (hash : Hash32) → found ≡ false → (t : IsTestedWith (e ∷ l) block hash) → t.filter ≡ job → lacks_kept block t.filter.filter (paid block) ≡ false
+  clean_new block hash off t this =
       let here : job.block.0 ≡ block = sym (ap (λ (j : Job). j.block.0) this) ∙ t.of_block in
-      let before : IsFetchedHash l block = subst (λ (x : Hash). IsFetchedHash l x) here (test_fetched l q.0 job.block.0 test) in
-      let old = omission_before e l right block t.filter.filter before o in
-      let same_body : old.body ≡ paid_is.0 = one_body l right old.body paid_is.0 old.fetched paid_is.1 (old.of_block ∙ sym here ∙ sym paid_is.2) in
-      let lack : lacks job.block.0 (output_items_of paid_is.0) job.filter ≡ true =
-      lacks_alike job.block.0 block paid_is.0 old.body job t.filter here (sym same_body) (sym this) old.lacking in
-      both_ways found off (paid_is.3 ∙ lack)
+      subst (λ (b : Hash). lacks_kept b t.filter.filter (paid b) ≡ false) here (ap (λ (j : Job). lacks_kept job.block.0 j.filter (paid job.block.0)) this ∙ off)
 
   lacking_of : (block : Hash) (hash : Hash32) (s : Bool) → hit block hash ≡ s → (if s then Some (found_too (told block hash.0) found) else told block hash.0) ≡ Some true
       → (t : IsTestedWith (e ∷ l) block hash) × IsOmission (e ∷ l) block t.filter.filter
@@ -304,32 +285,35 @@ module _ (q : PeerNo) (piece : List ℕ) (l : Log) (told : Told) (paid : Paid) (
   holding_of block hash false off is = with_on e l block hash (k.holding block hash is)
 
   clean_of : (block : Hash) (hash : Hash32) (s : Bool) → hit block hash ≡ s → (if s then Some (found_too (told block hash.0) found) else told block hash.0) ≡ Some false
-      → (t : IsTestedWith (e ∷ l) block hash) → IsOmission (e ∷ l) block t.filter.filter → ⊥
-  clean_of block hash true on is t o =
+      → (t : IsTestedWith (e ∷ l) block hash) → lacks_kept block t.filter.filter (paid block) ≡ false
+  clean_of block hash true on is t =
       let f = too_false (told block hash.0) found (let f : found_too (told block hash.0) found ≡ false = cc in f) in
       elim (only t.filter t.tested) [
-        | inl old ↦ clean_old block hash f.0 t old o
-        | inr this ↦ clean_new block hash f.1 t this o
+        | inl old ↦ clean_old block hash f.0 t old
+        | inr this ↦ clean_new block hash f.1 t this
       ]
-  clean_of block hash false off is t o = clean_old block hash (λ no. (let both : Some true ≡ Some false = sym no ∙ is in cc)) t (was_else block hash off t) o
+  clean_of block hash false off is t = clean_old block hash (inl is) t (was_else block hash off t)
 
   complete_of : (block : Hash) (hash : Hash32) (s : Bool) → hit block hash ≡ s → (if s then Some (found_too (told block hash.0) found) else told block hash.0) ≡ None → IsTestedWith (e ∷ l) block hash → ⊥
   complete_of block hash true on is t = cc
   complete_of block hash false off is t = k.complete block hash is (was block hash t (was_else block hash off t))
 
   -- with what was found of one filter that came, what is kept stays right
-  test_kept : HoldsTests (Took (Got q piece) ∷ l) (with_test job.block.0 (filter_hash_of job.filter) (lacks_kept job.block.0 job.filter (paid job.block.0)) told)
-  test_kept = record {
+  tests_now : HoldsTests (Took (Got q piece) ∷ l) (with_found paid job told)
+  tests_now = record {
     lacking = λ block hash is. lacking_of block hash (hit block hash) refl is;
     holding = λ block hash is. holding_of block hash (hit block hash) refl is;
-    clean = λ block hash is t o. clean_of block hash (hit block hash) refl is t o;
     complete = λ block hash is t. complete_of block hash (hit block hash) refl is t;
   }
 
-pub one_tested : (q : PeerNo) (piece : List ℕ) (l : Log) (told : Told) (paid : Paid) (job : Job) → Rightly l → HoldsTests l told → HoldsOutputs l paid → IsTest l q.0 job.block.0
+  clean_now : AreClean (Took (Got q piece) ∷ l) paid (with_found paid job told)
+  clean_now block hash is t = clean_of block hash (hit block hash) refl is t
+
+pub one_tested : (q : PeerNo) (piece : List ℕ) (l : Log) (told : Told) (paid : Paid) (job : Job) → HoldsTests l told → AreClean l paid told → HoldsOutputs l paid → IsTest l q.0 job.block.0
     → given (counted_part (Took (Got q piece) ∷ l) q.0) ≡ job ∷ given (counted_part l q.0)
-    → HoldsTests (Took (Got q piece) ∷ l) (with_test job.block.0 (filter_hash_of job.filter) (lacks_kept job.block.0 job.filter (paid job.block.0)) told)
-one_tested q piece l told paid job right k outputs test given_is = test_kept q piece l told paid job right k outputs test given_is
+    → HoldsTests (Took (Got q piece) ∷ l) (with_found paid job told) × AreClean (Took (Got q piece) ∷ l) paid (with_found paid job told)
+one_tested q piece l told paid job k clean outputs test given_is =
+    (tests_now q piece l told paid job k clean outputs test given_is, clean_now q piece l told paid job k clean outputs test given_is)
 
 -- ---- what fetched blocks pay
 
@@ -342,16 +326,20 @@ outputs_stay e l paid none h = record {
 pub outputs_grow : (p : PeerNo) (piece : List ℕ) (l : Log) (paid : Paid) (b : Block) → fetched (counted_part (Took (Got p piece) ∷ l) p.0) ≡ b ∷ fetched (counted_part l p.0) → HoldsOutputs l paid
     → HoldsOutputs (Took (Got p piece) ∷ l) (put_outputs (block_hash_of b.header) (output_items_of b) paid)
 outputs_grow p piece l paid b brings h = record {
-  sound = λ hash items is. sound_of hash items (same (block_hash_of b.header) hash) refl is;
+  sound = λ hash items is. sound_of hash items (same (block_hash_of b.header) hash) (paid hash) refl refl is;
   complete = λ hash is got. complete_of hash (same (block_hash_of b.header) hash) refl is got;
 } where
-  sound_of : (hash : Hash) (items : List (List ℕ)) (s : Bool) → same (block_hash_of b.header) hash ≡ s → (if s then Some (output_items_of b) else paid hash) ≡ Some items
+  sound_of : (hash : Hash) (items : List (List ℕ)) (s : Bool) (o : Option (List (List ℕ))) → same (block_hash_of b.header) hash ≡ s → paid hash ≡ o
+      → (if s then Some (unwrap_or o (output_items_of b)) else o) ≡ Some items
       → (c : Block) × IsFetched (Took (Got p piece) ∷ l) c × (block_hash_of c.header ≡ hash) × (items ≡ output_items_of c)
-  sound_of hash items true on is =
+  sound_of hash items true None on none is =
       (b, (p.0, subst (λ (bs : List Block). IsIn b bs) (sym brings) (inl refl)), same_true (block_hash_of b.header) hash on, (let e : items ≡ output_items_of b = cc in e))
-  sound_of hash items false off is = (let w = h.sound hash items is in (w.0, fetched_stays (Took (Got p piece)) l w.0 w.1, w.2, w.3))
+  sound_of hash items true (Some old) on there is =
+      let w = h.sound hash items (there ∙ is) in (w.0, fetched_stays (Took (Got p piece)) l w.0 w.1, w.2, w.3)
+  sound_of hash items false o off there is = (let w = h.sound hash items (there ∙ is) in (w.0, fetched_stays (Took (Got p piece)) l w.0 w.1, w.2, w.3))
 
-  complete_of : (hash : Hash) (s : Bool) → same (block_hash_of b.header) hash ≡ s → (if s then Some (output_items_of b) else paid hash) ≡ None → IsFetchedHash (Took (Got p piece) ∷ l) hash → ⊥
+  complete_of : (hash : Hash) (s : Bool) → same (block_hash_of b.header) hash ≡ s → (if s then Some (unwrap_or (paid hash) (output_items_of b)) else paid hash) ≡ None
+      → IsFetchedHash (Took (Got p piece) ∷ l) hash → ⊥
   complete_of hash true on is got = cc
   complete_of hash false off is got = elim (fetched_before (Took (Got p piece)) l got.0 got.1) [
     | inl old ↦ h.complete hash is (got.0, old, got.2)
@@ -360,3 +348,46 @@ outputs_grow p piece l paid b brings h = record {
       | inr old ↦ h.complete hash is (got.0, (p.0, old), got.2)
     ]
   ]
+
+-- ---- items of more blocks
+
+-- a filter that was tested is of a block that was fetched before the entry
+tested_then : (e : Event) (l : Log) (job : Job) → IsTested (e ∷ l) job → IsFetchedHash l job.block.0
+tested_then (Took (Got q piece)) l job (inl new) = test_fetched l q.0 job.block.0 new.0
+tested_then (Took (Got q piece)) l job (inr old) = tested_fetched l job old
+tested_then (Took (Gone q)) l job t = tested_fetched l job t
+tested_then (Took (Tick s)) l job t = tested_fetched l job t
+tested_then (Took Ended) l job t = tested_fetched l job t
+tested_then (Dialled q name) l job t = tested_fetched l job t
+tested_then (NotDialled q name) l job t = tested_fetched l job t
+tested_then (Sent q bytes) l job t = tested_fetched l job t
+tested_then (SendFailed q) l job t = tested_fetched l job t
+tested_then (Closed q) l job t = tested_fetched l job t
+
+-- where the items of fetched blocks stay, what is told stays right
+pub clean_on : (e : Event) (l : Log) (paid now : Paid) (told : Told) → HoldsOutputs l paid → ((hash : Hash) → IsSome (paid hash) → now hash ≡ paid hash)
+    → AreClean (e ∷ l) paid told → AreClean (e ∷ l) now told
+clean_on e l paid now told outputs same1 clean block hash is t =
+    let got : IsFetchedHash l block = subst (λ (x : Hash). IsFetchedHash l x) t.of_block (tested_then e l t.filter t.tested) in
+    ap (lacks_kept block t.filter.filter) (same1 block (has_items (paid block) refl got)) ∙ clean block hash is t where
+      has_items : (o : Option (List (List ℕ))) → paid block ≡ o → IsFetchedHash l block → IsSome (paid block)
+      has_items None none got = absurd (outputs.complete block none got)
+      has_items (Some items) there got = subst IsSome (sym there) refl
+
+-- ---- what is told of a filter that was tested
+
+lacks_alike : (a b : Hash) (x y : Block) → a ≡ b → x ≡ y → (filter : List ℕ) → lacks b (output_items_of y) filter ≡ true → lacks a (output_items_of x) filter ≡ true
+lacks_alike a b x y e one filter h = (λ k. lacks (e k) (output_items_of (one k)) filter) ∙ h
+
+-- where it is told that it lacks nothing, it is no omission
+pub holds_all : (l : Log) (paid : Paid) (told : Told) → Rightly l → HoldsOutputs l paid → AreClean l paid told
+    → (block : Hash) (hash : Hash32) → told block hash.0 ≡ Some false → (t : IsTestedWith l block hash) → IsOmission l block t.filter.filter → ⊥
+holds_all l paid told right outputs clean block hash is t o = by (paid block) refl where
+  by : (found : Option (List (List ℕ))) → paid block ≡ found → ⊥
+  by None none = outputs.complete block none (o.body, o.fetched, o.of_block)
+  by (Some items) there =
+      let w = outputs.sound block items there in
+      let one : w.0 ≡ o.body = one_body l right w.0 o.body w.1 o.fetched (w.2 ∙ sym o.of_block) in
+      let off : lacks block (output_items_of w.0) t.filter.filter ≡ false =
+      ap (λ (xs : List (List ℕ)). lacks block xs t.filter.filter) (sym w.3) ∙ ap (lacks_kept block t.filter.filter) (sym there) ∙ clean block hash is t in
+      both_ways (lacks block (output_items_of w.0) t.filter.filter) off (lacks_alike block block w.0 o.body refl one t.filter.filter o.lacking)

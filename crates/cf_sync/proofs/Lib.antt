@@ -31,10 +31,12 @@ pub mod Once
 pub mod KeptOpens
 pub mod Bodies
 pub mod KeptTests
+pub mod KeptAims
 pub mod Written
 pub mod TwoPeers
 pub mod Cleared
 pub mod Dispute
 pub mod Quieted
 pub mod Idle
+pub mod Deaf
 pub mod Plans
