@@ -12,10 +12,11 @@ use Rattle.cf_peer.specs.declared.peer.Peer.{Peer}
 use Rattle.cf_peer.specs.declared.peer.Reply.{Reply}
 use Rattle.cf_peer.specs.declared.peer.Reply.TheVariants.{Nothing as NoReply, Send, Close}
 use Rattle.cf_peer.specs.Trail.{Trail, Part, Said, part_after, met, owed, reply_to}
-use Rattle.cf_peer.specs.Asking.{request, verdict, counted, fetched, fetched_by, given, given_by}
+use Rattle.cf_peer.specs.Asking.{NothingOpen, request, verdict, counted, fetched, fetched_by, given, given_by}
 use Rattle.cf_peer.specs.Hearing.{IsReply, Faulty}
 use Rattle.cf_peer.specs.Peer.{Holds, Hears}
 use Rattle.cf_seek.specs.Tables.{IsSameTable, with_blocks}
+use Rattle.cf_seek.specs.Trials.{TrialsGo}
 use Rattle.cf_match.specs.declared.job.Job.{Job}
 use Rattle.cf_match.specs.Verdicts.{AreSameVerdicts, with_verdicts}
 use Rattle.cf_headers.specs.Chain.{Hash, IsIn}
@@ -23,7 +24,7 @@ use Rattle.cf_seek.specs.Opens.{IsSameElse}
 use Rattle.cf_hear.specs.Seen.{Seen, IsSameSeen, Follows}
 
 -- p's chain and claims are now those of this trail, and what is open to it; the extracts of these blocks came, the last of them first, and the verdicts on
--- these filters, the first of them first
+-- these filters, the first of them first; and so with what is kept of tests
 pub record Gains (before after : Seen) (p : PeerNo) (t : Trail) (news : List Block) (jobs : List Job) : Type 0 where
   pub watch : after.watch ≡ before.watch
   pub follows : Follows after p.0 t
@@ -32,6 +33,7 @@ pub record Gains (before after : Seen) (p : PeerNo) (t : Trail) (news : List Blo
   pub table : IsSameTable after.table (with_blocks before.watch news before.table)
   pub verdicts : AreSameVerdicts after.verdicts (with_verdicts before.watch jobs before.verdicts)
   pub opens : IsSameElse before.opens after.opens p.0
+  pub trials : TrialsGo before.trials after.trials p.0 news jobs
 
 -- what one message does to the peer and to what was seen: the reply that is owed to it, or the cause that it gives
 abbrev pub HearsSeen : Seen → Seen → PeerNo → Peer → Msg → Trail → Reply → Type 0
@@ -76,6 +78,10 @@ pub record AreReplies (replies : List Msg) (t : Trail) : Type 0 where
 abbrev pub Brings : Trail → Trail → List Block → Type 0
 Brings start end news = fetched (counted end) ≡ news ++ fetched (counted start)
 
+-- what the filters were that a trail was given since another, in their order
+abbrev pub Gives : Trail → Trail → List Job → Type 0
+Gives start end jobs = given (counted end) ≡ jobs ++ given (counted start)
+
 -- what the filters were that a trail was given since another
 pub record IsGivenBetween (start end : Trail) (jobs : List Job) : Type 0 where
   pub new : (job : Job) → IsIn job jobs → IsIn job (given (counted end))
@@ -94,6 +100,7 @@ pub record HeardWhole (p : PeerNo) (new : Peer) (seen now : Seen) (before after 
   pub brings : Brings start.trail end.trail news
   pub jobs : List Job
   pub gives : IsGivenBetween start.trail end.trail jobs
+  pub gave : Gives start.trail end.trail jobs
   pub gains : Gains seen now p end.trail news jobs
 
 -- what came before a fault: p's chain and claims don't matter any more, nor what is open to it
@@ -104,6 +111,7 @@ pub record Retains (before after : Seen) (p : PeerNo) (news : List Block) (jobs 
   pub table : IsSameTable after.table (with_blocks before.watch news before.table)
   pub verdicts : AreSameVerdicts after.verdicts (with_verdicts before.watch jobs before.verdicts)
   pub opens : IsSameElse before.opens after.opens p.0
+  pub trials : TrialsGo before.trials after.trials p.0 news jobs
 
 pub record HeardFault (p : PeerNo) (seen now : Seen) (before after : List Act) (start end : Part) (cause : Cause) : Type 0 where
   pub replies : List Msg
@@ -115,6 +123,7 @@ pub record HeardFault (p : PeerNo) (seen now : Seen) (before after : List Act) (
   pub brings : Brings start.trail end.trail news
   pub jobs : List Job
   pub gives : IsGivenBetween start.trail end.trail jobs
+  pub gave : Gives start.trail end.trail jobs
   pub kept : Retains seen now p news jobs
 
 -- what a piece of a peer's bytes does: all of its messages were taken, or those before the first frame that deserves a cause
@@ -136,4 +145,6 @@ pub record Midway (p : PeerNo) (peer : Peer) (bytes : List ℕ) (seen now : Seen
   pub brings : Brings start.trail so_far news
   pub jobs : List Job
   pub gives : IsGivenBetween start.trail so_far jobs
+  pub gave : Gives start.trail so_far jobs
   pub gains : Gains seen now p so_far news jobs
+  pub idle : ((news ≡ []) × (jobs ≡ [])) ⊎ (request so_far ≡ NothingOpen)

@@ -1,5 +1,5 @@
 //! How a peer's bytes are taken.
-ghost use Rattle.std.specs.Prelude.{◌≡◌, ◌≢◌, ◌<◌, ◌≤◌, ◌++◌, ℕ, List, [], true, Some, None, Ok, IsSome, IfOk, IfSome, IfNone, OnOk, length, false};
+ghost use Rattle.std.specs.Prelude.{◌≡◌, ◌≢◌, ◌<◌, ◌≤◌, ◌++◌, ℕ, List, [], true, Some, None, Ok, IsSome, IfOk, IfSome, IfNone, OnOk, length, map, false};
 ghost use Rattle.std.specs.List.{All};
 ghost use Rattle.cf_frame.specs.Reading.{front_of};
 ghost use Rattle.cf_msg.specs.declared.msg.Msg.TheVariants.{Headers, Block as BlockMessage, Cfheaders, Cfilter};
@@ -7,11 +7,13 @@ ghost use Rattle.cf_lent.specs.View.{msg_of};
 ghost use Rattle.cf_peer.specs.Acts.{IsDoable};
 ghost use Rattle.cf_peer.specs.Trail.{Trail, Part, heard_part};
 ghost use Rattle.cf_peer.specs.Peer.{Holds, calm, is_idle_peer, IsReplySendable, IsRight};
-ghost use Rattle.cf_match.specs.Verdicts.{AreSameVerdicts};
+ghost use Rattle.cf_match.specs.Verdicts.{AreSameVerdicts, verdict_of, with_verdicts};
 ghost use Rattle.cf_headers.specs.Store.{Stays};
 ghost use Rattle.cf_seek.specs.Opens.{Closes, IsSameElse, IsSameOpens};
 ghost use Rattle.cf_seek.specs.Tables.{IsSameTable};
-ghost use Rattle.cf_tracker.specs.Tracker.{chains_of, claims_of, opens_of, table_of, verdicts_of, watch_of};
+ghost use Rattle.cf_seek.specs.Testing.{IsSameTold};
+ghost use Rattle.cf_seek.specs.Trials.{IsSameTrials, tested_if};
+ghost use Rattle.cf_tracker.specs.Tracker.{aims_of, chains_of, claims_of, opens_of, paid_of, table_of, tests_of, trials_of, verdicts_of, watch_of};
 ghost use Rattle.cf_seek.specs.Wanting.{IsSameTables};
 ghost use Rattle.cf_hear.specs.Seen.{Follows, seen_of};
 ghost use Rattle.cf_hear.specs.Hearing.{HearsSeen, HearsNext, HeardPiece, goes_on};
@@ -23,7 +25,7 @@ use cf_bytes::{Cut, Hash32, NoMemory, PeerNo, Refused};
 use cf_frame::Framer;
 use cf_headers::HeaderStore;
 use cf_lent::View;
-use cf_match::Matcher;
+use cf_match::{Job, Matcher, Verdict};
 use cf_peer::{Act, Cause, Coming, Heard, Peer, Reply, cause_of, next_coming};
 use cf_tracker::Tracker;
 use cf_view::{BlockView, check_view_by, view_txids};
@@ -138,13 +140,66 @@ fn let_go<H: HeaderStore>(tracker: &mut Tracker<H>, peer: &Peer, p: PeerNo)
     ensures claims { IsSameTables (claims_of tracker.old) (claims_of tracker.new) }
     ensures verdicts { AreSameVerdicts (verdicts_of tracker.new) (verdicts_of tracker.old) }
     ensures watch { watch_of tracker.new ≡ watch_of tracker.old }
+    ensures trials { IsSameTrials (trials_of tracker.old) (trials_of tracker.new) }
 {
     if peer.is_idle() {
         tracker.answered(p);
     }
 }
 
-// Takes a filter that a tracked peer sent. The last of a batch has all of them matched.
+// Tests what a peer gave, where it was asked for that so that it is tested: then it is one filter.
+fn test_given<H: HeaderStore>(
+    tracker: &mut Tracker<H>,
+    p: PeerNo,
+    jobs: &[Job],
+) -> Result<(), NoMemory>
+    ensures told { OnOk result (IsSameTold (tests_of tracker.new)
+        (tested_if (aims_of tracker.old p.0) (paid_of tracker.old) jobs.now (tests_of tracker.old))) }
+    ensures paid { (hash : List ℕ) → paid_of tracker.new hash ≡ paid_of tracker.old hash }
+    ensures aims { (q : ℕ) → aims_of tracker.new q ≡ aims_of tracker.old q }
+    ensures opens { IsSameOpens (opens_of tracker.old) (opens_of tracker.new) }
+    ensures chains { Stays (chains_of tracker.old) (chains_of tracker.new) }
+    ensures table { IsSameTable (table_of tracker.old) (table_of tracker.new) }
+    ensures claims { IsSameTables (claims_of tracker.old) (claims_of tracker.new) }
+    ensures verdicts { AreSameVerdicts (verdicts_of tracker.new) (verdicts_of tracker.old) }
+    ensures watch { watch_of tracker.new ≡ watch_of tracker.old }
+{
+    if !tracker.is_test(p) {
+        return Ok(());
+    }
+    if jobs.len() != 1 {
+        return Ok(());
+    }
+    tracker.test(&jobs[0])?;
+    Ok(())
+}
+
+// Keeps the verdicts on filters that a peer gave, and what tests of them find.
+fn keep_given<H: HeaderStore>(
+    tracker: &mut Tracker<H>,
+    p: PeerNo,
+    jobs: &[Job],
+    verdicts: &[Verdict],
+) -> Result<(), NoMemory>
+    requires { verdicts.now ≡ map (verdict_of (watch_of tracker.old)) jobs.now }
+    ensures ok { OnOk result (AreSameVerdicts (verdicts_of tracker.new)
+        (with_verdicts (watch_of tracker.old) jobs.now (verdicts_of tracker.old))) }
+    ensures told { OnOk result (IsSameTold (tests_of tracker.new)
+        (tested_if (aims_of tracker.old p.0) (paid_of tracker.old) jobs.now (tests_of tracker.old))) }
+    ensures paid { OnOk result ((hash : List ℕ) → paid_of tracker.new hash ≡ paid_of tracker.old hash) }
+    ensures aims { OnOk result ((q : ℕ) → aims_of tracker.new q ≡ aims_of tracker.old q) }
+    ensures opens { OnOk result (IsSameOpens (opens_of tracker.old) (opens_of tracker.new)) }
+    ensures chains { OnOk result (Stays (chains_of tracker.old) (chains_of tracker.new)) }
+    ensures table { OnOk result (IsSameTable (table_of tracker.old) (table_of tracker.new)) }
+    ensures claims { OnOk result (IsSameTables (claims_of tracker.old) (claims_of tracker.new)) }
+    ensures watch { OnOk result (watch_of tracker.new ≡ watch_of tracker.old) }
+{
+    tracker.judge(jobs, verdicts)?;
+    test_given(tracker, p, jobs)?;
+    Ok(())
+}
+
+// Takes a filter that a tracked peer sent. The last of a batch has all of them matched, and tested where they are to be.
 fn hear_filter<H: HeaderStore, M: Matcher>(
     alloc: Global,
     tracker: &mut Tracker<H>,
@@ -173,7 +228,7 @@ fn hear_filter<H: HeaderStore, M: Matcher>(
         Heard::Close(cause) => Ok(Reply::Close(cause)),
         Heard::Whole(jobs) => {
             let verdicts = matcher.run(jobs.as_slice(), tracker.watch())?;
-            tracker.judge(jobs.as_slice(), verdicts.as_slice())?;
+            keep_given(tracker, p, jobs.as_slice(), verdicts.as_slice())?;
             let_go(tracker, peer, p);
             Ok(Reply::Nothing)
         }

@@ -16,6 +16,7 @@ use Rattle.cf_seek.proofs.Marked.{all_same}
 use Rattle.cf_hear.specs.Seen.{seen_of}
 use Rattle.cf_hear.proofs.Hearing.{claims_hears, same_run, same_fault, cause_is}
 use Rattle.cf_hear.proofs.Opening.{opens_self}
+use Rattle.cf_hear.proofs.Trying.{trials_self}
 use Rattle.cf_hear.proofs.hear.hear_claims.Goals as goal
 
 pub returns-in_default-clause-heard : goal.returns-in_default-clause-heard
@@ -23,7 +24,7 @@ returns-in_default-clause-heard g c = λ t holds f.
     let seen = seen_of c.args.tracker.now in
     claims_hears seen seen c.args.p c.take_range.new.self c.args.filter c.args.stop.now c.args.previous.now c.args.hashes.now t
     (c.in_default.ensures.took.1 c.args.previous.now c.args.hashes.now t (claims_of c.args.tracker.now c.args.p.0) holds f.claims) f refl (λ q. refl) (λ q ne block. refl) (λ hash. refl) (λ block hash. refl)
-    (opens_self seen.opens)
+    (opens_self seen.opens) (trials_self seen.trials)
 
 pub returns-in-Ok-clause-heard : goal.returns-in-Ok-clause-heard
 returns-in-Ok-clause-heard g c = λ t holds f.
@@ -38,6 +39,7 @@ returns-in-Ok-clause-heard g c = λ t holds f.
     claims_hears (seen_of c.args.tracker.now) (seen_of c.add_claims.new.self) c.args.p c.take_range.new.self c.args.filter c.args.stop.now c.args.previous.now c.args.hashes.now t
     (subst (λ (x : Peer). TakesClaims x after (Cfheaders c.args.filter c.args.stop.now c.args.previous.now c.args.hashes.now) t None) (sym took.2) takes)
     f c.in-Ok.ensures.watch c.in-Ok.ensures.chains c.in-Ok.ensures.others (λ hash. sym (c.in-Ok.ensures.table hash)) c.in-Ok.ensures.verdicts c.in-Ok.ensures.opens
+    c.in-Ok.ensures.trials
 
 pub returns-in-Err-No-clause-heard : goal.returns-in-Err-No-clause-heard
 returns-in-Err-No-clause-heard g c = λ t holds f.
@@ -57,5 +59,6 @@ returns-in-Err-No-clause-heard g c = λ t holds f.
         table = λ hash. sym (c.in-Err-No.ensures.table hash);
         verdicts = c.in-Err-No.ensures.verdicts;
         opens = c.in-Err-No.ensures.opens;
+        trials = c.in-Err-No.ensures.trials;
       },
     )

@@ -26,7 +26,7 @@ returns-in-None-clause-heard g c = λ t h f.
     let over : ready t ≡ true = sym (ready_is c.args.peer.now t h) ∙ on in
     let mine : own_of before.chains c.args.p ≡ own t = ap (λ (o : Option Chain). unwrap_or o []) f.chain in
     let takes = c.in-None.ensures.heard t hs h refl (kept.answer ∙ ap (λ (own : Chain). change_of (link_height hs own) (accept hs own)) mine) in
-    headers_hears before after c.args.p c.hear_headers.new.self hs t takes over kept.after f kept.watch kept.claims kept.table kept.verdicts kept.opens
+    headers_hears before after c.args.p c.hear_headers.new.self hs t takes over kept.after f kept.watch kept.claims kept.table kept.verdicts kept.opens kept.trials
 
 pub returns-in-Some-clause-heard : goal.returns-in-Some-clause-heard
 returns-in-Some-clause-heard g c = λ t h f.
@@ -39,4 +39,4 @@ returns-in-Some-clause-heard g c = λ t h f.
     let mine : own_of before.chains c.args.p ≡ own t = ap (λ (o : Option Chain). unwrap_or o []) f.chain in
     let gives = c.in-Some.ensures.heard t hs h refl (kept.answer ∙ ap (λ (own : Chain). change_of (link_height hs own) (accept hs own)) mine) in
     headers_end before after c.args.p c.args.peer.now c.hear_headers.new.self hs t c.in-Some.cause h over gives kept.after f
-    kept.watch kept.claims kept.table kept.verdicts kept.opens
+    kept.watch kept.claims kept.table kept.verdicts kept.opens kept.trials
