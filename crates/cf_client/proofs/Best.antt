@@ -4,7 +4,7 @@ use Rattle.std.specs.Prelude.{unwrap_or}
 use Rattle.std.proofs.lemmas.Bool.{both_ways}
 use Rattle.std.proofs.lemmas.Option.{none-some, same_Some}
 use Rattle.cf_bytes.specs.declared.peer.PeerNo.{PeerNo}
-use Rattle.cf_headers.specs.Chain.{Chain}
+use Rattle.cf_headers.specs.Chain.{Hash, Chain}
 use Rattle.cf_headers.specs.Heights.{common_of}
 use Rattle.cf_headers.specs.Store.{rank, IsBest as IsBestOf}
 use Rattle.cf_msg.specs.declared.msg.Msg.{Msg}
@@ -19,6 +19,8 @@ use Rattle.cf_hear.specs.Seen.{Seen}
 use Rattle.cf_hear.specs.Tracks.{Tracks, chain_kept}
 use Rattle.cf_seek.specs.declared.spans.Wish.{Wish}
 use Rattle.cf_seek.specs.Spans.{IsWish, GoesFar}
+use Rattle.cf_seek.specs.Testing.{AreDisputesIn, IsTrying}
+use Rattle.cf_sync.proofs.KeptTests.{listed_by}
 use Rattle.cf_seek.specs.Tracking.{IsBestChain}
 use Rattle.cf_place.specs.declared.place.Place.{Place}
 use Rattle.cf_place.specs.declared.place.Place.TheVariants.{Here, Lost}
@@ -86,14 +88,20 @@ pub record Furthest (s : Seen) (i common : ℕ) (wish : Wish) : Type 0 where
   pub shared : common ≡ common_of (chain_at s i) (chain_at s best.0)
   pub far : GoesFar s.table s.claims s.verdicts s.opens i (chain_at s i) common wish
 
+-- what is to be tested is asked for in its turn, of the disputed blocks that are listed
+pub record Tries (s : Seen) (i common : ℕ) (wish : Wish) : Type 0 where
+  pub listed : List Hash
+  pub all : AreDisputesIn s.table s.claims listed
+  pub tries : IsTrying s.table s.claims s.trials.told i (chain_at s i) common listed wish
+
 some_chain : (o : Option Chain) → 0 < rank o → o ≡ Some (unwrap_or o [])
 some_chain None low = absurd (omega (arith, low))
 some_chain (Some own) low = refl
 
 -- what a tracker wishes of a peer that was heard out it is its turn to be asked
 pub in_turn : (places : List Place) (log : Log) (s : Seen) (i common : ℕ) (wish : Wish) (m : Msg) → PlacesStand places log → Tracks s log → chain_at s i ≡ own (trail log i) → heard (trail log i) ≡ true
-    → Furthest s i common wish → IsWish s.table s.claims s.verdicts s.opens i (chain_at s i) common wish → Puts wish m → IsInTurn s.watch log i m
-in_turn places log s i common wish m stand tracks mine ended far wished puts =
+    → Furthest s i common wish → Tries s i common wish → IsWish s.table s.claims s.verdicts s.opens i (chain_at s i) common wish → Puts wish m → IsInTurn s.watch log i m
+in_turn places log s i common wish m stand tracks mine ended far tries wished puts =
     let chain : Chain = chain_at s far.best.0 in
     let low : 0 < rank (s.chains far.best.0) = (let some = far.is.0 in omega (arith, some)) in
     record {
@@ -112,4 +120,10 @@ in_turn places log s i common wish m stand tracks mine ended far wished puts =
       wished = subst (λ (c : Chain). IsWish s.table s.claims s.verdicts s.opens i c (common_of c chain) wish) mine (subst (λ (n : ℕ). IsWish s.table s.claims s.verdicts s.opens i (chain_at s i) n wish) far.shared wished);
       far = subst (λ (c : Chain). GoesFar s.table s.claims s.verdicts s.opens i c (common_of c chain) wish) mine (subst (λ (n : ℕ). GoesFar s.table s.claims s.verdicts s.opens i (chain_at s i) n wish) far.shared far.far);
       puts = puts;
+      told = s.trials.told;
+      tested = tracks.trials.told;
+      listed = tries.listed;
+      disputes = listed_by s.watch log s.table s.claims tries.listed tracks.fetched tracks.claimed tries.all;
+      tries = subst (λ (c : Chain). IsTrying s.table s.claims s.trials.told i c (common_of c chain) tries.listed wish) mine
+          (subst (λ (n : ℕ). IsTrying s.table s.claims s.trials.told i (chain_at s i) n tries.listed wish) far.shared tries.tries);
     }

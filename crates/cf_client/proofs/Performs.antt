@@ -30,13 +30,13 @@ use Rattle.cf_match.specs.declared.job.Job.{Job}
 use Rattle.cf_sync.proofs.Plans.{omits_alike, off_omits_nothing}
 use Rattle.cf_sync.specs.Kept.{OpensAt, claims_kept}
 use Rattle.cf_sync.proofs.VerdictsGrow.{same_given}
-use Rattle.cf_sync.specs.Planned.{is_untold, before_failure, IsMeant, Alike}
+use Rattle.cf_sync.specs.Planned.{is_untold, before_failure, IsMeant, Alike, IsSameTest}
 use Rattle.cf_sync.proofs.Planning.{planned_part}
 use Rattle.cf_hear.specs.Tracks.{chain_kept}
 use Rattle.cf_hear.proofs.Opening.{closes_off}
 use Rattle.cf_sync.proofs.KeptOpens.{opens_closed}
 use Rattle.cf_seek.specs.Opens.{Opens}
-use Rattle.cf_tracker.specs.Tracker.{opens_of}
+use Rattle.cf_tracker.specs.Tracker.{opens_of, trials_of}
 use Rattle.cf_client.specs.declared.client.Client.{Client}
 use Rattle.cf_place.specs.declared.place.Place.{Place}
 use Rattle.cf_place.specs.declared.place.Place.TheVariants.{Here, Lost as LostPlace}
@@ -51,6 +51,8 @@ use Rattle.cf_client.specs.Run.{Doing, ActsLeft, HoldsOver, closes, state_at, is
 use Rattle.cf_sync.proofs.SameFetched.{same_wanted, same_holds}
 use Rattle.cf_client.proofs.Losing.{lost_failed}
 use Rattle.cf_client.proofs.Spelled.{spelled_bytes}
+use Rattle.cf_sync.proofs.Blamed.{tested_stays}
+use Rattle.cf_sync.proofs.KeptAims.{closed_on, failed_on, sent_on, test_alike, test_off, trials_alike, trials_stay}
 
 -- with no act left
 only : (b : Bool) → (b || false) ≡ true → b ≡ true
@@ -245,9 +247,9 @@ skipped : {watch : List (List ℕ)} (a : Act) (acts : List Act) (progress : Prog
     → ((q : ℕ) → q ≢ p → list_any (closes q) (a ∷ acts) ≡ list_any (closes q) acts)
     → (noted e (tally_of planned)).dials ≡ (tally_of planned).dials
     → ((q : ℕ) → fetched (counted_part (e ∷ planned) q) ≡ fetched (counted_part planned q)) → ((q : ℕ) → given (counted_part (e ∷ planned) q) ≡ given (counted_part planned q))
-    → ((job : Job) → IsTested (e ∷ planned) job → IsTested planned job)
+    → ((job : Job) → IsTested (e ∷ planned) job → IsTested planned job) → ((q : ℕ) (block : Hash) → q ≢ p → IsSameTest (e ∷ planned) planned q block)
     → Doing watch (a ∷ acts) progress called planned t → Doing watch acts progress called (e ∷ planned) t
-skipped a acts progress called planned t p e i is others here meant unclosed dials brought gave tests doing =
+skipped a acts progress called planned t p e i is others here meant unclosed dials brought gave tests aims doing =
     let it : (q : ℕ) → q ≡ p → is_pending (state_at progress.sends q) ≡ true = λ q same. ap (λ (k : ℕ). is_pending (state_at progress.sends k)) same ∙ is in
     record {
       actual = doing.actual;
@@ -263,6 +265,12 @@ skipped a acts progress called planned t p e i is others here meant unclosed dia
         ];
         dials = dials ∙ doing.plan.dials;
         tested = λ job h. doing.plan.tested job (tests job h);
+        tests = λ job h. tested_stays e planned job (doing.plan.tests job h);
+        aims = λ q fine on block.
+            let ne : q ≢ p = λ same. both_ways (is_untold doing.actual q) fine (doing.pending q (it q same)) in
+            let one = aims q block ne in
+            let two = doing.plan.aims q fine on block in
+            (λ t. two.0 (one.0 t), λ t. one.1 (two.1 t));
       };
       brought = λ q. brought q ∙ doing.brought q;
       gave = λ q. gave q ∙ doing.gave q;
@@ -285,7 +293,7 @@ skipped_send acts progress called planned t p m is may doing =
     skipped (Send p m) acts progress called planned t p.0 (Sent p (bytes_of m)) (Asked m) is
     (λ q ne. sent_others p (bytes_of m) q (part_of planned q) ne)
     (λ q e. sent_here p (bytes_of m) m q (part_of planned q) e (spelled_bytes m may.1))
-    (λ more meant. meant) (λ q ne. refl) refl (λ q. sent_brought p (bytes_of m) planned q) (λ q. sent_gave p (bytes_of m) planned q) (λ job h. h) doing
+    (λ more meant. meant) (λ q ne. refl) refl (λ q. sent_brought p (bytes_of m) planned q) (λ q. sent_gave p (bytes_of m) planned q) (λ job h. h) (λ q block ne. test_off planned p (bytes_of m) q block ne) doing
 
 pub skipped_close : {watch : List (List ℕ)} (acts : List Act) (progress : Progress) (called : List (List ℕ)) (planned : Log) (t : Told) (p : PeerNo) (cause : Cause)
     → is_pending (state_at progress.sends p.0) ≡ true
@@ -294,7 +302,7 @@ skipped_close acts progress called planned t p cause is doing =
     skipped (Close p cause) acts progress called planned t p.0 (Closed p) (Lost Shutting) is
     (λ q ne. closed_others p q (part_of planned q) ne)
     (λ q e. closed_here p q (part_of planned q) e)
-    (λ more meant. meant) (λ q ne. closes_others p cause acts q ne) refl (λ q. closed_brought p planned q) (λ q. closed_gave p planned q) (λ job h. h) doing
+    (λ more meant. meant) (λ q ne. closes_others p cause acts q ne) refl (λ q. closed_brought p planned q) (λ q. closed_gave p planned q) (λ job h. h) (λ q block ne. (λ t. t, λ t. t)) doing
 
 reverse_push : (xs : List TraceLine) (x : TraceLine) → reverse (xs ++ x ∷ []) ≡ x ∷ reverse xs
 reverse_push xs x = reverse-append xs (x ∷ [])
@@ -345,6 +353,8 @@ sent_on acts progress trace called planned t p m command free line is may doing 
         untold = λ q untold. let more = doing.plan.untold q untold in (more.0, (more.1.0, sent_others p bytes q (part_of planned q) (other q untold) ∙ more.1.1));
         dials = doing.plan.dials;
         tested = doing.plan.tested;
+        tests = doing.plan.tests;
+        aims = λ q fine on block. test_alike planned doing.actual p bytes q block doing.brought (doing.plan.aims q fine (sent_on p bytes doing.actual q on) block);
       };
       brought = λ q. sent_brought p bytes planned q ∙ doing.brought q ∙ sym (sent_brought p bytes doing.actual q);
       gave = λ q. sent_gave p bytes planned q ∙ doing.gave q ∙ sym (sent_gave p bytes doing.actual q);
@@ -463,6 +473,13 @@ closed_on acts progress trace called planned t p cause free line may doing =
             (more.0, (more.1.0, closed_others p q (part_of planned q) b.0 ∙ more.1.1));
         dials = doing.plan.dials;
         tested = doing.plan.tested;
+        tests = doing.plan.tests;
+        aims = λ q fine on block. elim (cases_Bool (is_untold doing.actual q)) [
+          | inl untold ↦
+              let e : q ≡ p.0 = elim (cases_eq q p.0) [ inl e ↦ e | inr ne ↦ absurd (both_ways (is_untold doing.actual q) (sym (untold_closed_others p doing.actual q ne) ∙ fine) untold) ] in
+              absurd (both_ways (connected (trail (Closed p ∷ doing.actual) q)) (ap (λ (x : Part). connected x.trail) (closed_here p q (part_of doing.actual q) e)) on)
+          | inr told ↦ doing.plan.aims q told (closed_on p doing.actual q on) block
+        ];
       };
       brought = λ q. closed_brought p planned q ∙ doing.brought q ∙ sym (closed_brought p doing.actual q);
       gave = λ q. closed_gave p planned q ∙ doing.gave q ∙ sym (closed_gave p doing.actual q);
@@ -502,6 +519,8 @@ closed_again acts progress called planned t p cause free shut may doing =
         untold = λ q untold. let more = doing.plan.untold q untold in (more.0, (more.1.0, closed_others p q (part_of planned q) (other q untold) ∙ more.1.1));
         dials = doing.plan.dials;
         tested = doing.plan.tested;
+        tests = doing.plan.tests;
+        aims = doing.plan.aims;
       };
       brought = λ q. closed_brought p planned q ∙ doing.brought q;
       gave = λ q. closed_gave p planned q ∙ doing.gave q;
@@ -589,6 +608,12 @@ failed_on acts progress called planned t p m lt free may doing =
         ];
         dials = doing.plan.dials;
         tested = doing.plan.tested;
+        tests = doing.plan.tests;
+        aims = λ q fine on block.
+            let ne : q ≢ p.0 = λ e. both_ways (is_untold (SendFailed p ∷ doing.actual) q) fine (untold_failing_here p doing.actual q e) in
+            let one = test_off planned p bytes q block ne in
+            let two = doing.plan.aims q (sym (untold_failing_others p doing.actual q ne) ∙ fine) (failed_on p doing.actual q on) block in
+            (λ t. two.0 (one.0 t), λ t. one.1 (two.1 t));
       };
       brought = λ q. sent_brought p bytes planned q ∙ doing.brought q ∙ sym (failing_brought p doing.actual q);
       gave = λ q. sent_gave p bytes planned q ∙ doing.gave q ∙ sym (failing_gave p doing.actual q);
@@ -657,6 +682,7 @@ cut_for p log = record {
   broken = ap (λ (x : Part). failed x.trail) (failing_here p p.0 (part_of log p.0) refl);
   brought = failing_brought p log p.0;
   gave = failing_gave p log p.0;
+  tests = λ trials h. trials_stay (SendFailed p) log trials tt tt h;
   dials = refl;
 }
 
@@ -701,6 +727,8 @@ told_one rest progress called planned t p cause lt is doing =
         ];
         dials = doing.plan.dials;
         tested = doing.plan.tested;
+        tests = doing.plan.tests;
+        aims = doing.plan.aims;
       };
       brought = λ q. failing_brought p planned q ∙ doing.brought q;
       gave = λ q. failing_gave p planned q ∙ doing.gave q;
@@ -762,6 +790,8 @@ all_told c progress called planned t none reflects doing =
           fetched = same_holds _ planned doing.actual _ doing.brought reflects.tracks.fetched;
           given = same_given _ planned doing.actual _ _ (λ q. sym (doing.gave q)) (λ block hash. refl) reflects.tracks.given;
           opened = λ q. opens_alike (opens_of c.tracker) q (part_of planned q) (part_of doing.actual q) (doing.plan.told q (told q)) (reflects.tracks.opened q);
+          trials = trials_alike planned doing.actual (trials_of c.tracker) (λ q. doing.plan.told q (told q)) doing.brought doing.plan.tested doing.plan.tests
+              (λ q on. doing.plan.aims q (told q) on) reflects.tracks.trials;
         };
       };
       told_all = told;

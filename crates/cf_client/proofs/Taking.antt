@@ -47,6 +47,7 @@ use Rattle.cf_client.proofs.Losing.{lost_said, lost_refused, lost_went, goes_now
 use Rattle.cf_client.proofs.Settled.{set_other}
 use Rattle.cf_client.proofs.Spelled.{spelled_bytes}
 use Rattle.cf_client.proofs.Steps.{IsChanged, is_lost, goes_watch, extends_self, extends_none, extends_one, stands_start, start_places, start_tracks, stay_moves, set_moves, taken}
+use Rattle.cf_sync.proofs.KeptAims.{IsNoQuestion}
 
 -- what a peer says loses nobody, and nothing is sent by it
 pub record SaysOnly (after before : Trail) : Type 0 where
@@ -324,12 +325,17 @@ reply_asks Verack t is = (refl, refl)
 reply_asks (Pong number) t is = (refl, refl)
 reply_asks r t is = absurd is
 
+reply_only : (r : Msg) → IsReply r → IsNoQuestion (Some r)
+reply_only Verack is = λ filter start stop e. cc
+reply_only (Pong number) is = λ filter start stop e. cc
+reply_only r is = absurd is
+
 -- and changes nothing that is seen
 sends_track : (p : PeerNo) (rs : List Msg) (s : Seen) (log : Log) → AllByRecursion IsReply rs → AreSendable rs → Tracks s log → Tracks s (after (sends p rs) log)
 sends_track p [] s log are sendable tracks = tracks
 sends_track p (r ∷ rs) s log are sendable tracks =
     let same = reply_asks r (trail log p.0) are.0 in
-    sends_track p rs s (Sent p (bytes_of r) ∷ log) are.1 sendable.1 (tracks_sent s p (bytes_of r) r log (spelled_bytes r sendable.0) same.0 same.1 tracks)
+    sends_track p rs s (Sent p (bytes_of r) ∷ log) are.1 sendable.1 (tracks_sent s p (bytes_of r) r log (spelled_bytes r sendable.0) same.0 same.1 (reply_only r are.0) tracks)
 
 -- a piece all of which was taken
 whole_tracks : (places : List Place) (log : Log) (p : PeerNo) (piece : List ℕ) (old peer : Peer) (seen now : Seen) (before acts : List Act)
@@ -413,7 +419,7 @@ faulty_tracks places log p piece old cause seen now last before acts none here s
 -- a failed send cuts a peer off
 cut_tracks : (log cut : Log) (p : PeerNo) (seen last : Seen) → Tracks seen log → CutFor p log cut → IsPut seen last p.0 None no_claims → Tracks last (Closed p ∷ cut)
 cut_tracks log cut p seen last tracks is put =
-    let lost : Tracks last cut = tracks_lost seen last p log cut put is.off is.others is.brought is.gave tracks in
+    let lost : Tracks last cut = tracks_lost seen last p log cut put is.off is.others is.brought is.gave (is.tests seen.trials tracks.trials) tracks in
     tracks_closed last last p cut (put_off last cut p.0 is.off lost) lost
 
 -- ---- deliveries, as steps

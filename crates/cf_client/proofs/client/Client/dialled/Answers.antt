@@ -9,7 +9,7 @@ use Rattle.cf_tracker.specs.Tracker.{claims_of}
 use Rattle.cf_peer.specs.Peer.{called_peer}
 use Rattle.cf_place.specs.declared.place.Place.TheVariants.{Here}
 use Rattle.cf_peer.specs.Trail.{trail}
-use Rattle.cf_client.proofs.Acting.{version_asks}
+use Rattle.cf_client.proofs.Acting.{version_asks, version_only}
 use Rattle.cf_client.proofs.Settled.{settled_called}
 use Rattle.cf_client.proofs.Spelled.{spelled_bytes}
 use Rattle.cf_client.proofs.Standing.{past_nobody}
@@ -39,10 +39,10 @@ returns-clause-answers g c = λ log reflects.
     let off = past_nobody c.args.self.now.places.items log c.args.p.0 le reflects.places in
     let goes = called_goes c.args.self.now.places.items log c.args.p c.args.name.now m c.requires.next reflects.places c.in_ok-greeting.ensures.greeting in
     let put = put_entered before now c.args.p c.in_ok-enter.ensures.ok c.in_ok-enter.ensures.table c.in_ok-enter.ensures.claims c.in_ok-enter.ensures.verdicts c.in_ok-enter.ensures.watch
-    (none_claimed before log c.args.p.0 off reflects.tracks) c.in_ok-enter.ensures.opens (none_open before log c.args.p.0 off reflects.tracks) in
+    (none_claimed before log c.args.p.0 off reflects.tracks) c.in_ok-enter.ensures.opens (none_open before log c.args.p.0 off reflects.tracks) c.in_ok-enter.ensures.trials in
     let next = Dialled c.args.p c.args.name.now ∷ log in
     let asks = version_asks m (trail next c.args.p.0) c.in_ok-greeting.ensures.greeting.ours in
-    let tracks = tracks_sent now c.args.p (bytes_of m) m next (spelled_bytes m c.in_ok-greeting.ensures.greeting.sendable) asks.0 asks.1 (tracks_dialled before now c.args.p c.args.name.now log put reflects.tracks) in
+    let tracks = tracks_sent now c.args.p (bytes_of m) m next (spelled_bytes m c.in_ok-greeting.ensures.greeting.sendable) asks.0 asks.1 (version_only m c.in_ok-greeting.ensures.greeting.ours) (tracks_dialled before now c.args.p c.args.name.now log put reflects.tracks) in
     record {
       stand = record {
         alive = refl;
