@@ -41,6 +41,7 @@ import time
 import hostile
 from client import Bad, Play, meets, read_block, read_frames, root_of
 from conversation import GENESIS_HEADER, GENESIS_TX, MAGIC, double, whole
+from faults import long_chain
 from growing import bringing, grown
 from memory import without_choice
 from readers import CHAIN, CLOSED, checked, filtered, lines_of, proof_of, replayed, scanned, served
@@ -52,6 +53,9 @@ WATCHED = [script(k) for k in (8, 14)]
 TXID = "72c9f9a6d21d37da3363854f04dd2a7294bcfdbec0b806dc789bf7c9d3aab8a7"
 ADDRESS = "bcrt1qw508d6qejxtdg4y5r3zarvary0c5xw7kygt080"
 MEMORY, SECONDS = 512 << 20, 60
+# How often a run is of each kind.
+SHARES = {"session": 8, "blocks": 5, "pieces": 1, "watch": 2, "proof": 2, "filter": 1, "prove": 1, "serve": 2, "grow": 2,
+          "words": 4}
 # Where `serve` listens.
 ANY = "127.0.0.1:0"
 STATUSES = range(14)
@@ -398,10 +402,12 @@ def kinds(trial):
 
     watch = listed(WATCHED) + ADDRESS.encode() + b"\n"
     words = ["address " + ADDRESS, "scan f w", "filter f 2", "prove f " + TXID, "check p", "replay --trace w s",
-             "make 7 3 m", "demo 7 3", "serve --connections 1 g a", "sync --turns 9 --workers 2 --record r w a b",
-             "--help"]
+             "make 7 3 m", "make --witness 7 3 m", "demo 7 3", "serve --connections 1 g a",
+             "serve --grow --connections 1 g a", "sync --turns 9 --workers 2 --record r w a b", "--help"]
+    long_blocks = long_chain().blocks[1:]
     yield Kind("session", ["replay", "--trace", "x", "s"], list(sessions()), session, replayed, "x", "s")
     yield Kind("blocks", ["scan", "b", "w"], [CHAIN.blocks[1:]], blocks, scanned, "w", "b")
+    yield Kind("pieces", ["scan", "b", "w"], [long_blocks], blocks, scanned, "w", "b")
     yield Kind("watch", ["scan", "f", "v"], [watch], file_of("v"), scanned, "v", "f")
     yield Kind("proof", ["check", "q"], [trial.proof], file_of("q"), checked, "q")
     yield Kind("filter", ["filter", "b", "2"], [CHAIN.blocks[1:]], blocks, filtered, "b")
@@ -420,7 +426,7 @@ def unchanged(trial, kind):
         trial.write("x", listed(kind.files[0][0]))
         trial.write("s", "".join(line + "\n" for line in kind.files[0][1]).encode())
     elif "b" in kind.words:
-        trial.write("b", trial.blocks)
+        trial.write("b", b"".join(map(record, kind.files[0])))
     elif kind.name in ("serve", "grow"):
         trial.write("c", b"".join(kind.files[0]))
     else:
@@ -445,7 +451,7 @@ class Tests:
             self.trial.write("b", self.trial.blocks[:number])
             return self.kinds[1], self.kinds[1].words
         lot = random.Random("%d %d" % (self.seed, number))
-        kind = lot.choices(self.kinds, [8, 5, 2, 2, 1, 1, 2, 4])[0]
+        kind = lot.choices(self.kinds, [SHARES[kind.name] for kind in self.kinds])[0]
         data = lot.choice(kind.files)
         if kind.name == "words":
             return kind, changed_words(lot, data)

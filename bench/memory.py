@@ -10,7 +10,8 @@ the seconds are those of all runs together.
 
 A run may end as it does with ample memory (`right`), or with status 1, no text, and its file unwritten or as it is else
 (`refused`). A record is compared by its replay. What `serve` has written to a connection may be any beginning of the
-answers, and its status 0 or 1. Each other end is told, with the numbers of its runs. The status is then 1.
+answers, and its status 0 or 1. With `--grow` the first peer brings three blocks, and the second one may be answered by
+the chain with any number of them. Each other end is told, with the numbers of its runs. The status is then 1.
 
 One of these is known: a thread that can't be started for want of memory is one that was refused, and a dial that finds
 no thread fails. So `sync` may end with status 6, where its one peer isn't dialled.
@@ -29,7 +30,9 @@ import tempfile
 import time
 
 from client import Play
-from conversation import THEIR_VERSION, greeting, whole
+from conversation import MAGIC, THEIR_VERSION, greeting, whole
+from faults import long_chain
+from growing import PING, PONG, bringing, grown
 from sessions import Chain, script
 
 BENCH = os.path.dirname(os.path.abspath(__file__))
@@ -41,17 +44,23 @@ COMMANDS = {
     "address": ("address " + ADDRESS, None),
     "scan": ("scan f w", None),
     "filter": ("filter f 2", None),
+    # Of a file that is read in three pieces.
+    "pieces": ("scan l w", None),
+    "built": ("filter l 3", None),
     "prove": ("prove f " + TXID, None),
     "check": ("check p", None),
     "replay": ("replay w s", None),
     "trace": ("replay --trace w s", None),
     "make": ("make 7 3 b", "b"),
+    "witness": ("make --witness 7 3 b", "b"),
     "demo": ("demo 7 3", None),
     "sync": ("sync w @", None),
     "one": ("sync --workers 1 w @", None),
     "record": ("sync --record r w @", "r"),
     "serve": ("serve --connections 2 f @", None),
+    "grow": ("serve --grow --connections 2 f @", None),
 }
+SERVING = ("serve", "grow")
 # Of one run, or of one read.
 LIMIT = 20
 
@@ -72,9 +81,14 @@ class Trial:
         self.write("w", "".join(text.hex() + "\n" for text in scripts))
         self.write("s", "".join(line + "\n" for line in Play(chain, 2, scripts).played().lines))
         self.write("p", self.run("prove", 0).text.decode())
+        with open(os.path.join(folder, "l"), "wb") as file:
+            file.writelines(MAGIC + len(block).to_bytes(4, "little") + block for block in long_chain().blocks[1:])
         asked, told = whole(chain)
-        self.asked = [asked, THEIR_VERSION]
-        self.answers = (without_choice(told), without_choice(greeting(chain.tip)))
+        self.asked = {"serve": [asked, THEIR_VERSION], "grow": [bringing(), THEIR_VERSION + PING]}
+        # Of each connection the answers that it may have, the last one with ample memory.
+        still, growing = [[told], [greeting(chain.tip)]], [greeting(tip) + PONG for tip in range(3, 7)]
+        both = {"serve": still, "grow": [[grown(bringing())[1]], growing]}
+        self.answers = {name: [[*map(without_choice, texts)] for texts in each] for name, each in both.items()}
 
     def write(self, name, text):
         with open(os.path.join(self.folder, name), "w") as file:
@@ -110,8 +124,8 @@ class Trial:
         words = words.split(" ")
         if file and os.path.exists(os.path.join(self.folder, file)):
             os.remove(os.path.join(self.folder, file))
-        if name == "serve":
-            return self.run_serve(words, refused)
+        if name in SERVING:
+            return self.run_serve(name, words, refused)
         helper = None
         if "@" in words:
             helper, port = self.served(["serve", "--connections", "1", "f", "127.0.0.1:0"], None)
@@ -135,9 +149,9 @@ class Trial:
             return self.read(file) if file else None
         return self.start(["replay", "w", "r"], None).communicate()[0]
 
-    def run_serve(self, words, refused):
+    def run_serve(self, name, words, refused):
         server, port = self.served([word.replace("@", "127.0.0.1:0") for word in words], refused)
-        text = tuple(self.converse(port, asked) for asked in self.asked)
+        text = tuple(self.converse(port, asked) for asked in self.asked[name])
         try:
             status = server.wait(timeout=LIMIT)
         except subprocess.TimeoutExpired:
@@ -175,12 +189,13 @@ def without_choice(text):
     return bytes(text)
 
 
-def kind_of(name, ample, found):
+def kind_of(trial, name, ample, found):
     """`right`, `refused` or `other`."""
     if found[:3] == ample[:3]:
         return "right"
-    if name == "serve":
-        begins = all(all_of_it.startswith(part) for all_of_it, part in zip(ample.text, found.text))
+    if name in SERVING:
+        both = zip(trial.answers[name], found.text)
+        begins = all(any(text.startswith(part) for text in texts) for texts, part in both)
         return "refused" if begins and found.status in (0, 1) else "other"
     if found.status == 1 and not found.text and found.file in (None, ample.file):
         return "refused"
@@ -202,13 +217,13 @@ def tried(trial, name, first, last, until):
     """Whether each run of a command ends as it may."""
     ample = trial.run(name, 0)
     count = trial.count()
-    if ample.status or name == "serve" and ample.text != trial.answers:
+    if ample.status or name in SERVING and ample.text != tuple(texts[-1] for texts in trial.answers[name]):
         raise SystemExit("%s ends otherwise with ample memory: %r" % (name, ample))
     kinds, others = collections.Counter(), collections.defaultdict(list)
     number = first
     while number <= min(last, count) and time.monotonic() < until:
         found = trial.run(name, number)
-        kind = kind_of(name, ample, found)
+        kind = kind_of(trial, name, ample, found)
         kinds[kind] += 1
         if kind == "other":
             told = found.told.decode(errors="replace").strip().splitlines()[-1:]

@@ -5,9 +5,9 @@ ghost use Rattle.cf_answers.specs.declared.status.Which.TheVariants.{Blocks};
 ghost use Rattle.cf_answers.specs.declared.status.Spot.TheVariants.{Line, Nowhere, Record};
 
 use cf_bytes::Hash32;
-use cf_index::RecordCause;
 use cf_input::{AddressCause, ProofCause, SessionCause, WatchCause};
 use cf_place::PeerEnd;
+use cf_walk::RecordCause;
 use thiserror::Error;
 
 /// A file that the program reads.

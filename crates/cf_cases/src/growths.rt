@@ -1,9 +1,8 @@
 //! Conversations with a server whose chain grows.
-ghost use Rattle.std.specs.Prelude.{Some};
+ghost use Rattle.std.specs.Prelude.{◌≡◌, Some};
 ghost use Rattle.cf_conn.specs.MemoryConn.{Writes};
 
-use crate::conversations::{conn_of, index_in, shown as bytes_shown};
-use crate::fields::bytes_in;
+use crate::conversations::{conn_in, index_in, shown as bytes_shown};
 use cf_bytes::{Failed, Sink};
 use cf_conn::{Duplex, MemoryConn, MemoryEnd, Source};
 use cf_grow::{Ending, Grown, Nobody, serve_grown};
@@ -14,6 +13,7 @@ use std::thread::Threads;
 
 // What the server's `version` tells.
 const MOMENT: i64 = 1_700_000_000;
+
 const NONCE: u64 = 0x1122_3344_5566_7788;
 
 // The most bytes that are written to a connection.
@@ -41,8 +41,10 @@ impl<R: Wait + Copy + Drop> Model for Around<R> {
 }
 
 impl<R: Wait + Copy + Drop> Around<R> {
-    // Serves the one within, once so many reads have come.
-    fn serve_within(&mut self) {
+    // Serves the one within, once so many reads have come. This connection stays as it is.
+    fn serve_within(&mut self)
+        ensures { self.new ≡ self.old }
+    {
         if self.before > 0 {
             self.before -= 1;
             return;
@@ -131,8 +133,8 @@ pub(crate) fn answer<R: Wait + Threads + Sync + Copy + Drop>(
         rt,
         alloc,
         grown: Arc::try_clone(&grown).ok()?,
-        conn: conn_of(alloc, bytes_in(alloc, around)?, most, ROOM)?,
-        within: conn_of(alloc, bytes_in(alloc, within)?, most, ROOM)?,
+        conn: conn_in(alloc, around, most, ROOM)?,
+        within: conn_in(alloc, within, most, ROOM)?,
         before: before.parse().ok()?,
         how: None,
     };

@@ -73,6 +73,7 @@ fn answer<R: Wait + Threads + Sync + Copy + Drop + Send + 'static>(
         "stream" => streams::answer(alloc, rest),
         "target" => headers::target(alloc, rest),
         "text" => inputs::text(alloc, rest),
+        "traced" => stores::traced(alloc, rest),
         "tx" => blocks::tx(alloc, rest),
         "unhash" => hashes::unhash(alloc, rest),
         "verdicts" => verdicts::answer(alloc, rest),

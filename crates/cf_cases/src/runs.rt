@@ -2,18 +2,36 @@
 ghost use Rattle.std.specs.Prelude.{◌≡◌, [], IfSome, false};
 ghost use Rattle.cf_wires.specs.Memory.{log_of, finished_of};
 
+use crate::chains::chain_in;
 use crate::fields::{bytes_in, file_in, numbers_in, texts_in};
-use crate::servings::{in_threads, no_link};
+use crate::servings::{Same, in_threads, no_link, spawner_in};
 use cf_answers::Status;
 use cf_bytes::{FileFail, Files, MapFiles, VecSink};
 use cf_cli::run;
 use cf_grow::Nobody;
 use cf_input::read_session;
+use cf_make::records;
 use cf_played::Played;
 use cf_wires::MemoryWires;
 use std::alloc::Global;
 use std::sync::Wait;
 use std::thread::Threads;
+
+// So many of the first bytes of a made chain's records.
+fn front_of(alloc: Global, chain: &str, count: &str) -> Option<Vec<u8>> {
+    let count = count.parse().ok()?;
+    let mut bytes = records(alloc, &chain_in(alloc, chain)?).ok()?;
+    bytes.truncate(count);
+    Some(bytes)
+}
+
+// The bytes of a file of blocks: in hexadecimal, or `CHAIN<COUNT` for so many of the first bytes of a made chain's records.
+fn blocks_in(alloc: Global, field: &str) -> Option<Vec<u8>> {
+    match field.split_once('<') {
+        Some((chain, count)) => front_of(alloc, chain, count),
+        None => bytes_in(alloc, field),
+    }
+}
 
 // The files of a row: `w`, `s` and `f`.
 fn files_of(alloc: Global, watch: &str, session: &str, blocks: &str) -> Option<MapFiles> {
@@ -21,7 +39,7 @@ fn files_of(alloc: Global, watch: &str, session: &str, blocks: &str) -> Option<M
     let watch = file_in(alloc, watch)?;
     files.write(alloc, "w", watch.as_bytes()).ok()?;
     files.write(alloc, "s", session.as_bytes()).ok()?;
-    let blocks = bytes_in(alloc, blocks)?;
+    let blocks = blocks_in(alloc, blocks)?;
     files.write(alloc, "f", &blocks).ok()?;
     Some(files)
 }
@@ -79,23 +97,24 @@ fn shown(
     format!(in alloc; "{told}\n{text}{record}{blocks}").ok()
 }
 
-// The answer to these words, over these wires, into a sink with so much room.
+// The answer to these words, over these wires, by this spawner, into a sink with so much room.
 fn answered<R: Wait + Threads + Sync + Copy + Drop + Send + 'static>(
     rt: R,
     alloc: Global,
     words: &[String],
     files: MapFiles,
     wires: MemoryWires,
+    spawner: Same<R>,
     room: usize,
 ) -> Option<String>
     requires { (log_of wires ≡ []) × (finished_of wires ≡ false) }
 {
     let mut files = files;
     let mut wires = wires;
+    let mut spawner = spawner;
     let mut tape = MemoryWires::new(alloc).ok()?;
     let mut played = Played::new(alloc).ok()?;
     let mut link = no_link(alloc)?;
-    let mut spawner = in_threads(rt);
     let mut out = VecSink::new(alloc, 7, room).ok()?;
     let status = run(
         rt,
@@ -123,19 +142,24 @@ fn answered<R: Wait + Threads + Sync + Copy + Drop + Send + 'static>(
     )
 }
 
-// The answer over the wires of a session, where the first field tells the room and the calls of the wires that fail.
+// The answer over the wires of a session, where the first field tells the room, the calls of the wires that fail, and each behind a `/` those of the
+// files and what is done with tasks.
 fn answered_over<R: Wait + Threads + Sync + Copy + Drop + Send + 'static>(
     rt: R,
     alloc: Global,
     limits: &str,
     words: &[String],
-    files: MapFiles,
+    mut files: MapFiles,
     session: &str,
 ) -> Option<String> {
     let (room, failing) = limits.split_once(' ')?;
+    let (failing, rest) = failing.split_once('/').unwrap_or((failing, "-"));
+    let (unread, way) = rest.split_once('/').unwrap_or((rest, "threads"));
     let room = room.parse().ok()?;
+    let spawner = spawner_in(rt, way)?;
     let wires = wires_of(alloc, session, failing)?;
-    answered(rt, alloc, words, files, wires, room)
+    files.failing(&numbers_in(alloc, unread)?).ok()?;
+    answered(rt, alloc, words, files, wires, spawner, room)
 }
 
 // The call of a row's fields: the room, the calls of the wires that fail, the words, and the files.
@@ -164,7 +188,7 @@ pub(crate) fn replayed<R: Wait + Threads + Sync + Copy + Drop + Send + 'static>(
     let words = texts_in(alloc, "cf replay w s", ' ')?;
     let files = files_of(alloc, watch, session, "-")?;
     let wires = MemoryWires::new(alloc).ok()?;
-    answered(rt, alloc, &words, files, wires, 5000)
+    answered(rt, alloc, &words, files, wires, in_threads(rt), 5000)
 }
 
 /// How the call of a row ends, and what it writes.

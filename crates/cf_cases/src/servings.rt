@@ -3,7 +3,7 @@ ghost use Rattle.std.specs.Prelude.{◌≡◌, ◌≢◌, All, Some, [], IfSome,
 ghost use Rattle.cf_wires.specs.Memory.{finished_of, log_of};
 ghost use Rattle.cf_tasks.specs.declared.threads.Choice.TheVariants.{Refuse};
 
-use crate::conversations::conn_of;
+use crate::conversations::conn_in;
 use crate::fields::{bytes_in, digits_of, numbers_in, texts_in};
 use crate::runs::told;
 use cf_bytes::{Files, MapFiles, VecSink};
@@ -51,7 +51,8 @@ impl<R: Threads + Drop> Spawner for Same<R> {
     }
 }
 
-fn spawner_in<R: Threads + Copy + Drop>(rt: R, field: &str) -> Option<Same<R>> {
+/// Does with each task what a field tells.
+pub(crate) fn spawner_in<R: Threads + Copy + Drop>(rt: R, field: &str) -> Option<Same<R>> {
     let way = match field {
         "threads" => Choice::InThread,
         "place" => Choice::InPlace,
@@ -79,20 +80,13 @@ pub(crate) fn no_link(alloc: Global) -> Option<ListLink<MemoryConn>> {
     ListLink::new(alloc, Vec::new(alloc)).ok()
 }
 
-// A connection whose peer sends these bytes.
-fn asking(alloc: Global, asked: &str) -> Option<MemoryConn>
-    ensures { IfSome result (λ c. (c.source.ended ≡ false) × (c.source.plan.faults ≡ 0) × (c.sink.plan.faults ≡ 0) × (c.sink.bytes ≡ [])) }
-{
-    conn_of(alloc, bytes_in(alloc, asked)?, 4096, 10_000)
-}
-
-// The connections whose peers send these bytes.
+// The connections of a field, each of which has room for so many bytes.
 fn conns_in(alloc: Global, field: &str) -> Option<Vec<MemoryConn>>
     ensures { IfSome result (λ v. All (λ c. (c.source.ended ≡ false) × (c.source.plan.faults ≡ 0) × (c.sink.plan.faults ≡ 0) × (c.sink.bytes ≡ [])) v.items) }
 {
     let mut conns = Vec::new(alloc);
     for asked in field.split(' ') {
-        let conn = asking(alloc, asked)?;
+        let conn = conn_in(alloc, asked, 4096, 10_000)?;
         conns.reserve(1).ok()?;
         conns.push_reserved(conn);
     }
@@ -154,14 +148,16 @@ fn link_in(alloc: Global, failing: &str, asked: &str) -> Option<ListLink<MemoryC
     Some(link)
 }
 
-// The file `f` of a row.
-fn files_in(alloc: Global, blocks: &str) -> Option<MapFiles> {
+// The file `f` of a row. These calls of the files fail.
+fn files_in(alloc: Global, blocks: &str, failing: &str) -> Option<MapFiles> {
     let mut files = MapFiles::new(alloc);
     files.write(alloc, "f", &bytes_in(alloc, blocks)?).ok()?;
+    files.failing(&numbers_in(alloc, failing)?).ok()?;
     Some(files)
 }
 
-// The call of a row's fields: what is done with tasks, which calls of the link fail, the words, the block file, and what the peers send.
+// The call of a row's fields: what is done with tasks, which calls of the link and behind a `/` of the files fail, the words, the block file, and
+// what the peers send.
 fn called<R: Wait + Threads + Sync + Copy + Drop + Send + 'static>(
     rt: R,
     alloc: Global,
@@ -171,9 +167,10 @@ fn called<R: Wait + Threads + Sync + Copy + Drop + Send + 'static>(
     asked: &str,
 ) -> Option<String> {
     let (way, failing) = limits.split_once(' ')?;
+    let (failing, unread) = failing.split_once('/').unwrap_or((failing, "-"));
     let spawner = spawner_in(rt, way)?;
     let link = link_in(alloc, failing, asked)?;
-    let files = files_in(alloc, blocks)?;
+    let files = files_in(alloc, blocks, unread)?;
     let words = texts_in(alloc, words, ' ')?;
     let wires = MemoryWires::new(alloc).ok()?;
     served(rt, alloc, &words, files, wires, link, spawner)

@@ -1,8 +1,9 @@
-//! Sessions that are followed over each store of chains.
+//! Sessions that are followed over each store of chains, and over wires that fail.
 ghost use Rattle.std.specs.Prelude.{◌≡◌, ℕ, None};
 
 use crate::fields::file_in;
 use crate::runs::wires_of;
+use cf_answers::text_of;
 use cf_client::{Held, Outcome, sync_over};
 use cf_headers::{HeaderStore, Tree};
 use cf_input::{read_session, read_watch};
@@ -34,22 +35,23 @@ fn shown(alloc: Global, outcome: &Outcome) -> Option<String> {
     format!(in alloc; "{end:?} {counts}\n{text}").ok()
 }
 
-// What comes of a session over a store.
-fn followed<H: HeaderStore + Drop>(
+// The outcome of a session over a store. These calls of the wires fail.
+fn outcome_of<H: HeaderStore + Drop>(
     alloc: Global,
     store: H,
     watch: &str,
     session: &str,
-) -> Option<String>
+    failing: &str,
+) -> Option<Outcome>
     requires { (q : ℕ) → H.chain store q ≡ None }
 {
-    let mut wires = wires_of(alloc, session, "-")?;
+    let mut wires = wires_of(alloc, session, failing)?;
     let watch = read_watch(alloc, watch.as_bytes()).ok()?;
     if session.len() >= 1_000_000 {
         return None;
     }
     let session = read_session(alloc, session.as_bytes()).ok()?;
-    let outcome = sync_over(
+    sync_over(
         alloc,
         &mut wires,
         &session.names,
@@ -60,7 +62,19 @@ fn followed<H: HeaderStore + Drop>(
         0,
         1_000_000,
     )
-    .ok()?;
+    .ok()
+}
+
+// What comes of a session over a store.
+fn followed<H: HeaderStore + Drop>(
+    alloc: Global,
+    store: H,
+    watch: &str,
+    session: &str,
+) -> Option<String>
+    requires { (q : ℕ) → H.chain store q ≡ None }
+{
+    let outcome = outcome_of(alloc, store, watch, session, "-")?;
     shown(alloc, &outcome)
 }
 
@@ -84,4 +98,23 @@ pub(crate) fn answer(alloc: Global, row: &str) -> Option<String> {
     let lists = over_lists(alloc, &watch, &session)?;
     let tree = over_tree(alloc, &watch, &session)?;
     format!(in alloc; "lists {lists}tree {tree}").ok()
+}
+
+// How a run ended, its trace, and the history and the tip where it is synced.
+fn trace_shown(alloc: Global, outcome: &Outcome) -> Option<String> {
+    let end = outcome.end;
+    let text = text_of(alloc, outcome, true).ok()?;
+    let text = str::from_utf8(&text).ok()?;
+    format!(in alloc; "{end:?}\n{text}").ok()
+}
+
+/// What comes of a row's session with its watched scripts, where calls of the wires fail, with the trace.
+pub(crate) fn traced(alloc: Global, row: &str) -> Option<String> {
+    let (failing, rest) = row.split_once('|')?;
+    let (watch, session) = rest.split_once('|')?;
+    let watch = file_in(alloc, watch)?;
+    let session = file_in(alloc, session)?;
+    let store = Tree::new(alloc).ok()?;
+    let outcome = outcome_of(alloc, store, &watch, &session, failing)?;
+    trace_shown(alloc, &outcome)
 }

@@ -6,8 +6,8 @@ use Rattle.cf_bytes.specs.Files.{Named}
 use Rattle.cf_bytes.specs.declared.hash.Hash32.{Hash32}
 use Rattle.cf_block.specs.declared.tx.Block.{Block}
 use Rattle.cf_chain.specs.Filters.{Filtered, filter_at}
-use Rattle.cf_index.specs.declared.cause.BadBlock.{BadBlock}
-use Rattle.cf_index.specs.Files.{blocks_at}
+use Rattle.cf_walk.specs.declared.cause.BadBlock.{BadBlock}
+use Rattle.cf_walk.specs.Files.{blocks_at}
 use Rattle.cf_input.specs.declared.proof_file.ProofFileFault.{ProofFileFault}
 use Rattle.cf_input.specs.declared.proof_file.Proven.{Proven}
 use Rattle.cf_input.specs.declared.watch_file.WatchFileFault.{WatchFileFault}

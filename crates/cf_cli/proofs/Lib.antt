@@ -1,4 +1,5 @@
 pub mod Asking
+pub mod Scans
 pub mod Records
 pub mod Runs
 pub mod Plays

@@ -25,7 +25,8 @@ use Rattle.cf_input.specs.declared.words.Command.{Command}
 use Rattle.cf_input.specs.declared.words.Command.TheVariants.{Replay, Sync}
 use Rattle.cf_input.specs.SessionFile.{session_of}
 use Rattle.cf_input.specs.WatchFile.{watch_of}
-use Rattle.cf_cli.specs.Statuses.{has_run, may_dial, may_play, IsOfFile, IsJudged, verdict_of, and_then, watch_verdict, session_verdict}
+use Rattle.cf_cli.specs.Statuses.{has_run, may_dial, may_play, IsJudged, verdict_of, and_then}
+use Rattle.cf_loading.specs.Verdicts.{IsOfFile, watch_verdict, session_verdict}
 use Rattle.cf_cli.specs.Theorem.{AnswersTo, AreLeft, IsWhole, IsWithin, Kept, KeptOver, IsOfRun, IsReplayed, Plays, PlaysSession, Tallied, has_somebody}
 
 -- no run is made where a file is answered for

@@ -29,7 +29,7 @@ use Rattle.cf_proof.specs.declared.proof.Proof.{Proof}
 use Rattle.cf_proof.proofs.Again.{made_passes, made_short}
 use Rattle.cf_index.specs.Finding.{first_place, StandsAt}
 use Rattle.cf_index.proofs.Finding.{block_txs_few}
-use Rattle.cf_index.proofs.Growing.{MayStand, part_stands}
+use Rattle.cf_walk.proofs.Growing.{MayStand, part_stands}
 use Rattle.cf_input.specs.Lines.{bytes_of_hex}
 use Rattle.cf_input.specs.LineLaws.{IsLine}
 use Rattle.cf_input.specs.ProofFile.{bytes_after, whole_tx, as_tx, tx_of, tx_in_line, worked, unless_fault, block_by, block_of, block_told, block_in_line, block_from, line_of, after_line, proven, proof_file_of}
@@ -40,7 +40,8 @@ use Rattle.cf_answers.specs.declared.status.Status.{Status}
 use Rattle.cf_answers.specs.declared.status.Status.TheVariants.{Done, NoMemory, Usage, BadFile, FileFault, OutFault, NoPeers, Tired, Ended, LinkFault, NoNonce, NoHeight, NotThere, NotAddress}
 use Rattle.cf_cli.specs.Proving.{proof_text, IsTextAt, IsProofText, in_text, Checks, Takes, TakesWhatIsProved}
 use Rattle.cf_cli.specs.Reading.{named_line, IsWritten}
-use Rattle.cf_cli.specs.Statuses.{Good, IsJudged, proof_verdict}
+use Rattle.cf_cli.specs.Statuses.{IsJudged}
+use Rattle.cf_loading.specs.Verdicts.{Good, proof_verdict}
 
 -- ---- lines of hexadecimal digits
 

@@ -9,7 +9,8 @@ use Rattle.cf_input.specs.declared.words.Command.{Command}
 use Rattle.cf_input.specs.declared.words.Command.TheVariants.{Sync}
 use Rattle.cf_answers.specs.declared.status.Status.{Status}
 use Rattle.cf_answers.specs.declared.status.Status.TheVariants.{Done, NoMemory, Usage, BadFile, FileFault, OutFault, NoPeers, Tired, Ended, LinkFault, NoNonce, NoHeight, NotThere, NotAddress}
-use Rattle.cf_cli.specs.Statuses.{IsJudged, IsOfFile, Verdict, Good, was_unbegun, watch_verdict}
+use Rattle.cf_cli.specs.Statuses.{IsJudged, was_unbegun}
+use Rattle.cf_loading.specs.Verdicts.{IsOfFile, Verdict, Good, watch_verdict}
 use Rattle.cf_cli.specs.Recording.{HasRecord, KeepsOthers, Records, may_write}
 use Rattle.cf_cli.specs.Theorem.{AnswersTo}
 use Rattle.cf_client.specs.declared.outcome.End.{End}

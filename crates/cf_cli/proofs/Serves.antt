@@ -5,7 +5,7 @@ use Rattle.std.specs.FinMap as finite
 use Rattle.cf_bytes.specs.Files.{Named}
 use Rattle.cf_block.specs.declared.tx.Block.{Block}
 use Rattle.cf_chain.specs.Good.{IsGoodChain}
-use Rattle.cf_index.specs.Files.{blocks_at}
+use Rattle.cf_walk.specs.Files.{blocks_at}
 use Rattle.cf_serve.specs.Links.{LinkTold}
 use Rattle.cf_serve.specs.Serving.{Serves}
 use Rattle.cf_serve.specs.declared.fail.ServeFail.{ServeFail}
@@ -52,6 +52,14 @@ pub chain_served : (answer : Result (Unit {0}) ServeFail) (served : Told → ℕ
 chain_served (Ok done) served address count was now may at all = (at, all)
 chain_served (Err Failed) served address count was now may at all = may
 chain_served (Err OutOfMemory) served address count was now may at all = may
+
+-- the same by a server of which it is known what it is
+pub served_so : {A : Type 0} (answer : Result (Unit {0}) ServeFail) (status : Status) (served : A → Told → ℕ → Told → Type 0) (server told : A) (address : List ℕ) (count : ℕ) (was now : LinkTold)
+    → status ≡ answer_of answer → server ≡ told → MayServe (served server) address count was now → OnOk answer (ServesAt (served server) address count was now)
+    → OnOk answer (now.accepted ≡ was.accepted + count) → ServesChain status (served told) address count was now
+served_so {A} answer status served server told address count was now is same may at all =
+    subst (λ (s : A). ServesChain status (served s) address count was now) same
+    (subst (λ (x : Status). ServesChain x (served server) address count was now) (sym is) (chain_served answer (served server) address count was now may at all))
 
 -- the same of the file
 pub file_served : (grow : Bool) (status : Status) (moment : ℤ) (nonce : ℕ) (files : Option Named) (file address : List ℕ) (count : ℕ) (was now : LinkTold) (blocks : List Block) → IsGoodChain blocks

@@ -1,21 +1,27 @@
 -- Which files a command asks for.
-use Rattle.std.specs.Prelude.{◌≡◌, ℕ, List, [], ◌∷◌, Option, Some, None}
-use Rattle.cf_bytes.specs.Files.{Reads, Writes, AreRead, IsAtMostWritten}
+use Rattle.std.specs.Prelude.{◌≡◌, ◌⊎◌, ℕ, List, [], ◌∷◌, Option, Some, None}
+use Rattle.cf_bytes.specs.Files.{Reads, Opens, Parts, Writes, IsRead, IsAtMostWritten}
+use Rattle.cf_conn.specs.Opened.{IsReadByParts}
 use Rattle.cf_input.specs.declared.words.Command.{Command}
 use Rattle.cf_input.specs.declared.words.Command.TheVariants.{Replay, Sync, Scan, Filter, Address, Prove, Check, Serve, Make, Demo}
 
--- the files that a command reads, in this order
-abbrev pub names_read : Command → List (List ℕ)
-names_read (Replay trace watch session) = watch ∷ session ∷ []
-names_read (Sync turns workers file watch peers) = watch ∷ []
-names_read (Scan file watch) = watch ∷ file ∷ []
-names_read (Filter file height) = file ∷ []
-names_read (Address text) = []
-names_read (Prove file txid) = file ∷ []
-names_read (Check file) = file ∷ []
-names_read (Serve grow count file address) = file ∷ []
-names_read (Make witness seed blocks file) = []
-names_read (Demo seed blocks) = []
+-- a file of this name that is read whole, by one call; or one that is opened and read by parts
+pub data FileRead : Type 0 where
+  Whole : (name : List ℕ) → FileRead
+  ByParts : (name : List ℕ) → FileRead
+
+-- the files that a command reads, in this order: those of blocks by parts
+abbrev pub files_read : Command → List FileRead
+files_read (Replay trace watch session) = Whole watch ∷ Whole session ∷ []
+files_read (Sync turns workers file watch peers) = Whole watch ∷ []
+files_read (Scan file watch) = Whole watch ∷ ByParts file ∷ []
+files_read (Filter file height) = ByParts file ∷ []
+files_read (Address text) = []
+files_read (Prove file txid) = ByParts file ∷ []
+files_read (Check file) = Whole file ∷ []
+files_read (Serve grow count file address) = ByParts file ∷ []
+files_read (Make witness seed blocks file) = []
+files_read (Demo seed blocks) = []
 
 -- the file that a command writes: `make` its chain, and `sync` the record that is asked for
 abbrev pub name_written : Command → Option (List ℕ)
@@ -23,14 +29,25 @@ name_written (Make witness seed blocks file) = Some file
 name_written (Sync turns workers file watch peers) = file
 name_written command = None
 
+-- the file was read, whole or by parts
+abbrev pub HasRead : {F : Type 0} → Reads F → Opens F → Parts F → FileRead → F → F → Type 0
+HasRead reads opens parts (Whole name) before after = IsRead reads name before after
+HasRead reads opens parts (ByParts name) before after = IsReadByParts opens parts name before after
+
+-- of these files the first ones were read, each once and in this order, and nothing else was asked of the files
+abbrev pub AreRead : {F : Type 0} → Reads F → Opens F → Parts F → List FileRead → F → F → Type 0
+AreRead reads opens parts [] before after = after ≡ before
+AreRead {F} reads opens parts (file ∷ files) before after =
+    (after ≡ before) ⊎ ((between : F) × HasRead reads opens parts file before between × AreRead reads opens parts files between after)
+
 -- of these files the first ones were read, each once and in this order, and then at most this one was written, once;
 -- nothing else was asked
-abbrev pub AsksFor : {F : Type 0} → Reads F → Writes F → List (List ℕ) → Option (List ℕ) → F → F → Type 0
-AsksFor {F} reads writes names written before after =
-    (between : F) × AreRead reads names before between × IsAtMostWritten writes written between after
+abbrev pub AsksFor : {F : Type 0} → Reads F → Opens F → Parts F → Writes F → List FileRead → Option (List ℕ) → F → F → Type 0
+AsksFor {F} reads opens parts writes files written before after =
+    (between : F) × AreRead reads opens parts files before between × IsAtMostWritten writes written between after
 
 -- what a command asks of the files; where the words ask for nothing, nothing is asked of them
-abbrev pub AreAsked : {F : Type 0} → Reads F → Writes F → Option Command → F → F → Type 0
-AreAsked reads writes None before after = after ≡ before
-AreAsked reads writes (Some command) before after =
-    AsksFor reads writes (names_read command) (name_written command) before after
+abbrev pub AreAsked : {F : Type 0} → Reads F → Opens F → Parts F → Writes F → Option Command → F → F → Type 0
+AreAsked reads opens parts writes None before after = after ≡ before
+AreAsked reads opens parts writes (Some command) before after =
+    AsksFor reads opens parts writes (files_read command) (name_written command) before after

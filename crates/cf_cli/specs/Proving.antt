@@ -11,8 +11,8 @@ use Rattle.cf_block.specs.Header.{block_hash_of}
 use Rattle.cf_block.specs.Tx.{tx_spelling}
 use Rattle.cf_chain.specs.Good.{IsGoodChain}
 use Rattle.cf_proof.specs.Made.{IsProofOf}
-use Rattle.cf_index.specs.declared.cause.BadBlock.{BadBlock}
-use Rattle.cf_index.specs.Files.{blocks_at}
+use Rattle.cf_walk.specs.declared.cause.BadBlock.{BadBlock}
+use Rattle.cf_walk.specs.Files.{blocks_at}
 use Rattle.cf_index.specs.Finding.{first_place, StandsAt}
 use Rattle.cf_input.specs.ProofFile.{proof_file_of}
 use Rattle.cf_input.specs.declared.proof_file.ProofFileFault.{ProofFileFault}

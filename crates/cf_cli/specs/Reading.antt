@@ -6,22 +6,15 @@ use Rattle.cf_bytes.specs.Files.{Named}
 use Rattle.cf_bytes.specs.Hash.{shown}
 use Rattle.cf_bytes.specs.Outside.{with_more}
 use Rattle.cf_block.specs.declared.tx.Block.{Block}
-use Rattle.cf_headers.specs.Chain.{tip_hash}
-use Rattle.cf_chain.specs.Good.{headers_of}
 use Rattle.cf_chain.specs.Filters.{Filtered, filter_at}
-use Rattle.cf_index.specs.declared.cause.BadBlock.{BadBlock}
-use Rattle.cf_index.specs.Files.{blocks_at}
+use Rattle.cf_walk.specs.declared.cause.BadBlock.{BadBlock}
+use Rattle.cf_walk.specs.Files.{blocks_at}
 use Rattle.cf_input.specs.Addresses.{IsOtherForm, HasNoForm}
 use Rattle.cf_input.specs.WatchFile.{watch_of}
 use Rattle.cf_input.specs.declared.watch_file.WatchFileFault.{WatchFileFault}
-use Rattle.cf_scan.specs.HistoryText.{history_text}
-use Rattle.cf_scan.specs.Scan.{scan_of}
 use Rattle.cf_answers.specs.declared.status.Status.{Status}
 use Rattle.cf_answers.specs.declared.status.Status.TheVariants.{Done, NoMemory, BadFile, FileFault, OutFault, NoHeight, NotAddress}
-
--- the history of these scripts by a plain scan of every block above genesis, and the chain's tip
-abbrev pub scan_text : List (List ℕ) → List Block → List ℕ
-scan_text scripts blocks = history_text (scan_of blocks scripts) (length blocks) (tip_hash (headers_of blocks))
+use Rattle.cf_loading.specs.Scanning.{scan_text}
 
 -- NAME VALUE, ended by LF
 abbrev pub named_line : List ℕ → List ℕ → List ℕ

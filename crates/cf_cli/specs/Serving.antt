@@ -5,7 +5,7 @@ use Rattle.cf_bytes.specs.Files.{Named}
 use Rattle.cf_conn.specs.Told.{Told}
 use Rattle.cf_block.specs.declared.tx.Block.{Block}
 use Rattle.cf_chain.specs.Good.{IsGoodChain}
-use Rattle.cf_index.specs.Files.{blocks_at}
+use Rattle.cf_walk.specs.Files.{blocks_at}
 use Rattle.cf_input.specs.declared.words.Command.{Command}
 use Rattle.cf_input.specs.declared.words.Command.TheVariants.{Serve}
 use Rattle.cf_serve.specs.Links.{LinkTold, longer_by}

@@ -1,80 +1,12 @@
 -- The answers of the program, and what each says of the files.
-use Rattle.std.specs.Prelude.{◌≡◌, ℕ, nat_lt, Bool, true, false, not, if◌then◌else◌, List, length, Option, Some, None, is_some, Result, Ok, Err}
+use Rattle.std.specs.Prelude.{◌≡◌, Bool, true, false, not, Option, Some, is_some}
 use Rattle.std.specs.FinMap as finite
 use Rattle.cf_bytes.specs.Files.{Named}
-use Rattle.cf_bytes.specs.declared.files.FileFail.{FileFail}
-use Rattle.cf_bytes.specs.declared.files.FileFail.TheVariants.{Failed, TooBig as TooMuch, NoMemory as OutOfMemory}
-use Rattle.cf_block.specs.declared.tx.Block.{Block}
-use Rattle.cf_index.specs.declared.cause.BadBlock.{BadBlock}
-use Rattle.cf_index.specs.Files.{blocks_at}
-use Rattle.cf_wires.specs.Wires.{Script}
-use Rattle.cf_input.specs.declared.session.SessionFault.{SessionFault}
-use Rattle.cf_answers.specs.declared.status.FileCause.{FileCause}
-use Rattle.cf_answers.specs.declared.status.FileCause.TheVariants.{TooBig, Watch as OfWatch, Session as OfSession, Blocks as OfBlocks, Proof as OfProof}
 use Rattle.cf_answers.specs.declared.status.Status.{Status}
-use Rattle.cf_answers.specs.declared.status.Status.TheVariants.{Done, NoMemory, Usage, BadFile, FileFault, OutFault, NoPeers, Tired, Ended, LinkFault, NoNonce, NoHeight, NotThere, NotAddress}
-use Rattle.cf_answers.specs.declared.status.Which.{Which}
-use Rattle.cf_answers.specs.declared.status.Which.TheVariants.{Watch, Session, Blocks, Proof}
-use Rattle.cf_input.specs.declared.watch_file.WatchFileFault.{WatchFileFault}
+use Rattle.cf_answers.specs.declared.status.Status.TheVariants.{NoMemory, Usage, BadFile, FileFault, NoPeers}
 use Rattle.cf_input.specs.declared.words.Command.{Command}
 use Rattle.cf_input.specs.declared.words.Command.TheVariants.{Replay, Sync, Scan, Filter, Address, Prove, Check, Serve, Make, Demo}
-use Rattle.cf_input.specs.ProofFile.{proof_file_of}
-use Rattle.cf_input.specs.declared.proof_file.ProofFileFault.{ProofFileFault}
-use Rattle.cf_input.specs.declared.proof_file.Proven.{Proven}
-use Rattle.cf_input.specs.SessionFile.{session_of}
-use Rattle.cf_input.specs.WatchFile.{watch_of}
-
--- the most bytes that a watch file, a session file, a block file and the file of a proof may have
-abbrev pub most_watch : ℕ
-most_watch = 33554432
-
-abbrev pub most_session : ℕ
-most_session = 1073741824
-
-abbrev pub most_blocks : ℕ
-most_blocks = 1073741824
-
-abbrev pub most_proof : ℕ
-most_proof = 4000000
-
--- what stands under a name: no file, a file that is refused, or a good one
-pub data Verdict : Type 0 where
-  Missing : Verdict
-  Bad : (which : Which) → (place : ℕ) → (cause : FileCause) → Verdict
-  Good : Verdict
-
-abbrev pub watch_read : Result (List (List ℕ)) WatchFileFault → Verdict
-watch_read (Ok scripts) = Good
-watch_read (Err fault) = Bad Watch fault.place (OfWatch fault.cause)
-
-abbrev pub watch_verdict : Option (List ℕ) → Verdict
-watch_verdict None = Missing
-watch_verdict (Some bytes) = if nat_lt most_watch (length bytes) then Bad Watch 0 TooBig else watch_read (watch_of bytes)
-
-abbrev pub session_read : Result Script SessionFault → Verdict
-session_read (Ok script) = Good
-session_read (Err fault) = Bad Session fault.place (OfSession fault.cause)
-
-abbrev pub session_verdict : Option (List ℕ) → Verdict
-session_verdict None = Missing
-session_verdict (Some bytes) = if nat_lt most_session (length bytes) then Bad Session 0 TooBig else session_read (session_of bytes)
-
-abbrev pub blocks_read : Result (List Block) BadBlock → Verdict
-blocks_read (Ok blocks) = Good
-blocks_read (Err bad) = Bad Blocks bad.number (OfBlocks bad.cause)
-
--- what a file of blocks is judged as: missing, refused with its first bad record and cause, or good
-abbrev pub blocks_verdict : Option (List ℕ) → Verdict
-blocks_verdict None = Missing
-blocks_verdict (Some bytes) = if nat_lt most_blocks (length bytes) then Bad Blocks 0 TooBig else blocks_read (blocks_at bytes)
-
-abbrev pub proof_read : Result Proven ProofFileFault → Verdict
-proof_read (Ok proven) = Good
-proof_read (Err fault) = Bad Proof fault.place (OfProof fault.cause)
-
-abbrev pub proof_verdict : Option (List ℕ) → Verdict
-proof_verdict None = Missing
-proof_verdict (Some bytes) = if nat_lt most_proof (length bytes) then Bad Proof 0 TooBig else proof_read (proof_file_of bytes)
+use Rattle.cf_loading.specs.Verdicts.{Verdict, Missing, Bad, Good, watch_verdict, session_verdict, blocks_verdict, proof_verdict}
 
 -- the watch file is judged first
 abbrev pub and_then : Verdict → Verdict → Verdict
@@ -110,14 +42,6 @@ IsJudged (Bad which place cause) status = ⊥
 IsJudged Good (BadFile w p c) = ⊥
 IsJudged Good status = Unit {0}
 
--- what reading a file answers: a good one, or the program's answer
-abbrev pub IsReadAs : {X : Type 0} → Verdict → Result X Status → Type 0
-IsReadAs verdict (Ok x) = verdict ≡ Good
-IsReadAs verdict (Err FileFault) = Unit {0}
-IsReadAs verdict (Err NoMemory) = Unit {0}
-IsReadAs verdict (Err (BadFile w p c)) = verdict ≡ Bad w p c
-IsReadAs verdict (Err status) = ⊥
-
 -- the words ask for nothing, or a file can't be read or is refused: nothing was begun
 abbrev pub was_refused : Status → Bool
 was_refused Usage = true
@@ -151,22 +75,3 @@ may_play command status = false
 abbrev pub is_no_peers : Status → Bool
 is_no_peers (NoPeers ends) = true
 is_no_peers status = false
-
--- the answers to files
-abbrev pub IsOfFile : Status → Type 0
-IsOfFile NoMemory = Unit {0}
-IsOfFile FileFault = Unit {0}
-IsOfFile (BadFile which place cause) = Unit {0}
-IsOfFile status = ⊥
-
--- the answer to a file that can't be read
-abbrev pub IsUnread : Which → FileFail → Status → Type 0
-IsUnread which Failed status = status ≡ FileFault
-IsUnread which TooMuch status = status ≡ BadFile which 0 TooBig
-IsUnread which OutOfMemory status = status ≡ NoMemory
-
--- the answers to the bytes of a file
-abbrev pub IsRefusal : Status → Type 0
-IsRefusal NoMemory = Unit {0}
-IsRefusal (BadFile which place cause) = Unit {0}
-IsRefusal status = ⊥

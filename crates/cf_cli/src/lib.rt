@@ -5,7 +5,6 @@ mod addressing;
 mod demoing;
 mod following;
 mod laws;
-mod loading;
 mod making;
 mod program;
 mod proving;
@@ -15,5 +14,4 @@ mod serving;
 
 pub use demoing::{demo_text, session};
 pub use laws::laws_of_records;
-pub use loading::{MOST_BLOCKS, MOST_PROOF, MOST_SESSION, MOST_WATCH};
 pub use program::run;

@@ -9,9 +9,10 @@ ghost use Rattle.cf_wires.specs.Log.{Tells};
 ghost use Rattle.cf_wires.specs.Memory.{log_of, failing_of, finished_of, told_of};
 ghost use Rattle.cf_played.specs.Told.{log_of as played_log, peers_of, finished_of as has_finished};
 ghost use Rattle.cf_input.specs.SessionFile.{session_of};
-ghost use Rattle.cf_cli.specs.Asking.{AsksFor, AreAsked};
+ghost use Rattle.cf_cli.specs.Asking.{AsksFor, AreAsked, Whole};
 ghost use Rattle.cf_cli.specs.Recording.{Records, may_write};
-ghost use Rattle.cf_cli.specs.Statuses.{IsJudged, has_run, was_refused, was_unbegun, may_dial, may_play, and_then, verdict_of, watch_verdict, session_verdict};
+ghost use Rattle.cf_cli.specs.Statuses.{IsJudged, has_run, was_refused, was_unbegun, may_dial, may_play, and_then, verdict_of};
+ghost use Rattle.cf_loading.specs.Verdicts.{watch_verdict, session_verdict};
 ghost use Rattle.cf_serve.specs.Links.{link_now};
 ghost use Rattle.cf_cli.specs.Serving.{may_serve};
 ghost use Rattle.cf_cli.specs.Doing.{Does, around};
@@ -23,7 +24,6 @@ ghost use Rattle.cf_input.specs.declared.words.Command.{Command};
 use crate::addressing::address;
 use crate::demoing::demo;
 use crate::following::follow;
-use crate::loading::{load_session, load_watch};
 use crate::making::make;
 use crate::proving::{check, prove};
 use crate::reading::{filter, scan};
@@ -33,6 +33,7 @@ use cf_bytes::{Files, Refused, Sink};
 use cf_conn::Duplex;
 use cf_grow::Joins;
 use cf_input::{Command, MOST_TURNS, Word, read_words};
+use cf_loading::{load_session, load_watch};
 use cf_match::Plain;
 use cf_parallel::Parallel;
 use cf_played::Played;
@@ -63,7 +64,7 @@ fn replay<F: Files, O: Sink>(
     ensures plays { IfSome (F.files files.old) (λ m. IfSome (finite.get m session.now) (λ bytes. PlaysSession result (session_of bytes) (log_of tape.new))) }
     ensures versions { IsOfWords (record { moment = moment; number = nonce }) (log_of tape.new) }
     ensures unchanged { F.files files.new ≡ F.files files.old }
-    ensures files { AsksFor F.reads F.writes (watch.now ∷ session.now ∷ []) None files.old files.new }
+    ensures files { AsksFor F.reads F.opens F.parts F.writes (Whole watch.now ∷ Whole session.now ∷ []) None files.old files.new }
     ensures file_fault { result ≡ Status.FileFault → HasRisen (F.faults files.old) (F.faults files.new) }
     ensures out_fault { result ≡ Status.OutFault → HasRisen (O.faults out.old) (O.faults out.new) }
     ensures unwritten { has_run result ≡ false → O.written out.new ≡ O.written out.old }
@@ -124,7 +125,7 @@ fn sync<R: Wait + Threads + Copy + Drop + Send + 'static, F: Files, W: Wires, K:
     ensures versions { HasWords (record { moment = moment; number = nonce }) (W.told wires.new) }
     ensures failures { IfSome (W.told wires.new).log (λ log. HasFailed log → HasRisen (W.faults wires.old) (W.faults wires.new)) }
     ensures records { Records result log_file.now (W.told wires.new).log (F.files files.old) (F.files files.new) }
-    ensures files { AsksFor F.reads F.writes (watch.now ∷ []) log_file.now files.old files.new }
+    ensures files { AsksFor F.reads F.opens F.parts F.writes (Whole watch.now ∷ []) log_file.now files.old files.new }
     ensures file_fault { result ≡ Status.FileFault → HasRisen (F.faults files.old) (F.faults files.new) }
     ensures out_fault { result ≡ Status.OutFault → HasRisen (O.faults out.old) (O.faults out.new) }
     ensures unwritten { has_run result ≡ false → O.written out.new ≡ O.written out.old }
@@ -195,7 +196,7 @@ where
     ensures versions { HasWords (record { moment = moment; number = nonce }) (W.told wires.new) }
     ensures tape_versions { IsOfWords (record { moment = moment; number = nonce }) (log_of tape.new) }
     ensures unchanged { may_write (Some command) ≡ false → F.files files.new ≡ F.files files.old }
-    ensures files { AreAsked F.reads F.writes (Some command) files.old files.new }
+    ensures files { AreAsked F.reads F.opens F.parts F.writes (Some command) files.old files.new }
     ensures file_fault { result ≡ Status.FileFault → HasRisen (F.faults files.old) (F.faults files.new) }
     ensures out_fault { result ≡ Status.OutFault → HasRisen (O.faults out.old) (O.faults out.new) }
     ensures unwritten { has_run result ≡ false → O.written out.new ≡ O.written out.old }
@@ -289,7 +290,7 @@ where
 /// file; and its text is written. With `NoMemory`, `Usage`, `BadFile` and `FileFault` no text was written. With the last three no wires were used, but
 /// for a `FileFault` that comes where the record can't be written; `sync` alone uses `wires`, `replay` alone `tape`, `demo` alone `played`, `serve` alone
 /// `link`. `make` puts its records into its file; of the other commands only `sync` with a record changes a file. Of the files at most those that the
-/// command names are read, the watch file first and each once, and after that at most the one that it writes is written, once.
+/// command names are read, the watch file first and each once, a file of blocks by parts, and after that at most the one that it writes is written, once.
 pub fn run<
     R: Wait + Threads + Sync + Copy + Drop + Send + 'static,
     J: Joins + Copy + Drop + Send + 'static,
@@ -335,7 +336,7 @@ where
     ensures versions { HasWords (record { moment = moment; number = nonce }) (W.told wires.new) }
     ensures tape_versions { IsOfWords (record { moment = moment; number = nonce }) (log_of tape.new) }
     ensures unchanged { may_write (command_of (names_in words.now)) ≡ false → F.files files.new ≡ F.files files.old }
-    ensures files { AreAsked F.reads F.writes (command_of (names_in words.now)) files.old files.new }
+    ensures files { AreAsked F.reads F.opens F.parts F.writes (command_of (names_in words.now)) files.old files.new }
     ensures file_fault { result ≡ Status.FileFault → HasRisen (F.faults files.old) (F.faults files.new) }
     ensures out_fault { result ≡ Status.OutFault → HasRisen (O.faults out.old) (O.faults out.new) }
     ensures unwritten { has_run result ≡ false → O.written out.new ≡ O.written out.old }
@@ -348,7 +349,8 @@ where
 {
     match read_words(alloc, words) {
         Ok(command) => perform(
-            rt, alloc, joins, command, moment, nonce, files, wires, tape, played, link, spawner, out,
+            rt, alloc, joins, command, moment, nonce, files, wires, tape, played, link, spawner,
+            out,
         ),
         Err(Refused::No(_)) => Status::Usage,
         Err(Refused::NoMemory) => Status::NoMemory,

@@ -6,19 +6,21 @@ ghost use Rattle.cf_block.specs.Tx.{tx_spelling};
 ghost use Rattle.cf_bytes.specs.Files.{IsRead};
 ghost use Rattle.cf_bytes.specs.Outside.{HasRisen};
 ghost use Rattle.cf_chain.specs.Good.{IsGoodChain};
+ghost use Rattle.cf_conn.specs.Opened.{IsReadByParts};
 ghost use Rattle.cf_cli.specs.Proving.{proof_text, in_text, IsTextAt, GivesProofText, TellsProof, Checks, IsOfFind, IsOfProve, IsProved, IsChecked};
 ghost use Rattle.cf_cli.specs.Reading.{IsWritten, IsOfScan, IsOfText};
 ghost use Rattle.cf_index.specs.Finding.{first_place, StandsAt};
 ghost use Rattle.cf_input.specs.ProofFile.{proof_file_of};
-ghost use Rattle.cf_cli.specs.Statuses.{IsJudged, has_run, blocks_verdict, proof_verdict};
+ghost use Rattle.cf_cli.specs.Statuses.{IsJudged, has_run};
+ghost use Rattle.cf_loading.specs.Verdicts.{blocks_verdict, proof_verdict};
 
-use crate::loading::{load_chain, load_proof};
 use crate::reading::{bytes_line, write};
 use cf_answers::Status;
 use cf_block::{Block, Tx, write_tx};
 use cf_bytes::{Files, Hash32, NoMemory, Sink, show};
 use cf_index::{CheckedChain, TxIndex};
 use cf_input::Proven;
+use cf_loading::{load_chain, load_proof};
 use cf_proof::make_proof;
 use std::alloc::Global;
 
@@ -96,7 +98,7 @@ pub(crate) fn prove<F: Files, O: Sink>(
     ensures judged { IfSome (F.files files.old) (λ m. IsJudged (blocks_verdict (finite.get m file.now)) result) }
     ensures proved { IsProved result (F.files files.old) file.now txid.now (O.written out.old) (O.written out.new) }
     ensures unchanged { F.files files.new ≡ F.files files.old }
-    ensures files { IsRead F.reads file.now files.old files.new }
+    ensures files { IsReadByParts F.opens F.parts file.now files.old files.new }
     ensures unwritten { has_run result ≡ false → O.written out.new ≡ O.written out.old }
     ensures file_fault { result ≡ Status.FileFault → HasRisen (F.faults files.old) (F.faults files.new) }
     ensures out_fault { result ≡ Status.OutFault → HasRisen (O.faults out.old) (O.faults out.new) }

@@ -2,29 +2,21 @@
 ghost use Rattle.std.specs.Prelude.{◌≡◌, [], ◌∷◌, false, length, nat_lt, IfOk, IfSome, option_map, string_bytes};
 ghost use Rattle.std.specs.FinMap as finite;
 ghost use Rattle.hex.specs.Hex.{encode_lower};
-ghost use Rattle.cf_bytes.specs.Files.{IsRead, AreRead};
 ghost use Rattle.cf_bytes.specs.Hash.{shown};
 ghost use Rattle.cf_bytes.specs.Outside.{HasRisen};
 ghost use Rattle.cf_chain.specs.Filters.{filter_at as filter_in};
-ghost use Rattle.cf_cli.specs.Reading.{scan_text, named_line, filter_text, IsWritten, IsScanned, IsFiltered, IsOfText, IsOfFilter, IsOfHeight, TellsHeight};
-ghost use Rattle.cf_cli.specs.Statuses.{IsJudged, has_run, and_then, watch_verdict, blocks_verdict};
+ghost use Rattle.cf_conn.specs.Opened.{IsReadByParts};
+ghost use Rattle.cf_cli.specs.Asking.{AreRead, Whole, ByParts};
+ghost use Rattle.cf_cli.specs.Reading.{named_line, filter_text, IsWritten, IsScanned, IsFiltered, IsOfText, IsOfFilter, IsOfHeight, TellsHeight};
+ghost use Rattle.cf_cli.specs.Statuses.{IsJudged, has_run, and_then};
+ghost use Rattle.cf_loading.specs.Verdicts.{watch_verdict, blocks_verdict};
 
-use crate::loading::{load_chain, load_watch};
 use cf_answers::Status;
 use cf_bytes::{Files, Hash32, NoMemory, Sink, put_all, show};
 use cf_index::{CheckedChain, Index};
-use cf_scan::{Watch, scan as scan_blocks};
+use cf_loading::{load_chain, load_watch, scan_file};
 use std::alloc::Global;
 use std::thread::Threads;
-
-// The history of the watched scripts, and the tip.
-fn text_of_scan(alloc: Global, chain: &CheckedChain, watch: &Watch) -> Result<String, NoMemory>
-    ensures { IfOk result (λ text. string_bytes text ≡ scan_text watch.now chain.now) }
-{
-    let tip = chain.tip();
-    let history = scan_blocks(alloc, chain.blocks(), chain.txids(), watch)?;
-    history.text(alloc, tip, &chain.tip_hash())
-}
 
 // Bytes as lower-case hexadecimal digits.
 fn digits_of(alloc: Global, bytes: &[u8]) -> Result<String, NoMemory>
@@ -102,7 +94,7 @@ pub(crate) fn write<O: Sink>(text: &[u8], out: &mut O) -> Status
 }
 
 /// Writes the history of the watched scripts in a file of blocks. The watch file is read first.
-#[tactic(auto, using(crate::proofs::Asking::read_first, crate::proofs::Asking::read_both))]
+#[tactic(auto, using(crate::proofs::Asking::read_first, crate::proofs::Asking::read_then, crate::proofs::Scans::scans_so))]
 pub(crate) fn scan<F: Files, O: Sink>(
     alloc: Global,
     files: &mut F,
@@ -113,7 +105,7 @@ pub(crate) fn scan<F: Files, O: Sink>(
     ensures judged { IfSome (F.files files.old) (λ m. IsJudged (and_then (watch_verdict (finite.get m watch.now)) (blocks_verdict (finite.get m file.now))) result) }
     ensures scanned { IsScanned result (F.files files.old) watch.now file.now (O.written out.old) (O.written out.new) }
     ensures unchanged { F.files files.new ≡ F.files files.old }
-    ensures files { AreRead F.reads (watch.now ∷ file.now ∷ []) files.old files.new }
+    ensures files { AreRead F.reads F.opens F.parts (Whole watch.now ∷ ByParts file.now ∷ []) files.old files.new }
     ensures unwritten { has_run result ≡ false → O.written out.new ≡ O.written out.old }
     ensures file_fault { result ≡ Status.FileFault → HasRisen (F.faults files.old) (F.faults files.new) }
     ensures out_fault { result ≡ Status.OutFault → HasRisen (O.faults out.old) (O.faults out.new) }
@@ -122,13 +114,9 @@ pub(crate) fn scan<F: Files, O: Sink>(
         Ok(watch) => watch,
         Err(status) => return status,
     };
-    let chain = match load_chain(alloc, files, file) {
-        Ok(chain) => chain,
-        Err(status) => return status,
-    };
-    match text_of_scan(alloc, &chain, &watch) {
+    match scan_file(alloc, files, file, &watch) {
         Ok(text) => write(text.as_bytes(), out),
-        Err(NoMemory) => Status::NoMemory,
+        Err(status) => status,
     }
 }
 
@@ -144,7 +132,7 @@ pub(crate) fn filter<R: Threads + Sync, F: Files, O: Sink>(
     ensures judged { IfSome (F.files files.old) (λ m. IsJudged (blocks_verdict (finite.get m file.now)) result) }
     ensures filtered { IsFiltered result (F.files files.old) file.now height (O.written out.old) (O.written out.new) }
     ensures unchanged { F.files files.new ≡ F.files files.old }
-    ensures files { IsRead F.reads file.now files.old files.new }
+    ensures files { IsReadByParts F.opens F.parts file.now files.old files.new }
     ensures unwritten { has_run result ≡ false → O.written out.new ≡ O.written out.old }
     ensures file_fault { result ≡ Status.FileFault → HasRisen (F.faults files.old) (F.faults files.new) }
     ensures out_fault { result ≡ Status.OutFault → HasRisen (O.faults out.old) (O.faults out.new) }

@@ -1,19 +1,20 @@
 //! The server of a file of blocks.
 ghost use Rattle.std.specs.Prelude.{◌≡◌, ◌+◌, true, false, IfSome, OnOk};
 ghost use Rattle.std.specs.FinMap as finite;
-ghost use Rattle.cf_bytes.specs.Files.{IsRead};
 ghost use Rattle.cf_bytes.specs.Outside.{HasRisen};
+ghost use Rattle.cf_conn.specs.Opened.{IsReadByParts};
 ghost use Rattle.cf_serve.specs.Links.{link_now};
 ghost use Rattle.cf_serve.specs.Serving.{Counts};
 ghost use Rattle.cf_cli.specs.Serving.{ServesAt, MayServe, ServesChain, IsServing, answer_of, served_by};
-ghost use Rattle.cf_cli.specs.Statuses.{IsJudged, blocks_verdict, was_refused};
+ghost use Rattle.cf_cli.specs.Statuses.{IsJudged, was_refused};
+ghost use Rattle.cf_loading.specs.Verdicts.{blocks_verdict};
 
-use crate::loading::load_chain;
 use cf_answers::Status;
 use cf_bytes::{Files, Hash32, NoMemory};
 use cf_conn::Duplex;
 use cf_grow::Joins;
 use cf_index::{CheckedChain, Index};
+use cf_loading::load_chain;
 use cf_serve::{Link, ServeFail, Service, serve as serve_all};
 use cf_service::{GrowingServer, Server};
 use cf_tasks::Spawner;
@@ -217,7 +218,7 @@ where
     ensures serving { IsServing grow result moment nonce (F.files files.old) file.now address.now connections (link_now L.addresses L.accepted L.owed L.conns L.given link.old) (link_now L.addresses L.accepted L.owed L.conns L.given link.new) }
     ensures unused { was_refused result ≡ true → link.new ≡ link.old }
     ensures unchanged { F.files files.new ≡ F.files files.old }
-    ensures files { IsRead F.reads file.now files.old files.new }
+    ensures files { IsReadByParts F.opens F.parts file.now files.old files.new }
     ensures file_fault { result ≡ Status.FileFault → HasRisen (F.faults files.old) (F.faults files.new) }
     ensures link_fault { result ≡ Status.LinkFault → HasRisen (L.faults link.old) (L.faults link.new) }
 {

@@ -19,6 +19,7 @@ use Rattle.cf_wires.specs.declared.event.Delivery.{Delivery}
 use Rattle.cf_wires.specs.declared.event.Event.TheVariants.{Took}
 use Rattle.cf_peer.specs.Acts.{IsDoable}
 use Rattle.cf_wires.specs.Log.{Log}
+use Rattle.cf_peer.specs.Asking.{is_request}
 use Rattle.cf_peer.specs.Peer.{IsRight, calm, wants, is_idle_peer, asked_for_headers, asked_for_claims, asked_for_filters, asked_for_block}
 use Rattle.cf_seek.specs.declared.spans.Span.{Span}
 use Rattle.cf_seek.specs.declared.spans.Wish.{Wish}
@@ -39,6 +40,7 @@ use Rattle.cf_place.specs.declared.place.Loss.TheVariants.{Closed as ClosedFor}
 use Rattle.cf_place.specs.Places.{Goes, PlacesStand, after as done, nobody, is_calm, is_here, is_idle, is_settled, IsQuestion}
 use Rattle.cf_client.specs.Settled.{AreEntered, AreRight, AreSettled, IsAskedThrough, IsRightAt, chain_at}
 use Rattle.cf_client.specs.Steps.{Desk, Stands, IsInOrder, IsSent, IsSentFor, Way, Same, Taking, Extends, Moves, Asks}
+use Rattle.cf_client.proofs.Ordering.{above_asks, block_asked}
 use Rattle.cf_client.proofs.Standing.{set_is, late_goes, goes_start}
 use Rattle.cf_client.proofs.Settled.{set_each, set_other, settled_off, heard_by, asked_busy}
 use Rattle.cf_client.proofs.Rights.{right_of, right_set, claims_right, filters_right}
@@ -162,11 +164,11 @@ late_moves d i after lt order late put =
 
 -- a connected peer is asked something
 sent_asks : (d : Desk) (after : Seen) (i : ℕ) (peer now : Peer) (m : Msg) → i < length d.places → IsInOrder d → get_or d.places i nobody ≡ Here peer
-    → IsDoable (Send (record { 0 = i }) m) → is_settled (Here now) ≡ true → is_calm (Here now) ≡ true → IsRight now.request (d.seen.claims i) → HasOpened d.seen after i
+    → IsDoable (Send (record { 0 = i }) m) → is_request m ≡ true → is_settled (Here now) ≡ true → is_calm (Here now) ≡ true → IsRight now.request (d.seen.claims i) → HasOpened d.seen after i
     → ((log : Log) → Stands d log → Goes d.seen.watch (set d.places i (Here now)) (d.acts ++ Send (record { 0 = i }) m ∷ []) log)
     → ((log : Log) → Stands d log → Tracks after (done (d.acts ++ Send (record { 0 = i }) m ∷ []) log))
     → Asks i d (acted d i (Here now) after (Send (record { 0 = i }) m))
-sent_asks d after i peer now m lt order here doable settled calm right opened goes tracks = record {
+sent_asks d after i peer now m lt order here doable question settled calm right opened goes tracks = record {
   moves = set_moves i (Here now) lt order
       (record {
         watch = opened.watch;
@@ -177,6 +179,7 @@ sent_asks d after i peer now m lt order here doable settled calm right opened go
       })
       (extends_one d.acts (Send (record { 0 = i }) m)) (λ all. All-push IsDoable d.acts (Send (record { 0 = i }) m) all doable) (λ was. calm)
       (same (λ log stood. record { goes = goes_watch opened.watch (goes log stood); tracks = tracks log stood }));
+  asked = inr (m, question, refl);
   seen = opened;
   settled = ap is_settled (set_is d.places i (Here now) lt) ∙ settled;
   others = λ p other. set_other d.places i p (Here now) other;
@@ -185,20 +188,21 @@ sent_asks d after i peer now m lt order here doable settled calm right opened go
 pub question_asks : (d : Desk) (i : ℕ) (peer : Peer) (m : Msg) → i < length d.places → IsInOrder d → get_or d.places i nobody ≡ Here peer → wants peer ≡ true → IsQuestion (chain_at d.seen i) m
     → Asks i d (acted d i (Here (asked_for_headers peer)) d.seen (Send (record { 0 = i }) m))
 question_asks d i peer m lt order here wanted question =
-    sent_asks d d.seen i peer (asked_for_headers peer) m lt order here (omega (arith, lt, order.few), question.sendable) (grind (arith, common_steps)) refl tt (opened_self d.seen i)
+    sent_asks d d.seen i peer (asked_for_headers peer) m lt order here (omega (arith, lt, order.few), question.sendable)
+    (above_asks (chain_at d.seen i) m question.asks) (grind (arith, common_steps)) refl tt (opened_self d.seen i)
     (λ log stood. headers_goes d.places d.acts log d.seen i peer m lt stood.goes here wanted stood.tracks question)
     (λ log stood. headers_tracks d.places d.acts log d.seen i peer m stood.goes here (and_parts (not peer.heard) (is_idle_peer peer) wanted).1 question stood.tracks)
 
 -- a message is asked about the blocks of its chain
 about_asks : (d : Desk) (after : Seen) (i : ℕ) (m : Msg) (change : Peer → Peer) (places : List Place) (acts : List Act) → i < length d.places → IsInOrder d → (sent : IsSent i m change d.places places d.acts acts)
-    → is_settled (Here (change sent.peer)) ≡ true → is_calm (Here (change sent.peer)) ≡ true → IsRight (change sent.peer).request (d.seen.claims i) → HasOpened d.seen after i
+    → is_request m ≡ true → is_settled (Here (change sent.peer)) ≡ true → is_calm (Here (change sent.peer)) ≡ true → IsRight (change sent.peer).request (d.seen.claims i) → HasOpened d.seen after i
     → ((log : Log) → Stands d log → Goes d.seen.watch (set d.places i (Here (change sent.peer))) (d.acts ++ Send (record { 0 = i }) m ∷ []) log)
     → ((log : Log) → Stands d log → Tracks after (done (d.acts ++ Send (record { 0 = i }) m ∷ []) log))
     → Asks i d (record { places = places; seen = after; acts = acts })
-about_asks d after i m change places acts lt order sent settled calm right opened goes tracks =
+about_asks d after i m change places acts lt order sent question settled calm right opened goes tracks =
     subst (λ (ps : List Place). Asks i d (record { places = ps; seen = after; acts = acts })) (sym sent.kept)
     (subst (λ (xs : List Act). Asks i d (record { places = set d.places i (Here (change sent.peer)); seen = after; acts = xs })) (sym sent.added)
-    (sent_asks d after i sent.peer (change sent.peer) m lt order sent.here (omega (arith, lt, order.few), sent.sendable) settled calm right opened goes tracks))
+    (sent_asks d after i sent.peer (change sent.peer) m lt order sent.here (omega (arith, lt, order.few), sent.sendable) question settled calm right opened goes tracks))
 
 -- by what its tracker wishes of a peer that has nothing open
 abbrev pub WishAt : Desk → ℕ → ℕ → Wish → Type 0
@@ -219,7 +223,7 @@ pub claims_asks : (d : Desk) (after : Seen) (i common : ℕ) (span : Span) (plac
     → IsSent i (GetCfheaders 0 span.start span.stop) (asked_for_claims (range_in span)) d.places places d.acts acts
     → Asks i d (record { places = places; seen = after; acts = acts })
 claims_asks d after i common span places acts lt order settled low wish far tries opened opens aimed sent =
-    about_asks d after i (GetCfheaders 0 span.start span.stop) (asked_for_claims (range_in span)) places acts lt order sent
+    about_asks d after i (GetCfheaders 0 span.start span.stop) (asked_for_claims (range_in span)) places acts lt order sent refl
     (settled_by sent.peer (asked_for_claims (range_in span)) sent.idle (subst (λ (x : Place). is_settled x ≡ true) sent.here settled) refl refl) refl
     (let le = wish.1.1.1 in claims_right d.seen.claims i (chain_at d.seen i) wish.1.0 span 0 wish.0.0 (omega (arith, le, low)) wish.1.1.0 wish.0.2 wish.1.1.3) opened
     (λ log stood. claims_goes d.places d.acts log d.seen i sent.peer common span lt stood.goes sent.here sent.idle (ended_by sent.peer sent.idle (subst (λ (x : Place). is_settled x ≡ true) sent.here settled)) far tries stood.tracks low wish sent.sendable)
@@ -231,7 +235,7 @@ pub filters_asks : (d : Desk) (after : Seen) (i common : ℕ) (span : Span) (pla
     → IsSent i (GetCfilters 0 span.start span.stop) (asked_for_filters span.blocks.items) d.places places d.acts acts
     → Asks i d (record { places = places; seen = after; acts = acts })
 filters_asks d after i common span places acts lt order settled low wish far tries opened opens aimed sent =
-    about_asks d after i (GetCfilters 0 span.start span.stop) (asked_for_filters span.blocks.items) places acts lt order sent
+    about_asks d after i (GetCfilters 0 span.start span.stop) (asked_for_filters span.blocks.items) places acts lt order sent refl
     (settled_by sent.peer (asked_for_filters span.blocks.items) sent.idle (subst (λ (x : Place). is_settled x ≡ true) sent.here settled) refl refl) refl
     (filters_right (chain_at d.seen i) wish.1.0 span wish.0.1 wish.1.1.0) opened
     (λ log stood. filters_goes d.places d.acts log d.seen i sent.peer common span lt stood.goes sent.here sent.idle (ended_by sent.peer sent.idle (subst (λ (x : Place). is_settled x ≡ true) sent.here settled)) far tries stood.tracks low wish sent.sendable)
@@ -242,7 +246,7 @@ pub block_asks : (d : Desk) (after : Seen) (i common : ℕ) (hash : Hash32) (pla
     → OpensBlock d.seen.opens after.opens i hash.0 → IsAimed i (Block hash) d.seen.trials.aims after.trials.aims
     → IsSentFor i hash d.places places d.acts acts → Asks i d (record { places = places; seen = after; acts = acts })
 block_asks d after i common hash places acts lt order settled low wish far tries opened opens aimed for =
-    about_asks d after i for.message (asked_for_block hash) places acts lt order for.sent
+    about_asks d after i for.message (asked_for_block hash) places acts lt order for.sent (block_asked hash for.message for.asks)
     (settled_by for.sent.peer (asked_for_block hash) for.sent.idle (subst (λ (x : Place). is_settled x ≡ true) for.sent.here settled) refl refl) refl tt opened
     (λ log stood. block_goes d.places d.acts log d.seen i for.sent.peer common hash for.message lt stood.goes for.sent.here for.sent.idle (ended_by for.sent.peer for.sent.idle (subst (λ (x : Place). is_settled x ≡ true) for.sent.here settled)) far tries stood.tracks low wish for.sent.sendable for.asks)
     (λ log stood. block_tracks d.places d.acts log d.seen after i for.sent.peer hash for.message stood.goes for.sent.here for.sent.idle for.sent.sendable for.asks opened opens aimed stood.tracks)
@@ -263,6 +267,7 @@ test_asks d after i common trial places acts lt order settled wish far tries ope
 pub none_asked : (d : Desk) (i : ℕ) → IsInOrder d → is_settled (get_or d.places i nobody) ≡ true → Asks i d d
 none_asked d i order settled = record {
   moves = moves_self d order;
+  asked = inl refl;
   seen = opened_self d.seen i;
   settled = settled;
   others = λ p other. refl;

@@ -41,10 +41,12 @@ use Rattle.cf_place.specs.declared.place.Place.TheVariants.{Here, Lost}
 use Rattle.cf_place.specs.declared.place.Loss.{Loss}
 use Rattle.cf_place.specs.declared.place.Loss.TheVariants.{Gone as HasGone, Closed as ClosedFor}
 use Rattle.cf_place.specs.Places.{IsGreetedBy, IsAnswered, IsLost, Keeps, Fits, nobody, PlacesStand, after, Allowed, Goes, CutFor, AreCalm, is_calm, is_here}
+use Rattle.cf_client.specs.Order.{AreTold}
 use Rattle.cf_client.specs.Steps.{Desk, Stands, IsInOrder, Taking, CutOff, Same, Moves}
 use Rattle.cf_client.proofs.Standing.{greeted_more, after-append, allowed-append, set_is, stand_at, stand_same, here_on, goes_start, sent_others, sent_here, closed_others, closed_here, number_within}
 use Rattle.cf_client.proofs.Losing.{lost_said, lost_refused, lost_went, goes_now, shut_now, cut_now}
 use Rattle.cf_client.proofs.Settled.{set_other}
+use Rattle.cf_client.proofs.Ordering.{told_replies, told_fault}
 use Rattle.cf_client.proofs.Spelled.{spelled_bytes}
 use Rattle.cf_client.proofs.Steps.{IsChanged, is_lost, goes_watch, extends_self, extends_none, extends_one, stands_start, start_places, start_tracks, stay_moves, set_moves, taken}
 use Rattle.cf_sync.proofs.KeptAims.{IsNoQuestion}
@@ -462,6 +464,23 @@ faulty_moves d p piece old cause now last acts lt none order here heard others c
       goes = goes_watch (put.watch ∙ watch) (faulty_goes d.places log p piece old cause d.seen now d.acts acts lt none here (start_places d log none stood) (start_tracks d log none stood) heard doable);
       tracks = faulty_tracks d.places log p piece old cause d.seen now last d.acts acts none here (start_places d log none stood) (start_tracks d log none stood) heard doable put;
     }))
+
+-- what is sent for a piece are replies, and then its peer may be closed
+pub whole_told : (d : Desk) (p : PeerNo) (piece : List ℕ) (old peer : Peer) (now : Seen) (acts : List Act) (log : Log)
+    → d.acts ≡ [] → get_or d.places p.0 nobody ≡ Here old → HearsWhole p piece old peer d.seen now d.acts acts
+    → Stands d log → AreTold acts
+whole_told d p piece old peer now acts log none here heard stood =
+    let whole = whole_of d.places log p piece old peer d.seen now d.acts acts none here
+    (start_places d log none stood) (start_tracks d log none stood) heard in
+    told_replies p whole.replies acts whole.are.each whole.acts
+
+pub fault_told : (d : Desk) (p : PeerNo) (piece : List ℕ) (old : Peer) (cause : Cause) (now : Seen) (acts : List Act)
+    (log : Log) → d.acts ≡ [] → get_or d.places p.0 nobody ≡ Here old
+    → HearsFault p piece old d.seen now d.acts acts cause → Stands d log → AreTold (acts ++ Close p cause ∷ [])
+fault_told d p piece old cause now acts log none here heard stood =
+    let fault = fault_of d.places log p piece old cause d.seen now d.acts acts none here
+    (start_places d log none stood) (start_tracks d log none stood) heard in
+    told_fault p cause fault.replies acts fault.are.each fault.acts
 
 -- a peer has gone: one that is connected, or another
 gone_here : (p : PeerNo) (part : Part) → went_on (Took (Gone p)) p.0 part ≡ with_item (LostItem Went) part

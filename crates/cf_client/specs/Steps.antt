@@ -20,6 +20,7 @@ use Rattle.cf_place.specs.Places.{Goes, AreCalm, AsksFor, CutFor, after, is_sett
 use Rattle.cf_hear.specs.Seen.{Seen, seen_of}
 use Rattle.cf_hear.specs.Tracks.{HasOpened, Tracks}
 use Rattle.cf_client.specs.Settled.{AreEntered, AreRight}
+use Rattle.cf_client.specs.Order.{AsksOne}
 
 -- what a step works on: the places, what was seen, and the acts so far
 pub record Desk : Type 0 where
@@ -82,9 +83,11 @@ pub record IsSentFor (i : ℕ) (hash : Hash32) (places now : List Place) (acts m
   pub asks : AsksFor hash message
   pub sent : IsSent i message (asked_for_block hash) places now acts more
 
--- the peer at this place is asked, if it is to be, and is settled; nobody else's place changes, and of what was seen no more than what is open to it
+-- the peer at this place is asked, if it is to be, and is settled; nobody else is asked or has its place changed, and of
+-- what was seen no more changes than what is open to it
 pub record Asks (i : ℕ) (before now : Desk) : Type 0 where
   pub moves : Moves Same before now
+  pub asked : AsksOne i before.acts now.acts
   pub seen : HasOpened before.seen now.seen i
   pub settled : is_settled (place_at now.places i) ≡ true
   pub others : (p : ℕ) → p ≢ i → place_at now.places p ≡ place_at before.places p

@@ -13,6 +13,7 @@ ghost use Rattle.cf_msg.specs.declared.msg.Msg.TheVariants.{GetCfheaders, GetCfi
 ghost use Rattle.cf_peer.specs.Peer.{asked_for_claims, asked_for_filters};
 ghost use Rattle.cf_place.specs.Places.{Fits, PlacesStand, AreCalm, is_calm, is_idle, is_wanting, is_settled, is_here, place_at, IsQuestion, IsFetch};
 ghost use Rattle.cf_client.specs.Settled.{AreRight, IsRightAt, IsAskedThrough, AreAskedThrough};
+ghost use Rattle.cf_client.specs.Order.{AddsQuestions, ClosesOne, ClosesLate};
 ghost use Rattle.cf_client.specs.Steps.{desk, IsInOrder, Same, Moves, Asks, IsSent, IsSentFor};
 
 use cf_bytes::{Hash32, NoMemory, PeerNo};
@@ -62,6 +63,7 @@ fn close_if_late<H: HeaderStore>(
     ensures done { OnOk result (is_calm (place_at places.new i) ≡ true) }
     ensures others { OnOk result ((p : ℕ) → p ≢ i → place_at places.new p ≡ place_at places.old p) }
     ensures verdicts { OnOk result (AreSameVerdicts (verdicts_of tracker.new) (verdicts_of tracker.old)) }
+    ensures closes { OnOk result (ClosesOne i acts.old.items acts.new.items) }
 {
     if places[i].is_late() {
         let p = PeerNo(i as u32);
@@ -83,6 +85,7 @@ pub(crate) fn close_late<H: HeaderStore>(
     ensures moves { OnOk result (Moves Same (desk tracker.old places.old acts.old.items) (desk tracker.new places.new acts.new.items)) }
     ensures calm { OnOk result (AreCalm places.new) }
     ensures verdicts { OnOk result (AreSameVerdicts (verdicts_of tracker.new) (verdicts_of tracker.old)) }
+    ensures closes { OnOk result (ClosesLate acts.old.items acts.new.items) }
 {
     for i in 0..places.len() {
         close_if_late(tracker, places, acts, i)?;
@@ -317,6 +320,7 @@ fn ask_each<H: HeaderStore>(
     ensures settled { OnOk result ((p : ℕ) → is_settled (place_at places.new p) ≡ true) }
     ensures through { OnOk result (AreAskedThrough places.new (seen_of tracker.new)) }
     ensures verdicts { OnOk result (AreSameVerdicts (verdicts_of tracker.new) (verdicts_of tracker.old)) }
+    ensures asked { OnOk result (AddsQuestions acts.old.items acts.new.items) }
 {
     for i in 0..places.len() {
         ask_if_wanted(alloc, tracker, places, acts, i)?;
@@ -337,6 +341,7 @@ pub(crate) fn ask_all<H: HeaderStore>(
     ensures settled { OnOk result ((p : ℕ) → is_settled (place_at places.new p) ≡ true) }
     ensures through { OnOk result (AreAskedThrough places.new (seen_of tracker.new)) }
     ensures verdicts { OnOk result (AreSameVerdicts (verdicts_of tracker.new) (verdicts_of tracker.old)) }
+    ensures asked { OnOk result (AddsQuestions acts.old.items acts.new.items) }
 {
     ask_each(alloc, tracker, places, acts)?;
     tracker.write_up()?;

@@ -131,6 +131,7 @@ impl<H: HeaderStore, M: Matcher> Client<H, M> {
     ghost use Rattle.cf_peer.specs.declared.act.Act.TheVariants.{Close};
     ghost use Rattle.cf_peer.specs.declared.peer.Cause.TheVariants.{SendFailed};
     ghost use Rattle.cf_place.specs.Places.{ActTells, CutFor, Greets, IsState, EndsTell};
+    ghost use Rattle.cf_client.specs.Order.{AreInOrder};
     ghost use Rattle.cf_client.specs.Steps.{Extends};
     ghost use Rattle.cf_client.specs.Holding.{Counts, HoldsNoMore};
     ghost use Rattle.cf_client.specs.Stands.{Reflects, Answers, IsTip, IsReportOf, IsHistoryTold, IsInnocent, AreAnswered, is_dead, open_count, count_of, seen_by, watch_by, words_by, matcher_by, judging_by};
@@ -217,7 +218,8 @@ impl<H: HeaderStore, M: Matcher> Client<H, M> {
         Ok(())
     }
 
-    /// Takes a delivery, and says what is to be done. Filters that come are judged by the client's matcher alone.
+    /// Takes a delivery, and says what is to be done: first what is owed and who is closed, then what is asked, each
+    /// from the lowest number on. Filters that come are judged by the client's matcher alone.
     pub fn step(&mut self, d: &Delivery) -> Result<Vec<Act>, NoMemory>
         ensures answers { IfOk result (λ acts. (log : Log) → Reflects self.old log → Answers self.new acts.items (Took d.now ∷ log)) }
         ensures tells { IfOk result (λ acts. (log : Log) → Reflects self.old log → All (ActTells (words_by self.old)) acts.items) }
@@ -227,6 +229,7 @@ impl<H: HeaderStore, M: Matcher> Client<H, M> {
         ensures words { words_by self.new ≡ words_by self.old }
         ensures judged { OnOk result (AreJudgedBy M.judges (watch_by self.old)
             (judging_by self.old) (judging_by self.new)) }
+        ensures in_order { IfOk result (λ acts. (log : Log) → Reflects self.old log → AreInOrder acts.items) }
         ensures dead { is_dead self.old ≡ true → IsErr result }
         ensures err { OnErr result (is_dead self.new ≡ true) }
     {
@@ -249,7 +252,8 @@ impl<H: HeaderStore, M: Matcher> Client<H, M> {
         Ok(acts)
     }
 
-    /// A send to a peer has failed. The first that is to be done is to close it.
+    /// A send to a peer has failed. The first that is to be done is to close it; then others are asked, the lowest
+    /// number first.
     pub fn send_failed(&mut self, p: PeerNo) -> Result<Vec<Act>, NoMemory>
         ensures answers { IfOk result (λ acts. (log cut : Log) → p.0 < count_of self.old → Reflects self.old log → CutFor p log cut → Answers self.new acts.items cut) }
         ensures tells { IfOk result (λ acts. (log cut : Log) → p.0 < count_of self.old → Reflects self.old log → CutFor p log cut → All (ActTells (words_by self.old)) acts.items) }
@@ -259,6 +263,7 @@ impl<H: HeaderStore, M: Matcher> Client<H, M> {
         ensures watch { OnOk result (watch_by self.new ≡ watch_by self.old) }
         ensures words { words_by self.new ≡ words_by self.old }
         ensures judged { OnOk result (IsUnjudged (judging_by self.old) (judging_by self.new)) }
+        ensures in_order { IfOk result (λ acts. AreInOrder acts.items) }
         ensures dead { is_dead self.old ≡ true → IsErr result }
         ensures err { OnErr result (is_dead self.new ≡ true) }
     {

@@ -1,5 +1,6 @@
 //! What a delivery does.
 ghost use Rattle.std.specs.Prelude.{◌≡◌, ◌<◌, [], ◌∷◌, OnOk, length};
+ghost use Rattle.cf_wires.specs.Log.{Log};
 ghost use Rattle.cf_peer.specs.declared.act.Act.TheVariants.{Close};
 ghost use Rattle.cf_peer.specs.declared.peer.Cause.TheVariants.{SendFailed};
 ghost use Rattle.cf_wires.specs.declared.event.Delivery.TheVariants.{Got, Gone};
@@ -7,7 +8,8 @@ ghost use Rattle.cf_match.specs.Verdicts.{AreSameVerdicts};
 ghost use Rattle.cf_tracker.specs.Tracker.{verdicts_of, watch_of};
 ghost use Rattle.cf_hear.specs.Judging.{AreJudgedBy, judging_of};
 ghost use Rattle.cf_place.specs.Places.{AreCalm};
-ghost use Rattle.cf_client.specs.Steps.{desk, IsInOrder, Taking, CutOff, Moves};
+ghost use Rattle.cf_client.specs.Order.{AreTold};
+ghost use Rattle.cf_client.specs.Steps.{desk, Stands, IsInOrder, Taking, CutOff, Moves};
 
 use crate::ask::{close_late, pass_all};
 use cf_bytes::{NoMemory, PeerNo};
@@ -35,6 +37,8 @@ fn hear_from<H: HeaderStore, M: Matcher>(
     ensures moves { OnOk result (Moves (Taking (Got p piece.now)) (desk tracker.old places.old acts.old.items) (desk tracker.new places.new acts.new.items)) }
     ensures judged { OnOk result (AreJudgedBy M.judges (watch_of tracker.old)
         (judging_of tracker.old matcher.old) (judging_of tracker.new matcher.new)) }
+    ensures told { OnOk result ((log : Log) → Stands (desk tracker.old places.old acts.old.items) log
+        → AreTold acts.new.items) }
 {
     let i = p.0 as usize;
     if i >= places.len() {
@@ -79,6 +83,7 @@ pub(crate) fn cut_off<H: HeaderStore>(
     ensures moves { OnOk result (Moves (CutOff p places.old) (desk tracker.old places.old acts.old.items) (desk tracker.new places.new acts.new.items)) }
     ensures first { OnOk result (p.0 < length places.old → acts.new.items ≡ Close p SendFailed ∷ []) }
     ensures verdicts { AreSameVerdicts (verdicts_of tracker.new) (verdicts_of tracker.old) }
+    ensures told { OnOk result (AreTold acts.new.items) }
 {
     let i = p.0 as usize;
     if i >= places.len() {
@@ -105,6 +110,8 @@ pub(crate) fn deliver<H: HeaderStore, M: Matcher>(
     ensures moves { OnOk result (Moves (Taking d.now) (desk tracker.old places.old acts.old.items) (desk tracker.new places.new acts.new.items)) }
     ensures judged { OnOk result (AreJudgedBy M.judges (watch_of tracker.old)
         (judging_of tracker.old matcher.old) (judging_of tracker.new matcher.new)) }
+    ensures told { OnOk result ((log : Log) → Stands (desk tracker.old places.old acts.old.items) log
+        → AreTold acts.new.items) }
 {
     match d {
         Delivery::Got(p, piece) => {

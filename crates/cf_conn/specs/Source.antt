@@ -1,5 +1,5 @@
 -- What sources tell.
-use Rattle.std.specs.Prelude.{ℕ, Bool, false, ◌&&◌, nat_lt, ◌==◌, List, ◌++◌, Option, Some, None, Result, Ok, Err}
+use Rattle.std.specs.Prelude.{ℕ, Bool, false, ◌&&◌, nat_lt, ◌==◌, Result, Ok, Err}
 use Rattle.cf_bytes.specs.declared.outside.Failed.{Failed}
 pub use Rattle.cf_bytes.specs.Outside.{with_front}
 

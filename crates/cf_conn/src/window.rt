@@ -66,7 +66,7 @@ impl Window {
         }
     }
 
-    // Reads one piece more, and answers how many bytes it has.
+    // Reads one piece more, and answers how many bytes it has: at most 65,536.
     fn more<S: Source>(&mut self, source: &mut S) -> Result<usize, ReadFail>
         ensures same { with_front self.new.held (S.left source.new) ≡ with_front self.old.held (S.left source.old) }
         ensures grown { IfOk result (λ k. length self.new.held ≡ length self.old.held + k) }
@@ -76,6 +76,7 @@ impl Window {
         ensures kept { OnErr result (self.new.room ≡ self.old.room) }
         ensures count { CountsReads result (S.faults source.old) (S.faults source.new) }
         ensures steps { S.reads source.old source.new ⊎ (source.new ≡ source.old) }
+        ensures piece { IfOk result (λ k. k ≤ 65536) }
     {
         self.let_go();
         let mut piece = [0u8; 65_536];
@@ -87,7 +88,8 @@ impl Window {
         Ok(k)
     }
 
-    /// Reads on until n bytes are held, or no more come. Nothing is taken.
+    /// Reads on until n bytes are held, or no more come. Nothing is taken. Of what is read, fewer than n + 65,536 bytes are
+    /// held at once.
     #[tactic(auto, using(crate::proofs::Stepping::no_steps, crate::proofs::Stepping::one_step, crate::proofs::Stepping::maybe_step))]
     pub fn want<S: Source>(&mut self, source: &mut S, n: usize) -> Result<(), ReadFail>
         ensures same { with_front self.new.held (S.left source.new) ≡ with_front self.old.held (S.left source.old) }
@@ -95,6 +97,7 @@ impl Window {
         ensures enough { OnOk result (IsThere n self.new (S.left source.new)) }
         ensures count { CountsReads result (S.faults source.old) (S.faults source.new) }
         ensures steps { Steps S.reads source.old source.new }
+        ensures few { (length self.new.held ≤ length self.old.held) ⊎ (length self.new.held < n + 65536) }
     {
         while self.held().len() < n && self.room > 0 {
             if self.more(source)? == 0 {

@@ -1,5 +1,5 @@
 //! Frames from a stream that comes in pieces.
-ghost use Rattle.std.specs.Prelude.{◌≡◌, ◌++◌, [], length, take, OnOk, OnErr, IfOk, IfSome};
+ghost use Rattle.std.specs.Prelude.{◌≡◌, ◌++◌, ◌+◌, ◌≤◌, [], length, take, drop, vec_len, OnOk, OnErr, IfOk, IfSome};
 ghost use Rattle.cf_frame.specs.Reading.{Begins, Gives};
 ghost use Rattle.cf_frame.specs.Lending.{HasFrame, IsEndOf, IsFilled, Lends, Takes, after_frame, lacks as lacks_of};
 
@@ -14,18 +14,18 @@ use std::marker::Model;
 pub struct Framer {
     alloc: Global,
     bytes: Vec<u8>,
-    // The bytes before this place were given.
+    // The bytes before this place were given. They are no more than those that wait.
     start: usize,
 }
 
 impl Model for Framer {
-    ghost use Rattle.std.specs.Prelude.{ℕ, List, drop, vec_len, ◌≤◌};
+    ghost use Rattle.std.specs.Prelude.{ℕ, List, drop, vec_len, ◌+◌, ◌≤◌};
 
     ghost Value = { List ℕ };
 
     ghost view = { λ f. drop f.start f.bytes.items };
 
-    ghost invariant = { λ f. f.start ≤ vec_len f.bytes };
+    ghost invariant = { λ f. f.start + f.start ≤ vec_len f.bytes };
 }
 
 /// A frame that is lent out of a framer's own bytes. A contract sees it as a frame.
@@ -62,23 +62,11 @@ impl Framer {
         self.bytes[self.start..].len()
     }
 
-    // Bytes that were given are let go only once they are at least as many as those that wait, so each byte is
-    // moved at most once on average.
-    fn let_go(&mut self)
-        ensures { self.new ≡ self.old }
-    {
-        if self.start >= self.bytes.len() - self.start {
-            drop(self.bytes.drain(..self.start));
-            self.start = 0;
-        }
-    }
-
     /// Takes the next piece of the stream.
     pub fn feed(&mut self, piece: &[u8]) -> Result<(), NoMemory>
         ensures ok { OnOk result (self.new ≡ self.old ++ piece.now) }
         ensures err { OnErr result (self.new ≡ self.old) }
     {
-        self.let_go();
         self.bytes.extend_from_slice(piece)?;
         Ok(())
     }
@@ -107,7 +95,6 @@ impl Framer {
         ensures ok { IfOk result (λ n. self.new ≡ self.old ++ take n piece.now) }
         ensures err { OnErr result (self.new ≡ self.old) }
     {
-        self.let_go();
         let held = self.bytes.len();
         let head = self.lacks().min(piece.len());
         let (first, others) = piece.split_at(head);
@@ -139,7 +126,8 @@ impl Framer {
         ensures { self.new ≡ after_frame self.old }
     {
         let left = behind_frame(&self.bytes[self.start..]).len();
-        self.start = self.bytes.len() - left;
+        let given = self.bytes.len() - left;
+        self.start = let_go(&mut self.bytes, given);
     }
 
     /// The next frame, or `None` where the bytes that wait begin with no whole frame and aren't at fault.
@@ -156,6 +144,20 @@ impl Framer {
         self.done();
         Ok(Some(Frame { command, payload }))
     }
+}
+
+// The bytes before this place were given: the place where those that wait begin then is answered. The given ones are let
+// go once they are at least as many as those that wait, so each byte is moved at most once on average.
+fn let_go(bytes: &mut Vec<u8>, start: usize) -> usize
+    requires { start ≤ vec_len bytes.old }
+    ensures same { drop result bytes.new.items ≡ drop start bytes.old.items }
+    ensures few { result + result ≤ vec_len bytes.new }
+{
+    if start >= bytes.len() - start {
+        drop(bytes.drain(..start));
+        return 0;
+    }
+    start
 }
 
 // The frame at the front of the bytes, which is taken from them and lent.

@@ -3,8 +3,8 @@ use Rattle.std.proofs.Common.{◌≡◌, true, List, [], ◌∷◌, ◌++◌, sy
 use Rattle.std.specs.Prelude.{is_none, if◌then◌else◌}
 use Rattle.cf_block.specs.declared.tx.Block.{Block}
 use Rattle.cf_chain.specs.Grow.{grown}
-use Rattle.cf_index.specs.declared.cause.RecordCause.{RecordCause}
-use Rattle.cf_index.specs.Files.{cause_on}
+use Rattle.cf_walk.specs.declared.cause.RecordCause.{RecordCause}
+use Rattle.cf_walk.specs.Files.{cause_on}
 use Rattle.cf_msg.specs.declared.msg.Msg.TheVariants.{Block as BlockMessage}
 use Rattle.cf_grow.specs.Growing.{fits_on}
 

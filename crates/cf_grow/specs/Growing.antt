@@ -12,7 +12,7 @@ use Rattle.cf_grow.specs.declared.mark.TakeFail.{TakeFail}
 use Rattle.cf_grow.specs.declared.mark.TakeFail.TheVariants.{Shrunk, NoMemory}
 use Rattle.cf_grow.specs.declared.taking.Answer.{Answer}
 use Rattle.cf_grow.specs.Held.{texts_in}
-use Rattle.cf_index.specs.Files.{cause_on}
+use Rattle.cf_walk.specs.Files.{cause_on}
 use Rattle.cf_msg.specs.declared.msg.Msg.{Msg}
 use Rattle.cf_server.specs.declared.answering.Served.{Served}
 use Rattle.cf_server.specs.Replies.{messages_of, AreRepliesOf}

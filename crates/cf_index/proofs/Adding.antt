@@ -1,9 +1,9 @@
 -- An index with one block more.
-use Rattle.std.proofs.Common.{◌≡◌, ℕ, zero, suc, ◌+◌, ◌<◌, List, [], ◌∷◌, ◌++◌, ◌≤◌, add-one, get_or, take, take_all, cond, map, length, refl, sym, ◌∙◌, ap, subst, arith, length-append, append_assoc, Option, Some, None}
+use Rattle.std.proofs.Common.{◌≡◌, ℕ, suc, ◌+◌, ◌<◌, List, [], ◌∷◌, ◌++◌, ◌≤◌, add-one, get_or, take, take_all, cond, length, refl, sym, ◌∙◌, ap, subst, arith, append_assoc, Option, Some, None}
 use Rattle.std.specs.Prelude.{slice_get, option_map, All}
 use Rattle.std.specs.Option.{option_or}
 use Rattle.std.specs.List.{position}
-use Rattle.std.specs.FinMap.{empty, get}
+use Rattle.std.specs.FinMap.{empty}
 use Rattle.std.proofs.lemmas.List.{append-nil, map-append}
 use Rattle.cf_bytes.specs.declared.hash.Hash32.{Hash32}
 use Rattle.cf_block.specs.declared.tx.Block.{Block}
@@ -19,11 +19,11 @@ use Rattle.cf_headers.specs.Rules.{same}
 use Rattle.cf_index.specs.declared.block_filter.BlockFilter.{BlockFilter}
 use Rattle.cf_index.specs.Adding.{last_of, last_header}
 use Rattle.cf_index.specs.ByHash.{with_first}
-use Rattle.cf_index.specs.Files.{cause_on}
+use Rattle.cf_walk.specs.Files.{cause_on}
 use Rattle.cf_index.specs.Filtering.{shown}
 use Rattle.cf_index.specs.HeightMap.{HeightMap, AreHeightsOf}
 use Rattle.cf_index.specs.Indexed.{IsIndexed}
-use Rattle.cf_index.proofs.Growing.{good_more, coins_more}
+use Rattle.cf_walk.proofs.Growing.{good_more, coins_more}
 use Rattle.cf_index.proofs.Lowest.{place_more, with_first_gives}
 use Rattle.cf_index.proofs.Walking.{spelled_at, coins_step}
 

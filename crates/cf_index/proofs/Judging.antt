@@ -9,10 +9,10 @@ use Rattle.cf_headers.specs.Rules.{fault_after}
 use Rattle.cf_headers.specs.Chain.{tip_hash, past_of}
 use Rattle.cf_chain.specs.Coins.{CoinMap, coins_after}
 use Rattle.cf_chain.specs.Good.{headers_of}
-use Rattle.cf_index.specs.declared.cause.RecordCause.{RecordCause}
-use Rattle.cf_index.specs.Adding.{cause_before_coins}
-use Rattle.cf_index.specs.Files.{in_header, in_height, in_commitment, in_coins, or_else, cause_on}
-use Rattle.cf_index.specs.Progress.{RefusesFor}
+use Rattle.cf_walk.specs.declared.cause.RecordCause.{RecordCause}
+use Rattle.cf_walk.specs.Files.{cause_before_coins}
+use Rattle.cf_walk.specs.Files.{in_header, in_height, in_commitment, in_coins, or_else, cause_on}
+use Rattle.cf_walk.specs.Progress.{RefusesFor}
 use Rattle.cf_coins.specs.Spending.{spend_txs}
 
 or_split : (a b c d : Option RecordCause) → or_else a (or_else b (or_else c d)) ≡ or_else (or_else a (or_else b c)) d

@@ -1,10 +1,4 @@
 pub mod Adding
-pub mod Causes
-pub mod FileLaws
-pub mod FileSteps
-pub mod GenesisHash
-pub mod Growing
-pub mod RecordLaws
 pub mod Walking
 pub mod Heading
 pub mod Baring
@@ -12,8 +6,6 @@ pub mod Gathering
 pub mod Lowest
 pub mod Indexes
 pub mod Finding
-pub mod WalkSteps
-pub mod WalkFirm
-pub mod WalkSource
-pub mod Strides
+pub mod Sources
 pub mod Judging
+pub mod Taking

@@ -2,18 +2,10 @@
 use Rattle.std.specs.Prelude.{◌≡◌, ℕ, List, [], ◌∷◌, Option, Some, None}
 use Rattle.std.specs.FinMap.{empty}
 use Rattle.cf_block.specs.declared.tx.Block.{Block}
-use Rattle.cf_block.specs.Commitment.{commit_fault}
-use Rattle.cf_headers.specs.Rules.{fault_after}
 use Rattle.cf_headers.specs.Chain.{past_of}
 use Rattle.cf_chain.specs.Coins.{CoinMap, coins_after}
 use Rattle.cf_chain.specs.Filters.{Filtered, filtered_on, first_filtered}
 use Rattle.cf_chain.specs.Good.{headers_of}
-use Rattle.cf_index.specs.declared.cause.RecordCause.{RecordCause}
-use Rattle.cf_index.specs.Files.{in_header, in_height, in_commitment, or_else}
-
--- why a block may not stand above so many blocks, on a header with this hash and after these times, whatever it spends
-abbrev pub cause_before_coins : List ℕ → List ℕ → ℕ → Block → Option RecordCause
-cause_before_coins tip past height b = or_else (in_header (fault_after tip past b.header)) (or_else (in_height height) (in_commitment (commit_fault b)))
 
 -- the filter header of the last of these, or this one where there is none
 abbrev pub last_of : List ℕ → List Filtered → List ℕ

@@ -1,9 +1,6 @@
 pub mod Adding
-pub mod Records
-pub mod Files
 pub mod Checked
 pub mod Progress
-pub mod Judging
 pub mod Filtering
 pub mod Bare
 pub mod ByHash
@@ -11,4 +8,3 @@ pub mod HeightMap
 pub mod Indexed
 pub mod Finding
 pub mod Loading
-pub mod Striding

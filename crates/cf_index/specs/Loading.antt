@@ -2,16 +2,11 @@
 use Rattle.std.specs.Prelude.{◌≡◌, ℕ, ◌<◌, ◌≤◌, Bool, true, List, length, Option, IfSome, Result, Ok, Err}
 use Rattle.cf_bytes.specs.Outside.{HasRisen}
 use Rattle.cf_block.specs.declared.tx.Block.{Block}
-use Rattle.cf_index.specs.declared.cause.BadBlock.{BadBlock}
-use Rattle.cf_index.specs.declared.load.LoadFault.{LoadFault}
-use Rattle.cf_index.specs.declared.load.LoadFault.TheVariants as faults
-use Rattle.cf_index.specs.Files.{blocks_at}
-use Rattle.cf_conn.specs.declared.reading.ReadFail.{ReadFail}
-use Rattle.cf_conn.specs.declared.reading.ReadFail.TheVariants as fails
-
--- the most bytes that a file of blocks may have
-abbrev pub most_bytes : ℕ
-most_bytes = 1073741824
+use Rattle.cf_walk.specs.declared.cause.BadBlock.{BadBlock}
+use Rattle.cf_walk.specs.declared.fault.LoadFault.{LoadFault}
+use Rattle.cf_walk.specs.declared.fault.LoadFault.TheVariants as faults
+use Rattle.cf_walk.specs.Files.{blocks_at}
+use Rattle.cf_walk.specs.Striding.{most_bytes}
 
 -- the bytes that were left, where they are told: few enough, and read as these blocks or refused for this record
 abbrev pub Holds : Option (List ℕ) → Result (List Block) BadBlock → Type 0
@@ -32,9 +27,3 @@ Indexes read (Err (faults.BadBlock bad)) = read ≡ Err bad
 Indexes read (Err faults.TooBig) = ⊥
 Indexes read (Err faults.ReadFault) = ⊥
 Indexes read (Err faults.NoMemory) = Unit {0}
-
--- why a source could not be read, as loading tells it
-abbrev pub IsUnread : ReadFail → LoadFault → Type 0
-IsUnread fails.Failed fault = fault ≡ faults.ReadFault
-IsUnread fails.TooBig fault = fault ≡ faults.TooBig
-IsUnread fails.NoMemory fault = fault ≡ faults.NoMemory

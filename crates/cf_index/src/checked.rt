@@ -1,8 +1,12 @@
 //! Chains that were checked.
-ghost use Rattle.std.specs.Prelude.{◌≡◌, ◌∷◌, length, map, IfOk};
+ghost use Rattle.std.specs.Prelude.{◌≡◌, ◌∷◌, ◌++◌, [], length, map, IfOk};
+ghost use Rattle.std.specs.FinMap.{empty};
+ghost use Rattle.cf_block.specs.Commitment.{AreTxids};
+ghost use Rattle.cf_block.specs.Header.{block_hash_of};
 ghost use Rattle.cf_block.specs.Tx.{txid_of};
 ghost use Rattle.cf_block.specs.Views.{bytes_of};
-ghost use Rattle.cf_chain.specs.Filters.{filters_of, first_filtered};
+ghost use Rattle.cf_chain.specs.Coins.{coins_after};
+ghost use Rattle.cf_chain.specs.Filters.{filters_of, first_filtered, prevouts};
 ghost use Rattle.cf_chain.specs.Good.{IsGoodChain, headers_of};
 ghost use Rattle.cf_headers.specs.Chain.{tip_hash};
 ghost use Rattle.cf_index.specs.Progress.{Keeps};
@@ -10,10 +14,11 @@ ghost use Rattle.cf_index.specs.Progress.{Keeps};
 use crate::block_filter::BareFilter;
 use crate::chain::{Blocks, Chain};
 use crate::filters::bare_filters;
-use cf_block::{Block, TxIds};
+use cf_block::{Block, TxIds, block_hash, genesis_header};
 use cf_bytes::{Hash32, Listed, NoMemory};
 use cf_coins::Spent;
 use cf_headers::Past;
+use cf_walk::Found;
 use std::alloc::Global;
 use std::marker::Model;
 use std::thread::Threads;
@@ -46,6 +51,57 @@ impl Model for CheckedChain {
 }
 
 impl CheckedChain {
+    // The chain of genesis alone.
+    pub(crate) fn new(alloc: Global) -> CheckedChain
+        ensures { result ≡ [] }
+    {
+        CheckedChain {
+            blocks: Listed::new(alloc),
+            hashes: Listed::new(alloc),
+            txids: Listed::new(alloc),
+            spent: Listed::new(alloc),
+            tip: block_hash(&genesis_header()),
+            past: Past::of_genesis(),
+        }
+    }
+
+    // The chain with one block more, which is good, and what was found of that block.
+    #[tactic(auto, using(crate::proofs::Sources::checked_more, crate::proofs::Sources::tip_more, crate::proofs::Sources::past_on))]
+    pub(crate) fn with(
+        self,
+        block: Block,
+        hash: Hash32,
+        found: Found,
+    ) -> Result<CheckedChain, NoMemory>
+        requires good { IsGoodChain (self ++ block ∷ []) }
+        requires hash { hash.0 ≡ block_hash_of block.header }
+        requires hashed { AreTxids found.txids block.txs }
+        requires spent { found.spent ≡ prevouts (coins_after empty self) block }
+        ensures { IfOk result (λ longer. longer ≡ self ++ block ∷ []) }
+    {
+        let CheckedChain {
+            mut blocks,
+            mut hashes,
+            mut txids,
+            mut spent,
+            tip: _,
+            mut past,
+        } = self;
+        past.push(block.header.time);
+        blocks.push(block)?;
+        hashes.push(hash)?;
+        txids.push(found.txids)?;
+        spent.push(found.spent)?;
+        Ok(CheckedChain {
+            blocks,
+            hashes,
+            txids,
+            spent,
+            tip: hash,
+            past,
+        })
+    }
+
     // A chain whose last block was put on it. Its coins are let go.
     pub(crate) fn of(chain: Chain) -> CheckedChain
         requires { Keeps chain }

@@ -6,9 +6,9 @@ ghost use Rattle.cf_block.specs.Genesis.{first_block};
 ghost use Rattle.cf_block.specs.Stored.{IsStored};
 ghost use Rattle.cf_block.specs.Tx.{IsBlock};
 ghost use Rattle.cf_chain.specs.Good.{IsGoodChain};
-ghost use Rattle.cf_index.specs.declared.cause.BadBlock.{BadBlock};
-ghost use Rattle.cf_index.specs.Files.{IsGoodFile, IsBadFile, blocks_at, cause_on};
-ghost use Rattle.cf_index.specs.Records.{record_with, max_record, record_spelling};
+ghost use Rattle.cf_walk.specs.declared.cause.BadBlock.{BadBlock};
+ghost use Rattle.cf_walk.specs.Files.{IsGoodFile, IsBadFile, blocks_at, cause_on};
+ghost use Rattle.cf_walk.specs.Records.{record_with, max_record, record_spelling};
 
 /// A good file is read as its blocks, and so as no others; a bad one is refused for its first bad record; and no file is both.
 /// With `read_chain`'s clauses, a file is taken exactly where it is good, and refused exactly where it isn't. The records of

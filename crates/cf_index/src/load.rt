@@ -1,48 +1,16 @@
 //! An index is loaded from a source of bytes.
 ghost use Rattle.std.specs.Prelude.{◌≡◌, IfOk};
 ghost use Rattle.cf_chain.specs.Good.{IsGoodChain};
-ghost use Rattle.cf_index.specs.Files.{blocks_at};
-ghost use Rattle.cf_index.specs.Loading.{Loads, Indexes, IsUnread};
+ghost use Rattle.cf_walk.specs.Files.{blocks_at};
+ghost use Rattle.cf_index.specs.Loading.{Loads, Indexes};
 
-use crate::cause::BadBlock;
 use crate::file::read_chain;
 use crate::index::Index;
 use cf_bytes::{NoMemory, Refused};
-use cf_conn::{ReadFail, Source, read_all};
+use cf_conn::{Source, read_all};
+use cf_walk::{LoadFault, MOST_BYTES, fault_of};
 use std::alloc::Global;
 use std::thread::Threads;
-use thiserror::Error;
-
-// The most bytes of a file of blocks.
-pub(crate) const MOST_BYTES: usize = 1_073_741_824;
-
-/// Why no index was loaded.
-#[derive(Clone, Copy, Debug, PartialEq, Eq, Error)]
-pub enum LoadFault {
-    /// The first record that is refused.
-    #[error("{0}")]
-    BadBlock(BadBlock),
-    /// There are more than 1,073,741,824 bytes.
-    #[error("the blocks have too many bytes")]
-    TooBig,
-    /// The source has failed.
-    #[error("the blocks can't be read")]
-    ReadFault,
-    /// No memory was found.
-    #[error("no memory")]
-    NoMemory,
-}
-
-// The answer where not all bytes were read.
-pub(crate) fn fault_of(fail: ReadFail) -> LoadFault
-    ensures { IsUnread fail result }
-{
-    match fail {
-        ReadFail::Failed => LoadFault::ReadFault,
-        ReadFail::TooBig => LoadFault::TooBig,
-        ReadFail::NoMemory => LoadFault::NoMemory,
-    }
-}
 
 // The index of the chain in these bytes, which are let go before the filters are built.
 fn index_at(rt: &(impl Threads + Sync), alloc: Global, bytes: Vec<u8>) -> Result<Index, LoadFault>

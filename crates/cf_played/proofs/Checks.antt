@@ -9,10 +9,10 @@ use Rattle.cf_bytes.specs.declared.memory.Refused.TheVariants.{No, NoMemory}
 use Rattle.cf_block.specs.declared.tx.Block.{Block}
 use Rattle.cf_chain.specs.Coins.{CoinMap, after_block}
 use Rattle.cf_chain.specs.Good.{AreGoodBlocks, IsGoodChain}
-use Rattle.cf_index.specs.declared.cause.BadBlock.{BadBlock}
-use Rattle.cf_index.specs.Files.{IsGoodFile, Answers, blocks_at}
-use Rattle.cf_index.specs.Records.{record_with, max_record, record_spelling}
-use Rattle.cf_index.proofs.FileLaws.{plain, good_of, taken}
+use Rattle.cf_walk.specs.declared.cause.BadBlock.{BadBlock}
+use Rattle.cf_walk.specs.Files.{IsGoodFile, Answers, blocks_at}
+use Rattle.cf_walk.specs.Records.{record_with, max_record, record_spelling}
+use Rattle.cf_walk.proofs.FileLaws.{plain, good_of, taken}
 use Rattle.cf_make.specs.Records.{record_of, records_of, text_of, made_record, made_records_of}
 use Rattle.cf_make.proofs.Witnessed.{all_stored, text_size}
 use Rattle.cf_server.proofs.Lists.{flat_map-same}

@@ -3,7 +3,7 @@ use Rattle.std.specs.Prelude.{◌≡◌, Bool, List, [], ◌∷◌, ◌++◌, ma
 use Rattle.cf_block.specs.declared.tx.Block.{Block}
 use Rattle.cf_bytes.specs.declared.memory.Refused.{Refused}
 use Rattle.cf_bytes.specs.declared.memory.Refused.TheVariants.{No, NoMemory}
-use Rattle.cf_index.specs.declared.cause.BadBlock.{BadBlock}
+use Rattle.cf_walk.specs.declared.cause.BadBlock.{BadBlock}
 use Rattle.cf_chain.specs.Good.{IsGoodChain}
 use Rattle.cf_played.specs.declared.kind.Kind.{Kind}
 use Rattle.cf_played.specs.Ways.{way_of}

@@ -4,8 +4,9 @@ ghost use Rattle.cf_chain.specs.Good.{IsGoodChain};
 ghost use Rattle.cf_played.specs.Told.{IfRefused};
 
 use cf_bytes::Refused;
-use cf_index::{BadBlock, CheckedChain, read_chain};
+use cf_index::{CheckedChain, read_chain};
 use cf_make::{Chain, records};
+use cf_walk::BadBlock;
 use std::alloc::Global;
 
 // The chain, checked. It is refused only where it isn't good, or for want of memory.

@@ -2,7 +2,7 @@
 ghost use Rattle.std.specs.Prelude.{Bool, List};
 ghost use Rattle.cf_block.specs.declared.tx.Block.{Block};
 ghost use Rattle.cf_chain.specs.Good.{IsGoodChain};
-ghost use Rattle.cf_index.specs.Files.{IsGoodFile};
+ghost use Rattle.cf_walk.specs.Files.{IsGoodFile};
 ghost use Rattle.cf_make.specs.Records.{made_records_of};
 
 /// The records that are made of a good chain, with the witnesses of its coinbases or without, are a good file of its

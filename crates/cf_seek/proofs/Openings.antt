@@ -1,6 +1,6 @@
 -- What is open, after a change.
 use Rattle.std.proofs.Common.{◌≡◌, ◌≢◌, ◌⊎◌, inl, inr, ℕ, zero, suc, ◌+◌, ◌<◌, ◌≤◌, Bool, true, false, cond, List, [], ◌∷◌, ◌++◌, length, set, take, get_or, refl, sym, ◌∙◌, ap, subst, arith, Option, Some, None}
-use Rattle.std.specs.Prelude.{is_some, slice_get}
+use Rattle.std.specs.Prelude.{is_some, slice_get, Result, Ok, Err, OnErr}
 use Rattle.std.specs.Map.{keys_of, lookup}
 use Rattle.std.specs.Ordering.{is_eq, nat_cmp}
 use Rattle.std.specs.Cmp.Lexicographic.{slice_cmp}
@@ -8,13 +8,19 @@ use Rattle.std.proofs.lemmas.Bool.{cases_Bool, cases_eq}
 use Rattle.std.proofs.lemmas.Map.Text.{is_eq-slice_cmp}
 use Rattle.std.proofs.lemmas.Slice.Eq.{bytes_eq-Decides}
 use Rattle.cf_bytes.specs.declared.hash.Hash32.{Hash32}
+use Rattle.cf_bytes.specs.declared.memory.NoMemory.{NoMemory}
 use Rattle.cf_dispute.specs.Tables.{blocks_of}
 use Rattle.cf_headers.specs.Chain.{Hash, IsIn}
 use Rattle.cf_seek.specs.declared.open_at.OpenAt.{OpenAt}
-use Rattle.cf_seek.specs.Opens.{Closes, OpensBlock, OpensFilters}
+use Rattle.cf_seek.specs.Opens.{Closes, OpensBlock, OpensFilters, OpensSome}
 use Rattle.cf_seek.specs.OpensOf.{filter_at, filter_or, block_at, block_or, opens_among}
 use Rattle.cf_seek.specs.Seeking.{MoreOpens}
 use Rattle.cf_headers.specs.Rules.{same}
+
+-- what is said of a failure
+pub on_err : {A : Type 0} (result : Result (Unit {0}) NoMemory) → A → OnErr result A
+on_err (Ok u) a = tt
+on_err (Err n) a = a
 
 same_true : (a b : List ℕ) → same a b ≡ true → a ≡ b
 unfolding same
@@ -27,6 +33,9 @@ compared a b = is_eq-slice_cmp a b
 true_here : (a : Hash) → same a a ≡ true
 unfolding same
 true_here a = (bytes_eq-Decides a a).1 refl
+
+pub same_here : (a : Hash) → same a a ≡ true
+same_here a = true_here a
 
 pub put_here : (at : Hash) (o : Option (Unit {0})) → is_some (cond (is_eq (slice_cmp nat_cmp at at)) (Some tt) o) ≡ true
 put_here at o = ap (λ (b : Bool). is_some (cond b (Some tt) o)) (compared at at ∙ true_here at)
@@ -81,6 +90,21 @@ closes_at peers p at lt none_filter none_block = record {
   blocks = λ block. seat_here (λ o. block_or o block) peers p at lt ∙ none_block block;
   others = record { filters = λ q off block. seat_other (λ o. filter_or o block) peers p q at off; blocks = λ q off block. seat_other (λ o. block_or o block) peers p q at off };
 }
+
+pub opens_some_at : (peers : List OpenAt) (p : ℕ) (old new d : OpenAt) (asked : List Hash) → p < length peers → old ≡ get_or peers p d
+    → ((hash : Hash) → filter_at old hash ≡ true → filter_at new hash ≡ true)
+    → ((hash : Hash) → filter_at new hash ≡ true → IsIn hash asked ⊎ (filter_at old hash ≡ true))
+    → ((hash : Hash) → block_at new hash ≡ block_at old hash)
+    → OpensSome (opens_among peers) (opens_among (set peers p new)) p asked
+opens_some_at peers p old new d asked lt was stays only block =
+    let before : (hash : Hash) → filter_or (slice_get peers p) hash ≡ filter_at old hash = λ hash. seat_at (λ o. filter_or o hash) peers p d lt ∙ ap (λ (o : OpenAt). filter_at o hash) (sym was) in
+    let after : (hash : Hash) → filter_or (slice_get (set peers p new) p) hash ≡ filter_at new hash = λ hash. seat_here (λ o. filter_or o hash) peers p new lt in
+    record {
+      stays = λ hash is. after hash ∙ stays hash (sym (before hash) ∙ is);
+      only = λ hash is. elim (only hash (sym (after hash) ∙ is)) [ inl i ↦ inl i | inr held ↦ inr (before hash ∙ held) ];
+      blocks = λ hash. seat_here (λ o. block_or o hash) peers p new lt ∙ block hash ∙ ap (λ (o : OpenAt). block_at o hash) was ∙ sym (seat_at (λ o. block_or o hash) peers p d lt);
+      others = record { filters = λ q off hash. seat_other (λ o. filter_or o hash) peers p q new off; blocks = λ q off hash. seat_other (λ o. block_or o hash) peers p q new off };
+    }
 
 pub closed_past : (peers : List OpenAt) (p : ℕ) → length peers ≤ p → Closes (opens_among peers) (opens_among peers) p
 closed_past peers p ge = record {
@@ -150,6 +174,12 @@ in_last xs i d lt = (let up : suc i ≡ i + 1 = omega arith in subst (λ (n : �
   by (x ∷ xs) zero lt = inl refl
   by (x ∷ xs) (suc i) lt = inr (by xs i (omega (arith, lt)))
 
+pub in_taken : (xs : List Hash32) (i : ℕ) (block : Hash) → IsIn block (blocks_of (take i xs)) → IsIn block (blocks_of xs)
+in_taken xs zero block none = absurd none
+in_taken [] (suc i) block none = absurd none
+in_taken (x ∷ xs) (suc i) block (inl e) = inl e
+in_taken (x ∷ xs) (suc i) block (inr later) = inr (in_taken xs i block later)
+
 -- ---- the keys of a map
 
 pub in_keys : (block : Hash) (es : List (Hash32 × Unit {0})) → is_some (lookup (λ k. is_eq (slice_cmp nat_cmp block k.0)) es) ≡ true → IsIn block (blocks_of (keys_of es))
@@ -158,3 +188,15 @@ in_keys block (e ∷ es) there = elim (cases_Bool (is_eq (slice_cmp nat_cmp bloc
   | inl is1 ↦ inl (same_true block e.0.0 (sym (compared block e.0.0) ∙ is1))
   | inr off ↦ inr (in_keys block es (sym (ap (λ (b : Bool). is_some (cond b (Some e.1) (lookup (λ k. is_eq (slice_cmp nat_cmp block k.0)) es))) off) ∙ there))
 ]
+
+pub key_there : (block : Hash) (es : List (Hash32 × Unit {0})) → IsIn block (blocks_of (keys_of es))
+    → is_some (lookup (λ k. is_eq (slice_cmp nat_cmp block k.0)) es) ≡ true
+key_there block [] none = absurd none
+key_there block (e ∷ es) i = elim (cases_Bool (is_eq (slice_cmp nat_cmp block e.0.0))) [
+  | inl is1 ↦ ap (λ (b : Bool). is_some (cond b (Some e.1) (lookup (λ k. is_eq (slice_cmp nat_cmp block k.0)) es))) is1
+  | inr off ↦ ap (λ (b : Bool). is_some (cond b (Some e.1) (lookup (λ k. is_eq (slice_cmp nat_cmp block k.0)) es))) off
+      ∙ key_there block es (later i off)
+] where
+  later : IsIn block (blocks_of (keys_of (e ∷ es))) → is_eq (slice_cmp nat_cmp block e.0.0) ≡ false → IsIn block (blocks_of (keys_of es))
+  later (inl this) off = absurd (let no : true ≡ false = sym (compared block e.0.0 ∙ subst (λ (x : Hash). same block x ≡ true) this (true_here block)) ∙ off in cc no)
+  later (inr more) off = more

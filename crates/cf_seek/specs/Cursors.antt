@@ -1,5 +1,5 @@
 -- Marks, by the peers' numbers.
-use Rattle.std.specs.Prelude.{ℕ, min, max, List, slice_index_or, slice_set}
+use Rattle.std.specs.Prelude.{ℕ, ◌-◌, min, max, List, Option, Some, None, slice_index_or, slice_set}
 use Rattle.cf_headers.specs.declared.change.Change.{Change}
 use Rattle.cf_headers.specs.declared.change.Change.TheVariants.{Longer, NoLonger, Unlinked, Invalid, TooHigh}
 use Rattle.cf_seek.specs.declared.cursors.Marks.{Marks}
@@ -32,6 +32,11 @@ fallen cursors p NoLonger = cursors
 fallen cursors p Unlinked = cursors
 fallen cursors p (Invalid place fault) = cursors
 fallen cursors p TooHigh = cursors
+
+-- a mark of what is passed, where a block stands at this height, or at none
+abbrev pub passed_under : Option ℕ → ℕ → ℕ
+passed_under None passed = passed
+passed_under (Some height) passed = min passed (height - 1)
 
 -- marks from which blocks are looked for anew
 abbrev pub unpassed : Marks → Marks

@@ -12,7 +12,7 @@ use Rattle.cf_seek.specs.declared.spans.Wish.TheVariants.{Nothing, Claims, Filte
 use Rattle.cf_seek.specs.declared.want.Want.TheVariants.{Nothing as NothingWanted, Claims as ClaimsFrom, Filters as FiltersFrom, Block as BlockAt}
 use Rattle.cf_dispute.specs.Tables.{blocks_of}
 use Rattle.cf_seek.specs.Ends.{AreUnclaimed, IsLastUnclaimed}
-use Rattle.cf_seek.specs.Opens.{IsSameOpens, Opens, OpensBlock, OpensFilters}
+use Rattle.cf_seek.specs.Opens.{IsSameOpens, Opens, OpensBlock, OpensFilters, OpensSome}
 use Rattle.cf_seek.specs.Seeking.{AreToAsk, IsLastToAsk, IsSought}
 use Rattle.cf_seek.specs.Tables.{Table}
 
@@ -59,3 +59,11 @@ IsAskedFor p (Claims span) before after = IsSameOpens before after
 IsAskedFor p (Filters span) before after = OpensFilters before after p (blocks_of span.blocks.items)
 IsAskedFor p (Block hash) before after = OpensBlock before after p hash.0
 IsAskedFor p (Test trial) before after = OpensFilters before after p (trial.block.0 ∷ [])
+
+-- where memory was lacking: of a question for filters some are open to p from now on; else nothing changes
+abbrev pub IsAskedInPart : ℕ → Wish → Opens → Opens → Type 0
+IsAskedInPart p Nothing before after = IsSameOpens before after
+IsAskedInPart p (Claims span) before after = IsSameOpens before after
+IsAskedInPart p (Filters span) before after = OpensSome before after p (blocks_of span.blocks.items)
+IsAskedInPart p (Block hash) before after = IsSameOpens before after
+IsAskedInPart p (Test trial) before after = OpensSome before after p (trial.block.0 ∷ [])

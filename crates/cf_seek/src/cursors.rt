@@ -1,5 +1,5 @@
 //! Up to which heights what is known of the blocks of the peers' chains.
-ghost use Rattle.std.specs.Prelude.{◌≡◌, ◌≤◌, ℕ, true, replicate, slice_index_or, slice_set, vec_len, IfOk};
+ghost use Rattle.std.specs.Prelude.{◌≡◌, ◌≤◌, ℕ, true, false, replicate, slice_index_or, slice_set, vec_len, IfOk};
 ghost use Rattle.cf_seek.specs.Cursors.{fallen, further, lowered, marks_at, no_marks, raised, unpassed, unsought};
 
 use cf_bytes::{NoMemory, PeerNo};
@@ -129,7 +129,8 @@ impl Cursors {
 
     /// Whether blocks are looked for from the lowest along each peer's chain.
     pub fn is_unpassed(&self) -> bool
-        ensures { result ≡ true → (q : ℕ) → marks_at self.now q ≡ unpassed (marks_at self.now q) }
+        ensures yes { result ≡ true → (q : ℕ) → marks_at self.now q ≡ unpassed (marks_at self.now q) }
+        ensures no { result ≡ false → ((q : ℕ) → marks_at self.now q ≡ unpassed (marks_at self.now q)) → ⊥ }
     {
         self.marks.iter().all(|marks| marks.passed == 0)
     }
@@ -145,7 +146,8 @@ impl Cursors {
 
     /// How many numbers have marks; those from there on have none.
     pub fn places(&self) -> u32
-        ensures { (q : ℕ) → result ≤ q → marks_at self.now q ≡ no_marks }
+        ensures above { (q : ℕ) → result ≤ q → marks_at self.now q ≡ no_marks }
+        ensures nine { result ≡ 9 }
     {
         self.marks.len() as u32
     }

@@ -137,7 +137,10 @@ pub fn is_differing(claims: &Claims, block: &Hash32) -> bool
 
 // Whether a block has no extract, and different things are claimed of it.
 fn is_disputed(extracts: &Extracts, claims: &Claims, block: &Hash32) -> bool
-    ensures { result ≡ false → table_in extracts.now block.now.0 ≡ None → IsAt (tables_of claims.now) block.now.0 Differ → ⊥ }
+    ensures yes { result ≡ true
+        → (table_in extracts.now block.now.0 ≡ None) × IsAt (tables_of claims.now) block.now.0 Differ }
+    ensures no { result ≡ false → table_in extracts.now block.now.0 ≡ None
+        → IsAt (tables_of claims.now) block.now.0 Differ → ⊥ }
 {
     if extracts.has(block) {
         return false;
@@ -147,7 +150,10 @@ fn is_disputed(extracts: &Extracts, claims: &Claims, block: &Hash32) -> bool
 
 /// Whether one of some blocks has no extract, and different things are claimed of it.
 pub fn is_any_disputed(extracts: &Extracts, claims: &Claims, blocks: &[Hash32]) -> bool
-    ensures { result ≡ false → (block : List ℕ) → IsIn block (blocks_of blocks.now) → table_in extracts.now block ≡ None → IsAt (tables_of claims.now) block Differ → ⊥ }
+    ensures yes { result ≡ true → (block : List ℕ) × (IsIn block (blocks_of blocks.now)
+        × (table_in extracts.now block ≡ None) × IsAt (tables_of claims.now) block Differ) }
+    ensures no { result ≡ false → (block : List ℕ) → IsIn block (blocks_of blocks.now)
+        → table_in extracts.now block ≡ None → IsAt (tables_of claims.now) block Differ → ⊥ }
 {
     for block in blocks {
         if is_disputed(extracts, claims, block) {

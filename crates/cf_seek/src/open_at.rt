@@ -52,7 +52,8 @@ impl OpenAt {
     /// Whether no block is open to it.
     #[tactic(auto, unfolding(crate::specs::OpensOf::block_at))]
     pub fn has_none(&self) -> bool
-        ensures { result ≡ true → (block : List ℕ) → block_at self.now block ≡ false }
+        ensures yes { result ≡ true → (block : List ℕ) → block_at self.now block ≡ false }
+        ensures no { result ≡ false → ((block : List ℕ) → block_at self.now block ≡ false) → ⊥ }
     {
         match &self.block {
             Some(_) => false,
@@ -76,7 +77,8 @@ impl OpenAt {
     pub fn put_filters(&mut self, blocks: &[Hash32]) -> Result<(), NoMemory>
         ensures there { OnOk result ((hash : List ℕ) → IsIn hash (blocks_of blocks.now) → filter_at self.new hash ≡ true) }
         ensures stays { (hash : List ℕ) → filter_at self.old hash ≡ true → filter_at self.new hash ≡ true }
-        ensures only { OnOk result ((hash : List ℕ) → filter_at self.new hash ≡ true → IsIn hash (blocks_of blocks.now) ⊎ (filter_at self.old hash ≡ true)) }
+        ensures only { (hash : List ℕ) → filter_at self.new hash ≡ true
+            → IsIn hash (blocks_of blocks.now) ⊎ (filter_at self.old hash ≡ true) }
         ensures block { (hash : List ℕ) → block_at self.new hash ≡ block_at self.old hash }
     {
         for block in blocks {

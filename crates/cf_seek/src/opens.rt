@@ -1,9 +1,9 @@
 //! What stands in open requests.
-ghost use Rattle.std.specs.Prelude.{◌≡◌, ◌≢◌, ◌≤◌, ℕ, List, true, false, IfOk, OnOk, vec_len};
+ghost use Rattle.std.specs.Prelude.{◌≡◌, ◌≢◌, ◌≤◌, ℕ, List, true, false, IfOk, OnErr, OnOk, vec_len};
 ghost use Rattle.cf_dispute.specs.Tables.{blocks_of};
 ghost use Rattle.cf_seek.specs.Seeking.{MoreOpens};
-ghost use Rattle.cf_seek.specs.Spans.{IsAskedFor};
-ghost use Rattle.cf_seek.specs.Opens.{Closes, IsBlockFree, IsFilterFree, OpensBlock, OpensFilters};
+ghost use Rattle.cf_seek.specs.Spans.{IsAskedFor, IsAskedInPart};
+ghost use Rattle.cf_seek.specs.Opens.{Closes, IsBlockFree, IsFilterFree, OpensBlock, OpensFilters, OpensSome};
 
 use crate::open_at::OpenAt;
 use crate::spans::Wish;
@@ -64,7 +64,8 @@ impl Opens {
 
     /// Whether no block is open to a peer. It takes no memory.
     pub fn has_no_block(&self, p: PeerNo) -> bool
-        ensures { result ≡ true → (block : List ℕ) → (opens_in self.now).blocks p.0 block ≡ false }
+        ensures yes { result ≡ true → (block : List ℕ) → (opens_in self.now).blocks p.0 block ≡ false }
+        ensures no { result ≡ false → ((block : List ℕ) → (opens_in self.now).blocks p.0 block ≡ false) → ⊥ }
     {
         match self.peers.get(p.0 as usize) {
             Some(at) => at.has_none(),
@@ -96,6 +97,7 @@ impl Opens {
         ensures ok { OnOk result (IsAskedFor p.0 wish.now (opens_in self.old) (opens_in self.new)) }
         ensures more { ((block : List ℕ) → (opens_in self.old).blocks p.0 block ≡ false)
             → MoreOpens (opens_in self.old) (opens_in self.new) }
+        ensures err { OnErr result (IsAskedInPart p.0 wish.now (opens_in self.old) (opens_in self.new)) }
     {
         match wish {
             Wish::Filters(span) => self.put_filters(p, span.blocks.as_slice()),
@@ -114,6 +116,7 @@ impl Opens {
         requires { p.0 ≤ 8 }
         ensures ok { OnOk result (OpensFilters (opens_in self.old) (opens_in self.new) p.0 (blocks_of blocks.now)) }
         ensures more { MoreOpens (opens_in self.old) (opens_in self.new) }
+        ensures err { OnErr result (OpensSome (opens_in self.old) (opens_in self.new) p.0 (blocks_of blocks.now)) }
     {
         self.peers[p.0 as usize].put_filters(blocks)?;
         Ok(())

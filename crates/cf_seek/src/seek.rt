@@ -1,14 +1,14 @@
 //! What a peer is to be asked for next that isn't open to anybody.
-ghost use Rattle.std.specs.Prelude.{◌≡◌, ◌≢◌, ◌+◌, ◌<◌, ◌≤◌, ℕ, List, true, false, IsSome, length, max};
+ghost use Rattle.std.specs.Prelude.{◌≡◌, ◌≢◌, ◌⊎◌, ◌+◌, ◌<◌, ◌≤◌, ℕ, List, true, false, IsSome, length, max};
 ghost use Rattle.cf_dispute.specs.Of.{tables_of};
-ghost use Rattle.cf_headers.specs.Heights.{hash_at};
+ghost use Rattle.cf_headers.specs.Heights.{hash_at, height_of};
 ghost use Rattle.cf_headers.specs.Store.{own_of};
 ghost use Rattle.cf_seek.specs.Extracts.{table_in};
 ghost use Rattle.cf_seek.specs.Judged.{verdicts_in};
 ghost use Rattle.cf_seek.specs.OpensAll.{opens_in};
 ghost use Rattle.cf_seek.specs.OpensOf.{block_at, filter_at};
 ghost use Rattle.cf_seek.specs.Wanting.{IsToFetch, IsUnjudged};
-ghost use Rattle.cf_seek.specs.Cursors.{marks_at};
+ghost use Rattle.cf_seek.specs.Cursors.{marks_at, passed_under};
 ghost use Rattle.cf_seek.specs.Seeking.{ArePassedHits, IsToAsk, IsToGet, AreSought, ArePassed, IsSought, AreToAsk, IsLastToAsk};
 ghost use Rattle.cf_seek.specs.Tracking.{IsFallen, IsMarked, IsWithin};
 ghost use Rattle.cf_seek.specs.declared.kind.Kind.TheVariants.{ToFetch};
@@ -281,6 +281,7 @@ pub fn passed_below<H: HeaderStore>(store: &H, p: PeerNo, passed: u32, block: &H
     requires within { passed ≤ length (own_of (H.chain store.now) p) }
     ensures low { result ≤ passed }
     ensures apart { (h : ℕ) → 1 ≤ h → h ≤ result → hash_at (own_of (H.chain store.now) p) h ≡ block.now.0 → ⊥ }
+    ensures is { result ≡ passed_under (height_of block.now.0 (own_of (H.chain store.now) p)) passed }
 {
     match store.place(p, block) {
         Some(at) => passed.min(at.saturating_sub(1)),
@@ -294,14 +295,21 @@ pub fn is_any_left(extracts: &Extracts, claims: &Claims, judged: &Judged, at: &O
         → IsUnjudged (table_in extracts.now) (tables_of claims.now) (verdicts_in judged.now) block → ⊥ }
     ensures block { result ≡ false → (block : List ℕ) → block_at at.now block ≡ true
         → IsToFetch (table_in extracts.now) (tables_of claims.now) (verdicts_in judged.now) block → ⊥ }
+    ensures any { result ≡ true
+        → ((block : List ℕ) × ((block_at at.now block ≡ true)
+        × IsToFetch (table_in extracts.now) (tables_of claims.now) (verdicts_in judged.now) block))
+        ⊎ ((block : List ℕ) × ((filter_at at.now block ≡ true)
+        × IsUnjudged (table_in extracts.now) (tables_of claims.now) (verdicts_in judged.now) block)) }
 {
     is_block_left(extracts, claims, judged, at) || is_filter_left(extracts, claims, judged, at)
 }
 
 // Whether a block that is open to a peer is still to be fetched.
 fn is_block_left(extracts: &Extracts, claims: &Claims, judged: &Judged, at: &OpenAt) -> bool
-    ensures { result ≡ false → (block : List ℕ) → block_at at.now block ≡ true
+    ensures no { result ≡ false → (block : List ℕ) → block_at at.now block ≡ true
         → IsToFetch (table_in extracts.now) (tables_of claims.now) (verdicts_in judged.now) block → ⊥ }
+    ensures yes { result ≡ true → (block : List ℕ) × ((block_at at.now block ≡ true)
+        × IsToFetch (table_in extracts.now) (tables_of claims.now) (verdicts_in judged.now) block) }
 {
     match &at.block {
         Some(block) => is_due(kind_of(extracts, claims, judged, block)),
@@ -311,8 +319,10 @@ fn is_block_left(extracts: &Extracts, claims: &Claims, judged: &Judged, at: &Ope
 
 // Whether a filter that is open to a peer is still to be asked for.
 fn is_filter_left(extracts: &Extracts, claims: &Claims, judged: &Judged, at: &OpenAt) -> bool
-    ensures { result ≡ false → (block : List ℕ) → filter_at at.now block ≡ true
+    ensures no { result ≡ false → (block : List ℕ) → filter_at at.now block ≡ true
         → IsUnjudged (table_in extracts.now) (tables_of claims.now) (verdicts_in judged.now) block → ⊥ }
+    ensures yes { result ≡ true → (block : List ℕ) × ((filter_at at.now block ≡ true)
+        × IsUnjudged (table_in extracts.now) (tables_of claims.now) (verdicts_in judged.now) block) }
 {
     for block in at.filters.keys() {
         if is_unjudged(kind_of(extracts, claims, judged, block)) {

@@ -31,7 +31,7 @@ use Rattle.cf_chain.specs.Heights.{all_blocks, has_hash, block_height}
 use Rattle.cf_chain.specs.Serve.{header_or_zeros, header_before, filters_between, thousands, cfilter_of}
 use Rattle.cf_chain.proofs.Places.{height_within, length-filters_of}
 use Rattle.cf_chain.proofs.Bounds.{txs_longer}
-use Rattle.cf_index.proofs.GenesisHash.{first_length}
+use Rattle.cf_walk.proofs.GenesisHash.{first_length}
 use Rattle.cf_server.proofs.FilterLength.{length-basic_filter}
 use Rattle.cf_server.proofs.Lists.{all-take, all-drop, all-at, all-map}
 

@@ -15,9 +15,10 @@ use Rattle.cf_msg.specs.declared.msg.Msg.{Msg}
 use Rattle.cf_msg.specs.declared.msg.Msg.TheVariants.{GetHeaders, Headers, GetData, Block as BlockMessage, GetCfheaders, Cfheaders, GetCfilters, Cfilter}
 use Rattle.cf_peer.specs.declared.peer.Cause.TheVariants.{OtherFilter}
 use Rattle.cf_wires.specs.Log.{Log}
-use Rattle.cf_peer.specs.Trail.{Trail, Called, Said, Refused, Asked, Passed, Lost, trail, connected, own, WasAsked}
+use Rattle.cf_peer.specs.Trail.{Trail, Part, Called, Said, Refused, Asked, Passed, Lost, part_of, trail, connected, own, WasAsked}
 use Rattle.cf_peer.specs.Asking.{OpenRequest, NothingOpen, HeadersOpen, ClaimsOpen, FiltersOpen, BlockOpen, is_answer_of, is_this, is_wanted, blocks_from, block_below, claims_asked, filters_asked, filters_left, filter_of, filter_fault, claims, claims_after, given, given_by, hash_claimed, request, request_for, request_after, fault_of, verdict, counted, lists, IsClaimed, MayAsk}
 use Rattle.cf_sync.specs.Fetching.{AreBytes, IsConnected, IsFilterWanted, AreFiltersWanted, MaySend, Rightly, blocks_in}
+use Rattle.cf_sync.specs.Planned.{Alike, IsPlanned, is_untold}
 use Rattle.cf_sync.specs.Sync.{IsHashed}
 use Rattle.cf_dispute.proofs.PutIn.{same_true}
 use Rattle.cf_sync.proofs.Chains.{cases_same}
@@ -314,9 +315,11 @@ has_since (Lost w ∷ t) on clean right filter start stop was = absurd (false≢
 
 -- ---- so it isn't asked for them again
 
-pub filters_not_again : (log : Log) (p : ℕ) → Rightly log → AreBytes log → NoHashClash (IsHashed log []) → IsConnected log p → verdict (trail log p) ≡ None
-    → (filter start : ℕ) (stop : Hash32) → MaySend log p (GetCfilters filter start stop) → AreFiltersWanted log p start stop.0 → WasAsked (trail log p) (GetCfilters filter start stop) → ⊥
-filters_not_again log p right bytes clash on clean filter start stop may needed was =
+-- wanted by a log in which p's part is the same
+filters_not_by : (planned log : Log) (p : ℕ) → Rightly log → AreBytes log → NoHashClash (IsHashed log []) → IsConnected log p → verdict (trail log p) ≡ None
+    → part_of planned p ≡ part_of log p
+    → (filter start : ℕ) (stop : Hash32) → MaySend log p (GetCfilters filter start stop) → AreFiltersWanted planned p start stop.0 → WasAsked (trail log p) (GetCfilters filter start stop) → ⊥
+filters_not_by planned log p right bytes clash on clean one filter start stop may needed was =
     let t : Trail = trail log p in
     let apart : AreApart (lists t) = subst AreApart (same_use t on clean).showing (shown_apart log p [] bytes clash) in
     let w = has_since t on clean (asked_rightly log p right) filter start stop was in
@@ -324,13 +327,35 @@ filters_not_again log p right bytes clash on clean filter start stop may needed 
     elim w.since [
       | inl c ↦ absurd (let no : FiltersOpen c.left c.came ≡ NothingOpen = sym c.is ∙ may.of_its_part.0.idle in cc)
       | inr all ↦ (
-          let one : w.part ≡ range.part = one_part t w.chain (own t) w.part range.part stop.0 apart w.shown (own_is_shown t on clean) w.tip range.tip in
+          let same : w.part ≡ range.part = one_part t w.chain (own t) w.part range.part stop.0 apart w.shown (own_is_shown t on clean) w.tip range.tip in
           let x = some_block start w.part w.low w.high in
           let got = all x.0 x.1 in
-          let wanted : IsFilterWanted log p x.0 = needed x.0 (subst (λ (o : Option Chain). IsIn x.0 (blocks_in start o)) (sym range.tip) (subst (λ (c : Chain). IsIn x.0 (blocks_from start c)) one x.1)) in
+          let among : IsIn x.0 (blocks_in start (back_to stop.0 (own t))) =
+          subst (λ (o : Option Chain). IsIn x.0 (blocks_in start o)) (sym range.tip) (subst (λ (c : Chain). IsIn x.0 (blocks_from start c)) same x.1) in
+          let wanted : IsFilterWanted planned p x.0 = needed x.0 (subst (λ (q : Part). IsIn x.0 (blocks_in start (back_to stop.0 (own q.trail)))) (sym one) among) in
+          let claimed : hash_claimed (claims (counted t)) x.0 ≡ Some wanted.1.0 =
+          subst (λ (q : Part). hash_claimed (claims (counted q.trail)) x.0 ≡ Some wanted.1.0) one wanted.1.1.1 in
           let mine : Some got.3.0.hash ≡ Some wanted.1.0 =
-          sym (ap (λ (o : Option Claim). option_map (λ (c : Claim). c.hash) o) (sym (ap (claims t) got.2) ∙ got.3.1)) ∙ sym (ap (λ (c : Table). hash_claimed c x.0) (same_use t on clean).claiming) ∙ wanted.1.1.1 in
+          sym (ap (λ (o : Option Claim). option_map (λ (c : Claim). c.hash) o) (sym (ap (claims t) got.2) ∙ got.3.1)) ∙ sym (ap (λ (c : Table). hash_claimed c x.0) (same_use t on clean).claiming) ∙ claimed in
           let hash : got.3.0.hash ≡ wanted.1.0 = cc in
-          wanted.1.1.2 (got.0, (p, got.1), got.2, sym got.3.2 ∙ ap (λ (h : Hash32). h.0) hash)
+          wanted.1.1.2 (got.0, (p, subst (λ (q : Part). IsIn got.0 (given (counted q.trail))) (sym one) got.1), got.2, sym got.3.2 ∙ ap (λ (h : Hash32). h.0) hash)
           )
     ]
+
+pub filters_not_again : (log : Log) (p : ℕ) → Rightly log → AreBytes log → NoHashClash (IsHashed log []) → IsConnected log p → verdict (trail log p) ≡ None
+    → (filter start : ℕ) (stop : Hash32) → MaySend log p (GetCfilters filter start stop) → AreFiltersWanted log p start stop.0 → WasAsked (trail log p) (GetCfilters filter start stop) → ⊥
+filters_not_again log p right bytes clash on clean = filters_not_by log log p right bytes clash on clean refl
+
+-- p, which is connected, has the same part in the log of a client that isn't told yet of some failed sends
+pub same_part : (planned log : Log) (p : ℕ) → IsConnected log p → IsPlanned planned log → is_untold log p ≡ false → part_of planned p ≡ part_of log p
+same_part planned log p on is told = by (is.told p told) where
+  by : Alike (part_of planned p) (part_of log p) → part_of planned p ≡ part_of log p
+  by (inl same) = same
+  by (inr off) = absurd (false≢true (sym off.1 ∙ on))
+
+-- nor where such a client wants them
+pub filters_not_planned : (planned log : Log) (p : ℕ) → Rightly log → AreBytes log → NoHashClash (IsHashed log []) → IsConnected log p → verdict (trail log p) ≡ None
+    → IsPlanned planned log → is_untold log p ≡ false
+    → (filter start : ℕ) (stop : Hash32) → MaySend log p (GetCfilters filter start stop) → AreFiltersWanted planned p start stop.0 → WasAsked (trail log p) (GetCfilters filter start stop) → ⊥
+filters_not_planned planned log p right bytes clash on clean is told =
+    filters_not_by planned log p right bytes clash on clean (same_part planned log p on is told)

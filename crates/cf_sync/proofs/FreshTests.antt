@@ -29,7 +29,8 @@ use Rattle.cf_sync.specs.Fetching.{IsAlone, IsConnected, blocks_in, IsFetchedHas
 use Rattle.cf_sync.proofs.Blamed.{tested_stays}
 use Rattle.cf_sync.proofs.Counted.{first_none, same_use}
 use Rattle.cf_sync.proofs.Entries.{at_either}
-use Rattle.cf_sync.proofs.FreshFilters.{AreComing, AreFresh, IsItsOwn, are_fresh, coming_said, its_own, still_coming}
+use Rattle.cf_sync.specs.Planned.{IsPlanned, is_untold}
+use Rattle.cf_sync.proofs.FreshFilters.{AreComing, AreFresh, IsItsOwn, are_fresh, coming_said, its_own, same_part, still_coming}
 use Rattle.cf_sync.proofs.Listed.{in_left, in_right, reverse_in}
 use Rattle.cf_sync.proofs.Once.{still_connected}
 use Rattle.cf_sync.proofs.Remembers.{AskedRightly, asked_rightly}
@@ -298,17 +299,34 @@ test_alone log p filter start stop test block i none stands =
 
 -- ---- so it isn't asked for again
 
-pub tests_not_again : (log : Log) (p : ℕ) → Rightly log → IsConnected log p → verdict (trail log p) ≡ None
-    → (filter start : ℕ) (stop : Hash32) → MaySend log p (GetCfilters filter start stop) → IsTestOf log p start stop.0 → WasAskedSince log p (GetCfilters filter start stop) stop.0 → ⊥
-tests_not_again log p right on clean filter start stop may test was =
+-- to be tested by a log in which p's part is the same, and that has the same tests
+tests_not_by : (planned log : Log) (p : ℕ) → Rightly log → IsConnected log p → verdict (trail log p) ≡ None
+    → part_of planned p ≡ part_of log p → ((job : Job) → IsTested log job → IsTested planned job)
+    → (filter start : ℕ) (stop : Hash32) → MaySend log p (GetCfilters filter start stop) → IsTestOf planned p start stop.0
+    → WasAskedSince log p (GetCfilters filter start stop) stop.0 → ⊥
+tests_not_by planned log p right on clean one tests filter start stop may test was =
     let t : Trail = trail log p in
     let w = is_tried log p filter start stop right was (on, clean) in
     elim w.since [
       | inl c ↦ (let d = c.1 in absurd (let no : FiltersOpen d.left d.came ≡ NothingOpen = sym d.is ∙ may.of_its_part.0.idle in cc))
       | inr got ↦ (
+          let claimed : hash_claimed (claims (counted t)) stop.0 ≡ Some test.wanted.hash =
+          subst (λ (q : Part). hash_claimed (claims (counted q.trail)) stop.0 ≡ Some test.wanted.hash) one test.wanted.claimed in
           let mine : Some got.3.0.hash ≡ Some test.wanted.hash =
-          sym (ap (λ (o : Option Claim). option_map (λ (c : Claim). c.hash) o) (sym (ap (claims t) got.2) ∙ got.3.1)) ∙ sym (ap (λ (c : Table). hash_claimed c stop.0) (same_use t on clean).claiming) ∙ test.wanted.claimed in
+          sym (ap (λ (o : Option Claim). option_map (λ (c : Claim). c.hash) o) (sym (ap (claims t) got.2) ∙ got.3.1)) ∙ sym (ap (λ (c : Table). hash_claimed c stop.0) (same_use t on clean).claiming) ∙ claimed in
           let hash : got.3.0.hash ≡ test.wanted.hash = cc in
-          test.wanted.untested (record { filter = got.0; tested = got.1; of_block = got.2; this = sym got.3.2 ∙ ap (λ (h : Hash32). h.0) hash })
+          test.wanted.untested (record { filter = got.0; tested = tests got.0 got.1; of_block = got.2; this = sym got.3.2 ∙ ap (λ (h : Hash32). h.0) hash })
           )
     ]
+
+pub tests_not_again : (log : Log) (p : ℕ) → Rightly log → IsConnected log p → verdict (trail log p) ≡ None
+    → (filter start : ℕ) (stop : Hash32) → MaySend log p (GetCfilters filter start stop) → IsTestOf log p start stop.0 → WasAskedSince log p (GetCfilters filter start stop) stop.0 → ⊥
+tests_not_again log p right on clean = tests_not_by log log p right on clean refl (λ job tested. tested)
+
+-- nor where a client is to test it that isn't told yet of some failed sends
+pub tests_not_planned : (planned log : Log) (p : ℕ) → Rightly log → IsConnected log p → verdict (trail log p) ≡ None
+    → IsPlanned planned log → is_untold log p ≡ false
+    → (filter start : ℕ) (stop : Hash32) → MaySend log p (GetCfilters filter start stop) → IsTestOf planned p start stop.0
+    → WasAskedSince log p (GetCfilters filter start stop) stop.0 → ⊥
+tests_not_planned planned log p right on clean is told =
+    tests_not_by planned log p right on clean (same_part planned log p on is told) is.tests

@@ -16,7 +16,7 @@ use Rattle.cf_wires.specs.Log.{Log}
 use Rattle.cf_peer.specs.Trail.{Trail, trail, connected}
 use Rattle.cf_scan.specs.declared.extracts.TxExtract.{TxExtract}
 use Rattle.cf_seek.specs.Tables.{Table}
-use Rattle.cf_sync.specs.Fetching.{counted_part, IsConnected, IsFetchedHash, IsAgreed, IsDisputed, IsGivenWith, IsJudged, IsSettled, IsFilterWanted, IsBlockWanted, HoldsFetched}
+use Rattle.cf_sync.specs.Fetching.{counted_part, IsConnected, IsAgreed, IsDisputed, IsJudged, IsSettled, IsFilterWanted, IsBlockWanted, HoldsFetched}
 use Rattle.cf_sync.specs.Fetching as log
 use Rattle.cf_seek.specs.Wanting.{IsDone, IsUnjudged, IsToFetch}
 use Rattle.cf_sync.specs.Kept.{HoldsClaims, HoldsGiven}

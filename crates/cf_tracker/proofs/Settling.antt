@@ -10,8 +10,8 @@ use Rattle.cf_seek.specs.declared.kind.Kind.{Kind}
 use Rattle.cf_seek.specs.declared.kind.Kind.TheVariants.{Unclaimed, Unjudged, ToFetch, Done}
 use Rattle.cf_seek.specs.Tables.{Table}
 use Rattle.cf_seek.specs.Wanting.{IsDone, IsKind, IsKindAbove}
-use Rattle.cf_tracker.specs.Writing.{AreDone, IsDoneAbove, WritesOver}
-use Rattle.cf_tracker.specs.Written.{IsWrittenTop, IsWrittenWhole}
+use Rattle.cf_tracker.specs.Writing.{AreDone, IsDoneAbove, WritesOver, WritesPart}
+use Rattle.cf_tracker.specs.Written.{IsWrittenTo, IsWrittenTop, IsWrittenWhole}
 use Rattle.cf_seek.proofs.Sought.{not_to_fetch}
 use Rattle.cf_seek.proofs.Told.{not_unjudged, there_or_none}
 
@@ -74,6 +74,17 @@ writes_not extracts tables verdicts own written height most end top never = reco
   top = top;
   settled = λ are. absurd (never (subst (AreDone extracts tables verdicts own height) (sym end) are));
   left = λ off. refl;
+}
+
+pub writes_part : (extracts : Table) (tables : Tables) (verdicts : Verdicts) (own : Chain) (before after : List Written) (height most : ℕ) → most ≡ length own → IsWrittenTop extracts own before height
+    → AreDone extracts tables verdicts own height most → IsWrittenTo extracts own after height
+    → IsWrittenTo extracts own after (length after) → WritesPart extracts tables verdicts own before after
+writes_part extracts tables verdicts own before after height most end top are to part = record {
+  stood = height;
+  top = top;
+  settled = subst (AreDone extracts tables verdicts own height) end are;
+  least = to.long;
+  part = part;
 }
 
 pub writes_all : (extracts : Table) (tables : Tables) (verdicts : Verdicts) (own : Chain) (before after : List Written) (height most : ℕ) → most ≡ length own → IsWrittenTop extracts own before height

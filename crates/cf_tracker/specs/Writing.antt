@@ -31,6 +31,15 @@ pub record WritesOver (extracts : Table) (tables : Tables) (verdicts : Verdicts)
   pub settled : AreDone extracts tables verdicts own stood (length own) → IsWrittenWhole extracts own after
   pub left : (AreDone extracts tables verdicts own stood (length own) → ⊥) → after ≡ before
 
+-- Where memory was lacking, which it can only where the chain's blocks above that height are settled: the written ones
+-- are its own, at least up to that height.
+pub record WritesPart (extracts : Table) (tables : Tables) (verdicts : Verdicts) (own : Chain) (before after : List Written) : Type 0 where
+  pub stood : ℕ
+  pub top : IsWrittenTop extracts own before stood
+  pub settled : AreDone extracts tables verdicts own stood (length own)
+  pub least : stood ≤ length after
+  pub part : IsWrittenTo extracts own after (length after)
+
 -- so it is of the best chain; where nobody has one nothing changes
 abbrev pub WritesFor : Table → Tables → Verdicts → Chains → List Written → List Written → Option PeerNo → Type 0
 WritesFor extracts tables verdicts chains before after None = after ≡ before
@@ -40,6 +49,11 @@ pub record WritesUp (extracts : Table) (tables : Tables) (verdicts : Verdicts) (
   pub best : Option PeerNo
   pub is_best : IsBest chains best
   pub writes : WritesFor extracts tables verdicts chains before after best
+
+pub record WritesUpPart (extracts : Table) (tables : Tables) (verdicts : Verdicts) (chains : Chains) (before after : List Written) : Type 0 where
+  pub best : PeerNo
+  pub is_best : IsBest chains (Some best)
+  pub writes : WritesPart extracts tables verdicts (own_of chains best) before after
 
 -- ---- the bookmark
 

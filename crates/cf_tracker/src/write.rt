@@ -180,6 +180,8 @@ pub(crate) fn write_blocks<H: HeaderStore>(
         (IsWrittenWhole (table_in extracts.now) (own_of (H.chain store.now) p) (written_in account.new)) }
     ensures to { IsWrittenTo (table_in extracts.now) (own_of (H.chain store.now) p) (written_in account.new) from }
     ensures told { IsTold (table_in extracts.now) account.old → IsTold (table_in extracts.now) account.new }
+    ensures part { IsWrittenTo (table_in extracts.now) (own_of (H.chain store.now) p) (written_in account.new)
+        (length (written_in account.new)) }
 {
     account.pop_to(from as usize);
     for below in from..most {

@@ -155,7 +155,7 @@ pub returns-in-Serve-clause-does : goal.returns-in-Serve-clause-does
 returns-in-Serve-clause-does g c =
     let link = g.L.Link in
     let tell : g.row.L.Denot → LinkTold = link_now link.addresses link.accepted link.owed link.conns link.given in
-    let P : ℤ → Type 0 = λ m. IsServing c.serve.result m c.args.nonce (g.F.Files.files c.args.files.now) c.in-Serve.file c.in-Serve.address c.in-Serve.connections (tell c.args.link.now) (tell c.serve.new.link) in
+    let P : ℤ → Type 0 = λ m. IsServing c.in-Serve.grow c.serve.result m c.args.nonce (g.F.Files.files c.args.files.now) c.in-Serve.file c.in-Serve.address c.in-Serve.connections (tell c.args.link.now) (tell c.serve.new.link) in
     rw c.in-Serve.is (subst P (to_z-of_z {w = w64} {z = c.args.moment} (search rules)) (rw (c.as_str-in-Serve.ensures, c.as_str-in-Serve-2.ensures) at c.serve.ensures.serving), refl)
 
 pub returns-in-Make-clause-does : goal.returns-in-Make-clause-does

@@ -70,7 +70,7 @@ pub returns-in-Err-NoMemory-clause-does : goal.returns-in-Err-NoMemory-clause-do
 returns-in-Err-NoMemory-clause-does g c = λ command asked. undone command c.args.moment c.args.nonce _ c.requires.wires (new_tape c.args.tape.now c.requires.log) c.requires.log
 
 pub returns-in-Ok-clause-files : goal.returns-in-Ok-clause-files
-returns-in-Ok-clause-files g c = asked_so g.F.Files.reads g.F.Files.writes _ c.in-Ok.command _ _ c.in-Ok.ensures.exact c.perform.ensures.files
+returns-in-Ok-clause-files g c = asked_so g.F.Files.reads g.F.Files.opens g.F.Files.parts g.F.Files.writes _ c.in-Ok.command _ _ c.in-Ok.ensures.exact c.perform.ensures.files
 
 pub returns-in-Err-NoMemory-clause-files : goal.returns-in-Err-NoMemory-clause-files
-returns-in-Err-NoMemory-clause-files g c = unasked g.F.Files.reads g.F.Files.writes (command_of (names_in c.args.words.now)) c.args.files.now
+returns-in-Err-NoMemory-clause-files g c = unasked g.F.Files.reads g.F.Files.opens g.F.Files.parts g.F.Files.writes (command_of (names_in c.args.words.now)) c.args.files.now

@@ -3,11 +3,12 @@ use Rattle.std.proofs.lemmas.Bool.{cases_eq}
 use Rattle.cf_place.specs.Places.{place_at, is_settled}
 use Rattle.cf_hear.specs.Seen.{seen_of}
 use Rattle.cf_client.proofs.Settled.{through_next, through_all}
+use Rattle.cf_client.proofs.Ordering.{asks_none, asks_next}
 use Rattle.cf_client.proofs.Steps.{moves_self, moves_then}
 use Rattle.cf_client.proofs.ask.ask_each.Goals as goal
 
 pub loop-i-init : goal.loop-i-init
-loop-i-init g c = record { verdicts = λ block hash. refl; moves = moves_self _ c.requires.order; calm = c.requires.calm; done = λ p lt. absurd (omega (arith, lt)); through = λ p lt. absurd (omega (arith, lt)) }
+loop-i-init g c = record { verdicts = λ block hash. refl; moves = moves_self _ c.requires.order; calm = c.requires.calm; done = λ p lt. absurd (omega (arith, lt)); through = λ p lt. absurd (omega (arith, lt)); asked = asks_none 0 c.args.acts.now.items }
 
 pub loop-i-preserved : goal.loop-i-preserved
 loop-i-preserved g c =
@@ -21,8 +22,13 @@ loop-i-preserved g c =
       ];
       through = through_next c.loop-i.places c.ask_if_wanted.new.places (seen_of c.loop-i.tracker) (seen_of c.ask_if_wanted.new.tracker) c.loop-i.i
           c.in_ok-ask_if_wanted.ensures.asks.others c.in_ok-ask_if_wanted.ensures.asks.seen c.loop-i.invariant.through c.in_ok-ask_if_wanted.ensures.through;
+      asked = asks_next c.loop-i.i c.args.acts.now.items c.loop-i.acts.items c.ask_if_wanted.new.acts.items c.loop-i.invariant.asked
+          c.in_ok-ask_if_wanted.ensures.asks.asked;
     }
 
 pub returns-clause-through : goal.returns-clause-through
 returns-clause-through g c =
     through_all c.loop-i.places (seen_of c.loop-i.tracker) (λ p lt. c.loop-i.invariant.through p (omega (arith, lt, c.loop-i-test.false, c.loop-i.auto.places)))
+
+pub returns-clause-asked : goal.returns-clause-asked
+returns-clause-asked g c = c.loop-i.invariant.asked.adds

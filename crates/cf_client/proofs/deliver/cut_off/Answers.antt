@@ -1,7 +1,11 @@
-use Rattle.std.proofs.Common.{arith}
+use Rattle.std.proofs.Common.{List, ◌∷◌, [], ◌++◌, ◌∙◌, ap, arith}
+use Rattle.cf_peer.specs.declared.act.Act.{Act}
+use Rattle.cf_peer.specs.declared.act.Act.TheVariants.{Close}
+use Rattle.cf_peer.specs.declared.peer.Cause.TheVariants.{SendFailed}
 use Rattle.cf_client.specs.Steps.{desk}
 use Rattle.cf_hear.specs.Seen.{seen_of}
 use Rattle.cf_hear.proofs.Tracking.{put_forgotten}
+use Rattle.cf_client.proofs.Ordering.{told_none, told_close}
 use Rattle.cf_client.proofs.Taking.{cut_moves}
 use Rattle.cf_client.proofs.deliver.cut_off.Goals as goal
 
@@ -10,3 +14,11 @@ returns-clause-moves g c =
     rw c.in_ok-push.ensures.items
     (cut_moves (desk c.args.tracker.now c.args.places.now c.args.acts.now.items) c.args.p (seen_of c.forget.new.self) c.requires.none (omega arith) c.requires.order
     (put_forgotten (seen_of c.args.tracker.now) (seen_of c.forget.new.self) c.args.p c.forget.ensures.chains c.forget.ensures.table c.forget.ensures.claims c.forget.ensures.verdicts c.forget.ensures.watch c.forget.ensures.opens c.forget.ensures.trials))
+
+pub returns-then-i-places-clause-told : goal.returns-then-i-places-clause-told
+returns-then-i-places-clause-told g c = told_none c.args.acts.now.items c.requires.none
+
+pub returns-clause-told : goal.returns-clause-told
+returns-clause-told g c =
+    told_close c.args.p SendFailed c.push.new.self.items
+    (c.in_ok-push.ensures.items ∙ ap (λ (xs : List Act). xs ++ Close c.args.p SendFailed ∷ []) c.requires.none)

@@ -1,5 +1,5 @@
 use Rattle.std.proofs.Common.{sym}
-use Rattle.cf_index.proofs.FileLaws.{good_alone, good_after, bad_alone, bad_after}
+use Rattle.cf_walk.proofs.FileLaws.{good_alone, good_after, bad_alone, bad_after}
 use Rattle.cf_index.proofs.file.read_chain.Goals as goal
 
 pub returns-in-Some-clause-found : goal.returns-in-Some-clause-found

@@ -1,7 +1,7 @@
 use Rattle.std.proofs.Common.{◌≡◌, false, zero, ◌∙◌, sym, ap, subst, Ok, Err}
-use Rattle.cf_index.specs.Files.{all_zeros, next_at, blocks_from}
+use Rattle.cf_walk.specs.Files.{all_zeros, next_at, blocks_from}
 use Rattle.cf_index.specs.Progress.{Stops}
-use Rattle.cf_index.proofs.FileSteps.{one_more, bad_here, ends, none_read, all_read, spelled_more, fewer}
+use Rattle.cf_walk.proofs.FileSteps.{one_more, bad_here, ends, none_read, all_read, spelled_more, fewer}
 use Rattle.cf_index.proofs.file.read_records.Goals as goal
 
 pub loop-cut-init : goal.loop-cut-init

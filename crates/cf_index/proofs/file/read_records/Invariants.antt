@@ -1,6 +1,6 @@
 use Rattle.std.proofs.Common.{◌≡◌, [], length, zero}
-use Rattle.cf_index.specs.Records.{HasRecords}
-use Rattle.cf_index.specs.Files.{blocks_from}
+use Rattle.cf_walk.specs.Records.{HasRecords}
+use Rattle.cf_walk.specs.Files.{blocks_from}
 use Rattle.cf_index.specs.Progress.{Keeps}
 use Rattle.cf_index.proofs.file.read_records.Given as goal
 

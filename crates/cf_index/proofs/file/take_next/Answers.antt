@@ -1,4 +1,4 @@
-use Rattle.cf_index.proofs.FileSteps.{found_if}
+use Rattle.cf_index.proofs.Taking.{found_if}
 use Rattle.cf_index.proofs.file.take_next.Goals as goal
 
 pub returns-in-Ok-block_of-clause-found : goal.returns-in-Ok-block_of-clause-found

@@ -1,4 +1,4 @@
-use Rattle.std.proofs.Common.{◌≤◌, length, ◌∙◌, ap, arith}
+use Rattle.std.proofs.Common.{◌∙◌, ap, arith}
 use Rattle.cf_chain.specs.Coins.{after_block}
 use Rattle.cf_index.proofs.Adding.{coins_next, coins_all}
 use Rattle.cf_index.proofs.index.coins_of.Goals as goal

@@ -1,5 +1,5 @@
 use Rattle.std.proofs.Common.{[]}
-use Rattle.cf_index.proofs.Growing.{good_more, part_stands, no_cause}
+use Rattle.cf_walk.proofs.Growing.{good_more, part_stands, no_cause}
 use Rattle.cf_index.proofs.laws.laws_of_adding.Goals as goal
 
 pub returns-clause-good : goal.returns-clause-good

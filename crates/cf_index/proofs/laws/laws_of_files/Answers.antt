@@ -1,4 +1,4 @@
-use Rattle.cf_index.proofs.FileLaws.{taken, refused, apart, one, plain, after_first_record, after_stored_record, good_of}
+use Rattle.cf_walk.proofs.FileLaws.{taken, refused, apart, one, plain, after_first_record, after_stored_record, good_of}
 use Rattle.cf_index.proofs.laws.laws_of_files.Goals as goal
 
 pub returns-clause-taken : goal.returns-clause-taken

@@ -1,4 +1,4 @@
-use Rattle.std.proofs.Common.{◌≡◌, length, arith, ◌∙◌, ap}
+use Rattle.std.proofs.Common.{length, arith, ◌∙◌, ap}
 use Rattle.cf_index.proofs.Adding.{share_next, share_end}
 use Rattle.cf_index.proofs.shared.shared_blocks.Goals as goal
 

@@ -49,3 +49,15 @@ returns-clause-ok g c =
 pub returns-clause-to : goal.returns-clause-to
 returns-clause-to g c =
     written_low (table_in c.args.extracts.now) (own_of (g.H.HeaderStore.chain c.args.store.now) c.args.p) (written_in c.loop-below.account) c.loop-below.below c.args.from c.loop-below.invariant.up c.loop-below.invariant.to
+
+pub returns-in_err-write-clause-part : goal.returns-in_err-write-clause-part
+returns-in_err-write-clause-part g c =
+    let own = own_of (g.H.HeaderStore.chain c.args.store.now) c.args.p in
+    let table = table_in c.args.extracts.now in
+    subst (λ (xs : List Written). IsWrittenTo table own xs (length xs)) (sym c.in_err-write.ensures.err)
+    (subst (IsWrittenTo table own (written_in c.loop-below.account)) (sym c.loop-below.invariant.long) c.loop-below.invariant.to)
+
+pub returns-clause-part : goal.returns-clause-part
+returns-clause-part g c =
+    let own = own_of (g.H.HeaderStore.chain c.args.store.now) c.args.p in
+    subst (IsWrittenTo (table_in c.args.extracts.now) own (written_in c.loop-below.account)) (sym c.loop-below.invariant.long) c.loop-below.invariant.to

@@ -6,6 +6,7 @@ use Rattle.cf_hear.specs.Seen.{seen_of}
 use Rattle.cf_client.specs.Stands.{words_by}
 use Rattle.cf_tracker.specs.Tracker.{claims_of, watch_of}
 use Rattle.cf_client.specs.Settled.{AreSettled, AreRight}
+use Rattle.cf_client.proofs.Ordering.{in_order_by}
 use Rattle.cf_client.proofs.Steps.{in_order, stands_start}
 use Rattle.cf_client.proofs.Greeting.{reflects_cut, acts_tell}
 use Rattle.cf_client.proofs.client.Client.send_failed.Goals as goal
@@ -59,3 +60,8 @@ returns-clause-tells g c = λ log cut lt reflects is.
 
 pub returns-clause-judged : goal.returns-clause-judged
 returns-clause-judged g c = record { same = refl; kept = λ block hash. c.in_ok-ask_all.ensures.verdicts block hash ∙ c.in_ok-cut_off.ensures.verdicts block hash }
+
+pub returns-clause-in_order : goal.returns-clause-in_order
+returns-clause-in_order g c =
+    in_order_by c.cut_off.new.acts.items c.ask_all.new.acts.items c.in_ok-cut_off.ensures.told
+    c.in_ok-ask_all.ensures.asked

@@ -1,4 +1,4 @@
-use Rattle.std.proofs.Common.{◌≡◌, ◌+◌, length}
+use Rattle.std.proofs.Common.{◌≡◌, ◌⊎◌, ◌+◌, ◌≤◌, ◌<◌, length}
 use Rattle.cf_conn.specs.Source.{with_front}
 use Rattle.cf_conn.specs.Steps.{Steps}
 use Rattle.cf_conn.proofs.window.Window.want.Given as goal
@@ -9,6 +9,7 @@ invariant-loop-self g l = record {
   bound : length l.self.held + l.self.room ≡ length l.fn.self.held + l.fn.self.room;
   count : g.S.Source.faults l.source ≡ g.S.Source.faults l.fn.source;
   steps : Steps g.S.Source.reads l.fn.source l.source;
+  few : (length l.self.held ≤ length l.fn.self.held) ⊎ (length l.self.held < l.n + 65536);
 }
 
 abbrev pub decreases-loop-self : goal.decreases-loop-self

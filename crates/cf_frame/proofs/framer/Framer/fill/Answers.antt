@@ -16,10 +16,10 @@ returns-in-Ok-clause-filled c =
     let more : c.extend_from_slice.new.self.items ≡ items ++ first = c.in_ok-extend_from_slice.ensures.items in
     let view : drop start c.extend_from_slice.new.self.items ≡ now ++ take head piece =
     ap (drop start) more ∙ drop-append-le start items first low
-    ∙ ap (λ (l : List ℕ). l ++ first) (c.self.view_is ∙ c.let_go.ensures)
+    ∙ ap (λ (l : List ℕ). l ++ first) c.self.view_is
     ∙ ap (λ (l : List ℕ). now ++ l) c.split_at.ensures.front in
     filled now piece head c.min-body.result
-    (c.min-head.ensures ∙ ap (λ (n : ℕ). min n (length piece)) (c.lacks.ensures ∙ ap lacks c.let_go.ensures))
+    (c.min-head.ensures ∙ ap (λ (n : ℕ). min n (length piece)) c.lacks.ensures)
     (c.min-body.ensures ∙ ap (λ (n : ℕ). min n (length c.split_at.result.1.now)) (c.lacks-2.ensures ∙ ap lacks view)
     ∙ ap (λ (l : List ℕ). min (lacks (now ++ take head piece)) (length l)) c.split_at.ensures.back)
 
@@ -37,7 +37,7 @@ returns-in-Ok-clause-ok c =
     let more : c.extend_from_slice.new.self.items ≡ items ++ first = c.in_ok-extend_from_slice.ensures.items in
     let view : drop start c.extend_from_slice.new.self.items ≡ now ++ take head piece =
     ap (drop start) more ∙ drop-append-le start items first low
-    ∙ ap (λ (l : List ℕ). l ++ first) (c.self.view_is ∙ c.let_go.ensures)
+    ∙ ap (λ (l : List ℕ). l ++ first) c.self.view_is
     ∙ ap (λ (l : List ℕ). now ++ l) c.split_at.ensures.front in
     let low_2 : start ≤ length c.extend_from_slice.new.self.items =
     omega (arith, low, ap length more, length-append items first) in

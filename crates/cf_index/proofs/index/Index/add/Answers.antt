@@ -1,4 +1,4 @@
-use Rattle.std.proofs.Common.{◌≡◌, List, ◌∷◌, ◌++◌, [], sym, ap, ◌∙◌, subst}
+use Rattle.std.proofs.Common.{List, ◌∷◌, ◌++◌, [], sym, ap, ◌∙◌, subst}
 use Rattle.std.specs.FinMap.{empty}
 use Rattle.cf_block.specs.declared.tx.Block.{Block}
 use Rattle.cf_chain.specs.Coins.{coins_after}
@@ -7,10 +7,10 @@ use Rattle.cf_headers.specs.Rules.{past_after}
 use Rattle.cf_headers.specs.Chain.{tip_hash, past_of}
 use Rattle.cf_headers.proofs.Pasts.{past_more}
 use Rattle.cf_index.specs.Adding.{AreTheirs, last_header}
-use Rattle.cf_index.specs.Files.{cause_on}
-use Rattle.cf_index.specs.Progress.{RefusesFor}
+use Rattle.cf_walk.specs.Files.{cause_on}
+use Rattle.cf_walk.specs.Progress.{RefusesFor}
 use Rattle.cf_index.proofs.Adding.{told_on, added_all}
-use Rattle.cf_index.proofs.Growing.{headers_more}
+use Rattle.cf_walk.proofs.Growing.{headers_more}
 use Rattle.cf_index.proofs.Judging.{refused_before, refused_coins, stands}
 use Rattle.cf_index.proofs.index.Index.add.Goals as goal
 

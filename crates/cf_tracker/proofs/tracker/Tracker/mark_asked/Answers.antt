@@ -3,6 +3,7 @@ use Rattle.cf_seek.specs.Extracts.{table_in}
 use Rattle.cf_seek.specs.Judged.{verdicts_in}
 use Rattle.cf_seek.specs.OpensAll.{opens_in}
 use Rattle.cf_seek.proofs.Marked.{opened_marked}
+use Rattle.cf_tracker.proofs.Asking.{none_asked}
 use Rattle.cf_tracker.proofs.tracker.Tracker.mark_asked.Goals as goal
 
 pub invariant_of-self : goal.invariant_of-self
@@ -26,5 +27,8 @@ invariant_of-self-2 g c =
       told = c.args.self.now.told;
       stands = c.args.self.now.stands;
       marks = opened_marked (g.H.HeaderStore.chain now.store) (table_in now.extracts) (tables_of now.claims) (verdicts_in now.judged) (opens_in now.opens)
-          (opens_in c.ask.new.self) now.cursors (c.ask.ensures.more (c.has_no_block.ensures c.if-not-has_no_block.false)) now.marks;
+          (opens_in c.ask.new.self) now.cursors (c.ask.ensures.more (c.has_no_block.ensures.yes c.if-not-has_no_block.false)) now.marks;
     }
+
+pub returns-then-not-has_no_block-clause-err : goal.returns-then-not-has_no_block-clause-err
+returns-then-not-has_no_block-clause-err g c = none_asked c.args.p.0 c.args.wish.now (opens_in c.args.self.now.opens)

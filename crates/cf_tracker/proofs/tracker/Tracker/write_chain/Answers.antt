@@ -6,7 +6,8 @@ use Rattle.cf_tracker.specs.Account.{written_in}
 use Rattle.cf_seek.specs.Extracts.{table_in}
 use Rattle.cf_seek.specs.Judged.{verdicts_in}
 use Rattle.cf_tracker.specs.Written.{IsWrittenTo}
-use Rattle.cf_tracker.proofs.Settling.{writes_all, writes_not}
+use Rattle.cf_tracker.proofs.Asking.{failed}
+use Rattle.cf_tracker.proofs.Settling.{writes_all, writes_not, writes_part}
 use Rattle.cf_tracker.proofs.Writings.{up_to_turned}
 use Rattle.cf_tracker.proofs.tracker.Tracker.write_chain.Goals as goal
 
@@ -69,3 +70,9 @@ returns-clause-writes g c =
     let now = c.args.self.now in
     writes_all (table_in now.extracts) (tables_of now.claims) (verdicts_in now.judged) (own_of (g.H.HeaderStore.chain now.store) c.args.p) (written_in now.account) (written_in c.write_blocks.new.account)
     c.turn_to.new.bookmark.stands c.height-most.result c.height-most.ensures.value c.turn_to.ensures.top (c.settled_to-settled.ensures.yes c.if-settled-most.false) c.in_ok-write_blocks.ensures.ok
+
+pub returns-in_err-write_blocks-clause-part : goal.returns-in_err-write_blocks-clause-part
+returns-in_err-write_blocks-clause-part g c =
+    let now = c.args.self.now in
+    failed c.from_residual.result (writes_part (table_in now.extracts) (tables_of now.claims) (verdicts_in now.judged) (own_of (g.H.HeaderStore.chain now.store) c.args.p) (written_in now.account) (written_in c.write_blocks.new.account)
+    c.turn_to.new.bookmark.stands c.height-most.result c.height-most.ensures.value c.turn_to.ensures.top (c.settled_to-settled.ensures.yes c.if-settled-most.false) c.in_err-write_blocks.ensures.to c.in_err-write_blocks.ensures.part)

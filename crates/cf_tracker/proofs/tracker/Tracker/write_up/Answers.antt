@@ -1,6 +1,7 @@
 use Rattle.std.proofs.Common.{Some, None, refl}
 use Rattle.cf_seek.specs.Extracts.{table_in}
 use Rattle.cf_seek.proofs.Along.{best_entered}
+use Rattle.cf_tracker.proofs.Asking.{failed}
 use Rattle.cf_tracker.proofs.Telling.{stands_now}
 use Rattle.cf_tracker.proofs.tracker.Tracker.write_up.Goals as goal
 
@@ -28,3 +29,7 @@ pub returns-in-None-clause-stands : goal.returns-in-None-clause-stands
 returns-in-None-clause-stands g c =
     let now = c.args.self.now in
     stands_now (table_in now.extracts) now.account now.told
+
+pub returns-in_err-write_chain-in-Some-clause-part : goal.returns-in_err-write_chain-in-Some-clause-part
+returns-in_err-write_chain-in-Some-clause-part g c =
+    failed c.from_residual.result (record { best = c.in-Some.p; is_best = c.in-Some.ensures; writes = c.in_err-write_chain-in-Some.ensures.part })

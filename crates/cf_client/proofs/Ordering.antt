@@ -1,0 +1,207 @@
+-- Acts in order: questions that are added one after another, closes that are, and replies.
+use Rattle.std.proofs.Common.{◌≡◌, ℕ, ◌<◌, ◌≤◌, ◌+◌, ◌&&◌, ◌||◌, Bool, true, false, inl, inr, List, [], ◌∷◌, ◌++◌, length, map, get_or, refl, sym, ◌∙◌, ap, subst, arith, append_assoc}
+use Rattle.std.specs.List.{All, list_any, AllByRecursion}
+use Rattle.std.specs.List.Sorted.{IsStrictlyIncreasing}
+use Rattle.std.proofs.Math.Seq.{get_or-append_seam}
+use Rattle.std.proofs.lemmas.Bool.{cases_eq}
+use Rattle.std.proofs.lemmas.Grind.{common_steps}
+use Rattle.std.proofs.lemmas.List.{append-nil, map-append, get_or_append_left}
+use Rattle.std.proofs.lemmas.List.Folds.{list_all-append, list_any-append}
+use Rattle.std.proofs.lemmas.List.Elements.{All-nil, All-push}
+use Rattle.cf_bytes.specs.declared.hash.Hash32.{Hash32}
+use Rattle.cf_bytes.specs.declared.peer.PeerNo.{PeerNo}
+use Rattle.cf_headers.specs.Chain.{Chain}
+use Rattle.cf_msg.specs.declared.msg.Msg.{Msg}
+use Rattle.cf_msg.specs.declared.msg.Msg.TheVariants.{Verack, Pong, GetHeaders, GetData}
+use Rattle.cf_peer.specs.declared.act.Act.{Act}
+use Rattle.cf_peer.specs.declared.act.Act.TheVariants.{Send, Close}
+use Rattle.cf_peer.specs.declared.peer.Cause.{Cause}
+use Rattle.cf_peer.specs.declared.peer.Cause.TheVariants.{Overdue}
+use Rattle.cf_peer.specs.Asking.{is_request}
+use Rattle.cf_peer.specs.Hearing.{IsReply}
+use Rattle.cf_place.specs.Places.{AsksAbove, AsksFor}
+use Rattle.cf_client.specs.Order.{number_of, is_asking, closed_in, AreTold, AreAsked, AreInOrder, AsksOne, AddsQuestions, ClosesOne, ClosesLate}
+
+-- the questions for headers above a chain and for a block are questions
+pub above_asks : (chain : Chain) (m : Msg) → AsksAbove chain m → is_request m ≡ true
+above_asks chain (GetHeaders version locator stop) asks = refl
+above_asks chain m asks = absurd asks
+
+pub block_asked : (hash : Hash32) (m : Msg) → AsksFor hash m → is_request m ≡ true
+block_asked hash (GetData entries) asks = refl
+block_asked hash m asks = absurd asks
+
+-- numbers that rise, and one above them
+rising_push : (ns : List ℕ) (n : ℕ) → IsStrictlyIncreasing ns → All (λ k. k < n) ns
+    → IsStrictlyIncreasing (ns ++ n ∷ [])
+rising_push ns n rising below k lt = elim (cases_eq (k + 1) (length ns)) [
+  | inl last ↦
+      let more = ns ++ n ∷ [] in
+      let seam : get_or more (k + 1) 0 ≡ n = ap (λ (j : ℕ). get_or more j 0) last ∙ get_or-append_seam ns n [] 0 in
+      let here : get_or more k 0 ≡ get_or ns k 0 = get_or_append_left ns (n ∷ []) 0 k (omega (arith, last)) in
+      omega (arith, seam, here, below k 0 (omega (arith, last)))
+  | inr other ↦
+      let within : k + 1 < length ns = grind (arith, common_steps) in
+      let more = ns ++ n ∷ [] in
+      let next : get_or more (k + 1) 0 ≡ get_or ns (k + 1) 0 = get_or_append_left ns (n ∷ []) 0 (k + 1) within in
+      let here : get_or more k 0 ≡ get_or ns k 0 = get_or_append_left ns (n ∷ []) 0 k (omega (arith, within)) in
+      omega (arith, next, here, rising k within)
+]
+
+rising_none : IsStrictlyIncreasing []
+rising_none k lt = absurd (omega (arith, lt))
+
+rising_one : (n : ℕ) → IsStrictlyIncreasing (n ∷ [])
+rising_one n k lt = absurd (omega (arith, lt))
+
+all_higher : (ns : List ℕ) (m n : ℕ) → m ≤ n → All (λ k. k < m) ns → All (λ k. k < n) ns
+all_higher ns m n le below k d lt = omega (arith, le, below k d lt)
+
+-- numbers below one, and then itself
+below_push : (ns : List ℕ) (n : ℕ) → All (λ k. k < n) ns → All (λ k. k < n + 1) (ns ++ n ∷ [])
+below_push ns n below =
+    All-push (λ (k : ℕ). k < n + 1) ns n (all_higher ns n (n + 1) (omega arith) below) (omega arith)
+
+-- ---- the questions of one call
+
+-- on the way through the numbers: only lower ones were asked
+pub record AsksBelow (n : ℕ) (before now : List Act) : Type 0 where
+  pub adds : AddsQuestions before now
+  pub below : All (λ (p : ℕ). p < n) (map number_of adds.asked)
+
+pub asks_none : (n : ℕ) (acts : List Act) → AsksBelow n acts acts
+asks_none n acts = record {
+  adds = record { asked = []; added = sym (append-nil acts); are = record { questions = refl; lowest = rising_none } };
+  below = All-nil (λ (p : ℕ). p < n);
+}
+
+asked_push : (asked : List Act) (act : Act) → AreAsked asked → All (λ p. p < number_of act) (map number_of asked)
+    → is_asking act ≡ true → AreAsked (asked ++ act ∷ [])
+asked_push asked act are below question = record {
+  questions = list_all-append is_asking asked (act ∷ []) ∙ ap (λ (b : Bool). b && (is_asking act && true)) are.questions
+      ∙ ap (λ (b : Bool). b && true) question;
+  lowest = subst IsStrictlyIncreasing (sym (map-append number_of asked (act ∷ [])))
+      (rising_push (map number_of asked) (number_of act) are.lowest below);
+}
+
+-- one question more, or none
+pub asks_next : (i : ℕ) (before acts now : List Act) → AsksBelow i before acts
+    → AsksOne i acts now → AsksBelow (i + 1) before now
+asks_next i before acts now so_far (inl same) = record {
+  adds = record { asked = so_far.adds.asked; added = same ∙ so_far.adds.added; are = so_far.adds.are };
+  below = all_higher (map number_of so_far.adds.asked) i (i + 1) (omega arith) so_far.below;
+}
+asks_next i before acts now so_far (inr (m, question, added)) =
+    let act = Send (record { 0 = i }) m in
+    let asked = so_far.adds.asked in
+    record {
+      adds = record {
+        asked = asked ++ act ∷ [];
+        added = added ∙ ap (λ (xs : List Act). xs ++ act ∷ []) so_far.adds.added ∙ append_assoc before asked (act ∷ []);
+        are = asked_push asked act so_far.adds.are so_far.below question;
+      };
+      below = subst (All (λ (p : ℕ). p < i + 1)) (sym (map-append number_of asked (act ∷ [])))
+          (below_push (map number_of asked) i so_far.below);
+    }
+
+-- ---- who is closed for silence
+
+abbrev shut : ℕ → Act
+shut p = Close (record { 0 = p }) Overdue
+
+-- on the way through the numbers: only lower ones were closed
+pub record ClosesBelow (n : ℕ) (before now : List Act) : Type 0 where
+  pub closes : ClosesLate before now
+  pub below : All (λ (p : ℕ). p < n) closes.closed
+
+pub closes_none : (n : ℕ) (acts : List Act) → ClosesBelow n acts acts
+closes_none n acts = record {
+  closes = record { closed = []; added = sym (append-nil acts); rising = rising_none };
+  below = All-nil (λ (p : ℕ). p < n);
+}
+
+pub closes_next : (i : ℕ) (before acts now : List Act) → ClosesBelow i before acts
+    → ClosesOne i acts now → ClosesBelow (i + 1) before now
+closes_next i before acts now so_far (inl same) = record {
+  closes = record { closed = so_far.closes.closed; added = same ∙ so_far.closes.added; rising = so_far.closes.rising };
+  below = all_higher so_far.closes.closed i (i + 1) (omega arith) so_far.below;
+}
+closes_next i before acts now so_far (inr added) =
+    let closed = so_far.closes.closed in
+    record {
+      closes = record {
+        closed = closed ++ i ∷ [];
+        added = added ∙ ap (λ (xs : List Act). xs ++ shut i ∷ []) so_far.closes.added
+            ∙ append_assoc before (map shut closed) (shut i ∷ [])
+            ∙ ap (λ (xs : List Act). before ++ xs) (sym (map-append shut closed (i ∷ [])));
+        rising = rising_push closed i so_far.closes.rising so_far.below;
+      };
+      below = below_push closed i so_far.below;
+    }
+
+-- ---- what comes first: nothing, closes for silence, or replies, and a close after them
+
+pub told_none : (acts : List Act) → acts ≡ [] → AreTold acts
+told_none acts none = subst AreTold (sym none) (record { owed = refl; closed = rising_none })
+
+closed_shut : (ns : List ℕ) → closed_in (map shut ns) ≡ ns
+closed_shut [] = refl
+closed_shut (n ∷ ns) = ap (λ (xs : List ℕ). n ∷ xs) (closed_shut ns)
+
+no_asking_shut : (ns : List ℕ) → list_any is_asking (map shut ns) ≡ false
+no_asking_shut [] = refl
+no_asking_shut (n ∷ ns) = no_asking_shut ns
+
+pub told_closed : (before now : List Act) → before ≡ [] → ClosesLate before now → AreTold now
+told_closed before now none closes =
+    subst AreTold (sym (closes.added ∙ ap (λ (xs : List Act). xs ++ map shut closes.closed) none)) (record {
+      owed = no_asking_shut closes.closed;
+      closed = subst IsStrictlyIncreasing (sym (closed_shut closes.closed)) closes.rising;
+    })
+
+no_request : (r : Msg) → IsReply r → is_request r ≡ false
+no_request Verack is = refl
+no_request (Pong number) is = refl
+no_request r is = absurd is
+
+-- replies that are sent one after another
+abbrev sends : PeerNo → List Msg → List Act
+sends p rs = map (λ (m : Msg). Send p m) rs
+
+no_asking : (p : PeerNo) (rs : List Msg) → AllByRecursion IsReply rs → list_any is_asking (sends p rs) ≡ false
+no_asking p [] are = refl
+no_asking p (r ∷ rs) are =
+    ap (λ (b : Bool). b || list_any is_asking (sends p rs)) (no_request r are.0) ∙ no_asking p rs are.1
+
+closed_after : (p : PeerNo) (rs : List Msg) (more : List Act) → closed_in (sends p rs ++ more) ≡ closed_in more
+closed_after p [] more = refl
+closed_after p (r ∷ rs) more = closed_after p rs more
+
+pub told_replies : (p : PeerNo) (rs : List Msg) (acts : List Act) → AllByRecursion IsReply rs
+    → acts ≡ map (λ (m : Msg). Send p m) rs → AreTold acts
+told_replies p rs acts are is = subst AreTold (sym is) (record {
+  owed = no_asking p rs are;
+  closed = subst IsStrictlyIncreasing (ap closed_in (append-nil (sends p rs)))
+      (subst IsStrictlyIncreasing (sym (closed_after p rs [])) rising_none);
+})
+
+pub told_fault : (p : PeerNo) (cause : Cause) (rs : List Msg) (acts : List Act) → AllByRecursion IsReply rs
+    → acts ≡ map (λ (m : Msg). Send p m) rs → AreTold (acts ++ Close p cause ∷ [])
+told_fault p cause rs acts are is = subst (λ (xs : List Act). AreTold (xs ++ Close p cause ∷ [])) (sym is) (record {
+  owed = list_any-append is_asking (sends p rs) (Close p cause ∷ [])
+      ∙ ap (λ (b : Bool). b || (false || false)) (no_asking p rs are);
+  closed = subst IsStrictlyIncreasing (sym (closed_after p rs (Close p cause ∷ []))) (rising_one p.0);
+})
+
+pub told_close : (p : PeerNo) (cause : Cause) (acts : List Act) → acts ≡ Close p cause ∷ [] → AreTold acts
+told_close p cause acts is = subst AreTold (sym is) (record { owed = refl; closed = rising_one p.0 })
+
+-- and then the questions
+pub in_order_by : (told acts : List Act) → AreTold told → AddsQuestions told acts → AreInOrder acts
+in_order_by told acts first adds = record {
+  told = told;
+  asked = adds.asked;
+  split = adds.added;
+  first = first;
+  last = adds.are;
+}

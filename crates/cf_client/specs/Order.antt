@@ -1,0 +1,64 @@
+-- In which order the acts of one call stand.
+use Rattle.std.specs.Prelude.{◌≡◌, ◌⊎◌, ℕ, Bool, true, false, List, [], ◌∷◌, ◌++◌, map}
+use Rattle.std.specs.List.{list_all, list_any}
+use Rattle.std.specs.List.Sorted.{IsStrictlyIncreasing}
+use Rattle.cf_msg.specs.declared.msg.Msg.{Msg}
+use Rattle.cf_peer.specs.declared.act.Act.{Act}
+use Rattle.cf_peer.specs.declared.act.Act.TheVariants.{Send, Close}
+use Rattle.cf_peer.specs.declared.peer.Cause.TheVariants.{Overdue}
+use Rattle.cf_peer.specs.Asking.{is_request}
+
+-- whom an act is about
+abbrev pub number_of : Act → ℕ
+number_of (Send p m) = p.0
+number_of (Close p cause) = p.0
+
+-- an act puts a question: for headers, claims of filters, filters or blocks
+abbrev pub is_asking : Act → Bool
+is_asking (Send p m) = is_request m
+is_asking (Close p cause) = false
+
+-- the numbers of those who are closed, in the order of the acts
+abbrev pub closed_in : List Act → List ℕ
+closed_in [] = []
+closed_in (Send p m ∷ acts) = closed_in acts
+closed_in (Close p cause ∷ acts) = p.0 ∷ closed_in acts
+
+-- no act puts a question, and of those who are closed the lowest number comes first, none twice
+pub record AreTold (acts : List Act) : Type 0 where
+  pub owed : list_any is_asking acts ≡ false
+  pub closed : IsStrictlyIncreasing (closed_in acts)
+
+-- each act puts a question, and of those who are asked the lowest number comes first, none twice
+pub record AreAsked (acts : List Act) : Type 0 where
+  pub questions : list_all is_asking acts ≡ true
+  pub lowest : IsStrictlyIncreasing (map number_of acts)
+
+-- the acts of one call: first what is owed and who is closed, then the questions, and nothing after them
+pub record AreInOrder (acts : List Act) : Type 0 where
+  pub told : List Act
+  pub asked : List Act
+  pub split : acts ≡ told ++ asked
+  pub first : AreTold told
+  pub last : AreAsked asked
+
+-- to the acts was added one question to this number, or nothing
+abbrev pub AsksOne : ℕ → List Act → List Act → Type 0
+AsksOne i before now =
+    (now ≡ before) ⊎ ((m : Msg) × (is_request m ≡ true) × (now ≡ before ++ Send (record { 0 = i }) m ∷ []))
+
+-- to the acts were added questions in order
+pub record AddsQuestions (before now : List Act) : Type 0 where
+  pub asked : List Act
+  pub added : now ≡ before ++ asked
+  pub are : AreAsked asked
+
+-- to the acts was added that this number is closed for its silence, or nothing
+abbrev pub ClosesOne : ℕ → List Act → List Act → Type 0
+ClosesOne i before now = (now ≡ before) ⊎ (now ≡ before ++ Close (record { 0 = i }) Overdue ∷ [])
+
+-- to the acts was added who is closed for its silence, the lowest number first
+pub record ClosesLate (before now : List Act) : Type 0 where
+  pub closed : List ℕ
+  pub added : now ≡ before ++ map (λ (p : ℕ). Close (record { 0 = p }) Overdue) closed
+  pub rising : IsStrictlyIncreasing closed

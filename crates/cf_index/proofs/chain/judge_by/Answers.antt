@@ -1,6 +1,0 @@
-use Rattle.std.proofs.Common.{ap}
-use Rattle.cf_index.specs.Files.{in_coins}
-use Rattle.cf_index.proofs.chain.judge_by.Goals as goal
-
-pub returns-in-Ok : goal.returns-in-Ok
-returns-in-Ok c = ap in_coins c.in-Ok.ensures.1

@@ -1,0 +1,10 @@
+pub mod FileLaws
+pub mod FileSteps
+pub mod GenesisHash
+pub mod Growing
+pub mod RecordLaws
+pub mod WalkSteps
+pub mod WalkFirm
+pub mod WalkSource
+pub mod Strides
+pub mod Holding

@@ -1,0 +1,5 @@
+pub mod Records
+pub mod Files
+pub mod Progress
+pub mod Judging
+pub mod Striding
