@@ -257,7 +257,7 @@ pub test_asks : (d : Desk) (after : Seen) (i common : ℕ) (trial : Trial) (plac
     → IsSent i (GetCfilters 0 trial.height trial.block) (asked_for_filters (trial.block ∷ [])) d.places places d.acts acts
     → Asks i d (record { places = places; seen = after; acts = acts })
 test_asks d after i common trial places acts lt order settled wish far tries opened opens aimed sent =
-    about_asks d after i (GetCfilters 0 trial.height trial.block) (asked_for_filters (trial.block ∷ [])) places acts lt order sent
+    about_asks d after i (GetCfilters 0 trial.height trial.block) (asked_for_filters (trial.block ∷ [])) places acts lt order sent refl
     (settled_by sent.peer (asked_for_filters (trial.block ∷ [])) sent.idle (subst (λ (x : Place). is_settled x ≡ true) sent.here settled) refl refl) refl
     (omega arith) opened
     (λ log stood. test_goes d.places d.acts log d.seen i sent.peer common trial lt stood.goes sent.here sent.idle (ended_by sent.peer sent.idle (subst (λ (x : Place). is_settled x ≡ true) sent.here settled)) far tries stood.tracks wish sent.sendable)
