@@ -26,7 +26,7 @@ use Rattle.cf_peer.specs.declared.act.Act.TheVariants.{Send as SendTo}
 use Rattle.cf_peer.specs.declared.peer.Cause.{Cause}
 use Rattle.cf_peer.specs.declared.peer.Peer.{Peer}
 use Rattle.cf_peer.specs.declared.peer.Reply.{Reply}
-use Rattle.cf_peer.specs.declared.peer.Reply.TheVariants.{Nothing as NoReply, Send, Close}
+use Rattle.cf_peer.specs.declared.peer.Reply.TheVariants.{Nothing as NoReply, Send, Close, Expose}
 use Rattle.cf_peer.specs.Acts.{IsSendable, IsDoable}
 use Rattle.cf_peer.specs.Trail.{Trail, Part, Said, part_after, heard_part, fault_in, first, longer_of, ready, met, own, owed}
 use Rattle.cf_peer.specs.Asking.{OpenRequest, NothingOpen, request, claims, claims_after, counted, fault_of, fetched, fetched_by, given, given_by, verdict}
@@ -60,7 +60,9 @@ use Rattle.cf_seek.specs.Opens.{Closes, IsSameElse, IsSameOpens}
 use Rattle.cf_sync.specs.Kept.{OpensAt}
 use Rattle.cf_sync.proofs.KeptOpens.{opens_closed}
 use Rattle.cf_hear.specs.Seen.{Seen, IsSameSeen, Follows}
-use Rattle.cf_hear.specs.Hearing.{Gains, Gives, IsGivenBetween, Retains, HearsSeen, HearsNext, Advances, Stops, Brings, Midway, HeardWhole, HeardFault, HeardPiece}
+use Rattle.cf_hear.specs.Hearing.{Gains, Gives, IsGivenBetween, Retains, HearsSeen, HearsNext, Advances, Reveals, Stops, Brings, Midway, HeardWhole, HeardFault, HeardExposed, HeardPiece}
+use Rattle.cf_hear.specs.Exposing.{ExposesAmong}
+use Rattle.cf_hear.specs.declared.stop.Stop.{Stop}
 use Rattle.cf_hear.proofs.Trying.{IsOnce, gives_on, go_none, go_on, go_self, go_then, idle_by, once_by, one_empty, trials_self}
 use Rattle.cf_seek.specs.Trials.{IsSameTrials, TrialsGo}
 use Rattle.cf_hear.proofs.Opening.{else_of, else_self, else_then, opens_claims, opens_headers, opens_on, opens_other, opens_plain, opens_self}
@@ -362,6 +364,7 @@ pub plain_hears : (seen : Seen) (p : PeerNo) (peer : Peer) (m : Msg) (t : Trail)
 plain_hears seen p peer m t NoReply plain hears f = (hears, gains_plain seen p m t plain f)
 plain_hears seen p peer m t (Send reply) plain hears f = (hears, gains_plain seen p m t plain f)
 plain_hears seen p peer m t (Close cause) plain hears f = (hears, same_seen seen)
+plain_hears seen p peer m t (Expose block filter) plain hears f = absurd hears
 
 -- what a message that was read does to the peer and to what was seen
 pub hears_next : (before after : Seen) (p : PeerNo) (bytes rest : List ℕ) (new : Peer) (m : Msg) (t : Trail) (r : Reply)
@@ -375,6 +378,20 @@ hears_next before after p bytes rest new m t (Close cause) leads h = record {
   faulty = subst (λ (x : Part). Faulty t x.trail cause) (sym leads) (faulty_said (read_stream rest) m cause t h.0);
   same = h.1;
 }
+
+hears_next before after p bytes rest new m t (Expose block filter) leads h = record {
+  advances = record { message = m; leads = leads; holds = h.0.0; owes = h.0.1; gains = h.1.0 };
+  idle = h.1.1.0;
+  exposed = h.1.1.1;
+}
+
+-- a message by which p may be exposed
+pub may_expose : (before after : Seen) (p : PeerNo) (peer : Peer) (m : Msg) (t : Trail) (blocks : List Hash) (r : Reply) → request (Said m ∷ t) ≡ NothingOpen
+    → ExposesAmong after p.0 blocks r → HearsSeen before after p peer m t NoReply → HearsSeen before after p peer m t r
+may_expose before after p peer m t blocks NoReply idle among h = h
+may_expose before after p peer m t blocks (Send reply) idle among h = absurd among
+may_expose before after p peer m t blocks (Close cause) idle among h = absurd among
+may_expose before after p peer m t blocks (Expose block filter) idle among h = (h.0, (h.1, (idle, among)))
 
 -- ---- bytes of a piece that go to the framer
 
@@ -610,8 +627,34 @@ midway_fault p old bytes seen now next before acts start end cause midway stops 
       kept = gains_retains seen now next p midway.so_far midway.news midway.jobs midway.gains stops.same;
     }
 
+-- a message exposes the peer
+pub midway_exposed : (p : PeerNo) (old new : Peer) (bytes rest : List ℕ) (seen now next : Seen) (before acts : List Act) (start end : Part) (block filter : Hash)
+    (midway : Midway p old bytes seen now before acts start end)
+    → Reveals now next p bytes rest new midway.so_far block filter → HeardExposed p seen next before acts start end block filter
+midway_exposed p old new bytes rest seen now next before acts start end block filter midway reveals =
+    let more = midway_quiet p old new bytes rest seen now next before acts start end midway reveals.advances in
+    record {
+      so_far = more.so_far;
+      replies = more.replies;
+      acts = more.acts;
+      are = more.are;
+      on = more.holds.on;
+      clean = more.holds.clean;
+      idle = reveals.idle;
+      later = rest;
+      leads = more.leads;
+      owes = more.owes;
+      news = more.news;
+      brings = more.brings;
+      jobs = more.jobs;
+      gives = more.gives;
+      gave = more.gave;
+      gains = more.gains;
+      exposed = reveals.exposed;
+    }
+
 -- the framer is taken out of the peer for a piece, and put back
-pub put_back : (r : Result (Option Cause) NoMemory) (p : PeerNo) (old taken now new : Peer) (fed waits piece : List ℕ)
+pub put_back : (r : Result (Option Stop) NoMemory) (p : PeerNo) (old taken now new : Peer) (fed waits piece : List ℕ)
     (seen next : Seen) (acts more : List Act)
     → taken ≡ record old { framer = [] } → fed ≡ old.framer → new ≡ record now { framer = waits }
     → IfOk r (λ o. (part : Part) → Holds taken part.trail → fed ≡ part.waits → Follows seen p.0 part.trail

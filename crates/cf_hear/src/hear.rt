@@ -16,10 +16,13 @@ ghost use Rattle.cf_seek.specs.Trials.{IsSameTrials, tested_if};
 ghost use Rattle.cf_tracker.specs.Tracker.{aims_of, chains_of, claims_of, opens_of, paid_of, table_of, tests_of, trials_of, verdicts_of, watch_of};
 ghost use Rattle.cf_seek.specs.Wanting.{IsSameTables};
 ghost use Rattle.cf_hear.specs.Seen.{Follows, seen_of};
+ghost use Rattle.cf_dispute.specs.Tables.{blocks_of};
 ghost use Rattle.cf_hear.specs.Hearing.{HearsSeen, HearsNext, HeardPiece, goes_on};
+ghost use Rattle.cf_hear.specs.Exposing.{Exposes, ExposesAmong, ExposesLast, ExposesNext, IsUnexposed};
 ghost use Rattle.cf_hear.specs.Judging.{IsJudgedBy, AreJudgedBy, judging_of};
 
 use crate::lists::{hashes_in, headers_in};
+use crate::stop::Stop;
 use cf_block::{Header, block_hash};
 use cf_bytes::{Cut, Hash32, NoMemory, PeerNo, Refused};
 use cf_frame::Framer;
@@ -27,6 +30,7 @@ use cf_headers::HeaderStore;
 use cf_lent::View;
 use cf_match::{Job, Matcher, Verdict};
 use cf_peer::{Act, Cause, Coming, Heard, Peer, Reply, cause_of, next_coming};
+use cf_seek::Exposure;
 use cf_tracker::Tracker;
 use cf_view::{BlockView, check_view_by, view_txids};
 use std::alloc::Global;
@@ -41,6 +45,8 @@ fn hear_headers<H: HeaderStore>(
     requires entered { IsSome (chains_of tracker.old p.0) }
     requires right { IsRight peer.old.request (claims_of tracker.old p.0) }
     ensures heard { IfOk result (λ r. (t : Trail) → Holds peer.old t → Follows (seen_of tracker.old) p.0 t → HearsSeen (seen_of tracker.old) (seen_of tracker.new) p peer.new (Headers headers.now) t r) }
+    ensures exposes { IfOk result (λ r. (t : Trail) → Holds peer.old t → Follows (seen_of tracker.old) p.0 t
+        → IsUnexposed (seen_of tracker.old) → Exposes (seen_of tracker.new) p.0 r) }
     ensures sendable { IfOk result IsReplySendable }
     ensures entered { OnOk result (IsSome (chains_of tracker.new p.0)) }
     ensures right { OnOk result (IsRight peer.new.request (claims_of tracker.new p.0)) }
@@ -72,6 +78,8 @@ fn hear_block<H: HeaderStore>(
     requires entered { IsSome (chains_of tracker.old p.0) }
     requires right { IsRight peer.old.request (claims_of tracker.old p.0) }
     ensures heard { IfOk result (λ r. (t : Trail) → Holds peer.old t → Follows (seen_of tracker.old) p.0 t → HearsSeen (seen_of tracker.old) (seen_of tracker.new) p peer.new (BlockMessage block.now) t r) }
+    ensures exposes { IfOk result (λ r. (t : Trail) → Holds peer.old t → Follows (seen_of tracker.old) p.0 t
+        → IsUnexposed (seen_of tracker.old) → Exposes (seen_of tracker.new) p.0 r) }
     ensures sendable { IfOk result IsReplySendable }
     ensures right { OnOk result (IsRight peer.new.request (claims_of tracker.new p.0)) }
     ensures chains { OnOk result ((q : ℕ) → chains_of tracker.new q ≡ chains_of tracker.old q) }
@@ -97,6 +105,18 @@ fn hear_block<H: HeaderStore>(
     Ok(Reply::Nothing)
 }
 
+// The reply to what a peer said of blocks: it is exposed by the first of which it claims a filter that was found to lack
+// what the block pays.
+fn exposing<H: HeaderStore>(tracker: &Tracker<H>, p: PeerNo, blocks: &[Hash32]) -> Reply
+    ensures sendable { IsReplySendable result }
+    ensures exposed { ExposesAmong (seen_of tracker.now) p.0 (blocks_of blocks.now) result }
+{
+    match tracker.exposed(p, blocks) {
+        Some(exposure) => Reply::Expose(exposure.block, exposure.filter),
+        None => Reply::Nothing,
+    }
+}
+
 // Takes claims that a tracked peer sent. Those that don't answer what is open to it are read over.
 fn hear_claims<H: HeaderStore>(
     tracker: &mut Tracker<H>,
@@ -111,6 +131,8 @@ fn hear_claims<H: HeaderStore>(
     requires entered { IsSome (chains_of tracker.old p.0) }
     requires right { IsRight peer.old.request (claims_of tracker.old p.0) }
     ensures heard { IfOk result (λ r. (t : Trail) → Holds peer.old t → Follows (seen_of tracker.old) p.0 t → HearsSeen (seen_of tracker.old) (seen_of tracker.new) p peer.new (Cfheaders filter stop.now previous.now hashes.now) t r) }
+    ensures exposes { IfOk result (λ r. (t : Trail) → Holds peer.old t → Follows (seen_of tracker.old) p.0 t
+        → IsUnexposed (seen_of tracker.old) → Exposes (seen_of tracker.new) p.0 r) }
     ensures sendable { IfOk result IsReplySendable }
     ensures right { OnOk result (IsRight peer.new.request (claims_of tracker.new p.0)) }
     ensures chains { OnOk result ((q : ℕ) → chains_of tracker.new q ≡ chains_of tracker.old q) }
@@ -123,8 +145,9 @@ fn hear_claims<H: HeaderStore>(
     let Some(range) = peer.take_range(filter, stop) else {
         return Ok(Reply::Nothing);
     };
-    match tracker.add_claims(p, &range.parent, range.blocks.as_slice(), previous, hashes) {
-        Ok(()) => Ok(Reply::Nothing),
+    let blocks = range.blocks.as_slice();
+    match tracker.add_claims(p, &range.parent, blocks, previous, hashes) {
+        Ok(()) => Ok(exposing(tracker, p, blocks)),
         Err(Refused::No(fault)) => Ok(Reply::Close(cause_of(fault))),
         Err(Refused::NoMemory) => Err(NoMemory),
     }
@@ -213,6 +236,8 @@ fn hear_filter<H: HeaderStore, M: Matcher>(
     requires entered { IsSome (chains_of tracker.old p.0) }
     requires right { IsRight peer.old.request (claims_of tracker.old p.0) }
     ensures heard { IfOk result (λ r. (t : Trail) → Holds peer.old t → Follows (seen_of tracker.old) p.0 t → HearsSeen (seen_of tracker.old) (seen_of tracker.new) p peer.new (Cfilter filter block.now bytes.now) t r) }
+    ensures exposes { IfOk result (λ r. (t : Trail) → Holds peer.old t → Follows (seen_of tracker.old) p.0 t
+        → IsUnexposed (seen_of tracker.old) → Exposes (seen_of tracker.new) p.0 r) }
     ensures sendable { IfOk result IsReplySendable }
     ensures right { OnOk result (IsRight peer.new.request (claims_of tracker.new p.0)) }
     ensures chains { OnOk result ((q : ℕ) → chains_of tracker.new q ≡ chains_of tracker.old q) }
@@ -230,7 +255,7 @@ fn hear_filter<H: HeaderStore, M: Matcher>(
             let verdicts = matcher.run(jobs.as_slice(), tracker.watch())?;
             keep_given(tracker, p, jobs.as_slice(), verdicts.as_slice())?;
             let_go(tracker, peer, p);
-            Ok(Reply::Nothing)
+            Ok(exposing(tracker, p, &[*block]))
         }
     }
 }
@@ -249,6 +274,8 @@ fn hear<H: HeaderStore, M: Matcher>(
     requires right { IsRight peer.old.request (claims_of tracker.old p.0) }
     ensures heard { IfOk result (λ r. (t : Trail) → Holds peer.old t → Follows (seen_of tracker.old) p.0 t
         → HearsSeen (seen_of tracker.old) (seen_of tracker.new) p peer.new (msg_of message.entry) t r) }
+    ensures exposes { IfOk result (λ r. (t : Trail) → Holds peer.old t → Follows (seen_of tracker.old) p.0 t
+        → IsUnexposed (seen_of tracker.old) → Exposes (seen_of tracker.new) p.0 r) }
     ensures sendable { IfOk result IsReplySendable }
     ensures entered { OnOk result (IsSome (chains_of tracker.new p.0)) }
     ensures right { OnOk result (IsRight peer.new.request (claims_of tracker.new p.0)) }
@@ -339,6 +366,8 @@ fn hear_next<H: HeaderStore, M: Matcher>(
         → HearsNext (seen_of tracker.old) (seen_of tracker.new) p
         (framer.old ++ piece.old) (framer.new ++ piece.new) peer.new t o) }
     ensures whole { IfOk result (λ o. IfNone o (piece.new ≡ [])) }
+    ensures exposes { IfOk result (λ o. (t : Trail) → Holds peer.old t → Follows (seen_of tracker.old) p.0 t
+        → IsUnexposed (seen_of tracker.old) → ExposesNext (seen_of tracker.new) p.0 o) }
     ensures sendable { IfOk result (λ o. IfSome o IsReplySendable) }
     ensures shorter { IfOk result (λ o. goes_on o ≡ true
         → length (framer.new ++ piece.new) < length (framer.old ++ piece.old)) }
@@ -373,7 +402,7 @@ fn hear_frames<H: HeaderStore, M: Matcher>(
     p: PeerNo,
     piece: &[u8],
     acts: &mut Vec<Act>,
-) -> Result<Option<Cause>, NoMemory>
+) -> Result<Option<Stop>, NoMemory>
     requires low { p.0 ≤ 8 }
     requires entered { IsSome (chains_of tracker.old p.0) }
     requires right { IsRight peer.old.request (claims_of tracker.old p.0) }
@@ -381,6 +410,8 @@ fn hear_frames<H: HeaderStore, M: Matcher>(
         → Follows (seen_of tracker.old) p.0 part.trail
         → HeardPiece p (record peer.new { framer = framer.new }) (seen_of tracker.old) (seen_of tracker.new)
         acts.old.items acts.new.items part (heard_part piece.now part) o) }
+    ensures exposes { IfOk result (λ o. (part : Part) → Holds peer.old part.trail → framer.old ≡ part.waits
+        → Follows (seen_of tracker.old) p.0 part.trail → IsUnexposed (seen_of tracker.old) → ExposesLast (seen_of tracker.new) p.0 o) }
     ensures doable { OnOk result (p.0 < 9 → All IsDoable acts.old.items → All IsDoable acts.new.items) }
     ensures entered { OnOk result (IsSome (chains_of tracker.new p.0)) }
     ensures right { OnOk result (IsRight peer.new.request (claims_of tracker.new p.0)) }
@@ -396,14 +427,17 @@ fn hear_frames<H: HeaderStore, M: Matcher>(
         match reply {
             Reply::Nothing => {}
             Reply::Send(message) => acts.push(Act::Send(p, message))?,
-            Reply::Close(cause) => return Ok(Some(cause)),
+            Reply::Close(cause) => return Ok(Some(Stop::Fault(cause))),
+            Reply::Expose(block, filter) => {
+                return Ok(Some(Stop::Exposed(Exposure { block, filter })));
+            }
         }
     }
     Ok(None)
 }
 
-/// Takes a piece of a tracked peer's bytes, up to the first frame that deserves a cause, and adds the replies that are owed to
-/// its messages to the acts. Filters are judged by this matcher alone.
+/// Takes a piece of a tracked peer's bytes, up to the first frame that deserves a cause or exposes the peer, and adds the
+/// replies that are owed to its messages to the acts. Filters are judged by this matcher alone.
 pub fn hear_piece<H: HeaderStore, M: Matcher>(
     alloc: Global,
     tracker: &mut Tracker<H>,
@@ -412,11 +446,13 @@ pub fn hear_piece<H: HeaderStore, M: Matcher>(
     p: PeerNo,
     piece: &[u8],
     acts: &mut Vec<Act>,
-) -> Result<Option<Cause>, NoMemory>
+) -> Result<Option<Stop>, NoMemory>
     requires low { p.0 ≤ 8 }
     requires entered { IsSome (chains_of tracker.old p.0) }
     requires right { IsRight peer.old.request (claims_of tracker.old p.0) }
     ensures heard { IfOk result (λ o. (part : Part) → Holds peer.old part.trail → peer.old.framer ≡ part.waits → Follows (seen_of tracker.old) p.0 part.trail → HeardPiece p peer.new (seen_of tracker.old) (seen_of tracker.new) acts.old.items acts.new.items part (heard_part piece.now part) o) }
+    ensures exposes { IfOk result (λ o. (part : Part) → Holds peer.old part.trail → peer.old.framer ≡ part.waits
+        → Follows (seen_of tracker.old) p.0 part.trail → IsUnexposed (seen_of tracker.old) → ExposesLast (seen_of tracker.new) p.0 o) }
     ensures doable { OnOk result (p.0 < 9 → All IsDoable acts.old.items → All IsDoable acts.new.items) }
     ensures entered { OnOk result (IsSome (chains_of tracker.new p.0)) }
     ensures right { OnOk result (IsRight peer.new.request (claims_of tracker.new p.0)) }

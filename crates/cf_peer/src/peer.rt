@@ -113,6 +113,8 @@ pub enum Reply {
     Send(Msg),
     /// The peer is closed.
     Close(Cause),
+    /// Who claims of the block with the first hash the filter with the second is closed.
+    Expose(Hash32, Hash32),
 }
 
 /// A connected peer.

@@ -78,3 +78,18 @@ IsTrying extracts tables told p own common listed (Claims span) = Unit {0}
 IsTrying extracts tables told p own common listed (Filters span) = Unit {0}
 IsTrying extracts tables told p own common listed (Block hash) = Unit {0}
 IsTrying extracts tables told p own common listed (Test trial) = IsNextTrial extracts tables told p own common listed (Some trial)
+
+-- p claims this filter of a block
+pub record IsClaimedAs (tables : Tables) (p : ℕ) (block filter : Hash) : Type 0 where
+  pub claim : Claim
+  pub mine : tables p block ≡ Some claim
+  pub this : claim.hash.0 ≡ filter
+
+-- p claims this filter of a block, and it was found to lack what the block pays
+pub record IsExposed (tables : Tables) (told : Told) (p : ℕ) (block filter : Hash) : Type 0 where
+  pub claimed : IsClaimedAs tables p block filter
+  pub found : told block filter ≡ Some true
+
+-- of each block nobody claims a filter that was found to lack what the block pays
+abbrev pub AreUnexposed : Tables → Told → Type 0
+AreUnexposed tables told = (p : ℕ) (block filter : Hash) → IsExposed tables told p block filter → ⊥

@@ -32,6 +32,6 @@ pub use opens::Opens;
 pub use outputs::Outputs;
 pub use seek::{fall_below_hits, is_any_left, next_sought, passed_below};
 pub use spans::{Span, Wish};
-pub use testing::{Trial, next_trial};
+pub use testing::{Exposure, Trial, first_exposed, is_claimed, next_trial};
 pub use tests::Tests;
 pub use wishes::wish_for;

@@ -1,10 +1,11 @@
 //! Which filter a peer is to be asked for so that it is tested.
-ghost use Rattle.std.specs.Prelude.{◌≡◌, ℕ, true, false, Some, None, IsSome, IfSome, length, ◌≤◌, ◌⊎◌};
+ghost use Rattle.std.specs.Prelude.{◌≡◌, ℕ, List, true, false, Some, None, IsSome, IfSome, length, ◌≤◌, ◌⊎◌};
 ghost use Rattle.cf_dispute.specs.Of.{tables_of};
 ghost use Rattle.cf_dispute.specs.Tables.{blocks_of};
 ghost use Rattle.cf_headers.specs.Store.{own_of};
 ghost use Rattle.cf_seek.specs.Extracts.{table_in};
-ghost use Rattle.cf_seek.specs.Testing.{IsToTest, IsTrial, IsNextTrial, told_in};
+ghost use Rattle.cf_seek.specs.Testing.{IsClaimedAs, IsExposed, IsToTest, IsTrial, IsNextTrial, told_in};
+ghost use Rattle.cf_headers.specs.Chain.{IsIn};
 
 use crate::extracts::Extracts;
 use crate::kind::is_differing;
@@ -20,6 +21,60 @@ pub struct Trial {
     pub height: u32,
     /// Its hash.
     pub block: Hash32,
+}
+
+/// What was exposed: of a block a filter that lacks what the block pays.
+#[derive(Clone, Copy, Debug)]
+pub struct Exposure {
+    /// The block's hash.
+    pub block: Hash32,
+    /// The filter's hash.
+    pub filter: Hash32,
+}
+
+/// Whether a peer claims this filter of a block.
+pub fn is_claimed(claims: &Claims, p: PeerNo, exposure: &Exposure) -> bool
+    ensures yes { result ≡ true → IsClaimedAs (tables_of claims.now) p.0 exposure.now.block.0 exposure.now.filter.0 }
+    ensures no { result ≡ false → IsClaimedAs (tables_of claims.now) p.0 exposure.now.block.0 exposure.now.filter.0 → ⊥ }
+{
+    match claims.claim(p, &exposure.block) {
+        Some(claim) => claim.hash == exposure.filter,
+        None => false,
+    }
+}
+
+// The filter that a peer claims of a block, where it was found to lack what the block pays.
+fn exposed_at(claims: &Claims, tests: &Tests, p: PeerNo, block: &Hash32) -> Option<Exposure>
+    ensures block { IfSome result (λ e. e.block ≡ block.now) }
+    ensures is { IfSome result (λ e. IsExposed (tables_of claims.now) (told_in tests.now) p.0 e.block.0 e.filter.0) }
+    ensures none { result ≡ None → (filter : List ℕ) → IsExposed (tables_of claims.now) (told_in tests.now) p.0 block.now.0 filter → ⊥ }
+{
+    let Some(claim) = claims.claim(p, block) else {
+        return None;
+    };
+    match tests.get(block, &claim.hash) {
+        Some(true) => Some(Exposure {
+            block: *block,
+            filter: claim.hash,
+        }),
+        Some(false) => None,
+        None => None,
+    }
+}
+
+/// Of some blocks the first of which a peer claims a filter that was found to lack what the block pays; nothing exactly
+/// where there is none.
+pub fn first_exposed(claims: &Claims, tests: &Tests, p: PeerNo, blocks: &[Hash32]) -> Option<Exposure>
+    ensures is { IfSome result (λ e. IsExposed (tables_of claims.now) (told_in tests.now) p.0 e.block.0 e.filter.0) }
+    ensures none { result ≡ None → (block : List ℕ) → IsIn block (blocks_of blocks.now) → (filter : List ℕ)
+        → IsExposed (tables_of claims.now) (told_in tests.now) p.0 block filter → ⊥ }
+{
+    for block in blocks {
+        if let Some(exposure) = exposed_at(claims, tests, p, block) {
+            return Some(exposure);
+        }
+    }
+    None
 }
 
 // Whether a block was fetched, they differ on its filter, and what a peer claims of it wasn't tested.

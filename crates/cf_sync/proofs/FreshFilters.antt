@@ -1,6 +1,7 @@
 -- A peer is asked for no filters a second time.
-use Rattle.std.proofs.Common.{◌≡◌, ◌⊎◌, inl, inr, ℕ, ◌≤◌, List, [], ◌∷◌, ◌++◌, length, Option, Some, None, Bool, true, false, ◌==◌, if◌then◌else◌, refl, sym, ◌∙◌, ap, subst}
+use Rattle.std.proofs.Common.{◌≡◌, ◌⊎◌, inl, inr, ℕ, ◌≤◌, List, [], ◌∷◌, ◌++◌, length, Option, Some, None, Bool, true, false, ◌==◌, if◌then◌else◌, refl, sym, ◌∙◌, ap, subst, arith}
 use Rattle.std.specs.Prelude.{option_map}
+use Rattle.std.proofs.lemmas.List.{length-append}
 use Rattle.std.proofs.lemmas.Bool.{cases_Bool, and_parts, false≢true}
 use Rattle.cf_bytes.specs.declared.hash.Hash32.{Hash32}
 use Rattle.cf_dispute.specs.declared.claim.Claim.{Claim}
@@ -151,6 +152,44 @@ claim_by : (o : Option Claim) (h : Hash32) → option_map (λ (c : Claim). c.has
 claim_by None h e = cc
 claim_by (Some c) h e = (c, refl, cc)
 
+-- a filter that isn't refused and answers what is open is the one that the peer claims
+pub answer_own : (filter : ℕ) (block : Hash32) (bytes : List ℕ) (t : Trail) (next : Hash) (left : List Hash) (came : List Job) → verdict (Said (Cfilter filter block bytes) ∷ t) ≡ None
+    → request t ≡ FiltersOpen (next ∷ left) came → is_answer_of filter block.0 next ≡ true → IsItsOwn t (filter_of block bytes)
+answer_own filter block bytes t next left came clean e answer =
+    let fine : (if is_this (hash_claimed (claims t) next) (filter_hash_of bytes) then None else Some OtherFilter) ≡ None =
+    sym (ap (λ (b : Bool). if b then (if is_this (hash_claimed (claims t) next) (filter_hash_of bytes) then None else Some OtherFilter) else None) answer)
+    ∙ sym (ap (λ r. filter_fault filter block.0 bytes r (claims t)) e) ∙ (first_none (verdict t) (fault_of (Cfilter filter block bytes) t) clean).1 in
+    let h = this_is (hash_claimed (claims t) next) (filter_hash_of bytes) fine in
+    let c = claim_by (claims t next) h.0 h.1 in
+    (c.0, ap (claims t) (same_true block.0 next (and_parts (filter == 0) (same block.0 next) answer).1) ∙ c.1, ap (λ (x : Hash32). x.0) c.2 ∙ h.2)
+
+one_of : (came : List Job) (last job : Job) → came ++ last ∷ [] ≡ job ∷ [] → job ≡ last
+one_of [] last job e = cc
+one_of (x ∷ came) last job e = absurd (omega (arith, ap length e, length-append came (last ∷ [])))
+
+-- where a message gives one filter, that is the one that came with it, and the peer claims it
+pub one_given : (filter : ℕ) (block : Hash32) (bytes : List ℕ) (t : Trail) (job : Job) → verdict (Said (Cfilter filter block bytes) ∷ t) ≡ None
+    → given_by (Cfilter filter block bytes) (request t) ≡ job ∷ [] → (job ≡ filter_of block bytes) × IsItsOwn t job
+one_given filter block bytes t job clean gives = by (request t) refl gives where
+  m : Msg
+  m = Cfilter filter block bytes
+
+  by : (r : OpenRequest) → request t ≡ r → given_by m r ≡ job ∷ [] → (job ≡ filter_of block bytes) × IsItsOwn t job
+  by NothingOpen e g = cc
+  by HeadersOpen e g = cc
+  by (ClaimsOpen stop parent blocks) e g = cc
+  by (BlockOpen wanted) e g = cc
+  by (FiltersOpen [] came) e g = cc
+  by (FiltersOpen (next ∷ y ∷ left) came) e g = cc
+  by (FiltersOpen (next ∷ []) came) e g = elim (cases_Bool (is_answer_of filter block.0 next)) [
+    | inl answer ↦ (
+        let is : job ≡ filter_of block bytes = one_of came (filter_of block bytes) job
+        (sym (ap (λ (b : Bool). if b then came ++ filter_of block bytes ∷ [] else []) answer) ∙ g) in
+        (is, subst (IsItsOwn t) (sym is) (answer_own filter block bytes t next [] came clean e answer))
+        )
+    | inr other ↦ absurd (let no : [] ≡ job ∷ [] = sym (ap (λ (b : Bool). if b then came ++ filter_of block bytes ∷ [] else []) other) ∙ g in cc)
+  ]
+
 -- the next filter has come, and what it was asked for is open with one fewer, or all was given
 next_came : (filter : ℕ) (block : Hash32) (bytes : List ℕ) (t : Trail) (next : Hash) (more : List Hash) (came : List Job) (blocks : List Hash) → connected t ≡ true → verdict (Said (Cfilter filter block bytes) ∷ t) ≡ None
     → AreFresh t → request t ≡ FiltersOpen (next ∷ more) came → is_answer_of filter block.0 next ≡ true → ((job : Job) → IsIn job came → IsItsOwn t job)
@@ -169,16 +208,8 @@ next_came filter block bytes t next more came blocks on clean fresh e answer tru
   block_is : block.0 ≡ next
   block_is = same_true block.0 next (and_parts (filter == 0) (same block.0 next) answer).1
 
-  fine : (if is_this (hash_claimed (claims t) next) (filter_hash_of bytes) then None else Some OtherFilter) ≡ None
-  fine =
-      sym (ap (λ (b : Bool). if b then (if is_this (hash_claimed (claims t) next) (filter_hash_of bytes) then None else Some OtherFilter) else None) answer)
-      ∙ sym (ap (λ r. filter_fault filter block.0 bytes r (claims t)) e) ∙ (first_none (verdict t) (fault_of m t) clean).1
-
   mine : IsItsOwn t job
-  mine =
-      let h = this_is (hash_claimed (claims t) next) (filter_hash_of bytes) fine in
-      let c = claim_by (claims t next) h.0 h.1 in
-      (c.0, ap (claims t) block_is ∙ c.1, ap (λ (x : Hash32). x.0) c.2 ∙ h.2)
+  mine = answer_own filter block bytes t next more came clean e answer
 
   all_own : (j : Job) → IsIn j all → IsItsOwn (Said m ∷ t) j
   all_own j i = elim (in_either j came (job ∷ []) i) [

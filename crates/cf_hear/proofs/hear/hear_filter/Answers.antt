@@ -1,4 +1,4 @@
-use Rattle.std.proofs.Common.{ℕ, List, [], Ok, inl, inr, refl, sym, ◌∙◌, ap, subst}
+use Rattle.std.proofs.Common.{ℕ, List, [], ◌∷◌, Ok, inl, inr, refl, sym, ◌∙◌, ap, subst}
 use Rattle.cf_dispute.specs.Claims.{Tables}
 use Rattle.cf_match.specs.declared.job.Job.{Job}
 use Rattle.cf_match.specs.Verdicts.{AreSameVerdicts, with_verdicts}
@@ -7,7 +7,8 @@ use Rattle.cf_peer.specs.declared.filters.Heard.{Heard}
 use Rattle.cf_peer.specs.Peer.{IsRight, TakesFilter}
 use Rattle.cf_tracker.specs.Tracker.{claims_of, opens_of, trials_of, verdicts_of, watch_of}
 use Rattle.cf_hear.specs.Seen.{seen_of}
-use Rattle.cf_hear.proofs.Hearing.{filter_hears, right_same, same_seen}
+use Rattle.cf_hear.proofs.Exposing.{exposes_filter}
+use Rattle.cf_hear.proofs.Hearing.{filter_hears, may_expose, right_same, same_seen}
 use Rattle.cf_hear.proofs.Trying.{go_given, go_self, trials_self}
 use Rattle.cf_hear.proofs.Opening.{else_of, else_self, else_then, opens_filter, opens_on, opens_whole}
 use Rattle.cf_hear.proofs.hear.hear_filter.Goals as goal
@@ -45,7 +46,8 @@ returns-in_ok-keep_given-in-Whole-clause-heard g c = λ t holds f.
     let judged = opens_of c.keep_given.new.tracker in
     let kept = c.in_ok-keep_given-in-Whole.ensures in
     let gone = c.let_go.ensures in
-    filter_hears before after c.args.p c.hear_filter.new.self c.args.filter c.args.block.now c.args.bytes.now c.in-Whole.jobs t o.0 o.1 f
+    may_expose before after c.args.p c.hear_filter.new.self m t (c.args.block.now.0 ∷ []) c.exposing.result o.1.1 c.exposing.ensures.exposed
+    (filter_hears before after c.args.p c.hear_filter.new.self c.args.filter c.args.block.now c.args.bytes.now c.in-Whole.jobs t o.0 o.1.0 f
     (gone.watch ∙ kept.watch) (λ q. gone.chains q ∙ kept.chains q) (λ q block. gone.claims q block ∙ kept.claims q block)
     (λ hash. sym (kept.table hash ∙ gone.table hash))
     (λ block hash. gone.verdicts block hash
@@ -55,7 +57,26 @@ returns-in_ok-keep_given-in-Whole-clause-heard g c = λ t holds f.
     (opens_on before.opens judged c.args.p.0 t kept.opens f.opens))
     (else_then before.opens judged after.opens c.args.p.0 (else_of before.opens judged c.args.p.0 kept.opens) gone.others)
     (go_given before.trials before.trials (trials_of c.keep_given.new.tracker) after.trials c.args.p.0 c.as_slice-in-Whole.result.now c.in-Whole.jobs c.as_slice-in-Whole.ensures
-    (trials_self before.trials) kept.paid kept.told kept.aims gone.trials)
+    (trials_self before.trials) kept.paid kept.told kept.aims gone.trials))
+
+pub returns-in_ok-keep_given-in-Whole-clause-exposes : goal.returns-in_ok-keep_given-in-Whole-clause-exposes
+returns-in_ok-keep_given-in-Whole-clause-exposes g c = λ t holds f.
+    let m = Cfilter c.args.filter c.args.block.now c.args.bytes.now in
+    let o = subst (λ (x : Heard). TakesFilter c.hear_filter.new.self m t x) c.in-Whole.is (c.in_ok-hear_filter.ensures.heard t holds (λ hash. ap (λ (tables : Tables). tables c.args.p.0 hash) c.claims.ensures.claims ∙ f.claims hash)) in
+    let before = seen_of c.args.tracker.now in
+    let after = seen_of c.let_go.new.tracker in
+    let kept = c.in_ok-keep_given-in-Whole.ensures in
+    let gone = c.let_go.ensures in
+    let went = go_given before.trials before.trials (trials_of c.keep_given.new.tracker) after.trials c.args.p.0 c.as_slice-in-Whole.result.now c.in-Whole.jobs c.as_slice-in-Whole.ensures
+    (trials_self before.trials) kept.paid kept.told kept.aims gone.trials in
+    exposes_filter before after c.args.p.0 c.args.filter c.args.block.now c.args.bytes.now c.in-Whole.jobs t c.exposing.result o.0.clean o.1.0 f
+    (λ q block. gone.claims q block ∙ kept.claims q block) went.told c.exposing.ensures.exposed
+
+pub returns-in-Nothing-clause-exposes : goal.returns-in-Nothing-clause-exposes
+returns-in-Nothing-clause-exposes g c = λ t holds f none. none
+
+pub returns-in-Close-clause-exposes : goal.returns-in-Close-clause-exposes
+returns-in-Close-clause-exposes g c = λ t holds f none. none
 
 pub returns-in_ok-keep_given-in-Whole-clause-right : goal.returns-in_ok-keep_given-in-Whole-clause-right
 returns-in_ok-keep_given-in-Whole-clause-right g c =

@@ -8,6 +8,7 @@ use Rattle.cf_peer.specs.Peer.{is_ready_peer}
 use Rattle.cf_peer.specs.Trail.{own, ready}
 use Rattle.cf_peer.proofs.Peers.{ready_is}
 use Rattle.cf_hear.specs.Seen.{seen_of}
+use Rattle.cf_hear.proofs.Exposing.{unexposed_on}
 use Rattle.cf_hear.proofs.Hearing.{early_hears, headers_end, headers_hears}
 use Rattle.cf_hear.proofs.hear.hear_headers.Goals as goal
 
@@ -40,3 +41,16 @@ returns-in-Some-clause-heard g c = λ t h f.
     let gives = c.in-Some.ensures.heard t hs h refl (kept.answer ∙ ap (λ (own : Chain). change_of (link_height hs own) (accept hs own)) mine) in
     headers_end before after c.args.p c.args.peer.now c.hear_headers.new.self hs t c.in-Some.cause h over gives kept.after f
     kept.watch kept.claims kept.table kept.verdicts kept.opens kept.trials
+
+pub returns-then-not-is_ready-clause-exposes : goal.returns-then-not-is_ready-clause-exposes
+returns-then-not-is_ready-clause-exposes g c = λ t h f none. none
+
+pub returns-in-None-clause-exposes : goal.returns-in-None-clause-exposes
+returns-in-None-clause-exposes g c = λ t h f.
+    let kept = c.in_ok-change.ensures in
+    unexposed_on (seen_of c.args.tracker.now) (seen_of c.accept.new.self) kept.claims kept.trials.told
+
+pub returns-in-Some-clause-exposes : goal.returns-in-Some-clause-exposes
+returns-in-Some-clause-exposes g c = λ t h f.
+    let kept = c.in_ok-change.ensures in
+    unexposed_on (seen_of c.args.tracker.now) (seen_of c.accept.new.self) kept.claims kept.trials.told
