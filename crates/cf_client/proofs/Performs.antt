@@ -793,6 +793,7 @@ all_told c progress called planned t none reflects doing =
           trials = trials_alike planned doing.actual (trials_of c.tracker) (λ q. doing.plan.told q (told q)) doing.brought doing.plan.tested doing.plan.tests
               (λ q on. doing.plan.aims q (told q) on) reflects.tracks.trials;
         };
+        unexposed = reflects.unexposed;
       };
       told_all = told;
       none = none;

@@ -31,6 +31,8 @@ use Rattle.cf_seek.specs.Opens.{IsSameOpens, OpensBlock, OpensFilters}
 use Rattle.cf_seek.specs.Spans.{IsWish}
 use Rattle.cf_hear.specs.Seen.{Seen, IsSameSeen}
 use Rattle.cf_hear.specs.Tracks.{HasOpened, Tracks, IsPut}
+use Rattle.cf_hear.specs.Exposing.{IsUnexposed}
+use Rattle.cf_hear.proofs.Exposing.{unexposed_on, unexposed_put}
 use Rattle.cf_hear.proofs.Hearing.{right_same}
 use Rattle.cf_hear.proofs.Tracking.{opened_self}
 use Rattle.cf_place.specs.declared.place.Place.{Place}
@@ -73,11 +75,12 @@ moves_then one two = record {
 }
 
 -- a desk with no acts yet stands for a log if its places do, and what was seen is what the log says
-pub stands_start : (places : List Place) (seen : Seen) (acts : List Act) (log : Log) → acts ≡ [] → PlacesStand places log → Tracks seen log
+pub stands_start : (places : List Place) (seen : Seen) (acts : List Act) (log : Log) → acts ≡ [] → PlacesStand places log → Tracks seen log → IsUnexposed seen
     → Stands (record { places = places; seen = seen; acts = acts }) log
-stands_start places seen acts log none stand tracks = subst (λ (xs : List Act). Stands (record { places = places; seen = seen; acts = xs }) log) (sym none) (record {
+stands_start places seen acts log none stand tracks unexposed = subst (λ (xs : List Act). Stands (record { places = places; seen = seen; acts = xs }) log) (sym none) (record {
   goes = goes_start places [] log refl stand;
   tracks = tracks;
+  unexposed = unexposed;
 })
 
 pub start_places : (d : Desk) (log : Log) → d.acts ≡ [] → Stands d log → PlacesStand d.places log
@@ -92,7 +95,7 @@ in_order places seen acts few settled right = record { few = few; entered = sett
 
 -- ---- one act, by which one place changes
 
-entered_set : (places : List Place) (before after : Seen) (i : ℕ) (s : Place) → i < length places → ((q : ℕ) → q ≢ i → after.chains q ≡ before.chains q) → is_here s ≡ is_some (after.chains i)
+pub entered_set : (places : List Place) (before after : Seen) (i : ℕ) (s : Place) → i < length places → ((q : ℕ) → q ≢ i → after.chains q ≡ before.chains q) → is_here s ≡ is_some (after.chains i)
     → AreEntered places before → AreEntered (set places i s) after
 entered_set places before after i s lt others here entered = λ q. elim (cases_eq q i) [
   | inl same ↦ subst (λ (k : ℕ). is_here (get_or (set places i s) k nobody) ≡ is_some (after.chains k)) (sym same) (ap is_here (set_is places i s lt) ∙ here)
@@ -160,6 +163,7 @@ late_moves d i after lt order late put =
     (same (λ log stood. record {
       goes = goes_watch put.watch (late_goes d.places d.acts log i lt stood.goes late);
       tracks = closed_tracks d.seen after d.acts log (record { 0 = i }) Overdue put stood.tracks;
+      unexposed = unexposed_put d.seen after i put stood.unexposed;
     }))
 
 -- a connected peer is asked something
@@ -178,7 +182,7 @@ sent_asks d after i peer now m lt order here doable question settled calm right 
         right = right_same now.request (d.seen.claims i) (after.claims i) (opened.claims i) right;
       })
       (extends_one d.acts (Send (record { 0 = i }) m)) (λ all. All-push IsDoable d.acts (Send (record { 0 = i }) m) all doable) (λ was. calm)
-      (same (λ log stood. record { goes = goes_watch opened.watch (goes log stood); tracks = tracks log stood }));
+      (same (λ log stood. record { goes = goes_watch opened.watch (goes log stood); tracks = tracks log stood; unexposed = unexposed_on d.seen after opened.claims opened.trials.told stood.unexposed }));
   asked = inr (m, question, refl);
   seen = opened;
   settled = ap is_settled (set_is d.places i (Here now) lt) ∙ settled;

@@ -216,6 +216,7 @@ ended_stops c progress called t holds busy = record {
       alive = holds.reflects.alive;
       places = record { count = holds.reflects.places.count; each = holds.reflects.places.each };
       tracks = tracks_ended (seen_by c) holds.actual holds.reflects.tracks;
+      unexposed = holds.reflects.unexposed;
     };
     told_all = λ q. refl;
     none = holds.none;

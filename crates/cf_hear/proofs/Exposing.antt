@@ -3,9 +3,10 @@ use Rattle.std.proofs.Common.{◌≡◌, ◌≢◌, ◌⊎◌, inl, inr, ℕ, Li
 use Rattle.std.proofs.lemmas.Bool.{cases_Bool, cases_eq, and_parts}
 use Rattle.cf_bytes.specs.declared.hash.Hash32.{Hash32}
 use Rattle.cf_dispute.specs.declared.claim.Claim.{Claim}
+use Rattle.cf_dispute.specs.Claims.{no_claims}
 use Rattle.cf_dispute.proofs.PutIn.{in_or_out, same_true}
 use Rattle.cf_filter.specs.Filter.{filter_hash_of}
-use Rattle.cf_headers.specs.Chain.{Hash, IsIn}
+use Rattle.cf_headers.specs.Chain.{Chain, Hash, IsIn}
 use Rattle.cf_headers.specs.Rules.{same}
 use Rattle.cf_match.specs.declared.job.Job.{Job}
 use Rattle.cf_msg.specs.declared.msg.Msg.{Msg}
@@ -22,6 +23,7 @@ use Rattle.cf_seek.specs.Trials.{tested_if}
 use Rattle.cf_seek.specs.Wanting.{IsSameTables}
 use Rattle.cf_sync.proofs.FreshFilters.{one_given}
 use Rattle.cf_hear.specs.Seen.{Seen, Follows}
+use Rattle.cf_hear.specs.Tracks.{IsPut}
 use Rattle.cf_hear.specs.Exposing.{Exposes, ExposesAmong, IsExposedIn, IsExposing, IsUnexposed}
 
 -- the same is claimed by q, and the same was found
@@ -34,6 +36,13 @@ same_exposed before after q at of claims told e = record {
 -- nothing was claimed, and nothing found
 pub unexposed_on : (before after : Seen) → IsSameTables before.claims after.claims → IsSameTold after.trials.told before.trials.told → IsUnexposed before → IsUnexposed after
 unexposed_on before after claims told none q at of e = none q at of (same_exposed before after q at of (claims q at) (told at of) e)
+
+-- p was given up, or entered
+pub unexposed_put : (before after : Seen) (p : ℕ) {own : Option Chain} → IsPut before after p own no_claims → IsUnexposed before → IsUnexposed after
+unexposed_put before after p put none q at of e = elim (cases_eq q p) [
+  | inl same1 ↦ (let no : None ≡ Some e.claimed.claim = sym (put.claims at) ∙ ap (λ (k : ℕ). after.claims k at) (sym same1) ∙ e.claimed.mine in cc no)
+  | inr other ↦ none q at of (same_exposed before after q at of (put.claims_others q other at) (put.trials.told at of) e)
+]
 
 -- a message that has to do with nothing that is kept beside the peer
 pub plain_exposes : (seen : Seen) (p : ℕ) (peer : Peer) (m : Msg) (t : Trail) (r : Reply) → Hears peer m t r → IsUnexposed seen → Exposes seen p r
@@ -102,15 +111,15 @@ exposes_filter before after p filter block bytes jobs t r clean gives f claimed 
         found = was;
       }))
     | inr w ↦ (
-        let one = one_given filter block bytes t w.0 clean (gives ∙ w.1.0) in
+        let one = one_given filter block bytes t w.0 clean (gives ∙ w.1) in
         let this : w.0.block.0 ≡ block.0 = ap (λ (j : Job). j.block.0) one.0 in
-        let here : block.0 ≡ at = sym this ∙ w.1.1.0 in (
+        let here : block.0 ≡ at = sym this ∙ w.2 in (
           here,
           record {
             claimed = record {
               claim = one.1.0;
-              mine = claimed p block.0 ∙ f.claims block.0 ∙ subst (λ (h : Hash). claims t h ≡ Some one.1.0) this one.1.1.0;
-              this = one.1.1.1 ∙ w.1.1.1;
+              mine = claimed p block.0 ∙ f.claims block.0 ∙ subst (λ (h : Hash). claims t h ≡ Some one.1.0) this one.1.1;
+              this = one.1.2 ∙ w.3;
             };
             found = ap (λ (h : Hash). after.trials.told h of) here ∙ e.found;
           },

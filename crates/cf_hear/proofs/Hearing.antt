@@ -380,9 +380,9 @@ hears_next before after p bytes rest new m t (Close cause) leads h = record {
 }
 
 hears_next before after p bytes rest new m t (Expose block filter) leads h = record {
-  advances = record { message = m; leads = leads; holds = h.0.0; owes = h.0.1; gains = h.1.0 };
-  idle = h.1.1.0;
-  exposed = h.1.1.1;
+  advances = record { message = m; leads = leads; holds = h.0.0; owes = h.0.1; gains = h.1 };
+  idle = h.2.0;
+  exposed = h.2.1;
 }
 
 -- a message by which p may be exposed
@@ -391,7 +391,7 @@ pub may_expose : (before after : Seen) (p : PeerNo) (peer : Peer) (m : Msg) (t :
 may_expose before after p peer m t blocks NoReply idle among h = h
 may_expose before after p peer m t blocks (Send reply) idle among h = absurd among
 may_expose before after p peer m t blocks (Close cause) idle among h = absurd among
-may_expose before after p peer m t blocks (Expose block filter) idle among h = (h.0, (h.1, (idle, among)))
+may_expose before after p peer m t blocks (Expose block filter) idle among h = (h.0, h.1, (idle, among))
 
 -- ---- bytes of a piece that go to the framer
 
@@ -601,7 +601,7 @@ met_end : (rs : List Msg) (t end : Trail) → (met t ≡ true → met end ≡ tr
 met_end rs t end known (inl none) = inl none
 met_end rs t end known (inr is) = inr (known is)
 
-gives_late : (t end start : Trail) (jobs : List Job) → given (counted end) ≡ given (counted t) → IsGivenBetween start t jobs → IsGivenBetween start end jobs
+pub gives_late : (t end start : Trail) (jobs : List Job) → given (counted end) ≡ given (counted t) → IsGivenBetween start t jobs → IsGivenBetween start end jobs
 gives_late t end start jobs e is = record {
   new = λ job i. subst (λ (js : List Job). IsIn job js) (sym e) (is.new job i);
   old = λ job i. subst (λ (js : List Job). IsIn job js) (sym e) (is.old job i);

@@ -35,10 +35,11 @@ use Rattle.cf_sync.proofs.VerdictsGrow.{grown_between, same_given}
 use Rattle.cf_seek.specs.Opens.{Closes, IsSameOpens}
 use Rattle.cf_seek.specs.Tables.{Table, IsSameTable}
 use Rattle.cf_seek.specs.Wanting.{ForgetsClaims, IsSameTables}
-use Rattle.cf_hear.specs.Hearing.{HeardWhole, HeardFault, IsGivenBetween}
+use Rattle.cf_hear.specs.Hearing.{HeardWhole, HeardFault, HeardExposed, IsGivenBetween}
 use Rattle.cf_hear.specs.Seen.{Seen, IsSameSeen}
 use Rattle.cf_hear.specs.Tracks.{HasOpened, Tracks, IsPut, IsSameElsewhere, chain_kept}
 use Rattle.cf_seek.specs.Trials.{IsSameTrials}
+use Rattle.cf_hear.proofs.Hearing.{gives_late}
 use Rattle.cf_hear.proofs.Trying.{elsewhere_self, go_on, go_self, trials_self}
 use Rattle.cf_hear.proofs.Opening.{closed_on, closes_off, closes_then, else_by, else_self, holds_by, opens_asked, opens_by, opens_kept, opens_on}
 
@@ -403,3 +404,26 @@ tracks_faulty p seen now last before acts piece log cause fault put tracks =
         },
       ),
     )
+
+-- a piece up to a message that exposed its peer: what is kept of tests, blocks and filters is right for the log, with the parts that the log tells
+abbrev pub seen_at : Seen → Log → Seen
+seen_at s log = record s { chains = λ q. chain_kept (trail log q); claims = λ q. claims_kept (trail log q); opens = opens_by log }
+
+pub tracks_exposed : (p : PeerNo) (seen now : Seen) (before acts : List Act) (piece : List ℕ) (log : Log) (block filter : Hash)
+    → (x : HeardExposed p seen now before acts (part_of log p.0) (heard_part piece (part_of log p.0)) block filter)
+    → (fetched (counted (heard_part piece (part_of log p.0)).trail) ≡ fetched (counted x.so_far)) → (given (counted (heard_part piece (part_of log p.0)).trail) ≡ given (counted x.so_far))
+    → Tracks seen log → Tracks (seen_at now (Took (Got p piece) ∷ log)) (Took (Got p piece) ∷ log)
+tracks_exposed p seen now before acts piece log block filter x blocks filters tracks =
+    let next = Took (Got p piece) ∷ log in
+    let t : trail next p.0 ≡ (heard_part piece (part_of log p.0)).trail = ap (λ (y : Part). y.trail) (got_here p piece (part_of log p.0)) in
+    let brings : fetched (counted (trail next p.0)) ≡ x.news ++ fetched (counted (trail log p.0)) = ap (λ (u : Trail). fetched (counted u)) t ∙ blocks ∙ x.brings in
+    let gave : given (counted (trail next p.0)) ≡ x.jobs ++ given (counted (trail log p.0)) = ap (λ (u : Trail). given (counted u)) t ∙ filters ∙ x.gave in
+    record {
+      kept = λ q. refl;
+      claimed = λ q at. refl;
+      fetched = subst (λ (w : List (List ℕ)). HoldsFetched w next now.table) (sym x.gains.watch) (holds_after_piece seen.watch p piece log x.news seen.table now.table brings x.gains.table tracks.fetched);
+      given = subst (λ (w : List (List ℕ)). HoldsGiven w next now.verdicts) (sym x.gains.watch)
+          (got_given p piece log seen.watch x.jobs seen.verdicts now.verdicts (gives_late x.so_far (heard_part piece (part_of log p.0)).trail (trail log p.0) x.jobs filters x.gives) x.gains.verdicts tracks.given);
+      opened = holds_by next;
+      trials = trials_piece p piece log seen.trials now.trials x.news x.jobs brings gave x.gains.trials tracks.trials;
+    }

@@ -4,6 +4,7 @@ use Rattle.cf_wires.specs.declared.event.Event.TheVariants.{Dialled}
 use Rattle.cf_peer.specs.Acts.{bytes_of}
 use Rattle.cf_hear.specs.Seen.{seen_of}
 use Rattle.cf_client.proofs.Standing.{called_goes}
+use Rattle.cf_hear.proofs.Exposing.{unexposed_put}
 use Rattle.cf_hear.proofs.Tracking.{none_open, tracks_dialled, tracks_sent, put_entered, none_claimed}
 use Rattle.cf_tracker.specs.Tracker.{claims_of}
 use Rattle.cf_peer.specs.Peer.{called_peer}
@@ -48,6 +49,7 @@ returns-clause-answers g c = λ log reflects.
         alive = refl;
         places = rw (c.in_ok-push-2.ensures.items, c.in_ok-push.ensures.items, c.new-acts.ensures.items, c.called.ensures) goes.stand;
         tracks = rw (c.in_ok-push.ensures.items, c.new-acts.ensures.items) tracks;
+        unexposed = unexposed_put before now c.args.p.0 put reflects.unexposed;
       };
       allowed = rw (c.in_ok-push.ensures.items, c.new-acts.ensures.items) goes.allowed;
     }

@@ -1,4 +1,4 @@
-use Rattle.std.proofs.Common.{◌≡◌, List, [], ◌∷◌, ◌++◌, refl, rules, sym, ◌∙◌, ap, subst}
+use Rattle.std.proofs.Common.{◌≡◌, List, [], ◌∷◌, ◌++◌, None, Some, true, refl, rules, sym, ◌∙◌, ap, subst}
 use Rattle.cf_dispute.proofs.Genesis.{first_header_is}
 use Rattle.cf_hear.specs.Seen.{seen_of}
 use Rattle.cf_hear.proofs.Opening.{holds_none}
@@ -36,4 +36,5 @@ returns-clause-reflects g c = record {
     opened = holds_none (opens_of c.in_ok-tracker.tracker) c.in_ok-tracker.ensures.filters c.in_ok-tracker.ensures.blocks;
     trials = trials_start (trials_of c.in_ok-tracker.tracker) c.in_ok-tracker.ensures.paid c.in_ok-tracker.ensures.told;
   };
+  unexposed = λ q at of e. (let no : None ≡ Some true = sym (c.in_ok-tracker.ensures.told at of) ∙ e.found in cc no);
 }
