@@ -162,10 +162,12 @@ module _ (d : Desk) (p : PeerNo) (piece : List ℕ) (old : Peer) (mid : Desk) (b
   at_end = (done {watch = []}).here ∙ ap (asked_all rs) at_next
 
   first : IsRepliedFirst (trail sent p.0)
-  first sound = (more,
-      ap (λ (y : Part). owed (counted y.trail)) at_end ∙ sym (asked_owes rs end) ∙ owes ∙ sym (append_assoc (owed (part_of log p.0).trail) rs more)
-      ∙ ap (λ (ms : List Msg). (ms ++ rs) ++ more) (sym sent_before) ∙ ap (λ (ms : List Msg). ms ++ more) (sym (asked_replied rs end x.are.each))
-      ∙ ap (λ (y : Part). replied y.trail ++ more) (sym at_end))
+  first sound = (
+    more,
+    ap (λ (y : Part). owed (counted y.trail)) at_end ∙ sym (asked_owes rs end) ∙ owes ∙ sym (append_assoc (owed (part_of log p.0).trail) rs more)
+        ∙ ap (λ (ms : List Msg). (ms ++ rs) ++ more) (sym sent_before) ∙ ap (λ (ms : List Msg). ms ++ more) (sym (asked_replied rs end x.are.each))
+        ∙ ap (λ (y : Part). replied y.trail ++ more) (sym at_end),
+  )
 
   read : Tracks (seen_at mid.seen next) sent
   read = sends_track p rs (seen_at mid.seen next) next x.are.each (sendable_by p rs (subst (All IsDoable) x.acts doable))
@@ -284,24 +286,24 @@ module _ (d : Desk) (p : PeerNo) (piece : List ℕ) (old : Peer) (mid : Desk) (b
         ])
         (λ q. elim (number_in q qs) [
           | inl i ↦ record {
-              filters = λ b is. absurd (both_ways (now.seen.opens.filters q b) ((shuts.gone q i).3 b) is);
-              all_filters = λ b on j. absurd (both_ways (connected (trail last q)) (off q i) on);
-              blocks = λ b is. absurd (both_ways (now.seen.opens.blocks q b) ((shuts.gone q i).4 b) is);
-              all_blocks = λ b on j. absurd (both_ways (connected (trail last q)) (off q i) on);
-            }
+            filters = λ b is. absurd (both_ways (now.seen.opens.filters q b) ((shuts.gone q i).3 b) is);
+            all_filters = λ b on j. absurd (both_ways (connected (trail last q)) (off q i) on);
+            blocks = λ b is. absurd (both_ways (now.seen.opens.blocks q b) ((shuts.gone q i).4 b) is);
+            all_blocks = λ b on j. absurd (both_ways (connected (trail last q)) (off q i) on);
+          }
           | inr out ↦ (
-            let other = left q out in
-            let same = ap (λ (y : Part). y.trail) (as_before q out) in
-            let was = subst (OpensAt d.seen.opens q) (sym same) (tracks.opened q) in
-            let filters : (b : Hash) → now.seen.opens.filters q b ≡ d.seen.opens.filters q b = λ b. (shuts.kept q out).3 b ∙ x.gains.opens.filters q other b in
-            let blocks : (b : Hash) → now.seen.opens.blocks q b ≡ d.seen.opens.blocks q b = λ b. (shuts.kept q out).4 b ∙ x.gains.opens.blocks q other b in
-            record {
-              filters = λ b is. was.filters b (sym (filters b) ∙ is);
-              all_filters = λ b on j. filters b ∙ was.all_filters b on j;
-              blocks = λ b is. was.blocks b (sym (blocks b) ∙ is);
-              all_blocks = λ b on j. blocks b ∙ was.all_blocks b on j;
-            }
-            )
+              let other = left q out in
+              let same = ap (λ (y : Part). y.trail) (as_before q out) in
+              let was = subst (OpensAt d.seen.opens q) (sym same) (tracks.opened q) in
+              let filters : (b : Hash) → now.seen.opens.filters q b ≡ d.seen.opens.filters q b = λ b. (shuts.kept q out).3 b ∙ x.gains.opens.filters q other b in
+              let blocks : (b : Hash) → now.seen.opens.blocks q b ≡ d.seen.opens.blocks q b = λ b. (shuts.kept q out).4 b ∙ x.gains.opens.blocks q other b in
+              record {
+                filters = λ b is. was.filters b (sym (filters b) ∙ is);
+                all_filters = λ b on j. filters b ∙ was.all_filters b on j;
+                blocks = λ b is. was.blocks b (sym (blocks b) ∙ is);
+                all_blocks = λ b on j. blocks b ∙ was.all_blocks b on j;
+              }
+              )
         ])
         brought (trials_same last mid.seen.trials now.seen.trials shuts.trials.paid shuts.trials.told shuts.trials.aims ((shut {watch = []}).trials mid.seen.trials read.trials)) read
 
@@ -351,9 +353,9 @@ nobody_exposed p block filter mid now exposing here within entered claiming shut
       elim (exposing.others q at of was) [
         | inl this ↦ out (shuts.all q (within q up) (record { here = up; claimed = subst (λ (k : ℕ). IsClaimedAs mid.seen.claims k block filter) (sym this) exposing.here.claimed }))
         | inr same ↦ out (shuts.all q (within q up) (record {
-            here = up;
-            claimed = record { claim = e.claimed.claim; mine = ap (mid.seen.claims q) (sym same.0) ∙ mine; this = e.claimed.this ∙ same.1 };
-          }))
+          here = up;
+          claimed = record { claim = e.claimed.claim; mine = ap (mid.seen.claims q) (sym same.0) ∙ mine; this = e.claimed.this ∙ same.1 };
+        }))
       ]
       )
 ]

@@ -146,23 +146,23 @@ shuts_next i block filter before d now lt so_far (inr (one, put, places, acts)) 
   ]);
   gone = λ q j. elim (cases_eq q i) [
     | inl this ↦ (
-        ap (λ (ps : List Place). place_at ps q) places ∙ ap (λ (k : ℕ). place_at (set d.places i shut_place) k) this ∙ set_is d.places i shut_place (omega (arith, lt, so_far.count)),
-        ap now.seen.chains this ∙ put.here,
-        λ at. ap (λ (k : ℕ). now.seen.claims k at) this ∙ put.claims at,
-        λ at. ap (λ (k : ℕ). now.seen.opens.filters k at) this ∙ put.opens.filters at,
-        λ at. ap (λ (k : ℕ). now.seen.opens.blocks k at) this ∙ put.opens.blocks at,
-      )
+      ap (λ (ps : List Place). place_at ps q) places ∙ ap (λ (k : ℕ). place_at (set d.places i shut_place) k) this ∙ set_is d.places i shut_place (omega (arith, lt, so_far.count)),
+      ap now.seen.chains this ∙ put.here,
+      λ at. ap (λ (k : ℕ). now.seen.claims k at) this ∙ put.claims at,
+      λ at. ap (λ (k : ℕ). now.seen.opens.filters k at) this ∙ put.opens.filters at,
+      λ at. ap (λ (k : ℕ). now.seen.opens.blocks k at) this ∙ put.opens.blocks at,
+    )
     | inr other ↦ elim (in_pushed q i so_far.closed j) [
       | inr this ↦ absurd (other this)
       | inl old ↦ (
-        let was = so_far.gone q old in (
-          ap (λ (ps : List Place). place_at ps q) places ∙ sym (set_other d.places i q shut_place other) ∙ was.0,
-          put.others q other ∙ was.1,
-          λ at. put.claims_others q other at ∙ was.2 at,
-          λ at. put.opens.others.filters q other at ∙ was.3 at,
-          λ at. put.opens.others.blocks q other at ∙ was.4 at,
-        )
-      )
+          let was = so_far.gone q old in (
+            ap (λ (ps : List Place). place_at ps q) places ∙ sym (set_other d.places i q shut_place other) ∙ was.0,
+            put.others q other ∙ was.1,
+            λ at. put.claims_others q other at ∙ was.2 at,
+            λ at. put.opens.others.filters q other at ∙ was.3 at,
+            λ at. put.opens.others.blocks q other at ∙ was.4 at,
+          )
+          )
     ]
   ];
   kept = λ q out.

@@ -107,9 +107,9 @@ exposes_filter before after p filter block bytes jobs t r clean gives f claimed 
   same_claim : (q : ℕ) (at of : Hash) → IsExposedIn after q at of → (block.0 ≡ at) × IsExposedIn after p block.0 of
   same_claim q at of e = elim (told_many (before.trials.aims p) before.trials.paid jobs before.trials.told at of (sym (told at of) ∙ e.found)) [
     | inl was ↦ absurd (none q at of (record {
-        claimed = record { claim = e.claimed.claim; mine = sym (claimed q at) ∙ e.claimed.mine; this = e.claimed.this };
-        found = was;
-      }))
+      claimed = record { claim = e.claimed.claim; mine = sym (claimed q at) ∙ e.claimed.mine; this = e.claimed.this };
+      found = was;
+    }))
     | inr w ↦ (
         let one = one_given filter block bytes t w.0 clean (gives ∙ w.1) in
         let this : w.0.block.0 ≡ block.0 = ap (λ (j : Job). j.block.0) one.0 in

@@ -378,7 +378,6 @@ hears_next before after p bytes rest new m t (Close cause) leads h = record {
   faulty = subst (λ (x : Part). Faulty t x.trail cause) (sym leads) (faulty_said (read_stream rest) m cause t h.0);
   same = h.1;
 }
-
 hears_next before after p bytes rest new m t (Expose block filter) leads h = record {
   advances = record { message = m; leads = leads; holds = h.0.0; owes = h.0.1; gains = h.1 };
   idle = h.2.0;

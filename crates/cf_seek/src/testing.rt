@@ -64,7 +64,12 @@ fn exposed_at(claims: &Claims, tests: &Tests, p: PeerNo, block: &Hash32) -> Opti
 
 /// Of some blocks the first of which a peer claims a filter that was found to lack what the block pays; nothing exactly
 /// where there is none.
-pub fn first_exposed(claims: &Claims, tests: &Tests, p: PeerNo, blocks: &[Hash32]) -> Option<Exposure>
+pub fn first_exposed(
+    claims: &Claims,
+    tests: &Tests,
+    p: PeerNo,
+    blocks: &[Hash32],
+) -> Option<Exposure>
     ensures is { IfSome result (λ e. IsExposed (tables_of claims.now) (told_in tests.now) p.0 e.block.0 e.filter.0) }
     ensures none { result ≡ None → (block : List ℕ) → IsIn block (blocks_of blocks.now) → (filter : List ℕ)
         → IsExposed (tables_of claims.now) (told_in tests.now) p.0 block filter → ⊥ }

@@ -36,8 +36,7 @@ use Rattle.cf_seek.specs.Trials.{with_found}
 use Rattle.cf_seek.proofs.Along.{common_low}
 use Rattle.cf_seek.proofs.Disputed.{in_among}
 use Rattle.cf_seek.proofs.Stops.{back_ends, found_low}
-use Rattle.cf_sync.specs.Blame.{IsTestedThrough}
-use Rattle.cf_sync.specs.Fetching.{counted_part, IsAbove, IsConnected, IsDisputed, IsFetched, IsFetchedHash, IsNoPiece, IsOmission, IsSameFetched, IsTest, IsTested, IsTestedWith, IsTestOf, IsTestWanted, HoldsFetched, Rightly, test_after}
+use Rattle.cf_sync.specs.Fetching.{counted_part, IsAbove, IsConnected, IsDisputed, IsFetched, IsFetchedHash, IsNoPiece, IsOmission, IsSameFetched, IsTest, IsTested, IsTestedWith, IsTestOf, IsTestWanted, HoldsFetched, Rightly, test_after, IsTestedThrough}
 use Rattle.cf_sync.specs.Kept.{AreClean, AreListed, HoldsClaims, HoldsOutputs, HoldsTests}
 use Rattle.cf_sync.proofs.Blamed.{tested_stays}
 use Rattle.cf_sync.proofs.Grows.{fetched_before, fetched_stays}

@@ -14,8 +14,8 @@ use Rattle.cf_headers.proofs.Stacks.{length_lower}
 use Rattle.cf_peer.specs.Asking.{lists, hashes_of}
 use Rattle.cf_wires.specs.Log.{Log}
 use Rattle.cf_peer.specs.Trail.{trail, connected, own}
-use Rattle.cf_sync.specs.Blame.{AreBlamed, IsTestedThrough}
-use Rattle.cf_sync.specs.Fetching.{counted_part, IsAbove, IsConnected, AreBytes, IsFetchedHash, IsDisputed, Claims, IsTestedWith, IsOmitting, IsBest}
+use Rattle.cf_sync.specs.Blame.{AreBlamed}
+use Rattle.cf_sync.specs.Fetching.{counted_part, IsAbove, IsConnected, AreBytes, IsFetchedHash, IsDisputed, Claims, IsTestedWith, IsOmitting, IsBest, IsTestedThrough}
 use Rattle.cf_sync.specs.Sync.{IsHashed}
 use Rattle.cf_sync.proofs.Counted.{own_shown}
 use Rattle.cf_sync.proofs.Settles.{shown_hashed, shown_apart}

@@ -1,14 +1,13 @@
 -- Blame: the filters that differ on a fetched block are asked for and tested against what the block itself pays.
-use Rattle.std.specs.Prelude.{◌≡◌, ◌⊎◌, ℕ, ◌≤◌, List, [], ◌∷◌, Some}
+use Rattle.std.specs.Prelude.{◌≡◌, ◌⊎◌, ℕ, List, [], ◌∷◌, Some}
 use Rattle.cf_bytes.specs.declared.hash.Hash32.{Hash32}
 use Rattle.cf_headers.specs.Chain.{Hash, Chain, IsIn}
-use Rattle.cf_headers.specs.Heights.{hash_at, common_of}
 use Rattle.cf_msg.specs.declared.msg.Msg.{Msg}
 use Rattle.cf_wires.specs.declared.event.Event.TheVariants.{Dialled, NotDialled, Sent, SendFailed, Closed, Took}
 use Rattle.cf_wires.specs.Log.{Log}
 use Rattle.cf_peer.specs.Trail.{trail, spelled, own}
 use Rattle.cf_peer.specs.Asking.{hashes_of}
-use Rattle.cf_sync.specs.Fetching.{counted_part, IsAbove, IsConnected, IsFetchedHash, Claims, IsDisputed, IsTestedWith, IsOmission}
+use Rattle.cf_sync.specs.Fetching.{counted_part, IsConnected, IsFetchedHash, Claims, IsDisputed, IsTestedWith, IsOmission}
 
 -- ---- what is asked once
 
@@ -32,11 +31,3 @@ pub record AreBlamed (log : Log) (chain : Chain) : Type 0 where
       → (p : ℕ) → IsConnected log p → IsIn block (hashes_of (own (counted_part log p))) → (hash : Hash32) → Claims log p block hash → IsTestedWith log block hash
   pub clean : (block : Hash) → IsIn block (hashes_of chain) → (p : ℕ) → IsConnected log p → (hash : Hash32) → Claims log p block hash
       → (t : IsTestedWith log block hash) → IsOmission log block t.filter.filter → ⊥
-
--- What the rule of asking leaves true of a connected peer with nothing open to it: of the blocks that its own chain shares with a chain, where one was fetched and
--- they differ on its filter, what the peer claims of it was tested. (A block with genesis's hash would never be asked about. Where no hashes clash there is none.)
-abbrev pub IsTestedThrough : Log → Chain → ℕ → Type 0
-IsTestedThrough log chain p =
-    (h : ℕ) → 1 ≤ h → h ≤ common_of (own (counted_part log p)) chain → IsAbove (hash_at (own (counted_part log p)) h)
-    → IsFetchedHash log (hash_at (own (counted_part log p)) h) → IsDisputed log (hash_at (own (counted_part log p)) h)
-    → (hash : Hash32) → Claims log p (hash_at (own (counted_part log p)) h) hash → IsTestedWith log (hash_at (own (counted_part log p)) h) hash

@@ -324,8 +324,17 @@ pub record IsBest (log : Log) (chain : Chain) : Type 0 where
 abbrev pub IsAbove : Hash → Type 0
 IsAbove block = block ≡ block_hash_of genesis_header → ⊥
 
+-- What the rule of asking leaves true of a connected peer with nothing open to it: of the blocks that its own chain shares with a chain, where one was fetched and
+-- they differ on its filter, what the peer claims of it was tested. (A block with genesis's hash would never be asked about. Where no hashes clash there is none.)
+abbrev pub IsTestedThrough : Log → Chain → ℕ → Type 0
+IsTestedThrough log chain p =
+    (h : ℕ) → 1 ≤ h → h ≤ common_of (own (counted_part log p)) chain → IsAbove (hash_at (own (counted_part log p)) h)
+    → IsFetchedHash log (hash_at (own (counted_part log p)) h) → IsDisputed log (hash_at (own (counted_part log p)) h)
+    → (hash : Hash32) → Claims log p (hash_at (own (counted_part log p)) h) hash → IsTestedWith log (hash_at (own (counted_part log p)) h) hash
+
 -- What the rule of asking leaves true of a connected peer with nothing open to it: it was heard out; of the blocks that its own chain shares
--- with the best one the filter header is known at each; and each of them that stands in no open request for filters or for a block is settled.
+-- with the best one the filter header is known at each; each of them that stands in no open request for filters or for a block is settled; and where one
+-- was fetched and they differ on its filter, what the peer claims of it was tested.
 -- (A block with genesis's hash would never be asked about. Where no hashes clash there is none.)
 pub record IsAskedOut (watch : List (List ℕ)) (log : Log) (chain : Chain) (p : ℕ) : Type 0 where
   pub heard_out : heard (counted_part log p) ≡ true
@@ -333,6 +342,7 @@ pub record IsAskedOut (watch : List (List ℕ)) (log : Log) (chain : Chain) (p :
   pub settled : (h : ℕ) → 1 ≤ h → h ≤ common_of (own (counted_part log p)) chain → IsAbove (hash_at (own (counted_part log p)) h)
       → (IsFilterOpen log (hash_at (own (counted_part log p)) h) → ⊥) → (IsBlockOpen log (hash_at (own (counted_part log p)) h) → ⊥)
       → IsSettled watch log (hash_at (own (counted_part log p)) h)
+  pub tested : IsTestedThrough log chain p
 
 -- ---- the history
 

@@ -23,7 +23,7 @@ invariant_of-self-2-clause-settled g c = λ alive.
     let now = seen_of c.enter.new.self in
     rw (c.in_ok-push-2.ensures.items, c.called.ensures)
     (settled_called c.args.self.now.places.items before now c.args.p c.requires.next
-    (record { chains = c.in_ok-enter.ensures.ok; claims = c.in_ok-enter.ensures.claims; table = c.in_ok-enter.ensures.table; verdicts = c.in_ok-enter.ensures.verdicts; opens = c.in_ok-enter.ensures.opens }) (c.args.self.now.settled c.if-self.false))
+    (record { chains = c.in_ok-enter.ensures.ok; claims = c.in_ok-enter.ensures.claims; table = c.in_ok-enter.ensures.table; verdicts = c.in_ok-enter.ensures.verdicts; opens = c.in_ok-enter.ensures.opens; trials = c.in_ok-enter.ensures.trials }) (c.args.self.now.settled c.if-self.false))
 
 pub invariant_of-self-2-clause-right : goal.invariant_of-self-2-clause-right
 invariant_of-self-2-clause-right g c = λ alive.
