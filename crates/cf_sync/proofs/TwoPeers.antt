@@ -953,6 +953,19 @@ other_long = let e = ap (λ (c : Chain). length c) same_other.chain in omega (ar
 pub nobody_below : (log : Log) (q : ℕ) → connected (trail log 0) ≡ false → q < 1 → IsConnected log q → ⊥
 nobody_below log q off below on = let none : q ≡ 0 = omega (arith, below) in false≢true (sym off ∙ subst (λ (k : ℕ). connected (trail log k) ≡ true) none on)
 
+-- where one peer alone claims anything nobody differs
+pub claims_alike : (t : Trail) (log : Log) (block : Hash) → ((p : ℕ) (hash : Hash32) → Claims log p block hash → hash_claimed (claims (counted t)) block ≡ Some hash) → IsDisputed log block → ⊥
+claims_alike t log block alone d = d.apart (one_hash (hash_claimed (claims (counted t)) block) (alone d.one d.mine d.claims.0) (alone d.other d.yours d.claims.1)) where
+  one_hash : (o : Option Hash32) {a b : Hash32} → o ≡ Some a → o ≡ Some b → a ≡ b
+  one_hash o {a} {b} x y = (let both : Some a ≡ Some b = sym x ∙ y in cc)
+
+pub other_claims_nothing : (block : Hash) (hash : Hash32) → hash_claimed (claims (counted u_7)) block ≡ Some hash → ⊥
+other_claims_nothing block hash e = (let none : None ≡ Some hash = sym (ap (λ (c : Table). hash_claimed c block) same_other.claiming) ∙ e in cc none)
+
+no_dispute : (block : Hash) → IsDisputed run_of_two block → ⊥
+no_dispute block = claims_alike t_13 run_of_two block (λ p hash.
+    of_each (λ t. hash_claimed (claims (counted t)) block ≡ Some hash → hash_claimed (claims (counted t_13)) block ≡ Some hash) p (λ e. e) (λ e. absurd (other_claims_nothing block hash e)) (λ e. cc e))
+
 pub has_asked : (watch : List (List ℕ)) → IsWatch watch → HasAsked watch 1 only_hash (scan_of chain_of_one watch) run_of_two
 has_asked watch fits = record {
   watchable = fits;
@@ -979,5 +992,6 @@ has_asked watch fits = record {
     heard_out = of_each (λ t. connected t ≡ true → heard (counted t) ≡ true) p (λ is1. counts_13.heard_out) (λ is1. same_other.hearing) (λ is1. absurd (false≢true is1)) on;
     claimed = of_each ClaimsIt p (claims_it t_13 only_claim counts_13.claimed counts_13.chain) other_claims nobody_claims;
     settled = λ h one le above no_filter no_block. inl (settled (hash_at (own (counted_part run_of_two p)) h) (inl (of_each SharesIt p (shares_it t_13 counts_13.chain) other_shares nobody_shares h one le)));
+    tested = λ h one le above got disputed hash claims_it. absurd (no_dispute (hash_at (own (counted_part run_of_two p)) h) disputed);
   };
 }
