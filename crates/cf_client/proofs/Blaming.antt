@@ -19,7 +19,9 @@ use Rattle.cf_hear.specs.Seen.{Seen}
 use Rattle.cf_hear.specs.Exposing.{IsUnexposed}
 use Rattle.cf_hear.specs.Tracks.{Tracks}
 use Rattle.cf_client.specs.declared.client.Client.{Client}
-use Rattle.cf_client.specs.Stands.{IsBlameless, Reflects, seen_by}
+use Rattle.cf_client.specs.Stands.{HasBlamed, IsBlameless, Reflects, seen_by}
+use Rattle.cf_client.proofs.Best.{best_back}
+use Rattle.cf_client.proofs.Reporting.{tested_of}
 
 claim_of : (o : Option Claim) (hash : Hash32) → option_map (λ (c : Claim). c.hash) o ≡ Some hash → (claim : Claim) × (o ≡ Some claim) × (claim.hash ≡ hash)
 claim_of None hash e = cc
@@ -45,3 +47,10 @@ blameless c log reflects right = blameless_seen (seen_by c) log reflects.tracks 
 pub has_blamed : {H M : Type 0} {g : Ghosts H} {j : Judges M} (c : Client H M g j) (log : Log) (chain : Chain) → Reflects c log → AreBytes log → Rightly log → NoHashClash (IsHashed log [])
     → IsBest log chain → ((p : ℕ) → IsConnected log p → IsTestedThrough log chain p) → AreBlamed log chain
 has_blamed c log chain reflects bytes right clash best through = are_blamed log chain bytes clash best through (blameless c log reflects right)
+
+-- so it is between any two calls
+pub blames_now : {H M : Type 0} {g : Ghosts H} {j : Judges M} (c : Client H M g j) (log : Log) → Reflects c log → HasBlamed log
+blames_now c log reflects bytes right clash quiet chain best =
+    has_blamed c log chain reflects bytes right clash best
+    (λ p on. tested_of c.places.items log (seen_by c) chain reflects.places reflects.tracks (c.settled reflects.alive)
+    (best_back c.places.items log (seen_by c) chain reflects.places reflects.tracks best) p on (quiet p))

@@ -22,7 +22,7 @@ use Rattle.cf_dispute.specs.declared.claim.Claim.{Claim}
 use Rattle.cf_dispute.specs.Claims.{IsAt, no_claims}
 use Rattle.cf_scan.specs.declared.history.Entry.{Entry}
 use Rattle.cf_scan.specs.Watching.{IsWatch}
-use Rattle.cf_sync.specs.Fetching.{IsBlockOpen, IsConnected, IsAskedOut, IsFilterOpen, IsScanOver, IsSettled, counted_part}
+use Rattle.cf_sync.specs.Fetching.{IsBlockOpen, IsConnected, IsAskedOut, IsTestedThrough, IsFilterOpen, IsScanOver, IsSettled, counted_part}
 use Rattle.cf_sync.proofs.Counted.{same_use}
 use Rattle.cf_sync.proofs.KeptOpens.{settled_else}
 use Rattle.cf_sync.proofs.Tables.{history_over}
@@ -81,6 +81,19 @@ through_shared s p place own chain through idle kept (inl b) =
     (subst (λ (c : Chain). IsDoneWith s p c (common_of c (chain_at s b.0.0))) this (through idle b.0 b.1))
 through_shared s p place own chain through idle kept (inr none) = absurd (none-some own (sym (none.0 p) ∙ kept))
 
+-- what a connected peer with nothing open claims of the fetched blocks on which they differ was tested
+pub tested_of : (places : List Place) (log : Log) (s : Seen) (chain : Chain) → PlacesStand places log → Tracks s log → AreSettled places s → IsBestChain s.chains chain
+    → (p : ℕ) → IsConnected log p → is_open (trail log p) ≡ false → IsTestedThrough log chain p
+tested_of places log s chain stand tracks settled best p on quiet =
+    let here = here_of (get_or places p nobody) (part_of log p) (stand.each p) on in
+    let holds : Holds here.0 (trail log p) = here.2.holds in
+    let mine : Chain = own (counted_part log p) in
+    let kept : s.chains p ≡ Some mine = tracks.kept p ∙ on_kept (trail log p) on ∙ ap (λ (c : Chain). Some c) (sym (same_use (trail log p) on holds.clean).chain) in
+    let both : IsDoneWith s p mine (common_of mine chain) =
+    through_shared s p (get_or places p nobody) mine chain (settled.through p) (ap is_idle here.1 ∙ idle_of here.0 (trail log p) holds quiet) kept best in
+    tested_through s.watch log s.table s.claims s.trials.told both.1.listed chain p tracks.fetched tracks.claimed tracks.trials.told
+    (listed_by s.watch log s.table s.claims both.1.listed tracks.fetched tracks.claimed both.1.disputes) on both.1.tried
+
 pub asked_out_of : (places : List Place) (log : Log) (s : Seen) (chain : Chain) → PlacesStand places log → Tracks s log → AreSettled places s → ((block : Hash) → (at : At) × IsAt s.claims block at) → IsBestChain s.chains chain
     → (p : ℕ) → IsConnected log p → is_open (trail log p) ≡ false → IsAskedOut s.watch log chain p
 asked_out_of places log s chain stand tracks settled decided best p on quiet =
@@ -104,8 +117,7 @@ asked_out_of places log s chain stand tracks settled decided best p on quiet =
       settled = λ h one le above no_filter no_block.
           let d = decided (hash_at mine h) in
           settled_at log s p mine (common_of mine chain) h d.0 tracks d.1 one le through above no_filter no_block;
-      tested = tested_through s.watch log s.table s.claims s.trials.told both.1.listed chain p tracks.fetched tracks.claimed tracks.trials.told
-          (listed_by s.watch log s.table s.claims both.1.listed tracks.fetched tracks.claimed both.1.disputes) on both.1.tried;
+      tested = tested_of places log s chain stand tracks settled best p on quiet;
     }
 
 -- ---- what is told

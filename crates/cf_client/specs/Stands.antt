@@ -1,7 +1,7 @@
 -- What a client holds of a log.
 use Rattle.std.specs.Prelude.{◌≡◌, ℕ, zero, suc, ◌+◌, Bool, false, if◌then◌else◌, List, length}
 use Rattle.cf_bytes.specs.declared.hash.Hash32.{Hash32}
-use Rattle.cf_headers.specs.Chain.{Chain, tip_hash}
+use Rattle.cf_headers.specs.Chain.{Chain, NoHashClash, tip_hash}
 use Rattle.cf_headers.specs.declared.store.HeaderStore.{Ghosts}
 use Rattle.cf_match.specs.declared.matcher.Matcher.{Ghosts as Judges}
 use Rattle.cf_peer.specs.declared.act.Act.{Act}
@@ -11,8 +11,9 @@ use Rattle.cf_peer.specs.Asking.{is_open, Deserves}
 use Rattle.cf_peer.specs.declared.peer.Cause.{Cause}
 use Rattle.cf_scan.specs.declared.history.Entry.{Entry}
 use Rattle.cf_scan.specs.Watching.{IsWatch}
-use Rattle.cf_sync.specs.Fetching.{IsBest, IsConnected, IsAskedOut, IsOmitting}
-use Rattle.cf_sync.specs.Sync.{IsToldOf}
+use Rattle.cf_sync.specs.Blame.{AreBlamed}
+use Rattle.cf_sync.specs.Fetching.{AreBytes, IsBest, IsConnected, IsAskedOut, IsOmitting, IsQuiet, Rightly}
+use Rattle.cf_sync.specs.Sync.{IsHashed, IsToldOf}
 use Rattle.cf_client.specs.declared.client.Client.{Client}
 use Rattle.cf_place.specs.Places.{Words, IsAnswered, PlacesStand, after, Allowed}
 use Rattle.cf_tracker.specs.Tracker.{watch_of}
@@ -52,6 +53,11 @@ IsInnocent log = (p : ℕ) → IsConnected log p → (cause : Cause) → Deserve
 -- no connected peer claims a filter that was tested and omits an output's script
 abbrev pub IsBlameless : Log → Type 0
 IsBlameless log = (p : ℕ) → IsOmitting log p → ⊥
+
+-- With nothing open, where no strings clash: what each claims of the best chain's fetched blocks on which they differ was tested, and nobody is left whose filter
+-- omits something.
+abbrev pub HasBlamed : Log → Type 0
+HasBlamed log = AreBytes log → Rightly log → NoHashClash (IsHashed log []) → IsQuiet log → (chain : Chain) → IsBest log chain → AreBlamed log chain
 
 -- each connected peer was sent the client's version, and what is owed to its messages
 abbrev pub AreAnswered : Log → Type 0
