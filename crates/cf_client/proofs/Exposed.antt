@@ -16,7 +16,7 @@ use Rattle.cf_peer.specs.declared.act.Act.{Act}
 use Rattle.cf_peer.specs.declared.peer.Peer.{Peer}
 use Rattle.cf_peer.specs.Acts.{IsDoable}
 use Rattle.cf_peer.specs.Peer.{calm}
-use Rattle.cf_peer.specs.Asking.{NothingOpen, claims, counted, fetched, given, hash_claimed, request}
+use Rattle.cf_peer.specs.Asking.{SameUse, NothingOpen, claims, counted, fetched, given, hash_claimed, request}
 use Rattle.cf_peer.specs.Trail.{Part, Trail, Asked, connected, heard_part, hears, hears_fault, item_of, item_of_read, met, owed, own, part_after, part_of, replied, trail, with_item}
 use Rattle.cf_peer.proofs.Stream.{said_met}
 use Rattle.cf_msg.specs.Reading.{message_of}
@@ -27,7 +27,7 @@ use Rattle.cf_wires.specs.declared.event.Event.TheVariants.{Took}
 use Rattle.cf_wires.specs.Log.{Log, tally_of}
 use Rattle.cf_sync.specs.Fetching.{IsOmitting}
 use Rattle.cf_sync.proofs.Counted.{same_use}
-use Rattle.cf_sync.proofs.Idle.{rest_brings_nothing, rest_claims_nothing}
+use Rattle.cf_sync.proofs.Idle.{BringsNothing, rest_brings_nothing, rest_claims_nothing}
 use Rattle.cf_hear.specs.Hearing.{HeardExposed}
 use Rattle.cf_hear.specs.Seen.{Seen}
 use Rattle.cf_hear.specs.Exposing.{IsExposedIn, IsExposing, IsUnexposed}
@@ -101,7 +101,7 @@ doable_all acts (q ∷ qs) low all = subst (All IsDoable) (append_assoc acts (sh
 module _ (d : Desk) (p : PeerNo) (piece : List ℕ) (old : Peer) (mid : Desk) (block filter : Hash) (log : Log)
     (none : d.acts ≡ []) (here : get_or d.places p.0 nobody ≡ Here old) (lt : p.0 < length d.places) (stand : PlacesStand d.places log) (tracks : Tracks d.seen log)
     (heard : HearsExposed p piece old d.seen mid.seen d.acts mid.acts block filter) (doable : All IsDoable mid.acts) where
-  next : Log
+  abbrev next : Log
   next = Took (Got p piece) ∷ log
 
   keeps : Keeps old (part_of log p.0)
@@ -111,25 +111,26 @@ module _ (d : Desk) (p : PeerNo) (piece : List ℕ) (old : Peer) (mid : Desk) (b
   x = subst (λ (xs : List Act). HeardExposed p d.seen mid.seen xs mid.acts (part_of log p.0) (heard_part piece (part_of log p.0)) block filter) none
       (heard (part_of log p.0) keeps.holds keeps.waits (follows_is d.seen log p.0 tracks keeps.holds.on keeps.holds.clean))
 
-  rs : List Msg
+  abbrev rs : List Msg
   rs = x.replies
 
-  end : Part
+  abbrev end : Part
   end = heard_part piece (part_of log p.0)
 
-  use_so_far : _
+  use_so_far : SameUse x.so_far
   use_so_far = same_use x.so_far x.on x.clean
 
   idle : request (counted x.so_far) ≡ NothingOpen
   idle = use_so_far.open_one ∙ x.idle
 
-  brings : _
+  brings : BringsNothing x.so_far (part_after (read_stream x.later) x.so_far).trail
   brings = rest_brings_nothing (read_stream x.later) x.so_far idle
 
-  rest : _
+  rest : (claims (counted (part_after (read_stream x.later) x.so_far).trail) ≡ claims (counted x.so_far))
+      × ((later : List Msg) × (owed (counted (part_after (read_stream x.later) x.so_far).trail) ≡ owed (counted x.so_far) ++ later))
   rest = rest_claims_nothing (read_stream x.later) x.so_far idle
 
-  more : List Msg
+  abbrev more : List Msg
   more = rest.1.0
 
   owes : owed (counted end.trail) ≡ owed (part_of log p.0).trail ++ (rs ++ more)
@@ -155,7 +156,7 @@ module _ (d : Desk) (p : PeerNo) (piece : List ℕ) (old : Peer) (mid : Desk) (b
         met_late ms (inl empty) = inl empty
         met_late ms (inr over) = inr (ap (λ (y : Part). met y.trail) (at_next ∙ sym x.leads) ∙ met_stays (read_stream x.later) x.so_far over)
 
-  sent : Log
+  abbrev sent : Log
   sent = after (sends p rs) next
 
   at_end : part_of sent p.0 ≡ asked_all rs end
@@ -213,7 +214,7 @@ module _ (d : Desk) (p : PeerNo) (piece : List ℕ) (old : Peer) (mid : Desk) (b
 
   module _ (peer : Peer) (now : Desk) (placed : mid.places ≡ set d.places p.0 (Here peer)) (chains : (q : ℕ) → q ≢ p.0 → mid.seen.chains q ≡ d.seen.chains q)
       (order : IsInOrder d) (shuts : Shuts block filter mid now) where
-    qs : List ℕ
+    abbrev qs : List ℕ
     qs = shuts.closed
 
     at_other : (q : ℕ) → q ≢ p.0 → place_at mid.places q ≡ place_at d.places q
@@ -238,7 +239,7 @@ module _ (d : Desk) (p : PeerNo) (piece : List ℕ) (old : Peer) (mid : Desk) (b
     shut : {watch : List (List ℕ)} → AreShut watch qs sent
     shut {watch = watch} = are_shut watch qs sent shuts.rising guilty
 
-    last : Log
+    abbrev last : Log
     last = after (map shut_act qs) sent
 
     off : (q : ℕ) → IsIn q qs → connected (trail last q) ≡ false
