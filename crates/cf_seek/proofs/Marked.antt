@@ -301,7 +301,7 @@ hits_in_part watch jobs old new (Err e2) ok err block filter e = sym (err.1 bloc
 
 -- ---- claims that are added
 
-claims_out : (previous : Hash32) (blocks : List Hash) (hashes : List Hash32) (table : dispute.Table) (h : Hash) → (IsIn h blocks → ⊥) → with_claims previous blocks hashes table h ≡ table h
+pub claims_out : (previous : Hash32) (blocks : List Hash) (hashes : List Hash32) (table : dispute.Table) (h : Hash) → (IsIn h blocks → ⊥) → with_claims previous blocks hashes table h ≡ table h
 claims_out previous [] hashes table h out = refl
 claims_out previous (b ∷ bs) [] table h out = refl
 claims_out previous (b ∷ bs) (x ∷ xs) table h out =

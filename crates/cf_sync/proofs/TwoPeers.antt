@@ -1,5 +1,5 @@
 -- The run with two peers, moment by moment: one is honest, all that was asked might be asked, and the history is the honest chain's.
-use Rattle.std.proofs.Common.{if◌then◌else◌, ◌≡◌, ◌⊎◌, inl, inr, ℕ, ◌<◌, ◌≤◌, List, [], ◌∷◌, ◌++◌, map, length, get_or, Some, None, Bool, true, false, not, ◌&&◌, ◌||◌, ◌==◌, refl, sym, ◌∙◌, ap, subst, arith}
+use Rattle.std.proofs.Common.{if◌then◌else◌, ◌≡◌, ◌⊎◌, inl, inr, ℕ, ◌<◌, ◌≤◌, List, [], ◌∷◌, ◌++◌, map, length, get_or, Some, None, Bool, true, false, not, ◌&&◌, ◌||◌, ◌==◌, refl, sym, ◌∙◌, ap, subst, arith, Option}
 use Rattle.std.specs.List.{flat_map}
 use Rattle.std.specs.FinMap.{empty, get-empty}
 use Rattle.std.proofs.lemmas.Bool.{cases_Bool, false≢true, and_parts, eqb-true}
@@ -25,7 +25,7 @@ use Rattle.cf_filter.specs.Filter.{basic_filter_of, filter_hash_of}
 use Rattle.cf_match.specs.declared.job.Job.{Job}
 use Rattle.cf_chain.specs.Serve.{data_reply, headers_reply, range_end, cfheaders_reply, cfilters_reply}
 use Rattle.cf_headers.specs.Rules.{same, is_worked, is_timely}
-use Rattle.cf_headers.specs.Chain.{Chain, no_hash, height_limit, past_of, fits, back_to, accept, Accepted, Longer, IsValidChain, IsIn, NoHashClash}
+use Rattle.cf_headers.specs.Chain.{Chain, no_hash, height_limit, past_of, fits, back_to, accept, Accepted, Longer, IsValidChain, IsIn, NoHashClash, Hash}
 use Rattle.cf_headers.specs.Heights.{hash_at, common_of}
 use Rattle.cf_headers.proofs.Commons.{common_own}
 use Rattle.cf_headers.specs.Shown.{IsShown, Shows, IsShownSpelling}
@@ -34,13 +34,13 @@ use Rattle.cf_msg.specs.declared.msg.Msg.TheVariants.{Verack, Block as BlockMess
 use Rattle.cf_wires.specs.declared.event.Delivery.TheVariants.{Got}
 use Rattle.cf_wires.specs.declared.event.Event.TheVariants.{Dialled, Sent, Took, Closed}
 use Rattle.cf_peer.specs.Acts.{bytes_of}
-use Rattle.cf_peer.specs.Asking.{OpenRequest, is_spare, NothingOpen, ClaimsOpen, FiltersOpen, BlockOpen, claims_asked, filters_asked, filter_of, claims, claims_after, claims_fault, filter_fault, fault_of, request_after, is_idle, given, given_by, HasHeader, IsFree, IsRange, request, is_wanted, is_committed, is_open, block_fault, verdict, counted, lists, fetched, fetched_by, block_entry, HasSaid, hashes_of, MayAsk, SameUse}
+use Rattle.cf_peer.specs.Asking.{OpenRequest, is_spare, NothingOpen, ClaimsOpen, FiltersOpen, BlockOpen, claims_asked, filters_asked, filter_of, claims, claims_after, claims_fault, filter_fault, fault_of, request_after, is_idle, given, given_by, HasHeader, IsFree, IsRange, request, is_wanted, is_committed, is_open, block_fault, verdict, counted, lists, fetched, fetched_by, block_entry, HasSaid, hashes_of, MayAsk, SameUse, hash_claimed}
 use Rattle.cf_wires.specs.Log.{Log}
 use Rattle.cf_peer.specs.Trail.{Trail, Part, Called, Said, Asked, called_part, heard_part, spelled, asks, part_of, trail, connected, ready, own, heard, longer_of, ends_by, fault_in, first, Lost, Shutting, with_item}
 use Rattle.cf_scan.specs.Scan.{scan_of}
 use Rattle.cf_scan.specs.Watching.{IsWatch}
 use Rattle.cf_sync.specs.Example.{only_tx, only_header, only_block, only_hash, chain_of_one, honest_peer, liar, genesis_hash, no_stop, our_version, its_version, false_version, question, its_headers, false_headers, fetch, its_block, log_1, log_2, log_3, log_4, log_5, log_6, log_7, log_8, log_9, log_10, log_11, log_12, log_13, log_14, log_15, log_16, log_17, log_18, log_19, run_of_two, cleared_run, only_filter, only_filter_hash, genesis_filter_header, ask_claims, its_claims, ask_filter, its_filter}
-use Rattle.cf_sync.specs.Fetching.{counted_part, IsQuiet, IsBusy, AreBytes, IsFetched, IsFetchedHash, IsConnected, Rightly}
+use Rattle.cf_sync.specs.Fetching.{counted_part, IsQuiet, IsBusy, AreBytes, IsFetched, IsFetchedHash, IsConnected, Rightly, Claims, IsDisputed}
 use Rattle.cf_sync.proofs.Alone.{IsNoneFetching, none_filters, none_block}
 use Rattle.cf_sync.specs.Honesty.{Leaves, answers, AnswersAs, IsHonestOver, IsHonest, was_called, ShowsNoOther, filters_above}
 use Rattle.cf_sync.specs.Sync.{strings_of, IsOfBlocks, IsHashed, HasAsked}
