@@ -53,11 +53,13 @@ use Rattle.cf_client.proofs.Standing.{here_on, kept_replied, number_within, set_
 use Rattle.cf_client.proofs.Taking.{HearsExposed, HearsUnexposed, RepliesDone, unexposed_after, asked_all, asked_owes, asked_replied, follows_is, got_others, heard_connected, heard_log, heard_says, met_by, place_keeps, replies_done, sendable_by, sends, sends_track, unchanged}
 
 -- what is claimed of a block by a table of a connected peer
-claimed_hash : (table : Table) (block : Hash) (claim : Claim) → table block ≡ Some claim → hash_claimed table block ≡ Some claim.hash
+claimed_hash : (table : Table) (block : Hash) (claim : Claim) → table block ≡ Some claim
+    → hash_claimed table block ≡ Some claim.hash
 claimed_hash table block claim is = ap (λ (o : Option Claim). option_map (λ (c : Claim). c.hash) o) is
 
 -- replies claim nothing
-claims_asked : (rs : List Msg) (part : Part) (block : Hash) → claims (counted (asked_all rs part).trail) block ≡ claims (counted part.trail) block
+claims_asked : (rs : List Msg) (part : Part) (block : Hash) → claims
+    (counted (asked_all rs part).trail) block ≡ claims (counted part.trail) block
 claims_asked [] part block = refl
 claims_asked (r ∷ rs) part block = claims_asked rs (with_item (Asked r) part) block
 
@@ -74,7 +76,8 @@ answered_at (Lost loss) part fits is = absurd (false≢true is)
 -- who has sent its version has sent it
 met_hears : (fs : List Frame) (t : Trail) → met t ≡ true → met (hears fs t) ≡ true
 met_hears [] t over = over
-met_hears (f ∷ fs) t over = met_hears fs (item_of f ∷ t) (elim (message_of f) as (λ r. met (item_of_read r ∷ t) ≡ true) [ Ok m ↦ said_met m t over | Err e ↦ over ])
+met_hears (f ∷ fs) t over = met_hears fs (item_of f ∷ t) (elim (message_of f) as
+    (λ r. met (item_of_read r ∷ t) ≡ true) [ Ok m ↦ said_met m t over | Err e ↦ over ])
 
 met_stays : (r : StreamRead) (t : Trail) → met t ≡ true → met (part_after r t).trail ≡ true
 met_stays r t over = by r.fault where
@@ -87,20 +90,25 @@ after_all : (one two : List Act) (log : Log) → after (one ++ two) log ≡ afte
 after_all [] two log = refl
 after_all (a ∷ one) two log = after_all one two (entry_of a ∷ log)
 
-allowed_all : (watch : List (List ℕ)) (one two : List Act) (log : Log) → Allowed watch one log → Allowed watch two (after one log) → Allowed watch (one ++ two) log
+allowed_all : (watch : List (List ℕ)) (one two : List Act) (log : Log) → Allowed watch one log
+    → Allowed watch two (after one log) → Allowed watch (one ++ two) log
 allowed_all watch [] two log may more = more
 allowed_all watch (a ∷ one) two log may more = (may.0, allowed_all watch one two (entry_of a ∷ log) may.1 more)
 
-doable_all : (acts : List Act) (qs : List ℕ) → ((q : ℕ) → IsIn q qs → q < 9) → All IsDoable acts → All IsDoable (acts ++ map shut_act qs)
+doable_all : (acts : List Act) (qs : List ℕ) → ((q : ℕ) → IsIn q qs → q < 9) → All IsDoable acts
+    → All IsDoable (acts ++ map shut_act qs)
 doable_all acts [] low all = subst (All IsDoable) (sym (append-nil acts)) all
 doable_all acts (q ∷ qs) low all = subst (All IsDoable) (append_assoc acts (shut_act q ∷ []) (map shut_act qs))
-    (doable_all (acts ++ shut_act q ∷ []) qs (λ k i. low k (inr i)) (All-push IsDoable acts (shut_act q) all (low q (inl refl))))
+    (doable_all (acts ++ shut_act q ∷ []) qs (λ k i. low k (inr i))
+    (All-push IsDoable acts (shut_act q) all (low q (inl refl))))
 
 -- ---- one log
 
 module _ (d : Desk) (p : PeerNo) (piece : List ℕ) (old : Peer) (mid : Desk) (block filter : Hash) (log : Log)
-    (none : d.acts ≡ []) (here : get_or d.places p.0 nobody ≡ Here old) (lt : p.0 < length d.places) (stand : PlacesStand d.places log) (tracks : Tracks d.seen log)
-    (heard : HearsExposed p piece old d.seen mid.seen d.acts mid.acts block filter) (doable : All IsDoable mid.acts) where
+    (none : d.acts ≡ []) (here : get_or d.places p.0 nobody ≡ Here old) (lt : p.0 < length d.places)
+    (stand : PlacesStand d.places log) (tracks : Tracks d.seen log)
+    (heard : HearsExposed p piece old d.seen mid.seen d.acts mid.acts block filter)
+    (doable : All IsDoable mid.acts) where
   abbrev next : Log
   next = Took (Got p piece) ∷ log
 
@@ -108,8 +116,10 @@ module _ (d : Desk) (p : PeerNo) (piece : List ℕ) (old : Peer) (mid : Desk) (b
   keeps = place_keeps d.places log p old here stand
 
   x : HeardExposed p d.seen mid.seen [] mid.acts (part_of log p.0) (heard_part piece (part_of log p.0)) block filter
-  x = subst (λ (xs : List Act). HeardExposed p d.seen mid.seen xs mid.acts (part_of log p.0) (heard_part piece (part_of log p.0)) block filter) none
-      (heard (part_of log p.0) keeps.holds keeps.waits (follows_is d.seen log p.0 tracks keeps.holds.on keeps.holds.clean))
+  x = subst (λ (xs : List Act). HeardExposed p d.seen mid.seen xs mid.acts (part_of log p.0)
+      (heard_part piece (part_of log p.0)) block filter) none
+      (heard (part_of log p.0) keeps.holds keeps.waits (follows_is d.seen log p.0 tracks keeps.holds.on
+      keeps.holds.clean))
 
   abbrev rs : List Msg
   rs = x.replies
@@ -127,14 +137,17 @@ module _ (d : Desk) (p : PeerNo) (piece : List ℕ) (old : Peer) (mid : Desk) (b
   brings = rest_brings_nothing (read_stream x.later) x.so_far idle
 
   rest : (claims (counted (part_after (read_stream x.later) x.so_far).trail) ≡ claims (counted x.so_far))
-      × ((later : List Msg) × (owed (counted (part_after (read_stream x.later) x.so_far).trail) ≡ owed (counted x.so_far) ++ later))
+      × ((later : List Msg) × (owed (counted (part_after (read_stream x.later) x.so_far).trail) ≡ owed
+      (counted x.so_far) ++ later))
   rest = rest_claims_nothing (read_stream x.later) x.so_far idle
 
   abbrev more : List Msg
   more = rest.1.0
 
   owes : owed (counted end.trail) ≡ owed (part_of log p.0).trail ++ (rs ++ more)
-  owes = ap (λ (y : Part). owed (counted y.trail)) (sym x.leads) ∙ rest.1.1 ∙ ap (λ (ms : List Msg). ms ++ more) (use_so_far.owing ∙ x.owes) ∙ append_assoc (owed (part_of log p.0).trail) rs more
+  owes = ap (λ (y : Part). owed (counted y.trail)) (sym x.leads) ∙ rest.1.1
+      ∙ ap (λ (ms : List Msg). ms ++ more) (use_so_far.owing ∙ x.owes)
+      ∙ append_assoc (owed (part_of log p.0).trail) rs more
 
   at_next : part_of next p.0 ≡ end
   at_next = heard_log p piece log
@@ -146,15 +159,18 @@ module _ (d : Desk) (p : PeerNo) (piece : List ℕ) (old : Peer) (mid : Desk) (b
   sent_before = (heard_says piece (part_of log p.0)).replies ∙ keeps.answered.replies
 
   due : owed (counted (trail next p.0)) ≡ replied (trail next p.0) ++ (rs ++ more)
-  due = ap (λ (y : Part). owed (counted y.trail)) at_next ∙ owes ∙ ap (λ (ms : List Msg). ms ++ (rs ++ more)) (sym sent_before)
+  due = ap (λ (y : Part). owed (counted y.trail)) at_next ∙ owes
+      ∙ ap (λ (ms : List Msg). ms ++ (rs ++ more)) (sym sent_before)
       ∙ sym (ap (λ (y : Part). replied y.trail ++ (rs ++ more)) at_next)
 
   done : {watch : List (List ℕ)} → RepliesDone watch p rs next
-  done = replies_done p rs more next (number_within d.places log p.0 stand lt) x.are.each (sendable_by p rs (subst (All IsDoable) x.acts doable)) up
+  done = replies_done p rs more next (number_within d.places log p.0 stand lt) x.are.each
+      (sendable_by p rs (subst (All IsDoable) x.acts doable)) up
       (met_late rs x.are.after_version) due where
         met_late : (ms : List Msg) → (ms ≡ []) ⊎ (met x.so_far ≡ true) → (ms ≡ []) ⊎ (met (trail next p.0) ≡ true)
         met_late ms (inl empty) = inl empty
-        met_late ms (inr over) = inr (ap (λ (y : Part). met y.trail) (at_next ∙ sym x.leads) ∙ met_stays (read_stream x.later) x.so_far over)
+        met_late ms (inr over) = inr (ap (λ (y : Part). met y.trail) (at_next ∙ sym x.leads)
+            ∙ met_stays (read_stream x.later) x.so_far over)
 
   abbrev sent : Log
   sent = after (sends p rs) next
@@ -165,26 +181,42 @@ module _ (d : Desk) (p : PeerNo) (piece : List ℕ) (old : Peer) (mid : Desk) (b
   first : IsRepliedFirst (trail sent p.0)
   first sound = (
     more,
-    ap (λ (y : Part). owed (counted y.trail)) at_end ∙ sym (asked_owes rs end) ∙ owes ∙ sym (append_assoc (owed (part_of log p.0).trail) rs more)
-        ∙ ap (λ (ms : List Msg). (ms ++ rs) ++ more) (sym sent_before) ∙ ap (λ (ms : List Msg). ms ++ more) (sym (asked_replied rs end x.are.each))
+    ap (λ (y : Part). owed (counted y.trail)) at_end ∙ sym (asked_owes rs end) ∙ owes
+        ∙ sym (append_assoc (owed (part_of log p.0).trail) rs more)
+        ∙ ap (λ (ms : List Msg). (ms ++ rs) ++ more) (sym sent_before)
+        ∙ ap (λ (ms : List Msg). ms ++ more) (sym (asked_replied rs end x.are.each))
         ∙ ap (λ (y : Part). replied y.trail ++ more) (sym at_end),
   )
 
   read : Tracks (seen_at mid.seen next) sent
-  read = sends_track p rs (seen_at mid.seen next) next x.are.each (sendable_by p rs (subst (All IsDoable) x.acts doable))
+  read = sends_track p rs (seen_at mid.seen next) next x.are.each
+      (sendable_by p rs (subst (All IsDoable) x.acts doable))
       (tracks_exposed p d.seen mid.seen [] mid.acts piece log block filter x
-      (ap (λ (y : Part). fetched (counted y.trail)) (sym x.leads) ∙ brings.1) (ap (λ (y : Part). given (counted y.trail)) (sym x.leads) ∙ brings.2) tracks)
+      (ap (λ (y : Part). fetched (counted y.trail)) (sym x.leads)
+      ∙ brings.1) (ap (λ (y : Part). given (counted y.trail)) (sym x.leads) ∙ brings.2) tracks)
 
   -- who claims it omits something
-  omitting : (q : ℕ) (claim : Claim) → connected (trail sent q) ≡ true → claims (counted (trail sent q)) block ≡ Some claim → claim.hash.0 ≡ filter → IsOmitting sent q
+  omitting : (q : ℕ) (claim : Claim) → connected (trail sent q) ≡ true
+      → claims (counted (trail sent q)) block ≡ Some claim → claim.hash.0 ≡ filter → IsOmitting sent q
   omitting q claim on mine this =
-      let found : mid.seen.trials.told block claim.hash.0 ≡ Some true = ap (mid.seen.trials.told block) this ∙ x.exposed.found in
+      let found : mid.seen.trials.told block claim.hash.0 ≡ Some true = ap (mid.seen.trials.told block) this
+      ∙ x.exposed.found in
       let w = read.trials.told.lacking block claim.hash found in
-      record { there = on; block = block; hash = claim.hash; claimed = claimed_hash (claims (counted (trail sent q))) block claim mine; tested = w.0; omits = w.1 }
+      record {
+        there = on;
+        block = block;
+        hash = claim.hash;
+        claimed = claimed_hash
+            (claims (counted (trail sent q))) block claim mine;
+        tested = w.0;
+        omits = w.1;
+      }
 
-  here_claims : (claim : Claim) → mid.seen.claims p.0 block ≡ Some claim → claims (counted (trail sent p.0)) block ≡ Some claim
+  here_claims : (claim : Claim) → mid.seen.claims p.0 block ≡ Some claim
+      → claims (counted (trail sent p.0)) block ≡ Some claim
   here_claims claim is =
-      ap (λ (y : Part). claims (counted y.trail) block) at_end ∙ claims_asked rs end block ∙ ap (λ (y : Part). claims (counted y.trail) block) (sym x.leads)
+      ap (λ (y : Part). claims (counted y.trail) block) at_end ∙ claims_asked rs end block
+      ∙ ap (λ (y : Part). claims (counted y.trail) block) (sym x.leads)
       ∙ ap (λ (c : Table). c block) (rest.0 ∙ use_so_far.claiming) ∙ sym (x.gains.follows.claims block) ∙ is
 
   others_same : (q : ℕ) → q ≢ p.0 → part_of sent q ≡ part_of log q
@@ -192,27 +224,41 @@ module _ (d : Desk) (p : PeerNo) (piece : List ℕ) (old : Peer) (mid : Desk) (b
 
   guilty_here : (claim : Claim) → mid.seen.claims p.0 block ≡ Some claim → claim.hash.0 ≡ filter → IsGuilty sent p.0
   guilty_here claim is this =
-      let on : connected (trail sent p.0) ≡ true = ap (λ (y : Part). connected y.trail) at_end ∙ (unchanged rs end x.are.each).on ∙ heard_connected piece (part_of log p.0) ∙ keeps.holds.on in
+      let on : connected (trail sent p.0) ≡ true = ap (λ (y : Part). connected y.trail) at_end
+      ∙ (unchanged rs end x.are.each).on ∙ heard_connected piece (part_of log p.0) ∙ keeps.holds.on in
       let omits = omitting p.0 claim on (here_claims claim is) this in
-      record { number = omega (arith, number_within d.places log p.0 stand lt, (done {watch = []}).count); omits = omits; replied = inr (omits, first) }
+      record {
+        number = omega (
+          arith,
+          number_within d.places log p.0 stand lt,
+          (done {watch = []}).count,
+        );
+        omits = omits;
+        replied = inr (omits, first);
+      }
 
   -- another one that is connected is as it was: it was answered, and what it claims is kept
-  guilty_other : (q : ℕ) (claim : Claim) → q ≢ p.0 → is_here (place_at d.places q) ≡ true → mid.seen.claims q block ≡ Some claim → claim.hash.0 ≡ filter → IsGuilty sent q
+  guilty_other : (q : ℕ) (claim : Claim) → q ≢ p.0 → is_here (place_at d.places q) ≡ true
+      → mid.seen.claims q block ≡ Some claim → claim.hash.0 ≡ filter → IsGuilty sent q
   guilty_other q claim other stays is this =
       let same = others_same q other in
       let on : connected (trail log q) ≡ true = here_on (place_at d.places q) (part_of log q) (stand.each q) ∙ stays in
       let mine : claims (counted (trail log q)) block ≡ Some claim =
-      sym (tracks.claimed q block ∙ ap (λ (b : Bool). (if b then claims (counted (trail log q)) else no_claims) block) on) ∙ sym (x.gains.claims q other block) ∙ is in
-      let omits = omitting q claim (ap (λ (y : Part). connected y.trail) same ∙ on) (ap (λ (y : Part). claims (counted y.trail) block) same ∙ mine) this in
+      sym (tracks.claimed q block ∙ ap (λ (b : Bool). (if b then claims (counted (trail log q)) else no_claims) block)
+      on) ∙ sym (x.gains.claims q other block) ∙ is in
+      let omits = omitting q claim (ap (λ (y : Part). connected y.trail) same
+      ∙ on) (ap (λ (y : Part). claims (counted y.trail) block) same ∙ mine) this in
       record {
         number = omega (arith, in_use d.places q stays, stand.count, (done {watch = []}).count);
         omits = omits;
-        replied = inl (subst (λ (y : Part). IsReplied y.trail) (sym same) (answered_at (place_at d.places q) (part_of log q) (stand.each q) stays));
+        replied = inl (subst (λ (y : Part). IsReplied y.trail) (sym same)
+            (answered_at (place_at d.places q) (part_of log q) (stand.each q) stays));
       }
 
   -- ---- and once they were closed
 
-  module _ (peer : Peer) (now : Desk) (placed : mid.places ≡ set d.places p.0 (Here peer)) (chains : (q : ℕ) → q ≢ p.0 → mid.seen.chains q ≡ d.seen.chains q)
+  module _ (peer : Peer) (now : Desk) (placed : mid.places ≡ set d.places p.0 (Here peer)) (chains : (q : ℕ) → q ≢ p.0
+      → mid.seen.chains q ≡ d.seen.chains q)
       (order : IsInOrder d) (shuts : Shuts block filter mid now) where
     abbrev qs : List ℕ
     qs = shuts.closed
@@ -224,7 +270,13 @@ module _ (d : Desk) (p : PeerNo) (piece : List ℕ) (old : Peer) (mid : Desk) (b
     at_here = ap (λ (ps : List Place). place_at ps p.0) placed ∙ set_is d.places p.0 (Here peer) lt
 
     p_closed : IsIn p.0 qs
-    p_closed = shuts.all p.0 (omega (arith, lt, ap (λ (ps : List Place). length ps) placed, length-set d.places p.0 (Here peer)))
+    p_closed = shuts.all p.0 (omega (
+      arith,
+      lt,
+      ap (λ (ps : List Place). length ps) placed,
+      length-set d.places p.0
+          (Here peer),
+    ))
         (record { here = ap is_here at_here; claimed = x.exposed.claimed })
 
     guilty : (q : ℕ) → IsIn q qs → IsGuilty sent q
@@ -232,8 +284,10 @@ module _ (d : Desk) (p : PeerNo) (piece : List ℕ) (old : Peer) (mid : Desk) (b
         let c = shuts.claimants q i in
         elim (cases_eq q p.0) [
           | inl this ↦ subst (IsGuilty sent) (sym this)
-              (guilty_here c.claimed.claim (ap (λ (k : ℕ). mid.seen.claims k block) (sym this) ∙ c.claimed.mine) c.claimed.this)
-          | inr other ↦ guilty_other q c.claimed.claim other (ap is_here (sym (at_other q other)) ∙ c.here) c.claimed.mine c.claimed.this
+              (guilty_here c.claimed.claim (ap (λ (k : ℕ). mid.seen.claims k block) (sym this)
+              ∙ c.claimed.mine) c.claimed.this)
+          | inr other ↦ guilty_other q c.claimed.claim other (ap is_here (sym (at_other q other))
+              ∙ c.here) c.claimed.mine c.claimed.this
         ]
 
     shut : {watch : List (List ℕ)} → AreShut watch qs sent
@@ -253,12 +307,15 @@ module _ (d : Desk) (p : PeerNo) (piece : List ℕ) (old : Peer) (mid : Desk) (b
 
     places_stand : PlacesStand now.places last
     places_stand = record {
-      count = shuts.count ∙ ap (λ (ps : List Place). length ps) placed ∙ length-set d.places p.0 (Here peer) ∙ stand.count
+      count = shuts.count ∙ ap (λ (ps : List Place). length ps) placed ∙ length-set d.places p.0 (Here peer)
+          ∙ stand.count
           ∙ ap (λ (n : ℕ). n + 1) (sym ((shut {watch = []}).dials ∙ (done {watch = []}).count));
       each = λ q. elim (number_in q qs) [
         | inl i ↦ subst (λ (y : Place). Fits y (part_of last q)) (sym (shuts.gone q i).0)
-            (subst (λ (y : Part). Fits shut_place y) (sym ((shut {watch = []}).here q i)) (shut_lost (trail sent q) (guilty q i).omits.there))
-        | inr out ↦ subst (λ (y : Place). Fits y (part_of last q)) (sym ((shuts.kept q out).0 ∙ at_other q (left q out)))
+            (subst (λ (y : Part). Fits shut_place y) (sym ((shut {watch = []}).here q i))
+            (shut_lost (trail sent q) (guilty q i).omits.there))
+        | inr out ↦ subst (λ (y : Place). Fits y (part_of last q)) (sym ((shuts.kept q out).0
+            ∙ at_other q (left q out)))
             (subst (λ (y : Part). Fits (place_at d.places q) y) (sym (as_before q out)) (stand.each q))
       ];
     }
@@ -278,12 +335,16 @@ module _ (d : Desk) (p : PeerNo) (piece : List ℕ) (old : Peer) (mid : Desk) (b
     tracked : Tracks now.seen last
     tracked = tracks_on (seen_at mid.seen next) now.seen sent last shuts.watch shuts.table shuts.verdicts
         (λ q. elim (number_in q qs) [
-          | inl i ↦ (shuts.gone q i).1 ∙ sym (ap (λ (b : Bool). if b then Some (own (trail last q)) else None) (off q i))
-          | inr out ↦ (shuts.kept q out).1 ∙ chains q (left q out) ∙ tracks.kept q ∙ sym (ap (λ (y : Part). chain_kept y.trail) (as_before q out))
+          | inl i ↦ (shuts.gone q i).1 ∙ sym (ap (λ (b : Bool). if b then Some (own (trail last q)) else None)
+              (off q i))
+          | inr out ↦ (shuts.kept q out).1 ∙ chains q (left q out) ∙ tracks.kept q
+              ∙ sym (ap (λ (y : Part). chain_kept y.trail) (as_before q out))
         ])
         (λ q at. elim (number_in q qs) [
-          | inl i ↦ (shuts.gone q i).2 at ∙ sym (ap (λ (b : Bool). (if b then claims (counted (trail last q)) else no_claims) at) (off q i))
-          | inr out ↦ (shuts.kept q out).2 at ∙ x.gains.claims q (left q out) at ∙ tracks.claimed q at ∙ sym (ap (λ (y : Part). claims_kept y.trail at) (as_before q out))
+          | inl i ↦ (shuts.gone q i).2 at ∙ sym (ap (λ (b : Bool). (if b then claims (counted (trail last q)) else
+              no_claims) at) (off q i))
+          | inr out ↦ (shuts.kept q out).2 at ∙ x.gains.claims q (left q out) at ∙ tracks.claimed q at
+              ∙ sym (ap (λ (y : Part). claims_kept y.trail at) (as_before q out))
         ])
         (λ q. elim (number_in q qs) [
           | inl i ↦ record {
@@ -296,8 +357,10 @@ module _ (d : Desk) (p : PeerNo) (piece : List ℕ) (old : Peer) (mid : Desk) (b
               let other = left q out in
               let same = ap (λ (y : Part). y.trail) (as_before q out) in
               let was = subst (OpensAt d.seen.opens q) (sym same) (tracks.opened q) in
-              let filters : (b : Hash) → now.seen.opens.filters q b ≡ d.seen.opens.filters q b = λ b. (shuts.kept q out).3 b ∙ x.gains.opens.filters q other b in
-              let blocks : (b : Hash) → now.seen.opens.blocks q b ≡ d.seen.opens.blocks q b = λ b. (shuts.kept q out).4 b ∙ x.gains.opens.blocks q other b in
+              let filters : (b : Hash) → now.seen.opens.filters q b ≡ d.seen.opens.filters q b = λ b.
+              (shuts.kept q out).3 b ∙ x.gains.opens.filters q other b in
+              let blocks : (b : Hash) → now.seen.opens.blocks q b ≡ d.seen.opens.blocks q b = λ b.
+              (shuts.kept q out).4 b ∙ x.gains.opens.blocks q other b in
               record {
                 filters = λ b is. was.filters b (sym (filters b) ∙ is);
                 all_filters = λ b on j. filters b ∙ was.all_filters b on j;
@@ -306,16 +369,19 @@ module _ (d : Desk) (p : PeerNo) (piece : List ℕ) (old : Peer) (mid : Desk) (b
               }
               )
         ])
-        brought (trials_same last mid.seen.trials now.seen.trials shuts.trials.paid shuts.trials.told shuts.trials.aims ((shut {watch = []}).trials mid.seen.trials read.trials)) read
+        brought (trials_same last mid.seen.trials now.seen.trials shuts.trials.paid shuts.trials.told
+        shuts.trials.aims ((shut {watch = []}).trials mid.seen.trials read.trials)) read
 
     ends : after now.acts next ≡ last
-    ends = ap (λ (xs : List Act). after xs next) (shuts.added ∙ ap (λ (xs : List Act). xs ++ map shut_act qs) x.acts) ∙ after_all (sends p rs) (map shut_act qs) next
+    ends = ap (λ (xs : List Act). after xs next) (shuts.added ∙ ap (λ (xs : List Act). xs ++ map shut_act qs) x.acts)
+        ∙ after_all (sends p rs) (map shut_act qs) next
 
     exposed_stands : IsUnexposed now.seen → Stands now next
     exposed_stands unexposed = record {
       goes = record {
         stand = subst (PlacesStand now.places) (sym ends) places_stand;
-        allowed = subst (λ (xs : List Act). Allowed now.seen.watch xs next) (sym (shuts.added ∙ ap (λ (xs : List Act). xs ++ map shut_act qs) x.acts))
+        allowed = subst (λ (xs : List Act). Allowed now.seen.watch xs next) (sym (shuts.added
+            ∙ ap (λ (xs : List Act). xs ++ map shut_act qs) x.acts))
             (allowed_all now.seen.watch (sends p rs) (map shut_act qs) next done.allowed shut.allowed);
       };
       tracks = subst (Tracks now.seen) (sym ends) tracked;
@@ -330,7 +396,8 @@ module _ (d : Desk) (p : PeerNo) (piece : List ℕ) (old : Peer) (mid : Desk) (b
 
     low : (q : ℕ) → IsIn q qs → q < 9
     low q i = (let lt_places = in_below (length mid.places) qs shuts.below q i in
-        let same = ap (λ (ps : List Place). length ps) placed in omega (arith, lt_places, same, length-set d.places p.0 (Here peer), order.few))
+        let same = ap (λ (ps : List Place). length ps) placed in omega
+        (arith, lt_places, same, length-set d.places p.0 (Here peer), order.few))
 
     still_doable : All IsDoable now.acts
     still_doable = subst (All IsDoable) (sym shuts.added) (doable_all mid.acts qs low doable)
@@ -338,37 +405,53 @@ module _ (d : Desk) (p : PeerNo) (piece : List ℕ) (old : Peer) (mid : Desk) (b
 -- ---- as a step
 
 -- after it nobody is exposed
-pub nobody_exposed : (p : ℕ) (block filter : Hash) (mid now : Desk) → IsExposing mid.seen p block filter → is_here (place_at mid.places p) ≡ true
-    → ((q : ℕ) → is_here (place_at mid.places q) ≡ true → q < length mid.places) → ((q : ℕ) → is_some (mid.seen.chains q) ≡ is_here (place_at mid.places q))
+pub nobody_exposed : (p : ℕ) (block filter : Hash) (mid now : Desk) → IsExposing mid.seen p block filter
+    → is_here (place_at mid.places p) ≡ true
+    → ((q : ℕ) → is_here (place_at mid.places q) ≡ true → q < length mid.places)
+    → ((q : ℕ) → is_some (mid.seen.chains q) ≡ is_here (place_at mid.places q))
     → ((q : ℕ) (at : Hash) (claim : Claim) → mid.seen.claims q at ≡ Some claim → is_some (mid.seen.chains q) ≡ true)
     → Shuts block filter mid now → IsUnexposed now.seen
-nobody_exposed p block filter mid now exposing here within entered claiming shuts q at of e = elim (number_in q shuts.closed) [
-  | inl i ↦ absurd (let no : None ≡ Some e.claimed.claim = sym ((shuts.gone q i).2 at) ∙ e.claimed.mine in cc no)
-  | inr out ↦ (
-      let mine = sym ((shuts.kept q out).2 at) ∙ e.claimed.mine in
-      let was : IsExposedIn mid.seen q at of = record {
-        claimed = record { claim = e.claimed.claim; mine = mine; this = e.claimed.this };
-        found = sym (shuts.trials.told at of) ∙ e.found;
-      } in
-      let up : is_here (place_at mid.places q) ≡ true = sym (entered q) ∙ claiming q at e.claimed.claim mine in
-      elim (exposing.others q at of was) [
-        | inl this ↦ out (shuts.all q (within q up) (record { here = up; claimed = subst (λ (k : ℕ). IsClaimedAs mid.seen.claims k block filter) (sym this) exposing.here.claimed }))
-        | inr same ↦ out (shuts.all q (within q up) (record {
-          here = up;
-          claimed = record { claim = e.claimed.claim; mine = ap (mid.seen.claims q) (sym same.0) ∙ mine; this = e.claimed.this ∙ same.1 };
-        }))
-      ]
-      )
-]
+nobody_exposed p block filter mid now exposing here within entered claiming shuts q at of e = elim
+    (number_in q shuts.closed) [
+      | inl i ↦ absurd (let no : None ≡ Some e.claimed.claim = sym ((shuts.gone q i).2 at) ∙ e.claimed.mine in cc no)
+      | inr out ↦ (
+          let mine = sym ((shuts.kept q out).2 at) ∙ e.claimed.mine in
+          let was : IsExposedIn mid.seen q at of = record {
+            claimed = record { claim = e.claimed.claim; mine = mine; this = e.claimed.this };
+            found = sym (shuts.trials.told at of) ∙ e.found;
+          } in
+          let up : is_here (place_at mid.places q) ≡ true = sym (entered q) ∙ claiming q at e.claimed.claim mine in
+          elim (exposing.others q at of was) [
+            | inl this ↦ out (shuts.all q (within q up) (record {
+              here = up;
+              claimed = subst (λ (k : ℕ). IsClaimedAs
+                  mid.seen.claims k block filter) (sym this) exposing.here.claimed;
+            }))
+            | inr same ↦ out (shuts.all q (within q up) (record {
+              here = up;
+              claimed = record {
+                claim = e.claimed.claim;
+                mine = ap (mid.seen.claims q) (sym same.0)
+                    ∙ mine;
+                this = e.claimed.this ∙ same.1;
+              };
+            }))
+          ]
+          )
+    ]
 
 -- whoever claims something is tracked
-claimed_there : (d mid : Desk) (p : PeerNo) {peer : Peer} (log : Log) → Tracks d.seen log → IsChanged d.seen mid.seen p.0 (Here peer) → (q : ℕ) (at : Hash) (claim : Claim) → mid.seen.claims q at ≡ Some claim
+claimed_there : (d mid : Desk) (p : PeerNo) {peer : Peer} (log : Log) → Tracks d.seen log
+    → IsChanged d.seen mid.seen p.0 (Here peer) → (q : ℕ) (at : Hash) (claim : Claim)
+    → mid.seen.claims q at ≡ Some claim
     → is_some (mid.seen.chains q) ≡ true
 claimed_there d mid p log tracks changed q at claim e = elim (cases_eq q p.0) [
   | inl this ↦ ap (λ (k : ℕ). is_some (mid.seen.chains k)) this ∙ sym changed.here
-  | inr other ↦ ap is_some (changed.others q other) ∙ ap is_some (tracks.kept q) ∙ by (connected (trail log q)) (sym (tracks.claimed q at) ∙ sym (changed.claims q other at) ∙ e)
+  | inr other ↦ ap is_some (changed.others q other) ∙ ap is_some (tracks.kept q)
+      ∙ by (connected (trail log q)) (sym (tracks.claimed q at) ∙ sym (changed.claims q other at) ∙ e)
 ] where
-  by : (on : Bool) → (if on then claims (counted (trail log q)) else no_claims) at ≡ Some claim → is_some (if on then Some (own (trail log q)) else None) ≡ true
+  by : (on : Bool) → (if on then claims (counted (trail log q)) else no_claims) at ≡ Some claim
+      → is_some (if on then Some (own (trail log q)) else None) ≡ true
   by true is = refl
   by false is = cc is
 
@@ -391,37 +474,55 @@ shut_order block filter mid now order shuts = record {
   right_on (Lost loss) a b same right = tt
 
 pub exposed_moves : (d : Desk) (p : PeerNo) (piece : List ℕ) (old peer : Peer) (mid now : Desk) (block filter : Hash)
-    → p.0 < length d.places → d.acts ≡ [] → IsInOrder d → get_or d.places p.0 nobody ≡ Here old → HearsExposed p piece old d.seen mid.seen d.acts mid.acts block filter
-    → HearsUnexposed p old d.seen (IsExposing mid.seen p.0 block filter) → IsChanged d.seen mid.seen p.0 (Here peer) → mid.places ≡ set d.places p.0 (Here peer)
-    → All IsDoable mid.acts → (calm old ≡ true → calm peer ≡ true) → Shuts block filter mid now → Moves (Taking (Got p piece)) d now
-exposed_moves d p piece old peer mid now block filter lt none order here heard unexposes changed placed doable calms shuts =
+    → p.0 < length d.places → d.acts ≡ [] → IsInOrder d → get_or d.places p.0 nobody ≡ Here old
+    → HearsExposed p piece old d.seen mid.seen d.acts mid.acts block filter
+    → HearsUnexposed p old d.seen (IsExposing mid.seen p.0 block filter) → IsChanged d.seen mid.seen p.0 (Here peer)
+    → mid.places ≡ set d.places p.0 (Here peer)
+    → All IsDoable mid.acts → (calm old ≡ true → calm peer ≡ true) → Shuts block filter mid now
+    → Moves (Taking (Got p piece)) d now
+exposed_moves d p piece old peer mid now block filter lt none order here heard unexposes changed placed doable calms
+    shuts =
     let middle : IsInOrder mid = record {
       few = omega (arith, order.few, ap (λ (ps : List Place). length ps) placed, length-set d.places p.0 (Here peer));
-      entered = subst (λ (ps : List Place). AreEntered ps mid.seen) (sym placed) (entered_set d.places d.seen mid.seen p.0 (Here peer) lt changed.others changed.here order.entered);
-      right = subst (λ (ps : List Place). AreRight ps mid.seen.claims) (sym placed) (right_set d.places d.seen.claims mid.seen.claims p.0 (Here peer) lt changed.claims changed.right order.right);
+      entered = subst (λ (ps : List Place). AreEntered ps mid.seen) (sym placed)
+          (entered_set d.places d.seen mid.seen p.0 (Here peer) lt changed.others changed.here order.entered);
+      right = subst (λ (ps : List Place). AreRight ps mid.seen.claims) (sym placed)
+          (right_set d.places d.seen.claims mid.seen.claims p.0
+          (Here peer) lt changed.claims changed.right order.right);
     } in
-    let up : is_here (place_at mid.places p.0) ≡ true = ap (λ (ps : List Place). is_here (place_at ps p.0)) placed ∙ ap is_here (set_is d.places p.0 (Here peer) lt) in
+    let up : is_here (place_at mid.places p.0) ≡ true = ap (λ (ps : List Place). is_here (place_at ps p.0)) placed
+    ∙ ap is_here (set_is d.places p.0 (Here peer) lt) in
     record {
       stands = λ log next is stood.
           let stand = start_places d log none stood in
           let tracks = start_tracks d log none stood in
-          let exposing = unexposed_after d.places log p old d.seen (IsExposing mid.seen p.0 block filter) here stand tracks unexposes stood.unexposed in
-          let clear = nobody_exposed p.0 block filter mid now exposing up (λ q here_too. in_use mid.places q here_too) (λ q. sym (middle.entered q)) (claimed_there d mid p log tracks changed) shuts in
-          subst (Stands now) (sym is) (exposed_stands d p piece old mid block filter log none here lt stand tracks heard doable peer now placed changed.others order shuts clear);
+          let exposing = unexposed_after d.places log p old d.seen
+          (IsExposing mid.seen p.0 block filter) here stand tracks unexposes stood.unexposed in
+          let clear = nobody_exposed p.0 block filter mid now exposing up (λ q here_too. in_use mid.places q here_too)
+          (λ q. sym (middle.entered q)) (claimed_there d mid p log tracks changed) shuts in
+          subst (Stands now) (sym is) (exposed_stands d p piece old mid block filter log none here lt stand tracks
+          heard doable peer now placed changed.others order shuts clear);
       order = shut_order block filter mid now middle shuts;
       watch = shuts.watch ∙ changed.watch;
       more = extends_none d.acts now.acts none;
-      doable = λ all. subst (All IsDoable) (sym shuts.added) (doable_all mid.acts shuts.closed (λ q i. (let in_places = in_below (length mid.places) shuts.closed shuts.below q i in omega (arith, in_places, middle.few))) doable);
+      doable = λ all. subst (All IsDoable) (sym shuts.added) (doable_all mid.acts shuts.closed
+          (λ q i. (let in_places = in_below (length mid.places) shuts.closed shuts.below q i in omega
+          (arith, in_places, middle.few))) doable);
       calm = λ was q. elim (number_in q shuts.closed) [
         | inl i ↦ ap is_calm (shuts.gone q i).0
         | inr out ↦ ap is_calm (shuts.kept q out).0 ∙ ap (λ (ps : List Place). is_calm (place_at ps q)) placed
-            ∙ set_each (λ (y : Place). is_calm y ≡ true) d.places p.0 (Here peer) lt was (calms (subst (λ (y : Place). is_calm y ≡ true) here (was p.0))) q
+            ∙ set_each (λ (y : Place). is_calm y ≡ true) d.places p.0 (Here peer) lt was
+            (calms (subst (λ (y : Place). is_calm y ≡ true) here (was p.0))) q
       ];
     }
 
 -- what was told is in order
-pub exposed_told : (d : Desk) (p : PeerNo) (piece : List ℕ) (old peer : Peer) (mid now : Desk) (block filter : Hash) (log : Log)
-    → p.0 < length d.places → d.acts ≡ [] → IsInOrder d → get_or d.places p.0 nobody ≡ Here old → HearsExposed p piece old d.seen mid.seen d.acts mid.acts block filter
-    → IsChanged d.seen mid.seen p.0 (Here peer) → mid.places ≡ set d.places p.0 (Here peer) → All IsDoable mid.acts → Shuts block filter mid now → Stands d log → AreTold now.acts
+pub exposed_told : (d : Desk) (p : PeerNo) (piece : List ℕ) (old peer : Peer) (mid now : Desk) (block filter : Hash)
+    (log : Log)
+    → p.0 < length d.places → d.acts ≡ [] → IsInOrder d → get_or d.places p.0 nobody ≡ Here old
+    → HearsExposed p piece old d.seen mid.seen d.acts mid.acts block filter
+    → IsChanged d.seen mid.seen p.0 (Here peer) → mid.places ≡ set d.places p.0 (Here peer) → All IsDoable mid.acts
+    → Shuts block filter mid now → Stands d log → AreTold now.acts
 exposed_told d p piece old peer mid now block filter log lt none order here heard changed placed doable shuts stood =
-    shuts_told d p piece old mid block filter log none here lt (start_places d log none stood) (start_tracks d log none stood) heard doable peer now placed changed.others order shuts
+    shuts_told d p piece old mid block filter log none here lt (start_places d log none stood)
+    (start_tracks d log none stood) heard doable peer now placed changed.others order shuts

@@ -44,7 +44,8 @@ rising_above : (n : ℕ) (ns : List ℕ) → IsStrictlyIncreasing (n ∷ ns) →
 rising_above n [] rising x i = absurd i
 rising_above n (y ∷ ns) rising x (inl this) = (let first = rising 0 (omega arith) in omega (arith, first, this))
 rising_above n (y ∷ ns) rising x (inr later) =
-    (let first = rising 0 (omega arith) in let rest = rising_above y ns (rising_tail n (y ∷ ns) rising) x later in omega (arith, first, rest))
+    (let first = rising 0 (omega arith) in let rest = rising_above y ns
+    (rising_tail n (y ∷ ns) rising) x later in omega (arith, first, rest))
 
 pub number_in : (q : ℕ) (ns : List ℕ) → IsIn q ns ⊎ (IsIn q ns → ⊥)
 number_in q [] = inr (λ i. i)
@@ -94,45 +95,58 @@ shuts_none block filter d = record {
 }
 
 -- who is met at its number is as it was, since only lower ones were closed
-claimant_back : (i : ℕ) (block filter : Hash) (before d : Desk) → (so_far : ShutsBelow i block filter before d) → IsClaimant d block filter i → IsClaimant before block filter i
+claimant_back : (i : ℕ) (block filter : Hash) (before d : Desk) → (so_far : ShutsBelow i block filter before d)
+    → IsClaimant d block filter i → IsClaimant before block filter i
 claimant_back i block filter before d so_far is =
-    let same = so_far.kept i (λ j. (let lt = in_below i so_far.closed so_far.below i j in absurd (omega (arith, lt)))) in
+    let same = so_far.kept i (λ j. (let lt = in_below i so_far.closed so_far.below i j in absurd (omega (arith, lt))))
+    in
     record {
       here = ap is_here (sym same.0) ∙ is.here;
-      claimed = record { claim = is.claimed.claim; mine = sym (same.2 block) ∙ is.claimed.mine; this = is.claimed.this };
+      claimed = record {
+        claim = is.claimed.claim;
+        mine = sym (same.2 block)
+            ∙ is.claimed.mine;
+        this = is.claimed.this;
+      };
     }
 
-claimant_on : (i : ℕ) (block filter : Hash) (before d : Desk) → (so_far : ShutsBelow i block filter before d) → IsClaimant before block filter i → IsClaimant d block filter i
+claimant_on : (i : ℕ) (block filter : Hash) (before d : Desk) → (so_far : ShutsBelow i block filter before d)
+    → IsClaimant before block filter i → IsClaimant d block filter i
 claimant_on i block filter before d so_far is =
-    let same = so_far.kept i (λ j. (let lt = in_below i so_far.closed so_far.below i j in absurd (omega (arith, lt)))) in
+    let same = so_far.kept i (λ j. (let lt = in_below i so_far.closed so_far.below i j in absurd (omega (arith, lt))))
+    in
     record {
       here = ap is_here same.0 ∙ is.here;
       claimed = record { claim = is.claimed.claim; mine = same.2 block ∙ is.claimed.mine; this = is.claimed.this };
     }
 
-pub shuts_next : (i : ℕ) (block filter : Hash) (before d now : Desk) → i < length before.places → (so_far : ShutsBelow i block filter before d) → ShutsOne i block filter d now
+pub shuts_next : (i : ℕ) (block filter : Hash) (before d now : Desk) → i < length before.places
+    → (so_far : ShutsBelow i block filter before d) → ShutsOne i block filter d now
     → ShutsBelow (i + 1) block filter before now
-shuts_next i block filter before d now lt so_far (inl (not_one, same)) = subst (ShutsBelow (i + 1) block filter before) (sym same) (record {
-  closed = so_far.closed;
-  added = so_far.added;
-  rising = so_far.rising;
-  below = all_higher so_far.closed i (i + 1) (omega arith) so_far.below;
-  claimants = so_far.claimants;
-  all = λ q less is. elim (cases_eq q i) [
-    | inl this ↦ absurd (not_one (claimant_on i block filter before d so_far (subst (IsClaimant before block filter) this is)))
-    | inr other ↦ so_far.all q (omega (arith, less, other)) is
-  ];
-  gone = so_far.gone;
-  kept = so_far.kept;
-  count = so_far.count;
-  watch = so_far.watch;
-  table = so_far.table;
-  verdicts = so_far.verdicts;
-  trials = so_far.trials;
-})
+shuts_next i block filter before d now lt so_far (inl (not_one, same)) = subst
+    (ShutsBelow (i + 1) block filter before) (sym same) (record {
+      closed = so_far.closed;
+      added = so_far.added;
+      rising = so_far.rising;
+      below = all_higher so_far.closed i (i + 1) (omega arith) so_far.below;
+      claimants = so_far.claimants;
+      all = λ q less is. elim (cases_eq q i) [
+        | inl this ↦ absurd (not_one (claimant_on i block filter before d so_far (subst (IsClaimant before block filter)
+            this is)))
+        | inr other ↦ so_far.all q (omega (arith, less, other)) is
+      ];
+      gone = so_far.gone;
+      kept = so_far.kept;
+      count = so_far.count;
+      watch = so_far.watch;
+      table = so_far.table;
+      verdicts = so_far.verdicts;
+      trials = so_far.trials;
+    })
 shuts_next i block filter before d now lt so_far (inr (one, put, places, acts)) = record {
   closed = so_far.closed ++ i ∷ [];
-  added = acts ∙ ap (λ (xs : List Act). xs ++ shut_act i ∷ []) so_far.added ∙ append_assoc before.acts (map shut_act so_far.closed) (shut_act i ∷ [])
+  added = acts ∙ ap (λ (xs : List Act). xs ++ shut_act i ∷ []) so_far.added
+      ∙ append_assoc before.acts (map shut_act so_far.closed) (shut_act i ∷ [])
       ∙ ap (λ (xs : List Act). before.acts ++ xs) (sym (map-append shut_act so_far.closed (i ∷ [])));
   rising = rising_push so_far.closed i so_far.rising so_far.below;
   below = below_push so_far.closed i so_far.below;
@@ -146,7 +160,8 @@ shuts_next i block filter before d now lt so_far (inr (one, put, places, acts)) 
   ]);
   gone = λ q j. elim (cases_eq q i) [
     | inl this ↦ (
-      ap (λ (ps : List Place). place_at ps q) places ∙ ap (λ (k : ℕ). place_at (set d.places i shut_place) k) this ∙ set_is d.places i shut_place (omega (arith, lt, so_far.count)),
+      ap (λ (ps : List Place). place_at ps q) places ∙ ap (λ (k : ℕ). place_at (set d.places i shut_place) k) this
+          ∙ set_is d.places i shut_place (omega (arith, lt, so_far.count)),
       ap now.seen.chains this ∙ put.here,
       λ at. ap (λ (k : ℕ). now.seen.claims k at) this ∙ put.claims at,
       λ at. ap (λ (k : ℕ). now.seen.opens.filters k at) this ∙ put.opens.filters at,
@@ -194,14 +209,27 @@ pub record IsGuilty (log : Log) (q : ℕ) : Type 0 where
   pub replied : IsRepliedIn log q
 
 -- and it still may once another was closed
-omitting_on : (c : PeerNo) (log : Log) (q : ℕ) → part_of (Closed c ∷ log) q ≡ part_of log q → IsOmitting log q → IsOmitting (Closed c ∷ log) q
+omitting_on : (c : PeerNo) (log : Log) (q : ℕ) → part_of (Closed c ∷ log) q ≡ part_of log q → IsOmitting log q
+    → IsOmitting (Closed c ∷ log) q
 omitting_on c log q same o = record {
   there = ap (λ (x : Part). connected x.trail) same ∙ o.there;
   block = o.block;
   hash = o.hash;
   claimed = ap (λ (x : Part). hash_claimed (claims (counted x.trail)) o.block) same ∙ o.claimed;
-  tested = record { filter = o.tested.filter; tested = tested_stays (Closed c) log o.tested.filter o.tested.tested; of_block = o.tested.of_block; this = o.tested.this };
-  omits = record { body = o.omits.body; fetched = fetched_stays (Closed c) log o.omits.body o.omits.fetched; of_block = o.omits.of_block; lacking = o.omits.lacking };
+  tested = record {
+    filter = o.tested.filter;
+    tested = tested_stays
+        (Closed c) log o.tested.filter o.tested.tested;
+    of_block = o.tested.of_block;
+    this = o.tested.this;
+  };
+  omits = record {
+    body = o.omits.body;
+    fetched = fetched_stays
+        (Closed c) log o.omits.body o.omits.fetched;
+    of_block = o.omits.of_block;
+    lacking = o.omits.lacking;
+  };
 }
 
 guilty_on : (c : PeerNo) (log : Log) (q : ℕ) → q ≢ c.0 → IsGuilty log q → IsGuilty (Closed c ∷ log) q
@@ -212,31 +240,47 @@ guilty_on c log q other g =
       omits = omitting_on c log q same g.omits;
       replied = elim g.replied [
         | inl all ↦ inl (subst (λ (x : Part). IsReplied x.trail) (sym same) all)
-        | inr first ↦ inr (omitting_on c log q same first.0, subst (λ (x : Part). IsRepliedFirst x.trail) (sym same) first.1)
+        | inr first ↦ inr (
+          omitting_on c log q same first.0,
+          subst (λ (x : Part). IsRepliedFirst x.trail)
+              (sym same) first.1,
+        )
       ];
     }
 
 -- all of them are closed, one after another
 pub record AreShut (watch : List (List ℕ)) (qs : List ℕ) (log : Log) : Type 0 where
   pub allowed : Allowed watch (map shut_act qs) log
-  pub here : (q : ℕ) → IsIn q qs → part_of (after (map shut_act qs) log) q ≡ with_item (LostItem IsShutting) (part_of log q)
+  pub here : (q : ℕ) → IsIn q qs → part_of (after (map shut_act qs) log) q ≡ with_item (LostItem IsShutting)
+      (part_of log q)
   pub others : (q : ℕ) → (IsIn q qs → ⊥) → part_of (after (map shut_act qs) log) q ≡ part_of log q
   pub dials : (tally_of (after (map shut_act qs) log)).dials ≡ (tally_of log).dials
   pub trials : KeepsTrials log (after (map shut_act qs) log)
 
-pub are_shut : (watch : List (List ℕ)) (qs : List ℕ) (log : Log) → IsStrictlyIncreasing qs → ((q : ℕ) → IsIn q qs → IsGuilty log q) → AreShut watch qs log
-are_shut watch [] log rising guilty = record { allowed = tt; here = λ q i. absurd i; others = λ q out. refl; dials = refl; trials = λ trials holds. holds }
+pub are_shut : (watch : List (List ℕ)) (qs : List ℕ) (log : Log) → IsStrictlyIncreasing qs
+    → ((q : ℕ) → IsIn q qs → IsGuilty log q) → AreShut watch qs log
+are_shut watch [] log rising guilty = record {
+  allowed = tt;
+  here = λ q i. absurd i;
+  others = λ q out. refl;
+  dials = refl;
+  trials = λ trials holds. holds;
+}
 are_shut watch (n ∷ qs) log rising guilty =
     let c : PeerNo = record { 0 = n } in
     let above = rising_above n qs rising in
-    let more = are_shut watch qs (Closed c ∷ log) (rising_tail n qs rising) (λ q i. guilty_on c log q (λ same. (let lt = above q i in absurd (omega (arith, lt, same)))) (guilty q (inr i))) in
+    let more = are_shut watch qs (Closed c ∷ log) (rising_tail n qs rising)
+    (λ q i. guilty_on c log q (λ same. (let lt = above q i in absurd (omega (arith, lt, same))))
+    (guilty q (inr i))) in
     let first = guilty n (inl refl) in
     record {
       allowed = ((first.number, inr (refl, first.omits), first.replied), more.allowed);
       here = λ q i. elim i [
         | inl this ↦ more.others q (λ j. (let lt = above q j in absurd (omega (arith, lt, this))))
-            ∙ subst (λ (k : ℕ). part_of (Closed c ∷ log) k ≡ with_item (LostItem IsShutting) (part_of log k)) (sym this) (closed_here c (part_of log n))
-        | inr later ↦ more.here q later ∙ ap (with_item (LostItem IsShutting)) (closed_others c q (part_of log q) (λ same. (let lt = above q later in absurd (omega (arith, lt, same)))))
+            ∙ subst (λ (k : ℕ). part_of (Closed c ∷ log) k ≡ with_item (LostItem IsShutting) (part_of log k))
+            (sym this) (closed_here c (part_of log n))
+        | inr later ↦ more.here q later ∙ ap (with_item (LostItem IsShutting))
+            (closed_others c q (part_of log q) (λ same. (let lt = above q later in absurd (omega (arith, lt, same)))))
       ];
       others = λ q out. more.others q (λ j. out (inr j)) ∙ closed_others c q (part_of log q) (λ same. out (inl same));
       dials = more.dials;
@@ -248,5 +292,6 @@ pub shut_lost : (t : Trail) → connected t ≡ true → IsLost (ClosedFor Omits
 shut_lost t on = record { off = refl; by = inr (none_failed t on, inl (on, inl refl)) }
 
 -- no block and no filter is brought by it
-pub shut_brings : (t : Trail) → (fetched (counted (LostItem IsShutting ∷ t)) ≡ fetched (counted t)) × (given (counted (LostItem IsShutting ∷ t)) ≡ given (counted t))
+pub shut_brings : (t : Trail) → (fetched (counted (LostItem IsShutting ∷ t)) ≡ fetched (counted t))
+    × (given (counted (LostItem IsShutting ∷ t)) ≡ given (counted t))
 shut_brings t = (refl, refl)

@@ -34,7 +34,8 @@ pub record IsClaimant (d : Desk) (block filter : Hash) (q : ℕ) : Type 0 where
 abbrev pub ShutsOne : ℕ → Hash → Hash → Desk → Desk → Type 0
 ShutsOne i block filter before now =
     ((IsClaimant before block filter i → ⊥) × (now ≡ before))
-    ⊎ (IsClaimant before block filter i × IsPut before.seen now.seen i None no_claims × (now.places ≡ slice_set before.places i shut_place)
+    ⊎ (IsClaimant before block filter i × IsPut before.seen now.seen i None no_claims
+    × (now.places ≡ slice_set before.places i shut_place)
     × (now.acts ≡ before.acts ++ shut_act i ∷ []))
 
 -- of the peers of lower numbers each such was closed, the lowest number first, and given up; nothing else changed
@@ -46,9 +47,12 @@ pub record ShutsBelow (n : ℕ) (block filter : Hash) (before now : Desk) : Type
   pub claimants : (q : ℕ) → IsIn q closed → IsClaimant before block filter q
   pub all : (q : ℕ) → q < n → IsClaimant before block filter q → IsIn q closed
   pub gone : (q : ℕ) → IsIn q closed → (place_at now.places q ≡ shut_place) × (now.seen.chains q ≡ None)
-      × ((at : Hash) → now.seen.claims q at ≡ None) × ((at : Hash) → now.seen.opens.filters q at ≡ false) × ((at : Hash) → now.seen.opens.blocks q at ≡ false)
-  pub kept : (q : ℕ) → (IsIn q closed → ⊥) → (place_at now.places q ≡ place_at before.places q) × (now.seen.chains q ≡ before.seen.chains q)
-      × ((at : Hash) → now.seen.claims q at ≡ before.seen.claims q at) × ((at : Hash) → now.seen.opens.filters q at ≡ before.seen.opens.filters q at)
+      × ((at : Hash) → now.seen.claims q at ≡ None) × ((at : Hash) → now.seen.opens.filters q at ≡ false)
+      × ((at : Hash) → now.seen.opens.blocks q at ≡ false)
+  pub kept : (q : ℕ) → (IsIn q closed → ⊥) → (place_at now.places q ≡ place_at before.places q)
+      × (now.seen.chains q ≡ before.seen.chains q)
+      × ((at : Hash) → now.seen.claims q at ≡ before.seen.claims q at)
+      × ((at : Hash) → now.seen.opens.filters q at ≡ before.seen.opens.filters q at)
       × ((at : Hash) → now.seen.opens.blocks q at ≡ before.seen.opens.blocks q at)
   pub count : length now.places ≡ length before.places
   pub watch : now.seen.watch ≡ before.seen.watch

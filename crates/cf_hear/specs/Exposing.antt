@@ -40,7 +40,8 @@ ExposesLast s p (Some (Exposed e)) = IsExposing s p e.block.0 e.filter.0
 
 -- the reply exposes p by its claim of one of these blocks, or it isn't exposed by any of them
 abbrev pub ExposesAmong : Seen → ℕ → List Hash → Reply → Type 0
-ExposesAmong s p blocks NoReply = (block : Hash) → IsIn block blocks → (filter : Hash) → IsExposedIn s p block filter → ⊥
+ExposesAmong s p blocks NoReply = (block : Hash) → IsIn block blocks → (filter : Hash) → IsExposedIn s p block filter
+    → ⊥
 ExposesAmong s p blocks (Send m) = ⊥
 ExposesAmong s p blocks (Close cause) = ⊥
 ExposesAmong s p blocks (Expose block filter) = IsExposedIn s p block.0 filter.0
