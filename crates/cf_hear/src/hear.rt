@@ -107,7 +107,7 @@ fn hear_block<H: HeaderStore>(
 
 // The reply to what a peer said of blocks: it is exposed by the first of which it claims a filter that was found to lack
 // what the block pays.
-fn exposing<H: HeaderStore>(tracker: &Tracker<H>, p: PeerNo, blocks: &[Hash32]) -> Reply
+fn reply_after<H: HeaderStore>(tracker: &Tracker<H>, p: PeerNo, blocks: &[Hash32]) -> Reply
     ensures sendable { IsReplySendable result }
     ensures exposed { ExposesAmong (seen_of tracker.now) p.0 (blocks_of blocks.now) result }
 {
@@ -147,7 +147,7 @@ fn hear_claims<H: HeaderStore>(
     };
     let blocks = range.blocks.as_slice();
     match tracker.add_claims(p, &range.parent, blocks, previous, hashes) {
-        Ok(()) => Ok(exposing(tracker, p, blocks)),
+        Ok(()) => Ok(reply_after(tracker, p, blocks)),
         Err(Refused::No(fault)) => Ok(Reply::Close(cause_of(fault))),
         Err(Refused::NoMemory) => Err(NoMemory),
     }
@@ -255,7 +255,7 @@ fn hear_filter<H: HeaderStore, M: Matcher>(
             let verdicts = matcher.run(jobs.as_slice(), tracker.watch())?;
             keep_given(tracker, p, jobs.as_slice(), verdicts.as_slice())?;
             let_go(tracker, peer, p);
-            Ok(exposing(tracker, p, &[*block]))
+            Ok(reply_after(tracker, p, &[*block]))
         }
     }
 }

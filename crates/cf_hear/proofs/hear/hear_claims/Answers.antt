@@ -40,8 +40,8 @@ returns-in-Ok-clause-heard g c = λ t holds f.
     (same_run c.args.previous.now c.as_slice.result.now range.blocks c.args.hashes.now table after c.as_slice.ensures c.in-Ok.ensures.ok) holds f.claims in
     let m = Cfheaders c.args.filter c.args.stop.now c.args.previous.now c.args.hashes.now in
     let mine = subst (λ (x : Peer). TakesClaims x after m t None) (sym took.2) takes in
-    may_expose (seen_of c.args.tracker.now) (seen_of c.add_claims.new.self) c.args.p c.take_range.new.self m t (blocks_of c.as_slice.result.now) c.exposing.result
-    (idle_request c.take_range.new.self (Said m ∷ t) mine.0 (ap is_idle_peer took.2)).1 c.exposing.ensures.exposed
+    may_expose (seen_of c.args.tracker.now) (seen_of c.add_claims.new.self) c.args.p c.take_range.new.self m t (blocks_of c.as_slice.result.now) c.reply_after.result
+    (idle_request c.take_range.new.self (Said m ∷ t) mine.0 (ap is_idle_peer took.2)).1 c.reply_after.ensures.exposed
     (claims_hears (seen_of c.args.tracker.now) (seen_of c.add_claims.new.self) c.args.p c.take_range.new.self c.args.filter c.args.stop.now c.args.previous.now c.args.hashes.now t
     mine f c.in-Ok.ensures.watch c.in-Ok.ensures.chains c.in-Ok.ensures.others (λ hash. sym (c.in-Ok.ensures.table hash)) c.in-Ok.ensures.verdicts c.in-Ok.ensures.opens
     c.in-Ok.ensures.trials)
@@ -49,9 +49,9 @@ returns-in-Ok-clause-heard g c = λ t holds f.
 pub returns-in-Ok-clause-exposes : goal.returns-in-Ok-clause-exposes
 returns-in-Ok-clause-exposes g c = λ t holds f.
     let blocks = c.as_slice.result.now in
-    exposes_claims (seen_of c.args.tracker.now) (seen_of c.add_claims.new.self) c.args.p.0 (blocks_of blocks) c.exposing.result c.in-Ok.ensures.others
+    exposes_claims (seen_of c.args.tracker.now) (seen_of c.add_claims.new.self) c.args.p.0 (blocks_of blocks) c.reply_after.result c.in-Ok.ensures.others
     (λ block out. c.in-Ok.ensures.ok block ∙ claims_out c.args.previous.now (blocks_of blocks) c.args.hashes.now (claims_of c.args.tracker.now c.args.p.0) block out)
-    c.in-Ok.ensures.trials.told c.exposing.ensures.exposed
+    c.in-Ok.ensures.trials.told c.reply_after.ensures.exposed
 
 pub returns-in_default-clause-exposes : goal.returns-in_default-clause-exposes
 returns-in_default-clause-exposes g c = λ t holds f none. none

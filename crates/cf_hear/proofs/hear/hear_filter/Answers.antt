@@ -46,7 +46,7 @@ returns-in_ok-keep_given-in-Whole-clause-heard g c = λ t holds f.
     let judged = opens_of c.keep_given.new.tracker in
     let kept = c.in_ok-keep_given-in-Whole.ensures in
     let gone = c.let_go.ensures in
-    may_expose before after c.args.p c.hear_filter.new.self m t (c.args.block.now.0 ∷ []) c.exposing.result o.2 c.exposing.ensures.exposed
+    may_expose before after c.args.p c.hear_filter.new.self m t (c.args.block.now.0 ∷ []) c.reply_after.result o.2 c.reply_after.ensures.exposed
     (filter_hears before after c.args.p c.hear_filter.new.self c.args.filter c.args.block.now c.args.bytes.now c.in-Whole.jobs t o.0 o.1 f
     (gone.watch ∙ kept.watch) (λ q. gone.chains q ∙ kept.chains q) (λ q block. gone.claims q block ∙ kept.claims q block)
     (λ hash. sym (kept.table hash ∙ gone.table hash))
@@ -69,8 +69,8 @@ returns-in_ok-keep_given-in-Whole-clause-exposes g c = λ t holds f.
     let gone = c.let_go.ensures in
     let went = go_given before.trials before.trials (trials_of c.keep_given.new.tracker) after.trials c.args.p.0 c.as_slice-in-Whole.result.now c.in-Whole.jobs c.as_slice-in-Whole.ensures
     (trials_self before.trials) kept.paid kept.told kept.aims gone.trials in
-    exposes_filter before after c.args.p.0 c.args.filter c.args.block.now c.args.bytes.now c.in-Whole.jobs t c.exposing.result o.0.clean o.1 f
-    (λ q block. gone.claims q block ∙ kept.claims q block) went.told c.exposing.ensures.exposed
+    exposes_filter before after c.args.p.0 c.args.filter c.args.block.now c.args.bytes.now c.in-Whole.jobs t c.reply_after.result o.0.clean o.1 f
+    (λ q block. gone.claims q block ∙ kept.claims q block) went.told c.reply_after.ensures.exposed
 
 pub returns-in-Nothing-clause-exposes : goal.returns-in-Nothing-clause-exposes
 returns-in-Nothing-clause-exposes g c = λ t holds f none. none
