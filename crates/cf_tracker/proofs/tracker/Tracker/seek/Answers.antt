@@ -1,4 +1,5 @@
 use Rattle.std.proofs.Common.{◌≤◌, ℕ, List, length, subst, sym, arith}
+use Rattle.cf_bytes.specs.declared.hash.Hash32.{Hash32}
 use Rattle.cf_dispute.specs.Of.{tables_of}
 use Rattle.cf_dispute.specs.Tables.{blocks_of}
 use Rattle.cf_headers.specs.Store.{own_of}
@@ -71,4 +72,5 @@ returns-clause-trying g c =
     let now = c.args.self.now in
     let own = own_of (g.H.HeaderStore.chain now.store) c.args.p in
     subst (λ (n : ℕ). IsTrying (table_in now.extracts) (tables_of now.claims) (told_in now.tests) c.args.p.0 own n (blocks_of now.disputes.blocks.items) c.in_ok-wish.wish) c.common-common.ensures
-    c.in_ok-wish.ensures.trying
+    (subst (λ (xs : List Hash32). IsTrying (table_in now.extracts) (tables_of now.claims) (told_in now.tests) c.args.p.0 own c.common-common.result (blocks_of xs) c.in_ok-wish.wish)
+    c.as_slice.ensures.value c.in_ok-wish.ensures.trying)
