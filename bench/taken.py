@@ -4,12 +4,13 @@
 Two sessions of one peer are replayed: a made chain of 2,000 blocks, whose headers come in one message of 162,003 bytes,
 and a chain of one block of 1,000,000 bytes, which pays the watched script and is fetched. Each comes whole in one
 piece, and then in pieces of 65,536 bytes. `taken.c` is compiled with `cc` and loaded with the program: it counts what
-the program asks for. Each session is also replayed with the peer gone just before the last byte of that message, so
-that all is read but that: what the whole session takes beyond is what taking the message takes. And what both take
-beyond a replay in which the peer has gone before the message is what reading it takes.
+the program asks for. A second peer says nothing, so that each session is read to its end. It is replayed whole, with the
+first peer gone before that message, whose pieces are then read over, and with the peer gone before the message's last
+byte. What the whole session takes beyond the first of these is what reading the message takes; and beyond the second,
+what is kept of it.
 
-It prints the sizes of 16,384 bytes and more, and the sums. A block may take no more than is kept of it, one entry; and
-headers no more than their nodes, 2,000 of them, in lists that grow by doubling.
+It prints both sums, and the sizes of 16,384 bytes and more by which a message is read. Reading may take the room in which a frame waits until it is
+whole, once, and beyond that no more than is kept: of a block one entry, of headers their nodes, in lists that grow.
 """
 import collections
 import os
@@ -52,21 +53,23 @@ def lines_of(message, piece):
 
 
 def taken(program, folder, lines):
-    """The sizes that a replay of these lines asks for, and their sum; and what it writes."""
+    """The sizes that a replay of these lines asks for, and their sum, without the session's text."""
     path, counted = os.path.join(folder, "s"), os.path.join(folder, "taken")
     with open(path, "w") as file:
         file.writelines(line + "\n" for line in lines)
     env = dict(os.environ, LD_PRELOAD=os.path.join(folder, "taken.so"), LEAST=str(LEAST), TAKEN=counted)
     words = [program, "replay", os.path.join(folder, "w"), path]
-    text = subprocess.run(words, env=env, stdout=subprocess.PIPE, stderr=subprocess.DEVNULL).stdout.decode()
+    subprocess.run(words, env=env, stdout=subprocess.DEVNULL, stderr=subprocess.DEVNULL)
     with open(counted) as file:
         *sizes, total = map(int, file)
-    return collections.Counter(sizes), total, text
+    # The session's own text, which differs by a few bytes.
+    sizes.remove(os.path.getsize(path))
+    return collections.Counter(sizes), total - os.path.getsize(path)
 
 
-def show(name, more, less):
-    sizes = ", ".join("%d times %d" % (n, size) for size, n in sorted((more[0] - less[0]).items())) or "none"
-    print("%-44s %9d bytes in all; of %d and more: %s" % (name, more[1] - less[1], LEAST, sizes))
+def show(name, whole, over, cut):
+    sizes = ", ".join("%d times %d" % (n, size) for size, n in sorted((whole[0] - over[0]).items())) or "none"
+    print("%-27s reading %9d bytes, kept %9d; read by: %s" % (name, whole[1] - over[1], whole[1] - cut[1], sizes))
 
 
 def main():
@@ -82,13 +85,10 @@ def main():
                 before = [line for message in told[:place] for line in lines_of(message, len(message))]
                 measured = lines_of(told[place], piece)
                 rest = [line for message in told[place + 1:] for line in lines_of(message, len(message))]
-                whole = ["dial a"] + before + measured + rest
-                cut = whole[:1 + len(before)] + measured[:-1] + [measured[-1][:-2], "gone 1", "got 1 00"] + rest
-                gone = whole[:1 + len(before)] + ["gone 1"] + measured + rest
-                runs = [taken(program, folder, lines) for lines in (whole, cut, gone)]
-                show("%s in %s: reading it" % (name, way), runs[0], runs[2])
-                show("%s in %s: beyond its bytes" % (name, way), runs[0], runs[1])
-            print("it ends with: %s" % runs[0][2].splitlines()[-1:])
+                whole = ["dial a", "dial b"] + before + measured + rest
+                cut = whole[:2 + len(before)] + measured[:-1] + [measured[-1][:-2], "gone 1", "got 1 00"] + rest
+                gone = whole[:2 + len(before)] + ["gone 1"] + measured + rest
+                show("%s in %s" % (name, way), *(taken(program, folder, lines) for lines in (whole, gone, cut)))
 
 
 if __name__ == "__main__":

@@ -51,10 +51,14 @@ fn outcome_of<H: HeaderStore + Drop>(
         return None;
     }
     let session = read_session(alloc, session.as_bytes()).ok()?;
+    let names = session.names.as_slice();
+    if names.len() > 8 {
+        return None;
+    }
     sync_over(
         alloc,
         &mut wires,
-        &session.names,
+        names,
         watch,
         store,
         Plain::new(alloc),

@@ -8,6 +8,7 @@ use Rattle.cf_frame.specs.declared.frame.FrameFault.{FrameFault}
 use Rattle.cf_frame.specs.Reading.{front_of}
 use Rattle.cf_grow.specs.declared.ending.Ending.{Ending}
 use Rattle.cf_grow.specs.declared.ending.Ending.TheVariants.{Served, Shrunk}
+use Rattle.cf_grow.specs.declared.mark.Shrunk.{Shrunk as Hashes}
 use Rattle.cf_grow.specs.Serving.{Answers, AnswersEach, AllWritten, SomeWritten, WrittenBefore, Writes, Comes, Answered, Fails, AnswersFrame, FindsFrame, Moves, Stops, Midway, IsServedGrowing, EndsInside, EndsOf, CountsOf, CountsSends}
 use Rattle.cf_msg.specs.declared.msg.Msg.{Msg}
 use Rattle.cf_msg.specs.declared.msg.Malformed.{Malformed}
@@ -104,15 +105,16 @@ some_on now nonce mark mid ms ns text o p q each whole w = record {
   begins = beginning_on o p q text w.text whole w.begins;
 }
 
-before_on : (now : ℤ) (nonce : ℕ) (mark mid : Told) (ms ns : List Msg) (text : List ℕ) (o p q : Option (List ℕ)) → AnswersEach now nonce mark ms mid text → Whole o p text
-    → WrittenBefore now nonce mid ns p q → WrittenBefore now nonce mark (ms ++ ns) o q
-before_on now nonce mark mid ms ns text o p q each whole w = record {
+before_on : (s : Hashes) (now : ℤ) (nonce : ℕ) (mark mid : Told) (ms ns : List Msg) (text : List ℕ) (o p q : Option (List ℕ)) → AnswersEach now nonce mark ms mid text → Whole o p text
+    → WrittenBefore s now nonce mid ns p q → WrittenBefore s now nonce mark (ms ++ ns) o q
+before_on s now nonce mark mid ms ns text o p q each whole w = record {
   answered = ms ++ w.answered;
   refused = w.refused;
   others = w.others;
   split = ap (λ (l : List Msg). ms ++ l) w.split ∙ sym (append_assoc ms w.answered (w.refused ∷ w.others));
   last = w.last;
   met = w.met;
+  shrunk = w.shrunk;
   text = text ++ w.text;
   each = each_joined now nonce mark mid w.last ms w.answered text w.text each w.each;
   whole = whole_on o p q text w.text whole w.whole;
@@ -127,7 +129,7 @@ writes_on (Served ReadFault) now nonce mark mid ms ns text o p q each whole w = 
 writes_on (Served WriteFault) now nonce mark mid ms ns text o p q each whole w = some_on now nonce mark mid ms ns text o p q each whole w
 writes_on (Served Tired) now nonce mark mid ms ns text o p q each whole w = all_on now nonce mark mid ms ns text o p q each whole w
 writes_on (Served NoMemory) now nonce mark mid ms ns text o p q each whole w = some_on now nonce mark mid ms ns text o p q each whole w
-writes_on (Shrunk s) now nonce mark mid ms ns text o p q each whole w = before_on now nonce mark mid ms ns text o p q each whole w
+writes_on (Shrunk s) now nonce mark mid ms ns text o p q each whole w = before_on s now nonce mark mid ms ns text o p q each whole w
 
 -- an end after a move, where more bytes came
 pub stops_on : (now : ℤ) (nonce : ℕ) (ending : Ending) (k l : ℕ) (u v piece : List ℕ) (a b : Told) (o p q : Option (List ℕ))
@@ -235,9 +237,10 @@ stops_frame now nonce n w rest f mark next o p (Shrunk s) front answers =
         split = ap (λ (d : Course). d.messages) c;
         last = mark;
         met = answers.1;
+        shrunk = answers.2;
         text = [];
         each = (refl, refl);
-        whole = subst (λ (x : Option (List ℕ)). Whole o x []) (sym answers.2) (whole_none o);
+        whole = subst (λ (x : Option (List ℕ)). Whole o x []) (sym answers.3) (whole_none o);
       };
     }
 

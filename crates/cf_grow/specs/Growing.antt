@@ -5,8 +5,8 @@ use Rattle.cf_block.specs.declared.tx.Block.{Block}
 use Rattle.cf_block.specs.Header.{block_hash_of}
 use Rattle.cf_chain.specs.Good.{IsGoodChain}
 use Rattle.cf_chain.specs.Heights.{all_blocks}
-use Rattle.cf_chain.specs.Grow.{GrowAnswer, Mark as Told, NotMet, Told as IsTold, mark_at, announcement, asked_for, grow_answer}
-use Rattle.cf_grow.specs.declared.held.Held.{Held}
+use Rattle.cf_chain.specs.Grow.{GrowAnswer, Mark as Told, NotMet, Told as IsTold, mark_at, announcement, asked_for, grown, grow_answer}
+use Rattle.cf_grow.specs.declared.grown.Taken.{Taken}
 use Rattle.cf_grow.specs.declared.mark.Mark.{Mark}
 use Rattle.cf_grow.specs.declared.mark.TakeFail.{TakeFail}
 use Rattle.cf_grow.specs.declared.mark.TakeFail.TheVariants.{Shrunk, NoMemory}
@@ -70,6 +70,16 @@ abbrev pub Refuses : {X : Type 0} → List Block → Mark → Result X TakeFail 
 Refuses blocks mark (Ok x) = Unit {0}
 Refuses blocks mark (Err e) = IsRefusal blocks mark e
 
+-- it is refused by some good chain
+pub record IsRefused (mark : Mark) (e : TakeFail) : Type 0 where
+  pub chain : List Block
+  pub good : IsGoodChain chain
+  pub refusal : IsRefusal chain mark e
+
+abbrev pub RefusesBy : {X : Type 0} → Mark → Result X TakeFail → Type 0
+RefusesBy mark (Ok x) = Unit {0}
+RefusesBy mark (Err e) = IsRefused mark e
+
 -- a chain that isn't the one that was told is found only once a version has come
 abbrev pub IsAfterVersion : Mark → TakeFail → Type 0
 IsAfterVersion mark (Shrunk s) = mark.served.seen ≡ true
@@ -83,14 +93,6 @@ ShrinksAfter mark (Err e) = IsAfterVersion mark e
 abbrev pub HasMomentOf : Mark → Mark → Type 0
 HasMomentOf old new = (new.served.time ≡ old.served.time) × (new.served.nonce ≡ old.served.nonce)
 
--- one message was answered by a good chain on which the mark stands
-pub record IsStep (mark now : Mark) (m : Msg) (parts : List Held) : Type 0 where
-  pub chain : List Block
-  pub good : IsGoodChain chain
-  pub has : HasMark chain mark
-  pub answer : texts_in parts ≡ text_of (answer_at mark chain m).replies
-  pub next : mark_of now ≡ (answer_at mark chain m).mark
-
 -- a block may stand on a chain
 abbrev pub fits_on : List Block → Block → Bool
 fits_on blocks b = is_none (cause_on blocks b)
@@ -101,3 +103,12 @@ height_joined before now = if nat_lt before now then Some now else None
 
 abbrev pub joined_in : List Block → List Block → Option ℕ
 joined_in old new = height_joined (length old) (length new)
+
+-- one message was answered by a good chain on which the mark stands, and of a block that has joined it the height is told
+pub record IsStep (mark now : Mark) (m : Msg) (taken : Taken) : Type 0 where
+  pub chain : List Block
+  pub good : IsGoodChain chain
+  pub has : HasMark chain mark
+  pub answer : texts_in taken.parts ≡ text_of (answer_at mark chain m).replies
+  pub next : mark_of now ≡ (answer_at mark chain m).mark
+  pub joined : taken.joined ≡ joined_in chain (grown fits_on chain mark.served.seen m)

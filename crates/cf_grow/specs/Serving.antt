@@ -4,14 +4,15 @@ use Rattle.cf_bytes.specs.Outside.{HasRisen}
 use Rattle.cf_conn.specs.Source.{with_front}
 use Rattle.cf_block.specs.declared.tx.Block.{Block}
 use Rattle.cf_chain.specs.Good.{IsGoodChain}
-use Rattle.cf_chain.specs.Grow.{Mark as Told, NotMet, grow_answer, is_met}
+use Rattle.cf_chain.specs.Grow.{Mark as Told, NotMet, Told as IsTold, grow_answer, is_met}
 use Rattle.cf_frame.specs.declared.frame.Frame.{Frame}
 use Rattle.cf_frame.specs.Reading.{front_of}
 use Rattle.cf_grow.specs.declared.ending.Ending.{Ending}
 use Rattle.cf_grow.specs.declared.ending.Ending.TheVariants.{Served, Shrunk}
+use Rattle.cf_grow.specs.declared.mark.Shrunk.{Shrunk as Hashes}
 use Rattle.cf_grow.specs.declared.mark.TakeFail.{TakeFail}
 use Rattle.cf_grow.specs.declared.mark.TakeFail.TheVariants.{Shrunk as NotThere, NoMemory as OutOfMemory}
-use Rattle.cf_grow.specs.Growing.{StandsOn}
+use Rattle.cf_grow.specs.Growing.{StandsOn, hash_in}
 use Rattle.cf_msg.specs.declared.msg.Msg.{Msg}
 use Rattle.cf_msg.specs.declared.msg.Malformed.{Malformed}
 use Rattle.cf_server.specs.declared.outcome.Outcome.TheVariants.{BadFrame, Malformed as MalformedFrame, WriteFault, NoMemory}
@@ -65,14 +66,25 @@ pub record SomeWritten (now : ℤ) (nonce : ℕ) (mark : Told) (messages : List 
   pub each : AnswersEach now nonce mark answered last text
   pub begins : Beginning before after text
 
--- all before one of them were answered, and that one finds a mark which its `version` has set
-pub record WrittenBefore (now : ℤ) (nonce : ℕ) (mark : Told) (messages : List Msg) (before after : Option (List ℕ)) : Type 0 where
+-- some good chain has another hash at the height that was told, or is lower: these are the hash told and the one there
+pub record IsShrunk (mark : Told) (hashes : Hashes) : Type 0 where
+  pub chain : List Block
+  pub good : IsGoodChain chain
+  pub height : ℕ
+  pub told : mark ≡ IsTold height hashes.seen.0
+  pub found : hashes.found ≡ hash_in chain height
+  pub other : hashes.found ≡ Some hashes.seen → ⊥
+
+-- all before one of them were answered, and that one finds a mark that a `version` has set, and a chain that hasn't it
+pub record WrittenBefore (hashes : Hashes) (now : ℤ) (nonce : ℕ) (mark : Told) (messages : List Msg)
+    (before after : Option (List ℕ)) : Type 0 where
   pub answered : List Msg
   pub refused : Msg
   pub others : List Msg
   pub split : messages ≡ answered ++ refused ∷ others
   pub last : Told
   pub met : is_met last ≡ true
+  pub shrunk : IsShrunk last hashes
   pub text : List ℕ
   pub each : AnswersEach now nonce mark answered last text
   pub whole : Whole before after text
@@ -82,7 +94,7 @@ abbrev pub Writes : Ending → ℤ → ℕ → Told → List Msg → Option (Lis
 Writes (Served WriteFault) now nonce mark messages before after = SomeWritten now nonce mark messages before after
 Writes (Served NoMemory) now nonce mark messages before after = SomeWritten now nonce mark messages before after
 Writes (Served outcome) now nonce mark messages before after = AllWritten now nonce mark messages before after
-Writes (Shrunk s) now nonce mark messages before after = WrittenBefore now nonce mark messages before after
+Writes (Shrunk s) now nonce mark messages before after = WrittenBefore s now nonce mark messages before after
 
 -- an outcome comes exactly there
 abbrev pub Comes : Ending → Stop → Type 0
@@ -139,7 +151,8 @@ AnswersFrame (Err (Served (MalformedFrame fault))) now nonce read old new before
 AnswersFrame (Err (Served WriteFault)) now nonce read old new before after = Fails now nonce read old before after
 AnswersFrame (Err (Served NoMemory)) now nonce read old new before after = Fails now nonce read old before after
 AnswersFrame (Err (Served outcome)) now nonce read old new before after = ⊥
-AnswersFrame (Err (Shrunk s)) now nonce read old new before after = ((message : Msg) × (read ≡ Ok message)) × (is_met old ≡ true) × (after ≡ before)
+AnswersFrame (Err (Shrunk s)) now nonce read old new before after =
+    ((message : Msg) × (read ≡ Ok message)) × (is_met old ≡ true) × IsShrunk old s × (after ≡ before)
 
 -- the next frame, if one waits
 abbrev pub FindsFrame : Result (Option Frame) Ending → List ℕ → List ℕ → Type 0

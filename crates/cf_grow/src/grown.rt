@@ -3,7 +3,7 @@ ghost use Rattle.std.specs.Prelude.{◌≡◌, IfOk, OnOk, OnErr, true};
 ghost use Rattle.cf_block.specs.Tx.{IsBlock};
 ghost use Rattle.cf_chain.specs.Good.{IsGoodChain};
 ghost use Rattle.cf_chain.specs.Grow.{grown};
-ghost use Rattle.cf_grow.specs.Growing.{HasMark, HasMomentOf, IsStep, Refuses, ShrinksAfter, answer_at, fits_on, height_joined, joined_in, mark_of};
+ghost use Rattle.cf_grow.specs.Growing.{HasMark, HasMomentOf, IsStep, Refuses, RefusesBy, ShrinksAfter, answer_at, fits_on, height_joined, joined_in, mark_of};
 ghost use Rattle.cf_grow.specs.Held.{texts_in};
 ghost use Rattle.cf_msg.specs.declared.msg.Msg.TheVariants.{Block as BlockMessage};
 ghost use Rattle.cf_msg.specs.Message.{HasSpelling};
@@ -146,8 +146,9 @@ fn height_above(before: u32, now: u32) -> Option<u32>
     if before < now { Some(now) } else { None }
 }
 
-/// One step under the lock: whatever others have put on the chain, the answer is that of a good chain on which the mark stands. The lock is
-/// let go with the return, and what is answered needs it no more.
+/// One step under the lock: whatever others have put on the chain, the answer is that of a good chain on which the mark stands, and the height
+/// is told of a block that joins that chain. It is refused only by a good chain that hasn't the mark's hash at its height, with both hashes, and
+/// where no memory is found. The lock is let go with the return, and what is answered needs it no more.
 pub fn take_locked<R: Wait>(
     rt: &R,
     alloc: Global,
@@ -156,8 +157,9 @@ pub fn take_locked<R: Wait>(
     msg: Msg,
 ) -> Result<Taken, TakeFail>
     requires { HasSpelling msg }
-    ensures step { IfOk result (λ taken. IsStep mark.old mark.new msg taken.parts) }
+    ensures step { IfOk result (λ taken. IsStep mark.old mark.new msg taken) }
     ensures moment { HasMomentOf mark.old mark.new }
+    ensures refused { RefusesBy mark.old result }
     ensures met { ShrinksAfter mark.old result }
     ensures kept { OnErr result (mark.new ≡ mark.old) }
 {

@@ -154,8 +154,8 @@ fn take_piece<R: Wait, J: Joins, C: Duplex>(
 }
 
 /// Serves a connection from a chain that grows: message by message the answer is that of a good chain on which the mark stands that the message
-/// before has left. It ends as serving from a chain that stands still does, or where the chain is another than the one that was told. Nothing is
-/// written while the lock is held. Each block that joins is told of, once the lock is let go.
+/// before has left. It ends as from a chain that stands still, or where the chain is another than was told, with the hash told and the one there.
+/// Nothing is written while the lock is held. Each block that joins is told of, once the lock is let go.
 pub fn serve_grown<R: Wait, J: Joins, C: Duplex>(
     rt: &R,
     alloc: Global,

@@ -16,7 +16,7 @@ returns-in_err-taken-clause-answers g c =
     subst (λ (r : Result (Unit {0}) Ending). AnswersFrame r mark.served.time mark.served.nonce (message_in c.args.frame.now) (mark_of mark) (mark_of c.take_locked.new.mark) before before)
     (sym (out.1 ∙ ap Err out.2))
     (refused_frame c.in_err-taken.field-0.0 mark.served.time mark.served.nonce (message_in c.args.frame.now) c.in-Ok.msg mark (mark_of c.take_locked.new.mark) before
-    c.in-Ok.ensures.exact c.in_err-taken.ensures.met)
+    c.in-Ok.ensures.exact c.in_err-taken.ensures.met c.in_err-taken.ensures.refused)
 
 pub returns-in_err-send_parts-clause-answers : goal.returns-in_err-send_parts-clause-answers
 returns-in_err-send_parts-clause-answers g c =
@@ -29,7 +29,7 @@ returns-in_err-send_parts-clause-answers g c =
     subst (λ (r : Result (Unit {0}) Ending). AnswersFrame r mark.served.time mark.served.nonce (message_in c.args.frame.now) (mark_of mark) (mark_of next) before after)
     (sym (out.1 ∙ ap Err out.2))
     (frame_failed c.in_err-send_parts.field-0.0 mark.served.time mark.served.nonce (message_in c.args.frame.now) c.in-Ok.msg (mark_of mark) (mark_of next) (texts_in parts) before after
-    c.in-Ok.ensures.exact (step_answers mark next c.in-Ok.msg c.in_ok-taken.taken.parts parts c.as_slice.ensures c.in_ok-taken.ensures.step) c.in_err-send_parts.ensures.sends)
+    c.in-Ok.ensures.exact (step_answers mark next c.in-Ok.msg c.in_ok-taken.taken parts c.as_slice.ensures c.in_ok-taken.ensures.step) c.in_err-send_parts.ensures.sends)
 
 pub returns-clause-answers : goal.returns-clause-answers
 returns-clause-answers g c =
@@ -39,4 +39,4 @@ returns-clause-answers g c =
     let before = g.C.Sink.written c.args.conn.now in
     let after = g.C.Sink.written c.send_parts.new.conn in
     frame_answered mark.served.time mark.served.nonce (message_in c.args.frame.now) c.in-Ok.msg (mark_of mark) (mark_of next) (texts_in parts) before after
-    c.in-Ok.ensures.exact (step_answers mark next c.in-Ok.msg c.in_ok-taken.taken.parts parts c.as_slice.ensures c.in_ok-taken.ensures.step) c.in_ok-send_parts.ensures.sends
+    c.in-Ok.ensures.exact (step_answers mark next c.in-Ok.msg c.in_ok-taken.taken parts c.as_slice.ensures c.in_ok-taken.ensures.step) c.in_ok-send_parts.ensures.sends
