@@ -63,7 +63,7 @@ STATUSES = range(14)
 NUMBERS = [b"\0", b"\xff", b"\xfd", b"\xfe", b"\xfd\xff\xff", b"\xfe\0\0\0\2", b"\x80"]
 HASH, NUMBER = "[0-9a-f]{64}", "[0-9]+"
 CAUSES = ("BadFrame|Malformed|NoFilters|Unlinked|InvalidHeader|TooHigh|WrongCount|WrongPrevious|OtherFilter|BadBlock"
-          "|SendFailed|Overdue")
+          "|SendFailed|Overdue|Omits")
 TRACE = "> [1-8] (version|verack|pong|getheaders|getcfheaders|getcfilters|getdata)|x [1-8] (%s)" % CAUSES
 HISTORY = "%s %s \\+%s -%s %s" % (NUMBER, HASH, NUMBER, NUMBER, NUMBER)
 SYNCED = "synced %s %s" % (NUMBER, HASH)

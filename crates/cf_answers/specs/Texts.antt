@@ -7,7 +7,7 @@ use Rattle.cf_client.specs.declared.outcome.End.TheVariants.{Synced, NoPeers, Ti
 use Rattle.cf_client.specs.declared.trace.TraceLine.{TraceLine}
 use Rattle.cf_client.specs.declared.trace.TraceLine.TheVariants.{Sent, Closed}
 use Rattle.cf_peer.specs.declared.peer.Cause.{Cause}
-use Rattle.cf_peer.specs.declared.peer.Cause.TheVariants.{BadFrame, Malformed, NoFilters, Unlinked, InvalidHeader, TooHigh, WrongCount, WrongPrevious, OtherFilter, BadBlock, SendFailed, Overdue}
+use Rattle.cf_peer.specs.declared.peer.Cause.TheVariants.{BadFrame, Malformed, NoFilters, Unlinked, InvalidHeader, TooHigh, WrongCount, WrongPrevious, OtherFilter, BadBlock, SendFailed, Overdue, Omits}
 use Rattle.cf_scan.specs.declared.history.Entry.{Entry}
 use Rattle.cf_scan.specs.HistoryText.{history_text}
 
@@ -24,6 +24,7 @@ cause_name OtherFilter = codes "OtherFilter"
 cause_name BadBlock = codes "BadBlock"
 cause_name SendFailed = codes "SendFailed"
 cause_name Overdue = codes "Overdue"
+cause_name Omits = codes "Omits"
 
 -- a command without the NULs behind it
 abbrev pub command_name : List ℕ → List ℕ

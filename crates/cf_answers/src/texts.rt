@@ -25,6 +25,7 @@ fn cause_name(cause: Cause) -> &'static [u8]
         Cause::BadBlock => b"BadBlock",
         Cause::SendFailed => b"SendFailed",
         Cause::Overdue => b"Overdue",
+        Cause::Omits => b"Omits",
     }
 }
 

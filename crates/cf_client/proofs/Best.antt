@@ -1,10 +1,10 @@
 -- The best chain of what was seen is that of the log; and what a tracker wishes of a peer is called for by the log.
-use Rattle.std.proofs.Common.{◌≡◌, inl, inr, ℕ, ◌+◌, ◌<◌, List, [], length, get_or, Option, Some, None, Bool, true, false, if◌then◌else◌, refl, sym, ◌∙◌, ap, subst, arith}
+use Rattle.std.proofs.Common.{◌≡◌, ◌⊎◌, inl, inr, ℕ, ◌+◌, ◌<◌, List, [], length, get_or, Option, Some, None, Bool, true, false, if◌then◌else◌, refl, sym, ◌∙◌, ap, subst, arith}
 use Rattle.std.specs.Prelude.{unwrap_or}
-use Rattle.std.proofs.lemmas.Bool.{both_ways}
+use Rattle.std.proofs.lemmas.Bool.{both_ways, cases_Bool}
 use Rattle.std.proofs.lemmas.Option.{none-some, same_Some}
 use Rattle.cf_bytes.specs.declared.peer.PeerNo.{PeerNo}
-use Rattle.cf_headers.specs.Chain.{Chain}
+use Rattle.cf_headers.specs.Chain.{Hash, Chain}
 use Rattle.cf_headers.specs.Heights.{common_of}
 use Rattle.cf_headers.specs.Store.{rank, IsBest as IsBestOf}
 use Rattle.cf_msg.specs.declared.msg.Msg.{Msg}
@@ -12,13 +12,15 @@ use Rattle.cf_peer.specs.declared.peer.Peer.{Peer}
 use Rattle.cf_wires.specs.Log.{Log}
 use Rattle.cf_peer.specs.Trail.{Trail, Part, part_of, trail, connected, own, heard}
 use Rattle.cf_peer.specs.Asking.{SameUse}
-use Rattle.cf_sync.specs.Fetching.{IsConnected, IsBest, counted_part}
+use Rattle.cf_sync.specs.Fetching.{AreShorterBefore, IsConnected, IsBest, counted_part}
 use Rattle.cf_sync.specs.Due.{IsInTurn, Puts}
 use Rattle.cf_sync.proofs.Counted.{same_use}
 use Rattle.cf_hear.specs.Seen.{Seen}
 use Rattle.cf_hear.specs.Tracks.{Tracks, chain_kept}
 use Rattle.cf_seek.specs.declared.spans.Wish.{Wish}
 use Rattle.cf_seek.specs.Spans.{IsWish, GoesFar}
+use Rattle.cf_seek.specs.Testing.{AreDisputesIn, IsTrying}
+use Rattle.cf_sync.proofs.KeptTests.{listed_by}
 use Rattle.cf_seek.specs.Tracking.{IsBestChain}
 use Rattle.cf_place.specs.declared.place.Place.{Place}
 use Rattle.cf_place.specs.declared.place.Place.TheVariants.{Here, Lost}
@@ -77,6 +79,39 @@ best_is places log s chain stand tracks (inr none) = record {
   shown = inr (λ p. off_by (connected (trail log p)) (own (trail log p)) (sym (tracks.kept p) ∙ none.0 p), none.1);
 }
 
+-- and what is the best of the log is the best of what is kept
+kept_rank : (places : List Place) (log : Log) (s : Seen) (p : ℕ) → PlacesStand places log → Tracks s log → IsConnected log p → rank (s.chains p) ≡ length (own (counted_part log p)) + 1
+kept_rank places log s p stand tracks on =
+    let mine : rank (s.chains p) ≡ length (own (trail log p)) + 1 = ap rank (tracks.kept p ∙ on_kept (trail log p) on) in
+    let same : length (own (counted_part log p)) ≡ length (own (trail log p)) = ap (λ (c : Chain). length c) (use_of places log p stand on).chain in
+    omega (arith, mine, same)
+
+off_rank : (log : Log) (s : Seen) (p : ℕ) → Tracks s log → connected (trail log p) ≡ false → rank (s.chains p) ≡ 0
+off_rank log s p tracks off = ap rank (tracks.kept p ∙ ap (λ b. if b then Some (own (trail log p)) else None) off)
+
+pub best_back : (places : List Place) (log : Log) (s : Seen) (chain : Chain) → PlacesStand places log → Tracks s log → IsBest log chain → IsBestChain s.chains chain
+best_back places log s chain stand tracks best = by best.shown where
+  by : ((p : ℕ) × (IsConnected log p × (own (counted_part log p) ≡ chain) × AreShorterBefore log chain p)) ⊎ (((p : ℕ) → connected (trail log p) ≡ false) × (chain ≡ []))
+      → IsBestChain s.chains chain
+  by (inl w) =
+      let high : rank (s.chains w.0) ≡ length chain + 1 = kept_rank places log s w.0 stand tracks w.1.0 ∙ ap (λ (c : Chain). length c + 1) w.1.1 in
+      inl (
+        record { 0 = w.0 },
+        (
+          omega (arith, high),
+          λ q. elim (cases_Bool (connected (trail log q))) [
+            | inl on ↦ (let mine = kept_rank places log s q stand tracks on in let most = best.longest q on in omega (arith, high, mine, most))
+            | inr off ↦ (let none = off_rank log s q tracks off in omega (arith, high, none))
+          ],
+          λ q lt. elim (cases_Bool (connected (trail log q))) [
+            | inl on ↦ (let mine = kept_rank places log s q stand tracks on in let less = w.1.2 q lt on in omega (arith, high, mine, less))
+            | inr off ↦ (let none = off_rank log s q tracks off in omega (arith, high, none))
+          ],
+        ),
+        tracks.kept w.0 ∙ on_kept (trail log w.0) w.1.0 ∙ ap (λ (c : Chain). Some c) (sym (use_of places log w.0 stand w.1.0).chain ∙ w.1.1),
+      )
+  by (inr none) = inr ((λ q. tracks.kept q ∙ ap (λ b. if b then Some (own (trail log q)) else None) (none.0 q)), none.1)
+
 -- ---- what is called for
 
 -- a question goes as far as it may within what a peer's chain shares with the best one
@@ -86,14 +121,20 @@ pub record Furthest (s : Seen) (i common : ℕ) (wish : Wish) : Type 0 where
   pub shared : common ≡ common_of (chain_at s i) (chain_at s best.0)
   pub far : GoesFar s.table s.claims s.verdicts s.opens i (chain_at s i) common wish
 
+-- what is to be tested is asked for in its turn, of the disputed blocks that are listed
+pub record Tries (s : Seen) (i common : ℕ) (wish : Wish) : Type 0 where
+  pub listed : List Hash
+  pub all : AreDisputesIn s.table s.claims listed
+  pub tries : IsTrying s.table s.claims s.trials.told i (chain_at s i) common listed wish
+
 some_chain : (o : Option Chain) → 0 < rank o → o ≡ Some (unwrap_or o [])
 some_chain None low = absurd (omega (arith, low))
 some_chain (Some own) low = refl
 
 -- what a tracker wishes of a peer that was heard out it is its turn to be asked
 pub in_turn : (places : List Place) (log : Log) (s : Seen) (i common : ℕ) (wish : Wish) (m : Msg) → PlacesStand places log → Tracks s log → chain_at s i ≡ own (trail log i) → heard (trail log i) ≡ true
-    → Furthest s i common wish → IsWish s.table s.claims s.verdicts s.opens i (chain_at s i) common wish → Puts wish m → IsInTurn s.watch log i m
-in_turn places log s i common wish m stand tracks mine ended far wished puts =
+    → Furthest s i common wish → Tries s i common wish → IsWish s.table s.claims s.verdicts s.opens i (chain_at s i) common wish → Puts wish m → IsInTurn s.watch log i m
+in_turn places log s i common wish m stand tracks mine ended far tries wished puts =
     let chain : Chain = chain_at s far.best.0 in
     let low : 0 < rank (s.chains far.best.0) = (let some = far.is.0 in omega (arith, some)) in
     record {
@@ -112,4 +153,10 @@ in_turn places log s i common wish m stand tracks mine ended far wished puts =
       wished = subst (λ (c : Chain). IsWish s.table s.claims s.verdicts s.opens i c (common_of c chain) wish) mine (subst (λ (n : ℕ). IsWish s.table s.claims s.verdicts s.opens i (chain_at s i) n wish) far.shared wished);
       far = subst (λ (c : Chain). GoesFar s.table s.claims s.verdicts s.opens i c (common_of c chain) wish) mine (subst (λ (n : ℕ). GoesFar s.table s.claims s.verdicts s.opens i (chain_at s i) n wish) far.shared far.far);
       puts = puts;
+      told = s.trials.told;
+      tested = tracks.trials.told;
+      listed = tries.listed;
+      disputes = listed_by s.watch log s.table s.claims tries.listed tracks.fetched tracks.claimed tries.all;
+      tries = subst (λ (c : Chain). IsTrying s.table s.claims s.trials.told i c (common_of c chain) tries.listed wish) mine
+          (subst (λ (n : ℕ). IsTrying s.table s.claims s.trials.told i (chain_at s i) n tries.listed wish) far.shared tries.tries);
     }

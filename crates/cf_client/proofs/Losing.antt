@@ -45,7 +45,7 @@ pub goes_now : (t : Trail) → connected t ≡ true → IsLost Gone (Lost Went �
 goes_now t on = record { off = refl; by = (none_failed t on, inl (on, tt)) }
 
 pub shut_now : (t : Trail) (cause : Cause) → connected t ≡ true → Deserves t cause → IsLost (ClosedFor cause) (Lost Shutting ∷ t)
-shut_now t cause on deserves = record { off = refl; by = inr (none_failed t on, inl (on, deserves)) }
+shut_now t cause on deserves = record { off = refl; by = inr (none_failed t on, inl (on, inr deserves)) }
 
 -- one is closed to which a send has failed
 pub cut_now : (t : Trail) → failed t ≡ true → IsLost (ClosedFor SendFailed) (Lost Shutting ∷ t)

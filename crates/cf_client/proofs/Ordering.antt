@@ -20,6 +20,7 @@ use Rattle.cf_peer.specs.declared.peer.Cause.TheVariants.{Overdue}
 use Rattle.cf_peer.specs.Asking.{is_request}
 use Rattle.cf_peer.specs.Hearing.{IsReply}
 use Rattle.cf_place.specs.Places.{AsksAbove, AsksFor}
+use Rattle.cf_client.specs.Shutting.{shut_act}
 use Rattle.cf_client.specs.Order.{number_of, is_asking, closed_in, AreTold, AreAsked, AreInOrder, AsksOne, AddsQuestions, ClosesOne, ClosesLate}
 
 -- the questions for headers above a chain and for a block are questions
@@ -32,7 +33,7 @@ block_asked hash (GetData entries) asks = refl
 block_asked hash m asks = absurd asks
 
 -- numbers that rise, and one above them
-rising_push : (ns : List ℕ) (n : ℕ) → IsStrictlyIncreasing ns → All (λ k. k < n) ns
+pub rising_push : (ns : List ℕ) (n : ℕ) → IsStrictlyIncreasing ns → All (λ k. k < n) ns
     → IsStrictlyIncreasing (ns ++ n ∷ [])
 rising_push ns n rising below k lt = elim (cases_eq (k + 1) (length ns)) [
   | inl last ↦
@@ -48,17 +49,17 @@ rising_push ns n rising below k lt = elim (cases_eq (k + 1) (length ns)) [
       omega (arith, next, here, rising k within)
 ]
 
-rising_none : IsStrictlyIncreasing []
+pub rising_none : IsStrictlyIncreasing []
 rising_none k lt = absurd (omega (arith, lt))
 
 rising_one : (n : ℕ) → IsStrictlyIncreasing (n ∷ [])
 rising_one n k lt = absurd (omega (arith, lt))
 
-all_higher : (ns : List ℕ) (m n : ℕ) → m ≤ n → All (λ k. k < m) ns → All (λ k. k < n) ns
+pub all_higher : (ns : List ℕ) (m n : ℕ) → m ≤ n → All (λ k. k < m) ns → All (λ k. k < n) ns
 all_higher ns m n le below k d lt = omega (arith, le, below k d lt)
 
 -- numbers below one, and then itself
-below_push : (ns : List ℕ) (n : ℕ) → All (λ k. k < n) ns → All (λ k. k < n + 1) (ns ++ n ∷ [])
+pub below_push : (ns : List ℕ) (n : ℕ) → All (λ k. k < n) ns → All (λ k. k < n + 1) (ns ++ n ∷ [])
 below_push ns n below =
     All-push (λ (k : ℕ). k < n + 1) ns n (all_higher ns n (n + 1) (omega arith) below) (omega arith)
 
@@ -191,6 +192,23 @@ told_fault p cause rs acts are is = subst (λ (xs : List Act). AreTold (xs ++ Cl
   owed = list_any-append is_asking (sends p rs) (Close p cause ∷ [])
       ∙ ap (λ (b : Bool). b || (false || false)) (no_asking p rs are);
   closed = subst IsStrictlyIncreasing (sym (closed_after p rs (Close p cause ∷ []))) (rising_one p.0);
+})
+
+-- closes for what is omitted
+no_asking_shuts : (qs : List ℕ) → list_any is_asking (map shut_act qs) ≡ false
+no_asking_shuts [] = refl
+no_asking_shuts (q ∷ qs) = no_asking_shuts qs
+
+closed_shuts : (qs : List ℕ) → closed_in (map shut_act qs) ≡ qs
+closed_shuts [] = refl
+closed_shuts (q ∷ qs) = ap (λ (xs : List ℕ). q ∷ xs) (closed_shuts qs)
+
+-- replies, and then closes for what is omitted
+pub told_shuts : (p : PeerNo) (rs : List Msg) (qs : List ℕ) (acts : List Act) → AllByRecursion IsReply rs → IsStrictlyIncreasing qs
+    → acts ≡ map (λ (m : Msg). Send p m) rs ++ map shut_act qs → AreTold acts
+told_shuts p rs qs acts are rising is = subst AreTold (sym is) (record {
+  owed = list_any-append is_asking (sends p rs) (map shut_act qs) ∙ ap (λ (b : Bool). b || list_any is_asking (map shut_act qs)) (no_asking p rs are) ∙ no_asking_shuts qs;
+  closed = subst IsStrictlyIncreasing (sym (closed_after p rs (map shut_act qs) ∙ closed_shuts qs)) rising;
 })
 
 pub told_close : (p : PeerNo) (cause : Cause) (acts : List Act) → acts ≡ Close p cause ∷ [] → AreTold acts

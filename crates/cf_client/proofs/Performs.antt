@@ -8,6 +8,7 @@ use Rattle.std.proofs.lemmas.Bool.{cases_eq, cases_Bool, cases_lt, both_ways, fa
 use Rattle.std.proofs.lemmas.List.{reverse-append, get_or-set_same, get_or-set_other}
 use Rattle.std.proofs.Math.Seq.{drop-cons}
 use Rattle.std.proofs.Math.ListN.{drop_of_length-le}
+use Rattle.cf_headers.specs.Chain.{Hash}
 use Rattle.cf_bytes.specs.declared.peer.PeerNo.{PeerNo}
 use Rattle.cf_msg.specs.declared.msg.Msg.{Msg}
 use Rattle.cf_msg.specs.declared.msg.Msg.TheVariants.{Version, Verack, Ping, Pong, GetHeaders, Headers, GetData, Inv, Block, GetCfilters, Cfilter, GetCfheaders, Cfheaders, GetCfcheckpt, Cfcheckpt, Other}
@@ -25,16 +26,18 @@ use Rattle.cf_peer.specs.Asking.{request, is_open, counted, fetched, given, Dese
 use Rattle.cf_headers.specs.declared.store.HeaderStore.{Ghosts}
 use Rattle.cf_match.specs.declared.matcher.Matcher.{Ghosts as Judges}
 use Rattle.cf_sync.proofs.Alone.{alone_less}
-use Rattle.cf_sync.specs.Fetching.{IsAlone, counted_part}
+use Rattle.cf_sync.specs.Fetching.{IsAlone, counted_part, DeservesIn, IsSameFetched, IsTested}
+use Rattle.cf_match.specs.declared.job.Job.{Job}
+use Rattle.cf_sync.proofs.Plans.{omits_alike, off_omits_nothing}
 use Rattle.cf_sync.specs.Kept.{OpensAt, claims_kept}
 use Rattle.cf_sync.proofs.VerdictsGrow.{same_given}
-use Rattle.cf_sync.specs.Planned.{is_untold, before_failure, IsMeant, Alike}
+use Rattle.cf_sync.specs.Planned.{is_untold, before_failure, IsMeant, Alike, IsSameTest}
 use Rattle.cf_sync.proofs.Planning.{planned_part}
 use Rattle.cf_hear.specs.Tracks.{chain_kept}
 use Rattle.cf_hear.proofs.Opening.{closes_off}
 use Rattle.cf_sync.proofs.KeptOpens.{opens_closed}
 use Rattle.cf_seek.specs.Opens.{Opens}
-use Rattle.cf_tracker.specs.Tracker.{opens_of}
+use Rattle.cf_tracker.specs.Tracker.{opens_of, trials_of}
 use Rattle.cf_client.specs.declared.client.Client.{Client}
 use Rattle.cf_place.specs.declared.place.Place.{Place}
 use Rattle.cf_place.specs.declared.place.Place.TheVariants.{Here, Lost as LostPlace}
@@ -43,12 +46,14 @@ use Rattle.cf_client.specs.declared.progress.SendState.{SendState}
 use Rattle.cf_client.specs.declared.progress.SendState.TheVariants.{Fine, Pending, Known}
 use Rattle.cf_client.specs.declared.trace.TraceLine.{TraceLine}
 use Rattle.cf_client.specs.declared.trace.TraceLine.TheVariants.{Sent as SentLine, Closed as ClosedLine}
-use Rattle.cf_place.specs.Places.{entry_of, IsReplied, MayAct, CutFor, Fits}
+use Rattle.cf_place.specs.Places.{entry_of, IsReplied, IsRepliedFirst, IsRepliedIn, MayAct, CutFor, Fits}
 use Rattle.cf_client.specs.Stands.{Reflects, count_of, watch_by}
 use Rattle.cf_client.specs.Run.{Doing, ActsLeft, HoldsOver, closes, state_at, is_pending, is_fine, IsTraceOf}
 use Rattle.cf_sync.proofs.SameFetched.{same_wanted, same_holds}
 use Rattle.cf_client.proofs.Losing.{lost_failed}
 use Rattle.cf_client.proofs.Spelled.{spelled_bytes}
+use Rattle.cf_sync.proofs.Blamed.{tested_stays}
+use Rattle.cf_sync.proofs.KeptAims.{closed_on, failed_on, sent_on, test_alike, test_off, trials_alike, trials_stay}
 
 -- with no act left
 only : (b : Bool) → (b || false) ≡ true → b ≡ true
@@ -232,7 +237,7 @@ connected_same acts progress called planned t doing q on = elim (cases_Bool (is_
 -- what is asked is open to nobody by the plan, and so indeed
 alone_too : {watch : List (List ℕ)} (acts : List Act) (progress : Progress) (called : List (List ℕ)) (planned : Log) (t : Told) → (doing : Doing watch acts progress called planned t) → (p : ℕ) (m : Msg) → part_of planned p ≡ part_of doing.actual p
     → IsAlone planned p m → IsAlone doing.actual p m
-alone_too acts progress called planned t doing p m same alone = alone_less planned doing.actual p m (connected_same acts progress called planned t doing) same alone
+alone_too acts progress called planned t doing p m same alone = alone_less planned doing.actual p m doing.brought (connected_same acts progress called planned t doing) same alone
 
 -- an act on a peer whose failed send is pending is planned, and not done
 skipped : {watch : List (List ℕ)} (a : Act) (acts : List Act) (progress : Progress) (called : List (List ℕ)) (planned : Log) (t : Told) (p : ℕ) (e : Event) (i : Item)
@@ -243,8 +248,9 @@ skipped : {watch : List (List ℕ)} (a : Act) (acts : List Act) (progress : Prog
     → ((q : ℕ) → q ≢ p → list_any (closes q) (a ∷ acts) ≡ list_any (closes q) acts)
     → (noted e (tally_of planned)).dials ≡ (tally_of planned).dials
     → ((q : ℕ) → fetched (counted_part (e ∷ planned) q) ≡ fetched (counted_part planned q)) → ((q : ℕ) → given (counted_part (e ∷ planned) q) ≡ given (counted_part planned q))
+    → ((job : Job) → IsTested (e ∷ planned) job → IsTested planned job) → ((q : ℕ) (block : Hash) → q ≢ p → IsSameTest (e ∷ planned) planned q block)
     → Doing watch (a ∷ acts) progress called planned t → Doing watch acts progress called (e ∷ planned) t
-skipped a acts progress called planned t p e i is others here meant unclosed dials brought gave doing =
+skipped a acts progress called planned t p e i is others here meant unclosed dials brought gave tests aims doing =
     let it : (q : ℕ) → q ≡ p → is_pending (state_at progress.sends q) ≡ true = λ q same. ap (λ (k : ℕ). is_pending (state_at progress.sends k)) same ∙ is in
     record {
       actual = doing.actual;
@@ -259,6 +265,13 @@ skipped a acts progress called planned t p e i is others here meant unclosed dia
           | inr ne ↦ (m.0, (m.1.0, others q ne ∙ m.1.1))
         ];
         dials = dials ∙ doing.plan.dials;
+        tested = λ job h. doing.plan.tested job (tests job h);
+        tests = λ job h. tested_stays e planned job (doing.plan.tests job h);
+        aims = λ q fine on block.
+            let ne : q ≢ p = λ same. both_ways (is_untold doing.actual q) fine (doing.pending q (it q same)) in
+            let one = aims q block ne in
+            let two = doing.plan.aims q fine on block in
+            (λ t. two.0 (one.0 t), λ t. one.1 (two.1 t));
       };
       brought = λ q. brought q ∙ doing.brought q;
       gave = λ q. gave q ∙ doing.gave q;
@@ -281,7 +294,7 @@ skipped_send acts progress called planned t p m is may doing =
     skipped (Send p m) acts progress called planned t p.0 (Sent p (bytes_of m)) (Asked m) is
     (λ q ne. sent_others p (bytes_of m) q (part_of planned q) ne)
     (λ q e. sent_here p (bytes_of m) m q (part_of planned q) e (spelled_bytes m may.1))
-    (λ more meant. meant) (λ q ne. refl) refl (λ q. sent_brought p (bytes_of m) planned q) (λ q. sent_gave p (bytes_of m) planned q) doing
+    (λ more meant. meant) (λ q ne. refl) refl (λ q. sent_brought p (bytes_of m) planned q) (λ q. sent_gave p (bytes_of m) planned q) (λ job h. h) (λ q block ne. test_off planned p (bytes_of m) q block ne) doing
 
 pub skipped_close : {watch : List (List ℕ)} (acts : List Act) (progress : Progress) (called : List (List ℕ)) (planned : Log) (t : Told) (p : PeerNo) (cause : Cause)
     → is_pending (state_at progress.sends p.0) ≡ true
@@ -290,7 +303,7 @@ skipped_close acts progress called planned t p cause is doing =
     skipped (Close p cause) acts progress called planned t p.0 (Closed p) (Lost Shutting) is
     (λ q ne. closed_others p q (part_of planned q) ne)
     (λ q e. closed_here p q (part_of planned q) e)
-    (λ more meant. meant) (λ q ne. closes_others p cause acts q ne) refl (λ q. closed_brought p planned q) (λ q. closed_gave p planned q) doing
+    (λ more meant. meant) (λ q ne. closes_others p cause acts q ne) refl (λ q. closed_brought p planned q) (λ q. closed_gave p planned q) (λ job h. h) (λ q block ne. (λ t. t, λ t. t)) doing
 
 reverse_push : (xs : List TraceLine) (x : TraceLine) → reverse (xs ++ x ∷ []) ≡ x ∷ reverse xs
 reverse_push xs x = reverse-append xs (x ∷ [])
@@ -340,6 +353,9 @@ sent_on acts progress trace called planned t p m command free line is may doing 
         told = λ q fine. asked_alike (p.0 == q) (spelled bytes) (part_of planned q) (part_of doing.actual q) (doing.plan.told q fine);
         untold = λ q untold. let more = doing.plan.untold q untold in (more.0, (more.1.0, sent_others p bytes q (part_of planned q) (other q untold) ∙ more.1.1));
         dials = doing.plan.dials;
+        tested = doing.plan.tested;
+        tests = doing.plan.tests;
+        aims = λ q fine on block. test_alike planned doing.actual p bytes q block doing.brought (doing.plan.aims q fine (sent_on p bytes doing.actual q on) block);
       };
       brought = λ q. sent_brought p bytes planned q ∙ doing.brought q ∙ sym (sent_brought p bytes doing.actual q);
       gave = λ q. sent_gave p bytes planned q ∙ doing.gave q ∙ sym (sent_gave p bytes doing.actual q);
@@ -372,9 +388,31 @@ failed_off t cause off (inl words) = absurd (both_ways (connected t) off words.0
 failed_off t cause off (inr (inl fault)) = fault.1
 failed_off t cause off (inr (inr late)) = absurd (both_ways (is_open t) (rw off refl) late.1)
 
+deserved_in : (planned log : Log) (p : ℕ) (cause : Cause) → Alike (part_of planned p) (part_of log p) → IsSameFetched planned log → ((job : Job) → IsTested planned job → IsTested log job)
+    → DeservesIn planned p cause → DeservesIn log p cause
+deserved_in planned log p cause alike brought tests (inl d) = inl (deserved (part_of planned p) (part_of log p) cause alike d)
+deserved_in planned log p cause alike brought tests (inr o) = inr (o.0, omits_alike planned log p alike brought tests o.1)
+
+deserved_in_off : (planned log : Log) (p : ℕ) (cause : Cause) → connected (trail planned p) ≡ false → failed (trail log p) ≡ true → DeservesIn planned p cause → DeservesIn log p cause
+deserved_in_off planned log p cause off broken (inl d) = inl (deserved_off (trail planned p) (trail log p) cause off broken d)
+deserved_in_off planned log p cause off broken (inr o) = absurd (off_omits_nothing planned p off o.1)
+
+failed_in_off : (planned : Log) (p : ℕ) (cause : Cause) → DeservesIn planned p cause → connected (trail planned p) ≡ false → failed (trail planned p) ≡ true
+failed_in_off planned p cause (inl d) off = failed_off (trail planned p) cause off d
+failed_in_off planned p cause (inr o) off = absurd (off_omits_nothing planned p off o.1)
+
 replied_alike : (t u : Part) → Alike t u → IsReplied t.trail → IsReplied u.trail
 replied_alike t u (inl same) h = subst (λ (x : Part). IsReplied x.trail) same h
 replied_alike t u (inr off) h = λ sound. absurd (both_ways (failed u.trail) sound off.3)
+
+first_alike : (t u : Part) → Alike t u → IsRepliedFirst t.trail → IsRepliedFirst u.trail
+first_alike t u (inl same) h = subst (λ (x : Part). IsRepliedFirst x.trail) same h
+first_alike t u (inr off) h = λ sound. absurd (both_ways (failed u.trail) sound off.3)
+
+replied_in : (planned log : Log) (p : ℕ) → Alike (part_of planned p) (part_of log p) → IsSameFetched planned log → ((job : Job) → IsTested planned job → IsTested log job)
+    → IsRepliedIn planned p → IsRepliedIn log p
+replied_in planned log p alike brought tests (inl all) = inl (replied_alike (part_of planned p) (part_of log p) alike all)
+replied_in planned log p alike brought tests (inr o) = inr (omits_alike planned log p alike brought tests o.0, first_alike (part_of planned p) (part_of log p) alike o.1)
 
 -- a peer is closed
 pub closed_on : {watch : List (List ℕ)} (acts : List Act) (progress : Progress) (trace : Vec TraceLine Global) (called : List (List ℕ)) (planned : Log) (t : Told) (p : PeerNo) (cause : Cause)
@@ -383,13 +421,13 @@ pub closed_on : {watch : List (List ℕ)} (acts : List Act) (progress : Progress
     → Doing watch (Close p cause ∷ acts) progress called planned t
     → Doing watch acts (record progress { closed = set progress.closed p.0 true; trace = trace }) called (Closed p ∷ planned) (tell (Closed p) t)
 closed_on acts progress trace called planned t p cause free line may doing =
-    let deserves : Deserves (trail doing.actual p.0) cause = elim (cases_Bool (is_untold doing.actual p.0)) [
-      | inl untold ↦ deserved_off (trail planned p.0) (trail doing.actual p.0) cause (doing.known p.0 untold free).0 (doing.broken p.0 untold).1 may.1
-      | inr told ↦ deserved (part_of planned p.0) (part_of doing.actual p.0) cause (doing.plan.told p.0 told) may.1
+    let deserves : DeservesIn doing.actual p.0 cause = elim (cases_Bool (is_untold doing.actual p.0)) [
+      | inl untold ↦ deserved_in_off planned doing.actual p.0 cause (doing.known p.0 untold free).0 (doing.broken p.0 untold).1 may.1
+      | inr told ↦ deserved_in planned doing.actual p.0 cause (doing.plan.told p.0 told) doing.brought doing.plan.tested may.1
     ] in
-    let replied_all : IsReplied (trail doing.actual p.0) = elim (cases_Bool (is_untold doing.actual p.0)) [
-      | inl untold ↦ λ sound. absurd (both_ways (failed (trail doing.actual p.0)) sound (doing.broken p.0 untold).1)
-      | inr told ↦ replied_alike (part_of planned p.0) (part_of doing.actual p.0) (doing.plan.told p.0 told) may.2
+    let replied_all : IsRepliedIn doing.actual p.0 = elim (cases_Bool (is_untold doing.actual p.0)) [
+      | inl untold ↦ inl (λ sound. absurd (both_ways (failed (trail doing.actual p.0)) sound (doing.broken p.0 untold).1))
+      | inr told ↦ replied_in planned doing.actual p.0 (doing.plan.told p.0 told) doing.brought doing.plan.tested may.2
     ] in
     let before : (q : ℕ) → is_untold (Closed p ∷ doing.actual) q ≡ true → (q ≢ p.0) × (is_untold doing.actual q ≡ true) = λ q untold.
     let ne : q ≢ p.0 = λ e. both_ways (is_untold (Closed p ∷ doing.actual) q) (untold_closed_here p doing.actual q e) untold in
@@ -435,6 +473,14 @@ closed_on acts progress trace called planned t p cause free line may doing =
         untold = λ q untold. let b = before q untold in let more = doing.plan.untold q b.1 in
             (more.0, (more.1.0, closed_others p q (part_of planned q) b.0 ∙ more.1.1));
         dials = doing.plan.dials;
+        tested = doing.plan.tested;
+        tests = doing.plan.tests;
+        aims = λ q fine on block. elim (cases_Bool (is_untold doing.actual q)) [
+          | inl untold ↦
+              let e : q ≡ p.0 = elim (cases_eq q p.0) [ inl e ↦ e | inr ne ↦ absurd (both_ways (is_untold doing.actual q) (sym (untold_closed_others p doing.actual q ne) ∙ fine) untold) ] in
+              absurd (both_ways (connected (trail (Closed p ∷ doing.actual) q)) (ap (λ (x : Part). connected x.trail) (closed_here p q (part_of doing.actual q) e)) on)
+          | inr told ↦ doing.plan.aims q told (closed_on p doing.actual q on) block
+        ];
       };
       brought = λ q. closed_brought p planned q ∙ doing.brought q ∙ sym (closed_brought p doing.actual q);
       gave = λ q. closed_gave p planned q ∙ doing.gave q ∙ sym (closed_gave p doing.actual q);
@@ -455,7 +501,7 @@ pub closed_again : {watch : List (List ℕ)} (acts : List Act) (progress : Progr
 closed_again acts progress called planned t p cause free shut may doing =
     let s = doing.notes.shut p.0 shut in
     let both : (connected (trail planned p.0) ≡ false) × (failed (trail planned p.0) ≡ true) × (failed (trail doing.actual p.0) ≡ true) =
-    twice (part_of planned p.0) (part_of doing.actual p.0) cause (doing.plan.told p.0 s.1) s.0 may.1 in
+    twice (part_of planned p.0) (part_of doing.actual p.0) (doing.plan.told p.0 s.1) s.0 (failed_in_off planned p.0 cause may.1) in
     record {
       actual = doing.actual;
       notes = doing.notes;
@@ -473,6 +519,9 @@ closed_again acts progress called planned t p cause free shut may doing =
         ];
         untold = λ q untold. let more = doing.plan.untold q untold in (more.0, (more.1.0, closed_others p q (part_of planned q) (other q untold) ∙ more.1.1));
         dials = doing.plan.dials;
+        tested = doing.plan.tested;
+        tests = doing.plan.tests;
+        aims = doing.plan.aims;
       };
       brought = λ q. closed_brought p planned q ∙ doing.brought q;
       gave = λ q. closed_gave p planned q ∙ doing.gave q;
@@ -485,12 +534,12 @@ closed_again acts progress called planned t p cause free shut may doing =
       other : (q : ℕ) → is_untold doing.actual q ≡ true → q ≢ p.0
       other q untold e = both_ways (is_untold doing.actual q) (ap (is_untold doing.actual) e ∙ (doing.notes.shut p.0 shut).1) untold
 
-      twice : (t u : Part) (cause : Cause) → Alike t u → connected u.trail ≡ false → Deserves t.trail cause → (connected t.trail ≡ false) × (failed t.trail ≡ true) × (failed u.trail ≡ true)
-      twice t u cause (inl same) off h =
+      twice : (t u : Part) → Alike t u → connected u.trail ≡ false → (connected t.trail ≡ false → failed t.trail ≡ true) → (connected t.trail ≡ false) × (failed t.trail ≡ true) × (failed u.trail ≡ true)
+      twice t u (inl same) off h =
           let gone : connected t.trail ≡ false = ap (λ (x : Part). connected x.trail) same ∙ off in
-          let broken : failed t.trail ≡ true = failed_off t.trail cause gone h in
+          let broken : failed t.trail ≡ true = h gone in
           (gone, broken, sym (ap (λ (x : Part). failed x.trail) same) ∙ broken)
-      twice t u cause (inr o) off h = (o.0, o.2, o.3)
+      twice t u (inr o) off h = (o.0, o.2, o.3)
 
 -- a send fails
 pub failed_on : {watch : List (List ℕ)} (acts : List Act) (progress : Progress) (called : List (List ℕ)) (planned : Log) (t : Told) (p : PeerNo) (m : Msg)
@@ -559,6 +608,13 @@ failed_on acts progress called planned t p m lt free may doing =
               )
         ];
         dials = doing.plan.dials;
+        tested = doing.plan.tested;
+        tests = doing.plan.tests;
+        aims = λ q fine on block.
+            let ne : q ≢ p.0 = λ e. both_ways (is_untold (SendFailed p ∷ doing.actual) q) fine (untold_failing_here p doing.actual q e) in
+            let one = test_off planned p bytes q block ne in
+            let two = doing.plan.aims q (sym (untold_failing_others p doing.actual q ne) ∙ fine) (failed_on p doing.actual q on) block in
+            (λ t. two.0 (one.0 t), λ t. one.1 (two.1 t));
       };
       brought = λ q. sent_brought p bytes planned q ∙ doing.brought q ∙ sym (failing_brought p doing.actual q);
       gave = λ q. sent_gave p bytes planned q ∙ doing.gave q ∙ sym (failing_gave p doing.actual q);
@@ -627,6 +683,7 @@ cut_for p log = record {
   broken = ap (λ (x : Part). failed x.trail) (failing_here p p.0 (part_of log p.0) refl);
   brought = failing_brought p log p.0;
   gave = failing_gave p log p.0;
+  tests = λ trials h. trials_stay (SendFailed p) log trials tt tt h;
   dials = refl;
 }
 
@@ -670,6 +727,9 @@ told_one rest progress called planned t p cause lt is doing =
           | inr ne ↦ (more.0, (more.1.0, failing_others p q (part_of planned q) ne ∙ more.1.1))
         ];
         dials = doing.plan.dials;
+        tested = doing.plan.tested;
+        tests = doing.plan.tests;
+        aims = doing.plan.aims;
       };
       brought = λ q. failing_brought p planned q ∙ doing.brought q;
       gave = λ q. failing_gave p planned q ∙ doing.gave q;
@@ -731,7 +791,10 @@ all_told c progress called planned t none reflects doing =
           fetched = same_holds _ planned doing.actual _ doing.brought reflects.tracks.fetched;
           given = same_given _ planned doing.actual _ _ (λ q. sym (doing.gave q)) (λ block hash. refl) reflects.tracks.given;
           opened = λ q. opens_alike (opens_of c.tracker) q (part_of planned q) (part_of doing.actual q) (doing.plan.told q (told q)) (reflects.tracks.opened q);
+          trials = trials_alike planned doing.actual (trials_of c.tracker) (λ q. doing.plan.told q (told q)) doing.brought doing.plan.tested doing.plan.tests
+              (λ q on. doing.plan.aims q (told q) on) reflects.tracks.trials;
         };
+        unexposed = reflects.unexposed;
       };
       told_all = told;
       none = none;

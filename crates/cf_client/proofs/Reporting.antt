@@ -22,7 +22,7 @@ use Rattle.cf_dispute.specs.declared.claim.Claim.{Claim}
 use Rattle.cf_dispute.specs.Claims.{IsAt, no_claims}
 use Rattle.cf_scan.specs.declared.history.Entry.{Entry}
 use Rattle.cf_scan.specs.Watching.{IsWatch}
-use Rattle.cf_sync.specs.Fetching.{IsBlockOpen, IsConnected, IsAskedOut, IsFilterOpen, IsScanOver, IsSettled, counted_part}
+use Rattle.cf_sync.specs.Fetching.{IsBlockOpen, IsConnected, IsAskedOut, IsTestedThrough, IsFilterOpen, IsScanOver, IsSettled, counted_part}
 use Rattle.cf_sync.proofs.Counted.{same_use}
 use Rattle.cf_sync.proofs.KeptOpens.{settled_else}
 use Rattle.cf_sync.proofs.Tables.{history_over}
@@ -38,7 +38,8 @@ use Rattle.cf_place.specs.declared.place.Place.{Place}
 use Rattle.cf_place.specs.declared.place.Place.TheVariants.{Here, Lost}
 use Rattle.cf_place.specs.Places.{IsLost, Fits, nobody, PlacesStand, EndTells, EndsTell, end_by, end_of, is_idle, is_settled}
 use Rattle.cf_client.specs.Stands.{IsTip, IsReportOf}
-use Rattle.cf_client.specs.Settled.{AreSettled, IsAskedThrough, IsThrough, chain_at}
+use Rattle.cf_sync.proofs.KeptTests.{listed_by, tested_through}
+use Rattle.cf_client.specs.Settled.{AreSettled, IsAskedThrough, IsThrough, IsTriedThrough, chain_at}
 use Rattle.cf_client.proofs.Best.{on_kept, here_of, best_is}
 use Rattle.cf_client.proofs.Settled.{settled_off, heard_by}
 use Rattle.cf_client.proofs.Rights.{header_known}
@@ -67,15 +68,31 @@ settled_at log s p own common h at tracks is one le through above =
       claimed_by None some none = cc some
       claimed_by (Some claim) some none = cc none
 
+abbrev IsDoneWith : Seen → ℕ → Chain → ℕ → Type 0
+IsDoneWith s p own common = IsThrough s.table s.claims s.verdicts s.opens p own common × IsTriedThrough s p own common
+
 -- what a connected peer is through with: the blocks that its own chain shares with the best one
 through_shared : (s : Seen) (p : ℕ) (place : Place) (own chain : Chain) → IsAskedThrough place s p → is_idle place ≡ true → s.chains p ≡ Some own → IsBestChain s.chains chain
-    → IsThrough s.table s.claims s.verdicts s.opens p own (common_of own chain)
+    → IsDoneWith s p own (common_of own chain)
 through_shared s p place own chain through idle kept (inl b) =
     let this : chain_at s p ≡ own = ap (λ (o : Option Chain). unwrap_or o []) kept in
     let other : chain_at s b.0.0 ≡ chain = ap (λ (o : Option Chain). unwrap_or o []) b.2 in
-    subst (λ (c : Chain). IsThrough s.table s.claims s.verdicts s.opens p own (common_of own c)) other
-    (subst (λ (c : Chain). IsThrough s.table s.claims s.verdicts s.opens p c (common_of c (chain_at s b.0.0))) this (through idle b.0 b.1))
+    subst (λ (c : Chain). IsDoneWith s p own (common_of own c)) other
+    (subst (λ (c : Chain). IsDoneWith s p c (common_of c (chain_at s b.0.0))) this (through idle b.0 b.1))
 through_shared s p place own chain through idle kept (inr none) = absurd (none-some own (sym (none.0 p) ∙ kept))
+
+-- what a connected peer with nothing open claims of the fetched blocks on which they differ was tested
+pub tested_of : (places : List Place) (log : Log) (s : Seen) (chain : Chain) → PlacesStand places log → Tracks s log → AreSettled places s → IsBestChain s.chains chain
+    → (p : ℕ) → IsConnected log p → is_open (trail log p) ≡ false → IsTestedThrough log chain p
+tested_of places log s chain stand tracks settled best p on quiet =
+    let here = here_of (get_or places p nobody) (part_of log p) (stand.each p) on in
+    let holds : Holds here.0 (trail log p) = here.2.holds in
+    let mine : Chain = own (counted_part log p) in
+    let kept : s.chains p ≡ Some mine = tracks.kept p ∙ on_kept (trail log p) on ∙ ap (λ (c : Chain). Some c) (sym (same_use (trail log p) on holds.clean).chain) in
+    let both : IsDoneWith s p mine (common_of mine chain) =
+    through_shared s p (get_or places p nobody) mine chain (settled.through p) (ap is_idle here.1 ∙ idle_of here.0 (trail log p) holds quiet) kept best in
+    tested_through s.watch log s.table s.claims s.trials.told both.1.listed chain p tracks.fetched tracks.claimed tracks.trials.told
+    (listed_by s.watch log s.table s.claims both.1.listed tracks.fetched tracks.claimed both.1.disputes) on both.1.tried
 
 pub asked_out_of : (places : List Place) (log : Log) (s : Seen) (chain : Chain) → PlacesStand places log → Tracks s log → AreSettled places s → ((block : Hash) → (at : At) × IsAt s.claims block at) → IsBestChain s.chains chain
     → (p : ℕ) → IsConnected log p → is_open (trail log p) ≡ false → IsAskedOut s.watch log chain p
@@ -89,8 +106,9 @@ asked_out_of places log s chain stand tracks settled decided best p on quiet =
     let idle : is_idle_peer peer ≡ true = idle_of peer t holds quiet in
     let off : wants peer ≡ false = settled_off (Here peer) (subst (λ (x : Place). is_settled x ≡ true) here.1 (settled.each p)) in
     let kept : s.chains p ≡ Some mine = tracks.kept p ∙ on_kept t on ∙ ap (λ (c : Chain). Some c) (sym whole.chain) in
-    let through : IsThrough s.table s.claims s.verdicts s.opens p mine (common_of mine chain) =
+    let both : IsDoneWith s p mine (common_of mine chain) =
     through_shared s p (get_or places p nobody) mine chain (settled.through p) (ap is_idle here.1 ∙ idle) kept best in
+    let through : IsThrough s.table s.claims s.verdicts s.opens p mine (common_of mine chain) = both.0 in
     record {
       heard_out = whole.hearing ∙ sym holds.hearing ∙ heard_by peer idle off;
       claimed = λ h one le.
@@ -99,6 +117,7 @@ asked_out_of places log s chain stand tracks settled decided best p on quiet =
       settled = λ h one le above no_filter no_block.
           let d = decided (hash_at mine h) in
           settled_at log s p mine (common_of mine chain) h d.0 tracks d.1 one le through above no_filter no_block;
+      tested = tested_of places log s chain stand tracks settled best p on quiet;
     }
 
 -- ---- what is told

@@ -125,7 +125,7 @@ late_goes places acts log i lt goes is =
     let part = part_of (after acts log) i in
     let o = late_open (get_or places i nobody) part (goes.stand.each i) is in
     goes_act places acts log i (Lost (ClosedFor Overdue)) (Close p Overdue) lt goes (λ q other. closed_others p q (part_of (after acts log) q) other) refl
-    (number_within places (after acts log) i goes.stand lt, inr (inr (refl, o.0, o.1)), late_replied (get_or places i nobody) part (goes.stand.each i) is)
+    (number_within places (after acts log) i goes.stand lt, inl (inr (inr (refl, o.0, o.1))), inl (late_replied (get_or places i nobody) part (goes.stand.each i) is))
     (subst (λ (x : Part). IsLost (ClosedFor Overdue) x.trail) (sym (closed_here p part)) (shut_now part.trail Overdue (and_parts (connected part.trail) _ o.0).0 (inr (inr (refl, o.0, o.1)))))
 
 -- a peer to which nothing is open may be asked

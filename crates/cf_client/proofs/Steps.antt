@@ -23,12 +23,16 @@ use Rattle.cf_peer.specs.Asking.{is_request}
 use Rattle.cf_peer.specs.Peer.{IsRight, calm, wants, is_idle_peer, asked_for_headers, asked_for_claims, asked_for_filters, asked_for_block}
 use Rattle.cf_seek.specs.declared.spans.Span.{Span}
 use Rattle.cf_seek.specs.declared.spans.Wish.{Wish}
-use Rattle.cf_seek.specs.declared.spans.Wish.TheVariants.{Claims, Filters, Block}
+use Rattle.cf_seek.specs.declared.spans.Wish.TheVariants.{Claims, Filters, Block, Test}
+use Rattle.cf_seek.specs.declared.testing.Trial.{Trial}
+use Rattle.cf_seek.specs.Aims.{IsAimed}
 use Rattle.cf_dispute.specs.Tables.{blocks_of}
 use Rattle.cf_seek.specs.Opens.{IsSameOpens, OpensBlock, OpensFilters}
 use Rattle.cf_seek.specs.Spans.{IsWish}
 use Rattle.cf_hear.specs.Seen.{Seen, IsSameSeen}
 use Rattle.cf_hear.specs.Tracks.{HasOpened, Tracks, IsPut}
+use Rattle.cf_hear.specs.Exposing.{IsUnexposed}
+use Rattle.cf_hear.proofs.Exposing.{unexposed_on, unexposed_put}
 use Rattle.cf_hear.proofs.Hearing.{right_same}
 use Rattle.cf_hear.proofs.Tracking.{opened_self}
 use Rattle.cf_place.specs.declared.place.Place.{Place}
@@ -42,8 +46,8 @@ use Rattle.cf_client.proofs.Ordering.{above_asks, block_asked}
 use Rattle.cf_client.proofs.Standing.{set_is, late_goes, goes_start}
 use Rattle.cf_client.proofs.Settled.{set_each, set_other, settled_off, heard_by, asked_busy}
 use Rattle.cf_client.proofs.Rights.{right_of, right_set, claims_right, filters_right}
-use Rattle.cf_client.proofs.Best.{Furthest}
-use Rattle.cf_client.proofs.Acting.{range_in, closed_tracks, headers_goes, claims_goes, filters_goes, block_goes, headers_tracks, claims_tracks, filters_tracks, block_tracks, seen_same}
+use Rattle.cf_client.proofs.Best.{Furthest, Tries}
+use Rattle.cf_client.proofs.Acting.{range_in, closed_tracks, headers_goes, claims_goes, filters_goes, block_goes, headers_tracks, claims_tracks, filters_tracks, block_tracks, test_goes, test_tracks, seen_same}
 
 -- ---- steps, put together
 
@@ -71,11 +75,12 @@ moves_then one two = record {
 }
 
 -- a desk with no acts yet stands for a log if its places do, and what was seen is what the log says
-pub stands_start : (places : List Place) (seen : Seen) (acts : List Act) (log : Log) → acts ≡ [] → PlacesStand places log → Tracks seen log
+pub stands_start : (places : List Place) (seen : Seen) (acts : List Act) (log : Log) → acts ≡ [] → PlacesStand places log → Tracks seen log → IsUnexposed seen
     → Stands (record { places = places; seen = seen; acts = acts }) log
-stands_start places seen acts log none stand tracks = subst (λ (xs : List Act). Stands (record { places = places; seen = seen; acts = xs }) log) (sym none) (record {
+stands_start places seen acts log none stand tracks unexposed = subst (λ (xs : List Act). Stands (record { places = places; seen = seen; acts = xs }) log) (sym none) (record {
   goes = goes_start places [] log refl stand;
   tracks = tracks;
+  unexposed = unexposed;
 })
 
 pub start_places : (d : Desk) (log : Log) → d.acts ≡ [] → Stands d log → PlacesStand d.places log
@@ -90,7 +95,7 @@ in_order places seen acts few settled right = record { few = few; entered = sett
 
 -- ---- one act, by which one place changes
 
-entered_set : (places : List Place) (before after : Seen) (i : ℕ) (s : Place) → i < length places → ((q : ℕ) → q ≢ i → after.chains q ≡ before.chains q) → is_here s ≡ is_some (after.chains i)
+pub entered_set : (places : List Place) (before after : Seen) (i : ℕ) (s : Place) → i < length places → ((q : ℕ) → q ≢ i → after.chains q ≡ before.chains q) → is_here s ≡ is_some (after.chains i)
     → AreEntered places before → AreEntered (set places i s) after
 entered_set places before after i s lt others here entered = λ q. elim (cases_eq q i) [
   | inl same ↦ subst (λ (k : ℕ). is_here (get_or (set places i s) k nobody) ≡ is_some (after.chains k)) (sym same) (ap is_here (set_is places i s lt) ∙ here)
@@ -158,6 +163,7 @@ late_moves d i after lt order late put =
     (same (λ log stood. record {
       goes = goes_watch put.watch (late_goes d.places d.acts log i lt stood.goes late);
       tracks = closed_tracks d.seen after d.acts log (record { 0 = i }) Overdue put stood.tracks;
+      unexposed = unexposed_put d.seen after i put stood.unexposed;
     }))
 
 -- a connected peer is asked something
@@ -176,7 +182,7 @@ sent_asks d after i peer now m lt order here doable question settled calm right 
         right = right_same now.request (d.seen.claims i) (after.claims i) (opened.claims i) right;
       })
       (extends_one d.acts (Send (record { 0 = i }) m)) (λ all. All-push IsDoable d.acts (Send (record { 0 = i }) m) all doable) (λ was. calm)
-      (same (λ log stood. record { goes = goes_watch opened.watch (goes log stood); tracks = tracks log stood }));
+      (same (λ log stood. record { goes = goes_watch opened.watch (goes log stood); tracks = tracks log stood; unexposed = unexposed_on d.seen after opened.claims opened.trials.told stood.unexposed }));
   asked = inr (m, question, refl);
   seen = opened;
   settled = ap is_settled (set_is d.places i (Here now) lt) ∙ settled;
@@ -216,35 +222,50 @@ settled_by peer change idle was kept young =
     rw (young, ap (λ (b : Bool). not b) (kept ∙ heard)) refl
 
 pub claims_asks : (d : Desk) (after : Seen) (i common : ℕ) (span : Span) (places : List Place) (acts : List Act) → i < length d.places → IsInOrder d → is_settled (get_or d.places i nobody) ≡ true → common ≤ length (chain_at d.seen i)
-    → WishAt d i common (Claims span) → Furthest d.seen i common (Claims span) → HasOpened d.seen after i → IsSameOpens d.seen.opens after.opens
+    → WishAt d i common (Claims span) → Furthest d.seen i common (Claims span) → Tries d.seen i common (Claims span) → HasOpened d.seen after i → IsSameOpens d.seen.opens after.opens
+    → IsAimed i (Claims span) d.seen.trials.aims after.trials.aims
     → IsSent i (GetCfheaders 0 span.start span.stop) (asked_for_claims (range_in span)) d.places places d.acts acts
     → Asks i d (record { places = places; seen = after; acts = acts })
-claims_asks d after i common span places acts lt order settled low wish far opened opens sent =
+claims_asks d after i common span places acts lt order settled low wish far tries opened opens aimed sent =
     about_asks d after i (GetCfheaders 0 span.start span.stop) (asked_for_claims (range_in span)) places acts lt order sent refl
     (settled_by sent.peer (asked_for_claims (range_in span)) sent.idle (subst (λ (x : Place). is_settled x ≡ true) sent.here settled) refl refl) refl
     (let le = wish.1.1.1 in claims_right d.seen.claims i (chain_at d.seen i) wish.1.0 span 0 wish.0.0 (omega (arith, le, low)) wish.1.1.0 wish.0.2 wish.1.1.3) opened
-    (λ log stood. claims_goes d.places d.acts log d.seen i sent.peer common span lt stood.goes sent.here sent.idle (ended_by sent.peer sent.idle (subst (λ (x : Place). is_settled x ≡ true) sent.here settled)) far stood.tracks low wish sent.sendable)
-    (λ log stood. claims_tracks d.places d.acts log d.seen after i common sent.peer span stood.goes sent.here sent.idle sent.sendable opened wish opens stood.tracks)
+    (λ log stood. claims_goes d.places d.acts log d.seen i sent.peer common span lt stood.goes sent.here sent.idle (ended_by sent.peer sent.idle (subst (λ (x : Place). is_settled x ≡ true) sent.here settled)) far tries stood.tracks low wish sent.sendable)
+    (λ log stood. claims_tracks d.places d.acts log d.seen after i common sent.peer span stood.goes sent.here sent.idle sent.sendable opened wish opens aimed stood.tracks)
 
 pub filters_asks : (d : Desk) (after : Seen) (i common : ℕ) (span : Span) (places : List Place) (acts : List Act) → i < length d.places → IsInOrder d → is_settled (get_or d.places i nobody) ≡ true → common ≤ length (chain_at d.seen i)
-    → WishAt d i common (Filters span) → Furthest d.seen i common (Filters span) → HasOpened d.seen after i → OpensFilters d.seen.opens after.opens i (blocks_of span.blocks.items)
+    → WishAt d i common (Filters span) → Furthest d.seen i common (Filters span) → Tries d.seen i common (Filters span) → HasOpened d.seen after i
+    → OpensFilters d.seen.opens after.opens i (blocks_of span.blocks.items) → IsAimed i (Filters span) d.seen.trials.aims after.trials.aims
     → IsSent i (GetCfilters 0 span.start span.stop) (asked_for_filters span.blocks.items) d.places places d.acts acts
     → Asks i d (record { places = places; seen = after; acts = acts })
-filters_asks d after i common span places acts lt order settled low wish far opened opens sent =
+filters_asks d after i common span places acts lt order settled low wish far tries opened opens aimed sent =
     about_asks d after i (GetCfilters 0 span.start span.stop) (asked_for_filters span.blocks.items) places acts lt order sent refl
     (settled_by sent.peer (asked_for_filters span.blocks.items) sent.idle (subst (λ (x : Place). is_settled x ≡ true) sent.here settled) refl refl) refl
     (filters_right (chain_at d.seen i) wish.1.0 span wish.0.1 wish.1.1.0) opened
-    (λ log stood. filters_goes d.places d.acts log d.seen i sent.peer common span lt stood.goes sent.here sent.idle (ended_by sent.peer sent.idle (subst (λ (x : Place). is_settled x ≡ true) sent.here settled)) far stood.tracks low wish sent.sendable)
-    (λ log stood. filters_tracks d.places d.acts log d.seen after i common sent.peer span stood.goes sent.here sent.idle sent.sendable opened wish opens stood.tracks)
+    (λ log stood. filters_goes d.places d.acts log d.seen i sent.peer common span lt stood.goes sent.here sent.idle (ended_by sent.peer sent.idle (subst (λ (x : Place). is_settled x ≡ true) sent.here settled)) far tries stood.tracks low wish sent.sendable)
+    (λ log stood. filters_tracks d.places d.acts log d.seen after i common sent.peer span stood.goes sent.here sent.idle sent.sendable opened wish opens low aimed stood.tracks)
 
 pub block_asks : (d : Desk) (after : Seen) (i common : ℕ) (hash : Hash32) (places : List Place) (acts : List Act) → i < length d.places → IsInOrder d → is_settled (get_or d.places i nobody) ≡ true → common ≤ length (chain_at d.seen i)
-    → WishAt d i common (Block hash) → Furthest d.seen i common (Block hash) → HasOpened d.seen after i → OpensBlock d.seen.opens after.opens i hash.0
+    → WishAt d i common (Block hash) → Furthest d.seen i common (Block hash) → Tries d.seen i common (Block hash) → HasOpened d.seen after i
+    → OpensBlock d.seen.opens after.opens i hash.0 → IsAimed i (Block hash) d.seen.trials.aims after.trials.aims
     → IsSentFor i hash d.places places d.acts acts → Asks i d (record { places = places; seen = after; acts = acts })
-block_asks d after i common hash places acts lt order settled low wish far opened opens for =
+block_asks d after i common hash places acts lt order settled low wish far tries opened opens aimed for =
     about_asks d after i for.message (asked_for_block hash) places acts lt order for.sent (block_asked hash for.message for.asks)
     (settled_by for.sent.peer (asked_for_block hash) for.sent.idle (subst (λ (x : Place). is_settled x ≡ true) for.sent.here settled) refl refl) refl tt opened
-    (λ log stood. block_goes d.places d.acts log d.seen i for.sent.peer common hash for.message lt stood.goes for.sent.here for.sent.idle (ended_by for.sent.peer for.sent.idle (subst (λ (x : Place). is_settled x ≡ true) for.sent.here settled)) far stood.tracks low wish for.sent.sendable for.asks)
-    (λ log stood. block_tracks d.places d.acts log d.seen after i for.sent.peer hash for.message stood.goes for.sent.here for.sent.idle for.sent.sendable for.asks opened opens stood.tracks)
+    (λ log stood. block_goes d.places d.acts log d.seen i for.sent.peer common hash for.message lt stood.goes for.sent.here for.sent.idle (ended_by for.sent.peer for.sent.idle (subst (λ (x : Place). is_settled x ≡ true) for.sent.here settled)) far tries stood.tracks low wish for.sent.sendable for.asks)
+    (λ log stood. block_tracks d.places d.acts log d.seen after i for.sent.peer hash for.message stood.goes for.sent.here for.sent.idle for.sent.sendable for.asks opened opens aimed stood.tracks)
+
+pub test_asks : (d : Desk) (after : Seen) (i common : ℕ) (trial : Trial) (places : List Place) (acts : List Act) → i < length d.places → IsInOrder d → is_settled (get_or d.places i nobody) ≡ true
+    → WishAt d i common (Test trial) → Furthest d.seen i common (Test trial) → (tries : Tries d.seen i common (Test trial)) → HasOpened d.seen after i
+    → OpensFilters d.seen.opens after.opens i (trial.block.0 ∷ []) → IsAimed i (Test trial) d.seen.trials.aims after.trials.aims
+    → IsSent i (GetCfilters 0 trial.height trial.block) (asked_for_filters (trial.block ∷ [])) d.places places d.acts acts
+    → Asks i d (record { places = places; seen = after; acts = acts })
+test_asks d after i common trial places acts lt order settled wish far tries opened opens aimed sent =
+    about_asks d after i (GetCfilters 0 trial.height trial.block) (asked_for_filters (trial.block ∷ [])) places acts lt order sent refl
+    (settled_by sent.peer (asked_for_filters (trial.block ∷ [])) sent.idle (subst (λ (x : Place). is_settled x ≡ true) sent.here settled) refl refl) refl
+    (omega arith) opened
+    (λ log stood. test_goes d.places d.acts log d.seen i sent.peer common trial lt stood.goes sent.here sent.idle (ended_by sent.peer sent.idle (subst (λ (x : Place). is_settled x ≡ true) sent.here settled)) far tries stood.tracks wish sent.sendable)
+    (λ log stood. test_tracks d.places d.acts log d.seen after i common sent.peer trial tries.listed stood.goes sent.here sent.idle sent.sendable opened tries.tries opens aimed stood.tracks)
 
 -- nothing is asked of a peer that is settled, and what was seen stays
 pub none_asked : (d : Desk) (i : ℕ) → IsInOrder d → is_settled (get_or d.places i nobody) ≡ true → Asks i d d

@@ -32,8 +32,10 @@ use Rattle.cf_sync.specs.Fetching.{MaySend, blocks_open, filters_open}
 use Rattle.cf_sync.specs.Due.{IsCalledFor}
 use Rattle.cf_sync.specs.Honesty.{asked}
 use Rattle.cf_sync.proofs.Counted.{same_use}
-use Rattle.cf_hear.specs.Hearing.{HeardWhole, HeardFault}
+use Rattle.cf_hear.specs.Hearing.{HeardWhole, HeardFault, HeardExposed}
+use Rattle.cf_hear.specs.Exposing.{IsUnexposed}
 use Rattle.cf_hear.specs.Seen.{Seen, Follows}
+use Rattle.cf_hear.proofs.Exposing.{unexposed_put}
 use Rattle.cf_hear.specs.Tracks.{Tracks, IsPut}
 use Rattle.cf_hear.proofs.Tracking.{tracks_sent, tracks_closed, tracks_gone, tracks_away, tracks_tick, tracks_ended, tracks_lost, tracks_deaf, tracks_heard, tracks_faulty, put_off}
 use Rattle.cf_place.specs.declared.place.Place.{Place}
@@ -49,6 +51,7 @@ use Rattle.cf_client.proofs.Settled.{set_other}
 use Rattle.cf_client.proofs.Ordering.{told_replies, told_fault}
 use Rattle.cf_client.proofs.Spelled.{spelled_bytes}
 use Rattle.cf_client.proofs.Steps.{IsChanged, is_lost, goes_watch, extends_self, extends_none, extends_one, stands_start, start_places, start_tracks, stay_moves, set_moves, taken}
+use Rattle.cf_sync.proofs.KeptAims.{IsNoQuestion}
 
 -- what a peer says loses nobody, and nothing is sent by it
 pub record SaysOnly (after before : Trail) : Type 0 where
@@ -121,20 +124,20 @@ deaf_tracks places acts log p piece end seen none lost stand tracks =
     subst (λ (xs : List Act). Tracks seen (after xs (Took (Got p piece) ∷ log))) (sym none) (tracks_deaf seen p piece log fits.off tracks)
 
 -- replies that are sent one after another
-abbrev sends : PeerNo → List Msg → List Act
+abbrev pub sends : PeerNo → List Msg → List Act
 sends p rs = map (λ (m : Msg). Send p m) rs
 
-abbrev asked_all : List Msg → Part → Part
+abbrev pub asked_all : List Msg → Part → Part
 asked_all [] part = part
 asked_all (r ∷ rs) part = asked_all rs (with_item (Asked r) part)
 
-record RepliesDone (watch : List (List ℕ)) (p : PeerNo) (rs : List Msg) (log : Log) : Type 0 where
-  allowed : Allowed watch (sends p rs) log
-  here : part_of (after (sends p rs) log) p.0 ≡ asked_all rs (part_of log p.0)
-  others : (q : ℕ) → q ≢ p.0 → part_of (after (sends p rs) log) q ≡ part_of log q
-  count : (tally_of (after (sends p rs) log)).dials ≡ (tally_of log).dials
+pub record RepliesDone (watch : List (List ℕ)) (p : PeerNo) (rs : List Msg) (log : Log) : Type 0 where
+  pub allowed : Allowed watch (sends p rs) log
+  pub here : part_of (after (sends p rs) log) p.0 ≡ asked_all rs (part_of log p.0)
+  pub others : (q : ℕ) → q ≢ p.0 → part_of (after (sends p rs) log) q ≡ part_of log q
+  pub count : (tally_of (after (sends p rs) log)).dials ≡ (tally_of log).dials
 
-abbrev AreSendable : List Msg → Type 0
+abbrev pub AreSendable : List Msg → Type 0
 AreSendable [] = Unit {0}
 AreSendable (r ∷ rs) = IsSendable r × AreSendable rs
 
@@ -147,47 +150,54 @@ by_reply P verack pong m is = absurd is
 as_itself : (r : Msg) → IsReply r → as_reply r ≡ r ∷ []
 as_itself r is = by_reply (λ (m : Msg). as_reply m ≡ m ∷ []) refl (λ number. refl) r is
 
--- what is owed to the words that count is what was sent, and then these
+-- what is owed to the words that count is what was sent, and then these; and more besides
 abbrev AreDue : List Msg → Trail → Type 0
 AreDue rs t = owed (counted t) ≡ replied t ++ rs
+
+abbrev pub AreDueFirst : List Msg → List Msg → Trail → Type 0
+AreDueFirst rs more t = owed (counted t) ≡ replied t ++ (rs ++ more)
+
+due_all : (rs : List Msg) (t : Trail) → AreDue rs t → AreDueFirst rs [] t
+due_all rs t due = due ∙ ap (λ (xs : List Msg). replied t ++ xs) (sym (append-nil rs))
 
 reply_sent : (r : Msg) (log : Log) (p : ℕ) → IsReply r → connected (trail log p) ≡ true → met (trail log p) ≡ true → IsNextReply (trail log p) r → MaySend log p r
 reply_sent r log p is on over =
     by_reply (λ (m : Msg). IsNextReply (trail log p) m → MaySend log p m) (λ next. record { of_its_part = (on, over, next); wanted = tt; alone = tt }) (λ number next. record { of_its_part = (on, over, next); wanted = tt; alone = tt }) r is
 
 -- once the first of them is sent
-due_next : (r : Msg) (rs : List Msg) (before after : Part) → IsReply r → after ≡ with_item (Asked r) before → AreDue (r ∷ rs) before.trail → AreDue rs after.trail
-due_next r rs before after is here due =
-    ap (λ (x : Part). owed (counted x.trail)) here ∙ due ∙ sym (append_assoc (replied before.trail) (r ∷ []) rs)
-    ∙ ap (λ (xs : List Msg). (replied before.trail ++ xs) ++ rs) (sym (as_itself r is)) ∙ sym (ap (λ (x : Part). replied x.trail ++ rs) here)
+due_next : (r : Msg) (rs more : List Msg) (before after : Part) → IsReply r → after ≡ with_item (Asked r) before → AreDueFirst (r ∷ rs) more before.trail → AreDueFirst rs more after.trail
+due_next r rs more before after is here due =
+    ap (λ (x : Part). owed (counted x.trail)) here ∙ due ∙ sym (append_assoc (replied before.trail) (r ∷ []) (rs ++ more))
+    ∙ ap (λ (xs : List Msg). (replied before.trail ++ xs) ++ (rs ++ more)) (sym (as_itself r is)) ∙ sym (ap (λ (x : Part). replied x.trail ++ (rs ++ more)) here)
 
 reply_needed : (watch : List (List ℕ)) (r : Msg) (log : Log) (p : ℕ) → IsReply r → IsCalledFor watch log p r
 reply_needed watch r log p is = by_reply (IsCalledFor watch log p) tt (λ number. tt) r is
 
-replies_done : {watch : List (List ℕ)} (p : PeerNo) (rs : List Msg) (log : Log) → p.0 ≤ (tally_of log).dials → AllByRecursion IsReply rs → AreSendable rs
-    → connected (trail log p.0) ≡ true → (rs ≡ []) ⊎ (met (trail log p.0) ≡ true) → AreDue rs (trail log p.0) → RepliesDone watch p rs log
-replies_done p [] log number are sendable on over due = record { allowed = tt; here = refl; others = λ q ne. refl; count = refl }
-replies_done p (r ∷ rs) log number are sendable on (inl none) due = absurd (let e : r ∷ rs ≡ [] = none in cc)
-replies_done {watch = watch} p (r ∷ rs) log number are sendable on (inr over) due =
+pub replies_done : {watch : List (List ℕ)} (p : PeerNo) (rs more : List Msg) (log : Log) → p.0 ≤ (tally_of log).dials → AllByRecursion IsReply rs → AreSendable rs
+    → connected (trail log p.0) ≡ true → (rs ≡ []) ⊎ (met (trail log p.0) ≡ true) → AreDueFirst rs more (trail log p.0) → RepliesDone watch p rs log
+replies_done p [] more log number are sendable on over due = record { allowed = tt; here = refl; others = λ q ne. refl; count = refl }
+replies_done p (r ∷ rs) more log number are sendable on (inl none) due = absurd (let e : r ∷ rs ≡ [] = none in cc)
+replies_done {watch = watch} p (r ∷ rs) more log number are sendable on (inr over) due =
     let next = Sent p (bytes_of r) ∷ log in
     let here : part_of next p.0 ≡ with_item (Asked r) (part_of log p.0) = sent_here p r (part_of log p.0) sendable.0 in
-    let more = replies_done {watch = watch} p rs next number are.1 sendable.1 (ap (λ (x : Part). connected x.trail) here ∙ on) (inr (ap (λ (x : Part). met x.trail) here ∙ over)) (due_next r rs (part_of log p.0) (part_of next p.0) are.0 here due) in
+    let rest = replies_done {watch = watch} p rs more next number are.1 sendable.1 (ap (λ (x : Part). connected x.trail) here ∙ on) (inr (ap (λ (x : Part). met x.trail) here ∙ over))
+    (due_next r rs more (part_of log p.0) (part_of next p.0) are.0 here due) in
     record {
-      allowed = ((number, sendable.0, reply_sent r log p.0 are.0 on over (rs, due), reply_needed watch r log p.0 are.0), more.allowed);
-      here = more.here ∙ ap (asked_all rs) here;
-      others = λ q ne. more.others q ne ∙ sent_others p (bytes_of r) q (part_of log q) ne;
-      count = more.count;
+      allowed = ((number, sendable.0, reply_sent r log p.0 are.0 on over (rs ++ more, due), reply_needed watch r log p.0 are.0), rest.allowed);
+      here = rest.here ∙ ap (asked_all rs) here;
+      others = λ q ne. rest.others q ne ∙ sent_others p (bytes_of r) q (part_of log q) ne;
+      count = rest.count;
     }
 
 -- what replies leave as it is
-record Unchanged (rs : List Msg) (part : Part) : Type 0 where
-  waits : (asked_all rs part).waits ≡ part.waits
-  on : connected (asked_all rs part).trail ≡ connected part.trail
-  first : verdict (asked_all rs part).trail ≡ verdict part.trail
-  owes : owed (asked_all rs part).trail ≡ owed part.trail
-  replies : replied (asked_all rs part).trail ≡ replied part.trail ++ rs
-  greets : IsGreetedBy (asked part.trail) → IsGreetedBy (asked (asked_all rs part).trail)
-  holds : (peer : Peer) → Holds peer part.trail → Holds peer (asked_all rs part).trail
+pub record Unchanged (rs : List Msg) (part : Part) : Type 0 where
+  pub waits : (asked_all rs part).waits ≡ part.waits
+  pub on : connected (asked_all rs part).trail ≡ connected part.trail
+  pub first : verdict (asked_all rs part).trail ≡ verdict part.trail
+  pub owes : owed (asked_all rs part).trail ≡ owed part.trail
+  pub replies : replied (asked_all rs part).trail ≡ replied part.trail ++ rs
+  pub greets : IsGreetedBy (asked part.trail) → IsGreetedBy (asked (asked_all rs part).trail)
+  pub holds : (peer : Peer) → Holds peer part.trail → Holds peer (asked_all rs part).trail
 
 holds_asked : (r : Msg) (peer : Peer) (t : Trail) → IsReply r → Holds peer t → Holds peer (Asked r ∷ t)
 holds_asked r peer t is h = by_reply (λ (m : Msg). Holds peer (Asked m ∷ t))
@@ -197,7 +207,7 @@ holds_asked r peer t is h = by_reply (λ (m : Msg). Holds peer (Asked m ∷ t))
 no_version : (r : Msg) → IsReply r → is_version r ≡ false
 no_version r is = by_reply (λ (m : Msg). is_version m ≡ false) refl (λ number. refl) r is
 
-unchanged : (rs : List Msg) (part : Part) → AllByRecursion IsReply rs → Unchanged rs part
+pub unchanged : (rs : List Msg) (part : Part) → AllByRecursion IsReply rs → Unchanged rs part
 unchanged [] part are = record { waits = refl; on = refl; first = refl; owes = refl; replies = sym (append-nil (replied part.trail)); greets = λ greeted. greeted; holds = λ peer h. h }
 unchanged (r ∷ rs) part are =
     let more = unchanged rs (with_item (Asked r) part) are.1 in
@@ -211,19 +221,19 @@ unchanged (r ∷ rs) part are =
       holds = λ peer h. more.holds peer (holds_asked r peer part.trail are.0 h);
     }
 
-asked_replied : (rs : List Msg) (part : Part) → AllByRecursion IsReply rs → replied (asked_all rs part).trail ≡ replied part.trail ++ rs
+pub asked_replied : (rs : List Msg) (part : Part) → AllByRecursion IsReply rs → replied (asked_all rs part).trail ≡ replied part.trail ++ rs
 asked_replied rs part are = (unchanged rs part are).replies
 
 -- what is sent changes nothing of what counts of its words
-asked_owes : (rs : List Msg) (part : Part) → owed (counted part.trail) ≡ owed (counted (asked_all rs part).trail)
+pub asked_owes : (rs : List Msg) (part : Part) → owed (counted part.trail) ≡ owed (counted (asked_all rs part).trail)
 asked_owes [] part = refl
 asked_owes (r ∷ rs) part = asked_owes rs (with_item (Asked r) part)
 
 -- replies and what they leave, after a piece
-heard_log : (p : PeerNo) (piece : List ℕ) (log : Log) → part_of (Took (Got p piece) ∷ log) p.0 ≡ heard_part piece (part_of log p.0)
+pub heard_log : (p : PeerNo) (piece : List ℕ) (log : Log) → part_of (Took (Got p piece) ∷ log) p.0 ≡ heard_part piece (part_of log p.0)
 heard_log p piece log = got_here p piece (part_of log p.0)
 
-met_by : (p : PeerNo) (rs : List Msg) (part end : Part) → part ≡ end → (rs ≡ []) ⊎ (met end.trail ≡ true) → (rs ≡ []) ⊎ (met part.trail ≡ true)
+pub met_by : (p : PeerNo) (rs : List Msg) (part end : Part) → part ≡ end → (rs ≡ []) ⊎ (met end.trail ≡ true) → (rs ≡ []) ⊎ (met part.trail ≡ true)
 met_by p rs part end e (inl none) = inl none
 met_by p rs part end e (inr over) = inr (ap (λ (x : Part). met x.trail) e ∙ over)
 
@@ -233,7 +243,7 @@ due_by piece rs start part here answered owes =
     ap (λ (x : Part). owed (counted x.trail)) here ∙ owes ∙ ap (λ (xs : List Msg). xs ++ rs) (sym answered.replies ∙ sym (heard_says piece start).replies)
     ∙ sym (ap (λ (x : Part). replied x.trail ++ rs) here)
 
-sendable_by : (p : PeerNo) (rs : List Msg) → All IsDoable (sends p rs) → AreSendable rs
+pub sendable_by : (p : PeerNo) (rs : List Msg) → All IsDoable (sends p rs) → AreSendable rs
 sendable_by p [] h = tt
 sendable_by p (r ∷ rs) h = ((h 0 (Send p r) (omega arith)).1, sendable_by p rs (λ k d lt. h (suc k) d (omega arith)))
 
@@ -254,8 +264,8 @@ whole_at {watch = watch} places log p piece peer seen now acts lt stand on answe
     let here = heard_log p piece log in
     let part = heard_part piece (part_of log p.0) in
     let up : connected (trail next p.0) ≡ true = ap (λ (x : Part). connected x.trail) here ∙ heard_connected piece (part_of log p.0) ∙ on in
-    let done = replies_done {watch = watch} p rs next (number_within places log p.0 stand lt) whole.are.each sendable up (met_by p rs (part_of next p.0) part here whole.are.after_version)
-    (due_by piece rs (part_of log p.0) (part_of next p.0) here answered ((same_use part.trail whole.holds.on whole.holds.clean).owing ∙ whole.owes)) in
+    let done = replies_done {watch = watch} p rs [] next (number_within places log p.0 stand lt) whole.are.each sendable up (met_by p rs (part_of next p.0) part here whole.are.after_version)
+    (due_all rs (trail next p.0) (due_by piece rs (part_of log p.0) (part_of next p.0) here answered ((same_use part.trail whole.holds.on whole.holds.clean).owing ∙ whole.owes))) in
     let same = unchanged rs part whole.are.each in
     let at_end : part_of (after (sends p rs) next) p.0 ≡ asked_all rs part = done.here ∙ ap (asked_all rs) here in
     let keeps : Keeps peer (asked_all rs part) = record {
@@ -281,11 +291,11 @@ whole_at {watch = watch} places log p piece peer seen now acts lt stand on answe
     })
 
 -- what a connected peer's place holds of its part, and the chain that is kept of it
-place_keeps : (places : List Place) (log : Log) (p : PeerNo) (peer : Peer) → get_or places p.0 nobody ≡ Here peer → PlacesStand places log → Keeps peer (part_of log p.0)
+pub place_keeps : (places : List Place) (log : Log) (p : PeerNo) (peer : Peer) → get_or places p.0 nobody ≡ Here peer → PlacesStand places log → Keeps peer (part_of log p.0)
 place_keeps places log p peer here stand = subst (λ (x : Place). Fits x (part_of log p.0)) here (stand.each p.0)
 
 -- what is kept of a connected peer's chain and claims
-follows_is : (seen : Seen) (log : Log) (p : ℕ) → Tracks seen log → connected (trail log p) ≡ true → verdict (trail log p) ≡ None → Follows seen p (trail log p)
+pub follows_is : (seen : Seen) (log : Log) (p : ℕ) → Tracks seen log → connected (trail log p) ≡ true → verdict (trail log p) ≡ None → Follows seen p (trail log p)
 follows_is seen log p tracks on clean =
     let t = trail log p in
     record {
@@ -302,6 +312,10 @@ HearsWhole p piece old peer seen now before acts =
 abbrev pub HearsFault : PeerNo → List ℕ → Peer → Seen → Seen → List Act → List Act → Cause → Type 0
 HearsFault p piece old seen now before acts cause =
     (part : Part) → Holds old part.trail → old.framer ≡ part.waits → Follows seen p.0 part.trail → HeardFault p seen now before acts part (heard_part piece part) cause
+
+abbrev pub HearsExposed : PeerNo → List ℕ → Peer → Seen → Seen → List Act → List Act → Hash → Hash → Type 0
+HearsExposed p piece old seen now before acts block filter =
+    (part : Part) → Holds old part.trail → old.framer ≡ part.waits → Follows seen p.0 part.trail → HeardExposed p seen now before acts part (heard_part piece part) block filter
 
 whole_of : (places : List Place) (log : Log) (p : PeerNo) (piece : List ℕ) (old peer : Peer) (seen now : Seen) (before acts : List Act)
     → before ≡ [] → get_or places p.0 nobody ≡ Here old → PlacesStand places log → Tracks seen log
@@ -326,12 +340,17 @@ reply_asks Verack t is = (refl, refl)
 reply_asks (Pong number) t is = (refl, refl)
 reply_asks r t is = absurd is
 
+reply_only : (r : Msg) → IsReply r → IsNoQuestion (Some r)
+reply_only Verack is = λ filter start stop e. cc
+reply_only (Pong number) is = λ filter start stop e. cc
+reply_only r is = absurd is
+
 -- and changes nothing that is seen
-sends_track : (p : PeerNo) (rs : List Msg) (s : Seen) (log : Log) → AllByRecursion IsReply rs → AreSendable rs → Tracks s log → Tracks s (after (sends p rs) log)
+pub sends_track : (p : PeerNo) (rs : List Msg) (s : Seen) (log : Log) → AllByRecursion IsReply rs → AreSendable rs → Tracks s log → Tracks s (after (sends p rs) log)
 sends_track p [] s log are sendable tracks = tracks
 sends_track p (r ∷ rs) s log are sendable tracks =
     let same = reply_asks r (trail log p.0) are.0 in
-    sends_track p rs s (Sent p (bytes_of r) ∷ log) are.1 sendable.1 (tracks_sent s p (bytes_of r) r log (spelled_bytes r sendable.0) same.0 same.1 tracks)
+    sends_track p rs s (Sent p (bytes_of r) ∷ log) are.1 sendable.1 (tracks_sent s p (bytes_of r) r log (spelled_bytes r sendable.0) same.0 same.1 (reply_only r are.0) tracks)
 
 -- a piece all of which was taken
 whole_tracks : (places : List Place) (log : Log) (p : PeerNo) (piece : List ℕ) (old peer : Peer) (seen now : Seen) (before acts : List Act)
@@ -355,8 +374,8 @@ fault_at {watch = watch} places log p piece cause seen now acts lt stand on answ
     let part = heard_part piece (part_of log p.0) in
     let on_then : connected (trail next p.0) ≡ true = ap (λ (x : Part). connected x.trail) here ∙ heard_connected piece (part_of log p.0) ∙ on in
     let number = number_within places log p.0 stand lt in
-    let done = replies_done {watch = watch} p rs next number fault.are.each sendable on_then (met_by p rs (part_of next p.0) part here fault.are.after_version)
-    (due_by piece rs (part_of log p.0) (part_of next p.0) here answered fault.owes) in
+    let done = replies_done {watch = watch} p rs [] next number fault.are.each sendable on_then (met_by p rs (part_of next p.0) part here fault.are.after_version)
+    (due_all rs (trail next p.0) (due_by piece rs (part_of log p.0) (part_of next p.0) here answered fault.owes)) in
     let same = unchanged rs part fault.are.each in
     let later = after (sends p rs) next in
     let at_end : part_of later p.0 ≡ asked_all rs part = done.here ∙ ap (asked_all rs) here in
@@ -379,7 +398,7 @@ fault_at {watch = watch} places log p piece cause seen now acts lt stand on answ
               (subst (λ t. Fits (get_or places q nobody) t) (sym (closed_others p q (part_of later q) other ∙ done.others q other ∙ got_others p piece q (part_of log q) other)) (stand.each q))
         ];
       });
-      allowed = allowed-append watch (sends p rs) (Close p cause) next done.allowed (count, inl (up, guilty), λ sound. replied_all);
+      allowed = allowed-append watch (sends p rs) (Close p cause) next done.allowed (count, inl (inl (up, guilty)), inl (λ sound. replied_all));
     })
 
 fault_of : (places : List Place) (log : Log) (p : PeerNo) (piece : List ℕ) (old : Peer) (cause : Cause) (seen now : Seen) (before acts : List Act)
@@ -415,8 +434,18 @@ faulty_tracks places log p piece old cause seen now last before acts none here s
 -- a failed send cuts a peer off
 cut_tracks : (log cut : Log) (p : PeerNo) (seen last : Seen) → Tracks seen log → CutFor p log cut → IsPut seen last p.0 None no_claims → Tracks last (Closed p ∷ cut)
 cut_tracks log cut p seen last tracks is put =
-    let lost : Tracks last cut = tracks_lost seen last p log cut put is.off is.others is.brought is.gave tracks in
+    let lost : Tracks last cut = tracks_lost seen last p log cut put is.off is.others is.brought is.gave (is.tests seen.trials tracks.trials) tracks in
     tracks_closed last last p cut (put_off last cut p.0 is.off lost) lost
+
+-- what becomes of nobody being exposed, whatever p's part is
+abbrev pub HearsUnexposed : PeerNo → Peer → Seen → Type 0 → Type 0
+HearsUnexposed p old seen after = (part : Part) → Holds old part.trail → old.framer ≡ part.waits → Follows seen p.0 part.trail → IsUnexposed seen → after
+
+pub unexposed_after : (places : List Place) (log : Log) (p : PeerNo) (old : Peer) (seen : Seen) (after : Type 0) → get_or places p.0 nobody ≡ Here old → PlacesStand places log → Tracks seen log
+    → HearsUnexposed p old seen after → IsUnexposed seen → after
+unexposed_after places log p old seen after here stand tracks unexposes none =
+    let keeps = place_keeps places log p old here stand in
+    unexposes (part_of log p.0) keeps.holds keeps.waits (follows_is seen log p.0 tracks keeps.holds.on keeps.holds.clean) none
 
 -- ---- deliveries, as steps
 
@@ -425,27 +454,29 @@ pub deaf_moves : (d : Desk) (p : PeerNo) (piece : List ℕ) (end : Loss) → d.a
 deaf_moves d p piece end none order lost = stay_moves order (taken (λ log stood. record {
   goes = deaf_goes d.places d.acts log p piece end none lost (start_places d log none stood);
   tracks = deaf_tracks d.places d.acts log p piece end d.seen none lost (start_places d log none stood) (start_tracks d log none stood);
+  unexposed = stood.unexposed;
 }))
 
 -- a piece all of which is taken
 pub heard_moves : (d : Desk) (p : PeerNo) (piece : List ℕ) (old peer : Peer) (now : Seen) (acts : List Act)
     → p.0 < length d.places → d.acts ≡ [] → IsInOrder d → get_or d.places p.0 nobody ≡ Here old → HearsWhole p piece old peer d.seen now d.acts acts
-    → IsChanged d.seen now p.0 (Here peer) → All IsDoable acts → (calm old ≡ true → calm peer ≡ true)
+    → HearsUnexposed p old d.seen (IsUnexposed now) → IsChanged d.seen now p.0 (Here peer) → All IsDoable acts → (calm old ≡ true → calm peer ≡ true)
     → Moves (Taking (Got p piece)) d (record { places = set d.places p.0 (Here peer); seen = now; acts = acts })
-heard_moves d p piece old peer now acts lt none order here heard changed doable calms =
+heard_moves d p piece old peer now acts lt none order here heard unexposes changed doable calms =
     set_moves p.0 (Here peer) lt order changed (extends_none d.acts acts none) (λ all. doable) (λ was. calms (subst (λ (y : Place). is_calm y ≡ true) here was))
     (taken (λ log stood. record {
       goes = goes_watch changed.watch (heard_goes d.places log p piece old peer d.seen now d.acts acts lt none here (start_places d log none stood) (start_tracks d log none stood) heard doable);
       tracks = whole_tracks d.places log p piece old peer d.seen now d.acts acts none here (start_places d log none stood) (start_tracks d log none stood) heard doable;
+      unexposed = unexposed_after d.places log p old d.seen (IsUnexposed now) here (start_places d log none stood) (start_tracks d log none stood) unexposes stood.unexposed;
     }))
 
 -- a piece in which a frame deserves a cause, for which its peer is closed and forgotten
 pub faulty_moves : (d : Desk) (p : PeerNo) (piece : List ℕ) (old : Peer) (cause : Cause) (now last : Seen) (acts : List Act)
-    → p.0 < length d.places → d.acts ≡ [] → IsInOrder d → get_or d.places p.0 nobody ≡ Here old → HearsFault p piece old d.seen now d.acts acts cause
+    → p.0 < length d.places → d.acts ≡ [] → IsInOrder d → get_or d.places p.0 nobody ≡ Here old → HearsFault p piece old d.seen now d.acts acts cause → HearsUnexposed p old d.seen (IsUnexposed now)
     → ((q : ℕ) → q ≢ p.0 → now.chains q ≡ d.seen.chains q) → ((q : ℕ) → q ≢ p.0 → (block : Hash) → now.claims q block ≡ d.seen.claims q block) → now.watch ≡ d.seen.watch → All IsDoable acts
     → IsPut now last p.0 None no_claims
     → Moves (Taking (Got p piece)) d (record { places = set d.places p.0 (Lost (ClosedFor cause)); seen = last; acts = acts ++ Close p cause ∷ [] })
-faulty_moves d p piece old cause now last acts lt none order here heard others claims watch doable put =
+faulty_moves d p piece old cause now last acts lt none order here heard unexposes others claims watch doable put =
     set_moves p.0 (Lost (ClosedFor cause)) lt order (record {
       watch = put.watch ∙ watch;
       others = λ q other. put.others q other ∙ others q other;
@@ -457,6 +488,8 @@ faulty_moves d p piece old cause now last acts lt none order here heard others c
     (taken (λ log stood. record {
       goes = goes_watch (put.watch ∙ watch) (faulty_goes d.places log p piece old cause d.seen now d.acts acts lt none here (start_places d log none stood) (start_tracks d log none stood) heard doable);
       tracks = faulty_tracks d.places log p piece old cause d.seen now last d.acts acts none here (start_places d log none stood) (start_tracks d log none stood) heard doable put;
+      unexposed = unexposed_put now last p.0 put
+          (unexposed_after d.places log p old d.seen (IsUnexposed now) here (start_places d log none stood) (start_tracks d log none stood) unexposes stood.unexposed);
     }))
 
 -- what is sent for a piece are replies, and then its peer may be closed
@@ -502,21 +535,21 @@ gone_moves d p after none lt order here put =
     (stand_at d.places log p.0 (Lost HasGone) (Took (Gone p)) lt (start_places d log none stood) (λ q other. gone_others p q (part_of log q) other) refl
     (subst (λ (x : Part). IsLost HasGone x.trail) (sym (gone_here p (part_of log p.0)))
     (goes_now (trail log p.0) (here_on (get_or d.places p.0 nobody) (part_of log p.0) ((start_places d log none stood).each p.0) ∙ here))))
-    (tracks_gone d.seen after p log put (start_tracks d log none stood))))
+    (tracks_gone d.seen after p log put (start_tracks d log none stood)) (unexposed_put d.seen after p.0 put stood.unexposed)))
 
 pub away_moves : (d : Desk) (p : PeerNo) → d.acts ≡ [] → IsInOrder d → is_here (get_or d.places p.0 nobody) ≡ false → Moves (Taking (Gone p)) d d
 away_moves d p none order away = stay_moves order (taken (λ log stood.
     let stand = start_places d log none stood in
     stands_start d.places d.seen d.acts (Took (Gone p) ∷ log) none
     (stand_same d.places log (Took (Gone p)) stand (λ q fits. gone_fits (get_or d.places q nobody) p q (part_of log q) (λ same. ap (λ (k : ℕ). is_here (get_or d.places k nobody)) same ∙ away) fits) refl)
-    (tracks_away d.seen p log (here_on (get_or d.places p.0 nobody) (part_of log p.0) (stand.each p.0) ∙ away) (start_tracks d log none stood))))
+    (tracks_away d.seen p log (here_on (get_or d.places p.0 nobody) (part_of log p.0) (stand.each p.0) ∙ away) (start_tracks d log none stood)) stood.unexposed))
 
 -- the end of all deliveries changes nothing
 pub ended_moves : (d : Desk) → d.acts ≡ [] → IsInOrder d → Moves (Taking Ended) d d
 ended_moves d none order = stay_moves order (taken (λ log stood.
     stands_start d.places d.seen d.acts (Took Ended ∷ log) none
     (stand_same d.places log (Took Ended) (start_places d log none stood) (λ q fits. fits) refl)
-    (tracks_ended d.seen log (start_tracks d log none stood))))
+    (tracks_ended d.seen log (start_tracks d log none stood)) stood.unexposed))
 
 -- the send to a peer has failed, and it is closed
 cut_goes : {watch : List (List ℕ)} (places : List Place) (log cut : Log) (p : PeerNo) → p.0 < length places → PlacesStand places log → CutFor p log cut → Goes watch (set places p.0 (Lost (ClosedFor SendFailed))) (Close p SendFailed ∷ []) cut
@@ -531,7 +564,7 @@ cut_goes places log cut p lt stand is = record {
           (subst (λ t. Fits (get_or places q nobody) t) (sym (closed_others p q (part_of cut q) other ∙ is.others q other)) (stand.each q))
     ];
   };
-  allowed = ((omega (arith, number_within places log p.0 stand lt, is.dials), inr (inl (refl, is.broken)), λ sound. absurd (both_ways (failed (trail cut p.0)) sound is.broken)), tt);
+  allowed = ((omega (arith, number_within places log p.0 stand lt, is.dials), inl (inr (inl (refl, is.broken))), inl (λ sound. absurd (both_ways (failed (trail cut p.0)) sound is.broken))), tt);
 }
 
 pub cut_moves : (d : Desk) (p : PeerNo) (after : Seen) → d.acts ≡ [] → p.0 < length d.places → IsInOrder d → IsPut d.seen after p.0 None no_claims
@@ -542,6 +575,7 @@ cut_moves d p after none lt order put =
     subst (λ (xs : List Act). Stands (record { places = set d.places p.0 (Lost (ClosedFor SendFailed)); seen = after; acts = xs ++ Close p SendFailed ∷ [] }) cut) (sym none) (record {
       goes = cut_goes d.places log cut p is.0 (start_places d log none stood) is.1;
       tracks = cut_tracks log cut p d.seen after (start_tracks d log none stood) is.1 put;
+      unexposed = unexposed_put d.seen after p.0 put stood.unexposed;
     }))
 
 -- time has passed, and then whoever was late was closed
@@ -549,7 +583,7 @@ pub tick_moves : (d : Desk) (places : List Place) (seconds : ℕ) (now : Desk) �
     → Moves Same (record { places = places; seen = d.seen; acts = d.acts }) now → AreCalm now.places → Moves (Taking (Tick seconds)) d now
 tick_moves d places seconds now none passed closed calm = record {
   stands = λ log next is stood.
-      let ticked = stands_start places d.seen d.acts (Took (Tick seconds) ∷ log) none (passed log (start_places d log none stood)) (tracks_tick d.seen seconds log (start_tracks d log none stood)) in
+      let ticked = stands_start places d.seen d.acts (Took (Tick seconds) ∷ log) none (passed log (start_places d log none stood)) (tracks_tick d.seen seconds log (start_tracks d log none stood)) stood.unexposed in
       closed.stands (Took (Tick seconds) ∷ log) next is ticked;
   order = closed.order;
   watch = closed.watch;

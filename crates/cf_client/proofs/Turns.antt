@@ -43,6 +43,7 @@ use Rattle.cf_sync.specs.Planned.{is_untold, ArePlanned}
 use Rattle.cf_sync.proofs.Planning.{own_plan}
 use Rattle.cf_sync.proofs.Settles.{followed_is}
 use Rattle.cf_client.proofs.Innocent.{innocent, answered}
+use Rattle.cf_client.proofs.Blaming.{blameless, has_blamed}
 use Rattle.cf_client.proofs.Performs.{tells_more, lost_off, sent_connected, untold_failing_here, untold_failing_others, untold_closed_others}
 
 -- what a piece says connects nobody, and cuts nobody off
@@ -96,6 +97,7 @@ same_doing c acts progress called names t u holds e notes told = record {
 pub orderly : {H M : Type 0} {g : Ghosts H} {j : Judges M} (c : Client H M g j) (progress : Progress) (called : List (List ℕ)) (t : Told) (holds : HoldsOver c progress called t) → IsOrderly holds.actual
 orderly c progress called t holds = record {
   innocent = innocent c holds.actual holds.reflects;
+  blameless = blameless c holds.actual holds.reflects holds.notes.rightly;
   answered = answered c holds.actual holds.reflects;
   told = holds.told_all;
 }
@@ -216,6 +218,7 @@ ended_stops c progress called t holds busy = record {
       alive = holds.reflects.alive;
       places = record { count = holds.reflects.places.count; each = holds.reflects.places.each };
       tracks = tracks_ended (seen_by c) holds.actual holds.reflects.tracks;
+      unexposed = holds.reflects.unexposed;
     };
     told_all = λ q. refl;
     none = holds.none;
@@ -373,6 +376,8 @@ finishes end c progress called t height hash entries stopped told =
         settled = λ is. followed_is (watch_by c) height hash entries holds.actual
             (record { watchable = report.watchable; bytes = holds.notes.bytes; rightly = holds.notes.rightly; told = report.told; asked_out = report.asked_out })
             (subst (λ (e : End). IsEnd e holds.actual) is stopped.why).0 (subst (λ (e : End). IsEnd e holds.actual) is stopped.why).1;
+        blames = λ clash quiet. has_blamed c holds.actual report.told.chain holds.reflects holds.notes.bytes holds.notes.rightly clash report.told.best
+            (λ p on. (report.asked_out p on (quiet p)).tested);
         planned = holds.notes.planned;
         was_orderly = holds.notes.order;
         orderly = orderly c progress called t holds;

@@ -21,11 +21,13 @@ use Rattle.cf_wires.specs.declared.event.Mark.TheVariants.{NotYet, Called, Misse
 use Rattle.cf_wires.specs.Log.{Log, Told, Tally, Tells, tally_of, mark_of, dials}
 use Rattle.cf_wires.specs.Wires.{Made}
 use Rattle.cf_peer.specs.Trail.{trail, spelled, connected, failed}
-use Rattle.cf_peer.specs.Asking.{Deserves, given}
+use Rattle.cf_peer.specs.Asking.{given}
 use Rattle.cf_scan.specs.declared.history.Entry.{Entry}
-use Rattle.cf_sync.specs.Fetching.{IsBusy, IsConnected, IsSameFetched, Rightly, AreBytes, counted_part}
+use Rattle.cf_headers.specs.Chain.{NoHashClash}
+use Rattle.cf_sync.specs.Blame.{AreBlamed}
+use Rattle.cf_sync.specs.Fetching.{IsBusy, IsQuiet, IsConnected, IsSameFetched, Rightly, AreBytes, counted_part, DeservesIn}
 use Rattle.cf_sync.specs.Planned.{is_untold, IsPlanned, ArePlanned}
-use Rattle.cf_sync.specs.Sync.{HasAsked}
+use Rattle.cf_sync.specs.Sync.{HasAsked, IsHashed}
 use Rattle.cf_sync.specs.Sync as sync
 use Rattle.cf_client.specs.declared.client.Client.{Client}
 use Rattle.cf_client.specs.declared.outcome.End.{End}
@@ -36,8 +38,8 @@ use Rattle.cf_client.specs.declared.progress.SendState.TheVariants.{Fine, Pendin
 use Rattle.cf_place.specs.declared.state.State.TheVariants.{Synced as IsSynced, NoPeers as HasNoPeers}
 use Rattle.cf_client.specs.declared.trace.TraceLine.{TraceLine}
 use Rattle.cf_client.specs.declared.trace.TraceLine.TheVariants.{Sent as SentLine, Closed as ClosedLine}
-use Rattle.cf_place.specs.Places.{after, Allowed, IsReplied, IsState}
-use Rattle.cf_client.specs.Stands.{Reflects, IsInnocent, AreAnswered, watch_by}
+use Rattle.cf_place.specs.Places.{after, Allowed, IsRepliedIn, IsState}
+use Rattle.cf_client.specs.Stands.{Reflects, IsBlameless, IsInnocent, AreAnswered, watch_by}
 
 -- how the sends to a peer have gone
 abbrev pub state_at : List SendState → ℕ → SendState
@@ -72,10 +74,11 @@ AreBytesOf (Gone p) = Unit {0}
 AreBytesOf (Tick s) = Unit {0}
 AreBytesOf Ended = Unit {0}
 
--- At a moment between two calls of the client: nobody who is connected deserves a cause; each was sent the client's version first, and what is
+-- At a moment between two calls of the client: nobody who is connected deserves a cause, nor claims a filter that was tested and omits something; each was sent the client's version first, and what is
 -- owed to its messages; and each peer to which a send has failed was closed.
 pub record IsOrderly (log : Log) : Type 0 where
   pub innocent : IsInnocent log
+  pub blameless : IsBlameless log
   pub answered : AreAnswered log
   pub told : (p : ℕ) → is_untold log p ≡ false
 
@@ -86,7 +89,7 @@ WasOrderly (Dialled p name ∷ log) = WasOrderly log
 WasOrderly (NotDialled p name ∷ log) = WasOrderly log
 WasOrderly (Sent p bytes ∷ log) = WasOrderly log
 WasOrderly (SendFailed p ∷ log) = IsConnected log p.0 × WasOrderly log
-WasOrderly (Closed p ∷ log) = IsReplied (trail log p.0) × WasOrderly log
+WasOrderly (Closed p ∷ log) = IsRepliedIn log p.0 × WasOrderly log
 WasOrderly (Took d ∷ log) = IsOrderly log × WasOrderly log
 
 -- the peers are numbered from 1 in the order in which they were dialled
@@ -120,7 +123,7 @@ IsSentLine p bytes (ClosedLine q cause) = ⊥
 
 abbrev pub IsClosedLine : Log → PeerNo → TraceLine → Type 0
 IsClosedLine log p (SentLine q command) = ⊥
-IsClosedLine log p (ClosedLine q cause) = (q ≡ p) × Deserves (trail log p.0) cause
+IsClosedLine log p (ClosedLine q cause) = (q ≡ p) × DeservesIn log p.0 cause
 
 -- the lines, the newest first, are those of the log: one for each message sent, and one for each close, with a cause that the peer deserved then
 abbrev pub IsTraceOf : Log → List TraceLine → Type 0
@@ -306,10 +309,12 @@ IsEnd Tired log = IsBusy log
 IsEnd EndedFirst log = (before : Log) × ((log ≡ Took Ended ∷ before) × IsBusy before)
 
 -- What a run that ended so has done, by its log. With nothing open each connected peer was heard out, and its filter header is known at each block that its own
--- chain shares with the best one; and each of the best chain's blocks is settled.
+-- chain shares with the best one; and each of the best chain's blocks is settled. With nothing open what each claims of the fetched blocks on which they differ was
+-- tested, and nobody is left whose filter omits something (where no strings clash).
 pub record Followed (watch : List (List ℕ)) (end : End) (height : ℕ) (hash : Hash32) (entries : List Entry) (lines : List TraceLine) (called : List (List ℕ)) (log : Log) : Type 0 where
   pub asked : HasAsked watch height hash entries log
   pub settled : end ≡ Synced → sync.Followed watch height hash entries log
+  pub blames : NoHashClash (IsHashed log []) → IsQuiet log → AreBlamed log asked.told.chain
   pub planned : ArePlanned watch log
   pub was_orderly : WasOrderly log
   pub orderly : IsOrderly log

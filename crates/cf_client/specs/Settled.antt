@@ -1,8 +1,8 @@
 -- What is true of a client's places and of what it has seen between two calls.
-use Rattle.std.specs.Prelude.{◌≡◌, ℕ, true, List, [], is_some, unwrap_or, Some}
+use Rattle.std.specs.Prelude.{◌≡◌, ℕ, true, List, [], is_some, unwrap_or, None, Some}
 use Rattle.cf_bytes.specs.declared.peer.PeerNo.{PeerNo}
 use Rattle.cf_dispute.specs.Claims.{Table, Tables}
-use Rattle.cf_headers.specs.Chain.{Chain}
+use Rattle.cf_headers.specs.Chain.{Chain, Hash}
 use Rattle.cf_headers.specs.Heights.{common_of}
 use Rattle.cf_headers.specs.Store.{IsBest}
 use Rattle.cf_hear.specs.Seen.{Seen}
@@ -11,6 +11,7 @@ use Rattle.cf_peer.specs.Peer.{IsRight}
 use Rattle.cf_seek.specs.Tables as extracts
 use Rattle.cf_seek.specs.Opens.{Opens}
 use Rattle.cf_seek.specs.Seeking.{ArePassed, AreSought}
+use Rattle.cf_seek.specs.Testing.{AreDisputesIn, IsNextTrial}
 use Rattle.cf_seek.specs.Wanting.{AreClaimed}
 use Rattle.cf_place.specs.declared.place.Place.{Place}
 use Rattle.cf_place.specs.declared.place.Place.TheVariants.{Here, Lost}
@@ -40,11 +41,18 @@ pub record IsThrough (extracts : extracts.Table) (tables : Tables) (verdicts : V
   pub judged : AreSought extracts tables verdicts opens own common
   pub fetched : ArePassed extracts tables verdicts opens own common
 
+-- Of some blocks, each fetched one on which they differ among them, there is none on a peer's chain up to a height of which what it claims is to be tested.
+pub record IsTriedThrough (s : Seen) (p : ℕ) (own : Chain) (common : ℕ) : Type 0 where
+  pub listed : List Hash
+  pub disputes : AreDisputesIn s.table s.claims listed
+  pub tried : IsNextTrial s.table s.claims s.trials.told p own common listed None
+
 -- a peer with nothing open has nothing left to be asked about what it shares with the best chain
 abbrev pub IsAskedThrough : Place → Seen → ℕ → Type 0
 IsAskedThrough place s p =
     is_idle place ≡ true → (best : PeerNo) → IsBest s.chains (Some best)
     → IsThrough s.table s.claims s.verdicts s.opens p (chain_at s p) (common_of (chain_at s p) (chain_at s best.0))
+    × IsTriedThrough s p (chain_at s p) (common_of (chain_at s p) (chain_at s best.0))
 
 -- so it is with each of them
 abbrev pub AreAskedThrough : List Place → Seen → Type 0

@@ -1,7 +1,7 @@
 -- What a client holds of a log.
 use Rattle.std.specs.Prelude.{◌≡◌, ℕ, zero, suc, ◌+◌, Bool, false, if◌then◌else◌, List, length}
 use Rattle.cf_bytes.specs.declared.hash.Hash32.{Hash32}
-use Rattle.cf_headers.specs.Chain.{Chain, tip_hash}
+use Rattle.cf_headers.specs.Chain.{Chain, NoHashClash, tip_hash}
 use Rattle.cf_headers.specs.declared.store.HeaderStore.{Ghosts}
 use Rattle.cf_match.specs.declared.matcher.Matcher.{Ghosts as Judges}
 use Rattle.cf_peer.specs.declared.act.Act.{Act}
@@ -11,12 +11,14 @@ use Rattle.cf_peer.specs.Asking.{is_open, Deserves}
 use Rattle.cf_peer.specs.declared.peer.Cause.{Cause}
 use Rattle.cf_scan.specs.declared.history.Entry.{Entry}
 use Rattle.cf_scan.specs.Watching.{IsWatch}
-use Rattle.cf_sync.specs.Fetching.{IsBest, IsConnected, IsAskedOut}
-use Rattle.cf_sync.specs.Sync.{IsToldOf}
+use Rattle.cf_sync.specs.Blame.{AreBlamed}
+use Rattle.cf_sync.specs.Fetching.{AreBytes, IsBest, IsConnected, IsAskedOut, IsOmitting, IsQuiet, Rightly}
+use Rattle.cf_sync.specs.Sync.{IsHashed, IsToldOf}
 use Rattle.cf_client.specs.declared.client.Client.{Client}
 use Rattle.cf_place.specs.Places.{Words, IsAnswered, PlacesStand, after, Allowed}
 use Rattle.cf_tracker.specs.Tracker.{watch_of}
 use Rattle.cf_hear.specs.Judging.{Judging, judging_of}
+use Rattle.cf_hear.specs.Exposing.{IsUnexposed}
 use Rattle.cf_hear.specs.Seen.{Seen, seen_of}
 use Rattle.cf_hear.specs.Tracks.{Tracks}
 
@@ -24,11 +26,12 @@ use Rattle.cf_hear.specs.Tracks.{Tracks}
 abbrev pub seen_by : {H M : Type 0} → {g : Ghosts H} {j : Judges M} → Client H M g j → Seen
 seen_by c = seen_of c.tracker
 
--- what the client keeps is a function of the log; after want of memory it reflects nothing
+-- what the client keeps is a function of the log, and exposes no connected peer; after want of memory it reflects nothing
 pub record Reflects {H M : Type 0} {g : Ghosts H} {j : Judges M} (c : Client H M g j) (log : Log) : Type 0 where
   pub alive : c.dead ≡ false
   pub places : PlacesStand c.places.items log
   pub tracks : Tracks (seen_by c) log
+  pub unexposed : IsUnexposed (seen_by c)
 
 -- the scripts that it watches
 abbrev pub watch_by : {H M : Type 0} → {g : Ghosts H} {j : Judges M} → Client H M g j → List (List ℕ)
@@ -46,6 +49,15 @@ is_dead c = c.dead
 -- no connected peer deserves to be closed
 abbrev pub IsInnocent : Log → Type 0
 IsInnocent log = (p : ℕ) → IsConnected log p → (cause : Cause) → Deserves (trail log p) cause → ⊥
+
+-- no connected peer claims a filter that was tested and omits an output's script
+abbrev pub IsBlameless : Log → Type 0
+IsBlameless log = (p : ℕ) → IsOmitting log p → ⊥
+
+-- With nothing open, where no strings clash: what each claims of the best chain's fetched blocks on which they differ was tested, and nobody is left whose filter
+-- omits something.
+abbrev pub HasBlamed : Log → Type 0
+HasBlamed log = AreBytes log → Rightly log → NoHashClash (IsHashed log []) → IsQuiet log → (chain : Chain) → IsBest log chain → AreBlamed log chain
 
 -- each connected peer was sent the client's version, and what is owed to its messages
 abbrev pub AreAnswered : Log → Type 0

@@ -18,6 +18,7 @@ use Rattle.cf_place.specs.declared.place.Place.{Place}
 use Rattle.cf_place.specs.declared.place.Place.TheVariants.{Here}
 use Rattle.cf_place.specs.Places.{Goes, AreCalm, AsksFor, CutFor, after, is_settled, place_at}
 use Rattle.cf_hear.specs.Seen.{Seen, seen_of}
+use Rattle.cf_hear.specs.Exposing.{IsUnexposed}
 use Rattle.cf_hear.specs.Tracks.{HasOpened, Tracks}
 use Rattle.cf_client.specs.Settled.{AreEntered, AreRight}
 use Rattle.cf_client.specs.Order.{AsksOne}
@@ -31,10 +32,11 @@ pub record Desk : Type 0 where
 abbrev pub desk : {H : Type 0} → {g : Ghosts H} → Tracker H g → List Place → List Act → Desk
 desk tracker places acts = record { places = places; seen = seen_of tracker; acts = acts }
 
--- the desk stands for the log with the acts, each of which was allowed
+-- the desk stands for the log with the acts, each of which was allowed; and no connected peer is exposed by what was seen
 pub record Stands (d : Desk) (log : Log) : Type 0 where
   pub goes : Goes d.seen.watch d.places d.acts log
   pub tracks : Tracks d.seen (after d.acts log)
+  pub unexposed : IsUnexposed d.seen
 
 -- at most nine places; tracked are the peers that are connected; and what is open to each agrees with what it claims
 pub record IsInOrder (d : Desk) : Type 0 where

@@ -1,5 +1,5 @@
 //! Whom the client asks, and whom it closes for its silence.
-ghost use Rattle.std.specs.Prelude.{◌≡◌, ◌≢◌, ℕ, ◌<◌, ◌≤◌, ◌∷◌, OnOk, IfOk, IsSome, true, false, length};
+ghost use Rattle.std.specs.Prelude.{◌≡◌, ◌≢◌, ℕ, ◌<◌, ◌≤◌, ◌∷◌, [], OnOk, IfOk, IsSome, true, false, length};
 ghost use Rattle.cf_headers.specs.Store.{own_of};
 ghost use Rattle.cf_wires.specs.Log.{Log};
 ghost use Rattle.cf_wires.specs.declared.event.Event.TheVariants.{Took};
@@ -21,7 +21,7 @@ use cf_headers::HeaderStore;
 use cf_msg::{Entries, Entry, Hashes, Msg};
 use cf_peer::{Act, Cause, Range};
 use cf_place::{Loss, Place};
-use cf_seek::{Span, Wish};
+use cf_seek::{Span, Trial, Wish};
 use cf_tracker::Tracker;
 use std::alloc::Global;
 
@@ -193,6 +193,34 @@ fn ask_for_filters(
     Ok(())
 }
 
+// Asks the peer at this place, to which nothing is open, for the filter of one block, so that it is tested.
+fn ask_for_test(
+    alloc: Global,
+    places: &mut [Place],
+    acts: &mut Vec<Act>,
+    i: usize,
+    trial: &Trial,
+) -> Result<(), NoMemory>
+    requires here { i < length places.old }
+    requires few { length places.old ≤ 9 }
+    requires idle { is_idle (place_at places.old i) ≡ true }
+    ensures { OnOk result (IsSent i (GetCfilters 0 trial.now.height trial.now.block) (asked_for_filters (trial.now.block ∷ []))
+        places.old places.new acts.old.items acts.new.items) }
+{
+    let mut blocks = Hashes::new(alloc);
+    blocks.push(trial.block)?;
+    let question = Msg::GetCfilters {
+        filter: 0,
+        start: trial.height,
+        stop: trial.block,
+    };
+    acts.push(Act::Send(PeerNo(i as u32), question))?;
+    if let Place::Here(peer) = &mut places[i] {
+        peer.ask_filters(alloc, blocks);
+    }
+    Ok(())
+}
+
 // Asks the peer at this place, to which nothing is open, for the block with this hash.
 fn ask_for_block(
     alloc: Global,
@@ -214,7 +242,7 @@ fn ask_for_block(
 }
 
 // Asks the peer at this place, to which nothing is open and which was heard out, about the blocks that it shares with the best chain: for the claims that it
-// hasn't made; else for filters that aren't judged yet and are open to nobody; or else for a block that is open to nobody.
+// hasn't made; else for filters that aren't judged yet and are open to nobody; else for a block that is open to nobody; or else for a filter that is to be tested.
 fn ask_about_blocks<H: HeaderStore>(
     alloc: Global,
     tracker: &mut Tracker<H>,
@@ -245,6 +273,10 @@ fn ask_about_blocks<H: HeaderStore>(
         }
         Wish::Block(hash) => {
             ask_for_block(alloc, places, acts, i, hash)?;
+            Ok(())
+        }
+        Wish::Test(trial) => {
+            ask_for_test(alloc, places, acts, i, &trial)?;
             Ok(())
         }
     }

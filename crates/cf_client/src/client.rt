@@ -126,15 +126,16 @@ fn greeting(alloc: Global, moment: i64, nonce: u64) -> Result<Msg, NoMemory>
 }
 
 impl<H: HeaderStore, M: Matcher> Client<H, M> {
+    ghost use Rattle.cf_sync.specs.Fetching.{Rightly};
     ghost use Rattle.cf_wires.specs.Log.{Log};
     ghost use Rattle.cf_wires.specs.declared.event.Event.TheVariants.{Took, Dialled, NotDialled};
     ghost use Rattle.cf_peer.specs.declared.act.Act.TheVariants.{Close};
     ghost use Rattle.cf_peer.specs.declared.peer.Cause.TheVariants.{SendFailed};
-    ghost use Rattle.cf_place.specs.Places.{ActTells, CutFor, Greets, IsState, EndsTell};
+    ghost use Rattle.cf_place.specs.Places.{after as done, ActTells, CutFor, Greets, IsState, EndsTell};
     ghost use Rattle.cf_client.specs.Order.{AreInOrder};
     ghost use Rattle.cf_client.specs.Steps.{Extends};
     ghost use Rattle.cf_client.specs.Holding.{Counts, HoldsNoMore};
-    ghost use Rattle.cf_client.specs.Stands.{Reflects, Answers, IsTip, IsReportOf, IsHistoryTold, IsInnocent, AreAnswered, is_dead, open_count, count_of, seen_by, watch_by, words_by, matcher_by, judging_by};
+    ghost use Rattle.cf_client.specs.Stands.{Reflects, Answers, IsTip, IsReportOf, HasBlamed, IsHistoryTold, IsBlameless, IsInnocent, AreAnswered, is_dead, open_count, count_of, seen_by, watch_by, words_by, matcher_by, judging_by};
 
     /// A client that knows of no peer yet, over a store in which no peer is entered. It watches these scripts, and matches filters with them
     /// by this matcher. Its `version` tells this moment, in seconds since 1970, and this number.
@@ -219,7 +220,9 @@ impl<H: HeaderStore, M: Matcher> Client<H, M> {
     }
 
     /// Takes a delivery, and says what is to be done: first what is owed and who is closed, then what is asked, each
-    /// from the lowest number on. Filters that come are judged by the client's matcher alone.
+    /// from the lowest number on. Filters that come are judged by the client's matcher alone. Of a fetched block on whose filter
+    /// the connected peers differ each is asked for the filter that it claims, and whoever claims one that is none, or that
+    /// lacks an output's script, is closed: so that with nothing open all of these were tested, and none that omits is left.
     pub fn step(&mut self, d: &Delivery) -> Result<Vec<Act>, NoMemory>
         ensures answers { IfOk result (λ acts. (log : Log) → Reflects self.old log → Answers self.new acts.items (Took d.now ∷ log)) }
         ensures tells { IfOk result (λ acts. (log : Log) → Reflects self.old log → All (ActTells (words_by self.old)) acts.items) }
@@ -230,6 +233,8 @@ impl<H: HeaderStore, M: Matcher> Client<H, M> {
         ensures judged { OnOk result (AreJudgedBy M.judges (watch_by self.old)
             (judging_by self.old) (judging_by self.new)) }
         ensures in_order { IfOk result (λ acts. (log : Log) → Reflects self.old log → AreInOrder acts.items) }
+        ensures blames { IfOk result (λ acts. (log : Log) → Reflects self.old log
+            → HasBlamed (done acts.items (Took d.now ∷ log))) }
         ensures dead { is_dead self.old ≡ true → IsErr result }
         ensures err { OnErr result (is_dead self.new ≡ true) }
     {
@@ -287,10 +292,12 @@ impl<H: HeaderStore, M: Matcher> Client<H, M> {
     }
 
     /// The state: `Working` where something is open, else `Synced` where a peer is connected, else `NoPeers`. Between two calls no
-    /// connected peer deserves to be closed, and each was sent the client's version and what is owed to its messages. It takes no memory.
+    /// connected peer deserves to be closed, nor claims a filter that was tested and omits an output's script, and each was sent
+    /// the client's version and what is owed to its messages. It takes no memory.
     pub fn state(&self) -> State
         ensures state { (log : Log) → Reflects self.now log → IsState result log }
         ensures nobody { (log : Log) → Reflects self.now log → IsInnocent log }
+        ensures blameless { (log : Log) → Reflects self.now log → Rightly log → IsBlameless log }
         ensures answered { (log : Log) → Reflects self.now log → AreAnswered log }
     {
         state_of_places(self.places.as_slice())

@@ -12,9 +12,10 @@ ghost use Rattle.cf_client.specs.Order.{AreTold};
 ghost use Rattle.cf_client.specs.Steps.{desk, Stands, IsInOrder, Taking, CutOff, Moves};
 
 use crate::ask::{close_late, pass_all};
+use crate::blame::close_claimants;
 use cf_bytes::{NoMemory, PeerNo};
 use cf_headers::HeaderStore;
-use cf_hear::hear_piece;
+use cf_hear::{Stop, hear_piece};
 use cf_match::Matcher;
 use cf_peer::{Act, Cause};
 use cf_place::{Loss, Place};
@@ -22,7 +23,8 @@ use cf_tracker::Tracker;
 use cf_wires::Delivery;
 use std::alloc::Global;
 
-// Takes a piece of a peer's bytes. One of a peer that isn't connected has no effect.
+// Takes a piece of a peer's bytes. One of a peer that isn't connected has no effect. Where it exposes a filter, who claims it is
+// closed.
 fn hear_from<H: HeaderStore, M: Matcher>(
     alloc: Global,
     tracker: &mut Tracker<H>,
@@ -48,10 +50,14 @@ fn hear_from<H: HeaderStore, M: Matcher>(
         Place::Lost(_) => Ok(()),
         Place::Here(peer) => match hear_piece(alloc, tracker, matcher, peer, p, piece, acts)? {
             None => Ok(()),
-            Some(cause) => {
+            Some(Stop::Fault(cause)) => {
                 acts.push(Act::Close(p, cause))?;
                 tracker.forget(p);
                 places[i] = Place::Lost(Loss::Closed(cause));
+                Ok(())
+            }
+            Some(Stop::Exposed(exposure)) => {
+                close_claimants(tracker, places, acts, &exposure)?;
                 Ok(())
             }
         },

@@ -2,6 +2,7 @@
 #![tactic(auto)]
 
 mod ask;
+mod blame;
 mod client;
 mod deliver;
 mod held;

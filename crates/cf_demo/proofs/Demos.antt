@@ -75,7 +75,7 @@ quiet_so Tired log why is = cc
 quiet_so Ended log why is = cc
 
 run_of : (watch : List (List ℕ)) (peers : List Peer) (names : List (List ℕ)) (o : Outcome) (log : Log) → HasRunOver watch peers names o log → IsRun log
-run_of watch peers names o log ran = record { rightly = ran.followed.asked.rightly; numbered = ran.followed.numbered; orderly = ran.followed.was_orderly }
+run_of watch peers names o log ran = record { bytes = ran.followed.asked.bytes; rightly = ran.followed.asked.rightly; numbered = ran.followed.numbered; orderly = ran.followed.was_orderly }
 
 -- what is said of a run that was answered
 pub has_run : (r : Result Outcome NoMemory) (watch : List (List ℕ)) (peers : List Peer) (names : List (String Global)) (log : Log)

@@ -24,14 +24,15 @@ use Rattle.cf_peer.specs.Trail.{Trail, Part, Lost, Shutting, trail, part_of, cal
 use Rattle.cf_peer.specs.Asking.{OpenRequest, NothingOpen, HeadersOpen, ClaimsOpen, FiltersOpen, BlockOpen, claims, request, is_idle, is_open, HasSaid}
 use Rattle.cf_server.specs.Serving.{text_of}
 use Rattle.cf_server.proofs.Texts.{text-nil}
-use Rattle.cf_sync.specs.Fetching.{Rightly}
+use Rattle.cf_sync.specs.Fetching.{AreBytes, Rightly}
 use Rattle.cf_sync.specs.Honesty.{said, with_message, plain, Leaves, IsPrefixOf, answers, AnswersAs, InTime, Stays, IsHonestOver, IsHonest, was_called}
 use Rattle.cf_sync.specs.Sync.{IsHashed}
 use Rattle.cf_sync.proofs.Chains.{Setting, headers_length}
 use Rattle.cf_sync.proofs.Entries.{at_either}
 use Rattle.cf_sync.proofs.Serves.{Owes}
 use Rattle.cf_sync.proofs.Settles.{setting_of}
-use Rattle.cf_sync.proofs.HonestLemmas.{honest_good, rightly_before}
+use Rattle.cf_sync.proofs.HonestLemmas.{NeverOmits, honest_good, rightly_before}
+use Rattle.cf_sync.proofs.Blamed.{never_omits}
 use Rattle.cf_played.specs.Answers.{came, told_to}
 use Rattle.cf_client.specs.Run.{AreNumbered}
 use Rattle.cf_played.specs.declared.kind.Way.TheVariants.{Honest}
@@ -208,9 +209,9 @@ chain_setting log blocks clash good = setting_of first_log 1 blocks less (record
 -- ---- the whole log
 
 -- nothing is open to it where it has answered all
-quiet : (blocks : List Block) → Setting blocks → IsGoodChain blocks → (log : Log) (p : ℕ) → Rightly log → AreNumbered log → ((k : ℕ) → HasBegun Honest blocks (drop k log) p)
+quiet : (blocks : List Block) → Setting blocks → IsGoodChain blocks → (log : Log) (p : ℕ) → NeverOmits blocks log p → Rightly log → AreNumbered log → ((k : ℕ) → HasBegun Honest blocks (drop k log) p)
     → IsHonestOver log p blocks → IsGreetedWhere (trail log p) → HasAnswered Honest blocks log p → is_open (trail log p) ≡ false
-quiet blocks s good log p right numbered begun honest greets whole = elim (cases_Bool (connected (trail log p))) [
+quiet blocks s good log p never right numbered begun honest greets whole = elim (cases_Bool (connected (trail log p))) [
   | inl on ↦ (
       let t : Trail = trail log p in
       let a = agrees log p right numbered (all_fine blocks good log p right begun) in
@@ -218,7 +219,7 @@ quiet blocks s good log p right numbered begun honest greets whole = elim (cases
       let all = answers_good blocks good log p right in
       let says : said t ≡ ms = a.says ∙ whole_words ms (came log p) (sendable_of ms all) whole in
       let theirs : answers blocks t ≡ ms = ap (all_answers blocks) a.asks_these in
-      let k = (honest_good blocks s log p right honest).keeps in
+      let k = (honest_good blocks s log p never right honest).keeps in
       let left : Leaves ms ms k.owed =
       subst (λ (ns : List Msg). Leaves ms ns k.owed) theirs
       (subst (λ (xs : List Msg). Leaves xs (answers blocks t) k.owed) (ap plain says ∙ plain_replies ms all) k.leaves) in
@@ -255,26 +256,26 @@ plays_before blocks e log p h = record {
   stays = (and_parts (is_staying e) (list_all is_staying log) h.stays).1;
 }
 
-in_time : (blocks : List Block) → Setting blocks → IsGoodChain blocks → (e : Event) (log : Log) (p : ℕ) → Rightly (e ∷ log) → AreNumbered (e ∷ log) → WereGreeted (e ∷ log) → Plays blocks (e ∷ log) p
+in_time : (blocks : List Block) → Setting blocks → IsGoodChain blocks → (e : Event) (log : Log) (p : ℕ) → NeverOmits blocks log p → Rightly (e ∷ log) → AreNumbered (e ∷ log) → WereGreeted (e ∷ log) → Plays blocks (e ∷ log) p
     → IsHonestOver log p blocks → InTime e log p
-in_time blocks s good (Took (Tick n)) log p right numbered greets plays honest = λ opened.
+in_time blocks s good (Took (Tick n)) log p never right numbered greets plays honest = λ opened.
     absurd (both_ways (is_open (trail log p))
-    (quiet blocks s good log p right.1 numbered (λ k. plays.past (suc k)) honest (greets.0 p) (plays.ticks 0 n log refl)) opened)
-in_time blocks s good (Took (Got q piece)) log p right numbered greets plays honest = tt
-in_time blocks s good (Took (Gone q)) log p right numbered greets plays honest = tt
-in_time blocks s good (Took Ended) log p right numbered greets plays honest = tt
-in_time blocks s good (Dialled q name) log p right numbered greets plays honest = tt
-in_time blocks s good (NotDialled q name) log p right numbered greets plays honest = tt
-in_time blocks s good (Sent q bytes) log p right numbered greets plays honest = tt
-in_time blocks s good (SendFailed q) log p right numbered greets plays honest = tt
-in_time blocks s good (Closed q) log p right numbered greets plays honest = tt
+    (quiet blocks s good log p never right.1 numbered (λ k. plays.past (suc k)) honest (greets.0 p) (plays.ticks 0 n log refl)) opened)
+in_time blocks s good (Took (Got q piece)) log p never right numbered greets plays honest = tt
+in_time blocks s good (Took (Gone q)) log p never right numbered greets plays honest = tt
+in_time blocks s good (Took Ended) log p never right numbered greets plays honest = tt
+in_time blocks s good (Dialled q name) log p never right numbered greets plays honest = tt
+in_time blocks s good (NotDialled q name) log p never right numbered greets plays honest = tt
+in_time blocks s good (Sent q bytes) log p never right numbered greets plays honest = tt
+in_time blocks s good (SendFailed q) log p never right numbered greets plays honest = tt
+in_time blocks s good (Closed q) log p never right numbered greets plays honest = tt
 
-pub honest_over : (blocks : List Block) → Setting blocks → IsGoodChain blocks → (log : Log) (p : ℕ) → Rightly log → AreNumbered log → WereGreeted log → Plays blocks log p → IsHonestOver log p blocks
-honest_over blocks s good [] p right numbered greets plays = tt
-honest_over blocks s good (e ∷ log) p right numbered greets plays =
-    let before = honest_over blocks s good log p (rightly_before e log right) (numbered_before e log numbered) (greeted_before e log greets) (plays_before blocks e log p plays) in (
+pub honest_over : (blocks : List Block) → Setting blocks → IsGoodChain blocks → (log : Log) (p : ℕ) → NeverOmits blocks log p → Rightly log → AreNumbered log → WereGreeted log → Plays blocks log p → IsHonestOver log p blocks
+honest_over blocks s good [] p never right numbered greets plays = tt
+honest_over blocks s good (e ∷ log) p never right numbered greets plays =
+    let before = honest_over blocks s good log p never.1 (rightly_before e log right) (numbered_before e log numbered) (greeted_before e log greets) (plays_before blocks e log p plays) in (
       answers_as blocks good (e ∷ log) p right numbered plays.past,
-      in_time blocks s good e log p right numbered greets plays before,
+      in_time blocks s good e log p never.1 right numbered greets plays before,
       stays_so e p (and_parts (is_staying e) (list_all is_staying log) plays.stays).0,
       before,
     )
@@ -329,14 +330,14 @@ called (Took Ended ∷ log) p numbered stays some few = absurd (false≢true sta
 
 -- ---- the law
 
-pub honest_peer : (log : Log) (p : ℕ) (blocks : List Block) → IsGoodChain blocks → NoHashClash (IsHashed log blocks) → Rightly log → AreNumbered log → WereGreeted log
+pub honest_peer : (log : Log) (p : ℕ) (blocks : List Block) → AreBytes log → IsGoodChain blocks → NoHashClash (IsHashed log blocks) → Rightly log → AreNumbered log → WereGreeted log
     → 1 ≤ p → p ≤ (tally_of log).dials → Plays blocks log p → IsHonest log p blocks
-honest_peer log p blocks good clash right numbered greets some few plays = record {
+honest_peer log p blocks bytes good clash right numbered greets some few plays = record {
   good = good;
   low = within_limit blocks good;
   dialled = called log p numbered plays.stays some few;
-  honest = honest_over blocks (chain_setting log blocks clash good) good log p right numbered greets plays;
+  honest = honest_over blocks (chain_setting log blocks clash good) good log p (never_omits log p blocks bytes clash good.each) right numbered greets plays;
 }
 
 pub run_honest : (log : Log) (p : ℕ) (blocks : List Block) → IsRun log → IsGoodChain blocks → NoHashClash (IsHashed log blocks) → 1 ≤ p → p ≤ (tally_of log).dials → Plays blocks log p → IsHonest log p blocks
-run_honest log p blocks run good clash some few plays = honest_peer log p blocks good clash run.rightly run.numbered (were_greeted log run.orderly) some few plays
+run_honest log p blocks run good clash some few plays = honest_peer log p blocks run.bytes good clash run.rightly run.numbered (were_greeted log run.orderly) some few plays

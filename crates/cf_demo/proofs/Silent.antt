@@ -31,7 +31,7 @@ use Rattle.cf_played.specs.Answers.{came, told_to, is_answered, HasBegun}
 use Rattle.cf_client.specs.Run.{AreNumbered}
 use Rattle.cf_server.specs.Serving.{text_of}
 use Rattle.cf_server.proofs.Lists.{all-append}
-use Rattle.cf_sync.specs.Fetching.{Rightly, IsConnected, counted_part}
+use Rattle.cf_sync.specs.Fetching.{AreBytes, Rightly, IsConnected, counted_part}
 use Rattle.cf_sync.specs.Honesty.{asked, said, IsHonest}
 use Rattle.cf_sync.specs.Sync.{IsHashed}
 use Rattle.cf_sync.specs.Sync as sync
@@ -40,6 +40,7 @@ use Rattle.cf_sync.proofs.Chains.{up_all, headers_length, cases_same, one_height
 use Rattle.cf_sync.proofs.Counted.{same_use}
 use Rattle.cf_sync.proofs.Entries.{at_either}
 use Rattle.cf_sync.proofs.HonestLemmas.{rightly_before, honest_good, own_whole}
+use Rattle.cf_sync.proofs.Blamed.{never_omits}
 use Rattle.cf_sync.proofs.Settles.{shared_whole}
 use Rattle.cf_demo.specs.Playing.{IsRun, Plays, PlaysSilent}
 use Rattle.cf_demo.proofs.Orderly.{WereGreeted, were_greeted}
@@ -339,17 +340,17 @@ pub record IsIdle (blocks : List Block) (log : Log) (p : ℕ) : Type 0 where
   pub same_own : own (counted_part log p) ≡ own (trail log p)
   pub same_heard : heard (counted_part log p) ≡ heard (trail log p)
 
-pub silent_idle : (log : Log) (p : ℕ) (blocks : List Block) → IsGoodChain blocks → NoHashClash (IsHashed log blocks) → Rightly log → AreNumbered log → WereGreeted log
+pub silent_idle : (log : Log) (p : ℕ) (blocks : List Block) → AreBytes log → IsGoodChain blocks → NoHashClash (IsHashed log blocks) → Rightly log → AreNumbered log → WereGreeted log
     → 1 ≤ p → p ≤ (tally_of log).dials → PlaysSilent blocks log p → IsConnected log p → is_open (trail log p) ≡ false → IsIdle blocks log p
-silent_idle log p blocks good clash right numbered greets some few plays on quiet =
+silent_idle log p blocks bytes good clash right numbered greets some few plays on quiet =
     let t : Trail = trail log p in
     let fine = few_fine blocks good log p right plays.past in
     let a = agrees log p right numbered fine in
     let st = stuck log p right (all_soft blocks good log p right numbered plays.past) in
     let free : is_stuck (request t) ≡ false = idle_free (connected t) (ready t) (request t) on quiet in
     let soft : has_hard (told_to log p) ≡ false = is_false (has_hard (told_to log p)) (λ hard. both_ways (is_stuck (request t)) free (st.opens (ap has_hard a.asks_these ∙ hard))) in
-    let honest = honest_peer log p blocks good clash right numbered greets some few (plays_honest blocks log p right soft plays) in
-    let clean = (honest_good blocks (chain_setting log blocks clash good) log p right honest.honest).keeps.clean in
+    let honest = honest_peer log p blocks bytes good clash right numbered greets some few (plays_honest blocks log p right soft plays) in
+    let clean = (honest_good blocks (chain_setting log blocks clash good) log p (never_omits log p blocks bytes clash good.each) right honest.honest).keeps.clean in
     let whole = same_use t on clean in
     record { honest = honest; none = whole.claiming ∙ st.none; same_own = whole.chain; same_heard = whole.hearing }
 
@@ -366,8 +367,8 @@ pub silent_apart : (watch : List (List ℕ)) (height : ℕ) (hash : Hash32) (ent
 silent_apart watch height hash entries log p blocks good clash f numbered greets some few plays tall on quiet =
     let right = f.rightly in
     let s = chain_setting log blocks clash good in
-    let idle = silent_idle log p blocks good clash right numbered greets some few plays on quiet in
-    let keeps = (honest_good blocks s log p right idle.honest.honest).keeps in
+    let idle = silent_idle log p blocks f.bytes good clash right numbered greets some few plays on quiet in
+    let keeps = (honest_good blocks s log p (never_omits log p blocks f.bytes clash good.each) right idle.honest.honest).keeps in
     let whole : own (trail log p) ≡ headers_of blocks = own_whole blocks (trail log p) keeps (sym idle.same_heard ∙ f.heard_out p on) in
     let mine : own (counted_part log p) ≡ headers_of blocks = idle.same_own ∙ whole in (
       mine,

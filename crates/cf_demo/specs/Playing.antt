@@ -3,7 +3,7 @@ use Rattle.std.specs.Prelude.{◌≡◌, ℕ, true, List, ◌∷◌, drop, suc, 
 use Rattle.std.specs.List.{list_all}
 use Rattle.cf_block.specs.declared.tx.Block.{Block}
 use Rattle.cf_client.specs.Run.{AreNumbered, WasOrderly}
-use Rattle.cf_sync.specs.Fetching.{Rightly}
+use Rattle.cf_sync.specs.Fetching.{AreBytes, Rightly}
 use Rattle.cf_wires.specs.declared.event.Delivery.TheVariants.{Tick}
 use Rattle.cf_wires.specs.declared.event.Event.TheVariants.{Took}
 use Rattle.cf_wires.specs.Log.{Log}
@@ -12,8 +12,9 @@ use Rattle.cf_played.specs.declared.kind.Way.TheVariants.{Honest, Silent}
 use Rattle.cf_played.specs.Peers.{Peer}
 use Rattle.cf_played.specs.Answers.{is_plain, HasBegun, HasAnswered, HasBegunAlike, is_staying}
 
--- what is known of the log of a run: what was sent might be sent, peers are numbered as they were dialled, and the client was orderly
+-- what is known of the log of a run: bytes came, what was sent might be sent, peers are numbered as they were dialled, and the client was orderly
 pub record IsRun (log : Log) : Type 0 where
+  pub bytes : AreBytes log
   pub rightly : Rightly log
   pub numbered : AreNumbered log
   pub orderly : WasOrderly log

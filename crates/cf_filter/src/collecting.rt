@@ -10,7 +10,7 @@ use std::alloc::Global;
 /// The first byte of a script that only carries data.
 const OP_RETURN: u8 = 0x6a;
 
-fn is_paid_item(script: &[u8]) -> bool
+pub(crate) fn is_paid_item(script: &[u8]) -> bool
     ensures { result ≡ pays_item script.now }
 {
     match script {

@@ -26,7 +26,7 @@ use Rattle.cf_peer.specs.declared.act.Act.TheVariants.{Send as SendTo}
 use Rattle.cf_peer.specs.declared.peer.Cause.{Cause}
 use Rattle.cf_peer.specs.declared.peer.Peer.{Peer}
 use Rattle.cf_peer.specs.declared.peer.Reply.{Reply}
-use Rattle.cf_peer.specs.declared.peer.Reply.TheVariants.{Nothing as NoReply, Send, Close}
+use Rattle.cf_peer.specs.declared.peer.Reply.TheVariants.{Nothing as NoReply, Send, Close, Expose}
 use Rattle.cf_peer.specs.Acts.{IsSendable, IsDoable}
 use Rattle.cf_peer.specs.Trail.{Trail, Part, Said, part_after, heard_part, fault_in, first, longer_of, ready, met, own, owed}
 use Rattle.cf_peer.specs.Asking.{OpenRequest, NothingOpen, request, claims, claims_after, counted, fault_of, fetched, fetched_by, given, given_by, verdict}
@@ -60,13 +60,17 @@ use Rattle.cf_seek.specs.Opens.{Closes, IsSameElse, IsSameOpens}
 use Rattle.cf_sync.specs.Kept.{OpensAt}
 use Rattle.cf_sync.proofs.KeptOpens.{opens_closed}
 use Rattle.cf_hear.specs.Seen.{Seen, IsSameSeen, Follows}
-use Rattle.cf_hear.specs.Hearing.{Gains, IsGivenBetween, Retains, HearsSeen, HearsNext, Advances, Stops, Brings, Midway, HeardWhole, HeardFault, HeardPiece}
+use Rattle.cf_hear.specs.Hearing.{Gains, Gives, IsGivenBetween, Retains, HearsSeen, HearsNext, Advances, Reveals, Stops, Brings, Midway, HeardWhole, HeardFault, HeardExposed, HeardPiece}
+use Rattle.cf_hear.specs.Exposing.{ExposesAmong}
+use Rattle.cf_hear.specs.declared.stop.Stop.{Stop}
+use Rattle.cf_hear.proofs.Trying.{IsOnce, gives_on, go_none, go_on, go_self, go_then, idle_by, once_by, one_empty, trials_self}
+use Rattle.cf_seek.specs.Trials.{IsSameTrials, TrialsGo}
 use Rattle.cf_hear.proofs.Opening.{else_of, else_self, else_then, opens_claims, opens_headers, opens_on, opens_other, opens_plain, opens_self}
 
 -- ---- what was seen
 
 pub same_seen : (s : Seen) → IsSameSeen s s
-same_seen s = record { watch = refl; chains = λ q. refl; claims = λ q block. refl; table = λ hash. refl; verdicts = λ block hash. refl; opens = opens_self s.opens }
+same_seen s = record { watch = refl; chains = λ q. refl; claims = λ q block. refl; table = λ hash. refl; verdicts = λ block hash. refl; opens = opens_self s.opens; trials = trials_self s.trials }
 
 -- nothing came, and p's chain and claims are those of this trail
 pub gains_none : (s : Seen) (p : PeerNo) (t : Trail) → Follows s p.0 t → Gains s s p t [] []
@@ -78,6 +82,7 @@ gains_none s p t is = record {
   table = λ hash. refl;
   verdicts = λ block hash. refl;
   opens = else_self s.opens p.0;
+  trials = go_self s.trials p.0;
 }
 
 -- the extracts of blocks, put in after those of others
@@ -91,8 +96,9 @@ verdicts_append : (watch : List (List ℕ)) (jobs more : List Job) (before : Ver
 verdicts_append watch [] more before block hash = refl
 verdicts_append watch (job ∷ jobs) more before block hash = verdicts_append watch jobs more (with_verdict watch job before) block hash
 
-pub gains_then : (a b c : Seen) (p : PeerNo) (t u : Trail) (news more : List Block) (jobs later : List Job) → Gains a b p t news jobs → Gains b c p u more later → Gains a c p u (more ++ news) (jobs ++ later)
-gains_then a b c p t u news more jobs later x y = record {
+pub gains_then : (a b c : Seen) (p : PeerNo) (t u : Trail) (news more : List Block) (jobs later : List Job) → IsOnce news jobs more later → Gains a b p t news jobs → Gains b c p u more later
+    → Gains a c p u (more ++ news) (jobs ++ later)
+gains_then a b c p t u news more jobs later once x y = record {
   watch = y.watch ∙ x.watch;
   follows = y.follows;
   others = λ q ne. y.others q ne ∙ x.others q ne;
@@ -101,6 +107,7 @@ gains_then a b c p t u news more jobs later x y = record {
   verdicts = λ block hash. y.verdicts block hash ∙ ap (λ (w : List (List ℕ)). with_verdicts w later b.verdicts block hash) x.watch
       ∙ same_all a.watch later b.verdicts (with_verdicts a.watch jobs a.verdicts) x.verdicts block hash ∙ verdicts_append a.watch jobs later a.verdicts block hash;
   opens = else_then a.opens b.opens c.opens p.0 x.opens y.opens;
+  trials = go_then a.trials b.trials c.trials p.0 news more jobs later once x.trials y.trials;
 }
 
 -- p's chain and claims may be any after a fault
@@ -112,6 +119,7 @@ gains_retains a b c p t news jobs x y = record {
   table = λ hash. y.table hash ∙ x.table hash;
   verdicts = λ block hash. y.verdicts block hash ∙ x.verdicts block hash;
   opens = else_then a.opens b.opens c.opens p.0 x.opens (else_of b.opens c.opens p.0 y.opens);
+  trials = go_on a.trials b.trials c.trials p.0 news jobs x.trials y.trials;
 }
 
 -- ---- one message
@@ -142,9 +150,9 @@ other_hears seen p peer b hash t h off is f =
 -- the block that is open to it, once its extract is kept
 pub taken_hears : (before after : Seen) (p : PeerNo) (peer : Peer) (b : Block) (t : Trail) → Holds peer (Said (BlockMessage b) ∷ t) → fetched_by (BlockMessage b) (request t) ≡ b ∷ []
     → Follows before p.0 t → after.watch ≡ before.watch → ((q : ℕ) → after.chains q ≡ before.chains q) → IsSameTables before.claims after.claims → IsSameTable after.table (with_block before.watch b before.table)
-    → AreSameVerdicts after.verdicts before.verdicts → Closes before.opens after.opens p.0 → request (Said (BlockMessage b) ∷ t) ≡ NothingOpen
-    → HearsSeen before after p peer (BlockMessage b) t NoReply
-taken_hears before after p peer b t h brought f watch chains claims table verdicts closes ends = (
+    → AreSameVerdicts after.verdicts before.verdicts → Closes before.opens after.opens p.0 → TrialsGo before.trials after.trials p.0 (b ∷ []) []
+    → request (Said (BlockMessage b) ∷ t) ≡ NothingOpen → HearsSeen before after p peer (BlockMessage b) t NoReply
+taken_hears before after p peer b t h brought f watch chains claims table verdicts closes trials ends = (
   (h, refl),
   subst (λ (bs : List Block). Gains before after p (Said (BlockMessage b) ∷ t) bs []) (sym brought) (record {
     watch = watch;
@@ -158,6 +166,7 @@ taken_hears before after p peer b t h brought f watch chains claims table verdic
     table = table;
     verdicts = verdicts;
     opens = closes.others;
+    trials = trials;
   }),
 )
 
@@ -202,8 +211,8 @@ cause_is o fault f cause all is this = all ∙ ap (option_map cause_of_claims) i
 pub claims_hears : (before after : Seen) (p : PeerNo) (peer : Peer) (filter : ℕ) (stop previous : Hash32) (hashes : List Hash32) (t : Trail)
     → TakesClaims peer (after.claims p.0) (Cfheaders filter stop previous hashes) t None → Follows before p.0 t → after.watch ≡ before.watch → ((q : ℕ) → after.chains q ≡ before.chains q)
     → ((q : ℕ) → q ≢ p.0 → (block : Hash) → after.claims q block ≡ before.claims q block) → IsSameTable after.table before.table → AreSameVerdicts after.verdicts before.verdicts
-    → IsSameOpens before.opens after.opens → HearsSeen before after p peer (Cfheaders filter stop previous hashes) t NoReply
-claims_hears before after p peer filter stop previous hashes t takes f watch chains others table verdicts opens = (
+    → IsSameOpens before.opens after.opens → IsSameTrials before.trials after.trials → HearsSeen before after p peer (Cfheaders filter stop previous hashes) t NoReply
+claims_hears before after p peer filter stop previous hashes t takes f watch chains others table verdicts opens trials = (
   (takes.0, refl),
   record {
     watch = watch;
@@ -218,6 +227,7 @@ claims_hears before after p peer filter stop previous hashes t takes f watch cha
     table = table;
     verdicts = verdicts;
     opens = else_of before.opens after.opens p.0 opens;
+    trials = go_none before.trials after.trials p.0 trials;
   },
 )
 
@@ -225,9 +235,9 @@ claims_hears before after p peer filter stop previous hashes t takes f watch cha
 pub filter_hears : (before after : Seen) (p : PeerNo) (peer : Peer) (filter : ℕ) (block : Hash32) (bytes : List ℕ) (jobs : List Job) (t : Trail)
     → Holds peer (Said (Cfilter filter block bytes) ∷ t) → given_by (Cfilter filter block bytes) (request t) ≡ jobs → Follows before p.0 t → after.watch ≡ before.watch → ((q : ℕ) → after.chains q ≡ before.chains q)
     → IsSameTables before.claims after.claims → IsSameTable after.table before.table → AreSameVerdicts after.verdicts (with_verdicts before.watch jobs before.verdicts)
-    → OpensAt after.opens p.0 (Said (Cfilter filter block bytes) ∷ t) → IsSameElse before.opens after.opens p.0
+    → OpensAt after.opens p.0 (Said (Cfilter filter block bytes) ∷ t) → IsSameElse before.opens after.opens p.0 → TrialsGo before.trials after.trials p.0 [] jobs
     → HearsSeen before after p peer (Cfilter filter block bytes) t NoReply
-filter_hears before after p peer filter block bytes jobs t h gives f watch chains claims table verdicts opens others = (
+filter_hears before after p peer filter block bytes jobs t h gives f watch chains claims table verdicts opens others trials = (
   (h, refl),
   subst (λ (js : List Job). Gains before after p (Said (Cfilter filter block bytes) ∷ t) [] js) (sym gives) (record {
     watch = watch;
@@ -241,6 +251,7 @@ filter_hears before after p peer filter block bytes jobs t h gives f watch chain
     table = table;
     verdicts = verdicts;
     opens = others;
+    trials = trials;
   }),
 )
 
@@ -264,8 +275,8 @@ longer_is TooHigh own = refl
 pub headers_hears : (before after : Seen) (p : PeerNo) (peer : Peer) (hs : List Header) (t : Trail) → Holds peer (Said (Headers hs) ∷ t) → ready t ≡ true
     → Puts before.chains after.chains p (Some (chain_after (accept hs (own_of before.chains p)) (own_of before.chains p))) → Follows before p.0 t
     → after.watch ≡ before.watch → IsSameTables before.claims after.claims → IsSameTable before.table after.table → AreSameVerdicts after.verdicts before.verdicts
-    → IsSameOpens before.opens after.opens → HearsSeen before after p peer (Headers hs) t NoReply
-headers_hears before after p peer hs t h over puts f watch claims table verdicts opens =
+    → IsSameOpens before.opens after.opens → IsSameTrials before.trials after.trials → HearsSeen before after p peer (Headers hs) t NoReply
+headers_hears before after p peer hs t h over puts f watch claims table verdicts opens trials =
     let mine : own_of before.chains p ≡ own t = ap (λ (o : Option Chain). unwrap_or o []) f.chain in (
       (h, refl),
       record {
@@ -281,6 +292,7 @@ headers_hears before after p peer hs t h over puts f watch claims table verdicts
         table = λ hash. sym (table hash);
         verdicts = verdicts;
         opens = else_of before.opens after.opens p.0 opens;
+        trials = go_none before.trials after.trials p.0 trials;
       },
     )
 
@@ -296,8 +308,8 @@ pub headers_end : (before after : Seen) (p : PeerNo) (old peer : Peer) (hs : Lis
     → verdict (Said (Headers hs) ∷ t) ≡ Some cause
     → Puts before.chains after.chains p (Some (chain_after (accept hs (own_of before.chains p)) (own_of before.chains p))) → Follows before p.0 t
     → after.watch ≡ before.watch → IsSameTables before.claims after.claims → IsSameTable before.table after.table → AreSameVerdicts after.verdicts before.verdicts
-    → IsSameOpens before.opens after.opens → HearsSeen before after p peer (Headers hs) t (Close cause)
-headers_end before after p old peer hs t cause holds over gives puts f watch claims table verdicts opens =
+    → IsSameOpens before.opens after.opens → IsSameTrials before.trials after.trials → HearsSeen before after p peer (Headers hs) t (Close cause)
+headers_end before after p old peer hs t cause holds over gives puts f watch claims table verdicts opens trials =
     let mine : own_of before.chains p ≡ own t = ap (λ (o : Option Chain). unwrap_or o []) f.chain in
     let fault : fault_in (accept hs (own t)) ≡ Some cause =
     sym (ap (λ (b : Bool). if b then fault_in (accept hs (own t)) else None) over) ∙ sym (ap (λ (o : Option Cause). first o (fault_of (Headers hs) t)) holds.clean) ∙ gives in
@@ -314,6 +326,7 @@ headers_end before after p old peer hs t cause holds over gives puts f watch cla
         table = λ hash. sym (table hash);
         verdicts = verdicts;
         opens = opens;
+        trials = trials;
       },
     )
 
@@ -351,6 +364,7 @@ pub plain_hears : (seen : Seen) (p : PeerNo) (peer : Peer) (m : Msg) (t : Trail)
 plain_hears seen p peer m t NoReply plain hears f = (hears, gains_plain seen p m t plain f)
 plain_hears seen p peer m t (Send reply) plain hears f = (hears, gains_plain seen p m t plain f)
 plain_hears seen p peer m t (Close cause) plain hears f = (hears, same_seen seen)
+plain_hears seen p peer m t (Expose block filter) plain hears f = absurd hears
 
 -- what a message that was read does to the peer and to what was seen
 pub hears_next : (before after : Seen) (p : PeerNo) (bytes rest : List ℕ) (new : Peer) (m : Msg) (t : Trail) (r : Reply)
@@ -364,6 +378,19 @@ hears_next before after p bytes rest new m t (Close cause) leads h = record {
   faulty = subst (λ (x : Part). Faulty t x.trail cause) (sym leads) (faulty_said (read_stream rest) m cause t h.0);
   same = h.1;
 }
+hears_next before after p bytes rest new m t (Expose block filter) leads h = record {
+  advances = record { message = m; leads = leads; holds = h.0.0; owes = h.0.1; gains = h.1 };
+  idle = h.2.0;
+  exposed = h.2.1;
+}
+
+-- a message by which p may be exposed
+pub may_expose : (before after : Seen) (p : PeerNo) (peer : Peer) (m : Msg) (t : Trail) (blocks : List Hash) (r : Reply) → request (Said m ∷ t) ≡ NothingOpen
+    → ExposesAmong after p.0 blocks r → HearsSeen before after p peer m t NoReply → HearsSeen before after p peer m t r
+may_expose before after p peer m t blocks NoReply idle among h = h
+may_expose before after p peer m t blocks (Send reply) idle among h = absurd among
+may_expose before after p peer m t blocks (Close cause) idle among h = absurd among
+may_expose before after p peer m t blocks (Expose block filter) idle among h = (h.0, h.1, (idle, among))
 
 -- ---- bytes of a piece that go to the framer
 
@@ -457,6 +484,13 @@ gives_said peer m start t jobs h is =
       ];
     }
 
+gave_said : (peer : Peer) (m : Msg) (start t : Trail) (news : List Block) (jobs : List Job) → Holds peer (Said m ∷ t) → ((news ≡ []) × (jobs ≡ [])) ⊎ (request t ≡ NothingOpen)
+    → Gives start t jobs → Gives start (Said m ∷ t) (jobs ++ given_by m (request t))
+gave_said peer m start t news jobs h idle is =
+    said_gives m t h.on h.clean ∙ ap (λ (js : List Job). given_by m (request t) ++ js) is
+    ∙ gives_on (given_by m (request t)) jobs (given (counted start))
+    (one_empty news (fetched_by m (request t)) jobs (given_by m (request t)) (once_by m (request t) news jobs idle))
+
 -- nothing of the piece was taken yet
 pub midway_start : (p : PeerNo) (peer : Peer) (waits : List ℕ) (seen : Seen) (acts : List Act) (piece : List ℕ) (start : Part)
     → Holds peer start.trail → waits ≡ start.waits → Follows seen p.0 start.trail
@@ -473,7 +507,9 @@ midway_start p peer waits seen acts piece start holds e f = record {
   brings = refl;
   jobs = [];
   gives = record { new = λ job i. absurd i; old = λ job i. i; only = λ job i. inr i };
+  gave = refl;
   gains = gains_none seen p start.trail f;
+  idle = inl (refl, refl);
 }
 
 pub midway_quiet : (p : PeerNo) (old new : Peer) (bytes rest : List ℕ) (seen now next : Seen) (before acts : List Act)
@@ -491,7 +527,10 @@ midway_quiet p old new bytes rest seen now next before acts start end midway mov
   brings = brings_said new moves.message start.trail midway.so_far midway.news moves.holds midway.brings;
   jobs = midway.jobs ++ given_by moves.message (request midway.so_far);
   gives = gives_said new moves.message start.trail midway.so_far midway.jobs moves.holds midway.gives;
-  gains = gains_then seen now next p midway.so_far (Said moves.message ∷ midway.so_far) midway.news (fetched_by moves.message (request midway.so_far)) midway.jobs (given_by moves.message (request midway.so_far)) midway.gains moves.gains;
+  gave = gave_said new moves.message start.trail midway.so_far midway.news midway.jobs moves.holds midway.idle midway.gave;
+  gains = gains_then seen now next p midway.so_far (Said moves.message ∷ midway.so_far) midway.news (fetched_by moves.message (request midway.so_far)) midway.jobs (given_by moves.message (request midway.so_far))
+      (once_by moves.message (request midway.so_far) midway.news midway.jobs midway.idle) midway.gains moves.gains;
+  idle = idle_by moves.message (request midway.so_far) midway.news midway.jobs midway.idle;
 }
 
 pub midway_reply : (p : PeerNo) (old new : Peer) (bytes rest : List ℕ) (seen now next : Seen) (before acts more : List Act)
@@ -512,7 +551,10 @@ midway_reply p old new bytes rest seen now next before acts more start end r mid
       brings = brings_said new moves.message start.trail midway.so_far midway.news moves.holds midway.brings;
       jobs = midway.jobs ++ given_by moves.message (request midway.so_far);
       gives = gives_said new moves.message start.trail midway.so_far midway.jobs moves.holds midway.gives;
-      gains = gains_then seen now next p midway.so_far (Said moves.message ∷ midway.so_far) midway.news (fetched_by moves.message (request midway.so_far)) midway.jobs (given_by moves.message (request midway.so_far)) midway.gains moves.gains;
+      gave = gave_said new moves.message start.trail midway.so_far midway.news midway.jobs moves.holds midway.idle midway.gave;
+      gains = gains_then seen now next p midway.so_far (Said moves.message ∷ midway.so_far) midway.news (fetched_by moves.message (request midway.so_far)) midway.jobs (given_by moves.message (request midway.so_far))
+          (once_by moves.message (request midway.so_far) midway.news midway.jobs midway.idle) midway.gains moves.gains;
+      idle = idle_by moves.message (request midway.so_far) midway.news midway.jobs midway.idle;
     }
 
 -- nothing changed in what was gained
@@ -529,6 +571,7 @@ gains_same a b c p t news jobs x y = record {
   table = λ hash. y.table hash ∙ x.table hash;
   verdicts = λ block hash. y.verdicts block hash ∙ x.verdicts block hash;
   opens = else_then a.opens b.opens c.opens p.0 x.opens (else_of b.opens c.opens p.0 y.opens);
+  trials = go_on a.trials b.trials c.trials p.0 news jobs x.trials y.trials;
 }
 
 -- the framer is put back into the peer
@@ -549,6 +592,7 @@ midway_whole p old new bytes waits left seen now next before acts start end midw
       brings = midway.brings;
       jobs = midway.jobs;
       gives = midway.gives;
+      gave = midway.gave;
       gains = gains_same seen now next p midway.so_far midway.news midway.jobs midway.gains answer.2;
     })
 
@@ -556,7 +600,7 @@ met_end : (rs : List Msg) (t end : Trail) → (met t ≡ true → met end ≡ tr
 met_end rs t end known (inl none) = inl none
 met_end rs t end known (inr is) = inr (known is)
 
-gives_late : (t end start : Trail) (jobs : List Job) → given (counted end) ≡ given (counted t) → IsGivenBetween start t jobs → IsGivenBetween start end jobs
+pub gives_late : (t end start : Trail) (jobs : List Job) → given (counted end) ≡ given (counted t) → IsGivenBetween start t jobs → IsGivenBetween start end jobs
 gives_late t end start jobs e is = record {
   new = λ job i. subst (λ (js : List Job). IsIn job js) (sym e) (is.new job i);
   old = λ job i. subst (λ (js : List Job). IsIn job js) (sym e) (is.old job i);
@@ -578,11 +622,38 @@ midway_fault p old bytes seen now next before acts start end cause midway stops 
       brings = faulty.same ∙ midway.brings;
       jobs = midway.jobs;
       gives = gives_late midway.so_far end.trail start.trail midway.jobs faulty.same_given midway.gives;
+      gave = faulty.same_given ∙ midway.gave;
       kept = gains_retains seen now next p midway.so_far midway.news midway.jobs midway.gains stops.same;
     }
 
+-- a message exposes the peer
+pub midway_exposed : (p : PeerNo) (old new : Peer) (bytes rest : List ℕ) (seen now next : Seen) (before acts : List Act) (start end : Part) (block filter : Hash)
+    (midway : Midway p old bytes seen now before acts start end)
+    → Reveals now next p bytes rest new midway.so_far block filter → HeardExposed p seen next before acts start end block filter
+midway_exposed p old new bytes rest seen now next before acts start end block filter midway reveals =
+    let more = midway_quiet p old new bytes rest seen now next before acts start end midway reveals.advances in
+    record {
+      so_far = more.so_far;
+      replies = more.replies;
+      acts = more.acts;
+      are = more.are;
+      on = more.holds.on;
+      clean = more.holds.clean;
+      idle = reveals.idle;
+      later = rest;
+      leads = more.leads;
+      owes = more.owes;
+      news = more.news;
+      brings = more.brings;
+      jobs = more.jobs;
+      gives = more.gives;
+      gave = more.gave;
+      gains = more.gains;
+      exposed = reveals.exposed;
+    }
+
 -- the framer is taken out of the peer for a piece, and put back
-pub put_back : (r : Result (Option Cause) NoMemory) (p : PeerNo) (old taken now new : Peer) (fed waits piece : List ℕ)
+pub put_back : (r : Result (Option Stop) NoMemory) (p : PeerNo) (old taken now new : Peer) (fed waits piece : List ℕ)
     (seen next : Seen) (acts more : List Act)
     → taken ≡ record old { framer = [] } → fed ≡ old.framer → new ≡ record now { framer = waits }
     → IfOk r (λ o. (part : Part) → Holds taken part.trail → fed ≡ part.waits → Follows seen p.0 part.trail

@@ -24,18 +24,23 @@ use Rattle.cf_wires.specs.declared.event.Event.TheVariants.{Dialled, NotDialled,
 use Rattle.cf_wires.specs.Log.{Log}
 use Rattle.cf_peer.specs.Trail.{Trail, Part, Said, Asked, Lost, Went, Shutting, part_of, trail, went_on, asks, spelled, with_item, called_part, heard_part, hears, hears_fault, item_of, item_of_read, connected, own}
 use Rattle.cf_peer.specs.Asking.{NothingOpen, claims, counted, request, verdict, fetched, given, SameUse}
-use Rattle.cf_sync.specs.Fetching.{HoldsFetched, IsFetched, blocks_open, filters_open}
-use Rattle.cf_sync.specs.Kept.{HoldsClaims, HoldsGiven, HoldsOpens, OpensAt, claims_kept}
+use Rattle.cf_sync.specs.Fetching.{HoldsFetched, IsConnected, IsFetched, blocks_open, filters_open}
+use Rattle.cf_sync.specs.Kept.{AimsAt, HoldsClaims, HoldsGiven, HoldsOpens, HoldsTrials, OpensAt, claims_kept}
+use Rattle.cf_sync.proofs.KeptAims.{IsNoQuestion, aims_other, trials_piece, trials_same, trials_sent, trials_stay}
 use Rattle.cf_sync.proofs.KeptOpens.{opens_closed, opens_put}
 use Rattle.cf_sync.proofs.Counted.{same_use}
+use Rattle.cf_sync.proofs.Deaf.{heard_deaf, heard_on}
 use Rattle.cf_sync.proofs.TableGrows.{holds_after_piece}
 use Rattle.cf_sync.proofs.VerdictsGrow.{grown_between, same_given}
 use Rattle.cf_seek.specs.Opens.{Closes, IsSameOpens}
 use Rattle.cf_seek.specs.Tables.{Table, IsSameTable}
 use Rattle.cf_seek.specs.Wanting.{ForgetsClaims, IsSameTables}
-use Rattle.cf_hear.specs.Hearing.{HeardWhole, HeardFault, IsGivenBetween}
+use Rattle.cf_hear.specs.Hearing.{HeardWhole, HeardFault, HeardExposed, IsGivenBetween}
 use Rattle.cf_hear.specs.Seen.{Seen, IsSameSeen}
-use Rattle.cf_hear.specs.Tracks.{HasOpened, Tracks, IsPut, chain_kept}
+use Rattle.cf_hear.specs.Tracks.{HasOpened, Tracks, IsPut, IsSameElsewhere, chain_kept}
+use Rattle.cf_seek.specs.Trials.{IsSameTrials}
+use Rattle.cf_hear.proofs.Hearing.{gives_late}
+use Rattle.cf_hear.proofs.Trying.{elsewhere_self, go_on, go_self, trials_self}
 use Rattle.cf_hear.proofs.Opening.{closed_on, closes_off, closes_then, else_by, else_self, holds_by, opens_asked, opens_by, opens_kept, opens_on}
 
 -- ---- what is kept of fetched blocks, where two logs tell of the same
@@ -59,32 +64,33 @@ pub record IsSameBrought (log next : Log) : Type 0 where
 
 pub tracks_on : (before after : Seen) (log next : Log) → after.watch ≡ before.watch → IsSameTable after.table before.table → AreSameVerdicts after.verdicts before.verdicts
     → ((q : ℕ) → after.chains q ≡ chain_kept (trail next q)) → HoldsClaims next after.claims → HoldsOpens next after.opens → IsSameBrought log next
-    → Tracks before log → Tracks after next
-tracks_on before after log next watch table verdicts kept claimed opened same tracks = record {
+    → HoldsTrials next after.trials → Tracks before log → Tracks after next
+tracks_on before after log next watch table verdicts kept claimed opened same trials tracks = record {
   kept = kept;
   claimed = claimed;
   fetched = holds_on before.watch after.watch log next before.table after.table watch table same.blocks tracks.fetched;
   given = subst (λ (w : List (List ℕ)). HoldsGiven w next after.verdicts) (sym watch) (same_given before.watch log next before.verdicts after.verdicts same.filters verdicts tracks.given);
   opened = opened;
+  trials = trials;
 }
 
 pub same_tracks : (before after : Seen) (log : Log) → IsSameSeen before after → Tracks before log → Tracks after log
 same_tracks before after log same tracks =
     tracks_on before after log log same.watch same.table same.verdicts (λ q. same.chains q ∙ tracks.kept q) (λ q block. same.claims q block ∙ tracks.claimed q block)
     (λ q. opens_on before.opens after.opens q (trail log q) same.opens (tracks.opened q))
-    (record { blocks = λ q. refl; filters = λ q. refl }) tracks
+    (record { blocks = λ q. refl; filters = λ q. refl }) (trials_same log before.trials after.trials same.trials.paid same.trials.told same.trials.aims tracks.trials) tracks
 
 -- the log goes on, and no chain changes and no claims
 pub tracks_same : (s : Seen) (log next : Log) → ((q : ℕ) → chain_kept (trail next q) ≡ chain_kept (trail log q)) → ((q : ℕ) → claims_kept (trail next q) ≡ claims_kept (trail log q))
-    → HoldsOpens next s.opens → IsSameBrought log next → Tracks s log → Tracks s next
-tracks_same s log next chains claims opened same tracks =
-    tracks_on s s log next refl (λ hash. refl) (λ block hash. refl) (λ q. tracks.kept q ∙ sym (chains q)) (λ q block. tracks.claimed q block ∙ sym (ap (λ (t : dispute.Table). t block) (claims q))) opened same tracks
+    → HoldsOpens next s.opens → IsSameBrought log next → HoldsTrials next s.trials → Tracks s log → Tracks s next
+tracks_same s log next chains claims opened same trials tracks =
+    tracks_on s s log next refl (λ hash. refl) (λ block hash. refl) (λ q. tracks.kept q ∙ sym (chains q)) (λ q block. tracks.claimed q block ∙ sym (ap (λ (t : dispute.Table). t block) (claims q))) opened same trials tracks
 
 -- p's chain and claims become these, and no others; and nothing is open to it
 pub tracks_put : (before after : Seen) (p : ℕ) (own : Option Chain) (table : dispute.Table) (log next : Log) → IsPut before after p own table → own ≡ chain_kept (trail next p) → table ≡ claims_kept (trail next p)
     → (connected (trail next p) ≡ true → request (trail next p) ≡ NothingOpen)
-    → ((q : ℕ) → q ≢ p → part_of next q ≡ part_of log q) → IsSameBrought log next → Tracks before log → Tracks after next
-tracks_put before after p own table log next put here claims idle others same tracks =
+    → ((q : ℕ) → q ≢ p → part_of next q ≡ part_of log q) → IsSameBrought log next → HoldsTrials next before.trials → Tracks before log → Tracks after next
+tracks_put before after p own table log next put here claims idle others same trials tracks =
     tracks_on before after log next put.watch put.table put.verdicts
     (λ q. elim (cases_eq q p) [
       | inl is ↦ subst (λ (k : ℕ). after.chains k ≡ chain_kept (trail next k)) (sym is) (put.here ∙ here)
@@ -95,12 +101,14 @@ tracks_put before after p own table log next put here claims idle others same tr
       | inr other ↦ put.claims_others q other block ∙ tracks.claimed q block ∙ sym (ap (λ (x : Part). claims_kept x.trail block) (others q other))
     ])
     (opens_put log next before.opens after.opens p tracks.opened put.opens.others (λ q other. ap (λ (x : Part). x.trail) (others q other))
-    (opens_closed before.opens after.opens p (trail next p) put.opens idle)) same tracks
+    (opens_closed before.opens after.opens p (trail next p) put.opens idle)) same
+    (trials_same next before.trials after.trials put.trials.paid put.trials.told put.trials.aims trials) tracks
 
 -- by what a tracker's calls say: a peer is forgotten; one that claims nothing is entered
 pub put_forgotten : (before last : Seen) (p : PeerNo) → Puts before.chains last.chains p None → IsSameTable before.table last.table → ForgetsClaims before.claims last.claims p.0
-    → AreSameVerdicts last.verdicts before.verdicts → last.watch ≡ before.watch → Closes before.opens last.opens p.0 → IsPut before last p.0 None no_claims
-put_forgotten before last p puts table claims verdicts watch closes = record {
+    → AreSameVerdicts last.verdicts before.verdicts → last.watch ≡ before.watch → Closes before.opens last.opens p.0 → IsSameTrials before.trials last.trials
+    → IsPut before last p.0 None no_claims
+put_forgotten before last p puts table claims verdicts watch closes trials = record {
   watch = watch;
   here = puts.here;
   others = puts.others;
@@ -109,12 +117,13 @@ put_forgotten before last p puts table claims verdicts watch closes = record {
   table = λ hash. sym (table hash);
   verdicts = verdicts;
   opens = closes;
+  trials = trials;
 }
 
 pub put_entered : (before last : Seen) (p : PeerNo) → Puts before.chains last.chains p (Some []) → IsSameTable before.table last.table → IsSameTables before.claims last.claims
     → AreSameVerdicts last.verdicts before.verdicts → last.watch ≡ before.watch → ((block : Hash) → before.claims p.0 block ≡ None) → IsSameOpens before.opens last.opens → Closes before.opens before.opens p.0
-    → IsPut before last p.0 (Some []) no_claims
-put_entered before last p puts table claims verdicts watch none opens idle = record {
+    → IsSameTrials before.trials last.trials → IsPut before last p.0 (Some []) no_claims
+put_entered before last p puts table claims verdicts watch none opens idle trials = record {
   watch = watch;
   here = puts.here;
   others = puts.others;
@@ -123,6 +132,7 @@ put_entered before last p puts table claims verdicts watch none opens idle = rec
   table = λ hash. sym (table hash);
   verdicts = verdicts;
   opens = closed_on before.opens last.opens p.0 opens idle;
+  trials = trials;
 }
 
 -- ---- the entries
@@ -142,11 +152,11 @@ brought_at log next p others blocks filters = record {
 
 -- p is lost, in whatever way, and nothing else
 pub tracks_lost : (before after : Seen) (p : PeerNo) (log next : Log) → IsPut before after p.0 None no_claims → connected (trail next p.0) ≡ false → ((q : ℕ) → q ≢ p.0 → part_of next q ≡ part_of log q)
-    → fetched (counted (trail next p.0)) ≡ fetched (counted (trail log p.0)) → given (counted (trail next p.0)) ≡ given (counted (trail log p.0)) → Tracks before log → Tracks after next
-tracks_lost before after p log next put off others blocks filters tracks =
+    → fetched (counted (trail next p.0)) ≡ fetched (counted (trail log p.0)) → given (counted (trail next p.0)) ≡ given (counted (trail log p.0)) → HoldsTrials next before.trials → Tracks before log → Tracks after next
+tracks_lost before after p log next put off others blocks filters trials tracks =
     tracks_put before after p.0 None no_claims log next put
     (sym (ap (λ (b : Bool). if b then Some (own (trail next p.0)) else None) off)) (sym (ap (λ (b : Bool). if b then claims (counted (trail next p.0)) else no_claims) off))
-    (λ on. absurd (both_ways (connected (trail next p.0)) off on)) others (brought_at log next p.0 others blocks filters) tracks
+    (λ on. absurd (both_ways (connected (trail next p.0)) off on)) others (brought_at log next p.0 others blocks filters) trials tracks
 
 closed_here : (p : PeerNo) (part : Part) → went_on (Closed p) p.0 part ≡ with_item (Lost Shutting) part
 closed_here p part = grind (arith, common_steps)
@@ -158,7 +168,7 @@ pub tracks_closed : (before after : Seen) (p : PeerNo) (log : Log) → IsPut bef
 tracks_closed before after p log put tracks =
     let here = closed_here p (part_of log p.0) in
     tracks_lost before after p log (Closed p ∷ log) put (ap (λ (x : Part). connected x.trail) here) (λ q other. closed_others p q (part_of log q) other)
-    (ap (λ (x : Part). fetched (counted x.trail)) here) (ap (λ (x : Part). given (counted x.trail)) here) tracks
+    (ap (λ (x : Part). fetched (counted x.trail)) here) (ap (λ (x : Part). given (counted x.trail)) here) (trials_stay (Closed p) log before.trials tt tt tracks.trials) tracks
 
 gone_here : (p : PeerNo) (part : Part) → went_on (Took (Gone p)) p.0 part ≡ with_item (Lost Went) part
 gone_here p part = grind (arith, common_steps)
@@ -170,7 +180,7 @@ pub tracks_gone : (before after : Seen) (p : PeerNo) (log : Log) → IsPut befor
 tracks_gone before after p log put tracks =
     let here = gone_here p (part_of log p.0) in
     tracks_lost before after p log (Took (Gone p) ∷ log) put (ap (λ (x : Part). connected x.trail) here) (λ q other. gone_others p q (part_of log q) other)
-    (ap (λ (x : Part). fetched (counted x.trail)) here) (ap (λ (x : Part). given (counted x.trail)) here) tracks
+    (ap (λ (x : Part). fetched (counted x.trail)) here) (ap (λ (x : Part). given (counted x.trail)) here) (trials_stay (Took (Gone p)) log before.trials tt tt tracks.trials) tracks
 
 called_here : (p : PeerNo) (name : List ℕ) (part : Part) → went_on (Dialled p name) p.0 part ≡ called_part part
 called_here p name part = grind (arith, common_steps)
@@ -184,7 +194,8 @@ tracks_dialled before after p name log put tracks =
     let next = Dialled p name ∷ log in
     tracks_put before after p.0 (Some []) no_claims log next put (sym (ap (λ (x : Part). chain_kept x.trail) here)) (sym (ap (λ (x : Part). claims_kept x.trail) here))
     (λ on. ap (λ (x : Part). request x.trail) here) (λ q other. called_others p name q (part_of log q) other)
-    (brought_at log next p.0 (λ q other. called_others p name q (part_of log q) other) (ap (λ (x : Part). fetched (counted x.trail)) here) (ap (λ (x : Part). given (counted x.trail)) here)) tracks
+    (brought_at log next p.0 (λ q other. called_others p name q (part_of log q) other) (ap (λ (x : Part). fetched (counted x.trail)) here) (ap (λ (x : Part). given (counted x.trail)) here))
+    (trials_stay (Dialled p name) log before.trials tt tt tracks.trials) tracks
 
 -- what is sent changes nothing that is kept
 asked_same : (A : Type 0) (f : Trail → A) (o : Option Msg) (t : Trail) → ((m : Msg) → f (asks (Some m) t) ≡ f t) → f (asks o t) ≡ f t
@@ -205,8 +216,8 @@ sent_others p bytes q part ne = grind (arith, common_steps)
 
 -- a message was sent, and what is kept of it is open to p
 pub tracks_asked : (before after : Seen) (p : PeerNo) (bytes : List ℕ) (log : Log) → HasOpened before after p.0 → OpensAt after.opens p.0 (asks (spelled bytes) (trail log p.0))
-    → Tracks before log → Tracks after (Sent p bytes ∷ log)
-tracks_asked before after p bytes log same at tracks =
+    → (IsConnected log p.0 → AimsAt (Sent p bytes ∷ log) p.0 (after.trials.aims p.0)) → Tracks before log → Tracks after (Sent p bytes ∷ log)
+tracks_asked before after p bytes log same at aim tracks =
     let next = Sent p bytes ∷ log in
     tracks_on before after log next same.watch same.table same.verdicts
     (λ q. same.chains q ∙ tracks.kept q ∙ sym (sent_same (Option Chain) chain_kept p bytes log q (λ m. refl)))
@@ -216,7 +227,7 @@ tracks_asked before after p bytes log same at tracks =
     (record {
       blocks = λ q. sent_same (List Block) (λ t. fetched (counted t)) p bytes log q (λ m. refl);
       filters = λ q. sent_same (List Job) (λ t. given (counted t)) p bytes log q (λ m. refl);
-    }) tracks
+    }) (trials_sent p bytes log before.trials after.trials same.trials.paid same.trials.told same.trials.aims aim tracks.trials) tracks
 
 pub opened_self : (s : Seen) (p : ℕ) → HasOpened s s p
 opened_self s p = record {
@@ -227,25 +238,27 @@ opened_self s p = record {
   verdicts = λ block hash. refl;
   opens = else_self s.opens p;
   more = record { filters = λ q block off. off; blocks = λ q block off. off };
+  trials = elsewhere_self s.trials p;
 }
 
 -- a message that asks for neither filters nor a block
 pub tracks_sent : (s : Seen) (p : PeerNo) (bytes : List ℕ) (m : Msg) (log : Log) → spelled bytes ≡ Some m
     → filters_open (request (Asked m ∷ trail log p.0)) ≡ filters_open (request (trail log p.0)) → blocks_open (request (Asked m ∷ trail log p.0)) ≡ blocks_open (request (trail log p.0))
-    → Tracks s log → Tracks s (Sent p bytes ∷ log)
-tracks_sent s p bytes m log is filters blocks tracks =
+    → IsNoQuestion (Some m) → Tracks s log → Tracks s (Sent p bytes ∷ log)
+tracks_sent s p bytes m log is filters blocks none tracks =
     tracks_asked s s p bytes log (opened_self s p.0)
-    (subst (λ (o : Option Msg). OpensAt s.opens p.0 (asks o (trail log p.0))) (sym is) (opens_asked s.opens p.0 m (trail log p.0) filters blocks (tracks.opened p.0))) tracks
+    (subst (λ (o : Option Msg). OpensAt s.opens p.0 (asks o (trail log p.0))) (sym is) (opens_asked s.opens p.0 m (trail log p.0) filters blocks (tracks.opened p.0)))
+    (λ on. aims_other p bytes log (Some m) (s.trials.aims p.0) is none (tracks.trials.aims p.0 on)) tracks
 
 pub tracks_tick : (s : Seen) (seconds : ℕ) (log : Log) → Tracks s log → Tracks s (Took (Tick seconds) ∷ log)
 tracks_tick s seconds log tracks =
     tracks_same s log (Took (Tick seconds) ∷ log) (λ q. refl) (λ q. refl) (λ q. opens_kept s.opens q (trail log q) (trail (Took (Tick seconds) ∷ log) q) refl refl (tracks.opened q))
-    (record { blocks = λ q. refl; filters = λ q. refl }) tracks
+    (record { blocks = λ q. refl; filters = λ q. refl }) (trials_stay (Took (Tick seconds)) log s.trials tt tt tracks.trials) tracks
 
 pub tracks_ended : (s : Seen) (log : Log) → Tracks s log → Tracks s (Took Ended ∷ log)
 tracks_ended s log tracks =
     tracks_same s log (Took Ended ∷ log) (λ q. refl) (λ q. refl) (λ q. opens_kept s.opens q (trail log q) (trail (Took Ended ∷ log) q) refl refl (tracks.opened q))
-    (record { blocks = λ q. refl; filters = λ q. refl }) tracks
+    (record { blocks = λ q. refl; filters = λ q. refl }) (trials_stay (Took Ended) log s.trials tt tt tracks.trials) tracks
 
 -- ---- a peer that isn't connected
 
@@ -273,6 +286,7 @@ put_off s log p off tracks = record {
   claims_others = λ q ne block. refl;
   table = λ hash. refl;
   verdicts = λ block hash. refl;
+  trials = trials_self s.trials;
 }
 
 -- it goes once more
@@ -290,7 +304,7 @@ pub tracks_missed : (s : Seen) (p : PeerNo) (name : List ℕ) (log : Log) → co
 tracks_missed s p name log off tracks =
     let here = missed_here p name (part_of log p.0) in
     tracks_lost s s p log (NotDialled p name ∷ log) (put_off s log p.0 off tracks) (ap (λ (x : Part). connected x.trail) here) (λ q other. missed_others p name q (part_of log q) other)
-    (ap (λ (x : Part). fetched (counted x.trail)) here) (ap (λ (x : Part). given (counted x.trail)) here) tracks
+    (ap (λ (x : Part). fetched (counted x.trail)) here) (ap (λ (x : Part). given (counted x.trail)) here) (trials_stay (NotDialled p name) log s.trials tt tt tracks.trials) tracks
 
 -- what it says doesn't count
 pub got_here : (p : PeerNo) (piece : List ℕ) (part : Part) → went_on (Took (Got p piece)) p.0 part ≡ heard_part piece part
@@ -299,40 +313,15 @@ got_here p piece part = grind (arith, common_steps)
 pub got_others : (p : PeerNo) (piece : List ℕ) (q : ℕ) (part : Part) → q ≢ p.0 → went_on (Took (Got p piece)) q part ≡ part
 got_others p piece q part ne = grind (arith, common_steps)
 
-item_on : (f : Frame) (t : Trail) → connected (item_of f ∷ t) ≡ connected t
-item_on f t = elim (message_of f) as (λ r. connected (item_of_read r ∷ t) ≡ connected t) [ Ok m ↦ refl | Err e ↦ refl ]
-
-item_deaf : (f : Frame) (t : Trail) → connected t ≡ false → counted (item_of f ∷ t) ≡ counted t
-item_deaf f t off = elim (message_of f) as (λ r. counted (item_of_read r ∷ t) ≡ counted t) [
-  | Ok m ↦ ap (λ (b : Bool). if b && is_none (verdict (Said m ∷ t)) then Said m ∷ counted t else counted t) off
-  | Err e ↦ refl
-]
-
-hears_on : (fs : List Frame) (t : Trail) → connected (hears fs t) ≡ connected t
-hears_on [] t = refl
-hears_on (f ∷ fs) t = hears_on fs (item_of f ∷ t) ∙ item_on f t
-
-hears_deaf : (fs : List Frame) (t : Trail) → connected t ≡ false → counted (hears fs t) ≡ counted t
-hears_deaf [] t off = refl
-hears_deaf (f ∷ fs) t off = hears_deaf fs (item_of f ∷ t) (item_on f t ∙ off) ∙ item_deaf f t off
-
-fault_on : (o : Option FrameFault) (t : Trail) → (connected (hears_fault o t) ≡ connected t) × (counted (hears_fault o t) ≡ counted t)
-fault_on None t = (refl, refl)
-fault_on (Some fault) t = (refl, refl)
-
-pub heard_on : (piece : List ℕ) (part : Part) → connected (heard_part piece part).trail ≡ connected part.trail
-heard_on piece part = (let r = read_stream (part.waits ++ piece) in (fault_on r.fault (hears r.frames part.trail)).0 ∙ hears_on r.frames part.trail)
-
-pub heard_deaf : (piece : List ℕ) (part : Part) → connected part.trail ≡ false → counted (heard_part piece part).trail ≡ counted part.trail
-heard_deaf piece part off = (let r = read_stream (part.waits ++ piece) in (fault_on r.fault (hears r.frames part.trail)).1 ∙ hears_deaf r.frames part.trail off)
-
 pub tracks_deaf : (s : Seen) (p : PeerNo) (piece : List ℕ) (log : Log) → connected (trail log p.0) ≡ false → Tracks s log → Tracks s (Took (Got p piece) ∷ log)
 tracks_deaf s p piece log off tracks =
     let here = got_here p piece (part_of log p.0) in
     let deaf = heard_deaf piece (part_of log p.0) off in
     tracks_lost s s p log (Took (Got p piece) ∷ log) (put_off s log p.0 off tracks) (ap (λ (x : Part). connected x.trail) here ∙ heard_on piece (part_of log p.0) ∙ off)
     (λ q other. got_others p piece q (part_of log q) other)
-    (ap (λ (x : Part). fetched (counted x.trail)) here ∙ ap fetched deaf) (ap (λ (x : Part). given (counted x.trail)) here ∙ ap given deaf) tracks
+    (ap (λ (x : Part). fetched (counted x.trail)) here ∙ ap fetched deaf) (ap (λ (x : Part). given (counted x.trail)) here ∙ ap given deaf)
+    (trials_piece p piece log s.trials s.trials [] [] (ap (λ (x : Part). fetched (counted x.trail)) here ∙ ap fetched deaf) (ap (λ (x : Part). given (counted x.trail)) here ∙ ap given deaf)
+    (go_self s.trials p.0) tracks.trials) tracks
 
 -- ---- a piece of a connected peer
 
@@ -375,6 +364,8 @@ tracks_heard p peer seen now before after piece log heard tracks =
           (got_given p piece log seen.watch heard.jobs seen.verdicts now.verdicts heard.gives heard.gains.verdicts tracks.given);
       opened = opens_put log next seen.opens now.opens p.0 tracks.opened heard.gains.opens (λ q other. ap (λ (x : Part). x.trail) (others q other))
           (subst (OpensAt now.opens p.0) (sym t) heard.gains.follows.opens);
+      trials = trials_piece p piece log seen.trials now.trials heard.news heard.jobs
+          (ap (λ (x : Trail). fetched (counted x)) t ∙ heard.brings) (ap (λ (x : Trail). given (counted x)) t ∙ heard.gave) heard.gains.trials tracks.trials;
     }
 
 -- One in which a frame deserves a cause: what was seen stands for the log with the piece, but for p's chain and claims, which are given up with it.
@@ -385,7 +376,7 @@ tracks_faulty p seen now last before acts piece log cause fault put tracks =
     let next = Took (Got p piece) ∷ log in
     let others : (q : ℕ) → q ≢ p.0 → part_of next q ≡ part_of log q = λ q ne. got_others p piece q (part_of log q) ne in
     let t : trail next p.0 ≡ (heard_part piece (part_of log p.0)).trail = ap (λ (x : Part). x.trail) (got_here p piece (part_of log p.0)) in (
-      record { watch = last.watch; chains = λ q. chain_kept (trail next q); claims = λ q. claims_kept (trail next q); table = last.table; verdicts = last.verdicts; opens = opens_by next },
+      record { watch = last.watch; chains = λ q. chain_kept (trail next q); claims = λ q. claims_kept (trail next q); table = last.table; verdicts = last.verdicts; opens = opens_by next; trials = last.trials },
       (
         record {
           kept = λ q. refl;
@@ -395,6 +386,9 @@ tracks_faulty p seen now last before acts piece log cause fault put tracks =
           given = subst (λ (w : List (List ℕ)). HoldsGiven w next last.verdicts) (sym (put.watch ∙ fault.kept.watch))
               (got_given p piece log seen.watch fault.jobs seen.verdicts last.verdicts fault.gives (λ block hash. put.verdicts block hash ∙ fault.kept.verdicts block hash) tracks.given);
           opened = holds_by next;
+          trials = trials_piece p piece log seen.trials last.trials fault.news fault.jobs
+              (ap (λ (x : Trail). fetched (counted x)) t ∙ fault.brings) (ap (λ (x : Trail). given (counted x)) t ∙ fault.gave)
+              (go_on seen.trials now.trials last.trials p.0 fault.news fault.jobs fault.kept.trials put.trials) tracks.trials;
         },
         record {
           watch = refl;
@@ -406,6 +400,30 @@ tracks_faulty p seen now last before acts piece log cause fault put tracks =
           verdicts = λ block hash. refl;
           opens = closes_then (opens_by next) now.opens last.opens p.0
               (else_by log next seen.opens now.opens p.0 tracks.opened (λ q other. ap (λ (x : Part). x.trail) (others q other)) fault.kept.opens) put.opens;
+          trials = trials_self last.trials;
         },
       ),
     )
+
+-- a piece up to a message that exposed its peer: what is kept of tests, blocks and filters is right for the log, with the parts that the log tells
+abbrev pub seen_at : Seen → Log → Seen
+seen_at s log = record s { chains = λ q. chain_kept (trail log q); claims = λ q. claims_kept (trail log q); opens = opens_by log }
+
+pub tracks_exposed : (p : PeerNo) (seen now : Seen) (before acts : List Act) (piece : List ℕ) (log : Log) (block filter : Hash)
+    → (x : HeardExposed p seen now before acts (part_of log p.0) (heard_part piece (part_of log p.0)) block filter)
+    → (fetched (counted (heard_part piece (part_of log p.0)).trail) ≡ fetched (counted x.so_far)) → (given (counted (heard_part piece (part_of log p.0)).trail) ≡ given (counted x.so_far))
+    → Tracks seen log → Tracks (seen_at now (Took (Got p piece) ∷ log)) (Took (Got p piece) ∷ log)
+tracks_exposed p seen now before acts piece log block filter x blocks filters tracks =
+    let next = Took (Got p piece) ∷ log in
+    let t : trail next p.0 ≡ (heard_part piece (part_of log p.0)).trail = ap (λ (y : Part). y.trail) (got_here p piece (part_of log p.0)) in
+    let brings : fetched (counted (trail next p.0)) ≡ x.news ++ fetched (counted (trail log p.0)) = ap (λ (u : Trail). fetched (counted u)) t ∙ blocks ∙ x.brings in
+    let gave : given (counted (trail next p.0)) ≡ x.jobs ++ given (counted (trail log p.0)) = ap (λ (u : Trail). given (counted u)) t ∙ filters ∙ x.gave in
+    record {
+      kept = λ q. refl;
+      claimed = λ q at. refl;
+      fetched = subst (λ (w : List (List ℕ)). HoldsFetched w next now.table) (sym x.gains.watch) (holds_after_piece seen.watch p piece log x.news seen.table now.table brings x.gains.table tracks.fetched);
+      given = subst (λ (w : List (List ℕ)). HoldsGiven w next now.verdicts) (sym x.gains.watch)
+          (got_given p piece log seen.watch x.jobs seen.verdicts now.verdicts (gives_late x.so_far (heard_part piece (part_of log p.0)).trail (trail log p.0) x.jobs filters x.gives) x.gains.verdicts tracks.given);
+      opened = holds_by next;
+      trials = trials_piece p piece log seen.trials now.trials x.news x.jobs brings gave x.gains.trials tracks.trials;
+    }

@@ -14,23 +14,29 @@ use Rattle.cf_block.specs.Header.{block_hash_of, genesis_header}
 use Rattle.cf_dispute.specs.declared.claim.Claim.{Claim}
 use Rattle.cf_headers.specs.Chain.{Hash, Chain, above, back_to, lower, tip_hash, IsIn}
 use Rattle.cf_headers.specs.Heights.{hash_at}
+use Rattle.cf_headers.proofs.Accepting.{at_height}
 use Rattle.cf_headers.proofs.Locators.{hash_in}
+use Rattle.cf_headers.proofs.Stacks.{length_lower}
 use Rattle.cf_msg.specs.declared.msg.Entry.{Entry}
 use Rattle.cf_msg.specs.declared.msg.Msg.TheVariants.{GetCfheaders, GetCfilters, GetData}
-use Rattle.cf_peer.specs.Asking.{HasHeader, IsClaimed, IsFree, MayAsk, block_entry, claims, counted, hashes_of, verdict}
+use Rattle.cf_peer.specs.Asking.{HasHeader, IsClaimed, IsFree, MayAsk, block_entry, blocks_from, claims, counted, hashes_of, verdict}
 use Rattle.cf_wires.specs.Log.{Log}
 use Rattle.cf_peer.specs.Trail.{Trail, trail, connected, own}
-use Rattle.cf_sync.specs.Fetching.{IsFilterWanted, IsNeeded, IsBlockWanted, MaySend, blocks_in}
+use Rattle.cf_sync.specs.Fetching.{IsFilterWanted, AreFiltersWanted, IsNeeded, IsBlockWanted, IsTestOf, MaySend, blocks_in}
+use Rattle.cf_sync.proofs.FreshTests.{test_alone, tip_only}
 use Rattle.cf_sync.proofs.KeptOpens.{block_alone, filters_alone}
 use Rattle.cf_sync.proofs.Kept.{filter_by, block_by}
+use Rattle.cf_sync.proofs.KeptTests.{trial_by}
 use Rattle.cf_seek.specs.declared.spans.Span.{Span}
-use Rattle.cf_seek.specs.declared.spans.Wish.TheVariants.{Claims, Filters, Block}
+use Rattle.cf_seek.specs.declared.spans.Wish.TheVariants.{Claims, Filters, Block, Test}
+use Rattle.cf_seek.specs.declared.testing.Trial.{Trial}
 use Rattle.cf_seek.specs.Opens.{IsBlockFree, IsFilterFree}
 use Rattle.cf_seek.specs.Spans.{IsWish}
+use Rattle.cf_seek.specs.Testing.{IsTrial, IsTrying}
 use Rattle.cf_seek.specs.Wanting.{IsAbove, IsUnjudged, AreClaimed}
 use Rattle.cf_seek.proofs.Along.{hash_of_next}
 use Rattle.std.proofs.lemmas.Bool.{cases_lt, both_ways}
-use Rattle.cf_seek.proofs.Stops.{above_part, lower_on, parent_is}
+use Rattle.cf_seek.proofs.Stops.{above_part, back_ends, lower_on, parent_is}
 use Rattle.cf_hear.specs.Seen.{Seen}
 use Rattle.cf_hear.specs.Tracks.{Tracks}
 
@@ -82,7 +88,7 @@ up_from (suc n) h lt = omega (arith, lt)
 
 -- filters that are asked for are wanted of p
 pub filters_needed : (s : Seen) (log : Log) (p common : ℕ) (span : Span) (chain : Chain) → Tracks s log → chain ≡ own (trail log p) → common ≤ length chain
-    → IsWish s.table s.claims s.verdicts s.opens p chain common (Filters span) → IsNeeded s.watch log p (GetCfilters 0 span.start span.stop)
+    → IsWish s.table s.claims s.verdicts s.opens p chain common (Filters span) → AreFiltersWanted log p span.start span.stop.0
 filters_needed s log p common span chain tracks is low wish block i =
     let sp = wish.1.1.0 in
     let tip : back_to span.stop.0 (own (trail log p)) ≡ Some sp.part = subst (λ (c : Chain). back_to span.stop.0 c ≡ Some sp.part) is sp.tip in
@@ -271,7 +277,7 @@ filters_send s log p common span chain tracks is low free clean wish = (
     wanted = tt;
     alone = filters_alone log s.opens p 0 span.start span.stop tracks.opened (filters_free s log p common span chain is low wish);
   },
-  filters_needed s log p common span chain tracks is low wish,
+  inl (filters_needed s log p common span chain tracks is low wish),
 )
 
 pub block_send : (s : Seen) (log : Log) (p common : ℕ) (hash : Hash32) (chain : Chain) → Tracks s log → chain ≡ own (trail log p) → common ≤ length chain
@@ -285,4 +291,50 @@ block_send s log p common hash chain tracks is low free wish =
         alone = block_alone log s.opens p hash tracks.opened (subst (IsBlockFree s.opens) (sym wish.1.1) wish.1.0.5.free);
       },
       needed,
+    )
+
+-- ---- a filter that is to be tested
+
+-- where it stands on the chain
+pub test_part : (s : Seen) (log : Log) (p common : ℕ) (trial : Trial) (listed : List Hash) (chain : Chain) → chain ≡ own (trail log p)
+    → IsTrying s.table s.claims s.trials.told p chain common listed (Test trial) → IsTrial s.table s.claims s.trials.told p (own (trail log p)) common trial.block.0 trial.height
+test_part s log p common trial listed chain is tries = subst (λ (c : Chain). IsTrial s.table s.claims s.trials.told p c common trial.block.0 trial.height) is tries.1
+
+pub test_needed : (s : Seen) (log : Log) (p common : ℕ) (trial : Trial) (listed : List Hash) (chain : Chain) → Tracks s log → chain ≡ own (trail log p)
+    → IsTrying s.table s.claims s.trials.told p chain common listed (Test trial) → IsTestOf log p trial.height trial.block.0
+test_needed s log p common trial listed chain tracks is tries =
+    trial_by s.watch log s.table s.claims s.trials.told tracks.fetched tracks.claimed tracks.trials.told p common trial.height trial.block.0
+    (test_part s log p common trial listed chain is tries)
+
+test_may : (s : Seen) (log : Log) (p common : ℕ) (trial : Trial) (listed : List Hash) (chain : Chain) → Tracks s log → chain ≡ own (trail log p)
+    → IsFree (trail log p) → verdict (trail log p) ≡ None → IsTrying s.table s.claims s.trials.told p chain common listed (Test trial) → MayAsk (trail log p) (GetCfilters 0 trial.height trial.block)
+test_may s log p common trial listed chain tracks is free clean tries =
+    let t = trail log p in
+    let one = test_part s log p common trial listed chain is tries in
+    let at = at_height trial.block.0 (own t) trial.height one.stands in
+    let long : length (lower trial.height (own t)) ≡ trial.height = length_lower trial.height (own t) at.1 in
+    let up = one.above in
+    let cl = claims_are s log p tracks free.on clean in (
+      free,
+      (
+        record { basic = refl; part = lower trial.height (own t); tip = at.0; low = up; high = omega (arith, long); bound = omega (arith, long) },
+        λ block i.
+            let this : block ≡ trial.block.0 =
+            tip_only (lower trial.height (own t)) block (subst (λ (n : ℕ). IsIn block (blocks_from n (lower trial.height (own t)))) (sym long) i)
+            ∙ back_ends trial.block.0 (own t) (lower trial.height (own t)) at.0 in
+            claimed_at s t p block cl (one.wanted.claim, ap (s.claims p) this ∙ one.wanted.mine),
+      ),
+    )
+
+pub test_send : (s : Seen) (log : Log) (p common : ℕ) (trial : Trial) (listed : List Hash) (chain : Chain) → Tracks s log → chain ≡ own (trail log p)
+    → IsFree (trail log p) → verdict (trail log p) ≡ None → IsTrying s.table s.claims s.trials.told p chain common listed (Test trial)
+    → MaySend log p (GetCfilters 0 trial.height trial.block) × IsNeeded s.watch log p (GetCfilters 0 trial.height trial.block)
+test_send s log p common trial listed chain tracks is free clean tries =
+    let needed = test_needed s log p common trial listed chain tracks is tries in (
+      record {
+        of_its_part = test_may s log p common trial listed chain tracks is free clean tries;
+        wanted = tt;
+        alone = test_alone log p 0 trial.height trial.block needed;
+      },
+      inr needed,
     )

@@ -10,20 +10,24 @@ use Rattle.cf_peer.specs.declared.act.Act.TheVariants.{Send as SendTo}
 use Rattle.cf_peer.specs.declared.peer.Cause.{Cause}
 use Rattle.cf_peer.specs.declared.peer.Peer.{Peer}
 use Rattle.cf_peer.specs.declared.peer.Reply.{Reply}
-use Rattle.cf_peer.specs.declared.peer.Reply.TheVariants.{Nothing as NoReply, Send, Close}
-use Rattle.cf_peer.specs.Trail.{Trail, Part, Said, part_after, met, owed, reply_to}
-use Rattle.cf_peer.specs.Asking.{request, verdict, counted, fetched, fetched_by, given, given_by}
+use Rattle.cf_peer.specs.declared.peer.Reply.TheVariants.{Nothing as NoReply, Send, Close, Expose}
+use Rattle.cf_peer.specs.Trail.{Trail, Part, Said, connected, part_after, met, owed, reply_to}
+use Rattle.cf_peer.specs.Asking.{NothingOpen, request, verdict, counted, fetched, fetched_by, given, given_by}
 use Rattle.cf_peer.specs.Hearing.{IsReply, Faulty}
 use Rattle.cf_peer.specs.Peer.{Holds, Hears}
 use Rattle.cf_seek.specs.Tables.{IsSameTable, with_blocks}
+use Rattle.cf_seek.specs.Trials.{TrialsGo}
 use Rattle.cf_match.specs.declared.job.Job.{Job}
 use Rattle.cf_match.specs.Verdicts.{AreSameVerdicts, with_verdicts}
 use Rattle.cf_headers.specs.Chain.{Hash, IsIn}
 use Rattle.cf_seek.specs.Opens.{IsSameElse}
+use Rattle.cf_hear.specs.declared.stop.Stop.{Stop}
+use Rattle.cf_hear.specs.declared.stop.Stop.TheVariants.{Fault, Exposed}
+use Rattle.cf_hear.specs.Exposing.{IsExposedIn}
 use Rattle.cf_hear.specs.Seen.{Seen, IsSameSeen, Follows}
 
 -- p's chain and claims are now those of this trail, and what is open to it; the extracts of these blocks came, the last of them first, and the verdicts on
--- these filters, the first of them first
+-- these filters, the first of them first; and so with what is kept of tests
 pub record Gains (before after : Seen) (p : PeerNo) (t : Trail) (news : List Block) (jobs : List Job) : Type 0 where
   pub watch : after.watch ≡ before.watch
   pub follows : Follows after p.0 t
@@ -32,12 +36,17 @@ pub record Gains (before after : Seen) (p : PeerNo) (t : Trail) (news : List Blo
   pub table : IsSameTable after.table (with_blocks before.watch news before.table)
   pub verdicts : AreSameVerdicts after.verdicts (with_verdicts before.watch jobs before.verdicts)
   pub opens : IsSameElse before.opens after.opens p.0
+  pub trials : TrialsGo before.trials after.trials p.0 news jobs
 
--- what one message does to the peer and to what was seen: the reply that is owed to it, or the cause that it gives
+-- what one message does to the peer and to what was seen: the reply that is owed to it, the cause that it gives, or that it exposes the peer, to which nothing is
+-- open then
 abbrev pub HearsSeen : Seen → Seen → PeerNo → Peer → Msg → Trail → Reply → Type 0
 HearsSeen before after p peer m t NoReply = Hears peer m t NoReply × Gains before after p (Said m ∷ t) (fetched_by m (request t)) (given_by m (request t))
 HearsSeen before after p peer m t (Send r) = Hears peer m t (Send r) × Gains before after p (Said m ∷ t) (fetched_by m (request t)) (given_by m (request t))
 HearsSeen before after p peer m t (Close cause) = Hears peer m t (Close cause) × IsSameSeen before after
+HearsSeen before after p peer m t (Expose block filter) =
+    Hears peer m t NoReply × Gains before after p (Said m ∷ t) (fetched_by m (request t)) (given_by m (request t))
+    × ((request (Said m ∷ t) ≡ NothingOpen) × IsExposedIn after p.0 block.0 filter.0)
 
 -- one frame was taken from the bytes, which left these, with one message, and these replies are owed to it
 pub record Advances (before after : Seen) (p : PeerNo) (bytes rest : List ℕ) (new : Peer) (t : Trail) (replies : List Msg)
@@ -47,6 +56,13 @@ pub record Advances (before after : Seen) (p : PeerNo) (bytes rest : List ℕ) (
   pub holds : Holds new (Said message ∷ t)
   pub owes : reply_to message t ≡ replies
   pub gains : Gains before after p (Said message ∷ t) (fetched_by message (request t)) (given_by message (request t))
+
+-- the same, and it exposes the peer
+pub record Reveals (before after : Seen) (p : PeerNo) (bytes rest : List ℕ) (new : Peer) (t : Trail) (block filter : Hash)
+    : Type 0 where
+  pub advances : Advances before after p bytes rest new t []
+  pub idle : request (Said advances.message ∷ t) ≡ NothingOpen
+  pub exposed : IsExposedIn after p.0 block filter
 
 -- the bytes deserve a cause, and what was seen stays
 pub record Stops (before after : Seen) (bytes : List ℕ) (t : Trail) (cause : Cause) : Type 0 where
@@ -60,12 +76,14 @@ HearsNext before after p bytes rest new t None =
 HearsNext before after p bytes rest new t (Some NoReply) = Advances before after p bytes rest new t []
 HearsNext before after p bytes rest new t (Some (Send r)) = Advances before after p bytes rest new t (r ∷ [])
 HearsNext before after p bytes rest new t (Some (Close cause)) = Stops before after bytes t cause
+HearsNext before after p bytes rest new t (Some (Expose block filter)) = Reveals before after p bytes rest new t block.0 filter.0
 
 abbrev pub goes_on : Option Reply → Bool
 goes_on None = false
 goes_on (Some NoReply) = true
 goes_on (Some (Send r)) = true
 goes_on (Some (Close cause)) = false
+goes_on (Some (Expose block filter)) = false
 
 -- replies are veracks and pongs, and none comes before the peer's version
 pub record AreReplies (replies : List Msg) (t : Trail) : Type 0 where
@@ -75,6 +93,10 @@ pub record AreReplies (replies : List Msg) (t : Trail) : Type 0 where
 -- what the blocks were that a trail brought since another
 abbrev pub Brings : Trail → Trail → List Block → Type 0
 Brings start end news = fetched (counted end) ≡ news ++ fetched (counted start)
+
+-- what the filters were that a trail was given since another, in their order
+abbrev pub Gives : Trail → Trail → List Job → Type 0
+Gives start end jobs = given (counted end) ≡ jobs ++ given (counted start)
 
 -- what the filters were that a trail was given since another
 pub record IsGivenBetween (start end : Trail) (jobs : List Job) : Type 0 where
@@ -94,6 +116,7 @@ pub record HeardWhole (p : PeerNo) (new : Peer) (seen now : Seen) (before after 
   pub brings : Brings start.trail end.trail news
   pub jobs : List Job
   pub gives : IsGivenBetween start.trail end.trail jobs
+  pub gave : Gives start.trail end.trail jobs
   pub gains : Gains seen now p end.trail news jobs
 
 -- what came before a fault: p's chain and claims don't matter any more, nor what is open to it
@@ -104,6 +127,7 @@ pub record Retains (before after : Seen) (p : PeerNo) (news : List Block) (jobs 
   pub table : IsSameTable after.table (with_blocks before.watch news before.table)
   pub verdicts : AreSameVerdicts after.verdicts (with_verdicts before.watch jobs before.verdicts)
   pub opens : IsSameElse before.opens after.opens p.0
+  pub trials : TrialsGo before.trials after.trials p.0 news jobs
 
 pub record HeardFault (p : PeerNo) (seen now : Seen) (before after : List Act) (start end : Part) (cause : Cause) : Type 0 where
   pub replies : List Msg
@@ -115,12 +139,35 @@ pub record HeardFault (p : PeerNo) (seen now : Seen) (before after : List Act) (
   pub brings : Brings start.trail end.trail news
   pub jobs : List Job
   pub gives : IsGivenBetween start.trail end.trail jobs
+  pub gave : Gives start.trail end.trail jobs
   pub kept : Retains seen now p news jobs
 
--- what a piece of a peer's bytes does: all of its messages were taken, or those before the first frame that deserves a cause
-abbrev pub HeardPiece : PeerNo → Peer → Seen → Seen → List Act → List Act → Part → Part → Option Cause → Type 0
+-- a piece was taken up to a message that exposed the peer: with nothing open to it what follows brings nothing, and it is closed
+pub record HeardExposed (p : PeerNo) (seen now : Seen) (before after : List Act) (start end : Part) (block filter : Hash) : Type 0 where
+  pub so_far : Trail
+  pub replies : List Msg
+  pub acts : after ≡ before ++ map (λ (m : Msg). SendTo p m) replies
+  pub are : AreReplies replies so_far
+  pub on : connected so_far ≡ true
+  pub clean : verdict so_far ≡ None
+  pub idle : request so_far ≡ NothingOpen
+  pub later : List ℕ
+  pub leads : part_after (read_stream later) so_far ≡ end
+  pub owes : owed so_far ≡ owed start.trail ++ replies
+  pub news : List Block
+  pub brings : Brings start.trail so_far news
+  pub jobs : List Job
+  pub gives : IsGivenBetween start.trail so_far jobs
+  pub gave : Gives start.trail so_far jobs
+  pub gains : Gains seen now p so_far news jobs
+  pub exposed : IsExposedIn now p.0 block filter
+
+-- what a piece of a peer's bytes does: all of its messages were taken, or those before the first frame that deserves a cause, or those up to the first that exposes
+-- the peer
+abbrev pub HeardPiece : PeerNo → Peer → Seen → Seen → List Act → List Act → Part → Part → Option Stop → Type 0
 HeardPiece p new seen now before after start end None = HeardWhole p new seen now before after start end
-HeardPiece p new seen now before after start end (Some cause) = HeardFault p seen now before after start end cause
+HeardPiece p new seen now before after start end (Some (Fault cause)) = HeardFault p seen now before after start end cause
+HeardPiece p new seen now before after start end (Some (Exposed e)) = HeardExposed p seen now before after start end e.block.0 e.filter.0
 
 -- on the way through a piece: the bytes that wait, with what is left of it behind them, lead to its end
 pub record Midway (p : PeerNo) (peer : Peer) (bytes : List ℕ) (seen now : Seen) (before after : List Act) (start end : Part)
@@ -136,4 +183,6 @@ pub record Midway (p : PeerNo) (peer : Peer) (bytes : List ℕ) (seen now : Seen
   pub brings : Brings start.trail so_far news
   pub jobs : List Job
   pub gives : IsGivenBetween start.trail so_far jobs
+  pub gave : Gives start.trail so_far jobs
   pub gains : Gains seen now p so_far news jobs
+  pub idle : ((news ≡ []) × (jobs ≡ [])) ⊎ (request so_far ≡ NothingOpen)

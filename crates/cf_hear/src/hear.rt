@@ -1,5 +1,5 @@
 //! How a peer's bytes are taken.
-ghost use Rattle.std.specs.Prelude.{◌≡◌, ◌≢◌, ◌<◌, ◌≤◌, ◌++◌, ℕ, List, [], true, Some, None, Ok, IsSome, IfOk, IfSome, IfNone, OnOk, length, false};
+ghost use Rattle.std.specs.Prelude.{◌≡◌, ◌≢◌, ◌<◌, ◌≤◌, ◌++◌, ℕ, List, [], true, Some, None, Ok, IsSome, IfOk, IfSome, IfNone, OnOk, length, map, false};
 ghost use Rattle.std.specs.List.{All};
 ghost use Rattle.cf_frame.specs.Reading.{front_of};
 ghost use Rattle.cf_msg.specs.declared.msg.Msg.TheVariants.{Headers, Block as BlockMessage, Cfheaders, Cfilter};
@@ -7,24 +7,30 @@ ghost use Rattle.cf_lent.specs.View.{msg_of};
 ghost use Rattle.cf_peer.specs.Acts.{IsDoable};
 ghost use Rattle.cf_peer.specs.Trail.{Trail, Part, heard_part};
 ghost use Rattle.cf_peer.specs.Peer.{Holds, calm, is_idle_peer, IsReplySendable, IsRight};
-ghost use Rattle.cf_match.specs.Verdicts.{AreSameVerdicts};
+ghost use Rattle.cf_match.specs.Verdicts.{AreSameVerdicts, verdict_of, with_verdicts};
 ghost use Rattle.cf_headers.specs.Store.{Stays};
 ghost use Rattle.cf_seek.specs.Opens.{Closes, IsSameElse, IsSameOpens};
 ghost use Rattle.cf_seek.specs.Tables.{IsSameTable};
-ghost use Rattle.cf_tracker.specs.Tracker.{chains_of, claims_of, opens_of, table_of, verdicts_of, watch_of};
+ghost use Rattle.cf_seek.specs.Testing.{IsSameTold};
+ghost use Rattle.cf_seek.specs.Trials.{IsSameTrials, tested_if};
+ghost use Rattle.cf_tracker.specs.Tracker.{aims_of, chains_of, claims_of, opens_of, paid_of, table_of, tests_of, trials_of, verdicts_of, watch_of};
 ghost use Rattle.cf_seek.specs.Wanting.{IsSameTables};
 ghost use Rattle.cf_hear.specs.Seen.{Follows, seen_of};
+ghost use Rattle.cf_dispute.specs.Tables.{blocks_of};
 ghost use Rattle.cf_hear.specs.Hearing.{HearsSeen, HearsNext, HeardPiece, goes_on};
+ghost use Rattle.cf_hear.specs.Exposing.{Exposes, ExposesAmong, ExposesLast, ExposesNext, IsUnexposed};
 ghost use Rattle.cf_hear.specs.Judging.{IsJudgedBy, AreJudgedBy, judging_of};
 
 use crate::lists::{hashes_in, headers_in};
+use crate::stop::Stop;
 use cf_block::{Header, block_hash};
 use cf_bytes::{Cut, Hash32, NoMemory, PeerNo, Refused};
 use cf_frame::Framer;
 use cf_headers::HeaderStore;
 use cf_lent::View;
-use cf_match::Matcher;
+use cf_match::{Job, Matcher, Verdict};
 use cf_peer::{Act, Cause, Coming, Heard, Peer, Reply, cause_of, next_coming};
+use cf_seek::Exposure;
 use cf_tracker::Tracker;
 use cf_view::{BlockView, check_view_by, view_txids};
 use std::alloc::Global;
@@ -39,6 +45,8 @@ fn hear_headers<H: HeaderStore>(
     requires entered { IsSome (chains_of tracker.old p.0) }
     requires right { IsRight peer.old.request (claims_of tracker.old p.0) }
     ensures heard { IfOk result (λ r. (t : Trail) → Holds peer.old t → Follows (seen_of tracker.old) p.0 t → HearsSeen (seen_of tracker.old) (seen_of tracker.new) p peer.new (Headers headers.now) t r) }
+    ensures exposes { IfOk result (λ r. (t : Trail) → Holds peer.old t → Follows (seen_of tracker.old) p.0 t
+        → IsUnexposed (seen_of tracker.old) → Exposes (seen_of tracker.new) p.0 r) }
     ensures sendable { IfOk result IsReplySendable }
     ensures entered { OnOk result (IsSome (chains_of tracker.new p.0)) }
     ensures right { OnOk result (IsRight peer.new.request (claims_of tracker.new p.0)) }
@@ -70,6 +78,8 @@ fn hear_block<H: HeaderStore>(
     requires entered { IsSome (chains_of tracker.old p.0) }
     requires right { IsRight peer.old.request (claims_of tracker.old p.0) }
     ensures heard { IfOk result (λ r. (t : Trail) → Holds peer.old t → Follows (seen_of tracker.old) p.0 t → HearsSeen (seen_of tracker.old) (seen_of tracker.new) p peer.new (BlockMessage block.now) t r) }
+    ensures exposes { IfOk result (λ r. (t : Trail) → Holds peer.old t → Follows (seen_of tracker.old) p.0 t
+        → IsUnexposed (seen_of tracker.old) → Exposes (seen_of tracker.new) p.0 r) }
     ensures sendable { IfOk result IsReplySendable }
     ensures right { OnOk result (IsRight peer.new.request (claims_of tracker.new p.0)) }
     ensures chains { OnOk result ((q : ℕ) → chains_of tracker.new q ≡ chains_of tracker.old q) }
@@ -95,6 +105,18 @@ fn hear_block<H: HeaderStore>(
     Ok(Reply::Nothing)
 }
 
+// The reply to what a peer said of blocks: it is exposed by the first of which it claims a filter that was found to lack
+// what the block pays.
+fn reply_after<H: HeaderStore>(tracker: &Tracker<H>, p: PeerNo, blocks: &[Hash32]) -> Reply
+    ensures sendable { IsReplySendable result }
+    ensures exposed { ExposesAmong (seen_of tracker.now) p.0 (blocks_of blocks.now) result }
+{
+    match tracker.exposed(p, blocks) {
+        Some(exposure) => Reply::Expose(exposure.block, exposure.filter),
+        None => Reply::Nothing,
+    }
+}
+
 // Takes claims that a tracked peer sent. Those that don't answer what is open to it are read over.
 fn hear_claims<H: HeaderStore>(
     tracker: &mut Tracker<H>,
@@ -109,6 +131,8 @@ fn hear_claims<H: HeaderStore>(
     requires entered { IsSome (chains_of tracker.old p.0) }
     requires right { IsRight peer.old.request (claims_of tracker.old p.0) }
     ensures heard { IfOk result (λ r. (t : Trail) → Holds peer.old t → Follows (seen_of tracker.old) p.0 t → HearsSeen (seen_of tracker.old) (seen_of tracker.new) p peer.new (Cfheaders filter stop.now previous.now hashes.now) t r) }
+    ensures exposes { IfOk result (λ r. (t : Trail) → Holds peer.old t → Follows (seen_of tracker.old) p.0 t
+        → IsUnexposed (seen_of tracker.old) → Exposes (seen_of tracker.new) p.0 r) }
     ensures sendable { IfOk result IsReplySendable }
     ensures right { OnOk result (IsRight peer.new.request (claims_of tracker.new p.0)) }
     ensures chains { OnOk result ((q : ℕ) → chains_of tracker.new q ≡ chains_of tracker.old q) }
@@ -121,8 +145,9 @@ fn hear_claims<H: HeaderStore>(
     let Some(range) = peer.take_range(filter, stop) else {
         return Ok(Reply::Nothing);
     };
-    match tracker.add_claims(p, &range.parent, range.blocks.as_slice(), previous, hashes) {
-        Ok(()) => Ok(Reply::Nothing),
+    let blocks = range.blocks.as_slice();
+    match tracker.add_claims(p, &range.parent, blocks, previous, hashes) {
+        Ok(()) => Ok(reply_after(tracker, p, blocks)),
         Err(Refused::No(fault)) => Ok(Reply::Close(cause_of(fault))),
         Err(Refused::NoMemory) => Err(NoMemory),
     }
@@ -138,13 +163,66 @@ fn let_go<H: HeaderStore>(tracker: &mut Tracker<H>, peer: &Peer, p: PeerNo)
     ensures claims { IsSameTables (claims_of tracker.old) (claims_of tracker.new) }
     ensures verdicts { AreSameVerdicts (verdicts_of tracker.new) (verdicts_of tracker.old) }
     ensures watch { watch_of tracker.new ≡ watch_of tracker.old }
+    ensures trials { IsSameTrials (trials_of tracker.old) (trials_of tracker.new) }
 {
     if peer.is_idle() {
         tracker.answered(p);
     }
 }
 
-// Takes a filter that a tracked peer sent. The last of a batch has all of them matched.
+// Tests what a peer gave, where it was asked for that so that it is tested: then it is one filter.
+fn test_given<H: HeaderStore>(
+    tracker: &mut Tracker<H>,
+    p: PeerNo,
+    jobs: &[Job],
+) -> Result<(), NoMemory>
+    ensures told { OnOk result (IsSameTold (tests_of tracker.new)
+        (tested_if (aims_of tracker.old p.0) (paid_of tracker.old) jobs.now (tests_of tracker.old))) }
+    ensures paid { (hash : List ℕ) → paid_of tracker.new hash ≡ paid_of tracker.old hash }
+    ensures aims { (q : ℕ) → aims_of tracker.new q ≡ aims_of tracker.old q }
+    ensures opens { IsSameOpens (opens_of tracker.old) (opens_of tracker.new) }
+    ensures chains { Stays (chains_of tracker.old) (chains_of tracker.new) }
+    ensures table { IsSameTable (table_of tracker.old) (table_of tracker.new) }
+    ensures claims { IsSameTables (claims_of tracker.old) (claims_of tracker.new) }
+    ensures verdicts { AreSameVerdicts (verdicts_of tracker.new) (verdicts_of tracker.old) }
+    ensures watch { watch_of tracker.new ≡ watch_of tracker.old }
+{
+    if !tracker.is_test(p) {
+        return Ok(());
+    }
+    if jobs.len() != 1 {
+        return Ok(());
+    }
+    tracker.test(&jobs[0])?;
+    Ok(())
+}
+
+// Keeps the verdicts on filters that a peer gave, and what tests of them find.
+fn keep_given<H: HeaderStore>(
+    tracker: &mut Tracker<H>,
+    p: PeerNo,
+    jobs: &[Job],
+    verdicts: &[Verdict],
+) -> Result<(), NoMemory>
+    requires { verdicts.now ≡ map (verdict_of (watch_of tracker.old)) jobs.now }
+    ensures ok { OnOk result (AreSameVerdicts (verdicts_of tracker.new)
+        (with_verdicts (watch_of tracker.old) jobs.now (verdicts_of tracker.old))) }
+    ensures told { OnOk result (IsSameTold (tests_of tracker.new)
+        (tested_if (aims_of tracker.old p.0) (paid_of tracker.old) jobs.now (tests_of tracker.old))) }
+    ensures paid { OnOk result ((hash : List ℕ) → paid_of tracker.new hash ≡ paid_of tracker.old hash) }
+    ensures aims { OnOk result ((q : ℕ) → aims_of tracker.new q ≡ aims_of tracker.old q) }
+    ensures opens { OnOk result (IsSameOpens (opens_of tracker.old) (opens_of tracker.new)) }
+    ensures chains { OnOk result (Stays (chains_of tracker.old) (chains_of tracker.new)) }
+    ensures table { OnOk result (IsSameTable (table_of tracker.old) (table_of tracker.new)) }
+    ensures claims { OnOk result (IsSameTables (claims_of tracker.old) (claims_of tracker.new)) }
+    ensures watch { OnOk result (watch_of tracker.new ≡ watch_of tracker.old) }
+{
+    tracker.judge(jobs, verdicts)?;
+    test_given(tracker, p, jobs)?;
+    Ok(())
+}
+
+// Takes a filter that a tracked peer sent. The last of a batch has all of them matched, and tested where they are to be.
 fn hear_filter<H: HeaderStore, M: Matcher>(
     alloc: Global,
     tracker: &mut Tracker<H>,
@@ -158,6 +236,8 @@ fn hear_filter<H: HeaderStore, M: Matcher>(
     requires entered { IsSome (chains_of tracker.old p.0) }
     requires right { IsRight peer.old.request (claims_of tracker.old p.0) }
     ensures heard { IfOk result (λ r. (t : Trail) → Holds peer.old t → Follows (seen_of tracker.old) p.0 t → HearsSeen (seen_of tracker.old) (seen_of tracker.new) p peer.new (Cfilter filter block.now bytes.now) t r) }
+    ensures exposes { IfOk result (λ r. (t : Trail) → Holds peer.old t → Follows (seen_of tracker.old) p.0 t
+        → IsUnexposed (seen_of tracker.old) → Exposes (seen_of tracker.new) p.0 r) }
     ensures sendable { IfOk result IsReplySendable }
     ensures right { OnOk result (IsRight peer.new.request (claims_of tracker.new p.0)) }
     ensures chains { OnOk result ((q : ℕ) → chains_of tracker.new q ≡ chains_of tracker.old q) }
@@ -173,9 +253,9 @@ fn hear_filter<H: HeaderStore, M: Matcher>(
         Heard::Close(cause) => Ok(Reply::Close(cause)),
         Heard::Whole(jobs) => {
             let verdicts = matcher.run(jobs.as_slice(), tracker.watch())?;
-            tracker.judge(jobs.as_slice(), verdicts.as_slice())?;
+            keep_given(tracker, p, jobs.as_slice(), verdicts.as_slice())?;
             let_go(tracker, peer, p);
-            Ok(Reply::Nothing)
+            Ok(reply_after(tracker, p, &[*block]))
         }
     }
 }
@@ -194,6 +274,8 @@ fn hear<H: HeaderStore, M: Matcher>(
     requires right { IsRight peer.old.request (claims_of tracker.old p.0) }
     ensures heard { IfOk result (λ r. (t : Trail) → Holds peer.old t → Follows (seen_of tracker.old) p.0 t
         → HearsSeen (seen_of tracker.old) (seen_of tracker.new) p peer.new (msg_of message.entry) t r) }
+    ensures exposes { IfOk result (λ r. (t : Trail) → Holds peer.old t → Follows (seen_of tracker.old) p.0 t
+        → IsUnexposed (seen_of tracker.old) → Exposes (seen_of tracker.new) p.0 r) }
     ensures sendable { IfOk result IsReplySendable }
     ensures entered { OnOk result (IsSome (chains_of tracker.new p.0)) }
     ensures right { OnOk result (IsRight peer.new.request (claims_of tracker.new p.0)) }
@@ -284,6 +366,8 @@ fn hear_next<H: HeaderStore, M: Matcher>(
         → HearsNext (seen_of tracker.old) (seen_of tracker.new) p
         (framer.old ++ piece.old) (framer.new ++ piece.new) peer.new t o) }
     ensures whole { IfOk result (λ o. IfNone o (piece.new ≡ [])) }
+    ensures exposes { IfOk result (λ o. (t : Trail) → Holds peer.old t → Follows (seen_of tracker.old) p.0 t
+        → IsUnexposed (seen_of tracker.old) → ExposesNext (seen_of tracker.new) p.0 o) }
     ensures sendable { IfOk result (λ o. IfSome o IsReplySendable) }
     ensures shorter { IfOk result (λ o. goes_on o ≡ true
         → length (framer.new ++ piece.new) < length (framer.old ++ piece.old)) }
@@ -318,7 +402,7 @@ fn hear_frames<H: HeaderStore, M: Matcher>(
     p: PeerNo,
     piece: &[u8],
     acts: &mut Vec<Act>,
-) -> Result<Option<Cause>, NoMemory>
+) -> Result<Option<Stop>, NoMemory>
     requires low { p.0 ≤ 8 }
     requires entered { IsSome (chains_of tracker.old p.0) }
     requires right { IsRight peer.old.request (claims_of tracker.old p.0) }
@@ -326,6 +410,8 @@ fn hear_frames<H: HeaderStore, M: Matcher>(
         → Follows (seen_of tracker.old) p.0 part.trail
         → HeardPiece p (record peer.new { framer = framer.new }) (seen_of tracker.old) (seen_of tracker.new)
         acts.old.items acts.new.items part (heard_part piece.now part) o) }
+    ensures exposes { IfOk result (λ o. (part : Part) → Holds peer.old part.trail → framer.old ≡ part.waits
+        → Follows (seen_of tracker.old) p.0 part.trail → IsUnexposed (seen_of tracker.old) → ExposesLast (seen_of tracker.new) p.0 o) }
     ensures doable { OnOk result (p.0 < 9 → All IsDoable acts.old.items → All IsDoable acts.new.items) }
     ensures entered { OnOk result (IsSome (chains_of tracker.new p.0)) }
     ensures right { OnOk result (IsRight peer.new.request (claims_of tracker.new p.0)) }
@@ -341,14 +427,17 @@ fn hear_frames<H: HeaderStore, M: Matcher>(
         match reply {
             Reply::Nothing => {}
             Reply::Send(message) => acts.push(Act::Send(p, message))?,
-            Reply::Close(cause) => return Ok(Some(cause)),
+            Reply::Close(cause) => return Ok(Some(Stop::Fault(cause))),
+            Reply::Expose(block, filter) => {
+                return Ok(Some(Stop::Exposed(Exposure { block, filter })));
+            }
         }
     }
     Ok(None)
 }
 
-/// Takes a piece of a tracked peer's bytes, up to the first frame that deserves a cause, and adds the replies that are owed to
-/// its messages to the acts. Filters are judged by this matcher alone.
+/// Takes a piece of a tracked peer's bytes, up to the first frame that deserves a cause or exposes the peer, and adds the
+/// replies that are owed to its messages to the acts. Filters are judged by this matcher alone.
 pub fn hear_piece<H: HeaderStore, M: Matcher>(
     alloc: Global,
     tracker: &mut Tracker<H>,
@@ -357,11 +446,13 @@ pub fn hear_piece<H: HeaderStore, M: Matcher>(
     p: PeerNo,
     piece: &[u8],
     acts: &mut Vec<Act>,
-) -> Result<Option<Cause>, NoMemory>
+) -> Result<Option<Stop>, NoMemory>
     requires low { p.0 ≤ 8 }
     requires entered { IsSome (chains_of tracker.old p.0) }
     requires right { IsRight peer.old.request (claims_of tracker.old p.0) }
     ensures heard { IfOk result (λ o. (part : Part) → Holds peer.old part.trail → peer.old.framer ≡ part.waits → Follows (seen_of tracker.old) p.0 part.trail → HeardPiece p peer.new (seen_of tracker.old) (seen_of tracker.new) acts.old.items acts.new.items part (heard_part piece.now part) o) }
+    ensures exposes { IfOk result (λ o. (part : Part) → Holds peer.old part.trail → peer.old.framer ≡ part.waits
+        → Follows (seen_of tracker.old) p.0 part.trail → IsUnexposed (seen_of tracker.old) → ExposesLast (seen_of tracker.new) p.0 o) }
     ensures doable { OnOk result (p.0 < 9 → All IsDoable acts.old.items → All IsDoable acts.new.items) }
     ensures entered { OnOk result (IsSome (chains_of tracker.new p.0)) }
     ensures right { OnOk result (IsRight peer.new.request (claims_of tracker.new p.0)) }

@@ -62,6 +62,9 @@ pub enum Cause {
     /// It left a request open for 60 seconds or more.
     #[error("Overdue")]
     Overdue = 12,
+    /// It claims a filter that omits the script of an output of a fetched block.
+    #[error("Omits")]
+    Omits = 13,
 }
 
 /// A run of blocks whose filters' hashes were asked for. Hashes are in wire order.
@@ -110,6 +113,8 @@ pub enum Reply {
     Send(Msg),
     /// The peer is closed.
     Close(Cause),
+    /// Who claims of the block with the first hash the filter with the second is closed.
+    Expose(Hash32, Hash32),
 }
 
 /// A connected peer.

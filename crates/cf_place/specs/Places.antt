@@ -1,5 +1,5 @@
 -- What the places of a client hold of a log.
-use Rattle.std.specs.Prelude.{◌≡◌, ◌≢◌, ◌⊎◌, ℕ, ℤ, ◌+◌, ◌≤◌, Bool, true, false, not, ◌&&◌, if◌then◌else◌, List, [], ◌∷◌, map, length, slice_index_or}
+use Rattle.std.specs.Prelude.{◌++◌, ◌≡◌, ◌≢◌, ◌⊎◌, ℕ, ℤ, ◌+◌, ◌≤◌, Bool, true, false, not, ◌&&◌, if◌then◌else◌, List, [], ◌∷◌, map, length, slice_index_or}
 use Rattle.std.specs.List.{list_any}
 use Rattle.cf_bytes.specs.declared.peer.PeerNo.{PeerNo}
 use Rattle.cf_bytes.specs.declared.hash.Hash32.{Hash32}
@@ -11,15 +11,16 @@ use Rattle.cf_peer.specs.declared.act.Act.TheVariants.{Send, Close}
 use Rattle.cf_wires.specs.declared.event.Event.{Event}
 use Rattle.cf_wires.specs.declared.event.Event.TheVariants.{Sent, Closed}
 use Rattle.cf_peer.specs.declared.peer.Cause.{Cause}
-use Rattle.cf_peer.specs.declared.peer.Cause.TheVariants.{SendFailed}
+use Rattle.cf_peer.specs.declared.peer.Cause.TheVariants.{SendFailed, Omits}
 use Rattle.cf_peer.specs.declared.peer.Peer.{Peer}
 use Rattle.cf_peer.specs.Acts.{bytes_of, IsSendable}
 use Rattle.cf_wires.specs.Log.{Log, tally_of}
 use Rattle.cf_peer.specs.Trail.{Why, Went, Failing, Shutting, Trail, Called, Said, Refused, Asked, Passed, Lost as LostItem, Part, part_of, trail, connected, ready, failed, owed, replied, is_version, IsClientVersion}
 use Rattle.cf_peer.specs.Asking.{Deserves, block_entry, counted, fetched, given}
 use Rattle.cf_peer.specs.Peer.{Holds, calm, busy, wants, is_ready_peer, is_idle_peer, is_fetching}
-use Rattle.cf_sync.specs.Fetching.{IsBusy, IsQuiet, IsConnected, MaySend}
+use Rattle.cf_sync.specs.Fetching.{IsBusy, IsQuiet, IsConnected, MaySend, DeservesIn, IsOmitting}
 use Rattle.cf_sync.specs.Due.{IsCalledFor}
+use Rattle.cf_sync.specs.Kept.{KeepsTrials}
 use Rattle.cf_sync.specs.Honesty.{asked, was_called}
 use Rattle.cf_place.specs.declared.place.Place.{Place}
 use Rattle.cf_place.specs.declared.place.Place.TheVariants.{Here, Lost}
@@ -57,7 +58,7 @@ FirstLost P (Asked m ∷ t) = FirstLost P t
 FirstLost P (Passed s ∷ t) = FirstLost P t
 FirstLost P (LostItem why ∷ t) = ((connected t ≡ true) × P why t) ⊎ ((connected t ≡ false) × FirstLost P t)
 
--- it went; it was closed, and deserved this cause then
+-- it went; it was closed, and deserved this cause then (whether it omitted something its own part doesn't tell)
 abbrev pub IsGoing : Why → Trail → Type 0
 IsGoing Went t = Unit {0}
 IsGoing Failing t = ⊥
@@ -66,7 +67,7 @@ IsGoing Shutting t = ⊥
 abbrev pub IsShutFor : Cause → Why → Trail → Type 0
 IsShutFor cause Went t = ⊥
 IsShutFor cause Failing t = ⊥
-IsShutFor cause Shutting t = Deserves t cause
+IsShutFor cause Shutting t = (cause ≡ Omits) ⊎ Deserves t cause
 
 -- how a peer was lost: it was never called; a send to it failed; or none did, and before all else it went or was closed
 abbrev pub LostBy : Loss → Trail → Type 0
@@ -109,11 +110,19 @@ after (a ∷ acts) log = after acts (entry_of a ∷ log)
 abbrev pub IsReplied : Trail → Type 0
 IsReplied t = failed t ≡ false → replied t ≡ owed (counted t)
 
+-- unless a send to it has failed, the first of the owed replies were sent
+abbrev pub IsRepliedFirst : Trail → Type 0
+IsRepliedFirst t = failed t ≡ false → (later : List Msg) × (owed (counted t) ≡ replied t ++ later)
+
+-- who is closed was answered; who omits something, up to the words that exposed it
+abbrev pub IsRepliedIn : Log → ℕ → Type 0
+IsRepliedIn log p = IsReplied (trail log p) ⊎ (IsOmitting log p × IsRepliedFirst (trail log p))
+
 -- an act may be done by a client that watches these scripts: what it sends may be sent to that peer, and what it asks about blocks is called for; whom it closes was
 -- answered
 abbrev pub MayAct : List (List ℕ) → Act → Log → Type 0
 MayAct watch (Send p m) log = (p.0 ≤ (tally_of log).dials) × IsSendable m × MaySend log p.0 m × IsCalledFor watch log p.0 m
-MayAct watch (Close p cause) log = (p.0 ≤ (tally_of log).dials) × Deserves (trail log p.0) cause × IsReplied (trail log p.0)
+MayAct watch (Close p cause) log = (p.0 ≤ (tally_of log).dials) × DeservesIn log p.0 cause × IsRepliedIn log p.0
 
 -- each act may be done when the ones before it are
 abbrev pub Allowed : List (List ℕ) → List Act → Log → Type 0
@@ -159,6 +168,7 @@ pub record CutFor (p : PeerNo) (log cut : Log) : Type 0 where
   pub broken : failed (trail cut p.0) ≡ true
   pub brought : fetched (counted (trail cut p.0)) ≡ fetched (counted (trail log p.0))
   pub gave : given (counted (trail cut p.0)) ≡ given (counted (trail log p.0))
+  pub tests : KeepsTrials log cut
   pub dials : (tally_of cut).dials ≡ (tally_of log).dials
 
 -- what the client says of its state

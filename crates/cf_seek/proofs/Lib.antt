@@ -15,3 +15,6 @@ pub mod Openings
 pub mod Sought
 pub mod SoughtStays
 pub mod Putting
+pub mod Trials
+pub mod Disputed
+pub mod Aiming

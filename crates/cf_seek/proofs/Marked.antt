@@ -301,7 +301,7 @@ hits_in_part watch jobs old new (Err e2) ok err block filter e = sym (err.1 bloc
 
 -- ---- claims that are added
 
-claims_out : (previous : Hash32) (blocks : List Hash) (hashes : List Hash32) (table : dispute.Table) (h : Hash) → (IsIn h blocks → ⊥) → with_claims previous blocks hashes table h ≡ table h
+pub claims_out : (previous : Hash32) (blocks : List Hash) (hashes : List Hash32) (table : dispute.Table) (h : Hash) → (IsIn h blocks → ⊥) → with_claims previous blocks hashes table h ≡ table h
 claims_out previous [] hashes table h out = refl
 claims_out previous (b ∷ bs) [] table h out = refl
 claims_out previous (b ∷ bs) (x ∷ xs) table h out =
@@ -320,7 +320,7 @@ adds_claims before after p previous blocks hashes new is others = record {
 }
 
 -- nobody claims another thing of another block
-others_same : (before after : Tables) (p : ℕ) (previous : Hash32) (blocks : List Hash) (hashes : List Hash32)
+pub others_same : (before after : Tables) (p : ℕ) (previous : Hash32) (blocks : List Hash) (hashes : List Hash32)
     → ((block : Hash) → after p block ≡ with_claims previous blocks hashes (before p) block) → ((q : ℕ) → q ≢ p → (block : Hash) → after q block ≡ before q block)
     → (block : Hash) → (IsIn block blocks → ⊥) → (q : ℕ) → after q block ≡ before q block
 others_same before after p previous blocks hashes is others block out q = elim (cases_eq q p) [
@@ -329,7 +329,7 @@ others_same before after p previous blocks hashes is others block out q = elim (
 ]
 
 -- a dispute is one of claims that are there
-differ_before : (before after : Tables) (block : Hash) → ((q : ℕ) → after q block ≡ before q block) → IsAt after block Differ → IsAt before block Differ
+pub differ_before : (before after : Tables) (block : Hash) → ((q : ℕ) → after q block ≡ before q block) → IsAt after block Differ → IsAt before block Differ
 differ_before before after block same1 d =
     let c = d.1.1.1.1 in
     (d.0, (d.1.0, (d.1.1.0, (d.1.1.1.0, ((c.0.0, sym (same1 d.0) ∙ c.0.1, c.0.2), (c.1.0, sym (same1 d.1.0) ∙ c.1.1, c.1.2), c.2)))))

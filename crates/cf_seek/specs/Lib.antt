@@ -11,3 +11,7 @@ pub mod Opens
 pub mod OpensOf
 pub mod OpensAll
 pub mod Seeking
+pub mod Testing
+pub mod Outputs
+pub mod Aims
+pub mod Trials

@@ -1,5 +1,5 @@
 -- What one question is about.
-use Rattle.std.specs.Prelude.{◌≡◌, ℕ, ◌≤◌, ◌<◌, ◌+◌, pred, map, length, Some}
+use Rattle.std.specs.Prelude.{◌≡◌, ℕ, ◌≤◌, ◌<◌, ◌+◌, pred, [], ◌∷◌, map, length, Some}
 use Rattle.cf_bytes.specs.declared.hash.Hash32.{Hash32}
 use Rattle.cf_block.specs.Header.{block_hash_of}
 use Rattle.cf_dispute.specs.Claims.{Tables}
@@ -8,7 +8,7 @@ use Rattle.cf_headers.specs.Heights.{hash_at}
 use Rattle.cf_match.specs.Verdicts.{Verdicts}
 use Rattle.cf_seek.specs.declared.spans.Span.{Span}
 use Rattle.cf_seek.specs.declared.spans.Wish.{Wish}
-use Rattle.cf_seek.specs.declared.spans.Wish.TheVariants.{Nothing, Claims, Filters, Block}
+use Rattle.cf_seek.specs.declared.spans.Wish.TheVariants.{Nothing, Claims, Filters, Block, Test}
 use Rattle.cf_seek.specs.declared.want.Want.TheVariants.{Nothing as NothingWanted, Claims as ClaimsFrom, Filters as FiltersFrom, Block as BlockAt}
 use Rattle.cf_dispute.specs.Tables.{blocks_of}
 use Rattle.cf_seek.specs.Ends.{AreUnclaimed, IsLastUnclaimed}
@@ -29,7 +29,7 @@ pub record IsSpan (own : Chain) (start end : ℕ) (span : Span) : Type 0 where
   pub blocks : map (λ (h : Hash32). h.0) span.blocks.items ≡ map block_hash_of (above (pred start) part)
 
 -- a question that may be put, by the lowest height: for claims of blocks none of which the peer claims, fewer than 2000; for filters that are to be asked for
--- and aren't open, fewer than 1000; for a block that is to be fetched and isn't open
+-- and aren't open, fewer than 1000; for a block that is to be fetched and isn't open; for a filter that is to be tested, where there is none of these
 abbrev pub IsWish : Table → Tables → Verdicts → Opens → ℕ → Chain → ℕ → Wish → Type 0
 IsWish extracts tables verdicts opens p own common Nothing = IsSought extracts tables verdicts opens p own common NothingWanted
 IsWish extracts tables verdicts opens p own common (Claims span) =
@@ -40,6 +40,7 @@ IsWish extracts tables verdicts opens p own common (Filters span) =
     × ((end : ℕ) × (IsSpan own span.start end span × (end ≤ common) × (end < span.start + 1000) × AreToAsk extracts tables verdicts opens own span.start end))
 IsWish extracts tables verdicts opens p own common (Block hash) =
     (h : ℕ) × (IsSought extracts tables verdicts opens p own common (BlockAt h) × (hash.0 ≡ hash_at own h))
+IsWish extracts tables verdicts opens p own common (Test trial) = IsSought extracts tables verdicts opens p own common NothingWanted
 
 -- a question goes as far as it may: up to a height at which its last block stands, and from which on the next block isn't asked about
 abbrev pub GoesFar : Table → Tables → Verdicts → Opens → ℕ → Chain → ℕ → Wish → Type 0
@@ -48,13 +49,16 @@ GoesFar extracts tables verdicts opens p own common (Claims span) = (end : ℕ) 
 GoesFar extracts tables verdicts opens p own common (Filters span) =
     (end : ℕ) × ((span.stop.0 ≡ hash_at own end) × AreToAsk extracts tables verdicts opens own span.start end × IsLastToAsk extracts tables verdicts opens own span.start end common)
 GoesFar extracts tables verdicts opens p own common (Block hash) = Unit {0}
+GoesFar extracts tables verdicts opens p own common (Test trial) = Unit {0}
 
--- what a question is about is open to p from now on: the blocks of a question for filters, and that of one for a block; else nothing changes
+-- what a question is about is open to p from now on: the blocks of a question for filters, that of one for a block, and that whose filter is to be tested; else
+-- nothing changes
 abbrev pub IsAskedFor : ℕ → Wish → Opens → Opens → Type 0
 IsAskedFor p Nothing before after = IsSameOpens before after
 IsAskedFor p (Claims span) before after = IsSameOpens before after
 IsAskedFor p (Filters span) before after = OpensFilters before after p (blocks_of span.blocks.items)
 IsAskedFor p (Block hash) before after = OpensBlock before after p hash.0
+IsAskedFor p (Test trial) before after = OpensFilters before after p (trial.block.0 ∷ [])
 
 -- where memory was lacking: of a question for filters some are open to p from now on; else nothing changes
 abbrev pub IsAskedInPart : ℕ → Wish → Opens → Opens → Type 0
@@ -62,3 +66,4 @@ IsAskedInPart p Nothing before after = IsSameOpens before after
 IsAskedInPart p (Claims span) before after = IsSameOpens before after
 IsAskedInPart p (Filters span) before after = OpensSome before after p (blocks_of span.blocks.items)
 IsAskedInPart p (Block hash) before after = IsSameOpens before after
+IsAskedInPart p (Test trial) before after = OpensSome before after p (trial.block.0 ∷ [])

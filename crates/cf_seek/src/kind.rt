@@ -123,6 +123,18 @@ pub fn is_unjudged(kind: Kind) -> bool
     }
 }
 
+/// Whether different things are claimed of a block.
+pub fn is_differing(claims: &Claims, block: &Hash32) -> bool
+    ensures yes { result ≡ true → IsAt (tables_of claims.now) block.now.0 Differ }
+    ensures no { result ≡ false → IsAt (tables_of claims.now) block.now.0 Differ → ⊥ }
+{
+    match claims.at(block) {
+        At::Nobody => false,
+        At::One(_) => false,
+        At::Differ => true,
+    }
+}
+
 // Whether a block has no extract, and different things are claimed of it.
 fn is_disputed(extracts: &Extracts, claims: &Claims, block: &Hash32) -> bool
     ensures yes { result ≡ true
@@ -133,11 +145,7 @@ fn is_disputed(extracts: &Extracts, claims: &Claims, block: &Hash32) -> bool
     if extracts.has(block) {
         return false;
     }
-    match claims.at(block) {
-        At::Nobody => false,
-        At::One(_) => false,
-        At::Differ => true,
-    }
+    is_differing(claims, block)
 }
 
 /// Whether one of some blocks has no extract, and different things are claimed of it.

@@ -105,6 +105,7 @@ impl Opens {
                 self.put_block(p, hash);
                 Ok(())
             }
+            Wish::Test(trial) => self.put_filters(p, &[trial.block]),
             Wish::Nothing => Ok(()),
             Wish::Claims(_) => Ok(()),
         }

@@ -4,6 +4,7 @@ ghost use Rattle.cf_headers.specs.Heights.{hash_at};
 ghost use Rattle.cf_headers.specs.Store.{own_of};
 ghost use Rattle.cf_seek.specs.Spans.{IsSpan};
 
+use crate::testing::Trial;
 use cf_bytes::{Hash32, NoMemory, PeerNo};
 use cf_headers::HeaderStore;
 use std::alloc::Global;
@@ -32,6 +33,8 @@ pub enum Wish {
     Filters(Span),
     /// The block with this hash.
     Block(Hash32),
+    /// The filter of one block that was fetched, so that it is tested.
+    Test(Trial),
 }
 
 /// The blocks of a peer's chain from a height up to another, below which its hash stands at no lower height than the first; where it stands

@@ -1,12 +1,17 @@
 //! The question that meets a want.
 ghost use Rattle.std.specs.Prelude.{◌≤◌, IsSome, IfOk, length};
 ghost use Rattle.cf_dispute.specs.Of.{tables_of};
+ghost use Rattle.cf_dispute.specs.Tables.{blocks_of};
 ghost use Rattle.cf_headers.specs.Store.{own_of};
 ghost use Rattle.cf_seek.specs.Extracts.{table_in};
 ghost use Rattle.cf_seek.specs.Judged.{verdicts_in};
+ghost use Rattle.cf_match.specs.Verdicts.{Verdicts};
+ghost use Rattle.cf_seek.specs.declared.want.Want.TheVariants.{Nothing as NothingWanted};
+ghost use Rattle.cf_seek.specs.Opens.{Opens as OpenToAll};
 ghost use Rattle.cf_seek.specs.OpensAll.{opens_in};
 ghost use Rattle.cf_seek.specs.Seeking.{IsSought};
 ghost use Rattle.cf_seek.specs.Spans.{GoesFar, IsWish};
+ghost use Rattle.cf_seek.specs.Testing.{IsTrying, told_in};
 
 use crate::ends::claims_end;
 use crate::extracts::Extracts;
@@ -15,13 +20,41 @@ use crate::judged::Judged;
 use crate::opens::Opens;
 use crate::seek::sought_end;
 use crate::spans::{Wish, span_of};
+use crate::testing::next_trial;
+use crate::tests::Tests;
 use crate::want::Want;
-use cf_bytes::{NoMemory, PeerNo};
+use cf_bytes::{Hash32, NoMemory, PeerNo};
 use cf_dispute::Claims;
 use cf_headers::HeaderStore;
 use std::alloc::Global;
 
+// The question for a filter that is to be tested, where nothing else is to be asked for.
+fn wish_to_test<H: HeaderStore>(
+    store: &H,
+    extracts: &Extracts,
+    claims: &Claims,
+    tests: &Tests,
+    p: PeerNo,
+    common: u32,
+    trials: &[Hash32],
+) -> Wish
+    requires { IsSome (H.chain store.now p.0) }
+    ensures wish { (verdicts : Verdicts) (opens : OpenToAll)
+        → IsSought (table_in extracts.now) (tables_of claims.now) verdicts opens p.0 (own_of (H.chain store.now) p) common NothingWanted
+        → IsWish (table_in extracts.now) (tables_of claims.now) verdicts opens p.0 (own_of (H.chain store.now) p) common result }
+    ensures far { (verdicts : Verdicts) (opens : OpenToAll)
+        → GoesFar (table_in extracts.now) (tables_of claims.now) verdicts opens p.0 (own_of (H.chain store.now) p) common result }
+    ensures trying { IsTrying (table_in extracts.now) (tables_of claims.now) (told_in tests.now)
+        p.0 (own_of (H.chain store.now) p) common (blocks_of trials.now) result }
+{
+    match next_trial(store, extracts, claims, tests, p, common, trials) {
+        Some(trial) => Wish::Test(trial),
+        None => Wish::Nothing,
+    }
+}
+
 /// The question for what is wanted of a peer's blocks up to a height. It is about as many blocks in a row as may be asked about at once.
+/// Where nothing is wanted it is for a filter that is to be tested, of one of some blocks.
 pub fn wish_for<H: HeaderStore>(
     alloc: Global,
     store: &H,
@@ -33,6 +66,8 @@ pub fn wish_for<H: HeaderStore>(
     first: &First,
     want: Want,
     common: u32,
+    tests: &Tests,
+    trials: &[Hash32],
 ) -> Result<Wish, NoMemory>
     requires entered { IsSome (H.chain store.now p.0) }
     requires within { common ≤ length (own_of (H.chain store.now) p) }
@@ -42,9 +77,11 @@ pub fn wish_for<H: HeaderStore>(
         (opens_in opens.now) p.0 (own_of (H.chain store.now) p) common) }
     ensures far { IfOk result (GoesFar (table_in extracts.now) (tables_of claims.now) (verdicts_in judged.now)
         (opens_in opens.now) p.0 (own_of (H.chain store.now) p) common) }
+    ensures trying { IfOk result (IsTrying (table_in extracts.now) (tables_of claims.now) (told_in tests.now)
+        p.0 (own_of (H.chain store.now) p) common (blocks_of trials.now)) }
 {
     match want {
-        Want::Nothing => Ok(Wish::Nothing),
+        Want::Nothing => Ok(wish_to_test(store, extracts, claims, tests, p, common, trials)),
         Want::Claims(start) => {
             let end = claims_end(store, claims, p, first, start, common);
             let span = span_of(alloc, store, p, start, end)?;

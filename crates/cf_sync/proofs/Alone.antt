@@ -9,18 +9,19 @@ use Rattle.cf_msg.specs.declared.msg.Msg.TheVariants.{GetData, GetCfilters}
 use Rattle.cf_wires.specs.Log.{Log}
 use Rattle.cf_peer.specs.Trail.{Part, part_of, trail, connected, own}
 use Rattle.cf_peer.specs.Asking.{OpenRequest, is_spare, NothingOpen, HeadersOpen, ClaimsOpen, FiltersOpen, BlockOpen, request}
-use Rattle.cf_sync.specs.Fetching.{IsConnected, filters_open, blocks_open, IsAlone, blocks_in}
+use Rattle.cf_sync.specs.Fetching.{IsConnected, IsSameFetched, filters_open, blocks_open, IsAlone, blocks_in}
+use Rattle.cf_sync.proofs.SameFetched.{same_fetched_hash}
 
 -- ---- the plan
 
--- what is asked of p by a plan is open to nobody, so it is indeed, where each connected peer has the part that was planned
-pub alone_less : (planned log : Log) (p : ℕ) (m : Msg) → ((q : ℕ) → IsConnected log q → part_of planned q ≡ part_of log q) → part_of planned p ≡ part_of log p → IsAlone planned p m → IsAlone log p m
-alone_less planned log p (GetCfilters filter start stop) parts mine alone = λ b i stands.
-    alone b (subst (λ (x : Part). IsIn b (blocks_in start (back_to stop.0 (own x.trail)))) (sym mine) i)
+-- what is asked of p by a plan is open to nobody, so it is indeed, where each connected peer has the part that was planned, and the same was fetched
+pub alone_less : (planned log : Log) (p : ℕ) (m : Msg) → IsSameFetched planned log → ((q : ℕ) → IsConnected log q → part_of planned q ≡ part_of log q) → part_of planned p ≡ part_of log p → IsAlone planned p m → IsAlone log p m
+alone_less planned log p (GetCfilters filter start stop) fetched parts mine alone = λ b i none stands.
+    alone b (subst (λ (x : Part). IsIn b (blocks_in start (back_to stop.0 (own x.trail)))) (sym mine) i) (λ got. none (same_fetched_hash planned log fetched b got))
     (stands.0, subst (λ (x : Part). (connected x.trail ≡ true) × IsIn b (filters_open (request x.trail))) (sym (parts stands.0 stands.1.0)) stands.1)
-alone_less planned log p (GetData entries) parts mine alone = λ entry i stands.
+alone_less planned log p (GetData entries) fetched parts mine alone = λ entry i stands.
     alone entry i (stands.0, subst (λ (x : Part). (connected x.trail ≡ true) × IsIn entry.hash.0 (blocks_open (request x.trail))) (sym (parts stands.0 stands.1.0)) stands.1)
-alone_less planned log p m parts mine alone = tt
+alone_less planned log p m fetched parts mine alone = tt
 
 -- ---- where nothing is being fetched
 
@@ -43,7 +44,7 @@ spare_blocks (FiltersOpen left came) b spare i = i
 spare_blocks (BlockOpen wanted) b spare i = absurd (both_ways (is_spare (BlockOpen wanted)) refl spare)
 
 pub none_filters : (log : Log) (p filter start : ℕ) (stop : Hash32) → IsNoneFetching log → IsAlone log p (GetCfilters filter start stop)
-none_filters log p filter start stop none b i stands = spare_filters (request (trail log stands.0)) b (none stands.0 stands.1.0) stands.1.1
+none_filters log p filter start stop none b i new stands = spare_filters (request (trail log stands.0)) b (none stands.0 stands.1.0) stands.1.1
 
 pub none_block : (log : Log) (p : ℕ) (entries : List Entry) → IsNoneFetching log → IsAlone log p (GetData entries)
 none_block log p entries none entry i stands = spare_blocks (request (trail log stands.0)) entry.hash.0 (none stands.0 stands.1.0) stands.1.1

@@ -87,5 +87,6 @@ cleared_asked = record {
     heard_out = of_cleared (λ t. connected t ≡ true → heard (counted t) ≡ true) p (λ is1. counts_11.heard_out) (λ is1. same_other.hearing) (λ is1. absurd (false≢true is1)) on;
     claimed = of_cleared ClaimsIt p (claims_it t_11 only_claim counts_11.claimed counts_11.chain) other_claims nobody_claims;
     settled = λ h one le above no_filter no_block. inr (cleared_settled (hash_at (own (counted_part cleared_run p)) h) (inl (of_cleared SharesIt p (shares_it t_11 counts_11.chain) other_shares nobody_shares h one le)));
+    tested = λ h one le above got disputed hash claims_it. absurd (none_fetched got.0 got.1);
   };
 }

@@ -1,6 +1,7 @@
 -- A peer is asked for no filters a second time.
-use Rattle.std.proofs.Common.{◌≡◌, ◌⊎◌, inl, inr, ℕ, ◌≤◌, List, [], ◌∷◌, ◌++◌, length, Option, Some, None, Bool, true, false, ◌==◌, if◌then◌else◌, refl, sym, ◌∙◌, ap, subst}
+use Rattle.std.proofs.Common.{◌≡◌, ◌⊎◌, inl, inr, ℕ, ◌≤◌, List, [], ◌∷◌, ◌++◌, length, Option, Some, None, Bool, true, false, ◌==◌, if◌then◌else◌, refl, sym, ◌∙◌, ap, subst, arith}
 use Rattle.std.specs.Prelude.{option_map}
+use Rattle.std.proofs.lemmas.List.{length-append}
 use Rattle.std.proofs.lemmas.Bool.{cases_Bool, and_parts, false≢true}
 use Rattle.cf_bytes.specs.declared.hash.Hash32.{Hash32}
 use Rattle.cf_dispute.specs.declared.claim.Claim.{Claim}
@@ -17,7 +18,7 @@ use Rattle.cf_peer.specs.declared.peer.Cause.TheVariants.{OtherFilter}
 use Rattle.cf_wires.specs.Log.{Log}
 use Rattle.cf_peer.specs.Trail.{Trail, Part, Called, Said, Refused, Asked, Passed, Lost, part_of, trail, connected, own, WasAsked}
 use Rattle.cf_peer.specs.Asking.{OpenRequest, NothingOpen, HeadersOpen, ClaimsOpen, FiltersOpen, BlockOpen, is_answer_of, is_this, is_wanted, blocks_from, block_below, claims_asked, filters_asked, filters_left, filter_of, filter_fault, claims, claims_after, given, given_by, hash_claimed, request, request_for, request_after, fault_of, verdict, counted, lists, IsClaimed, MayAsk}
-use Rattle.cf_sync.specs.Fetching.{AreBytes, IsConnected, IsFilterWanted, IsNeeded, MaySend, Rightly, blocks_in}
+use Rattle.cf_sync.specs.Fetching.{AreBytes, IsConnected, IsFilterWanted, AreFiltersWanted, MaySend, Rightly, blocks_in}
 use Rattle.cf_sync.specs.Planned.{Alike, IsPlanned, is_untold}
 use Rattle.cf_sync.specs.Sync.{IsHashed}
 use Rattle.cf_dispute.proofs.PutIn.{same_true}
@@ -69,7 +70,7 @@ open_before (BlockMessage b) (BlockOpen wanted) table stop parent blocks e = by 
 open_before m r table stop parent blocks e = (e, λ block. refl)
 
 -- of the blocks whose claims are asked for none is claimed
-abbrev AreFresh : Trail → Type 0
+abbrev pub AreFresh : Trail → Type 0
 AreFresh t = (stop parent : Hash) (blocks : List Hash) → request t ≡ ClaimsOpen stop parent blocks → (block : Hash) → IsIn block blocks → IsClaimed t block → ⊥
 
 asked_fresh : (m : Msg) (t : Trail) → MayAsk t m → AreFresh t → AreFresh (Asked m ∷ t)
@@ -84,7 +85,7 @@ asked_fresh (GetData entries) t may fresh stop parent blocks e block i claimed =
     absurd (let no : BlockOpen may.1.0.0 ≡ ClaimsOpen stop parent blocks = sym (ap (λ (es : List Entry). request_for (GetData es) (own t) (request t)) may.1.1) ∙ e in cc)
 asked_fresh m t may fresh stop parent blocks e block i claimed = fresh stop parent blocks e block i claimed
 
-are_fresh : (t : Trail) → connected t ≡ true → verdict t ≡ None → AskedRightly t → AreFresh t
+pub are_fresh : (t : Trail) → connected t ≡ true → verdict t ≡ None → AskedRightly t → AreFresh t
 are_fresh [] on clean right stop parent blocks e block i claimed = absurd (false≢true on)
 are_fresh (Called ∷ t) on clean right stop parent blocks e block i claimed = absurd (let no : NothingOpen ≡ ClaimsOpen stop parent blocks = e in cc)
 are_fresh (Said m ∷ t) on clean right stop parent blocks e block i claimed =
@@ -110,16 +111,20 @@ claim_stays m t fresh block claim is = by m (request t) fresh where
 -- ---- since it was asked for filters of a range
 
 -- the filter is the one that it claims of its block
-abbrev IsItsOwn : Trail → Job → Type 0
+abbrev pub IsItsOwn : Trail → Job → Type 0
 IsItsOwn t job = (claim : Claim) × (claims t job.block.0 ≡ Some claim) × (claim.hash.0 ≡ filter_hash_of job.filter)
 
 -- some of the filters came; all of them were given
-record AreComing (t : Trail) (blocks : List Hash) : Type 0 where
-  left : List Hash
-  came : List Job
-  is : request t ≡ FiltersOpen left came
-  true_ones : (job : Job) → IsIn job came → IsItsOwn t job
-  each : (block : Hash) → IsIn block blocks → ((job : Job) × IsIn job came × (job.block.0 ≡ block)) ⊎ IsIn block left
+pub record AreComing (t : Trail) (blocks : List Hash) : Type 0 where
+  pub left : List Hash
+  pub came : List Job
+  pub is : request t ≡ FiltersOpen left came
+  pub true_ones : (job : Job) → IsIn job came → IsItsOwn t job
+  pub each : (block : Hash) → IsIn block blocks → ((job : Job) × IsIn job came × (job.block.0 ≡ block)) ⊎ IsIn block left
+
+-- a message gives all of them
+abbrev pub AreGivenBy : Msg → Trail → List Hash → Type 0
+AreGivenBy m t blocks = (block : Hash) → IsIn block blocks → (job : Job) × IsIn job (given_by m (request t)) × (job.block.0 ≡ block) × IsItsOwn (Said m ∷ t) job
 
 abbrev AreGiven : Trail → List Hash → Type 0
 AreGiven t blocks = (block : Hash) → IsIn block blocks → (job : Job) × IsIn job (given (counted t)) × (job.block.0 ≡ block) × IsItsOwn t job
@@ -133,7 +138,7 @@ record Since (t : Trail) (start : ℕ) (stop : Hash) : Type 0 where
   high : start ≤ length part
   since : AreComing t (blocks_from start part) ⊎ AreGiven t (blocks_from start part)
 
-its_own : (m : Msg) (t : Trail) → AreFresh t → (job : Job) → IsItsOwn t job → IsItsOwn (Said m ∷ t) job
+pub its_own : (m : Msg) (t : Trail) → AreFresh t → (job : Job) → IsItsOwn t job → IsItsOwn (Said m ∷ t) job
 its_own m t fresh job w = (w.0, claim_stays m t fresh job.block.0 w.0 w.1, w.2)
 
 this_is : (o : Option Hash32) (hash : Hash) → (if is_this o hash then None else Some OtherFilter) ≡ None → (h : Hash32) × (o ≡ Some h) × (h.0 ≡ hash)
@@ -147,11 +152,49 @@ claim_by : (o : Option Claim) (h : Hash32) → option_map (λ (c : Claim). c.has
 claim_by None h e = cc
 claim_by (Some c) h e = (c, refl, cc)
 
+-- a filter that isn't refused and answers what is open is the one that the peer claims
+pub answer_own : (filter : ℕ) (block : Hash32) (bytes : List ℕ) (t : Trail) (next : Hash) (left : List Hash) (came : List Job) → verdict (Said (Cfilter filter block bytes) ∷ t) ≡ None
+    → request t ≡ FiltersOpen (next ∷ left) came → is_answer_of filter block.0 next ≡ true → IsItsOwn t (filter_of block bytes)
+answer_own filter block bytes t next left came clean e answer =
+    let fine : (if is_this (hash_claimed (claims t) next) (filter_hash_of bytes) then None else Some OtherFilter) ≡ None =
+    sym (ap (λ (b : Bool). if b then (if is_this (hash_claimed (claims t) next) (filter_hash_of bytes) then None else Some OtherFilter) else None) answer)
+    ∙ sym (ap (λ r. filter_fault filter block.0 bytes r (claims t)) e) ∙ (first_none (verdict t) (fault_of (Cfilter filter block bytes) t) clean).1 in
+    let h = this_is (hash_claimed (claims t) next) (filter_hash_of bytes) fine in
+    let c = claim_by (claims t next) h.0 h.1 in
+    (c.0, ap (claims t) (same_true block.0 next (and_parts (filter == 0) (same block.0 next) answer).1) ∙ c.1, ap (λ (x : Hash32). x.0) c.2 ∙ h.2)
+
+one_of : (came : List Job) (last job : Job) → came ++ last ∷ [] ≡ job ∷ [] → job ≡ last
+one_of [] last job e = cc
+one_of (x ∷ came) last job e = absurd (omega (arith, ap length e, length-append came (last ∷ [])))
+
+-- where a message gives one filter, that is the one that came with it, and the peer claims it
+pub one_given : (filter : ℕ) (block : Hash32) (bytes : List ℕ) (t : Trail) (job : Job) → verdict (Said (Cfilter filter block bytes) ∷ t) ≡ None
+    → given_by (Cfilter filter block bytes) (request t) ≡ job ∷ [] → (job ≡ filter_of block bytes) × IsItsOwn t job
+one_given filter block bytes t job clean gives = by (request t) refl gives where
+  m : Msg
+  m = Cfilter filter block bytes
+
+  by : (r : OpenRequest) → request t ≡ r → given_by m r ≡ job ∷ [] → (job ≡ filter_of block bytes) × IsItsOwn t job
+  by NothingOpen e g = cc
+  by HeadersOpen e g = cc
+  by (ClaimsOpen stop parent blocks) e g = cc
+  by (BlockOpen wanted) e g = cc
+  by (FiltersOpen [] came) e g = cc
+  by (FiltersOpen (next ∷ y ∷ left) came) e g = cc
+  by (FiltersOpen (next ∷ []) came) e g = elim (cases_Bool (is_answer_of filter block.0 next)) [
+    | inl answer ↦ (
+        let is : job ≡ filter_of block bytes = one_of came (filter_of block bytes) job
+        (sym (ap (λ (b : Bool). if b then came ++ filter_of block bytes ∷ [] else []) answer) ∙ g) in
+        (is, subst (IsItsOwn t) (sym is) (answer_own filter block bytes t next [] came clean e answer))
+        )
+    | inr other ↦ absurd (let no : [] ≡ job ∷ [] = sym (ap (λ (b : Bool). if b then came ++ filter_of block bytes ∷ [] else []) other) ∙ g in cc)
+  ]
+
 -- the next filter has come, and what it was asked for is open with one fewer, or all was given
 next_came : (filter : ℕ) (block : Hash32) (bytes : List ℕ) (t : Trail) (next : Hash) (more : List Hash) (came : List Job) (blocks : List Hash) → connected t ≡ true → verdict (Said (Cfilter filter block bytes) ∷ t) ≡ None
     → AreFresh t → request t ≡ FiltersOpen (next ∷ more) came → is_answer_of filter block.0 next ≡ true → ((job : Job) → IsIn job came → IsItsOwn t job)
     → ((x : Hash) → IsIn x blocks → ((job : Job) × IsIn job came × (job.block.0 ≡ x)) ⊎ IsIn x (next ∷ more))
-    → AreComing (Said (Cfilter filter block bytes) ∷ t) blocks ⊎ AreGiven (Said (Cfilter filter block bytes) ∷ t) blocks
+    → AreComing (Said (Cfilter filter block bytes) ∷ t) blocks ⊎ AreGivenBy (Cfilter filter block bytes) t blocks
 next_came filter block bytes t next more came blocks on clean fresh e answer true_ones each = by more refl where
   m : Msg
   m = Cfilter filter block bytes
@@ -165,16 +208,8 @@ next_came filter block bytes t next more came blocks on clean fresh e answer tru
   block_is : block.0 ≡ next
   block_is = same_true block.0 next (and_parts (filter == 0) (same block.0 next) answer).1
 
-  fine : (if is_this (hash_claimed (claims t) next) (filter_hash_of bytes) then None else Some OtherFilter) ≡ None
-  fine =
-      sym (ap (λ (b : Bool). if b then (if is_this (hash_claimed (claims t) next) (filter_hash_of bytes) then None else Some OtherFilter) else None) answer)
-      ∙ sym (ap (λ r. filter_fault filter block.0 bytes r (claims t)) e) ∙ (first_none (verdict t) (fault_of m t) clean).1
-
   mine : IsItsOwn t job
-  mine =
-      let h = this_is (hash_claimed (claims t) next) (filter_hash_of bytes) fine in
-      let c = claim_by (claims t next) h.0 h.1 in
-      (c.0, ap (claims t) block_is ∙ c.1, ap (λ (x : Hash32). x.0) c.2 ∙ h.2)
+  mine = answer_own filter block bytes t next more came clean e answer
 
   all_own : (j : Job) → IsIn j all → IsItsOwn (Said m ∷ t) j
   all_own j i = elim (in_either j came (job ∷ []) i) [
@@ -191,13 +226,12 @@ next_came filter block bytes t next more came blocks on clean fresh e answer tru
   now_open : (left : List Hash) → more ≡ left → request (Said m ∷ t) ≡ filters_left left all
   now_open left is = ap (λ r. request_after m r) e ∙ ap (λ (b : Bool). if b then filters_left more all else FiltersOpen (next ∷ more) came) answer ∙ ap (λ (l : List Hash). filters_left l all) is
 
-  by : (left : List Hash) → more ≡ left → AreComing (Said m ∷ t) blocks ⊎ AreGiven (Said m ∷ t) blocks
+  by : (left : List Hash) → more ≡ left → AreComing (Said m ∷ t) blocks ⊎ AreGivenBy m t blocks
   by [] is =
       let gives : given_by m (request t) ≡ all =
       ap (λ r. given_by m r) e ∙ ap (λ (l : List Hash). given_by m (FiltersOpen (next ∷ l) came)) is ∙ ap (λ (b : Bool). if b then all else []) answer in
-      let now : given (counted (Said m ∷ t)) ≡ all ++ given (counted t) = said_gives m t on clean ∙ ap (λ (js : List Job). js ++ given (counted t)) gives in
       inr (λ x i. elim (among x i) [
-        | inl w ↦ (w.0, subst (λ (js : List Job). IsIn w.0 js) (sym now) (in_left w.0 all (given (counted t)) w.1), w.2, all_own w.0 w.1)
+        | inl w ↦ (w.0, subst (λ (js : List Job). IsIn w.0 js) (sym gives) w.1, w.2, all_own w.0 w.1)
         | inr later ↦ absurd (subst (λ (l : List Hash). IsIn x l) is later)
       ])
   by (y ∷ left) is = inl (record { left = more; came = all; is = now_open (y ∷ left) is ∙ ap (λ (l : List Hash). FiltersOpen l all) (sym is); true_ones = all_own; each = among })
@@ -212,9 +246,9 @@ stays_coming m t blocks w fresh same = record {
   each = w.each;
 }
 
-coming_said : (m : Msg) (t : Trail) (blocks : List Hash) → connected t ≡ true → verdict (Said m ∷ t) ≡ None → AreFresh t → AreComing t blocks → AreComing (Said m ∷ t) blocks ⊎ AreGiven (Said m ∷ t) blocks
+pub coming_said : (m : Msg) (t : Trail) (blocks : List Hash) → connected t ≡ true → verdict (Said m ∷ t) ≡ None → AreFresh t → AreComing t blocks → AreComing (Said m ∷ t) blocks ⊎ AreGivenBy m t blocks
 coming_said (Cfilter filter block bytes) t blocks on clean fresh w = by w.left refl where
-  by : (left : List Hash) → w.left ≡ left → AreComing (Said (Cfilter filter block bytes) ∷ t) blocks ⊎ AreGiven (Said (Cfilter filter block bytes) ∷ t) blocks
+  by : (left : List Hash) → w.left ≡ left → AreComing (Said (Cfilter filter block bytes) ∷ t) blocks ⊎ AreGivenBy (Cfilter filter block bytes) t blocks
   by [] is = inl (stays_coming (Cfilter filter block bytes) t blocks w fresh
       (ap (λ (l : List Hash). request_after (Cfilter filter block bytes) (FiltersOpen l w.came)) is ∙ ap (λ (l : List Hash). FiltersOpen l w.came) (sym is)))
   by (next ∷ more) is = elim (cases_Bool (is_answer_of filter block.0 next)) [
@@ -243,12 +277,15 @@ after_said m t start stop on clean fresh w = record {
   low = w.low;
   high = w.high;
   since = elim w.since [
-    | inl coming ↦ coming_said m t (blocks_from start w.part) on clean fresh coming
+    | inl coming ↦ elim (coming_said m t (blocks_from start w.part) on clean fresh coming) [
+      | inl more ↦ inl more
+      | inr now ↦ inr (λ x i. (let g = now x i in (g.0, subst (λ (js : List Job). IsIn g.0 js) (sym (said_gives m t on clean)) (in_left g.0 (given_by m (request t)) (given (counted t)) g.1), g.2, g.3)))
+    ]
     | inr all ↦ inr (given_said m t (blocks_from start w.part) on clean fresh all)
   ];
 }
 
-still_coming : (m : Msg) (t : Trail) (left : List Hash) (came : List Job) → MayAsk t m → request t ≡ FiltersOpen left came → request (Asked m ∷ t) ≡ FiltersOpen left came
+pub still_coming : (m : Msg) (t : Trail) (left : List Hash) (came : List Job) → MayAsk t m → request t ≡ FiltersOpen left came → request (Asked m ∷ t) ≡ FiltersOpen left came
 still_coming (GetHeaders version locator s) t left came may e = absurd (let no : FiltersOpen left came ≡ NothingOpen = sym e ∙ may.0.idle in cc)
 still_coming (GetCfheaders filter start s) t left came may e = absurd (let no : FiltersOpen left came ≡ NothingOpen = sym e ∙ may.0.idle in cc)
 still_coming (GetCfilters filter start s) t left came may e = absurd (let no : FiltersOpen left came ≡ NothingOpen = sym e ∙ may.0.idle in cc)
@@ -309,11 +346,11 @@ has_since (Lost w ∷ t) on clean right filter start stop was = absurd (false≢
 
 -- ---- so it isn't asked for them again
 
--- needed by a log in which p's part is the same
-filters_not_by : (watch : List (List ℕ)) (planned log : Log) (p : ℕ) → Rightly log → AreBytes log → NoHashClash (IsHashed log []) → IsConnected log p → verdict (trail log p) ≡ None
+-- wanted by a log in which p's part is the same
+filters_not_by : (planned log : Log) (p : ℕ) → Rightly log → AreBytes log → NoHashClash (IsHashed log []) → IsConnected log p → verdict (trail log p) ≡ None
     → part_of planned p ≡ part_of log p
-    → (filter start : ℕ) (stop : Hash32) → MaySend log p (GetCfilters filter start stop) → IsNeeded watch planned p (GetCfilters filter start stop) → WasAsked (trail log p) (GetCfilters filter start stop) → ⊥
-filters_not_by watch planned log p right bytes clash on clean one filter start stop may needed was =
+    → (filter start : ℕ) (stop : Hash32) → MaySend log p (GetCfilters filter start stop) → AreFiltersWanted planned p start stop.0 → WasAsked (trail log p) (GetCfilters filter start stop) → ⊥
+filters_not_by planned log p right bytes clash on clean one filter start stop may needed was =
     let t : Trail = trail log p in
     let apart : AreApart (lists t) = subst AreApart (same_use t on clean).showing (shown_apart log p [] bytes clash) in
     let w = has_since t on clean (asked_rightly log p right) filter start stop was in
@@ -336,16 +373,20 @@ filters_not_by watch planned log p right bytes clash on clean one filter start s
           )
     ]
 
-pub filters_not_again : (watch : List (List ℕ)) (log : Log) (p : ℕ) → Rightly log → AreBytes log → NoHashClash (IsHashed log []) → IsConnected log p → verdict (trail log p) ≡ None
-    → (filter start : ℕ) (stop : Hash32) → MaySend log p (GetCfilters filter start stop) → IsNeeded watch log p (GetCfilters filter start stop) → WasAsked (trail log p) (GetCfilters filter start stop) → ⊥
-filters_not_again watch log p right bytes clash on clean = filters_not_by watch log log p right bytes clash on clean refl
+pub filters_not_again : (log : Log) (p : ℕ) → Rightly log → AreBytes log → NoHashClash (IsHashed log []) → IsConnected log p → verdict (trail log p) ≡ None
+    → (filter start : ℕ) (stop : Hash32) → MaySend log p (GetCfilters filter start stop) → AreFiltersWanted log p start stop.0 → WasAsked (trail log p) (GetCfilters filter start stop) → ⊥
+filters_not_again log p right bytes clash on clean = filters_not_by log log p right bytes clash on clean refl
 
--- nor where a client needs them that isn't told yet of some failed sends: p, which is connected, has the same part in its log
-pub filters_not_planned : (watch : List (List ℕ)) (planned log : Log) (p : ℕ) → Rightly log → AreBytes log → NoHashClash (IsHashed log []) → IsConnected log p → verdict (trail log p) ≡ None
+-- p, which is connected, has the same part in the log of a client that isn't told yet of some failed sends
+pub same_part : (planned log : Log) (p : ℕ) → IsConnected log p → IsPlanned planned log → is_untold log p ≡ false → part_of planned p ≡ part_of log p
+same_part planned log p on is told = by (is.told p told) where
+  by : Alike (part_of planned p) (part_of log p) → part_of planned p ≡ part_of log p
+  by (inl same) = same
+  by (inr off) = absurd (false≢true (sym off.1 ∙ on))
+
+-- nor where such a client wants them
+pub filters_not_planned : (planned log : Log) (p : ℕ) → Rightly log → AreBytes log → NoHashClash (IsHashed log []) → IsConnected log p → verdict (trail log p) ≡ None
     → IsPlanned planned log → is_untold log p ≡ false
-    → (filter start : ℕ) (stop : Hash32) → MaySend log p (GetCfilters filter start stop) → IsNeeded watch planned p (GetCfilters filter start stop) → WasAsked (trail log p) (GetCfilters filter start stop) → ⊥
-filters_not_planned watch planned log p right bytes clash on clean is told filter start stop may needed was =
-    filters_not_by watch planned log p right bytes clash on clean (by (is.told p told)) filter start stop may needed was where
-      by : Alike (part_of planned p) (part_of log p) → part_of planned p ≡ part_of log p
-      by (inl same) = same
-      by (inr off) = absurd (false≢true (sym off.1 ∙ on))
+    → (filter start : ℕ) (stop : Hash32) → MaySend log p (GetCfilters filter start stop) → AreFiltersWanted planned p start stop.0 → WasAsked (trail log p) (GetCfilters filter start stop) → ⊥
+filters_not_planned planned log p right bytes clash on clean is told =
+    filters_not_by planned log p right bytes clash on clean (same_part planned log p on is told)

@@ -26,7 +26,7 @@ there_by : (b : Bool) (t : Trail) (block : Hash) (claim : Claim) → (if b then 
 there_by true t block claim e = (refl, e)
 there_by false t block claim e = cc
 
-claims_by : (l : Log) (tables : Tables) → HoldsClaims l tables → (p : ℕ) (block : Hash) (hash : Hash32) → Claims tables p block hash → IsConnected l p × log.Claims l p block hash
+pub claims_by : (l : Log) (tables : Tables) → HoldsClaims l tables → (p : ℕ) (block : Hash) (hash : Hash32) → Claims tables p block hash → IsConnected l p × log.Claims l p block hash
 claims_by l tables h p block hash c =
     let w = there_by (connected (trail l p)) (trail l p) block c.0 (sym (h p block) ∙ c.1) in
     (w.0, ap (λ (o : Option Claim). option_map (λ (x : Claim). x.hash) o) w.1 ∙ ap (λ (x : Hash32). Some x) c.2)
@@ -35,7 +35,7 @@ mapped : (o : Option Claim) (hash : Hash32) → option_map (λ (c : Claim). c.ha
 mapped None hash e = cc
 mapped (Some c) hash e = (c, refl, (let one : c.hash ≡ hash = cc in one))
 
-by_claims : (l : Log) (tables : Tables) → HoldsClaims l tables → (p : ℕ) (block : Hash) (hash : Hash32) → IsConnected l p → log.Claims l p block hash → Claims tables p block hash
+pub by_claims : (l : Log) (tables : Tables) → HoldsClaims l tables → (p : ℕ) (block : Hash) (hash : Hash32) → IsConnected l p → log.Claims l p block hash → Claims tables p block hash
 by_claims l tables h p block hash on c =
     let w = mapped (claims (counted_part l p) block) hash c in
     (w.0, h p block ∙ ap (λ (b : Bool). (if b then claims (counted_part l p) else no_claims) block) on ∙ w.1, w.2)
@@ -45,7 +45,7 @@ agreed_by l tables h block hash at =
     let w = claims_by l tables h at.0.0 block hash at.0.1 in
     record { who = at.0.0; there = w.0; claims = w.1; alone = λ p other on c. at.1 p other (by_claims l tables h p block other on c) }
 
-disputed_by : (l : Log) (tables : Tables) → HoldsClaims l tables → (block : Hash) → IsAt tables block Differ → IsDisputed l block
+pub disputed_by : (l : Log) (tables : Tables) → HoldsClaims l tables → (block : Hash) → IsAt tables block Differ → IsDisputed l block
 disputed_by l tables h block at =
     let a = claims_by l tables h at.0 block at.1.1.0 at.1.1.1.1.0 in
     let b = claims_by l tables h at.1.0 block at.1.1.1.0 at.1.1.1.1.1 in
@@ -65,7 +65,7 @@ judged_by watch l tables verdicts h g block hash v miss reads at e =
     let w = g.sound block hash.0 v e in
     record { hash = hash; agreed = agreed_by l tables h block hash at; filter = w.0; given = w.1; of_block = w.2; this = w.3; verdict = reads w.0 w.4 }
 
-some_is : (o : Option (List TxExtract)) → IsSome o → (e : List TxExtract) × (o ≡ Some e)
+pub some_is : (o : Option (List TxExtract)) → IsSome o → (e : List TxExtract) × (o ≡ Some e)
 some_is None s = cc s
 some_is (Some e) s = (e, refl)
 

@@ -40,7 +40,7 @@ block_free log opens block h none q = is_false (opens.blocks q block) (λ is. no
 -- what is asked is open to nobody
 pub filters_alone : (log : Log) (opens : Opens) (p filter start : ℕ) (stop : Hash32) → HoldsOpens log opens
     → ((block : Hash) → IsIn block (blocks_in start (back_to stop.0 (own (trail log p)))) → IsFilterFree opens block) → IsAlone log p (GetCfilters filter start stop)
-filters_alone log opens p filter start stop h free = λ block i stands. free_filter log opens block h (free block i) stands
+filters_alone log opens p filter start stop h free = λ block i none stands. free_filter log opens block h (free block i) stands
 
 pub block_alone : (log : Log) (opens : Opens) (p : ℕ) (hash : Hash32) → HoldsOpens log opens → IsBlockFree opens hash.0 → IsAlone log p (GetData (block_entry hash ∷ []))
 block_alone log opens p hash h free entry (inl e) stands = free_block log opens hash.0 h free (subst (λ (x : Entry). IsBlockOpen log x.hash.0) e stands)

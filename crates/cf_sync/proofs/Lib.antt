@@ -10,6 +10,8 @@ pub mod Untouched
 pub mod HonestLemmas
 pub mod Counted
 pub mod Grows
+pub mod Brought
+pub mod Blamed
 pub mod Settles
 pub mod Tables
 pub mod SameFetched
@@ -23,10 +25,18 @@ pub mod Filters
 pub mod Kept
 pub mod VerdictsGrow
 pub mod FreshFilters
+pub mod FreshTests
 pub mod Alone
 pub mod Once
 pub mod KeptOpens
+pub mod Bodies
+pub mod KeptTests
+pub mod KeptAims
 pub mod Written
 pub mod TwoPeers
 pub mod Cleared
 pub mod Dispute
+pub mod Quieted
+pub mod Idle
+pub mod Deaf
+pub mod Plans

@@ -26,7 +26,7 @@ use Rattle.cf_block.specs.Header.{block_hash_of}
 use Rattle.cf_peer.specs.declared.peer.Cause.{Cause}
 use Rattle.cf_dispute.proofs.PutIn.{same_true}
 use Rattle.cf_sync.proofs.Counted.{first_none, same_use}
-use Rattle.cf_sync.proofs.Grows.{fetched_before}
+use Rattle.cf_sync.proofs.Grows.{fetched_before, fetched_stays}
 use Rattle.cf_sync.proofs.Listed.{in_either}
 
 -- ---- a message takes away at most
@@ -115,8 +115,12 @@ filters_said m r block i = i
 abbrev IsNewBlock : Log → Hash → Type 0
 IsNewBlock log block = (IsBlockOpen log block → ⊥) × (IsFetchedHash log block → ⊥)
 
+-- a filter is, where the block wasn't fetched
+abbrev IsUnfetched : Log → Hash → Type 0
+IsUnfetched log block = IsFetchedHash log block → ⊥
+
 abbrev IsNewFilter : Log → Hash → Type 0
-IsNewFilter log block = IsFilterOpen log block → ⊥
+IsNewFilter log block = IsUnfetched log block → IsFilterOpen log block → ⊥
 
 blocks_asked : (log : Log) (p : ℕ) (m : Msg) (block : Hash) → MaySend log p m → IsIn block (blocks_open (request_for m (own (trail log p)) (request (trail log p))))
     → IsIn block (blocks_open (request (trail log p))) ⊎ IsNewBlock log block
@@ -145,14 +149,14 @@ blocks_asked log p (GetData entries) block may i =
 blocks_asked log p m block may i = inl i
 
 filters_asked_new : (log : Log) (p : ℕ) (m : Msg) (block : Hash) → MaySend log p m → IsIn block (filters_open (request_for m (own (trail log p)) (request (trail log p))))
-    → IsIn block (filters_open (request (trail log p))) ⊎ (IsFilterOpen log block → ⊥)
+    → IsIn block (filters_open (request (trail log p))) ⊎ IsNewFilter log block
 filters_asked_new log p (GetHeaders version locator stop) block may i = absurd i
 filters_asked_new log p (GetCfheaders filter start stop) block may i = absurd (by (back_to stop.0 (own (trail log p))) i) where
   by : (o : Option Chain) → IsIn block (filters_open (claims_asked start stop.0 o)) → ⊥
   by None i = i
   by (Some part) i = i
 filters_asked_new log p (GetCfilters filter start stop) block may i = by (back_to stop.0 (own (trail log p))) (λ b. may.alone b) i where
-  by : (o : Option Chain) → ((b : Hash) → IsIn b (blocks_in start o) → IsFilterOpen log b → ⊥) → IsIn block (filters_open (filters_asked start o)) → IsIn block (filters_open (request (trail log p))) ⊎ (IsFilterOpen log block → ⊥)
+  by : (o : Option Chain) → ((b : Hash) → IsIn b (blocks_in start o) → IsNewFilter log b) → IsIn block (filters_open (filters_asked start o)) → IsIn block (filters_open (request (trail log p))) ⊎ IsNewFilter log block
   by None alone i = absurd i
   by (Some part) alone i = inr (alone block i)
 filters_asked_new log p (GetData entries) block may i =
@@ -164,7 +168,7 @@ filters_asked_new log p m block may i = inl i
 
 -- ---- along a log
 
-still_connected : (fs : List Frame) (t : Trail) → connected (hears fs t) ≡ true → connected t ≡ true
+pub still_connected : (fs : List Frame) (t : Trail) → connected (hears fs t) ≡ true → connected t ≡ true
 still_connected [] t on = on
 still_connected (f ∷ fs) t on = by (message_of f) (still_connected fs (item_of f ∷ t) on) where
   by : (r : _) → connected (item_of_read r ∷ t) ≡ true → connected t ≡ true
@@ -184,7 +188,7 @@ record JustAsked (Free : Log → Hash → Type 0) (e : Event) (log : Log) (p : �
   free : Free log block
 
 module _ (what : OpenRequest → List Hash) (none : (block : Hash) → IsIn block (what NothingOpen) → ⊥) (said : (m : Msg) (r : OpenRequest) (block : Hash) → IsIn block (what (request_after m r)) → IsIn block (what r))
-    (Free : Log → Hash → Type 0) (apart : (log : Log) (block : Hash) → Free log block → (q : ℕ) → StandsIn what (trail log q) block → ⊥)
+    (Free : Log → Hash → Type 0)
     (new : (log : Log) (p : ℕ) (m : Msg) (block : Hash) → MaySend log p m → IsIn block (what (request_for m (own (trail log p)) (request (trail log p)))) → IsIn block (what (request (trail log p))) ⊎ Free log block) where
   in_heard : (fs : List Frame) (t : Trail) (block : Hash) → IsIn block (what (request (hears fs t))) → IsIn block (what (request t))
   in_heard [] t block i = i
@@ -237,32 +241,45 @@ module _ (what : OpenRequest → List Hash) (none : (block : Hash) → IsIn bloc
   rest_right (Sent q bytes) log right = right.1
   rest_right (Took d) log right = right.1
 
-  one_of : (log : Log) → Rightly log → (p q : ℕ) (block : Hash) → StandsIn what (trail log p) block → StandsIn what (trail log q) block → p ≡ q
-  one_of [] right p q block s t = absurd (false≢true s.0)
-  one_of (e ∷ log) right p q block s t = elim (stood e log p block right s) [
-    | inl a ↦ elim (stood e log q block right t) [
-      | inl b ↦ one_of log (rest_right e log right) p q block a b
-      | inr b ↦ absurd (apart log block b.free p a)
-    ]
-    | inr a ↦ elim (stood e log q block right t) [
-      | inl b ↦ absurd (apart log block a.free q b)
-      | inr b ↦ (let both : Sent a.who a.bytes ≡ Sent b.who b.bytes = sym a.is ∙ b.is in let same : a.who ≡ b.who = cc in sym a.here ∙ ap (λ (k : PeerNo). k.0) same ∙ b.here)
-    ]
-  ]
+  -- two requests that are open hold no block of which this is so now, and was so before
+  one_of : (Live : Log → Hash → Type 0) → ((e : Event) (log : Log) (block : Hash) → Live (e ∷ log) block → Live log block)
+      → ((log : Log) (block : Hash) → Live log block → Free log block → (q : ℕ) → StandsIn what (trail log q) block → ⊥)
+      → (log : Log) → Rightly log → (p q : ℕ) (block : Hash) → Live log block → StandsIn what (trail log p) block → StandsIn what (trail log q) block → p ≡ q
+  one_of Live before apart [] right p q block live s t = absurd (false≢true s.0)
+  one_of Live before apart (e ∷ log) right p q block live s t =
+      let lived : Live log block = before e log block live in
+      elim (stood e log p block right s) [
+        | inl a ↦ elim (stood e log q block right t) [
+          | inl b ↦ one_of Live before apart log (rest_right e log right) p q block lived a b
+          | inr b ↦ absurd (apart log block lived b.free p a)
+        ]
+        | inr a ↦ elim (stood e log q block right t) [
+          | inl b ↦ absurd (apart log block lived a.free q b)
+          | inr b ↦ (let both : Sent a.who a.bytes ≡ Sent b.who b.bytes = sym a.is ∙ b.is in let same : a.who ≡ b.who = cc in sym a.here ∙ ap (λ (k : PeerNo). k.0) same ∙ b.here)
+        ]
+      ]
+
+abbrev IsAny : Log → Hash → Type 0
+IsAny log block = Unit {0}
 
 one_block_at : (log : Log) → Rightly log → (p q : ℕ) (block : Hash) → StandsIn blocks_open (trail log p) block → StandsIn blocks_open (trail log q) block → p ≡ q
-one_block_at = one_of blocks_open (λ b i. i) blocks_said IsNewBlock (λ l b free n s. free.0 (n, s)) blocks_asked
+one_block_at log right p q block s t =
+    one_of blocks_open (λ b i. i) blocks_said IsNewBlock blocks_asked IsAny (λ e l b any. tt) (λ l b any free n st. free.0 (n, st)) log right p q block tt s t
 
 pub one_block : (log : Log) → Rightly log → (p q : ℕ) (block : Hash) → IsConnected log p → IsConnected log q → IsIn block (blocks_open (request (trail log p))) → IsIn block (blocks_open (request (trail log q))) → p ≡ q
 one_block log right p q block on there i j = one_block_at log right p q block (on, i) (there, j)
 
-pub one_filter : (log : Log) → Rightly log → (p q : ℕ) (block : Hash) → IsConnected log p → IsConnected log q → IsIn block (filters_open (request (trail log p))) → IsIn block (filters_open (request (trail log q))) → p ≡ q
-one_filter log right p q block on there i j =
-    one_of filters_open (λ b i. i) filters_said IsNewFilter (λ l b free n s. free (n, s)) filters_asked_new log right p q block (on, i) (there, j)
+unfetched_before : (e : Event) (log : Log) (block : Hash) → IsUnfetched (e ∷ log) block → IsUnfetched log block
+unfetched_before e log block none got = none (got.0, fetched_stays e log got.0 got.1, got.2)
+
+pub one_filter : (log : Log) → Rightly log → (p q : ℕ) (block : Hash) → (IsFetchedHash log block → ⊥) → IsConnected log p → IsConnected log q
+    → IsIn block (filters_open (request (trail log p))) → IsIn block (filters_open (request (trail log q))) → p ≡ q
+one_filter log right p q block none on there i j =
+    one_of filters_open (λ b i. i) filters_said IsNewFilter filters_asked_new IsUnfetched unfetched_before (λ l b live free n s. free live (n, s)) log right p q block none (on, i) (there, j)
 
 -- ---- what is open wasn't fetched
 
-in_if : (t : Bool) (b c : Block) → IsIn b (if t then c ∷ [] else []) → b ≡ c
+pub in_if : (t : Bool) (b c : Block) → IsIn b (if t then c ∷ [] else []) → b ≡ c
 in_if true b c (inl e) = e
 in_if true b c (inr none) = absurd none
 in_if false b c none = absurd none
@@ -286,10 +303,10 @@ none_when : (o : Option Cause) → is_none o ≡ true → o ≡ None
 none_when None e = refl
 none_when (Some c) e = absurd (false≢true e)
 
-abbrev Brings : Trail → Trail → Block → Type 0
+abbrev pub Brings : Trail → Trail → Block → Type 0
 Brings t u b = IsIn b (fetched (counted t)) ⊎ (StandsIn blocks_open t (block_hash_of b.header) × ((x : Hash) → IsIn x (blocks_open (request u)) → ⊥))
 
-said_brings : (m : Msg) (t : Trail) (b : Block) → IsIn b (fetched (counted (Said m ∷ t))) → Brings t (Said m ∷ t) b
+pub said_brings : (m : Msg) (t : Trail) (b : Block) → IsIn b (fetched (counted (Said m ∷ t))) → Brings t (Said m ∷ t) b
 said_brings m t b i = elim (cases_Bool (counts m t)) [
   | inl is1 ↦ elim (in_either b (fetched_by m (request (counted t))) (fetched (counted t)) (subst (λ (x : Bool). IsIn b (fetched (if x then Said m ∷ counted t else counted t))) is1 i)) [
     | inl new ↦ (
@@ -305,9 +322,9 @@ said_brings m t b i = elim (cases_Bool (counts m t)) [
 ]
 
 in_frames : (fs : List Frame) (t : Trail) (block : Hash) → IsIn block (blocks_open (request (hears fs t))) → IsIn block (blocks_open (request t))
-in_frames = in_heard blocks_open (λ b i. i) blocks_said IsNewBlock (λ l b free n s. free.0 (n, s)) blocks_asked
+in_frames = in_heard blocks_open (λ b i. i) blocks_said IsNewBlock blocks_asked
 
-frames_bring : (fs : List Frame) (t : Trail) (b : Block) → IsIn b (fetched (counted (hears fs t))) → Brings t (hears fs t) b
+pub frames_bring : (fs : List Frame) (t : Trail) (b : Block) → IsIn b (fetched (counted (hears fs t))) → Brings t (hears fs t) b
 frames_bring [] t b i = inl i
 frames_bring (f ∷ fs) t b i = elim (frames_bring fs (item_of f ∷ t) b i) [
   | inl old ↦ elim (item (message_of f) old) [ inl o ↦ inl o | inr w ↦ inr (w.0, λ x j. w.1 x (in_frames fs (item_of f ∷ t) x j)) ]
@@ -328,10 +345,10 @@ read_brings r t b i = by r.fault i where
   by (Some fault) i = frames_bring r.frames t b i
 
 -- what was fetched now stood open to a peer, to which no block is open any more
-abbrev IsNewOf : Event → Log → Block → Type 0
+abbrev pub IsNewOf : Event → Log → Block → Type 0
 IsNewOf e log b = (k : ℕ) × (StandsIn blocks_open (trail log k) (block_hash_of b.header) × ((x : Hash) → IsIn x (blocks_open (request (trail (e ∷ log) k))) → ⊥))
 
-newly : (e : Event) (log : Log) (b : Block) → IsFetched (e ∷ log) b → IsFetched log b ⊎ IsNewOf e log b
+pub newly : (e : Event) (log : Log) (b : Block) → IsFetched (e ∷ log) b → IsFetched log b ⊎ IsNewOf e log b
 newly (Took (Got q piece)) log b got = elim (by (q.0 == got.0) got.1) [ inl i ↦ inl (got.0, i) | inr w ↦ inr (got.0, w) ] where
   by : (x : Bool) → IsIn b (fetched (counted (if x then heard_part piece (part_of log got.0) else part_of log got.0).trail))
       → IsIn b (fetched (counted (trail log got.0)))
@@ -344,17 +361,17 @@ newly e log b got = elim (fetched_before e log b got) [ inl old ↦ inl old | in
 pub open_unfetched : (log : Log) → Rightly log → (p : ℕ) (block : Hash) → StandsIn blocks_open (trail log p) block → IsFetchedHash log block → ⊥
 open_unfetched [] right p block s got = absurd (false≢true s.0)
 open_unfetched (e ∷ log) right p block s got =
-    let st = stood blocks_open (λ b i. i) blocks_said IsNewBlock (λ l b free n s1. free.0 (n, s1)) blocks_asked e log p block right s in
+    let st = stood blocks_open (λ b i. i) blocks_said IsNewBlock blocks_asked e log p block right s in
     elim (newly e log got.0 got.1) [
       | inl old ↦ elim st [
-        | inl was ↦ open_unfetched log (rest_right blocks_open (λ b i. i) blocks_said IsNewBlock (λ l b free n s1. free.0 (n, s1)) blocks_asked e log right) p block was (got.0, old, got.2)
+        | inl was ↦ open_unfetched log (rest_right blocks_open (λ b i. i) blocks_said IsNewBlock blocks_asked e log right) p block was (got.0, old, got.2)
         | inr just ↦ just.free.1 (got.0, old, got.2)
       ]
       | inr new ↦ (
           let there : StandsIn blocks_open (trail log new.0) block = subst (StandsIn blocks_open (trail log new.0)) got.2 new.1.0 in
           elim st [
             | inl was ↦ (
-                let same_peer : p ≡ new.0 = one_block_at log (rest_right blocks_open (λ b i. i) blocks_said IsNewBlock (λ l b free n s1. free.0 (n, s1)) blocks_asked e log right) p new.0 block was there in
+                let same_peer : p ≡ new.0 = one_block_at log (rest_right blocks_open (λ b i. i) blocks_said IsNewBlock blocks_asked e log right) p new.0 block was there in
                 new.1.1 block (subst (λ (k : ℕ). IsIn block (blocks_open (request (trail (e ∷ log) k)))) same_peer s.1)
                 )
             | inr just ↦ just.free.0 (new.0, there)

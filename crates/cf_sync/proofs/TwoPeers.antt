@@ -1,5 +1,5 @@
 -- The run with two peers, moment by moment: one is honest, all that was asked might be asked, and the history is the honest chain's.
-use Rattle.std.proofs.Common.{if◌then◌else◌, ◌≡◌, ◌⊎◌, inl, inr, ℕ, ◌<◌, ◌≤◌, List, [], ◌∷◌, ◌++◌, map, length, get_or, Some, None, Bool, true, false, not, ◌&&◌, ◌||◌, ◌==◌, refl, sym, ◌∙◌, ap, subst, arith}
+use Rattle.std.proofs.Common.{if◌then◌else◌, ◌≡◌, ◌⊎◌, inl, inr, ℕ, ◌<◌, ◌≤◌, List, [], ◌∷◌, ◌++◌, map, length, get_or, Some, None, Bool, true, false, not, ◌&&◌, ◌||◌, ◌==◌, refl, sym, ◌∙◌, ap, subst, arith, Option}
 use Rattle.std.specs.List.{flat_map}
 use Rattle.std.specs.FinMap.{empty, get-empty}
 use Rattle.std.proofs.lemmas.Bool.{cases_Bool, false≢true, and_parts, eqb-true}
@@ -25,22 +25,22 @@ use Rattle.cf_filter.specs.Filter.{basic_filter_of, filter_hash_of}
 use Rattle.cf_match.specs.declared.job.Job.{Job}
 use Rattle.cf_chain.specs.Serve.{data_reply, headers_reply, range_end, cfheaders_reply, cfilters_reply}
 use Rattle.cf_headers.specs.Rules.{same, is_worked, is_timely}
-use Rattle.cf_headers.specs.Chain.{Chain, no_hash, height_limit, past_of, fits, back_to, accept, Accepted, Longer, IsValidChain, IsIn, NoHashClash}
+use Rattle.cf_headers.specs.Chain.{Chain, no_hash, height_limit, past_of, fits, back_to, accept, Accepted, Longer, IsValidChain, IsIn, NoHashClash, Hash}
 use Rattle.cf_headers.specs.Heights.{hash_at, common_of}
 use Rattle.cf_headers.proofs.Commons.{common_own}
 use Rattle.cf_headers.specs.Shown.{IsShown, Shows, IsShownSpelling}
 use Rattle.cf_msg.specs.declared.msg.Msg.{Msg}
 use Rattle.cf_msg.specs.declared.msg.Msg.TheVariants.{Verack, Block as BlockMessage, Cfheaders, Cfilter}
 use Rattle.cf_wires.specs.declared.event.Delivery.TheVariants.{Got}
-use Rattle.cf_wires.specs.declared.event.Event.TheVariants.{Dialled, Sent, Took}
+use Rattle.cf_wires.specs.declared.event.Event.TheVariants.{Dialled, Sent, Took, Closed}
 use Rattle.cf_peer.specs.Acts.{bytes_of}
-use Rattle.cf_peer.specs.Asking.{OpenRequest, is_spare, NothingOpen, ClaimsOpen, FiltersOpen, BlockOpen, claims_asked, filters_asked, filter_of, claims, claims_after, claims_fault, filter_fault, fault_of, request_after, is_idle, given, given_by, HasHeader, IsFree, IsRange, request, is_wanted, is_committed, is_open, block_fault, verdict, counted, lists, fetched, fetched_by, block_entry, HasSaid, hashes_of, MayAsk, SameUse}
+use Rattle.cf_peer.specs.Asking.{OpenRequest, is_spare, NothingOpen, ClaimsOpen, FiltersOpen, BlockOpen, claims_asked, filters_asked, filter_of, claims, claims_after, claims_fault, filter_fault, fault_of, request_after, is_idle, given, given_by, HasHeader, IsFree, IsRange, request, is_wanted, is_committed, is_open, block_fault, verdict, counted, lists, fetched, fetched_by, block_entry, HasSaid, hashes_of, MayAsk, SameUse, hash_claimed}
 use Rattle.cf_wires.specs.Log.{Log}
-use Rattle.cf_peer.specs.Trail.{Trail, Part, Called, Said, Asked, called_part, heard_part, spelled, asks, part_of, trail, connected, ready, own, heard, longer_of, ends_by, fault_in, first}
+use Rattle.cf_peer.specs.Trail.{Trail, Part, Called, Said, Asked, called_part, heard_part, spelled, asks, part_of, trail, connected, ready, own, heard, longer_of, ends_by, fault_in, first, Lost, Shutting, with_item}
 use Rattle.cf_scan.specs.Scan.{scan_of}
 use Rattle.cf_scan.specs.Watching.{IsWatch}
 use Rattle.cf_sync.specs.Example.{only_tx, only_header, only_block, only_hash, chain_of_one, honest_peer, liar, genesis_hash, no_stop, our_version, its_version, false_version, question, its_headers, false_headers, fetch, its_block, log_1, log_2, log_3, log_4, log_5, log_6, log_7, log_8, log_9, log_10, log_11, log_12, log_13, log_14, log_15, log_16, log_17, log_18, log_19, run_of_two, cleared_run, only_filter, only_filter_hash, genesis_filter_header, ask_claims, its_claims, ask_filter, its_filter}
-use Rattle.cf_sync.specs.Fetching.{counted_part, IsQuiet, IsBusy, AreBytes, IsFetched, IsFetchedHash, IsConnected, Rightly}
+use Rattle.cf_sync.specs.Fetching.{counted_part, IsQuiet, IsBusy, AreBytes, IsFetched, IsFetchedHash, IsConnected, Rightly, Claims, IsDisputed}
 use Rattle.cf_sync.proofs.Alone.{IsNoneFetching, none_filters, none_block}
 use Rattle.cf_sync.specs.Honesty.{Leaves, answers, AnswersAs, IsHonestOver, IsHonest, was_called, ShowsNoOther, filters_above}
 use Rattle.cf_sync.specs.Sync.{strings_of, IsOfBlocks, IsHashed, HasAsked}
@@ -96,6 +96,13 @@ t_12 = Asked fetch ∷ t_11
 
 abbrev pub t_13 : Trail
 t_13 = Said its_block ∷ t_12
+
+-- and once more its filter, after the block
+abbrev pub t_14 : Trail
+t_14 = Asked ask_filter ∷ t_13
+
+abbrev pub t_15 : Trail
+t_15 = Said its_filter ∷ t_14
 
 part_1 : part_of log_1 1 ≡ at_rest t_1
 part_1 = refl
@@ -195,6 +202,7 @@ AreOfTwo [] = Unit {0}
 AreOfTwo (Dialled q name ∷ log) = ((q.0 ≡ 1) ⊎ (q.0 ≡ 2)) × AreOfTwo log
 AreOfTwo (Sent q bytes ∷ log) = ((q.0 ≡ 1) ⊎ (q.0 ≡ 2)) × AreOfTwo log
 AreOfTwo (Took (Got q piece) ∷ log) = ((q.0 ≡ 1) ⊎ (q.0 ≡ 2)) × AreOfTwo log
+AreOfTwo (Closed q ∷ log) = ((q.0 ≡ 1) ⊎ (q.0 ≡ 2)) × AreOfTwo log
 AreOfTwo (e ∷ log) = ⊥
 
 other_number : (q k : ℕ) → (1 == k) ≡ false → (2 == k) ≡ false → (q ≡ 1) ⊎ (q ≡ 2) → (q == k) ≡ false
@@ -209,6 +217,8 @@ none_passes (Sent q bytes ∷ log) k a b h =
     ap (λ (x : Bool). if x then record (part_of log k) { trail = asks (spelled bytes) (trail log k) } else part_of log k) (other_number q.0 k a b h.0) ∙ none_passes log k a b h.1
 none_passes (Took (Got q piece) ∷ log) k a b h =
     ap (λ (x : Bool). if x then heard_part piece (part_of log k) else part_of log k) (other_number q.0 k a b h.0) ∙ none_passes log k a b h.1
+none_passes (Closed q ∷ log) k a b h =
+    ap (λ (x : Bool). if x then with_item (Lost Shutting) (part_of log k) else part_of log k) (other_number q.0 k a b h.0) ∙ none_passes log k a b h.1
 none_passes (e ∷ log) k a b h = absurd h
 
 pub all_of_two : AreOfTwo run_of_two
@@ -272,27 +282,27 @@ IsKnown bytes = (bytes ≡ header_spelling genesis_header) ⊎ ((bytes ≡ heade
 abbrev pub first_byte : List ℕ → ℕ
 first_byte bytes = get_or bytes 0 0
 
-genesis_byte : first_byte (hash_of (header_spelling genesis_header)) ≡ 6
+pub genesis_byte : first_byte (hash_of (header_spelling genesis_header)) ≡ 6
 unfolding block_hash_of
 genesis_byte = ap first_byte genesis_is
 
-header_byte : first_byte (hash_of (header_spelling only_header)) ≡ 191
+pub header_byte : first_byte (hash_of (header_spelling only_header)) ≡ 191
 unfolding block_hash_of
 header_byte = ap first_byte name_is
 
-tx_byte : first_byte (hash_of (tx_spelling only_tx)) ≡ 60
+pub tx_byte : first_byte (hash_of (tx_spelling only_tx)) ≡ 60
 unfolding txid_of
 tx_byte = ap first_byte txid_is
 
-filter_byte : first_byte (hash_of only_filter) ≡ 164
+pub filter_byte : first_byte (hash_of only_filter) ≡ 164
 unfolding filter_hash_of
 filter_byte = ap first_byte only_filter_hash_is
 
-zero_byte : first_byte no_hash ≡ 0
+pub zero_byte : first_byte no_hash ≡ 0
 unfolding no_hash
 zero_byte = refl
 
-byte_known : (a : List ℕ) (s : List ℕ) (n : ℕ) → a ≡ s → first_byte (hash_of s) ≡ n → first_byte (hash_of a) ≡ n
+pub byte_known : (a : List ℕ) (s : List ℕ) (n : ℕ) → a ≡ s → first_byte (hash_of s) ≡ n → first_byte (hash_of a) ≡ n
 byte_known a s n e f = ap (λ x. first_byte (hash_of x)) e ∙ f
 
 pub no_clash : NoHashClash IsKnown
@@ -355,6 +365,10 @@ says_11 m bytes (inr (inr (inr (inr (inr none))))) i = absurd none
 pub says_13 : SaysKnown t_13
 says_13 m bytes (inl e) i = block_known bytes (subst (λ (x : Msg). IsIn bytes (strings_of x)) e i)
 says_13 m bytes (inr said) i = says_11 m bytes said i
+
+pub says_15 : SaysKnown t_15
+says_15 m bytes (inl e) i = filter_known bytes (subst (λ (x : Msg). IsIn bytes (strings_of x)) e i)
+says_15 m bytes (inr said) i = says_13 m bytes said i
 
 says_7 : SaysKnown u_7
 says_7 m bytes (inl e) i = absurd (subst (λ (x : Msg). IsIn bytes (strings_of x)) e i)
@@ -478,6 +492,14 @@ answers_12 =
     ∙ ap (λ (x : List Msg). its_version ∷ Verack ∷ its_headers ∷ its_claims ∷ (x ++ (blocks_said ++ []))) filter_answer
     ∙ ap (λ (x : List Msg). its_version ∷ Verack ∷ its_headers ∷ its_claims ∷ its_filter ∷ (x ++ [])) block_answer
 
+answers_14 : answers chain_of_one t_14 ≡ its_version ∷ Verack ∷ its_headers ∷ its_claims ∷ its_filter ∷ its_block ∷ its_filter ∷ []
+answers_14 =
+    ap (λ (x : List Msg). its_version ∷ Verack ∷ (x ++ (claims_said ++ (filters_said ++ (blocks_said ++ (filters_said ++ [])))))) headers_answer
+    ∙ ap (λ (x : List Msg). its_version ∷ Verack ∷ its_headers ∷ (x ++ (filters_said ++ (blocks_said ++ (filters_said ++ []))))) claims_answer
+    ∙ ap (λ (x : List Msg). its_version ∷ Verack ∷ its_headers ∷ its_claims ∷ (x ++ (blocks_said ++ (filters_said ++ [])))) filter_answer
+    ∙ ap (λ (x : List Msg). its_version ∷ Verack ∷ its_headers ∷ its_claims ∷ its_filter ∷ (x ++ (filters_said ++ []))) block_answer
+    ∙ ap (λ (x : List Msg). its_version ∷ Verack ∷ its_headers ∷ its_claims ∷ its_filter ∷ its_block ∷ (x ++ [])) filter_answer
+
 says_1 : AnswersAs chain_of_one t_1
 says_1 = record { spelled = tt; follows = ([], refl) }
 
@@ -516,6 +538,12 @@ heard_12 = record { spelled = tt; follows = (its_block ∷ [], subst (λ (ns : L
 
 pub heard_13 : AnswersAs chain_of_one t_13
 heard_13 = record { spelled = tt; follows = ([], subst (λ (ns : List Msg). Leaves (its_version ∷ Verack ∷ its_headers ∷ its_claims ∷ its_filter ∷ its_block ∷ []) ns ([])) (sym answers_12) ((refl, refl), (refl, (refl, (refl, (refl, (refl, refl))))))) }
+
+pub heard_14 : AnswersAs chain_of_one t_14
+heard_14 = record { spelled = tt; follows = (its_filter ∷ [], subst (λ (ns : List Msg). Leaves (its_version ∷ Verack ∷ its_headers ∷ its_claims ∷ its_filter ∷ its_block ∷ []) ns (its_filter ∷ [])) (sym answers_14) ((refl, refl), (refl, (refl, (refl, (refl, (refl, refl))))))) }
+
+pub heard_15 : AnswersAs chain_of_one t_15
+heard_15 = record { spelled = tt; follows = ([], subst (λ (ns : List Msg). Leaves (its_version ∷ Verack ∷ its_headers ∷ its_claims ∷ its_filter ∷ its_block ∷ its_filter ∷ []) ns ([])) (sym answers_14) ((refl, refl), (refl, (refl, (refl, (refl, (refl, (refl, refl)))))))) }
 
 -- at a moment of the log
 pub at_log : (log : Log) (t : Trail) → part_of log 1 ≡ at_rest t → AnswersAs chain_of_one t → AnswersAs chain_of_one (trail log 1)
@@ -616,7 +644,7 @@ self_hash = same_self only_hash.0
 back_only : back_to only_hash.0 (own t_7) ≡ Some (only_header ∷ [])
 back_only = ap (λ (c : Chain). back_to only_hash.0 c) own_7 ∙ rw (other_hash, self_hash) refl
 
-pub range_of_one : (few : ℕ) (t : Trail) → 0 < few → own t ≡ own t_7 → IsRange t 0 1 only_hash.0 few
+range_of_one : (few : ℕ) (t : Trail) → 0 < few → own t ≡ own t_7 → IsRange t 0 1 only_hash.0 few
 range_of_one few t some e = record { basic = refl; part = only_header ∷ []; tip = ap (λ (c : Chain). back_to only_hash.0 c) e ∙ back_only; low = omega arith; high = omega arith; bound = omega (arith, some) }
 
 -- of one with this chain that claims nothing
@@ -637,7 +665,7 @@ only_claim = claim_of (record { 0 = only_filter_hash }) (record { 0 = genesis_fi
 claims_9 : claims t_9 ≡ with_claim only_hash.0 only_claim no_claims
 claims_9 = ap (λ r. claims_after its_claims r no_claims) request_8 ∙ rw self_hash refl
 
-claim_found : claims t_9 only_hash.0 ≡ Some only_claim
+pub claim_found : claims t_9 only_hash.0 ≡ Some only_claim
 claim_found = ap (λ (c : Table). c only_hash.0) claims_9 ∙ rw self_hash refl
 
 pub request_9 : request t_9 ≡ NothingOpen
@@ -652,17 +680,22 @@ claims_fine = ap (λ r. claims_fault 0 only_hash.0 genesis_filter_header (record
 clean_9 : verdict t_9 ≡ None
 clean_9 = ap (λ x. first x (fault_of its_claims t_8)) clean_7 ∙ claims_fine
 
-pub may_ask_filter : MayAsk t_9 ask_filter
+-- of one with this chain that claims a filter of its block
+pub may_ask_filter_of : (t : Trail) (claim : Claim) → IsFree t → own t ≡ own t_7 → claims t only_hash.0 ≡ Some claim → MayAsk t ask_filter
 unfolding range_of_one
-may_ask_filter = (
-  record { on = refl; over = refl; idle = request_9; answered = sym (same_use t_9 refl clean_9).owing },
-  (range_of_one 1000 t_9 (omega arith) refl, λ block i. elim i [ inl e ↦ (only_claim, ap (λ (x : List ℕ). claims t_9 x) e ∙ claim_found) | inr none ↦ absurd none ]),
+may_ask_filter_of t claim free e claimed = (
+  free,
+  (range_of_one 1000 t (omega arith) e, λ block i. elim i [ inl is ↦ (claim, ap (λ (x : List ℕ). claims t x) is ∙ claimed) | inr none ↦ absurd none ]),
 )
+
+pub may_ask_filter : MayAsk t_9 ask_filter
+may_ask_filter =
+    may_ask_filter_of t_9 only_claim (record { on = refl; over = refl; idle = request_9; answered = sym (same_use t_9 refl clean_9).owing }) refl claim_found
 
 pub request_10 : request t_10 ≡ FiltersOpen (only_hash.0 ∷ []) []
 request_10 = ap (λ o. filters_asked 1 o) back_only
 
-hash_same : same only_filter_hash (filter_hash_of only_filter) ≡ true
+pub hash_same : same only_filter_hash (filter_hash_of only_filter) ≡ true
 hash_same = same_from only_filter_hash (filter_hash_of only_filter) (sym only_filter_hash_is)
 
 filter_fine : fault_of its_filter t_10 ≡ None
@@ -785,7 +818,7 @@ is_right = (
 pub only_wanted : is_wanted only_block only_hash.0 ≡ true
 only_wanted = same_self (block_hash_of only_header)
 
-clean_13 : verdict t_13 ≡ None
+pub clean_13 : verdict t_13 ≡ None
 clean_13 = ap (λ x. first x (block_fault only_block (BlockOpen only_hash.0))) clean_11 ∙ rw (only_wanted, committed_is only_block committed) refl
 
 heard_out_7 : heard t_7 ≡ true
@@ -816,6 +849,26 @@ counts_of t on clean chain whole shown claimed = let u = same_use t on clean in 
 
 pub counts_13 : Counts t_13
 counts_13 = counts_of t_13 refl clean_13 refl (still_true (heard t_11) heard_out_11) refl refl
+
+-- once it was asked for its filter a second time
+pub may_ask_again : MayAsk t_13 ask_filter
+may_ask_again =
+    may_ask_filter_of t_13 only_claim (record { on = refl; over = refl; idle = rw only_wanted refl; answered = sym (same_use t_13 refl clean_13).owing }) refl claim_found
+
+pub request_14 : request t_14 ≡ FiltersOpen (only_hash.0 ∷ []) []
+request_14 = ap (λ o. filters_asked 1 o) back_only
+
+filter_fine_again : fault_of its_filter t_14 ≡ None
+filter_fine_again = ap (λ r. filter_fault 0 only_hash.0 only_filter r (claims t_9)) request_14 ∙ rw (self_hash, claim_found, hash_same) refl
+
+pub clean_15 : verdict t_15 ≡ None
+clean_15 = ap (λ x. first x (fault_of its_filter t_14)) clean_13 ∙ filter_fine_again
+
+pub request_15 : request t_15 ≡ NothingOpen
+request_15 = ap (λ r. request_after its_filter r) request_14 ∙ rw self_hash refl
+
+pub counts_15 : Counts t_15
+counts_15 = counts_of t_15 refl clean_15 refl (still_true (heard t_13) (still_true (heard t_11) heard_out_11)) refl refl
 
 pub counts_11 : Counts t_11
 counts_11 = counts_of t_11 refl clean_11 refl heard_out_11 refl refl
@@ -953,6 +1006,19 @@ other_long = let e = ap (λ (c : Chain). length c) same_other.chain in omega (ar
 pub nobody_below : (log : Log) (q : ℕ) → connected (trail log 0) ≡ false → q < 1 → IsConnected log q → ⊥
 nobody_below log q off below on = let none : q ≡ 0 = omega (arith, below) in false≢true (sym off ∙ subst (λ (k : ℕ). connected (trail log k) ≡ true) none on)
 
+-- where one peer alone claims anything nobody differs
+pub claims_alike : (t : Trail) (log : Log) (block : Hash) → ((p : ℕ) (hash : Hash32) → Claims log p block hash → hash_claimed (claims (counted t)) block ≡ Some hash) → IsDisputed log block → ⊥
+claims_alike t log block alone d = d.apart (one_hash (hash_claimed (claims (counted t)) block) (alone d.one d.mine d.claims.0) (alone d.other d.yours d.claims.1)) where
+  one_hash : (o : Option Hash32) {a b : Hash32} → o ≡ Some a → o ≡ Some b → a ≡ b
+  one_hash o {a} {b} x y = (let both : Some a ≡ Some b = sym x ∙ y in cc)
+
+pub other_claims_nothing : (block : Hash) (hash : Hash32) → hash_claimed (claims (counted u_7)) block ≡ Some hash → ⊥
+other_claims_nothing block hash e = (let none : None ≡ Some hash = sym (ap (λ (c : Table). hash_claimed c block) same_other.claiming) ∙ e in cc none)
+
+no_dispute : (block : Hash) → IsDisputed run_of_two block → ⊥
+no_dispute block = claims_alike t_13 run_of_two block (λ p hash.
+    of_each (λ t. hash_claimed (claims (counted t)) block ≡ Some hash → hash_claimed (claims (counted t_13)) block ≡ Some hash) p (λ e. e) (λ e. absurd (other_claims_nothing block hash e)) (λ e. cc e))
+
 pub has_asked : (watch : List (List ℕ)) → IsWatch watch → HasAsked watch 1 only_hash (scan_of chain_of_one watch) run_of_two
 has_asked watch fits = record {
   watchable = fits;
@@ -979,5 +1045,6 @@ has_asked watch fits = record {
     heard_out = of_each (λ t. connected t ≡ true → heard (counted t) ≡ true) p (λ is1. counts_13.heard_out) (λ is1. same_other.hearing) (λ is1. absurd (false≢true is1)) on;
     claimed = of_each ClaimsIt p (claims_it t_13 only_claim counts_13.claimed counts_13.chain) other_claims nobody_claims;
     settled = λ h one le above no_filter no_block. inl (settled (hash_at (own (counted_part run_of_two p)) h) (inl (of_each SharesIt p (shares_it t_13 counts_13.chain) other_shares nobody_shares h one le)));
+    tested = λ h one le above got disputed hash claims_it. absurd (no_dispute (hash_at (own (counted_part run_of_two p)) h) disputed);
   };
 }

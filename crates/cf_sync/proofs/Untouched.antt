@@ -182,7 +182,7 @@ contained x (y ∷ xs) (inr i) = let w = contained x xs i in (suc w.0, omega (ar
 same_script : (x y : List ℕ) → pointwise nat_eq x y ≡ true → x ≡ y
 same_script x y e = slice_cmp-IsAntisymmetric nat_cmp-IsAntisymmetric x y (is_equal (slice_cmp nat_cmp x y) (sym (texts_ties x y) ∙ e))
 
-few_items : (coins : CoinMap) (b : Block) → IsBlock b → length (items_of b (prevouts coins b)) ≤ 33554432
+pub few_items : (coins : CoinMap) (b : Block) → IsBlock b → length (items_of b (prevouts coins b)) ≤ 33554432
 few_items coins b is = let a = items_few b (prevouts coins b) in let c = block_few coins b is in omega (arith, a, c)
 
 watch_has : (watch : List (List ℕ)) (x : List ℕ) → is_watched watch x ≡ true → Contains watch x

@@ -1,7 +1,7 @@
 -- What is to be asked next, by all that a log holds.
 use Rattle.std.specs.Prelude.{◌≡◌, ℕ, true, List, [], ◌∷◌}
 use Rattle.cf_dispute.specs.Claims.{Tables}
-use Rattle.cf_headers.specs.Chain.{Chain}
+use Rattle.cf_headers.specs.Chain.{Hash, Chain}
 use Rattle.cf_headers.specs.Heights.{common_of}
 use Rattle.cf_match.specs.Verdicts.{Verdicts}
 use Rattle.cf_msg.specs.declared.msg.Msg.{Msg}
@@ -10,24 +10,27 @@ use Rattle.cf_peer.specs.Asking.{block_entry}
 use Rattle.cf_wires.specs.Log.{Log}
 use Rattle.cf_peer.specs.Trail.{trail, own, heard}
 use Rattle.cf_sync.specs.Fetching.{IsBest, IsNeeded, HoldsFetched}
-use Rattle.cf_sync.specs.Kept.{HoldsClaims, HoldsGiven, HoldsOpens}
+use Rattle.cf_sync.specs.Kept.{AreListed, HoldsClaims, HoldsGiven, HoldsOpens, HoldsTests}
 use Rattle.cf_seek.specs.declared.spans.Wish.{Wish}
-use Rattle.cf_seek.specs.declared.spans.Wish.TheVariants.{Claims, Filters, Block}
+use Rattle.cf_seek.specs.declared.spans.Wish.TheVariants.{Claims, Filters, Block, Test}
 use Rattle.cf_seek.specs.Opens.{Opens}
 use Rattle.cf_seek.specs.Spans.{IsWish, GoesFar}
 use Rattle.cf_seek.specs.Tables.{Table}
+use Rattle.cf_seek.specs.Testing.{IsTrying, Told}
 
 -- a message puts a question
 abbrev pub Puts : Wish → Msg → Type 0
 Puts (Claims span) (GetCfheaders filter start stop) = (start ≡ span.start) × (stop ≡ span.stop)
 Puts (Filters span) (GetCfilters filter start stop) = (start ≡ span.start) × (stop ≡ span.stop)
 Puts (Block hash) (GetData entries) = entries ≡ block_entry hash ∷ []
+Puts (Test trial) (GetCfilters filter start stop) = (start ≡ trial.height) × (stop ≡ trial.block)
 Puts wish m = ⊥
 
 -- It is p's turn to be asked this. It was heard out; and of the blocks that its own chain shares with the best one, by what was fetched, claimed
 -- and given, and by what is open, the question is for the claims from the lowest that it doesn't claim; where it claims all, for the filters from
--- the lowest that isn't judged and is open to nobody; and where there is none of these, for the lowest block that is to be fetched and is open to
--- nobody. It goes as far as it may.
+-- the lowest that isn't judged and is open to nobody; where there is none of these, for the lowest block that is to be fetched and is open to
+-- nobody; and where there is none of these either, for the filter of the lowest fetched block on which they differ and of which what it claims wasn't
+-- tested. It goes as far as it may.
 pub record IsInTurn (watch : List (List ℕ)) (log : Log) (p : ℕ) (m : Msg) : Type 0 where
   pub heard_out : heard (trail log p) ≡ true
   pub chain : Chain
@@ -44,6 +47,11 @@ pub record IsInTurn (watch : List (List ℕ)) (log : Log) (p : ℕ) (m : Msg) : 
   pub wished : IsWish extracts tables verdicts opens p (own (trail log p)) (common_of (own (trail log p)) chain) wish
   pub far : GoesFar extracts tables verdicts opens p (own (trail log p)) (common_of (own (trail log p)) chain) wish
   pub puts : Puts wish m
+  pub told : Told
+  pub tested : HoldsTests log told
+  pub listed : List Hash
+  pub disputes : AreListed log listed
+  pub tries : IsTrying extracts tables told p (own (trail log p)) (common_of (own (trail log p)) chain) listed wish
 
 -- what a client is to ask for that stands for this log, and when: each question about blocks in its turn
 abbrev pub IsCalledFor : List (List ℕ) → Log → ℕ → Msg → Type 0

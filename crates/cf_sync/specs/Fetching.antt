@@ -1,5 +1,5 @@
--- What a log says of blocks: which were fetched, what is claimed of them and which filters were given, which chain is the best, and the history over its fetched blocks.
-use Rattle.std.specs.Prelude.{◌≡◌, ◌≢◌, ◌⊎◌, ℕ, ◌≤◌, ◌<◌, Bool, true, false, List, [], ◌∷◌, ◌++◌, map, length, reverse, Option, Some, None}
+-- What a log says of blocks: which were fetched, what is claimed of them, which filters were given and tested, which chain is the best, and the history over its fetched blocks.
+use Rattle.std.specs.Prelude.{◌≡◌, ◌≢◌, ◌⊎◌, ℕ, ◌≤◌, ◌<◌, ◌==◌, Bool, true, false, List, [], ◌∷◌, ◌++◌, map, length, reverse, Option, Some, None}
 use Rattle.cf_bytes.specs.declared.hash.Hash32.{Hash32}
 use Rattle.cf_block.specs.declared.header.Header.{Header}
 use Rattle.cf_block.specs.declared.tx.Block.{Block}
@@ -17,6 +17,7 @@ use Rattle.cf_wires.specs.declared.event.Delivery.TheVariants.{Got, Gone, Tick, 
 use Rattle.cf_wires.specs.declared.event.Event.{Event}
 use Rattle.cf_wires.specs.declared.event.Event.TheVariants.{Dialled, NotDialled, Sent, SendFailed, Closed, Took}
 use Rattle.cf_peer.specs.declared.peer.Cause.{Cause}
+use Rattle.cf_peer.specs.declared.peer.Cause.TheVariants.{Omits}
 use Rattle.cf_wires.specs.Log.{Log}
 use Rattle.cf_peer.specs.Trail.{Trail, trail, spelled, connected, own, heard}
 use Rattle.cf_scan.specs.declared.extracts.TxExtract.{TxExtract}
@@ -24,6 +25,7 @@ use Rattle.cf_scan.specs.declared.history.Entry.{Entry}
 use Rattle.cf_scan.specs.Extracts.{extract_of}
 use Rattle.cf_scan.specs.Scan.{scan_of}
 use Rattle.cf_seek.specs.Tables.{Table}
+use Rattle.cf_filter.specs.Lacking.{output_items_of, lacks}
 use Rattle.cf_peer.specs.Asking.{OpenRequest, NothingOpen, HeadersOpen, ClaimsOpen, FiltersOpen, BlockOpen, request, is_open, counted, claims, hash_claimed, HasHeader, fetched, given, blocks_from, Deserves, MayAsk}
 
 -- ---- peers
@@ -153,6 +155,75 @@ IsFilterWanted log p block =
 abbrev pub IsBlockWanted : List (List ℕ) → Log → Hash → Type 0
 IsBlockWanted watch log block = (IsFetchedHash log block → ⊥) × (IsDisputed log block ⊎ IsJudged watch log block false)
 
+-- ---- filters that were tested
+
+-- a message asks for filters, where this block was fetched; any other leaves it as it was
+abbrev pub test_after : Bool → Option Msg → Log → Hash → Type 0 → Type 0
+test_after false m log block before = before
+test_after true None log block before = before
+test_after true (Some (GetCfilters filter start stop)) log block before = IsFetchedHash log block
+test_after true (Some m) log block before = before
+
+-- the filters that the peer was asked for last were asked for after this block was fetched: so that of the block is to be tested
+abbrev pub IsTest : Log → ℕ → Hash → Type 0
+IsTest [] p block = ⊥
+IsTest (Sent q bytes ∷ log) p block = test_after (q.0 == p) (spelled bytes) log block (IsTest log p block)
+IsTest (Dialled q name ∷ log) p block = IsTest log p block
+IsTest (NotDialled q name ∷ log) p block = IsTest log p block
+IsTest (SendFailed q ∷ log) p block = IsTest log p block
+IsTest (Closed q ∷ log) p block = IsTest log p block
+IsTest (Took d ∷ log) p block = IsTest log p block
+
+-- with the newest entry this filter came, the last of a whole answer of the peer or one before it
+pub record IsNew (e : Event) (log : Log) (p : ℕ) (job : Job) : Type 0 where
+  pub news : List Job
+  pub joined : given (counted_part (e ∷ log) p) ≡ news ++ given (counted_part log p)
+  pub among : IsIn job news
+
+-- a filter came in the whole answer to a question that was asked after its block was fetched
+abbrev pub IsTested : Log → Job → Type 0
+IsTested [] job = ⊥
+IsTested (Took (Got q piece) ∷ log) job = (IsTest log q.0 job.block.0 × IsNew (Took (Got q piece)) log q.0 job) ⊎ IsTested log job
+IsTested (Took (Gone q) ∷ log) job = IsTested log job
+IsTested (Took (Tick s) ∷ log) job = IsTested log job
+IsTested (Took Ended ∷ log) job = IsTested log job
+IsTested (Dialled q name ∷ log) job = IsTested log job
+IsTested (NotDialled q name ∷ log) job = IsTested log job
+IsTested (Sent q bytes ∷ log) job = IsTested log job
+IsTested (SendFailed q ∷ log) job = IsTested log job
+IsTested (Closed q ∷ log) job = IsTested log job
+
+-- one of this block, with this hash
+pub record IsTestedWith (log : Log) (block : Hash) (hash : Hash32) : Type 0 where
+  pub filter : Job
+  pub tested : IsTested log filter
+  pub of_block : filter.block.0 ≡ block
+  pub this : filter_hash_of filter.filter ≡ hash.0
+
+-- ---- what a peer is blamed for
+
+-- the block was fetched, and the filter is none or lacks an output's item
+pub record IsOmission (log : Log) (block : Hash) (filter : List ℕ) : Type 0 where
+  pub body : Block
+  pub fetched : IsFetched log body
+  pub of_block : block_hash_of body.header ≡ block
+  pub lacking : lacks block (output_items_of body) filter ≡ true
+
+-- a connected peer claims a filter that was tested and omits an output's script
+pub record IsOmitting (log : Log) (p : ℕ) : Type 0 where
+  pub there : IsConnected log p
+  pub block : Hash
+  pub hash : Hash32
+  pub claimed : Claims log p block hash
+  pub tested : IsTestedWith log block hash
+  pub omits : IsOmission log block tested.filter.filter
+
+-- a peer deserves to be closed for a cause: one that its own part gives, or an omission
+abbrev pub DeservesIn : Log → ℕ → Cause → Type 0
+DeservesIn log p cause = Deserves (trail log p) cause ⊎ ((cause ≡ Omits) × IsOmitting log p)
+
+-- ---- what is asked
+
 -- the blocks of a range of a chain, the lowest first
 abbrev pub blocks_in : ℕ → Option Chain → List Hash
 blocks_in start None = []
@@ -185,9 +256,11 @@ IsFilterOpen log block = (q : ℕ) × (IsConnected log q × IsIn block (filters_
 abbrev pub IsBlockOpen : Log → Hash → Type 0
 IsBlockOpen log block = (q : ℕ) × (IsConnected log q × IsIn block (blocks_open (request (trail log q))))
 
--- what is asked of p is open to nobody: no filter of a block whose filter is, and no block that is
+-- what is asked of p is open to nobody: no filter of a block that wasn't fetched and whose filter is, and no block that is. (The filter of a
+-- fetched block is asked for so that it is tested, of each peer by itself.)
 abbrev pub IsAlone : Log → ℕ → Msg → Type 0
-IsAlone log p (GetCfilters filter start stop) = (block : Hash) → IsIn block (blocks_in start (back_to stop.0 (own (trail log p)))) → IsFilterOpen log block → ⊥
+IsAlone log p (GetCfilters filter start stop) =
+    (block : Hash) → IsIn block (blocks_in start (back_to stop.0 (own (trail log p)))) → (IsFetchedHash log block → ⊥) → IsFilterOpen log block → ⊥
 IsAlone log p (GetData entries) = (entry : Wanted) → IsIn entry entries → IsBlockOpen log entry.hash.0 → ⊥
 IsAlone log p m = Unit {0}
 
@@ -197,10 +270,29 @@ pub record MaySend (log : Log) (p : ℕ) (m : Msg) : Type 0 where
   pub wanted : IsWanted log m
   pub alone : IsAlone log p m
 
--- What a client is to ask for that stands for this log: filters that are wanted of p, and blocks that are wanted. It depends on who is
--- connected, so that of a log with a failed send that the client isn't told of yet it need not hold.
+-- the filters of all blocks of a range are wanted of p
+abbrev pub AreFiltersWanted : Log → ℕ → ℕ → Hash → Type 0
+AreFiltersWanted log p start stop = (block : Hash) → IsIn block (blocks_in start (back_to stop (own (trail log p)))) → IsFilterWanted log p block
+
+-- a fetched block on whose filter the connected peers differ, where what p claims of it wasn't tested
+pub record IsTestWanted (log : Log) (p : ℕ) (block : Hash) : Type 0 where
+  pub fetched : IsFetchedHash log block
+  pub disputed : IsDisputed log block
+  pub hash : Hash32
+  pub claimed : Claims log p block hash
+  pub untested : IsTestedWith log block hash → ⊥
+
+-- the filter of one block is asked for, of the one at the stop
+pub record IsTestOf (log : Log) (p start : ℕ) (stop : Hash) : Type 0 where
+  pub part : Chain
+  pub tip : back_to stop (own (trail log p)) ≡ Some part
+  pub one : start ≡ length part
+  pub wanted : IsTestWanted log p stop
+
+-- What a client is to ask for that stands for this log: filters that are wanted of p, or one that is to be tested; and blocks that are wanted. It
+-- depends on who is connected, so that of a log with a failed send that the client isn't told of yet it need not hold.
 abbrev pub IsNeeded : List (List ℕ) → Log → ℕ → Msg → Type 0
-IsNeeded watch log p (GetCfilters filter start stop) = (block : Hash) → IsIn block (blocks_in start (back_to stop.0 (own (trail log p)))) → IsFilterWanted log p block
+IsNeeded watch log p (GetCfilters filter start stop) = AreFiltersWanted log p start stop.0 ⊎ IsTestOf log p start stop.0
 IsNeeded watch log p (GetData entries) = (entry : Wanted) → IsIn entry entries → IsBlockWanted watch log entry.hash.0
 IsNeeded watch log p m = Unit {0}
 
@@ -212,7 +304,7 @@ Rightly (Dialled p name ∷ log) = Rightly log
 Rightly (NotDialled p name ∷ log) = Rightly log
 Rightly (Sent p bytes ∷ log) = ((m : Msg) × (spelled bytes ≡ Some m) × MaySend log p.0 m) × Rightly log
 Rightly (SendFailed p ∷ log) = Rightly log
-Rightly (Closed p ∷ log) = ((cause : Cause) × Deserves (trail log p.0) cause) × Rightly log
+Rightly (Closed p ∷ log) = ((cause : Cause) × DeservesIn log p.0 cause) × Rightly log
 Rightly (Took d ∷ log) = IsBusy log × Rightly log
 
 -- ---- the best chain
@@ -232,8 +324,17 @@ pub record IsBest (log : Log) (chain : Chain) : Type 0 where
 abbrev pub IsAbove : Hash → Type 0
 IsAbove block = block ≡ block_hash_of genesis_header → ⊥
 
+-- What the rule of asking leaves true of a connected peer with nothing open to it: of the blocks that its own chain shares with a chain, where one was fetched and
+-- they differ on its filter, what the peer claims of it was tested. (A block with genesis's hash would never be asked about. Where no hashes clash there is none.)
+abbrev pub IsTestedThrough : Log → Chain → ℕ → Type 0
+IsTestedThrough log chain p =
+    (h : ℕ) → 1 ≤ h → h ≤ common_of (own (counted_part log p)) chain → IsAbove (hash_at (own (counted_part log p)) h)
+    → IsFetchedHash log (hash_at (own (counted_part log p)) h) → IsDisputed log (hash_at (own (counted_part log p)) h)
+    → (hash : Hash32) → Claims log p (hash_at (own (counted_part log p)) h) hash → IsTestedWith log (hash_at (own (counted_part log p)) h) hash
+
 -- What the rule of asking leaves true of a connected peer with nothing open to it: it was heard out; of the blocks that its own chain shares
--- with the best one the filter header is known at each; and each of them that stands in no open request for filters or for a block is settled.
+-- with the best one the filter header is known at each; each of them that stands in no open request for filters or for a block is settled; and where one
+-- was fetched and they differ on its filter, what the peer claims of it was tested.
 -- (A block with genesis's hash would never be asked about. Where no hashes clash there is none.)
 pub record IsAskedOut (watch : List (List ℕ)) (log : Log) (chain : Chain) (p : ℕ) : Type 0 where
   pub heard_out : heard (counted_part log p) ≡ true
@@ -241,6 +342,7 @@ pub record IsAskedOut (watch : List (List ℕ)) (log : Log) (chain : Chain) (p :
   pub settled : (h : ℕ) → 1 ≤ h → h ≤ common_of (own (counted_part log p)) chain → IsAbove (hash_at (own (counted_part log p)) h)
       → (IsFilterOpen log (hash_at (own (counted_part log p)) h) → ⊥) → (IsBlockOpen log (hash_at (own (counted_part log p)) h) → ⊥)
       → IsSettled watch log (hash_at (own (counted_part log p)) h)
+  pub tested : IsTestedThrough log chain p
 
 -- ---- the history
 

@@ -5,7 +5,9 @@ use Rattle.cf_wires.specs.declared.event.Event.TheVariants.{Dialled, NotDialled,
 use Rattle.cf_wires.specs.Log.{Log, tally_of}
 use Rattle.cf_peer.specs.Trail.{Trail, Part, Called, Said, Refused, Asked, Passed, Lost, part_of, trail, spelled, connected, failed}
 use Rattle.cf_peer.specs.Asking.{counted, fetched, given}
-use Rattle.cf_sync.specs.Fetching.{MaySend}
+use Rattle.cf_match.specs.declared.job.Job.{Job}
+use Rattle.cf_headers.specs.Chain.{Hash}
+use Rattle.cf_sync.specs.Fetching.{MaySend, IsTest, IsTested}
 use Rattle.cf_sync.specs.Due.{IsCalledFor}
 
 -- a send to this peer has failed since the last delivery, and the peer wasn't closed for it yet, so the client isn't told
@@ -44,13 +46,20 @@ Alike t u =
     (t ≡ u)
     ⊎ ((connected t.trail ≡ false) × (connected u.trail ≡ false) × (failed t.trail ≡ true) × (failed u.trail ≡ true) × (fetched (counted t.trail) ≡ fetched (counted u.trail)) × (given (counted t.trail) ≡ given (counted u.trail)))
 
+-- a filter is to be tested by the one log as by the other
+abbrev pub IsSameTest : Log → Log → ℕ → Hash → Type 0
+IsSameTest planned log q block = (IsTest planned q block → IsTest log q block) × (IsTest log q block → IsTest planned q block)
+
 -- of a peer whose failed send isn't told its part just before that send, with what was planned on top; of all others the actual part, or one that is alike: cut
--- off by a failed send as well, with the same blocks and filters brought; and as many peers were dialled
+-- off by a failed send as well, with the same blocks and filters brought; and as many peers were dialled; and the same filters were tested, and are to be of those others
 pub record IsPlanned (planned log : Log) : Type 0 where
   pub told : (q : ℕ) → is_untold log q ≡ false → Alike (part_of planned q) (part_of log q)
   pub untold : (q : ℕ) → is_untold log q ≡ true
       → (more : Trail) × (IsMeant more × (part_of planned q ≡ record (part_of (before_failure log q) q) { trail = more ++ trail (before_failure log q) q }))
   pub dials : (tally_of planned).dials ≡ (tally_of log).dials
+  pub tested : (job : Job) → IsTested planned job → IsTested log job
+  pub tests : (job : Job) → IsTested log job → IsTested planned job
+  pub aims : (q : ℕ) → is_untold log q ≡ false → connected (trail log q) ≡ true → (block : Hash) → IsSameTest planned log q block
 
 -- what was sent was wanted and called for by a client that knew of no failure that it wasn't told of yet
 abbrev pub ArePlanned : List (List ℕ) → Log → Type 0

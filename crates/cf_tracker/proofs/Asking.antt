@@ -1,11 +1,11 @@
 -- What is open where memory was lacking.
-use Rattle.std.proofs.Common.{◌≡◌, inr, ℕ, List, [], refl, sym, ◌∙◌}
+use Rattle.std.proofs.Common.{◌≡◌, inr, ℕ, List, [], ◌∷◌, refl, sym, ◌∙◌}
 use Rattle.std.specs.Prelude.{Result, Ok, Err, OnErr}
 use Rattle.cf_bytes.specs.declared.memory.NoMemory.{NoMemory}
 use Rattle.cf_headers.specs.Chain.{Hash}
 use Rattle.cf_dispute.specs.Tables.{blocks_of}
 use Rattle.cf_seek.specs.declared.spans.Wish.{Wish}
-use Rattle.cf_seek.specs.declared.spans.Wish.TheVariants.{Nothing, Claims, Filters, Block}
+use Rattle.cf_seek.specs.declared.spans.Wish.TheVariants.{Nothing, Claims, Filters, Block, Test}
 use Rattle.cf_seek.specs.Opens.{IsSameOpens, Opens, OpensSome}
 use Rattle.cf_seek.specs.Spans.{IsAskedInPart}
 
@@ -31,6 +31,7 @@ none_asked p Nothing opens = unchanged opens
 none_asked p (Claims span) opens = unchanged opens
 none_asked p (Filters span) opens = same_some p (blocks_of span.blocks.items) opens opens (unchanged opens)
 none_asked p (Block hash) opens = unchanged opens
+none_asked p (Test trial) opens = same_some p (trial.block.0 ∷ []) opens opens (unchanged opens)
 
 -- what was asked for in part
 pub some_asked : (p : ℕ) (wish : Wish) (before after : Opens) → IsAskedInPart p wish before after
@@ -39,6 +40,7 @@ some_asked p Nothing before after same = ([], same_some p [] before after same)
 some_asked p (Claims span) before after same = ([], same_some p [] before after same)
 some_asked p (Filters span) before after some = (blocks_of span.blocks.items, some)
 some_asked p (Block hash) before after same = ([], same_some p [] before after same)
+some_asked p (Test trial) before after some = (trial.block.0 ∷ [], some)
 
 -- nothing was sought
 pub none_sought : (p : ℕ) (opens : Opens) → (asked : List Hash) × OpensSome opens opens p asked

@@ -13,7 +13,7 @@ pub returns-clause-moves : goal.returns-clause-moves
 returns-clause-moves g c =
     rw c.in_ok-push.ensures.items
     (cut_moves (desk c.args.tracker.now c.args.places.now c.args.acts.now.items) c.args.p (seen_of c.forget.new.self) c.requires.none (omega arith) c.requires.order
-    (put_forgotten (seen_of c.args.tracker.now) (seen_of c.forget.new.self) c.args.p c.forget.ensures.chains c.forget.ensures.table c.forget.ensures.claims c.forget.ensures.verdicts c.forget.ensures.watch c.forget.ensures.opens))
+    (put_forgotten (seen_of c.args.tracker.now) (seen_of c.forget.new.self) c.args.p c.forget.ensures.chains c.forget.ensures.table c.forget.ensures.claims c.forget.ensures.verdicts c.forget.ensures.watch c.forget.ensures.opens c.forget.ensures.trials))
 
 pub returns-then-i-places-clause-told : goal.returns-then-i-places-clause-told
 returns-then-i-places-clause-told g c = told_none c.args.acts.now.items c.requires.none

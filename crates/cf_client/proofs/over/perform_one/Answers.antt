@@ -13,3 +13,6 @@ returns-in_ok-perform_close-in-Close-clause-versions g c = λ words tells. c.in_
 
 pub returns-in_err-perform_close-in-Close-clause-versions : goal.returns-in_err-perform_close-in-Close-clause-versions
 returns-in_err-perform_close-in-Close-clause-versions g c = λ words tells. c.in_err-perform_close-in-Close.ensures.versions words
+
+pub returns-in_ok-perform_close-in-Close-clause-doing : goal.returns-in_ok-perform_close-in-Close-clause-doing
+returns-in_ok-perform_close-in-Close-clause-doing g c = rw c.in-Close.is (c.in_ok-perform_close-in-Close.ensures.doing)

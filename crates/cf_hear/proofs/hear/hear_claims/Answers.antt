@@ -1,21 +1,24 @@
-use Rattle.std.proofs.Common.{◌∷◌, Some, None, Err, refl, sym, subst}
+use Rattle.std.proofs.Common.{◌∷◌, Some, None, Err, refl, sym, ◌∙◌, ap, subst}
 use Rattle.std.specs.Prelude.{length}
 use Rattle.cf_bytes.specs.declared.memory.Refused.{Refused}
 use Rattle.cf_dispute.specs.declared.claim.ClaimFault.{ClaimFault}
 use Rattle.cf_dispute.specs.Claims.{header_at, first_header}
-use Rattle.cf_dispute.specs.Tables.{GivesFault, claim_fault}
+use Rattle.cf_dispute.specs.Tables.{GivesFault, blocks_of, claim_fault}
 use Rattle.cf_msg.specs.declared.msg.Msg.TheVariants.{Cfheaders}
 use Rattle.cf_peer.specs.declared.peer.Peer.{Peer}
 use Rattle.cf_peer.specs.declared.peer.Request.{Request}
 use Rattle.cf_peer.specs.Asking.{verdict}
 use Rattle.cf_peer.specs.Trail.{Said}
-use Rattle.cf_peer.specs.Peer.{IsRight, TakesClaims}
+use Rattle.cf_peer.specs.Peer.{IsRight, TakesClaims, is_idle_peer}
 use Rattle.cf_peer.proofs.Claiming.{answer_fault, answer_holds}
 use Rattle.cf_tracker.specs.Tracker.{claims_of}
-use Rattle.cf_seek.proofs.Marked.{all_same}
+use Rattle.cf_seek.proofs.Marked.{all_same, claims_out}
 use Rattle.cf_hear.specs.Seen.{seen_of}
-use Rattle.cf_hear.proofs.Hearing.{claims_hears, same_run, same_fault, cause_is}
+use Rattle.cf_peer.proofs.Peers.{idle_request}
+use Rattle.cf_hear.proofs.Exposing.{exposes_claims, unexposed_on}
+use Rattle.cf_hear.proofs.Hearing.{claims_hears, may_expose, same_run, same_fault, cause_is}
 use Rattle.cf_hear.proofs.Opening.{opens_self}
+use Rattle.cf_hear.proofs.Trying.{trials_self}
 use Rattle.cf_hear.proofs.hear.hear_claims.Goals as goal
 
 pub returns-in_default-clause-heard : goal.returns-in_default-clause-heard
@@ -23,7 +26,7 @@ returns-in_default-clause-heard g c = λ t holds f.
     let seen = seen_of c.args.tracker.now in
     claims_hears seen seen c.args.p c.take_range.new.self c.args.filter c.args.stop.now c.args.previous.now c.args.hashes.now t
     (c.in_default.ensures.took.1 c.args.previous.now c.args.hashes.now t (claims_of c.args.tracker.now c.args.p.0) holds f.claims) f refl (λ q. refl) (λ q ne block. refl) (λ hash. refl) (λ block hash. refl)
-    (opens_self seen.opens)
+    (opens_self seen.opens) (trials_self seen.trials)
 
 pub returns-in-Ok-clause-heard : goal.returns-in-Ok-clause-heard
 returns-in-Ok-clause-heard g c = λ t holds f.
@@ -35,9 +38,28 @@ returns-in-Ok-clause-heard g c = λ t holds f.
     let after = claims_of c.add_claims.new.self c.args.p.0 in
     let takes = answer_holds c.args.peer.now range took.0.0 c.args.filter c.args.stop.now c.args.previous.now c.args.hashes.now t table after took.0.1 took.1 right.0 none
     (same_run c.args.previous.now c.as_slice.result.now range.blocks c.args.hashes.now table after c.as_slice.ensures c.in-Ok.ensures.ok) holds f.claims in
-    claims_hears (seen_of c.args.tracker.now) (seen_of c.add_claims.new.self) c.args.p c.take_range.new.self c.args.filter c.args.stop.now c.args.previous.now c.args.hashes.now t
-    (subst (λ (x : Peer). TakesClaims x after (Cfheaders c.args.filter c.args.stop.now c.args.previous.now c.args.hashes.now) t None) (sym took.2) takes)
-    f c.in-Ok.ensures.watch c.in-Ok.ensures.chains c.in-Ok.ensures.others (λ hash. sym (c.in-Ok.ensures.table hash)) c.in-Ok.ensures.verdicts c.in-Ok.ensures.opens
+    let m = Cfheaders c.args.filter c.args.stop.now c.args.previous.now c.args.hashes.now in
+    let mine = subst (λ (x : Peer). TakesClaims x after m t None) (sym took.2) takes in
+    may_expose (seen_of c.args.tracker.now) (seen_of c.add_claims.new.self) c.args.p c.take_range.new.self m t (blocks_of c.as_slice.result.now) c.reply_after.result
+    (idle_request c.take_range.new.self (Said m ∷ t) mine.0 (ap is_idle_peer took.2)).1 c.reply_after.ensures.exposed
+    (claims_hears (seen_of c.args.tracker.now) (seen_of c.add_claims.new.self) c.args.p c.take_range.new.self c.args.filter c.args.stop.now c.args.previous.now c.args.hashes.now t
+    mine f c.in-Ok.ensures.watch c.in-Ok.ensures.chains c.in-Ok.ensures.others (λ hash. sym (c.in-Ok.ensures.table hash)) c.in-Ok.ensures.verdicts c.in-Ok.ensures.opens
+    c.in-Ok.ensures.trials)
+
+pub returns-in-Ok-clause-exposes : goal.returns-in-Ok-clause-exposes
+returns-in-Ok-clause-exposes g c = λ t holds f.
+    let blocks = c.as_slice.result.now in
+    exposes_claims (seen_of c.args.tracker.now) (seen_of c.add_claims.new.self) c.args.p.0 (blocks_of blocks) c.reply_after.result c.in-Ok.ensures.others
+    (λ block out. c.in-Ok.ensures.ok block ∙ claims_out c.args.previous.now (blocks_of blocks) c.args.hashes.now (claims_of c.args.tracker.now c.args.p.0) block out)
+    c.in-Ok.ensures.trials.told c.reply_after.ensures.exposed
+
+pub returns-in_default-clause-exposes : goal.returns-in_default-clause-exposes
+returns-in_default-clause-exposes g c = λ t holds f none. none
+
+pub returns-in-Err-No-clause-exposes : goal.returns-in-Err-No-clause-exposes
+returns-in-Err-No-clause-exposes g c = λ t holds f.
+    unexposed_on (seen_of c.args.tracker.now) (seen_of c.add_claims.new.self)
+    (all_same (claims_of c.args.tracker.now) (claims_of c.add_claims.new.self) c.args.p.0 c.in-Err-No.ensures.err c.in-Err-No.ensures.others) c.in-Err-No.ensures.trials.told
 
 pub returns-in-Err-No-clause-heard : goal.returns-in-Err-No-clause-heard
 returns-in-Err-No-clause-heard g c = λ t holds f.
@@ -57,5 +79,6 @@ returns-in-Err-No-clause-heard g c = λ t holds f.
         table = λ hash. sym (c.in-Err-No.ensures.table hash);
         verdicts = c.in-Err-No.ensures.verdicts;
         opens = c.in-Err-No.ensures.opens;
+        trials = c.in-Err-No.ensures.trials;
       },
     )

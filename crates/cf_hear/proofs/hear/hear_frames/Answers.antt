@@ -5,9 +5,10 @@ use Rattle.cf_peer.specs.Trail.{heard_part}
 use Rattle.cf_peer.specs.Peer.{IsReplySendable}
 use Rattle.cf_tracker.specs.Tracker.{watch_of}
 use Rattle.cf_hear.specs.Seen.{seen_of}
+use Rattle.cf_hear.specs.Exposing.{ExposesNext}
 use Rattle.cf_hear.specs.Hearing.{HearsNext, Midway}
 use Rattle.cf_hear.specs.Judging.{judging_of}
-use Rattle.cf_hear.proofs.Hearing.{midway_start, midway_quiet, midway_reply, midway_fault, doable_with}
+use Rattle.cf_hear.proofs.Hearing.{midway_start, midway_quiet, midway_reply, midway_fault, midway_exposed, doable_with}
 use Rattle.cf_hear.proofs.Judging.{judged_none, judged_then}
 use Rattle.cf_hear.proofs.hear.hear_frames.Goals as goal
 
@@ -26,6 +27,7 @@ loop-reply-init g c = record {
   claims = λ q ne block. refl;
   watch = refl;
   judged = judged_none g.M.Matcher.judges (watch_of c.args.tracker.now) (judging_of c.args.tracker.now c.args.matcher.now);
+  unexposed = λ part holds waits f none. none;
   quiet = λ is. is;
 }
 
@@ -48,6 +50,10 @@ loop-reply-preserved-in-Nothing g c = record {
   judged = judged_then g.M.Matcher.judges (watch_of c.args.tracker.now) (watch_of c.loop-reply.tracker) (judging_of c.args.tracker.now c.args.matcher.now)
       (judging_of c.loop-reply.tracker c.loop-reply.matcher) (judging_of c.hear_next.new.tracker c.hear_next.new.matcher)
       c.loop-reply.invariant.judged c.loop-reply.invariant.watch c.in_ok-reply.ensures.judged;
+  unexposed = λ part holds waits f none.
+      let midway = c.loop-reply.invariant.midway part holds waits f in
+      subst (λ (o : Option Reply). ExposesNext (seen_of c.hear_next.new.tracker) c.args.p.0 o) (c.in-Some.is ∙ ap Some c.in-Nothing.is)
+      (c.in_ok-reply.ensures.exposes midway.so_far midway.holds midway.gains.follows (c.loop-reply.invariant.unexposed part holds waits f none));
   quiet = λ is. c.in_ok-reply.ensures.calm (c.loop-reply.invariant.quiet is);
 }
 
@@ -71,6 +77,10 @@ loop-reply-preserved g c = record {
   judged = judged_then g.M.Matcher.judges (watch_of c.args.tracker.now) (watch_of c.loop-reply.tracker) (judging_of c.args.tracker.now c.args.matcher.now)
       (judging_of c.loop-reply.tracker c.loop-reply.matcher) (judging_of c.hear_next.new.tracker c.hear_next.new.matcher)
       c.loop-reply.invariant.judged c.loop-reply.invariant.watch c.in_ok-reply.ensures.judged;
+  unexposed = λ part holds waits f none.
+      let midway = c.loop-reply.invariant.midway part holds waits f in
+      subst (λ (o : Option Reply). ExposesNext (seen_of c.hear_next.new.tracker) c.args.p.0 o) (c.in-Some.is ∙ ap Some c.in-Send.is)
+      (c.in_ok-reply.ensures.exposes midway.so_far midway.holds midway.gains.follows (c.loop-reply.invariant.unexposed part holds waits f none));
   quiet = λ is. c.in_ok-reply.ensures.calm (c.loop-reply.invariant.quiet is);
 }
 
@@ -82,6 +92,40 @@ returns-in-Close-clause-heard g c = λ part holds waits f.
     (c.loop-reply.framer ++ c.loop-reply.rest) (c.hear_next.new.framer ++ c.hear_next.new.piece) c.hear_next.new.peer midway.so_far o) (c.in-Some.is ∙ ap Some c.in-Close.is) answer in
     midway_fault c.args.p c.loop-reply.peer (c.loop-reply.framer ++ c.loop-reply.rest) (seen_of c.args.tracker.now) (seen_of c.loop-reply.tracker) (seen_of c.hear_next.new.tracker)
     c.args.acts.now.items c.loop-reply.acts.items part (heard_part c.args.piece.now part) c.in-Close.cause midway stops
+
+pub returns-in-Close-clause-exposes : goal.returns-in-Close-clause-exposes
+returns-in-Close-clause-exposes g c = λ part holds waits f none.
+    let midway = c.loop-reply.invariant.midway part holds waits f in
+    subst (λ (o : Option Reply). ExposesNext (seen_of c.hear_next.new.tracker) c.args.p.0 o) (c.in-Some.is ∙ ap Some c.in-Close.is)
+    (c.in_ok-reply.ensures.exposes midway.so_far midway.holds midway.gains.follows (c.loop-reply.invariant.unexposed part holds waits f none))
+
+pub returns-in-Expose-clause-heard : goal.returns-in-Expose-clause-heard
+returns-in-Expose-clause-heard g c = λ part holds waits f.
+    let midway = c.loop-reply.invariant.midway part holds waits f in
+    let answer = c.in_ok-reply.ensures.heard midway.so_far midway.holds midway.gains.follows in
+    let reveals = subst (λ (o : Option Reply). HearsNext (seen_of c.loop-reply.tracker) (seen_of c.hear_next.new.tracker) c.args.p
+    (c.loop-reply.framer ++ c.loop-reply.rest) (c.hear_next.new.framer ++ c.hear_next.new.piece) c.hear_next.new.peer midway.so_far o) (c.in-Some.is ∙ ap Some c.in-Expose.is) answer in
+    midway_exposed c.args.p c.loop-reply.peer c.hear_next.new.peer (c.loop-reply.framer ++ c.loop-reply.rest) (c.hear_next.new.framer ++ c.hear_next.new.piece)
+    (seen_of c.args.tracker.now) (seen_of c.loop-reply.tracker) (seen_of c.hear_next.new.tracker)
+    c.args.acts.now.items c.loop-reply.acts.items part (heard_part c.args.piece.now part) c.in-Expose.block.0 c.in-Expose.filter.0 midway reveals
+
+pub returns-in-Expose-clause-exposes : goal.returns-in-Expose-clause-exposes
+returns-in-Expose-clause-exposes g c = λ part holds waits f none.
+    let midway = c.loop-reply.invariant.midway part holds waits f in
+    subst (λ (o : Option Reply). ExposesNext (seen_of c.hear_next.new.tracker) c.args.p.0 o) (c.in-Some.is ∙ ap Some c.in-Expose.is)
+    (c.in_ok-reply.ensures.exposes midway.so_far midway.holds midway.gains.follows (c.loop-reply.invariant.unexposed part holds waits f none))
+
+pub returns-in-Expose-clause-judged : goal.returns-in-Expose-clause-judged
+returns-in-Expose-clause-judged g c =
+    judged_then g.M.Matcher.judges (watch_of c.args.tracker.now) (watch_of c.loop-reply.tracker) (judging_of c.args.tracker.now c.args.matcher.now)
+    (judging_of c.loop-reply.tracker c.loop-reply.matcher) (judging_of c.hear_next.new.tracker c.hear_next.new.matcher)
+    c.loop-reply.invariant.judged c.loop-reply.invariant.watch c.in_ok-reply.ensures.judged
+
+pub returns-clause-exposes : goal.returns-clause-exposes
+returns-clause-exposes g c = λ part holds waits f none.
+    let midway = c.loop-reply.invariant.midway part holds waits f in
+    subst (λ (o : Option Reply). ExposesNext (seen_of c.hear_next.new.tracker) c.args.p.0 o) c.in_default.is
+    (c.in_ok-reply.ensures.exposes midway.so_far midway.holds midway.gains.follows (c.loop-reply.invariant.unexposed part holds waits f none))
 
 pub returns-in-Close-clause-judged : goal.returns-in-Close-clause-judged
 returns-in-Close-clause-judged g c =

@@ -8,6 +8,7 @@ use Rattle.cf_peer.specs.Peer.{is_ready_peer}
 use Rattle.cf_peer.specs.Trail.{own, ready}
 use Rattle.cf_peer.proofs.Peers.{ready_is}
 use Rattle.cf_hear.specs.Seen.{seen_of}
+use Rattle.cf_hear.proofs.Exposing.{unexposed_on}
 use Rattle.cf_hear.proofs.Hearing.{early_hears, headers_end, headers_hears}
 use Rattle.cf_hear.proofs.hear.hear_headers.Goals as goal
 
@@ -26,7 +27,7 @@ returns-in-None-clause-heard g c = λ t h f.
     let over : ready t ≡ true = sym (ready_is c.args.peer.now t h) ∙ on in
     let mine : own_of before.chains c.args.p ≡ own t = ap (λ (o : Option Chain). unwrap_or o []) f.chain in
     let takes = c.in-None.ensures.heard t hs h refl (kept.answer ∙ ap (λ (own : Chain). change_of (link_height hs own) (accept hs own)) mine) in
-    headers_hears before after c.args.p c.hear_headers.new.self hs t takes over kept.after f kept.watch kept.claims kept.table kept.verdicts kept.opens
+    headers_hears before after c.args.p c.hear_headers.new.self hs t takes over kept.after f kept.watch kept.claims kept.table kept.verdicts kept.opens kept.trials
 
 pub returns-in-Some-clause-heard : goal.returns-in-Some-clause-heard
 returns-in-Some-clause-heard g c = λ t h f.
@@ -39,4 +40,17 @@ returns-in-Some-clause-heard g c = λ t h f.
     let mine : own_of before.chains c.args.p ≡ own t = ap (λ (o : Option Chain). unwrap_or o []) f.chain in
     let gives = c.in-Some.ensures.heard t hs h refl (kept.answer ∙ ap (λ (own : Chain). change_of (link_height hs own) (accept hs own)) mine) in
     headers_end before after c.args.p c.args.peer.now c.hear_headers.new.self hs t c.in-Some.cause h over gives kept.after f
-    kept.watch kept.claims kept.table kept.verdicts kept.opens
+    kept.watch kept.claims kept.table kept.verdicts kept.opens kept.trials
+
+pub returns-then-not-is_ready-clause-exposes : goal.returns-then-not-is_ready-clause-exposes
+returns-then-not-is_ready-clause-exposes g c = λ t h f none. none
+
+pub returns-in-None-clause-exposes : goal.returns-in-None-clause-exposes
+returns-in-None-clause-exposes g c = λ t h f.
+    let kept = c.in_ok-change.ensures in
+    unexposed_on (seen_of c.args.tracker.now) (seen_of c.accept.new.self) kept.claims kept.trials.told
+
+pub returns-in-Some-clause-exposes : goal.returns-in-Some-clause-exposes
+returns-in-Some-clause-exposes g c = λ t h f.
+    let kept = c.in_ok-change.ensures in
+    unexposed_on (seen_of c.args.tracker.now) (seen_of c.accept.new.self) kept.claims kept.trials.told

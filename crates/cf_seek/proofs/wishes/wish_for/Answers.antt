@@ -118,7 +118,7 @@ returns-in-Nothing-clause-wish g c =
     let tables = tables_of c.args.claims.now in
     let verdicts = verdicts_in c.args.judged.now in
     let opens = opens_in c.args.opens.now in
-    subst (IsSought extracts tables verdicts opens c.args.p.0 own c.args.common) c.in-Nothing.is c.requires.wanted
+    c.wish_to_test.ensures.wish verdicts opens (subst (IsSought extracts tables verdicts opens c.args.p.0 own c.args.common) c.in-Nothing.is c.requires.wanted)
 
 pub returns-in_ok-span-in-Claims-clause-wish : goal.returns-in_ok-span-in-Claims-clause-wish
 returns-in_ok-span-in-Claims-clause-wish g c =
@@ -170,3 +170,6 @@ returns-in_ok-span-in-Filters-clause-far g c =
     let opens = opens_in c.args.opens.now in
     let e = c.sought_end-end.ensures in
     far_filters extracts tables verdicts opens c.args.p.0 own c.args.common c.in-Filters.start c.sought_end-end.result c.in_ok-span-in-Filters.span c.in_ok-span-in-Filters.ensures e.all e.last
+
+pub returns-in-Nothing-clause-far : goal.returns-in-Nothing-clause-far
+returns-in-Nothing-clause-far g c = c.wish_to_test.ensures.far (verdicts_in c.args.judged.now) (opens_in c.args.opens.now)

@@ -1,4 +1,4 @@
-use Rattle.cf_sync.proofs.Dispute.{disputed_honest, disputed_apart, disputed_alone, disputed_asked, disputed_quiet, disputed, disputed_cleared, disputed_wanted}
+use Rattle.cf_sync.proofs.Dispute.{disputed_honest, disputed_apart, disputed_alone, disputed_asked, disputed_quiet, disputed, disputed_cleared, disputed_wanted, liar_omits}
 use Rattle.cf_sync.proofs.laws.a_run_in_which_a_dispute_stands.Goals as goal
 
 pub returns-clause-honest : goal.returns-clause-honest
@@ -24,3 +24,6 @@ returns-clause-cleared c = disputed_cleared
 
 pub returns-clause-wanted : goal.returns-clause-wanted
 returns-clause-wanted c = disputed_wanted
+
+pub returns-clause-omits : goal.returns-clause-omits
+returns-clause-omits c = liar_omits

@@ -4,12 +4,13 @@ use Rattle.cf_wires.specs.declared.event.Event.TheVariants.{Dialled}
 use Rattle.cf_peer.specs.Acts.{bytes_of}
 use Rattle.cf_hear.specs.Seen.{seen_of}
 use Rattle.cf_client.proofs.Standing.{called_goes}
+use Rattle.cf_hear.proofs.Exposing.{unexposed_put}
 use Rattle.cf_hear.proofs.Tracking.{none_open, tracks_dialled, tracks_sent, put_entered, none_claimed}
 use Rattle.cf_tracker.specs.Tracker.{claims_of}
 use Rattle.cf_peer.specs.Peer.{called_peer}
 use Rattle.cf_place.specs.declared.place.Place.TheVariants.{Here}
 use Rattle.cf_peer.specs.Trail.{trail}
-use Rattle.cf_client.proofs.Acting.{version_asks}
+use Rattle.cf_client.proofs.Acting.{version_asks, version_only}
 use Rattle.cf_client.proofs.Settled.{settled_called}
 use Rattle.cf_client.proofs.Spelled.{spelled_bytes}
 use Rattle.cf_client.proofs.Standing.{past_nobody}
@@ -22,7 +23,7 @@ invariant_of-self-2-clause-settled g c = λ alive.
     let now = seen_of c.enter.new.self in
     rw (c.in_ok-push-2.ensures.items, c.called.ensures)
     (settled_called c.args.self.now.places.items before now c.args.p c.requires.next
-    (record { chains = c.in_ok-enter.ensures.ok; claims = c.in_ok-enter.ensures.claims; table = c.in_ok-enter.ensures.table; verdicts = c.in_ok-enter.ensures.verdicts; opens = c.in_ok-enter.ensures.opens }) (c.args.self.now.settled c.if-self.false))
+    (record { chains = c.in_ok-enter.ensures.ok; claims = c.in_ok-enter.ensures.claims; table = c.in_ok-enter.ensures.table; verdicts = c.in_ok-enter.ensures.verdicts; opens = c.in_ok-enter.ensures.opens; trials = c.in_ok-enter.ensures.trials }) (c.args.self.now.settled c.if-self.false))
 
 pub invariant_of-self-2-clause-right : goal.invariant_of-self-2-clause-right
 invariant_of-self-2-clause-right g c = λ alive.
@@ -39,15 +40,16 @@ returns-clause-answers g c = λ log reflects.
     let off = past_nobody c.args.self.now.places.items log c.args.p.0 le reflects.places in
     let goes = called_goes c.args.self.now.places.items log c.args.p c.args.name.now m c.requires.next reflects.places c.in_ok-greeting.ensures.greeting in
     let put = put_entered before now c.args.p c.in_ok-enter.ensures.ok c.in_ok-enter.ensures.table c.in_ok-enter.ensures.claims c.in_ok-enter.ensures.verdicts c.in_ok-enter.ensures.watch
-    (none_claimed before log c.args.p.0 off reflects.tracks) c.in_ok-enter.ensures.opens (none_open before log c.args.p.0 off reflects.tracks) in
+    (none_claimed before log c.args.p.0 off reflects.tracks) c.in_ok-enter.ensures.opens (none_open before log c.args.p.0 off reflects.tracks) c.in_ok-enter.ensures.trials in
     let next = Dialled c.args.p c.args.name.now ∷ log in
     let asks = version_asks m (trail next c.args.p.0) c.in_ok-greeting.ensures.greeting.ours in
-    let tracks = tracks_sent now c.args.p (bytes_of m) m next (spelled_bytes m c.in_ok-greeting.ensures.greeting.sendable) asks.0 asks.1 (tracks_dialled before now c.args.p c.args.name.now log put reflects.tracks) in
+    let tracks = tracks_sent now c.args.p (bytes_of m) m next (spelled_bytes m c.in_ok-greeting.ensures.greeting.sendable) asks.0 asks.1 (version_only m c.in_ok-greeting.ensures.greeting.ours) (tracks_dialled before now c.args.p c.args.name.now log put reflects.tracks) in
     record {
       stand = record {
         alive = refl;
         places = rw (c.in_ok-push-2.ensures.items, c.in_ok-push.ensures.items, c.new-acts.ensures.items, c.called.ensures) goes.stand;
         tracks = rw (c.in_ok-push.ensures.items, c.new-acts.ensures.items) tracks;
+        unexposed = unexposed_put before now c.args.p.0 put reflects.unexposed;
       };
       allowed = rw (c.in_ok-push.ensures.items, c.new-acts.ensures.items) goes.allowed;
     }

@@ -1,12 +1,13 @@
-use Rattle.std.proofs.Common.{◌≡◌, List, [], ◌∷◌, ◌++◌, refl, rules, sym, ◌∙◌, ap, subst}
+use Rattle.std.proofs.Common.{◌≡◌, List, [], ◌∷◌, ◌++◌, None, Some, true, refl, rules, sym, ◌∙◌, ap, subst}
 use Rattle.cf_dispute.proofs.Genesis.{first_header_is}
 use Rattle.cf_hear.specs.Seen.{seen_of}
 use Rattle.cf_hear.proofs.Opening.{holds_none}
-use Rattle.cf_tracker.specs.Tracker.{claims_of, opens_of}
+use Rattle.cf_tracker.specs.Tracker.{claims_of, opens_of, trials_of}
 use Rattle.cf_place.specs.declared.place.Place.{Place}
 use Rattle.cf_place.specs.Places.{nobody}
 use Rattle.cf_client.specs.Settled.{AreSettled, AreRight}
 use Rattle.cf_client.proofs.Settled.{settled_first}
+use Rattle.cf_sync.proofs.KeptAims.{trials_start}
 use Rattle.cf_client.proofs.Rights.{right_first}
 use Rattle.cf_client.proofs.client.Client.new.Goals as goal
 
@@ -33,5 +34,7 @@ returns-clause-reflects g c = record {
     fetched = search rules;
     given = search rules;
     opened = holds_none (opens_of c.in_ok-tracker.tracker) c.in_ok-tracker.ensures.filters c.in_ok-tracker.ensures.blocks;
+    trials = trials_start (trials_of c.in_ok-tracker.tracker) c.in_ok-tracker.ensures.paid c.in_ok-tracker.ensures.told;
   };
+  unexposed = λ q at of e. (let no : None ≡ Some true = sym (c.in_ok-tracker.ensures.told at of) ∙ e.found in cc no);
 }

@@ -30,6 +30,7 @@ returns-clause-reflects g c = λ log reflects.
       alive = refl;
       places = rw c.in_ok-push.ensures.items (refused_stand c.args.self.now.places.items log c.args.p c.args.name.now c.requires.next reflects.places);
       tracks = tracks_missed s c.args.p c.args.name.now log off reflects.tracks;
+      unexposed = reflects.unexposed;
     }
 
 pub returns-clause-judged : goal.returns-clause-judged

@@ -41,7 +41,7 @@ returns-clause-answers g c = λ log cut lt reflects is.
     let kept = c.args.self.now.places in
     let here = subst (λ (places : List Place). c.args.p.0 < length places) (sym c.as_mut_slice-places.ensures.value) lt in
     let stand = subst (λ (places : List Place). PlacesStand places log) (sym c.as_mut_slice-places.ensures.value) reflects.places in
-    let start = stands_start c.as_mut_slice-places.result.now (seen_of c.args.self.now.tracker) c.new-acts.result.items log c.new-acts.ensures.items stand reflects.tracks in
+    let start = stands_start c.as_mut_slice-places.result.now (seen_of c.args.self.now.tracker) c.new-acts.result.items log c.new-acts.ensures.items stand reflects.tracks reflects.unexposed in
     let asked = c.in_ok-ask_all.ensures.moves.stands cut cut refl (c.in_ok-cut_off.ensures.moves.stands log cut (here, is) start) in
     let whole = with_items_is kept c.ask_all.new.places
     (omega (arith, c.ask_all.auto.places, c.cut_off.auto.places, c.as_mut_slice-places.ensures.len, ap (λ (places : List Place). length places) c.as_mut_slice-places.ensures.value, kept.ok.0)) in
@@ -50,6 +50,7 @@ returns-clause-answers g c = λ log cut lt reflects is.
         alive = refl;
         places = subst (λ (places : List Place). PlacesStand places (after c.ask_all.new.acts.items cut)) (sym whole) asked.goes.stand;
         tracks = asked.tracks;
+        unexposed = asked.unexposed;
       };
       allowed = asked.goes.allowed;
     }

@@ -1,3 +1,4 @@
+use Rattle.cf_client.proofs.Blaming.{blameless}
 use Rattle.cf_client.proofs.Innocent.{innocent, answered}
 use Rattle.cf_client.proofs.Standing.{state_is}
 use Rattle.cf_client.proofs.client.Client.state.Goals as goal
@@ -7,6 +8,9 @@ returns-clause-state g c = λ log reflects. rw (c.state_of_places.ensures, c.as_
 
 pub returns-clause-nobody : goal.returns-clause-nobody
 returns-clause-nobody g c = λ log reflects. innocent c.args.self.now log reflects
+
+pub returns-clause-blameless : goal.returns-clause-blameless
+returns-clause-blameless g c = λ log reflects right. blameless c.args.self.now log reflects right
 
 pub returns-clause-answered : goal.returns-clause-answered
 returns-clause-answered g c = λ log reflects. answered c.args.self.now log reflects

@@ -11,6 +11,19 @@ invariant_of-self g c =
     let now = c.args.self.now in
     record {
       first = now.first;
+      listed = now.listed;
+      told = c.args.self.now.told;
+      stands = c.args.self.now.stands;
+      marks = opened_marked (g.H.HeaderStore.chain now.store) (table_in now.extracts) (tables_of now.claims) (verdicts_in now.judged) (opens_in now.opens)
+          (opens_in c.ask.new.self) now.cursors (c.ask.ensures.more (c.has_no_block.ensures.yes c.if-not-has_no_block.false)) now.marks;
+    }
+
+pub invariant_of-self-2 : goal.invariant_of-self-2
+invariant_of-self-2 g c =
+    let now = c.args.self.now in
+    record {
+      first = now.first;
+      listed = now.listed;
       told = c.args.self.now.told;
       stands = c.args.self.now.stands;
       marks = opened_marked (g.H.HeaderStore.chain now.store) (table_in now.extracts) (tables_of now.claims) (verdicts_in now.judged) (opens_in now.opens)

@@ -11,6 +11,13 @@ use Rattle.cf_seek.proofs.Opening.{entered_by, opened}
 use Rattle.cf_seek.proofs.Shared.{none_higher}
 use Rattle.cf_tracker.proofs.tracker.Tracker.passed_with.Goals as goal
 
+pub common-common-requires-clause-second : goal.common-common-requires-clause-second
+common-common-requires-clause-second g c =
+    let now = c.args.self.now in
+    let some : 0 < c.of-theirs.result.passed = omega (arith, c.if-theirs-from.false) in
+    entered_by (g.H.HeaderStore.chain now.store) (table_in now.extracts) (tables_of now.claims) (verdicts_in now.judged) (opens_in now.opens)
+    now.cursors c.args.q.0 (inr (subst (λ (m : Marks). 0 < m.passed) c.of-theirs.ensures some)) now.marks
+
 pub returns : goal.returns
 returns g c =
     let chains = g.H.HeaderStore.chain c.args.self.now.store in

@@ -1,0 +1,179 @@
+//! Which filter a peer is to be asked for so that it is tested.
+ghost use Rattle.std.specs.Prelude.{◌≡◌, ℕ, List, true, false, Some, None, IsSome, IfSome, length, ◌≤◌, ◌⊎◌};
+ghost use Rattle.cf_dispute.specs.Of.{tables_of};
+ghost use Rattle.cf_dispute.specs.Tables.{blocks_of};
+ghost use Rattle.cf_headers.specs.Store.{own_of};
+ghost use Rattle.cf_seek.specs.Extracts.{table_in};
+ghost use Rattle.cf_seek.specs.Testing.{IsClaimedAs, IsExposed, IsToTest, IsTrial, IsNextTrial, told_in};
+ghost use Rattle.cf_headers.specs.Chain.{IsIn};
+
+use crate::extracts::Extracts;
+use crate::kind::is_differing;
+use crate::tests::Tests;
+use cf_bytes::{Hash32, PeerNo};
+use cf_dispute::Claims;
+use cf_headers::HeaderStore;
+
+/// A block whose claimed filter is to be tested, and its height.
+#[derive(Clone, Copy, Debug)]
+pub struct Trial {
+    /// The height at which it stands.
+    pub height: u32,
+    /// Its hash.
+    pub block: Hash32,
+}
+
+/// What was exposed: of a block a filter that lacks what the block pays.
+#[derive(Clone, Copy, Debug)]
+pub struct Exposure {
+    /// The block's hash.
+    pub block: Hash32,
+    /// The filter's hash.
+    pub filter: Hash32,
+}
+
+/// Whether a peer claims this filter of a block.
+pub fn is_claimed(claims: &Claims, p: PeerNo, exposure: &Exposure) -> bool
+    ensures yes { result ≡ true → IsClaimedAs (tables_of claims.now) p.0 exposure.now.block.0 exposure.now.filter.0 }
+    ensures no { result ≡ false → IsClaimedAs (tables_of claims.now) p.0 exposure.now.block.0 exposure.now.filter.0 → ⊥ }
+{
+    match claims.claim(p, &exposure.block) {
+        Some(claim) => claim.hash == exposure.filter,
+        None => false,
+    }
+}
+
+// The filter that a peer claims of a block, where it was found to lack what the block pays.
+fn exposed_at(claims: &Claims, tests: &Tests, p: PeerNo, block: &Hash32) -> Option<Exposure>
+    ensures block { IfSome result (λ e. e.block ≡ block.now) }
+    ensures is { IfSome result (λ e. IsExposed (tables_of claims.now) (told_in tests.now) p.0 e.block.0 e.filter.0) }
+    ensures none { result ≡ None → (filter : List ℕ) → IsExposed (tables_of claims.now) (told_in tests.now) p.0 block.now.0 filter → ⊥ }
+{
+    let Some(claim) = claims.claim(p, block) else {
+        return None;
+    };
+    match tests.get(block, &claim.hash) {
+        Some(true) => Some(Exposure {
+            block: *block,
+            filter: claim.hash,
+        }),
+        Some(false) => None,
+        None => None,
+    }
+}
+
+/// Of some blocks the first of which a peer claims a filter that was found to lack what the block pays; nothing exactly
+/// where there is none.
+pub fn first_exposed(
+    claims: &Claims,
+    tests: &Tests,
+    p: PeerNo,
+    blocks: &[Hash32],
+) -> Option<Exposure>
+    ensures is { IfSome result (λ e. IsExposed (tables_of claims.now) (told_in tests.now) p.0 e.block.0 e.filter.0) }
+    ensures none { result ≡ None → (block : List ℕ) → IsIn block (blocks_of blocks.now) → (filter : List ℕ)
+        → IsExposed (tables_of claims.now) (told_in tests.now) p.0 block filter → ⊥ }
+{
+    for block in blocks {
+        if let Some(exposure) = exposed_at(claims, tests, p, block) {
+            return Some(exposure);
+        }
+    }
+    None
+}
+
+// Whether a block was fetched, they differ on its filter, and what a peer claims of it wasn't tested.
+fn is_to_test(
+    extracts: &Extracts,
+    claims: &Claims,
+    tests: &Tests,
+    p: PeerNo,
+    block: &Hash32,
+) -> bool
+    ensures yes { result ≡ true → IsToTest (table_in extracts.now) (tables_of claims.now) (told_in tests.now) p.0 block.now.0 }
+    ensures no { result ≡ false → IsToTest (table_in extracts.now) (tables_of claims.now) (told_in tests.now) p.0 block.now.0 → ⊥ }
+{
+    if !extracts.has(block) {
+        return false;
+    }
+    let Some(claim) = claims.claim(p, block) else {
+        return false;
+    };
+    if tests.has(block, &claim.hash) {
+        return false;
+    }
+    is_differing(claims, block)
+}
+
+// The block at its height, where it is to be tested and stands on a peer's chain above genesis and up to a height.
+fn trial_of<H: HeaderStore>(
+    store: &H,
+    extracts: &Extracts,
+    claims: &Claims,
+    tests: &Tests,
+    p: PeerNo,
+    common: u32,
+    block: &Hash32,
+) -> Option<Trial>
+    requires { IsSome (H.chain store.now p.0) }
+    ensures block { IfSome result (λ t. t.block ≡ block.now) }
+    ensures is { IfSome result (λ t. IsTrial (table_in extracts.now) (tables_of claims.now) (told_in tests.now) p.0 (own_of (H.chain store.now) p) common block.now.0 t.height) }
+    ensures only { IfSome result (λ t. (h : ℕ) → IsTrial (table_in extracts.now) (tables_of claims.now) (told_in tests.now) p.0 (own_of (H.chain store.now) p) common block.now.0 h → t.height ≤ h) }
+    ensures none { result ≡ None → (h : ℕ) → IsTrial (table_in extracts.now) (tables_of claims.now) (told_in tests.now) p.0 (own_of (H.chain store.now) p) common block.now.0 h → ⊥ }
+{
+    let Some(height) = store.place(p, block) else {
+        return None;
+    };
+    if height == 0 || height > common {
+        return None;
+    }
+    if !is_to_test(extracts, claims, tests, p, block) {
+        return None;
+    }
+    Some(Trial {
+        height,
+        block: *block,
+    })
+}
+
+// The lower of two.
+fn lower_of(lowest: Option<Trial>, found: Trial) -> Trial
+    ensures found { result.height ≤ found.height }
+    ensures lowest { IfSome lowest (λ t. result.height ≤ t.height) }
+    ensures one { (result ≡ found) ⊎ (lowest ≡ Some result) }
+{
+    match lowest {
+        None => found,
+        Some(trial) => {
+            if found.height < trial.height {
+                found
+            } else {
+                trial
+            }
+        }
+    }
+}
+
+/// Of some blocks the lowest on a peer's chain, above genesis and up to a height, that was fetched, on whose filter they
+/// differ, and of which what the peer claims wasn't tested; nothing exactly where there is none.
+#[tactic(auto, using(crate::proofs::Trials::next_none, crate::proofs::Trials::next_some))]
+pub fn next_trial<H: HeaderStore>(
+    store: &H,
+    extracts: &Extracts,
+    claims: &Claims,
+    tests: &Tests,
+    p: PeerNo,
+    common: u32,
+    trials: &[Hash32],
+) -> Option<Trial>
+    requires { IsSome (H.chain store.now p.0) }
+    ensures { IsNextTrial (table_in extracts.now) (tables_of claims.now) (told_in tests.now) p.0 (own_of (H.chain store.now) p) common (blocks_of trials.now) result }
+{
+    let mut lowest: Option<Trial> = None;
+    for block in trials {
+        if let Some(found) = trial_of(store, extracts, claims, tests, p, common, block) {
+            lowest = Some(lower_of(lowest, found));
+        }
+    }
+    lowest
+}

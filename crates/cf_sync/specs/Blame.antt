@@ -1,0 +1,33 @@
+-- Blame: the filters that differ on a fetched block are asked for and tested against what the block itself pays.
+use Rattle.std.specs.Prelude.{◌≡◌, ◌⊎◌, ℕ, [], ◌∷◌, Some}
+use Rattle.cf_bytes.specs.declared.hash.Hash32.{Hash32}
+use Rattle.cf_headers.specs.Chain.{Hash, Chain, IsIn}
+use Rattle.cf_msg.specs.declared.msg.Msg.{Msg}
+use Rattle.cf_wires.specs.declared.event.Event.TheVariants.{Dialled, NotDialled, Sent, SendFailed, Closed, Took}
+use Rattle.cf_wires.specs.Log.{Log}
+use Rattle.cf_peer.specs.Trail.{spelled, own}
+use Rattle.cf_peer.specs.Asking.{hashes_of}
+use Rattle.cf_sync.specs.Fetching.{counted_part, IsConnected, IsFetchedHash, Claims, IsDisputed, IsTestedWith, IsOmission}
+
+-- ---- what is asked once
+
+-- since a block was fetched this message was sent to p
+abbrev pub WasAskedSince : Log → ℕ → Msg → Hash → Type 0
+WasAskedSince [] p m block = ⊥
+WasAskedSince (Sent q bytes ∷ log) p m block =
+    (IsFetchedHash log block × (q.0 ≡ p) × (spelled bytes ≡ Some m)) ⊎ WasAskedSince log p m block
+WasAskedSince (Dialled q name ∷ log) p m block = (q.0 ≡ p → ⊥) × WasAskedSince log p m block
+WasAskedSince (NotDialled q name ∷ log) p m block = WasAskedSince log p m block
+WasAskedSince (SendFailed q ∷ log) p m block = WasAskedSince log p m block
+WasAskedSince (Closed q ∷ log) p m block = WasAskedSince log p m block
+WasAskedSince (Took d ∷ log) p m block = WasAskedSince log p m block
+
+-- ---- what follows
+
+-- Of each fetched block of a chain on whose filter the connected peers differ: what a connected peer whose own chain holds it claims was tested, and
+-- that filter lacks nothing that the block pays.
+pub record AreBlamed (log : Log) (chain : Chain) : Type 0 where
+  pub tested : (block : Hash) → IsIn block (hashes_of chain) → IsFetchedHash log block → IsDisputed log block
+      → (p : ℕ) → IsConnected log p → IsIn block (hashes_of (own (counted_part log p))) → (hash : Hash32) → Claims log p block hash → IsTestedWith log block hash
+  pub clean : (block : Hash) → IsIn block (hashes_of chain) → (p : ℕ) → IsConnected log p → (hash : Hash32) → Claims log p block hash
+      → (t : IsTestedWith log block hash) → IsOmission log block t.filter.filter → ⊥
