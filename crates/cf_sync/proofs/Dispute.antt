@@ -14,9 +14,9 @@ use Rattle.cf_msg.specs.declared.msg.Msg.{Msg}
 use Rattle.cf_msg.specs.declared.msg.Msg.TheVariants.{Verack, Cfheaders, Block as BlockMessage, Cfilter}
 use Rattle.cf_msg.specs.Message.{payload_of}
 use Rattle.cf_peer.specs.Acts.{bytes_of, IsSendable}
-use Rattle.cf_peer.specs.Asking.{block_entry, is_spare, NothingOpen, ClaimsOpen, FiltersOpen, claims_asked, claims, claims_after, claims_fault, hash_claimed, fault_of, request, request_after, is_idle, is_open, verdict, counted, fetched, hashes_of, HasSaid, MayAsk, SameUse, filter_fault, filter_of, filters_asked, given, given_by}
+use Rattle.cf_peer.specs.Asking.{block_entry, is_spare, NothingOpen, ClaimsOpen, FiltersOpen, claims_asked, claims, claims_after, claims_fault, hash_claimed, fault_of, request, request_after, is_idle, is_open, verdict, counted, fetched, hashes_of, HasSaid, MayAsk, SameUse, IsFree, filter_fault, filter_of, filters_asked, given, given_by}
 use Rattle.cf_wires.specs.Log.{Log}
-use Rattle.cf_peer.specs.Trail.{Trail, Said, Asked, part_of, trail, connected, own, heard, longer_of, ends_by, fault_in, first, Lost, Shutting, with_item, spelled}
+use Rattle.cf_peer.specs.Trail.{Trail, Said, Asked, part_of, trail, connected, own, heard, longer_of, ends_by, fault_in, first, Lost, Shutting, with_item}
 use Rattle.cf_scan.specs.Scan.{scan_of}
 use Rattle.cf_scan.specs.Watching.{IsWatch}
 use Rattle.cf_bytes.specs.Hash.{hash_of}
@@ -441,7 +441,9 @@ got_by_22 : IsFetchedHash dispute_22 only_hash.0
 got_by_22 = (only_block, fetched_by_22, refl)
 
 got_by_23 : IsFetchedHash dispute_23 only_hash.0
-got_by_23 = (only_block, (1, of_part (λ t. IsIn only_block (fetched (counted t))) (part_of dispute_23 1) t_14 part_24 fetched_13), refl)
+got_by_23 = (only_block, fetched_by_23, refl) where
+  fetched_by_23 : IsFetched dispute_23 only_block
+  fetched_by_23 = (1, of_part (λ t. IsIn only_block (fetched (counted t))) (part_of dispute_23 1) t_14 part_24 fetched_13)
 
 is_fetched : IsFetched disputed_run only_block
 is_fetched = (1, of_part (λ t. IsIn only_block (fetched (counted t))) (part_of disputed_run 1) t_15 part_27 fetched_15) where
@@ -460,7 +462,8 @@ filter_alone log p t part chain got block i none stands =
 
 may_ask_liar : MayAsk v_9 ask_filter
 may_ask_liar =
-    may_ask_filter_of v_9 false_claim (record { on = refl; over = refl; idle = idle_9; answered = sym same_9.owing }) (chain_7 ∙ sym own_7) claim_found
+    let free : IsFree v_9 = record { on = refl; over = refl; idle = idle_9; answered = sym same_9.owing } in
+    may_ask_filter_of v_9 false_claim free (chain_7 ∙ sym own_7) claim_found
 
 open_10 : request v_10 ≡ FiltersOpen (only_hash.0 ∷ []) []
 open_10 = ap (λ o. filters_asked 1 o) back_only
@@ -486,7 +489,8 @@ false_job = filter_of only_hash []
 given_11 : given (counted v_11) ≡ false_job ∷ given (counted v_10)
 given_11 =
     let open_there : request (counted v_10) ≡ FiltersOpen (only_hash.0 ∷ []) [] = (same_use v_10 refl clean_9).open_one ∙ open_10 in
-    let by : given_by false_answer (request (counted v_10)) ≡ false_job ∷ [] = ap (λ r. given_by false_answer r) open_there ∙ rw self_hash refl in
+    let by : given_by false_answer (request (counted v_10)) ≡ false_job ∷ [] =
+    ap (λ r. given_by false_answer r) open_there ∙ rw self_hash refl in
     ap given (said_counts false_answer v_10 refl clean_11) ∙ ap (λ (js : List Job). js ++ given (counted v_10)) by
 
 -- the second was asked after the block was fetched
