@@ -37,7 +37,7 @@ use Rattle.cf_sync.proofs.Chains.{same_self}
 use Rattle.cf_sync.proofs.Computed.{name_is, small_bytes, version_small, false_version_small, verack_small, headers_small, claims_small, false_claims_small, filter_small, block_small, false_answer_small}
 use Rattle.cf_sync.proofs.Counted.{same_use, said_counts}
 use Rattle.cf_sync.proofs.Written.{at_rest, sent_part, got_part, spelled_is, name_length, its_sendable, verack_sendable, question_sendable, headers_sendable, claims_sendable, filter_sendable, ask_claims_sendable, ask_filter_sendable, fetch_sendable, block_sendable}
-use Rattle.cf_sync.proofs.TwoPeers.{part_2, other_8, of_part, AreOfTwo, at_each, accepted, no_clash, IsKnown, SaysKnown, says_13, headers_known, chain_known, good_chain, has_room, at_log, honest_9, says_2, says_3, says_4, says_5, says_6, heard_7, heard_8, heard_9, heard_10, heard_11, heard_12, heard_13, own_7, other_hash, self_hash, may_ask_of, may_ask_claims, request_8, request_9, request_10, request_11, first_same, may_ask_filter, may_fetch, HasNone, unsaid, no_block_11, IsSpare, busy_1, right_9, open_where, only_wanted, still_true, counts_13, counts_11, fetched_13, ShowsOnly, only_of, SharesIt, shares_it, nobody_shares, ClaimsIt, nobody_claims, claims_it, one_long, nobody_below, only_claim, first_byte, t_2, t_3, t_4, t_5, t_6, t_7, t_8, t_9, t_10, t_11, t_12, t_13, u_6, t_14, t_15, says_15, heard_14, heard_15, byte_known, genesis_byte, header_byte, tx_byte, filter_byte, zero_byte, clean_15, counts_15, request_14, request_15, may_ask_again, range_of_one}
+use Rattle.cf_sync.proofs.TwoPeers.{part_2, other_8, of_part, AreOfTwo, at_each, accepted, no_clash, IsKnown, SaysKnown, says_13, headers_known, chain_known, good_chain, has_room, at_log, honest_9, says_2, says_3, says_4, says_5, says_6, heard_7, heard_8, heard_9, heard_10, heard_11, heard_12, heard_13, own_7, other_hash, self_hash, may_ask_of, may_ask_claims, request_8, request_9, request_10, request_11, first_same, may_ask_filter, may_fetch, HasNone, unsaid, no_block_11, IsSpare, busy_1, right_9, open_where, only_wanted, still_true, counts_13, counts_11, fetched_13, ShowsOnly, only_of, SharesIt, shares_it, nobody_shares, ClaimsIt, nobody_claims, claims_it, one_long, nobody_below, only_claim, first_byte, t_2, t_3, t_4, t_5, t_6, t_7, t_8, t_9, t_10, t_11, t_12, t_13, u_6, t_14, t_15, says_15, heard_14, heard_15, byte_known, genesis_byte, header_byte, tx_byte, filter_byte, zero_byte, clean_15, counts_15, request_14, request_15, may_ask_again, may_ask_filter_of}
 use Rattle.cf_sync.proofs.Cleared.{cleared_by, silent_agrees}
 
 -- ---- what the second claims
@@ -441,6 +441,9 @@ fetched_by_22 = (1, of_part (λ t. IsIn only_block (fetched (counted t))) (part_
 got_by_22 : IsFetchedHash dispute_22 only_hash.0
 got_by_22 = (only_block, fetched_by_22, refl)
 
+got_by_23 : IsFetchedHash dispute_23 only_hash.0
+got_by_23 = (only_block, (1, of_part (λ t. IsIn only_block (fetched (counted t))) (part_of dispute_23 1) t_14 part_24 fetched_13), refl)
+
 is_fetched : IsFetched disputed_run only_block
 is_fetched = (1, of_part (λ t. IsIn only_block (fetched (counted t))) (part_of disputed_run 1) t_15 part_27 fetched_15) where
   fetched_15 : IsIn only_block (fetched (counted t_15))
@@ -457,11 +460,8 @@ filter_alone log p t part chain got block i none stands =
       this (inr none_left) = absurd none_left
 
 may_ask_liar : MayAsk v_9 ask_filter
-unfolding range_of_one
-may_ask_liar = (
-  record { on = refl; over = refl; idle = idle_9; answered = sym same_9.owing },
-  (range_of_one 1000 v_9 (omega arith) (chain_7 ∙ sym own_7), λ block i. elim i [ inl e ↦ (false_claim, ap (λ (x : List ℕ). claims v_9 x) e ∙ claim_found) | inr none ↦ absurd none ]),
-)
+may_ask_liar =
+    may_ask_filter_of v_9 false_claim (record { on = refl; over = refl; idle = idle_9; answered = sym same_9.owing }) (chain_7 ∙ sym own_7) claim_found
 
 open_10 : request v_10 ≡ FiltersOpen (only_hash.0 ∷ []) []
 open_10 = ap (λ o. filters_asked 1 o) back_only
@@ -487,12 +487,12 @@ false_job = filter_of only_hash []
 given_11 : given (counted v_11) ≡ false_job ∷ given (counted v_10)
 given_11 =
     let open_there : request (counted v_10) ≡ FiltersOpen (only_hash.0 ∷ []) [] = (same_use v_10 refl clean_9).open_one ∙ open_10 in
-    ap given (said_counts false_answer v_10 refl clean_11)
-    ∙ ap (λ (js : List Job). js ++ given (counted v_10)) (ap (λ r. given_by false_answer r) open_there ∙ rw self_hash refl)
+    let by : given_by false_answer (request (counted v_10)) ≡ false_job ∷ [] = ap (λ r. given_by false_answer r) open_there ∙ rw self_hash refl in
+    ap given (said_counts false_answer v_10 refl clean_11) ∙ ap (λ (js : List Job). js ++ given (counted v_10)) by
 
 -- the second was asked after the block was fetched
 is_test : IsTest dispute_25 2 only_hash.0
-is_test = subst (λ (o : Option Msg). test_after true o dispute_23 only_hash.0 (IsTest dispute_23 2 only_hash.0)) (sym (spelled_is ask_filter ask_filter_sendable)) got_by_22
+is_test = subst (λ (o : Option Msg). test_after true o dispute_23 only_hash.0 (IsTest dispute_23 2 only_hash.0)) (sym (spelled_is ask_filter ask_filter_sendable)) got_by_23
 
 is_tested : IsTested dispute_26 false_job
 is_tested = inl (
@@ -539,7 +539,7 @@ disputed_right = (
           record {
             of_its_part = of_part (λ t. MayAsk t ask_filter) (part_of dispute_23 2) v_9 other_22 may_ask_liar;
             wanted = tt;
-            alone = filter_alone dispute_23 2 v_9 other_22 (chain_7) got_by_22;
+            alone = filter_alone dispute_23 2 v_9 other_22 chain_7 got_by_23;
           },
         ),
         (

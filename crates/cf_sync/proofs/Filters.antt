@@ -2,10 +2,10 @@
 use Rattle.std.proofs.Common.{◌≡◌, ℕ, List, [], ◌∷◌, Ok, Bool, true, false, arith, refl, sym, ◌∙◌, ap}
 use Rattle.sha2.specs.Sha256.{compress, digest_bytes, first_words, hash_after, rounds, schedule, sha256}
 use Rattle.cf_bytes.specs.Hash.{hash_of}
-use Rattle.cf_bytes.specs.Compact.{compact}
+use Rattle.cf_bytes.specs.Compact.{compact, compact_ahead_at, compact_at}
 use Rattle.cf_siphash.specs.SipHash.{start, round, absorb, finish, words_of, all_words, sip24_of}
 use Rattle.cf_golomb.specs.Code.{code, codes, spelling}
-use Rattle.cf_golomb.specs.Code.{set_at}
+use Rattle.cf_golomb.specs.Code.{head_at, set_at}
 use Rattle.cf_golomb.specs.Meets.{answer_by}
 use Rattle.cf_filter.proofs.Values.{filter_again}
 use Rattle.cf_bytes.specs.Bits.{bits_of}
@@ -38,7 +38,7 @@ unfolding first_words schedule rounds compress hash_after digest_bytes sha256 ha
 false_filter_hash_is = refl
 
 pub nothing_lacks : (hash : List ℕ) (items : List (List ℕ)) → lacks hash items [] ≡ true
-unfolding lacks set_at
+unfolding lacks set_at head_at compact_at compact_ahead_at
 nothing_lacks hash items = refl
 
 -- a script that isn't an item

@@ -525,35 +525,35 @@ abbrev pub IsNoQuestion : Option Msg → Type 0
 IsNoQuestion o = (filter start : ℕ) (stop : Hash32) → o ≡ Some (GetCfilters filter start stop) → ⊥
 
 asked_ends : (o : Option Msg) (t : Trail) → IsNoQuestion o → OnlyEnds (filters_open (request (counted (asks o t)))) (filters_open (request (counted t)))
-asked_ends None t no = inl refl
-asked_ends (Some (GetHeaders version locator stop)) t no = inr refl
-asked_ends (Some (GetCfheaders filter start stop)) t no = inr (by (back_to stop.0 (own (counted t)))) where
+asked_ends None t unasked = inl refl
+asked_ends (Some (GetHeaders version locator stop)) t unasked = inr refl
+asked_ends (Some (GetCfheaders filter start stop)) t unasked = inr (by (back_to stop.0 (own (counted t)))) where
   by : (o : Option Chain) → filters_open (claims_asked start stop.0 o) ≡ []
   by None = refl
   by (Some part) = refl
-asked_ends (Some (GetCfilters filter start stop)) t no = absurd (no filter start stop refl)
-asked_ends (Some (GetData entries)) t no = by entries where
+asked_ends (Some (GetCfilters filter start stop)) t unasked = absurd (unasked filter start stop refl)
+asked_ends (Some (GetData entries)) t unasked = by entries where
   by : (es : List Entry) → OnlyEnds (filters_open (block_asked es (request (counted t)))) (filters_open (request (counted t)))
   by [] = inl refl
   by (entry ∷ more) = inr refl
-asked_ends (Some m) t no = inl refl
+asked_ends (Some m) t unasked = inl refl
 
 test_stays : (o : Option Msg) (log : Log) (block : Hash) (before : Type 0) → IsNoQuestion o → test_after true o log block before → before
-test_stays None log block before no t = t
-test_stays (Some (GetCfilters filter start stop)) log block before no t = absurd (no filter start stop refl)
-test_stays (Some m) log block before no t = t
+test_stays None log block before unasked t = t
+test_stays (Some (GetCfilters filter start stop)) log block before unasked t = absurd (unasked filter start stop refl)
+test_stays (Some m) log block before unasked t = t
 
 test_kept : (o : Option Msg) (log : Log) (block : Hash) (before : Type 0) → IsNoQuestion o → before → test_after true o log block before
-test_kept None log block before no t = t
-test_kept (Some (GetCfilters filter start stop)) log block before no t = absurd (no filter start stop refl)
-test_kept (Some m) log block before no t = t
+test_kept None log block before unasked t = t
+test_kept (Some (GetCfilters filter start stop)) log block before unasked t = absurd (unasked filter start stop refl)
+test_kept (Some m) log block before unasked t = t
 
 pub aims_other : (p : PeerNo) (bytes : List ℕ) (log : Log) (o : Option Msg) (aim : Bool) → spelled bytes ≡ o → IsNoQuestion o → AimsAt log p.0 aim → AimsAt (Sent p bytes ∷ log) p.0 aim
-aims_other p bytes log o aim is no a =
+aims_other p bytes log o aim is unasked a =
     aims_go log (Sent p bytes ∷ log) p.0 aim
-    (subst (λ (t : Trail). OnlyEnds (filters_open (request t)) (filters_open (request (counted_part log p.0)))) (sym (asked_part p bytes log o is)) (asked_ends o (trail log p.0) no))
-    (λ block t. test_then p bytes log o block is (test_kept o log block (IsTest log p.0 block) no t))
-    (λ block t. test_stays o log block (IsTest log p.0 block) no (test_now p bytes log o block is t)) a
+    (subst (λ (t : Trail). OnlyEnds (filters_open (request t)) (filters_open (request (counted_part log p.0)))) (sym (asked_part p bytes log o is)) (asked_ends o (trail log p.0) unasked))
+    (λ block t. test_then p bytes log o block is (test_kept o log block (IsTest log p.0 block) unasked t))
+    (λ block t. test_stays o log block (IsTest log p.0 block) unasked (test_now p bytes log o block is t)) a
 
 -- who was sent something is connected as before
 pub sent_on : (p : PeerNo) (bytes : List ℕ) (log : Log) (q : ℕ) → IsConnected (Sent p bytes ∷ log) q → IsConnected log q

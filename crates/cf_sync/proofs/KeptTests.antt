@@ -180,6 +180,7 @@ tests_stay e l told none k = record {
 }
 
 pub clean_stays : (e : Event) (l : Log) (paid : Paid) (told : Told) → TestsNone e l → AreClean l paid told → AreClean (e ∷ l) paid told
+unfolding with_before
 clean_stays e l paid told none clean block hash is t = clean block hash is (with_before e l none block hash t)
 
 -- so it is with what isn't a piece
@@ -364,9 +365,9 @@ tested_then (SendFailed q) l job t = tested_fetched l job t
 tested_then (Closed q) l job t = tested_fetched l job t
 
 -- where the items of fetched blocks stay, what is told stays right
-pub clean_on : (e : Event) (l : Log) (paid now : Paid) (told : Told) → HoldsOutputs l paid → ((hash : Hash) → IsSome (paid hash) → now hash ≡ paid hash)
-    → AreClean (e ∷ l) paid told → AreClean (e ∷ l) now told
-clean_on e l paid now told outputs same1 clean block hash is t =
+pub clean_on : (e : Event) (l : Log) (paid kept : Paid) (told : Told) → HoldsOutputs l paid → ((hash : Hash) → IsSome (paid hash) → kept hash ≡ paid hash)
+    → AreClean (e ∷ l) paid told → AreClean (e ∷ l) kept told
+clean_on e l paid kept told outputs same1 clean block hash is t =
     let got : IsFetchedHash l block = subst (λ (x : Hash). IsFetchedHash l x) t.of_block (tested_then e l t.filter t.tested) in
     ap (lacks_kept block t.filter.filter) (same1 block (has_items (paid block) refl got)) ∙ clean block hash is t where
       has_items : (o : Option (List (List ℕ))) → paid block ≡ o → IsFetchedHash l block → IsSome (paid block)

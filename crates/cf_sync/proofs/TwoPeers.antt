@@ -644,7 +644,7 @@ self_hash = same_self only_hash.0
 back_only : back_to only_hash.0 (own t_7) ≡ Some (only_header ∷ [])
 back_only = ap (λ (c : Chain). back_to only_hash.0 c) own_7 ∙ rw (other_hash, self_hash) refl
 
-pub range_of_one : (few : ℕ) (t : Trail) → 0 < few → own t ≡ own t_7 → IsRange t 0 1 only_hash.0 few
+range_of_one : (few : ℕ) (t : Trail) → 0 < few → own t ≡ own t_7 → IsRange t 0 1 only_hash.0 few
 range_of_one few t some e = record { basic = refl; part = only_header ∷ []; tip = ap (λ (c : Chain). back_to only_hash.0 c) e ∙ back_only; low = omega arith; high = omega arith; bound = omega (arith, some) }
 
 -- of one with this chain that claims nothing
@@ -680,12 +680,17 @@ claims_fine = ap (λ r. claims_fault 0 only_hash.0 genesis_filter_header (record
 clean_9 : verdict t_9 ≡ None
 clean_9 = ap (λ x. first x (fault_of its_claims t_8)) clean_7 ∙ claims_fine
 
-pub may_ask_filter : MayAsk t_9 ask_filter
+-- of one with this chain that claims a filter of its block
+pub may_ask_filter_of : (t : Trail) (claim : Claim) → IsFree t → own t ≡ own t_7 → claims t only_hash.0 ≡ Some claim → MayAsk t ask_filter
 unfolding range_of_one
-may_ask_filter = (
-  record { on = refl; over = refl; idle = request_9; answered = sym (same_use t_9 refl clean_9).owing },
-  (range_of_one 1000 t_9 (omega arith) refl, λ block i. elim i [ inl e ↦ (only_claim, ap (λ (x : List ℕ). claims t_9 x) e ∙ claim_found) | inr none ↦ absurd none ]),
+may_ask_filter_of t claim free e claimed = (
+  free,
+  (range_of_one 1000 t (omega arith) e, λ block i. elim i [ inl is ↦ (claim, ap (λ (x : List ℕ). claims t x) is ∙ claimed) | inr none ↦ absurd none ]),
 )
+
+pub may_ask_filter : MayAsk t_9 ask_filter
+may_ask_filter =
+    may_ask_filter_of t_9 only_claim (record { on = refl; over = refl; idle = request_9; answered = sym (same_use t_9 refl clean_9).owing }) refl claim_found
 
 pub request_10 : request t_10 ≡ FiltersOpen (only_hash.0 ∷ []) []
 request_10 = ap (λ o. filters_asked 1 o) back_only
@@ -847,11 +852,8 @@ counts_13 = counts_of t_13 refl clean_13 refl (still_true (heard t_11) heard_out
 
 -- once it was asked for its filter a second time
 pub may_ask_again : MayAsk t_13 ask_filter
-unfolding range_of_one
-may_ask_again = (
-  record { on = refl; over = refl; idle = rw only_wanted refl; answered = sym (same_use t_13 refl clean_13).owing },
-  (range_of_one 1000 t_13 (omega arith) refl, λ block i. elim i [ inl e ↦ (only_claim, ap (λ (x : List ℕ). claims t_9 x) e ∙ claim_found) | inr none ↦ absurd none ]),
-)
+may_ask_again =
+    may_ask_filter_of t_13 only_claim (record { on = refl; over = refl; idle = rw only_wanted refl; answered = sym (same_use t_13 refl clean_13).owing }) refl claim_found
 
 pub request_14 : request t_14 ≡ FiltersOpen (only_hash.0 ∷ []) []
 request_14 = ap (λ o. filters_asked 1 o) back_only
