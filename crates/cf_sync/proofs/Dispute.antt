@@ -1,11 +1,11 @@
 -- The run with two peers in which a dispute stands: the second shows the same chain and claims another filter of its block, which is fetched then.
-use Rattle.std.proofs.Common.{◌≡◌, inl, inr, ℕ, ◌≤◌, List, [], ◌∷◌, length, Some, None, true, false, not, refl, sym, ◌∙◌, ap, subst, arith, ◌⊎◌, ◌≢◌, ◌++◌, Option, Bool}
+use Rattle.std.proofs.Common.{◌≡◌, inl, inr, ℕ, ◌≤◌, List, [], ◌∷◌, length, Some, None, true, false, not, refl, sym, ◌∙◌, ap, subst, arith, ◌⊎◌, ◌≢◌, ◌++◌, Option}
 use Rattle.std.specs.Prelude.{option_map}
 use Rattle.std.proofs.lemmas.Bool.{false≢true}
 use Rattle.cf_bytes.specs.Compact.{compact}
 use Rattle.cf_bytes.specs.declared.hash.Hash32.{Hash32}
 use Rattle.cf_block.specs.declared.tx.Block.{Block}
-use Rattle.cf_block.specs.Header.{block_hash_of, genesis_header, header_spelling}
+use Rattle.cf_block.specs.Header.{block_hash_of, genesis_header}
 use Rattle.cf_dispute.specs.declared.claim.Claim.{Claim}
 use Rattle.cf_dispute.specs.Claims.{Table, claim_of, no_claims, with_claim}
 use Rattle.cf_headers.specs.Heights.{hash_at}
@@ -14,21 +14,20 @@ use Rattle.cf_msg.specs.declared.msg.Msg.{Msg}
 use Rattle.cf_msg.specs.declared.msg.Msg.TheVariants.{Verack, Cfheaders, Block as BlockMessage, Cfilter}
 use Rattle.cf_msg.specs.Message.{payload_of}
 use Rattle.cf_peer.specs.Acts.{bytes_of, IsSendable}
-use Rattle.cf_peer.specs.Asking.{block_entry, is_spare, NothingOpen, ClaimsOpen, FiltersOpen, claims_asked, claims, claims_after, claims_fault, hash_claimed, fault_of, request, request_after, is_idle, is_open, verdict, counted, fetched, hashes_of, HasSaid, MayAsk, SameUse, filter_fault, filter_of, filters_asked, given, given_by}
+use Rattle.cf_peer.specs.Asking.{block_entry, is_spare, NothingOpen, ClaimsOpen, FiltersOpen, claims_asked, claims, claims_after, claims_fault, hash_claimed, fault_of, request, request_after, is_idle, is_open, verdict, counted, fetched, hashes_of, HasSaid, MayAsk, SameUse, IsFree, filter_fault, filter_of, filters_asked, given, given_by}
 use Rattle.cf_wires.specs.Log.{Log}
-use Rattle.cf_peer.specs.Trail.{Trail, Said, Asked, part_of, trail, connected, own, heard, longer_of, ends_by, fault_in, first, Lost, Shutting, with_item, spelled}
+use Rattle.cf_peer.specs.Trail.{Trail, Said, Asked, part_of, trail, connected, own, heard, longer_of, ends_by, fault_in, first, Lost, Shutting, with_item}
 use Rattle.cf_scan.specs.Scan.{scan_of}
 use Rattle.cf_scan.specs.Watching.{IsWatch}
 use Rattle.cf_bytes.specs.Hash.{hash_of}
-use Rattle.cf_block.specs.Tx.{tx_spelling}
 use Rattle.cf_filter.specs.Filter.{filter_hash_of}
 use Rattle.cf_filter.specs.Lacking.{output_items_of}
 use Rattle.cf_headers.specs.Rules.{same}
 use Rattle.cf_match.specs.declared.job.Job.{Job}
 use Rattle.cf_peer.specs.declared.peer.Cause.TheVariants.{Omits}
 use Rattle.cf_sync.proofs.Filters.{false_filter_hash_is, nothing_lacks}
-use Rattle.cf_sync.specs.Example.{only_header, only_block, only_hash, chain_of_one, honest_peer, liar, its_version, question, its_headers, ask_claims, its_claims, false_claims, ask_filter, its_filter, fetch, its_block, false_version, genesis_filter_header, only_filter_hash, false_filter_hash, other_watch, log_8, dispute_9, dispute_10, dispute_11, dispute_12, dispute_13, dispute_14, dispute_15, dispute_16, dispute_17, dispute_18, dispute_19, dispute_20, dispute_21, disputed_run, false_answer, dispute_22, dispute_23, dispute_24, dispute_25, dispute_26, only_tx, only_filter}
-use Rattle.cf_sync.specs.Fetching.{counted_part, IsQuiet, AreBytes, IsFetched, IsFetchedHash, IsCleared, IsDisputed, IsBlockWanted, Rightly, Claims, IsAlone, IsConnected, IsOmitting, IsTest, IsTested, blocks_in, test_after}
+use Rattle.cf_sync.specs.Example.{only_header, only_block, only_hash, chain_of_one, honest_peer, liar, its_version, question, its_headers, ask_claims, its_claims, false_claims, ask_filter, its_filter, fetch, its_block, false_version, genesis_filter_header, only_filter_hash, false_filter_hash, other_watch, log_8, dispute_9, dispute_10, dispute_11, dispute_12, dispute_13, dispute_14, dispute_15, dispute_16, dispute_17, dispute_18, dispute_19, dispute_20, dispute_21, disputed_run, false_answer, dispute_22, dispute_23, dispute_24, dispute_25, dispute_26}
+use Rattle.cf_sync.specs.Fetching.{counted_part, IsQuiet, AreBytes, IsFetched, IsFetchedHash, IsCleared, IsDisputed, IsBlockWanted, Rightly, Claims, IsAlone, IsOmitting, IsTest, IsTested, blocks_in, test_after}
 use Rattle.cf_sync.proofs.Alone.{IsNoneFetching, none_filters, none_block}
 use Rattle.cf_sync.specs.Honesty.{IsHonestOver, IsHonest, was_called, ShowsNoOther}
 use Rattle.cf_sync.specs.Sync.{strings_of, IsHashed, HasAsked}
@@ -37,7 +36,7 @@ use Rattle.cf_sync.proofs.Chains.{same_self}
 use Rattle.cf_sync.proofs.Computed.{name_is, small_bytes, version_small, false_version_small, verack_small, headers_small, claims_small, false_claims_small, filter_small, block_small, false_answer_small}
 use Rattle.cf_sync.proofs.Counted.{same_use, said_counts}
 use Rattle.cf_sync.proofs.Written.{at_rest, sent_part, got_part, spelled_is, name_length, its_sendable, verack_sendable, question_sendable, headers_sendable, claims_sendable, filter_sendable, ask_claims_sendable, ask_filter_sendable, fetch_sendable, block_sendable}
-use Rattle.cf_sync.proofs.TwoPeers.{part_2, other_8, of_part, AreOfTwo, at_each, accepted, no_clash, IsKnown, SaysKnown, says_13, headers_known, chain_known, good_chain, has_room, at_log, honest_9, says_2, says_3, says_4, says_5, says_6, heard_7, heard_8, heard_9, heard_10, heard_11, heard_12, heard_13, own_7, other_hash, self_hash, may_ask_of, may_ask_claims, request_8, request_9, request_10, request_11, first_same, may_ask_filter, may_fetch, HasNone, unsaid, no_block_11, IsSpare, busy_1, right_9, open_where, only_wanted, still_true, counts_13, counts_11, fetched_13, ShowsOnly, only_of, SharesIt, shares_it, nobody_shares, ClaimsIt, nobody_claims, claims_it, one_long, nobody_below, only_claim, first_byte, t_2, t_3, t_4, t_5, t_6, t_7, t_8, t_9, t_10, t_11, t_12, t_13, u_6, t_14, t_15, says_15, heard_14, heard_15, byte_known, genesis_byte, header_byte, tx_byte, filter_byte, zero_byte, clean_15, counts_15, request_14, request_15, may_ask_again, may_ask_filter_of}
+use Rattle.cf_sync.proofs.TwoPeers.{part_2, other_8, of_part, AreOfTwo, at_each, accepted, no_clash, IsKnown, SaysKnown, headers_known, chain_known, good_chain, has_room, at_log, honest_9, says_2, says_3, says_4, says_5, says_6, heard_7, heard_8, heard_9, heard_10, heard_11, heard_12, heard_13, own_7, other_hash, self_hash, may_ask_of, may_ask_claims, request_8, request_9, request_10, request_11, first_same, may_ask_filter, may_fetch, HasNone, unsaid, no_block_11, IsSpare, busy_1, right_9, open_where, counts_13, counts_11, fetched_13, ShowsOnly, only_of, SharesIt, shares_it, ClaimsIt, claims_it, one_long, nobody_below, only_claim, first_byte, t_2, t_3, t_4, t_5, t_6, t_7, t_8, t_9, t_10, t_11, t_12, t_13, u_6, t_14, t_15, says_15, heard_14, heard_15, byte_known, genesis_byte, header_byte, tx_byte, filter_byte, zero_byte, clean_15, counts_15, request_14, request_15, may_ask_again, may_ask_filter_of}
 use Rattle.cf_sync.proofs.Cleared.{cleared_by, silent_agrees}
 
 -- ---- what the second claims
@@ -442,7 +441,9 @@ got_by_22 : IsFetchedHash dispute_22 only_hash.0
 got_by_22 = (only_block, fetched_by_22, refl)
 
 got_by_23 : IsFetchedHash dispute_23 only_hash.0
-got_by_23 = (only_block, (1, of_part (λ t. IsIn only_block (fetched (counted t))) (part_of dispute_23 1) t_14 part_24 fetched_13), refl)
+got_by_23 = (only_block, fetched_by_23, refl) where
+  fetched_by_23 : IsFetched dispute_23 only_block
+  fetched_by_23 = (1, of_part (λ t. IsIn only_block (fetched (counted t))) (part_of dispute_23 1) t_14 part_24 fetched_13)
 
 is_fetched : IsFetched disputed_run only_block
 is_fetched = (1, of_part (λ t. IsIn only_block (fetched (counted t))) (part_of disputed_run 1) t_15 part_27 fetched_15) where
@@ -461,7 +462,8 @@ filter_alone log p t part chain got block i none stands =
 
 may_ask_liar : MayAsk v_9 ask_filter
 may_ask_liar =
-    may_ask_filter_of v_9 false_claim (record { on = refl; over = refl; idle = idle_9; answered = sym same_9.owing }) (chain_7 ∙ sym own_7) claim_found
+    let free : IsFree v_9 = record { on = refl; over = refl; idle = idle_9; answered = sym same_9.owing } in
+    may_ask_filter_of v_9 false_claim free (chain_7 ∙ sym own_7) claim_found
 
 open_10 : request v_10 ≡ FiltersOpen (only_hash.0 ∷ []) []
 open_10 = ap (λ o. filters_asked 1 o) back_only
@@ -487,7 +489,8 @@ false_job = filter_of only_hash []
 given_11 : given (counted v_11) ≡ false_job ∷ given (counted v_10)
 given_11 =
     let open_there : request (counted v_10) ≡ FiltersOpen (only_hash.0 ∷ []) [] = (same_use v_10 refl clean_9).open_one ∙ open_10 in
-    let by : given_by false_answer (request (counted v_10)) ≡ false_job ∷ [] = ap (λ r. given_by false_answer r) open_there ∙ rw self_hash refl in
+    let by : given_by false_answer (request (counted v_10)) ≡ false_job ∷ [] =
+    ap (λ r. given_by false_answer r) open_there ∙ rw self_hash refl in
     ap given (said_counts false_answer v_10 refl clean_11) ∙ ap (λ (js : List Job). js ++ given (counted v_10)) by
 
 -- the second was asked after the block was fetched

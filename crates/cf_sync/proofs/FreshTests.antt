@@ -21,7 +21,7 @@ use Rattle.cf_wires.specs.declared.event.Delivery.TheVariants.{Got, Gone, Tick, 
 use Rattle.cf_wires.specs.declared.event.Event.{Event}
 use Rattle.cf_wires.specs.declared.event.Event.TheVariants.{Dialled, NotDialled, Sent, SendFailed, Closed, Took}
 use Rattle.cf_wires.specs.Log.{Log}
-use Rattle.cf_peer.specs.Trail.{Trail, Part, Said, Refused, Asked, Passed, Lost, Went, Failing, Shutting, called_part, with_item, item_of, item_of_read, hears, hears_fault, part_after, heard_part, spelled, asks, part_of, trail, connected, own, first}
+use Rattle.cf_peer.specs.Trail.{Trail, Part, Said, Refused, Asked, Passed, Lost, Went, Failing, Shutting, called_part, with_item, item_of, item_of_read, hears, hears_fault, part_after, heard_part, spelled, asks, part_of, trail, connected, own}
 use Rattle.cf_peer.specs.Asking.{NothingOpen, FiltersOpen, blocks_from, filters_asked, claims, given, given_by, hash_claimed, request, fault_of, verdict, counted, MayAsk}
 use Rattle.cf_seek.proofs.Stops.{back_ends}
 use Rattle.cf_sync.specs.Blame.{WasAskedSince}

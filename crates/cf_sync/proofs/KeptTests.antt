@@ -8,7 +8,6 @@ use Rattle.cf_bytes.specs.declared.peer.PeerNo.{PeerNo}
 use Rattle.cf_block.specs.declared.tx.Block.{Block}
 use Rattle.cf_block.specs.Header.{block_hash_of}
 use Rattle.cf_dispute.specs.declared.claim.At.TheVariants.{Differ}
-use Rattle.cf_dispute.specs.declared.claim.Claim.{Claim}
 use Rattle.cf_dispute.specs.Claims.{Tables, IsAt}
 use Rattle.cf_dispute.proofs.PutIn.{same_true, same_from}
 use Rattle.cf_filter.specs.Filter.{filter_hash_of}
@@ -28,7 +27,6 @@ use Rattle.cf_wires.specs.Log.{Log}
 use Rattle.cf_peer.specs.Asking.{fetched, given}
 use Rattle.cf_peer.specs.Trail.{trail, spelled, own}
 use Rattle.cf_scan.specs.declared.extracts.TxExtract.{TxExtract}
-use Rattle.cf_seek.specs.declared.testing.Trial.{Trial}
 use Rattle.cf_seek.specs.Outputs.{Paid, lacks_kept, put_outputs}
 use Rattle.cf_seek.specs.Tables.{Table}
 use Rattle.cf_seek.specs.Testing.{AreDisputesIn, Told, IsToTest, IsTrial, IsNextTrial, found_too}

@@ -681,16 +681,22 @@ clean_9 : verdict t_9 ≡ None
 clean_9 = ap (λ x. first x (fault_of its_claims t_8)) clean_7 ∙ claims_fine
 
 -- of one with this chain that claims a filter of its block
-pub may_ask_filter_of : (t : Trail) (claim : Claim) → IsFree t → own t ≡ own t_7 → claims t only_hash.0 ≡ Some claim → MayAsk t ask_filter
+pub may_ask_filter_of : (t : Trail) (claim : Claim) → IsFree t → own t ≡ own t_7 → claims t only_hash.0 ≡ Some claim
+    → MayAsk t ask_filter
 unfolding range_of_one
 may_ask_filter_of t claim free e claimed = (
   free,
-  (range_of_one 1000 t (omega arith) e, λ block i. elim i [ inl is ↦ (claim, ap (λ (x : List ℕ). claims t x) is ∙ claimed) | inr none ↦ absurd none ]),
+  (
+    range_of_one 1000 t (omega arith) e,
+    λ block i. elim i [ inl is ↦ (claim, ap (λ (x : List ℕ). claims t x) is ∙ claimed) | inr none ↦ absurd none ],
+  ),
 )
 
 pub may_ask_filter : MayAsk t_9 ask_filter
 may_ask_filter =
-    may_ask_filter_of t_9 only_claim (record { on = refl; over = refl; idle = request_9; answered = sym (same_use t_9 refl clean_9).owing }) refl claim_found
+    let owed_9 = same_use t_9 refl clean_9 in
+    let free : IsFree t_9 = record { on = refl; over = refl; idle = request_9; answered = sym owed_9.owing } in
+    may_ask_filter_of t_9 only_claim free refl claim_found
 
 pub request_10 : request t_10 ≡ FiltersOpen (only_hash.0 ∷ []) []
 request_10 = ap (λ o. filters_asked 1 o) back_only
@@ -853,7 +859,10 @@ counts_13 = counts_of t_13 refl clean_13 refl (still_true (heard t_11) heard_out
 -- once it was asked for its filter a second time
 pub may_ask_again : MayAsk t_13 ask_filter
 may_ask_again =
-    may_ask_filter_of t_13 only_claim (record { on = refl; over = refl; idle = rw only_wanted refl; answered = sym (same_use t_13 refl clean_13).owing }) refl claim_found
+    let idle_13 : request t_13 ≡ NothingOpen = rw only_wanted refl in
+    let owed_13 = same_use t_13 refl clean_13 in
+    let free : IsFree t_13 = record { on = refl; over = refl; idle = idle_13; answered = sym owed_13.owing } in
+    may_ask_filter_of t_13 only_claim free refl claim_found
 
 pub request_14 : request t_14 ≡ FiltersOpen (only_hash.0 ∷ []) []
 request_14 = ap (λ o. filters_asked 1 o) back_only

@@ -1,11 +1,11 @@
 -- Blame: the filters that differ on a fetched block are asked for and tested against what the block itself pays.
-use Rattle.std.specs.Prelude.{◌≡◌, ◌⊎◌, ℕ, List, [], ◌∷◌, Some}
+use Rattle.std.specs.Prelude.{◌≡◌, ◌⊎◌, ℕ, [], ◌∷◌, Some}
 use Rattle.cf_bytes.specs.declared.hash.Hash32.{Hash32}
 use Rattle.cf_headers.specs.Chain.{Hash, Chain, IsIn}
 use Rattle.cf_msg.specs.declared.msg.Msg.{Msg}
 use Rattle.cf_wires.specs.declared.event.Event.TheVariants.{Dialled, NotDialled, Sent, SendFailed, Closed, Took}
 use Rattle.cf_wires.specs.Log.{Log}
-use Rattle.cf_peer.specs.Trail.{trail, spelled, own}
+use Rattle.cf_peer.specs.Trail.{spelled, own}
 use Rattle.cf_peer.specs.Asking.{hashes_of}
 use Rattle.cf_sync.specs.Fetching.{counted_part, IsConnected, IsFetchedHash, Claims, IsDisputed, IsTestedWith, IsOmission}
 
