@@ -18,13 +18,13 @@ use Rattle.cf_peer.specs.Asking.{claims, given_by, request, verdict}
 use Rattle.cf_peer.specs.Peer.{Hears}
 use Rattle.cf_peer.specs.Trail.{Trail, Said}
 use Rattle.cf_seek.specs.Outputs.{Paid, lacks_kept}
-use Rattle.cf_seek.specs.Testing.{IsClaimedAs, IsExposed, IsSameTold, Told, found_too}
+use Rattle.cf_seek.specs.Testing.{IsSameTold, Told, found_too}
 use Rattle.cf_seek.specs.Trials.{tested_if}
 use Rattle.cf_seek.specs.Wanting.{IsSameTables}
 use Rattle.cf_sync.proofs.FreshFilters.{one_given}
 use Rattle.cf_hear.specs.Seen.{Seen, Follows}
 use Rattle.cf_hear.specs.Tracks.{IsPut}
-use Rattle.cf_hear.specs.Exposing.{Exposes, ExposesAmong, IsExposedIn, IsExposing, IsUnexposed}
+use Rattle.cf_hear.specs.Exposing.{Exposes, ExposesAmong, IsExposedIn, IsUnexposed}
 
 -- the same is claimed by q, and the same was found
 same_exposed : (before after : Seen) (q : ℕ) (at of : Hash) → after.claims q at ≡ before.claims q at
