@@ -107,7 +107,7 @@ opens_is a b same =
     ap (λ (f : ℕ → Hash → Bool). opens_with f b.blocks) (fun_ext (λ q. fun_ext (λ block. same.filters q block)))
     ∙ ap (λ (f : ℕ → Hash → Bool). opens_with a.filters f) (fun_ext (λ q. fun_ext (λ block. same.blocks q block)))
 
-trials_with : Paid → Told → (ℕ → Bool) → Trials
+abbrev trials_with : Paid → Told → (ℕ → Bool) → Trials
 trials_with paid told aims = record { paid = paid; told = told; aims = aims }
 
 trials_is : (a b : Trials) → IsSameTrials a b → b ≡ a

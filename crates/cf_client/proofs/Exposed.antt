@@ -264,7 +264,7 @@ module _ (d : Desk) (p : PeerNo) (piece : List ℕ) (old : Peer) (mid : Desk) (b
     qs = shuts.closed
 
     at_other : (q : ℕ) → q ≢ p.0 → place_at mid.places q ≡ place_at d.places q
-    at_other q other = ap (λ (ps : List Place). place_at ps q) placed ∙ sym (set_other d.places p.0 q (Here peer) other)
+    at_other q other = ap (λ (ps : List Place). place_at ps q) placed ∙ set_other d.places p.0 q (Here peer) other
 
     at_here : place_at mid.places p.0 ≡ Here peer
     at_here = ap (λ (ps : List Place). place_at ps p.0) placed ∙ set_is d.places p.0 (Here peer) lt

@@ -38,11 +38,11 @@ use Rattle.cf_place.specs.declared.place.Place.{Place}
 use Rattle.cf_place.specs.declared.place.Place.TheVariants.{Here, Lost}
 use Rattle.cf_place.specs.Places.{IsLost, Fits, nobody, PlacesStand, EndTells, EndsTell, end_by, end_of, is_idle, is_settled}
 use Rattle.cf_client.specs.Stands.{IsTip, IsReportOf}
-use Rattle.cf_sync.proofs.KeptTests.{listed_by, tested_through}
 use Rattle.cf_client.specs.Settled.{AreSettled, IsAskedThrough, IsThrough, IsTriedThrough, chain_at}
 use Rattle.cf_client.proofs.Best.{on_kept, here_of, best_is}
 use Rattle.cf_client.proofs.Settled.{settled_off, heard_by}
 use Rattle.cf_client.proofs.Rights.{header_known}
+use Rattle.cf_client.proofs.Tried.{tested_by}
 
 -- ---- the best chain
 
@@ -91,8 +91,7 @@ tested_of places log s chain stand tracks settled best p on quiet =
     let kept : s.chains p ≡ Some mine = tracks.kept p ∙ on_kept (trail log p) on ∙ ap (λ (c : Chain). Some c) (sym (same_use (trail log p) on holds.clean).chain) in
     let both : IsDoneWith s p mine (common_of mine chain) =
     through_shared s p (get_or places p nobody) mine chain (settled.through p) (ap is_idle here.1 ∙ idle_of here.0 (trail log p) holds quiet) kept best in
-    tested_through s.watch log s.table s.claims s.trials.told both.1.listed chain p tracks.fetched tracks.claimed tracks.trials.told
-    (listed_by s.watch log s.table s.claims both.1.listed tracks.fetched tracks.claimed both.1.disputes) on both.1.tried
+    tested_by s log chain p tracks on both.1
 
 pub asked_out_of : (places : List Place) (log : Log) (s : Seen) (chain : Chain) → PlacesStand places log → Tracks s log → AreSettled places s → ((block : Hash) → (at : At) × IsAt s.claims block at) → IsBestChain s.chains chain
     → (p : ℕ) → IsConnected log p → is_open (trail log p) ≡ false → IsAskedOut s.watch log chain p

@@ -1,5 +1,5 @@
 -- How those are closed that claim a filter which omits something.
-use Rattle.std.proofs.Common.{◌≡◌, ◌≢◌, ◌⊎◌, inl, inr, ℕ, ◌<◌, ◌≤◌, ◌+◌, List, [], ◌∷◌, ◌++◌, length, map, get_or, set, Some, None, Option, Bool, true, false, refl, sym, ◌∙◌, ap, subst, arith, append_assoc}
+use Rattle.std.proofs.Common.{◌≡◌, ◌≢◌, ◌⊎◌, inl, inr, ℕ, suc, slice_index, ◌<◌, ◌≤◌, ◌+◌, List, [], ◌∷◌, ◌++◌, length, map, get_or, set, Some, None, Option, Bool, true, false, refl, sym, ◌∙◌, ap, subst, arith, append_assoc}
 use Rattle.std.specs.List.{All}
 use Rattle.std.specs.List.Sorted.{IsStrictlyIncreasing}
 use Rattle.std.proofs.lemmas.Bool.{cases_eq, both_ways}
@@ -38,7 +38,9 @@ use Rattle.cf_client.proofs.Standing.{closed_here, closed_others, set_is}
 -- ---- numbers that rise
 
 rising_tail : (n : ℕ) (ns : List ℕ) → IsStrictlyIncreasing (n ∷ ns) → IsStrictlyIncreasing ns
-rising_tail n ns rising k lt = rising (k + 1) (omega (arith, lt))
+rising_tail n ns rising k lt =
+    let same : suc k + 1 ≡ suc (k + 1) = omega arith in
+    subst (λ (j : ℕ). slice_index ns k < slice_index (n ∷ ns) j) same (rising (suc k) (omega (arith, lt)))
 
 rising_above : (n : ℕ) (ns : List ℕ) → IsStrictlyIncreasing (n ∷ ns) → (x : ℕ) → IsIn x ns → n < x
 rising_above n [] rising x i = absurd i
@@ -73,7 +75,7 @@ pushed_in q n (x ∷ ns) (inr last) = inr (pushed_in q n ns (inr last))
 pub in_below : (n : ℕ) (ns : List ℕ) → All (λ (k : ℕ). k < n) ns → (q : ℕ) → IsIn q ns → q < n
 in_below n [] below q i = absurd i
 in_below n (x ∷ ns) below q (inl this) = (let first = below 0 0 (omega arith) in omega (arith, first, this))
-in_below n (x ∷ ns) below q (inr later) = in_below n ns (λ k d lt. below (k + 1) d (omega (arith, lt))) q later
+in_below n (x ∷ ns) below q (inr later) = in_below n ns (λ k d lt. below (suc k) d (omega (arith, lt))) q later
 
 -- ---- along the numbers
 
@@ -171,7 +173,7 @@ shuts_next i block filter before d now lt so_far (inr (one, put, places, acts)) 
       | inr this ↦ absurd (other this)
       | inl old ↦ (
           let was = so_far.gone q old in (
-            ap (λ (ps : List Place). place_at ps q) places ∙ sym (set_other d.places i q shut_place other) ∙ was.0,
+            ap (λ (ps : List Place). place_at ps q) places ∙ set_other d.places i q shut_place other ∙ was.0,
             put.others q other ∙ was.1,
             λ at. put.claims_others q other at ∙ was.2 at,
             λ at. put.opens.others.filters q other at ∙ was.3 at,
@@ -183,7 +185,7 @@ shuts_next i block filter before d now lt so_far (inr (one, put, places, acts)) 
   kept = λ q out.
       let other : q ≢ i = λ this. out (pushed_in q i so_far.closed (inr this)) in
       let was = so_far.kept q (λ j. out (pushed_in q i so_far.closed (inl j))) in (
-        ap (λ (ps : List Place). place_at ps q) places ∙ sym (set_other d.places i q shut_place other) ∙ was.0,
+        ap (λ (ps : List Place). place_at ps q) places ∙ set_other d.places i q shut_place other ∙ was.0,
         put.others q other ∙ was.1,
         λ at. put.claims_others q other at ∙ was.2 at,
         λ at. put.opens.others.filters q other at ∙ was.3 at,

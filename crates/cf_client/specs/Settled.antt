@@ -1,5 +1,5 @@
 -- What is true of a client's places and of what it has seen between two calls.
-use Rattle.std.specs.Prelude.{◌≡◌, ℕ, true, List, [], is_some, unwrap_or, None, Some}
+use Rattle.std.specs.Prelude.{◌≡◌, ℕ, true, List, [], is_some, unwrap_or, Some}
 use Rattle.cf_bytes.specs.declared.peer.PeerNo.{PeerNo}
 use Rattle.cf_dispute.specs.Claims.{Table, Tables}
 use Rattle.cf_headers.specs.Chain.{Chain, Hash}
@@ -11,7 +11,7 @@ use Rattle.cf_peer.specs.Peer.{IsRight}
 use Rattle.cf_seek.specs.Tables as extracts
 use Rattle.cf_seek.specs.Opens.{Opens}
 use Rattle.cf_seek.specs.Seeking.{ArePassed, AreSought}
-use Rattle.cf_seek.specs.Testing.{AreDisputesIn, IsNextTrial}
+use Rattle.cf_seek.specs.Testing.{IsTrial}
 use Rattle.cf_seek.specs.Wanting.{AreClaimed}
 use Rattle.cf_place.specs.declared.place.Place.{Place}
 use Rattle.cf_place.specs.declared.place.Place.TheVariants.{Here, Lost}
@@ -41,11 +41,9 @@ pub record IsThrough (extracts : extracts.Table) (tables : Tables) (verdicts : V
   pub judged : AreSought extracts tables verdicts opens own common
   pub fetched : ArePassed extracts tables verdicts opens own common
 
--- Of some blocks, each fetched one on which they differ among them, there is none on a peer's chain up to a height of which what it claims is to be tested.
-pub record IsTriedThrough (s : Seen) (p : ℕ) (own : Chain) (common : ℕ) : Type 0 where
-  pub listed : List Hash
-  pub disputes : AreDisputesIn s.table s.claims listed
-  pub tried : IsNextTrial s.table s.claims s.trials.told p own common listed None
+-- of the fetched blocks on which they differ there is none on a peer's chain up to a height of which what it claims is to be tested
+abbrev pub IsTriedThrough : Seen → ℕ → Chain → ℕ → Type 0
+IsTriedThrough s p own common = (block : Hash) (h : ℕ) → IsTrial s.table s.claims s.trials.told p own common block h → ⊥
 
 -- a peer with nothing open has nothing left to be asked about what it shares with the best chain
 abbrev pub IsAskedThrough : Place → Seen → ℕ → Type 0

@@ -1,5 +1,5 @@
 -- What a client holds of a log.
-use Rattle.std.specs.Prelude.{◌≡◌, ℕ, zero, suc, ◌+◌, Bool, false, if◌then◌else◌, List, length}
+use Rattle.std.specs.Prelude.{◌≡◌, ℕ, zero, suc, ◌+◌, Bool, false, if◌then◌else◌, List, [], length}
 use Rattle.cf_bytes.specs.declared.hash.Hash32.{Hash32}
 use Rattle.cf_headers.specs.Chain.{Chain, NoHashClash, tip_hash}
 use Rattle.cf_headers.specs.declared.store.HeaderStore.{Ghosts}

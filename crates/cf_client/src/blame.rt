@@ -26,12 +26,16 @@ fn close_if_claimed<H: HeaderStore>(
         (desk tracker.old places.old acts.old.items) (desk tracker.new places.new acts.new.items)) }
     ensures verdicts { OnOk result (AreSameVerdicts (verdicts_of tracker.new) (verdicts_of tracker.old)) }
 {
-    let p = PeerNo(i as u32);
-    if places[i].is_here() && tracker.is_claimed(p, exposure) {
-        acts.push(Act::Close(p, Cause::Omits))?;
-        tracker.forget(p);
-        places[i] = Place::Lost(Loss::Closed(Cause::Omits));
+    if !places[i].is_here() {
+        return Ok(());
     }
+    let p = PeerNo(i as u32);
+    if !tracker.is_claimed(p, exposure) {
+        return Ok(());
+    }
+    acts.push(Act::Close(p, Cause::Omits))?;
+    tracker.forget(p);
+    places[i] = Place::Lost(Loss::Closed(Cause::Omits));
     Ok(())
 }
 

@@ -18,13 +18,13 @@ use Rattle.cf_peer.specs.Asking.{claims, given_by, request, verdict}
 use Rattle.cf_peer.specs.Peer.{Hears}
 use Rattle.cf_peer.specs.Trail.{Trail, Said}
 use Rattle.cf_seek.specs.Outputs.{Paid, lacks_kept}
-use Rattle.cf_seek.specs.Testing.{IsClaimedAs, IsExposed, IsSameTold, Told, found_too}
+use Rattle.cf_seek.specs.Testing.{IsSameTold, Told, found_too}
 use Rattle.cf_seek.specs.Trials.{tested_if}
 use Rattle.cf_seek.specs.Wanting.{IsSameTables}
 use Rattle.cf_sync.proofs.FreshFilters.{one_given}
 use Rattle.cf_hear.specs.Seen.{Seen, Follows}
 use Rattle.cf_hear.specs.Tracks.{IsPut}
-use Rattle.cf_hear.specs.Exposing.{Exposes, ExposesAmong, IsExposedIn, IsExposing, IsUnexposed}
+use Rattle.cf_hear.specs.Exposing.{Exposes, ExposesAmong, IsExposedIn, IsUnexposed}
 
 -- the same is claimed by q, and the same was found
 same_exposed : (before after : Seen) (q : ℕ) (at of : Hash) → after.claims q at ≡ before.claims q at
@@ -79,8 +79,8 @@ exposes_claims before after p blocks r others mine told among none = by r among 
         | inl i ↦ at_none at i of here
         | inr out ↦ none p at of (same_exposed before after p at of (mine at out) (told at of) here)
       ])
-  by (Send m) no = absurd no
-  by (Close cause) no = absurd no
+  by (Send m) never = absurd never
+  by (Close cause) never = absurd never
   by (Expose block filter) here = record { here = here; others = λ q at of e. inl (apart q at of e) }
 
 -- ---- a filter
@@ -111,6 +111,9 @@ told_many aim paid (job ∷ next ∷ jobs) told at of e = inl (by aim e) where
   by : (x : Bool) → tested_if x paid (job ∷ next ∷ jobs) told at of ≡ Some true → told at of ≡ Some true
   by true e = e
   by false e = e
+
+one_claim : {A : Type 0} (o : Option A) (a b : A) → o ≡ Some a → o ≡ Some b → a ≡ b
+one_claim o a b x y = (let both : Some a ≡ Some b = sym x ∙ y in cc)
 
 -- by a filter that p gave: what is claimed stays, and what is found anew is of the filter that p claims of its block
 pub exposes_filter : (before after : Seen) (p : ℕ) (filter : ℕ) (block : Hash32) (bytes : List ℕ) (jobs : List Job)
@@ -149,8 +152,8 @@ exposes_filter before after p filter block bytes jobs t r clean gives f claimed 
 
   by : (x : Reply) → ExposesAmong after p (block.0 ∷ []) x → Exposes after p x
   by NoReply at_none = λ q at of e. at_none block.0 (inl refl) of (same_claim q at of e).1
-  by (Send m) no = absurd no
-  by (Close cause) no = absurd no
+  by (Send m) never = absurd never
+  by (Close cause) never = absurd never
   by (Expose b h) here = record {
     here = here;
     others = λ q at of e. (let s = same_claim q at of e in let first = same_claim p b.0 h.0 here in
@@ -158,6 +161,3 @@ exposes_filter before after p filter block bytes jobs t r clean gives f claimed 
         (after.claims p block.0) s.1.claimed.claim first.1.claimed.claim s.1.claimed.mine first.1.claimed.mine in
         inr (sym s.0 ∙ first.0, sym s.1.claimed.this ∙ ap (λ (c : Claim). c.hash.0) mine ∙ first.1.claimed.this));
   }
-
-  one_claim : {A : Type 0} (o : Option A) (a b : A) → o ≡ Some a → o ≡ Some b → a ≡ b
-  one_claim o a b x y = (let both : Some a ≡ Some b = sym x ∙ y in cc)

@@ -630,6 +630,7 @@ midway_fault p old bytes seen now next before acts start end cause midway stops 
 pub midway_exposed : (p : PeerNo) (old new : Peer) (bytes rest : List ℕ) (seen now next : Seen) (before acts : List Act) (start end : Part) (block filter : Hash)
     (midway : Midway p old bytes seen now before acts start end)
     → Reveals now next p bytes rest new midway.so_far block filter → HeardExposed p seen next before acts start end block filter
+unfolding midway_quiet
 midway_exposed p old new bytes rest seen now next before acts start end block filter midway reveals =
     let more = midway_quiet p old new bytes rest seen now next before acts start end midway reveals.advances in
     record {

@@ -13,7 +13,6 @@ use Rattle.cf_match.specs.declared.job.Job.{Job}
 use Rattle.cf_msg.specs.declared.msg.Msg.{Msg}
 use Rattle.cf_msg.specs.declared.msg.Msg.TheVariants.{Headers, Block as BlockMessage, Cfheaders, Cfilter}
 use Rattle.cf_peer.specs.declared.peer.Peer.{Peer}
-use Rattle.cf_peer.specs.declared.peer.Request.{Request}
 use Rattle.cf_peer.specs.declared.peer.Request.TheVariants.{Handshake}
 use Rattle.cf_wires.specs.Log.{Log}
 use Rattle.cf_peer.specs.Trail.{Trail, Said, Asked, connected, ready, trail}

@@ -9,8 +9,7 @@ use Rattle.cf_headers.specs.Chain.{Hash}
 use Rattle.cf_headers.specs.Rules.{same}
 use Rattle.cf_match.specs.declared.job.Job.{Job}
 use Rattle.cf_msg.specs.declared.msg.Msg.{Msg}
-use Rattle.cf_msg.specs.declared.msg.Msg.TheVariants.{Headers, Block as BlockMessage, Cfheaders, Cfilter}
-use Rattle.cf_peer.specs.Asking.{OpenRequest, NothingOpen, HeadersOpen, ClaimsOpen, FiltersOpen, BlockOpen, fetched_by, given_by, is_answer_of, request_after}
+use Rattle.cf_peer.specs.Asking.{OpenRequest, NothingOpen, fetched_by, given_by, request_after}
 use Rattle.cf_seek.specs.Outputs.{Paid, lacks_kept, put_outputs}
 use Rattle.cf_seek.specs.Testing.{IsSameTold, Told, found_too, with_test}
 use Rattle.cf_seek.specs.Trials.{IsSameTrials, Trials, TrialsGo, tested_if, with_found, with_paid}

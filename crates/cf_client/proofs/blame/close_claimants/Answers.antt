@@ -1,4 +1,5 @@
-use Rattle.std.proofs.Common.{refl, ◌∙◌, arith}
+use Rattle.std.proofs.Common.{◌≡◌, ℕ, length, refl, ◌∙◌, subst, arith}
+use Rattle.cf_client.specs.Shutting.{ShutsBelow}
 use Rattle.cf_client.specs.Steps.{desk}
 use Rattle.cf_client.proofs.Shutting.{shuts_next, shuts_none}
 use Rattle.cf_client.proofs.blame.close_claimants.Goals as goal
@@ -18,4 +19,8 @@ loop-i-preserved g c = record {
 }
 
 pub returns-clause-shuts : goal.returns-clause-shuts
-returns-clause-shuts g c = c.loop-i.invariant.shuts
+returns-clause-shuts g c =
+    let end : c.loop-i.i ≡ length c.args.places.now = omega arith in
+    subst (λ (n : ℕ). ShutsBelow n c.args.exposure.now.block.0 c.args.exposure.now.filter.0
+    (desk c.args.tracker.now c.args.places.now c.args.acts.now.items)
+    (desk c.loop-i.tracker c.loop-i.places c.loop-i.acts.items)) end c.loop-i.invariant.shuts

@@ -34,13 +34,13 @@ returns-in-Ok-clause-heard g c = λ t holds f.
     let range = c.in-Some.range in
     let took = c.in-Some.ensures.took in
     let right = subst (λ (r : Request). IsRight r table) took.0.1 c.requires.right in
-    let none = same_fault (header_at first_header table range.parent.0) c.args.previous.now c.as_slice.result.now range.blocks c.args.hashes.now None c.as_slice.ensures c.in-Ok.ensures.answer in
+    let none = same_fault (header_at first_header table range.parent.0) c.args.previous.now c.as_slice-blocks.result.now range.blocks c.args.hashes.now None c.as_slice-blocks.ensures c.in-Ok.ensures.answer in
     let after = claims_of c.add_claims.new.self c.args.p.0 in
     let takes = answer_holds c.args.peer.now range took.0.0 c.args.filter c.args.stop.now c.args.previous.now c.args.hashes.now t table after took.0.1 took.1 right.0 none
-    (same_run c.args.previous.now c.as_slice.result.now range.blocks c.args.hashes.now table after c.as_slice.ensures c.in-Ok.ensures.ok) holds f.claims in
+    (same_run c.args.previous.now c.as_slice-blocks.result.now range.blocks c.args.hashes.now table after c.as_slice-blocks.ensures c.in-Ok.ensures.ok) holds f.claims in
     let m = Cfheaders c.args.filter c.args.stop.now c.args.previous.now c.args.hashes.now in
     let mine = subst (λ (x : Peer). TakesClaims x after m t None) (sym took.2) takes in
-    may_expose (seen_of c.args.tracker.now) (seen_of c.add_claims.new.self) c.args.p c.take_range.new.self m t (blocks_of c.as_slice.result.now) c.reply_after.result
+    may_expose (seen_of c.args.tracker.now) (seen_of c.add_claims.new.self) c.args.p c.take_range.new.self m t (blocks_of c.as_slice-blocks.result.now) c.reply_after.result
     (idle_request c.take_range.new.self (Said m ∷ t) mine.0 (ap is_idle_peer took.2)).1 c.reply_after.ensures.exposed
     (claims_hears (seen_of c.args.tracker.now) (seen_of c.add_claims.new.self) c.args.p c.take_range.new.self c.args.filter c.args.stop.now c.args.previous.now c.args.hashes.now t
     mine f c.in-Ok.ensures.watch c.in-Ok.ensures.chains c.in-Ok.ensures.others (λ hash. sym (c.in-Ok.ensures.table hash)) c.in-Ok.ensures.verdicts c.in-Ok.ensures.opens
@@ -48,7 +48,7 @@ returns-in-Ok-clause-heard g c = λ t holds f.
 
 pub returns-in-Ok-clause-exposes : goal.returns-in-Ok-clause-exposes
 returns-in-Ok-clause-exposes g c = λ t holds f.
-    let blocks = c.as_slice.result.now in
+    let blocks = c.as_slice-blocks.result.now in
     exposes_claims (seen_of c.args.tracker.now) (seen_of c.add_claims.new.self) c.args.p.0 (blocks_of blocks) c.reply_after.result c.in-Ok.ensures.others
     (λ block out. c.in-Ok.ensures.ok block ∙ claims_out c.args.previous.now (blocks_of blocks) c.args.hashes.now (claims_of c.args.tracker.now c.args.p.0) block out)
     c.in-Ok.ensures.trials.told c.reply_after.ensures.exposed
@@ -67,11 +67,11 @@ returns-in-Err-No-clause-heard g c = λ t holds f.
     let range = c.in-Some.range in
     let took = c.in-Some.ensures.took in
     let right = subst (λ (r : Request). IsRight r table) took.0.1 c.requires.right in
-    let fault = subst (λ (e : Refused ClaimFault). GivesFault {A = Unit {0}} (Err e) (claim_fault (header_at first_header table range.parent.0) (length c.as_slice.result.now) c.args.previous.now (length c.args.hashes.now))) c.in-Err-No.field-0-is c.in-Err-No.ensures.answer in
-    let is = same_fault (header_at first_header table range.parent.0) c.args.previous.now c.as_slice.result.now range.blocks c.args.hashes.now (Some c.in-Err-No.fault) c.as_slice.ensures fault in (
+    let fault = subst (λ (e : Refused ClaimFault). GivesFault {A = Unit {0}} (Err e) (claim_fault (header_at first_header table range.parent.0) (length c.as_slice-blocks.result.now) c.args.previous.now (length c.args.hashes.now))) c.in-Err-No.field-0-is c.in-Err-No.ensures.answer in
+    let is = same_fault (header_at first_header table range.parent.0) c.args.previous.now c.as_slice-blocks.result.now range.blocks c.args.hashes.now (Some c.in-Err-No.fault) c.as_slice-blocks.ensures fault in (
       cause_is (verdict (Said (Cfheaders c.args.filter c.args.stop.now c.args.previous.now c.args.hashes.now) ∷ t)) (claim_fault (header_at first_header table range.parent.0) (length range.blocks) c.args.previous.now (length c.args.hashes.now))
           c.in-Err-No.fault c.cause_of.result
-          (answer_fault c.args.peer.now range took.0.0 c.args.filter c.args.stop.now c.args.previous.now c.args.hashes.now t table took.0.1 took.1 right.0 holds f.claims) is c.cause_of.ensures,
+          (answer_fault c.args.peer.now range took.0.0 c.args.filter c.args.stop.now c.args.previous.now c.args.hashes.now t table took.0.1 took.1 right.0 holds f.claims) is (rw c.in-Err-No.field-0-is at c.cause_of.ensures),
       record {
         watch = c.in-Err-No.ensures.watch;
         chains = c.in-Err-No.ensures.chains;

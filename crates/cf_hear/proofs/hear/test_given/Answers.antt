@@ -7,8 +7,8 @@ pub returns-then-not-is_test-clause-told : goal.returns-then-not-is_test-clause-
 returns-then-not-is_test-clause-told g c =
     tested_not (aims_of c.args.tracker.now c.args.p.0) (paid_of c.args.tracker.now) c.args.jobs.now (tests_of c.args.tracker.now) (sym c.is_test.ensures ∙ c.if-not-is_test.true)
 
-pub returns-then-len-ne1-clause-told : goal.returns-then-len-ne1-clause-told
-returns-then-len-ne1-clause-told g c =
+pub returns-then-jobs-ne1-clause-told : goal.returns-then-jobs-ne1-clause-told
+returns-then-jobs-ne1-clause-told g c =
     tested_more (aims_of c.args.tracker.now c.args.p.0) (paid_of c.args.tracker.now) c.args.jobs.now (tests_of c.args.tracker.now) (λ e. omega (arith, e))
 
 pub returns-clause-told : goal.returns-clause-told
