@@ -1,13 +1,15 @@
 """A client of filters, written in Python from BIP 157, BIP 158 and the Bitcoin developer reference: what it sends and
 whom it closes where peers deliver these bytes, how its run ends, and what it writes. `hostile.py`, `faults.py` and
-`changes.py` compare the program with it. It is plain, and made for few blocks.
+`changes.py` compare the program with it.
 
 docs/ARCHITECTURE.md has the rules in words: headers, then claims of filters, then filters, and last the blocks whose
-filters match or are in dispute; and nobody is asked for what is open to another.
+filters match or are in dispute; and nobody is asked for what is open to another. Of a block that was fetched, and on
+whose filter the peers differ, each is asked last for the filter that it claims; who claims one that lacks a script that
+the block pays is closed. It is plain, and made for few blocks.
 """
 import struct
 
-from conversation import GENESIS_HEADER, Reader, double, frame, siphash, valued, version
+from conversation import GENESIS_HEADER, Reader, double, frame, siphash, transactions, valued, version
 
 MAGIC = bytes.fromhex("fabfb5da")
 TARGET = b"\x7f\xff\xff" + bytes(29)
@@ -36,6 +38,10 @@ def is_timely(times, header):
 
 class Bad(Exception):
     """Bytes that are no spelling, or a peer that is to be closed for this cause."""
+
+
+class Exposed(Exception):
+    """Of this block a filter with this hash was found to lack a script that the block pays."""
 
 
 # ---- payloads
@@ -219,12 +225,22 @@ def values_of(code):
     return values if "1" not in bits[at:] and len(bits) - at < 8 else None
 
 
+def is_in(block_hash, values, script):
+    """Whether a script's number is among the values of the filter of a block with this hash."""
+    k0, k1 = (int.from_bytes(block_hash[i:i + 8], "little") for i in (0, 8))
+    return siphash(k0, k1, script) * (len(values) * 784931) >> 64 in values
+
+
 def is_miss(block_hash, code, scripts):
     values = values_of(code)
-    if values is None:
-        return False
-    k0, k1 = (int.from_bytes(block_hash[i:i + 8], "little") for i in (0, 8))
-    return not any(siphash(k0, k1, s) * (len(values) * 784931) >> 64 in values for s in scripts)
+    return values is not None and not any(is_in(block_hash, values, s) for s in scripts)
+
+
+def lacks(block, code):
+    """Whether a filter of a block is no spelling, or lacks a script of its outputs."""
+    values, block_hash = values_of(code), double(block[:80])
+    scripts = {s for _, _, paid in transactions(block) for s in paid if s and s[0] != 0x6A}
+    return values is None or not all(is_in(block_hash, values, s) for s in scripts)
 
 
 # ---- the client
@@ -235,11 +251,11 @@ ANSWERS = {"getcfheaders": "cfheaders", "getcfilters": "cfilter", "getdata": "bl
 class Peer:
     def __init__(self):
         self.waiting, self.has_version, self.is_ready, self.is_heard = b"", False, False, False
-        self.asked, self.age = ("handshake", None), 0
+        self.asked, self.age, self.is_test = ("handshake", None), 0, False
         self.chain, self.times, self.claims = [double(GENESIS_HEADER)], [time_of(GENESIS_HEADER)], {}
 
-    def ask(self, what, data):
-        self.asked, self.age = (what, data), 0
+    def ask(self, what, data, is_test=False):
+        self.asked, self.age, self.is_test = (what, data), 0, is_test
 
 
 class Client:
@@ -247,7 +263,7 @@ class Client:
 
     def __init__(self, scripts, genesis_filter_header):
         self.scripts, self.before_first = scripts, genesis_filter_header
-        self.peers, self.verdicts, self.blocks = {}, {}, {}
+        self.peers, self.verdicts, self.blocks, self.tests = {}, {}, {}, {}
 
     def dialled(self, p):
         self.peers[p] = Peer()
@@ -270,6 +286,9 @@ class Client:
                     self.hear(p, peer, frame, acts)
             except Bad as cause:
                 self.lose(p, acts, str(cause))
+            except Exposed as found:
+                for q in [q for q in sorted(self.peers) if self.claimed(q, found.args[0]) == found.args[1]]:
+                    self.lose(q, acts, "Omits")
         return acts + self.asks()
 
     def gone(self, p):
@@ -358,6 +377,8 @@ class Client:
             before = double(told + before)
             peer.claims[block] = (told, before)
         peer.asked = None
+        for block, told in zip(blocks, hashes):
+            self.expose(block, told)
 
     def answer_cfilter(self, peer, message):
         kind, block, code = message
@@ -367,10 +388,19 @@ class Client:
         if double(code) != peer.claims[block][0]:
             raise Bad("OtherFilter")
         codes.append(code)
-        if len(codes) == len(blocks):
-            for block, code in zip(blocks, codes):
-                self.verdicts.setdefault((block, double(code)), "Miss" if is_miss(block, code, self.scripts) else "Hit")
-            peer.asked = None
+        if len(codes) < len(blocks):
+            return
+        peer.asked = None
+        if peer.is_test:
+            self.tests[block, double(code)] = lacks(self.blocks[block], code)
+            self.expose(block, double(code))
+            return
+        for block, code in zip(blocks, codes):
+            self.verdicts.setdefault((block, double(code)), "Miss" if is_miss(block, code, self.scripts) else "Hit")
+
+    def expose(self, block, told):
+        if self.tests.get((block, told)):
+            raise Exposed(block, told)
 
     def answer_block(self, peer, block):
         if double(block[:80]) != peer.asked[1]:
@@ -379,6 +409,10 @@ class Client:
             raise Bad("BadBlock")
         self.blocks.setdefault(peer.asked[1], block)
         peer.asked = None
+
+    def claimed(self, p, block):
+        """The filter hash that a peer claims of a block, or None."""
+        return self.peers[p].claims.get(block, (None, None))[0]
 
     def filter_of(self, block):
         """The one filter hash that all claim of a block, or None where none does, or `Differ`."""
@@ -394,6 +428,11 @@ class Client:
         told = self.filter_of(block)
         is_wanted = block not in self.blocks and told not in (None, "Differ") and (block, told) not in self.verdicts
         return is_wanted and not self.is_open(block, "getcfilters")
+
+    def is_to_test(self, p, block):
+        """Whether a block was fetched, its filter is in dispute, and the one that a peer claims wasn't tested."""
+        is_untested = (block, self.claimed(p, block)) not in self.tests
+        return block in self.blocks and self.filter_of(block) == "Differ" and is_untested
 
     def is_to_fetch(self, block):
         told = self.filter_of(block)
@@ -430,6 +469,9 @@ class Client:
             peer.ask("getcfilters", (shared[first:last + 1], []))
         elif any(self.is_to_fetch(block) for block in shared[1:]):
             peer.ask("getdata", next(block for block in shared[1:] if self.is_to_fetch(block)))
+        elif any(self.is_to_test(p, block) for block in shared[1:]):
+            block = next(block for block in shared[1:] if self.is_to_test(p, block))
+            peer.ask("getcfilters", ([block], []), is_test=True)
         else:
             return
         acts.append((p, "> " + peer.asked[0]))

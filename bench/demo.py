@@ -2,13 +2,14 @@
 """Prints rows of cf_cases over three peers that are played, each with what it comes to: those of `demo`, by `run` and by themselves, and those of a session.
 
 The entries, the balance and the tip are those of a scan of every block. A block is fetched where its two filters differ, that with the watched scripts and that
-without them, or where one of them has a watched script's number; the silent peer is closed, since it owes an answer once its longer chain was shown.
+without them, or where one of them has a watched script's number. The silent peer is closed, since it owes an answer once its longer chain was shown, and so is
+the one that leaves scripts out, where a block pays one of them.
 """
 import os
 import sys
 
 sys.path.insert(0, os.path.dirname(os.path.abspath(__file__)))
-from conversation import siphash
+from conversation import siphash, transactions
 from played import Peer
 from sessions import script
 
@@ -34,7 +35,8 @@ def text_of(seed, blocks):
     pairs = [(height, honest.filters[height][0], other.filters[height][0]) for height in range(1, blocks + 1)]
     fetched = sum(one != two or has_one(honest, height, one) or has_one(honest, height, two) for height, one, two in pairs)
     balance = lines[-1].split()[-1] if lines else "0"
-    return "blocks %d\npeers 3\nentries %d\nbalance %s\nfetched %d\nclosed 1\ntip %s\n" % (blocks, len(lines), balance, fetched, last.split()[-1])
+    closed = 2 if any(text in WATCHED for block in honest.blocks[1:] for _, _, paid in transactions(block) for text in paid) else 1
+    return "blocks %d\npeers 3\nentries %d\nbalance %s\nfetched %d\nclosed %d\ntip %s\n" % (blocks, len(lines), balance, fetched, closed, last.split()[-1])
 
 
 def called(seed, blocks, status, text, room=5000):

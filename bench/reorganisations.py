@@ -63,7 +63,7 @@ def write_session(path, start, depth, times):
         chain.add(7)
     with open(path, "w") as file:
         file.write("dial a\ndial b\n")
-        file.writelines(start or [line_of(message) for _, message in said(chain, 1)])
+        file.writelines(start or [line_of(message) for _, message in said([chain], has_watched)])
         for number in range(times):
             if depth:
                 chain.leave(depth)

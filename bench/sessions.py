@@ -4,8 +4,9 @@
 
 The frames are written out from the layouts of the Bitcoin developer reference, BIP 157 and BIP 158. The histories are those of a scan of every
 block of the best chain. What is sent is told by hand, from the rules by which a wallet asks: headers, then filter headers, then filters, and last
-the blocks whose filters match or are in dispute; each peer that has nothing else to answer, for what nobody is asked for yet. The client of
-client.py has to send the same, and to end in the same way.
+the blocks whose filters match or are in dispute; each peer that has nothing else to answer, for what nobody is asked for yet. Where the peers
+differ on the filter of a block that was fetched, each is asked last for the filter that it claims, and who claims one that lacks what the block
+pays is closed. The client of client.py has to send the same, and to end in the same way.
 """
 import os
 import struct
@@ -38,15 +39,25 @@ class Chain(Served):
             with open(name, "rb") as f:
                 super().__init__(f.read())
 
-    def without(self, height, left):
-        """The same chain, but for the filter at a height, which leaves a script out."""
-        found = self.copy()
+    def items(self, height):
+        """The scripts of a block's filter: those that it pays, and those that it spends."""
         block = self.blocks[height]
         items = {s for _, _, paid in transactions(block) for s in paid if s and s[0] != 0x6A}
         for _, names, _ in transactions(block)[1:]:
             items.update(self.paid(name) for name in names)
+        return items
+
+    def without(self, height, left):
+        """The same chain, but for the filter at a height, which leaves a script out."""
+        items = self.items(height)
         assert left in items and basic_filter(self.hashes[height], items) == self.filters[height][0]
-        return found.replaced(height, basic_filter(self.hashes[height], items - {left}))
+        return self.replaced(height, basic_filter(self.hashes[height], items - {left}))
+
+    def with_more(self, height, more):
+        """The same chain, but for the filter at a height, which has a script that the block doesn't have."""
+        items = self.items(height)
+        assert more not in items
+        return self.replaced(height, basic_filter(self.hashes[height], items | {more}))
 
     def copy(self):
         found = Chain.__new__(Chain)
@@ -183,7 +194,8 @@ def stores():
 
     print("# stores WATCH|SESSION: what comes of a session over a store of lists, and over a tree: how it ends, how many headers, claims, filters, verdicts")
     print("# and extracts the client keeps then, and the history and the tip. The rows and answers are those of bench/sessions.py stores.")
-    print("# Two peers that differ on a filter; or the second one, which was asked for the block, is gone; or the first one is, and the second has still to answer.")
+    print("# Two peers that differ on a filter, of which the first is closed for what its filter omits; or the second one, which was asked for the block, is gone;")
+    print("# or the first one is, and the second has still to answer.")
     for gone in (0, 2, 1):
         s = Session(2).shows(1, liar).shows(2, a).got(1, liar.cfheaders(1, 3)).got(2, a.cfheaders(1, 3))
         s.got(1, liar.cfilter(1)).got(1, liar.cfilter(2)).got(1, liar.cfilter(3))
@@ -192,7 +204,14 @@ def stores():
         elif gone == 1:
             s.gone(1).stores("Ended", text(a, []), [14], [a], all_of(a), 0, 3, 0)
         else:
-            s.got(2, a.block(2)).stores("Synced", text(a, [14]), [14], [liar, a], all_of(liar, a), 0, 3, 1)
+            s.got(2, a.block(2)).got(1, liar.cfilter(2)).got(2, a.cfilter(2))
+            s.stores("Synced", text(a, [14]), [14], [a], all_of(a), 0, 3, 1)
+
+    print("# They differ on a script that the block only spends: both stay. A filter that is asked for once the block was fetched gives no verdict.")
+    spends = a.without(2, script(8))
+    s = Session(2).shows(1, spends).shows(2, a).got(1, spends.cfheaders(1, 3)).got(2, a.cfheaders(1, 3)).filters(1, spends, 1, 3)
+    s.got(2, a.block(2)).got(1, spends.cfilter(2)).got(2, a.cfilter(2))
+    s.stores("Synced", text(a, [14]), [14], [spends, a], all_of(spends, a), 0, 3, 1)
 
     print("# A longer chain takes the place of one that is settled; or its peer is gone while a block is still to come.")
     for gone in (False, True):
@@ -244,16 +263,17 @@ def main():
         s.got(1, a.cfilter(1)).got(1, a.cfilter(2)).got(1, a.cfilter(3))
         s.row(DONE, text(a, ks), ks)
 
+    both_asked = asks(1, "getcfilters") + asks(2, "getcfilters")
     print("# Two peers, of which the first leaves a script out of its filter at height 2: that block is in dispute, and is fetched from the other one, while")
-    print("# the first one's filters are still to come.")
+    print("# the first one's filters are still to come. Then each is asked for its filter again, and the first one is closed for what that omits.")
     s = Session(2).shows_both(liar, a).got(2, a.cfheaders(1, 3), *asks(2, "getdata"))
-    s.filters(1, liar, 1, 3).got(2, a.block(2))
+    s.filters(1, liar, 1, 3).got(2, a.block(2), *both_asked).got(1, liar.cfilter(2), "x 1 Omits").got(2, a.cfilter(2))
     s.row(DONE, text(a, watched), watched)
 
-    print("# The same, where the other one claims first: it is asked for its filters, and the first one for the block.")
+    print("# The same, where the other one claims first: it is asked for its filters, and the first one for the block. And it answers first.")
     s = Session(2).shows(1, liar, *asks(1, "getcfheaders")).shows(2, a, *asks(2, "getcfheaders"))
     s.got(2, a.cfheaders(1, 3), *asks(2, "getcfilters")).got(1, liar.cfheaders(1, 3), *asks(1, "getdata"))
-    s.filters(2, a, 1, 3).got(1, a.block(2))
+    s.filters(2, a, 1, 3).got(1, a.block(2), *both_asked).got(2, a.cfilter(2)).got(1, liar.cfilter(2), "x 1 Omits")
     s.row(DONE, text(a, watched), watched)
 
     print("# A longer chain whose peer answers no more is left after a minute, and not before.")
@@ -280,12 +300,16 @@ def main():
     s.got(1, nonsense.cfilter(1)).got(1, nonsense.cfilter(2)).got(1, nonsense.cfilter(3), *asks(1, "getdata")).got(1, a.block(2))
     s.row(DONE, text(a, watched), watched)
 
-    print("# Two peers leave the same script out; a third one's claim, after the miss, puts the block into dispute.")
-    s = Session(3).shows(1, liar, *asks(1, "getcfheaders")).got(1, liar.cfheaders(1, 3), *asks(1, "getcfilters"))
-    s.shows(2, liar, *asks(2, "getcfheaders")).got(2, liar.cfheaders(1, 3))
-    s.got(1, liar.cfilter(1)).got(1, liar.cfilter(2)).got(1, liar.cfilter(3))
-    s.shows(3, a, *asks(3, "getcfheaders")).got(3, a.cfheaders(1, 3), *asks(1, "getdata")).got(1, a.block(2))
-    s.row(DONE, text(a, watched), watched)
+    print("# Two peers leave the same script out; a third one's claim, after the miss, puts the block into dispute. The answer of either closes both, the lower")
+    print("# number first, and what the other one still answers is read over.")
+    for first, second in ((1, 2), (2, 1)):
+        s = Session(3).shows(1, liar, *asks(1, "getcfheaders")).got(1, liar.cfheaders(1, 3), *asks(1, "getcfilters"))
+        s.shows(2, liar, *asks(2, "getcfheaders")).got(2, liar.cfheaders(1, 3))
+        s.got(1, liar.cfilter(1)).got(1, liar.cfilter(2)).got(1, liar.cfilter(3))
+        s.shows(3, a, *asks(3, "getcfheaders")).got(3, a.cfheaders(1, 3), *asks(1, "getdata"))
+        s.got(1, a.block(2), *both_asked, *asks(3, "getcfilters"))
+        s.got(first, liar.cfilter(2), "x 1 Omits", "x 2 Omits").got(second, liar.cfilter(2)).got(3, a.cfilter(2))
+        s.row(DONE, text(a, watched), watched)
 
     print("# A wrong count, a wrong previous filter header, and a filter that isn't the one that was claimed: that peer is closed, and nothing of the other is lost.")
     short = frame("cfheaders", b"\0" + a.hashes[3] + a.filters[0][2] + compact(2) + a.filters[1][1] + a.filters[2][1])
@@ -363,13 +387,16 @@ def main():
     s.row(DONE, text(a, two), two)
 
     print("# Claims come to differ while filters are open, of which the first has come: the block is fetched from the other one before the last of them comes.")
+    print("# Nobody is closed for a filter that was asked for before the block came: it is asked for again.")
     s = Session(2).shows_both(liar, a).got(1, liar.cfilter(1)).got(2, a.cfheaders(1, 3), *asks(2, "getdata"))
-    s.got(2, a.block(2)).filters(1, liar, 2, 3)
+    s.got(2, a.block(2), *asks(2, "getcfilters")).filters(1, liar, 2, 3, *asks(1, "getcfilters"))
+    s.got(2, a.cfilter(2)).got(1, liar.cfilter(2), "x 1 Omits")
     s.row(DONE, text(a, watched), watched)
 
     print("# They come to differ on a block that is open to one who claims that it hits: it is fetched once.")
     s = Session(2).shows(2, liar, *asks(2, "getcfheaders")).shows(1, a, *asks(1, "getcfheaders"))
-    s.got(1, a.cfheaders(1, 3), *asks(1, "getcfilters")).filters(1, a, 1, 3, *asks(1, "getdata")).got(2, liar.cfheaders(1, 3)).got(1, a.block(2))
+    s.got(1, a.cfheaders(1, 3), *asks(1, "getcfilters")).filters(1, a, 1, 3, *asks(1, "getdata")).got(2, liar.cfheaders(1, 3))
+    s.got(1, a.block(2), *both_asked).got(1, a.cfilter(2)).got(2, liar.cfilter(2), "x 2 Omits")
     s.row(DONE, text(a, watched), watched)
 
     ours = [8, 9, 11]
@@ -403,6 +430,101 @@ def main():
     s = Session(1).shows(1, a, *asks(1, "getcfheaders")).tick(59).got(1, a.cfheaders(1, 3), *asks(1, "getcfilters")).tick(30)
     s.got(1, a.cfilter(1)).tick(30, "x 1 Overdue")
     s.row("6 NoPeers { ends: [Closed(Overdue)] }: no peer is left", "", watched)
+    omissions(a, liar)
+
+
+def omissions(a, liar):
+    """Rows on who is closed for what its filter omits, and who isn't."""
+    both_asked = asks(1, "getcfilters") + asks(2, "getcfilters")
+
+    def text(ks):
+        return a.history([script(k) for k in ks])
+
+    def differ(chain):
+        """Two peers that differ on the filter at height 2 alone, which was fetched: both are asked for theirs."""
+        s = Session(2).shows_both(chain, a).got(2, a.cfheaders(1, 3), *asks(2, "getdata"))
+        return s.filters(1, chain, 1, 3).got(2, a.block(2), *both_asked)
+
+    print("# A peer leaves out the script that block 1 pays and block 2 spends: both are in dispute, and are fetched. It is closed for block 1; where block 2 comes first,")
+    print("# it is asked for the filter of that one first.")
+    both = a.without(1, script(8)).without(2, script(8))
+    for is_later in (False, True):
+        s = Session(2).shows_both(both, a).got(2, a.cfheaders(1, 3), *asks(2, "getdata")).filters(1, both, 1, 3, *asks(1, "getdata"))
+        if is_later:
+            s.got(1, a.block(2), *asks(1, "getcfilters")).got(2, a.block(1), *asks(2, "getcfilters")).got(1, both.cfilter(2), *asks(1, "getcfilters"))
+        else:
+            s.got(2, a.block(1), *asks(2, "getcfilters")).got(1, a.block(2), *asks(1, "getcfilters"))
+        s.got(1, both.cfilter(1), "x 1 Omits").got(2, a.cfilter(1)).row(DONE, text([8]), [8])
+
+    print("# The same, where the other one is still to bring block 2, which is in dispute no more then. It comes, or that peer goes.")
+    for is_gone in (False, True):
+        s = Session(2).shows_both(both, a).got(2, a.cfheaders(1, 3), *asks(2, "getdata")).got(2, a.block(1), *asks(2, "getdata"))
+        s.filters(1, both, 1, 3, *asks(1, "getcfilters")).got(1, both.cfilter(1), "x 1 Omits")
+        if is_gone:
+            s.gone(2).row("6 NoPeers { ends: [Closed(Omits), Gone] }: no peer is left", "", [8])
+        else:
+            s.got(2, a.block(2)).row(DONE, text([8]), [8])
+
+    print("# Of two peers that leave out the same, one was asked for block 1 when both are closed for what the other one sends of block 2: the third one is asked for the")
+    print("# filter of block 1 that counts now, which clears it.")
+    two = a.without(1, script(8)).without(2, script(14))
+    s = Session(3).shows_both(two, two).got(2, two.cfheaders(1, 3)).filters(1, two, 1, 3).shows(3, a, *asks(3, "getcfheaders"))
+    s.got(3, a.cfheaders(1, 3), *asks(1, "getdata"), *asks(2, "getdata")).got(2, a.block(2), *asks(2, "getcfilters"), *asks(3, "getcfilters"))
+    s.got(2, two.cfilter(2), "x 1 Omits", "x 2 Omits").got(3, a.cfilter(2), *asks(3, "getcfilters"))
+    s.got(3, a.cfilter(1)).row(DONE, text([14]), [14])
+
+    print("# It leaves that script out at height 2 alone, where it is only spent: its filter lacks nothing that the block pays, and nobody is closed for it. Nor for a")
+    print("# filter that has a script more than the block.")
+    spends = a.without(2, script(8))
+    for chain, ks in ((spends, [14]), (a.with_more(2, script(3)), [14])):
+        differ(chain).got(1, chain.cfilter(2)).got(2, a.cfilter(2)).row(DONE, text(ks), ks)
+    s = Session(2).shows_both(spends, a).got(2, a.cfheaders(1, 3), *asks(2, "getdata")).filters(1, spends, 1, 3, *asks(1, "getdata"))
+    s.got(2, a.block(2), *asks(2, "getcfilters")).got(1, a.block(1), *asks(1, "getcfilters")).got(2, a.cfilter(2)).got(1, spends.cfilter(2))
+    s.row(DONE, text([8]), [8])
+
+    print("# Two blocks in dispute, of which the lower one only spends what a filter leaves out: the filters of that one are asked for first, and the peer is closed for")
+    print("# the other one.")
+    later = spends.without(3, script(10))
+    s = Session(2).shows_both(later, a).got(2, a.cfheaders(1, 3), *asks(2, "getdata")).filters(1, later, 1, 3, *asks(1, "getdata"))
+    s.got(2, a.block(2), *asks(2, "getcfilters")).got(1, a.block(3), *asks(1, "getcfilters"))
+    s.got(1, later.cfilter(2), *asks(1, "getcfilters")).got(2, a.cfilter(2), *asks(2, "getcfilters"))
+    s.got(2, a.cfilter(3)).got(1, later.cfilter(3), "x 1 Omits")
+    s.row(DONE, text([14]), [14])
+
+    print("# A filter that is no spelling, and one of no bytes.")
+    for code in ("01000001", ""):
+        nonsense = a.replaced(2, bytes.fromhex(code))
+        differ(nonsense).got(1, nonsense.cfilter(2), "x 1 Omits").got(2, a.cfilter(2)).row(DONE, text([14]), [14])
+
+    print("# What comes in one piece behind the filter by which a peer is closed is read over, and what comes before it is not.")
+    ping = frame("ping", bytes(range(1, 9)))
+    differ(liar).got(1, liar.cfilter(2) + ping + bytes(24), "x 1 Omits").got(2, a.cfilter(2)).row(DONE, text([14]), [14])
+    differ(liar).got(1, ping + liar.cfilter(2) + ping, "> 1 pong", "x 1 Omits").got(2, a.cfilter(2)).row(DONE, text([14]), [14])
+
+    print("# Asked for the filter that it claims, a peer sends another one, or none within a minute, or goes. The other one's is read over then, or comes before.")
+    differ(liar).got(1, a.cfilter(2), "x 1 OtherFilter").got(2, a.cfilter(2)).row(DONE, text([14]), [14])
+    differ(liar).tick(59).got(2, a.cfilter(2)).tick(1, "x 1 Overdue").row(DONE, text([14]), [14])
+    differ(liar).gone(1).got(2, a.cfilter(2)).row(DONE, text([14]), [14])
+
+    print("# A third peer claims a filter that others were asked for: for the one that omits a script it is closed at once, and for the one that doesn't it isn't asked.")
+    for chain, causes in ((liar, ["x 1 Omits"]), (spends, [])):
+        s = Session(3).shows_both(chain, a).got(2, a.cfheaders(1, 3), *asks(2, "getdata")).filters(1, chain, 1, 3)
+        s.got(2, a.block(2), *both_asked).got(1, chain.cfilter(2), *causes).got(2, a.cfilter(2))
+        s.shows(3, chain, *asks(3, "getcfheaders")).got(3, chain.cfheaders(1, 3), *(["x 3 Omits"] if causes else []))
+        s.row(DONE, text([14]), [14])
+
+    print("# The peers come to differ on a block that was fetched for its filter, and is told already: both are asked then.")
+    s = Session(2).shows(1, a, *asks(1, "getcfheaders")).got(1, a.cfheaders(1, 3), *asks(1, "getcfilters"))
+    s.filters(1, a, 1, 3, *asks(1, "getdata")).got(1, a.block(2)).shows(2, liar, *asks(2, "getcfheaders"))
+    s.got(2, liar.cfheaders(1, 3), *both_asked).got(2, liar.cfilter(2), "x 2 Omits").got(1, a.cfilter(2))
+    s.row(DONE, text([14]), [14])
+
+    print("# A longer chain takes the place of the one whose block is in dispute, before the first peer is asked for its filter: it isn't asked any more, and stays.")
+    longer = Chain((7, 1), (8, 3))
+    s = Session(3).shows_both(liar, a).got(2, a.cfheaders(1, 3), *asks(2, "getdata")).got(2, a.block(2), *asks(2, "getcfilters"))
+    s.shows(3, longer, *asks(3, "getcfheaders")).got(3, longer.cfheaders(1, 4), *asks(3, "getcfilters"))
+    s.filters(1, liar, 1, 3).got(2, a.cfilter(2)).filters(3, longer, 2, 4)
+    s.row(DONE, longer.history([script(3)]), [3])
 
 
 if __name__ == "__main__":

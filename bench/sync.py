@@ -10,30 +10,29 @@ has no block.
 
 Then the greatest of the sessions of one peer beside one over the same chain in which every block is fetched, since the filters are no filters: the
 bytes of the peer's messages, and the time.
+
+Last one honest peer of 20,000 blocks beside seven that leave a script each out of their filters, of which all are closed, and beside seven honest ones:
+with the liars a run may take MOST_BESIDE_LIARS times as long.
 """
 import os
 import sys
 import tempfile
-from collections import deque
-from heapq import heappop, heappush
 
-from conversation import Served, compact, double, frame, siphash, version
+from conversation import Served, double, siphash
+from liars import said, scripts_of, without
 from made_chain import records
-from runs import run
+from runs import best, run
 
 BENCH = os.path.dirname(os.path.abspath(__file__))
 ROOT = os.path.dirname(BENCH)
 PROGRAM = os.path.join(ROOT, ".build", "cf")
 WATCHED = bytes.fromhex("01087551")
 NO_FILTER = bytes.fromhex("01000001")
-MOST = 1.3
+# What seven peers leave out; the first of them the script that is watched.
+OMITTED = [bytes([1, k, 0x75, 0x51]) for k in range(8, 15)]
+MOST, MOST_BESIDE_LIARS = 1.3, 1.5
 # How many runs there are of a chain of so many blocks.
 TRIES = {0: 20, 1000: 20, 10_000: 10, 100_000: 4}
-
-
-def parts(tip, most):
-    """The lowest and the highest height of each part of 1 to tip."""
-    return [(start, min(start + most - 1, tip)) for start in range(1, tip + 1, most)]
 
 
 def has_watched(block, text):
@@ -50,42 +49,6 @@ def has_watched(block, text):
         if value == wanted:
             return True
     return False
-
-
-def shown(chain):
-    """What a peer sends of a chain up to its claims."""
-    yield version(65, 0, 0, b"/cf:1/", 0, b"\0")
-    yield frame("verack")
-    for start in range(1, chain.tip + 2, 2000):
-        yield chain.headers(start, min(start + 1999, chain.tip))
-    for start, end in parts(chain.tip, 2000):
-        yield chain.cfheaders(start, end)
-
-
-def said(chain, peers):
-    """What comes from so many peers, with the number of each. `asked` has what each is asked for: the heights of filters, or that of a block."""
-    for message in shown(chain):
-        for p in range(1, peers + 1):
-            yield p, message
-    batches, blocks, asked = deque(parts(chain.tip, 1000)), [], {}
-
-    def ask_all():
-        for p in range(1, peers + 1):
-            if p not in asked and (batches or blocks):
-                asked[p] = batches.popleft() if batches else heappop(blocks)
-
-    ask_all()
-    while asked:
-        for p in range(1, peers + 1):
-            what = asked.pop(p, None)
-            if isinstance(what, tuple):
-                for height in range(what[0], what[1] + 1):
-                    yield p, chain.cfilter(height)
-                    if has_watched(chain.blocks[height], chain.filters[height][0]):
-                        heappush(blocks, height)
-            elif what:
-                yield p, chain.block(what)
-            ask_all()
 
 
 def write_session(path, peers, messages):
@@ -118,6 +81,29 @@ def least(words, tip, tries):
     return text, min(seconds for _, seconds, _ in found)
 
 
+def beside_liars(program, folder, watch):
+    """How many times as long a run takes beside seven liars as beside as many honest peers."""
+    chain = Served(b"".join(records((7, 20_000))))
+    scripts = scripts_of(chain)
+    liars = [without(chain, scripts, script) for script in OMITTED]
+    calls, bytes_sent = [], []
+    for name, others in (("honest", [chain] * 7), ("liars", liars)):
+        session = os.path.join(folder, name)
+        bytes_sent.append(write_session(session, 8, said(others + [chain], has_watched)))
+        calls.append([program, "replay", watch, session])
+    traced = run([program, "replay", "--trace", *calls[1][2:]])[0].splitlines()
+    closed = sorted(line for line in traced if line.startswith(b"x "))
+    if closed != [b"x %d Omits" % p for p in range(1, 8)]:
+        raise SystemExit("other peers are closed than the liars: %r" % closed)
+    (history, seconds, _), (same, slower, _) = best(*calls)
+    if same != history or not history.splitlines()[-1].startswith(b"synced %d " % chain.tip):
+        raise SystemExit("the histories differ")
+    print("%-24s %12s %9s" % ("one peer and seven", "bytes", "seconds"))
+    print("%-24s %12d %8.3fs" % ("honest ones", bytes_sent[0], seconds))
+    print("%-24s %12d %8.3fs" % ("liars", bytes_sent[1], slower), flush=True)
+    return slower / seconds
+
+
 def main():
     program = sys.argv[1] if len(sys.argv) > 1 else PROGRAM
     costs, bad = {1: [], 8: []}, False
@@ -130,24 +116,25 @@ def main():
         none = Served(b"")
         empty = {}
         for peers in costs:
-            write_session(session, peers, said(none, peers))
+            write_session(session, peers, said([none] * peers, has_watched))
             empty[peers] = least(replay, 0, TRIES[0])[1]
         for count in (1000, 10_000, 100_000):
             data = b"".join(records((7, count)))
             chain = Served(data)
             for peers in sorted(costs, reverse=True):
-                size = write_session(session, peers, said(chain, peers))
+                size = write_session(session, peers, said([chain] * peers, has_watched))
                 history, seconds = least(replay, count, TRIES[count])
                 costs[peers].append((seconds - empty[peers]) / count)
                 print("%-12s %6d %8.3fs %14.1f" % (count, peers, seconds, 1e6 * costs[peers][-1]), flush=True)
         with open(file, "wb") as blocks:
             blocks.write(data)
-        every = write_session(session, 1, said(without_filters(chain), 1))
+        every = write_session(session, 1, said([without_filters(chain)], has_watched))
         same, slower = least(replay, count, TRIES[count])
         if same != history:
             raise SystemExit("the histories differ")
         if run([program, "scan", file, watch])[0] != history:
             raise SystemExit("a scan gives another history")
+        times = beside_liars(program, folder, watch)
     for peers, each in costs.items():
         growth = max(later / cost for place, cost in enumerate(each) for later in each[place + 1:])
         bad |= growth > MOST
@@ -155,6 +142,8 @@ def main():
     print("%-24s %12s %9s" % ("one peer", "bytes", "seconds"))
     print("%-24s %12d %8.3fs" % ("by filters", size, seconds))
     print("%-24s %12d %8.3fs" % ("every block fetched", every, slower))
+    bad |= times > MOST_BESIDE_LIARS
+    print("beside seven liars a run takes %.2f times as long; %s is the most that is wanted" % (times, MOST_BESIDE_LIARS))
     return 1 if bad else 0
 
 
