@@ -33,17 +33,18 @@ use Rattle.cf_seek.specs.declared.spans.Span.{Span}
 use Rattle.cf_seek.specs.declared.spans.Wish.TheVariants.{Claims, Filters, Block, Test}
 use Rattle.cf_seek.specs.declared.testing.Trial.{Trial}
 use Rattle.cf_seek.specs.Aims.{IsAimed}
-use Rattle.cf_seek.specs.Outputs.{Paid}
+use Rattle.cf_tables.specs.Outputs.{Paid}
 use Rattle.std.proofs.lemmas.Bool.{cases_eq}
-use Rattle.cf_seek.specs.Testing.{IsSameTold, IsTrying, Told}
-use Rattle.cf_seek.specs.Trials.{IsSameTrials, Trials}
+use Rattle.cf_tables.specs.Tests.{IsSameTold, Told}
+use Rattle.cf_seek.specs.Testing.{IsTrying}
+use Rattle.cf_tables.specs.Trials.{IsSameTrials, Trials}
 use Rattle.cf_seek.proofs.Stops.{back_ends}
 use Rattle.cf_sync.proofs.KeptAims.{IsNoQuestion, aims_asked, aims_for_test, aims_for_wanted, aims_other}
 use Rattle.cf_seek.specs.Opens.{IsSameElse, IsSameOpens, Opens, OpensBlock, OpensFilters}
 use Rattle.cf_seek.specs.Seeking.{MoreOpens}
 use Rattle.cf_seek.specs.Spans.{IsWish}
-use Rattle.cf_seek.specs.Tables.{Table, IsSameTable}
-use Rattle.cf_seek.specs.Wanting.{IsSameTables}
+use Rattle.cf_tables.specs.Tables.{Table, IsSameTable}
+use Rattle.cf_tables.specs.Wanting.{IsSameTables}
 use Rattle.cf_hear.specs.Seen.{Seen, IsSameSeen}
 use Rattle.cf_hear.specs.Tracks.{HasOpened, IsSameElsewhere, Tracks, IsPut}
 use Rattle.cf_hear.proofs.Opening.{else_of, opens_asked, opens_on}

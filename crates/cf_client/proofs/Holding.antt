@@ -35,7 +35,7 @@ use Rattle.cf_sync.specs.Honesty.{was_called}
 use Rattle.cf_sync.specs.Kept.{HoldsClaims, HoldsGiven, claims_kept}
 use Rattle.cf_sync.proofs.Listed.{in_left, in_right}
 use Rattle.cf_sync.proofs.Remembers.{AskedRightly, asked_rightly}
-use Rattle.cf_seek.specs.Held.{CountsBlocks, CountsVerdicts}
+use Rattle.cf_tables.specs.Held.{CountsBlocks, CountsVerdicts}
 use Rattle.cf_wires.specs.Log.{Log, tally_of}
 use Rattle.cf_client.specs.declared.held.Held.{Held}
 use Rattle.cf_place.specs.declared.place.Place.{Place}

@@ -26,7 +26,7 @@ use Rattle.cf_sync.specs.Fetching.{IsBlockOpen, IsConnected, IsAskedOut, IsTeste
 use Rattle.cf_sync.proofs.Counted.{same_use}
 use Rattle.cf_sync.proofs.KeptOpens.{settled_else}
 use Rattle.cf_sync.proofs.Tables.{history_over}
-use Rattle.cf_seek.specs.Wanting.{IsAbove}
+use Rattle.cf_tables.specs.Wanting.{IsAbove}
 use Rattle.cf_hear.specs.Seen.{Seen}
 use Rattle.cf_hear.specs.Tracks.{Tracks}
 use Rattle.cf_seek.specs.Tracking.{IsBestChain, IsReport}

@@ -21,11 +21,11 @@ use Rattle.cf_peer.specs.declared.peer.Request.TheVariants.{Nothing, Handshake, 
 use Rattle.cf_peer.specs.Peer.{IsRight}
 use Rattle.cf_hear.proofs.Wishes.{in_span}
 use Rattle.cf_seek.proofs.Stops.{parent_is}
-use Rattle.cf_seek.proofs.Told.{first_is}
+use Rattle.cf_tables.proofs.Told.{first_is}
 use Rattle.cf_seek.specs.declared.spans.Span.{Span}
 use Rattle.cf_seek.specs.Ends.{AreUnclaimed}
 use Rattle.cf_seek.specs.Spans.{IsSpan}
-use Rattle.cf_seek.specs.Wanting.{IsAbove, AreClaimed}
+use Rattle.cf_tables.specs.Wanting.{IsAbove, AreClaimed}
 use Rattle.cf_place.specs.declared.place.Place.{Place}
 use Rattle.cf_place.specs.declared.place.Place.TheVariants.{Here, Lost}
 use Rattle.cf_place.specs.Places.{nobody}

@@ -23,7 +23,7 @@ use Rattle.cf_sync.specs.Kept.{HoldsTrials, KeepsTrials}
 use Rattle.cf_sync.proofs.Blamed.{tested_stays}
 use Rattle.cf_sync.proofs.Grows.{fetched_stays}
 use Rattle.cf_sync.proofs.KeptAims.{trials_stay}
-use Rattle.cf_seek.specs.Trials.{Trials}
+use Rattle.cf_tables.specs.Trials.{Trials}
 use Rattle.cf_place.specs.declared.place.Place.{Place}
 use Rattle.cf_place.specs.declared.place.Loss.TheVariants.{Closed as ClosedFor}
 use Rattle.cf_place.specs.Places.{Allowed, IsLost, IsReplied, IsRepliedFirst, IsRepliedIn, after, is_here, nobody, place_at}

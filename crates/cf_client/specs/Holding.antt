@@ -14,7 +14,7 @@ use Rattle.cf_msg.specs.declared.msg.Msg.TheVariants.{Cfheaders}
 use Rattle.cf_peer.specs.Trail.{Trail, Part, part_of, Called, Said, Refused, Asked, Passed, Lost, trail, connected, own}
 use Rattle.cf_peer.specs.Asking.{OpenRequest, NothingOpen, HeadersOpen, ClaimsOpen, FiltersOpen, BlockOpen, is_answer_of, request, counted, fetched, given}
 use Rattle.cf_sync.specs.Fetching.{IsConnected, Rightly}
-use Rattle.cf_seek.specs.Held.{CountsBlocks, CountsVerdicts}
+use Rattle.cf_tables.specs.Held.{CountsBlocks, CountsVerdicts}
 use Rattle.cf_wires.specs.Log.{Log, tally_of}
 use Rattle.cf_peer.specs.Held.{count_came}
 use Rattle.cf_client.specs.declared.held.Held.{Held}

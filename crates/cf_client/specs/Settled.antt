@@ -8,11 +8,11 @@ use Rattle.cf_headers.specs.Store.{IsBest}
 use Rattle.cf_hear.specs.Seen.{Seen}
 use Rattle.cf_match.specs.Verdicts.{Verdicts}
 use Rattle.cf_peer.specs.Peer.{IsRight}
-use Rattle.cf_seek.specs.Tables as extracts
+use Rattle.cf_tables.specs.Tables as extracts
 use Rattle.cf_seek.specs.Opens.{Opens}
 use Rattle.cf_seek.specs.Seeking.{ArePassed, AreSought}
 use Rattle.cf_seek.specs.Testing.{IsTrial}
-use Rattle.cf_seek.specs.Wanting.{AreClaimed}
+use Rattle.cf_tables.specs.Wanting.{AreClaimed}
 use Rattle.cf_place.specs.declared.place.Place.{Place}
 use Rattle.cf_place.specs.declared.place.Place.TheVariants.{Here, Lost}
 use Rattle.cf_place.specs.Places.{place_at, is_here, is_idle, is_settled}

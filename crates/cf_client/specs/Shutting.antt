@@ -7,9 +7,9 @@ use Rattle.cf_headers.specs.Chain.{Hash, IsIn}
 use Rattle.cf_peer.specs.declared.act.Act.{Act}
 use Rattle.cf_peer.specs.declared.act.Act.TheVariants.{Close}
 use Rattle.cf_peer.specs.declared.peer.Cause.TheVariants.{Omits}
-use Rattle.cf_seek.specs.Tables.{IsSameTable}
+use Rattle.cf_tables.specs.Tables.{IsSameTable}
 use Rattle.cf_seek.specs.Testing.{IsClaimedAs}
-use Rattle.cf_seek.specs.Trials.{IsSameTrials}
+use Rattle.cf_tables.specs.Trials.{IsSameTrials}
 use Rattle.cf_match.specs.Verdicts.{AreSameVerdicts}
 use Rattle.cf_place.specs.declared.place.Place.{Place}
 use Rattle.cf_place.specs.declared.place.Place.TheVariants.{Lost}

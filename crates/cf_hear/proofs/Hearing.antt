@@ -36,15 +36,15 @@ use Rattle.cf_peer.proofs.Peers.{other_block, reply_is, same_holds, early_header
 use Rattle.cf_peer.proofs.LentLeads.{done_shorter}
 use Rattle.cf_peer.proofs.Stream.{faulty_said, said_met, waits_says}
 use Rattle.cf_scan.specs.declared.extracts.TxExtract.{TxExtract}
-use Rattle.cf_seek.specs.Tables.{Table, IsSameTable, with_block, with_blocks}
+use Rattle.cf_tables.specs.Tables.{Table, IsSameTable, with_block, with_blocks}
 use Rattle.cf_sync.proofs.Counted.{same_use}
 use Rattle.cf_sync.proofs.Grows.{said_brings}
 use Rattle.cf_sync.proofs.Listed.{in_left, in_right, in_either}
 use Rattle.cf_sync.proofs.VerdictsGrow.{said_gives}
-use Rattle.cf_seek.specs.Wanting.{IsSameTables}
+use Rattle.cf_tables.specs.Wanting.{IsSameTables}
 use Rattle.cf_match.specs.declared.job.Job.{Job}
 use Rattle.cf_match.specs.Verdicts.{Verdicts, AreSameVerdicts, with_verdict, with_verdicts}
-use Rattle.cf_seek.proofs.Judgings.{same_all}
+use Rattle.cf_tables.proofs.Judgings.{same_all}
 use Rattle.std.specs.Prelude.{IfOk, IsSome, option_map, unwrap_or}
 use Rattle.cf_block.specs.declared.header.Header.{Header}
 use Rattle.cf_block.specs.Header.{genesis_header}
@@ -64,7 +64,7 @@ use Rattle.cf_hear.specs.Hearing.{Gains, Gives, IsGivenBetween, Retains, HearsSe
 use Rattle.cf_hear.specs.Exposing.{ExposesAmong}
 use Rattle.cf_hear.specs.declared.stop.Stop.{Stop}
 use Rattle.cf_hear.proofs.Trying.{IsOnce, gives_on, go_none, go_on, go_self, go_then, idle_by, once_by, one_empty, trials_self}
-use Rattle.cf_seek.specs.Trials.{IsSameTrials, TrialsGo}
+use Rattle.cf_tables.specs.Trials.{IsSameTrials, TrialsGo}
 use Rattle.cf_hear.proofs.Opening.{else_of, else_self, else_then, opens_claims, opens_headers, opens_on, opens_other, opens_plain, opens_self}
 
 -- ---- what was seen

@@ -33,12 +33,12 @@ use Rattle.cf_sync.proofs.Deaf.{heard_deaf, heard_on}
 use Rattle.cf_sync.proofs.TableGrows.{holds_after_piece}
 use Rattle.cf_sync.proofs.VerdictsGrow.{grown_between, same_given}
 use Rattle.cf_seek.specs.Opens.{Closes, IsSameOpens}
-use Rattle.cf_seek.specs.Tables.{Table, IsSameTable}
-use Rattle.cf_seek.specs.Wanting.{ForgetsClaims, IsSameTables}
+use Rattle.cf_tables.specs.Tables.{Table, IsSameTable}
+use Rattle.cf_tables.specs.Wanting.{ForgetsClaims, IsSameTables}
 use Rattle.cf_hear.specs.Hearing.{HeardWhole, HeardFault, HeardExposed, IsGivenBetween}
 use Rattle.cf_hear.specs.Seen.{Seen, IsSameSeen}
 use Rattle.cf_hear.specs.Tracks.{HasOpened, Tracks, IsPut, IsSameElsewhere, chain_kept}
-use Rattle.cf_seek.specs.Trials.{IsSameTrials}
+use Rattle.cf_tables.specs.Trials.{IsSameTrials}
 use Rattle.cf_hear.proofs.Hearing.{gives_late}
 use Rattle.cf_hear.proofs.Trying.{elsewhere_self, go_on, go_self, trials_self}
 use Rattle.cf_hear.proofs.Opening.{closed_on, closes_off, closes_then, else_by, else_self, holds_by, opens_asked, opens_by, opens_kept, opens_on}

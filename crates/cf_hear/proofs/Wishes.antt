@@ -33,7 +33,7 @@ use Rattle.cf_seek.specs.declared.testing.Trial.{Trial}
 use Rattle.cf_seek.specs.Opens.{IsBlockFree, IsFilterFree}
 use Rattle.cf_seek.specs.Spans.{IsWish}
 use Rattle.cf_seek.specs.Testing.{IsTrial, IsTrying}
-use Rattle.cf_seek.specs.Wanting.{IsAbove, IsUnjudged, AreClaimed}
+use Rattle.cf_tables.specs.Wanting.{IsAbove, IsUnjudged, AreClaimed}
 use Rattle.cf_seek.proofs.Along.{hash_of_next}
 use Rattle.std.proofs.lemmas.Bool.{cases_lt, both_ways}
 use Rattle.cf_seek.proofs.Stops.{above_part, back_ends, lower_on, parent_is}

@@ -15,8 +15,8 @@ use Rattle.cf_peer.specs.Trail.{Trail, Part, Said, connected, part_after, met, o
 use Rattle.cf_peer.specs.Asking.{NothingOpen, request, verdict, counted, fetched, fetched_by, given, given_by}
 use Rattle.cf_peer.specs.Hearing.{IsReply, Faulty}
 use Rattle.cf_peer.specs.Peer.{Holds, Hears}
-use Rattle.cf_seek.specs.Tables.{IsSameTable, with_blocks}
-use Rattle.cf_seek.specs.Trials.{TrialsGo}
+use Rattle.cf_tables.specs.Tables.{IsSameTable, with_blocks}
+use Rattle.cf_tables.specs.Trials.{TrialsGo}
 use Rattle.cf_match.specs.declared.job.Job.{Job}
 use Rattle.cf_match.specs.Verdicts.{AreSameVerdicts, with_verdicts}
 use Rattle.cf_headers.specs.Chain.{Hash, IsIn}

@@ -10,11 +10,11 @@ ghost use Rattle.cf_peer.specs.Peer.{Holds, calm, is_idle_peer, IsReplySendable,
 ghost use Rattle.cf_match.specs.Verdicts.{AreSameVerdicts, verdict_of, with_verdicts};
 ghost use Rattle.cf_headers.specs.Store.{Stays};
 ghost use Rattle.cf_seek.specs.Opens.{Closes, IsSameElse, IsSameOpens};
-ghost use Rattle.cf_seek.specs.Tables.{IsSameTable};
-ghost use Rattle.cf_seek.specs.Testing.{IsSameTold};
-ghost use Rattle.cf_seek.specs.Trials.{IsSameTrials, tested_if};
+ghost use Rattle.cf_tables.specs.Tables.{IsSameTable};
+ghost use Rattle.cf_tables.specs.Tests.{IsSameTold};
+ghost use Rattle.cf_tables.specs.Trials.{IsSameTrials, tested_if};
 ghost use Rattle.cf_tracker.specs.Tracker.{aims_of, chains_of, claims_of, opens_of, paid_of, table_of, tests_of, trials_of, verdicts_of, watch_of};
-ghost use Rattle.cf_seek.specs.Wanting.{IsSameTables};
+ghost use Rattle.cf_tables.specs.Wanting.{IsSameTables};
 ghost use Rattle.cf_hear.specs.Seen.{Follows, seen_of};
 ghost use Rattle.cf_dispute.specs.Tables.{blocks_of};
 ghost use Rattle.cf_hear.specs.Hearing.{HearsSeen, HearsNext, HeardPiece, goes_on};

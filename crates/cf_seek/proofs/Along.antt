@@ -1,5 +1,5 @@
 -- Along a chain.
-use Rattle.std.proofs.Common.{◌≡◌, ◌⊎◌, inl, inr, zero, ℕ, suc, ◌+◌, ◌-◌, ◌<◌, ◌≤◌, List, [], ◌∷◌, ◌++◌, length, get_or, take, drop, reverse, Option, Some, None, refl, sym, ◌∙◌, ap, subst, arith}
+use Rattle.std.proofs.Common.{◌≡◌, inl, inr, zero, ℕ, suc, ◌+◌, ◌-◌, ◌<◌, ◌≤◌, List, [], ◌∷◌, ◌++◌, length, get_or, take, drop, reverse, Option, Some, None, refl, sym, ◌∙◌, ap, subst, arith}
 use Rattle.std.specs.Prelude.{IsSome, unwrap_or, fold}
 use Rattle.std.proofs.lemmas.Bool.{cases_lt}
 use Rattle.std.proofs.lemmas.List.{length-reverse, length-drop, reverse-append, reverse-reverse, drop_more}
@@ -16,7 +16,7 @@ use Rattle.cf_headers.specs.Store.{Chains, rank, IsBest}
 use Rattle.cf_headers.proofs.Stacks.{lower_reverse}
 use Rattle.cf_scan.specs.Scan.{Scanned}
 use Rattle.cf_scan.specs.Extracts.{after_placed}
-use Rattle.cf_seek.specs.Tables.{Table, placed_one, placed_by}
+use Rattle.cf_tables.specs.Tables.{Table, placed_one, placed_by}
 use Rattle.cf_seek.specs.Tracking.{AreAmong, IsBestChain, best_chain}
 
 -- both chains have the blocks up to the common height
@@ -92,19 +92,6 @@ pub told_all : (table : Table) (own : Chain) (i : ℕ) (s whole : Scanned) → l
 told_all table own i s whole past left =
     let none : length (drop i (reverse own)) ≡ 0 = omega (arith, past, length-drop i (reverse own), length-reverse own) in
     sym (ap (λ (xs : List Header). fold after_placed s (placed_by table (i + 1) xs)) (none_left (drop i (reverse own)) none)) ∙ left
-
--- a block of the first so many and one is among the first so many or is the next
-pub in_more : (xs : List Hash32) (i : ℕ) (d : Hash32) (block : Hash) → i < length xs → IsIn block (blocks_of (take (i + 1) xs)) → IsIn block (blocks_of (take i xs)) ⊎ (block ≡ (get_or xs i d).0)
-in_more xs i d block lt is = by xs i lt (subst (λ (n : ℕ). IsIn block (blocks_of (take n xs))) up is) where
-  up : i + 1 ≡ suc i
-  up = omega arith
-
-  by : (xs : List Hash32) (i : ℕ) → i < length xs → IsIn block (blocks_of (take (suc i) xs)) → IsIn block (blocks_of (take i xs)) ⊎ (block ≡ (get_or xs i d).0)
-  by [] i lt is = absurd (omega (arith, lt))
-  by (x ∷ xs) zero lt (inl e) = inr e
-  by (x ∷ xs) zero lt (inr none) = absurd none
-  by (x ∷ xs) (suc i) lt (inl e) = inl (inl e)
-  by (x ∷ xs) (suc i) lt (inr later) = elim (by xs i (omega (arith, lt)) later) [ inl before ↦ inl (inr before) | inr this ↦ inr this ]
 
 -- ---- a chain that goes along blocks
 

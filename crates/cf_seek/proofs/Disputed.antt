@@ -1,5 +1,5 @@
 -- The fetched blocks on whose filters they differ stay listed.
-use Rattle.std.proofs.Common.{◌≡◌, ◌≢◌, ◌⊎◌, inl, inr, ℕ, Bool, true, false, List, [], ◌∷◌, ◌++◌, Option, Some, None, refl, sym, ◌∙◌, ap, subst}
+use Rattle.std.proofs.Common.{◌≡◌, ◌≢◌, ◌⊎◌, inl, inr, ℕ, Bool, true, false, List, [], ◌∷◌, Option, Some, None, refl, sym, ◌∙◌, ap, subst}
 use Rattle.std.specs.Prelude.{◌||◌, IsSome, Result, Ok, Err, OnOk, OnErr, unwrap_or, if◌then◌else◌}
 use Rattle.std.proofs.lemmas.Bool.{cases_Bool, cases_eq, false≢true}
 use Rattle.cf_bytes.specs.declared.hash.Hash32.{Hash32}
@@ -12,25 +12,12 @@ use Rattle.cf_dispute.proofs.PutIn.{in_or_out, same_from, same_true}
 use Rattle.cf_headers.specs.Chain.{Hash, IsIn}
 use Rattle.cf_headers.specs.Rules.{same}
 use Rattle.cf_scan.specs.declared.extracts.TxExtract.{TxExtract}
-use Rattle.cf_seek.specs.Extracts.{with_extract}
-use Rattle.cf_seek.specs.Tables.{Table, IsSameTable}
+use Rattle.cf_tables.specs.Extracts.{with_extract}
+use Rattle.cf_tables.specs.Tables.{Table, IsSameTable}
 use Rattle.cf_seek.specs.Testing.{AreDisputesIn, is_listed}
-use Rattle.cf_seek.specs.Wanting.{ForgetsClaims}
+use Rattle.cf_tables.specs.Wanting.{ForgetsClaims}
 use Rattle.cf_seek.proofs.Marked.{differ_before, others_same}
-
--- what is listed stays listed, with one block more behind it, and that one is listed
-pub in_front : (xs : List Hash32) (x : Hash32) (at : Hash) → IsIn at (blocks_of xs) → IsIn at (blocks_of (xs ++ x ∷ []))
-in_front [] x at is = absurd is
-in_front (y ∷ xs) x at (inl e) = inl e
-in_front (y ∷ xs) x at (inr is) = inr (in_front xs x at is)
-
-pub in_back : (xs : List Hash32) (x : Hash32) → IsIn x.0 (blocks_of (xs ++ x ∷ []))
-in_back [] x = inl refl
-in_back (y ∷ xs) x = inr (in_back xs x)
-
--- the same blocks are listed
-pub in_same : (xs ys : List Hash32) (at : Hash) → ys ≡ xs → IsIn at (blocks_of xs) → IsIn at (blocks_of ys)
-in_same xs ys at e is = subst (λ (zs : List Hash32). IsIn at (blocks_of zs)) (sym e) is
+use Rattle.cf_tables.proofs.Blocks.{in_same}
 
 -- a block is listed where it is in the list
 pub is_among : (block : Hash) (xs : List Hash) → IsIn block xs → is_listed block xs ≡ true

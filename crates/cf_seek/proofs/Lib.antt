@@ -1,6 +1,4 @@
 pub mod Along
-pub mod Told
-pub mod Judgings
 pub mod Stays
 pub mod Ending
 pub mod Marked
@@ -9,12 +7,9 @@ pub mod Stops
 pub mod Opening
 pub mod Shared
 pub mod Falling
-pub mod HeldLaws
-pub mod JudgedLaws
 pub mod Openings
 pub mod Sought
 pub mod SoughtStays
-pub mod Putting
 pub mod Trials
 pub mod Disputed
 pub mod Aiming

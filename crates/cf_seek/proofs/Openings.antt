@@ -1,5 +1,5 @@
 -- What is open, after a change.
-use Rattle.std.proofs.Common.{◌≡◌, ◌≢◌, ◌⊎◌, inl, inr, ℕ, zero, suc, ◌+◌, ◌<◌, ◌≤◌, Bool, true, false, cond, List, [], ◌∷◌, ◌++◌, length, set, take, get_or, refl, sym, ◌∙◌, ap, subst, arith, Option, Some, None}
+use Rattle.std.proofs.Common.{◌≡◌, ◌≢◌, ◌⊎◌, inl, inr, ℕ, zero, suc, ◌+◌, ◌<◌, ◌≤◌, Bool, true, false, cond, List, [], ◌∷◌, ◌++◌, length, set, get_or, refl, sym, ◌∙◌, ap, subst, arith, Option, Some, None}
 use Rattle.std.specs.Prelude.{is_some, slice_get, Result, Ok, Err, OnErr}
 use Rattle.std.specs.Map.{keys_of, lookup}
 use Rattle.std.specs.Ordering.{is_eq, nat_cmp}
@@ -156,29 +156,6 @@ more_at peers p old new d lt was stays block = record {
     | inr off ↦ sym (seat_other (λ o. block_or o hash) peers p q new off) ∙ e
   ];
 }
-
--- ---- one block more of a list
-
-pub in_longer : (xs : List Hash32) (i : ℕ) (block : Hash) → IsIn block (blocks_of (take i xs)) → IsIn block (blocks_of (take (i + 1) xs))
-in_longer xs i block is = (let up : suc i ≡ i + 1 = omega arith in subst (λ (n : ℕ). IsIn block (blocks_of (take n xs))) up (by xs i is)) where
-  by : (xs : List Hash32) (i : ℕ) → IsIn block (blocks_of (take i xs)) → IsIn block (blocks_of (take (suc i) xs))
-  by xs zero none = absurd none
-  by [] (suc i) none = absurd none
-  by (x ∷ xs) (suc i) (inl e) = inl e
-  by (x ∷ xs) (suc i) (inr later) = inr (by xs i later)
-
-pub in_last : (xs : List Hash32) (i : ℕ) (d : Hash32) → i < length xs → IsIn (get_or xs i d).0 (blocks_of (take (i + 1) xs))
-in_last xs i d lt = (let up : suc i ≡ i + 1 = omega arith in subst (λ (n : ℕ). IsIn (get_or xs i d).0 (blocks_of (take n xs))) up (by xs i lt)) where
-  by : (xs : List Hash32) (i : ℕ) → i < length xs → IsIn (get_or xs i d).0 (blocks_of (take (suc i) xs))
-  by [] i lt = absurd (omega (arith, lt))
-  by (x ∷ xs) zero lt = inl refl
-  by (x ∷ xs) (suc i) lt = inr (by xs i (omega (arith, lt)))
-
-pub in_taken : (xs : List Hash32) (i : ℕ) (block : Hash) → IsIn block (blocks_of (take i xs)) → IsIn block (blocks_of xs)
-in_taken xs zero block none = absurd none
-in_taken [] (suc i) block none = absurd none
-in_taken (x ∷ xs) (suc i) block (inl e) = inl e
-in_taken (x ∷ xs) (suc i) block (inr later) = inr (in_taken xs i block later)
 
 -- ---- the keys of a map
 

@@ -7,14 +7,14 @@ use Rattle.cf_dispute.specs.Claims.{Tables}
 use Rattle.cf_headers.specs.Chain.{Hash, Chain}
 use Rattle.cf_headers.specs.Heights.{hash_at, height_of}
 use Rattle.cf_match.specs.Verdicts.{Verdicts}
-use Rattle.cf_seek.specs.declared.kind.Kind.{Kind}
-use Rattle.cf_seek.specs.declared.kind.Kind.TheVariants.{Unclaimed, Unjudged, ToFetch, Done}
-use Rattle.cf_seek.specs.Tables.{Table}
-use Rattle.cf_seek.specs.Wanting.{IsToFetch, IsKind}
+use Rattle.cf_tables.specs.declared.kind.Kind.{Kind}
+use Rattle.cf_tables.specs.declared.kind.Kind.TheVariants.{Unclaimed, Unjudged, ToFetch, Done}
+use Rattle.cf_tables.specs.Tables.{Table}
+use Rattle.cf_tables.specs.Wanting.{IsToFetch, IsKind}
 use Rattle.cf_seek.specs.Opens.{Opens}
 use Rattle.cf_seek.specs.Seeking.{IsToAsk, IsToGet, AreSought, ArePassed, AreToAsk}
 use Rattle.cf_seek.proofs.Stops.{found_low}
-use Rattle.cf_seek.proofs.Told.{not_unjudged, none_differ}
+use Rattle.cf_tables.proofs.Told.{not_unjudged, none_differ}
 
 -- ---- a block's kind
 

@@ -19,9 +19,9 @@ use Rattle.cf_headers.specs.Heights.{hash_at}
 use Rattle.cf_match.specs.declared.job.Verdict.{Verdict}
 use Rattle.cf_match.specs.declared.job.Verdict.TheVariants.{Hit}
 use Rattle.cf_match.specs.Verdicts.{Verdicts, is_of, kept_or, verdict_of, with_verdict, with_verdicts}
-use Rattle.cf_seek.specs.Judged.{MoreVerdicts}
-use Rattle.cf_seek.specs.Tables.{Table}
-use Rattle.cf_seek.specs.Wanting.{IsUnjudged, IsToFetch, AreClaimed, AddsClaims}
+use Rattle.cf_tables.specs.Judged.{MoreVerdicts}
+use Rattle.cf_tables.specs.Tables.{Table}
+use Rattle.cf_tables.specs.Wanting.{IsUnjudged, IsToFetch, AreClaimed, AddsClaims}
 use Rattle.cf_seek.specs.Opens.{Opens, Closes, OpensBlock}
 use Rattle.cf_seek.specs.Seeking.{IsToAsk, IsToGet, AreSought, ArePassed, ArePassedHits, MoreOpens}
 use Rattle.cf_seek.proofs.Stays.{claims_more}

@@ -12,11 +12,11 @@ use Rattle.cf_seek.specs.declared.spans.Wish.TheVariants.{Claims, Filters}
 use Rattle.cf_seek.specs.declared.want.Want.TheVariants.{Claims as ClaimsFrom, Filters as FiltersFrom}
 use Rattle.cf_seek.specs.Ends.{AreUnclaimed, IsLastUnclaimed}
 use Rattle.cf_seek.specs.Spans.{IsSpan, IsWish, GoesFar}
-use Rattle.cf_seek.specs.Tables.{Table}
+use Rattle.cf_tables.specs.Tables.{Table}
 use Rattle.cf_seek.specs.Opens.{Opens}
 use Rattle.cf_seek.specs.Seeking.{AreSought, AreToAsk, IsLastToAsk, IsSought, IsToAsk}
-use Rattle.cf_seek.specs.Wanting.{IsAbove, AreClaimed}
-use Rattle.cf_seek.proofs.Told.{first_is}
+use Rattle.cf_tables.specs.Wanting.{IsAbove, AreClaimed}
+use Rattle.cf_tables.proofs.Told.{first_is}
 use Rattle.std.proofs.lemmas.List.{take-append-drop, reverse-append, reverse-reverse, length-reverse, length-drop, map-append}
 use Rattle.std.proofs.lemmas.Grind.{common_steps, take_at_read}
 use Rattle.cf_block.specs.declared.header.Header.{Header}

@@ -1,17 +1,15 @@
 -- The lowest of the listed blocks that are to be tested.
-use Rattle.std.proofs.Common.{◌≡◌, ◌⊎◌, inl, inr, ℕ, zero, suc, ◌+◌, ◌<◌, ◌≤◌, List, [], ◌∷◌, take, length, get_or, Option, Some, None, Bool, true, false, ◌&&◌, if◌then◌else◌, refl, sym, ◌∙◌, ap, subst, arith}
+use Rattle.std.proofs.Common.{◌≡◌, ◌⊎◌, inl, inr, ℕ, zero, suc, ◌+◌, ◌<◌, ◌≤◌, List, [], ◌∷◌, take, length, get_or, Option, Some, None, refl, sym, subst, arith}
 use Rattle.std.specs.Prelude.{IfSome}
-use Rattle.std.proofs.lemmas.Bool.{and_parts}
 use Rattle.cf_bytes.specs.declared.hash.Hash32.{Hash32}
 use Rattle.cf_dispute.specs.Claims.{Tables}
 use Rattle.cf_dispute.specs.Tables.{blocks_of}
-use Rattle.cf_dispute.proofs.PutIn.{same_true}
 use Rattle.cf_headers.specs.Chain.{Hash, Chain, IsIn}
-use Rattle.cf_headers.specs.Rules.{same}
 use Rattle.cf_seek.specs.declared.testing.Trial.{Trial}
-use Rattle.cf_seek.specs.Tables.{Table}
-use Rattle.cf_seek.specs.Testing.{Told, IsTrial, IsNextTrial, found_too, set_test, with_test}
-use Rattle.cf_seek.proofs.Along.{in_more}
+use Rattle.cf_tables.specs.Tables.{Table}
+use Rattle.cf_tables.specs.Tests.{Told}
+use Rattle.cf_seek.specs.Testing.{IsTrial, IsNextTrial}
+use Rattle.cf_tables.proofs.Blocks.{in_more}
 
 kept_by : (x : Hash32) (before after : List Hash32) (block : Hash) → (IsIn block (blocks_of before) → IsIn block (blocks_of after)) → IsIn block (blocks_of (x ∷ before)) → IsIn block (blocks_of (x ∷ after))
 kept_by x before after block more (inl e) = inl e
@@ -76,19 +74,3 @@ next_some extracts tables told p own common xs i d o found r lt before this tria
         | inr here ↦ (let up = only h (subst (λ (b : Hash). IsTrial extracts tables told p own common b h) here t) in omega (arith, up, low))
       ],
     )
-
--- at the same hashes the same was found before
-set_joined : (told : Told) (at of : Hash) (lacks : Bool) (block filter : Hash)
-    → set_test at of (found_too (told at of) lacks) told block filter ≡ with_test at of lacks told block filter
-set_joined told at of lacks block filter = by (same at block && same of filter) refl where
-  by : (t : Bool) → same at block && same of filter ≡ t
-      → (if t then Some (found_too (told at of) lacks) else told block filter) ≡ (if t then Some (found_too (told block filter) lacks) else told block filter)
-  by true is =
-      let parts = and_parts (same at block) (same of filter) is in
-      ap (λ (o : Option Bool). Some (found_too o lacks)) (ap (λ (h : Hash). told h of) (same_true at block parts.0) ∙ ap (told block) (same_true of filter parts.1))
-  by false is = refl
-
--- what is put in is what was found before, or is now
-pub set_found : (told : Told) (at of : Hash) (found lacks : Bool) (block filter : Hash) → found ≡ found_too (told at of) lacks
-    → set_test at of found told block filter ≡ with_test at of lacks told block filter
-set_found told at of found lacks block filter e = ap (λ (x : Bool). set_test at of x told block filter) e ∙ set_joined told at of lacks block filter

@@ -1,17 +1,10 @@
-pub mod Tables
-pub mod Extracts
 pub mod Tracking
 pub mod Cursors
-pub mod Judged
-pub mod Wanting
 pub mod Ends
 pub mod Spans
-pub mod Held
 pub mod Opens
 pub mod OpensOf
 pub mod OpensAll
 pub mod Seeking
 pub mod Testing
-pub mod Outputs
 pub mod Aims
-pub mod Trials

@@ -10,8 +10,8 @@ use Rattle.cf_match.specs.Verdicts.{Verdicts}
 use Rattle.cf_seek.specs.declared.want.Want.{Want}
 use Rattle.cf_seek.specs.declared.want.Want.TheVariants.{Nothing, Claims, Filters, Block}
 use Rattle.cf_seek.specs.Opens.{Opens, IsFilterFree, IsBlockFree}
-use Rattle.cf_seek.specs.Tables.{Table}
-use Rattle.cf_seek.specs.Wanting.{IsAbove, IsUnjudged, IsToFetch, AreClaimed}
+use Rattle.cf_tables.specs.Tables.{Table}
+use Rattle.cf_tables.specs.Wanting.{IsAbove, IsUnjudged, IsToFetch, AreClaimed}
 
 -- of a block that isn't genesis: its filter is to be asked for, and is open to nobody; it is to be fetched, and is open to nobody
 pub record IsToAsk (extracts : Table) (tables : Tables) (verdicts : Verdicts) (opens : Opens) (block : Hash) : Type 0 where

@@ -1,44 +1,16 @@
 -- Which filter is to be tested next: one that a peer claims of a fetched block on which they differ.
-use Rattle.std.specs.Prelude.{◌≡◌, ℕ, ◌≤◌, List, [], ◌∷◌, Bool, true, false, Option, Some, None, IsSome, unwrap_or, if◌then◌else◌, ◌&&◌, ◌||◌}
-use Rattle.std.specs.Ordering.{is_eq, nat_cmp, ordering_then}
-use Rattle.std.specs.Cmp.Lexicographic.{slice_cmp}
-use Rattle.std.specs.Map.{lookup}
+use Rattle.std.specs.Prelude.{◌≡◌, ℕ, ◌≤◌, List, [], ◌∷◌, Bool, true, false, Option, Some, None, IsSome, ◌||◌}
 use Rattle.cf_dispute.specs.declared.claim.At.TheVariants.{Differ}
 use Rattle.cf_dispute.specs.declared.claim.Claim.{Claim}
 use Rattle.cf_dispute.specs.Claims.{Tables, IsAt}
 use Rattle.cf_headers.specs.Chain.{Hash, Chain, IsIn}
 use Rattle.cf_headers.specs.Heights.{height_of}
 use Rattle.cf_headers.specs.Rules.{same}
-use Rattle.cf_seek.specs.declared.tests.Tests.{Tests}
 use Rattle.cf_seek.specs.declared.spans.Wish.{Wish}
 use Rattle.cf_seek.specs.declared.spans.Wish.TheVariants.{Nothing, Claims, Filters, Block, Test}
 use Rattle.cf_seek.specs.declared.testing.Trial.{Trial}
-use Rattle.cf_seek.specs.Tables.{Table}
-
--- what tests told: of a block and a filter's hash, whether the filter lacks what the block pays
-abbrev pub Told : Type 0
-Told = Hash → Hash → Option Bool
-
--- what is kept of tests
-unfoldable pub told_in : Tests → Told
-told_in tests block filter = lookup (λ k. is_eq (ordering_then (slice_cmp nat_cmp block k.block.0) (slice_cmp nat_cmp filter k.filter.0))) tests.map.entries
-
--- with one test more, in the place of one that stands
-abbrev pub set_test : Hash → Hash → Bool → Told → Told
-set_test at of lacks told block filter = if same at block && same of filter then Some lacks else told block filter
-
--- it was found before, or is now
-abbrev pub found_too : Option Bool → Bool → Bool
-found_too before lacks = unwrap_or before false || lacks
-
--- with one test more, where what was found before to lack something stays so
-abbrev pub with_test : Hash → Hash → Bool → Told → Told
-with_test at of lacks told block filter =
-    if same at block && same of filter then Some (found_too (told block filter) lacks) else told block filter
-
--- the same was found
-abbrev pub IsSameTold : Told → Told → Type 0
-IsSameTold after before = (block filter : Hash) → after block filter ≡ before block filter
+use Rattle.cf_tables.specs.Tables.{Table}
+use Rattle.cf_tables.specs.Tests.{Told}
 
 -- a fetched block on whose filter they differ, where what p claims of it wasn't tested
 pub record IsToTest (extracts : Table) (tables : Tables) (told : Told) (p : ℕ) (block : Hash) : Type 0 where

@@ -14,10 +14,10 @@ use Rattle.cf_scan.specs.declared.history.Entry.{Entry}
 use Rattle.cf_scan.specs.Extracts.{history_of}
 use Rattle.cf_seek.specs.declared.cursors.Marks.{Marks}
 use Rattle.cf_seek.specs.Cursors.{marks_at}
-use Rattle.cf_seek.specs.Tables.{Table, placed_by}
+use Rattle.cf_tables.specs.Tables.{Table, placed_by}
 use Rattle.cf_seek.specs.Opens.{Opens}
 use Rattle.cf_seek.specs.Seeking.{ArePassed, ArePassedHits, AreSought, IsBelowAHit}
-use Rattle.cf_seek.specs.Wanting.{AreClaimed}
+use Rattle.cf_tables.specs.Wanting.{AreClaimed}
 
 -- the marks of an entered peer stand on its chain, none higher than what it claims: it claims its blocks up to one; up to another no filter is to be asked
 -- for that isn't open; and up to the third no block

@@ -3,14 +3,13 @@ ghost use Rattle.std.specs.Prelude.{◌≡◌, ◌+◌, ◌<◌, ◌≤◌, None
 ghost use Rattle.cf_dispute.specs.Of.{tables_of};
 ghost use Rattle.cf_headers.specs.Heights.{hash_at};
 ghost use Rattle.cf_headers.specs.Store.{own_of};
-ghost use Rattle.cf_seek.specs.Wanting.{IsAbove};
+ghost use Rattle.cf_tables.specs.Wanting.{IsAbove};
 ghost use Rattle.cf_seek.specs.Ends.{AreUnclaimed, IsLastUnclaimed};
 
-use crate::first::First;
-use crate::kind::is_unclaimed;
 use cf_bytes::PeerNo;
 use cf_dispute::Claims;
 use cf_headers::HeaderStore;
+use cf_tables::{First, is_unclaimed};
 
 /// The last height, from one on whose block a peer doesn't claim, that it may be asked to claim at once.
 pub fn claims_end<H: HeaderStore>(

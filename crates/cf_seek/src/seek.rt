@@ -3,21 +3,17 @@ ghost use Rattle.std.specs.Prelude.{◌≡◌, ◌≢◌, ◌⊎◌, ◌+◌, �
 ghost use Rattle.cf_dispute.specs.Of.{tables_of};
 ghost use Rattle.cf_headers.specs.Heights.{hash_at, height_of};
 ghost use Rattle.cf_headers.specs.Store.{own_of};
-ghost use Rattle.cf_seek.specs.Extracts.{table_in};
-ghost use Rattle.cf_seek.specs.Judged.{verdicts_in};
+ghost use Rattle.cf_tables.specs.Extracts.{table_in};
+ghost use Rattle.cf_tables.specs.Judged.{verdicts_in};
 ghost use Rattle.cf_seek.specs.OpensAll.{opens_in};
 ghost use Rattle.cf_seek.specs.OpensOf.{block_at, filter_at};
-ghost use Rattle.cf_seek.specs.Wanting.{IsToFetch, IsUnjudged};
+ghost use Rattle.cf_tables.specs.Wanting.{IsToFetch, IsUnjudged};
 ghost use Rattle.cf_seek.specs.Cursors.{marks_at, passed_under};
 ghost use Rattle.cf_seek.specs.Seeking.{ArePassedHits, IsToAsk, IsToGet, AreSought, ArePassed, IsSought, AreToAsk, IsLastToAsk, IsBelowAHit};
 ghost use Rattle.cf_seek.specs.Tracking.{AreRaised, IsFallen, IsMarked, IsWithin};
-ghost use Rattle.cf_seek.specs.declared.kind.Kind.TheVariants.{ToFetch};
+ghost use Rattle.cf_tables.specs.declared.kind.Kind.TheVariants.{ToFetch};
 
 use crate::cursors::{Cursors, Marks};
-use crate::extracts::Extracts;
-use crate::first::First;
-use crate::judged::Judged;
-use crate::kind::{Kind, is_unjudged, kind_above, kind_of};
 use crate::open_at::OpenAt;
 use crate::opens::Opens;
 use crate::want::{Want, climb_claimed};
@@ -25,6 +21,7 @@ use cf_bytes::{Hash32, PeerNo};
 use cf_dispute::Claims;
 use cf_headers::HeaderStore;
 use cf_match::{Job, Verdict};
+use cf_tables::{Extracts, First, Judged, Kind, is_unjudged, kind_above, kind_of};
 
 // Whether a block is to be fetched.
 fn is_due(kind: Kind) -> bool

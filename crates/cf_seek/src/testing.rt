@@ -3,16 +3,15 @@ ghost use Rattle.std.specs.Prelude.{◌≡◌, ℕ, List, true, false, Some, Non
 ghost use Rattle.cf_dispute.specs.Of.{tables_of};
 ghost use Rattle.cf_dispute.specs.Tables.{blocks_of};
 ghost use Rattle.cf_headers.specs.Store.{own_of};
-ghost use Rattle.cf_seek.specs.Extracts.{table_in};
-ghost use Rattle.cf_seek.specs.Testing.{IsClaimedAs, IsExposed, IsToTest, IsTrial, IsNextTrial, told_in};
+ghost use Rattle.cf_tables.specs.Extracts.{table_in};
+ghost use Rattle.cf_seek.specs.Testing.{IsClaimedAs, IsExposed, IsToTest, IsTrial, IsNextTrial};
+ghost use Rattle.cf_tables.specs.Tests.{told_in};
 ghost use Rattle.cf_headers.specs.Chain.{IsIn};
 
-use crate::extracts::Extracts;
-use crate::kind::is_differing;
-use crate::tests::Tests;
 use cf_bytes::{Hash32, PeerNo};
 use cf_dispute::Claims;
 use cf_headers::HeaderStore;
+use cf_tables::{Extracts, Tests, is_differing};
 
 /// A block whose claimed filter is to be tested, and its height.
 #[derive(Clone, Copy, Debug)]

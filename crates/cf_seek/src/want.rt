@@ -3,13 +3,12 @@ ghost use Rattle.std.specs.Prelude.{◌≡◌, ◌+◌, ◌<◌, ◌≤◌, None
 ghost use Rattle.cf_dispute.specs.Of.{tables_of};
 ghost use Rattle.cf_headers.specs.Heights.{hash_at};
 ghost use Rattle.cf_headers.specs.Store.{own_of};
-ghost use Rattle.cf_seek.specs.Wanting.{IsAbove, AreClaimed};
+ghost use Rattle.cf_tables.specs.Wanting.{IsAbove, AreClaimed};
 
-use crate::first::First;
-use crate::kind::is_unclaimed;
 use cf_bytes::PeerNo;
 use cf_dispute::Claims;
 use cf_headers::HeaderStore;
+use cf_tables::{First, is_unclaimed};
 
 /// What a peer is to be asked for next, by the lowest height.
 #[derive(Clone, Copy, Debug)]

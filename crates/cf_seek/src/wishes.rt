@@ -3,29 +3,27 @@ ghost use Rattle.std.specs.Prelude.{◌≤◌, IsSome, IfOk, length};
 ghost use Rattle.cf_dispute.specs.Of.{tables_of};
 ghost use Rattle.cf_dispute.specs.Tables.{blocks_of};
 ghost use Rattle.cf_headers.specs.Store.{own_of};
-ghost use Rattle.cf_seek.specs.Extracts.{table_in};
-ghost use Rattle.cf_seek.specs.Judged.{verdicts_in};
+ghost use Rattle.cf_tables.specs.Extracts.{table_in};
+ghost use Rattle.cf_tables.specs.Judged.{verdicts_in};
 ghost use Rattle.cf_match.specs.Verdicts.{Verdicts};
 ghost use Rattle.cf_seek.specs.declared.want.Want.TheVariants.{Nothing as NothingWanted};
 ghost use Rattle.cf_seek.specs.Opens.{Opens as OpenToAll};
 ghost use Rattle.cf_seek.specs.OpensAll.{opens_in};
 ghost use Rattle.cf_seek.specs.Seeking.{IsSought};
 ghost use Rattle.cf_seek.specs.Spans.{GoesFar, IsWish};
-ghost use Rattle.cf_seek.specs.Testing.{IsTrying, told_in};
+ghost use Rattle.cf_seek.specs.Testing.{IsTrying};
+ghost use Rattle.cf_tables.specs.Tests.{told_in};
 
 use crate::ends::claims_end;
-use crate::extracts::Extracts;
-use crate::first::First;
-use crate::judged::Judged;
 use crate::opens::Opens;
 use crate::seek::sought_end;
 use crate::spans::{Wish, span_of};
 use crate::testing::next_trial;
-use crate::tests::Tests;
 use crate::want::Want;
 use cf_bytes::{Hash32, NoMemory, PeerNo};
 use cf_dispute::Claims;
 use cf_headers::HeaderStore;
+use cf_tables::{Extracts, First, Judged, Tests};
 use std::alloc::Global;
 
 // The question for a filter that is to be tested, where nothing else is to be asked for.

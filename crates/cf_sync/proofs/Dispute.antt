@@ -36,7 +36,8 @@ use Rattle.cf_sync.proofs.Chains.{same_self}
 use Rattle.cf_sync.proofs.Computed.{name_is, small_bytes, version_small, false_version_small, verack_small, headers_small, claims_small, false_claims_small, filter_small, block_small, false_answer_small}
 use Rattle.cf_sync.proofs.Counted.{same_use, said_counts}
 use Rattle.cf_sync.proofs.Written.{at_rest, sent_part, got_part, spelled_is, name_length, its_sendable, verack_sendable, question_sendable, headers_sendable, claims_sendable, filter_sendable, ask_claims_sendable, ask_filter_sendable, fetch_sendable, block_sendable}
-use Rattle.cf_sync.proofs.TwoPeers.{part_2, other_8, of_part, AreOfTwo, at_each, accepted, no_clash, IsKnown, SaysKnown, headers_known, chain_known, good_chain, has_room, at_log, honest_9, says_2, says_3, says_4, says_5, says_6, heard_7, heard_8, heard_9, heard_10, heard_11, heard_12, heard_13, own_7, other_hash, self_hash, may_ask_of, may_ask_claims, request_8, request_9, request_10, request_11, first_same, may_ask_filter, may_fetch, HasNone, unsaid, no_block_11, IsSpare, busy_1, right_9, open_where, counts_13, counts_11, fetched_13, ShowsOnly, only_of, SharesIt, shares_it, ClaimsIt, claims_it, one_long, nobody_below, only_claim, first_byte, t_2, t_3, t_4, t_5, t_6, t_7, t_8, t_9, t_10, t_11, t_12, t_13, u_6, t_14, t_15, says_15, heard_14, heard_15, byte_known, genesis_byte, header_byte, tx_byte, filter_byte, zero_byte, clean_15, counts_15, request_14, request_15, may_ask_again, may_ask_filter_of}
+use Rattle.cf_sync.proofs.TwoPeers.{part_2, other_8, of_part, AreOfTwo, at_each, accepted, no_clash, IsKnown, SaysKnown, headers_known, chain_known, good_chain, has_room, at_log, honest_9, says_2, says_3, says_4, says_5, says_6, heard_7, heard_8, heard_9, heard_10, heard_11, own_7, other_hash, self_hash, may_ask_of, may_ask_claims, request_8, request_9, request_10, request_11, first_same, may_ask_filter, HasNone, unsaid, no_block_11, IsSpare, busy_1, right_9, open_where, counts_11, ShowsOnly, only_of, SharesIt, shares_it, ClaimsIt, claims_it, one_long, nobody_below, only_claim, first_byte, t_2, t_3, t_4, t_5, t_6, t_7, t_8, t_9, t_10, t_11, u_6, byte_known, genesis_byte, header_byte, tx_byte, filter_byte, zero_byte, may_ask_filter_of}
+use Rattle.cf_sync.proofs.Fetched.{heard_12, heard_13, may_fetch, counts_13, fetched_13, t_12, t_13, t_14, t_15, says_15, heard_14, heard_15, clean_15, counts_15, request_14, request_15, may_ask_again}
 use Rattle.cf_sync.proofs.Cleared.{cleared_by, silent_agrees}
 
 -- ---- what the second claims

@@ -15,10 +15,10 @@ use Rattle.cf_peer.specs.Asking.{claims, counted}
 use Rattle.cf_wires.specs.Log.{Log}
 use Rattle.cf_peer.specs.Trail.{Trail, trail, connected}
 use Rattle.cf_scan.specs.declared.extracts.TxExtract.{TxExtract}
-use Rattle.cf_seek.specs.Tables.{Table}
+use Rattle.cf_tables.specs.Tables.{Table}
 use Rattle.cf_sync.specs.Fetching.{counted_part, IsConnected, IsAgreed, IsDisputed, IsJudged, IsSettled, IsFilterWanted, IsBlockWanted, HoldsFetched}
 use Rattle.cf_sync.specs.Fetching as log
-use Rattle.cf_seek.specs.Wanting.{IsDone, IsUnjudged, IsToFetch}
+use Rattle.cf_tables.specs.Wanting.{IsDone, IsUnjudged, IsToFetch}
 use Rattle.cf_sync.specs.Kept.{HoldsClaims, HoldsGiven}
 
 -- who claims something by the tables is connected, and claims it by the log; and the other way round

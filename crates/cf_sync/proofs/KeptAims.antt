@@ -25,9 +25,9 @@ use Rattle.cf_peer.specs.Trail.{Trail, Part, Said, Lost, Went, Failing, Shutting
 use Rattle.cf_peer.specs.Asking.{OpenRequest, NothingOpen, HeadersOpen, ClaimsOpen, FiltersOpen, BlockOpen, block_asked, blocks_from, claims_asked, filter_of, filters_asked, is_answer_of, is_committed, is_wanted, request, request_after, counts, counted, fetched, fetched_by, given, given_by}
 use Rattle.cf_filter.specs.Lacking.{output_items_of}
 use Rattle.cf_headers.specs.Rules.{same}
-use Rattle.cf_seek.specs.Outputs.{Paid, lacks_kept}
-use Rattle.cf_seek.specs.Testing.{IsSameTold, Told}
-use Rattle.cf_seek.specs.Trials.{Trials, TrialsGo, tested_if, with_paid}
+use Rattle.cf_tables.specs.Outputs.{Paid, lacks_kept}
+use Rattle.cf_tables.specs.Tests.{IsSameTold, Told}
+use Rattle.cf_tables.specs.Trials.{Trials, TrialsGo, tested_if, with_paid}
 use Rattle.cf_sync.specs.Fetching.{AreFiltersWanted, IsConnected, IsFetchedHash, IsNoPiece, IsTest, IsTested, IsTestedWith, IsTestOf, IsSameFetched, blocks_in, counted_part, filters_open, test_after}
 use Rattle.cf_sync.specs.Kept.{AimsAt, AreClean, HoldsOutputs, HoldsTests, HoldsTrials, IsNoSend}
 use Rattle.cf_seek.proofs.Stops.{back_ends}

@@ -14,8 +14,8 @@ use Rattle.cf_peer.specs.Trail.{Trail, trail, connected, own}
 use Rattle.cf_peer.specs.Asking.{OpenRequest, NothingOpen, FiltersOpen, BlockOpen, block_entry, request}
 use Rattle.cf_seek.specs.Opens.{Opens, IsFilterFree, IsBlockFree, IsSameElse, Closes, OpensFilters, OpensBlock}
 use Rattle.cf_seek.specs.Seeking.{IsToAsk, IsToGet}
-use Rattle.cf_seek.specs.Tables.{Table}
-use Rattle.cf_seek.specs.Wanting.{IsAbove}
+use Rattle.cf_tables.specs.Tables.{Table}
+use Rattle.cf_tables.specs.Wanting.{IsAbove}
 use Rattle.cf_sync.specs.Fetching.{filters_open, blocks_open, IsFilterOpen, IsBlockOpen, IsAlone, IsSettled, HoldsFetched, blocks_in}
 use Rattle.cf_sync.specs.Kept.{HoldsClaims, HoldsGiven, HoldsOpens, OpensAt}
 use Rattle.cf_match.specs.declared.job.Job.{Job}

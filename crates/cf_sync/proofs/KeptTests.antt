@@ -27,10 +27,11 @@ use Rattle.cf_wires.specs.Log.{Log}
 use Rattle.cf_peer.specs.Asking.{fetched, given}
 use Rattle.cf_peer.specs.Trail.{trail, spelled, own}
 use Rattle.cf_scan.specs.declared.extracts.TxExtract.{TxExtract}
-use Rattle.cf_seek.specs.Outputs.{Paid, lacks_kept, put_outputs}
-use Rattle.cf_seek.specs.Tables.{Table}
-use Rattle.cf_seek.specs.Testing.{AreDisputesIn, Told, IsToTest, IsTrial, IsNextTrial, found_too}
-use Rattle.cf_seek.specs.Trials.{with_found}
+use Rattle.cf_tables.specs.Outputs.{Paid, lacks_kept, put_outputs}
+use Rattle.cf_tables.specs.Tables.{Table}
+use Rattle.cf_seek.specs.Testing.{AreDisputesIn, IsToTest, IsTrial, IsNextTrial}
+use Rattle.cf_tables.specs.Tests.{Told, found_too}
+use Rattle.cf_tables.specs.Trials.{with_found}
 use Rattle.cf_seek.proofs.Along.{common_low}
 use Rattle.cf_seek.proofs.Disputed.{in_among}
 use Rattle.cf_seek.proofs.Stops.{back_ends, found_low}

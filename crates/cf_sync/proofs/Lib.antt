@@ -34,6 +34,7 @@ pub mod KeptTests
 pub mod KeptAims
 pub mod Written
 pub mod TwoPeers
+pub mod Fetched
 pub mod Cleared
 pub mod Dispute
 pub mod Quieted

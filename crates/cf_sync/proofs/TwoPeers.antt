@@ -1,9 +1,7 @@
--- The run with two peers, moment by moment: one is honest, all that was asked might be asked, and the history is the honest chain's.
-use Rattle.std.proofs.Common.{if◌then◌else◌, ◌≡◌, ◌⊎◌, inl, inr, ℕ, ◌<◌, ◌≤◌, List, [], ◌∷◌, ◌++◌, map, length, get_or, Some, None, Bool, true, false, not, ◌&&◌, ◌||◌, ◌==◌, refl, sym, ◌∙◌, ap, subst, arith, Option}
-use Rattle.std.specs.List.{flat_map}
+-- The runs with two peers, moment by moment: one is honest, and all that was asked might be asked.
+use Rattle.std.proofs.Common.{if◌then◌else◌, ◌≡◌, ◌⊎◌, inl, inr, ℕ, ◌<◌, ◌≤◌, List, [], ◌∷◌, ◌++◌, map, length, get_or, Some, None, Bool, true, false, not, ◌&&◌, ◌||◌, ◌==◌, refl, sym, ◌∙◌, ap, subst, arith}
 use Rattle.std.specs.FinMap.{empty, get-empty}
 use Rattle.std.proofs.lemmas.Bool.{cases_Bool, false≢true, and_parts, eqb-true}
-use Rattle.std.proofs.lemmas.List.{append-nil}
 use Rattle.cf_bytes.specs.Hash.{hash_of}
 use Rattle.cf_block.specs.declared.header.Header.{Header}
 use Rattle.cf_block.specs.declared.tx.Block.{Block}
@@ -23,9 +21,9 @@ use Rattle.cf_dispute.specs.Claims.{Table, no_claims, claim_of, with_claim, firs
 use Rattle.cf_filter.specs.Items.{items_of}
 use Rattle.cf_filter.specs.Filter.{basic_filter_of, filter_hash_of}
 use Rattle.cf_match.specs.declared.job.Job.{Job}
-use Rattle.cf_chain.specs.Serve.{data_reply, headers_reply, range_end, cfheaders_reply, cfilters_reply}
+use Rattle.cf_chain.specs.Serve.{headers_reply, range_end, cfheaders_reply, cfilters_reply}
 use Rattle.cf_headers.specs.Rules.{same, is_worked, is_timely}
-use Rattle.cf_headers.specs.Chain.{Chain, no_hash, height_limit, past_of, fits, back_to, accept, Accepted, Longer, IsValidChain, IsIn, NoHashClash, Hash}
+use Rattle.cf_headers.specs.Chain.{Chain, no_hash, height_limit, past_of, fits, back_to, accept, Accepted, Longer, IsValidChain, IsIn, NoHashClash}
 use Rattle.cf_headers.specs.Heights.{hash_at, common_of}
 use Rattle.cf_headers.proofs.Commons.{common_own}
 use Rattle.cf_headers.specs.Shown.{IsShown, Shows, IsShownSpelling}
@@ -34,27 +32,25 @@ use Rattle.cf_msg.specs.declared.msg.Msg.TheVariants.{Verack, Block as BlockMess
 use Rattle.cf_wires.specs.declared.event.Delivery.TheVariants.{Got}
 use Rattle.cf_wires.specs.declared.event.Event.TheVariants.{Dialled, Sent, Took, Closed}
 use Rattle.cf_peer.specs.Acts.{bytes_of}
-use Rattle.cf_peer.specs.Asking.{OpenRequest, is_spare, NothingOpen, ClaimsOpen, FiltersOpen, BlockOpen, claims_asked, filters_asked, filter_of, claims, claims_after, claims_fault, filter_fault, fault_of, request_after, is_idle, given, given_by, HasHeader, IsFree, IsRange, request, is_wanted, is_committed, is_open, block_fault, verdict, counted, lists, fetched, fetched_by, block_entry, HasSaid, hashes_of, MayAsk, SameUse, hash_claimed}
+use Rattle.cf_peer.specs.Asking.{OpenRequest, is_spare, NothingOpen, ClaimsOpen, FiltersOpen, claims_asked, filters_asked, filter_of, claims, claims_after, claims_fault, filter_fault, fault_of, request_after, is_idle, given, given_by, HasHeader, IsFree, IsRange, request, is_committed, is_open, verdict, counted, lists, fetched, HasSaid, MayAsk, SameUse}
 use Rattle.cf_wires.specs.Log.{Log}
 use Rattle.cf_peer.specs.Trail.{Trail, Part, Called, Said, Asked, called_part, heard_part, spelled, asks, part_of, trail, connected, ready, own, heard, longer_of, ends_by, fault_in, first, Lost, Shutting, with_item}
-use Rattle.cf_scan.specs.Scan.{scan_of}
-use Rattle.cf_scan.specs.Watching.{IsWatch}
-use Rattle.cf_sync.specs.Example.{only_tx, only_header, only_block, only_hash, chain_of_one, honest_peer, liar, genesis_hash, no_stop, our_version, its_version, false_version, question, its_headers, false_headers, fetch, its_block, log_1, log_2, log_3, log_4, log_5, log_6, log_7, log_8, log_9, log_10, log_11, log_12, log_13, log_14, log_15, log_16, log_17, log_18, log_19, run_of_two, cleared_run, only_filter, only_filter_hash, genesis_filter_header, ask_claims, its_claims, ask_filter, its_filter}
-use Rattle.cf_sync.specs.Fetching.{counted_part, IsQuiet, IsBusy, AreBytes, IsFetched, IsFetchedHash, IsConnected, Rightly, Claims, IsDisputed}
-use Rattle.cf_sync.proofs.Alone.{IsNoneFetching, none_filters, none_block}
+use Rattle.cf_sync.specs.Example.{only_tx, only_header, only_block, only_hash, chain_of_one, honest_peer, liar, genesis_hash, no_stop, our_version, its_version, false_version, question, its_headers, false_headers, its_block, log_1, log_2, log_3, log_4, log_5, log_6, log_7, log_8, log_9, log_10, log_11, log_12, log_13, log_14, log_15, log_16, log_17, log_18, run_of_two, cleared_run, only_filter, only_filter_hash, genesis_filter_header, ask_claims, its_claims, ask_filter, its_filter}
+use Rattle.cf_sync.specs.Fetching.{IsQuiet, IsBusy, AreBytes, IsFetched, IsConnected, Rightly}
+use Rattle.cf_sync.proofs.Alone.{IsNoneFetching, none_filters}
 use Rattle.cf_sync.specs.Honesty.{Leaves, answers, AnswersAs, IsHonestOver, IsHonest, was_called, ShowsNoOther, filters_above}
-use Rattle.cf_sync.specs.Sync.{strings_of, IsOfBlocks, IsHashed, HasAsked}
+use Rattle.cf_sync.specs.Sync.{strings_of, IsOfBlocks, IsHashed}
 use Rattle.cf_dispute.proofs.Genesis.{first_header_is}
 use Rattle.cf_sync.proofs.Asks.{first_is}
 use Rattle.cf_sync.proofs.Ranges.{filters_in, hashes_in, claims_reply, filters_reply}
 use Rattle.cf_sync.proofs.Filters.{only_items, only_filter_by_name, only_filter_hash_is}
 use Rattle.cf_dispute.proofs.PutIn.{same_from, same_true}
 use Rattle.cf_sync.proofs.Chains.{same_self, cases_same, heads, Setting}
-use Rattle.cf_sync.proofs.Serving.{next_reply, block_found}
+use Rattle.cf_sync.proofs.Serving.{next_reply}
 use Rattle.cf_sync.proofs.Counted.{same_use, said_counts, counted_said, fetched_said}
 use Rattle.cf_sync.proofs.Settles.{committed_is}
-use Rattle.cf_sync.proofs.Computed.{genesis_is, name_is, txid_is, header_fits_type, worked, timely, previous_is_genesis, block_fits, committed, small_bytes, version_small, false_version_small, verack_small, headers_small, false_headers_small, claims_small, filter_small, block_small}
-use Rattle.cf_sync.proofs.Written.{spelled_is, at_rest, sent_part, got_part, our_sendable, its_sendable, false_sendable, verack_sendable, question_sendable, headers_sendable, none_sendable, fetch_sendable, claims_sendable, filter_sendable, ask_claims_sendable, ask_filter_sendable, block_sendable}
+use Rattle.cf_sync.proofs.Computed.{genesis_is, name_is, txid_is, header_fits_type, worked, timely, previous_is_genesis, block_fits, committed, small_bytes, version_small, false_version_small, verack_small, headers_small, false_headers_small, claims_small, filter_small}
+use Rattle.cf_sync.proofs.Written.{spelled_is, at_rest, sent_part, got_part, our_sendable, its_sendable, false_sendable, verack_sendable, question_sendable, headers_sendable, none_sendable, claims_sendable, filter_sendable, ask_claims_sendable, ask_filter_sendable}
 
 -- ---- the parts, moment by moment
 
@@ -90,19 +86,6 @@ t_10 = Asked ask_filter ∷ t_9
 
 abbrev pub t_11 : Trail
 t_11 = Said its_filter ∷ t_10
-
-abbrev pub t_12 : Trail
-t_12 = Asked fetch ∷ t_11
-
-abbrev pub t_13 : Trail
-t_13 = Said its_block ∷ t_12
-
--- and once more its filter, after the block
-abbrev pub t_14 : Trail
-t_14 = Asked ask_filter ∷ t_13
-
-abbrev pub t_15 : Trail
-t_15 = Said its_filter ∷ t_14
 
 part_1 : part_of log_1 1 ≡ at_rest t_1
 part_1 = refl
@@ -140,12 +123,6 @@ part_17 = sent_part honest_peer ask_filter log_16 t_9 ask_filter_sendable part_1
 
 pub part_18 : part_of log_18 1 ≡ at_rest t_11
 part_18 = got_part honest_peer its_filter log_17 t_10 filter_sendable part_17
-
-part_19 : part_of log_19 1 ≡ at_rest t_12
-part_19 = sent_part honest_peer fetch log_18 t_11 fetch_sendable part_18
-
-part_20 : part_of run_of_two 1 ≡ at_rest t_13
-part_20 = got_part honest_peer its_block log_19 t_12 block_sendable part_19
 
 abbrev pub u_1 : Trail
 u_1 = Called ∷ []
@@ -233,10 +210,6 @@ at_each P log here there p one two all h t none = elim (cases_Bool (1 == p)) [
     | inr off2 ↦ of_part P (part_of log p) [] (none_passes log p off1 off2 all) none
   ]
 ]
-
--- and at the end
-of_each : (P : Trail → Type 0) (p : ℕ) → P t_13 → P u_7 → P [] → P (trail run_of_two p)
-of_each P p here there none = at_each P run_of_two t_13 u_7 p part_20 other_20 all_of_two here there none
 
 -- and in the run in which the block is cleared
 pub of_cleared : (P : Trail → Type 0) (p : ℕ) → P t_11 → P u_7 → P [] → P (trail cleared_run p)
@@ -339,7 +312,7 @@ unfolding nodes_within
 hashed_known bytes (inl e) = inr (inr (inl e))
 hashed_known bytes (inr none) = absurd none
 
-block_known : (bytes : List ℕ) → IsIn bytes (strings_of its_block) → IsKnown bytes
+pub block_known : (bytes : List ℕ) → IsIn bytes (strings_of its_block) → IsKnown bytes
 block_known bytes (inl e) = inr (inl e)
 block_known bytes (inr i) = hashed_known bytes i
 
@@ -350,11 +323,11 @@ headers_known bytes (inr none) = absurd none
 abbrev pub SaysKnown : Trail → Type 0
 SaysKnown t = (m : Msg) (bytes : List ℕ) → HasSaid t m → IsIn bytes (strings_of m) → IsKnown bytes
 
-filter_known : (bytes : List ℕ) → IsIn bytes (strings_of its_filter) → IsKnown bytes
+pub filter_known : (bytes : List ℕ) → IsIn bytes (strings_of its_filter) → IsKnown bytes
 filter_known bytes (inl e) = inr (inr (inr e))
 filter_known bytes (inr none) = absurd none
 
-says_11 : SaysKnown t_11
+pub says_11 : SaysKnown t_11
 says_11 m bytes (inl e) i = filter_known bytes (subst (λ (x : Msg). IsIn bytes (strings_of x)) e i)
 says_11 m bytes (inr (inl e)) i = absurd (subst (λ (x : Msg). IsIn bytes (strings_of x)) e i)
 says_11 m bytes (inr (inr (inl e))) i = headers_known bytes (subst (λ (x : Msg). IsIn bytes (strings_of x)) e i)
@@ -362,15 +335,7 @@ says_11 m bytes (inr (inr (inr (inl e)))) i = absurd (subst (λ (x : Msg). IsIn 
 says_11 m bytes (inr (inr (inr (inr (inl e))))) i = absurd (subst (λ (x : Msg). IsIn bytes (strings_of x)) e i)
 says_11 m bytes (inr (inr (inr (inr (inr none))))) i = absurd none
 
-pub says_13 : SaysKnown t_13
-says_13 m bytes (inl e) i = block_known bytes (subst (λ (x : Msg). IsIn bytes (strings_of x)) e i)
-says_13 m bytes (inr said) i = says_11 m bytes said i
-
-pub says_15 : SaysKnown t_15
-says_15 m bytes (inl e) i = filter_known bytes (subst (λ (x : Msg). IsIn bytes (strings_of x)) e i)
-says_15 m bytes (inr said) i = says_13 m bytes said i
-
-says_7 : SaysKnown u_7
+pub says_7 : SaysKnown u_7
 says_7 m bytes (inl e) i = absurd (subst (λ (x : Msg). IsIn bytes (strings_of x)) e i)
 says_7 m bytes (inr (inl e)) i = absurd (subst (λ (x : Msg). IsIn bytes (strings_of x)) e i)
 says_7 m bytes (inr (inr (inl e))) i = absurd (subst (λ (x : Msg). IsIn bytes (strings_of x)) e i)
@@ -395,21 +360,10 @@ chain_known bytes (inr of_filters) = elim of_filters.1 [
   | inr none ↦ absurd none
 ]
 
-run_known : (bytes : List ℕ) → IsHashed run_of_two chain_of_one bytes → IsKnown bytes
-run_known bytes (inl e) = inl e
-run_known bytes (inr (inl received)) = of_each SaysKnown received.0 says_13 says_7 (λ m b none i. absurd none) received.1.0 bytes received.1.1 received.1.2
-run_known bytes (inr (inr of_blocks)) = chain_known bytes of_blocks
-
 cleared_known : (bytes : List ℕ) → IsHashed cleared_run chain_of_one bytes → IsKnown bytes
 cleared_known bytes (inl e) = inl e
 cleared_known bytes (inr (inl received)) = of_cleared SaysKnown received.0 says_11 says_7 (λ m b none i. absurd none) received.1.0 bytes received.1.1 received.1.2
 cleared_known bytes (inr (inr of_blocks)) = chain_known bytes of_blocks
-
-pub run_apart : NoHashClash (IsHashed run_of_two chain_of_one)
-run_apart = record {
-  apart = λ a b i j e. no_clash.apart a b (run_known a i) (run_known b j) e;
-  real = λ a i e. no_clash.real a (run_known a i) e;
-}
 
 pub cleared_apart : NoHashClash (IsHashed cleared_run chain_of_one)
 cleared_apart = record {
@@ -430,7 +384,7 @@ shown_known bytes s = elim s.known [
   | inr i ↦ inr (inl (s.is ∙ ap header_spelling (only_one s.header i)))
 ]
 
-setting : Setting chain_of_one
+pub setting : Setting chain_of_one
 setting = record {
   valid = (only_fits, tt);
   low = has_room;
@@ -444,33 +398,26 @@ setting = record {
   };
 }
 
-headers_answer : headers_reply (genesis_hash ∷ []) no_stop chain_of_one ≡ its_headers ∷ []
+pub headers_answer : headers_reply (genesis_hash ∷ []) no_stop chain_of_one ≡ its_headers ∷ []
 headers_answer = next_reply chain_of_one setting 0 (genesis_hash ∷ []) no_stop (omega arith) refl refl
-
-block_answer : flat_map (data_reply chain_of_one) (block_entry only_hash ∷ []) ≡ its_block ∷ []
-block_answer =
-    append-nil _ ∙ ap (map (λ (b : Block). BlockMessage b)) (block_found chain_of_one setting 0 only_hash (omega arith) refl)
 
 answers_6 : answers chain_of_one t_6 ≡ its_version ∷ Verack ∷ its_headers ∷ []
 answers_6 = ap (λ (x : List Msg). its_version ∷ Verack ∷ (x ++ [])) headers_answer
 
-abbrev claims_said : List Msg
+abbrev pub claims_said : List Msg
 claims_said = cfheaders_reply 1 (range_end 2000 0 1 only_hash chain_of_one) only_hash chain_of_one
 
-abbrev filters_said : List Msg
+abbrev pub filters_said : List Msg
 filters_said = cfilters_reply 1 (range_end 1000 0 1 only_hash chain_of_one) chain_of_one
 
-abbrev blocks_said : List Msg
-blocks_said = flat_map (data_reply chain_of_one) (block_entry only_hash ∷ [])
-
-claims_answer : claims_said ≡ its_claims ∷ []
+pub claims_answer : claims_said ≡ its_claims ∷ []
 claims_answer =
     claims_reply chain_of_one setting 0 1 1 only_hash refl (omega arith) (omega arith) refl (omega arith) (omega arith)
     ∙ ap (λ (x : List ℕ). Cfheaders 0 only_hash (record { 0 = x }) (hashes_in (filters_in 0 1 chain_of_one)) ∷ []) (sym first_is ∙ ap (λ (h : Hash32). h.0) first_header_is)
     ∙ ap (λ (x : List ℕ). Cfheaders 0 only_hash (record { 0 = genesis_filter_header }) (record { 0 = filter_hash_of x } ∷ []) ∷ []) filter_is
     ∙ ap (λ (x : List ℕ). Cfheaders 0 only_hash (record { 0 = genesis_filter_header }) (record { 0 = x } ∷ []) ∷ []) only_filter_hash_is
 
-filter_answer : filters_said ≡ its_filter ∷ []
+pub filter_answer : filters_said ≡ its_filter ∷ []
 filter_answer =
     filters_reply chain_of_one setting 0 1 1 only_hash refl (omega arith) (omega arith) refl (omega arith) (omega arith)
     ∙ ap (λ (x : List ℕ). Cfilter 0 only_hash x ∷ []) filter_is
@@ -484,21 +431,6 @@ answers_10 =
     ap (λ (x : List Msg). its_version ∷ Verack ∷ (x ++ (claims_said ++ (filters_said ++ [])))) headers_answer
     ∙ ap (λ (x : List Msg). its_version ∷ Verack ∷ its_headers ∷ (x ++ (filters_said ++ []))) claims_answer
     ∙ ap (λ (x : List Msg). its_version ∷ Verack ∷ its_headers ∷ its_claims ∷ (x ++ [])) filter_answer
-
-answers_12 : answers chain_of_one t_12 ≡ its_version ∷ Verack ∷ its_headers ∷ its_claims ∷ its_filter ∷ its_block ∷ []
-answers_12 =
-    ap (λ (x : List Msg). its_version ∷ Verack ∷ (x ++ (claims_said ++ (filters_said ++ (blocks_said ++ []))))) headers_answer
-    ∙ ap (λ (x : List Msg). its_version ∷ Verack ∷ its_headers ∷ (x ++ (filters_said ++ (blocks_said ++ [])))) claims_answer
-    ∙ ap (λ (x : List Msg). its_version ∷ Verack ∷ its_headers ∷ its_claims ∷ (x ++ (blocks_said ++ []))) filter_answer
-    ∙ ap (λ (x : List Msg). its_version ∷ Verack ∷ its_headers ∷ its_claims ∷ its_filter ∷ (x ++ [])) block_answer
-
-answers_14 : answers chain_of_one t_14 ≡ its_version ∷ Verack ∷ its_headers ∷ its_claims ∷ its_filter ∷ its_block ∷ its_filter ∷ []
-answers_14 =
-    ap (λ (x : List Msg). its_version ∷ Verack ∷ (x ++ (claims_said ++ (filters_said ++ (blocks_said ++ (filters_said ++ [])))))) headers_answer
-    ∙ ap (λ (x : List Msg). its_version ∷ Verack ∷ its_headers ∷ (x ++ (filters_said ++ (blocks_said ++ (filters_said ++ []))))) claims_answer
-    ∙ ap (λ (x : List Msg). its_version ∷ Verack ∷ its_headers ∷ its_claims ∷ (x ++ (blocks_said ++ (filters_said ++ [])))) filter_answer
-    ∙ ap (λ (x : List Msg). its_version ∷ Verack ∷ its_headers ∷ its_claims ∷ its_filter ∷ (x ++ (filters_said ++ []))) block_answer
-    ∙ ap (λ (x : List Msg). its_version ∷ Verack ∷ its_headers ∷ its_claims ∷ its_filter ∷ its_block ∷ (x ++ [])) filter_answer
 
 says_1 : AnswersAs chain_of_one t_1
 says_1 = record { spelled = tt; follows = ([], refl) }
@@ -532,18 +464,6 @@ heard_10 = record { spelled = tt; follows = (its_filter ∷ [], subst (λ (ns : 
 
 pub heard_11 : AnswersAs chain_of_one t_11
 heard_11 = record { spelled = tt; follows = ([], subst (λ (ns : List Msg). Leaves (its_version ∷ Verack ∷ its_headers ∷ its_claims ∷ its_filter ∷ []) ns ([])) (sym answers_10) ((refl, refl), (refl, (refl, (refl, (refl, refl)))))) }
-
-pub heard_12 : AnswersAs chain_of_one t_12
-heard_12 = record { spelled = tt; follows = (its_block ∷ [], subst (λ (ns : List Msg). Leaves (its_version ∷ Verack ∷ its_headers ∷ its_claims ∷ its_filter ∷ []) ns (its_block ∷ [])) (sym answers_12) ((refl, refl), (refl, (refl, (refl, (refl, refl)))))) }
-
-pub heard_13 : AnswersAs chain_of_one t_13
-heard_13 = record { spelled = tt; follows = ([], subst (λ (ns : List Msg). Leaves (its_version ∷ Verack ∷ its_headers ∷ its_claims ∷ its_filter ∷ its_block ∷ []) ns ([])) (sym answers_12) ((refl, refl), (refl, (refl, (refl, (refl, (refl, refl))))))) }
-
-pub heard_14 : AnswersAs chain_of_one t_14
-heard_14 = record { spelled = tt; follows = (its_filter ∷ [], subst (λ (ns : List Msg). Leaves (its_version ∷ Verack ∷ its_headers ∷ its_claims ∷ its_filter ∷ its_block ∷ []) ns (its_filter ∷ [])) (sym answers_14) ((refl, refl), (refl, (refl, (refl, (refl, (refl, refl))))))) }
-
-pub heard_15 : AnswersAs chain_of_one t_15
-heard_15 = record { spelled = tt; follows = ([], subst (λ (ns : List Msg). Leaves (its_version ∷ Verack ∷ its_headers ∷ its_claims ∷ its_filter ∷ its_block ∷ its_filter ∷ []) ns ([])) (sym answers_14) ((refl, refl), (refl, (refl, (refl, (refl, (refl, (refl, refl)))))))) }
 
 -- at a moment of the log
 pub at_log : (log : Log) (t : Trail) → part_of log 1 ≡ at_rest t → AnswersAs chain_of_one t → AnswersAs chain_of_one (trail log 1)
@@ -600,7 +520,7 @@ honest_14 = (
   ),
 )
 
-honest_18 : IsHonestOver log_18 1 chain_of_one
+pub honest_18 : IsHonestOver log_18 1 chain_of_one
 honest_18 = (
   at_log log_18 t_11 part_18 heard_11,
   tt,
@@ -612,14 +532,6 @@ honest_18 = (
     (at_log log_16 t_9 part_16 heard_9, tt, tt, (at_log log_15 t_8 part_15 heard_8, tt, tt, honest_14)),
   ),
 )
-
-pub is_honest : IsHonest run_of_two 1 chain_of_one
-is_honest = record {
-  good = good_chain;
-  low = has_room;
-  dialled = of_part (λ t. was_called t ≡ true) (part_of run_of_two 1) t_13 part_20 refl;
-  honest = (at_log run_of_two t_13 part_20 heard_13, tt, tt, (at_log log_19 t_12 part_19 heard_12, tt, tt, honest_18));
-}
 
 pub cleared_honest : IsHonest cleared_run 1 chain_of_one
 cleared_honest = record { good = good_chain; low = has_room; dialled = of_part (λ t. was_called t ≡ true) (part_of cleared_run 1) t_11 part_18 refl; honest = honest_18 }
@@ -641,7 +553,7 @@ other_hash = elim (cases_same (block_hash_of genesis_header) only_hash.0) [
 pub self_hash : same only_hash.0 only_hash.0 ≡ true
 self_hash = same_self only_hash.0
 
-back_only : back_to only_hash.0 (own t_7) ≡ Some (only_header ∷ [])
+pub back_only : back_to only_hash.0 (own t_7) ≡ Some (only_header ∷ [])
 back_only = ap (λ (c : Chain). back_to only_hash.0 c) own_7 ∙ rw (other_hash, self_hash) refl
 
 range_of_one : (few : ℕ) (t : Trail) → 0 < few → own t ≡ own t_7 → IsRange t 0 1 only_hash.0 few
@@ -713,12 +625,6 @@ clean_11 = ap (λ x. first x (fault_of its_filter t_10)) clean_9 ∙ filter_fine
 pub request_11 : request t_11 ≡ NothingOpen
 request_11 = ap (λ r. request_after its_filter r) request_10 ∙ rw self_hash refl
 
-pub may_fetch : MayAsk t_11 fetch
-may_fetch = (
-  record { on = refl; over = refl; idle = request_11; answered = sym (same_use t_11 refl clean_11).owing },
-  (only_hash, refl, subst (λ (c : Chain). IsIn only_hash.0 (hashes_of c)) (sym own_7) (inl refl)),
-)
-
 -- before the block came none was fetched
 abbrev pub HasNone : Trail → Type 0
 HasNone t = (b : Block) → IsIn b (fetched (counted t)) → ⊥
@@ -749,9 +655,6 @@ IsSpare t = connected t ≡ true → is_spare (request t) ≡ true
 
 none_open_16 : IsNoneFetching log_16
 none_open_16 q = at_each IsSpare log_16 t_9 u_7 q part_16 other_20 all_of_two.1.1.1.1 (λ on. ap (λ r. is_spare r) request_9) (λ on. refl) (λ on. refl)
-
-none_open_18 : IsNoneFetching log_18
-none_open_18 q = at_each IsSpare log_18 t_11 u_7 q part_18 other_20 all_of_two.1.1 (λ on. ap (λ r. is_spare r) request_11) (λ on. refl) (λ on. refl)
 
 pub busy_1 : (log : Log) → part_of log 1 ≡ at_rest t_2 → IsBusy log
 busy_1 log e = (1, of_part (λ t. is_open t ≡ true) (part_of log 1) t_2 e refl)
@@ -810,22 +713,7 @@ cleared_right = (
   ),
 )
 
-pub is_right : Rightly run_of_two
-is_right = (
-  (1, of_part (λ t. is_open t ≡ true) (part_of log_19 1) t_12 part_19 refl),
-  (
-    (fetch, spelled_is fetch fetch_sendable, record { of_its_part = of_part (λ t. MayAsk t fetch) (part_of log_18 1) t_11 part_18 may_fetch; wanted = λ entry i got. none_fetched got.0 got.1; alone = none_block log_18 1 (block_entry only_hash ∷ []) none_open_18 }),
-    cleared_right,
-  ),
-)
-
 -- ---- the end
-
-pub only_wanted : is_wanted only_block only_hash.0 ≡ true
-only_wanted = same_self (block_hash_of only_header)
-
-pub clean_13 : verdict t_13 ≡ None
-clean_13 = ap (λ x. first x (block_fault only_block (BlockOpen only_hash.0))) clean_11 ∙ rw (only_wanted, committed_is only_block committed) refl
 
 heard_out_7 : heard t_7 ≡ true
 heard_out_7 = ap (λ (a : Accepted). ends_by a (only_header ∷ [])) accepted
@@ -833,7 +721,7 @@ heard_out_7 = ap (λ (a : Accepted). ends_by a (only_header ∷ [])) accepted
 pub still_true : (b : Bool) → b ≡ true → (b || false) ≡ true
 still_true b e = ap (λ (x : Bool). x || false) e
 
-heard_out_11 : heard t_11 ≡ true
+pub heard_out_11 : heard t_11 ≡ true
 heard_out_11 = still_true (heard t_9) (still_true (heard t_7) heard_out_7)
 
 -- what counts of the honest peer's part, in the run and in the one that is cleared
@@ -844,7 +732,7 @@ pub record Counts (t : Trail) : Type 0 where
   pub showing : lists (counted t) ≡ (only_header ∷ []) ∷ []
   pub claimed : claims (counted t) only_hash.0 ≡ Some only_claim
 
-counts_of : (t : Trail) → connected t ≡ true → verdict t ≡ None → own t ≡ own t_7 → heard t ≡ true → lists t ≡ (only_header ∷ []) ∷ [] → claims t ≡ claims t_9 → Counts t
+pub counts_of : (t : Trail) → connected t ≡ true → verdict t ≡ None → own t ≡ own t_7 → heard t ≡ true → lists t ≡ (only_header ∷ []) ∷ [] → claims t ≡ claims t_9 → Counts t
 counts_of t on clean chain whole shown claimed = let u = same_use t on clean in record {
   same = u;
   chain = u.chain ∙ chain ∙ own_7;
@@ -853,41 +741,8 @@ counts_of t on clean chain whole shown claimed = let u = same_use t on clean in 
   claimed = ap (λ (c : Table). c only_hash.0) (u.claiming ∙ claimed) ∙ claim_found;
 }
 
-pub counts_13 : Counts t_13
-counts_13 = counts_of t_13 refl clean_13 refl (still_true (heard t_11) heard_out_11) refl refl
-
--- once it was asked for its filter a second time
-pub may_ask_again : MayAsk t_13 ask_filter
-may_ask_again =
-    let idle_13 : request t_13 ≡ NothingOpen = rw only_wanted refl in
-    let owed_13 = same_use t_13 refl clean_13 in
-    let free : IsFree t_13 = record { on = refl; over = refl; idle = idle_13; answered = sym owed_13.owing } in
-    may_ask_filter_of t_13 only_claim free refl claim_found
-
-pub request_14 : request t_14 ≡ FiltersOpen (only_hash.0 ∷ []) []
-request_14 = ap (λ o. filters_asked 1 o) back_only
-
-filter_fine_again : fault_of its_filter t_14 ≡ None
-filter_fine_again = ap (λ r. filter_fault 0 only_hash.0 only_filter r (claims t_9)) request_14 ∙ rw (self_hash, claim_found, hash_same) refl
-
-pub clean_15 : verdict t_15 ≡ None
-clean_15 = ap (λ x. first x (fault_of its_filter t_14)) clean_13 ∙ filter_fine_again
-
-pub request_15 : request t_15 ≡ NothingOpen
-request_15 = ap (λ r. request_after its_filter r) request_14 ∙ rw self_hash refl
-
-pub counts_15 : Counts t_15
-counts_15 = counts_of t_15 refl clean_15 refl (still_true (heard t_13) (still_true (heard t_11) heard_out_11)) refl refl
-
 pub counts_11 : Counts t_11
 counts_11 = counts_of t_11 refl clean_11 refl heard_out_11 refl refl
-
-pub fetched_13 : IsIn only_block (fetched (counted t_13))
-fetched_13 =
-    let open_12 : request (counted t_12) ≡ BlockOpen only_hash.0 = (same_use t_12 refl clean_11).open_one in
-    let one : counted t_13 ≡ Said its_block ∷ counted t_12 = said_counts its_block t_12 refl clean_13 in
-    let by : fetched_by its_block (request (counted t_12)) ≡ only_block ∷ [] = ap (λ r. fetched_by its_block r) open_12 ∙ rw (only_wanted, committed_is only_block committed) refl in
-    subst (λ (t : Trail). IsIn only_block (fetched t)) (sym one) (subst (λ (bs : List Block). IsIn only_block (bs ++ fetched (counted t_12))) (sym by) (inl refl))
 
 pub given_11 : IsIn (filter_of only_hash only_filter) (given (counted t_11))
 given_11 =
@@ -898,12 +753,6 @@ given_11 =
 
 pub same_other : SameUse u_7
 same_other = same_use u_7 refl refl
-
-is_fetched : IsFetched run_of_two only_block
-is_fetched = (1, of_part (λ t. IsIn only_block (fetched (counted t))) (part_of run_of_two 1) t_13 part_20 fetched_13)
-
-pub is_quiet : IsQuiet run_of_two
-is_quiet p = of_each (λ t. is_open t ≡ false) p (rw only_wanted refl) refl refl
 
 pub cleared_quiet : IsQuiet cleared_run
 cleared_quiet p = of_cleared (λ t. is_open t ≡ false) p (ap (λ r. not (is_idle r)) request_11) refl refl
@@ -934,14 +783,11 @@ only_of other t showing is1 shows l = one_chain other shows.valid (λ h i. told 
   told h (inl (inr none)) = absurd none
   told h (inr none) = absurd none
 
-none_of : (other : Chain) → ShowsOnly other u_7
+pub none_of : (other : Chain) → ShowsOnly other u_7
 none_of other is1 shows l = none_shown other (lists (counted u_7)) (λ h i. nothing h (subst (λ (ls : List (List Header)). IsShown ls h) same_other.showing i)) shows l where
   nothing : (h : Header) → IsShown ([] ∷ []) h → ⊥
   nothing h (inl none) = none
   nothing h (inr none) = none
-
-pub shows_no_other : ShowsNoOther run_of_two chain_of_one
-shows_no_other q other on shows long = of_each (ShowsOnly other) q (only_of other t_13 counts_13.showing) (none_of other) (λ is1 s l. absurd (false≢true is1)) on shows long
 
 pub cleared_shows_no_other : ShowsNoOther cleared_run chain_of_one
 cleared_shows_no_other q other on shows long = of_cleared (ShowsOnly other) q (only_of other t_11 counts_11.showing) (none_of other) (λ is1 s l. absurd (false≢true is1)) on shows long
@@ -960,13 +806,6 @@ bytes_14 = (
 
 pub cleared_bytes : AreBytes cleared_run
 cleared_bytes = (small_bytes (bytes_of its_filter) filter_small, (small_bytes (bytes_of its_claims) claims_small, bytes_14))
-
-are_bytes : AreBytes run_of_two
-are_bytes = (small_bytes (bytes_of its_block) block_small, cleared_bytes)
-
-pub settled : (block : List ℕ) → IsIn block (hashes_of (only_header ∷ [])) → IsFetchedHash run_of_two block
-settled block (inl e) = (only_block, is_fetched, sym e)
-settled block (inr none) = absurd none
 
 -- the one block is all that a chain shares with this one
 abbrev pub SharesIt : Trail → Type 0
@@ -1014,46 +853,3 @@ other_long = let e = ap (λ (c : Chain). length c) same_other.chain in omega (ar
 -- nobody has a number below the honest peer's
 pub nobody_below : (log : Log) (q : ℕ) → connected (trail log 0) ≡ false → q < 1 → IsConnected log q → ⊥
 nobody_below log q off below on = let none : q ≡ 0 = omega (arith, below) in false≢true (sym off ∙ subst (λ (k : ℕ). connected (trail log k) ≡ true) none on)
-
--- where one peer alone claims anything nobody differs
-pub claims_alike : (t : Trail) (log : Log) (block : Hash) → ((p : ℕ) (hash : Hash32) → Claims log p block hash → hash_claimed (claims (counted t)) block ≡ Some hash) → IsDisputed log block → ⊥
-claims_alike t log block alone d = d.apart (one_hash (hash_claimed (claims (counted t)) block) (alone d.one d.mine d.claims.0) (alone d.other d.yours d.claims.1)) where
-  one_hash : (o : Option Hash32) {a b : Hash32} → o ≡ Some a → o ≡ Some b → a ≡ b
-  one_hash o {a} {b} x y = (let both : Some a ≡ Some b = sym x ∙ y in cc)
-
-pub other_claims_nothing : (block : Hash) (hash : Hash32) → hash_claimed (claims (counted u_7)) block ≡ Some hash → ⊥
-other_claims_nothing block hash e = (let none : None ≡ Some hash = sym (ap (λ (c : Table). hash_claimed c block) same_other.claiming) ∙ e in cc none)
-
-no_dispute : (block : Hash) → IsDisputed run_of_two block → ⊥
-no_dispute block = claims_alike t_13 run_of_two block (λ p hash.
-    of_each (λ t. hash_claimed (claims (counted t)) block ≡ Some hash → hash_claimed (claims (counted t_13)) block ≡ Some hash) p (λ e. e) (λ e. absurd (other_claims_nothing block hash e)) (λ e. cc e))
-
-pub has_asked : (watch : List (List ℕ)) → IsWatch watch → HasAsked watch 1 only_hash (scan_of chain_of_one watch) run_of_two
-has_asked watch fits = record {
-  watchable = fits;
-  bytes = are_bytes;
-  rightly = is_right;
-  told = record {
-    chain = only_header ∷ [];
-    best = record {
-      longest = λ p on. of_each (λ t. length (own (counted t)) ≤ 1) p (one_long t_13 counts_13.chain) other_long (omega arith);
-      shown = inl (
-        1,
-        (
-          of_part (λ t. connected t ≡ true) (part_of run_of_two 1) t_13 part_20 refl,
-          of_part (λ t. own (counted t) ≡ only_header ∷ []) (part_of run_of_two 1) t_13 part_20 counts_13.chain,
-          λ q below on. absurd (nobody_below run_of_two q refl below on),
-        ),
-      );
-    };
-    height_is = refl;
-    hash_is = refl;
-    scanned = record { blocks = chain_of_one; taken = (inl (is_fetched, refl), tt); history = refl };
-  };
-  asked_out = λ p on idle. record {
-    heard_out = of_each (λ t. connected t ≡ true → heard (counted t) ≡ true) p (λ is1. counts_13.heard_out) (λ is1. same_other.hearing) (λ is1. absurd (false≢true is1)) on;
-    claimed = of_each ClaimsIt p (claims_it t_13 only_claim counts_13.claimed counts_13.chain) other_claims nobody_claims;
-    settled = λ h one le above no_filter no_block. inl (settled (hash_at (own (counted_part run_of_two p)) h) (inl (of_each SharesIt p (shares_it t_13 counts_13.chain) other_shares nobody_shares h one le)));
-    tested = λ h one le above got disputed hash claims_it. absurd (no_dispute (hash_at (own (counted_part run_of_two p)) h) disputed);
-  };
-}

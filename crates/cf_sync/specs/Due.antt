@@ -15,8 +15,9 @@ use Rattle.cf_seek.specs.declared.spans.Wish.{Wish}
 use Rattle.cf_seek.specs.declared.spans.Wish.TheVariants.{Claims, Filters, Block, Test}
 use Rattle.cf_seek.specs.Opens.{Opens}
 use Rattle.cf_seek.specs.Spans.{IsWish, GoesFar}
-use Rattle.cf_seek.specs.Tables.{Table}
-use Rattle.cf_seek.specs.Testing.{IsTrying, Told}
+use Rattle.cf_tables.specs.Tables.{Table}
+use Rattle.cf_seek.specs.Testing.{IsTrying}
+use Rattle.cf_tables.specs.Tests.{Told}
 
 -- a message puts a question
 abbrev pub Puts : Wish → Msg → Type 0

@@ -6,14 +6,14 @@ use Rattle.cf_headers.specs.Chain.{Hash, Chain}
 use Rattle.cf_headers.specs.Heights.{hash_at}
 use Rattle.cf_match.specs.Verdicts.{Verdicts}
 use Rattle.cf_tracker.specs.declared.account.Written.{Written}
-use Rattle.cf_seek.specs.declared.kind.Kind.{Kind}
-use Rattle.cf_seek.specs.declared.kind.Kind.TheVariants.{Unclaimed, Unjudged, ToFetch, Done}
-use Rattle.cf_seek.specs.Tables.{Table}
-use Rattle.cf_seek.specs.Wanting.{IsDone, IsKind, IsKindAbove}
+use Rattle.cf_tables.specs.declared.kind.Kind.{Kind}
+use Rattle.cf_tables.specs.declared.kind.Kind.TheVariants.{Unclaimed, Unjudged, ToFetch, Done}
+use Rattle.cf_tables.specs.Tables.{Table}
+use Rattle.cf_tables.specs.Wanting.{IsDone, IsKind, IsKindAbove}
 use Rattle.cf_tracker.specs.Writing.{AreDone, IsDoneAbove, WritesOver, WritesPart}
 use Rattle.cf_tracker.specs.Written.{IsWrittenTo, IsWrittenTop, IsWrittenWhole}
 use Rattle.cf_seek.proofs.Sought.{not_to_fetch}
-use Rattle.cf_seek.proofs.Told.{not_unjudged, there_or_none}
+use Rattle.cf_tables.proofs.Told.{not_unjudged, there_or_none}
 
 -- a block of another kind isn't settled
 not_done : (extracts : Table) (tables : Tables) (verdicts : Verdicts) (block : Hash) (k : Kind)

@@ -9,8 +9,8 @@ use Rattle.cf_headers.specs.Heights.{hash_at}
 use Rattle.cf_headers.specs.Store.{Chains, IsBest, own_of}
 use Rattle.cf_match.specs.Verdicts.{Verdicts}
 use Rattle.cf_tracker.specs.declared.account.Written.{Written}
-use Rattle.cf_seek.specs.Tables.{Table}
-use Rattle.cf_seek.specs.Wanting.{IsAbove, IsDone}
+use Rattle.cf_tables.specs.Tables.{Table}
+use Rattle.cf_tables.specs.Wanting.{IsAbove, IsDone}
 use Rattle.cf_tracker.specs.Written.{IsWrittenTo, IsWrittenTop, IsWrittenWhole}
 
 -- a block is settled, but for one with genesis's hash, of which nothing is to be known

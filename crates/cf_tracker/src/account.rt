@@ -2,14 +2,14 @@
 ghost use Rattle.std.specs.Prelude.{◌≡◌, ◌∷◌, ◌++◌, [], ◌+◌, ℕ, List, length, take, true, false, IfOk, OnOk, OnErr};
 ghost use Rattle.cf_scan.specs.Extracts.{history_of};
 ghost use Rattle.cf_tracker.specs.Account.{IsTold, written_in};
-ghost use Rattle.cf_seek.specs.Extracts.{table_in};
-ghost use Rattle.cf_seek.specs.Tables.{Table};
+ghost use Rattle.cf_tables.specs.Extracts.{table_in};
+ghost use Rattle.cf_tables.specs.Tables.{Table};
 ghost use Rattle.cf_tracker.specs.Written.{IsWrittenHere, placed_written, written_as};
 ghost use Rattle.cf_tracker.specs.declared.account.Written.{Written};
 
 use cf_bytes::{Hash32, NoMemory};
 use cf_scan::{Book, History};
-use cf_seek::Extracts;
+use cf_tables::Extracts;
 use std::alloc::Global;
 
 /// A block that is written: its hash, and whether its extract is told.

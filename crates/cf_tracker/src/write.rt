@@ -5,8 +5,8 @@ ghost use Rattle.cf_headers.specs.Chain.{Chain};
 ghost use Rattle.cf_headers.specs.Heights.{common_of, hash_at};
 ghost use Rattle.cf_headers.specs.Store.{own_of};
 ghost use Rattle.cf_tracker.specs.Account.{IsTold, written_in};
-ghost use Rattle.cf_seek.specs.Extracts.{table_in};
-ghost use Rattle.cf_seek.specs.Judged.{verdicts_in};
+ghost use Rattle.cf_tables.specs.Extracts.{table_in};
+ghost use Rattle.cf_tables.specs.Judged.{verdicts_in};
 ghost use Rattle.cf_tracker.specs.Writing.{AreDone, IsDoneAbove, IsUpTo};
 ghost use Rattle.cf_tracker.specs.Written.{IsWrittenHere, IsWrittenTo, IsWrittenTop, IsWrittenWhole};
 
@@ -15,7 +15,7 @@ use crate::bookmark::Bookmark;
 use cf_bytes::{Hash32, NoMemory, PeerNo};
 use cf_dispute::Claims;
 use cf_headers::HeaderStore;
-use cf_seek::{Extracts, First, Judged, is_done, kind_above};
+use cf_tables::{Extracts, First, Judged, is_done, kind_above};
 
 // How far the written blocks are those of an entered peer's chain, from a height up to which they are.
 fn climb_written<H: HeaderStore>(

@@ -1,9 +1,9 @@
 use Rattle.std.proofs.Common.{false, true, ◌≡◌, ◌∙◌, ap, subst}
 use Rattle.cf_dispute.specs.Of.{tables_of}
-use Rattle.cf_seek.specs.Extracts.{table_in}
-use Rattle.cf_seek.specs.Judged.{verdicts_in}
+use Rattle.cf_tables.specs.Extracts.{table_in}
+use Rattle.cf_tables.specs.Judged.{verdicts_in}
 use Rattle.cf_seek.specs.OpensOf.{block_at, is_this}
-use Rattle.cf_seek.specs.Wanting.{IsKind, IsToFetch}
+use Rattle.cf_tables.specs.Wanting.{IsKind, IsToFetch}
 use Rattle.cf_seek.proofs.Sought.{not_to_fetch}
 use Rattle.cf_seek.proofs.SoughtStays.{same_true}
 use Rattle.cf_seek.proofs.Openings.{same_here}

@@ -2,12 +2,12 @@ use Rattle.std.proofs.Common.{inl, inr, refl, sym, subst}
 use Rattle.cf_dispute.specs.Of.{tables_of}
 use Rattle.cf_dispute.specs.Tables.{blocks_of}
 use Rattle.cf_headers.specs.Chain.{IsIn}
-use Rattle.cf_seek.specs.Extracts.{table_in}
-use Rattle.cf_seek.specs.Judged.{verdicts_in}
+use Rattle.cf_tables.specs.Extracts.{table_in}
+use Rattle.cf_tables.specs.Judged.{verdicts_in}
 use Rattle.cf_seek.specs.OpensOf.{filter_at}
-use Rattle.cf_seek.specs.Wanting.{IsKind, IsUnjudged}
+use Rattle.cf_tables.specs.Wanting.{IsKind, IsUnjudged}
 use Rattle.cf_seek.proofs.Openings.{in_keys, key_there}
-use Rattle.cf_seek.proofs.Told.{not_unjudged}
+use Rattle.cf_tables.proofs.Told.{not_unjudged}
 use Rattle.cf_seek.proofs.seek.is_filter_left.Goals as goal
 
 pub returns-clause-no : goal.returns-clause-no

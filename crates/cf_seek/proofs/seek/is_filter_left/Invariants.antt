@@ -3,9 +3,9 @@ use Rattle.std.specs.Map.{keys_of}
 use Rattle.cf_dispute.specs.Of.{tables_of}
 use Rattle.cf_dispute.specs.Tables.{blocks_of}
 use Rattle.cf_headers.specs.Chain.{IsIn}
-use Rattle.cf_seek.specs.Extracts.{table_in}
-use Rattle.cf_seek.specs.Judged.{verdicts_in}
-use Rattle.cf_seek.specs.Wanting.{IsUnjudged}
+use Rattle.cf_tables.specs.Extracts.{table_in}
+use Rattle.cf_tables.specs.Judged.{verdicts_in}
+use Rattle.cf_tables.specs.Wanting.{IsUnjudged}
 use Rattle.cf_seek.proofs.seek.is_filter_left.Given as goal
 
 -- each key is still to come, or needn't be asked about; and what is still to come is a key

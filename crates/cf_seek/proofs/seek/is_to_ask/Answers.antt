@@ -1,7 +1,7 @@
 use Rattle.cf_dispute.specs.Of.{tables_of}
-use Rattle.cf_seek.specs.Extracts.{table_in}
-use Rattle.cf_seek.specs.Judged.{verdicts_in}
-use Rattle.cf_seek.proofs.Told.{not_unjudged}
+use Rattle.cf_tables.specs.Extracts.{table_in}
+use Rattle.cf_tables.specs.Judged.{verdicts_in}
+use Rattle.cf_tables.proofs.Told.{not_unjudged}
 use Rattle.cf_seek.proofs.seek.is_to_ask.Goals as goal
 
 pub returns-then-not-is_unjudged-clause-no : goal.returns-then-not-is_unjudged-clause-no

@@ -1,6 +1,6 @@
 use Rattle.cf_dispute.specs.Of.{tables_of}
-use Rattle.cf_seek.specs.Extracts.{table_in}
-use Rattle.cf_seek.specs.Judged.{verdicts_in}
+use Rattle.cf_tables.specs.Extracts.{table_in}
+use Rattle.cf_tables.specs.Judged.{verdicts_in}
 use Rattle.cf_seek.proofs.Sought.{not_to_fetch}
 use Rattle.cf_seek.proofs.seek.is_to_get.Goals as goal
 

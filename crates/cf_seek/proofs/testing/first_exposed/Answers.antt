@@ -1,8 +1,9 @@
 use Rattle.std.proofs.Common.{ℕ, List, inl, inr, subst}
 use Rattle.cf_dispute.specs.Of.{tables_of}
 use Rattle.cf_headers.specs.Chain.{Hash}
-use Rattle.cf_seek.specs.Testing.{IsExposed, told_in}
-use Rattle.cf_seek.proofs.Along.{in_more}
+use Rattle.cf_seek.specs.Testing.{IsExposed}
+use Rattle.cf_tables.specs.Tests.{told_in}
+use Rattle.cf_tables.proofs.Blocks.{in_more}
 use Rattle.cf_seek.proofs.testing.first_exposed.Goals as goal
 
 pub loop-block-preserved : goal.loop-block-preserved

@@ -2,8 +2,9 @@ use Rattle.std.proofs.Common.{take}
 use Rattle.cf_dispute.specs.Of.{tables_of}
 use Rattle.cf_dispute.specs.Tables.{blocks_of}
 use Rattle.cf_headers.specs.Store.{own_of}
-use Rattle.cf_seek.specs.Extracts.{table_in}
-use Rattle.cf_seek.specs.Testing.{IsNextTrial, told_in}
+use Rattle.cf_tables.specs.Extracts.{table_in}
+use Rattle.cf_seek.specs.Testing.{IsNextTrial}
+use Rattle.cf_tables.specs.Tests.{told_in}
 use Rattle.cf_seek.proofs.testing.next_trial.Given as goal
 
 abbrev pub invariant-loop-block : goal.invariant-loop-block

@@ -2,8 +2,8 @@ use Rattle.std.proofs.Common.{subst, arith}
 use Rattle.cf_dispute.specs.Of.{tables_of}
 use Rattle.cf_headers.specs.Store.{own_of}
 use Rattle.cf_seek.specs.declared.want.Want.TheVariants.{Claims, Filters, Block}
-use Rattle.cf_seek.specs.Extracts.{table_in}
-use Rattle.cf_seek.specs.Judged.{verdicts_in}
+use Rattle.cf_tables.specs.Extracts.{table_in}
+use Rattle.cf_tables.specs.Judged.{verdicts_in}
 use Rattle.cf_seek.specs.OpensAll.{opens_in}
 use Rattle.cf_seek.specs.Seeking.{IsSought}
 use Rattle.cf_seek.proofs.Stops.{apart_claims, apart_filters, far_claims, far_filters, wish_claims, wish_filters}

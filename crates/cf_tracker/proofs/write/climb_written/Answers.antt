@@ -1,7 +1,7 @@
 use Rattle.std.proofs.Common.{◌≡◌, ◌<◌, length, subst, arith}
 use Rattle.cf_headers.specs.Store.{own_of}
 use Rattle.cf_tracker.specs.Account.{written_in}
-use Rattle.cf_seek.specs.Extracts.{table_in}
+use Rattle.cf_tables.specs.Extracts.{table_in}
 use Rattle.cf_tracker.specs.Written.{IsWrittenTo}
 use Rattle.cf_tracker.proofs.Writings.{written_next}
 use Rattle.cf_tracker.proofs.write.climb_written.Goals as goal

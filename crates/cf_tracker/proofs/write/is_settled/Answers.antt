@@ -1,6 +1,6 @@
 use Rattle.cf_dispute.specs.Of.{tables_of}
-use Rattle.cf_seek.specs.Extracts.{table_in}
-use Rattle.cf_seek.specs.Judged.{verdicts_in}
+use Rattle.cf_tables.specs.Extracts.{table_in}
+use Rattle.cf_tables.specs.Judged.{verdicts_in}
 use Rattle.cf_tracker.proofs.Settling.{settled_by, unsettled_by}
 use Rattle.cf_tracker.proofs.write.is_settled.Goals as goal
 

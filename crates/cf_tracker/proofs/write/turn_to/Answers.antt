@@ -1,6 +1,6 @@
 use Rattle.cf_headers.specs.Store.{own_of}
 use Rattle.cf_tracker.specs.Account.{written_in}
-use Rattle.cf_seek.specs.Extracts.{table_in}
+use Rattle.cf_tables.specs.Extracts.{table_in}
 use Rattle.cf_tracker.proofs.Writings.{shared_to, written_top}
 use Rattle.cf_tracker.proofs.write.turn_to.Goals as goal
 

@@ -2,7 +2,7 @@ use Rattle.std.proofs.Common.{◌<◌, List, length, sym, subst, arith}
 use Rattle.cf_headers.specs.Store.{own_of}
 use Rattle.cf_tracker.specs.declared.account.Written.{Written}
 use Rattle.cf_tracker.specs.Account.{written_in}
-use Rattle.cf_seek.specs.Extracts.{table_in}
+use Rattle.cf_tables.specs.Extracts.{table_in}
 use Rattle.cf_tracker.specs.Written.{IsWrittenTo, written_as}
 use Rattle.cf_tracker.proofs.Writings.{pushed_long, take_long, written_low, written_push, written_take, written_whole}
 use Rattle.cf_tracker.proofs.write.write_blocks.Goals as goal

@@ -1,7 +1,7 @@
 use Rattle.std.proofs.Common.{◌≡◌, ◌≤◌, length}
 use Rattle.cf_headers.specs.Store.{own_of}
 use Rattle.cf_tracker.specs.Account.{IsTold, written_in}
-use Rattle.cf_seek.specs.Extracts.{table_in}
+use Rattle.cf_tables.specs.Extracts.{table_in}
 use Rattle.cf_tracker.specs.Written.{IsWrittenTo}
 use Rattle.cf_tracker.proofs.write.write_blocks.Given as goal
 

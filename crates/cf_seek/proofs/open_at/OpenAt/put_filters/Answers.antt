@@ -2,8 +2,7 @@ use Rattle.std.proofs.Common.{◌≡◌, inl, inr, ℕ, ◌+◌, List, take, tru
 use Rattle.cf_dispute.specs.Tables.{blocks_of}
 use Rattle.cf_headers.specs.Chain.{IsIn}
 use Rattle.cf_seek.specs.OpensOf.{filter_at}
-use Rattle.cf_seek.proofs.Along.{in_more}
-use Rattle.cf_seek.proofs.Openings.{in_longer, in_last, in_taken}
+use Rattle.cf_tables.proofs.Blocks.{in_more, in_longer, in_last, in_taken}
 use Rattle.cf_seek.proofs.open_at.OpenAt.put_filters.Goals as goal
 
 pub loop-block-preserved : goal.loop-block-preserved

@@ -1,4 +1,4 @@
-use Rattle.cf_seek.specs.Extracts.{table_in}
+use Rattle.cf_tables.specs.Extracts.{table_in}
 use Rattle.cf_tracker.proofs.Telling.{told_more, written_is}
 use Rattle.cf_tracker.proofs.account.Account.write.Goals as goal
 

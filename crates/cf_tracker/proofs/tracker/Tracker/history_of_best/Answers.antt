@@ -1,7 +1,7 @@
 use Rattle.std.proofs.Common.{◌∙◌, reverse, sym}
 use Rattle.std.proofs.lemmas.List.{length-reverse}
 use Rattle.cf_tracker.specs.Account.{written_in}
-use Rattle.cf_seek.specs.Extracts.{table_in}
+use Rattle.cf_tables.specs.Extracts.{table_in}
 use Rattle.cf_seek.specs.Tracking.{best_chain}
 use Rattle.cf_tracker.proofs.Telling.{history_along, history_opened}
 use Rattle.cf_tracker.proofs.Writings.{whole_along}

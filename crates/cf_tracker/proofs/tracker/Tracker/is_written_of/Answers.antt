@@ -1,7 +1,7 @@
 use Rattle.std.proofs.Common.{◌∙◌, sym}
 use Rattle.std.proofs.lemmas.Bool.{eqb-true}
 use Rattle.cf_tracker.specs.Account.{written_in}
-use Rattle.cf_seek.specs.Extracts.{table_in}
+use Rattle.cf_tables.specs.Extracts.{table_in}
 use Rattle.cf_tracker.proofs.Writings.{whole_of}
 use Rattle.cf_tracker.proofs.tracker.Tracker.is_written_of.Goals as goal
 

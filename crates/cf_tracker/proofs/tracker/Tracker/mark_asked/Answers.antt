@@ -1,6 +1,6 @@
 use Rattle.cf_dispute.specs.Of.{tables_of}
-use Rattle.cf_seek.specs.Extracts.{table_in}
-use Rattle.cf_seek.specs.Judged.{verdicts_in}
+use Rattle.cf_tables.specs.Extracts.{table_in}
+use Rattle.cf_tables.specs.Judged.{verdicts_in}
 use Rattle.cf_seek.specs.OpensAll.{opens_in}
 use Rattle.cf_seek.proofs.Marked.{opened_marked}
 use Rattle.cf_tracker.proofs.Asking.{none_asked}

@@ -4,12 +4,13 @@ use Rattle.cf_dispute.specs.Of.{tables_of}
 use Rattle.cf_dispute.specs.Tables.{blocks_of}
 use Rattle.cf_headers.specs.Store.{own_of}
 use Rattle.cf_seek.specs.declared.cursors.Marks.{Marks}
-use Rattle.cf_seek.specs.Extracts.{table_in}
-use Rattle.cf_seek.specs.Judged.{verdicts_in}
+use Rattle.cf_tables.specs.Extracts.{table_in}
+use Rattle.cf_tables.specs.Judged.{verdicts_in}
 use Rattle.cf_seek.specs.OpensAll.{opens_in}
 use Rattle.cf_seek.specs.Tracking.{IsMarked, AreMarked}
 use Rattle.cf_seek.specs.Spans.{GoesFar, IsWish}
-use Rattle.cf_seek.specs.Testing.{IsTrying, told_in}
+use Rattle.cf_seek.specs.Testing.{IsTrying}
+use Rattle.cf_tables.specs.Tests.{told_in}
 use Rattle.cf_seek.proofs.Along.{common_low}
 use Rattle.cf_seek.proofs.Opening.{opened, up_marked}
 use Rattle.cf_tracker.proofs.tracker.Tracker.seek.Goals as goal

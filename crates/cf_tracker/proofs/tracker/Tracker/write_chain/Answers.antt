@@ -3,8 +3,8 @@ use Rattle.std.proofs.Math.Logic.{∥∥₁_map}
 use Rattle.cf_dispute.specs.Of.{tables_of}
 use Rattle.cf_headers.specs.Store.{own_of}
 use Rattle.cf_tracker.specs.Account.{written_in}
-use Rattle.cf_seek.specs.Extracts.{table_in}
-use Rattle.cf_seek.specs.Judged.{verdicts_in}
+use Rattle.cf_tables.specs.Extracts.{table_in}
+use Rattle.cf_tables.specs.Judged.{verdicts_in}
 use Rattle.cf_tracker.specs.Written.{IsWrittenTo}
 use Rattle.cf_tracker.proofs.Asking.{failed}
 use Rattle.cf_tracker.proofs.Settling.{writes_all, writes_not, writes_part}

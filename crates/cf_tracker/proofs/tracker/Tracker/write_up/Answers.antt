@@ -1,5 +1,5 @@
 use Rattle.std.proofs.Common.{Some, None, refl}
-use Rattle.cf_seek.specs.Extracts.{table_in}
+use Rattle.cf_tables.specs.Extracts.{table_in}
 use Rattle.cf_seek.proofs.Along.{best_entered}
 use Rattle.cf_tracker.proofs.Asking.{failed}
 use Rattle.cf_tracker.proofs.Telling.{stands_now}

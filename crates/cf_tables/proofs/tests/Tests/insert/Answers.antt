@@ -1,0 +1,10 @@
+use Rattle.std.proofs.Common.{Bool, cond, Some, ◌∙◌, ap}
+use Rattle.cf_tables.specs.Tests.{told_in}
+use Rattle.cf_tables.proofs.Judgings.{both_same}
+use Rattle.cf_tables.proofs.tests.Tests.insert.Goals as goal
+
+pub returns-clause-ok : goal.returns-clause-ok
+unfolding told_in
+returns-clause-ok c = λ block filter.
+    c.in_ok-insert.ensures.updates.0 (record { block = record { 0 = block }; filter = record { 0 = filter } })
+    ∙ ap (λ (b : Bool). cond b (Some c.args.lacks) (told_in c.args.self.now block filter)) (both_same c.args.block.0 c.args.filter.0 block filter)

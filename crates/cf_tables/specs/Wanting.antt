@@ -1,0 +1,61 @@
+-- What is still to be done about a block.
+use Rattle.std.specs.Prelude.{◌≡◌, ◌≢◌, ◌⊎◌, ℕ, ◌≤◌, Some, None, IsSome}
+use Rattle.cf_bytes.specs.declared.hash.Hash32.{Hash32}
+use Rattle.cf_block.specs.Header.{block_hash_of, genesis_header}
+use Rattle.cf_dispute.specs.declared.claim.At.TheVariants.{Nobody, One, Differ}
+use Rattle.cf_dispute.specs.declared.claim.Claim.{Claim}
+use Rattle.cf_dispute.specs.Claims.{Tables, IsAt}
+use Rattle.cf_headers.specs.Chain.{Hash, Chain}
+use Rattle.cf_headers.specs.Heights.{hash_at}
+use Rattle.cf_match.specs.declared.job.Verdict.TheVariants.{Miss, Hit}
+use Rattle.cf_match.specs.Verdicts.{Verdicts}
+use Rattle.cf_tables.specs.declared.kind.Kind.{Kind}
+use Rattle.cf_tables.specs.declared.kind.Kind.TheVariants.{Unclaimed, Unjudged, ToFetch, Done}
+use Rattle.cf_tables.specs.Tables.{Table}
+
+-- a block's hash isn't genesis's
+abbrev pub IsAbove : Hash → Type 0
+IsAbove block = block ≡ block_hash_of genesis_header → ⊥
+
+-- by extracts, claims and verdicts a block is settled; its filter is to be asked for, of those who claim it; it is to be fetched
+abbrev pub IsDone : Table → Tables → Verdicts → Hash → Type 0
+IsDone extracts tables verdicts block = IsSome (extracts block) ⊎ ((hash : Hash32) × IsAt tables block (One hash) × (verdicts block hash.0 ≡ Some Miss))
+
+-- its filter is to be asked for: it has no extract, and the one filter that is claimed of it has no verdict
+abbrev pub IsUnjudged : Table → Tables → Verdicts → Hash → Type 0
+IsUnjudged extracts tables verdicts block = (extracts block ≡ None) × ((hash : Hash32) × IsAt tables block (One hash) × (verdicts block hash.0 ≡ None))
+
+-- it is to be fetched: it has no extract, and different filters are claimed of it, or the one that is claimed hits
+abbrev pub IsToFetch : Table → Tables → Verdicts → Hash → Type 0
+IsToFetch extracts tables verdicts block = (extracts block ≡ None) × (IsAt tables block Differ ⊎ ((hash : Hash32) × IsAt tables block (One hash) × (verdicts block hash.0 ≡ Some Hit)))
+
+-- the four kinds, one of which each block is
+abbrev pub IsKind : Table → Tables → Verdicts → Hash → Kind → Type 0
+IsKind extracts tables verdicts block Unclaimed = (extracts block ≡ None) × IsAt tables block Nobody
+IsKind extracts tables verdicts block Unjudged = IsUnjudged extracts tables verdicts block
+IsKind extracts tables verdicts block ToFetch = IsToFetch extracts tables verdicts block
+IsKind extracts tables verdicts block Done = IsDone extracts tables verdicts block
+
+-- and with nothing to be done about a block that has genesis's hash
+abbrev pub IsKindAbove : Table → Tables → Verdicts → Hash → Kind → Type 0
+IsKindAbove extracts tables verdicts block k = (IsAbove block → IsKind extracts tables verdicts block k) × (k ≢ Done → IsAbove block)
+
+-- of a peer's blocks above genesis, up to a height, but for those that have genesis's hash
+abbrev pub AreClaimed : Tables → ℕ → Chain → ℕ → Type 0
+AreClaimed tables p own most = (h : ℕ) → 1 ≤ h → h ≤ most → IsAbove (hash_at own h) → IsSome (tables p (hash_at own h))
+
+-- ---- claims that come and go
+
+-- p claims more than before, and nobody else
+pub record AddsClaims (before after : Tables) (p : ℕ) : Type 0 where
+  pub mine : (block : Hash) (claim : Claim) → before p block ≡ Some claim → after p block ≡ Some claim
+  pub others : (q : ℕ) → q ≢ p → (block : Hash) → after q block ≡ before q block
+
+-- the same claims
+abbrev pub IsSameTables : Tables → Tables → Type 0
+IsSameTables before after = (p : ℕ) (block : Hash) → after p block ≡ before p block
+
+-- q's claims are gone, and nobody else's
+pub record ForgetsClaims (before after : Tables) (q : ℕ) : Type 0 where
+  pub gone : (block : Hash) → after q block ≡ None
+  pub others : (p : ℕ) → p ≢ q → (block : Hash) → after p block ≡ before p block

@@ -1,0 +1,20 @@
+//! What a client keeps of filters and of the blocks that it fetched, and how a block stands by it.
+#![tactic(auto)]
+
+mod disputes;
+mod extracts;
+mod first;
+mod judged;
+mod kind;
+mod outputs;
+mod tests;
+
+pub use disputes::Disputes;
+pub use extracts::Extracts;
+pub use first::First;
+pub use judged::Judged;
+pub use kind::{
+    Kind, is_any_disputed, is_differing, is_done, is_unclaimed, is_unjudged, kind_above, kind_of,
+};
+pub use outputs::Outputs;
+pub use tests::Tests;
