@@ -53,7 +53,7 @@ use Rattle.cf_sync.proofs.SameFetched.{same_wanted, same_holds}
 use Rattle.cf_client.proofs.Losing.{lost_failed}
 use Rattle.cf_client.proofs.Spelled.{spelled_bytes}
 use Rattle.cf_sync.proofs.Blamed.{tested_stays}
-use Rattle.cf_sync.proofs.KeptAims.{closed_on, failed_on, sent_on, test_alike, test_off, trials_alike, trials_stay}
+use Rattle.cf_sync.proofs.KeptAims.{closed_on as on_closed, failed_on as on_failed, sent_on as on_sent, test_alike, test_off, trials_alike, trials_stay}
 
 -- with no act left
 only : (b : Bool) → (b || false) ≡ true → b ≡ true
@@ -355,7 +355,7 @@ sent_on acts progress trace called planned t p m command free line is may doing 
         dials = doing.plan.dials;
         tested = doing.plan.tested;
         tests = doing.plan.tests;
-        aims = λ q fine on block. test_alike planned doing.actual p bytes q block doing.brought (doing.plan.aims q fine (sent_on p bytes doing.actual q on) block);
+        aims = λ q fine on block. test_alike planned doing.actual p bytes q block doing.brought (doing.plan.aims q fine (on_sent p bytes doing.actual q on) block);
       };
       brought = λ q. sent_brought p bytes planned q ∙ doing.brought q ∙ sym (sent_brought p bytes doing.actual q);
       gave = λ q. sent_gave p bytes planned q ∙ doing.gave q ∙ sym (sent_gave p bytes doing.actual q);
@@ -479,7 +479,7 @@ closed_on acts progress trace called planned t p cause free line may doing =
           | inl untold ↦
               let e : q ≡ p.0 = elim (cases_eq q p.0) [ inl e ↦ e | inr ne ↦ absurd (both_ways (is_untold doing.actual q) (sym (untold_closed_others p doing.actual q ne) ∙ fine) untold) ] in
               absurd (both_ways (connected (trail (Closed p ∷ doing.actual) q)) (ap (λ (x : Part). connected x.trail) (closed_here p q (part_of doing.actual q) e)) on)
-          | inr told ↦ doing.plan.aims q told (closed_on p doing.actual q on) block
+          | inr told ↦ doing.plan.aims q told (on_closed p doing.actual q on) block
         ];
       };
       brought = λ q. closed_brought p planned q ∙ doing.brought q ∙ sym (closed_brought p doing.actual q);
@@ -613,7 +613,7 @@ failed_on acts progress called planned t p m lt free may doing =
         aims = λ q fine on block.
             let ne : q ≢ p.0 = λ e. both_ways (is_untold (SendFailed p ∷ doing.actual) q) fine (untold_failing_here p doing.actual q e) in
             let one = test_off planned p bytes q block ne in
-            let two = doing.plan.aims q (sym (untold_failing_others p doing.actual q ne) ∙ fine) (failed_on p doing.actual q on) block in
+            let two = doing.plan.aims q (sym (untold_failing_others p doing.actual q ne) ∙ fine) (on_failed p doing.actual q on) block in
             (λ t. two.0 (one.0 t), λ t. one.1 (two.1 t));
       };
       brought = λ q. sent_brought p bytes planned q ∙ doing.brought q ∙ sym (failing_brought p doing.actual q);

@@ -199,12 +199,12 @@ fn ask_for_test(
     places: &mut [Place],
     acts: &mut Vec<Act>,
     i: usize,
-    trial: &Trial,
+    trial: Trial,
 ) -> Result<(), NoMemory>
     requires here { i < length places.old }
     requires few { length places.old ≤ 9 }
     requires idle { is_idle (place_at places.old i) ≡ true }
-    ensures { OnOk result (IsSent i (GetCfilters 0 trial.now.height trial.now.block) (asked_for_filters (trial.now.block ∷ []))
+    ensures { OnOk result (IsSent i (GetCfilters 0 trial.height trial.block) (asked_for_filters (trial.block ∷ []))
         places.old places.new acts.old.items acts.new.items) }
 {
     let mut blocks = Hashes::new(alloc);
@@ -276,7 +276,7 @@ fn ask_about_blocks<H: HeaderStore>(
             Ok(())
         }
         Wish::Test(trial) => {
-            ask_for_test(alloc, places, acts, i, &trial)?;
+            ask_for_test(alloc, places, acts, i, trial)?;
             Ok(())
         }
     }
