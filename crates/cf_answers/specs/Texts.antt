@@ -2,10 +2,10 @@
 use Rattle.std.specs.Prelude.{ℕ, ◌==◌, not, Bool, true, false, List, [], ◌∷◌, ◌++◌, codes, decimal, take_while}
 use Rattle.std.specs.List.{flat_map}
 use Rattle.cf_bytes.specs.declared.hash.Hash32.{Hash32}
-use Rattle.cf_client.specs.declared.outcome.End.{End}
-use Rattle.cf_client.specs.declared.outcome.End.TheVariants.{Synced, NoPeers, Tired, Ended}
-use Rattle.cf_client.specs.declared.trace.TraceLine.{TraceLine}
-use Rattle.cf_client.specs.declared.trace.TraceLine.TheVariants.{Sent, Closed}
+use Rattle.cf_run.specs.declared.outcome.End.{End}
+use Rattle.cf_run.specs.declared.outcome.End.TheVariants.{Synced, NoPeers, Tired, Ended}
+use Rattle.cf_run.specs.declared.trace.TraceLine.{TraceLine}
+use Rattle.cf_run.specs.declared.trace.TraceLine.TheVariants.{Sent, Closed}
 use Rattle.cf_peer.specs.declared.peer.Cause.{Cause}
 use Rattle.cf_peer.specs.declared.peer.Cause.TheVariants.{BadFrame, Malformed, NoFilters, Unlinked, InvalidHeader, TooHigh, WrongCount, WrongPrevious, OtherFilter, BadBlock, SendFailed, Overdue, Omits}
 use Rattle.cf_scan.specs.declared.history.Entry.{Entry}

@@ -3,8 +3,8 @@ ghost use Rattle.std.specs.Prelude.{◌≡◌, ◌≤◌, ◌++◌, length, IfOk
 ghost use Rattle.cf_answers.specs.Texts.{cause_name as cause_of, command_name as command_of, trace_line, trace_text, end_text, run_text};
 
 use cf_bytes::{Hash32, NoMemory};
-use cf_client::{End, Outcome, TraceLine};
 use cf_peer::Cause;
+use cf_run::{End, Outcome, TraceLine};
 use cf_scan::History;
 use std::alloc::Global;
 

@@ -4,11 +4,12 @@ ghost use Rattle.std.specs.Prelude.{◌≡◌, ℕ, None};
 use crate::fields::file_in;
 use crate::runs::wires_of;
 use cf_answers::text_of;
-use cf_client::{Held, Outcome, sync_over};
+use cf_client::Held;
 use cf_headers::{HeaderStore, Tree};
 use cf_input::{read_session, read_watch};
 use cf_lists::Lists;
 use cf_match::Plain;
+use cf_run::{Outcome, sync_over};
 use std::alloc::Global;
 
 // How many headers, claims, filters, verdicts and extracts a client keeps.

@@ -1,7 +1,7 @@
 -- What a demo says of its text and of the answer.
 use Rattle.std.proofs.Common.{◌≡◌, inl, ℕ, false, List, Option, Some, refl, sym, ◌∙◌, subst}
 use Rattle.std.proofs.lemmas.Bool.{false≢true}
-use Rattle.cf_client.specs.declared.outcome.End.TheVariants.{Synced as IsSynced, NoPeers as HasNoPeers, Tired as IsTired}
+use Rattle.cf_run.specs.declared.outcome.End.TheVariants.{Synced as IsSynced, NoPeers as HasNoPeers, Tired as IsTired}
 use Rattle.cf_demo.specs.declared.demo.Demo.{Demo}
 use Rattle.cf_demo.specs.Demo.{IsDemo}
 use Rattle.cf_input.specs.declared.words.Command.{Command}

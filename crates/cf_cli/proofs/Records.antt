@@ -13,8 +13,8 @@ use Rattle.cf_cli.specs.Statuses.{IsJudged, was_unbegun}
 use Rattle.cf_loading.specs.Verdicts.{IsOfFile, Verdict, Good, watch_verdict}
 use Rattle.cf_cli.specs.Recording.{HasRecord, KeepsOthers, Records, may_write}
 use Rattle.cf_cli.specs.Theorem.{AnswersTo}
-use Rattle.cf_client.specs.declared.outcome.End.{End}
-use Rattle.cf_client.specs.declared.outcome.End.TheVariants.{Synced as IsSynced, NoPeers as HasNoPeers, Tired as IsTired, Ended as HasEnded}
+use Rattle.cf_run.specs.declared.outcome.End.{End}
+use Rattle.cf_run.specs.declared.outcome.End.TheVariants.{Synced as IsSynced, NoPeers as HasNoPeers, Tired as IsTired, Ended as HasEnded}
 use Rattle.cf_place.specs.declared.place.PeerEnd.{PeerEnd}
 
 same_elsewhere : (name : List ℕ) (files : Option Named) → SameElsewhere name files files

@@ -7,12 +7,12 @@ use Rattle.cf_bytes.specs.Outside.{with_more}
 use Rattle.cf_bytes.specs.declared.hash.Hash32.{Hash32}
 use Rattle.cf_headers.specs.Chain.{tip_hash}
 use Rattle.cf_chain.specs.Good.{headers_of}
-use Rattle.cf_client.specs.declared.outcome.End.{End}
-use Rattle.cf_client.specs.declared.outcome.End.TheVariants.{Synced as IsSynced, NoPeers as HasNoPeers, Tired as IsTired, Ended as HasEnded}
-use Rattle.cf_client.specs.declared.trace.TraceLine.{TraceLine}
+use Rattle.cf_run.specs.declared.outcome.End.{End}
+use Rattle.cf_run.specs.declared.outcome.End.TheVariants.{Synced as IsSynced, NoPeers as HasNoPeers, Tired as IsTired, Ended as HasEnded}
+use Rattle.cf_run.specs.declared.trace.TraceLine.{TraceLine}
 use Rattle.cf_place.specs.declared.place.PeerEnd.{PeerEnd}
 use Rattle.cf_place.specs.Places.{EndsTell}
-use Rattle.cf_client.specs.Run.{Followed, IsEnd}
+use Rattle.cf_run.specs.Run.{Followed, IsEnd}
 use Rattle.cf_peer.specs.Asking.{is_open}
 use Rattle.cf_wires.specs.Log.{Log}
 use Rattle.cf_peer.specs.Trail.{trail, connected}

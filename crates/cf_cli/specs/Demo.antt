@@ -4,8 +4,8 @@ use Rattle.std.specs.List.{count_by}
 use Rattle.cf_block.specs.declared.tx.Block.{Block}
 use Rattle.cf_bytes.specs.Hash.{shown}
 use Rattle.cf_chain.specs.Good.{headers_of}
-use Rattle.cf_client.specs.declared.outcome.End.{End}
-use Rattle.cf_client.specs.declared.outcome.End.TheVariants.{Synced as IsSynced, NoPeers as HasNoPeers, Tired as IsTired}
+use Rattle.cf_run.specs.declared.outcome.End.{End}
+use Rattle.cf_run.specs.declared.outcome.End.TheVariants.{Synced as IsSynced, NoPeers as HasNoPeers, Tired as IsTired}
 use Rattle.cf_place.specs.declared.place.PeerEnd.{PeerEnd}
 use Rattle.cf_demo.specs.declared.demo.Demo.{Demo}
 use Rattle.cf_demo.specs.declared.unplayed.Unplayed.TheVariants.{Clash}

@@ -2,7 +2,7 @@
 use Rattle.std.specs.Prelude.{◌≡◌, ℕ, ℤ, Bool, false, List, length, Option, is_some, IfSome}
 use Rattle.std.specs.FinMap as finite
 use Rattle.cf_bytes.specs.Files.{Named}
-use Rattle.cf_client.specs.Run.{HasDialled}
+use Rattle.cf_run.specs.Run.{HasDialled}
 use Rattle.cf_wires.specs.Log.{Log, Told}
 use Rattle.cf_wires.specs.Memory.{log_of, told_of}
 use Rattle.cf_wires.specs.declared.memory.MemoryWires.{MemoryWires}

@@ -2,9 +2,9 @@
 ghost use Rattle.std.specs.Prelude.{◌≡◌, ◌≢◌, ◌≤◌, ◌⊎◌, true, false, [], ◌∷◌, length, IfSome, is_some, Some, None};
 ghost use Rattle.std.specs.FinMap as finite;
 ghost use Rattle.cf_bytes.specs.Outside.{HasRisen};
-ghost use Rattle.cf_client.specs.Names.{names_in};
-ghost use Rattle.cf_client.specs.Run.{HasDialled, HasFailed};
-ghost use Rattle.cf_client.specs.Versions.{HasWords, IsOfWords};
+ghost use Rattle.cf_run.specs.Names.{names_in};
+ghost use Rattle.cf_run.specs.Run.{HasDialled, HasFailed};
+ghost use Rattle.cf_run.specs.Versions.{HasWords, IsOfWords};
 ghost use Rattle.cf_wires.specs.Log.{Tells};
 ghost use Rattle.cf_wires.specs.Memory.{log_of, failing_of, finished_of, told_of};
 ghost use Rattle.cf_played.specs.Told.{log_of as played_log, peers_of, finished_of as has_finished};

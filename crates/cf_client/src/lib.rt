@@ -1,4 +1,4 @@
-//! The client: a machine that takes deliveries and says what is to be done, and its run over any wires.
+//! The client: a machine that takes deliveries and says what is to be done.
 #![tactic(auto)]
 
 mod ask;
@@ -7,14 +7,7 @@ mod client;
 mod deliver;
 mod held;
 mod laws;
-mod outcome;
-mod over;
-mod progress;
-mod trace;
 
 pub use client::Client;
 pub use held::Held;
 pub use laws::laws_of_holding;
-pub use outcome::{End, Outcome};
-pub use over::sync_over;
-pub use trace::TraceLine;

@@ -13,9 +13,9 @@ use Rattle.cf_wires.specs.declared.event.Event.TheVariants.{Dialled, NotDialled,
 use Rattle.cf_peer.specs.Asking.{MayAsk}
 use Rattle.cf_wires.specs.Log.{Log}
 use Rattle.cf_peer.specs.Trail.{Trail, trail, spelled}
-use Rattle.cf_client.specs.Run.{IsTraceOf}
-use Rattle.cf_client.specs.declared.trace.TraceLine.{TraceLine}
-use Rattle.cf_client.specs.declared.trace.TraceLine.TheVariants.{Sent as SentLine, Closed as ClosedLine}
+use Rattle.cf_run.specs.Run.{IsTraceOf}
+use Rattle.cf_run.specs.declared.trace.TraceLine.{TraceLine}
+use Rattle.cf_run.specs.declared.trace.TraceLine.TheVariants.{Sent as SentLine, Closed as ClosedLine}
 use Rattle.cf_sync.specs.Fetching.{Rightly}
 use Rattle.cf_demo.specs.Demo.{is_getdata, is_fetch, is_close, is_fetch_line, is_close_line}
 

@@ -10,13 +10,13 @@ use Rattle.cf_block.specs.declared.tx.Block.{Block}
 use Rattle.cf_bytes.specs.declared.hash.Hash32.{Hash32}
 use Rattle.cf_bytes.specs.declared.memory.NoMemory.{NoMemory}
 use Rattle.cf_chain.specs.Good.{IsGoodChain, max_height}
-use Rattle.cf_client.specs.declared.outcome.End.{End}
-use Rattle.cf_client.specs.declared.outcome.End.TheVariants.{Synced, NoPeers, Tired, Ended}
-use Rattle.cf_client.specs.declared.outcome.Outcome.{Outcome}
+use Rattle.cf_run.specs.declared.outcome.End.{End}
+use Rattle.cf_run.specs.declared.outcome.End.TheVariants.{Synced, NoPeers, Tired, Ended}
+use Rattle.cf_run.specs.declared.outcome.Outcome.{Outcome}
 use Rattle.cf_place.specs.declared.place.PeerEnd.{PeerEnd}
 use Rattle.cf_place.specs.Places.{EndsTell}
-use Rattle.cf_client.specs.Names.{names_in}
-use Rattle.cf_client.specs.Run.{Followed, IsEnd}
+use Rattle.cf_run.specs.Names.{names_in}
+use Rattle.cf_run.specs.Run.{Followed, IsEnd}
 use Rattle.cf_headers.specs.Chain.{NoHashClash}
 use Rattle.cf_make.proofs.MadeLaws.{extension_one}
 use Rattle.cf_wires.specs.declared.event.Delivery.TheVariants.{Ended as EndedFirst}

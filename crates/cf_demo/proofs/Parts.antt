@@ -21,7 +21,7 @@ use Rattle.cf_sync.specs.Fetching.{Rightly}
 use Rattle.cf_sync.specs.Honesty.{asked, said, IsSpelled}
 use Rattle.cf_sync.proofs.Entries.{at_either}
 use Rattle.cf_played.specs.Answers.{came, told_to}
-use Rattle.cf_client.specs.Run.{AreNumbered}
+use Rattle.cf_run.specs.Run.{AreNumbered}
 use Rattle.cf_demo.proofs.Beginnings.{word_of, words, words_append, AreMessages, messages_behind}
 
 -- ---- to hear frames

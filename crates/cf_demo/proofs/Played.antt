@@ -34,7 +34,7 @@ use Rattle.cf_sync.proofs.Settles.{setting_of}
 use Rattle.cf_sync.proofs.HonestLemmas.{NeverOmits, honest_good, rightly_before}
 use Rattle.cf_sync.proofs.Blamed.{never_omits}
 use Rattle.cf_played.specs.Answers.{came, told_to}
-use Rattle.cf_client.specs.Run.{AreNumbered}
+use Rattle.cf_run.specs.Run.{AreNumbered}
 use Rattle.cf_played.specs.declared.kind.Way.TheVariants.{Honest}
 use Rattle.cf_played.specs.Answers.{HasBegun, HasAnswered, is_staying}
 use Rattle.cf_demo.specs.Playing.{IsRun, Plays}

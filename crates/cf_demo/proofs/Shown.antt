@@ -31,7 +31,7 @@ use Rattle.cf_peer.specs.Asking.{lists, HasSaid, MayAsk}
 use Rattle.cf_played.specs.declared.kind.Way.{Way}
 use Rattle.cf_played.specs.declared.kind.Way.TheVariants.{Honest, Omits, Silent}
 use Rattle.cf_played.specs.Answers.{told_to, heard_of, IsAlike, AreAlike, HasBegunAlike}
-use Rattle.cf_client.specs.Run.{AreNumbered}
+use Rattle.cf_run.specs.Run.{AreNumbered}
 use Rattle.cf_server.proofs.Lists.{all-append, all-flat_map}
 use Rattle.cf_sync.specs.Fetching.{Rightly, counted_part}
 use Rattle.cf_sync.specs.Honesty.{said}

@@ -28,7 +28,7 @@ use Rattle.cf_peer.specs.Trail.{Trail, Part, Asked, Lost, Went, Failing, Shuttin
 use Rattle.cf_peer.specs.Asking.{HasHeader, OpenRequest, NothingOpen, HeadersOpen, ClaimsOpen, FiltersOpen, BlockOpen, claims_asked, filters_asked, block_asked, claims, claims_after, request, request_after, is_idle, is_open, hashes_of, MayAsk}
 use Rattle.cf_played.specs.declared.kind.Way.TheVariants.{Silent}
 use Rattle.cf_played.specs.Answers.{came, told_to, is_answered, HasBegun}
-use Rattle.cf_client.specs.Run.{AreNumbered}
+use Rattle.cf_run.specs.Run.{AreNumbered}
 use Rattle.cf_server.specs.Serving.{text_of}
 use Rattle.cf_server.proofs.Lists.{all-append}
 use Rattle.cf_sync.specs.Fetching.{AreBytes, Rightly, IsConnected, counted_part}

@@ -17,7 +17,7 @@ use Rattle.cf_peer.specs.Trail.{Part, Lost, Went, Failing, Shutting, called_part
 use Rattle.cf_peer.specs.Asking.{lists, MayAsk}
 use Rattle.cf_played.specs.declared.kind.Way.TheVariants.{Honest, Omits}
 use Rattle.cf_played.specs.Answers.{told_to, AreAlike}
-use Rattle.cf_client.specs.Run.{AreNumbered}
+use Rattle.cf_run.specs.Run.{AreNumbered}
 use Rattle.cf_scan.specs.declared.history.Entry.{Entry}
 use Rattle.cf_sync.specs.Fetching.{Rightly, IsConnected, IsQuiet, counted_part}
 use Rattle.cf_sync.specs.Honesty.{ShowsNoOther}

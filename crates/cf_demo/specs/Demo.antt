@@ -7,13 +7,13 @@ use Rattle.cf_block.specs.Commitment.{spelled_txs}
 use Rattle.cf_block.specs.Merkle.{NoClash}
 use Rattle.cf_bytes.specs.declared.hash.Hash32.{Hash32}
 use Rattle.cf_chain.specs.Good.{IsGoodChain, headers_of}
-use Rattle.cf_client.specs.declared.outcome.End.{End}
-use Rattle.cf_client.specs.declared.outcome.End.TheVariants.{Synced, NoPeers, Tired, Ended}
+use Rattle.cf_run.specs.declared.outcome.End.{End}
+use Rattle.cf_run.specs.declared.outcome.End.TheVariants.{Synced, NoPeers, Tired, Ended}
 use Rattle.cf_place.specs.Places.{EndsTell}
-use Rattle.cf_client.specs.declared.outcome.Outcome.{Outcome}
-use Rattle.cf_client.specs.Run.{Followed, IsEnd, names_of}
-use Rattle.cf_client.specs.declared.trace.TraceLine.{TraceLine}
-use Rattle.cf_client.specs.declared.trace.TraceLine.TheVariants.{Sent as SentLine, Closed as ClosedLine}
+use Rattle.cf_run.specs.declared.outcome.Outcome.{Outcome}
+use Rattle.cf_run.specs.Run.{Followed, IsEnd, names_of}
+use Rattle.cf_run.specs.declared.trace.TraceLine.{TraceLine}
+use Rattle.cf_run.specs.declared.trace.TraceLine.TheVariants.{Sent as SentLine, Closed as ClosedLine}
 use Rattle.cf_demo.specs.declared.demo.Demo.{Demo}
 use Rattle.cf_demo.specs.declared.unplayed.Unplayed.{Unplayed}
 use Rattle.cf_demo.specs.declared.unplayed.Unplayed.TheVariants.{NoNonce, Clash, NoMemory}

@@ -2,7 +2,7 @@
 use Rattle.std.specs.Prelude.{◌≡◌, ℕ, true, List, ◌∷◌, drop, suc, slice_get, Some}
 use Rattle.std.specs.List.{list_all}
 use Rattle.cf_block.specs.declared.tx.Block.{Block}
-use Rattle.cf_client.specs.Run.{AreNumbered, WasOrderly}
+use Rattle.cf_run.specs.Run.{AreNumbered, WasOrderly}
 use Rattle.cf_sync.specs.Fetching.{AreBytes, Rightly}
 use Rattle.cf_wires.specs.declared.event.Delivery.TheVariants.{Tick}
 use Rattle.cf_wires.specs.declared.event.Event.TheVariants.{Took}

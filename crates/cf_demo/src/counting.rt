@@ -4,7 +4,7 @@ ghost use Rattle.std.specs.List.{count_by};
 ghost use Rattle.cf_demo.specs.Demo.{is_fetch_line as is_fetch_at, is_close_line as is_close_at};
 
 use cf_bytes::{Hash32, NoMemory};
-use cf_client::TraceLine;
+use cf_run::TraceLine;
 use cf_scan::History;
 use std::alloc::Global;
 

@@ -1,7 +1,7 @@
 //! What a demo tells.
 use cf_bytes::Hash32;
-use cf_client::End;
 use cf_place::PeerEnd;
+use cf_run::End;
 
 /// What a demo came to.
 #[derive(Drop)]

@@ -1,7 +1,7 @@
 //! Runs of the client over peers in memory on made chains.
 ghost use Rattle.std.specs.Prelude.{◌≡◌, ◌≢◌, ◌⊎◌, ◌≤◌, ◌<◌, ◌+◌, ◌++◌, ◌∷◌, ℕ, [], map, length, IfOk, IfErr, OnOk, true, false};
 ghost use Rattle.cf_chain.specs.Good.{max_height, IsGoodChain};
-ghost use Rattle.cf_client.specs.Names.{names_in};
+ghost use Rattle.cf_run.specs.Names.{names_in};
 ghost use Rattle.cf_demo.specs.Demo.{IsDemo, IsSession, IsToldBy, IsUnmade, IsUnplayed, IsRefusedFor, ArePlayed, HavePrepared, HasPrepared, HasRunOver, AreAdded, demo_watch, demo_names, session_names};
 ghost use Rattle.cf_make.specs.Made.{IsExtension, seed_limit};
 ghost use Rattle.cf_played.specs.Peers.{still};
@@ -13,11 +13,11 @@ use crate::running::sync_played;
 use crate::unplayed::Unplayed;
 use cf_block::Script;
 use cf_bytes::{Listed, NoMemory, Refused};
-use cf_client::Outcome;
 use cf_headers::Tree;
 use cf_make::{Chain, chain, script};
 use cf_match::Matcher;
 use cf_played::{Kind, Played};
+use cf_run::Outcome;
 use cf_scan::Watch;
 use cf_wires::Wires;
 use std::alloc::Global;

@@ -1,9 +1,9 @@
 //! A run of the client over peers in memory.
 ghost use Rattle.std.specs.Prelude.{◌≡◌, ◌≤◌, ◌<◌, ℕ, suc, None, Some, true, false, [], map, length, slice_get, IfOk, OnOk};
-ghost use Rattle.cf_client.specs.Names.{names_in};
+ghost use Rattle.cf_run.specs.Names.{names_in};
 ghost use Rattle.cf_place.specs.Places.{EndsTell};
-ghost use Rattle.cf_client.specs.Run.{Followed};
-ghost use Rattle.cf_client.specs.Versions.{IsOfWords};
+ghost use Rattle.cf_run.specs.Run.{Followed};
+ghost use Rattle.cf_run.specs.Versions.{IsOfWords};
 ghost use Rattle.cf_demo.specs.Playing.{Accounts};
 ghost use Rattle.cf_headers.specs.Chain.{NoHashClash};
 ghost use Rattle.cf_wires.specs.Log.{tally_of};
@@ -14,10 +14,10 @@ ghost use Rattle.cf_sync.specs.Honesty.{IsHonest};
 ghost use Rattle.cf_sync.specs.Sync.{IsHashed, SyncTheorem};
 
 use cf_bytes::NoMemory;
-use cf_client::{End, Outcome, sync_over};
 use cf_headers::HeaderStore;
 use cf_match::Matcher;
 use cf_played::Played;
+use cf_run::{End, Outcome, sync_over};
 use cf_scan::Watch;
 use std::alloc::Global;
 

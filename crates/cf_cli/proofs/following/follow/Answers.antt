@@ -4,9 +4,9 @@ use Rattle.std.specs.Int.{w64}
 use Rattle.std.specs.Prelude.{string_bytes, is_some}
 use Rattle.std.proofs.lemmas.List.{length-map}
 use Rattle.cf_bytes.specs.Outside.{with_more}
-use Rattle.cf_client.specs.Names.{names_in}
+use Rattle.cf_run.specs.Names.{names_in}
 use Rattle.cf_answers.specs.declared.status.Status.TheVariants.{NoMemory, OutFault}
-use Rattle.cf_client.proofs.Versions.{new_words}
+use Rattle.cf_run.proofs.Versions.{new_words}
 use Rattle.cf_cli.proofs.Runs.{answered, kept_told, kept_without, unrecorded_told, stands_told, stands_unsaid}
 use Rattle.cf_cli.proofs.Plays.{versions_so, early_tallied, spent_tallied, unwritten_tallied, run_tallied, new_dialled, new_unfailed}
 use Rattle.cf_cli.proofs.following.follow.Goals as goal

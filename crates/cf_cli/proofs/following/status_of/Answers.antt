@@ -1,5 +1,5 @@
 use Rattle.std.proofs.Common.{refl, sym, subst}
-use Rattle.cf_client.specs.declared.outcome.End.{End}
+use Rattle.cf_run.specs.declared.outcome.End.{End}
 use Rattle.cf_answers.specs.declared.status.Status.TheVariants.{NoPeers}
 use Rattle.cf_cli.specs.Theorem.{AnswersTo}
 use Rattle.cf_cli.proofs.following.status_of.Goals as goal

@@ -4,7 +4,7 @@ use Rattle.std.specs.Int.{w64}
 use Rattle.cf_serve.specs.Links.{LinkTold, link_now}
 use Rattle.cf_cli.specs.Serving.{IsServing}
 use Rattle.cf_wires.specs.Memory.{told_of}
-use Rattle.cf_client.proofs.Versions.{new_words}
+use Rattle.cf_run.proofs.Versions.{new_words}
 use Rattle.cf_cli.proofs.Plays.{versions_so, unplayed_words, judged_replay, judged_sync, new_unfailed}
 use Rattle.cf_cli.proofs.Records.{sync_writes}
 use Rattle.cf_cli.proofs.Demos.{demo_uses}

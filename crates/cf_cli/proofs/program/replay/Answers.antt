@@ -1,7 +1,7 @@
 use Rattle.std.proofs.Common.{false, Some, length, rules, ◌∙◌, ap, subst}
 use Rattle.std.proofs.Math.Facts.{to_z-of_z}
 use Rattle.std.specs.Int.{w64}
-use Rattle.cf_client.specs.Names.{names_in}
+use Rattle.cf_run.specs.Names.{names_in}
 use Rattle.cf_wires.specs.Log.{Told}
 use Rattle.cf_wires.specs.Memory.{log_of, failing_of, told_of}
 use Rattle.cf_wires.specs.Wires.{Script}

@@ -1,9 +1,9 @@
 use Rattle.std.proofs.Common.{rules, w64}
 use Rattle.std.proofs.Math.Facts.{to_z-of_z}
-use Rattle.cf_client.specs.Names.{names_in}
+use Rattle.cf_run.specs.Names.{names_in}
 use Rattle.cf_input.specs.Words.{command_of}
 use Rattle.cf_wires.specs.Memory.{told_of}
-use Rattle.cf_client.proofs.Versions.{new_words}
+use Rattle.cf_run.proofs.Versions.{new_words}
 use Rattle.cf_cli.proofs.Plays.{versions_so, unplayed_words, new_tape, new_unfailed, judged_for, unused_wires, unused_tape}
 use Rattle.cf_cli.proofs.Asking.{asked_so, unasked}
 use Rattle.cf_cli.proofs.Records.{unused_files}

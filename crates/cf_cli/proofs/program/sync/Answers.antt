@@ -2,8 +2,8 @@ use Rattle.std.proofs.Common.{false, inr, refl, rules}
 use Rattle.std.proofs.Math.Facts.{to_z-of_z}
 use Rattle.std.specs.Int.{w64}
 use Rattle.std.specs.Prelude.{is_some}
-use Rattle.cf_client.specs.Names.{names_in}
-use Rattle.cf_client.proofs.Versions.{new_words}
+use Rattle.cf_run.specs.Names.{names_in}
+use Rattle.cf_run.proofs.Versions.{new_words}
 use Rattle.cf_cli.proofs.Plays.{versions_so, early_told, early_tallied, new_dialled, new_unfailed, told_over_watch}
 use Rattle.cf_cli.proofs.Asking.{unwritten}
 use Rattle.cf_cli.proofs.Records.{early_records, judged_once_begun, records_from}

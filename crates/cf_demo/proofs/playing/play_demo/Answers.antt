@@ -1,5 +1,5 @@
 use Rattle.std.proofs.Common.{◌∙◌, ap, arith}
-use Rattle.cf_client.specs.Names.{names_in}
+use Rattle.cf_run.specs.Names.{names_in}
 use Rattle.cf_demo.proofs.Demos.{demo_so, peers_played}
 use Rattle.cf_played.specs.Told.{log_of, peers_of}
 use Rattle.cf_demo.proofs.playing.play_demo.Goals as goal

@@ -1,9 +1,9 @@
 use Rattle.std.proofs.Common.{rules, w64, ◌≡◌, ◌<◌, ℕ, map, Result, Ok, Err, OnOk, IfOk, sym, subst}
 use Rattle.std.proofs.Math.Facts.{to_z-of_z}
-use Rattle.cf_client.specs.declared.outcome.Outcome.{Outcome}
-use Rattle.cf_client.specs.Names.{names_in}
-use Rattle.cf_client.specs.Run.{Followed}
-use Rattle.cf_client.specs.Versions.{IsOfWords}
+use Rattle.cf_run.specs.declared.outcome.Outcome.{Outcome}
+use Rattle.cf_run.specs.Names.{names_in}
+use Rattle.cf_run.specs.Run.{Followed}
+use Rattle.cf_run.specs.Versions.{IsOfWords}
 use Rattle.cf_played.specs.Peers.{still, made_of}
 use Rattle.cf_played.specs.Told.{log_of, peers_of}
 use Rattle.cf_demo.specs.Playing.{Accounts}

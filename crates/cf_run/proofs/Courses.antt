@@ -1,0 +1,266 @@
+-- What holds from one moment to a later one, put together.
+use Rattle.std.proofs.Common.{◌≡◌, ◌⊎◌, inl, inr, ℕ, ◌+◌, ◌<◌, ◌≤◌, Bool, true, false, List, [], ◌∷◌, ◌++◌, Option, Some, None, refl, sym, ◌∙◌, ap, subst, arith}
+use Rattle.std.specs.Prelude.{IfSome, IsSome}
+use Rattle.std.specs.List.{list_any}
+use Rattle.std.proofs.lemmas.Bool.{false≢true}
+use Rattle.std.proofs.lemmas.List.{map-append}
+use Rattle.cf_bytes.specs.Outside.{HasRisen}
+use Rattle.cf_bytes.specs.declared.peer.PeerNo.{PeerNo}
+use Rattle.cf_wires.specs.declared.event.Delivery.{Delivery}
+use Rattle.cf_wires.specs.declared.event.Delivery.TheVariants.{Got, Gone, Tick, Ended}
+use Rattle.cf_wires.specs.declared.event.Dial.{Dial}
+use Rattle.cf_wires.specs.declared.event.Event.{Event}
+use Rattle.cf_wires.specs.declared.event.Event.TheVariants.{Dialled, NotDialled, Took}
+use Rattle.cf_run.specs.declared.progress.Progress.{Progress}
+use Rattle.cf_wires.specs.Log.{Log, Told, Tells, tell, longer, dials}
+use Rattle.cf_wires.specs.Wires.{Made}
+use Rattle.cf_run.specs.Run.{Course, SameCounts, NoFailure, HasFailed, is_failure, trouble, HasNames, names_of, Moment, moment, Runs, Performs, IsOneMore, IsNoMore, Dials, Turns, IsInStep}
+
+rises_then : (f g h : ℕ) → HasRisen f g → g ≤ h → HasRisen f h
+rises_then f g h risen le = omega (arith, risen, le)
+
+rises_later : (f g h : ℕ) → f ≤ g → HasRisen g h → HasRisen f h
+rises_later f g h le risen = omega (arith, le, risen)
+
+blame_then : {V : Type 0} (f g h : ℕ) → f ≤ g → V ⊎ HasRisen g h → V ⊎ HasRisen f h
+blame_then f g h le (inl v) = inl v
+blame_then f g h le (inr risen) = inr (rises_later f g h le risen)
+
+blame_on : {U V : Type 0} (f g h : ℕ) → f ≤ g → g ≤ h → (U → V ⊎ HasRisen g h) → U ⊎ HasRisen f g → V ⊎ HasRisen f h
+blame_on f g h one two next (inl u) = blame_then f g h one (next u)
+blame_on f g h one two next (inr risen) = inr (rises_then f g h risen two)
+
+pub course_on : (t u v : Told) (f g h : ℕ) (s r q : Option Made) → Course t u f g s r → Course u v g h r q → Course t v f h s q
+course_on t u v f g h s r q one two = record {
+  later = omega (arith, one.later, two.later);
+  blamed = λ clean. blame_on f g h one.later two.later two.blamed (one.blamed clean);
+  logged = λ is. two.logged (one.logged is);
+  script = two.script ∙ one.script;
+}
+
+-- an entry that is no failure
+clean_more : (e : Event) (o : Option Log) → is_failure e ≡ false → IfSome o (λ log. list_any is_failure log ≡ false) → IfSome (longer e o) (λ log. list_any is_failure log ≡ false)
+clean_more e None is clean = clean
+clean_more e (Some log) is clean = rw (is, clean) refl
+
+-- a log that is told goes on to be
+logged_more : (e : Event) (o : Option Log) → IsSome o → IsSome (longer e o)
+logged_more e None is = is
+logged_more e (Some log) is = is
+
+pub course_told : (e : Event) (t u : Told) (f g : ℕ) (s r : Option Made) → is_failure e ≡ false → u ≡ tell e t → f ≤ g → r ≡ s → Course t u f g s r
+course_told e t u f g s r is told later script = record {
+  later = later;
+  blamed = λ clean. inl (subst NoFailure (sym told) (clean_more e t.log is clean));
+  logged = λ told_before. subst (λ (x : Told). IsSome x.log) (sym told) (logged_more e t.log told_before);
+  script = script;
+}
+
+-- a failure
+pub course_failed : (e : Event) (t u : Told) (f g : ℕ) (s r : Option Made) → HasRisen f g → u ≡ tell e t → f ≤ g → r ≡ s → Course t u f g s r
+course_failed e t u f g s r risen told later script = record {
+  later = later;
+  blamed = λ clean. inr risen;
+  logged = λ told_before. subst (λ (x : Told). IsSome x.log) (sym told) (logged_more e t.log told_before);
+  script = script;
+}
+
+clean_start : (o : Option Log) → IfSome o (λ log. log ≡ []) → IfSome o (λ log. list_any is_failure log ≡ false)
+clean_start None start = start
+clean_start (Some log) start = rw start refl
+
+blamed_in : (o : Option Log) (f g : ℕ) → IfSome o (λ log. list_any is_failure log ≡ false) ⊎ HasRisen f g → IfSome o (λ log. HasFailed log → HasRisen f g)
+blamed_in None f g why = tt
+blamed_in (Some log) f g (inl clean) = λ failed. absurd (false≢true (sym clean ∙ failed))
+blamed_in (Some log) f g (inr risen) = λ failed. risen
+
+-- a failure in a run over new wires has raised the count
+pub failures_blamed : (t u : Told) (f g : ℕ) (s r : Option Made) → Tells [] t → Course t u f g s r → IfSome u.log (λ log. HasFailed log → HasRisen f g)
+failures_blamed t u f g s r start course = blamed_in u.log f g (course.blamed (clean_start t.log start.content))
+
+-- ---- from one moment to a later one
+
+pub runs_self : (a : Moment) → IsInStep a.told a.progress → Runs a a
+runs_self a step = record {
+  course = record { later = omega arith; blamed = λ clean. inl clean; logged = λ is. is; script = refl };
+  keeps = refl;
+  finished = refl;
+  step = step;
+}
+
+pub runs_then : {a b c : Moment} → Runs a b → Runs b c → Runs a c
+runs_then {a = a} {b = b} {c = c} one two = record {
+  course = course_on a.told b.told c.told a.faults b.faults c.faults a.script b.script c.script one.course two.course;
+  keeps = two.keeps ∙ one.keeps;
+  finished = two.finished ∙ one.finished;
+  step = two.step;
+}
+
+pub counts_self : (t : Told) → SameCounts t t
+counts_self t = record { dials = refl; taken = refl; ended = refl; named = λ called h. h }
+
+pub counts_on : (t u v : Told) → SameCounts t u → SameCounts u v → SameCounts t v
+counts_on t u v one two = record {
+  dials = two.dials ∙ one.dials;
+  taken = two.taken ∙ one.taken;
+  ended = two.ended ∙ one.ended;
+  named = λ called h. two.named called (one.named called h);
+}
+
+pub performs_self : (a : Moment) → IsInStep a.told a.progress → Performs a a
+performs_self a step = record { runs = runs_self a step; counts = counts_self a.told; fewer = omega arith }
+
+pub performs_then : {a b c : Moment} → Performs a b → Performs b c → Performs a c
+performs_then {a = a} {b = b} {c = c} one two = record {
+  runs = runs_then {a = a} {b = b} {c = c} one.runs two.runs;
+  counts = counts_on a.told b.told c.told one.counts two.counts;
+  fewer = omega (arith, one.fewer, two.fewer);
+}
+
+-- the run's notes change alone
+pub noted_performs : (told : Told) (faults : ℕ) (script : Option Made) (keeps : Bool) (before after : Progress) → after.closed ≡ before.closed → trouble after < trouble before → IsInStep told before
+    → Performs (moment told faults script keeps before) (moment told faults script keeps after)
+noted_performs told faults script keeps before after closed fewer step = record {
+  runs = record {
+    course = record { later = omega arith; blamed = λ clean. inl clean; logged = λ is. is; script = refl };
+    keeps = refl;
+    finished = refl;
+    step = step ∙ sym closed;
+  };
+  counts = counts_self told;
+  fewer = omega (arith, fewer);
+}
+
+-- an entry was made
+pub told_runs : (e : Event) (a b : Moment) → is_failure e ≡ false → b.told ≡ tell e a.told → a.faults ≤ b.faults → b.script ≡ a.script → b.keeps ≡ a.keeps
+    → (tell e a.told).tally.closed ≡ a.told.tally.closed → b.progress ≡ a.progress → IsInStep a.told a.progress → Runs a b
+told_runs e a b is told later script keeps closed same step = record {
+  course = course_told e a.told b.told a.faults b.faults a.script b.script is told later script;
+  keeps = keeps;
+  finished = ap (λ (t : Told). t.finished) told;
+  step = ap (λ (t : Told). t.tally.closed) told ∙ closed ∙ step ∙ sym (ap (λ (x : Progress). x.closed) same);
+}
+
+-- a failure was
+pub failed_runs : (e : Event) (a b : Moment) → HasRisen a.faults b.faults → b.told ≡ tell e a.told → a.faults ≤ b.faults → b.script ≡ a.script → b.keeps ≡ a.keeps
+    → (tell e a.told).tally.closed ≡ a.told.tally.closed → b.progress ≡ a.progress → IsInStep a.told a.progress → Runs a b
+failed_runs e a b risen told later script keeps closed same step = record {
+  course = course_failed e a.told b.told a.faults b.faults a.script b.script risen told later script;
+  keeps = keeps;
+  finished = ap (λ (t : Told). t.finished) told;
+  step = ap (λ (t : Told). t.tally.closed) told ∙ closed ∙ step ∙ sym (ap (λ (x : Progress). x.closed) same);
+}
+
+-- nothing passed
+pub quiet_runs : (a b : Moment) → b.told ≡ a.told → a.faults ≤ b.faults → b.script ≡ a.script → b.keeps ≡ a.keeps → b.progress ≡ a.progress → IsInStep a.told a.progress → Runs a b
+quiet_runs a b told later script keeps same step = record {
+  course = record { later = later; blamed = λ clean. inl (subst NoFailure (sym told) clean); logged = λ is. subst (λ (t : Told). IsSome t.log) (sym told) is; script = script };
+  keeps = keeps;
+  finished = ap (λ (t : Told). t.finished) told;
+  step = ap (λ (t : Told). t.tally.closed) told ∙ step ∙ sym (ap (λ (x : Progress). x.closed) same);
+}
+
+-- an entry that dials nobody
+pub names_kept : (e : Event) (t : Told) → ((log : Log) → names_of (e ∷ log) ≡ names_of log) → (called : List (List ℕ)) → HasNames called t → HasNames called (tell e t)
+names_kept e t same called has = kept t.log has where
+  kept : (o : Option Log) → IfSome o (λ log. names_of log ≡ called) → IfSome (longer e o) (λ log. names_of log ≡ called)
+  kept None h = h
+  kept (Some log) h = same log ∙ h
+
+-- an entry that dials one
+pub names_more_in : (e : Event) (t : Told) (name : List ℕ) → ((log : Log) → names_of (e ∷ log) ≡ names_of log ++ name ∷ []) → (called : List (List ℕ)) → HasNames called t → HasNames (called ++ name ∷ []) (tell e t)
+names_more_in e t name more called has = kept t.log has where
+  kept : (o : Option Log) → IfSome o (λ log. names_of log ≡ called) → IfSome (longer e o) (λ log. names_of log ≡ called ++ name ∷ [])
+  kept None h = h
+  kept (Some log) h = more log ∙ ap (λ (names : List (List ℕ)). names ++ name ∷ []) h
+
+pub dialled_one : (p : PeerNo) (name : List ℕ) (t u : Told) → u ≡ tell (Dialled p name) t → IsOneMore name t u
+dialled_one p name t u told = subst (IsOneMore name t) (sym told) (record { dials = refl; named = names_more_in (Dialled p name) t name more }) where
+  more : (log : Log) → names_of (Dialled p name ∷ log) ≡ names_of log ++ name ∷ []
+  more log = map-append (λ (d : Dial). d.name) (dials log) (record { name = name; answered = true } ∷ [])
+
+pub missed_one : (p : PeerNo) (name : List ℕ) (t u : Told) → u ≡ tell (NotDialled p name) t → IsOneMore name t u
+missed_one p name t u told = subst (IsOneMore name t) (sym told) (record { dials = refl; named = names_more_in (NotDialled p name) t name more }) where
+  more : (log : Log) → names_of (NotDialled p name ∷ log) ≡ names_of log ++ name ∷ []
+  more log = map-append (λ (d : Dial). d.name) (dials log) (record { name = name; answered = false } ∷ [])
+
+no_more : (t u : Told) → SameCounts t u → IsNoMore t u
+no_more t u counts = record { dials = counts.dials; named = counts.named }
+
+pub one_more_then : (t u v : Told) (name : List ℕ) → IsOneMore name t u → SameCounts u v → IsOneMore name t v
+one_more_then t u v name more counts = record {
+  dials = counts.dials ∙ more.dials;
+  named = λ called h. counts.named (called ++ name ∷ []) (more.named called h);
+}
+
+-- after a dial acts are done
+pub dials_then : {a b c : Moment} (name : List ℕ) → Runs a b → IsOneMore name a.told b.told → b.told.tally.taken ≡ a.told.tally.taken → b.told.tally.ended ≡ a.told.tally.ended
+    → Performs b c → Dials name a c
+dials_then {a = a} {b = b} {c = c} name runs more taken ended performs = record {
+  runs = runs_then {a = a} {b = b} {c = c} runs performs.runs;
+  taken = performs.counts.taken ∙ taken;
+  ended = performs.counts.ended ∙ ended;
+  most = inl (one_more_then a.told b.told c.told name more performs.counts);
+}
+
+-- a dial was made, and then nothing
+pub dials_alone : (name : List ℕ) (a b : Moment) → Runs a b → IsOneMore name a.told b.told → b.told.tally.taken ≡ a.told.tally.taken → b.told.tally.ended ≡ a.told.tally.ended → Dials name a b
+dials_alone name a b runs more taken ended = record { runs = runs; taken = taken; ended = ended; most = inl more }
+
+-- nothing was dialled
+pub dials_none : (name : List ℕ) (a b : Moment) → Runs a b → b.told ≡ a.told → Dials name a b
+dials_none name a b runs same = record {
+  runs = runs;
+  taken = ap (λ (t : Told). t.tally.taken) same;
+  ended = ap (λ (t : Told). t.tally.ended) same;
+  most = inr (record { dials = ap (λ (t : Told). t.tally.dials) same; named = λ called h. subst (HasNames called) (sym same) h });
+}
+
+-- ---- turns
+
+pub turns_none : (a b : Moment) → Runs a b → b.told ≡ a.told → Turns a b
+turns_none a b runs same = record {
+  runs = runs;
+  same = record { dials = ap (λ (t : Told). t.tally.dials) same; named = λ called h. subst (HasNames called) (sym same) h };
+  taken = omega (arith, ap (λ (t : Told). t.tally.taken) same);
+  ended = omega (arith, ap (λ (t : Told). t.tally.ended) same);
+}
+
+took_no_more : (d : Delivery) (t : Told) → IsNoMore t (tell (Took d) t)
+took_no_more (Got p piece) t = record { dials = refl; named = names_kept (Took (Got p piece)) t (λ log. refl) }
+took_no_more (Gone p) t = record { dials = refl; named = names_kept (Took (Gone p)) t (λ log. refl) }
+took_no_more (Tick s) t = record { dials = refl; named = names_kept (Took (Tick s)) t (λ log. refl) }
+took_no_more Ended t = record { dials = refl; named = names_kept (Took Ended) t (λ log. refl) }
+
+took_most : (d : Delivery) (t : Told) → ((tell (Took d) t).tally.taken ≤ t.tally.taken + 1) × ((tell (Took d) t).tally.ended ≤ t.tally.ended + 1)
+took_most (Got p piece) t = (omega arith, omega arith)
+took_most (Gone p) t = (omega arith, omega arith)
+took_most (Tick s) t = (omega arith, omega arith)
+took_most Ended t = (omega arith, omega arith)
+
+-- a delivery was taken, and then nothing
+pub turns_took : (d : Delivery) (a b : Moment) → Runs a b → b.told ≡ tell (Took d) a.told → Turns a b
+turns_took d a b runs told =
+    let n = took_no_more d a.told in
+    let m = took_most d a.told in
+    record {
+      runs = runs;
+      same = subst (IsNoMore a.told) (sym told) n;
+      taken = omega (arith, ap (λ (t : Told). t.tally.taken) told, m.0);
+      ended = omega (arith, ap (λ (t : Told). t.tally.ended) told, m.1);
+    }
+
+-- and then acts were done
+pub turns_then : {a b c : Moment} → Turns a b → Performs b c → Turns a c
+turns_then {a = a} {b = b} {c = c} turns performs = record {
+  runs = runs_then {a = a} {b = b} {c = c} turns.runs performs.runs;
+  same = record { dials = performs.counts.dials ∙ turns.same.dials; named = λ called h. performs.counts.named called (turns.same.named called h) };
+  taken = omega (arith, turns.taken, performs.counts.taken);
+  ended = omega (arith, turns.ended, performs.counts.ended);
+}
+
+pub no_more_self : (t : Told) → IsNoMore t t
+no_more_self t = record { dials = refl; named = λ called h. h }
+
+pub no_more_then : (t u v : Told) → IsNoMore t u → IsNoMore u v → IsNoMore t v
+no_more_then t u v one two = record { dials = two.dials ∙ one.dials; named = λ called h. two.named called (one.named called h) }

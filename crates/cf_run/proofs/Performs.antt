@@ -1,0 +1,814 @@
+-- How the planned log and the actual one go on when acts are done.
+use Rattle.std.proofs.Common.{◌≡◌, ◌≢◌, inl, inr, ℕ, suc, ◌+◌, ◌<◌, ◌≤◌, List, [], ◌∷◌, ◌++◌, length, get_or, set, drop, reverse, add-one, Option, Some, None, Bool, true, false, refl, sym, ◌∙◌, ap, subst, arith, Vec, if◌then◌else◌}
+use Rattle.std.specs.Prelude.{◌||◌, ◌==◌, IfSome}
+use Rattle.std.specs.List.{list_any}
+use Rattle.std.specs.declared.alloc.Global.{Global}
+use Rattle.std.proofs.lemmas.Grind.{common_steps}
+use Rattle.std.proofs.lemmas.Bool.{cases_eq, cases_Bool, cases_lt, both_ways, false≢true}
+use Rattle.std.proofs.lemmas.List.{reverse-append, get_or-set_same, get_or-set_other}
+use Rattle.std.proofs.Math.Seq.{drop-cons}
+use Rattle.std.proofs.Math.ListN.{drop_of_length-le}
+use Rattle.cf_headers.specs.Chain.{Hash}
+use Rattle.cf_bytes.specs.declared.peer.PeerNo.{PeerNo}
+use Rattle.cf_msg.specs.declared.msg.Msg.{Msg}
+use Rattle.cf_msg.specs.declared.msg.Msg.TheVariants.{Version, Verack, Ping, Pong, GetHeaders, Headers, GetData, Inv, Block, GetCfilters, Cfilter, GetCfheaders, Cfheaders, GetCfcheckpt, Cfcheckpt, Other}
+use Rattle.cf_msg.specs.Message.{command_of}
+use Rattle.cf_peer.specs.declared.act.Act.{Act}
+use Rattle.cf_peer.specs.declared.act.Act.TheVariants.{Send, Close}
+use Rattle.cf_wires.specs.declared.event.Event.{Event}
+use Rattle.cf_wires.specs.declared.event.Event.TheVariants.{Sent, SendFailed, Closed}
+use Rattle.cf_peer.specs.declared.peer.Cause.{Cause}
+use Rattle.cf_peer.specs.Acts.{bytes_of}
+use Rattle.cf_wires.specs.Log.{Log, Told, Tells, tally_of, noted, tell, longer}
+use Rattle.cf_peer.specs.Trail.{Trail, Part, Why, Item, Asked, Lost, Failing, Shutting, spelled, asks, with_item, part_of, trail, went_on, connected, failed, is_failing}
+use Rattle.cf_dispute.specs.Claims.{Table}
+use Rattle.cf_peer.specs.Asking.{request, is_open, counted, fetched, given, Deserves, MayAsk}
+use Rattle.cf_headers.specs.declared.store.HeaderStore.{Ghosts}
+use Rattle.cf_match.specs.declared.matcher.Matcher.{Ghosts as Judges}
+use Rattle.cf_sync.proofs.Alone.{alone_less}
+use Rattle.cf_sync.specs.Fetching.{IsAlone, counted_part, DeservesIn, IsSameFetched, IsTested}
+use Rattle.cf_match.specs.declared.job.Job.{Job}
+use Rattle.cf_sync.proofs.Plans.{omits_alike, off_omits_nothing}
+use Rattle.cf_sync.specs.Kept.{OpensAt, claims_kept}
+use Rattle.cf_sync.proofs.VerdictsGrow.{same_given}
+use Rattle.cf_sync.specs.Planned.{is_untold, before_failure, IsMeant, Alike, IsSameTest}
+use Rattle.cf_sync.proofs.Planning.{planned_part}
+use Rattle.cf_hear.specs.Tracks.{chain_kept}
+use Rattle.cf_hear.proofs.Opening.{closes_off}
+use Rattle.cf_sync.proofs.KeptOpens.{opens_closed}
+use Rattle.cf_seek.specs.Opens.{Opens}
+use Rattle.cf_tracker.specs.Tracker.{opens_of, trials_of}
+use Rattle.cf_client.specs.declared.client.Client.{Client}
+use Rattle.cf_place.specs.declared.place.Place.{Place}
+use Rattle.cf_place.specs.declared.place.Place.TheVariants.{Here, Lost as LostPlace}
+use Rattle.cf_run.specs.declared.progress.Progress.{Progress}
+use Rattle.cf_run.specs.declared.progress.SendState.{SendState}
+use Rattle.cf_run.specs.declared.progress.SendState.TheVariants.{Fine, Pending, Known}
+use Rattle.cf_run.specs.declared.trace.TraceLine.{TraceLine}
+use Rattle.cf_run.specs.declared.trace.TraceLine.TheVariants.{Sent as SentLine, Closed as ClosedLine}
+use Rattle.cf_place.specs.Places.{entry_of, IsReplied, IsRepliedFirst, IsRepliedIn, MayAct, CutFor, Fits}
+use Rattle.cf_client.specs.Stands.{Reflects, count_of, watch_by}
+use Rattle.cf_run.specs.Run.{Doing, ActsLeft, HoldsOver, closes, state_at, is_pending, is_fine, IsTraceOf}
+use Rattle.cf_sync.proofs.SameFetched.{same_wanted, same_holds}
+use Rattle.cf_client.proofs.Losing.{lost_failed}
+use Rattle.cf_client.proofs.Spelled.{spelled_bytes}
+use Rattle.cf_sync.proofs.Blamed.{tested_stays}
+use Rattle.cf_sync.proofs.KeptAims.{closed_on as on_closed, failed_on as on_failed, sent_on as on_sent, test_alike, test_off, trials_alike, trials_stay}
+
+-- with no act left
+only : (b : Bool) → (b || false) ≡ true → b ≡ true
+only true h = refl
+only false h = absurd (false≢true h)
+
+pub tells_more : (log : Log) (t : Told) (e : Event) → Tells log t → Tells (e ∷ log) (tell e t)
+tells_more log t e tells = record { content = longer_is log t.log e tells.content; counts = ap (noted e) tells.counts } where
+  longer_is : (log : Log) (o : Option Log) (e : Event) → IfSome o (λ l. l ≡ log) → IfSome (longer e o) (λ l. l ≡ e ∷ log)
+  longer_is log None e h = tt
+  longer_is log (Some l) e h = ap (λ (k : Log). e ∷ k) h
+
+not_pending : (s : SendState) → is_fine s ≡ true → is_pending s ≡ false
+not_pending Fine h = refl
+not_pending Pending h = absurd (false≢true h)
+not_pending Known h = refl
+
+not_fine : (s : SendState) → is_pending s ≡ true → is_fine s ≡ false
+not_fine Fine h = absurd (false≢true h)
+not_fine Pending h = refl
+not_fine Known h = absurd (false≢true h)
+
+-- what an entry changes of a peer's part
+asked_connected : (b : Bool) (o : Option Msg) (part : Part) → connected (if b then record part { trail = asks o part.trail } else part).trail ≡ connected part.trail
+asked_connected true None part = refl
+asked_connected true (Some m) part = refl
+asked_connected false o part = refl
+
+asked_failed : (b : Bool) (o : Option Msg) (part : Part) → failed (if b then record part { trail = asks o part.trail } else part).trail ≡ failed part.trail
+asked_failed true None part = refl
+asked_failed true (Some m) part = refl
+asked_failed false o part = refl
+
+asked_brought : (b : Bool) (o : Option Msg) (part : Part) → fetched (counted (if b then record part { trail = asks o part.trail } else part).trail) ≡ fetched (counted part.trail)
+asked_brought true None part = refl
+asked_brought true (Some m) part = refl
+asked_brought false o part = refl
+
+asked_gave : (b : Bool) (o : Option Msg) (part : Part) → given (counted (if b then record part { trail = asks o part.trail } else part).trail) ≡ given (counted part.trail)
+asked_gave true None part = refl
+asked_gave true (Some m) part = refl
+asked_gave false o part = refl
+
+asked_alike : (b : Bool) (o : Option Msg) (t u : Part) → Alike t u
+    → Alike (if b then record t { trail = asks o t.trail } else t) (if b then record u { trail = asks o u.trail } else u)
+asked_alike b o t u (inl same) = inl (ap (λ (x : Part). if b then record x { trail = asks o x.trail } else x) same)
+asked_alike b o t u (inr off) = inr (asked_connected b o t ∙ off.0, asked_connected b o u ∙ off.1, asked_failed b o t ∙ off.2, asked_failed b o u ∙ off.3, asked_brought b o t ∙ off.4 ∙ sym (asked_brought b o u), asked_gave b o t ∙ off.5 ∙ sym (asked_gave b o u))
+
+pub lost_off : (b : Bool) (w : Why) (part : Part) → connected part.trail ≡ false → connected (if b then with_item (Lost w) part else part).trail ≡ false
+lost_off true w part off = refl
+lost_off false w part off = off
+
+lost_brought : (b : Bool) (w : Why) (part : Part) → fetched (counted (if b then with_item (Lost w) part else part).trail) ≡ fetched (counted part.trail)
+lost_brought true w part = refl
+lost_brought false w part = refl
+
+lost_gave : (b : Bool) (w : Why) (part : Part) → given (counted (if b then with_item (Lost w) part else part).trail) ≡ given (counted part.trail)
+lost_gave true w part = refl
+lost_gave false w part = refl
+
+-- a peer that is lost once more
+any_failing : (b : Bool) → (b || true) ≡ true
+any_failing true = refl
+any_failing false = refl
+
+failed_still : (b : Bool) (w : Why) (part : Part) → failed part.trail ≡ true → failed (if b then with_item (Lost w) part else part).trail ≡ true
+failed_still true w part off = ap (λ (x : Bool). is_failing w || x) off ∙ any_failing (is_failing w)
+failed_still false w part off = off
+
+lost_alike : (b : Bool) (w : Why) (t u : Part) → Alike t u → Alike (if b then with_item (Lost w) t else t) (if b then with_item (Lost w) u else u)
+lost_alike b w t u (inl same) = inl (ap (λ (x : Part). if b then with_item (Lost w) x else x) same)
+lost_alike b w t u (inr off) = inr (lost_off b w t off.0, lost_off b w u off.1, failed_still b w t off.2, failed_still b w u off.3, lost_brought b w t ∙ off.4 ∙ sym (lost_brought b w u), lost_gave b w t ∙ off.5 ∙ sym (lost_gave b w u))
+
+-- an entry that brings nothing
+pub sent_brought : (p : PeerNo) (bytes : List ℕ) (log : Log) (q : ℕ) → fetched (counted_part (Sent p bytes ∷ log) q) ≡ fetched (counted_part log q)
+sent_brought p bytes log q = asked_brought (p.0 == q) (spelled bytes) (part_of log q)
+
+pub closed_brought : (p : PeerNo) (log : Log) (q : ℕ) → fetched (counted_part (Closed p ∷ log) q) ≡ fetched (counted_part log q)
+closed_brought p log q = lost_brought (p.0 == q) Shutting (part_of log q)
+
+pub failing_brought : (p : PeerNo) (log : Log) (q : ℕ) → fetched (counted_part (SendFailed p ∷ log) q) ≡ fetched (counted_part log q)
+failing_brought p log q = lost_brought (p.0 == q) Failing (part_of log q)
+
+-- and gives nothing
+pub sent_gave : (p : PeerNo) (bytes : List ℕ) (log : Log) (q : ℕ) → given (counted_part (Sent p bytes ∷ log) q) ≡ given (counted_part log q)
+sent_gave p bytes log q = asked_gave (p.0 == q) (spelled bytes) (part_of log q)
+
+pub closed_gave : (p : PeerNo) (log : Log) (q : ℕ) → given (counted_part (Closed p ∷ log) q) ≡ given (counted_part log q)
+closed_gave p log q = lost_gave (p.0 == q) Shutting (part_of log q)
+
+pub failing_gave : (p : PeerNo) (log : Log) (q : ℕ) → given (counted_part (SendFailed p ∷ log) q) ≡ given (counted_part log q)
+failing_gave p log q = lost_gave (p.0 == q) Failing (part_of log q)
+
+pub sent_connected : (p : PeerNo) (bytes : List ℕ) (q : ℕ) (part : Part) → connected (went_on (Sent p bytes) q part).trail ≡ connected part.trail
+sent_connected p bytes q part = asked_connected (p.0 == q) (spelled bytes) part
+
+-- nobody else's part changes
+pub sent_others : (p : PeerNo) (bytes : List ℕ) (q : ℕ) (part : Part) → q ≢ p.0 → went_on (Sent p bytes) q part ≡ part
+sent_others p bytes q part ne = grind (arith, common_steps)
+
+pub closed_others : (p : PeerNo) (q : ℕ) (part : Part) → q ≢ p.0 → went_on (Closed p) q part ≡ part
+closed_others p q part ne = grind (arith, common_steps)
+
+pub failing_others : (p : PeerNo) (q : ℕ) (part : Part) → q ≢ p.0 → went_on (SendFailed p) q part ≡ part
+failing_others p q part ne = grind (arith, common_steps)
+
+failing_here : (p : PeerNo) (q : ℕ) (part : Part) → q ≡ p.0 → went_on (SendFailed p) q part ≡ with_item (Lost Failing) part
+failing_here p q part e = grind (arith, common_steps)
+
+closed_here : (p : PeerNo) (q : ℕ) (part : Part) → q ≡ p.0 → went_on (Closed p) q part ≡ with_item (Lost Shutting) part
+closed_here p q part e = grind (arith, common_steps)
+
+sent_here : (p : PeerNo) (bytes : List ℕ) (m : Msg) (q : ℕ) (part : Part) → q ≡ p.0 → spelled bytes ≡ Some m → went_on (Sent p bytes) q part ≡ with_item (Asked m) part
+sent_here p bytes m q part e is = ap (λ (b : Bool). if b then record part { trail = asks (spelled bytes) part.trail } else part) (same_number p.0 q e) ∙ ap (λ (o : Option Msg). record part { trail = asks o part.trail }) is where
+  same_number : (n k : ℕ) → k ≡ n → (n == k) ≡ true
+  same_number n k e = grind (arith, common_steps)
+
+-- ---- which failed sends aren't told
+
+pub untold_failing_here : (p : PeerNo) (log : Log) (q : ℕ) → q ≡ p.0 → is_untold (SendFailed p ∷ log) q ≡ true
+untold_failing_here p log q e = grind (arith, common_steps)
+
+pub untold_failing_others : (p : PeerNo) (log : Log) (q : ℕ) → q ≢ p.0 → is_untold (SendFailed p ∷ log) q ≡ is_untold log q
+untold_failing_others p log q ne = grind (arith, common_steps)
+
+pub untold_closed_here : (p : PeerNo) (log : Log) (q : ℕ) → q ≡ p.0 → is_untold (Closed p ∷ log) q ≡ false
+untold_closed_here p log q e = grind (arith, common_steps)
+
+pub untold_closed_others : (p : PeerNo) (log : Log) (q : ℕ) → q ≢ p.0 → is_untold (Closed p ∷ log) q ≡ is_untold log q
+untold_closed_others p log q ne = grind (arith, common_steps)
+
+before_failing_here : (p : PeerNo) (log : Log) (q : ℕ) → q ≡ p.0 → before_failure (SendFailed p ∷ log) q ≡ log
+before_failing_here p log q e = grind (arith, common_steps)
+
+before_failing_others : (p : PeerNo) (log : Log) (q : ℕ) → q ≢ p.0 → before_failure (SendFailed p ∷ log) q ≡ before_failure log q
+before_failing_others p log q ne = grind (arith, common_steps)
+
+-- what an act closes, and whom not
+closes_here : (p : PeerNo) (cause : Cause) (acts : List Act) (q : ℕ) → q ≡ p.0 → list_any (closes q) (Close p cause ∷ acts) ≡ true
+closes_here p cause acts q e = grind (arith, common_steps)
+
+closes_others : (p : PeerNo) (cause : Cause) (acts : List Act) (q : ℕ) → q ≢ p.0 → list_any (closes q) (Close p cause ∷ acts) ≡ list_any (closes q) acts
+closes_others p cause acts q ne = grind (arith, common_steps)
+
+asked_on : (t : Trail) (m : Msg) → MayAsk t m → connected t ≡ true
+asked_on t (Version version services time to from nonce agent height relay) h = h.0
+asked_on t Verack h = h.0
+asked_on t (Ping n) h = absurd h
+asked_on t (Pong n) h = h.0
+asked_on t (GetHeaders version locator stop) h = h.0.on
+asked_on t (Headers hs) h = absurd h
+asked_on t (GetData entries) h = h.0.on
+asked_on t (Inv entries) h = absurd h
+asked_on t (Block block) h = absurd h
+asked_on t (GetCfilters filter start stop) h = h.0.on
+asked_on t (Cfilter filter block bytes) h = absurd h
+asked_on t (GetCfheaders filter start stop) h = h.0.on
+asked_on t (Cfheaders filter stop previous hashes) h = absurd h
+asked_on t (GetCfcheckpt filter stop) h = absurd h
+asked_on t (Cfcheckpt filter stop headers) h = absurd h
+asked_on t (Other command payload) h = absurd h
+
+-- a connected peer, by the plan, whose failed send isn't pending has had none that isn't told
+known_told : {watch : List (List ℕ)} (acts : List Act) (progress : Progress) (called : List (List ℕ)) (planned : Log) (t : Told) (p : ℕ)
+    → is_pending (state_at progress.sends p) ≡ false → connected (trail planned p) ≡ true → (doing : Doing watch acts progress called planned t) → is_untold doing.actual p ≡ false
+known_told acts progress called planned t p free on doing = elim (cases_Bool (is_untold doing.actual p)) [
+  | inl untold ↦ absurd (both_ways (connected (trail planned p)) (doing.known p untold free).0 on)
+  | inr told ↦ told
+]
+
+-- who is connected has the part that was planned
+connected_same : {watch : List (List ℕ)} (acts : List Act) (progress : Progress) (called : List (List ℕ)) (planned : Log) (t : Told) → (doing : Doing watch acts progress called planned t) → (q : ℕ) → connected (trail doing.actual q) ≡ true → part_of planned q ≡ part_of doing.actual q
+connected_same acts progress called planned t doing q on = elim (cases_Bool (is_untold doing.actual q)) [
+  | inl untold ↦ absurd (both_ways (connected (trail doing.actual q)) (doing.broken q untold).0 on)
+  | inr told ↦ elim (doing.plan.told q told) [
+    | inl same ↦ same
+    | inr off ↦ absurd (both_ways (connected (trail doing.actual q)) off.1 on)
+  ]
+]
+
+-- what is asked is open to nobody by the plan, and so indeed
+alone_too : {watch : List (List ℕ)} (acts : List Act) (progress : Progress) (called : List (List ℕ)) (planned : Log) (t : Told) → (doing : Doing watch acts progress called planned t) → (p : ℕ) (m : Msg) → part_of planned p ≡ part_of doing.actual p
+    → IsAlone planned p m → IsAlone doing.actual p m
+alone_too acts progress called planned t doing p m same alone = alone_less planned doing.actual p m doing.brought (connected_same acts progress called planned t doing) same alone
+
+-- an act on a peer whose failed send is pending is planned, and not done
+skipped : {watch : List (List ℕ)} (a : Act) (acts : List Act) (progress : Progress) (called : List (List ℕ)) (planned : Log) (t : Told) (p : ℕ) (e : Event) (i : Item)
+    → is_pending (state_at progress.sends p) ≡ true
+    → ((q : ℕ) → q ≢ p → went_on e q (part_of planned q) ≡ part_of planned q)
+    → ((q : ℕ) → q ≡ p → went_on e q (part_of planned q) ≡ with_item i (part_of planned q))
+    → ((more : Trail) → IsMeant more → IsMeant (i ∷ more))
+    → ((q : ℕ) → q ≢ p → list_any (closes q) (a ∷ acts) ≡ list_any (closes q) acts)
+    → (noted e (tally_of planned)).dials ≡ (tally_of planned).dials
+    → ((q : ℕ) → fetched (counted_part (e ∷ planned) q) ≡ fetched (counted_part planned q)) → ((q : ℕ) → given (counted_part (e ∷ planned) q) ≡ given (counted_part planned q))
+    → ((job : Job) → IsTested (e ∷ planned) job → IsTested planned job) → ((q : ℕ) (block : Hash) → q ≢ p → IsSameTest (e ∷ planned) planned q block)
+    → Doing watch (a ∷ acts) progress called planned t → Doing watch acts progress called (e ∷ planned) t
+skipped a acts progress called planned t p e i is others here meant unclosed dials brought gave tests aims doing =
+    let it : (q : ℕ) → q ≡ p → is_pending (state_at progress.sends q) ≡ true = λ q same. ap (λ (k : ℕ). is_pending (state_at progress.sends k)) same ∙ is in
+    record {
+      actual = doing.actual;
+      notes = doing.notes;
+      plan = record {
+        told = λ q told. elim (cases_eq q p) [
+          | inl same ↦ absurd (both_ways (is_untold doing.actual q) told (doing.pending q (it q same)))
+          | inr ne ↦ subst (λ (x : Part). Alike x (part_of doing.actual q)) (sym (others q ne)) (doing.plan.told q told)
+        ];
+        untold = λ q untold. let m = doing.plan.untold q untold in elim (cases_eq q p) [
+          | inl same ↦ (i ∷ m.0, (meant m.0 m.1.0, here q same ∙ ap (with_item i) m.1.1))
+          | inr ne ↦ (m.0, (m.1.0, others q ne ∙ m.1.1))
+        ];
+        dials = dials ∙ doing.plan.dials;
+        tested = λ job h. doing.plan.tested job (tests job h);
+        tests = λ job h. tested_stays e planned job (doing.plan.tests job h);
+        aims = λ q fine on block.
+            let ne : q ≢ p = λ same. both_ways (is_untold doing.actual q) fine (doing.pending q (it q same)) in
+            let one = aims q block ne in
+            let two = doing.plan.aims q fine on block in
+            (λ t. two.0 (one.0 t), λ t. one.1 (two.1 t));
+      };
+      brought = λ q. brought q ∙ doing.brought q;
+      gave = λ q. gave q ∙ doing.gave q;
+      pending = doing.pending;
+      due = λ q untold. elim (cases_eq q p) [
+        | inl same ↦ ap (λ (b : Bool). b || list_any (closes q) acts) (it q same)
+        | inr ne ↦ ap (λ (b : Bool). is_pending (state_at progress.sends q) || b) (sym (unclosed q ne)) ∙ doing.due q untold
+      ];
+      broken = doing.broken;
+      known = λ q untold free. elim (cases_eq q p) [
+        | inl same ↦ absurd (both_ways (is_pending (state_at progress.sends q)) free (it q same))
+        | inr ne ↦ subst (λ (x : Part). (connected x.trail ≡ false) × (failed x.trail ≡ true)) (sym (others q ne)) (doing.known q untold free)
+      ];
+    }
+
+pub skipped_send : {watch : List (List ℕ)} (acts : List Act) (progress : Progress) (called : List (List ℕ)) (planned : Log) (t : Told) (p : PeerNo) (m : Msg)
+    → is_pending (state_at progress.sends p.0) ≡ true → MayAct watch (Send p m) planned
+    → Doing watch (Send p m ∷ acts) progress called planned t → Doing watch acts progress called (Sent p (bytes_of m) ∷ planned) t
+skipped_send acts progress called planned t p m is may doing =
+    skipped (Send p m) acts progress called planned t p.0 (Sent p (bytes_of m)) (Asked m) is
+    (λ q ne. sent_others p (bytes_of m) q (part_of planned q) ne)
+    (λ q e. sent_here p (bytes_of m) m q (part_of planned q) e (spelled_bytes m may.1))
+    (λ more meant. meant) (λ q ne. refl) refl (λ q. sent_brought p (bytes_of m) planned q) (λ q. sent_gave p (bytes_of m) planned q) (λ job h. h) (λ q block ne. test_off planned p (bytes_of m) q block ne) doing
+
+pub skipped_close : {watch : List (List ℕ)} (acts : List Act) (progress : Progress) (called : List (List ℕ)) (planned : Log) (t : Told) (p : PeerNo) (cause : Cause)
+    → is_pending (state_at progress.sends p.0) ≡ true
+    → Doing watch (Close p cause ∷ acts) progress called planned t → Doing watch acts progress called (Closed p ∷ planned) t
+skipped_close acts progress called planned t p cause is doing =
+    skipped (Close p cause) acts progress called planned t p.0 (Closed p) (Lost Shutting) is
+    (λ q ne. closed_others p q (part_of planned q) ne)
+    (λ q e. closed_here p q (part_of planned q) e)
+    (λ more meant. meant) (λ q ne. closes_others p cause acts q ne) refl (λ q. closed_brought p planned q) (λ q. closed_gave p planned q) (λ job h. h) (λ q block ne. (λ t. t, λ t. t)) doing
+
+reverse_push : (xs : List TraceLine) (x : TraceLine) → reverse (xs ++ x ∷ []) ≡ x ∷ reverse xs
+reverse_push xs x = reverse-append xs (x ∷ [])
+
+-- a message is sent
+pub sent_on : {watch : List (List ℕ)} (acts : List Act) (progress : Progress) (trace : Vec TraceLine Global) (called : List (List ℕ)) (planned : Log) (t : Told) (p : PeerNo) (m : Msg) (command : List ℕ)
+    → is_pending (state_at progress.sends p.0) ≡ false → trace.items ≡ progress.trace.items ++ SentLine p command ∷ [] → command ≡ command_of m
+    → MayAct watch (Send p m) planned
+    → Doing watch (Send p m ∷ acts) progress called planned t → Doing watch acts (record progress { trace = trace }) called (Sent p (bytes_of m) ∷ planned) (tell (Sent p (bytes_of m)) t)
+sent_on acts progress trace called planned t p m command free line is may doing =
+    let bytes = bytes_of m in
+    let spells : spelled bytes ≡ Some m = spelled_bytes m may.1 in
+    let on : connected (trail planned p.0) ≡ true = asked_on (trail planned p.0) m may.2.of_its_part in
+    let told : is_untold doing.actual p.0 ≡ false = known_told (Send p m ∷ acts) progress called planned t p.0 free on doing in
+    let same : part_of planned p.0 ≡ part_of doing.actual p.0 = planned_part planned doing.actual p.0 doing.plan told on in
+    let other : (q : ℕ) → is_untold doing.actual q ≡ true → q ≢ p.0 = λ q untold e. both_ways (is_untold doing.actual q) (ap (is_untold doing.actual) e ∙ told) untold in
+    record {
+      actual = Sent p bytes ∷ doing.actual;
+      notes = record {
+        tells = tells_more doing.actual t (Sent p bytes) doing.notes.tells;
+        bytes = doing.notes.bytes;
+        rightly = (
+          (
+            m,
+            spells,
+            record {
+              of_its_part = subst (λ (x : Part). MayAsk x.trail m) same may.2.of_its_part;
+              wanted = same_wanted planned doing.actual doing.brought m may.2.wanted;
+              alone = alone_too (Send p m ∷ acts) progress called planned t doing p.0 m same may.2.alone;
+            },
+          ),
+          doing.notes.rightly,
+        );
+        planned = ((m, spells, (planned, (doing.plan, (may.2, may.3)))), doing.notes.planned);
+        order = doing.notes.order;
+        numbered = doing.notes.numbered;
+        first = doing.notes.first;
+        traced = subst (λ (lines : List TraceLine). IsTraceOf (Sent p bytes ∷ doing.actual) lines) (sym (ap reverse line ∙ reverse_push progress.trace.items (SentLine p command)))
+            ((refl, (m, spells, is)), doing.notes.traced);
+        named = doing.notes.named;
+        off = λ q not_it. sent_connected p bytes q (part_of doing.actual q) ∙ doing.notes.off q not_it;
+        shut = λ q it. let s = doing.notes.shut q it in (sent_connected p bytes q (part_of doing.actual q) ∙ s.0, s.1);
+        new = doing.notes.new;
+        few = doing.notes.few;
+      };
+      plan = record {
+        told = λ q fine. asked_alike (p.0 == q) (spelled bytes) (part_of planned q) (part_of doing.actual q) (doing.plan.told q fine);
+        untold = λ q untold. let more = doing.plan.untold q untold in (more.0, (more.1.0, sent_others p bytes q (part_of planned q) (other q untold) ∙ more.1.1));
+        dials = doing.plan.dials;
+        tested = doing.plan.tested;
+        tests = doing.plan.tests;
+        aims = λ q fine on block. test_alike planned doing.actual p bytes q block doing.brought (doing.plan.aims q fine (on_sent p bytes doing.actual q on) block);
+      };
+      brought = λ q. sent_brought p bytes planned q ∙ doing.brought q ∙ sym (sent_brought p bytes doing.actual q);
+      gave = λ q. sent_gave p bytes planned q ∙ doing.gave q ∙ sym (sent_gave p bytes doing.actual q);
+      pending = doing.pending;
+      due = doing.due;
+      broken = λ q untold. let b = doing.broken q untold in (
+        sent_connected p bytes q (part_of doing.actual q) ∙ b.0,
+        asked_failed (p.0 == q) (spelled bytes) (part_of doing.actual q) ∙ b.1,
+      );
+      known = λ q untold pends. let b = doing.known q untold pends in (
+        sent_connected p bytes q (part_of planned q) ∙ b.0,
+        asked_failed (p.0 == q) (spelled bytes) (part_of planned q) ∙ b.1,
+      );
+    }
+
+deserved : (t u : Part) (cause : Cause) → Alike t u → Deserves t.trail cause → Deserves u.trail cause
+deserved t u cause (inl same) h = subst (λ (x : Part). Deserves x.trail cause) same h
+deserved t u cause (inr off) (inl words) = absurd (both_ways (connected t.trail) off.0 words.0)
+deserved t u cause (inr off) (inr (inl fault)) = inr (inl (fault.0, off.3))
+deserved t u cause (inr off) (inr (inr late)) = absurd (both_ways (is_open t.trail) (rw off.0 refl) late.1)
+
+-- who is cut off deserves a close for a failed send alone
+deserved_off : (t u : Trail) (cause : Cause) → connected t ≡ false → failed u ≡ true → Deserves t cause → Deserves u cause
+deserved_off t u cause off broken (inl words) = absurd (both_ways (connected t) off words.0)
+deserved_off t u cause off broken (inr (inl fault)) = inr (inl (fault.0, broken))
+deserved_off t u cause off broken (inr (inr late)) = absurd (both_ways (is_open t) (rw off refl) late.1)
+
+failed_off : (t : Trail) (cause : Cause) → connected t ≡ false → Deserves t cause → failed t ≡ true
+failed_off t cause off (inl words) = absurd (both_ways (connected t) off words.0)
+failed_off t cause off (inr (inl fault)) = fault.1
+failed_off t cause off (inr (inr late)) = absurd (both_ways (is_open t) (rw off refl) late.1)
+
+deserved_in : (planned log : Log) (p : ℕ) (cause : Cause) → Alike (part_of planned p) (part_of log p) → IsSameFetched planned log → ((job : Job) → IsTested planned job → IsTested log job)
+    → DeservesIn planned p cause → DeservesIn log p cause
+deserved_in planned log p cause alike brought tests (inl d) = inl (deserved (part_of planned p) (part_of log p) cause alike d)
+deserved_in planned log p cause alike brought tests (inr o) = inr (o.0, omits_alike planned log p alike brought tests o.1)
+
+deserved_in_off : (planned log : Log) (p : ℕ) (cause : Cause) → connected (trail planned p) ≡ false → failed (trail log p) ≡ true → DeservesIn planned p cause → DeservesIn log p cause
+deserved_in_off planned log p cause off broken (inl d) = inl (deserved_off (trail planned p) (trail log p) cause off broken d)
+deserved_in_off planned log p cause off broken (inr o) = absurd (off_omits_nothing planned p off o.1)
+
+failed_in_off : (planned : Log) (p : ℕ) (cause : Cause) → DeservesIn planned p cause → connected (trail planned p) ≡ false → failed (trail planned p) ≡ true
+failed_in_off planned p cause (inl d) off = failed_off (trail planned p) cause off d
+failed_in_off planned p cause (inr o) off = absurd (off_omits_nothing planned p off o.1)
+
+replied_alike : (t u : Part) → Alike t u → IsReplied t.trail → IsReplied u.trail
+replied_alike t u (inl same) h = subst (λ (x : Part). IsReplied x.trail) same h
+replied_alike t u (inr off) h = λ sound. absurd (both_ways (failed u.trail) sound off.3)
+
+first_alike : (t u : Part) → Alike t u → IsRepliedFirst t.trail → IsRepliedFirst u.trail
+first_alike t u (inl same) h = subst (λ (x : Part). IsRepliedFirst x.trail) same h
+first_alike t u (inr off) h = λ sound. absurd (both_ways (failed u.trail) sound off.3)
+
+replied_in : (planned log : Log) (p : ℕ) → Alike (part_of planned p) (part_of log p) → IsSameFetched planned log → ((job : Job) → IsTested planned job → IsTested log job)
+    → IsRepliedIn planned p → IsRepliedIn log p
+replied_in planned log p alike brought tests (inl all) = inl (replied_alike (part_of planned p) (part_of log p) alike all)
+replied_in planned log p alike brought tests (inr o) = inr (omits_alike planned log p alike brought tests o.0, first_alike (part_of planned p) (part_of log p) alike o.1)
+
+-- a peer is closed
+pub closed_on : {watch : List (List ℕ)} (acts : List Act) (progress : Progress) (trace : Vec TraceLine Global) (called : List (List ℕ)) (planned : Log) (t : Told) (p : PeerNo) (cause : Cause)
+    → is_pending (state_at progress.sends p.0) ≡ false → trace.items ≡ progress.trace.items ++ ClosedLine p cause ∷ []
+    → MayAct watch (Close p cause) planned
+    → Doing watch (Close p cause ∷ acts) progress called planned t
+    → Doing watch acts (record progress { closed = set progress.closed p.0 true; trace = trace }) called (Closed p ∷ planned) (tell (Closed p) t)
+closed_on acts progress trace called planned t p cause free line may doing =
+    let deserves : DeservesIn doing.actual p.0 cause = elim (cases_Bool (is_untold doing.actual p.0)) [
+      | inl untold ↦ deserved_in_off planned doing.actual p.0 cause (doing.known p.0 untold free).0 (doing.broken p.0 untold).1 may.1
+      | inr told ↦ deserved_in planned doing.actual p.0 cause (doing.plan.told p.0 told) doing.brought doing.plan.tested may.1
+    ] in
+    let replied_all : IsRepliedIn doing.actual p.0 = elim (cases_Bool (is_untold doing.actual p.0)) [
+      | inl untold ↦ inl (λ sound. absurd (both_ways (failed (trail doing.actual p.0)) sound (doing.broken p.0 untold).1))
+      | inr told ↦ replied_in planned doing.actual p.0 (doing.plan.told p.0 told) doing.brought doing.plan.tested may.2
+    ] in
+    let before : (q : ℕ) → is_untold (Closed p ∷ doing.actual) q ≡ true → (q ≢ p.0) × (is_untold doing.actual q ≡ true) = λ q untold.
+    let ne : q ≢ p.0 = λ e. both_ways (is_untold (Closed p ∷ doing.actual) q) (untold_closed_here p doing.actual q e) untold in
+    (ne, sym (untold_closed_others p doing.actual q ne) ∙ untold) in
+    record {
+      actual = Closed p ∷ doing.actual;
+      notes = record {
+        tells = tells_more doing.actual t (Closed p) doing.notes.tells;
+        bytes = doing.notes.bytes;
+        rightly = ((cause, deserves), doing.notes.rightly);
+        planned = doing.notes.planned;
+        order = (replied_all, doing.notes.order);
+        numbered = doing.notes.numbered;
+        first = doing.notes.first;
+        traced = subst (λ (lines : List TraceLine). IsTraceOf (Closed p ∷ doing.actual) lines) (sym (ap reverse line ∙ reverse_push progress.trace.items (ClosedLine p cause)))
+            ((refl, deserves), doing.notes.traced);
+        named = doing.notes.named;
+        off = λ q not_it. lost_off (p.0 == q) Shutting (part_of doing.actual q) (doing.notes.off q not_it);
+        shut = λ q it. elim (cases_eq q p.0) [
+          | inl e ↦ (ap (λ (x : Part). connected x.trail) (closed_here p q (part_of doing.actual q) e), untold_closed_here p doing.actual q e)
+          | inr ne ↦ let s = doing.notes.shut q (sym (get_or-set_other progress.closed p.0 q true false ne) ∙ it) in
+              (lost_off (p.0 == q) Shutting (part_of doing.actual q) s.0, untold_closed_others p doing.actual q ne ∙ s.1)
+        ];
+        new = λ q le. let ne : q ≢ p.0 = λ e. absurd (omega (arith, doing.plan.dials, may.0)) in
+            let n = doing.notes.new q le in (n.0, get_or-set_other progress.closed p.0 q true false ne ∙ n.1);
+        few = doing.notes.few;
+      };
+      plan = record {
+        told = λ q told. elim (cases_Bool (is_untold doing.actual q)) [
+          | inl untold ↦
+              let e : q ≡ p.0 = elim (cases_eq q p.0) [ inl e ↦ e | inr ne ↦ absurd (both_ways (is_untold doing.actual q) (sym (untold_closed_others p doing.actual q ne) ∙ told) untold) ] in
+              let k = doing.known q untold (ap (λ (n : ℕ). is_pending (state_at progress.sends n)) e ∙ free) in
+              inr (
+                lost_off (p.0 == q) Shutting (part_of planned q) k.0,
+                lost_off (p.0 == q) Shutting (part_of doing.actual q) (doing.broken q untold).0,
+                failed_still (p.0 == q) Shutting (part_of planned q) k.1,
+                failed_still (p.0 == q) Shutting (part_of doing.actual q) (doing.broken q untold).1,
+                closed_brought p planned q ∙ doing.brought q ∙ sym (closed_brought p doing.actual q),
+                closed_gave p planned q ∙ doing.gave q ∙ sym (closed_gave p doing.actual q),
+              )
+          | inr fine ↦ lost_alike (p.0 == q) Shutting (part_of planned q) (part_of doing.actual q) (doing.plan.told q fine)
+        ];
+        untold = λ q untold. let b = before q untold in let more = doing.plan.untold q b.1 in
+            (more.0, (more.1.0, closed_others p q (part_of planned q) b.0 ∙ more.1.1));
+        dials = doing.plan.dials;
+        tested = doing.plan.tested;
+        tests = doing.plan.tests;
+        aims = λ q fine on block. elim (cases_Bool (is_untold doing.actual q)) [
+          | inl untold ↦
+              let e : q ≡ p.0 = elim (cases_eq q p.0) [ inl e ↦ e | inr ne ↦ absurd (both_ways (is_untold doing.actual q) (sym (untold_closed_others p doing.actual q ne) ∙ fine) untold) ] in
+              absurd (both_ways (connected (trail (Closed p ∷ doing.actual) q)) (ap (λ (x : Part). connected x.trail) (closed_here p q (part_of doing.actual q) e)) on)
+          | inr told ↦ doing.plan.aims q told (on_closed p doing.actual q on) block
+        ];
+      };
+      brought = λ q. closed_brought p planned q ∙ doing.brought q ∙ sym (closed_brought p doing.actual q);
+      gave = λ q. closed_gave p planned q ∙ doing.gave q ∙ sym (closed_gave p doing.actual q);
+      pending = λ q it. let ne : q ≢ p.0 = λ e. both_ways (is_pending (state_at progress.sends q)) (ap (λ (n : ℕ). is_pending (state_at progress.sends n)) e ∙ free) it in
+          untold_closed_others p doing.actual q ne ∙ doing.pending q it;
+      due = λ q untold. let b = before q untold in
+          ap (λ (x : Bool). is_pending (state_at progress.sends q) || x) (sym (closes_others p cause acts q b.0)) ∙ doing.due q b.1;
+      broken = λ q untold. let b = doing.broken q (before q untold).1 in
+          (lost_off (p.0 == q) Shutting (part_of doing.actual q) b.0, failed_still (p.0 == q) Shutting (part_of doing.actual q) b.1);
+      known = λ q untold pends. let b = doing.known q (before q untold).1 pends in
+          (lost_off (p.0 == q) Shutting (part_of planned q) b.0, failed_still (p.0 == q) Shutting (part_of planned q) b.1);
+    }
+
+-- a peer was closed already, and a second close is not done
+pub closed_again : {watch : List (List ℕ)} (acts : List Act) (progress : Progress) (called : List (List ℕ)) (planned : Log) (t : Told) (p : PeerNo) (cause : Cause)
+    → is_pending (state_at progress.sends p.0) ≡ false → get_or progress.closed p.0 false ≡ true → MayAct watch (Close p cause) planned
+    → Doing watch (Close p cause ∷ acts) progress called planned t → Doing watch acts progress called (Closed p ∷ planned) t
+closed_again acts progress called planned t p cause free shut may doing =
+    let s = doing.notes.shut p.0 shut in
+    let both : (connected (trail planned p.0) ≡ false) × (failed (trail planned p.0) ≡ true) × (failed (trail doing.actual p.0) ≡ true) =
+    twice (part_of planned p.0) (part_of doing.actual p.0) (doing.plan.told p.0 s.1) s.0 (failed_in_off planned p.0 cause may.1) in
+    record {
+      actual = doing.actual;
+      notes = doing.notes;
+      plan = record {
+        told = λ q told. elim (cases_eq q p.0) [
+          | inl e ↦ inr (
+            lost_off (p.0 == q) Shutting (part_of planned q) (ap (λ (k : ℕ). connected (trail planned k)) e ∙ both.0),
+            ap (λ (k : ℕ). connected (trail doing.actual k)) e ∙ s.0,
+            failed_still (p.0 == q) Shutting (part_of planned q) (ap (λ (k : ℕ). failed (trail planned k)) e ∙ both.1),
+            ap (λ (k : ℕ). failed (trail doing.actual k)) e ∙ both.2,
+            closed_brought p planned q ∙ doing.brought q,
+            closed_gave p planned q ∙ doing.gave q,
+          )
+          | inr ne ↦ subst (λ (x : Part). Alike x (part_of doing.actual q)) (sym (closed_others p q (part_of planned q) ne)) (doing.plan.told q told)
+        ];
+        untold = λ q untold. let more = doing.plan.untold q untold in (more.0, (more.1.0, closed_others p q (part_of planned q) (other q untold) ∙ more.1.1));
+        dials = doing.plan.dials;
+        tested = doing.plan.tested;
+        tests = doing.plan.tests;
+        aims = doing.plan.aims;
+      };
+      brought = λ q. closed_brought p planned q ∙ doing.brought q;
+      gave = λ q. closed_gave p planned q ∙ doing.gave q;
+      pending = doing.pending;
+      due = λ q untold. ap (λ (x : Bool). is_pending (state_at progress.sends q) || x) (sym (closes_others p cause acts q (other q untold))) ∙ doing.due q untold;
+      broken = doing.broken;
+      known = λ q untold pends. let b = doing.known q untold pends in
+          (lost_off (p.0 == q) Shutting (part_of planned q) b.0, failed_still (p.0 == q) Shutting (part_of planned q) b.1);
+    } where
+      other : (q : ℕ) → is_untold doing.actual q ≡ true → q ≢ p.0
+      other q untold e = both_ways (is_untold doing.actual q) (ap (is_untold doing.actual) e ∙ (doing.notes.shut p.0 shut).1) untold
+
+      twice : (t u : Part) → Alike t u → connected u.trail ≡ false → (connected t.trail ≡ false → failed t.trail ≡ true) → (connected t.trail ≡ false) × (failed t.trail ≡ true) × (failed u.trail ≡ true)
+      twice t u (inl same) off h =
+          let gone : connected t.trail ≡ false = ap (λ (x : Part). connected x.trail) same ∙ off in
+          let broken : failed t.trail ≡ true = h gone in
+          (gone, broken, sym (ap (λ (x : Part). failed x.trail) same) ∙ broken)
+      twice t u (inr o) off h = (o.0, o.2, o.3)
+
+-- a send fails
+pub failed_on : {watch : List (List ℕ)} (acts : List Act) (progress : Progress) (called : List (List ℕ)) (planned : Log) (t : Told) (p : PeerNo) (m : Msg)
+    → p.0 < length progress.sends → is_pending (state_at progress.sends p.0) ≡ false
+    → MayAct watch (Send p m) planned
+    → Doing watch (Send p m ∷ acts) progress called planned t
+    → Doing watch acts (record progress { sends = set progress.sends p.0 Pending }) called (Sent p (bytes_of m) ∷ planned) (tell (SendFailed p) t)
+failed_on acts progress called planned t p m lt free may doing =
+    let here : state_at (set progress.sends p.0 Pending) p.0 ≡ Pending = get_or-set_same progress.sends p.0 Pending Fine lt in
+    let pends : (q : ℕ) → q ≡ p.0 → is_pending (state_at (set progress.sends p.0 Pending) q) ≡ true = λ q e. ap (λ (k : ℕ). is_pending (state_at (set progress.sends p.0 Pending) k)) e ∙ ap is_pending here in
+    let there : (q : ℕ) → q ≢ p.0 → state_at (set progress.sends p.0 Pending) q ≡ state_at progress.sends q = λ q ne. get_or-set_other progress.sends p.0 q Pending Fine ne in
+    let bytes = bytes_of m in
+    let spells : spelled bytes ≡ Some m = spelled_bytes m may.1 in
+    let on : connected (trail planned p.0) ≡ true = asked_on (trail planned p.0) m may.2.of_its_part in
+    let told : is_untold doing.actual p.0 ≡ false = known_told (Send p m ∷ acts) progress called planned t p.0 free on doing in
+    let same : part_of planned p.0 ≡ part_of doing.actual p.0 = planned_part planned doing.actual p.0 doing.plan told on in
+    let on_too : connected (trail doing.actual p.0) ≡ true = sym (ap (λ (x : Part). connected x.trail) same) ∙ on in
+    let before : (q : ℕ) → q ≢ p.0 → is_untold (SendFailed p ∷ doing.actual) q ≡ true → is_untold doing.actual q ≡ true = λ q ne untold. sym (untold_failing_others p doing.actual q ne) ∙ untold in
+    record {
+      actual = SendFailed p ∷ doing.actual;
+      notes = record {
+        tells = tells_more doing.actual t (SendFailed p) doing.notes.tells;
+        bytes = doing.notes.bytes;
+        rightly = doing.notes.rightly;
+        planned = doing.notes.planned;
+        order = (on_too, doing.notes.order);
+        numbered = doing.notes.numbered;
+        first = doing.notes.first;
+        traced = doing.notes.traced;
+        named = doing.notes.named;
+        off = λ q not_it. elim (cases_eq q p.0) [
+          | inl e ↦ ap (λ (x : Part). connected x.trail) (failing_here p q (part_of doing.actual q) e)
+          | inr ne ↦ lost_off (p.0 == q) Failing (part_of doing.actual q) (doing.notes.off q (sym (ap is_fine (there q ne)) ∙ not_it))
+        ];
+        shut = λ q it. let s = doing.notes.shut q it in
+            let ne : q ≢ p.0 = λ e. both_ways (connected (trail doing.actual q)) s.0 (ap (λ (k : ℕ). connected (trail doing.actual k)) e ∙ on_too) in
+            (lost_off (p.0 == q) Failing (part_of doing.actual q) s.0, untold_failing_others p doing.actual q ne ∙ s.1);
+        new = λ q le. let ne : q ≢ p.0 = λ e. absurd (omega (arith, doing.plan.dials, may.0)) in
+            let n = doing.notes.new q le in (ap is_fine (there q ne) ∙ n.0, n.1);
+        few = doing.notes.few;
+      };
+      plan = record {
+        told = λ q fine.
+            let ne : q ≢ p.0 = λ e. both_ways (is_untold (SendFailed p ∷ doing.actual) q) fine (untold_failing_here p doing.actual q e) in
+            subst (λ (x : Part). Alike x (went_on (SendFailed p) q (part_of doing.actual q))) (sym (sent_others p bytes q (part_of planned q) ne))
+            (subst (λ (x : Part). Alike (part_of planned q) x) (sym (failing_others p q (part_of doing.actual q) ne))
+            (doing.plan.told q (sym (untold_failing_others p doing.actual q ne) ∙ fine)));
+        untold = λ q untold. elim (cases_eq q p.0) [
+          | inl e ↦ (
+            Asked m ∷ [],
+            (
+              tt,
+              sent_here p bytes m q (part_of planned q) e spells
+                  ∙ ap (with_item (Asked m)) (subst (λ (k : ℕ). part_of planned k ≡ part_of doing.actual k) (sym e) same)
+                  ∙ ap (λ (log : Log). with_item (Asked m) (part_of log q)) (sym (before_failing_here p doing.actual q e)),
+            ),
+          )
+          | inr ne ↦
+              let more = doing.plan.untold q (before q ne untold) in (
+                more.0,
+                (
+                  more.1.0,
+                  sent_others p bytes q (part_of planned q) ne ∙ more.1.1
+                      ∙ ap (λ (log : Log). record (part_of log q) { trail = more.0 ++ trail log q }) (sym (before_failing_others p doing.actual q ne)),
+                ),
+              )
+        ];
+        dials = doing.plan.dials;
+        tested = doing.plan.tested;
+        tests = doing.plan.tests;
+        aims = λ q fine on block.
+            let ne : q ≢ p.0 = λ e. both_ways (is_untold (SendFailed p ∷ doing.actual) q) fine (untold_failing_here p doing.actual q e) in
+            let one = test_off planned p bytes q block ne in
+            let two = doing.plan.aims q (sym (untold_failing_others p doing.actual q ne) ∙ fine) (on_failed p doing.actual q on) block in
+            (λ t. two.0 (one.0 t), λ t. one.1 (two.1 t));
+      };
+      brought = λ q. sent_brought p bytes planned q ∙ doing.brought q ∙ sym (failing_brought p doing.actual q);
+      gave = λ q. sent_gave p bytes planned q ∙ doing.gave q ∙ sym (failing_gave p doing.actual q);
+      pending = λ q it. elim (cases_eq q p.0) [
+        | inl e ↦ untold_failing_here p doing.actual q e
+        | inr ne ↦ untold_failing_others p doing.actual q ne ∙ doing.pending q (sym (ap is_pending (there q ne)) ∙ it)
+      ];
+      due = λ q untold. elim (cases_eq q p.0) [
+        | inl e ↦ ap (λ (x : Bool). x || list_any (closes q) acts) (pends q e)
+        | inr ne ↦ ap (λ (x : Bool). x || list_any (closes q) acts) (ap is_pending (there q ne)) ∙ doing.due q (before q ne untold)
+      ];
+      broken = λ q untold. elim (cases_eq q p.0) [
+        | inl e ↦ (
+          ap (λ (x : Part). connected x.trail) (failing_here p q (part_of doing.actual q) e),
+          ap (λ (x : Part). failed x.trail) (failing_here p q (part_of doing.actual q) e),
+        )
+        | inr ne ↦ let b = doing.broken q (before q ne untold) in
+            (lost_off (p.0 == q) Failing (part_of doing.actual q) b.0, failed_still (p.0 == q) Failing (part_of doing.actual q) b.1)
+      ];
+      known = λ q untold clear. elim (cases_eq q p.0) [
+        | inl e ↦ absurd (both_ways (is_pending (state_at (set progress.sends p.0 Pending) q)) clear (pends q e))
+        | inr ne ↦ let b = doing.known q (before q ne untold) (sym (ap is_pending (there q ne)) ∙ clear) in
+            (sent_connected p bytes q (part_of planned q) ∙ b.0, asked_failed (p.0 == q) (spelled bytes) (part_of planned q) ∙ b.1)
+      ];
+    }
+
+-- a peer that may be asked, with no failed send pending, has had none
+pub may_send : {watch : List (List ℕ)} (acts : List Act) (progress : Progress) (called : List (List ℕ)) (planned : Log) (t : Told) (p : PeerNo) (m : Msg)
+    → is_pending (state_at progress.sends p.0) ≡ false → MayAct watch (Send p m) planned → Doing watch acts progress called planned t → is_fine (state_at progress.sends p.0) ≡ true
+may_send acts progress called planned t p m free may doing = elim (cases_Bool (is_fine (state_at progress.sends p.0))) [
+  | inl fine ↦ fine
+  | inr not_it ↦
+      let on = asked_on (trail planned p.0) m may.2.of_its_part in
+      let told = known_told acts progress called planned t p.0 free on doing in
+      absurd (both_ways (connected (trail doing.actual p.0)) (doing.notes.off p.0 not_it)
+      (ap (λ (x : Part). connected x.trail) (sym (planned_part planned doing.actual p.0 doing.plan told on)) ∙ on))
+]
+
+-- one more act is done
+pub acts_more : {watch : List (List ℕ)} (acts : List Act) (i : ℕ) (a : Act) (end : Log) (progress next : Progress) (called : List (List ℕ)) (t u : Told)
+    → i < length acts → a ≡ get_or acts i a
+    → ActsLeft watch (drop i acts) end progress called t
+    → ((more : List Act) (called : List (List ℕ)) (planned : Log) → MayAct watch a planned → Doing watch (a ∷ more) progress called planned t → Doing watch more next called (entry_of a ∷ planned) u)
+    → ActsLeft watch (drop (i + 1) acts) end next called u
+acts_more {watch = watch} acts i a end progress next called t u lt is left step =
+    let cut : drop i acts ≡ a ∷ drop (suc i) acts = drop-cons acts i a lt ∙ ap (λ (x : Act). x ∷ drop (suc i) acts) (sym is) in
+    let l : ActsLeft watch (a ∷ drop (suc i) acts) end progress called t = subst (λ (xs : List Act). ActsLeft watch xs end progress called t) cut left in
+    rw add-one (record {
+      planned = entry_of a ∷ l.planned;
+      allowed = l.allowed.1;
+      leads = l.leads;
+      doing = step (drop (suc i) acts) called l.planned l.allowed.0 l.doing;
+    })
+
+-- where none is left all are done
+pub acts_done : {watch : List (List ℕ)} (acts : List Act) (i : ℕ) (end : Log) (progress : Progress) (called : List (List ℕ)) (t : Told) → length acts ≤ i → ActsLeft watch (drop i acts) end progress called t → Doing watch [] progress called end t
+acts_done {watch = watch} acts i end progress called t le left =
+    let l : ActsLeft watch [] end progress called t = subst (λ (xs : List Act). ActsLeft watch xs end progress called t) (drop_of_length-le acts le) left in
+    subst (λ (log : Log). Doing watch [] progress called log t) l.leads l.doing
+
+-- the log in which a failed send is told
+pub cut_for : (p : PeerNo) (log : Log) → CutFor p log (SendFailed p ∷ log)
+cut_for p log = record {
+  others = λ q ne. failing_others p q (part_of log q) ne;
+  off = ap (λ (x : Part). connected x.trail) (failing_here p p.0 (part_of log p.0) refl);
+  broken = ap (λ (x : Part). failed x.trail) (failing_here p p.0 (part_of log p.0) refl);
+  brought = failing_brought p log p.0;
+  gave = failing_gave p log p.0;
+  tests = λ trials h. trials_stay (SendFailed p) log trials tt tt h;
+  dials = refl;
+}
+
+-- the client is told of a failed send, and its acts begin with the peer's close
+pub told_one : {watch : List (List ℕ)} (rest : List Act) (progress : Progress) (called : List (List ℕ)) (planned : Log) (t : Told) (p : PeerNo) (cause : Cause)
+    → p.0 < length progress.sends → is_pending (state_at progress.sends p.0) ≡ true
+    → Doing watch [] progress called planned t → Doing watch (Close p cause ∷ rest) (record progress { sends = set progress.sends p.0 Known }) called (SendFailed p ∷ planned) t
+told_one rest progress called planned t p cause lt is doing =
+    let here : state_at (set progress.sends p.0 Known) p.0 ≡ Known = get_or-set_same progress.sends p.0 Known Fine lt in
+    let there : (q : ℕ) → q ≢ p.0 → state_at (set progress.sends p.0 Known) q ≡ state_at progress.sends q = λ q ne. get_or-set_other progress.sends p.0 q Known Fine ne in
+    let was : (q : ℕ) → q ≡ p.0 → is_pending (state_at progress.sends q) ≡ true = λ q e. ap (λ (k : ℕ). is_pending (state_at progress.sends k)) e ∙ is in
+    let now : (q : ℕ) → q ≡ p.0 → is_pending (state_at (set progress.sends p.0 Known) q) ≡ false = λ q e. ap (λ (k : ℕ). is_pending (state_at (set progress.sends p.0 Known) k)) e ∙ ap is_pending here in
+    record {
+      actual = doing.actual;
+      notes = record {
+        tells = doing.notes.tells;
+        bytes = doing.notes.bytes;
+        rightly = doing.notes.rightly;
+        planned = doing.notes.planned;
+        order = doing.notes.order;
+        numbered = doing.notes.numbered;
+        first = doing.notes.first;
+        traced = doing.notes.traced;
+        named = doing.notes.named;
+        off = λ q not_it. elim (cases_eq q p.0) [
+          | inl e ↦ doing.notes.off q (not_fine (state_at progress.sends q) (was q e))
+          | inr ne ↦ doing.notes.off q (sym (ap is_fine (there q ne)) ∙ not_it)
+        ];
+        shut = doing.notes.shut;
+        new = λ q le. let n = doing.notes.new q le in
+            let ne : q ≢ p.0 = λ e. both_ways (is_pending (state_at progress.sends q)) (not_pending (state_at progress.sends q) n.0) (was q e) in
+            (ap is_fine (there q ne) ∙ n.0, n.1);
+        few = doing.notes.few;
+      };
+      plan = record {
+        told = λ q told.
+            let ne : q ≢ p.0 = λ e. both_ways (is_untold doing.actual q) told (doing.pending q (was q e)) in
+            subst (λ (x : Part). Alike x (part_of doing.actual q)) (sym (failing_others p q (part_of planned q) ne)) (doing.plan.told q told);
+        untold = λ q untold. let more = doing.plan.untold q untold in elim (cases_eq q p.0) [
+          | inl e ↦ (Lost Failing ∷ more.0, (more.1.0, failing_here p q (part_of planned q) e ∙ ap (with_item (Lost Failing)) more.1.1))
+          | inr ne ↦ (more.0, (more.1.0, failing_others p q (part_of planned q) ne ∙ more.1.1))
+        ];
+        dials = doing.plan.dials;
+        tested = doing.plan.tested;
+        tests = doing.plan.tests;
+        aims = doing.plan.aims;
+      };
+      brought = λ q. failing_brought p planned q ∙ doing.brought q;
+      gave = λ q. failing_gave p planned q ∙ doing.gave q;
+      pending = λ q it.
+          let ne : q ≢ p.0 = λ e. both_ways (is_pending (state_at (set progress.sends p.0 Known) q)) (now q e) it in
+          doing.pending q (sym (ap is_pending (there q ne)) ∙ it);
+      due = λ q untold. elim (cases_eq q p.0) [
+        | inl e ↦ ap (λ (x : Bool). is_pending (state_at (set progress.sends p.0 Known) q) || x) (closes_here p cause rest q e) ∙ any_failing (is_pending (state_at (set progress.sends p.0 Known) q))
+        | inr ne ↦ ap (λ (x : Bool). x || list_any (closes q) (Close p cause ∷ rest)) (ap is_pending (there q ne) ∙ only (is_pending (state_at progress.sends q)) (doing.due q untold))
+      ];
+      broken = doing.broken;
+      known = λ q untold clear. elim (cases_eq q p.0) [
+        | inl e ↦ (
+          ap (λ (x : Part). connected x.trail) (failing_here p q (part_of planned q) e),
+          ap (λ (x : Part). failed x.trail) (failing_here p q (part_of planned q) e),
+        )
+        | inr ne ↦ absurd (both_ways (is_pending (state_at progress.sends q)) (sym (ap is_pending (there q ne)) ∙ clear) (only (is_pending (state_at progress.sends q)) (doing.due q untold)))
+      ];
+    }
+
+fits_alike : (place : Place) (t u : Part) → Alike t u → Fits place t → Fits place u
+fits_alike place t u (inl same) fits = subst (λ (x : Part). Fits place x) same fits
+fits_alike (Here peer) t u (inr off) fits = absurd (both_ways (connected t.trail) off.0 fits.holds.on)
+fits_alike (LostPlace loss) t u (inr off) fits = lost_failed loss t.trail u.trail off.2 off.3 off.1 fits
+
+chain_alike : (t u : Part) → Alike t u → chain_kept t.trail ≡ chain_kept u.trail
+chain_alike t u (inl same) = ap (λ (x : Part). chain_kept x.trail) same
+chain_alike t u (inr off) = rw (off.0, off.1) refl
+
+claims_alike : (t u : Part) → Alike t u → claims_kept t.trail ≡ claims_kept u.trail
+claims_alike t u (inl same) = ap (λ (x : Part). claims_kept x.trail) same
+claims_alike t u (inr off) = rw (off.0, off.1) refl
+
+opens_alike : (opens : Opens) (q : ℕ) (t u : Part) → Alike t u → OpensAt opens q t.trail → OpensAt opens q u.trail
+opens_alike opens q t u (inl same) at = subst (λ (x : Part). OpensAt opens q x.trail) same at
+opens_alike opens q t u (inr off) at =
+    opens_closed opens opens q u.trail (closes_off opens q t.trail at off.0) (λ on. absurd (both_ways (connected u.trail) off.1 on))
+
+-- with no failure pending the client reflects the actual log
+pub all_told : {H M : Type 0} {g : Ghosts H} {j : Judges M} (c : Client H M g j) (progress : Progress) (called : List (List ℕ)) (planned : Log) (t : Told) → ((q : ℕ) → is_pending (state_at progress.sends q) ≡ false)
+    → Reflects c planned → Doing (watch_by c) [] progress called planned t → HoldsOver c progress called t
+all_told c progress called planned t none reflects doing =
+    let told : (q : ℕ) → is_untold doing.actual q ≡ false = λ q. elim (cases_Bool (is_untold doing.actual q)) [
+      | inl untold ↦ absurd (both_ways (is_pending (state_at progress.sends q)) (none q) (only (is_pending (state_at progress.sends q)) (doing.due q untold)))
+      | inr fine ↦ fine
+    ] in
+    record {
+      actual = doing.actual;
+      notes = doing.notes;
+      reflects = record {
+        alive = reflects.alive;
+        places = record {
+          count = reflects.places.count ∙ ap (λ (n : ℕ). n + 1) doing.plan.dials;
+          each = λ q. fits_alike _ (part_of planned q) (part_of doing.actual q) (doing.plan.told q (told q)) (reflects.places.each q);
+        };
+        tracks = record {
+          kept = λ q. reflects.tracks.kept q ∙ chain_alike (part_of planned q) (part_of doing.actual q) (doing.plan.told q (told q));
+          claimed = λ q block. reflects.tracks.claimed q block ∙ ap (λ (c : Table). c block) (claims_alike (part_of planned q) (part_of doing.actual q) (doing.plan.told q (told q)));
+          fetched = same_holds _ planned doing.actual _ doing.brought reflects.tracks.fetched;
+          given = same_given _ planned doing.actual _ _ (λ q. sym (doing.gave q)) (λ block hash. refl) reflects.tracks.given;
+          opened = λ q. opens_alike (opens_of c.tracker) q (part_of planned q) (part_of doing.actual q) (doing.plan.told q (told q)) (reflects.tracks.opened q);
+          trials = trials_alike planned doing.actual (trials_of c.tracker) (λ q. doing.plan.told q (told q)) doing.brought doing.plan.tested doing.plan.tests
+              (λ q on. doing.plan.aims q (told q) on) reflects.tracks.trials;
+        };
+        unexposed = reflects.unexposed;
+      };
+      told_all = told;
+      none = none;
+    }
+
+-- a peer whose failed send is still to be told was dialled
+pub in_use : {watch : List (List ℕ)} (acts : List Act) (progress : Progress) (called : List (List ℕ)) (planned : Log) (t : Told) (p : ℕ)
+    → is_pending (state_at progress.sends p) ≡ true → Doing watch acts progress called planned t → p < (tally_of planned).dials + 1
+in_use acts progress called planned t p is doing = elim (cases_lt (tally_of doing.actual).dials p) [
+  | inl past ↦ absurd (both_ways (is_pending (state_at progress.sends p)) (not_pending (state_at progress.sends p) (doing.notes.new p past).0) is)
+  | inr le ↦ omega (arith, doing.plan.dials)
+]
+
+-- and so it has a number that the client uses
+pub in_count : {H M : Type 0} {g : Ghosts H} {j : Judges M} {watch : List (List ℕ)} (c : Client H M g j) (acts : List Act) (progress : Progress) (called : List (List ℕ)) (planned : Log) (t : Told) (p : ℕ)
+    → is_pending (state_at progress.sends p) ≡ true → Reflects c planned → Doing watch acts progress called planned t → p < count_of c
+in_count c acts progress called planned t p is reflects doing = (let used = in_use acts progress called planned t p is doing in omega (arith, used, reflects.places.count))

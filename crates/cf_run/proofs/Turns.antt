@@ -1,0 +1,573 @@
+-- How what holds of a client and its wires goes on from turn to turn.
+use Rattle.std.proofs.Common.{◌≡◌, ◌≢◌, ◌⊎◌, inl, inr, ℕ, zero, suc, ◌+◌, ◌<◌, ◌≤◌, List, [], ◌∷◌, ◌++◌, length, map, take, get_or, String, string_bytes, set, replicate, reverse, Option, Some, None, Result, Ok, Err, Bool, true, false, refl, sym, ◌∙◌, ap, subst, arith, if◌then◌else◌}
+use Rattle.std.specs.Prelude.{◌↔◌, ◌==◌, ◌&&◌, ◌||◌, not, IfSome}
+use Rattle.std.proofs.lemmas.Grind.{common_steps}
+use Rattle.std.proofs.lemmas.Bool.{cases_eq, cases_Bool, cases_lt, both_ways, false≢true}
+use Rattle.std.proofs.lemmas.List.{map-append, take_more, get_or-set_same, get_or-set_other}
+use Rattle.std.specs.declared.alloc.Global.{Global}
+use Rattle.cf_bytes.specs.declared.hash.Hash32.{Hash32}
+use Rattle.cf_bytes.specs.declared.peer.PeerNo.{PeerNo}
+use Rattle.cf_frame.specs.declared.frame.Frame.{Frame}
+use Rattle.cf_frame.specs.declared.frame.FrameFault.{FrameFault}
+use Rattle.cf_frame.specs.Stream.{read_stream}
+use Rattle.cf_headers.specs.declared.store.HeaderStore.{Ghosts}
+use Rattle.cf_match.specs.declared.matcher.Matcher.{Ghosts as Judges}
+use Rattle.cf_msg.specs.declared.msg.Malformed.{Malformed}
+use Rattle.cf_msg.specs.declared.msg.Msg.{Msg}
+use Rattle.cf_msg.specs.Reading.{message_of}
+use Rattle.cf_wires.specs.declared.event.Delivery.{Delivery}
+use Rattle.cf_wires.specs.declared.event.Delivery.TheVariants.{Got, Gone, Tick, Ended}
+use Rattle.cf_wires.specs.declared.event.Dial.{Dial}
+use Rattle.cf_wires.specs.declared.event.Event.{Event}
+use Rattle.cf_wires.specs.declared.event.Event.TheVariants.{Dialled, NotDialled, Sent, SendFailed, Closed, Took}
+use Rattle.cf_wires.specs.declared.event.Mark.{Mark}
+use Rattle.cf_wires.specs.declared.event.Mark.TheVariants.{NotYet, Called, Missed, Left, Shut, Broken}
+use Rattle.cf_wires.specs.Log.{Log, Told, Tally, Tells, tally_of, tell, dials}
+use Rattle.cf_peer.specs.Trail.{Trail, Part, Why, Lost, Failing, Shutting, Went, item_of, item_of_read, hears, hears_fault, heard_part, called_part, with_item, part_of, trail, went_on, connected, ready}
+use Rattle.cf_peer.specs.Asking.{is_open, is_idle, request}
+use Rattle.cf_scan.specs.declared.history.Entry.{Entry}
+use Rattle.cf_sync.specs.Fetching.{IsBusy, IsConnected, AreBytes}
+use Rattle.cf_client.specs.declared.client.Client.{Client}
+use Rattle.cf_run.specs.declared.outcome.End.{End}
+use Rattle.cf_run.specs.declared.outcome.End.TheVariants.{Synced, NoPeers, Tired, Ended as EndedFirst}
+use Rattle.cf_run.specs.declared.progress.Progress.{Progress}
+use Rattle.cf_run.specs.declared.progress.SendState.{SendState}
+use Rattle.cf_run.specs.declared.progress.SendState.TheVariants.{Fine}
+use Rattle.cf_run.specs.declared.trace.TraceLine.{TraceLine}
+use Rattle.cf_run.specs.Names.{names_in}
+use Rattle.cf_hear.proofs.Tracking.{tracks_ended}
+use Rattle.cf_client.specs.Stands.{Reflects, IsReportOf, seen_by, watch_by}
+use Rattle.cf_run.specs.Run.{IsOrderly, WasOrderly, AreNumbered, IsUntaken, Notes, Doing, HoldsOver, Stopped, Finished, AreBytesOf, IsEnd, IsEndTold, IsTraceOf, names_of, is_lost, NobodyLeft, state_at, is_pending, is_fine}
+use Rattle.cf_peer.specs.declared.act.Act.{Act}
+use Rattle.cf_sync.specs.Planned.{is_untold, ArePlanned}
+use Rattle.cf_sync.proofs.Planning.{own_plan}
+use Rattle.cf_sync.proofs.Settles.{followed_is}
+use Rattle.cf_client.proofs.Innocent.{innocent, answered}
+use Rattle.cf_client.proofs.Blaming.{blameless, has_blamed}
+use Rattle.cf_run.proofs.Performs.{tells_more, lost_off, sent_connected, untold_failing_here, untold_failing_others, untold_closed_others}
+
+-- what a piece says connects nobody, and cuts nobody off
+item_connected : (r : Result Msg Malformed) (t : Trail) → connected (item_of_read r ∷ t) ≡ connected t
+item_connected (Ok m) t = refl
+item_connected (Err e) t = refl
+
+hears_connected : (fs : List Frame) (t : Trail) → connected (hears fs t) ≡ connected t
+hears_connected [] t = refl
+hears_connected (f ∷ fs) t = hears_connected fs (item_of f ∷ t) ∙ item_connected (message_of f) t
+
+fault_connected : (o : Option FrameFault) (t : Trail) → connected (hears_fault o t) ≡ connected t
+fault_connected None t = refl
+fault_connected (Some fault) t = refl
+
+heard_connected : (piece : List ℕ) (part : Part) → connected (heard_part piece part).trail ≡ connected part.trail
+heard_connected piece part =
+    let r = read_stream (part.waits ++ piece) in
+    fault_connected r.fault (hears r.frames part.trail) ∙ hears_connected r.frames part.trail
+
+got_connected : (b : Bool) (piece : List ℕ) (part : Part) → connected (if b then heard_part piece part else part).trail ≡ connected part.trail
+got_connected true piece part = heard_connected piece part
+got_connected false piece part = refl
+
+dialled_others : (p : PeerNo) (name : List ℕ) (q : ℕ) (part : Part) → q ≢ p.0 → went_on (Dialled p name) q part ≡ part
+dialled_others p name q part ne = grind (arith, common_steps)
+
+more_names : (log : Log) (d : Dial) (called : List (List ℕ)) → names_of log ≡ called → map (λ (x : Dial). x.name) (dials log ++ d ∷ []) ≡ called ++ d.name ∷ []
+more_names log d called is = map-append (λ (x : Dial). x.name) (dials log) (d ∷ []) ∙ ap (λ (xs : List (List ℕ)). xs ++ d.name ∷ []) is
+
+-- under the same watch list
+pub doing_watch : {watch now : List (List ℕ)} {acts : List Act} {progress : Progress} {called : List (List ℕ)} {planned : Log} {t : Told} → now ≡ watch → Doing watch acts progress called planned t → Doing now acts progress called planned t
+doing_watch {acts = acts} {progress = progress} {called = called} {planned = planned} {t = t} same doing = subst (λ (w : List (List ℕ)). Doing w acts progress called planned t) (sym same) doing
+
+-- with every failed send told, the client's log is as it is, whatever is to be done
+same_doing : {H M : Type 0} {g : Ghosts H} {j : Judges M} (c : Client H M g j) (acts : List Act) (progress : Progress) (called : List (List ℕ)) (names : List (List ℕ)) (t u : Told) (holds : HoldsOver c progress called t) (e : Event)
+    → Notes (watch_by c) progress names (e ∷ holds.actual) u → ((q : ℕ) → is_untold (e ∷ holds.actual) q ≡ false) → Doing (watch_by c) acts progress names (e ∷ holds.actual) u
+same_doing c acts progress called names t u holds e notes told = record {
+  actual = e ∷ holds.actual;
+  notes = notes;
+  plan = own_plan (e ∷ holds.actual) told;
+  brought = λ q. refl;
+  gave = λ q. refl;
+  pending = λ q it. absurd (both_ways (is_pending (state_at progress.sends q)) (holds.none q) it);
+  due = λ q untold. absurd (both_ways (is_untold (e ∷ holds.actual) q) (told q) untold);
+  broken = λ q untold. absurd (both_ways (is_untold (e ∷ holds.actual) q) (told q) untold);
+  known = λ q untold free. absurd (both_ways (is_untold (e ∷ holds.actual) q) (told q) untold);
+}
+
+-- between two calls of the client its log is in order
+pub orderly : {H M : Type 0} {g : Ghosts H} {j : Judges M} (c : Client H M g j) (progress : Progress) (called : List (List ℕ)) (t : Told) (holds : HoldsOver c progress called t) → IsOrderly holds.actual
+orderly c progress called t holds = record {
+  innocent = innocent c holds.actual holds.reflects;
+  blameless = blameless c holds.actual holds.reflects holds.notes.rightly;
+  answered = answered c holds.actual holds.reflects;
+  told = holds.told_all;
+}
+
+-- wires from which nothing was taken
+untaken_so : (log : Log) (t : Told) → Tells log t → t.tally.taken ≡ 0 → t.tally.ended ≡ 0 → IsUntaken log
+untaken_so log t tells untaken unended = (sym (ap (λ (x : Tally). x.taken) tells.counts) ∙ untaken, sym (ap (λ (x : Tally). x.ended) tells.counts) ∙ unended)
+
+-- a peer is dialled
+pub dial_doing : {H M : Type 0} {g : Ghosts H} {j : Judges M} (c : Client H M g j) (acts : List Act) (progress : Progress) (called : List (List ℕ)) (t : Told) (p : PeerNo) (name : List ℕ) (holds : HoldsOver c progress called t)
+    → p.0 ≡ t.tally.dials + 1 → t.tally.dials < 8 → t.tally.taken ≡ 0 → t.tally.ended ≡ 0
+    → Doing (watch_by c) acts progress (called ++ name ∷ []) (Dialled p name ∷ holds.actual) (tell (Dialled p name) t)
+dial_doing c acts progress called t p name holds is room untaken unended =
+    let count : t.tally.dials ≡ (tally_of holds.actual).dials = ap (λ (x : Tally). x.dials) holds.notes.tells.counts in
+    let past : (tally_of holds.actual).dials < p.0 = omega (arith, count, is) in
+    same_doing c acts progress called (called ++ name ∷ []) t (tell (Dialled p name) t) holds (Dialled p name)
+    (record {
+      tells = tells_more holds.actual t (Dialled p name) holds.notes.tells;
+      bytes = holds.notes.bytes;
+      rightly = holds.notes.rightly;
+      planned = holds.notes.planned;
+      order = holds.notes.order;
+      numbered = (is ∙ ap (λ (n : ℕ). n + 1) count, holds.notes.numbered);
+      first = (untaken_so holds.actual t holds.notes.tells untaken unended, holds.notes.first);
+      traced = holds.notes.traced;
+      named = more_names holds.actual (record { name = name; answered = true }) called holds.notes.named;
+      off = λ q not_it. let ne : q ≢ p.0 = λ e. both_ways (is_fine (state_at progress.sends q)) not_it (holds.notes.new q (omega (arith, past, e))).0 in
+          ap (λ (x : Part). connected x.trail) (dialled_others p name q (part_of holds.actual q) ne) ∙ holds.notes.off q not_it;
+      shut = λ q it. let ne : q ≢ p.0 = λ e. both_ways (get_or progress.closed q false) (holds.notes.new q (omega (arith, past, e))).1 it in
+          (ap (λ (x : Part). connected x.trail) (dialled_others p name q (part_of holds.actual q) ne) ∙ (holds.notes.shut q it).0, holds.told_all q);
+      new = λ q le. holds.notes.new q (omega (arith, le));
+      few = omega (arith, count, room);
+    })
+    holds.told_all
+
+-- a dial fails
+pub not_dialled_holds : {H M : Type 0} {g : Ghosts H} {j : Judges M} (c d : Client H M g j) (progress : Progress) (called : List (List ℕ)) (t : Told) (p : PeerNo) (name : List ℕ) (holds : HoldsOver c progress called t)
+    → p.0 ≡ t.tally.dials + 1 → t.tally.dials < 8 → t.tally.taken ≡ 0 → t.tally.ended ≡ 0
+    → watch_by d ≡ watch_by c → Reflects d (NotDialled p name ∷ holds.actual)
+    → HoldsOver d progress (called ++ name ∷ []) (tell (NotDialled p name) t)
+not_dialled_holds c d progress called t p name holds is room untaken unended watch reflects =
+    let count : t.tally.dials ≡ (tally_of holds.actual).dials = ap (λ (x : Tally). x.dials) holds.notes.tells.counts in
+    record {
+      actual = NotDialled p name ∷ holds.actual;
+      notes = record {
+        tells = tells_more holds.actual t (NotDialled p name) holds.notes.tells;
+        bytes = holds.notes.bytes;
+        rightly = holds.notes.rightly;
+        planned = subst (λ (w : List (List ℕ)). ArePlanned w holds.actual) (sym watch) holds.notes.planned;
+        order = holds.notes.order;
+        numbered = (is ∙ ap (λ (n : ℕ). n + 1) count, holds.notes.numbered);
+        first = (untaken_so holds.actual t holds.notes.tells untaken unended, holds.notes.first);
+        traced = holds.notes.traced;
+        named = more_names holds.actual (record { name = name; answered = false }) called holds.notes.named;
+        off = λ q not_it. lost_off (p.0 == q) Went (part_of holds.actual q) (holds.notes.off q not_it);
+        shut = λ q it. (lost_off (p.0 == q) Went (part_of holds.actual q) (holds.notes.shut q it).0, holds.told_all q);
+        new = λ q le. holds.notes.new q (omega (arith, le));
+        few = omega (arith, count, room);
+      };
+      reflects = reflects;
+      told_all = holds.told_all;
+      none = holds.none;
+    }
+
+off_took : (d : Delivery) (q : ℕ) (part : Part) → connected part.trail ≡ false → connected (went_on (Took d) q part).trail ≡ false
+off_took (Got p piece) q part off = got_connected (p.0 == q) piece part ∙ off
+off_took (Gone p) q part off = lost_off (p.0 == q) Went part off
+off_took (Tick s) q part off = off
+off_took Ended q part off = off
+
+took_dials : (d : Delivery) (log : Log) → (tally_of (Took d ∷ log)).dials ≡ (tally_of log).dials
+took_dials (Got p piece) log = refl
+took_dials (Gone p) log = refl
+took_dials (Tick s) log = refl
+took_dials Ended log = refl
+
+took_bytes : (d : Delivery) (log : Log) → AreBytesOf d → AreBytes log → AreBytes (Took d ∷ log)
+took_bytes (Got p piece) log is h = (is, h)
+took_bytes (Gone p) log is h = h
+took_bytes (Tick s) log is h = h
+took_bytes Ended log is h = h
+
+took_numbered : (d : Delivery) (log : Log) → AreNumbered log → AreNumbered (Took d ∷ log)
+took_numbered d log h = h
+
+took_notes : {watch : List (List ℕ)} (progress : Progress) (called : List (List ℕ)) (log : Log) (t : Told) (d : Delivery) → AreBytesOf d → Notes watch progress called log t → IsBusy log → IsOrderly log
+    → Notes watch progress called (Took d ∷ log) (tell (Took d) t)
+took_notes progress called log t d is notes busy in_order = record {
+  tells = tells_more log t (Took d) notes.tells;
+  bytes = took_bytes d log is notes.bytes;
+  rightly = (busy, notes.rightly);
+  planned = notes.planned;
+  order = (in_order, notes.order);
+  numbered = notes.numbered;
+  first = notes.first;
+  traced = notes.traced;
+  named = notes.named;
+  off = λ q not_it. off_took d q (part_of log q) (notes.off q not_it);
+  shut = λ q it. (off_took d q (part_of log q) (notes.shut q it).0, refl);
+  new = λ q le. notes.new q (omega (arith, took_dials d log, le));
+  few = omega (arith, took_dials d log, notes.few);
+}
+
+-- a delivery is taken
+pub took_doing : {H M : Type 0} {g : Ghosts H} {j : Judges M} (c : Client H M g j) (acts : List Act) (progress : Progress) (called : List (List ℕ)) (t : Told) (d : Delivery) → AreBytesOf d → (holds : HoldsOver c progress called t) → IsBusy holds.actual
+    → Doing (watch_by c) acts progress called (Took d ∷ holds.actual) (tell (Took d) t)
+took_doing c acts progress called t d is holds busy =
+    same_doing c acts progress called called t (tell (Took d) t) holds (Took d) (took_notes progress called holds.actual t d is holds.notes busy (orderly c progress called t holds)) (λ q. refl)
+
+-- the wires have no more to give
+pub ended_stops : {H M : Type 0} {g : Ghosts H} {j : Judges M} (c : Client H M g j) (progress : Progress) (called : List (List ℕ)) (t : Told) (holds : HoldsOver c progress called t) → IsBusy holds.actual
+    → Stopped EndedFirst c progress called (tell (Took Ended) t)
+ended_stops c progress called t holds busy = record {
+  holds = record {
+    actual = Took Ended ∷ holds.actual;
+    notes = took_notes progress called holds.actual t Ended tt holds.notes busy (orderly c progress called t holds);
+    reflects = record {
+      alive = holds.reflects.alive;
+      places = record { count = holds.reflects.places.count; each = holds.reflects.places.each };
+      tracks = tracks_ended (seen_by c) holds.actual holds.reflects.tracks;
+      unexposed = holds.reflects.unexposed;
+    };
+    told_all = λ q. refl;
+    none = holds.none;
+  };
+  why = (holds.actual, (refl, busy));
+}
+
+pub took_counts : (d : Delivery) (t : Told) → (d ≡ Ended → ⊥) → (tell (Took d) t).tally.taken ≡ t.tally.taken + 1
+took_counts (Got p piece) t ne = refl
+took_counts (Gone p) t ne = refl
+took_counts (Tick s) t ne = refl
+took_counts Ended t ne = absurd (ne refl)
+
+pub took_closed : (d : Delivery) (t : Told) → (tell (Took d) t).tally.closed ≡ t.tally.closed
+took_closed (Got p piece) t = refl
+took_closed (Gone p) t = refl
+took_closed (Tick s) t = refl
+took_closed Ended t = refl
+
+-- the tally says who is connected
+abbrev is_called : Mark → Bool
+is_called NotYet = false
+is_called Called = true
+is_called Missed = false
+is_called Left = false
+is_called Shut = false
+is_called Broken = false
+
+abbrev is_not_yet : Mark → Bool
+is_not_yet NotYet = true
+is_not_yet Called = false
+is_not_yet Missed = false
+is_not_yet Left = false
+is_not_yet Shut = false
+is_not_yet Broken = false
+
+abbrev is_broken : Mark → Bool
+is_broken NotYet = false
+is_broken Called = false
+is_broken Missed = false
+is_broken Left = false
+is_broken Shut = false
+is_broken Broken = true
+
+lost_by : (m : Mark) → is_not_yet m ≡ false → is_called m ≡ false → is_broken m ≡ false → is_lost m ≡ true
+lost_by NotYet n c b = absurd (false≢true (sym n))
+lost_by Called n c b = absurd (false≢true (sym c))
+lost_by Missed n c b = refl
+lost_by Left n c b = refl
+lost_by Shut n c b = refl
+lost_by Broken n c b = absurd (false≢true (sym b))
+
+called_not : (m : Mark) → is_lost m ≡ true → is_called m ≡ false
+called_not NotYet h = refl
+called_not Called h = absurd (false≢true h)
+called_not Missed h = refl
+called_not Left h = refl
+called_not Shut h = refl
+called_not Broken h = refl
+
+fresh_mark : (k p : ℕ) → get_or (replicate k NotYet) p NotYet ≡ NotYet
+fresh_mark zero p = refl
+fresh_mark (suc k) zero = refl
+fresh_mark (suc k) (suc p) = fresh_mark k p
+
+mark_set : (marks : List Mark) (i p : ℕ) (m : Mark) (y : Bool) → p < 9 → length marks ≡ 9 → is_called (get_or marks p NotYet) ≡ y
+    → is_called (get_or (set marks i m) p NotYet) ≡ (if i == p then is_called m else y)
+mark_set marks i p m y lt size is = elim (cases_eq p i) [
+  | inl e ↦ grind (arith, common_steps)
+  | inr ne ↦ grind (arith, common_steps)
+]
+
+push_if : (b : Bool) (a part : Part) → (if b then connected a.trail else connected part.trail) ≡ connected (if b then a else part).trail
+push_if true a part = refl
+push_if false a part = refl
+
+kept_size : (marks : List Mark) (i : ℕ) (m : Mark) → length marks ≡ 9 → length (set marks i m) ≡ 9
+kept_size marks i m size = grind (arith, common_steps)
+
+-- the tally has as many marks, and this peer's says whether it is connected
+record Marks (log : Log) (p : ℕ) : Type 0 where
+  pub size : length (tally_of log).marks ≡ 9
+  pub says : is_called (get_or (tally_of log).marks p NotYet) ≡ connected (trail log p)
+
+mark_step : (e : Event) (log : Log) (p : ℕ) → p < 9 → Marks log p → Marks (e ∷ log) p
+mark_step (Dialled q name) log p lt before = record {
+  size = kept_size (tally_of log).marks q.0 Called before.size;
+  says = mark_set (tally_of log).marks q.0 p Called (connected (trail log p)) lt before.size before.says ∙ push_if (q.0 == p) (called_part (part_of log p)) (part_of log p);
+}
+mark_step (NotDialled q name) log p lt before = record {
+  size = kept_size (tally_of log).marks q.0 Missed before.size;
+  says = mark_set (tally_of log).marks q.0 p Missed (connected (trail log p)) lt before.size before.says ∙ push_if (q.0 == p) (with_item (Lost Went) (part_of log p)) (part_of log p);
+}
+mark_step (Sent q bytes) log p lt before = record { size = before.size; says = before.says ∙ sym (sent_connected q bytes p (part_of log p)) }
+mark_step (SendFailed q) log p lt before = record {
+  size = kept_size (tally_of log).marks q.0 Broken before.size;
+  says = mark_set (tally_of log).marks q.0 p Broken (connected (trail log p)) lt before.size before.says ∙ push_if (q.0 == p) (with_item (Lost Failing) (part_of log p)) (part_of log p);
+}
+mark_step (Closed q) log p lt before = record {
+  size = kept_size (tally_of log).marks q.0 Shut before.size;
+  says = mark_set (tally_of log).marks q.0 p Shut (connected (trail log p)) lt before.size before.says ∙ push_if (q.0 == p) (with_item (Lost Shutting) (part_of log p)) (part_of log p);
+}
+mark_step (Took (Got q piece)) log p lt before = record { size = before.size; says = before.says ∙ sym (got_connected (q.0 == p) piece (part_of log p)) }
+mark_step (Took (Gone q)) log p lt before = record {
+  size = kept_size (tally_of log).marks q.0 Left before.size;
+  says = mark_set (tally_of log).marks q.0 p Left (connected (trail log p)) lt before.size before.says ∙ push_if (q.0 == p) (with_item (Lost Went) (part_of log p)) (part_of log p);
+}
+mark_step (Took (Tick s)) log p lt before = record { size = before.size; says = before.says }
+mark_step (Took Ended) log p lt before = record { size = before.size; says = before.says }
+
+marks_of : (log : Log) (p : ℕ) → p < 9 → Marks log p
+marks_of [] p lt = record { size = refl; says = ap is_called (fresh_mark 9 p) }
+marks_of (e ∷ log) p lt = mark_step e log p lt (marks_of log p lt)
+
+-- why a run ends tells whether somebody is connected
+and_left : (a b : Bool) → (a && b) ≡ true → a ≡ true
+and_left true b h = refl
+and_left false b h = absurd (false≢true h)
+
+open_on : (t : Trail) → is_open t ≡ true → connected t ≡ true
+open_on t h = and_left (connected t) (not (ready t) || not (is_idle (request t))) h
+
+somebody : (end : End) (log : Log) → IsEnd end log → ((p : ℕ) × IsConnected log p) ⊎ ((p : ℕ) → connected (trail log p) ≡ false)
+somebody Synced log why = inl why.1
+somebody NoPeers log why = inr why
+somebody Tired log why = inl (why.0, open_on (trail log why.0) why.1)
+somebody EndedFirst log why =
+    let busy = why.1.1 in
+    inl (busy.0, subst (λ (l : Log). connected (trail l busy.0) ≡ true) (sym why.1.0) (open_on (trail why.0 busy.0) busy.1))
+
+-- a client that is the same tells the same
+pub report_same : {H M : Type 0} {g : Ghosts H} {j : Judges M} (c d : Client H M g j) (height : ℕ) (hash : Hash32) (entries : List Entry) → d ≡ c → ((log : Log) → Reflects d log → IsReportOf (watch_by d) height hash entries log)
+    → (log : Log) → Reflects c log → IsReportOf (watch_by c) height hash entries log
+report_same {H = H} {M = M} {g = g} {j = j} c d height hash entries same told =
+    subst (λ (x : Client H M g j). (log : Log) → Reflects x log → IsReportOf (watch_by x) height hash entries log) same told
+
+-- what a run that stopped has done
+pub finishes : {H M : Type 0} {g : Ghosts H} {j : Judges M} (end : End) (c : Client H M g j) (progress : Progress) (called : List (List ℕ)) (t : Told) (height : ℕ) (hash : Hash32) (entries : List Entry)
+    → Stopped end c progress called t → ((log : Log) → Reflects c log → IsReportOf (watch_by c) height hash entries log)
+    → Finished (watch_by c) end height hash entries progress.trace.items called t
+finishes end c progress called t height hash entries stopped told =
+    let holds = stopped.holds in
+    let report = told holds.actual holds.reflects in
+    record {
+      actual = holds.actual;
+      tells = holds.notes.tells;
+      followed = record {
+        asked = record {
+          watchable = report.watchable;
+          bytes = holds.notes.bytes;
+          rightly = holds.notes.rightly;
+          told = report.told;
+          asked_out = report.asked_out;
+        };
+        settled = λ is. followed_is (watch_by c) height hash entries holds.actual
+            (record { watchable = report.watchable; bytes = holds.notes.bytes; rightly = holds.notes.rightly; told = report.told; asked_out = report.asked_out })
+            (subst (λ (e : End). IsEnd e holds.actual) is stopped.why).0 (subst (λ (e : End). IsEnd e holds.actual) is stopped.why).1;
+        blames = λ clash quiet. has_blamed c holds.actual report.told.chain holds.reflects holds.notes.bytes holds.notes.rightly clash report.told.best
+            (λ p on. (report.asked_out p on (quiet p)).tested);
+        planned = holds.notes.planned;
+        was_orderly = holds.notes.order;
+        orderly = orderly c progress called t holds;
+        numbered = holds.notes.numbered;
+        first = holds.notes.first;
+        traced = holds.notes.traced;
+        named = holds.notes.named;
+        why = stopped.why;
+      };
+      few = holds.notes.few;
+    }
+
+-- a run that ended so, by its client
+pub stops : {H M : Type 0} {g : Ghosts H} {j : Judges M} (end : End) (c : Client H M g j) (progress : Progress) (called : List (List ℕ)) (t : Told) → HoldsOver c progress called t
+    → ((log : Log) → Reflects c log → IsEnd end log) → Stopped end c progress called t
+stops end c progress called t holds why = record { holds = holds; why = why holds.actual holds.reflects }
+
+-- whoever is connected was dialled, and so has a number
+lost_on : (b : Bool) (w : Why) (part : Part) → connected (if b then with_item (Lost w) part else part).trail ≡ true → connected part.trail ≡ true
+lost_on true w part on = absurd (false≢true on)
+lost_on false w part on = on
+
+numbered_on : (log : Log) (p : ℕ) → AreNumbered log → connected (trail log p) ≡ true → (1 ≤ p) × (p ≤ (tally_of log).dials)
+numbered_on [] p n on = absurd (false≢true on)
+numbered_on (Dialled q name ∷ log) p n on = elim (cases_eq p q.0) [
+  | inl e ↦ (omega (arith, e, n.0), omega (arith, e, n.0))
+  | inr ne ↦
+      let old = numbered_on log p n.1 (sym (ap (λ (x : Part). connected x.trail) (dialled_others q name p (part_of log p) ne)) ∙ on) in
+      (old.0, omega (arith, old.1))
+]
+numbered_on (NotDialled q name ∷ log) p n on = let old = numbered_on log p n.1 (lost_on (q.0 == p) Went (part_of log p) on) in (old.0, omega (arith, old.1))
+numbered_on (Sent q bytes ∷ log) p n on = numbered_on log p n (sym (sent_connected q bytes p (part_of log p)) ∙ on)
+numbered_on (SendFailed q ∷ log) p n on = numbered_on log p n (lost_on (q.0 == p) Failing (part_of log p) on)
+numbered_on (Closed q ∷ log) p n on = numbered_on log p n (lost_on (q.0 == p) Shutting (part_of log p) on)
+numbered_on (Took (Got q piece) ∷ log) p n on = numbered_on log p n (sym (got_connected (q.0 == p) piece (part_of log p)) ∙ on)
+numbered_on (Took (Gone q) ∷ log) p n on = numbered_on log p n (lost_on (q.0 == p) Went (part_of log p) on)
+numbered_on (Took (Tick s) ∷ log) p n on = numbered_on log p n on
+numbered_on (Took Ended ∷ log) p n on = numbered_on log p n on
+
+-- whoever was dialled has a mark of his own
+not_yet_set : (marks : List Mark) (i p : ℕ) (m : Mark) → p < 9 → length marks ≡ 9 → is_not_yet m ≡ false → (p ≢ i → is_not_yet (get_or marks p NotYet) ≡ false)
+    → is_not_yet (get_or (set marks i m) p NotYet) ≡ false
+not_yet_set marks i p m lt size is old = elim (cases_eq p i) [
+  | inl e ↦ ap is_not_yet (ap (λ (k : ℕ). get_or (set marks i m) k NotYet) e ∙ get_or-set_same marks i m NotYet (omega (arith, e, size, lt))) ∙ is
+  | inr ne ↦ ap is_not_yet (get_or-set_other marks i p m NotYet ne) ∙ old ne
+]
+
+below : (p n k : ℕ) → p ≤ n + 1 → k ≡ n + 1 → p ≢ k → p ≤ n
+below p n k le is ne = elim (cases_lt p (n + 1)) [ inl lt ↦ omega (arith, lt) | inr ge ↦ absurd (ne (omega (arith, ge, le, is))) ]
+
+dialled_mark : (log : Log) (p : ℕ) → AreNumbered log → 1 ≤ p → p ≤ (tally_of log).dials → p < 9 → is_not_yet (get_or (tally_of log).marks p NotYet) ≡ false
+dialled_mark [] p n one le lt = absurd (omega (arith, one, le))
+dialled_mark (Dialled q name ∷ log) p n one le lt =
+    not_yet_set (tally_of log).marks q.0 p Called lt (marks_of log p lt).size refl (λ ne. dialled_mark log p n.1 one (below p (tally_of log).dials q.0 le n.0 ne) lt)
+dialled_mark (NotDialled q name ∷ log) p n one le lt =
+    not_yet_set (tally_of log).marks q.0 p Missed lt (marks_of log p lt).size refl (λ ne. dialled_mark log p n.1 one (below p (tally_of log).dials q.0 le n.0 ne) lt)
+dialled_mark (Sent q bytes ∷ log) p n one le lt = dialled_mark log p n one le lt
+dialled_mark (SendFailed q ∷ log) p n one le lt = not_yet_set (tally_of log).marks q.0 p Broken lt (marks_of log p lt).size refl (λ ne. dialled_mark log p n one le lt)
+dialled_mark (Closed q ∷ log) p n one le lt = not_yet_set (tally_of log).marks q.0 p Shut lt (marks_of log p lt).size refl (λ ne. dialled_mark log p n one le lt)
+dialled_mark (Took (Got q piece) ∷ log) p n one le lt = dialled_mark log p n one le lt
+dialled_mark (Took (Gone q) ∷ log) p n one le lt = not_yet_set (tally_of log).marks q.0 p Left lt (marks_of log p lt).size refl (λ ne. dialled_mark log p n one le lt)
+dialled_mark (Took (Tick s) ∷ log) p n one le lt = dialled_mark log p n one le lt
+dialled_mark (Took Ended ∷ log) p n one le lt = dialled_mark log p n one le lt
+
+-- whose mark is that of a failed send, of him it isn't told yet
+broken_set : (marks : List Mark) (i p : ℕ) (m : Mark) → p < 9 → length marks ≡ 9 → is_broken (get_or (set marks i m) p NotYet) ≡ true
+    → ((p ≡ i) × (is_broken m ≡ true)) ⊎ ((p ≢ i) × (is_broken (get_or marks p NotYet) ≡ true))
+broken_set marks i p m lt size is = elim (cases_eq p i) [
+  | inl e ↦ inl (e, sym (ap is_broken (ap (λ (k : ℕ). get_or (set marks i m) k NotYet) e ∙ get_or-set_same marks i m NotYet (omega (arith, e, size, lt)))) ∙ is)
+  | inr ne ↦ inr (ne, sym (ap is_broken (get_or-set_other marks i p m NotYet ne)) ∙ is)
+]
+
+broken_mark : (log : Log) (p : ℕ) → p < 9 → WasOrderly log → is_broken (get_or (tally_of log).marks p NotYet) ≡ true → is_untold log p ≡ true
+broken_mark [] p lt w is = absurd (false≢true (sym (ap is_broken (fresh_mark 9 p)) ∙ is))
+broken_mark (Dialled q name ∷ log) p lt w is = elim (broken_set (tally_of log).marks q.0 p Called lt (marks_of log p lt).size is) [
+  | inl x ↦ absurd (false≢true x.1)
+  | inr x ↦ broken_mark log p lt w x.1
+]
+broken_mark (NotDialled q name ∷ log) p lt w is = elim (broken_set (tally_of log).marks q.0 p Missed lt (marks_of log p lt).size is) [
+  | inl x ↦ absurd (false≢true x.1)
+  | inr x ↦ broken_mark log p lt w x.1
+]
+broken_mark (Sent q bytes ∷ log) p lt w is = broken_mark log p lt w is
+broken_mark (SendFailed q ∷ log) p lt w is = elim (broken_set (tally_of log).marks q.0 p Broken lt (marks_of log p lt).size is) [
+  | inl x ↦ untold_failing_here q log p x.0
+  | inr x ↦ untold_failing_others q log p x.0 ∙ broken_mark log p lt w.1 x.1
+]
+broken_mark (Closed q ∷ log) p lt w is = elim (broken_set (tally_of log).marks q.0 p Shut lt (marks_of log p lt).size is) [
+  | inl x ↦ absurd (false≢true x.1)
+  | inr x ↦ untold_closed_others q log p x.0 ∙ broken_mark log p lt w.1 x.1
+]
+broken_mark (Took (Got q piece) ∷ log) p lt w is = absurd (both_ways (is_untold log p) (w.0.told p) (broken_mark log p lt w.1 is))
+broken_mark (Took (Gone q) ∷ log) p lt w is = elim (broken_set (tally_of log).marks q.0 p Left lt (marks_of log p lt).size is) [
+  | inl x ↦ absurd (false≢true x.1)
+  | inr x ↦ absurd (both_ways (is_untold log p) (w.0.told p) (broken_mark log p lt w.1 x.1))
+]
+broken_mark (Took (Tick s) ∷ log) p lt w is = absurd (both_ways (is_untold log p) (w.0.told p) (broken_mark log p lt w.1 is))
+broken_mark (Took Ended ∷ log) p lt w is = absurd (both_ways (is_untold log p) (w.0.told p) (broken_mark log p lt w.1 is))
+
+lost_mark : (log : Log) (p : ℕ) → AreNumbered log → WasOrderly log → IsOrderly log → connected (trail log p) ≡ false → 1 ≤ p → p ≤ (tally_of log).dials → p < 9
+    → is_lost (get_or (tally_of log).marks p NotYet) ≡ true
+lost_mark log p n was now off one le lt = lost_by (get_or (tally_of log).marks p NotYet) (dialled_mark log p n one le lt) ((marks_of log p lt).says ∙ off)
+    (elim (cases_Bool (is_broken (get_or (tally_of log).marks p NotYet))) [
+      | inl broken ↦ absurd (both_ways (is_untold log p) (now.told p) (broken_mark log p lt was broken))
+      | inr sound ↦ sound
+    ])
+
+nobody_left : (log : Log) → NobodyLeft (tally_of log) → AreNumbered log → (tally_of log).dials ≤ 8 → (p : ℕ) → connected (trail log p) ≡ false
+nobody_left log none numbered few p = elim (cases_Bool (connected (trail log p))) [
+  | inl on ↦
+      let r = numbered_on log p numbered on in
+      let lt : p < 9 = omega (arith, r.1, few) in
+      absurd (both_ways (connected (trail log p)) (sym (marks_of log p lt).says ∙ called_not (get_or (tally_of log).marks p NotYet) (none p r.0 r.1)) on)
+  | inr off ↦ off
+]
+
+not_open : (t : Trail) → connected t ≡ false → is_open t ≡ true → ⊥
+not_open t off is = both_ways (connected t) off (open_on t is)
+
+ends_so : (end : End) (log : Log) → IsEnd end log → ((p : ℕ) → connected (trail log p) ≡ false) → end ≡ NoPeers
+ends_so Synced log why off = absurd (both_ways (connected (trail log why.1.0)) (off why.1.0) why.1.1)
+ends_so NoPeers log why off = refl
+ends_so Tired log why off = absurd (not_open (trail log why.0) (off why.0) why.1)
+ends_so EndedFirst log why off =
+    let busy = why.1.1 in
+    absurd (not_open (trail why.0 busy.0) (subst (λ (l : Log). connected (trail l busy.0) ≡ false) why.1.0 (off busy.0)) busy.1)
+
+-- a run ends for want of peers exactly where the tally has nobody left
+pub no_peers : (watch : List (List ℕ)) (end : End) (height : ℕ) (hash : Hash32) (entries : List Entry) (lines : List TraceLine) (called : List (List ℕ)) (t : Told) → Finished watch end height hash entries lines called t
+    → (end ≡ NoPeers) ↔ NobodyLeft t.tally
+no_peers watch end height hash entries lines called t f = (
+  (λ is. let off = subst (λ (e : End). IsEnd e f.actual) is f.followed.why in
+      subst NobodyLeft (sym f.tells.counts)
+      (λ p one le. lost_mark f.actual p f.followed.numbered f.followed.was_orderly f.followed.orderly (off p) one le (omega (arith, le, f.few)))),
+  (λ none. ends_so end f.actual f.followed.why (nobody_left f.actual (subst NobodyLeft f.tells.counts none) f.followed.numbered f.few)),
+)
+
+-- what holds of the log, holds of it where it is told
+pub told_so : (o : Option Log) (actual : Log) (P : Log → Type 0) → IfSome o (λ l. l ≡ actual) → P actual → IfSome o P
+told_so None actual P is h = tt
+told_so (Some l) actual P is h = subst P (sym is) h
+
+fine_all : (k q : ℕ) → get_or (replicate k Fine) q Fine ≡ Fine
+fine_all zero q = refl
+fine_all (suc k) zero = refl
+fine_all (suc k) (suc q) = fine_all k q
+
+open_all : (k q : ℕ) → get_or (replicate k false) q false ≡ false
+open_all zero q = refl
+open_all (suc k) zero = refl
+open_all (suc k) (suc q) = open_all k q
+
+-- nothing has passed
+pub starts : {H M : Type 0} {g : Ghosts H} {j : Judges M} (c : Client H M g j) (progress : Progress) (t : Told) → Reflects c [] → progress.sends ≡ replicate 9 Fine → progress.closed ≡ replicate 9 false → progress.trace.items ≡ []
+    → Tells [] t → HoldsOver c progress [] t
+starts c progress t reflects sends closed trace tells =
+    let fine : (q : ℕ) → state_at progress.sends q ≡ Fine = λ q. ap (λ (xs : List SendState). get_or xs q Fine) sends ∙ fine_all 9 q in
+    let unshut : (q : ℕ) → get_or progress.closed q false ≡ false = λ q. ap (λ (xs : List Bool). get_or xs q false) closed ∙ open_all 9 q in
+    record {
+      actual = [];
+      notes = record {
+        tells = tells;
+        bytes = tt;
+        rightly = tt;
+        planned = tt;
+        order = tt;
+        numbered = tt;
+        first = tt;
+        traced = subst (λ (xs : List TraceLine). IsTraceOf [] (reverse xs)) (sym trace) tt;
+        named = refl;
+        off = λ q not_it. refl;
+        shut = λ q it. (refl, refl);
+        new = λ q le. (ap is_fine (fine q), unshut q);
+        few = omega arith;
+      };
+      reflects = reflects;
+      told_all = λ q. refl;
+      none = λ q. ap is_pending (fine q);
+    }
+
+-- one more name
+pub names_more : (names : List (String Global)) (i : ℕ) (name : String Global) → i < length names → name ≡ get_or names i name
+    → names_in (take i names) ++ string_bytes name ∷ [] ≡ names_in (take (i + 1) names)
+names_more names i name lt is =
+    let cut : take (i + 1) names ≡ take i names ++ name ∷ [] = take_more names i name lt ∙ ap (λ (x : String Global). take i names ++ x ∷ []) (sym is) in
+    sym (ap names_in cut ∙ map-append string_bytes (take i names) (name ∷ []))
+
+-- the end is told once where a turn ends for it, and not where the run goes on
+pub told_end : (o : Option End) (before after : Tally) → o ≡ Some EndedFirst → IsEndTold o before after → after.ended ≡ before.ended + 1
+told_end o before after is told = subst (λ (x : Option End). IsEndTold x before after) is told
+
+pub told_unended : (o : Option End) (before after : Tally) → o ≡ None → IsEndTold o before after → after.ended ≡ before.ended
+told_unended o before after is told = subst (λ (x : Option End). IsEndTold x before after) is told

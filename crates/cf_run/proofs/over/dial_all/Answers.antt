@@ -1,0 +1,39 @@
+use Rattle.std.proofs.Common.{ℕ, ◌+◌, List, take, sym, ◌∙◌, ap, subst, arith}
+use Rattle.cf_run.specs.Names.{names_in}
+use Rattle.cf_run.specs.Run.{HoldsOver}
+use Rattle.cf_run.proofs.Courses.{runs_then}
+use Rattle.cf_run.proofs.Dialling.{names_more_as, one_dialled, most_dialled}
+use Rattle.cf_client.specs.Stands.{words_by}
+use Rattle.cf_run.proofs.Versions.{keeps_then}
+use Rattle.cf_run.proofs.over.dial_all.Goals as goal
+
+pub returns-in_err-dial_one-clause-first : goal.returns-in_err-dial_one-clause-first
+returns-in_err-dial_one-clause-first g c = λ none.
+    most_dialled c.args.names.now c.loop-name.name-index c.name-item.result c.as_str.result.now _ _ (omega arith) c.name-item.is c.as_str.ensures.value c.loop-name.invariant.dials
+    (c.loop-name.invariant.named none) c.in_err-dial_one.ensures.dials
+
+pub loop-name-preserved : goal.loop-name-preserved
+loop-name-preserved g c = record {
+  holds = λ start.
+      subst (λ (called : List (List ℕ)). HoldsOver c.dial_one.new.client c.dial_one.new.progress called (g.W.Wires.told c.dial_one.new.wires))
+      (names_more_as c.args.names.now c.loop-name.name-index c.name-item.result c.as_str.result.now (omega arith) c.name-item.is c.as_str.ensures.value)
+      (c.in_ok-dial_one.ensures.holds (names_in (take c.loop-name.name-index c.args.names.now)) (c.loop-name.invariant.holds start));
+  versions = λ start.
+      keeps_then (words_by c.loop-name.client) (words_by c.args.client.now) (g.W.Wires.told c.args.wires.now) (g.W.Wires.told c.loop-name.wires) (g.W.Wires.told c.dial_one.new.wires) c.loop-name.invariant.words (c.loop-name.invariant.versions start)
+      (c.in_ok-dial_one.ensures.versions (names_in (take c.loop-name.name-index c.args.names.now)) (c.loop-name.invariant.holds start));
+  named = λ none.
+      one_dialled c.args.names.now c.loop-name.name-index c.name-item.result c.as_str.result.now _ _ (omega arith) c.name-item.is c.as_str.ensures.value
+      (c.loop-name.invariant.named none) c.in_ok-dial_one.ensures.one;
+  dials = c.in_ok-dial_one.ensures.one.dials ∙ ap (λ (n : ℕ). n + 1) c.loop-name.invariant.dials;
+  taken = c.in_ok-dial_one.ensures.dials.taken ∙ c.loop-name.invariant.taken;
+  unended = c.in_ok-dial_one.ensures.dials.ended ∙ c.loop-name.invariant.unended;
+  watch = c.in_ok-dial_one.ensures.counts.watch ∙ c.loop-name.invariant.watch;
+  words = c.in_ok-dial_one.ensures.counts.words ∙ c.loop-name.invariant.words;
+  next = c.in_ok-dial_one.ensures.counts.count ∙ ap (λ (n : ℕ). n + 1) (c.loop-name.invariant.next ∙ sym c.in_ok-dial_one.ensures.one.dials);
+  runs = runs_then c.loop-name.invariant.runs c.in_ok-dial_one.ensures.dials.runs;
+}
+
+pub returns-in_err-dial_one-clause-versions : goal.returns-in_err-dial_one-clause-versions
+returns-in_err-dial_one-clause-versions g c = λ start.
+    keeps_then (words_by c.loop-name.client) (words_by c.args.client.now) (g.W.Wires.told c.args.wires.now) (g.W.Wires.told c.loop-name.wires) (g.W.Wires.told c.dial_one.new.wires) c.loop-name.invariant.words (c.loop-name.invariant.versions start)
+    (c.in_err-dial_one.ensures.versions (names_in (take c.loop-name.name-index c.args.names.now)) (c.loop-name.invariant.holds start))

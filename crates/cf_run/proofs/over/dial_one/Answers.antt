@@ -1,0 +1,95 @@
+use Rattle.std.proofs.Common.{ℕ, ◌+◌, [], ◌∷◌, ◌++◌, Err, refl, ◌∙◌, ap, subst}
+use Rattle.cf_bytes.specs.declared.peer.PeerNo.{PeerNo}
+use Rattle.cf_wires.specs.declared.event.Event.TheVariants.{Dialled, NotDialled}
+use Rattle.cf_client.specs.Stands.{Reflects, words_by}
+use Rattle.cf_run.proofs.Courses.{dials_none, quiet_runs, dialled_one, missed_one, one_more_then}
+use Rattle.cf_run.proofs.Passing.{dialled_then, missed_alone, keeps_after}
+use Rattle.cf_run.proofs.Versions.{entry_keeps, same_keeps}
+use Rattle.cf_run.proofs.Turns.{dial_doing, not_dialled_holds}
+use Rattle.cf_run.proofs.over.dial_one.Goals as goal
+
+pub returns-in_ok-greet-in-Ok-clause-holds : goal.returns-in_ok-greet-in-Ok-clause-holds
+returns-in_ok-greet-in-Ok-clause-holds g c = λ called holds.
+    c.in_ok-greet-in-Ok.ensures.holds (called ++ c.args.name.now ∷ []) holds.actual holds.reflects
+    (λ acts. rw c.in-Ok.ensures.dialled.1
+    (dial_doing c.args.client.now acts c.args.progress.now called (g.W.Wires.told c.args.wires.now) c.in-Ok.p c.args.name.now holds c.in-Ok.ensures.dialled.0 c.requires.room c.requires.untaken c.requires.unended))
+
+pub returns-in_ok-greet-in-Ok-clause-versions : goal.returns-in_ok-greet-in-Ok-clause-versions
+returns-in_ok-greet-in-Ok-clause-versions g c = λ called holds.
+    keeps_after (words_by c.args.client.now) (g.W.Wires.told c.args.wires.now) (g.W.Wires.told c.dial.new.self) (g.W.Wires.told c.greet.new.wires)
+    (entry_keeps (words_by c.args.client.now) (Dialled c.in-Ok.p c.args.name.now) _ _ c.in-Ok.ensures.dialled.1 tt)
+    (c.in_ok-greet-in-Ok.ensures.versions (called ++ c.args.name.now ∷ []) holds.actual holds.reflects
+    (λ acts. rw c.in-Ok.ensures.dialled.1
+    (dial_doing c.args.client.now acts c.args.progress.now called (g.W.Wires.told c.args.wires.now) c.in-Ok.p c.args.name.now holds c.in-Ok.ensures.dialled.0 c.requires.room c.requires.untaken c.requires.unended)))
+
+pub returns-in_err-greet-in-Ok-clause-versions : goal.returns-in_err-greet-in-Ok-clause-versions
+returns-in_err-greet-in-Ok-clause-versions g c = λ called holds.
+    keeps_after (words_by c.args.client.now) (g.W.Wires.told c.args.wires.now) (g.W.Wires.told c.dial.new.self) (g.W.Wires.told c.greet.new.wires)
+    (entry_keeps (words_by c.args.client.now) (Dialled c.in-Ok.p c.args.name.now) _ _ c.in-Ok.ensures.dialled.1 tt)
+    (c.in_err-greet-in-Ok.ensures.versions (called ++ c.args.name.now ∷ []) holds.actual holds.reflects
+    (λ acts. rw c.in-Ok.ensures.dialled.1
+    (dial_doing c.args.client.now acts c.args.progress.now called (g.W.Wires.told c.args.wires.now) c.in-Ok.p c.args.name.now holds c.in-Ok.ensures.dialled.0 c.requires.room c.requires.untaken c.requires.unended)))
+
+pub returns-in_ok-greet-in-Ok-clause-counts : goal.returns-in_ok-greet-in-Ok-clause-counts
+returns-in_ok-greet-in-Ok-clause-counts g c = c.in_ok-greet-in-Ok.ensures.counts
+
+pub returns-in_ok-greet-in-Ok-clause-one : goal.returns-in_ok-greet-in-Ok-clause-one
+returns-in_ok-greet-in-Ok-clause-one g c =
+    one_more_then _ _ _ c.args.name.now (dialled_one c.in-Ok.p c.args.name.now _ _ c.in-Ok.ensures.dialled.1) c.in_ok-greet-in-Ok.ensures.performs.counts
+
+pub returns-in_ok-greet-in-Ok-clause-dials : goal.returns-in_ok-greet-in-Ok-clause-dials
+returns-in_ok-greet-in-Ok-clause-dials g c =
+    dialled_then c.in-Ok.p c.args.name.now _ c.in-Ok.ensures.dialled.1 c.in-Ok.ensures.cause.later c.in-Ok.ensures.same c.in-Ok.ensures.keeps refl c.requires.step
+    c.in_ok-greet-in-Ok.ensures.performs
+
+pub returns-in_err-greet-in-Ok-clause-dials : goal.returns-in_err-greet-in-Ok-clause-dials
+returns-in_err-greet-in-Ok-clause-dials g c =
+    dialled_then c.in-Ok.p c.args.name.now _ c.in-Ok.ensures.dialled.1 c.in-Ok.ensures.cause.later c.in-Ok.ensures.same c.in-Ok.ensures.keeps refl c.requires.step
+    c.in_err-greet-in-Ok.ensures.performs
+
+pub returns-in_ok-not_dialled-in-Err-Failed-clause-holds : goal.returns-in_ok-not_dialled-in-Err-Failed-clause-holds
+returns-in_ok-not_dialled-in-Err-Failed-clause-holds g c = λ called holds.
+    let e = c.in_ok-not_dialled-in-Err-Failed.ensures in
+    let p : PeerNo = record { 0 = (g.W.Wires.told c.args.wires.now).tally.dials + 1 } in
+    rw (c.in-Err-Failed.ensures.not_dialled (ap Err c.in-Err-Failed.field-0-is))
+    (not_dialled_holds c.args.client.now c.not_dialled.new.self c.args.progress.now called (g.W.Wires.told c.args.wires.now) p c.args.name.now holds refl c.requires.room c.requires.untaken c.requires.unended e.watch
+    (subst (λ (q : PeerNo). Reflects c.not_dialled.new.self (NotDialled q c.args.name.now ∷ holds.actual))
+    (ap (λ (n : ℕ). record { 0 = n }) (c.next_number.ensures ∙ c.requires.next)) (e.reflects holds.actual holds.reflects)))
+
+pub returns-in_ok-not_dialled-in-Err-Failed-clause-versions : goal.returns-in_ok-not_dialled-in-Err-Failed-clause-versions
+returns-in_ok-not_dialled-in-Err-Failed-clause-versions g c = λ called holds.
+    entry_keeps (words_by c.args.client.now) (NotDialled (record { 0 = (g.W.Wires.told c.args.wires.now).tally.dials + 1 }) c.args.name.now) _ _ (c.in-Err-Failed.ensures.not_dialled (ap Err c.in-Err-Failed.field-0-is)) tt
+
+pub returns-in_ok-not_dialled-in-Err-Failed-clause-counts : goal.returns-in_ok-not_dialled-in-Err-Failed-clause-counts
+returns-in_ok-not_dialled-in-Err-Failed-clause-counts g c =
+    let e = c.in_ok-not_dialled-in-Err-Failed.ensures in
+    record { count = e.count; watch = e.watch; words = e.words }
+
+pub returns-in_ok-not_dialled-in-Err-Failed-clause-one : goal.returns-in_ok-not_dialled-in-Err-Failed-clause-one
+returns-in_ok-not_dialled-in-Err-Failed-clause-one g c =
+    missed_one (record { 0 = (g.W.Wires.told c.args.wires.now).tally.dials + 1 }) c.args.name.now _ _ (c.in-Err-Failed.ensures.not_dialled (ap Err c.in-Err-Failed.field-0-is))
+
+pub returns-in_ok-not_dialled-in-Err-Failed-clause-dials : goal.returns-in_ok-not_dialled-in-Err-Failed-clause-dials
+returns-in_ok-not_dialled-in-Err-Failed-clause-dials g c =
+    let e = c.in-Err-Failed.ensures in
+    let failed = ap Err c.in-Err-Failed.field-0-is in
+    missed_alone (record { 0 = (g.W.Wires.told c.args.wires.now).tally.dials + 1 }) c.args.name.now _ _ (e.cause.failed failed) (e.not_dialled failed) e.cause.later e.same e.keeps refl c.requires.step
+
+pub returns-in_err-not_dialled-in-Err-Failed-clause-versions : goal.returns-in_err-not_dialled-in-Err-Failed-clause-versions
+returns-in_err-not_dialled-in-Err-Failed-clause-versions g c = λ called holds.
+    entry_keeps (words_by c.args.client.now) (NotDialled (record { 0 = (g.W.Wires.told c.args.wires.now).tally.dials + 1 }) c.args.name.now) _ _ (c.in-Err-Failed.ensures.not_dialled (ap Err c.in-Err-Failed.field-0-is)) tt
+
+pub returns-in_err-not_dialled-in-Err-Failed-clause-dials : goal.returns-in_err-not_dialled-in-Err-Failed-clause-dials
+returns-in_err-not_dialled-in-Err-Failed-clause-dials g c =
+    let e = c.in-Err-Failed.ensures in
+    let failed = ap Err c.in-Err-Failed.field-0-is in
+    missed_alone (record { 0 = (g.W.Wires.told c.args.wires.now).tally.dials + 1 }) c.args.name.now _ _ (e.cause.failed failed) (e.not_dialled failed) e.cause.later e.same e.keeps refl c.requires.step
+
+pub returns-in-Err-NoMemory-clause-versions : goal.returns-in-Err-NoMemory-clause-versions
+returns-in-Err-NoMemory-clause-versions g c = λ called holds. same_keeps (words_by c.args.client.now) _ _ (c.in-Err-NoMemory.ensures.no_memory (ap Err c.in-Err-NoMemory.field-0-is))
+
+pub returns-in-Err-NoMemory-clause-dials : goal.returns-in-Err-NoMemory-clause-dials
+returns-in-Err-NoMemory-clause-dials g c =
+    let e = c.in-Err-NoMemory.ensures in
+    let same = e.no_memory (ap Err c.in-Err-NoMemory.field-0-is) in
+    dials_none c.args.name.now _ _ (quiet_runs _ _ same e.cause.later e.same e.keeps refl c.requires.step) same

@@ -1,0 +1,55 @@
+use Rattle.std.proofs.Common.{List, ◌∷◌, sym, ◌∙◌, subst}
+use Rattle.cf_peer.specs.declared.act.Act.{Act}
+use Rattle.cf_wires.specs.declared.event.Event.TheVariants.{Dialled}
+use Rattle.cf_client.specs.Stands.{Answers, words_by}
+use Rattle.cf_run.proofs.Courses.{performs_self}
+use Rattle.cf_run.proofs.Passing.{keeps_so}
+use Rattle.cf_run.proofs.Turns.{doing_watch}
+use Rattle.cf_run.proofs.Versions.{greeting_tells, acts_tell_so}
+use Rattle.cf_run.proofs.over.greet.Goals as goal
+
+pub returns-clause-holds : goal.returns-clause-holds
+returns-clause-holds g c = λ called log reflects doing.
+    let now = Dialled c.args.p c.args.name.now ∷ log in
+    c.in_ok-carry_out.ensures.holds called now
+    (subst (λ (acts : List Act). Answers c.dialled.new.self acts now) (sym c.deref.ensures.value) (c.in_ok-acts.ensures.answers log reflects))
+    (doing_watch c.in_ok-acts.ensures.watch (doing c.deref.result.now))
+
+pub returns-clause-versions : goal.returns-clause-versions
+returns-clause-versions g c = λ called log reflects doing.
+    let now = Dialled c.args.p c.args.name.now ∷ log in
+    let tells = greeting_tells (words_by c.args.client.now) c.args.p c.in_ok-acts.acts.items c.in_ok-acts.ensures.greets in
+    keeps_so _ (words_by c.args.client.now) (g.W.Wires.told c.args.wires.now) (g.W.Wires.told c.carry_out.new.wires) c.in_ok-acts.ensures.words
+    (c.in_ok-carry_out.ensures.versions called now
+    (subst (λ (acts : List Act). Answers c.dialled.new.self acts now) (sym c.deref.ensures.value) (c.in_ok-acts.ensures.answers log reflects))
+    (doing_watch c.in_ok-acts.ensures.watch (doing c.deref.result.now))
+    (acts_tell_so _ _ c.in_ok-acts.acts.items _ (sym c.in_ok-acts.ensures.words) c.deref.ensures.value tells))
+
+pub returns-in_err-carry_out-clause-versions : goal.returns-in_err-carry_out-clause-versions
+returns-in_err-carry_out-clause-versions g c = λ called log reflects doing.
+    let now = Dialled c.args.p c.args.name.now ∷ log in
+    let tells = greeting_tells (words_by c.args.client.now) c.args.p c.in_ok-acts.acts.items c.in_ok-acts.ensures.greets in
+    keeps_so _ (words_by c.args.client.now) (g.W.Wires.told c.args.wires.now) (g.W.Wires.told c.carry_out.new.wires) c.in_ok-acts.ensures.words
+    (c.in_err-carry_out.ensures.versions called now
+    (subst (λ (acts : List Act). Answers c.dialled.new.self acts now) (sym c.deref.ensures.value) (c.in_ok-acts.ensures.answers log reflects))
+    (doing_watch c.in_ok-acts.ensures.watch (doing c.deref.result.now))
+    (acts_tell_so _ _ c.in_ok-acts.acts.items _ (sym c.in_ok-acts.ensures.words) c.deref.ensures.value tells))
+
+pub returns-in_err-acts-clause-versions : goal.returns-in_err-acts-clause-versions
+returns-in_err-acts-clause-versions g c = λ called log reflects doing has. has
+
+pub returns-clause-counts : goal.returns-clause-counts
+returns-clause-counts g c = record {
+  count = c.in_ok-carry_out.ensures.count ∙ c.in_ok-acts.ensures.count;
+  watch = c.in_ok-carry_out.ensures.watch ∙ c.in_ok-acts.ensures.watch;
+  words = c.in_ok-carry_out.ensures.words ∙ c.in_ok-acts.ensures.words;
+}
+
+pub returns-clause-performs : goal.returns-clause-performs
+returns-clause-performs g c = c.in_ok-carry_out.ensures.performs
+
+pub returns-in_err-carry_out-clause-performs : goal.returns-in_err-carry_out-clause-performs
+returns-in_err-carry_out-clause-performs g c = c.in_err-carry_out.ensures.performs
+
+pub returns-in_err-acts-clause-performs : goal.returns-in_err-acts-clause-performs
+returns-in_err-acts-clause-performs g c = performs_self _ c.requires.step

@@ -1,0 +1,15 @@
+use Rattle.std.proofs.Common.{List, ℕ, drop}
+use Rattle.cf_wires.specs.Log.{Log}
+use Rattle.std.specs.List.{All}
+use Rattle.cf_place.specs.Places.{Allowed, after, Words, ActTells}
+use Rattle.cf_run.specs.Versions.{KeepsWords}
+use Rattle.cf_run.specs.Run.{Doing, ActsLeft, moment, Performs}
+use Rattle.cf_run.proofs.over.perform.Given as goal
+
+abbrev pub invariant-loop-act : goal.invariant-loop-act
+invariant-loop-act g l = record {
+  doing : (watch : List (List ℕ)) (called : List (List ℕ)) (planned : Log) → Allowed watch l.acts planned → Doing watch l.acts l.fn.progress called planned (g.W.Wires.told l.fn.wires)
+      → ActsLeft watch (drop l.act-index l.acts) (after l.acts planned) l.progress called (g.W.Wires.told l.wires);
+  versions : (words : Words) → All (ActTells words) l.acts → KeepsWords words (g.W.Wires.told l.fn.wires) (g.W.Wires.told l.wires);
+  performs : Performs (moment (g.W.Wires.told l.fn.wires) (g.W.Wires.faults l.fn.wires) (g.W.Wires.script l.fn.wires) (g.W.Wires.keeps l.fn.wires) l.fn.progress) (moment (g.W.Wires.told l.wires) (g.W.Wires.faults l.wires) (g.W.Wires.script l.wires) (g.W.Wires.keeps l.wires) l.progress);
+}

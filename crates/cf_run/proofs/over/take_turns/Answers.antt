@@ -1,0 +1,47 @@
+use Rattle.std.proofs.Common.{◌≡◌, ℕ, ◌+◌, Option, ◌∙◌, ap, subst}
+use Rattle.std.specs.Prelude.{IfNone}
+use Rattle.cf_run.specs.declared.outcome.End.{End}
+use Rattle.cf_run.specs.Run.{Turned}
+use Rattle.cf_run.proofs.Courses.{runs_then, no_more_then}
+use Rattle.cf_run.proofs.Turns.{stops, told_unended}
+use Rattle.cf_client.specs.Stands.{words_by}
+use Rattle.cf_run.proofs.Versions.{keeps_then}
+use Rattle.cf_run.proofs.over.take_turns.Goals as goal
+
+pub returns-in-Some-clause-stopped : goal.returns-in-Some-clause-stopped
+returns-in-Some-clause-stopped g c = λ called holds.
+    subst (λ (o : Option End). Turned o c.take_turn.new.client c.take_turn.new.progress called (g.W.Wires.told c.take_turn.new.wires)) c.in-Some.is
+    (c.in_ok-end.ensures.turned called (c.loop-turn.invariant.holds called holds))
+
+pub returns-clause-stopped : goal.returns-clause-stopped
+returns-clause-stopped g c = λ called holds.
+    stops c.last_end.result c.loop-turn.client c.loop-turn.progress called (g.W.Wires.told c.loop-turn.wires) (c.loop-turn.invariant.holds called holds) c.last_end.ensures.end
+
+pub returns-in-Some-clause-versions : goal.returns-in-Some-clause-versions
+returns-in-Some-clause-versions g c = λ called holds.
+    keeps_then (words_by c.loop-turn.client) (words_by c.args.client.now) (g.W.Wires.told c.args.wires.now) (g.W.Wires.told c.loop-turn.wires) (g.W.Wires.told c.take_turn.new.wires) c.loop-turn.invariant.words (c.loop-turn.invariant.versions called holds)
+    (c.in_ok-end.ensures.versions called (c.loop-turn.invariant.holds called holds))
+
+pub returns-in_err-end-clause-versions : goal.returns-in_err-end-clause-versions
+returns-in_err-end-clause-versions g c = λ called holds.
+    keeps_then (words_by c.loop-turn.client) (words_by c.args.client.now) (g.W.Wires.told c.args.wires.now) (g.W.Wires.told c.loop-turn.wires) (g.W.Wires.told c.take_turn.new.wires) c.loop-turn.invariant.words (c.loop-turn.invariant.versions called holds)
+    (c.in_err-end.ensures.versions called (c.loop-turn.invariant.holds called holds))
+
+pub loop-turn-preserved : goal.loop-turn-preserved
+loop-turn-preserved g c = record {
+  holds = λ called holds.
+      subst (λ (o : Option End). Turned o c.take_turn.new.client c.take_turn.new.progress called (g.W.Wires.told c.take_turn.new.wires)) c.in_default.is
+      (c.in_ok-end.ensures.turned called (c.loop-turn.invariant.holds called holds));
+  versions = λ called holds.
+      keeps_then (words_by c.loop-turn.client) (words_by c.args.client.now) (g.W.Wires.told c.args.wires.now) (g.W.Wires.told c.loop-turn.wires) (g.W.Wires.told c.take_turn.new.wires)
+      c.loop-turn.invariant.words (c.loop-turn.invariant.versions called holds)
+      (c.in_ok-end.ensures.versions called (c.loop-turn.invariant.holds called holds));
+  watch = c.in_ok-end.ensures.watch ∙ c.loop-turn.invariant.watch;
+  words = c.in_ok-end.ensures.words ∙ c.loop-turn.invariant.words;
+  taken =
+      subst (λ (o : Option End). IfNone o ((g.W.Wires.told c.take_turn.new.wires).tally.taken ≡ (g.W.Wires.told c.loop-turn.wires).tally.taken + 1)) c.in_default.is c.in_ok-end.ensures.taken
+      ∙ ap (λ (n : ℕ). n + 1) c.loop-turn.invariant.taken;
+  unended = told_unended c.in_ok-end.field-0 (g.W.Wires.told c.loop-turn.wires).tally (g.W.Wires.told c.take_turn.new.wires).tally c.in_default.is c.in_ok-end.ensures.ended ∙ c.loop-turn.invariant.unended;
+  same = no_more_then (g.W.Wires.told c.args.wires.now) (g.W.Wires.told c.loop-turn.wires) (g.W.Wires.told c.take_turn.new.wires) c.loop-turn.invariant.same c.in_ok-end.ensures.turns.same;
+  runs = runs_then c.loop-turn.invariant.runs c.in_ok-end.ensures.turns.runs;
+}

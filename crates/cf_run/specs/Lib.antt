@@ -1,0 +1,4 @@
+pub mod Names
+pub mod Run
+pub mod Versions
+pub mod Passing

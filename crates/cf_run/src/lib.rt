@@ -1,0 +1,11 @@
+//! The run over wires: a client is told what the wires bring, and what it answers is sent, until nothing more comes.
+#![tactic(auto)]
+
+mod outcome;
+mod over;
+mod progress;
+mod trace;
+
+pub use outcome::{End, Outcome};
+pub use over::sync_over;
+pub use trace::TraceLine;

@@ -1,0 +1,496 @@
+//! The run of a client over any wires: the dials, the turns, and the finish.
+ghost use Rattle.std.specs.Prelude.{◌≡◌, ◌≢◌, ◌↔◌, ℕ, None, ◌<◌, ◌≤◌, ◌+◌, ◌∷◌, ◌++◌, [], List, map, OnOk, IfOk, OnErr, IfNone, IfSome, IsErrOf, true, false, length, take};
+ghost use Rattle.cf_bytes.specs.Outside.{HasRisen};
+ghost use Rattle.cf_client.specs.Holding.{HoldsNoMore};
+ghost use Rattle.cf_run.specs.Names.{names_in};
+ghost use Rattle.cf_sync.specs.Sync.{SyncTheorem};
+ghost use Rattle.cf_place.specs.Places.{MayAct, Allowed, after, entry_of, EndsTell, Words, TellsWords, ActTells};
+ghost use Rattle.cf_run.specs.Passing.{CountsOne, EndsWithin, Passes};
+ghost use Rattle.cf_run.specs.Run.{Followed, NobodyLeft, HasFailed, Course, Doing, HoldsOver, AreBytesOf, moment, Runs, Performs, Dials, Turns, IsOneMore, IsNoMore, HasDialled, HasNames, Turned, Stopped, IsEnd, IsInStep, IsEndTold};
+ghost use Rattle.cf_client.specs.Stands.{Reflects, Answers, IsReportOf, count_of, watch_by, words_by};
+ghost use Rattle.cf_run.specs.Versions.{KeepsWords, HasWords};
+ghost use Rattle.std.specs.List.{All};
+ghost use Rattle.cf_frame.specs.Stream.{IsBytes};
+ghost use Rattle.cf_msg.specs.Message.{command_of};
+ghost use Rattle.cf_peer.specs.declared.act.Act.{Act};
+ghost use Rattle.cf_peer.specs.declared.act.Act.TheVariants.{Send, Close};
+ghost use Rattle.cf_peer.specs.Acts.{IsDoable, IsSendable, bytes_of};
+ghost use Rattle.cf_wires.specs.Log.{Log, Tells, tell};
+ghost use Rattle.cf_wires.specs.Wires.{HasCause};
+ghost use Rattle.cf_wires.specs.declared.event.Event.TheVariants.{Dialled, Sent, SendFailed, Closed};
+
+use crate::outcome::{End, Outcome};
+use crate::progress::Progress;
+use crate::trace::TraceLine;
+use cf_bytes::{NoMemory, PeerNo};
+use cf_client::Client;
+use cf_frame::encode;
+use cf_headers::HeaderStore;
+use cf_match::Matcher;
+use cf_msg::{Msg, write};
+use cf_peer::{Act, Cause};
+use cf_place::State;
+use cf_scan::Watch;
+use cf_wires::{Delivery, WireFail, Wires};
+use std::alloc::Global;
+
+// Writes a message and sends it.
+fn send_message<W: Wires>(
+    alloc: Global,
+    wires: &mut W,
+    p: PeerNo,
+    message: &Msg,
+) -> Result<[u8; 12], WireFail>
+    requires sendable { IsSendable message.now }
+    requires open { (W.told wires.old).finished ≡ false }
+    ensures sent { IfOk result (λ command. (command ≡ command_of message.now) × (W.told wires.new ≡ tell (Sent p (bytes_of message.now)) (W.told wires.old))) }
+    ensures not_sent { IsErrOf result WireFail.Failed → W.told wires.new ≡ tell (SendFailed p) (W.told wires.old) }
+    ensures no_memory { IsErrOf result WireFail.NoMemory → W.told wires.new ≡ W.told wires.old }
+    ensures cause { HasCause (W.faults wires.old) (W.faults wires.new) result }
+    ensures keeps { W.keeps wires.new ≡ W.keeps wires.old }
+    ensures same { W.script wires.new ≡ W.script wires.old }
+{
+    let frame = write(alloc, message)?;
+    let bytes = encode(alloc, &frame.command, frame.payload.as_slice())?;
+    wires.send(p, &bytes)?;
+    Ok(frame.command)
+}
+
+// Sends a message, unless the peer's failed send is still to be told.
+fn perform_send<W: Wires>(
+    alloc: Global,
+    wires: &mut W,
+    p: PeerNo,
+    message: &Msg,
+    progress: &mut Progress,
+) -> Result<(), NoMemory>
+    requires number { p.0 < 9 }
+    requires sendable { IsSendable message.now }
+    requires step { IsInStep (W.told wires.old) progress.old }
+    requires open { (W.told wires.old).finished ≡ false }
+    ensures doing { OnOk result ((watch : List (List ℕ)) (more : List Act) (called : List (List ℕ)) (planned : Log) → MayAct watch (Send p message.now) planned → Doing watch (Send p message.now ∷ more) progress.old called planned (W.told wires.old) → Doing watch more progress.new called (Sent p (bytes_of message.now) ∷ planned) (W.told wires.new)) }
+    ensures versions { (words : Words) → TellsWords words message.now → KeepsWords words (W.told wires.old) (W.told wires.new) }
+    ensures performs { Performs (moment (W.told wires.old) (W.faults wires.old) (W.script wires.old) (W.keeps wires.old) progress.old) (moment (W.told wires.new) (W.faults wires.new) (W.script wires.new) (W.keeps wires.new) progress.new) }
+{
+    if progress.is_pending(p) {
+        return Ok(());
+    }
+    match send_message(alloc, wires, p, message) {
+        Ok(command) => {
+            progress.trace.push(TraceLine::Sent(p, command))?;
+            Ok(())
+        }
+        Err(WireFail::Failed) => {
+            progress.note_failure(p);
+            Ok(())
+        }
+        Err(WireFail::NoMemory) => Err(NoMemory),
+    }
+}
+
+// Closes a peer, unless its failed send is still to be told. A second close does nothing.
+fn perform_close<W: Wires>(
+    wires: &mut W,
+    p: PeerNo,
+    cause: Cause,
+    progress: &mut Progress,
+) -> Result<(), NoMemory>
+    requires number { p.0 < 9 }
+    requires step { IsInStep (W.told wires.old) progress.old }
+    requires open { (W.told wires.old).finished ≡ false }
+    ensures doing { OnOk result ((watch : List (List ℕ)) (more : List Act) (called : List (List ℕ)) (planned : Log) → MayAct watch (Close p cause) planned → Doing watch (Close p cause ∷ more) progress.old called planned (W.told wires.old) → Doing watch more progress.new called (Closed p ∷ planned) (W.told wires.new)) }
+    ensures versions { (words : Words) → KeepsWords words (W.told wires.old) (W.told wires.new) }
+    ensures performs { Performs (moment (W.told wires.old) (W.faults wires.old) (W.script wires.old) (W.keeps wires.old) progress.old) (moment (W.told wires.new) (W.faults wires.new) (W.script wires.new) (W.keeps wires.new) progress.new) }
+{
+    if progress.is_pending(p) {
+        return Ok(());
+    }
+    if progress.is_closed(p) {
+        return Ok(());
+    }
+    progress.trace.push(TraceLine::Closed(p, cause))?;
+    wires.close(p);
+    progress.closed[p.0 as usize] = true;
+    Ok(())
+}
+
+// Does one act, unless its peer's failed send is still to be told.
+fn perform_one<W: Wires>(
+    alloc: Global,
+    wires: &mut W,
+    act: &Act,
+    progress: &mut Progress,
+) -> Result<(), NoMemory>
+    requires doable { IsDoable act.now }
+    requires step { IsInStep (W.told wires.old) progress.old }
+    requires open { (W.told wires.old).finished ≡ false }
+    ensures doing { OnOk result ((watch : List (List ℕ)) (more : List Act) (called : List (List ℕ)) (planned : Log) → MayAct watch act.now planned → Doing watch (act.now ∷ more) progress.old called planned (W.told wires.old) → Doing watch more progress.new called (entry_of act.now ∷ planned) (W.told wires.new)) }
+    ensures versions { (words : Words) → ActTells words act.now → KeepsWords words (W.told wires.old) (W.told wires.new) }
+    ensures performs { Performs (moment (W.told wires.old) (W.faults wires.old) (W.script wires.old) (W.keeps wires.old) progress.old) (moment (W.told wires.new) (W.faults wires.new) (W.script wires.new) (W.keeps wires.new) progress.new) }
+{
+    match act {
+        Act::Send(p, message) => {
+            perform_send(alloc, wires, *p, message, progress)?;
+            Ok(())
+        }
+        Act::Close(p, cause) => {
+            perform_close(wires, *p, *cause, progress)?;
+            Ok(())
+        }
+    }
+}
+
+// Does acts in order.
+fn perform<W: Wires>(
+    alloc: Global,
+    wires: &mut W,
+    acts: &[Act],
+    progress: &mut Progress,
+) -> Result<(), NoMemory>
+    requires doable { All IsDoable acts.now }
+    requires step { IsInStep (W.told wires.old) progress.old }
+    requires open { (W.told wires.old).finished ≡ false }
+    ensures doing { OnOk result ((watch : List (List ℕ)) (called : List (List ℕ)) (planned : Log) → Allowed watch acts.now planned → Doing watch acts.now progress.old called planned (W.told wires.old) → Doing watch [] progress.new called (after acts.now planned) (W.told wires.new)) }
+    ensures versions { (words : Words) → All (ActTells words) acts.now → KeepsWords words (W.told wires.old) (W.told wires.new) }
+    ensures performs { Performs (moment (W.told wires.old) (W.faults wires.old) (W.script wires.old) (W.keeps wires.old) progress.old) (moment (W.told wires.new) (W.faults wires.new) (W.script wires.new) (W.keeps wires.new) progress.new) }
+{
+    for act in acts {
+        perform_one(alloc, wires, act, progress)?;
+    }
+    Ok(())
+}
+
+// Tells the client of each failed send, the lowest number first, and does what it then wants, which begins with the peer's close.
+fn settle<W: Wires, H: HeaderStore, M: Matcher>(
+    alloc: Global,
+    wires: &mut W,
+    client: &mut Client<H, M>,
+    progress: &mut Progress,
+) -> Result<(), NoMemory>
+    requires step { IsInStep (W.told wires.old) progress.old }
+    requires open { (W.told wires.old).finished ≡ false }
+    ensures holds { OnOk result ((called : List (List ℕ)) (planned : Log) → Reflects client.old planned → Doing (watch_by client.old) [] progress.old called planned (W.told wires.old) → HoldsOver client.new progress.new called (W.told wires.new)) }
+    ensures versions { (called : List (List ℕ)) (planned : Log) → Reflects client.old planned → Doing (watch_by client.old) [] progress.old called planned (W.told wires.old) → KeepsWords (words_by client.old) (W.told wires.old) (W.told wires.new) }
+    ensures count { OnOk result (count_of client.new ≡ count_of client.old) }
+    ensures watch { OnOk result (watch_by client.new ≡ watch_by client.old) }
+    ensures words { words_by client.new ≡ words_by client.old }
+    ensures performs { Performs (moment (W.told wires.old) (W.faults wires.old) (W.script wires.old) (W.keeps wires.old) progress.old) (moment (W.told wires.new) (W.faults wires.new) (W.script wires.new) (W.keeps wires.new) progress.new) }
+{
+    while let Some(p) = progress.next_pending() {
+        progress.note_told(p);
+        let acts = client.send_failed(p)?;
+        perform(alloc, wires, &acts, progress)?;
+    }
+    Ok(())
+}
+
+// Does what the client wants, and tells it of what failed.
+fn carry_out<W: Wires, H: HeaderStore, M: Matcher>(
+    alloc: Global,
+    wires: &mut W,
+    client: &mut Client<H, M>,
+    acts: &[Act],
+    progress: &mut Progress,
+) -> Result<(), NoMemory>
+    requires doable { All IsDoable acts.now }
+    requires step { IsInStep (W.told wires.old) progress.old }
+    requires open { (W.told wires.old).finished ≡ false }
+    ensures holds { OnOk result ((called : List (List ℕ)) (log : Log) → Answers client.old acts.now log → Doing (watch_by client.old) acts.now progress.old called log (W.told wires.old) → HoldsOver client.new progress.new called (W.told wires.new)) }
+    ensures versions { (called : List (List ℕ)) (log : Log) → Answers client.old acts.now log → Doing (watch_by client.old) acts.now progress.old called log (W.told wires.old) → All (ActTells (words_by client.old)) acts.now → KeepsWords (words_by client.old) (W.told wires.old) (W.told wires.new) }
+    ensures count { OnOk result (count_of client.new ≡ count_of client.old) }
+    ensures watch { OnOk result (watch_by client.new ≡ watch_by client.old) }
+    ensures words { words_by client.new ≡ words_by client.old }
+    ensures performs { Performs (moment (W.told wires.old) (W.faults wires.old) (W.script wires.old) (W.keeps wires.old) progress.old) (moment (W.told wires.new) (W.faults wires.new) (W.script wires.new) (W.keeps wires.new) progress.new) }
+{
+    perform(alloc, wires, acts, progress)?;
+    settle(alloc, wires, client, progress)?;
+    Ok(())
+}
+
+// Tells the client of a peer that was dialled, and does what it then wants.
+fn greet<W: Wires, H: HeaderStore, M: Matcher>(
+    alloc: Global,
+    wires: &mut W,
+    client: &mut Client<H, M>,
+    progress: &mut Progress,
+    p: PeerNo,
+    name: &str,
+) -> Result<(), NoMemory>
+    requires room { p.0 ≤ 8 }
+    requires next { p.0 ≡ count_of client.old }
+    requires step { IsInStep (W.told wires.old) progress.old }
+    requires open { (W.told wires.old).finished ≡ false }
+    ensures holds { OnOk result ((called : List (List ℕ)) (log : Log) → Reflects client.old log
+        → ((acts : List Act) → Doing (watch_by client.old) acts progress.old called (Dialled p name.now ∷ log) (W.told wires.old))
+        → HoldsOver client.new progress.new called (W.told wires.new)) }
+    ensures versions { (called : List (List ℕ)) (log : Log) → Reflects client.old log
+        → ((acts : List Act) → Doing (watch_by client.old) acts progress.old called (Dialled p name.now ∷ log) (W.told wires.old))
+        → KeepsWords (words_by client.old) (W.told wires.old) (W.told wires.new) }
+    ensures counts { OnOk result (CountsOne client.old client.new) }
+    ensures performs { Performs
+        (moment (W.told wires.old) (W.faults wires.old) (W.script wires.old) (W.keeps wires.old) progress.old)
+        (moment (W.told wires.new) (W.faults wires.new) (W.script wires.new) (W.keeps wires.new) progress.new) }
+{
+    let acts = client.dialled(p, name)?;
+    carry_out(alloc, wires, client, &acts, progress)?;
+    Ok(())
+}
+
+// Dials the next peer.
+fn dial_one<W: Wires, H: HeaderStore, M: Matcher>(
+    alloc: Global,
+    wires: &mut W,
+    client: &mut Client<H, M>,
+    progress: &mut Progress,
+    name: &str,
+) -> Result<(), NoMemory>
+    requires room { (W.told wires.old).tally.dials < 8 }
+    requires untaken { (W.told wires.old).tally.taken ≡ 0 }
+    requires unended { (W.told wires.old).tally.ended ≡ 0 }
+    requires next { count_of client.old ≡ (W.told wires.old).tally.dials + 1 }
+    requires step { IsInStep (W.told wires.old) progress.old }
+    requires open { (W.told wires.old).finished ≡ false }
+    ensures holds { OnOk result ((called : List (List ℕ)) → HoldsOver client.old progress.old called (W.told wires.old) → HoldsOver client.new progress.new (called ++ name.now ∷ []) (W.told wires.new)) }
+    ensures versions { (called : List (List ℕ)) → HoldsOver client.old progress.old called (W.told wires.old) → KeepsWords (words_by client.old) (W.told wires.old) (W.told wires.new) }
+    ensures counts { OnOk result (CountsOne client.old client.new) }
+    ensures one { OnOk result (IsOneMore name.now (W.told wires.old) (W.told wires.new)) }
+    ensures dials { Dials name.now (moment (W.told wires.old) (W.faults wires.old) (W.script wires.old) (W.keeps wires.old) progress.old) (moment (W.told wires.new) (W.faults wires.new) (W.script wires.new) (W.keeps wires.new) progress.new) }
+{
+    match wires.dial(name) {
+        Ok(p) => {
+            greet(alloc, wires, client, progress, p, name)?;
+            Ok(())
+        }
+        Err(WireFail::Failed) => {
+            client.not_dialled(client.next_number(), name)?;
+            Ok(())
+        }
+        Err(WireFail::NoMemory) => Err(NoMemory),
+    }
+}
+
+// What a slice of bytes holds are bytes: its type says so.
+fn are_bytes(piece: &[u8])
+    ensures { IsBytes piece.now }
+{}
+
+// What is delivered are bytes.
+fn note_bytes(d: &Delivery)
+    ensures { AreBytesOf d.now }
+{
+    if let Delivery::Got(_, piece) = d {
+        are_bytes(piece.as_slice());
+    }
+}
+
+// Takes one delivery, if something is open.
+fn take_turn<W: Wires, H: HeaderStore, M: Matcher>(
+    alloc: Global,
+    wires: &mut W,
+    client: &mut Client<H, M>,
+    progress: &mut Progress,
+) -> Result<Option<End>, NoMemory>
+    requires step { IsInStep (W.told wires.old) progress.old }
+    requires open { (W.told wires.old).finished ≡ false }
+    ensures turned { IfOk result (λ end. (called : List (List ℕ)) → HoldsOver client.old progress.old called (W.told wires.old) → Turned end client.new progress.new called (W.told wires.new)) }
+    ensures versions { (called : List (List ℕ)) → HoldsOver client.old progress.old called (W.told wires.old) → KeepsWords (words_by client.old) (W.told wires.old) (W.told wires.new) }
+    ensures watch { OnOk result (watch_by client.new ≡ watch_by client.old) }
+    ensures words { words_by client.new ≡ words_by client.old }
+    ensures taken { IfOk result (λ end. IfNone end ((W.told wires.new).tally.taken ≡ (W.told wires.old).tally.taken + 1)) }
+    ensures untaken { IfOk result (λ end. IfSome end (λ e. (W.told wires.new).tally.taken ≡ (W.told wires.old).tally.taken)) }
+    ensures untired { IfOk result (λ end. end ≢ Some End.Tired) }
+    ensures ended { IfOk result (λ end. IsEndTold end (W.told wires.old).tally (W.told wires.new).tally) }
+    ensures turns { Turns (moment (W.told wires.old) (W.faults wires.old) (W.script wires.old) (W.keeps wires.old) progress.old) (moment (W.told wires.new) (W.faults wires.new) (W.script wires.new) (W.keeps wires.new) progress.new) }
+{
+    match client.state() {
+        State::Synced => return Ok(Some(End::Synced)),
+        State::NoPeers => return Ok(Some(End::NoPeers)),
+        State::Working => {}
+    }
+    let d = wires.next()?;
+    if let Delivery::Ended = &d {
+        return Ok(Some(End::Ended));
+    }
+    note_bytes(&d);
+    let acts = client.step(&d)?;
+    carry_out(alloc, wires, client, &acts, progress)?;
+    Ok(None)
+}
+
+// Dials the names in order.
+fn dial_all<W: Wires, H: HeaderStore, M: Matcher>(
+    alloc: Global,
+    wires: &mut W,
+    client: &mut Client<H, M>,
+    progress: &mut Progress,
+    names: &[String],
+) -> Result<(), NoMemory>
+    requires few { length names.now ≤ 8 }
+    requires fresh { (W.told wires.old).tally.dials ≡ 0 }
+    requires untaken { (W.told wires.old).tally.taken ≡ 0 }
+    requires unended { (W.told wires.old).tally.ended ≡ 0 }
+    requires next { count_of client.old ≡ 1 }
+    requires step { IsInStep (W.told wires.old) progress.old }
+    requires open { (W.told wires.old).finished ≡ false }
+    ensures holds { OnOk result (HoldsOver client.old progress.old [] (W.told wires.old) → HoldsOver client.new progress.new (names_in names.now) (W.told wires.new)) }
+    ensures versions { HoldsOver client.old progress.old [] (W.told wires.old) → KeepsWords (words_by client.old) (W.told wires.old) (W.told wires.new) }
+    ensures watch { OnOk result (watch_by client.new ≡ watch_by client.old) }
+    ensures words { OnOk result (words_by client.new ≡ words_by client.old) }
+    ensures dialled { OnOk result ((W.told wires.new).tally.dials ≡ length names.now) }
+    ensures first { HasNames [] (W.told wires.old) → HasDialled (names_in names.now) (W.told wires.new) }
+    ensures taken { (W.told wires.new).tally.taken ≡ 0 }
+    ensures unended { (W.told wires.new).tally.ended ≡ 0 }
+    ensures runs { Runs (moment (W.told wires.old) (W.faults wires.old) (W.script wires.old) (W.keeps wires.old) progress.old) (moment (W.told wires.new) (W.faults wires.new) (W.script wires.new) (W.keeps wires.new) progress.new) }
+{
+    for name in names {
+        dial_one(alloc, wires, client, progress, name.as_str())?;
+    }
+    Ok(())
+}
+
+// How a run ends once its turns are used up.
+fn last_end<H: HeaderStore, M: Matcher>(client: &Client<H, M>) -> End
+    ensures end { (log : Log) → Reflects client.now log → IsEnd result log }
+    ensures unended { result ≢ End.Ended }
+{
+    match client.state() {
+        State::Working => End::Tired,
+        State::Synced => End::Synced,
+        State::NoPeers => End::NoPeers,
+    }
+}
+
+// Takes turns until the run ends.
+fn take_turns<W: Wires, H: HeaderStore, M: Matcher>(
+    alloc: Global,
+    wires: &mut W,
+    client: &mut Client<H, M>,
+    progress: &mut Progress,
+    turns: u32,
+) -> Result<End, NoMemory>
+    requires fresh { (W.told wires.old).tally.taken ≡ 0 }
+    requires unended { (W.told wires.old).tally.ended ≡ 0 }
+    requires step { IsInStep (W.told wires.old) progress.old }
+    requires open { (W.told wires.old).finished ≡ false }
+    ensures stopped { IfOk result (λ end. (called : List (List ℕ)) → HoldsOver client.old progress.old called (W.told wires.old) → Stopped end client.new progress.new called (W.told wires.new)) }
+    ensures versions { (called : List (List ℕ)) → HoldsOver client.old progress.old called (W.told wires.old) → KeepsWords (words_by client.old) (W.told wires.old) (W.told wires.new) }
+    ensures watch { OnOk result (watch_by client.new ≡ watch_by client.old) }
+    ensures words { words_by client.new ≡ words_by client.old }
+    ensures tired { IfOk result (λ end. end ≡ End.Tired → (W.told wires.new).tally.taken ≡ turns) }
+    ensures ended { IfOk result (λ end. end ≡ End.Ended → (W.told wires.new).tally.ended ≡ 1) }
+    ensures early { IfOk result (λ end. end ≡ End.Ended → (W.told wires.new).tally.taken < turns) }
+    ensures most { (W.told wires.new).tally.taken ≤ turns }
+    ensures once { (W.told wires.new).tally.ended ≤ 1 }
+    ensures same { IsNoMore (W.told wires.old) (W.told wires.new) }
+    ensures runs { Runs (moment (W.told wires.old) (W.faults wires.old) (W.script wires.old) (W.keeps wires.old) progress.old) (moment (W.told wires.new) (W.faults wires.new) (W.script wires.new) (W.keeps wires.new) progress.new) }
+{
+    for _turn in 0..turns {
+        if let Some(end) = take_turn(alloc, wires, client, progress)? {
+            return Ok(end);
+        }
+    }
+    Ok(last_end(client))
+}
+
+// What came of a run that ended so.
+fn outcome_of<H: HeaderStore, M: Matcher>(
+    client: &mut Client<H, M>,
+    progress: Progress,
+    end: End,
+) -> Result<Outcome, NoMemory>
+    ensures end { IfOk result (λ o. o.end ≡ end) }
+    ensures trace { IfOk result (λ o. o.trace ≡ progress.trace) }
+    ensures report { IfOk result (λ o. (log : Log) → Reflects client.old log → IsReportOf (watch_by client.old) o.height o.tip o.history log) }
+    ensures ends { IfOk result (λ o. (log : Log) → Reflects client.old log → EndsTell o.ends.items log) }
+    ensures held { IfOk result (λ o. (log : Log) → Reflects client.old log → HoldsNoMore H.counts o.held log) }
+{
+    let held = client.held();
+    let ends = client.ends()?;
+    let report = client.report()?;
+    Ok(Outcome {
+        end,
+        height: report.height,
+        tip: report.tip,
+        history: report.history,
+        trace: progress.trace,
+        ends,
+        held,
+    })
+}
+
+// Dials the peers and takes turns, and puts together what came of it.
+fn follow<W: Wires, H: HeaderStore + Drop, M: Matcher + Drop>(
+    alloc: Global,
+    wires: &mut W,
+    names: &[String],
+    watch: Watch,
+    store: H,
+    matcher: M,
+    moment: i64,
+    nonce: u64,
+    turns: u32,
+) -> Result<Outcome, NoMemory>
+    requires fresh { Tells [] (W.told wires.old) }
+    requires open { (W.told wires.old).finished ≡ false }
+    requires few { length names.now ≤ 8 }
+    requires empty { (q : ℕ) → H.chain store q ≡ None }
+    ensures followed { IfOk result (λ o. IfSome (W.told wires.new).log (λ log. Followed watch o.end o.height o.tip o.history o.trace.items (names_in names.now) log)) }
+    ensures ends { IfOk result (λ o. IfSome (W.told wires.new).log (λ log. EndsTell o.ends.items log)) }
+    ensures held { IfOk result (λ o. IfSome (W.told wires.new).log (λ log. HoldsNoMore H.counts o.held log)) }
+    ensures versions { HasWords (record { moment = moment; number = nonce }) (W.told wires.new) }
+    ensures no_peers { IfOk result (λ o. (o.end ≡ End.NoPeers) ↔ NobodyLeft (W.told wires.new).tally) }
+    ensures within { IfOk result (λ o. EndsWithin o.end (length names.now) turns (W.told wires.new).tally) }
+    ensures passes { Passes (names_in names.now) turns (W.told wires.old) (W.told wires.new) (W.faults wires.old)
+        (W.faults wires.new) (W.script wires.old) (W.script wires.new) (W.keeps wires.old) (W.keeps wires.new) }
+{
+    let mut client = Client::new(alloc, watch, store, matcher, moment, nonce)?;
+    let mut progress = Progress::new(alloc);
+    dial_all(alloc, wires, &mut client, &mut progress, names)?;
+    let end = take_turns(alloc, wires, &mut client, &mut progress, turns)?;
+    let outcome = outcome_of(&mut client, progress, end)?;
+    Ok(outcome)
+}
+
+/// Dials the peers in order, at most eight, and follows the best chain that they show, until nothing is open, no peer is left, the stated number
+/// of deliveries was taken, or the wires give no more. Of its blocks those are fetched on whose filters the peers differ, or whose filter the
+/// matcher doesn't answer with a miss (BIP 157, "Client Operation"). The wires are new: nothing has passed them, and they aren't finished. They are
+/// finished once, whatever is answered. In the store no peer is entered.
+pub fn sync_over<W: Wires, H: HeaderStore + Drop, M: Matcher + Drop>(
+    alloc: Global,
+    wires: &mut W,
+    names: &[String],
+    watch: Watch,
+    store: H,
+    matcher: M,
+    moment: i64,
+    nonce: u64,
+    turns: u32,
+) -> Result<Outcome, NoMemory>
+    requires fresh { Tells [] (W.told wires.old) }
+    requires open { (W.told wires.old).finished ≡ false }
+    requires few { length names.now ≤ 8 }
+    requires empty { (q : ℕ) → H.chain store q ≡ None }
+    ensures followed { IfOk result (λ o. IfSome (W.told wires.new).log (λ log. Followed watch o.end o.height o.tip o.history o.trace.items (names_in names.now) log)) }
+    ensures ends { IfOk result (λ o. IfSome (W.told wires.new).log (λ log. EndsTell o.ends.items log)) }
+    ensures held { IfOk result (λ o. IfSome (W.told wires.new).log (λ log. HoldsNoMore H.counts o.held log)) }
+    ensures versions { HasWords (record { moment = moment; number = nonce }) (W.told wires.new) }
+    ensures theorem { IfOk result (λ o. IfSome (W.told wires.new).log (λ log. SyncTheorem watch o.height o.tip o.history log)) }
+    ensures no_peers { IfOk result (λ o. (o.end ≡ End.NoPeers) ↔ NobodyLeft (W.told wires.new).tally) }
+    ensures tired { IfOk result (λ o. o.end ≡ End.Tired → (W.told wires.new).tally.taken ≡ turns) }
+    ensures ended { IfOk result (λ o. o.end ≡ End.Ended → (W.told wires.new).tally.ended ≡ 1) }
+    ensures early { IfOk result (λ o. o.end ≡ End.Ended → (W.told wires.new).tally.taken < turns) }
+    ensures dialled { OnOk result ((W.told wires.new).tally.dials ≡ length names.now) }
+    ensures first { HasDialled (names_in names.now) (W.told wires.new) }
+    ensures most { (W.told wires.new).tally.taken ≤ turns }
+    ensures once { (W.told wires.new).tally.ended ≤ 1 }
+    ensures finished { (W.told wires.new).finished ≡ true }
+    ensures keeps { W.keeps wires.new ≡ W.keeps wires.old }
+    ensures course { Course (W.told wires.old) (W.told wires.new) (W.faults wires.old) (W.faults wires.new) (W.script wires.old) (W.script wires.new) }
+    ensures failures { IfSome (W.told wires.new).log (λ log. HasFailed log → HasRisen (W.faults wires.old) (W.faults wires.new)) }
+{
+    let outcome = follow(
+        alloc, wires, names, watch, store, matcher, moment, nonce, turns,
+    );
+    wires.finish();
+    outcome
+}
