@@ -1,5 +1,5 @@
 -- Between two calls of the client nobody is left who claims a filter that was tested and omits something.
-use Rattle.std.proofs.Common.{◌≡◌, ℕ, List, [], Option, Some, None, Bool, true, false, if◌then◌else◌, refl, sym, ◌∙◌, ap, subst}
+use Rattle.std.proofs.Common.{◌≡◌, ℕ, [], Option, Some, None, Bool, true, false, if◌then◌else◌, refl, ◌∙◌, ap}
 use Rattle.std.specs.Prelude.{option_map}
 use Rattle.cf_bytes.specs.declared.hash.Hash32.{Hash32}
 use Rattle.cf_dispute.specs.declared.claim.Claim.{Claim}
@@ -10,7 +10,7 @@ use Rattle.cf_match.specs.declared.matcher.Matcher.{Ghosts as Judges}
 use Rattle.cf_peer.specs.Asking.{claims, counted}
 use Rattle.cf_peer.specs.Trail.{trail}
 use Rattle.cf_wires.specs.Log.{Log}
-use Rattle.cf_sync.specs.Fetching.{AreBytes, IsBest, IsConnected, IsOmitting, IsQuiet, IsTestedThrough, Rightly}
+use Rattle.cf_sync.specs.Fetching.{AreBytes, IsBest, IsConnected, IsTestedThrough, Rightly}
 use Rattle.cf_sync.specs.Blame.{AreBlamed}
 use Rattle.cf_sync.specs.Sync.{IsHashed}
 use Rattle.cf_sync.proofs.KeptTests.{holds_all}

@@ -1,11 +1,10 @@
 -- A piece up to a message that exposes its peer: who claims what it exposes is closed.
-use Rattle.std.proofs.Common.{◌≡◌, ◌≢◌, ◌⊎◌, inl, inr, ℕ, zero, suc, ◌+◌, ◌<◌, ◌≤◌, List, [], ◌∷◌, ◌++◌, length, map, get_or, set, Option, Some, None, Ok, Err, Bool, true, false, if◌then◌else◌, refl, sym, ◌∙◌, ap, subst, arith, append_assoc}
-use Rattle.std.specs.List.{All, AllByRecursion}
+use Rattle.std.proofs.Common.{◌≡◌, ◌≢◌, ◌⊎◌, inl, inr, ℕ, zero, suc, ◌+◌, ◌<◌, List, [], ◌∷◌, ◌++◌, length, map, get_or, set, Option, Some, None, Ok, Err, Bool, true, false, if◌then◌else◌, refl, sym, ◌∙◌, ap, subst, arith, append_assoc}
+use Rattle.std.specs.List.{All}
 use Rattle.std.specs.Prelude.{is_some, option_map}
 use Rattle.std.proofs.lemmas.Bool.{both_ways, cases_eq, false≢true}
 use Rattle.std.proofs.lemmas.List.{append-nil, length-set}
 use Rattle.std.proofs.lemmas.List.Elements.{All-push}
-use Rattle.cf_bytes.specs.declared.hash.Hash32.{Hash32}
 use Rattle.cf_bytes.specs.declared.peer.PeerNo.{PeerNo}
 use Rattle.cf_dispute.specs.declared.claim.Claim.{Claim}
 use Rattle.cf_dispute.specs.Claims.{Table, no_claims}
@@ -24,12 +23,11 @@ use Rattle.cf_frame.specs.declared.frame.Frame.{Frame}
 use Rattle.cf_frame.specs.declared.frame.FrameFault.{FrameFault}
 use Rattle.cf_wires.specs.declared.event.Delivery.TheVariants.{Got}
 use Rattle.cf_wires.specs.declared.event.Event.TheVariants.{Took}
-use Rattle.cf_wires.specs.Log.{Log, tally_of}
+use Rattle.cf_wires.specs.Log.{Log}
 use Rattle.cf_sync.specs.Fetching.{IsOmitting}
 use Rattle.cf_sync.proofs.Counted.{same_use}
 use Rattle.cf_sync.proofs.Idle.{BringsNothing, rest_brings_nothing, rest_claims_nothing}
 use Rattle.cf_hear.specs.Hearing.{HeardExposed}
-use Rattle.cf_hear.specs.Seen.{Seen}
 use Rattle.cf_hear.specs.Exposing.{IsExposedIn, IsExposing, IsUnexposed}
 use Rattle.cf_hear.specs.Tracks.{Tracks, chain_kept}
 use Rattle.cf_hear.proofs.Tracking.{IsSameBrought, seen_at, tracks_exposed, tracks_on}
@@ -39,7 +37,7 @@ use Rattle.cf_sync.proofs.KeptAims.{trials_same}
 use Rattle.cf_place.specs.declared.place.Place.{Place}
 use Rattle.cf_place.specs.declared.place.Place.TheVariants.{Here, Lost}
 use Rattle.cf_place.specs.Places.{Allowed, Fits, IsReplied, IsRepliedFirst, Keeps, PlacesStand, after, entry_of, is_calm, is_here, nobody, place_at}
-use Rattle.cf_client.specs.Shutting.{IsClaimant, Shuts, shut_act, shut_place}
+use Rattle.cf_client.specs.Shutting.{Shuts, shut_act, shut_place}
 use Rattle.cf_client.specs.Order.{AreTold}
 use Rattle.cf_client.specs.Settled.{AreEntered, AreRight, IsRightAt}
 use Rattle.cf_client.specs.Steps.{Desk, IsInOrder, Moves, Stands, Taking}
@@ -50,7 +48,7 @@ use Rattle.cf_hear.proofs.Hearing.{right_same}
 use Rattle.cf_client.proofs.Shutting.{AreShut, IsGuilty, are_shut, in_below, number_in, shut_lost}
 use Rattle.cf_client.proofs.Settled.{set_each, set_other}
 use Rattle.cf_client.proofs.Standing.{here_on, kept_replied, number_within, set_is}
-use Rattle.cf_client.proofs.Taking.{HearsExposed, HearsUnexposed, RepliesDone, unexposed_after, asked_all, asked_owes, asked_replied, follows_is, got_others, heard_connected, heard_log, heard_says, met_by, place_keeps, replies_done, sendable_by, sends, sends_track, unchanged}
+use Rattle.cf_client.proofs.Taking.{HearsExposed, HearsUnexposed, RepliesDone, unexposed_after, asked_all, asked_owes, asked_replied, follows_is, got_others, heard_connected, heard_log, heard_says, place_keeps, replies_done, sendable_by, sends, sends_track, unchanged}
 
 -- what is claimed of a block by a table of a connected peer
 claimed_hash : (table : Table) (block : Hash) (claim : Claim) → table block ≡ Some claim

@@ -1,34 +1,31 @@
 -- How those are closed that claim a filter which omits something.
-use Rattle.std.proofs.Common.{◌≡◌, ◌≢◌, ◌⊎◌, inl, inr, ℕ, suc, slice_index, ◌<◌, ◌≤◌, ◌+◌, List, [], ◌∷◌, ◌++◌, length, map, get_or, set, Some, None, Option, Bool, true, false, refl, sym, ◌∙◌, ap, subst, arith, append_assoc}
+use Rattle.std.proofs.Common.{◌≡◌, ◌≢◌, ◌⊎◌, inl, inr, ℕ, suc, slice_index, ◌<◌, ◌≤◌, ◌+◌, List, [], ◌∷◌, ◌++◌, length, map, set, true, refl, sym, ◌∙◌, ap, subst, arith, append_assoc}
 use Rattle.std.specs.List.{All}
 use Rattle.std.specs.List.Sorted.{IsStrictlyIncreasing}
-use Rattle.std.proofs.lemmas.Bool.{cases_eq, both_ways}
-use Rattle.std.proofs.lemmas.Grind.{common_steps}
+use Rattle.std.proofs.lemmas.Bool.{cases_eq}
 use Rattle.std.proofs.lemmas.List.{append-nil, length-set, map-append}
 use Rattle.std.proofs.lemmas.List.Elements.{All-nil}
-use Rattle.cf_bytes.specs.declared.hash.Hash32.{Hash32}
 use Rattle.cf_bytes.specs.declared.peer.PeerNo.{PeerNo}
-use Rattle.cf_block.specs.declared.tx.Block.{Block}
 use Rattle.cf_headers.specs.Chain.{Hash, IsIn}
-use Rattle.cf_match.specs.declared.job.Job.{Job}
 use Rattle.cf_peer.specs.declared.act.Act.{Act}
-use Rattle.cf_peer.specs.declared.act.Act.TheVariants.{Close}
 use Rattle.cf_peer.specs.declared.peer.Cause.TheVariants.{Omits}
 use Rattle.cf_peer.specs.Asking.{claims, counted, fetched, given, hash_claimed}
-use Rattle.cf_peer.specs.Trail.{Part, Trail, Lost as LostItem, Shutting as IsShutting, connected, part_of, trail, with_item}
+use Rattle.cf_peer.specs.Trail.{Part, Trail, Lost as LostItem, Shutting as IsShutting, connected, part_of, with_item}
 use Rattle.cf_wires.specs.declared.event.Event.TheVariants.{Closed}
 use Rattle.cf_wires.specs.Log.{Log, tally_of}
-use Rattle.cf_sync.specs.Fetching.{Claims, IsConnected, IsOmission, IsOmitting, IsTestedWith}
-use Rattle.cf_sync.specs.Kept.{HoldsTrials, KeepsTrials}
+use Rattle.cf_sync.specs.Fetching.{IsOmitting}
+use Rattle.cf_sync.specs.Kept.{KeepsTrials}
 use Rattle.cf_sync.proofs.Blamed.{tested_stays}
 use Rattle.cf_sync.proofs.Grows.{fetched_stays}
 use Rattle.cf_sync.proofs.KeptAims.{trials_stay}
+<<<<<<< HEAD
 use Rattle.cf_tables.specs.Trials.{Trials}
+=======
+>>>>>>> e9240bd09097c4485b97d17f15f09af0aa72c4f2
 use Rattle.cf_place.specs.declared.place.Place.{Place}
 use Rattle.cf_place.specs.declared.place.Loss.TheVariants.{Closed as ClosedFor}
-use Rattle.cf_place.specs.Places.{Allowed, IsLost, IsReplied, IsRepliedFirst, IsRepliedIn, after, is_here, nobody, place_at}
-use Rattle.cf_hear.specs.Tracks.{IsPut}
-use Rattle.cf_client.specs.Shutting.{IsClaimant, Shuts, ShutsBelow, ShutsOne, shut_act, shut_place}
+use Rattle.cf_place.specs.Places.{Allowed, IsLost, IsReplied, IsRepliedFirst, IsRepliedIn, after, is_here, place_at}
+use Rattle.cf_client.specs.Shutting.{IsClaimant, ShutsBelow, ShutsOne, shut_act, shut_place}
 use Rattle.cf_client.specs.Steps.{Desk}
 use Rattle.cf_client.proofs.Losing.{none_failed}
 use Rattle.cf_client.proofs.Ordering.{below_push, rising_none, rising_push, all_higher}

@@ -1,5 +1,5 @@
 -- How the places go on with the log.
-use Rattle.std.proofs.Common.{◌≡◌, ◌≢◌, inl, inr, ℕ, zero, suc, ◌+◌, ◌<◌, ◌≤◌, List, [], ◌∷◌, ◌++◌, length, get_or, set, Option, Bool, true, false, if◌then◌else◌, refl, sym, ◌∙◌, ap, subst, arith}
+use Rattle.std.proofs.Common.{◌≡◌, ◌≢◌, inl, inr, ℕ, zero, suc, ◌+◌, ◌<◌, ◌≤◌, List, [], ◌∷◌, ◌++◌, length, get_or, set, Option, Bool, true, false, refl, sym, ◌∙◌, ap, subst, arith}
 use Rattle.std.proofs.lemmas.Grind.{common_steps}
 use Rattle.std.specs.Prelude.{◌||◌}
 use Rattle.std.proofs.lemmas.Bool.{cases_eq, cases_Bool, or_cases, and_parts, both_ways, false≢true}
@@ -19,8 +19,7 @@ use Rattle.cf_peer.specs.declared.peer.Peer.{Peer}
 use Rattle.cf_peer.specs.Acts.{bytes_of, IsSendable}
 use Rattle.cf_wires.specs.Log.{Log, tally_of, noted}
 use Rattle.cf_peer.specs.Trail.{owed, Trail, Part, Called, Asked, Lost as LostItem, Went, Shutting, part_of, trail, went_on, asks, spelled, with_item, called_part, connected, own, replied, as_reply, is_version, IsClientVersion}
-use Rattle.cf_peer.specs.Asking.{counted, request, age, is_open, MayAsk, IsFree}
-use Rattle.cf_peer.specs.declared.peer.Request.TheVariants.{Handshake}
+use Rattle.cf_peer.specs.Asking.{counted, age, is_open, MayAsk, IsFree}
 use Rattle.cf_peer.specs.Peer.{Holds, wants, is_idle_peer, called_peer, asked_for_headers}
 use Rattle.cf_sync.specs.Fetching.{MaySend}
 use Rattle.cf_sync.specs.Due.{IsCalledFor}

@@ -1,20 +1,18 @@
 -- What waits of a peer that deserves nothing is shorter than a header and the longest payload.
-use Rattle.std.proofs.Common.{max, get_or, subst, ◌≡◌, ℕ, zero, suc, ◌+◌, ◌≤◌, ◌<◌, List, [], ◌∷◌, ◌++◌, length, Option, Some, None, Ok, Err, Bool, true, false, if◌then◌else◌, refl, sym, ap, ◌∙◌, arith}
+use Rattle.std.proofs.Common.{max, get_or, subst, ◌≡◌, ℕ, zero, suc, ◌+◌, ◌<◌, List, [], ◌∷◌, ◌++◌, length, Option, Some, None, Ok, Err, Bool, true, false, if◌then◌else◌, refl, sym, ap, ◌∙◌, arith}
 use Rattle.std.specs.Prelude.{◌==◌}
-use Rattle.cf_frame.specs.declared.frame.Frame.{Frame}
 use Rattle.cf_frame.specs.declared.frame.FrameFault.{FrameFault}
 use Rattle.cf_frame.specs.Reading.{Front, front_of}
-use Rattle.cf_frame.specs.Stream.{StreamRead, read_stream, with_frame}
+use Rattle.cf_frame.specs.Stream.{StreamRead, read_stream}
 use Rattle.cf_frame.proofs.Fields.{front_shorter, front_none}
 use Rattle.cf_frame.proofs.Relations.{waits_few}
 use Rattle.cf_frame.proofs.Streams.{stream_frame, stream_waits, stream_bad}
 use Rattle.cf_wires.specs.Log.{Log}
-use Rattle.cf_wires.specs.declared.event.Delivery.{Delivery}
 use Rattle.cf_wires.specs.declared.event.Delivery.TheVariants.{Got, Gone, Tick, Ended}
 use Rattle.cf_wires.specs.declared.event.Event.{Event}
 use Rattle.cf_wires.specs.declared.event.Event.TheVariants.{Dialled, NotDialled, Sent, SendFailed, Closed, Took}
 use Rattle.cf_msg.specs.declared.msg.Msg.{Msg}
-use Rattle.cf_peer.specs.Trail.{Trail, Part, Refused, part_of, trail, connected, went_on, took, heard_part, called_part, with_item, asks, spelled, hears, hears_fault, part_after}
+use Rattle.cf_peer.specs.Trail.{Trail, Part, part_of, trail, went_on, heard_part, called_part, asks, spelled, hears, hears_fault, part_after}
 use Rattle.cf_peer.specs.Asking.{verdict}
 use Rattle.cf_place.specs.declared.place.Place.{Place}
 use Rattle.cf_place.specs.declared.place.Place.TheVariants.{Here, Lost as NotHere}

@@ -22,7 +22,7 @@ use Rattle.cf_peer.specs.Acts.{bytes_of}
 use Rattle.cf_wires.specs.Log.{Log, Told, Tells, tally_of, noted, tell, longer}
 use Rattle.cf_peer.specs.Trail.{Trail, Part, Why, Item, Asked, Lost, Failing, Shutting, spelled, asks, with_item, part_of, trail, went_on, connected, failed, is_failing}
 use Rattle.cf_dispute.specs.Claims.{Table}
-use Rattle.cf_peer.specs.Asking.{request, is_open, counted, fetched, given, Deserves, MayAsk}
+use Rattle.cf_peer.specs.Asking.{is_open, counted, fetched, given, Deserves, MayAsk}
 use Rattle.cf_headers.specs.declared.store.HeaderStore.{Ghosts}
 use Rattle.cf_match.specs.declared.matcher.Matcher.{Ghosts as Judges}
 use Rattle.cf_sync.proofs.Alone.{alone_less}
