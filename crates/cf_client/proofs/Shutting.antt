@@ -18,10 +18,6 @@ use Rattle.cf_sync.specs.Kept.{KeepsTrials}
 use Rattle.cf_sync.proofs.Blamed.{tested_stays}
 use Rattle.cf_sync.proofs.Grows.{fetched_stays}
 use Rattle.cf_sync.proofs.KeptAims.{trials_stay}
-<<<<<<< HEAD
-use Rattle.cf_tables.specs.Trials.{Trials}
-=======
->>>>>>> e9240bd09097c4485b97d17f15f09af0aa72c4f2
 use Rattle.cf_place.specs.declared.place.Place.{Place}
 use Rattle.cf_place.specs.declared.place.Loss.TheVariants.{Closed as ClosedFor}
 use Rattle.cf_place.specs.Places.{Allowed, IsLost, IsReplied, IsRepliedFirst, IsRepliedIn, after, is_here, place_at}
