@@ -237,6 +237,18 @@ def rows():
     yield f"match {name.hex()} 019dfca8 51", "Ok(false)"
     for bad, fault in (("01000001", "Padding"), ("0100000000", "Excess"), ("-", "Cut(Short)")):
         yield f"match {bytes(32).hex()} {bad} 51", f"Err({fault})"
+    yield "# lacks BLOCK FILTER..: the items of a block's outputs, and of each filter whether it is none or lacks one of them.", None
+    yield f"lacks {TESTNET_0.hex()} 019dfca8 00 01000001 -", f"items {PAID_0.hex()} holds lacks lacks lacks"
+    yield f"lacks {block_paying([b'', bytes([0x6A])]).hex()} 00 01000001", "items holds lacks"
+    name, own = double(block[:80]), sorted({s for s in paid if s and s[0] != 0x6A})
+    sets = [found, own, [s for s in found if s != spent[0]], own + [b"\x61"]] + [[s for s in found if s != left_out] for left_out in own]
+    coded = " ".join(basic_filter(name, members).hex() for members in sets)
+    for members in sets[4:]:
+        values = {siphash(name[:16], s) * len(members) * M >> 64 for s in members}
+        assert not all(siphash(name[:16], s) * len(members) * M >> 64 in values for s in own)
+    yield f"lacks {block.hex()} {coded}", f"items{''.join(' ' + s.hex() for s in own)} holds holds holds holds{' lacks' * len(own)}"
+    yield "# Under another block's hash.", None
+    yield f"lacks {block_paying(four).hex()} {basic_filter(name, four).hex()}", f"items{''.join(' ' + s.hex() for s in sorted(four))} lacks"
     yield from claim_rows()
     yield from verdict_rows()
 

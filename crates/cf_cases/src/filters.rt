@@ -1,10 +1,10 @@
 //! Hashes of items, codes of values, and filters.
 ghost use Rattle.cf_golomb.specs.Code.{HasSpelling};
 
-use crate::fields::{bytes_in, hash_in, put_digits};
+use crate::fields::{bytes_in, hash_in, put_digits, put_word};
 use cf_block::{Block, Script, block_hash, parse_block};
 use cf_bytes::{Cut, Hash32, Refused};
-use cf_filter::{Items, build, filter_hash, filter_header, items, matches};
+use cf_filter::{Items, build, filter_hash, filter_header, items, lacks, matches, output_items};
 use cf_golomb::{decode, encode, meets};
 use cf_siphash::sip24;
 use std::alloc::Global;
@@ -75,6 +75,35 @@ pub(crate) fn items_left(alloc: Global, row: &str) -> Option<String> {
     let set = items(alloc, &block, &scripts_in(alloc, spent)?).ok()?;
     let left = set.without(alloc, &scripts_in(alloc, left_out)?).ok()?;
     shown(alloc, &left)
+}
+
+// Puts whether a filter of a block is none or lacks one of these items.
+fn put_lacks(
+    alloc: Global,
+    hash: &Hash32,
+    set: &Items,
+    filter: &str,
+    out: &mut String,
+) -> Option<()> {
+    let is_lacking = lacks(alloc, hash, &bytes_in(alloc, filter)?, set).ok()?;
+    put_word(if is_lacking { "lacks" } else { "holds" }, out)
+}
+
+// Items of a block, and of each filter whether it is none or lacks one of them.
+fn tested(alloc: Global, hash: &Hash32, set: &Items, filters: &str) -> Option<String> {
+    let mut text = shown(alloc, set)?;
+    for filter in filters.split(' ') {
+        put_lacks(alloc, hash, set, filter, &mut text)?;
+    }
+    Some(text)
+}
+
+/// The items of a block's outputs, and of each filter of a row whether it is none or lacks one of them.
+pub(crate) fn lacking(alloc: Global, row: &str) -> Option<String> {
+    let (block, filters) = row.split_once(' ')?;
+    let block = parse_block(alloc, &bytes_in(alloc, block)?).ok()?;
+    let set = output_items(alloc, &block).ok()?;
+    tested(alloc, &block_hash(&block.header), &set, filters)
 }
 
 // The filter of a block whose inputs spend these scripts.

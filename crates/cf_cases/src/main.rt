@@ -52,6 +52,7 @@ fn answer<R: Wait + Threads + Sync + Copy + Drop + Send + 'static>(
         "grow" => growths::answer(rt, alloc, rest),
         "hash" => hashes::answer(alloc, rest),
         "items" => filters::items_left(alloc, rest),
+        "lacks" => filters::lacking(alloc, rest),
         "locator" => headers::locator(alloc, rest),
         "match" => filters::matched(alloc, rest),
         "meets" => filters::met(alloc, rest),
