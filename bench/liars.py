@@ -39,7 +39,7 @@ def without(chain, scripts, left):
 
 
 class Asking:
-    """What a client knows of these peers, and asks them. Each has a chain of its own: the same blocks, with its filters."""
+    """What a client knows of these peers, and asks them. Each has the same blocks, with filters of its own."""
 
     def __init__(self, chains, is_hit):
         self.chains, self.tip, self.is_hit = dict(enumerate(chains, 1)), chains[0].tip, is_hit
