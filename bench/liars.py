@@ -1,7 +1,8 @@
-"""What peers send, of whom some leave a script out of their filters, as a client of filters asks them: each answers in turn. `sync.py` measures by it.
+"""What peers send, of whom some leave a script out of their filters, as a client of filters asks them: each answers in
+turn. `sync.py` and `reorganisations.py` take their sessions from it.
 
-It is the client of client.py over one chain that all peers show, made for many blocks: of each height it keeps which filters are claimed, and whether
-the filter and the block are asked of somebody.
+It is the client of client.py over one chain that all peers show, made for many blocks: of each height it keeps which
+filters are claimed, and whether the filter and the block are asked of somebody.
 """
 from collections import Counter
 
@@ -29,14 +30,16 @@ def without(chain, scripts, left):
     found = Served.__new__(Served)
     found.blocks, found.hashes, found.tip, found.filters = chain.blocks, chain.hashes, chain.tip, []
     for height, items in enumerate(scripts):
-        text = basic_filter(chain.hashes[height], items - {left}) if left in items else chain.filters[height][0]
+        text = chain.filters[height][0]
+        if left in items:
+            text = basic_filter(chain.hashes[height], items - {left})
         before = found.filters[-1][2] if found.filters else bytes(32)
         found.filters.append((text, double(text), double(double(text) + before)))
     return found
 
 
 class Asking:
-    """What a client knows of these peers, and asks them. Each has a chain of its own: the same blocks, with its filters."""
+    """What a client knows of these peers, and asks them. Each has the same blocks, with filters of its own."""
 
     def __init__(self, chains, is_hit):
         self.chains, self.tip, self.is_hit = dict(enumerate(chains, 1)), chains[0].tip, is_hit
@@ -150,7 +153,8 @@ def said(chains, is_hit):
     for message in (version(65, 0, 0, b"/cf:1/", 0, b"\0"), frame("verack")):
         yield from ((p, message) for p in client.chains)
     for start in range(1, tip + 2, HEADERS):
-        yield from ((p, chain.headers(start, min(start + HEADERS - 1, tip))) for p, chain in client.chains.items())
+        last = min(start + HEADERS - 1, tip)
+        yield from ((p, chain.headers(start, last)) for p, chain in client.chains.items())
     client.ask_all()
     while client.asked:
         for p in list(client.chains):
