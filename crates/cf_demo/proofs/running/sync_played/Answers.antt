@@ -34,7 +34,7 @@ returns-clause-honest g c =
     on_both {P = λ (o : Outcome). Followed c.args.watch o.end o.height o.tip o.history o.trace.items (names_in c.args.names.now) (log_of c.sync_over-outcome.new.wires)}
     c.sync_over-outcome.result c.sync_over-outcome.ensures.followed c.sync_over-outcome.ensures.dialled (λ o f d i peer at way few clash.
     honest_among (peers_of c.args.played.now) news (log_of c.sync_over-outcome.new.wires) c.same_peers.ensures.good same accounts
-    (record { rightly = f.asked.rightly; numbered = f.numbered; orderly = f.was_orderly }) i peer at way (subst (λ (n : ℕ). i < n) (sym d) few) clash)
+    (record { bytes = f.asked.bytes; rightly = f.asked.rightly; numbered = f.numbered; orderly = f.was_orderly }) i peer at way (subst (λ (n : ℕ). i < n) (sym d) few) clash)
 
 pub returns-clause-versions : goal.returns-clause-versions
 returns-clause-versions g c =
