@@ -3,7 +3,8 @@ use Rattle.std.specs.Prelude.{◌≡◌, ℕ, zero, suc, ◌+◌, ◌*◌, ◌�
 use Rattle.cf_bytes.specs.declared.hash.Hash32.{Hash32}
 use Rattle.cf_block.specs.declared.tx.Block.{Block}
 use Rattle.cf_dispute.specs.Counts.{CountsClaims}
-use Rattle.cf_headers.specs.Chain.{Chain, IsIn, IsPart}
+use Rattle.cf_filter.specs.Filter.{filter_hash_of}
+use Rattle.cf_headers.specs.Chain.{Chain, Hash, IsIn, IsPart}
 use Rattle.cf_headers.specs.Counts.{AreApart}
 use Rattle.cf_headers.specs.Store.{Chains}
 use Rattle.cf_hear.specs.Seen.{Seen}
@@ -13,8 +14,8 @@ use Rattle.cf_msg.specs.declared.msg.Msg.{Msg}
 use Rattle.cf_msg.specs.declared.msg.Msg.TheVariants.{Cfheaders}
 use Rattle.cf_peer.specs.Trail.{Trail, Part, part_of, Called, Said, Refused, Asked, Passed, Lost, trail, connected, own}
 use Rattle.cf_peer.specs.Asking.{OpenRequest, NothingOpen, HeadersOpen, ClaimsOpen, FiltersOpen, BlockOpen, is_answer_of, request, counted, fetched, given}
-use Rattle.cf_sync.specs.Fetching.{IsConnected, Rightly}
-use Rattle.cf_tables.specs.Held.{CountsBlocks, CountsVerdicts}
+use Rattle.cf_sync.specs.Fetching.{IsConnected, IsGiven, Rightly}
+use Rattle.cf_tables.specs.Held.{CountsBlocks, CountsOutputs, CountsVerdicts}
 use Rattle.cf_wires.specs.Log.{Log, tally_of}
 use Rattle.cf_peer.specs.Held.{count_came}
 use Rattle.cf_client.specs.declared.held.Held.{Held}
@@ -132,21 +133,33 @@ pub record KeepsHeaders (log : Log) (n : ℕ) : Type 0 where
   pub all : (part : Chain) → IsKeptHeader log part → IsIn part parts
   pub apart : AreApart parts
 
--- of what was seen, so many claims, verdicts and extracts
+-- of what was seen, so many claims, verdicts, extracts and blocks whose outputs' items are kept
 pub record Counts (s : Seen) (held : Held) : Type 0 where
   pub claims : CountsClaims s.claims held.claims
   pub verdicts : CountsVerdicts s.verdicts held.verdicts
   pub extracts : CountsBlocks s.table held.extracts
+  pub outputs : CountsOutputs s.trials.paid held.outputs
+
+-- so many filters were given of which no two agree in the hashes of the block and of the filter
+pub record GaveAtLeast (log : Log) (n : ℕ) : Type 0 where
+  pub filters : List (Hash × Hash)
+  pub many : length filters ≡ n
+  pub each : (filter : Hash × Hash) → IsIn filter filters
+      → (job : Job) × IsGiven log job × (job.block.0 ≡ filter.0) × (filter_hash_of job.filter ≡ filter.1)
+  pub apart : AreApart filters
 
 -- The headers are those that the store's count finds on the connected peers' own chains. There are no more claims than hashes in the connected peers' right
--- answers about claims, no more verdicts than filters that were given, and no more extracts than blocks that were fetched. The filters are those that have
+-- answers about claims, no more verdicts than filters that came, of which so many different ones were given, and no more extracts, and no more blocks whose
+-- outputs' items are kept, than blocks that were fetched. The filters are those that have
 -- come of open requests, where each question was one that might be asked, and at most 1000 for each request. The bytes that wait are those of the connected
 -- peer of which the most are no whole frame, and fewer than a header and the longest payload.
 pub record HoldsNoMore (counts : Chains → ℕ → Type 0) (held : Held) (log : Log) : Type 0 where
   pub headers : counts (chains_kept log) held.headers
   pub claims : held.claims ≤ length (of_all hashes_kept log)
   pub verdicts : held.verdicts ≤ length (of_all filters_given log)
+  pub given : GaveAtLeast log held.verdicts
   pub extracts : held.extracts ≤ length (of_all blocks_fetched log)
+  pub outputs : held.outputs ≤ length (of_all blocks_fetched log)
   pub filters : Rightly log → held.filters ≡ length (of_all filters_kept log)
   pub few_filters : Rightly log → held.filters ≤ 1000 * count_giving log
   pub waiting : held.bytes ≡ most_waiting log

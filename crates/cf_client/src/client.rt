@@ -299,6 +299,7 @@ impl<H: HeaderStore, M: Matcher> Client<H, M> {
         ensures nobody { (log : Log) → Reflects self.now log → IsInnocent log }
         ensures blameless { (log : Log) → Reflects self.now log → Rightly log → IsBlameless log }
         ensures answered { (log : Log) → Reflects self.now log → AreAnswered log }
+        ensures blamed { (log : Log) → Reflects self.now log → HasBlamed log }
     {
         state_of_places(self.places.as_slice())
     }

@@ -25,6 +25,8 @@ pub struct Held {
     pub verdicts: u64,
     /// Blocks of which an extract is kept.
     pub extracts: u64,
+    /// Blocks of which the items of the outputs are kept.
+    pub outputs: u64,
     /// Bytes that wait of the connected peer of which the most wait, since they are no whole frame yet.
     pub bytes: u64,
 }

@@ -16,10 +16,10 @@ use Rattle.cf_peer.specs.Asking.{NothingOpen, request, verdict, counted, fetched
 use Rattle.cf_peer.specs.Hearing.{IsReply, Faulty}
 use Rattle.cf_peer.specs.Peer.{Holds, Hears}
 use Rattle.cf_tables.specs.Tables.{IsSameTable, with_blocks}
-use Rattle.cf_tables.specs.Trials.{TrialsGo}
+use Rattle.cf_tables.specs.Trials.{TrialsGo, judged_if}
 use Rattle.cf_match.specs.declared.job.Job.{Job}
-use Rattle.cf_match.specs.Verdicts.{AreSameVerdicts, with_verdicts}
-use Rattle.cf_headers.specs.Chain.{Hash, IsIn}
+use Rattle.cf_match.specs.Verdicts.{AreSameVerdicts}
+use Rattle.cf_headers.specs.Chain.{Hash}
 use Rattle.cf_seek.specs.Opens.{IsSameElse}
 use Rattle.cf_hear.specs.declared.stop.Stop.{Stop}
 use Rattle.cf_hear.specs.declared.stop.Stop.TheVariants.{Fault, Exposed}
@@ -27,14 +27,14 @@ use Rattle.cf_hear.specs.Exposing.{IsExposedIn}
 use Rattle.cf_hear.specs.Seen.{Seen, IsSameSeen, Follows}
 
 -- p's chain and claims are now those of this trail, and what is open to it; the extracts of these blocks came, the last of them first, and the verdicts on
--- these filters, the first of them first; and so with what is kept of tests
+-- these filters, the first of them first, where they weren't asked for so that they are tested; and so with what is kept of tests
 pub record Gains (before after : Seen) (p : PeerNo) (t : Trail) (news : List Block) (jobs : List Job) : Type 0 where
   pub watch : after.watch ≡ before.watch
   pub follows : Follows after p.0 t
   pub others : (q : ℕ) → q ≢ p.0 → after.chains q ≡ before.chains q
   pub claims : (q : ℕ) → q ≢ p.0 → (block : Hash) → after.claims q block ≡ before.claims q block
   pub table : IsSameTable after.table (with_blocks before.watch news before.table)
-  pub verdicts : AreSameVerdicts after.verdicts (with_verdicts before.watch jobs before.verdicts)
+  pub verdicts : AreSameVerdicts after.verdicts (judged_if (before.trials.aims p.0) before.watch jobs before.verdicts)
   pub opens : IsSameElse before.opens after.opens p.0
   pub trials : TrialsGo before.trials after.trials p.0 news jobs
 
@@ -98,12 +98,6 @@ Brings start end news = fetched (counted end) ≡ news ++ fetched (counted start
 abbrev pub Gives : Trail → Trail → List Job → Type 0
 Gives start end jobs = given (counted end) ≡ jobs ++ given (counted start)
 
--- what the filters were that a trail was given since another
-pub record IsGivenBetween (start end : Trail) (jobs : List Job) : Type 0 where
-  pub new : (job : Job) → IsIn job jobs → IsIn job (given (counted end))
-  pub old : (job : Job) → IsIn job (given (counted start)) → IsIn job (given (counted end))
-  pub only : (job : Job) → IsIn job (given (counted end)) → IsIn job jobs ⊎ IsIn job (given (counted start))
-
 -- a piece was taken whole, or up to the first frame that deserves a cause
 pub record HeardWhole (p : PeerNo) (new : Peer) (seen now : Seen) (before after : List Act) (start end : Part) : Type 0 where
   pub replies : List Msg
@@ -115,8 +109,7 @@ pub record HeardWhole (p : PeerNo) (new : Peer) (seen now : Seen) (before after 
   pub news : List Block
   pub brings : Brings start.trail end.trail news
   pub jobs : List Job
-  pub gives : IsGivenBetween start.trail end.trail jobs
-  pub gave : Gives start.trail end.trail jobs
+  pub gives : Gives start.trail end.trail jobs
   pub gains : Gains seen now p end.trail news jobs
 
 -- what came before a fault: p's chain and claims don't matter any more, nor what is open to it
@@ -125,7 +118,7 @@ pub record Retains (before after : Seen) (p : PeerNo) (news : List Block) (jobs 
   pub others : (q : ℕ) → q ≢ p.0 → after.chains q ≡ before.chains q
   pub claims : (q : ℕ) → q ≢ p.0 → (block : Hash) → after.claims q block ≡ before.claims q block
   pub table : IsSameTable after.table (with_blocks before.watch news before.table)
-  pub verdicts : AreSameVerdicts after.verdicts (with_verdicts before.watch jobs before.verdicts)
+  pub verdicts : AreSameVerdicts after.verdicts (judged_if (before.trials.aims p.0) before.watch jobs before.verdicts)
   pub opens : IsSameElse before.opens after.opens p.0
   pub trials : TrialsGo before.trials after.trials p.0 news jobs
 
@@ -138,8 +131,7 @@ pub record HeardFault (p : PeerNo) (seen now : Seen) (before after : List Act) (
   pub news : List Block
   pub brings : Brings start.trail end.trail news
   pub jobs : List Job
-  pub gives : IsGivenBetween start.trail end.trail jobs
-  pub gave : Gives start.trail end.trail jobs
+  pub gives : Gives start.trail end.trail jobs
   pub kept : Retains seen now p news jobs
 
 -- a piece was taken up to a message that exposed the peer: with nothing open to it what follows brings nothing, and it is closed
@@ -157,8 +149,7 @@ pub record HeardExposed (p : PeerNo) (seen now : Seen) (before after : List Act)
   pub news : List Block
   pub brings : Brings start.trail so_far news
   pub jobs : List Job
-  pub gives : IsGivenBetween start.trail so_far jobs
-  pub gave : Gives start.trail so_far jobs
+  pub gives : Gives start.trail so_far jobs
   pub gains : Gains seen now p so_far news jobs
   pub exposed : IsExposedIn now p.0 block filter
 
@@ -182,7 +173,6 @@ pub record Midway (p : PeerNo) (peer : Peer) (bytes : List ℕ) (seen now : Seen
   pub news : List Block
   pub brings : Brings start.trail so_far news
   pub jobs : List Job
-  pub gives : IsGivenBetween start.trail so_far jobs
-  pub gave : Gives start.trail so_far jobs
+  pub gives : Gives start.trail so_far jobs
   pub gains : Gains seen now p so_far news jobs
   pub idle : ((news ≡ []) × (jobs ≡ [])) ⊎ (request so_far ≡ NothingOpen)

@@ -21,6 +21,7 @@ use Rattle.cf_peer.specs.Peer.{Holds, calm, busy, wants, is_ready_peer, is_idle_
 use Rattle.cf_sync.specs.Fetching.{IsBusy, IsQuiet, IsConnected, MaySend, DeservesIn, IsOmitting}
 use Rattle.cf_sync.specs.Due.{IsCalledFor}
 use Rattle.cf_sync.specs.Kept.{KeepsTrials}
+use Rattle.cf_sync.specs.Planned.{IsSameGiven}
 use Rattle.cf_sync.specs.Honesty.{asked, was_called}
 use Rattle.cf_place.specs.declared.place.Place.{Place}
 use Rattle.cf_place.specs.declared.place.Place.TheVariants.{Here, Lost}
@@ -167,7 +168,8 @@ pub record CutFor (p : PeerNo) (log cut : Log) : Type 0 where
   pub off : connected (trail cut p.0) ≡ false
   pub broken : failed (trail cut p.0) ≡ true
   pub brought : fetched (counted (trail cut p.0)) ≡ fetched (counted (trail log p.0))
-  pub gave : given (counted (trail cut p.0)) ≡ given (counted (trail log p.0))
+  pub came : given (counted (trail cut p.0)) ≡ given (counted (trail log p.0))
+  pub gave : IsSameGiven log cut
   pub tests : KeepsTrials log cut
   pub dials : (tally_of cut).dials ≡ (tally_of log).dials
 

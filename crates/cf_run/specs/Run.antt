@@ -175,9 +175,9 @@ closes q (Close p cause) = p.0 == q
 abbrev pub is_due : Progress → List Act → ℕ → Bool
 is_due progress acts q = is_pending (state_at progress.sends q) || list_any (closes q) acts
 
--- of each peer the same filters were given
-abbrev pub IsSameGiven : Log → Log → Type 0
-IsSameGiven a b = (p : ℕ) → given (counted_part a p) ≡ given (counted_part b p)
+-- of each peer the same filters came
+abbrev pub IsSameCome : Log → Log → Type 0
+IsSameCome a b = (p : ℕ) → given (counted_part a p) ≡ given (counted_part b p)
 
 -- cut off by a send that failed
 abbrev pub IsBroken : Log → ℕ → Type 0
@@ -189,7 +189,7 @@ pub record Doing (watch : List (List ℕ)) (acts : List Act) (progress : Progres
   pub notes : Notes watch progress called actual t
   pub plan : IsPlanned planned actual
   pub brought : IsSameFetched planned actual
-  pub gave : IsSameGiven planned actual
+  pub came : IsSameCome planned actual
   pub pending : (q : ℕ) → is_pending (state_at progress.sends q) ≡ true → is_untold actual q ≡ true
   pub due : (q : ℕ) → is_untold actual q ≡ true → is_due progress acts q ≡ true
   pub broken : (q : ℕ) → is_untold actual q ≡ true → IsBroken actual q

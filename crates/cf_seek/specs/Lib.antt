@@ -7,4 +7,5 @@ pub mod OpensOf
 pub mod OpensAll
 pub mod Seeking
 pub mod Testing
+pub mod Tried
 pub mod Aims

@@ -1,11 +1,10 @@
 -- Which filter is to be tested next: one that a peer claims of a fetched block on which they differ.
-use Rattle.std.specs.Prelude.{◌≡◌, ℕ, ◌≤◌, List, [], ◌∷◌, Bool, true, false, Option, Some, None, IsSome, ◌||◌}
+use Rattle.std.specs.Prelude.{◌≡◌, ℕ, ◌≤◌, true, Option, Some, None, IsSome}
 use Rattle.cf_dispute.specs.declared.claim.At.TheVariants.{Differ}
 use Rattle.cf_dispute.specs.declared.claim.Claim.{Claim}
 use Rattle.cf_dispute.specs.Claims.{Tables, IsAt}
-use Rattle.cf_headers.specs.Chain.{Hash, Chain, IsIn}
+use Rattle.cf_headers.specs.Chain.{Hash, Chain}
 use Rattle.cf_headers.specs.Heights.{height_of}
-use Rattle.cf_headers.specs.Rules.{same}
 use Rattle.cf_seek.specs.declared.spans.Wish.{Wish}
 use Rattle.cf_seek.specs.declared.spans.Wish.TheVariants.{Nothing, Claims, Filters, Block, Test}
 use Rattle.cf_seek.specs.declared.testing.Trial.{Trial}
@@ -27,29 +26,20 @@ pub record IsTrial (extracts : Table) (tables : Tables) (told : Told) (p : ℕ) 
   pub low : height ≤ common
   pub wanted : IsToTest extracts tables told p block
 
--- of the listed blocks the lowest such
-abbrev pub IsNextTrial : Table → Tables → Told → ℕ → Chain → ℕ → List Hash → Option Trial → Type 0
-IsNextTrial extracts tables told p own common listed None = (block : Hash) → IsIn block listed → (h : ℕ) → IsTrial extracts tables told p own common block h → ⊥
-IsNextTrial extracts tables told p own common listed (Some t) =
-    IsIn t.block.0 listed × IsTrial extracts tables told p own common t.block.0 t.height
-    × ((block : Hash) → IsIn block listed → (h : ℕ) → IsTrial extracts tables told p own common block h → t.height ≤ h)
-
--- a block is one of these
-abbrev pub is_listed : Hash → List Hash → Bool
-is_listed block [] = false
-is_listed block (x ∷ xs) = same block x || is_listed block xs
-
--- each fetched block on which they differ is one of these
-abbrev pub AreDisputesIn : Table → Tables → List Hash → Type 0
-AreDisputesIn extracts tables listed = (block : Hash) → IsSome (extracts block) → IsAt tables block Differ → is_listed block listed ≡ true
+-- the lowest such, of all blocks
+abbrev pub IsNextTrial : Table → Tables → Told → ℕ → Chain → ℕ → Option Trial → Type 0
+IsNextTrial extracts tables told p own common None = (block : Hash) (h : ℕ) → IsTrial extracts tables told p own common block h → ⊥
+IsNextTrial extracts tables told p own common (Some t) =
+    IsTrial extracts tables told p own common t.block.0 t.height
+    × ((block : Hash) (h : ℕ) → IsTrial extracts tables told p own common block h → t.height ≤ h)
 
 -- a question for a filter that is to be tested is for the lowest such; nothing at all is asked only where there is none
-abbrev pub IsTrying : Table → Tables → Told → ℕ → Chain → ℕ → List Hash → Wish → Type 0
-IsTrying extracts tables told p own common listed Nothing = IsNextTrial extracts tables told p own common listed None
-IsTrying extracts tables told p own common listed (Claims span) = Unit {0}
-IsTrying extracts tables told p own common listed (Filters span) = Unit {0}
-IsTrying extracts tables told p own common listed (Block hash) = Unit {0}
-IsTrying extracts tables told p own common listed (Test trial) = IsNextTrial extracts tables told p own common listed (Some trial)
+abbrev pub IsTrying : Table → Tables → Told → ℕ → Chain → ℕ → Wish → Type 0
+IsTrying extracts tables told p own common Nothing = IsNextTrial extracts tables told p own common None
+IsTrying extracts tables told p own common (Claims span) = Unit {0}
+IsTrying extracts tables told p own common (Filters span) = Unit {0}
+IsTrying extracts tables told p own common (Block hash) = Unit {0}
+IsTrying extracts tables told p own common (Test trial) = IsNextTrial extracts tables told p own common (Some trial)
 
 -- p claims this filter of a block
 pub record IsClaimedAs (tables : Tables) (p : ℕ) (block filter : Hash) : Type 0 where

@@ -10,6 +10,7 @@ mod opens;
 mod seek;
 mod spans;
 mod testing;
+mod tried;
 mod want;
 mod wishes;
 
@@ -20,4 +21,5 @@ pub use opens::Opens;
 pub use seek::{fall_below_hits, is_any_left, next_sought, passed_below};
 pub use spans::{Span, Wish};
 pub use testing::{Exposure, Trial, first_exposed, is_claimed, next_trial};
+pub use tried::{Tried, fall_below_dispute, fall_below_disputes};
 pub use wishes::wish_for;

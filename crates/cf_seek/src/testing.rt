@@ -1,17 +1,18 @@
 //! Which filter a peer is to be asked for so that it is tested.
-ghost use Rattle.std.specs.Prelude.{◌≡◌, ℕ, List, true, false, Some, None, IsSome, IfSome, length, ◌≤◌, ◌⊎◌};
+ghost use Rattle.std.specs.Prelude.{◌≡◌, ℕ, List, true, false, Some, None, IsSome, IfSome, length, max, ◌≤◌};
 ghost use Rattle.cf_dispute.specs.Of.{tables_of};
 ghost use Rattle.cf_dispute.specs.Tables.{blocks_of};
 ghost use Rattle.cf_headers.specs.Store.{own_of};
 ghost use Rattle.cf_tables.specs.Extracts.{table_in};
-ghost use Rattle.cf_seek.specs.Testing.{IsClaimedAs, IsExposed, IsToTest, IsTrial, IsNextTrial};
+ghost use Rattle.cf_seek.specs.Testing.{IsClaimedAs, IsExposed, IsToTest, IsNextTrial};
+ghost use Rattle.cf_seek.specs.Tried.{AreTried, IsToTry};
 ghost use Rattle.cf_tables.specs.Tests.{told_in};
 ghost use Rattle.cf_headers.specs.Chain.{IsIn};
 
 use cf_bytes::{Hash32, PeerNo};
 use cf_dispute::Claims;
 use cf_headers::HeaderStore;
-use cf_tables::{Extracts, Tests, is_differing};
+use cf_tables::{Extracts, First, Tests, is_differing};
 
 /// A block whose claimed filter is to be tested, and its height.
 #[derive(Clone, Copy, Debug)]
@@ -61,8 +62,8 @@ fn exposed_at(claims: &Claims, tests: &Tests, p: PeerNo, block: &Hash32) -> Opti
     }
 }
 
-/// Of some blocks the first of which a peer claims a filter that was found to lack what the block pays; nothing exactly
-/// where there is none.
+/// One of some blocks of which a peer claims a filter that was found to lack what the block pays; nothing exactly where there
+/// is none.
 pub fn first_exposed(
     claims: &Claims,
     tests: &Tests,
@@ -70,6 +71,7 @@ pub fn first_exposed(
     blocks: &[Hash32],
 ) -> Option<Exposure>
     ensures is { IfSome result (λ e. IsExposed (tables_of claims.now) (told_in tests.now) p.0 e.block.0 e.filter.0) }
+    ensures among { IfSome result (λ e. IsIn e.block.0 (blocks_of blocks.now)) }
     ensures none { result ≡ None → (block : List ℕ) → IsIn block (blocks_of blocks.now) → (filter : List ℕ)
         → IsExposed (tables_of claims.now) (told_in tests.now) p.0 block filter → ⊥ }
 {
@@ -104,75 +106,54 @@ fn is_to_test(
     is_differing(claims, block)
 }
 
-// The block at its height, where it is to be tested and stands on a peer's chain above genesis and up to a height.
-fn trial_of<H: HeaderStore>(
-    store: &H,
+// Whether a block that hasn't the first block's hash is to be tested.
+fn is_to_try(
     extracts: &Extracts,
     claims: &Claims,
     tests: &Tests,
     p: PeerNo,
-    common: u32,
+    first: &First,
     block: &Hash32,
-) -> Option<Trial>
-    requires { IsSome (H.chain store.now p.0) }
-    ensures block { IfSome result (λ t. t.block ≡ block.now) }
-    ensures is { IfSome result (λ t. IsTrial (table_in extracts.now) (tables_of claims.now) (told_in tests.now) p.0 (own_of (H.chain store.now) p) common block.now.0 t.height) }
-    ensures only { IfSome result (λ t. (h : ℕ) → IsTrial (table_in extracts.now) (tables_of claims.now) (told_in tests.now) p.0 (own_of (H.chain store.now) p) common block.now.0 h → t.height ≤ h) }
-    ensures none { result ≡ None → (h : ℕ) → IsTrial (table_in extracts.now) (tables_of claims.now) (told_in tests.now) p.0 (own_of (H.chain store.now) p) common block.now.0 h → ⊥ }
+) -> bool
+    ensures yes { result ≡ true → IsToTry (table_in extracts.now) (tables_of claims.now) (told_in tests.now) p.0 block.now.0 }
+    ensures no { result ≡ false → IsToTry (table_in extracts.now) (tables_of claims.now) (told_in tests.now) p.0 block.now.0 → ⊥ }
 {
-    let Some(height) = store.place(p, block) else {
-        return None;
-    };
-    if height == 0 || height > common {
-        return None;
-    }
     if !is_to_test(extracts, claims, tests, p, block) {
-        return None;
+        return false;
     }
-    Some(Trial {
-        height,
-        block: *block,
-    })
+    !first.is(block)
 }
 
-// The lower of two.
-fn lower_of(lowest: Option<Trial>, found: Trial) -> Trial
-    ensures found { result.height ≤ found.height }
-    ensures lowest { IfSome lowest (λ t. result.height ≤ t.height) }
-    ensures one { (result ≡ found) ⊎ (lowest ≡ Some result) }
-{
-    match lowest {
-        None => found,
-        Some(trial) => {
-            if found.height < trial.height {
-                found
-            } else {
-                trial
-            }
-        }
-    }
-}
-
-/// Of some blocks the lowest on a peer's chain, above genesis and up to a height, that was fetched, on whose filter they
-/// differ, and of which what the peer claims wasn't tested; nothing exactly where there is none.
-#[tactic(auto, using(crate::proofs::Trials::next_none, crate::proofs::Trials::next_some))]
+/// From a height up to which none of an entered peer's blocks is to be tested: the lowest above genesis and up to another height
+/// that was fetched, on whose filter they differ, and of which what the peer claims wasn't tested; nothing exactly where there is
+/// none. And up to where none is then.
 pub fn next_trial<H: HeaderStore>(
     store: &H,
     extracts: &Extracts,
     claims: &Claims,
     tests: &Tests,
     p: PeerNo,
+    first: &First,
+    from: u32,
     common: u32,
-    trials: &[Hash32],
-) -> Option<Trial>
-    requires { IsSome (H.chain store.now p.0) }
-    ensures { IsNextTrial (table_in extracts.now) (tables_of claims.now) (told_in tests.now) p.0 (own_of (H.chain store.now) p) common (blocks_of trials.now) result }
+) -> (u32, Option<Trial>)
+    requires entered { IsSome (H.chain store.now p.0) }
+    requires within { common ≤ length (own_of (H.chain store.now) p) }
+    requires tried { AreTried (table_in extracts.now) (tables_of claims.now) (told_in tests.now) p.0 (own_of (H.chain store.now) p) from }
+    ensures tried { AreTried (table_in extracts.now) (tables_of claims.now) (told_in tests.now) p.0 (own_of (H.chain store.now) p) result.0 }
+    ensures up { from ≤ result.0 }
+    ensures low { result.0 ≤ max from common }
+    ensures next { IsNextTrial (table_in extracts.now) (tables_of claims.now) (told_in tests.now) p.0 (own_of (H.chain store.now) p) common result.1 }
 {
-    let mut lowest: Option<Trial> = None;
-    for block in trials {
-        if let Some(found) = trial_of(store, extracts, claims, tests, p, common, block) {
-            lowest = Some(lower_of(lowest, found));
+    for height in from..common {
+        let block = store.hash_at(p, height + 1);
+        if is_to_try(extracts, claims, tests, p, first, &block) {
+            let trial = Trial {
+                height: height + 1,
+                block,
+            };
+            return (height, Some(trial));
         }
     }
-    lowest
+    (from.max(common), None)
 }

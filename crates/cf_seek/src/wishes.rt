@@ -1,7 +1,6 @@
 //! The question that meets a want.
-ghost use Rattle.std.specs.Prelude.{◌≤◌, IsSome, IfOk, length};
+ghost use Rattle.std.specs.Prelude.{◌≤◌, IsSome, IfOk, length, max};
 ghost use Rattle.cf_dispute.specs.Of.{tables_of};
-ghost use Rattle.cf_dispute.specs.Tables.{blocks_of};
 ghost use Rattle.cf_headers.specs.Store.{own_of};
 ghost use Rattle.cf_tables.specs.Extracts.{table_in};
 ghost use Rattle.cf_tables.specs.Judged.{verdicts_in};
@@ -12,6 +11,7 @@ ghost use Rattle.cf_seek.specs.OpensAll.{opens_in};
 ghost use Rattle.cf_seek.specs.Seeking.{IsSought};
 ghost use Rattle.cf_seek.specs.Spans.{GoesFar, IsWish};
 ghost use Rattle.cf_seek.specs.Testing.{IsTrying};
+ghost use Rattle.cf_seek.specs.Tried.{AreTried};
 ghost use Rattle.cf_tables.specs.Tests.{told_in};
 
 use crate::ends::claims_end;
@@ -20,7 +20,7 @@ use crate::seek::sought_end;
 use crate::spans::{Wish, span_of};
 use crate::testing::next_trial;
 use crate::want::Want;
-use cf_bytes::{Hash32, NoMemory, PeerNo};
+use cf_bytes::{NoMemory, PeerNo};
 use cf_dispute::Claims;
 use cf_headers::HeaderStore;
 use cf_tables::{Extracts, First, Judged, Tests};
@@ -33,26 +33,34 @@ fn wish_to_test<H: HeaderStore>(
     claims: &Claims,
     tests: &Tests,
     p: PeerNo,
+    first: &First,
+    tried: u32,
     common: u32,
-    trials: &[Hash32],
-) -> Wish
-    requires { IsSome (H.chain store.now p.0) }
+) -> (u32, Wish)
+    requires entered { IsSome (H.chain store.now p.0) }
+    requires within { common ≤ length (own_of (H.chain store.now) p) }
+    requires tried { AreTried (table_in extracts.now) (tables_of claims.now) (told_in tests.now) p.0 (own_of (H.chain store.now) p) tried }
+    ensures tried { AreTried (table_in extracts.now) (tables_of claims.now) (told_in tests.now) p.0 (own_of (H.chain store.now) p) result.0 }
+    ensures up { tried ≤ result.0 }
+    ensures low { result.0 ≤ max tried common }
     ensures wish { (verdicts : Verdicts) (opens : OpenToAll)
         → IsSought (table_in extracts.now) (tables_of claims.now) verdicts opens p.0 (own_of (H.chain store.now) p) common NothingWanted
-        → IsWish (table_in extracts.now) (tables_of claims.now) verdicts opens p.0 (own_of (H.chain store.now) p) common result }
+        → IsWish (table_in extracts.now) (tables_of claims.now) verdicts opens p.0 (own_of (H.chain store.now) p) common result.1 }
     ensures far { (verdicts : Verdicts) (opens : OpenToAll)
-        → GoesFar (table_in extracts.now) (tables_of claims.now) verdicts opens p.0 (own_of (H.chain store.now) p) common result }
+        → GoesFar (table_in extracts.now) (tables_of claims.now) verdicts opens p.0 (own_of (H.chain store.now) p) common result.1 }
     ensures trying { IsTrying (table_in extracts.now) (tables_of claims.now) (told_in tests.now)
-        p.0 (own_of (H.chain store.now) p) common (blocks_of trials.now) result }
+        p.0 (own_of (H.chain store.now) p) common result.1 }
 {
-    match next_trial(store, extracts, claims, tests, p, common, trials) {
-        Some(trial) => Wish::Test(trial),
-        None => Wish::Nothing,
+    let (tried, next) = next_trial(store, extracts, claims, tests, p, first, tried, common);
+    match next {
+        Some(trial) => (tried, Wish::Test(trial)),
+        None => (tried, Wish::Nothing),
     }
 }
 
 /// The question for what is wanted of a peer's blocks up to a height. It is about as many blocks in a row as may be asked about at once.
-/// Where nothing is wanted it is for a filter that is to be tested, of one of some blocks.
+/// Where nothing is wanted it is for a filter that is to be tested. None of the peer's blocks up to another height is; and up to
+/// where none is then comes with it.
 pub fn wish_for<H: HeaderStore>(
     alloc: Global,
     store: &H,
@@ -65,33 +73,38 @@ pub fn wish_for<H: HeaderStore>(
     want: Want,
     common: u32,
     tests: &Tests,
-    trials: &[Hash32],
-) -> Result<Wish, NoMemory>
+    tried: u32,
+) -> Result<(u32, Wish), NoMemory>
     requires entered { IsSome (H.chain store.now p.0) }
     requires within { common ≤ length (own_of (H.chain store.now) p) }
     requires wanted { IsSought (table_in extracts.now) (tables_of claims.now) (verdicts_in judged.now) (opens_in opens.now)
         p.0 (own_of (H.chain store.now) p) common want }
-    ensures wish { IfOk result (IsWish (table_in extracts.now) (tables_of claims.now) (verdicts_in judged.now)
-        (opens_in opens.now) p.0 (own_of (H.chain store.now) p) common) }
-    ensures far { IfOk result (GoesFar (table_in extracts.now) (tables_of claims.now) (verdicts_in judged.now)
-        (opens_in opens.now) p.0 (own_of (H.chain store.now) p) common) }
-    ensures trying { IfOk result (IsTrying (table_in extracts.now) (tables_of claims.now) (told_in tests.now)
-        p.0 (own_of (H.chain store.now) p) common (blocks_of trials.now)) }
+    requires tried { AreTried (table_in extracts.now) (tables_of claims.now) (told_in tests.now) p.0 (own_of (H.chain store.now) p) tried }
+    ensures tried { IfOk result (λ r. AreTried (table_in extracts.now) (tables_of claims.now) (told_in tests.now) p.0
+        (own_of (H.chain store.now) p) r.0) }
+    ensures up { IfOk result (λ r. tried ≤ r.0) }
+    ensures low { IfOk result (λ r. r.0 ≤ max tried common) }
+    ensures wish { IfOk result (λ r. IsWish (table_in extracts.now) (tables_of claims.now) (verdicts_in judged.now)
+        (opens_in opens.now) p.0 (own_of (H.chain store.now) p) common r.1) }
+    ensures far { IfOk result (λ r. GoesFar (table_in extracts.now) (tables_of claims.now) (verdicts_in judged.now)
+        (opens_in opens.now) p.0 (own_of (H.chain store.now) p) common r.1) }
+    ensures trying { IfOk result (λ r. IsTrying (table_in extracts.now) (tables_of claims.now) (told_in tests.now)
+        p.0 (own_of (H.chain store.now) p) common r.1) }
 {
     match want {
-        Want::Nothing => Ok(wish_to_test(store, extracts, claims, tests, p, common, trials)),
+        Want::Nothing => Ok(wish_to_test(store, extracts, claims, tests, p, first, tried, common)),
         Want::Claims(start) => {
             let end = claims_end(store, claims, p, first, start, common);
             let span = span_of(alloc, store, p, start, end)?;
-            Ok(Wish::Claims(span))
+            Ok((tried, Wish::Claims(span)))
         }
         Want::Filters(start) => {
             let end = sought_end(
                 store, extracts, claims, judged, opens, p, first, start, common,
             );
             let span = span_of(alloc, store, p, start, end)?;
-            Ok(Wish::Filters(span))
+            Ok((tried, Wish::Filters(span)))
         }
-        Want::Block(height) => Ok(Wish::Block(store.hash_at(p, height))),
+        Want::Block(height) => Ok((tried, Wish::Block(store.hash_at(p, height)))),
     }
 }

@@ -10,7 +10,7 @@ use Rattle.cf_peer.specs.Asking.{block_entry}
 use Rattle.cf_wires.specs.Log.{Log}
 use Rattle.cf_peer.specs.Trail.{trail, own, heard}
 use Rattle.cf_sync.specs.Fetching.{IsBest, IsNeeded, HoldsFetched}
-use Rattle.cf_sync.specs.Kept.{AreListed, HoldsClaims, HoldsGiven, HoldsOpens, HoldsTests}
+use Rattle.cf_sync.specs.Kept.{HoldsClaims, HoldsGiven, HoldsOpens, HoldsTests}
 use Rattle.cf_seek.specs.declared.spans.Wish.{Wish}
 use Rattle.cf_seek.specs.declared.spans.Wish.TheVariants.{Claims, Filters, Block, Test}
 use Rattle.cf_seek.specs.Opens.{Opens}
@@ -50,9 +50,7 @@ pub record IsInTurn (watch : List (List ℕ)) (log : Log) (p : ℕ) (m : Msg) : 
   pub puts : Puts wish m
   pub told : Told
   pub tested : HoldsTests log told
-  pub listed : List Hash
-  pub disputes : AreListed log listed
-  pub tries : IsTrying extracts tables told p (own (trail log p)) (common_of (own (trail log p)) chain) listed wish
+  pub tries : IsTrying extracts tables told p (own (trail log p)) (common_of (own (trail log p)) chain) wish
 
 -- what a client is to ask for that stands for this log, and when: each question about blocks in its turn
 abbrev pub IsCalledFor : List (List ℕ) → Log → ℕ → Msg → Type 0

@@ -92,9 +92,54 @@ pub record IsDisputed (log : Log) (block : Hash) : Type 0 where
   pub claims : Claims log one block mine × Claims log other block yours
   pub apart : mine ≢ yours
 
--- a filter came in a whole answer, before the first frame by which its peer deserved a cause
+-- a message asks for filters, where this block was fetched; any other leaves it as it was
+abbrev pub test_after : Bool → Option Msg → Log → Hash → Type 0 → Type 0
+test_after false m log block before = before
+test_after true None log block before = before
+test_after true (Some (GetCfilters filter start stop)) log block before = IsFetchedHash log block
+test_after true (Some m) log block before = before
+
+-- the filters that the peer was asked for last were asked for after this block was fetched: so that of the block is to be tested
+abbrev pub IsTest : Log → ℕ → Hash → Type 0
+IsTest [] p block = ⊥
+IsTest (Sent q bytes ∷ log) p block = test_after (q.0 == p) (spelled bytes) log block (IsTest log p block)
+IsTest (Dialled q name ∷ log) p block = IsTest log p block
+IsTest (NotDialled q name ∷ log) p block = IsTest log p block
+IsTest (SendFailed q ∷ log) p block = IsTest log p block
+IsTest (Closed q ∷ log) p block = IsTest log p block
+IsTest (Took d ∷ log) p block = IsTest log p block
+
+-- they weren't: the filter of the block is to be judged
+abbrev pub IsNoTest : Log → ℕ → Hash → Type 0
+IsNoTest log p block = IsTest log p block → ⊥
+
+-- with the newest entry this filter came, the last of a whole answer of the peer or one before it
+pub record IsNew (e : Event) (log : Log) (p : ℕ) (job : Job) : Type 0 where
+  pub news : List Job
+  pub joined : given (counted_part (e ∷ log) p) ≡ news ++ given (counted_part log p)
+  pub among : IsIn job news
+
+-- a filter came in a whole answer, before the first frame by which its peer deserved a cause, to a question that was so when it came
+abbrev pub IsAnswered : (Log → ℕ → Hash → Type 0) → Log → Job → Type 0
+IsAnswered way [] job = ⊥
+IsAnswered way (Took (Got q piece) ∷ log) job =
+    (way log q.0 job.block.0 × IsNew (Took (Got q piece)) log q.0 job) ⊎ IsAnswered way log job
+IsAnswered way (Took (Gone q) ∷ log) job = IsAnswered way log job
+IsAnswered way (Took (Tick s) ∷ log) job = IsAnswered way log job
+IsAnswered way (Took Ended ∷ log) job = IsAnswered way log job
+IsAnswered way (Dialled q name ∷ log) job = IsAnswered way log job
+IsAnswered way (NotDialled q name ∷ log) job = IsAnswered way log job
+IsAnswered way (Sent q bytes ∷ log) job = IsAnswered way log job
+IsAnswered way (SendFailed q ∷ log) job = IsAnswered way log job
+IsAnswered way (Closed q ∷ log) job = IsAnswered way log job
+
+-- a filter was given: it came in a whole answer to a question that wasn't asked after its block was fetched
 abbrev pub IsGiven : Log → Job → Type 0
-IsGiven log job = (p : ℕ) × IsIn job (given (counted_part log p))
+IsGiven log job = IsAnswered IsNoTest log job
+
+-- a filter was tested: it came in a whole answer to a question that was
+abbrev pub IsTested : Log → Job → Type 0
+IsTested log job = IsAnswered IsTest log job
 
 -- one of this block, with this hash
 abbrev pub IsGivenWith : Log → Hash → Hash32 → Type 0
@@ -156,42 +201,6 @@ abbrev pub IsBlockWanted : List (List ℕ) → Log → Hash → Type 0
 IsBlockWanted watch log block = (IsFetchedHash log block → ⊥) × (IsDisputed log block ⊎ IsJudged watch log block false)
 
 -- ---- filters that were tested
-
--- a message asks for filters, where this block was fetched; any other leaves it as it was
-abbrev pub test_after : Bool → Option Msg → Log → Hash → Type 0 → Type 0
-test_after false m log block before = before
-test_after true None log block before = before
-test_after true (Some (GetCfilters filter start stop)) log block before = IsFetchedHash log block
-test_after true (Some m) log block before = before
-
--- the filters that the peer was asked for last were asked for after this block was fetched: so that of the block is to be tested
-abbrev pub IsTest : Log → ℕ → Hash → Type 0
-IsTest [] p block = ⊥
-IsTest (Sent q bytes ∷ log) p block = test_after (q.0 == p) (spelled bytes) log block (IsTest log p block)
-IsTest (Dialled q name ∷ log) p block = IsTest log p block
-IsTest (NotDialled q name ∷ log) p block = IsTest log p block
-IsTest (SendFailed q ∷ log) p block = IsTest log p block
-IsTest (Closed q ∷ log) p block = IsTest log p block
-IsTest (Took d ∷ log) p block = IsTest log p block
-
--- with the newest entry this filter came, the last of a whole answer of the peer or one before it
-pub record IsNew (e : Event) (log : Log) (p : ℕ) (job : Job) : Type 0 where
-  pub news : List Job
-  pub joined : given (counted_part (e ∷ log) p) ≡ news ++ given (counted_part log p)
-  pub among : IsIn job news
-
--- a filter came in the whole answer to a question that was asked after its block was fetched
-abbrev pub IsTested : Log → Job → Type 0
-IsTested [] job = ⊥
-IsTested (Took (Got q piece) ∷ log) job = (IsTest log q.0 job.block.0 × IsNew (Took (Got q piece)) log q.0 job) ⊎ IsTested log job
-IsTested (Took (Gone q) ∷ log) job = IsTested log job
-IsTested (Took (Tick s) ∷ log) job = IsTested log job
-IsTested (Took Ended ∷ log) job = IsTested log job
-IsTested (Dialled q name ∷ log) job = IsTested log job
-IsTested (NotDialled q name ∷ log) job = IsTested log job
-IsTested (Sent q bytes ∷ log) job = IsTested log job
-IsTested (SendFailed q ∷ log) job = IsTested log job
-IsTested (Closed q ∷ log) job = IsTested log job
 
 -- one of this block, with this hash
 pub record IsTestedWith (log : Log) (block : Hash) (hash : Hash32) : Type 0 where

@@ -7,7 +7,7 @@ use Rattle.cf_peer.specs.Trail.{Trail, Part, Called, Said, Refused, Asked, Passe
 use Rattle.cf_peer.specs.Asking.{counted, fetched, given}
 use Rattle.cf_match.specs.declared.job.Job.{Job}
 use Rattle.cf_headers.specs.Chain.{Hash}
-use Rattle.cf_sync.specs.Fetching.{MaySend, IsTest, IsTested}
+use Rattle.cf_sync.specs.Fetching.{MaySend, IsGiven, IsTest, IsTested}
 use Rattle.cf_sync.specs.Due.{IsCalledFor}
 
 -- a send to this peer has failed since the last delivery, and the peer wasn't closed for it yet, so the client isn't told
@@ -50,8 +50,12 @@ Alike t u =
 abbrev pub IsSameTest : Log → Log → ℕ → Hash → Type 0
 IsSameTest planned log q block = (IsTest planned q block → IsTest log q block) × (IsTest log q block → IsTest planned q block)
 
+-- of each block and filter: it was given by the one log where it was by the other
+abbrev pub IsSameGiven : Log → Log → Type 0
+IsSameGiven planned log = (job : Job) → (IsGiven planned job → IsGiven log job) × (IsGiven log job → IsGiven planned job)
+
 -- of a peer whose failed send isn't told its part just before that send, with what was planned on top; of all others the actual part, or one that is alike: cut
--- off by a failed send as well, with the same blocks and filters brought; and as many peers were dialled; and the same filters were tested, and are to be of those others
+-- off by a failed send as well, with the same blocks and filters brought; and as many peers were dialled; and the same filters were given and tested, and are to be tested of those others
 pub record IsPlanned (planned log : Log) : Type 0 where
   pub told : (q : ℕ) → is_untold log q ≡ false → Alike (part_of planned q) (part_of log q)
   pub untold : (q : ℕ) → is_untold log q ≡ true
@@ -59,6 +63,7 @@ pub record IsPlanned (planned log : Log) : Type 0 where
   pub dials : (tally_of planned).dials ≡ (tally_of log).dials
   pub tested : (job : Job) → IsTested planned job → IsTested log job
   pub tests : (job : Job) → IsTested log job → IsTested planned job
+  pub gave : IsSameGiven planned log
   pub aims : (q : ℕ) → is_untold log q ≡ false → connected (trail log q) ≡ true → (block : Hash) → IsSameTest planned log q block
 
 -- what was sent was wanted and called for by a client that knew of no failure that it wasn't told of yet

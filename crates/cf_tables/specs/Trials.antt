@@ -6,6 +6,7 @@ use Rattle.cf_filter.specs.Filter.{filter_hash_of}
 use Rattle.cf_filter.specs.Lacking.{output_items_of}
 use Rattle.cf_headers.specs.Chain.{Hash}
 use Rattle.cf_match.specs.declared.job.Job.{Job}
+use Rattle.cf_match.specs.Verdicts.{Verdicts, with_verdicts}
 use Rattle.cf_tables.specs.Outputs.{Paid, lacks_kept, put_outputs}
 use Rattle.cf_tables.specs.Tests.{IsSameTold, Told, with_test}
 
@@ -34,6 +35,11 @@ with_found paid job told = with_test job.block.0 (filter_hash_of job.filter) (la
 abbrev pub tested_if : Bool → Paid → List Job → Told → Told
 tested_if true paid (job ∷ []) told = with_found paid job told
 tested_if aim paid jobs told = told
+
+-- the verdicts once filters came: those on filters that were asked for so that they are tested tell nothing
+abbrev pub judged_if : Bool → List (List ℕ) → List Job → Verdicts → Verdicts
+judged_if true watch jobs verdicts = verdicts
+judged_if false watch jobs verdicts = with_verdicts watch jobs verdicts
 
 -- these blocks came, and p gave these filters
 pub record TrialsGo (before after : Trials) (p : ℕ) (news : List Block) (jobs : List Job) : Type 0 where

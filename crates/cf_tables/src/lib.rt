@@ -1,7 +1,6 @@
 //! What a client keeps of filters and of the blocks that it fetched, and how a block stands by it.
 #![tactic(auto)]
 
-mod disputes;
 mod extracts;
 mod first;
 mod judged;
@@ -9,7 +8,6 @@ mod kind;
 mod outputs;
 mod tests;
 
-pub use disputes::Disputes;
 pub use extracts::Extracts;
 pub use first::First;
 pub use judged::Judged;

@@ -1,5 +1,6 @@
 //! What the outputs of fetched blocks pay.
 ghost use Rattle.std.specs.Prelude.{◌≡◌, ℕ, List, None, is_some, IfOk, OnOk, OnErr};
+ghost use Rattle.cf_tables.specs.Held.{CountsOutputs};
 ghost use Rattle.cf_tables.specs.Outputs.{lacks_kept, outputs_in, put_outputs, set_outputs};
 
 use cf_bytes::{Hash32, NoMemory};
@@ -34,6 +35,13 @@ impl Outputs {
         }
         self.insert(hash, items)?;
         Ok(())
+    }
+
+    /// Of how many blocks the items are kept. It takes no memory.
+    pub fn len(&self) -> u64
+        ensures { CountsOutputs (outputs_in self.now) result }
+    {
+        self.map.len() as u64
     }
 
     // Whether the items of the block with this hash are there.
