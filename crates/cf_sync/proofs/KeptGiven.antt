@@ -50,10 +50,10 @@ module _ (p : PeerNo) (piece : List ℕ) (log : Log) (jobs : List Job) (gives : 
         elim w.answer.asked [
           | inl none ↦ none_due (sym same_jobs ∙ none)
           | inr is ↦ λ job i. (
-              on,
-              subst (λ (xs : List Hash). IsIn job.block.0 xs) is
-                  (named job w.jobs (subst (λ (xs : List Job). IsIn job xs) (sym same_jobs) i)),
-            )
+            on,
+            subst (λ (xs : List Hash). IsIn job.block.0 xs) is
+                (named job w.jobs (subst (λ (xs : List Job). IsIn job xs) (sym same_jobs) i)),
+          )
         ]
 
   -- what is given besides is among what came

@@ -1,5 +1,5 @@
 -- What is kept of filters that were tested, and of what fetched blocks pay, says what is to be tested and what was; and how it goes on.
-use Rattle.std.proofs.Common.{◌≡◌, ◌⊎◌, inl, inr, ℕ, ◌≤◌, List, [], ◌∷◌, length, Option, Some, None, Bool, true, false, ◌&&◌, ◌==◌, if◌then◌else◌, refl, sym, ◌∙◌, ap, subst, arith}
+use Rattle.std.proofs.Common.{◌≡◌, ◌⊎◌, inl, inr, ℕ, ◌≤◌, List, [], ◌∷◌, length, Option, Some, None, Bool, true, false, ◌&&◌, if◌then◌else◌, refl, sym, ◌∙◌, ap, subst, arith}
 use Rattle.std.specs.Prelude.{IsSome, option_map, unwrap_or}
 use Rattle.std.proofs.lemmas.Bool.{both_ways, and_from, and_parts, false≢true}
 use Rattle.std.proofs.lemmas.List.{append_cancel_right}
@@ -18,14 +18,12 @@ use Rattle.cf_headers.specs.Rules.{same}
 use Rattle.cf_headers.proofs.Accepting.{at_height}
 use Rattle.cf_headers.proofs.Stacks.{length_lower}
 use Rattle.cf_match.specs.declared.job.Job.{Job}
-use Rattle.cf_msg.specs.declared.msg.Msg.{Msg}
-use Rattle.cf_msg.specs.declared.msg.Msg.TheVariants.{GetCfilters}
 use Rattle.cf_wires.specs.declared.event.Delivery.TheVariants.{Got, Gone, Tick, Ended}
 use Rattle.cf_wires.specs.declared.event.Event.{Event}
 use Rattle.cf_wires.specs.declared.event.Event.TheVariants.{Dialled, NotDialled, Sent, SendFailed, Closed, Took}
 use Rattle.cf_wires.specs.Log.{Log}
 use Rattle.cf_peer.specs.Asking.{fetched, given}
-use Rattle.cf_peer.specs.Trail.{trail, spelled, own}
+use Rattle.cf_peer.specs.Trail.{trail, own}
 use Rattle.cf_scan.specs.declared.extracts.TxExtract.{TxExtract}
 use Rattle.cf_tables.specs.Outputs.{Paid, lacks_kept, put_outputs}
 use Rattle.cf_tables.specs.Tables.{Table}
@@ -34,7 +32,7 @@ use Rattle.cf_tables.specs.Tests.{Told, found_too}
 use Rattle.cf_tables.specs.Trials.{with_found}
 use Rattle.cf_seek.proofs.Along.{common_low}
 use Rattle.cf_seek.proofs.Stops.{back_ends, found_low}
-use Rattle.cf_sync.specs.Fetching.{counted_part, IsAbove, IsConnected, IsDisputed, IsFetched, IsFetchedHash, IsNoPiece, IsOmission, IsSameFetched, IsTest, IsTested, IsTestedWith, IsTestOf, IsTestWanted, HoldsFetched, Rightly, test_after, IsTestedThrough}
+use Rattle.cf_sync.specs.Fetching.{counted_part, IsAbove, IsConnected, IsDisputed, IsFetched, IsFetchedHash, IsNoPiece, IsOmission, IsSameFetched, IsTest, IsTested, IsTestedWith, IsTestOf, IsTestWanted, HoldsFetched, Rightly, IsTestedThrough}
 use Rattle.cf_sync.specs.Kept.{AreClean, HoldsClaims, HoldsOutputs, HoldsTests}
 use Rattle.cf_sync.proofs.Answered.{fetched_hash_stays, test_fetched}
 use Rattle.cf_sync.proofs.Blamed.{tested_stays}
