@@ -47,7 +47,7 @@ fell_to : (own : Chain) (block : Hash) (o : Option ℕ) (mark : ℕ) → height_
 fell_to own block None mark found lt = absurd (omega (arith, lt))
 fell_to own block (Some height) mark found lt = elim (lower_of mark (height - 1)) [
   | inl same ↦ absurd (omega (arith, same, lt))
-  | inr under ↦ (height, found, under)
+  | inr under ↦ (height, (found, under))
 ]
 
 -- it fell to below this block, of which something holds
@@ -74,7 +74,7 @@ fell_below (Some there) holds block before on is =
       tight = λ own some lt.
           let one : there ≡ own = cc in
           let w = fell_to there block (height_of block there) before refl lt in
-          (block, w.0, (inl refl, is, ap (λ (c : Chain). height_of block c) (sym one) ∙ w.1.0, w.1.1));
+          (block, w.0, inl refl, is, ap (λ (c : Chain). height_of block c) (sym one) ∙ w.1.0, w.1.1);
     }
 
 -- the mark of each peer did
@@ -101,7 +101,7 @@ pub on_below : (chain : Option Chain) (holds : Hash → Type 0) (blocks : List H
 on_below chain holds blocks before after fell on up =
     let low = fell.low in
     let w = on (omega (arith, up, low)) in
-    (w.0, w.1.0, omega (arith, low, w.1.1))
+    (w.0, (w.1.0, omega (arith, low, w.1.1)))
 
 pub none_below : (chain : Option Chain) (holds : Hash → Type 0) (mark : ℕ) → IsTriedBelow chain holds [] mark mark
 none_below chain holds mark = record {
@@ -120,7 +120,7 @@ past_below chain holds xs i d before mark lt off fell = record {
     | inl old ↦ fell.apart own some h up low old holding
     | inr this ↦ off (subst holds this holding)
   ];
-  tight = λ own some down. (let w = fell.tight own some down in (w.0, w.1.0, (in_longer xs i w.0 w.1.1.0, w.1.1.1)));
+  tight = λ own some down. (let w = fell.tight own some down in (w.0, w.1, in_longer xs i w.0 w.2, w.3, w.4, w.5));
 }
 
 -- a mark that fell to below the next block as well
@@ -138,22 +138,21 @@ then_below chain holds these xs i d before mid after lt to from first next =
         | inr this ↦ next.apart own some h up low (inl this) (subst these (sym this) (to (subst holds this holding)))
       ];
       tight = λ own some down. elim (cases_lt after mid) [
-        | inl lower ↦ (let w = next.tight own some lower in elim w.1.1.0 [
+        | inl lower ↦ (let w = next.tight own some lower in elim w.2 [
             | inl this ↦ (
                 w.0,
-                w.1.0,
-                (
-                  subst (λ (b : Hash). IsIn b (blocks_of (take (i + 1) xs))) (sym this) (in_last xs i d lt),
-                  subst holds (sym this) (from (subst these this w.1.1.1.0)),
-                  w.1.1.1.1,
-                ),
+                w.1,
+                subst (λ (b : Hash). IsIn b (blocks_of (take (i + 1) xs))) (sym this) (in_last xs i d lt),
+                subst holds (sym this) (from (subst these this w.3)),
+                w.4,
+                w.5,
               )
             | inr none ↦ absurd none
           ])
         | inr same ↦ (
             let at : after ≡ mid = omega (arith, same, low2) in
             let w = first.tight own some (omega (arith, at, down)) in
-            (w.0, w.1.0, (in_longer xs i w.0 w.1.1.0, w.1.1.1.0, w.1.1.1.1.0, at ∙ w.1.1.1.1.1))
+            (w.0, w.1, in_longer xs i w.0 w.2, w.3, w.4, at ∙ w.5)
             )
       ];
     }
