@@ -96,17 +96,11 @@ stays_below chain holds block mark off = record {
 
 -- ---- below each of more blocks
 
-pub on_below : (chain : Option Chain) (holds : Hash → Type 0) (blocks : List Hash) (before after : ℕ) → IsTriedBelow chain holds blocks before after
-    → IsOn chain before → IsOn chain after
-on_below chain holds blocks before after fell on up =
-    let low = fell.low in
-    let w = on (omega (arith, up, low)) in
-    (w.0, (w.1.0, omega (arith, low, w.1.1)))
-
-pub none_below : (chain : Option Chain) (holds : Hash → Type 0) (mark : ℕ) → IsTriedBelow chain holds [] mark mark
-none_below chain holds mark = record {
+-- a mark at height 0 can't fall
+pub unset_below : (chain : Option Chain) (holds : Hash → Type 0) (blocks : List Hash) (mark : ℕ) → mark ≡ 0 → IsTriedBelow chain holds blocks mark mark
+unset_below chain holds blocks mark unset = record {
   low = omega arith;
-  apart = λ own some h up low among holding. absurd among;
+  apart = λ own some h up low among holding. absurd (omega (arith, up, low, unset));
   tight = λ own some lt. absurd (omega (arith, lt));
 }
 
@@ -139,16 +133,16 @@ then_below chain holds these xs i d before mid after lt to from first next =
       ];
       tight = λ own some down. elim (cases_lt after mid) [
         | inl lower ↦ (let w = next.tight own some lower in elim w.2 [
-            | inl this ↦ (
-                w.0,
-                w.1,
-                subst (λ (b : Hash). IsIn b (blocks_of (take (i + 1) xs))) (sym this) (in_last xs i d lt),
-                subst holds (sym this) (from (subst these this w.3)),
-                w.4,
-                w.5,
-              )
-            | inr none ↦ absurd none
-          ])
+          | inl this ↦ (
+            w.0,
+            w.1,
+            subst (λ (b : Hash). IsIn b (blocks_of (take (i + 1) xs))) (sym this) (in_last xs i d lt),
+            subst holds (sym this) (from (subst these this w.3)),
+            w.4,
+            w.5,
+          )
+          | inr none ↦ absurd none
+        ])
         | inr same ↦ (
             let at : after ≡ mid = omega (arith, same, low2) in
             let w = first.tight own some (omega (arith, at, down)) in

@@ -9,7 +9,6 @@ use Rattle.cf_dispute.specs.Claims.{Tables}
 use Rattle.cf_headers.specs.Chain.{Hash, Chain, back_to, lower, tip_hash}
 use Rattle.cf_headers.specs.Heights.{hash_at, height_of}
 use Rattle.cf_headers.proofs.ChainLaws.{back_in}
-use Rattle.cf_seek.specs.declared.testing.Trial.{Trial}
 use Rattle.cf_seek.specs.Testing.{IsTrial, IsNextTrial}
 use Rattle.cf_seek.specs.Tried.{AreTried, IsToTry}
 use Rattle.cf_seek.proofs.Sought.{placed_low}

@@ -1,5 +1,5 @@
 //! Up to where none of the peers' blocks is to be tested.
-ghost use Rattle.std.specs.Prelude.{◌≡◌, ◌≢◌, ◌≤◌, ℕ, List, ◌∷◌, [], IsSome, replicate, slice_set, vec_len, IfOk};
+ghost use Rattle.std.specs.Prelude.{◌≡◌, ◌≢◌, ◌≤◌, ℕ, List, ◌∷◌, [], true, IsSome, replicate, slice_set, vec_len, IfOk};
 ghost use Rattle.cf_dispute.specs.declared.claim.At.TheVariants.{Differ};
 ghost use Rattle.cf_dispute.specs.Claims.{IsAt};
 ghost use Rattle.cf_dispute.specs.Of.{tables_of};
@@ -75,6 +75,13 @@ impl Tried {
         }
     }
 
+    // Whether no mark is above height 0.
+    fn is_unset(&self) -> bool
+        ensures { result ≡ true → (q : ℕ) → tried_at self.now q ≡ 0 }
+    {
+        self.marks.iter().all(|mark| *mark == 0)
+    }
+
     // How many numbers have a mark; those from there on have none.
     fn places(&self) -> u32
         ensures { (q : ℕ) → result ≤ q → tried_at self.now q ≡ 0 }
@@ -112,6 +119,9 @@ pub fn fall_below_disputes<H: HeaderStore>(
         (λ (b : List ℕ). IsSome (table_in extracts.now b) × IsAt (tables_of claims.now) b Differ) (blocks_of blocks.now)
         (tried_at tried.old q) (tried_at tried.new q) }
 {
+    if tried.is_unset() {
+        return;
+    }
     for block in blocks {
         if extracts.has(block) {
             fall_below_dispute(store, claims, tried, block);

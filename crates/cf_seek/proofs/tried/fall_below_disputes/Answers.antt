@@ -1,4 +1,4 @@
-use Rattle.std.proofs.Common.{ℕ, List, ◌+◌, false, ◌∙◌, sym, take, subst}
+use Rattle.std.proofs.Common.{ℕ, List, ◌+◌, ◌∙◌, sym, take, subst}
 use Rattle.std.specs.Prelude.{IsSome}
 use Rattle.cf_dispute.specs.declared.claim.At.TheVariants.{Differ}
 use Rattle.cf_dispute.specs.Claims.{IsAt}
@@ -7,9 +7,14 @@ use Rattle.cf_dispute.specs.Tables.{blocks_of}
 use Rattle.cf_headers.specs.Chain.{Hash}
 use Rattle.cf_tables.specs.Extracts.{table_in}
 use Rattle.cf_seek.specs.Tried.{IsTriedBelow, tried_at}
-use Rattle.cf_seek.proofs.Below.{past_below, then_below}
+use Rattle.cf_seek.proofs.Below.{past_below, then_below, unset_below}
 use Rattle.cf_seek.proofs.tried.fall_below_disputes.Goals as goal
 use Rattle.cf_seek.proofs.tried.fall_below_disputes.Goals.{then-has, else-has}
+
+pub returns-then-is_unset : goal.returns-then-is_unset
+returns-then-is_unset g c = λ q.
+    unset_below (g.H.HeaderStore.chain c.args.store.now q) (λ (b : Hash). IsSome (table_in c.args.extracts.now b) × IsAt (tables_of c.args.claims.now) b Differ)
+    (blocks_of c.args.blocks.now) (tried_at c.args.tried.now q) (c.is_unset.ensures c.if-is_unset.true q)
 
 pub loop-block-preserved : goal.loop-block-preserved
 loop-block-preserved g c = λ q.
