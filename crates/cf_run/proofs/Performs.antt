@@ -28,9 +28,9 @@ use Rattle.cf_match.specs.declared.matcher.Matcher.{Ghosts as Judges}
 use Rattle.cf_sync.proofs.Alone.{alone_less}
 use Rattle.cf_sync.specs.Fetching.{IsAlone, counted_part, DeservesIn, IsSameFetched, IsTested}
 use Rattle.cf_match.specs.declared.job.Job.{Job}
-use Rattle.cf_match.specs.Verdicts.{Verdicts}
 use Rattle.cf_sync.proofs.Plans.{omits_alike, off_omits_nothing}
-use Rattle.cf_sync.specs.Kept.{HoldsGiven, OpensAt, claims_kept}
+use Rattle.cf_sync.specs.Kept.{OpensAt, claims_kept}
+use Rattle.cf_sync.proofs.VerdictsGrow.{same_given}
 use Rattle.cf_sync.specs.Planned.{is_untold, before_failure, IsMeant, Alike, IsSameGiven, IsSameTest}
 use Rattle.cf_sync.proofs.Planning.{planned_part}
 use Rattle.cf_hear.specs.Tracks.{chain_kept}
@@ -778,13 +778,6 @@ opens_alike opens q t u (inl same) at = subst (λ (x : Part). OpensAt opens q x.
 opens_alike opens q t u (inr off) at =
     opens_closed opens opens q u.trail (closes_off opens q t.trail at off.0) (λ on. absurd (both_ways (connected u.trail) off.1 on))
 
--- where the same filters were given the verdicts on them are the same
-verdicts_stay : (watch : List (List ℕ)) (planned log : Log) (verdicts : Verdicts) → IsSameGiven planned log → HoldsGiven watch planned verdicts → HoldsGiven watch log verdicts
-verdicts_stay watch planned log verdicts same holds = record {
-  sound = λ block hash v e. (let w = holds.sound block hash v e in (w.0, (same w.0).0 w.1, w.2, w.3, w.4));
-  complete = λ block hash e got. holds.complete block hash e (got.0, (same got.0).1 got.1, got.2, got.3);
-}
-
 -- with no failure pending the client reflects the actual log
 pub all_told : {H M : Type 0} {g : Ghosts H} {j : Judges M} (c : Client H M g j) (progress : Progress) (called : List (List ℕ)) (planned : Log) (t : Told) → ((q : ℕ) → is_pending (state_at progress.sends q) ≡ false)
     → Reflects c planned → Doing (watch_by c) [] progress called planned t → HoldsOver c progress called t
@@ -806,7 +799,7 @@ all_told c progress called planned t none reflects doing =
           kept = λ q. reflects.tracks.kept q ∙ chain_alike (part_of planned q) (part_of doing.actual q) (doing.plan.told q (told q));
           claimed = λ q block. reflects.tracks.claimed q block ∙ ap (λ (c : Table). c block) (claims_alike (part_of planned q) (part_of doing.actual q) (doing.plan.told q (told q)));
           fetched = same_holds _ planned doing.actual _ doing.brought reflects.tracks.fetched;
-          given = verdicts_stay _ planned doing.actual _ doing.plan.gave reflects.tracks.given;
+          given = same_given _ planned doing.actual _ _ doing.plan.gave (λ block hash. refl) reflects.tracks.given;
           opened = λ q. opens_alike (opens_of c.tracker) q (part_of planned q) (part_of doing.actual q) (doing.plan.told q (told q)) (reflects.tracks.opened q);
           trials = trials_alike planned doing.actual (trials_of c.tracker) (λ q. doing.plan.told q (told q)) doing.brought doing.plan.tested doing.plan.tests
               (λ q on. doing.plan.aims q (told q) on) reflects.tracks.trials;
