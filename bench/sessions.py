@@ -194,15 +194,24 @@ def stores():
 
     print("# stores WATCH|SESSION: what comes of a session over a store of lists, and over a tree: how it ends, how many headers, claims, filters, verdicts")
     print("# and extracts the client keeps then, and the history and the tip. The rows and answers are those of bench/sessions.py stores.")
-    print("# Two peers that differ on a filter, of which the second one, which was asked for the block, is gone; or the first one is, and the second has")
-    print("# still to answer.")
-    for gone in (2, 1):
+    print("# Two peers that differ on a filter, of which the first is closed for what its filter omits; or the second one, which was asked for the block, is gone;")
+    print("# or the first one is, and the second has still to answer.")
+    for gone in (0, 2, 1):
         s = Session(2).shows(1, liar).shows(2, a).got(1, liar.cfheaders(1, 3)).got(2, a.cfheaders(1, 3))
         s.got(1, liar.cfilter(1)).got(1, liar.cfilter(2)).got(1, liar.cfilter(3))
         if gone == 2:
             s.gone(2).stores("Synced", text(a, []), [14], [liar], all_of(liar), 0, 3, 0)
-        else:
+        elif gone == 1:
             s.gone(1).stores("Ended", text(a, []), [14], [a], all_of(a), 0, 3, 0)
+        else:
+            s.got(2, a.block(2)).got(1, liar.cfilter(2)).got(2, a.cfilter(2))
+            s.stores("Synced", text(a, [14]), [14], [a], all_of(a), 0, 3, 1)
+
+    print("# They differ on a script that the block only spends: both stay. A filter that is asked for once the block was fetched gives no verdict.")
+    spends = a.without(2, script(8))
+    s = Session(2).shows(1, spends).shows(2, a).got(1, spends.cfheaders(1, 3)).got(2, a.cfheaders(1, 3)).filters(1, spends, 1, 3)
+    s.got(2, a.block(2)).got(1, spends.cfilter(2)).got(2, a.cfilter(2))
+    s.stores("Synced", text(a, [14]), [14], [spends, a], all_of(spends, a), 0, 3, 1)
 
     print("# A longer chain takes the place of one that is settled; or its peer is gone while a block is still to come.")
     for gone in (False, True):

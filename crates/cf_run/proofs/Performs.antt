@@ -31,7 +31,7 @@ use Rattle.cf_match.specs.declared.job.Job.{Job}
 use Rattle.cf_sync.proofs.Plans.{omits_alike, off_omits_nothing}
 use Rattle.cf_sync.specs.Kept.{OpensAt, claims_kept}
 use Rattle.cf_sync.proofs.VerdictsGrow.{same_given}
-use Rattle.cf_sync.specs.Planned.{is_untold, before_failure, IsMeant, Alike, IsSameTest}
+use Rattle.cf_sync.specs.Planned.{is_untold, before_failure, IsMeant, Alike, IsSameGiven, IsSameTest}
 use Rattle.cf_sync.proofs.Planning.{planned_part}
 use Rattle.cf_hear.specs.Tracks.{chain_kept}
 use Rattle.cf_hear.proofs.Opening.{closes_off}
@@ -92,15 +92,15 @@ asked_brought true None part = refl
 asked_brought true (Some m) part = refl
 asked_brought false o part = refl
 
-asked_gave : (b : Bool) (o : Option Msg) (part : Part) → given (counted (if b then record part { trail = asks o part.trail } else part).trail) ≡ given (counted part.trail)
-asked_gave true None part = refl
-asked_gave true (Some m) part = refl
-asked_gave false o part = refl
+asked_came : (b : Bool) (o : Option Msg) (part : Part) → given (counted (if b then record part { trail = asks o part.trail } else part).trail) ≡ given (counted part.trail)
+asked_came true None part = refl
+asked_came true (Some m) part = refl
+asked_came false o part = refl
 
 asked_alike : (b : Bool) (o : Option Msg) (t u : Part) → Alike t u
     → Alike (if b then record t { trail = asks o t.trail } else t) (if b then record u { trail = asks o u.trail } else u)
 asked_alike b o t u (inl same) = inl (ap (λ (x : Part). if b then record x { trail = asks o x.trail } else x) same)
-asked_alike b o t u (inr off) = inr (asked_connected b o t ∙ off.0, asked_connected b o u ∙ off.1, asked_failed b o t ∙ off.2, asked_failed b o u ∙ off.3, asked_brought b o t ∙ off.4 ∙ sym (asked_brought b o u), asked_gave b o t ∙ off.5 ∙ sym (asked_gave b o u))
+asked_alike b o t u (inr off) = inr (asked_connected b o t ∙ off.0, asked_connected b o u ∙ off.1, asked_failed b o t ∙ off.2, asked_failed b o u ∙ off.3, asked_brought b o t ∙ off.4 ∙ sym (asked_brought b o u), asked_came b o t ∙ off.5 ∙ sym (asked_came b o u))
 
 pub lost_off : (b : Bool) (w : Why) (part : Part) → connected part.trail ≡ false → connected (if b then with_item (Lost w) part else part).trail ≡ false
 lost_off true w part off = refl
@@ -110,9 +110,9 @@ lost_brought : (b : Bool) (w : Why) (part : Part) → fetched (counted (if b the
 lost_brought true w part = refl
 lost_brought false w part = refl
 
-lost_gave : (b : Bool) (w : Why) (part : Part) → given (counted (if b then with_item (Lost w) part else part).trail) ≡ given (counted part.trail)
-lost_gave true w part = refl
-lost_gave false w part = refl
+lost_came : (b : Bool) (w : Why) (part : Part) → given (counted (if b then with_item (Lost w) part else part).trail) ≡ given (counted part.trail)
+lost_came true w part = refl
+lost_came false w part = refl
 
 -- a peer that is lost once more
 any_failing : (b : Bool) → (b || true) ≡ true
@@ -125,7 +125,7 @@ failed_still false w part off = off
 
 lost_alike : (b : Bool) (w : Why) (t u : Part) → Alike t u → Alike (if b then with_item (Lost w) t else t) (if b then with_item (Lost w) u else u)
 lost_alike b w t u (inl same) = inl (ap (λ (x : Part). if b then with_item (Lost w) x else x) same)
-lost_alike b w t u (inr off) = inr (lost_off b w t off.0, lost_off b w u off.1, failed_still b w t off.2, failed_still b w u off.3, lost_brought b w t ∙ off.4 ∙ sym (lost_brought b w u), lost_gave b w t ∙ off.5 ∙ sym (lost_gave b w u))
+lost_alike b w t u (inr off) = inr (lost_off b w t off.0, lost_off b w u off.1, failed_still b w t off.2, failed_still b w u off.3, lost_brought b w t ∙ off.4 ∙ sym (lost_brought b w u), lost_came b w t ∙ off.5 ∙ sym (lost_came b w u))
 
 -- an entry that brings nothing
 pub sent_brought : (p : PeerNo) (bytes : List ℕ) (log : Log) (q : ℕ) → fetched (counted_part (Sent p bytes ∷ log) q) ≡ fetched (counted_part log q)
@@ -137,15 +137,15 @@ closed_brought p log q = lost_brought (p.0 == q) Shutting (part_of log q)
 pub failing_brought : (p : PeerNo) (log : Log) (q : ℕ) → fetched (counted_part (SendFailed p ∷ log) q) ≡ fetched (counted_part log q)
 failing_brought p log q = lost_brought (p.0 == q) Failing (part_of log q)
 
--- and gives nothing
-pub sent_gave : (p : PeerNo) (bytes : List ℕ) (log : Log) (q : ℕ) → given (counted_part (Sent p bytes ∷ log) q) ≡ given (counted_part log q)
-sent_gave p bytes log q = asked_gave (p.0 == q) (spelled bytes) (part_of log q)
+-- nor a filter
+pub sent_came : (p : PeerNo) (bytes : List ℕ) (log : Log) (q : ℕ) → given (counted_part (Sent p bytes ∷ log) q) ≡ given (counted_part log q)
+sent_came p bytes log q = asked_came (p.0 == q) (spelled bytes) (part_of log q)
 
-pub closed_gave : (p : PeerNo) (log : Log) (q : ℕ) → given (counted_part (Closed p ∷ log) q) ≡ given (counted_part log q)
-closed_gave p log q = lost_gave (p.0 == q) Shutting (part_of log q)
+pub closed_came : (p : PeerNo) (log : Log) (q : ℕ) → given (counted_part (Closed p ∷ log) q) ≡ given (counted_part log q)
+closed_came p log q = lost_came (p.0 == q) Shutting (part_of log q)
 
-pub failing_gave : (p : PeerNo) (log : Log) (q : ℕ) → given (counted_part (SendFailed p ∷ log) q) ≡ given (counted_part log q)
-failing_gave p log q = lost_gave (p.0 == q) Failing (part_of log q)
+pub failing_came : (p : PeerNo) (log : Log) (q : ℕ) → given (counted_part (SendFailed p ∷ log) q) ≡ given (counted_part log q)
+failing_came p log q = lost_came (p.0 == q) Failing (part_of log q)
 
 pub sent_connected : (p : PeerNo) (bytes : List ℕ) (q : ℕ) (part : Part) → connected (went_on (Sent p bytes) q part).trail ≡ connected part.trail
 sent_connected p bytes q part = asked_connected (p.0 == q) (spelled bytes) part
@@ -248,9 +248,10 @@ skipped : {watch : List (List ℕ)} (a : Act) (acts : List Act) (progress : Prog
     → ((q : ℕ) → q ≢ p → list_any (closes q) (a ∷ acts) ≡ list_any (closes q) acts)
     → (noted e (tally_of planned)).dials ≡ (tally_of planned).dials
     → ((q : ℕ) → fetched (counted_part (e ∷ planned) q) ≡ fetched (counted_part planned q)) → ((q : ℕ) → given (counted_part (e ∷ planned) q) ≡ given (counted_part planned q))
-    → ((job : Job) → IsTested (e ∷ planned) job → IsTested planned job) → ((q : ℕ) (block : Hash) → q ≢ p → IsSameTest (e ∷ planned) planned q block)
+    → ((job : Job) → IsTested (e ∷ planned) job → IsTested planned job) → IsSameGiven (e ∷ planned) planned
+    → ((q : ℕ) (block : Hash) → q ≢ p → IsSameTest (e ∷ planned) planned q block)
     → Doing watch (a ∷ acts) progress called planned t → Doing watch acts progress called (e ∷ planned) t
-skipped a acts progress called planned t p e i is others here meant unclosed dials brought gave tests aims doing =
+skipped a acts progress called planned t p e i is others here meant unclosed dials brought came tests gave aims doing =
     let it : (q : ℕ) → q ≡ p → is_pending (state_at progress.sends q) ≡ true = λ q same. ap (λ (k : ℕ). is_pending (state_at progress.sends k)) same ∙ is in
     record {
       actual = doing.actual;
@@ -267,6 +268,7 @@ skipped a acts progress called planned t p e i is others here meant unclosed dia
         dials = dials ∙ doing.plan.dials;
         tested = λ job h. doing.plan.tested job (tests job h);
         tests = λ job h. tested_stays e planned job (doing.plan.tests job h);
+        gave = λ job. (λ h. (doing.plan.gave job).0 ((gave job).0 h), λ h. (gave job).1 ((doing.plan.gave job).1 h));
         aims = λ q fine on block.
             let ne : q ≢ p = λ same. both_ways (is_untold doing.actual q) fine (doing.pending q (it q same)) in
             let one = aims q block ne in
@@ -274,7 +276,7 @@ skipped a acts progress called planned t p e i is others here meant unclosed dia
             (λ t. two.0 (one.0 t), λ t. one.1 (two.1 t));
       };
       brought = λ q. brought q ∙ doing.brought q;
-      gave = λ q. gave q ∙ doing.gave q;
+      came = λ q. came q ∙ doing.came q;
       pending = doing.pending;
       due = λ q untold. elim (cases_eq q p) [
         | inl same ↦ ap (λ (b : Bool). b || list_any (closes q) acts) (it q same)
@@ -294,7 +296,8 @@ skipped_send acts progress called planned t p m is may doing =
     skipped (Send p m) acts progress called planned t p.0 (Sent p (bytes_of m)) (Asked m) is
     (λ q ne. sent_others p (bytes_of m) q (part_of planned q) ne)
     (λ q e. sent_here p (bytes_of m) m q (part_of planned q) e (spelled_bytes m may.1))
-    (λ more meant. meant) (λ q ne. refl) refl (λ q. sent_brought p (bytes_of m) planned q) (λ q. sent_gave p (bytes_of m) planned q) (λ job h. h) (λ q block ne. test_off planned p (bytes_of m) q block ne) doing
+    (λ more meant. meant) (λ q ne. refl) refl (λ q. sent_brought p (bytes_of m) planned q) (λ q. sent_came p (bytes_of m) planned q) (λ job h. h)
+    (λ job. (λ h. h, λ h. h)) (λ q block ne. test_off planned p (bytes_of m) q block ne) doing
 
 pub skipped_close : {watch : List (List ℕ)} (acts : List Act) (progress : Progress) (called : List (List ℕ)) (planned : Log) (t : Told) (p : PeerNo) (cause : Cause)
     → is_pending (state_at progress.sends p.0) ≡ true
@@ -303,7 +306,8 @@ skipped_close acts progress called planned t p cause is doing =
     skipped (Close p cause) acts progress called planned t p.0 (Closed p) (Lost Shutting) is
     (λ q ne. closed_others p q (part_of planned q) ne)
     (λ q e. closed_here p q (part_of planned q) e)
-    (λ more meant. meant) (λ q ne. closes_others p cause acts q ne) refl (λ q. closed_brought p planned q) (λ q. closed_gave p planned q) (λ job h. h) (λ q block ne. (λ t. t, λ t. t)) doing
+    (λ more meant. meant) (λ q ne. closes_others p cause acts q ne) refl (λ q. closed_brought p planned q) (λ q. closed_came p planned q) (λ job h. h)
+    (λ job. (λ h. h, λ h. h)) (λ q block ne. (λ t. t, λ t. t)) doing
 
 reverse_push : (xs : List TraceLine) (x : TraceLine) → reverse (xs ++ x ∷ []) ≡ x ∷ reverse xs
 reverse_push xs x = reverse-append xs (x ∷ [])
@@ -355,10 +359,11 @@ sent_on acts progress trace called planned t p m command free line is may doing 
         dials = doing.plan.dials;
         tested = doing.plan.tested;
         tests = doing.plan.tests;
+        gave = doing.plan.gave;
         aims = λ q fine on block. test_alike planned doing.actual p bytes q block doing.brought (doing.plan.aims q fine (on_sent p bytes doing.actual q on) block);
       };
       brought = λ q. sent_brought p bytes planned q ∙ doing.brought q ∙ sym (sent_brought p bytes doing.actual q);
-      gave = λ q. sent_gave p bytes planned q ∙ doing.gave q ∙ sym (sent_gave p bytes doing.actual q);
+      came = λ q. sent_came p bytes planned q ∙ doing.came q ∙ sym (sent_came p bytes doing.actual q);
       pending = doing.pending;
       due = doing.due;
       broken = λ q untold. let b = doing.broken q untold in (
@@ -466,7 +471,7 @@ closed_on acts progress trace called planned t p cause free line may doing =
                 failed_still (p.0 == q) Shutting (part_of planned q) k.1,
                 failed_still (p.0 == q) Shutting (part_of doing.actual q) (doing.broken q untold).1,
                 closed_brought p planned q ∙ doing.brought q ∙ sym (closed_brought p doing.actual q),
-                closed_gave p planned q ∙ doing.gave q ∙ sym (closed_gave p doing.actual q),
+                closed_came p planned q ∙ doing.came q ∙ sym (closed_came p doing.actual q),
               )
           | inr fine ↦ lost_alike (p.0 == q) Shutting (part_of planned q) (part_of doing.actual q) (doing.plan.told q fine)
         ];
@@ -475,6 +480,7 @@ closed_on acts progress trace called planned t p cause free line may doing =
         dials = doing.plan.dials;
         tested = doing.plan.tested;
         tests = doing.plan.tests;
+        gave = doing.plan.gave;
         aims = λ q fine on block. elim (cases_Bool (is_untold doing.actual q)) [
           | inl untold ↦
               let e : q ≡ p.0 = elim (cases_eq q p.0) [ inl e ↦ e | inr ne ↦ absurd (both_ways (is_untold doing.actual q) (sym (untold_closed_others p doing.actual q ne) ∙ fine) untold) ] in
@@ -483,7 +489,7 @@ closed_on acts progress trace called planned t p cause free line may doing =
         ];
       };
       brought = λ q. closed_brought p planned q ∙ doing.brought q ∙ sym (closed_brought p doing.actual q);
-      gave = λ q. closed_gave p planned q ∙ doing.gave q ∙ sym (closed_gave p doing.actual q);
+      came = λ q. closed_came p planned q ∙ doing.came q ∙ sym (closed_came p doing.actual q);
       pending = λ q it. let ne : q ≢ p.0 = λ e. both_ways (is_pending (state_at progress.sends q)) (ap (λ (n : ℕ). is_pending (state_at progress.sends n)) e ∙ free) it in
           untold_closed_others p doing.actual q ne ∙ doing.pending q it;
       due = λ q untold. let b = before q untold in
@@ -513,7 +519,7 @@ closed_again acts progress called planned t p cause free shut may doing =
             failed_still (p.0 == q) Shutting (part_of planned q) (ap (λ (k : ℕ). failed (trail planned k)) e ∙ both.1),
             ap (λ (k : ℕ). failed (trail doing.actual k)) e ∙ both.2,
             closed_brought p planned q ∙ doing.brought q,
-            closed_gave p planned q ∙ doing.gave q,
+            closed_came p planned q ∙ doing.came q,
           )
           | inr ne ↦ subst (λ (x : Part). Alike x (part_of doing.actual q)) (sym (closed_others p q (part_of planned q) ne)) (doing.plan.told q told)
         ];
@@ -521,10 +527,11 @@ closed_again acts progress called planned t p cause free shut may doing =
         dials = doing.plan.dials;
         tested = doing.plan.tested;
         tests = doing.plan.tests;
+        gave = doing.plan.gave;
         aims = doing.plan.aims;
       };
       brought = λ q. closed_brought p planned q ∙ doing.brought q;
-      gave = λ q. closed_gave p planned q ∙ doing.gave q;
+      came = λ q. closed_came p planned q ∙ doing.came q;
       pending = doing.pending;
       due = λ q untold. ap (λ (x : Bool). is_pending (state_at progress.sends q) || x) (sym (closes_others p cause acts q (other q untold))) ∙ doing.due q untold;
       broken = doing.broken;
@@ -610,6 +617,7 @@ failed_on acts progress called planned t p m lt free may doing =
         dials = doing.plan.dials;
         tested = doing.plan.tested;
         tests = doing.plan.tests;
+        gave = doing.plan.gave;
         aims = λ q fine on block.
             let ne : q ≢ p.0 = λ e. both_ways (is_untold (SendFailed p ∷ doing.actual) q) fine (untold_failing_here p doing.actual q e) in
             let one = test_off planned p bytes q block ne in
@@ -617,7 +625,7 @@ failed_on acts progress called planned t p m lt free may doing =
             (λ t. two.0 (one.0 t), λ t. one.1 (two.1 t));
       };
       brought = λ q. sent_brought p bytes planned q ∙ doing.brought q ∙ sym (failing_brought p doing.actual q);
-      gave = λ q. sent_gave p bytes planned q ∙ doing.gave q ∙ sym (failing_gave p doing.actual q);
+      came = λ q. sent_came p bytes planned q ∙ doing.came q ∙ sym (failing_came p doing.actual q);
       pending = λ q it. elim (cases_eq q p.0) [
         | inl e ↦ untold_failing_here p doing.actual q e
         | inr ne ↦ untold_failing_others p doing.actual q ne ∙ doing.pending q (sym (ap is_pending (there q ne)) ∙ it)
@@ -682,7 +690,8 @@ cut_for p log = record {
   off = ap (λ (x : Part). connected x.trail) (failing_here p p.0 (part_of log p.0) refl);
   broken = ap (λ (x : Part). failed x.trail) (failing_here p p.0 (part_of log p.0) refl);
   brought = failing_brought p log p.0;
-  gave = failing_gave p log p.0;
+  came = failing_came p log p.0;
+  gave = λ job. (λ h. h, λ h. h);
   tests = λ trials h. trials_stay (SendFailed p) log trials tt tt h;
   dials = refl;
 }
@@ -729,10 +738,11 @@ told_one rest progress called planned t p cause lt is doing =
         dials = doing.plan.dials;
         tested = doing.plan.tested;
         tests = doing.plan.tests;
+        gave = doing.plan.gave;
         aims = doing.plan.aims;
       };
       brought = λ q. failing_brought p planned q ∙ doing.brought q;
-      gave = λ q. failing_gave p planned q ∙ doing.gave q;
+      came = λ q. failing_came p planned q ∙ doing.came q;
       pending = λ q it.
           let ne : q ≢ p.0 = λ e. both_ways (is_pending (state_at (set progress.sends p.0 Known) q)) (now q e) it in
           doing.pending q (sym (ap is_pending (there q ne)) ∙ it);
@@ -789,7 +799,7 @@ all_told c progress called planned t none reflects doing =
           kept = λ q. reflects.tracks.kept q ∙ chain_alike (part_of planned q) (part_of doing.actual q) (doing.plan.told q (told q));
           claimed = λ q block. reflects.tracks.claimed q block ∙ ap (λ (c : Table). c block) (claims_alike (part_of planned q) (part_of doing.actual q) (doing.plan.told q (told q)));
           fetched = same_holds _ planned doing.actual _ doing.brought reflects.tracks.fetched;
-          given = same_given _ planned doing.actual _ _ (λ q. sym (doing.gave q)) (λ block hash. refl) reflects.tracks.given;
+          given = same_given _ planned doing.actual _ _ doing.plan.gave (λ block hash. refl) reflects.tracks.given;
           opened = λ q. opens_alike (opens_of c.tracker) q (part_of planned q) (part_of doing.actual q) (doing.plan.told q (told q)) (reflects.tracks.opened q);
           trials = trials_alike planned doing.actual (trials_of c.tracker) (λ q. doing.plan.told q (told q)) doing.brought doing.plan.tested doing.plan.tests
               (λ q on. doing.plan.aims q (told q) on) reflects.tracks.trials;
