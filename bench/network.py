@@ -8,6 +8,7 @@ Peers are played here, over loopback; one that is honest serves the chain of dat
     unread     a peer pings without end and reads nothing, beside an honest one, whose answer comes once that one is closed
     idle       a server with few descriptors has more idle connections than these, which it tells once, and a `sync` comes before they go
     silent     a peer answers up to a request, and then is silent: what it was asked for is told
+    liar       a peer whose filter of a block leaves out a script stands before an honest one, or behind it: the block is told
 
 What is waited for is looked at, LOOKS times at most with a tenth of a second between; no time is taken. The status is 1 where a case ends otherwise than it
 says, and a `sync` tells another text than that of a scan.
@@ -37,6 +38,9 @@ OWED = 400
 DESCRIPTORS, IDLE = 64, 100
 WATCHED = script(8)
 CHAIN = Chain((7, 3))
+# The same chain with a false filter, which leaves out a script that the block at this height pays.
+FALSE = 2
+LIE = CHAIN.without(FALSE, script(14))
 TEXT = CHAIN.history([WATCHED]).encode()
 REQUESTS = {
     "verack": "the handshake",
@@ -108,11 +112,11 @@ class Dead:
 
 
 class Peer(threading.Thread):
-    """A peer that serves the chain to one connection. Before it answers a request it calls `before` with its command, and answers where that is so."""
+    """A peer that serves a chain to one connection. Before it answers a request it calls `before` with its command, and answers where that is so."""
 
-    def __init__(self, before=lambda command: True):
+    def __init__(self, before=lambda command: True, chain=CHAIN):
         super().__init__(daemon=True)
-        self.place, self.before = listener(), before
+        self.place, self.before, self.chain = listener(), before, chain
         self.name = name_of(self.place)
         self.start()
 
@@ -139,22 +143,22 @@ class Peer(threading.Thread):
                 if answer and self.before(command):
                     connection.sendall(answer)
 
-    @staticmethod
-    def answer(command, payload):
-        heights = {name: height for height, name in enumerate(CHAIN.hashes)}
+    def answer(self, command, payload):
+        chain = self.chain
+        heights = {name: height for height, name in enumerate(chain.hashes)}
         if command == "version":
-            return version(65, 0, 0, b"/network/", CHAIN.tip, b"\0")
+            return version(65, 0, 0, b"/network/", chain.tip, b"\0")
         if command == "verack":
             return frame("verack")
         if command == "getheaders":
-            return CHAIN.headers(heights[payload[5:37]] + 1, CHAIN.tip)
+            return chain.headers(heights[payload[5:37]] + 1, chain.tip)
         if command in ("getcfheaders", "getcfilters"):
             first, last = struct.unpack("<I", payload[1:5])[0], heights[payload[5:]]
             if command == "getcfheaders":
-                return CHAIN.cfheaders(first, last)
-            return b"".join(CHAIN.cfilter(height) for height in range(first, last + 1))
+                return chain.cfheaders(first, last)
+            return b"".join(chain.cfilter(height) for height in range(first, last + 1))
         if command == "getdata":
-            return CHAIN.block(heights[payload[5:]])
+            return chain.block(heights[payload[5:]])
         return b""
 
 
@@ -290,6 +294,15 @@ class Cases:
         finally:
             run.end()
 
+    def liar(self, is_first):
+        peers = [Peer(chain=LIE), Peer()] if is_first else [Peer(), Peer(chain=LIE)]
+        run = self.sync(*peers)
+        try:
+            ends = [f"closed: Omits, block {CHAIN.hashes[FALSE][::-1].hex()} at height {FALSE}", "connected to the end"][::1 if is_first else -1]
+            return run.faults(0, TEXT, *(f"cf: peer {p}: {end}" for p, end in enumerate(ends, 1)))
+        finally:
+            run.end()
+
     def all(self):
         yield "dead, before an honest peer", self.dead, (True,)
         yield "dead, behind an honest peer", self.dead, (False,)
@@ -300,6 +313,8 @@ class Cases:
         for command, what in REQUESTS.items():
             yield f"silent, asked for {what}", self.silent, (command, True)
         yield "silent, asked for headers, beside an honest peer", self.silent, ("getheaders", False)
+        yield "liar, before an honest peer", self.liar, (True,)
+        yield "liar, behind an honest peer", self.liar, (False,)
 
 
 def main():

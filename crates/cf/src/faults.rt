@@ -1,13 +1,17 @@
 //! What went wrong, told on standard error.
 use cf_answers::Status;
-use cf_bytes::PeerNo;
+use cf_bytes::{PeerNo, show};
 use cf_input::{Command, mistake_text, read_words};
-use cf_network::Network;
+use cf_network::{FilterSpan, Network};
+use cf_peer::Cause;
 use cf_place::PeerEnd;
 use std::fs;
 use std::io::{self, Read};
 use std::sync::Wait;
 use std::thread::Threads;
+
+// The most peers of a run.
+const MOST_PEERS: u32 = 8;
 
 // Why a file can't be read, as the system says now, or nothing where it can.
 fn reason(rt: &HostRuntime, name: &str) -> Option<io::Error> {
@@ -90,7 +94,36 @@ fn tell_mistake(rt: &HostRuntime, words: &[String]) -> io::Result<()> {
     }
 }
 
-// Tells how each peer was lost, and what it was asked for where it was late with that.
+// Tells which block's filter omits something.
+fn tell_omits(rt: &HostRuntime, p: u32, end: &PeerEnd, span: &FilterSpan) -> io::Result<()> {
+    match show(rt.alloc(), &span.stop) {
+        Ok(hash) => {
+            eprintln!(rt;
+                "cf: peer {p}: {end}, block {hash} at height {}",
+                span.start
+            )
+        }
+        Err(_) => eprintln!(rt; "cf: peer {p}: {end}, at height {}", span.start),
+    }
+}
+
+// Tells how a peer stands, what it was asked for where it was late with that, and the block where it was closed for what its filter omits.
+fn tell_end<R: Wait + Threads + Copy + Drop>(
+    rt: &HostRuntime,
+    p: u32,
+    end: &PeerEnd,
+    network: &Network<R>,
+) -> io::Result<()> {
+    if let Some(asked) = network.waited_for(PeerNo(p)) {
+        return eprintln!(rt; "cf: peer {p}: {end}, waiting for {asked}");
+    }
+    match (end, network.closed_at(PeerNo(p))) {
+        (PeerEnd::Closed(Cause::Omits), Some(span)) => tell_omits(rt, p, end, &span),
+        _ => eprintln!(rt; "cf: peer {p}: {end}"),
+    }
+}
+
+// Tells how each peer stands.
 fn tell_ends<R: Wait + Threads + Copy + Drop>(
     rt: &HostRuntime,
     ends: &[PeerEnd],
@@ -99,27 +132,30 @@ fn tell_ends<R: Wait + Threads + Copy + Drop>(
     let mut p = 0u32;
     for end in ends {
         p = p.saturating_add(1);
-        match network.waited_for(PeerNo(p)) {
-            Some(asked) => eprintln!(rt; "cf: peer {p}: {end}, waiting for {asked}")?,
-            None => eprintln!(rt; "cf: peer {p}: {end}")?,
-        }
+        tell_end(rt, p, end, network)?;
     }
     Ok(())
 }
 
-/// Tells how each peer stands at the end of a run.
+/// Tells how each peer stands at the end of a run: of one that was closed the cause, as far as `ends` tell it.
 pub fn tell_stands<R: Wait + Threads + Copy + Drop>(
     rt: &HostRuntime,
     status: &Status,
+    ends: &[PeerEnd],
     network: &Network<R>,
 ) -> io::Result<()> {
-    match status {
-        Status::NoPeers { ends } => {
-            eprintln!(rt; "cf: {status}")?;
-            tell_ends(rt, ends, network)
-        }
-        _ => network.tell_stands(),
+    if let Status::NoPeers { ends } = status {
+        eprintln!(rt; "cf: {status}")?;
+        return tell_ends(rt, ends, network);
     }
+    let mut ends = ends.iter();
+    for p in 1..=MOST_PEERS {
+        match ends.next() {
+            Some(end) if network.is_closed(PeerNo(p)) => tell_end(rt, p, end, network)?,
+            _ => network.tell_stand(PeerNo(p))?,
+        }
+    }
+    Ok(())
 }
 
 // The command's name among the words.

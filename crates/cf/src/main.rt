@@ -48,6 +48,7 @@ fn run_command<R: Wait + Threads + Sync + Copy + Drop + Send + 'static, K: Spawn
         return told(rt, words, Status::NoMemory, &None);
     };
     let mut files = StdFiles::new(rt);
+    let mut ends = Vec::new(alloc);
     let status = run(
         handle,
         alloc,
@@ -62,8 +63,9 @@ fn run_command<R: Wait + Threads + Sync + Copy + Drop + Send + 'static, K: Spawn
         &mut Listener::new(*rt),
         spawner,
         &mut WriterSink::new(io::writer(rt)),
+        &mut ends,
     );
-    let _told = faults::tell_stands(rt, &status, &edge.network);
+    let _told = faults::tell_stands(rt, &status, &ends, &edge.network);
     told(rt, words, status, &files.reason())
 }
 

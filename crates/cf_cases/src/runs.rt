@@ -130,6 +130,7 @@ fn answered<R: Wait + Threads + Sync + Copy + Drop + Send + 'static>(
         &mut link,
         &mut spawner,
         &mut out,
+        &mut Vec::new(alloc),
     );
     let record = record_of(alloc, &mut files)?;
     let blocks = blocks_of(alloc, &mut files)?;

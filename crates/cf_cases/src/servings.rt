@@ -137,6 +137,7 @@ fn served<R: Wait + Threads + Sync + Copy + Drop + Send + 'static>(
         &mut link,
         &mut spawner,
         &mut out,
+        &mut Vec::new(alloc),
     );
     shown(alloc, told(alloc, &status)?, link.given())
 }

@@ -9,3 +9,4 @@ pub mod Retold
 pub mod Serves
 pub mod Demos
 pub mod Doing
+pub mod Ends

@@ -30,7 +30,7 @@ use Rattle.cf_loading.specs.Verdicts.{IsOfFile, watch_verdict, session_verdict}
 use Rattle.cf_cli.specs.Theorem.{AnswersTo, AreLeft, IsWhole, IsWithin, Kept, KeptOver, IsOfRun, IsReplayed, Plays, PlaysSession, Tallied, has_somebody}
 
 -- no run is made where a file is answered for
-no_run : (status : Status) → IsOfFile status → has_run status ≡ false
+pub no_run : (status : Status) → IsOfFile status → has_run status ≡ false
 no_run NoMemory is = refl
 no_run FileFault is = refl
 no_run (BadFile which place cause) is = refl

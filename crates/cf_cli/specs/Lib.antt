@@ -9,3 +9,4 @@ pub mod Proving
 pub mod Serving
 pub mod Demo
 pub mod Doing
+pub mod Ends

@@ -6,6 +6,7 @@ ghost use Rattle.cf_run.specs.Names.{names_in};
 ghost use Rattle.cf_run.specs.Run.{Course, HasDialled, HasFailed};
 ghost use Rattle.cf_run.specs.Versions.{HasWords};
 ghost use Rattle.cf_wires.specs.Log.{Tells};
+ghost use Rattle.cf_cli.specs.Ends.{AreEndsAfter};
 ghost use Rattle.cf_cli.specs.Recording.{Records};
 ghost use Rattle.cf_cli.specs.Statuses.{has_run, was_refused, was_unbegun};
 ghost use Rattle.cf_cli.specs.Theorem.{Kept, Tallied, AnswersTo, IsOfRun};
@@ -39,7 +40,7 @@ fn status_of(end: End, ends: Vec<PeerEnd>) -> Status
 
 /// Follows the chains that the peers of these names show, and writes the trace where it is asked for, and the history of the watched scripts and
 /// the tip once nothing is open. The wires are new, and not finished. Where a file is named for the log, its session lines are written to it before
-/// any text.
+/// any text. How each peer stands at the end of the run is put into `ends`, in the order of their numbers.
 #[tactic(auto, using(crate::proofs::Asking::unwritten))]
 pub(crate) fn follow<F: Files, W: Wires, M: Matcher + Drop, O: Sink>(
     alloc: Global,
@@ -54,6 +55,7 @@ pub(crate) fn follow<F: Files, W: Wires, M: Matcher + Drop, O: Sink>(
     turns: u32,
     trace: bool,
     out: &mut O,
+    ends: &mut Vec<PeerEnd>,
 ) -> Status
     requires fresh { Tells [] (W.told wires.old) }
     requires open { (W.told wires.old).finished ≡ false }
@@ -70,6 +72,7 @@ pub(crate) fn follow<F: Files, W: Wires, M: Matcher + Drop, O: Sink>(
     ensures unwritten { has_run result ≡ false → O.written out.new ≡ O.written out.old }
     ensures begun { was_unbegun result (is_some log_file.now) ≡ false }
     ensures written { IsAtMostWritten F.writes log_file.now files.old files.new }
+    ensures ends { AreEndsAfter result (is_some log_file.now) (W.told wires.new).log ends.old.items ends.new.items }
 {
     let Ok(store) = Tree::new(alloc) else {
         return Status::NoMemory;
@@ -80,6 +83,10 @@ pub(crate) fn follow<F: Files, W: Wires, M: Matcher + Drop, O: Sink>(
     ) else {
         return Status::NoMemory;
     };
+    let Ok(stands) = outcome.ends.as_slice().to_vec(alloc) else {
+        return Status::NoMemory;
+    };
+    *ends = stands;
     let Ok(text) = text_of(alloc, &outcome, trace) else {
         return Status::NoMemory;
     };

@@ -16,6 +16,7 @@ ghost use Rattle.cf_loading.specs.Verdicts.{watch_verdict, session_verdict};
 ghost use Rattle.cf_serve.specs.Links.{link_now};
 ghost use Rattle.cf_cli.specs.Serving.{may_serve};
 ghost use Rattle.cf_cli.specs.Doing.{Does, around};
+ghost use Rattle.cf_cli.specs.Ends.{AreEnds, AreEndsAfter};
 ghost use Rattle.cf_cli.specs.Demo.{may_show};
 ghost use Rattle.cf_cli.specs.Theorem.{KeptOver, IsReplayed, Tallied, PlaysSession};
 ghost use Rattle.cf_input.specs.Words.{command_of, HasFewPeers};
@@ -36,6 +37,7 @@ use cf_input::{Command, MOST_TURNS, Word, read_words};
 use cf_loading::{load_session, load_watch};
 use cf_match::Plain;
 use cf_parallel::Parallel;
+use cf_place::PeerEnd;
 use cf_played::Played;
 use cf_serve::Link;
 use cf_tasks::Spawner;
@@ -55,6 +57,7 @@ fn replay<F: Files, O: Sink>(
     nonce: u64,
     tape: &mut MemoryWires,
     out: &mut O,
+    ends: &mut Vec<PeerEnd>,
 ) -> Status
     requires log { log_of tape.old ≡ [] }
     requires failing { failing_of tape.old ≡ [] }
@@ -70,6 +73,7 @@ fn replay<F: Files, O: Sink>(
     ensures unwritten { has_run result ≡ false → O.written out.new ≡ O.written out.old }
     ensures unplayed { was_refused result ≡ true → told_of tape.new ≡ told_of tape.old }
     ensures asked { result ≢ Status.Usage }
+    ensures ends { AreEndsAfter result false (Some (log_of tape.new)) ends.old.items ends.new.items }
 {
     let scripts = match load_watch(alloc, files, watch) {
         Ok(scripts) => scripts,
@@ -93,6 +97,7 @@ fn replay<F: Files, O: Sink>(
         MOST_TURNS,
         trace,
         out,
+        ends,
     )
 }
 
@@ -112,6 +117,7 @@ fn sync<R: Wait + Threads + Copy + Drop + Send + 'static, F: Files, W: Wires, K:
     wires: &mut W,
     spawner: &mut K,
     out: &mut O,
+    ends: &mut Vec<PeerEnd>,
 ) -> Status
     requires fresh { Tells [] (W.told wires.old) }
     requires open { (W.told wires.old).finished ≡ false }
@@ -131,6 +137,7 @@ fn sync<R: Wait + Threads + Copy + Drop + Send + 'static, F: Files, W: Wires, K:
     ensures unwritten { has_run result ≡ false → O.written out.new ≡ O.written out.old }
     ensures undialled { was_unbegun result (is_some log_file.now) ≡ true → W.told wires.new ≡ W.told wires.old }
     ensures asked { result ≢ Status.Usage }
+    ensures ends { AreEndsAfter result (is_some log_file.now) (W.told wires.new).log ends.old.items ends.new.items }
 {
     let scripts = match load_watch(alloc, files, watch) {
         Ok(scripts) => scripts,
@@ -141,6 +148,7 @@ fn sync<R: Wait + Threads + Copy + Drop + Send + 'static, F: Files, W: Wires, K:
     };
     follow(
         alloc, files, wires, log_file, peers, scripts, matcher, moment, nonce, turns, false, out,
+        ends,
     )
 }
 
@@ -174,6 +182,7 @@ fn perform<
     link: &mut L,
     spawner: &mut K,
     out: &mut O,
+    ends: &mut Vec<PeerEnd>,
 ) -> Status
 where
     L::Conn: Send + 'static,
@@ -207,6 +216,7 @@ where
     ensures unshown { may_show (Some command) ≡ false → played.new ≡ played.old }
     ensures link_fault { result ≡ Status.LinkFault → HasRisen (L.faults link.old) (L.faults link.new) }
     ensures asked { result ≢ Status.Usage }
+    ensures ends { AreEnds (Some command) result (W.told wires.new).log (log_of tape.new) ends.old.items ends.new.items }
 {
     match command {
         Command::Replay {
@@ -223,6 +233,7 @@ where
             nonce,
             tape,
             out,
+            ends,
         ),
         Command::Sync {
             turns,
@@ -244,6 +255,7 @@ where
             wires,
             spawner,
             out,
+            ends,
         ),
         Command::Scan { file, watch } => scan(alloc, files, file.as_str(), watch.as_str(), out),
         Command::Filter { file, height } => filter(&rt, alloc, files, file.as_str(), height, out),
@@ -291,6 +303,9 @@ where
 /// for a `FileFault` that comes where the record can't be written; `sync` alone uses `wires`, `replay` alone `tape`, `demo` alone `played`, `serve` alone
 /// `link`. `make` puts its records into its file; of the other commands only `sync` with a record changes a file. Of the files at most those that the
 /// command names are read, the watch file first and each once, a file of blocks by parts, and after that at most the one that it writes is written, once.
+///
+/// How each peer stands once `sync` or `replay` has made its run is put into `ends`, in the order of their numbers. Where no run was begun, and with each
+/// other command, `ends` stays as it is handed in.
 pub fn run<
     R: Wait + Threads + Sync + Copy + Drop + Send + 'static,
     J: Joins + Copy + Drop + Send + 'static,
@@ -313,6 +328,7 @@ pub fn run<
     link: &mut L,
     spawner: &mut K,
     out: &mut O,
+    ends: &mut Vec<PeerEnd>,
 ) -> Status
 where
     L::Conn: Send + 'static,
@@ -346,11 +362,12 @@ where
     ensures unserved { may_serve (command_of (names_in words.now)) result ≡ false → link.new ≡ link.old }
     ensures unshown { may_show (command_of (names_in words.now)) ≡ false → played.new ≡ played.old }
     ensures link_fault { result ≡ Status.LinkFault → HasRisen (L.faults link.old) (L.faults link.new) }
+    ensures ends { AreEnds (command_of (names_in words.now)) result (W.told wires.new).log (log_of tape.new) ends.old.items ends.new.items }
 {
     match read_words(alloc, words) {
         Ok(command) => perform(
             rt, alloc, joins, command, moment, nonce, files, wires, tape, played, link, spawner,
-            out,
+            out, ends,
         ),
         Err(Refused::No(_)) => Status::Usage,
         Err(Refused::NoMemory) => Status::NoMemory,

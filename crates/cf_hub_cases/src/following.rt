@@ -41,6 +41,7 @@ fn followed<R: Wait + Threads + Sync + Copy + Drop + Send + 'static, K: Spawner>
         &mut link,
         spawner,
         &mut out,
+        &mut Vec::new(alloc),
     );
     shown(alloc, &status, out.bytes())
 }

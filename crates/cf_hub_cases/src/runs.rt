@@ -71,6 +71,7 @@ fn answered<R: Wait + Threads + Sync + Copy + Drop + Send + 'static, W: Wires + 
         &mut link,
         &mut spawner,
         &mut out,
+        &mut Vec::new(alloc),
     );
     shown(alloc, &status, out.bytes())
 }

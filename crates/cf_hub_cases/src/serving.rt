@@ -53,6 +53,7 @@ fn served<R: Wait + Threads + Sync + Copy + Drop + Send + 'static>(
         &mut ToldLink::new(rt, port),
         &mut InThreads::new(handle),
         &mut out,
+        &mut Vec::new(alloc),
     );
     shown(alloc, &status, out.bytes())
 }

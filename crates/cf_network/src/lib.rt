@@ -8,4 +8,4 @@ mod passed;
 mod pulse;
 
 pub use network::Network;
-pub use passed::Asked;
+pub use passed::{Asked, FilterSpan};

@@ -6,7 +6,7 @@ ghost use Rattle.cf_network.specs.Standing.{HasThreads};
 ghost use Rattle.cf_wires.specs.Log.{Tells};
 
 use crate::outside::SystemDialer;
-use crate::passed::{Asked, Passed, Stand};
+use crate::passed::{Asked, FilterSpan, Passed, Stand};
 use crate::pulse::{Asker, Bell, Naps};
 use cf_bytes::{NoMemory, PeerNo};
 use cf_hub::Hub;
@@ -21,7 +21,7 @@ use std::thread::Threads;
 use std::time::Clock;
 
 /// Peers of which each has a reader in a thread of its own, and a ticker, as wires. It tells on standard error what passes: each dial that failed,
-/// and why; where that is a terminal, at most once a second how far it has come; and by `tell_stands` how each peer stands. Contracts see what
+/// and why; where that is a terminal, at most once a second how far it has come; and by `tell_stand` how a peer stands. Contracts see what
 /// the wires tell and how many threads wait, and not how they are made.
 #[derive(Drop)]
 pub struct Network<R: Wait + Threads + Copy + Drop> {
@@ -120,14 +120,26 @@ impl<R: Wait + Threads + Copy + Drop> Network<R> {
         self.passed.waited_for(p)
     }
 
-    /// Tells of each peer how it stands.
-    pub fn tell_stands(&self) -> io::Result<()> {
-        for (p, stand) in self.passed.stands().iter().enumerate() {
-            if let Some(stand) = stand {
-                eprintln!(&self.rt; "cf: peer {p}: {stand}")?;
-            }
+    /// The filters that were asked for last of the peer whose bytes made that a peer was closed: where it is closed for what a filter omits, that
+    /// is the filter of one block. `None` where that peer was asked for something else since.
+    pub fn closed_at(&self, p: PeerNo) -> Option<FilterSpan> {
+        self.passed.closed_at(p)
+    }
+
+    /// Whether a peer was closed.
+    pub fn is_closed(&self, p: PeerNo) -> bool {
+        matches!(
+            self.passed.stand(p),
+            Some(Stand::Unsent | Stand::Late(_) | Stand::Closed(_))
+        )
+    }
+
+    /// Tells how a peer stands, if it was dialled.
+    pub fn tell_stand(&self, p: PeerNo) -> io::Result<()> {
+        match self.passed.stand(p) {
+            Some(stand) => eprintln!(&self.rt; "cf: peer {}: {stand}", p.0),
+            None => Ok(()),
         }
-        Ok(())
     }
 }
 

@@ -1,6 +1,6 @@
 //! What has passed the wires, as far as the user is told of it.
 use crate::counting::Counts;
-use cf_bytes::PeerNo;
+use cf_bytes::{Hash32, PeerNo};
 use cf_wires::Delivery;
 use std::time::Duration;
 use thiserror::Error;
@@ -49,6 +49,30 @@ fn asked_by(frame: &[u8]) -> Option<Asked> {
     None
 }
 
+/// The blocks of which a peer is asked for the filters, by one `getcfilters`: from the first height to the block of the stop hash. Where it is
+/// one block these are that block's.
+#[derive(Clone, Copy, Debug, PartialEq, Eq)]
+pub struct FilterSpan {
+    /// The height of the first one.
+    pub start: u32,
+    /// The hash of the last one.
+    pub stop: Hash32,
+}
+
+// The blocks of whose filters a frame asks, if it asks for filters.
+fn span_of(frame: &[u8]) -> Option<FilterSpan> {
+    if asked_by(frame) != Some(Asked::Filters) {
+        return None;
+    }
+    // The frame's first 24 bytes, and the filters' kind, come before.
+    let start = *frame.get(25..29)?.first_chunk::<4>()?;
+    let stop = *frame.get(29..61)?.first_chunk::<32>()?;
+    Some(FilterSpan {
+        start: u32::from_le_bytes(start),
+        stop: Hash32(stop),
+    })
+}
+
 /// How a peer stands, as it is told at the end.
 #[derive(Clone, Copy, Debug, Error)]
 pub(crate) enum Stand {
@@ -62,8 +86,9 @@ pub(crate) enum Stand {
     Unsent,
     #[error("closed: Overdue, waiting for {0}")]
     Late(Asked),
+    // With the filters for which that peer was asked last whose delivery was taken before.
     #[error("closed for what it sent")]
-    Closed,
+    Closed(Option<FilterSpan>),
 }
 
 /// What has passed the wires, as far as the user is told of it. Nobody has the number 0.
@@ -73,9 +98,13 @@ pub(crate) struct Passed {
     stands: [Option<Stand>; 9],
     // What each peer was asked for last.
     asked: [Asked; 9],
+    // The same of a peer that was asked for filters last.
+    spans: [Option<FilterSpan>; 9],
     counts: [Counts; 9],
     // Whether time was the last that was delivered.
     at_tick: bool,
+    // Whose bytes were the last that was delivered.
+    heard: Option<PeerNo>,
     // When a line was told last, or the first delivery came.
     told: Option<Duration>,
 }
@@ -86,8 +115,10 @@ impl Passed {
         Passed {
             stands: [None; 9],
             asked: [Asked::Handshake; 9],
+            spans: [None; 9],
             counts: [Counts::new(); 9],
             at_tick: false,
+            heard: None,
             told: None,
         }
     }
@@ -112,19 +143,30 @@ impl Passed {
         }
     }
 
+    // The filters that the peer was asked for last whose bytes were the last that was delivered.
+    fn heard_of(&self) -> Option<FilterSpan> {
+        *self.spans.get(self.heard?.0 as usize)?
+    }
+
     /// A peer is closed: where time was the last that was delivered, since it was late.
     pub(crate) fn note_closed(&mut self, p: PeerNo) {
         let stand = match self.asked.get(p.0 as usize) {
             Some(asked) if self.at_tick => Stand::Late(*asked),
-            _ => Stand::Closed,
+            _ => Stand::Closed(self.heard_of()),
         };
         self.note_stand(p, stand);
     }
 
     /// A frame is sent to a peer.
     pub(crate) fn note_sent(&mut self, p: PeerNo, frame: &[u8]) {
-        if let (Some(at), Some(asked)) = (self.asked.get_mut(p.0 as usize), asked_by(frame)) {
+        let Some(asked) = asked_by(frame) else {
+            return;
+        };
+        if let Some(at) = self.asked.get_mut(p.0 as usize) {
             *at = asked;
+        }
+        if let Some(at) = self.spans.get_mut(p.0 as usize) {
+            *at = span_of(frame);
         }
     }
 
@@ -137,6 +179,10 @@ impl Passed {
     /// What was delivered.
     pub(crate) fn note(&mut self, delivery: &Delivery) {
         self.at_tick = matches!(delivery, Delivery::Tick(_));
+        self.heard = match delivery {
+            Delivery::Got(p, _) => Some(*p),
+            _ => None,
+        };
         match delivery {
             Delivery::Got(p, bytes) => self.note_got(*p, bytes.as_slice()),
             Delivery::Gone(p) => self.note_stand(*p, Stand::Gone),
@@ -162,15 +208,23 @@ impl Passed {
 
     /// What a peer was asked for that was closed since it was late with that.
     pub(crate) fn waited_for(&self, p: PeerNo) -> Option<Asked> {
-        match self.stands.get(p.0 as usize) {
-            Some(Some(Stand::Late(asked))) => Some(*asked),
+        match self.stand(p) {
+            Some(Stand::Late(asked)) => Some(asked),
             _ => None,
         }
     }
 
-    /// How each peer stands, by its number; `None` of those that were not dialled yet.
-    pub(crate) fn stands(&self) -> &[Option<Stand>] {
-        &self.stands
+    /// The filters that were asked for last of the peer whose delivery closed this one; `None` where it was asked for something else.
+    pub(crate) fn closed_at(&self, p: PeerNo) -> Option<FilterSpan> {
+        match self.stand(p) {
+            Some(Stand::Closed(span)) => span,
+            _ => None,
+        }
+    }
+
+    /// How a peer stands; `None` of one that was not dialled yet.
+    pub(crate) fn stand(&self, p: PeerNo) -> Option<Stand> {
+        *self.stands.get(p.0 as usize)?
     }
 
     /// How many peers are connected.

@@ -1,14 +1,15 @@
-use Rattle.std.proofs.Common.{List, ℕ, rules, take, sym, ◌∙◌, ap}
+use Rattle.std.proofs.Common.{List, ℕ, rules, take, refl, sym, ◌∙◌, ap}
 use Rattle.std.proofs.Math.Facts.{to_z-of_z}
 use Rattle.std.specs.Int.{w64}
-use Rattle.std.specs.Prelude.{string_bytes, is_some}
+use Rattle.std.specs.Prelude.{string_bytes, is_some, not}
 use Rattle.std.proofs.lemmas.List.{length-map}
 use Rattle.cf_bytes.specs.Outside.{with_more}
 use Rattle.cf_run.specs.Names.{names_in}
-use Rattle.cf_answers.specs.declared.status.Status.TheVariants.{NoMemory, OutFault}
+use Rattle.cf_answers.specs.declared.status.Status.TheVariants.{NoMemory, FileFault, OutFault}
 use Rattle.cf_run.proofs.Versions.{new_words}
 use Rattle.cf_cli.proofs.Runs.{answered, kept_told, kept_without, unrecorded_told, stands_told, stands_unsaid}
 use Rattle.cf_cli.proofs.Plays.{versions_so, early_tallied, spent_tallied, unwritten_tallied, run_tallied, new_dialled, new_unfailed}
+use Rattle.cf_cli.proofs.Ends.{copied, ends_put, ends_stay, run_begun}
 use Rattle.cf_cli.proofs.following.follow.Goals as goal
 
 pub returns-in-Ok-put_all-clause-kept : goal.returns-in-Ok-put_all-clause-kept
@@ -108,3 +109,52 @@ pub returns-in-Err-No-clause-versions : goal.returns-in-Err-No-clause-versions
 returns-in-Err-No-clause-versions g c =
     versions_so _ c.args.moment c.args.nonce (g.W.Wires.told c.sync_over.new.wires)
     (to_z-of_z {w = w64} {z = c.args.moment} (search rules)) c.sync_over.ensures.versions
+
+pub returns-in_default-to_vec-clause-kept : goal.returns-in_default-to_vec-clause-kept
+returns-in_default-to_vec-clause-kept g c =
+    kept_without (g.W.Wires.told c.sync_over.new.wires).log c.args.watch (names_in c.args.names.now) (is_some c.args.log_file.now) c.args.trace (g.O.Sink.written c.args.out.now) (g.O.Sink.written c.args.out.now)
+
+pub returns-in_default-to_vec-clause-tallied : goal.returns-in_default-to_vec-clause-tallied
+returns-in_default-to_vec-clause-tallied g c =
+    let told = c.sync_over.ensures in
+    spent_tallied _ _ _ _ (record { taken = told.most; dialled = told.first.most; ended = told.once }) told.finished
+
+pub returns-in_default-to_vec-clause-versions : goal.returns-in_default-to_vec-clause-versions
+returns-in_default-to_vec-clause-versions g c =
+    versions_so _ c.args.moment c.args.nonce (g.W.Wires.told c.sync_over.new.wires)
+    (to_z-of_z {w = w64} {z = c.args.moment} (search rules)) c.sync_over.ensures.versions
+
+pub returns-in_default-clause-ends : goal.returns-in_default-clause-ends
+returns-in_default-clause-ends g c = ends_stay _ _ _ _ refl
+
+pub returns-in_default-sync_over-clause-ends : goal.returns-in_default-sync_over-clause-ends
+returns-in_default-sync_over-clause-ends g c = ends_stay _ _ _ _ refl
+
+pub returns-in_default-to_vec-clause-ends : goal.returns-in_default-to_vec-clause-ends
+returns-in_default-to_vec-clause-ends g c = ends_stay _ _ _ _ refl
+
+pub returns-in_default-text_of-clause-ends : goal.returns-in_default-text_of-clause-ends
+returns-in_default-text_of-clause-ends g c =
+    ends_put NoMemory (is_some c.args.log_file.now) _ _ _ refl
+    (copied (g.W.Wires.told c.sync_over.new.wires).log _ _ (c.in-Ok-to_vec.ensures.items_if_clones_equal (λ x y e. e) ∙ c.as_slice.ensures.value) c.in-Ok-sync_over.ensures.ends)
+
+pub returns-in-Err-NoMemory-clause-ends : goal.returns-in-Err-NoMemory-clause-ends
+returns-in-Err-NoMemory-clause-ends g c =
+    ends_put NoMemory (is_some c.args.log_file.now) _ _ _ refl
+    (copied (g.W.Wires.told c.sync_over.new.wires).log _ _ (c.in-Ok-to_vec.ensures.items_if_clones_equal (λ x y e. e) ∙ c.as_slice.ensures.value) c.in-Ok-sync_over.ensures.ends)
+
+pub returns-in-Err-No-clause-ends : goal.returns-in-Err-No-clause-ends
+returns-in-Err-No-clause-ends g c =
+    let files = rw c.in-Err-No.field-0-is at c.in-Err-No.ensures.files in
+    ends_put FileFault (is_some c.args.log_file.now) _ _ _ (ap not files.0)
+    (copied (g.W.Wires.told c.sync_over.new.wires).log _ _ (c.in-Ok-to_vec.ensures.items_if_clones_equal (λ x y e. e) ∙ c.as_slice.ensures.value) c.in-Ok-sync_over.ensures.ends)
+
+pub returns-in-Err-clause-ends : goal.returns-in-Err-clause-ends
+returns-in-Err-clause-ends g c =
+    ends_put OutFault (is_some c.args.log_file.now) _ _ _ refl
+    (copied (g.W.Wires.told c.sync_over.new.wires).log _ _ (c.in-Ok-to_vec.ensures.items_if_clones_equal (λ x y e. e) ∙ c.as_slice.ensures.value) c.in-Ok-sync_over.ensures.ends)
+
+pub returns-in-Ok-put_all-clause-ends : goal.returns-in-Ok-put_all-clause-ends
+returns-in-Ok-put_all-clause-ends g c =
+    ends_put c.status_of.result (is_some c.args.log_file.now) _ _ _ (run_begun c.status_of.result (is_some c.args.log_file.now) c.status_of.ensures.ran)
+    (copied (g.W.Wires.told c.sync_over.new.wires).log _ _ (c.in-Ok-to_vec.ensures.items_if_clones_equal (λ x y e. e) ∙ c.as_slice.ensures.value) c.in-Ok-sync_over.ensures.ends)

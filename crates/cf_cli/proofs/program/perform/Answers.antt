@@ -193,3 +193,33 @@ returns-in-Make-clause-files g c = rw c.in-Make.is (c.args.files.now, refl, rw c
 
 pub returns-in-Demo-clause-files : goal.returns-in-Demo-clause-files
 returns-in-Demo-clause-files g c = rw c.in-Demo.is (c.args.files.now, refl, refl)
+
+pub returns-in-Replay-clause-ends : goal.returns-in-Replay-clause-ends
+returns-in-Replay-clause-ends g c = rw c.in-Replay.is c.replay.ensures.ends
+
+pub returns-in-Sync-clause-ends : goal.returns-in-Sync-clause-ends
+returns-in-Sync-clause-ends g c = rw c.in-Sync.is c.sync.ensures.ends
+
+pub returns-in-Scan-clause-ends : goal.returns-in-Scan-clause-ends
+returns-in-Scan-clause-ends g c = rw c.in-Scan.is refl
+
+pub returns-in-Filter-clause-ends : goal.returns-in-Filter-clause-ends
+returns-in-Filter-clause-ends g c = rw c.in-Filter.is refl
+
+pub returns-in-Address-clause-ends : goal.returns-in-Address-clause-ends
+returns-in-Address-clause-ends g c = rw c.in-Address.is refl
+
+pub returns-in-Prove-clause-ends : goal.returns-in-Prove-clause-ends
+returns-in-Prove-clause-ends g c = rw c.in-Prove.is refl
+
+pub returns-in-Check-clause-ends : goal.returns-in-Check-clause-ends
+returns-in-Check-clause-ends g c = rw c.in-Check.is refl
+
+pub returns-in-Serve-clause-ends : goal.returns-in-Serve-clause-ends
+returns-in-Serve-clause-ends g c = rw c.in-Serve.is refl
+
+pub returns-in-Make-clause-ends : goal.returns-in-Make-clause-ends
+returns-in-Make-clause-ends g c = rw c.in-Make.is refl
+
+pub returns-in-Demo-clause-ends : goal.returns-in-Demo-clause-ends
+returns-in-Demo-clause-ends g c = rw c.in-Demo.is refl

@@ -7,6 +7,7 @@ use Rattle.cf_wires.specs.Memory.{log_of, failing_of, told_of}
 use Rattle.cf_wires.specs.Wires.{Script}
 use Rattle.cf_cli.proofs.Plays.{versions_so, unplayed_words, made, plays_of, told_so, told_plays, early_replayed, early_plays, new_tape, same_told, over_watch}
 use Rattle.cf_cli.specs.Theorem.{Tallied}
+use Rattle.cf_cli.proofs.Ends.{ends_early}
 use Rattle.cf_cli.proofs.program.replay.Goals as goal
 
 pub returns-in-Err-clause-replayed : goal.returns-in-Err-clause-replayed
@@ -56,3 +57,12 @@ pub returns-clause-versions : goal.returns-clause-versions
 returns-clause-versions g c =
     versions_so _ c.args.moment c.args.nonce (told_of c.follow.new.wires)
     (to_z-of_z {w = w64} {z = c.args.moment} (search rules)) c.follow.ensures.versions
+
+pub returns-in-Err-clause-ends : goal.returns-in-Err-clause-ends
+returns-in-Err-clause-ends g c = ends_early c.in-Err.status _ _ _ c.in-Err.ensures.only
+
+pub returns-in-Err-load_session-clause-ends : goal.returns-in-Err-load_session-clause-ends
+returns-in-Err-load_session-clause-ends g c = ends_early c.in-Err-load_session.status _ _ _ c.in-Err-load_session.ensures.only
+
+pub returns-clause-ends : goal.returns-clause-ends
+returns-clause-ends g c = c.follow.ensures.ends

@@ -1,8 +1,8 @@
-use Rattle.std.proofs.Common.{rules, w64}
+use Rattle.std.proofs.Common.{rules, refl, w64}
 use Rattle.std.proofs.Math.Facts.{to_z-of_z}
 use Rattle.cf_run.specs.Names.{names_in}
 use Rattle.cf_input.specs.Words.{command_of}
-use Rattle.cf_wires.specs.Memory.{told_of}
+use Rattle.cf_wires.specs.Memory.{log_of, told_of}
 use Rattle.cf_run.proofs.Versions.{new_words}
 use Rattle.cf_cli.proofs.Plays.{versions_so, unplayed_words, new_tape, new_unfailed, judged_for, unused_wires, unused_tape}
 use Rattle.cf_cli.proofs.Asking.{asked_so, unasked}
@@ -10,6 +10,8 @@ use Rattle.cf_cli.proofs.Records.{unused_files}
 use Rattle.cf_cli.proofs.Demos.{unused_played}
 use Rattle.cf_cli.proofs.Serves.{unused_link}
 use Rattle.cf_cli.proofs.Doing.{does_so, undone}
+use Rattle.cf_answers.specs.declared.status.Status.TheVariants.{NoMemory, Usage}
+use Rattle.cf_cli.proofs.Ends.{ends_so, ends_untold}
 use Rattle.cf_cli.proofs.program.run.Goals as goal
 
 pub returns-in-Ok-clause-usage : goal.returns-in-Ok-clause-usage
@@ -74,3 +76,14 @@ returns-in-Ok-clause-files g c = asked_so g.F.Files.reads g.F.Files.opens g.F.Fi
 
 pub returns-in-Err-NoMemory-clause-files : goal.returns-in-Err-NoMemory-clause-files
 returns-in-Err-NoMemory-clause-files g c = unasked g.F.Files.reads g.F.Files.opens g.F.Files.parts g.F.Files.writes (command_of (names_in c.args.words.now)) c.args.files.now
+
+pub returns-in-Ok-clause-ends : goal.returns-in-Ok-clause-ends
+returns-in-Ok-clause-ends g c = ends_so _ c.in-Ok.command c.perform.result _ _ _ _ c.in-Ok.ensures.exact c.perform.ensures.ends
+
+pub returns-in-Err-No-clause-ends : goal.returns-in-Err-No-clause-ends
+returns-in-Err-No-clause-ends g c =
+    ends_untold (command_of (names_in c.args.words.now)) Usage (g.W.Wires.told c.args.wires.now).log (log_of c.args.tape.now) c.args.ends.now.items refl
+
+pub returns-in-Err-NoMemory-clause-ends : goal.returns-in-Err-NoMemory-clause-ends
+returns-in-Err-NoMemory-clause-ends g c =
+    ends_untold (command_of (names_in c.args.words.now)) NoMemory (g.W.Wires.told c.args.wires.now).log (log_of c.args.tape.now) c.args.ends.now.items refl

@@ -6,6 +6,7 @@ use Rattle.cf_run.specs.Names.{names_in}
 use Rattle.cf_run.proofs.Versions.{new_words}
 use Rattle.cf_cli.proofs.Plays.{versions_so, early_told, early_tallied, new_dialled, new_unfailed, told_over_watch}
 use Rattle.cf_cli.proofs.Asking.{unwritten}
+use Rattle.cf_cli.proofs.Ends.{ends_early, ends_stay}
 use Rattle.cf_cli.proofs.Records.{early_records, judged_once_begun, records_from}
 use Rattle.cf_cli.proofs.program.sync.Goals as goal
 
@@ -59,3 +60,12 @@ returns-in-Err-clause-files g c =
 pub returns-in_default-clause-files : goal.returns-in_default-clause-files
 returns-in_default-clause-files g c =
     (c.load_watch.new.files, inr (c.load_watch.new.files, c.load_watch.ensures.files, refl), unwritten g.F.Files.writes c.args.log_file.now c.load_watch.new.files)
+
+pub returns-in-Err-clause-ends : goal.returns-in-Err-clause-ends
+returns-in-Err-clause-ends g c = ends_early c.in-Err.status _ _ _ c.in-Err.ensures.only
+
+pub returns-in_default-clause-ends : goal.returns-in_default-clause-ends
+returns-in_default-clause-ends g c = ends_stay _ _ _ _ refl
+
+pub returns-clause-ends : goal.returns-clause-ends
+returns-clause-ends g c = c.follow.ensures.ends

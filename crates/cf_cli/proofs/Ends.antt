@@ -1,0 +1,75 @@
+-- What is told of how each peer stands.
+use Rattle.std.proofs.Common.{◌≡◌, Bool, true, false, List, Option, Some, None, inl, inr, refl, sym, subst}
+use Rattle.std.specs.Prelude.{IfSome}
+use Rattle.std.proofs.lemmas.Bool.{both_ways}
+use Rattle.cf_place.specs.declared.place.PeerEnd.{PeerEnd}
+use Rattle.cf_wires.specs.Log.{Log}
+use Rattle.cf_input.specs.declared.words.Command.{Command}
+use Rattle.cf_input.specs.declared.words.Command.TheVariants.{Replay, Sync, Scan, Filter, Address, Prove, Check, Serve, Make, Demo}
+use Rattle.cf_answers.specs.declared.status.Status.{Status}
+use Rattle.cf_answers.specs.declared.status.Status.TheVariants.{Done, NoMemory, Usage, BadFile, FileFault, OutFault, NoPeers, Tired, Ended, LinkFault, NoNonce, NoHeight, NotThere, NotAddress}
+use Rattle.cf_place.specs.Places.{EndsTell}
+use Rattle.cf_loading.specs.Verdicts.{IsOfFile}
+use Rattle.cf_cli.proofs.Plays.{no_run}
+use Rattle.cf_cli.specs.Ends.{AreEndsOf, AreEndsAfter, AreEnds}
+use Rattle.cf_cli.specs.Statuses.{has_run, was_unbegun}
+
+-- they are put once a run is begun
+pub ends_put : (status : Status) (recorded : Bool) (log : Option Log) (before after : List PeerEnd) → was_unbegun status recorded ≡ false → AreEndsOf log after → AreEndsAfter status recorded log before after
+ends_put status recorded log before after begun are = record {
+  told = λ is. are;
+  unbegun = λ is. absurd (both_ways (was_unbegun status recorded) begun is);
+  either = inr are;
+}
+
+-- they stay where no run was made
+pub ends_stay : (status : Status) (recorded : Bool) (log : Option Log) (ends : List PeerEnd) → has_run status ≡ false → AreEndsAfter status recorded log ends ends
+ends_stay status recorded log ends not = record {
+  told = λ is. absurd (both_ways (has_run status) not is);
+  unbegun = λ is. refl;
+  either = inl refl;
+}
+
+-- nor where a file could not be read
+pub ends_early : (status : Status) (recorded : Bool) (log : Option Log) (ends : List PeerEnd) → IsOfFile status → AreEndsAfter status recorded log ends ends
+ends_early status recorded log ends is = ends_stay status recorded log ends (no_run status is)
+
+-- a copy of them
+pub copied : (log : Option Log) (put ends : List PeerEnd) → put ≡ ends → IfSome log (λ l. EndsTell ends l) → AreEndsOf log put
+copied log put ends e are = subst (λ (xs : List PeerEnd). AreEndsOf log xs) (sym e) are
+
+-- what was carried out was begun
+pub run_begun : (status : Status) (recorded : Bool) → has_run status ≡ true → was_unbegun status recorded ≡ false
+run_begun Done recorded is = refl
+run_begun NoMemory recorded is = refl
+run_begun Usage recorded is = cc
+run_begun (BadFile which place cause) recorded is = cc
+run_begun FileFault recorded is = cc
+run_begun OutFault recorded is = refl
+run_begun (NoPeers ends) recorded is = refl
+run_begun Tired recorded is = refl
+run_begun Ended recorded is = refl
+run_begun LinkFault recorded is = refl
+run_begun (NoNonce height) recorded is = refl
+run_begun (NoHeight tip) recorded is = refl
+run_begun (NotThere txid) recorded is = refl
+run_begun (NotAddress cause) recorded is = refl
+
+-- no command changes them where no run was made
+pub ends_untold : (found : Option Command) (status : Status) (wires : Option Log) (tape : Log) (ends : List PeerEnd) → has_run status ≡ false → AreEnds found status wires tape ends ends
+ends_untold None status wires tape ends not = refl
+ends_untold (Some (Replay trace watch session)) status wires tape ends not = ends_stay status false (Some tape) ends not
+ends_untold (Some (Sync turns workers file watch peers)) status wires tape ends not = ends_stay status _ wires ends not
+ends_untold (Some (Scan file watch)) status wires tape ends not = refl
+ends_untold (Some (Filter file height)) status wires tape ends not = refl
+ends_untold (Some (Address text)) status wires tape ends not = refl
+ends_untold (Some (Prove file txid)) status wires tape ends not = refl
+ends_untold (Some (Check file)) status wires tape ends not = refl
+ends_untold (Some (Serve grow count file address)) status wires tape ends not = refl
+ends_untold (Some (Make witness seed blocks file)) status wires tape ends not = refl
+ends_untold (Some (Demo seed blocks)) status wires tape ends not = refl
+
+-- what a command says of them, told of its words
+pub ends_so : (found : Option Command) (command : Command) (status : Status) (wires : Option Log) (tape : Log) (before after : List PeerEnd) → found ≡ Some command
+    → AreEnds (Some command) status wires tape before after → AreEnds found status wires tape before after
+ends_so found command status wires tape before after is = subst (λ (o : Option Command). AreEnds o status wires tape before after) (sym is)

@@ -1,0 +1,26 @@
+-- What is told of how each peer stands at the end of a run.
+use Rattle.std.specs.Prelude.{◌≡◌, ◌⊎◌, Bool, true, false, List, Option, Some, is_some, IfSome}
+use Rattle.cf_place.specs.declared.place.PeerEnd.{PeerEnd}
+use Rattle.cf_place.specs.Places.{EndsTell}
+use Rattle.cf_wires.specs.Log.{Log}
+use Rattle.cf_input.specs.declared.words.Command.{Command}
+use Rattle.cf_input.specs.declared.words.Command.TheVariants.{Replay, Sync}
+use Rattle.cf_answers.specs.declared.status.Status.{Status}
+use Rattle.cf_cli.specs.Statuses.{has_run, was_unbegun}
+
+-- where the log is told, there is an end for each peer that was dialled, in the order of their numbers, and each tells how its peer stands
+abbrev pub AreEndsOf : Option Log → List PeerEnd → Type 0
+AreEndsOf log ends = IfSome log (EndsTell ends)
+
+-- The ends after a run that was answered so: once it was made they are those of its log, and where none was begun they are what was handed in. Where
+-- memory is wanting, or a record can't be written, they are one of both.
+pub record AreEndsAfter (status : Status) (recorded : Bool) (log : Option Log) (before after : List PeerEnd) : Type 0 where
+  pub told : has_run status ≡ true → AreEndsOf log after
+  pub unbegun : was_unbegun status recorded ≡ true → after ≡ before
+  pub either : (after ≡ before) ⊎ AreEndsOf log after
+
+-- the ends after a command that was answered so: those of the log of the wires after `sync`, of the tape after `replay`; no other changes them
+abbrev pub AreEnds : Option Command → Status → Option Log → Log → List PeerEnd → List PeerEnd → Type 0
+AreEnds (Some (Sync turns workers file watch peers)) status wires tape before after = AreEndsAfter status (is_some file) wires before after
+AreEnds (Some (Replay trace watch session)) status wires tape before after = AreEndsAfter status false (Some tape) before after
+AreEnds command status wires tape before after = after ≡ before
