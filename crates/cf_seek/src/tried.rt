@@ -1,5 +1,5 @@
 //! Up to where none of the peers' blocks is to be tested.
-ghost use Rattle.std.specs.Prelude.{◌≡◌, ◌×◌, ℕ, ◌∷◌, [], IsSome, replicate, slice_set, vec_len, IfOk};
+ghost use Rattle.std.specs.Prelude.{◌≡◌, ℕ, List, ◌∷◌, [], IsSome, replicate, slice_set, vec_len, IfOk};
 ghost use Rattle.cf_dispute.specs.declared.claim.At.TheVariants.{Differ};
 ghost use Rattle.cf_dispute.specs.Claims.{IsAt};
 ghost use Rattle.cf_dispute.specs.Of.{tables_of};
