@@ -12,7 +12,10 @@ use Rattle.cf_seek.proofs.Marked.{differ_before, others_same}
 claimed_before : (before after : Tables) (p : ℕ) → ForgetsClaims before after p → (q : ℕ) (block : Hash) (claim : Claim)
     → after q block ≡ Some claim → before q block ≡ Some claim
 claimed_before before after p forgets q block claim e = elim (cases_eq q p) [
-  | inl same1 ↦ (let no : None ≡ Some claim = sym (forgets.gone block) ∙ ap (λ (k : ℕ). after k block) (sym same1) ∙ e in cc no)
+  | inl same1 ↦ (
+      let no : None ≡ Some claim = sym (forgets.gone block) ∙ ap (λ (k : ℕ). after k block) (sym same1) ∙ e in
+      cc no
+      )
   | inr ne ↦ sym (forgets.others q ne block) ∙ e
 ]
 
@@ -49,5 +52,6 @@ pub added_differ : (before after : Tables) (p : ℕ) (previous : Hash32) (blocks
     → (block : Hash) → IsAt after block Differ → IsIn block blocks ⊎ IsAt before block Differ
 added_differ before after p previous blocks hashes is others block d = elim (in_or_out block blocks) [
   | inl i ↦ inl i
-  | inr out ↦ inr (differ_before before after block (others_same before after p previous blocks hashes is others block out) d)
+  | inr out ↦ inr (differ_before before after block
+      (others_same before after p previous blocks hashes is others block out) d)
 ]

@@ -12,16 +12,12 @@ use Rattle.cf_headers.proofs.ChainLaws.{back_in}
 use Rattle.cf_seek.specs.Testing.{IsTrial, IsNextTrial}
 use Rattle.cf_seek.specs.Tried.{AreTried, IsToTry}
 use Rattle.cf_seek.proofs.Sought.{placed_low}
-use Rattle.cf_seek.proofs.Stops.{back_ends, found_low}
+use Rattle.cf_seek.proofs.Stops.{back_ends, found_low, length_found}
 use Rattle.cf_tables.specs.Tables.{Table}
 use Rattle.cf_tables.specs.Tests.{Told}
 use Rattle.cf_tables.specs.Wanting.{IsAbove}
 
 -- ---- blocks by heights
-
-length_found : (o : Option Chain) (n : ℕ) → option_map (λ (c : Chain). length c) o ≡ Some n → (c : Chain) × (o ≡ Some c) × (length c ≡ n)
-length_found None n e = cc
-length_found (Some c) n e = (c, refl, (let one : length c ≡ n = cc in one))
 
 -- the lowest part of a chain that ends with a hash is its part up to that part's height
 part_at : (hash : Hash) (own part : Chain) → back_to hash own ≡ Some part → hash_at own (length part) ≡ hash
@@ -31,7 +27,8 @@ part_at hash own part found =
     let m = ap (λ (c : Chain). length c) p.1 in
     let long : length own - length part ≡ length p.0 = omega (arith, n, m) in
     let is : part ≡ lower (length part) own =
-    sym (drop-append_seam p.0 part) ∙ ap (λ k. drop k (p.0 ++ part)) (sym long) ∙ ap (λ (c : Chain). drop (length own - length part) c) p.1 in
+    sym (drop-append_seam p.0 part) ∙ ap (λ k. drop k (p.0 ++ part)) (sym long)
+    ∙ ap (λ (c : Chain). drop (length own - length part) c) p.1 in
     ap tip_hash (sym is) ∙ back_ends hash own part found
 
 pub stands_at : (hash : Hash) (own : Chain) (h : ℕ) → height_of hash own ≡ Some h → hash_at own h ≡ hash
@@ -58,27 +55,30 @@ stands_above hash own h found up is =
 -- ---- the climb
 
 -- up to where none is to be tested there is no trial
-pub no_trial : (extracts : Table) (tables : Tables) (told : Told) (p : ℕ) (own : Chain) (common most : ℕ) → AreTried extracts tables told p own most
+pub no_trial : (extracts : Table) (tables : Tables) (told : Told) (p : ℕ) (own : Chain) (common most : ℕ)
+    → AreTried extracts tables told p own most
     → (block : Hash) (h : ℕ) → IsTrial extracts tables told p own common block h → h ≤ most → ⊥
 no_trial extracts tables told p own common most are block h t low =
     are h t.above low (subst (λ (x : Hash). IsToTry extracts tables told p x) (sym (stands_at block own h t.stands))
     (record { above = stands_above block own h t.stands t.above; wanted = t.wanted }))
 
-pub next_none : (extracts : Table) (tables : Tables) (told : Told) (p : ℕ) (own : Chain) (common most : ℕ) → AreTried extracts tables told p own most
+pub next_none : (extracts : Table) (tables : Tables) (told : Told) (p : ℕ) (own : Chain) (common most : ℕ)
+    → AreTried extracts tables told p own most
     → common ≤ most → IsNextTrial extracts tables told p own common None
 next_none extracts tables told p own common most are up block h t =
     no_trial extracts tables told p own common most are block h t (let low = t.low in omega (arith, low, up))
 
 -- the first block that is to be tested stands at no lower height
 first_stands : (extracts : Table) (tables : Tables) (told : Told) (p : ℕ) (own : Chain) (h : ℕ) (block : Hash)
-    → AreTried extracts tables told p own h → h + 1 ≤ length own → block ≡ hash_at own (h + 1) → IsToTry extracts tables told p block
-    → height_of block own ≡ Some (h + 1)
+    → AreTried extracts tables told p own h → h + 1 ≤ length own → block ≡ hash_at own (h + 1)
+    → IsToTry extracts tables told p block → height_of block own ≡ Some (h + 1)
 first_stands extracts tables told p own h block are within is to =
     let w = found_low block own (h + 1) within (sym is) in
     let at : hash_at own (length w.0) ≡ block = part_at block own w.0 w.1 in
     let here : h + 1 ≤ length w.0 = elim (cases_lt (length w.0) (h + 1)) [
       | inl lt ↦ absurd (elim (cases_lt 0 (length w.0)) [
-        | inl up ↦ are (length w.0) (omega (arith, up)) (omega (arith, lt)) (subst (λ (x : Hash). IsToTry extracts tables told p x) (sym at) to)
+        | inl up ↦ are (length w.0) (omega (arith, up)) (omega (arith, lt))
+            (subst (λ (x : Hash). IsToTry extracts tables told p x) (sym at) to)
         | inr none ↦ (
             let zero_is : 0 ≡ length w.0 = omega (arith, none) in
             to.above (sym at ∙ ap (λ (n : ℕ). hash_at own n) (sym zero_is) ∙ first_at own)

@@ -10,5 +10,6 @@ use Rattle.cf_seek.proofs.tried.fall_below_disputes.Given as goal
 
 abbrev pub invariant-loop-block : goal.invariant-loop-block
 invariant-loop-block g l =
-    (q : ℕ) → IsTriedBelow (g.H.HeaderStore.chain l.store q) (λ (b : List ℕ). IsSome (table_in l.extracts b) × IsAt (tables_of l.claims) b Differ)
+    (q : ℕ) → IsTriedBelow (g.H.HeaderStore.chain l.store q)
+    (λ (b : List ℕ). IsSome (table_in l.extracts b) × IsAt (tables_of l.claims) b Differ)
     (blocks_of (take l.block-index l.blocks)) (tried_at l.fn.tried q) (tried_at l.tried q)
