@@ -30,10 +30,10 @@ use Rattle.cf_peer.specs.Held.{count_came}
 use Rattle.cf_peer.specs.Peer.{aged, request_of}
 use Rattle.cf_peer.specs.Trail.{Trail, Part, Called, Said, Refused, Asked, Passed, Lost, part_of, trail, connected, ready, own}
 use Rattle.cf_peer.specs.Asking.{OpenRequest, NothingOpen, HeadersOpen, ClaimsOpen, FiltersOpen, BlockOpen, is_answer_of, is_wanted, blocks_from, claims_asked, filters_asked, filters_left, filter_of, request, request_for, request_after, age, claims, claims_after, verdict, counted, fetched, given, MayAsk}
-use Rattle.cf_sync.specs.Fetching.{IsNoTest, Rightly, HoldsFetched}
+use Rattle.cf_sync.specs.Fetching.{Rightly, HoldsFetched}
 use Rattle.cf_sync.specs.Honesty.{was_called}
 use Rattle.cf_sync.specs.Kept.{HoldsClaims, HoldsGiven, HoldsOutputs, claims_kept}
-use Rattle.cf_sync.proofs.Answered.{came}
+use Rattle.cf_sync.proofs.Answered.{given_wide}
 use Rattle.cf_sync.proofs.Listed.{in_left, in_right}
 use Rattle.cf_sync.proofs.Remembers.{AskedRightly, asked_rightly}
 use Rattle.cf_tables.specs.Held.{CountsBlocks, CountsOutputs, CountsVerdicts}
@@ -166,7 +166,7 @@ few_verdicts places s log n stand holds c =
     let less = fewer c.filters (map name_of jobs) c.apart (λ f i.
     let e = some_is (s.verdicts f.0 f.1) (c.kept f i) in
     let w = holds.sound f.0 f.1 e.0 e.1 in
-    let whose = came IsNoTest log w.0 w.1 in
+    let whose = given_wide log w.0 w.1 in
     let there : IsIn w.0 jobs = in_all filters_given places log stand no_filters whose.0 w.0 whose.1 in
     let is : name_of w.0 ≡ f = ap (λ (h : Hash). named h (filter_hash_of w.0.filter)) w.2 ∙ ap (λ (h : Hash). named f.0 h) w.3 in
     subst (λ (x : Hash × Hash). IsIn x (map name_of jobs)) is (in_map name_of w.0 jobs there)) in
