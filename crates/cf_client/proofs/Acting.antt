@@ -238,24 +238,24 @@ one_named (h ∷ below) height block is up tip =
     let one : suc (length below) - length below ≡ 1 = omega arith in
     ap (λ (n : ℕ). blocks_from n (h ∷ below)) is ∙ ap (λ (k : ℕ). map block_hash_of (reverse (take k (h ∷ below)))) one ∙ ap (λ (x : Hash). x ∷ []) tip
 
-pub test_tracks : (places : List Place) (acts : List Act) (log : Log) (s after : Seen) (i common : ℕ) (peer : Peer) (trial : Trial) (listed : List Hash) → Goes s.watch places acts log
+pub test_tracks : (places : List Place) (acts : List Act) (log : Log) (s after : Seen) (i common : ℕ) (peer : Peer) (trial : Trial) → Goes s.watch places acts log
     → get_or places i nobody ≡ Here peer → is_idle_peer peer ≡ true → IsSendable (GetCfilters 0 trial.height trial.block) → HasOpened s after i
-    → IsTrying s.table s.claims s.trials.told i (chain_at s i) common listed (Test trial) → OpensFilters s.opens after.opens i (trial.block.0 ∷ [])
+    → IsTrying s.table s.claims s.trials.told i (chain_at s i) common (Test trial) → OpensFilters s.opens after.opens i (trial.block.0 ∷ [])
     → IsAimed i (Test trial) s.trials.aims after.trials.aims → Tracks s (done acts log)
     → Tracks after (done (acts ++ Send (record { 0 = i }) (GetCfilters 0 trial.height trial.block) ∷ []) log)
-test_tracks places acts log s after i common peer trial listed goes here idle sendable opened tries opens aimed tracks =
+test_tracks places acts log s after i common peer trial goes here idle sendable opened tries opens aimed tracks =
     let l = done acts log in
     let t = trail l i in
     let m = GetCfilters 0 trial.height trial.block in
     let on = (keeps_at places acts log i peer goes here).holds.on in
     let is : chain_at s i ≡ own t = own_tracked s l i tracks on in
-    let needed = test_needed s l i common trial listed (chain_at s i) tracks is tries in
+    let needed = test_needed s l i common trial (chain_at s i) tracks is tries in
     let used = same_use t on (keeps_at places acts log i peer goes here).holds.clean in
     sent_tracks s after acts log (record { 0 = i }) m sendable opened
     (opens_filters s.opens after.opens i t (Asked m ∷ t) (trial.block.0 ∷ []) (tracks.opened i) (idle_at places acts log i peer goes here idle) opens on
     (ap (filters_asked trial.height) needed.tip
     ∙ ap (λ (bs : List Hash). FiltersOpen bs [])
-    (one_named needed.part trial.height trial.block.0 needed.one (test_part s l i common trial listed (chain_at s i) is tries).above (back_ends trial.block.0 (own t) needed.part needed.tip))))
+    (one_named needed.part trial.height trial.block.0 needed.one (test_part s l i common trial (chain_at s i) is tries).above (back_ends trial.block.0 (own t) needed.part needed.tip))))
     (λ on1. subst (λ (b : Bool). AimsAt (Sent (record { 0 = i }) (bytes_of m) ∷ l) i b) (sym aimed.here)
     (aims_asked (record { 0 = i }) (bytes_of m) l 0 trial.height trial.block true (spelled_bytes m sendable) (aims_for_test l i trial.height trial.block.0 used.chain needed))) tracks
 
@@ -336,16 +336,16 @@ block_goes places acts log s i peer common hash m lt goes here idle ended far tr
 -- for a filter that is to be tested
 pub test_goes : (places : List Place) (acts : List Act) (log : Log) (s : Seen) (i : ℕ) (peer : Peer) (common : ℕ) (trial : Trial)
     → i < length places → Goes s.watch places acts log → get_or places i nobody ≡ Here peer → is_idle_peer peer ≡ true → peer.heard ≡ true → Furthest s i common (Test trial)
-    → (tries : Tries s i common (Test trial)) → Tracks s (done acts log)
+    → Tries s i common (Test trial) → Tracks s (done acts log)
     → IsWish s.table s.claims s.verdicts s.opens i (chain_at s i) common (Test trial) → IsSendable (GetCfilters 0 trial.height trial.block)
     → Goes s.watch (set places i (Here (asked_for_filters (trial.block ∷ []) peer))) (acts ++ Send (record { 0 = i }) (GetCfilters 0 trial.height trial.block) ∷ []) log
 test_goes places acts log s i peer common trial lt goes here idle ended far tries tracks wish sendable =
     let keeps : Keeps peer (part_of (done acts log) i) = keeps_at places acts log i peer goes here in
     let t = trail (done acts log) i in
     let is : chain_at s i ≡ own t = own_tracked s (done acts log) i tracks keeps.holds.on in
-    let may = test_send s (done acts log) i common trial tries.listed (chain_at s i) tracks is (idle_free peer (part_of (done acts log) i) keeps idle) keeps.holds.clean tries.tries in
-    let needed = test_needed s (done acts log) i common trial tries.listed (chain_at s i) tracks is tries.tries in
-    let up = (test_part s (done acts log) i common trial tries.listed (chain_at s i) is tries.tries).above in
+    let may = test_send s (done acts log) i common trial (chain_at s i) tracks is (idle_free peer (part_of (done acts log) i) keeps idle) keeps.holds.clean tries in
+    let needed = test_needed s (done acts log) i common trial (chain_at s i) tracks is tries in
+    let up = (test_part s (done acts log) i common trial (chain_at s i) is tries).above in
     send_goes places acts log i (asked_for_filters (trial.block ∷ []) peer) (GetCfilters 0 trial.height trial.block) lt goes sendable may.0 (
       may.1,
       in_turn places (done acts log) s i common (Test trial) (GetCfilters 0 trial.height trial.block) goes.stand tracks is (sym keeps.holds.hearing ∙ ended) far tries wish (refl, refl),

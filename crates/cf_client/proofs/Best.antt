@@ -19,8 +19,7 @@ use Rattle.cf_hear.specs.Seen.{Seen}
 use Rattle.cf_hear.specs.Tracks.{Tracks, chain_kept}
 use Rattle.cf_seek.specs.declared.spans.Wish.{Wish}
 use Rattle.cf_seek.specs.Spans.{IsWish, GoesFar}
-use Rattle.cf_seek.specs.Testing.{AreDisputesIn, IsTrying}
-use Rattle.cf_sync.proofs.KeptTests.{listed_by}
+use Rattle.cf_seek.specs.Testing.{IsTrying}
 use Rattle.cf_seek.specs.Tracking.{IsBestChain}
 use Rattle.cf_place.specs.declared.place.Place.{Place}
 use Rattle.cf_place.specs.declared.place.Place.TheVariants.{Here, Lost}
@@ -121,11 +120,9 @@ pub record Furthest (s : Seen) (i common : ℕ) (wish : Wish) : Type 0 where
   pub shared : common ≡ common_of (chain_at s i) (chain_at s best.0)
   pub far : GoesFar s.table s.claims s.verdicts s.opens i (chain_at s i) common wish
 
--- what is to be tested is asked for in its turn, of the disputed blocks that are listed
-pub record Tries (s : Seen) (i common : ℕ) (wish : Wish) : Type 0 where
-  pub listed : List Hash
-  pub all : AreDisputesIn s.table s.claims listed
-  pub tries : IsTrying s.table s.claims s.trials.told i (chain_at s i) common listed wish
+-- what is to be tested is asked for in its turn
+abbrev pub Tries : Seen → ℕ → ℕ → Wish → Type 0
+Tries s i common wish = IsTrying s.table s.claims s.trials.told i (chain_at s i) common wish
 
 some_chain : (o : Option Chain) → 0 < rank o → o ≡ Some (unwrap_or o [])
 some_chain None low = absurd (omega (arith, low))
@@ -155,8 +152,6 @@ in_turn places log s i common wish m stand tracks mine ended far tries wished pu
       puts = puts;
       told = s.trials.told;
       tested = tracks.trials.told;
-      listed = tries.listed;
-      disputes = listed_by s.watch log s.table s.claims tries.listed tracks.fetched tracks.claimed tries.all;
-      tries = subst (λ (c : Chain). IsTrying s.table s.claims s.trials.told i c (common_of c chain) tries.listed wish) mine
-          (subst (λ (n : ℕ). IsTrying s.table s.claims s.trials.told i (chain_at s i) n tries.listed wish) far.shared tries.tries);
+      tries = subst (λ (c : Chain). IsTrying s.table s.claims s.trials.told i c (common_of c chain) wish) mine
+          (subst (λ (n : ℕ). IsTrying s.table s.claims s.trials.told i (chain_at s i) n wish) far.shared tries);
     }

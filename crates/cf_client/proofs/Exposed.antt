@@ -22,9 +22,10 @@ use Rattle.cf_msg.specs.Reading.{message_of}
 use Rattle.cf_frame.specs.declared.frame.Frame.{Frame}
 use Rattle.cf_frame.specs.declared.frame.FrameFault.{FrameFault}
 use Rattle.cf_wires.specs.declared.event.Delivery.TheVariants.{Got}
-use Rattle.cf_wires.specs.declared.event.Event.TheVariants.{Took}
+use Rattle.cf_wires.specs.declared.event.Event.TheVariants.{Closed, Took}
 use Rattle.cf_wires.specs.Log.{Log}
 use Rattle.cf_sync.specs.Fetching.{IsOmitting}
+use Rattle.cf_sync.specs.Planned.{IsSameGiven}
 use Rattle.cf_sync.proofs.Counted.{same_use}
 use Rattle.cf_sync.proofs.Idle.{BringsNothing, rest_brings_nothing, rest_claims_nothing}
 use Rattle.cf_hear.specs.Hearing.{HeardExposed}
@@ -99,6 +100,11 @@ doable_all acts [] low all = subst (All IsDoable) (sym (append-nil acts)) all
 doable_all acts (q ∷ qs) low all = subst (All IsDoable) (append_assoc acts (shut_act q ∷ []) (map shut_act qs))
     (doable_all (acts ++ shut_act q ∷ []) qs (λ k i. low k (inr i))
     (All-push IsDoable acts (shut_act q) all (low q (inl refl))))
+
+-- whoever is closed, the same filters were given
+shut_gave : (qs : List ℕ) (log : Log) → IsSameGiven log (after (map shut_act qs) log)
+shut_gave [] log = λ job. (λ gave. gave, λ gave. gave)
+shut_gave (q ∷ qs) log = shut_gave qs (Closed (record { 0 = q }) ∷ log)
 
 -- ---- one log
 
@@ -324,10 +330,7 @@ module _ (d : Desk) (p : PeerNo) (piece : List ℕ) (old : Peer) (mid : Desk) (b
         | inl i ↦ ap (λ (y : Part). fetched (counted y.trail)) ((shut {watch = []}).here q i)
         | inr out ↦ ap (λ (y : Part). fetched (counted y.trail)) ((shut {watch = []}).others q out)
       ];
-      filters = λ q. elim (number_in q qs) [
-        | inl i ↦ ap (λ (y : Part). given (counted y.trail)) ((shut {watch = []}).here q i)
-        | inr out ↦ ap (λ (y : Part). given (counted y.trail)) ((shut {watch = []}).others q out)
-      ];
+      filters = shut_gave qs sent;
     }
 
     tracked : Tracks now.seen last

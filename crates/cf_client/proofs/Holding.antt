@@ -32,17 +32,18 @@ use Rattle.cf_peer.specs.Trail.{Trail, Part, Called, Said, Refused, Asked, Passe
 use Rattle.cf_peer.specs.Asking.{OpenRequest, NothingOpen, HeadersOpen, ClaimsOpen, FiltersOpen, BlockOpen, is_answer_of, is_wanted, blocks_from, claims_asked, filters_asked, filters_left, filter_of, request, request_for, request_after, age, claims, claims_after, verdict, counted, fetched, given, MayAsk}
 use Rattle.cf_sync.specs.Fetching.{Rightly, HoldsFetched}
 use Rattle.cf_sync.specs.Honesty.{was_called}
-use Rattle.cf_sync.specs.Kept.{HoldsClaims, HoldsGiven, claims_kept}
+use Rattle.cf_sync.specs.Kept.{HoldsClaims, HoldsGiven, HoldsOutputs, claims_kept}
+use Rattle.cf_sync.proofs.Answered.{given_wide}
 use Rattle.cf_sync.proofs.Listed.{in_left, in_right}
 use Rattle.cf_sync.proofs.Remembers.{AskedRightly, asked_rightly}
-use Rattle.cf_tables.specs.Held.{CountsBlocks, CountsVerdicts}
+use Rattle.cf_tables.specs.Held.{CountsBlocks, CountsOutputs, CountsVerdicts}
 use Rattle.cf_wires.specs.Log.{Log, tally_of}
 use Rattle.cf_client.specs.declared.held.Held.{Held}
 use Rattle.cf_place.specs.declared.place.Place.{Place}
 use Rattle.cf_place.specs.declared.place.Place.TheVariants.{Here, Lost as NotHere}
 use Rattle.cf_place.specs.Places.{Fits, nobody, PlacesStand}
 use Rattle.cf_client.specs.Stands.{count_below}
-use Rattle.cf_client.specs.Holding.{below, of_all, blocks_fetched, filters_given, hashes_told, hashes_claimed, hashes_kept, filters_in, filters_kept, came_at, is_for_filters, is_giving, count_giving, chains_kept, IsKeptHeader, KeepsHeaders, Counts, HoldsNoMore, most_at}
+use Rattle.cf_client.specs.Holding.{below, of_all, blocks_fetched, filters_given, hashes_told, hashes_claimed, hashes_kept, filters_in, filters_kept, came_at, is_for_filters, is_giving, count_giving, chains_kept, IsKeptHeader, KeepsHeaders, Counts, GaveAtLeast, HoldsNoMore, most_at}
 use Rattle.cf_client.proofs.Waiting.{most_is, most_few}
 
 -- ---- over all peers
@@ -139,6 +140,20 @@ few_extracts places s log n stand holds c =
     let many = c.many in
     omega (arith, less, as_many, many)
 
+pub few_outputs : (places : List Place) (s : Seen) (log : Log) (n : ℕ) → PlacesStand places log
+    → HoldsOutputs log s.trials.paid → CountsOutputs s.trials.paid n → n ≤ length (of_all blocks_fetched log)
+unfolding hash_of_block
+few_outputs places s log n stand holds c =
+    let blocks = of_all blocks_fetched log in
+    let less = fewer c.blocks (map hash_of_block blocks) c.apart (λ hash i.
+    let e = some_is (s.trials.paid hash) (c.kept hash i) in
+    let w = holds.sound hash e.0 e.1 in
+    let there : IsIn w.0 blocks = in_all blocks_fetched places log stand no_blocks w.1.0 w.0 w.1.1 in
+    subst (λ (h : Hash). IsIn h (map hash_of_block blocks)) w.2 (in_map hash_of_block w.0 blocks there)) in
+    let as_many = length-map blocks hash_of_block in
+    let many = c.many in
+    omega (arith, less, as_many, many)
+
 abbrev named : Hash → Hash → Hash × Hash
 named block hash = (block, hash)
 
@@ -151,12 +166,25 @@ few_verdicts places s log n stand holds c =
     let less = fewer c.filters (map name_of jobs) c.apart (λ f i.
     let e = some_is (s.verdicts f.0 f.1) (c.kept f i) in
     let w = holds.sound f.0 f.1 e.0 e.1 in
-    let there : IsIn w.0 jobs = in_all filters_given places log stand no_filters w.1.0 w.0 w.1.1 in
+    let whose = given_wide log w.0 w.1 in
+    let there : IsIn w.0 jobs = in_all filters_given places log stand no_filters whose.0 w.0 whose.1 in
     let is : name_of w.0 ≡ f = ap (λ (h : Hash). named h (filter_hash_of w.0.filter)) w.2 ∙ ap (λ (h : Hash). named f.0 h) w.3 in
     subst (λ (x : Hash × Hash). IsIn x (map name_of jobs)) is (in_map name_of w.0 jobs there)) in
     let as_many = length-map jobs name_of in
     let many = c.many in
     omega (arith, less, as_many, many)
+
+-- each verdict that is kept is of a filter that was given
+gave_each : (s : Seen) (log : Log) (n : ℕ) → HoldsGiven s.watch log s.verdicts → CountsVerdicts s.verdicts n → GaveAtLeast log n
+gave_each s log n holds c = record {
+  filters = c.filters;
+  many = c.many;
+  each = λ f i. (
+      let e = some_is (s.verdicts f.0 f.1) (c.kept f i) in
+      let w = holds.sound f.0 f.1 e.0 e.1 in
+      (w.0, w.1, w.2, w.3));
+  apart = c.apart;
+}
 
 -- ---- claims
 
@@ -419,7 +447,9 @@ holds_no_more counts places s held log headers counted filters bytes few stand t
   headers = subst (λ (chains : Chains). counts chains held.headers) (fun_ext (λ p. tracks.kept p)) headers;
   claims = few_claims places s log held.claims stand tracks.claimed counted.claims;
   verdicts = few_verdicts places s log held.verdicts stand tracks.given counted.verdicts;
+  given = gave_each s log held.verdicts tracks.given counted.verdicts;
   extracts = few_extracts places s log held.extracts stand tracks.fetched counted.extracts;
+  outputs = few_outputs places s log held.outputs stand tracks.trials.paid counted.outputs;
   filters = exact;
   few_filters = λ right. (let is = exact right in let most = few_filters log right in omega (arith, is, most));
   waiting = bytes ∙ most_is places log stand;

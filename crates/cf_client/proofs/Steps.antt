@@ -256,7 +256,7 @@ block_asks d after i common hash places acts lt order settled low wish far tries
     (λ log stood. block_tracks d.places d.acts log d.seen after i for.sent.peer hash for.message stood.goes for.sent.here for.sent.idle for.sent.sendable for.asks opened opens aimed stood.tracks)
 
 pub test_asks : (d : Desk) (after : Seen) (i common : ℕ) (trial : Trial) (places : List Place) (acts : List Act) → i < length d.places → IsInOrder d → is_settled (get_or d.places i nobody) ≡ true
-    → WishAt d i common (Test trial) → Furthest d.seen i common (Test trial) → (tries : Tries d.seen i common (Test trial)) → HasOpened d.seen after i
+    → WishAt d i common (Test trial) → Furthest d.seen i common (Test trial) → Tries d.seen i common (Test trial) → HasOpened d.seen after i
     → OpensFilters d.seen.opens after.opens i (trial.block.0 ∷ []) → IsAimed i (Test trial) d.seen.trials.aims after.trials.aims
     → IsSent i (GetCfilters 0 trial.height trial.block) (asked_for_filters (trial.block ∷ [])) d.places places d.acts acts
     → Asks i d (record { places = places; seen = after; acts = acts })
@@ -265,7 +265,7 @@ test_asks d after i common trial places acts lt order settled wish far tries ope
     (settled_by sent.peer (asked_for_filters (trial.block ∷ [])) sent.idle (subst (λ (x : Place). is_settled x ≡ true) sent.here settled) refl refl) refl
     (omega arith) opened
     (λ log stood. test_goes d.places d.acts log d.seen i sent.peer common trial lt stood.goes sent.here sent.idle (ended_by sent.peer sent.idle (subst (λ (x : Place). is_settled x ≡ true) sent.here settled)) far tries stood.tracks wish sent.sendable)
-    (λ log stood. test_tracks d.places d.acts log d.seen after i common sent.peer trial tries.listed stood.goes sent.here sent.idle sent.sendable opened tries.tries opens aimed stood.tracks)
+    (λ log stood. test_tracks d.places d.acts log d.seen after i common sent.peer trial stood.goes sent.here sent.idle sent.sendable opened tries opens aimed stood.tracks)
 
 -- nothing is asked of a peer that is settled, and what was seen stays
 pub none_asked : (d : Desk) (i : ℕ) → IsInOrder d → is_settled (get_or d.places i nobody) ≡ true → Asks i d d

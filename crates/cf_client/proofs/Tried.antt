@@ -9,21 +9,13 @@ use Rattle.cf_headers.specs.Heights.{hash_at, common_of}
 use Rattle.cf_wires.specs.Log.{Log}
 use Rattle.cf_peer.specs.Trail.{own}
 use Rattle.cf_scan.specs.declared.extracts.TxExtract.{TxExtract}
-use Rattle.cf_seek.specs.Testing.{AreDisputesIn, IsNextTrial}
 use Rattle.cf_seek.proofs.Along.{common_low}
-use Rattle.cf_seek.proofs.Disputed.{in_among}
 use Rattle.cf_seek.proofs.Stops.{back_ends, found_low}
 use Rattle.cf_sync.specs.Fetching.{counted_part, IsAbove, IsConnected, IsDisputed, IsFetchedHash, IsTestedThrough, IsTestedWith}
 use Rattle.cf_sync.proofs.Kept.{by_claims}
 use Rattle.cf_hear.specs.Seen.{Seen}
 use Rattle.cf_hear.specs.Tracks.{Tracks}
 use Rattle.cf_client.specs.Settled.{IsTriedThrough}
-
--- where none of the listed blocks is to be tested, and each disputed one among the fetched is listed
-pub none_left : (s : Seen) (p : ℕ) (own : Chain) (common : ℕ) (listed : List Hash) → AreDisputesIn s.table s.claims listed
-    → IsNextTrial s.table s.claims s.trials.told p own common listed None → IsTriedThrough s p own common
-none_left s p own common listed all none = λ block h is.
-    none block (in_among block listed (all block is.wanted.fetched is.wanted.disputed)) h is
 
 differ_in : (s : Seen) (log : Log) (block : Hash) → Tracks s log → IsDisputed log block → IsAt s.claims block Differ
 differ_in s log block tracks d = (

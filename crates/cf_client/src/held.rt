@@ -86,6 +86,7 @@ pub(crate) fn held_of<H: HeaderStore>(tracker: &Tracker<H>, places: &[Place]) ->
         filters: filters_at_all(places),
         verdicts: tracker.verdicts_held(),
         extracts: tracker.extracts_held(),
+        outputs: tracker.outputs_held(),
         bytes: most_bytes(places),
     }
 }

@@ -17,7 +17,7 @@ any_job jobs k a b lt = grind (arith, common_steps)
 any_verdict : (verdicts : List Verdict) (k : ℕ) (a b : Verdict) → k < length verdicts → slice_index_or verdicts k a ≡ slice_index_or verdicts k b
 any_verdict verdicts k a b lt = grind (arith, common_steps)
 
-lower_of : (a b : ℕ) → (min a b ≡ a) ⊎ (min a b ≡ b)
+pub lower_of : (a b : ℕ) → (min a b ≡ a) ⊎ (min a b ≡ b)
 lower_of a b = grind (arith, common_steps)
 
 less_or_same : (a b : ℕ) → a < b + 1 → (a < b) ⊎ (a ≡ b)

@@ -7,6 +7,7 @@ pub mod Stops
 pub mod Opening
 pub mod Shared
 pub mod Falling
+pub mod Below
 pub mod Openings
 pub mod Sought
 pub mod SoughtStays

@@ -89,7 +89,7 @@ pub record StopsAt (own : Chain) (start e height : ℕ) : Type 0 where
   pub low : start ≤ height
   pub high : height ≤ e
 
-length_found : (o : Option Chain) (n : ℕ) → option_map (λ (c : Chain). length c) o ≡ Some n → (c : Chain) × (o ≡ Some c) × (length c ≡ n)
+pub length_found : (o : Option Chain) (n : ℕ) → option_map (λ (c : Chain). length c) o ≡ Some n → (c : Chain) × (o ≡ Some c) × (length c ≡ n)
 length_found None n e = cc
 length_found (Some c) n e = (c, refl, (let one : length c ≡ n = cc in one))
 

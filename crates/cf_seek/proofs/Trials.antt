@@ -1,76 +1,107 @@
--- The lowest of the listed blocks that are to be tested.
-use Rattle.std.proofs.Common.{◌≡◌, ◌⊎◌, inl, inr, ℕ, zero, suc, ◌+◌, ◌<◌, ◌≤◌, List, [], ◌∷◌, take, length, get_or, Option, Some, None, refl, sym, subst, arith}
-use Rattle.std.specs.Prelude.{IfSome}
+-- The lowest block of a chain that is to be tested.
+use Rattle.std.proofs.Common.{◌≡◌, inl, inr, ℕ, zero, suc, ◌+◌, ◌-◌, ◌<◌, ◌≤◌, [], ◌∷◌, ◌++◌, length, drop, Option, Some, None, refl, sym, ◌∙◌, ap, subst, arith, length-append}
+use Rattle.std.specs.Prelude.{option_map}
+use Rattle.std.proofs.Math.Seq.{drop-append_seam}
+use Rattle.std.proofs.lemmas.Bool.{cases_lt}
+use Rattle.cf_block.specs.Header.{block_hash_of, genesis_header}
 use Rattle.cf_bytes.specs.declared.hash.Hash32.{Hash32}
 use Rattle.cf_dispute.specs.Claims.{Tables}
-use Rattle.cf_dispute.specs.Tables.{blocks_of}
-use Rattle.cf_headers.specs.Chain.{Hash, Chain, IsIn}
-use Rattle.cf_seek.specs.declared.testing.Trial.{Trial}
+use Rattle.cf_headers.specs.Chain.{Hash, Chain, back_to, lower, tip_hash}
+use Rattle.cf_headers.specs.Heights.{hash_at, height_of}
+use Rattle.cf_headers.proofs.ChainLaws.{back_in}
+use Rattle.cf_seek.specs.Testing.{IsTrial, IsNextTrial}
+use Rattle.cf_seek.specs.Tried.{AreTried, IsToTry}
+use Rattle.cf_seek.proofs.Sought.{placed_low}
+use Rattle.cf_seek.proofs.Stops.{back_ends, found_low, length_found}
 use Rattle.cf_tables.specs.Tables.{Table}
 use Rattle.cf_tables.specs.Tests.{Told}
-use Rattle.cf_seek.specs.Testing.{IsTrial, IsNextTrial}
-use Rattle.cf_tables.proofs.Blocks.{in_more}
+use Rattle.cf_tables.specs.Wanting.{IsAbove}
 
-kept_by : (x : Hash32) (before after : List Hash32) (block : Hash) → (IsIn block (blocks_of before) → IsIn block (blocks_of after)) → IsIn block (blocks_of (x ∷ before)) → IsIn block (blocks_of (x ∷ after))
-kept_by x before after block more (inl e) = inl e
-kept_by x before after block more (inr old) = inr (more old)
+-- ---- blocks by heights
 
-in_kept : (xs : List Hash32) (i : ℕ) (block : Hash) → IsIn block (blocks_of (take i xs)) → IsIn block (blocks_of (take (i + 1) xs))
-in_kept [] zero block is = absurd is
-in_kept [] (suc i) block is = absurd is
-in_kept (x ∷ xs) zero block is = absurd is
-in_kept (x ∷ xs) (suc i) block is = (let up : suc i + 1 ≡ suc (i + 1) = omega arith in rw up (kept_by x (take i xs) (take (i + 1) xs) block (in_kept xs i block) is))
+-- the lowest part of a chain that ends with a hash is its part up to that part's height
+part_at : (hash : Hash) (own part : Chain) → back_to hash own ≡ Some part → hash_at own (length part) ≡ hash
+part_at hash own part found =
+    let p = back_in hash own part found in
+    let n = length-append p.0 part in
+    let m = ap (λ (c : Chain). length c) p.1 in
+    let long : length own - length part ≡ length p.0 = omega (arith, n, m) in
+    let is : part ≡ lower (length part) own =
+    sym (drop-append_seam p.0 part) ∙ ap (λ k. drop k (p.0 ++ part)) (sym long)
+    ∙ ap (λ (c : Chain). drop (length own - length part) c) p.1 in
+    ap tip_hash (sym is) ∙ back_ends hash own part found
 
-in_new : (xs : List Hash32) (i : ℕ) (d : Hash32) → i < length xs → IsIn (get_or xs i d).0 (blocks_of (take (i + 1) xs))
-in_new [] i d lt = absurd (omega (arith, lt))
-in_new (x ∷ xs) zero d lt = inl refl
-in_new (x ∷ xs) (suc i) d lt = (let up : suc i + 1 ≡ suc (i + 1) = omega arith in rw up (inr (in_new xs i d (omega (arith, lt)))))
+pub stands_at : (hash : Hash) (own : Chain) (h : ℕ) → height_of hash own ≡ Some h → hash_at own h ≡ hash
+stands_at hash own h found =
+    let w = length_found (back_to hash own) h found in
+    ap (λ (n : ℕ). hash_at own n) (sym w.2) ∙ part_at hash own w.0 w.1
 
--- the next block is no such, and the answer stays
-pub next_none : (extracts : Table) (tables : Tables) (told : Told) (p : ℕ) (own : Chain) (common : ℕ) (xs : List Hash32) (i : ℕ) (d : Hash32) (o : Option Trial) → i < length xs
-    → IsNextTrial extracts tables told p own common (blocks_of (take i xs)) o → ((h : ℕ) → IsTrial extracts tables told p own common (get_or xs i d).0 h → ⊥)
-    → IsNextTrial extracts tables told p own common (blocks_of (take (i + 1) xs)) o
-next_none extracts tables told p own common xs i d None lt before none = λ block is h t. elim (in_more xs i d block lt is) [
-  | inl old ↦ before block old h t
-  | inr this ↦ none h (subst (λ (b : Hash). IsTrial extracts tables told p own common b h) this t)
-]
-next_none extracts tables told p own common xs i d (Some low) lt before none = (
-  in_kept xs i low.block.0 before.0,
-  before.1,
-  λ block is h t. elim (in_more xs i d block lt is) [
-    | inl old ↦ before.2 block old h t
-    | inr this ↦ absurd (none h (subst (λ (b : Hash). IsTrial extracts tables told p own common b h) this t))
+first_at : (own : Chain) → hash_at own 0 ≡ block_hash_of genesis_header
+first_at own = by own (length own - 0) (omega arith) where
+  by : (own : Chain) (n : ℕ) → n ≡ length own → tip_hash (drop n own) ≡ block_hash_of genesis_header
+  by own zero is = none own (sym is) where
+    none : (own : Chain) → length own ≡ 0 → tip_hash own ≡ block_hash_of genesis_header
+    none [] e = refl
+    none (h ∷ below) e = absurd (omega (arith, e))
+  by [] (suc n) is = refl
+  by (h ∷ below) (suc n) is = by below n (omega (arith, is))
+
+-- a block that stands above genesis, by the lowest height of its hash, hasn't genesis's hash
+pub stands_above : (hash : Hash) (own : Chain) (h : ℕ) → height_of hash own ≡ Some h → 1 ≤ h → IsAbove hash
+stands_above hash own h found up is =
+    let low : h ≤ 0 = placed_low own hash 0 h (omega arith) (first_at own ∙ sym is) (sym found) in
+    omega (arith, low, up)
+
+-- ---- the climb
+
+-- up to where none is to be tested there is no trial
+pub no_trial : (extracts : Table) (tables : Tables) (told : Told) (p : ℕ) (own : Chain) (common most : ℕ)
+    → AreTried extracts tables told p own most
+    → (block : Hash) (h : ℕ) → IsTrial extracts tables told p own common block h → h ≤ most → ⊥
+no_trial extracts tables told p own common most are block h t low =
+    are h t.above low (subst (λ (x : Hash). IsToTry extracts tables told p x) (sym (stands_at block own h t.stands))
+    (record { above = stands_above block own h t.stands t.above; wanted = t.wanted }))
+
+pub next_none : (extracts : Table) (tables : Tables) (told : Told) (p : ℕ) (own : Chain) (common most : ℕ)
+    → AreTried extracts tables told p own most
+    → common ≤ most → IsNextTrial extracts tables told p own common None
+next_none extracts tables told p own common most are up block h t =
+    no_trial extracts tables told p own common most are block h t (let low = t.low in omega (arith, low, up))
+
+-- the first block that is to be tested stands at no lower height
+first_stands : (extracts : Table) (tables : Tables) (told : Told) (p : ℕ) (own : Chain) (h : ℕ) (block : Hash)
+    → AreTried extracts tables told p own h → h + 1 ≤ length own → block ≡ hash_at own (h + 1)
+    → IsToTry extracts tables told p block → height_of block own ≡ Some (h + 1)
+first_stands extracts tables told p own h block are within is to =
+    let w = found_low block own (h + 1) within (sym is) in
+    let at : hash_at own (length w.0) ≡ block = part_at block own w.0 w.1 in
+    let here : h + 1 ≤ length w.0 = elim (cases_lt (length w.0) (h + 1)) [
+      | inl lt ↦ absurd (elim (cases_lt 0 (length w.0)) [
+        | inl up ↦ are (length w.0) (omega (arith, up)) (omega (arith, lt))
+            (subst (λ (x : Hash). IsToTry extracts tables told p x) (sym at) to)
+        | inr none ↦ (
+            let zero_is : 0 ≡ length w.0 = omega (arith, none) in
+            to.above (sym at ∙ ap (λ (n : ℕ). hash_at own n) (sym zero_is) ∙ first_at own)
+            )
+      ])
+      | inr ge ↦ ge
+    ] in
+    let top : length w.0 ≡ h + 1 = omega (arith, here, w.2) in
+    ap (λ (o : Option Chain). option_map (λ (c : Chain). length c) o) w.1 ∙ ap (λ (n : ℕ). Some n) top
+
+pub next_some : (extracts : Table) (tables : Tables) (told : Told) (p : ℕ) (own : Chain) (common h : ℕ) (block : Hash32)
+    → AreTried extracts tables told p own h → h < common → common ≤ length own → block.0 ≡ hash_at own (h + 1)
+    → IsToTry extracts tables told p block.0
+    → IsNextTrial extracts tables told p own common (Some (record { height = h + 1; block = block }))
+next_some extracts tables told p own common h block are low within is to = (
+  record {
+    stands = first_stands extracts tables told p own h block.0 are (omega (arith, low, within)) is to;
+    above = omega arith;
+    low = omega (arith, low);
+    wanted = to.wanted;
+  },
+  λ other k t. elim (cases_lt k (h + 1)) [
+    | inl lt ↦ absurd (no_trial extracts tables told p own common h are other k t (omega (arith, lt)))
+    | inr ge ↦ ge
   ],
 )
-
--- what held of those before, in the words of the lower one
-no_lower : (extracts : Table) (tables : Tables) (told : Told) (p : ℕ) (own : Chain) (common : ℕ) (listed : List Hash) (o : Option Trial) (r : Trial)
-    → IsNextTrial extracts tables told p own common listed o → IfSome o (λ t. r.height ≤ t.height)
-    → (block : Hash) → IsIn block listed → (h : ℕ) → IsTrial extracts tables told p own common block h → r.height ≤ h
-no_lower extracts tables told p own common listed None r before low block is h t = absurd (before block is h t)
-no_lower extracts tables told p own common listed (Some x) r before low block is h t = (let up = before.2 block is h t in omega (arith, up, low))
-
-is_one : (extracts : Table) (tables : Tables) (told : Told) (p : ℕ) (own : Chain) (common : ℕ) (xs : List Hash32) (i : ℕ) (d : Hash32) (o : Option Trial) (found r : Trial) → i < length xs
-    → IsNextTrial extracts tables told p own common (blocks_of (take i xs)) o → found.block ≡ get_or xs i d → IsTrial extracts tables told p own common (get_or xs i d).0 found.height
-    → (r ≡ found) ⊎ (o ≡ Some r) → IsIn r.block.0 (blocks_of (take (i + 1) xs)) × IsTrial extracts tables told p own common r.block.0 r.height
-is_one extracts tables told p own common xs i d o found r lt before this trial (inl e) =
-    subst (λ (t : Trial). IsIn t.block.0 (blocks_of (take (i + 1) xs)) × IsTrial extracts tables told p own common t.block.0 t.height) (sym e)
-    (subst (λ (b : Hash32). IsIn b.0 (blocks_of (take (i + 1) xs)) × IsTrial extracts tables told p own common b.0 found.height) (sym this) (in_new xs i d lt, trial))
-is_one extracts tables told p own common xs i d o found r lt before this trial (inr e) =
-    let mine : IsNextTrial extracts tables told p own common (blocks_of (take i xs)) (Some r) = subst (IsNextTrial extracts tables told p own common (blocks_of (take i xs))) e before in
-    (in_kept xs i r.block.0 mine.0, mine.1)
-
--- the next block is one, and the lower of the two is the answer
-pub next_some : (extracts : Table) (tables : Tables) (told : Told) (p : ℕ) (own : Chain) (common : ℕ) (xs : List Hash32) (i : ℕ) (d : Hash32) (o : Option Trial) (found r : Trial) → i < length xs
-    → IsNextTrial extracts tables told p own common (blocks_of (take i xs)) o → found.block ≡ get_or xs i d → IsTrial extracts tables told p own common (get_or xs i d).0 found.height
-    → ((h : ℕ) → IsTrial extracts tables told p own common (get_or xs i d).0 h → found.height ≤ h) → r.height ≤ found.height → IfSome o (λ t. r.height ≤ t.height) → (r ≡ found) ⊎ (o ≡ Some r)
-    → IsNextTrial extracts tables told p own common (blocks_of (take (i + 1) xs)) (Some r)
-next_some extracts tables told p own common xs i d o found r lt before this trial only low lower one =
-    let is = is_one extracts tables told p own common xs i d o found r lt before this trial one in (
-      is.0,
-      is.1,
-      λ block among h t. elim (in_more xs i d block lt among) [
-        | inl old ↦ no_lower extracts tables told p own common (blocks_of (take i xs)) o r before lower block old h t
-        | inr here ↦ (let up = only h (subst (λ (b : Hash). IsTrial extracts tables told p own common b h) here t) in omega (arith, up, low))
-      ],
-    )

@@ -6,6 +6,7 @@ use Rattle.cf_headers.specs.declared.change.Change.TheVariants.{Longer, NoLonger
 use Rattle.cf_headers.specs.Chain.{Hash, Chain, IsIn}
 use Rattle.cf_headers.specs.Heights.{hash_at, height_of}
 use Rattle.cf_headers.specs.Store.{Chains}
+use Rattle.cf_seek.specs.Cursors.{passed_under}
 use Rattle.cf_seek.specs.Testing.{IsToTest}
 use Rattle.cf_tables.specs.Tables.{Table}
 use Rattle.cf_tables.specs.Tests.{Told}
@@ -44,6 +45,11 @@ tried_after marks p NoLonger = marks
 tried_after marks p Unlinked = marks
 tried_after marks p (Invalid place fault) = marks
 tried_after marks p TooHigh = marks
+
+-- a peer's mark, no higher than below a block
+abbrev pub tried_under : Option Chain → Hash → ℕ → ℕ
+tried_under None block mark = mark
+tried_under (Some own) block mark = passed_under (height_of block own) mark
 
 -- a mark that fell to below each of some blocks of which something holds, and no further
 pub record IsTriedBelow (chain : Option Chain) (holds : Hash → Type 0) (blocks : List Hash) (before after : ℕ) : Type 0 where

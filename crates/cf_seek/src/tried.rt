@@ -1,10 +1,10 @@
 //! Up to where none of the peers' blocks is to be tested.
-ghost use Rattle.std.specs.Prelude.{◌≡◌, ◌×◌, ℕ, ◌∷◌, [], IsSome, replicate, slice_set, vec_len, IfOk};
+ghost use Rattle.std.specs.Prelude.{◌≡◌, ◌≢◌, ◌≤◌, ℕ, List, ◌∷◌, [], true, IsSome, replicate, slice_set, vec_len, IfOk};
 ghost use Rattle.cf_dispute.specs.declared.claim.At.TheVariants.{Differ};
 ghost use Rattle.cf_dispute.specs.Claims.{IsAt};
 ghost use Rattle.cf_dispute.specs.Of.{tables_of};
 ghost use Rattle.cf_dispute.specs.Tables.{blocks_of};
-ghost use Rattle.cf_seek.specs.Tried.{IsOn, IsTriedBelow, tried_after, tried_at};
+ghost use Rattle.cf_seek.specs.Tried.{IsOn, IsTriedBelow, tried_after, tried_at, tried_under};
 ghost use Rattle.cf_tables.specs.Extracts.{table_in};
 
 use crate::cursors::PLACES;
@@ -74,6 +74,20 @@ impl Tried {
             self.put(p, self.of(p).min(link));
         }
     }
+
+    // Whether no mark is above height 0.
+    fn is_unset(&self) -> bool
+        ensures { result ≡ true → (q : ℕ) → tried_at self.now q ≡ 0 }
+    {
+        self.marks.iter().all(|mark| *mark == 0)
+    }
+
+    // How many numbers have a mark; those from there on have none.
+    fn places(&self) -> u32
+        ensures { (q : ℕ) → result ≤ q → tried_at self.now q ≡ 0 }
+    {
+        self.marks.len() as u32
+    }
 }
 
 /// Where they differ on a block's filter, the mark of each peer's blocks falls to below that block.
@@ -87,6 +101,9 @@ pub fn fall_below_dispute<H: HeaderStore>(
     ensures { (q : ℕ) → IsTriedBelow (H.chain store.now q) (λ (b : List ℕ). IsAt (tables_of claims.now) b Differ) (block.now.0 ∷ [])
         (tried_at tried.old q) (tried_at tried.new q) }
 {
+    if is_differing(claims, block) {
+        fall_below(store, tried, block);
+    }
 }
 
 /// The mark of each peer's blocks falls to below each of some blocks that was fetched and on whose filter they differ.
@@ -102,4 +119,35 @@ pub fn fall_below_disputes<H: HeaderStore>(
         (λ (b : List ℕ). IsSome (table_in extracts.now b) × IsAt (tables_of claims.now) b Differ) (blocks_of blocks.now)
         (tried_at tried.old q) (tried_at tried.new q) }
 {
+    if tried.is_unset() {
+        return;
+    }
+    for block in blocks {
+        if extracts.has(block) {
+            fall_below_dispute(store, claims, tried, block);
+        }
+    }
+}
+
+// The mark of each peer's blocks falls to below a block.
+fn fall_below<H: HeaderStore>(store: &H, tried: &mut Tried, block: &Hash32)
+    requires { (q : ℕ) → IsOn (H.chain store.now q) (tried_at tried.old q) }
+    ensures { (q : ℕ) → tried_at tried.new q ≡ tried_under (H.chain store.now q) block.now.0 (tried_at tried.old q) }
+{
+    for q in 0..tried.places() {
+        fall_at(store, tried, PeerNo(q), block);
+    }
+}
+
+// The same of one peer.
+fn fall_at<H: HeaderStore>(store: &H, tried: &mut Tried, p: PeerNo, block: &Hash32)
+    requires { IsOn (H.chain store.now p.0) (tried_at tried.old p.0) }
+    ensures here { tried_at tried.new p.0 ≡ tried_under (H.chain store.now p.0) block.now.0 (tried_at tried.old p.0) }
+    ensures others { (q : ℕ) → q ≢ p.0 → tried_at tried.new q ≡ tried_at tried.old q }
+{
+    let mark = tried.of(p);
+    if mark == 0 {
+        return;
+    }
+    tried.put(p, passed_below(store, p, mark, block));
 }

@@ -1,5 +1,5 @@
 -- An honest peer omits nothing.
-use Rattle.std.proofs.Common.{◌≡◌, inl, inr, ℕ, ◌≤◌, ◌==◌, List, [], ◌∷◌, ◌++◌, length, false, Some, None, Option, refl, sym, ◌∙◌, ap, subst}
+use Rattle.std.proofs.Common.{◌≡◌, inl, inr, ℕ, ◌≤◌, ◌==◌, List, [], ◌∷◌, ◌++◌, length, false, Some, None, Option, refl, sym, ◌∙◌, ap}
 use Rattle.std.specs.Prelude.{option_map}
 use Rattle.std.specs.FinMap.{empty}
 use Rattle.std.proofs.lemmas.Bool.{both_ways}
@@ -24,46 +24,23 @@ use Rattle.cf_frame.specs.declared.frame.FrameFault.{FrameFault}
 use Rattle.cf_frame.specs.Stream.{StreamRead, read_stream}
 use Rattle.cf_msg.specs.declared.msg.Msg.{Msg}
 use Rattle.cf_peer.specs.Trail.{Trail, Part, Item, Called, Said, Refused, Asked, Passed, Lost, Went, Failing, Shutting, called_part, with_item, item_of, hears, hears_fault, part_after, heard_part, spelled, asks, part_of, trail}
-use Rattle.cf_peer.specs.Asking.{HasSaid, claims, given}
+use Rattle.cf_peer.specs.Asking.{HasSaid, claims}
 use Rattle.cf_filter.specs.Lacking.{output_items_of, lacks}
-use Rattle.cf_sync.specs.Fetching.{counted_part, AreBytes, IsGiven, IsTested, IsOmitting}
+use Rattle.cf_sync.specs.Fetching.{counted_part, AreBytes, IsTest, IsTested, IsOmitting}
 use Rattle.cf_sync.specs.Honesty.{IsTrueOf}
 use Rattle.cf_sync.specs.Sync.{IsHashed}
+use Rattle.cf_sync.proofs.Answered.{answered_stays, answered_wide}
 use Rattle.cf_sync.proofs.Counted.{same_use}
-use Rattle.cf_sync.proofs.Grows.{given_stays}
 use Rattle.cf_sync.proofs.HonestLemmas.{Good, NeverOmits, good_truth}
 use Rattle.cf_filter.proofs.OwnFilter.{own_filter}
 use Rattle.cf_sync.proofs.Untouched.{few_items}
 use Rattle.cf_sync.proofs.Brought.{fetched_is, given_is}
 use Rattle.cf_sync.proofs.Entries.{at_either}
-use Rattle.cf_sync.proofs.Listed.{in_left}
 
--- ---- what was tested was given, and stays tested
-
-pub tested_given : (log : Log) (job : Job) → IsTested log job → IsGiven log job
-tested_given [] job t = absurd t
-tested_given (Took (Got q piece) ∷ log) job (inl new) =
-    (q.0, subst (λ (js : List Job). IsIn job js) (sym new.1.joined) (in_left job new.1.news (given (counted_part log q.0)) new.1.among))
-tested_given (Took (Got q piece) ∷ log) job (inr old) = given_stays (Took (Got q piece)) log job (tested_given log job old)
-tested_given (Took (Gone q) ∷ log) job t = given_stays (Took (Gone q)) log job (tested_given log job t)
-tested_given (Took (Tick s) ∷ log) job t = given_stays (Took (Tick s)) log job (tested_given log job t)
-tested_given (Took Ended ∷ log) job t = given_stays (Took Ended) log job (tested_given log job t)
-tested_given (Dialled q name ∷ log) job t = given_stays (Dialled q name) log job (tested_given log job t)
-tested_given (NotDialled q name ∷ log) job t = given_stays (NotDialled q name) log job (tested_given log job t)
-tested_given (Sent q bytes ∷ log) job t = given_stays (Sent q bytes) log job (tested_given log job t)
-tested_given (SendFailed q ∷ log) job t = given_stays (SendFailed q) log job (tested_given log job t)
-tested_given (Closed q ∷ log) job t = given_stays (Closed q) log job (tested_given log job t)
+-- ---- what was tested stays tested
 
 pub tested_stays : (e : Event) (log : Log) (job : Job) → IsTested log job → IsTested (e ∷ log) job
-tested_stays (Took (Got q piece)) log job t = inr t
-tested_stays (Took (Gone q)) log job t = t
-tested_stays (Took (Tick s)) log job t = t
-tested_stays (Took Ended) log job t = t
-tested_stays (Dialled q name) log job t = t
-tested_stays (NotDialled q name) log job t = t
-tested_stays (Sent q bytes) log job t = t
-tested_stays (SendFailed q) log job t = t
-tested_stays (Closed q) log job t = t
+tested_stays = answered_stays IsTest
 
 -- ---- the filters of a chain
 
@@ -108,7 +85,7 @@ good_omits_nothing log p blocks bytes clash all good o =
     let true_one : IsTrueOf blocks o.block c.0 = (good_truth blocks (trail log p) good).claimed o.block c.0 mine in
     let w = filter_of_block empty first_filtered.header blocks all true_one.filter true_one.in_chain in
     let text : filter_hash_of o.tested.filter.filter ≡ filter_hash_of true_one.filter.filter = o.tested.this ∙ sym (ap (λ (h : Hash32). h.0) c.1.1) ∙ true_one.hash in
-    let filter : o.tested.filter.filter ≡ true_one.filter.filter = given_is log blocks clash true_one.filter true_one.in_chain o.tested.filter (tested_given log o.tested.filter o.tested.tested) text in
+    let filter : o.tested.filter.filter ≡ true_one.filter.filter = given_is log blocks clash true_one.filter true_one.in_chain o.tested.filter (answered_wide IsTest log o.tested.filter o.tested.tested) text in
     let name : block_hash_of w.block.header ≡ o.block = sym w.named ∙ true_one.of_block in
     let body : o.omits.body ≡ w.block = fetched_is log blocks bytes clash all w.block w.among o.omits.body o.omits.fetched (o.omits.of_block ∙ sym name) in
     let own : lacks (block_hash_of w.block.header) (output_items_of w.block) (basic_filter_of (block_hash_of w.block.header) (items_of w.block w.spent)) ≡ false = own_filter w.block w.spent (block_hash_of w.block.header) w.few in

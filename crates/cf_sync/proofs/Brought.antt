@@ -19,9 +19,10 @@ use Rattle.cf_match.specs.declared.job.Job.{Job}
 use Rattle.cf_msg.specs.declared.msg.Msg.TheVariants.{Block as BlockMessage, Cfilter}
 use Rattle.cf_wires.specs.Log.{Log}
 use Rattle.cf_peer.specs.Trail.{trail}
-use Rattle.cf_sync.specs.Fetching.{counted_part, AreBytes, IsFetched, IsGiven}
+use Rattle.cf_sync.specs.Fetching.{counted_part, AreBytes, IsFetched}
 use Rattle.cf_sync.specs.Honesty.{filters_above}
 use Rattle.cf_sync.specs.Sync.{strings_of_block, IsHashed}
+use Rattle.cf_sync.proofs.Answered.{HasCome}
 use Rattle.cf_sync.proofs.Listed.{in_either}
 use Rattle.cf_sync.proofs.Spelled.{said_spelled}
 use Rattle.cf_sync.proofs.Counted.{none_from, counted_said, fetched_said, given_said}
@@ -64,8 +65,8 @@ same_filter_hash : (a b : List ℕ) → filter_hash_of a ≡ filter_hash_of b �
 unfolding filter_hash_of
 same_filter_hash a b e = e
 
--- a given filter with the hash of a filter of the chain is that filter
-pub given_is : (log : Log) (blocks : List Block) → NoHashClash (IsHashed log blocks) → (f : Filtered) → IsIn f (filters_above blocks) → (job : Job) → IsGiven log job
+-- a filter that came with the hash of a filter of the chain is that filter
+pub given_is : (log : Log) (blocks : List Block) → NoHashClash (IsHashed log blocks) → (f : Filtered) → IsIn f (filters_above blocks) → (job : Job) → HasCome log job
     → filter_hash_of job.filter ≡ filter_hash_of f.filter → job.filter ≡ f.filter
 given_is log blocks clash f i job got e =
     let w = given_said (counted_part log got.0) job got.1 in

@@ -14,8 +14,9 @@ use Rattle.cf_wires.specs.Log.{Log}
 use Rattle.cf_peer.specs.Trail.{Trail, part_of, connected, own, heard}
 use Rattle.cf_scan.specs.Watching.{IsWatch}
 use Rattle.cf_sync.specs.Example.{only_header, only_hash, cleared_run, other_watch, only_filter, only_filter_hash}
-use Rattle.cf_sync.specs.Fetching.{counted_part, IsCleared}
+use Rattle.cf_sync.specs.Fetching.{counted_part, IsCleared, IsFetchedHash}
 use Rattle.cf_sync.specs.Sync.{HasAsked}
+use Rattle.cf_sync.proofs.Answered.{came_given}
 use Rattle.cf_sync.proofs.Filters.{only_filter_hash_is, only_misses}
 use Rattle.cf_sync.proofs.Computed.{name_is}
 use Rattle.cf_sync.proofs.Written.{at_rest}
@@ -26,9 +27,10 @@ use Rattle.cf_sync.proofs.TwoPeers.{t_11, part_18, u_7, other_20, of_part, AreOf
 abbrev pub AgreesWithIt : Trail → Type 0
 AgreesWithIt t = (hash : Hash32) → hash_claimed (claims (counted t)) only_hash.0 ≡ Some hash → hash ≡ record { 0 = only_filter_hash }
 
--- a log with the honest peer's filter, in which the other claims nothing of the block
-pub cleared_by : (log : Log) (other : Trail) → part_of log 1 ≡ at_rest t_11 → part_of log 2 ≡ at_rest other → AreOfTwo log → AgreesWithIt other → IsCleared other_watch log only_hash.0
-cleared_by log other one two both silent = record {
+-- a log with the honest peer's filter, in which the other claims nothing of the block, and it wasn't fetched
+pub cleared_by : (log : Log) (other : Trail) → part_of log 1 ≡ at_rest t_11 → part_of log 2 ≡ at_rest other → AreOfTwo log → AgreesWithIt other
+    → (IsFetchedHash log only_hash.0 → ⊥) → IsCleared other_watch log only_hash.0
+cleared_by log other one two both silent unfetched = record {
   hash = record { 0 = only_filter_hash };
   agreed = record {
     who = 1;
@@ -41,7 +43,7 @@ cleared_by log other one two both silent = record {
         (λ hash e. absurd (let f : None ≡ Some hash = e in cc)) hash is;
   };
   filter = filter_of only_hash only_filter;
-  given = (1, of_part (λ t. IsIn (filter_of only_hash only_filter) (given (counted t))) (part_of log 1) t_11 one given_11);
+  given = came_given log 1 (filter_of only_hash only_filter) (of_part (λ t. IsIn (filter_of only_hash only_filter) (given (counted t))) (part_of log 1) t_11 one given_11) unfetched;
   of_block = refl;
   this = only_filter_hash_is;
   verdict = ap (λ (x : List ℕ). is_miss (match_of x other_watch only_filter)) name_is ∙ ap is_miss only_misses;
@@ -52,7 +54,7 @@ pub silent_agrees : (t : Trail) → claims (counted t) only_hash.0 ≡ None → 
 silent_agrees t none hash e = absurd (let f : None ≡ Some hash = sym (ap (λ o. option_map (λ (c : Claim). c.hash) o) none) ∙ e in cc)
 
 cleared : IsCleared other_watch cleared_run only_hash.0
-cleared = cleared_by cleared_run u_7 part_18 other_20 all_of_two.1.1 (silent_agrees u_7 (ap (λ (c : Table). c only_hash.0) same_other.claiming))
+cleared = cleared_by cleared_run u_7 part_18 other_20 all_of_two.1.1 (silent_agrees u_7 (ap (λ (c : Table). c only_hash.0) same_other.claiming)) (λ got. none_fetched got.0 got.1)
 
 cleared_settled : (block : List ℕ) → IsIn block (hashes_of (only_header ∷ [])) → IsCleared other_watch cleared_run block
 cleared_settled block (inl e) = subst (λ (x : List ℕ). IsCleared other_watch cleared_run x) (sym e) cleared

@@ -352,6 +352,10 @@ no_block b (inr (inr (inl e))) = cc
 no_block b (inr (inr (inr (inl e)))) = cc
 no_block b (inr (inr (inr (inr none)))) = none
 
+none_fetched_19 : (b : Block) → IsFetched dispute_19 b → ⊥
+none_fetched_19 b got =
+    at_each HasNone dispute_19 t_11 v_8 got.0 part_19 other_19 two_19 (unsaid t_11 no_block_11) (unsaid v_8 (λ c said. no_block c (inr said))) (λ c i. i) b got.1
+
 none_fetched : (b : Block) → IsFetched dispute_20 b → ⊥
 none_fetched b got = at_each HasNone dispute_20 t_11 v_9 got.0 part_20 other_20 two_20 (unsaid t_11 no_block_11) (unsaid v_9 no_block) (λ c i. i) b got.1
 
@@ -429,6 +433,7 @@ disputed = disputed_by dispute_22 t_13 part_22 other_22 refl counts_13.claimed
 -- by its filter the block was cleared before, and now it is wanted
 pub disputed_cleared : IsCleared other_watch dispute_19 only_hash.0
 disputed_cleared = cleared_by dispute_19 v_8 part_19 other_19 two_19 (silent_agrees v_8 (ap (λ (c : Table). c only_hash.0) same_8.claiming))
+    (λ got. none_fetched_19 got.0 got.1)
 
 pub disputed_wanted : (watch : List (List ℕ)) → IsBlockWanted watch dispute_20 only_hash.0
 disputed_wanted watch = ((λ got. none_fetched got.0 got.1), inl (disputed_by dispute_20 t_11 part_20 other_20 refl counts_11.claimed))

@@ -15,7 +15,7 @@ use Rattle.cf_msg.specs.declared.msg.Msg.TheVariants.{Verack, Block as BlockMess
 use Rattle.cf_peer.specs.Acts.{bytes_of}
 use Rattle.cf_peer.specs.Asking.{is_spare, NothingOpen, FiltersOpen, BlockOpen, filters_asked, claims, filter_fault, fault_of, request_after, IsFree, request, is_wanted, is_open, block_fault, verdict, counted, fetched, fetched_by, block_entry, hashes_of, MayAsk, hash_claimed}
 use Rattle.cf_wires.specs.Log.{Log}
-use Rattle.cf_peer.specs.Trail.{Trail, Said, Asked, spelled, part_of, trail, connected, own, heard, first}
+use Rattle.cf_peer.specs.Trail.{Trail, Said, Asked, part_of, trail, connected, own, heard, first}
 use Rattle.cf_scan.specs.Scan.{scan_of}
 use Rattle.cf_scan.specs.Watching.{IsWatch}
 use Rattle.cf_sync.specs.Example.{only_header, only_block, only_hash, chain_of_one, honest_peer, its_version, its_headers, fetch, its_block, log_18, log_19, run_of_two, only_filter, its_claims, ask_filter, its_filter}

@@ -18,10 +18,11 @@ use Rattle.cf_peer.specs.declared.peer.Cause.TheVariants.{OtherFilter}
 use Rattle.cf_wires.specs.Log.{Log}
 use Rattle.cf_peer.specs.Trail.{Trail, Part, Called, Said, Refused, Asked, Passed, Lost, part_of, trail, connected, own, WasAsked}
 use Rattle.cf_peer.specs.Asking.{OpenRequest, NothingOpen, HeadersOpen, ClaimsOpen, FiltersOpen, BlockOpen, is_answer_of, is_this, is_wanted, blocks_from, block_below, claims_asked, filters_asked, filters_left, filter_of, filter_fault, claims, claims_after, given, given_by, hash_claimed, request, request_for, request_after, fault_of, verdict, counted, lists, IsClaimed, MayAsk}
-use Rattle.cf_sync.specs.Fetching.{AreBytes, IsConnected, IsFilterWanted, AreFiltersWanted, MaySend, Rightly, blocks_in}
+use Rattle.cf_sync.specs.Fetching.{AreBytes, IsConnected, IsFetchedHash, IsFilterWanted, IsGiven, AreFiltersWanted, MaySend, Rightly, blocks_in}
 use Rattle.cf_sync.specs.Planned.{Alike, IsPlanned, is_untold}
 use Rattle.cf_sync.specs.Sync.{IsHashed}
 use Rattle.cf_dispute.proofs.PutIn.{same_true}
+use Rattle.cf_sync.proofs.Answered.{came_given}
 use Rattle.cf_sync.proofs.Chains.{cases_same}
 use Rattle.cf_sync.proofs.Counted.{first_none, same_use}
 use Rattle.cf_sync.proofs.Fresh.{shown_more, own_is_shown}
@@ -369,7 +370,10 @@ filters_not_by planned log p right bytes clash on clean one filter start stop ma
           let mine : Some got.3.0.hash ≡ Some wanted.1.0 =
           sym (ap (λ (o : Option Claim). option_map (λ (c : Claim). c.hash) o) (sym (ap (claims t) got.2) ∙ got.3.1)) ∙ sym (ap (λ (c : Table). hash_claimed c x.0) (same_use t on clean).claiming) ∙ claimed in
           let hash : got.3.0.hash ≡ wanted.1.0 = cc in
-          wanted.1.1.2 (got.0, (p, subst (λ (q : Part). IsIn got.0 (given (counted q.trail))) (sym one) got.1), got.2, sym got.3.2 ∙ ap (λ (h : Hash32). h.0) hash)
+          let gave : IsGiven planned got.0 =
+          came_given planned p got.0 (subst (λ (q : Part). IsIn got.0 (given (counted q.trail))) (sym one) got.1)
+          (λ fetched. wanted.0 (subst (λ (b : Hash). IsFetchedHash planned b) got.2 fetched)) in
+          wanted.1.1.2 (got.0, gave, got.2, sym got.3.2 ∙ ap (λ (h : Hash32). h.0) hash)
           )
     ]
 

@@ -213,7 +213,7 @@ rest_so r t = by_fault r.fault where
   by_fault None = heard_so
   by_fault (Some fault) = heard_so
 
-got_here : (p : PeerNo) (piece : List ℕ) (part : Part) → went_on (Took (Got p piece)) p.0 part ≡ heard_part piece part
+pub got_here : (p : PeerNo) (piece : List ℕ) (part : Part) → went_on (Took (Got p piece)) p.0 part ≡ heard_part piece part
 got_here p piece part = grind (arith, common_steps)
 
 -- what a piece brings: nothing, or what ended the request
@@ -356,6 +356,12 @@ paid_go p piece log paid (b ∷ c ∷ more) few brings others h = absurd (omega 
 abbrev pub AreTold : Log → Paid → Told → Type 0
 AreTold log paid told = HoldsTests log told × AreClean log paid told
 
+-- the block of each of these filters is among theirs
+pub named : (job : Job) (jobs : List Job) → IsIn job jobs → IsIn job.block.0 (map (λ (j : Job). j.block.0) jobs)
+named job [] i = absurd i
+named job (j ∷ jobs) (inl e) = inl (ap (λ (x : Job). x.block.0) e)
+named job (j ∷ jobs) (inr i) = inr (named job jobs i)
+
 -- what was found of what was given
 told_go : (p : PeerNo) (piece : List ℕ) (log : Log) (s : Trials) (jobs : List Job)
     → given (counted_part (Took (Got p piece) ∷ log) p.0) ≡ jobs ++ given (counted_part log p.0)
@@ -381,11 +387,6 @@ told_go p piece log s jobs gives asked h on = by (s.aims p.0) jobs refl gives (w
     tests_stay (Took (Got p piece)) log s.told (none_tested js e none) h.told,
     clean_stays (Took (Got p piece)) log s.paid s.told (none_tested js e none) h.clean,
   )
-
-  named : (job : Job) (js : List Job) → IsIn job js → IsIn job.block.0 (map (λ (j : Job). j.block.0) js)
-  named job [] i = absurd i
-  named job (j ∷ js) (inl e) = inl (ap (λ (x : Job). x.block.0) e)
-  named job (j ∷ js) (inr i) = inr (named job js i)
 
   within_open : (jobs ≡ []) ⊎ (map (λ (j : Job). j.block.0) jobs ≡ due) → (job : Job) → IsIn job jobs → IsIn job.block.0 due
   within_open (inl none) job i = absurd (subst (λ (xs : List Job). IsIn job xs) none i)

@@ -1,5 +1,5 @@
 -- What is kept of filters that were tested, and of what fetched blocks pay, says what is to be tested and what was; and how it goes on.
-use Rattle.std.proofs.Common.{◌≡◌, ◌⊎◌, inl, inr, ℕ, ◌≤◌, List, [], ◌∷◌, length, Option, Some, None, Bool, true, false, ◌&&◌, ◌==◌, if◌then◌else◌, refl, sym, ◌∙◌, ap, subst, arith}
+use Rattle.std.proofs.Common.{◌≡◌, ◌⊎◌, inl, inr, ℕ, ◌≤◌, List, [], ◌∷◌, length, Option, Some, None, Bool, true, false, ◌&&◌, if◌then◌else◌, refl, sym, ◌∙◌, ap, subst, arith}
 use Rattle.std.specs.Prelude.{IsSome, option_map, unwrap_or}
 use Rattle.std.proofs.lemmas.Bool.{both_ways, and_from, and_parts, false≢true}
 use Rattle.std.proofs.lemmas.List.{append_cancel_right}
@@ -18,25 +18,23 @@ use Rattle.cf_headers.specs.Rules.{same}
 use Rattle.cf_headers.proofs.Accepting.{at_height}
 use Rattle.cf_headers.proofs.Stacks.{length_lower}
 use Rattle.cf_match.specs.declared.job.Job.{Job}
-use Rattle.cf_msg.specs.declared.msg.Msg.{Msg}
-use Rattle.cf_msg.specs.declared.msg.Msg.TheVariants.{GetCfilters}
 use Rattle.cf_wires.specs.declared.event.Delivery.TheVariants.{Got, Gone, Tick, Ended}
 use Rattle.cf_wires.specs.declared.event.Event.{Event}
 use Rattle.cf_wires.specs.declared.event.Event.TheVariants.{Dialled, NotDialled, Sent, SendFailed, Closed, Took}
 use Rattle.cf_wires.specs.Log.{Log}
 use Rattle.cf_peer.specs.Asking.{fetched, given}
-use Rattle.cf_peer.specs.Trail.{trail, spelled, own}
+use Rattle.cf_peer.specs.Trail.{trail, own}
 use Rattle.cf_scan.specs.declared.extracts.TxExtract.{TxExtract}
 use Rattle.cf_tables.specs.Outputs.{Paid, lacks_kept, put_outputs}
 use Rattle.cf_tables.specs.Tables.{Table}
-use Rattle.cf_seek.specs.Testing.{AreDisputesIn, IsToTest, IsTrial, IsNextTrial}
+use Rattle.cf_seek.specs.Testing.{IsToTest, IsTrial, IsNextTrial}
 use Rattle.cf_tables.specs.Tests.{Told, found_too}
 use Rattle.cf_tables.specs.Trials.{with_found}
 use Rattle.cf_seek.proofs.Along.{common_low}
-use Rattle.cf_seek.proofs.Disputed.{in_among}
 use Rattle.cf_seek.proofs.Stops.{back_ends, found_low}
-use Rattle.cf_sync.specs.Fetching.{counted_part, IsAbove, IsConnected, IsDisputed, IsFetched, IsFetchedHash, IsNoPiece, IsOmission, IsSameFetched, IsTest, IsTested, IsTestedWith, IsTestOf, IsTestWanted, HoldsFetched, Rightly, test_after, IsTestedThrough}
-use Rattle.cf_sync.specs.Kept.{AreClean, AreListed, HoldsClaims, HoldsOutputs, HoldsTests}
+use Rattle.cf_sync.specs.Fetching.{counted_part, IsAbove, IsConnected, IsDisputed, IsFetched, IsFetchedHash, IsNoPiece, IsOmission, IsSameFetched, IsTest, IsTested, IsTestedWith, IsTestOf, IsTestWanted, HoldsFetched, Rightly, IsTestedThrough}
+use Rattle.cf_sync.specs.Kept.{AreClean, HoldsClaims, HoldsOutputs, HoldsTests}
+use Rattle.cf_sync.proofs.Answered.{fetched_hash_stays, test_fetched}
 use Rattle.cf_sync.proofs.Blamed.{tested_stays}
 use Rattle.cf_sync.proofs.Grows.{fetched_before, fetched_stays}
 use Rattle.cf_sync.proofs.Kept.{by_claims, claims_by, disputed_by, some_is}
@@ -87,16 +85,11 @@ some_part : (block : Hash) (part : Chain) → tip_hash part ≡ block → IsAbov
 some_part block [] tip above = absurd (above (sym tip))
 some_part block (h ∷ below) tip above = omega arith
 
--- the disputed ones among the fetched blocks are listed
-pub listed_by : (watch : List (List ℕ)) (l : Log) (extracts : Table) (tables : Tables) (listed : List Hash) → HoldsFetched watch l extracts → HoldsClaims l tables
-    → AreDisputesIn extracts tables listed → AreListed l listed
-listed_by watch l extracts tables listed f h are block got disputed = in_among block listed (are block (has_extract watch l extracts f block got) (differ_by l tables h block disputed))
-
--- where none of the listed blocks is to be tested, what p claims of the disputed ones was
-pub tested_through : (watch : List (List ℕ)) (l : Log) (extracts : Table) (tables : Tables) (told : Told) (listed : List Hash) (chain : Chain) (p : ℕ)
-    → HoldsFetched watch l extracts → HoldsClaims l tables → HoldsTests l told → AreListed l listed → IsConnected l p
-    → IsNextTrial extracts tables told p (own (counted_part l p)) (common_of (own (counted_part l p)) chain) listed None → IsTestedThrough l chain p
-tested_through watch l extracts tables told listed chain p f h k lists on none height up low above fetched_one disputed hash claimed = by (told block hash.0) refl where
+-- where no block is to be tested, what p claims of the disputed ones was
+pub tested_through : (watch : List (List ℕ)) (l : Log) (extracts : Table) (tables : Tables) (told : Told) (chain : Chain) (p : ℕ)
+    → HoldsFetched watch l extracts → HoldsClaims l tables → HoldsTests l told → IsConnected l p
+    → IsNextTrial extracts tables told p (own (counted_part l p)) (common_of (own (counted_part l p)) chain) None → IsTestedThrough l chain p
+tested_through watch l extracts tables told chain p f h k on none height up low above fetched_one disputed hash claimed = by (told block hash.0) refl where
   mine : Chain
   mine = own (counted_part l p)
 
@@ -111,7 +104,7 @@ tested_through watch l extracts tables told listed chain p f h k lists on none h
       let found = found_low block mine height (omega (arith, low, within)) refl in
       let c = by_claims l tables h p block hash on claimed in
       let some : 1 ≤ length found.0 = some_part block found.0 (back_ends block mine found.0 found.1) above in
-      absurd (none block (lists block fetched_one disputed) (length found.0) (record {
+      absurd (none block (length found.0) (record {
         stands = ap (λ (o : Option Chain). option_map length o) found.1;
         above = some;
         low = omega (arith, found.2, low);
@@ -127,35 +120,18 @@ tested_through watch l extracts tables told listed chain p f h k lists on none h
 -- ---- what was tested goes on
 
 -- a filter was tested of a fetched block alone
-test_fetched : (l : Log) (p : ℕ) (block : Hash) → IsTest l p block → IsFetchedHash l block
-test_fetched [] p block t = absurd t
-test_fetched (Sent q bytes ∷ l) p block t = by (q.0 == p) (spelled bytes) (test_fetched l p block) t where
-  by : (b : Bool) (o : Option Msg) → (IsTest l p block → IsFetchedHash l block) → test_after b o l block (IsTest l p block) → IsFetchedHash (Sent q bytes ∷ l) block
-  by false o before t = (let w = before t in (w.0, fetched_stays (Sent q bytes) l w.0 w.1, w.2))
-  by true None before t = (let w = before t in (w.0, fetched_stays (Sent q bytes) l w.0 w.1, w.2))
-  by true (Some (GetCfilters filter start stop)) before t = (t.0, fetched_stays (Sent q bytes) l t.0 t.1, t.2)
-  by true (Some m) before t = (let w = before t in (w.0, fetched_stays (Sent q bytes) l w.0 w.1, w.2))
-test_fetched (Dialled q name ∷ l) p block t = (let w = test_fetched l p block t in (w.0, fetched_stays (Dialled q name) l w.0 w.1, w.2))
-test_fetched (NotDialled q name ∷ l) p block t = (let w = test_fetched l p block t in (w.0, fetched_stays (NotDialled q name) l w.0 w.1, w.2))
-test_fetched (SendFailed q ∷ l) p block t = (let w = test_fetched l p block t in (w.0, fetched_stays (SendFailed q) l w.0 w.1, w.2))
-test_fetched (Closed q ∷ l) p block t = (let w = test_fetched l p block t in (w.0, fetched_stays (Closed q) l w.0 w.1, w.2))
-test_fetched (Took d ∷ l) p block t = (let w = test_fetched l p block t in (w.0, fetched_stays (Took d) l w.0 w.1, w.2))
-
-later : (e : Event) (l : Log) (block : Hash) → IsFetchedHash l block → IsFetchedHash (e ∷ l) block
-later e l block w = (w.0, fetched_stays e l w.0 w.1, w.2)
-
 tested_fetched : (l : Log) (job : Job) → IsTested l job → IsFetchedHash l job.block.0
 tested_fetched [] job t = absurd t
-tested_fetched (Took (Got q piece) ∷ l) job (inl new) = later (Took (Got q piece)) l job.block.0 (test_fetched l q.0 job.block.0 new.0)
-tested_fetched (Took (Got q piece) ∷ l) job (inr old) = later (Took (Got q piece)) l job.block.0 (tested_fetched l job old)
-tested_fetched (Took (Gone q) ∷ l) job t = later (Took (Gone q)) l job.block.0 (tested_fetched l job t)
-tested_fetched (Took (Tick s) ∷ l) job t = later (Took (Tick s)) l job.block.0 (tested_fetched l job t)
-tested_fetched (Took Ended ∷ l) job t = later (Took Ended) l job.block.0 (tested_fetched l job t)
-tested_fetched (Dialled q name ∷ l) job t = later (Dialled q name) l job.block.0 (tested_fetched l job t)
-tested_fetched (NotDialled q name ∷ l) job t = later (NotDialled q name) l job.block.0 (tested_fetched l job t)
-tested_fetched (Sent q bytes ∷ l) job t = later (Sent q bytes) l job.block.0 (tested_fetched l job t)
-tested_fetched (SendFailed q ∷ l) job t = later (SendFailed q) l job.block.0 (tested_fetched l job t)
-tested_fetched (Closed q ∷ l) job t = later (Closed q) l job.block.0 (tested_fetched l job t)
+tested_fetched (Took (Got q piece) ∷ l) job (inl new) = fetched_hash_stays (Took (Got q piece)) l job.block.0 (test_fetched l q.0 job.block.0 new.0)
+tested_fetched (Took (Got q piece) ∷ l) job (inr old) = fetched_hash_stays (Took (Got q piece)) l job.block.0 (tested_fetched l job old)
+tested_fetched (Took (Gone q) ∷ l) job t = fetched_hash_stays (Took (Gone q)) l job.block.0 (tested_fetched l job t)
+tested_fetched (Took (Tick s) ∷ l) job t = fetched_hash_stays (Took (Tick s)) l job.block.0 (tested_fetched l job t)
+tested_fetched (Took Ended ∷ l) job t = fetched_hash_stays (Took Ended) l job.block.0 (tested_fetched l job t)
+tested_fetched (Dialled q name ∷ l) job t = fetched_hash_stays (Dialled q name) l job.block.0 (tested_fetched l job t)
+tested_fetched (NotDialled q name ∷ l) job t = fetched_hash_stays (NotDialled q name) l job.block.0 (tested_fetched l job t)
+tested_fetched (Sent q bytes ∷ l) job t = fetched_hash_stays (Sent q bytes) l job.block.0 (tested_fetched l job t)
+tested_fetched (SendFailed q ∷ l) job t = fetched_hash_stays (SendFailed q) l job.block.0 (tested_fetched l job t)
+tested_fetched (Closed q ∷ l) job t = fetched_hash_stays (Closed q) l job.block.0 (tested_fetched l job t)
 
 omission_on : (e : Event) (l : Log) (block : Hash) (filter : List ℕ) → IsOmission l block filter → IsOmission (e ∷ l) block filter
 omission_on e l block filter o = record { body = o.body; fetched = fetched_stays e l o.body o.fetched; of_block = o.of_block; lacking = o.lacking }

@@ -10,6 +10,7 @@ pub mod Untouched
 pub mod HonestLemmas
 pub mod Counted
 pub mod Grows
+pub mod Answered
 pub mod Brought
 pub mod Blamed
 pub mod Settles
@@ -32,6 +33,7 @@ pub mod KeptOpens
 pub mod Bodies
 pub mod KeptTests
 pub mod KeptAims
+pub mod KeptGiven
 pub mod Written
 pub mod TwoPeers
 pub mod Fetched

@@ -4,26 +4,17 @@ use Rattle.std.proofs.lemmas.Bool.{both_ways}
 use Rattle.cf_block.specs.declared.tx.Block.{Block}
 use Rattle.cf_headers.specs.Chain.{IsIn}
 use Rattle.cf_match.specs.declared.job.Job.{Job}
-use Rattle.cf_wires.specs.declared.event.Delivery.TheVariants.{Got, Gone, Tick, Ended}
 use Rattle.cf_wires.specs.declared.event.Event.{Event}
-use Rattle.cf_wires.specs.declared.event.Event.TheVariants.{Dialled, NotDialled, Sent, SendFailed, Closed, Took}
 use Rattle.cf_peer.specs.Asking.{counted, claims, hash_claimed}
 use Rattle.cf_wires.specs.Log.{Log}
 use Rattle.cf_peer.specs.Trail.{Part, trail, part_of, connected}
-use Rattle.cf_sync.specs.Fetching.{IsNoPiece, IsSameFetched, IsTested, IsOmitting}
+use Rattle.cf_sync.specs.Fetching.{IsNoPiece, IsSameFetched, IsTest, IsTested, IsOmitting}
 use Rattle.cf_sync.specs.Planned.{Alike}
+use Rattle.cf_sync.proofs.Answered.{only_pieces_answer}
 
 -- what isn't a piece tests nothing
 pub only_pieces_test : (e : Event) (log : Log) (job : Job) → IsNoPiece e → IsTested (e ∷ log) job → IsTested log job
-only_pieces_test (Took (Got q piece)) log job none t = absurd none
-only_pieces_test (Took (Gone q)) log job none t = t
-only_pieces_test (Took (Tick s)) log job none t = t
-only_pieces_test (Took Ended) log job none t = t
-only_pieces_test (Dialled q name) log job none t = t
-only_pieces_test (NotDialled q name) log job none t = t
-only_pieces_test (Sent q bytes) log job none t = t
-only_pieces_test (SendFailed q) log job none t = t
-only_pieces_test (Closed q) log job none t = t
+only_pieces_test = only_pieces_answer IsTest
 
 -- the two logs agree in p's part, in what was fetched and in what was tested
 pub omits_alike : (planned log : Log) (p : ℕ) → Alike (part_of planned p) (part_of log p) → IsSameFetched planned log → ((job : Job) → IsTested planned job → IsTested log job)

@@ -1,6 +1,6 @@
 -- Verdicts that hold what was given, with those on more filters.
-use Rattle.std.proofs.Common.{◌≡◌, ◌⊎◌, inl, inr, ℕ, List, [], ◌∷◌, ◌++◌, Option, Some, None, Bool, true, false, ◌==◌, if◌then◌else◌, refl, sym, ◌∙◌, ap, subst}
-use Rattle.std.proofs.lemmas.Bool.{cases_Bool, and_parts, and_from, both_ways, eqb-true}
+use Rattle.std.proofs.Common.{◌≡◌, ◌⊎◌, inl, inr, ℕ, List, [], ◌∷◌, ◌++◌, Option, Some, None, Bool, true, false, if◌then◌else◌, refl, sym, ◌∙◌, ap}
+use Rattle.std.proofs.lemmas.Bool.{and_parts, and_from, both_ways}
 use Rattle.cf_filter.specs.Filter.{filter_hash_of}
 use Rattle.cf_headers.specs.Chain.{Hash, IsIn}
 use Rattle.cf_headers.specs.Rules.{same}
@@ -9,11 +9,13 @@ use Rattle.cf_match.specs.declared.job.Verdict.{Verdict}
 use Rattle.cf_match.specs.Verdicts.{Verdicts, verdict_of, kept_or, is_of, with_verdict, with_verdicts, AreSameVerdicts}
 use Rattle.cf_msg.specs.declared.msg.Msg.{Msg}
 use Rattle.cf_peer.specs.Asking.{request, fault_of, verdict, counted, given, given_by}
+use Rattle.cf_wires.specs.declared.event.Event.{Event}
 use Rattle.cf_wires.specs.Log.{Log}
 use Rattle.cf_peer.specs.Trail.{Trail, Said, connected}
-use Rattle.cf_sync.specs.Fetching.{counted_part, IsGiven}
+use Rattle.cf_sync.specs.Fetching.{IsGiven, IsNoPiece}
 use Rattle.cf_sync.specs.Kept.{HoldsGiven}
-use Rattle.cf_sync.proofs.Listed.{in_left, in_right, in_either}
+use Rattle.cf_sync.specs.Planned.{IsSameGiven}
+use Rattle.cf_sync.proofs.Answered.{no_piece_same_given}
 use Rattle.cf_dispute.proofs.PutIn.{same_true, same_from}
 use Rattle.cf_sync.proofs.Counted.{same_use, said_counts, first_none}
 
@@ -70,13 +72,13 @@ missing_in watch (first ∷ jobs) verdicts block hash e =
       ],
     )
 
--- where a later log has these filters more of one peer, and of the others the same, the verdicts are to be those with these filters'
-pub grown_given : (watch : List (List ℕ)) (log later : Log) (p : ℕ) (jobs : List Job) (before after : Verdicts) → given (counted_part later p) ≡ jobs ++ given (counted_part log p)
-    → ((q : ℕ) → (p == q) ≡ false → given (counted_part later q) ≡ given (counted_part log q)) → AreSameVerdicts after (with_verdicts watch jobs before)
-    → HoldsGiven watch log before → HoldsGiven watch later after
-grown_given watch log later p jobs before after brings others alike holds = record {
+-- where in a later log these filters were given besides, the verdicts are to be those with these filters'
+pub grown_given : (watch : List (List ℕ)) (log later : Log) (jobs : List Job) (before after : Verdicts) → ((job : Job) → IsIn job jobs → IsGiven later job)
+    → ((job : Job) → IsGiven log job → IsGiven later job) → ((job : Job) → IsGiven later job → IsGiven log job ⊎ IsIn job jobs)
+    → AreSameVerdicts after (with_verdicts watch jobs before) → HoldsGiven watch log before → HoldsGiven watch later after
+grown_given watch log later jobs before after fresh stays comes alike holds = record {
   sound = λ block hash v e. elim (found_in watch jobs before block hash v (sym (alike block hash) ∙ e)) [
-    | inl w ↦ (w.0, (p, subst (λ (js : List Job). IsIn w.0 js) (sym brings) (in_left w.0 jobs (given (counted_part log p)) w.1)), w.2, w.3, w.4)
+    | inl w ↦ (w.0, fresh w.0 w.1, w.2, w.3, w.4)
     | inr old ↦ (let w = holds.sound block hash v old in (w.0, stays w.0 w.1, w.2, w.3, w.4))
   ];
   complete = λ block hash e got.
@@ -85,58 +87,16 @@ grown_given watch log later p jobs before after brings others alike holds = reco
         | inl old ↦ holds.complete block hash w.0 (got.0, old, got.2, got.3)
         | inr new ↦ w.1 got.0 new got.2 got.3
       ];
-} where
-  stays : (job : Job) → IsGiven log job → IsGiven later job
-  stays job got = elim (cases_Bool (p == got.0)) [
-    | inl is ↦ (
-        let mine : IsIn job (given (counted_part log p)) = subst (λ (k : ℕ). IsIn job (given (counted_part log k))) (sym (eqb-true p got.0 is)) got.1 in
-        (p, subst (λ (js : List Job). IsIn job js) (sym brings) (in_right job jobs (given (counted_part log p)) mine))
-        )
-    | inr off ↦ (got.0, subst (λ (js : List Job). IsIn job js) (sym (others got.0 off)) got.1)
-  ]
-
-  comes : (job : Job) → IsGiven later job → IsGiven log job ⊎ IsIn job jobs
-  comes job got = elim (cases_Bool (p == got.0)) [
-    | inl is ↦ (
-        let mine : IsIn job (given (counted_part later p)) = subst (λ (k : ℕ). IsIn job (given (counted_part later k))) (sym (eqb-true p got.0 is)) got.1 in
-        elim (in_either job jobs (given (counted_part log p)) (subst (λ (js : List Job). IsIn job js) brings mine)) [ inl new ↦ inr new | inr old ↦ inl (p, old) ]
-        )
-    | inr off ↦ inl (got.0, subst (λ (js : List Job). IsIn job js) (others got.0 off) got.1)
-  ]
-
--- the same, where it is said by membership what came of one peer
-pub grown_between : (watch : List (List ℕ)) (log later : Log) (p : ℕ) (jobs : List Job) (before after : Verdicts) → ((job : Job) → IsIn job jobs → IsIn job (given (counted_part later p)))
-    → ((job : Job) → IsIn job (given (counted_part log p)) → IsIn job (given (counted_part later p))) → ((job : Job) → IsIn job (given (counted_part later p)) → IsIn job jobs ⊎ IsIn job (given (counted_part log p)))
-    → ((q : ℕ) → (p == q) ≡ false → given (counted_part later q) ≡ given (counted_part log q)) → AreSameVerdicts after (with_verdicts watch jobs before)
-    → HoldsGiven watch log before → HoldsGiven watch later after
-grown_between watch log later p jobs before after fresh kept only others alike holds = record {
-  sound = λ block hash v e. elim (found_in watch jobs before block hash v (sym (alike block hash) ∙ e)) [
-    | inl w ↦ (w.0, (p, fresh w.0 w.1), w.2, w.3, w.4)
-    | inr old ↦ (let w = holds.sound block hash v old in (w.0, stays w.0 w.1, w.2, w.3, w.4))
-  ];
-  complete = λ block hash e got.
-      let w = missing_in watch jobs before block.0 hash.0 (sym (alike block.0 hash.0) ∙ e) in
-      elim (comes got.0 got.1) [
-        | inl old ↦ holds.complete block hash w.0 (got.0, old, got.2, got.3)
-        | inr new ↦ w.1 got.0 new got.2 got.3
-      ];
-} where
-  stays : (job : Job) → IsGiven log job → IsGiven later job
-  stays job got = elim (cases_Bool (p == got.0)) [
-    | inl is ↦ (p, kept job (subst (λ (k : ℕ). IsIn job (given (counted_part log k))) (sym (eqb-true p got.0 is)) got.1))
-    | inr off ↦ (got.0, subst (λ (js : List Job). IsIn job js) (sym (others got.0 off)) got.1)
-  ]
-
-  comes : (job : Job) → IsGiven later job → IsGiven log job ⊎ IsIn job jobs
-  comes job got = elim (cases_Bool (p == got.0)) [
-    | inl is ↦ elim (only job (subst (λ (k : ℕ). IsIn job (given (counted_part later k))) (sym (eqb-true p got.0 is)) got.1)) [ inl new ↦ inr new | inr old ↦ inl (p, old) ]
-    | inr off ↦ inl (got.0, subst (λ (js : List Job). IsIn job js) (others got.0 off) got.1)
-  ]
-
--- the same filters were given of each peer
-pub same_given : (watch : List (List ℕ)) (log later : Log) (before after : Verdicts) → ((q : ℕ) → given (counted_part later q) ≡ given (counted_part log q)) → AreSameVerdicts after before
-    → HoldsGiven watch log before → HoldsGiven watch later after
-same_given watch log later before after same alike holds = record {
-  sound = λ block hash v e. (let w = holds.sound block hash v (sym (alike block hash) ∙ e) in (w.0, (w.1.0, subst (λ (js : List Job). IsIn w.0 js) (sym (same w.1.0)) w.1.1), w.2, w.3, w.4));
-  complete = λ block hash e got. holds.complete block hash (sym (alike block.0 hash.0) ∙ e) (got.0, (got.1.0, subst (λ (js : List Job). IsIn got.0 js) (same got.1.0) got.1.1), got.2, got.3);
 }
+
+-- the same filters were given
+pub same_given : (watch : List (List ℕ)) (log later : Log) (before after : Verdicts) → IsSameGiven log later → AreSameVerdicts after before
+    → HoldsGiven watch log before → HoldsGiven watch later after
+same_given watch log later before after same1 alike holds = record {
+  sound = λ block hash v e. (let w = holds.sound block hash v (sym (alike block hash) ∙ e) in (w.0, (same1 w.0).0 w.1, w.2, w.3, w.4));
+  complete = λ block hash e got. holds.complete block hash (sym (alike block.0 hash.0) ∙ e) (got.0, (same1 got.0).1 got.1, got.2, got.3);
+}
+
+-- so it is with what isn't a piece
+pub no_piece_holds_given : (watch : List (List ℕ)) (e : Event) (log : Log) (verdicts : Verdicts) → IsNoPiece e → HoldsGiven watch log verdicts → HoldsGiven watch (e ∷ log) verdicts
+no_piece_holds_given watch e log verdicts none = same_given watch log (e ∷ log) verdicts verdicts (no_piece_same_given e log none) (λ block hash. refl)

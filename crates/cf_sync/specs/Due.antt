@@ -1,7 +1,7 @@
 -- What is to be asked next, by all that a log holds.
 use Rattle.std.specs.Prelude.{◌≡◌, ℕ, true, List, [], ◌∷◌}
 use Rattle.cf_dispute.specs.Claims.{Tables}
-use Rattle.cf_headers.specs.Chain.{Hash, Chain}
+use Rattle.cf_headers.specs.Chain.{Chain}
 use Rattle.cf_headers.specs.Heights.{common_of}
 use Rattle.cf_match.specs.Verdicts.{Verdicts}
 use Rattle.cf_msg.specs.declared.msg.Msg.{Msg}

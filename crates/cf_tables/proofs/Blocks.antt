@@ -1,5 +1,5 @@
 -- Which blocks are in a list, and in its first part.
-use Rattle.std.proofs.Common.{◌≡◌, ◌⊎◌, inl, inr, zero, ℕ, suc, ◌+◌, ◌<◌, List, [], ◌∷◌, length, get_or, take, subst, arith, refl, ◌++◌, sym}
+use Rattle.std.proofs.Common.{◌≡◌, ◌⊎◌, inl, inr, zero, ℕ, suc, ◌+◌, ◌<◌, List, [], ◌∷◌, length, get_or, take, subst, arith, refl}
 use Rattle.cf_bytes.specs.declared.hash.Hash32.{Hash32}
 use Rattle.cf_dispute.specs.Tables.{blocks_of}
 use Rattle.cf_headers.specs.Chain.{Hash, IsIn}
@@ -37,17 +37,3 @@ in_taken xs zero block none = absurd none
 in_taken [] (suc i) block none = absurd none
 in_taken (x ∷ xs) (suc i) block (inl e) = inl e
 in_taken (x ∷ xs) (suc i) block (inr later) = inr (in_taken xs i block later)
-
--- what is listed stays listed, with one block more behind it, and that one is listed
-pub in_front : (xs : List Hash32) (x : Hash32) (at : Hash) → IsIn at (blocks_of xs) → IsIn at (blocks_of (xs ++ x ∷ []))
-in_front [] x at is = absurd is
-in_front (y ∷ xs) x at (inl e) = inl e
-in_front (y ∷ xs) x at (inr is) = inr (in_front xs x at is)
-
-pub in_back : (xs : List Hash32) (x : Hash32) → IsIn x.0 (blocks_of (xs ++ x ∷ []))
-in_back [] x = inl refl
-in_back (y ∷ xs) x = inr (in_back xs x)
-
--- the same blocks are listed
-pub in_same : (xs ys : List Hash32) (at : Hash) → ys ≡ xs → IsIn at (blocks_of xs) → IsIn at (blocks_of ys)
-in_same xs ys at e is = subst (λ (zs : List Hash32). IsIn at (blocks_of zs)) (sym e) is

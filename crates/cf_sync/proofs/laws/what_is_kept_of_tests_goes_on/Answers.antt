@@ -1,4 +1,5 @@
 use Rattle.cf_sync.proofs.KeptAims.{trials_piece, trials_stay}
+use Rattle.cf_sync.proofs.KeptGiven.{verdicts_go}
 use Rattle.cf_sync.proofs.KeptTests.{holds_all}
 use Rattle.cf_sync.proofs.laws.what_is_kept_of_tests_goes_on.Goals as goal
 
@@ -7,6 +8,9 @@ returns-clause-stay c = trials_stay
 
 pub returns-clause-piece : goal.returns-clause-piece
 returns-clause-piece c = trials_piece
+
+pub returns-clause-verdicts : goal.returns-clause-verdicts
+returns-clause-verdicts c = verdicts_go
 
 pub returns-clause-clean : goal.returns-clause-clean
 returns-clause-clean c = holds_all

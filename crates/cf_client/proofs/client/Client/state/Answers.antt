@@ -1,4 +1,4 @@
-use Rattle.cf_client.proofs.Blaming.{blameless}
+use Rattle.cf_client.proofs.Blaming.{blameless, blames_now}
 use Rattle.cf_client.proofs.Innocent.{innocent, answered}
 use Rattle.cf_client.proofs.Standing.{state_is}
 use Rattle.cf_client.proofs.client.Client.state.Goals as goal
@@ -14,3 +14,6 @@ returns-clause-blameless g c = λ log reflects right. blameless c.args.self.now 
 
 pub returns-clause-answered : goal.returns-clause-answered
 returns-clause-answered g c = λ log reflects. answered c.args.self.now log reflects
+
+pub returns-clause-blamed : goal.returns-clause-blamed
+returns-clause-blamed g c = λ log reflects. blames_now c.args.self.now log reflects
