@@ -47,7 +47,7 @@ use Rattle.cf_client.proofs.Steps.{IsChanged, entered_set, extends_none, start_p
 use Rattle.cf_hear.proofs.Hearing.{right_same}
 use Rattle.cf_client.proofs.Shutting.{AreShut, IsGuilty, are_shut, in_below, number_in, shut_lost}
 use Rattle.cf_client.proofs.Settled.{set_each, set_other}
-use Rattle.cf_client.proofs.Standing.{here_on, kept_replied, number_within, set_is}
+use Rattle.cf_client.proofs.Standing.{here_on, kept_replied, number_within, omitted_acts, set_is}
 use Rattle.cf_client.proofs.Taking.{HearsExposed, HearsUnexposed, RepliesDone, unexposed_after, asked_all, asked_owes, asked_replied, follows_is, got_others, heard_connected, heard_log, heard_says, place_keeps, replies_done, sendable_by, sends, sends_track, unchanged}
 
 -- what is claimed of a block by a table of a connected peer
@@ -308,6 +308,11 @@ module _ (d : Desk) (p : PeerNo) (piece : List ℕ) (old : Peer) (mid : Desk) (b
       count = shuts.count ∙ ap (λ (ps : List Place). length ps) placed ∙ length-set d.places p.0 (Here peer)
           ∙ stand.count
           ∙ ap (λ (n : ℕ). n + 1) (sym ((shut {watch = []}).dials ∙ (done {watch = []}).count));
+      omitted = λ q is. elim (number_in q qs) [
+        | inl i ↦ (shut {watch = []}).omitted q i
+        | inr out ↦ omitted_acts (map shut_act qs) sent q (omitted_acts (sends p rs) next q
+            (stand.omitted q (sym ((shuts.kept q out).0 ∙ at_other q (left q out)) ∙ is)))
+      ];
       each = λ q. elim (number_in q qs) [
         | inl i ↦ subst (λ (y : Place). Fits y (part_of last q)) (sym (shuts.gone q i).0)
             (subst (λ (y : Part). Fits shut_place y) (sym ((shut {watch = []}).here q i))

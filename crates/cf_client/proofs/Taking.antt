@@ -18,7 +18,7 @@ use Rattle.cf_peer.specs.declared.act.Act.TheVariants.{Send, Close}
 use Rattle.cf_wires.specs.declared.event.Delivery.TheVariants.{Got, Gone, Tick, Ended}
 use Rattle.cf_wires.specs.declared.event.Event.TheVariants.{Sent, Closed, Took}
 use Rattle.cf_peer.specs.declared.peer.Cause.{Cause}
-use Rattle.cf_peer.specs.declared.peer.Cause.TheVariants.{SendFailed}
+use Rattle.cf_peer.specs.declared.peer.Cause.TheVariants.{SendFailed, Omits}
 use Rattle.cf_peer.specs.declared.peer.Peer.{Peer}
 use Rattle.cf_peer.specs.Acts.{bytes_of, IsSendable, IsDoable}
 use Rattle.cf_wires.specs.Log.{Log, tally_of}
@@ -32,6 +32,7 @@ use Rattle.cf_sync.specs.Fetching.{MaySend, blocks_open, filters_open}
 use Rattle.cf_sync.specs.Due.{IsCalledFor}
 use Rattle.cf_sync.specs.Honesty.{asked}
 use Rattle.cf_sync.proofs.Counted.{same_use}
+use Rattle.cf_sync.proofs.Omitted.{words_unnamed}
 use Rattle.cf_hear.specs.Hearing.{HeardWhole, HeardFault, HeardExposed}
 use Rattle.cf_hear.specs.Exposing.{IsUnexposed}
 use Rattle.cf_hear.specs.Seen.{Seen, Follows}
@@ -45,7 +46,7 @@ use Rattle.cf_place.specs.declared.place.Loss.TheVariants.{Gone as HasGone, Clos
 use Rattle.cf_place.specs.Places.{IsGreetedBy, IsAnswered, IsLost, Keeps, Fits, nobody, PlacesStand, after, Allowed, Goes, CutFor, AreCalm, is_calm, is_here}
 use Rattle.cf_client.specs.Order.{AreTold}
 use Rattle.cf_client.specs.Steps.{Desk, Stands, IsInOrder, Taking, CutOff, Same, Moves}
-use Rattle.cf_client.proofs.Standing.{greeted_more, after-append, allowed-append, set_is, stand_at, stand_same, here_on, goes_start, sent_others, sent_here, closed_others, closed_here, number_within}
+use Rattle.cf_client.proofs.Standing.{greeted_more, after-append, allowed-append, set_is, stand_at, stand_same, here_on, goes_start, sent_others, sent_here, closed_others, closed_here, number_within, omitted_acts, omitted_set}
 use Rattle.cf_client.proofs.Losing.{lost_said, lost_refused, lost_went, goes_now, shut_now, cut_now}
 use Rattle.cf_client.proofs.Settled.{set_other}
 use Rattle.cf_client.proofs.Ordering.{told_replies, told_fault}
@@ -115,7 +116,8 @@ deaf_goes : {watch : List (List ℕ)} (places : List Place) (acts : List Act) (l
     → acts ≡ [] → get_or places p.0 nobody ≡ Lost end → PlacesStand places log → Goes watch places acts (Took (Got p piece) ∷ log)
 deaf_goes places acts log p piece end none lost stand =
     goes_start places acts (Took (Got p piece) ∷ log) none (stand_same places log (Took (Got p piece)) stand
-    (λ q fits. got_fits (get_or places q nobody) p piece q (part_of log q) (λ same. (end, ap (λ k. get_or places k nobody) same ∙ lost)) fits) refl)
+    (λ q fits. got_fits (get_or places q nobody) p piece q (part_of log q) (λ same. (end, ap (λ k. get_or places k nobody) same ∙ lost)) fits) refl
+    (λ q omitted. omitted))
 
 deaf_tracks : (places : List Place) (acts : List Act) (log : Log) (p : PeerNo) (piece : List ℕ) (end : Loss) (seen : Seen)
     → acts ≡ [] → get_or places p.0 nobody ≡ Lost end → PlacesStand places log → Tracks seen log → Tracks seen (after acts (Took (Got p piece) ∷ log))
@@ -280,6 +282,8 @@ whole_at {watch = watch} places log p piece peer seen now acts lt stand on answe
     subst (λ (xs : List Act). Goes watch (set places p.0 (Here peer)) xs next) (sym whole.acts) (record {
       stand = record {
         count = grind (arith, common_steps, stand.count, done.count);
+        omitted = omitted_set places p.0 (Here peer) log (after (sends p rs) next) lt stand.omitted (λ is. cc)
+            (λ q other. omitted_acts (sends p rs) next q);
         each = λ q. elim (cases_eq q p.0) [
           | inl is ↦ subst (λ k. Fits (get_or (set places p.0 (Here peer)) k nobody) (part_of (after (sends p rs) next) k)) (sym is)
               (subst (λ x. Fits x (part_of (after (sends p rs) next) p.0)) (sym (set_is places p.0 (Here peer) lt)) mine)
@@ -391,6 +395,9 @@ fault_at {watch = watch} places log p piece cause seen now acts lt stand on answ
     subst (λ (xs : List Act). Goes watch (set places p.0 (Lost end)) (xs ++ Close p cause ∷ []) next) (sym fault.acts) (record {
       stand = subst (PlacesStand (set places p.0 (Lost end))) (sym (after-append (sends p rs) (Close p cause) next)) (record {
         count = grind (arith, common_steps, stand.count, done.count);
+        omitted = omitted_set places p.0 (Lost end) log (Closed p ∷ later) lt stand.omitted
+            (λ is. (let omits : cause ≡ Omits = cc is in words_unnamed later p.0 (guilty ∙ ap Some omits)))
+            (λ q other omitted. inr (omitted_acts (sends p rs) next q omitted));
         each = λ q. elim (cases_eq q p.0) [
           | inl is ↦ subst (λ k. Fits (get_or (set places p.0 (Lost end)) k nobody) (part_of (Closed p ∷ later) k)) (sym is)
               (subst (λ x. Fits x (part_of (Closed p ∷ later) p.0)) (sym (set_is places p.0 (Lost end) lt)) mine)
@@ -534,21 +541,23 @@ gone_moves d p after none lt order here put =
     (taken (λ log stood. stands_start (set d.places p.0 (Lost HasGone)) after d.acts (Took (Gone p) ∷ log) none
     (stand_at d.places log p.0 (Lost HasGone) (Took (Gone p)) lt (start_places d log none stood) (λ q other. gone_others p q (part_of log q) other) refl
     (subst (λ (x : Part). IsLost HasGone x.trail) (sym (gone_here p (part_of log p.0)))
-    (goes_now (trail log p.0) (here_on (get_or d.places p.0 nobody) (part_of log p.0) ((start_places d log none stood).each p.0) ∙ here))))
+    (goes_now (trail log p.0) (here_on (get_or d.places p.0 nobody) (part_of log p.0) ((start_places d log none stood).each p.0) ∙ here)))
+    (λ is. cc) (λ q omitted. omitted))
     (tracks_gone d.seen after p log put (start_tracks d log none stood)) (unexposed_put d.seen after p.0 put stood.unexposed)))
 
 pub away_moves : (d : Desk) (p : PeerNo) → d.acts ≡ [] → IsInOrder d → is_here (get_or d.places p.0 nobody) ≡ false → Moves (Taking (Gone p)) d d
 away_moves d p none order away = stay_moves order (taken (λ log stood.
     let stand = start_places d log none stood in
     stands_start d.places d.seen d.acts (Took (Gone p) ∷ log) none
-    (stand_same d.places log (Took (Gone p)) stand (λ q fits. gone_fits (get_or d.places q nobody) p q (part_of log q) (λ same. ap (λ (k : ℕ). is_here (get_or d.places k nobody)) same ∙ away) fits) refl)
+    (stand_same d.places log (Took (Gone p)) stand (λ q fits. gone_fits (get_or d.places q nobody) p q (part_of log q) (λ same. ap (λ (k : ℕ). is_here (get_or d.places k nobody)) same ∙ away) fits) refl
+    (λ q omitted. omitted))
     (tracks_away d.seen p log (here_on (get_or d.places p.0 nobody) (part_of log p.0) (stand.each p.0) ∙ away) (start_tracks d log none stood)) stood.unexposed))
 
 -- the end of all deliveries changes nothing
 pub ended_moves : (d : Desk) → d.acts ≡ [] → IsInOrder d → Moves (Taking Ended) d d
 ended_moves d none order = stay_moves order (taken (λ log stood.
     stands_start d.places d.seen d.acts (Took Ended ∷ log) none
-    (stand_same d.places log (Took Ended) (start_places d log none stood) (λ q fits. fits) refl)
+    (stand_same d.places log (Took Ended) (start_places d log none stood) (λ q fits. fits) refl (λ q omitted. omitted))
     (tracks_ended d.seen log (start_tracks d log none stood)) stood.unexposed))
 
 -- the send to a peer has failed, and it is closed
@@ -556,6 +565,8 @@ cut_goes : {watch : List (List ℕ)} (places : List Place) (log cut : Log) (p : 
 cut_goes places log cut p lt stand is = record {
   stand = record {
     count = grind (arith, common_steps, stand.count, is.dials);
+    omitted = omitted_set places p.0 (Lost (ClosedFor SendFailed)) log (Closed p ∷ cut) lt stand.omitted (λ same. cc)
+        (λ q other omitted. inr (is.omitted q other omitted));
     each = λ q. elim (cases_eq q p.0) [
       | inl same ↦ subst (λ k. Fits (get_or (set places p.0 (Lost (ClosedFor SendFailed))) k nobody) (part_of (Closed p ∷ cut) k)) (sym same)
           (subst (λ x. Fits x (part_of (Closed p ∷ cut) p.0)) (sym (set_is places p.0 (Lost (ClosedFor SendFailed)) lt))

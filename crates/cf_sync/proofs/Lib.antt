@@ -12,6 +12,7 @@ pub mod Counted
 pub mod Grows
 pub mod Brought
 pub mod Blamed
+pub mod Omitted
 pub mod Settles
 pub mod Tables
 pub mod SameFetched
