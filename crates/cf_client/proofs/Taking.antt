@@ -133,6 +133,12 @@ abbrev pub asked_all : List Msg → Part → Part
 asked_all [] part = part
 asked_all (r ∷ rs) part = asked_all rs (with_item (Asked r) part)
 
+-- replies claim nothing
+pub claims_asked : (rs : List Msg) (part : Part) → claims (counted (asked_all rs part).trail) ≡ claims
+    (counted part.trail)
+claims_asked [] part = refl
+claims_asked (r ∷ rs) part = claims_asked rs (with_item (Asked r) part)
+
 pub record RepliesDone (watch : List (List ℕ)) (p : PeerNo) (rs : List Msg) (log : Log) : Type 0 where
   pub allowed : Allowed watch (sends p rs) log
   pub here : part_of (after (sends p rs) log) p.0 ≡ asked_all rs (part_of log p.0)
