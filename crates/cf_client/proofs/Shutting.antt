@@ -272,7 +272,7 @@ are_shut watch (n ∷ qs) log rising guilty =
     (guilty q (inr i))) in
     let first = guilty n (inl refl) in
     record {
-      allowed = ((first.number, inr (refl, first.omits), first.replied), more.allowed);
+      allowed = ((first.number, inr (refl, first.omits), first.replied, λ right omits. refl), more.allowed);
       here = λ q i. elim i [
         | inl this ↦ more.others q (λ j. (let lt = above q j in absurd (omega (arith, lt, this))))
             ∙ subst (λ (k : ℕ). part_of (Closed c ∷ log) k ≡ with_item (LostItem IsShutting) (part_of log k))

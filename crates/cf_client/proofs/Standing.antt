@@ -30,7 +30,7 @@ use Rattle.cf_peer.proofs.Peers.{open_by, idle_request, late_is, wants_is, asked
 use Rattle.cf_place.specs.declared.place.Place.{Place}
 use Rattle.cf_place.specs.declared.place.Place.TheVariants.{Here, Lost}
 use Rattle.cf_place.specs.declared.place.Loss.TheVariants.{NotDialled as NeverCalled, Closed as ClosedFor}
-use Rattle.cf_place.specs.Places.{IsGreetedBy, IsAnswered, IsReplied, IsLost, Keeps, Fits, nobody, PlacesStand, entry_of, after, MayAct, Allowed, Goes, is_calm, is_busy, is_here, state_of, IsState, IsGreeting, IsQuestion, AsksAbove}
+use Rattle.cf_place.specs.Places.{IsGreetedBy, IsAnswered, IsReplied, IsLost, IsNamed, Keeps, Fits, nobody, PlacesStand, entry_of, after, MayAct, Allowed, Goes, is_calm, is_busy, is_here, state_of, IsState, IsGreeting, IsQuestion, AsksAbove}
 use Rattle.cf_client.proofs.Spelled.{spelled_bytes}
 use Rattle.cf_client.proofs.Losing.{lost_never, lost_went, shut_now}
 
@@ -146,13 +146,14 @@ late_replied (Lost end) part off is = absurd (false≢true (sym is))
 
 pub late_goes : {watch : List (List ℕ)} (places : List Place) (acts : List Act) (log : Log) (i : ℕ)
     → i < length places → Goes watch places acts log → is_calm (get_or places i nobody) ≡ false
+    → IsNamed (after acts log) i Overdue
     → Goes watch (set places i (Lost (ClosedFor Overdue))) (acts ++ Close (record { 0 = i }) Overdue ∷ []) log
-late_goes places acts log i lt goes is =
+late_goes places acts log i lt goes is named =
     let p : PeerNo = record { 0 = i } in
     let part = part_of (after acts log) i in
     let o = late_open (get_or places i nobody) part (goes.stand.each i) is in
     goes_act places acts log i (Lost (ClosedFor Overdue)) (Close p Overdue) lt goes (λ q other. closed_others p q (part_of (after acts log) q) other) refl
-    (number_within places (after acts log) i goes.stand lt, inl (inr (inr (refl, o.0, o.1))), inl (late_replied (get_or places i nobody) part (goes.stand.each i) is))
+    (number_within places (after acts log) i goes.stand lt, inl (inr (inr (refl, o.0, o.1))), inl (late_replied (get_or places i nobody) part (goes.stand.each i) is), named)
     (subst (λ (x : Part). IsLost (ClosedFor Overdue) x.trail) (sym (closed_here p part)) (shut_now part.trail Overdue (and_parts (connected part.trail) _ o.0).0 (inr (inr (refl, o.0, o.1)))))
     (λ same. cc)
 
