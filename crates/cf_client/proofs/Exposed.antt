@@ -48,19 +48,13 @@ use Rattle.cf_client.proofs.Steps.{IsChanged, entered_set, extends_none, start_p
 use Rattle.cf_hear.proofs.Hearing.{right_same}
 use Rattle.cf_client.proofs.Shutting.{AreShut, IsGuilty, are_shut, in_below, number_in, shut_lost}
 use Rattle.cf_client.proofs.Settled.{set_each, set_other}
-use Rattle.cf_client.proofs.Standing.{here_on, kept_replied, number_within, set_is}
-use Rattle.cf_client.proofs.Taking.{HearsExposed, HearsUnexposed, RepliesDone, unexposed_after, asked_all, asked_owes, asked_replied, follows_is, got_others, heard_connected, heard_log, heard_says, place_keeps, replies_done, sendable_by, sends, sends_track, unchanged}
+use Rattle.cf_client.proofs.Standing.{here_on, kept_replied, number_within, omitted_acts, set_is}
+use Rattle.cf_client.proofs.Taking.{HearsExposed, HearsUnexposed, RepliesDone, unexposed_after, asked_all, asked_replied, claims_asked, follows_is, got_others, heard_connected, heard_log, heard_says, place_keeps, replies_done, sendable_by, sends, sends_track, unchanged}
 
 -- what is claimed of a block by a table of a connected peer
 claimed_hash : (table : Table) (block : Hash) (claim : Claim) → table block ≡ Some claim
     → hash_claimed table block ≡ Some claim.hash
 claimed_hash table block claim is = ap (λ (o : Option Claim). option_map (λ (c : Claim). c.hash) o) is
-
--- replies claim nothing
-claims_asked : (rs : List Msg) (part : Part) (block : Hash) → claims
-    (counted (asked_all rs part).trail) block ≡ claims (counted part.trail) block
-claims_asked [] part block = refl
-claims_asked (r ∷ rs) part block = claims_asked rs (with_item (Asked r) part) block
 
 -- a place that is in use has a number below their count, and its peer was answered
 in_use : (places : List Place) (q : ℕ) → is_here (get_or places q nobody) ≡ true → q < length places
@@ -83,6 +77,30 @@ met_stays r t over = by r.fault where
   by : (o : Option FrameFault) → met (hears_fault o (hears r.frames t)) ≡ true
   by None = met_hears r.frames t over
   by (Some fault) = met_hears r.frames t over
+
+-- what comes later stands on top of what was there
+hears_join : (fs : List Frame) (t : Trail) → (later : Trail) × (hears fs t ≡ later ++ t)
+hears_join [] t = ([], refl)
+hears_join (f ∷ fs) t =
+    let j = hears_join fs (item_of f ∷ t) in
+    (j.0 ++ item_of f ∷ [], j.1 ∙ sym (append_assoc j.0 (item_of f ∷ []) t))
+
+after_join : (r : StreamRead) (t : Trail) → (later : Trail) × ((part_after r t).trail ≡ later ++ t)
+after_join r t = by r.fault where
+  by : (o : Option FrameFault) → (later : Trail) × (hears_fault o (hears r.frames t) ≡ later ++ t)
+  by None = hears_join r.frames t
+  by (Some fault) = (let j = hears_join r.frames t in (hears_fault (Some fault) j.0, ap (hears_fault (Some fault)) j.1))
+
+asked_join : (rs : List Msg) (part : Part) → (later : Trail) × ((asked_all rs part).trail ≡ later ++ part.trail)
+asked_join [] part = ([], refl)
+asked_join (r ∷ rs) part =
+    let j = asked_join rs (with_item (Asked r) part) in
+    (j.0 ++ Asked r ∷ [], j.1 ∙ sym (append_assoc j.0 (Asked r ∷ []) part.trail))
+
+-- replies give nothing
+given_asked : (rs : List Msg) (part : Part) → given (counted (asked_all rs part).trail) ≡ given (counted part.trail)
+given_asked [] part = refl
+given_asked (r ∷ rs) part = given_asked rs (with_item (Asked r) part)
 
 -- acts after others
 after_all : (one two : List Act) (log : Log) → after (one ++ two) log ≡ after two (after one log)
@@ -183,14 +201,23 @@ module _ (d : Desk) (p : PeerNo) (piece : List ℕ) (old : Peer) (mid : Desk) (b
   at_end = (done {watch = []}).here ∙ ap (asked_all rs) at_next
 
   first : IsRepliedFirst (trail sent p.0)
-  first sound = (
-    more,
-    ap (λ (y : Part). owed (counted y.trail)) at_end ∙ sym (asked_owes rs end) ∙ owes
-        ∙ sym (append_assoc (owed (part_of log p.0).trail) rs more)
-        ∙ ap (λ (ms : List Msg). (ms ++ rs) ++ more) (sym sent_before)
-        ∙ ap (λ (ms : List Msg). ms ++ more) (sym (asked_replied rs end x.are.each))
-        ∙ ap (λ (y : Part). replied y.trail ++ more) (sym at_end),
-  )
+  first sound =
+      let heard_more = after_join (read_stream x.later) x.so_far in
+      let sent_more = asked_join rs end in (
+        x.so_far,
+        record {
+          later = sent_more.0 ++ heard_more.0;
+          joined = ap (λ (y : Part). y.trail) at_end ∙ sent_more.1
+              ∙ ap (λ (u : Trail). sent_more.0 ++ u) (ap (λ (y : Part). y.trail) (sym x.leads) ∙ heard_more.1)
+              ∙ sym (append_assoc sent_more.0 heard_more.0 x.so_far);
+          gave = ap (λ (y : Part). given (counted y.trail)) at_end ∙ given_asked rs end
+              ∙ ap (λ (y : Part). given (counted y.trail)) (sym x.leads) ∙ brings.2;
+          claimed = ap (λ (y : Part). claims (counted y.trail)) at_end ∙ claims_asked rs end
+              ∙ ap (λ (y : Part). claims (counted y.trail)) (sym x.leads) ∙ rest.0;
+        },
+        ap (λ (y : Part). replied y.trail) at_end ∙ asked_replied rs end x.are.each
+            ∙ ap (λ (ms : List Msg). ms ++ rs) sent_before ∙ sym x.owes ∙ sym use_so_far.owing,
+      )
 
   read : Tracks (seen_at mid.seen next) sent
   read = sends_track p rs (seen_at mid.seen next) next x.are.each
@@ -219,7 +246,7 @@ module _ (d : Desk) (p : PeerNo) (piece : List ℕ) (old : Peer) (mid : Desk) (b
   here_claims : (claim : Claim) → mid.seen.claims p.0 block ≡ Some claim
       → claims (counted (trail sent p.0)) block ≡ Some claim
   here_claims claim is =
-      ap (λ (y : Part). claims (counted y.trail) block) at_end ∙ claims_asked rs end block
+      ap (λ (y : Part). claims (counted y.trail) block) at_end ∙ ap (λ (c : Table). c block) (claims_asked rs end)
       ∙ ap (λ (y : Part). claims (counted y.trail) block) (sym x.leads)
       ∙ ap (λ (c : Table). c block) (rest.0 ∙ use_so_far.claiming) ∙ sym (x.gains.follows.claims block) ∙ is
 
@@ -314,6 +341,11 @@ module _ (d : Desk) (p : PeerNo) (piece : List ℕ) (old : Peer) (mid : Desk) (b
       count = shuts.count ∙ ap (λ (ps : List Place). length ps) placed ∙ length-set d.places p.0 (Here peer)
           ∙ stand.count
           ∙ ap (λ (n : ℕ). n + 1) (sym ((shut {watch = []}).dials ∙ (done {watch = []}).count));
+      omitted = λ q is. elim (number_in q qs) [
+        | inl i ↦ (shut {watch = []}).omitted q i
+        | inr out ↦ omitted_acts (map shut_act qs) sent q (omitted_acts (sends p rs) next q
+            (stand.omitted q (sym ((shuts.kept q out).0 ∙ at_other q (left q out)) ∙ is)))
+      ];
       each = λ q. elim (number_in q qs) [
         | inl i ↦ subst (λ (y : Place). Fits y (part_of last q)) (sym (shuts.gone q i).0)
             (subst (λ (y : Part). Fits shut_place y) (sym ((shut {watch = []}).here q i))

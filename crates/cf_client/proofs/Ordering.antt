@@ -1,6 +1,6 @@
 -- Acts in order: questions that are added one after another, closes that are, and replies.
 use Rattle.std.proofs.Common.{◌≡◌, ℕ, ◌<◌, ◌≤◌, ◌+◌, ◌&&◌, ◌||◌, Bool, true, false, inl, inr, List, [], ◌∷◌, ◌++◌, length, map, get_or, refl, sym, ◌∙◌, ap, subst, arith, append_assoc}
-use Rattle.std.specs.List.{All, list_any, AllByRecursion}
+use Rattle.std.specs.List.{All, list_all, list_any, AllByRecursion}
 use Rattle.std.specs.List.Sorted.{IsStrictlyIncreasing}
 use Rattle.std.proofs.Math.Seq.{get_or-append_seam}
 use Rattle.std.proofs.lemmas.Bool.{cases_eq}
@@ -21,7 +21,7 @@ use Rattle.cf_peer.specs.Asking.{is_request}
 use Rattle.cf_peer.specs.Hearing.{IsReply}
 use Rattle.cf_place.specs.Places.{AsksAbove, AsksFor}
 use Rattle.cf_client.specs.Shutting.{shut_act}
-use Rattle.cf_client.specs.Order.{number_of, is_asking, closed_in, AreTold, AreAsked, AreInOrder, AsksOne, AddsQuestions, ClosesOne, ClosesLate}
+use Rattle.cf_client.specs.Order.{number_of, is_asking, is_closing, closed_in, SendsFirst, AreTold, AreAsked, AreInOrder, AsksOne, AddsQuestions, ClosesOne, ClosesLate}
 
 -- the questions for headers above a chain and for a block are questions
 pub above_asks : (chain : Chain) (m : Msg) → AsksAbove chain m → is_request m ≡ true
@@ -143,7 +143,7 @@ closes_next i before acts now so_far (inr added) =
 -- ---- what comes first: nothing, closes for silence, or replies, and a close after them
 
 pub told_none : (acts : List Act) → acts ≡ [] → AreTold acts
-told_none acts none = subst AreTold (sym none) (record { owed = refl; closed = rising_none })
+told_none acts none = subst AreTold (sym none) (record { replies = tt; owed = refl; closed = rising_none })
 
 closed_shut : (ns : List ℕ) → closed_in (map shut ns) ≡ ns
 closed_shut [] = refl
@@ -153,9 +153,18 @@ no_asking_shut : (ns : List ℕ) → list_any is_asking (map shut ns) ≡ false
 no_asking_shut [] = refl
 no_asking_shut (n ∷ ns) = no_asking_shut ns
 
+all_closing : (ns : List ℕ) → list_all is_closing (map shut ns) ≡ true
+all_closing [] = refl
+all_closing (n ∷ ns) = all_closing ns
+
+no_sends : (ns : List ℕ) → SendsFirst (map shut ns)
+no_sends [] = tt
+no_sends (n ∷ ns) = all_closing ns
+
 pub told_closed : (before now : List Act) → before ≡ [] → ClosesLate before now → AreTold now
 told_closed before now none closes =
     subst AreTold (sym (closes.added ∙ ap (λ (xs : List Act). xs ++ map shut closes.closed) none)) (record {
+      replies = no_sends closes.closed;
       owed = no_asking_shut closes.closed;
       closed = subst IsStrictlyIncreasing (sym (closed_shut closes.closed)) closes.rising;
     })
@@ -178,9 +187,14 @@ closed_after : (p : PeerNo) (rs : List Msg) (more : List Act) → closed_in (sen
 closed_after p [] more = refl
 closed_after p (r ∷ rs) more = closed_after p rs more
 
+first_after : (p : PeerNo) (rs : List Msg) (more : List Act) → SendsFirst more → SendsFirst (sends p rs ++ more)
+first_after p [] more first = first
+first_after p (r ∷ rs) more first = first_after p rs more first
+
 pub told_replies : (p : PeerNo) (rs : List Msg) (acts : List Act) → AllByRecursion IsReply rs
     → acts ≡ map (λ (m : Msg). Send p m) rs → AreTold acts
 told_replies p rs acts are is = subst AreTold (sym is) (record {
+  replies = subst SendsFirst (append-nil (sends p rs)) (first_after p rs [] tt);
   owed = no_asking p rs are;
   closed = subst IsStrictlyIncreasing (ap closed_in (append-nil (sends p rs)))
       (subst IsStrictlyIncreasing (sym (closed_after p rs [])) rising_none);
@@ -189,6 +203,7 @@ told_replies p rs acts are is = subst AreTold (sym is) (record {
 pub told_fault : (p : PeerNo) (cause : Cause) (rs : List Msg) (acts : List Act) → AllByRecursion IsReply rs
     → acts ≡ map (λ (m : Msg). Send p m) rs → AreTold (acts ++ Close p cause ∷ [])
 told_fault p cause rs acts are is = subst (λ (xs : List Act). AreTold (xs ++ Close p cause ∷ [])) (sym is) (record {
+  replies = first_after p rs (Close p cause ∷ []) refl;
   owed = list_any-append is_asking (sends p rs) (Close p cause ∷ [])
       ∙ ap (λ (b : Bool). b || (false || false)) (no_asking p rs are);
   closed = subst IsStrictlyIncreasing (sym (closed_after p rs (Close p cause ∷ []))) (rising_one p.0);
@@ -203,16 +218,25 @@ closed_shuts : (qs : List ℕ) → closed_in (map shut_act qs) ≡ qs
 closed_shuts [] = refl
 closed_shuts (q ∷ qs) = ap (λ (xs : List ℕ). q ∷ xs) (closed_shuts qs)
 
+all_closing_shuts : (qs : List ℕ) → list_all is_closing (map shut_act qs) ≡ true
+all_closing_shuts [] = refl
+all_closing_shuts (q ∷ qs) = all_closing_shuts qs
+
+no_sends_shuts : (qs : List ℕ) → SendsFirst (map shut_act qs)
+no_sends_shuts [] = tt
+no_sends_shuts (q ∷ qs) = all_closing_shuts qs
+
 -- replies, and then closes for what is omitted
 pub told_shuts : (p : PeerNo) (rs : List Msg) (qs : List ℕ) (acts : List Act) → AllByRecursion IsReply rs → IsStrictlyIncreasing qs
     → acts ≡ map (λ (m : Msg). Send p m) rs ++ map shut_act qs → AreTold acts
 told_shuts p rs qs acts are rising is = subst AreTold (sym is) (record {
+  replies = first_after p rs (map shut_act qs) (no_sends_shuts qs);
   owed = list_any-append is_asking (sends p rs) (map shut_act qs) ∙ ap (λ (b : Bool). b || list_any is_asking (map shut_act qs)) (no_asking p rs are) ∙ no_asking_shuts qs;
   closed = subst IsStrictlyIncreasing (sym (closed_after p rs (map shut_act qs) ∙ closed_shuts qs)) rising;
 })
 
 pub told_close : (p : PeerNo) (cause : Cause) (acts : List Act) → acts ≡ Close p cause ∷ [] → AreTold acts
-told_close p cause acts is = subst AreTold (sym is) (record { owed = refl; closed = rising_one p.0 })
+told_close p cause acts is = subst AreTold (sym is) (record { replies = refl; owed = refl; closed = rising_one p.0 })
 
 -- and then the questions
 pub in_order_by : (told acts : List Act) → AreTold told → AddsQuestions told acts → AreInOrder acts

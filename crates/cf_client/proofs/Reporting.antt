@@ -22,6 +22,8 @@ use Rattle.cf_dispute.specs.declared.claim.Claim.{Claim}
 use Rattle.cf_dispute.specs.Claims.{IsAt, no_claims}
 use Rattle.cf_scan.specs.declared.history.Entry.{Entry}
 use Rattle.cf_scan.specs.Watching.{IsWatch}
+use Rattle.cf_peer.specs.declared.peer.Cause.TheVariants.{Omits}
+use Rattle.cf_sync.specs.Blame.{HasOmitted}
 use Rattle.cf_sync.specs.Fetching.{IsBlockOpen, IsConnected, IsAskedOut, IsTestedThrough, IsFilterOpen, IsScanOver, IsSettled, counted_part}
 use Rattle.cf_sync.proofs.Counted.{same_use}
 use Rattle.cf_sync.proofs.KeptOpens.{settled_else}
@@ -33,7 +35,7 @@ use Rattle.cf_seek.specs.Tracking.{IsBestChain, IsReport}
 use Rattle.cf_place.specs.declared.place.Loss.{Loss}
 use Rattle.cf_place.specs.declared.place.Loss.TheVariants.{NotDialled, Gone, Closed as ClosedFor}
 use Rattle.cf_place.specs.declared.place.PeerEnd.{PeerEnd}
-use Rattle.cf_place.specs.declared.place.PeerEnd.TheVariants.{Ready, Waiting, NotDialled as EndsNotDialled}
+use Rattle.cf_place.specs.declared.place.PeerEnd.TheVariants.{Ready, Waiting, NotDialled as EndsNotDialled, Closed as EndsClosed}
 use Rattle.cf_place.specs.declared.place.Place.{Place}
 use Rattle.cf_place.specs.declared.place.Place.TheVariants.{Here, Lost}
 use Rattle.cf_place.specs.Places.{IsLost, Fits, nobody, PlacesStand, EndTells, EndsTell, end_by, end_of, is_idle, is_settled}
@@ -150,8 +152,23 @@ end_tells : (place : Place) (part : Part) → Fits place part → EndTells (end_
 end_tells (Here peer) part keeps = end_here (is_ready_peer peer) part.trail keeps.holds.on (sym (ready_is peer part.trail keeps.holds))
 end_tells (Lost loss) part lost = end_lost loss part.trail lost
 
+-- who ends closed for an omission is lost so
+end_omits : (place : Place) → end_of place ≡ EndsClosed Omits → place ≡ Lost (ClosedFor Omits)
+end_omits (Here peer) is = absurd (by (is_ready_peer peer) is) where
+  by : (b : Bool) → (if b then Ready else Waiting) ≡ EndsClosed Omits → ⊥
+  by true is = cc is
+  by false is = cc is
+end_omits (Lost NotDialled) is = cc is
+end_omits (Lost Gone) is = cc is
+end_omits (Lost (ClosedFor cause)) is = cc is
+
 pub ends_tell : (places : List Place) (log : Log) → PlacesStand places log → EndsTell (map end_of (drop 1 places)) log
 ends_tell places log stand = record {
+  omitted = λ i is.
+      let at : get_or (map end_of (drop 1 places)) i EndsNotDialled ≡ end_of (get_or places (1 + i) nobody)
+      = get_or-map end_of (drop 1 places) i nobody ∙ ap end_of (get_or_after_one places i nobody) in
+      let number : 1 + i ≡ i + 1 = omega arith in
+      subst (HasOmitted log) number (stand.omitted (1 + i) (end_omits (get_or places (1 + i) nobody) (sym at ∙ is)));
   count = length-map (drop 1 places) end_of ∙ length-drop 1 places ∙ omega (arith, stand.count);
   each = λ i.
       let is : get_or (map end_of (drop 1 places)) i EndsNotDialled ≡ end_of (get_or places (1 + i) nobody)

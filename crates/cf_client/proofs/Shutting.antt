@@ -13,6 +13,7 @@ use Rattle.cf_peer.specs.Asking.{claims, counted, fetched, given, hash_claimed}
 use Rattle.cf_peer.specs.Trail.{Part, Trail, Lost as LostItem, Shutting as IsShutting, connected, part_of, with_item}
 use Rattle.cf_wires.specs.declared.event.Event.TheVariants.{Closed}
 use Rattle.cf_wires.specs.Log.{Log, tally_of}
+use Rattle.cf_sync.specs.Blame.{HasOmitted}
 use Rattle.cf_sync.specs.Fetching.{IsOmitting}
 use Rattle.cf_sync.specs.Kept.{KeepsTrials}
 use Rattle.cf_sync.proofs.Blamed.{tested_stays}
@@ -26,7 +27,7 @@ use Rattle.cf_client.specs.Steps.{Desk}
 use Rattle.cf_client.proofs.Losing.{none_failed}
 use Rattle.cf_client.proofs.Ordering.{below_push, rising_none, rising_push, all_higher}
 use Rattle.cf_client.proofs.Settled.{set_other}
-use Rattle.cf_client.proofs.Standing.{closed_here, closed_others, set_is}
+use Rattle.cf_client.proofs.Standing.{closed_here, closed_others, omitted_acts, set_is}
 
 -- ---- numbers that rise
 
@@ -251,6 +252,7 @@ pub record AreShut (watch : List (List ℕ)) (qs : List ℕ) (log : Log) : Type 
   pub others : (q : ℕ) → (IsIn q qs → ⊥) → part_of (after (map shut_act qs) log) q ≡ part_of log q
   pub dials : (tally_of (after (map shut_act qs) log)).dials ≡ (tally_of log).dials
   pub trials : KeepsTrials log (after (map shut_act qs) log)
+  pub omitted : (q : ℕ) → IsIn q qs → HasOmitted (after (map shut_act qs) log) q
 
 pub are_shut : (watch : List (List ℕ)) (qs : List ℕ) (log : Log) → IsStrictlyIncreasing qs
     → ((q : ℕ) → IsIn q qs → IsGuilty log q) → AreShut watch qs log
@@ -260,6 +262,7 @@ are_shut watch [] log rising guilty = record {
   others = λ q out. refl;
   dials = refl;
   trials = λ trials holds. holds;
+  omitted = λ q i. absurd i;
 }
 are_shut watch (n ∷ qs) log rising guilty =
     let c : PeerNo = record { 0 = n } in
@@ -269,7 +272,7 @@ are_shut watch (n ∷ qs) log rising guilty =
     (guilty q (inr i))) in
     let first = guilty n (inl refl) in
     record {
-      allowed = ((first.number, inr (refl, first.omits), first.replied), more.allowed);
+      allowed = ((first.number, inr (refl, first.omits), first.replied, λ right omits. refl), more.allowed);
       here = λ q i. elim i [
         | inl this ↦ more.others q (λ j. (let lt = above q j in absurd (omega (arith, lt, this))))
             ∙ subst (λ (k : ℕ). part_of (Closed c ∷ log) k ≡ with_item (LostItem IsShutting) (part_of log k))
@@ -280,6 +283,11 @@ are_shut watch (n ∷ qs) log rising guilty =
       others = λ q out. more.others q (λ j. out (inr j)) ∙ closed_others c q (part_of log q) (λ same. out (inl same));
       dials = more.dials;
       trials = λ trials holds. more.trials trials (trials_stay (Closed c) log trials tt tt holds);
+      omitted = λ q i. elim i [
+        | inl this ↦ omitted_acts (map shut_act qs) (Closed c ∷ log) q
+            (inl (sym this, subst (IsOmitting log) (sym this) first.omits))
+        | inr later ↦ more.omitted q later
+      ];
     }
 
 -- how one that was connected is lost then

@@ -14,13 +14,14 @@ use Rattle.cf_peer.specs.declared.act.Act.{Act}
 use Rattle.cf_peer.specs.declared.act.Act.TheVariants.{Send, Close}
 use Rattle.cf_wires.specs.declared.event.Event.{Event}
 use Rattle.cf_wires.specs.declared.event.Event.TheVariants.{Dialled, NotDialled, Sent, Closed}
-use Rattle.cf_peer.specs.declared.peer.Cause.TheVariants.{Overdue}
+use Rattle.cf_peer.specs.declared.peer.Cause.TheVariants.{Omits, Overdue}
 use Rattle.cf_peer.specs.declared.peer.Peer.{Peer}
 use Rattle.cf_peer.specs.Acts.{bytes_of, IsSendable}
 use Rattle.cf_wires.specs.Log.{Log, tally_of, noted}
 use Rattle.cf_peer.specs.Trail.{owed, Trail, Part, Called, Asked, Lost as LostItem, Went, Shutting, part_of, trail, went_on, asks, spelled, with_item, called_part, connected, own, replied, as_reply, is_version, IsClientVersion}
 use Rattle.cf_peer.specs.Asking.{counted, age, is_open, MayAsk, IsFree}
 use Rattle.cf_peer.specs.Peer.{Holds, wants, is_idle_peer, called_peer, asked_for_headers}
+use Rattle.cf_sync.specs.Blame.{HasOmitted}
 use Rattle.cf_sync.specs.Fetching.{MaySend}
 use Rattle.cf_sync.specs.Due.{IsCalledFor}
 use Rattle.cf_sync.specs.Honesty.{asked}
@@ -29,9 +30,9 @@ use Rattle.cf_peer.proofs.Peers.{open_by, idle_request, late_is, wants_is, asked
 use Rattle.cf_place.specs.declared.place.Place.{Place}
 use Rattle.cf_place.specs.declared.place.Place.TheVariants.{Here, Lost}
 use Rattle.cf_place.specs.declared.place.Loss.TheVariants.{NotDialled as NeverCalled, Closed as ClosedFor}
-use Rattle.cf_place.specs.Places.{IsGreetedBy, IsAnswered, IsReplied, IsLost, Keeps, Fits, nobody, PlacesStand, entry_of, after, MayAct, Allowed, Goes, is_calm, is_busy, is_here, state_of, IsState, IsGreeting, IsQuestion, AsksAbove}
+use Rattle.cf_place.specs.Places.{IsGreetedBy, IsAnswered, IsReplied, IsLost, IsNamed, Keeps, Fits, nobody, PlacesStand, entry_of, after, MayAct, Allowed, Goes, is_calm, is_busy, is_here, state_of, IsState, IsGreeting, IsQuestion, AsksAbove}
 use Rattle.cf_client.proofs.Spelled.{spelled_bytes}
-use Rattle.cf_client.proofs.Losing.{lost_went, shut_now}
+use Rattle.cf_client.proofs.Losing.{lost_never, lost_went, shut_now}
 
 pub after-append : (acts : List Act) (a : Act) (log : Log) → after (acts ++ a ∷ []) log ≡ entry_of a ∷ after acts log
 after-append [] a log = refl
@@ -52,15 +53,41 @@ any_default places i a b lt = grind (arith, common_steps)
 pub push_is : (places : List Place) (p : ℕ) (s : Place) → p ≡ length places → get_or (places ++ s ∷ []) p nobody ≡ s
 push_is places p s last = grind (arith, common_steps)
 
+-- who has omitted something still has after acts
+pub omitted_act : (a : Act) (log : Log) (q : ℕ) → HasOmitted log q → HasOmitted (entry_of a ∷ log) q
+omitted_act (Send p m) log q omitted = omitted
+omitted_act (Close p cause) log q omitted = inr omitted
+
+pub omitted_acts : (acts : List Act) (log : Log) (q : ℕ) → HasOmitted log q → HasOmitted (after acts log) q
+omitted_acts [] log q omitted = omitted
+omitted_acts (a ∷ acts) log q omitted = omitted_acts acts (entry_of a ∷ log) q (omitted_act a log q omitted)
+
+-- where one place was set and isn't so lost, another is
+pub omitted_set : (places : List Place) (i : ℕ) (s : Place) (log next : Log) → i < length places
+    → ((q : ℕ) → get_or places q nobody ≡ Lost (ClosedFor Omits) → HasOmitted log q)
+    → (s ≡ Lost (ClosedFor Omits) → ⊥) → ((q : ℕ) → q ≢ i → HasOmitted log q → HasOmitted next q)
+    → (q : ℕ) → get_or (set places i s) q nobody ≡ Lost (ClosedFor Omits) → HasOmitted next q
+omitted_set places i s log next lt before else_lost kept q is = elim (cases_eq q i) [
+  | inl same ↦ absurd (else_lost (sym (ap (λ (k : ℕ). get_or (set places i s) k nobody) same ∙ set_is places i s lt) ∙ is))
+  | inr other ↦
+      let there : get_or (set places i s) q nobody ≡ get_or places q nobody = grind (arith, common_steps) in
+      kept q other (before q (sym there ∙ is))
+]
+
+push_other : (places : List Place) (p q : ℕ) (s : Place) → p ≡ length places → q ≢ p → get_or (places ++ s ∷ []) q nobody ≡ get_or places q nobody
+push_other places p q s last other = grind (arith, common_steps)
+
 -- one place and its peer's part of the log go on together
 pub stand_at : (places : List Place) (log : Log) (i : ℕ) (s : Place) (e : Event)
     → i < length places → PlacesStand places log
     → ((q : ℕ) → q ≢ i → went_on e q (part_of log q) ≡ part_of log q)
     → (noted e (tally_of log)).dials ≡ (tally_of log).dials
     → Fits s (went_on e i (part_of log i))
+    → (s ≡ Lost (ClosedFor Omits) → ⊥) → ((q : ℕ) → HasOmitted log q → HasOmitted (e ∷ log) q)
     → PlacesStand (set places i s) (e ∷ log)
-stand_at places log i s e lt stand others dials fits = record {
+stand_at places log i s e lt stand others dials fits else_lost kept = record {
   count = grind (arith, common_steps, stand.count);
+  omitted = omitted_set places i s log (e ∷ log) lt stand.omitted else_lost (λ q other. kept q);
   each = λ p. elim (cases_eq p i) [
     | inl same ↦ subst (λ q. Fits (get_or (set places i s) q nobody) (went_on e q (part_of log q))) (sym same)
         (subst (λ x. Fits x (went_on e i (part_of log i))) (grind (arith, common_steps)) fits)
@@ -75,10 +102,11 @@ pub goes_act : {watch : List (List ℕ)} (places : List Place) (acts : List Act)
     → (noted (entry_of a) (tally_of (after acts log))).dials ≡ (tally_of (after acts log)).dials
     → MayAct watch a (after acts log)
     → Fits s (went_on (entry_of a) i (part_of (after acts log) i))
+    → (s ≡ Lost (ClosedFor Omits) → ⊥)
     → Goes watch (set places i s) (acts ++ a ∷ []) log
-goes_act {watch = watch} places acts log i s a lt goes others dials may fits = record {
+goes_act {watch = watch} places acts log i s a lt goes others dials may fits else_lost = record {
   stand = subst (PlacesStand (set places i s)) (sym (after-append acts a log))
-      (stand_at places (after acts log) i s (entry_of a) lt goes.stand others dials fits);
+      (stand_at places (after acts log) i s (entry_of a) lt goes.stand others dials fits else_lost (omitted_act a (after acts log)));
   allowed = allowed-append watch acts a log goes.allowed may;
 }
 
@@ -118,14 +146,16 @@ late_replied (Lost end) part off is = absurd (false≢true (sym is))
 
 pub late_goes : {watch : List (List ℕ)} (places : List Place) (acts : List Act) (log : Log) (i : ℕ)
     → i < length places → Goes watch places acts log → is_calm (get_or places i nobody) ≡ false
+    → IsNamed (after acts log) i Overdue
     → Goes watch (set places i (Lost (ClosedFor Overdue))) (acts ++ Close (record { 0 = i }) Overdue ∷ []) log
-late_goes places acts log i lt goes is =
+late_goes places acts log i lt goes is named =
     let p : PeerNo = record { 0 = i } in
     let part = part_of (after acts log) i in
     let o = late_open (get_or places i nobody) part (goes.stand.each i) is in
     goes_act places acts log i (Lost (ClosedFor Overdue)) (Close p Overdue) lt goes (λ q other. closed_others p q (part_of (after acts log) q) other) refl
-    (number_within places (after acts log) i goes.stand lt, inl (inr (inr (refl, o.0, o.1))), inl (late_replied (get_or places i nobody) part (goes.stand.each i) is))
+    (number_within places (after acts log) i goes.stand lt, inl (inr (inr (refl, o.0, o.1))), inl (late_replied (get_or places i nobody) part (goes.stand.each i) is), named)
     (subst (λ (x : Part). IsLost (ClosedFor Overdue) x.trail) (sym (closed_here p part)) (shut_now part.trail Overdue (and_parts (connected part.trail) _ o.0).0 (inr (inr (refl, o.0, o.1)))))
+    (λ same. cc)
 
 -- a peer to which nothing is open may be asked
 pub idle_free : (peer : Peer) (part : Part) → Keeps peer part → is_idle_peer peer ≡ true → IsFree part.trail
@@ -142,6 +172,7 @@ send_goes places acts log i now m lt goes sendable may needed keeps =
     goes_act places acts log i (Here now) (Send p m) lt goes (λ q other. sent_others p (bytes_of m) q (part_of (after acts log) q) other) refl
     (number_within places (after acts log) i goes.stand lt, sendable, may, needed)
     (subst (λ (x : Part). Keeps now x) (sym (sent_here p m part sendable)) keeps)
+    (λ same. cc)
 
 -- what is true of some place, or of none
 pub any_at : (p : Place → Bool) (places : List Place) → list_any p places ≡ true → (i : ℕ) × (p (get_or places i nobody) ≡ true)
@@ -214,12 +245,38 @@ pub stand_same : (places : List Place) (log : Log) (e : Event)
     → PlacesStand places log
     → ((q : ℕ) → Fits (get_or places q nobody) (part_of log q) → Fits (get_or places q nobody) (went_on e q (part_of log q)))
     → (noted e (tally_of log)).dials ≡ (tally_of log).dials
+    → ((q : ℕ) → HasOmitted log q → HasOmitted (e ∷ log) q)
     → PlacesStand places (e ∷ log)
-stand_same places log e stand same dials = record { count = stand.count ∙ ap (λ (n : ℕ). n + 1) (sym dials); each = λ q. same q (stand.each q) }
+stand_same places log e stand same dials kept = record {
+  count = stand.count ∙ ap (λ (n : ℕ). n + 1) (sym dials);
+  omitted = λ q is. kept q (stand.omitted q is);
+  each = λ q. same q (stand.each q);
+}
+
+-- the one place that is nobody's
+pub stand_first : PlacesStand (nobody ∷ []) []
+stand_first = record {
+  count = refl;
+  omitted = λ p is. absurd (let no = sym (first_at p) ∙ is in cc no);
+  each = λ p. subst (λ (x : Place). Fits x (part_of [] p)) (sym (first_at p)) lost_never;
+} where
+  first_at : (p : ℕ) → get_or (nobody ∷ []) p nobody ≡ nobody
+  first_at zero = refl
+  first_at (suc p) = refl
 
 pub goes_start : {watch : List (List ℕ)} (places : List Place) (acts : List Act) (log : Log) → acts ≡ [] → PlacesStand places log → Goes watch places acts log
 goes_start {watch = watch} places acts log none stand =
     subst (λ a. Goes watch places a log) (sym none) (record { stand = stand; allowed = tt })
+
+-- where one place was added that isn't so lost, another is
+omitted_push : (places : List Place) (s : Place) (log next : Log)
+    → ((q : ℕ) → get_or places q nobody ≡ Lost (ClosedFor Omits) → HasOmitted log q)
+    → (s ≡ Lost (ClosedFor Omits) → ⊥) → ((q : ℕ) → HasOmitted log q → HasOmitted next q)
+    → (q : ℕ) → get_or (places ++ s ∷ []) q nobody ≡ Lost (ClosedFor Omits) → HasOmitted next q
+omitted_push places s log next before else_lost kept q is = elim (cases_eq q (length places)) [
+  | inl same ↦ absurd (else_lost (sym (push_is places q s same) ∙ is))
+  | inr other ↦ kept q (before q (sym (push_other places (length places) q s refl other) ∙ is))
+]
 
 -- a new place and the call of its peer
 pub stand_push : (places : List Place) (log : Log) (p : ℕ) (s : Place) (e : Event)
@@ -227,13 +284,15 @@ pub stand_push : (places : List Place) (log : Log) (p : ℕ) (s : Place) (e : Ev
     → ((q : ℕ) → q ≢ p → went_on e q (part_of log q) ≡ part_of log q)
     → (noted e (tally_of log)).dials ≡ (tally_of log).dials + 1
     → Fits s (went_on e p (part_of log p))
+    → (s ≡ Lost (ClosedFor Omits) → ⊥) → ((q : ℕ) → HasOmitted log q → HasOmitted (e ∷ log) q)
     → PlacesStand (places ++ s ∷ []) (e ∷ log)
-stand_push places log p s e last stand others dials fits = record {
+stand_push places log p s e last stand others dials fits else_lost kept = record {
   count = grind (arith, common_steps, stand.count);
+  omitted = omitted_push places s log (e ∷ log) stand.omitted else_lost kept;
   each = λ q. elim (cases_eq q p) [
     | inl same ↦ subst (λ k. Fits (get_or (places ++ s ∷ []) k nobody) (went_on e k (part_of log k))) (sym same)
-        (subst (λ x. Fits x (went_on e p (part_of log p))) (grind (arith, common_steps)) fits)
-    | inr other ↦ subst (λ x. Fits x (went_on e q (part_of log q))) (grind (arith, common_steps))
+        (subst (λ x. Fits x (went_on e p (part_of log p))) (sym (push_is places p s last)) fits)
+    | inr other ↦ subst (λ x. Fits x (went_on e q (part_of log q))) (sym (push_other places p q s last other))
         (subst (λ t. Fits (get_or places q nobody) t) (sym (others q other)) (stand.each q))
   ];
 }
@@ -279,6 +338,8 @@ called_goes {watch = watch} places log p name m last stand greeting =
     record {
       stand = record {
         count = grind (arith, common_steps, stand.count);
+        omitted = omitted_push places (Here called_peer) log (Sent p (bytes_of m) ∷ Dialled p name ∷ log) stand.omitted
+            (λ same. cc) (λ q before. before);
         each = λ q. elim (cases_eq q p.0) [
           | inl same ↦ subst (λ k. Fits (get_or (places ++ Here called_peer ∷ []) k nobody) (part_of (Sent p (bytes_of m) ∷ Dialled p name ∷ log) k)) (sym same)
               (subst (λ x. Fits x (part_of (Sent p (bytes_of m) ∷ Dialled p name ∷ log) p.0)) (sym (push_is places p.0 (Here called_peer) last)) mine)
@@ -307,6 +368,7 @@ refused_stand places log p name last stand =
     let before : IsLost NeverCalled (trail log p.0) = subst (λ (x : Place). Fits x (part_of log p.0)) past (stand.each p.0) in
     stand_push places log p.0 (Lost NeverCalled) (NotDialled p name) last stand (λ q other. grind (arith, common_steps)) refl
     (subst (λ (x : Part). IsLost NeverCalled x.trail) (sym (missed_here p name (part_of log p.0))) (lost_went NeverCalled (trail log p.0) before))
+    (λ same. cc) (λ q omitted. omitted)
 
 -- beyond the places nobody is connected
 pub past_nobody : (places : List Place) (log : Log) (p : ℕ) → length places ≤ p → PlacesStand places log → connected (trail log p) ≡ false

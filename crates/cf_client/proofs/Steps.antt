@@ -44,6 +44,7 @@ use Rattle.cf_client.specs.Settled.{AreEntered, AreRight, AreSettled, IsAskedThr
 use Rattle.cf_client.specs.Steps.{Desk, Stands, IsInOrder, IsSent, IsSentFor, Way, Same, Taking, Extends, Moves, Asks}
 use Rattle.cf_client.proofs.Ordering.{above_asks, block_asked}
 use Rattle.cf_client.proofs.Standing.{set_is, late_goes, goes_start}
+use Rattle.cf_client.proofs.Naming.{blameless_seen}
 use Rattle.cf_client.proofs.Settled.{set_each, set_other, settled_off, heard_by, asked_busy}
 use Rattle.cf_client.proofs.Rights.{right_of, right_set, claims_right, filters_right}
 use Rattle.cf_client.proofs.Best.{Furthest, Tries}
@@ -161,7 +162,8 @@ late_moves d i after lt order late put =
     set_moves i (Lost (ClosedFor Overdue)) lt order (is_lost d.seen after i (ClosedFor Overdue) put) (extends_one d.acts (Close (record { 0 = i }) Overdue))
     (λ all. All-push IsDoable d.acts (Close (record { 0 = i }) Overdue) all (omega (arith, lt, order.few))) (λ was. refl)
     (same (λ log stood. record {
-      goes = goes_watch put.watch (late_goes d.places d.acts log i lt stood.goes late);
+      goes = goes_watch put.watch (late_goes d.places d.acts log i lt stood.goes late
+          (λ right omits. absurd (blameless_seen d.seen (done d.acts log) stood.tracks stood.unexposed right i omits)));
       tracks = closed_tracks d.seen after d.acts log (record { 0 = i }) Overdue put stood.tracks;
       unexposed = unexposed_put d.seen after i put stood.unexposed;
     }))

@@ -6,6 +6,7 @@ use Rattle.std.proofs.lemmas.Bool.{both_ways, cases_eq, false≢true}
 use Rattle.std.proofs.lemmas.List.{append-nil}
 use Rattle.std.proofs.lemmas.List.Elements.{All-push}
 use Rattle.std.specs.List.{All, AllByRecursion}
+use Rattle.cf_bytes.specs.declared.hash.Hash32.{Hash32}
 use Rattle.cf_bytes.specs.declared.peer.PeerNo.{PeerNo}
 use Rattle.cf_frame.specs.declared.frame.Frame.{Frame}
 use Rattle.cf_frame.specs.declared.frame.FrameFault.{FrameFault}
@@ -18,7 +19,7 @@ use Rattle.cf_peer.specs.declared.act.Act.TheVariants.{Send, Close}
 use Rattle.cf_wires.specs.declared.event.Delivery.TheVariants.{Got, Gone, Tick, Ended}
 use Rattle.cf_wires.specs.declared.event.Event.TheVariants.{Sent, Closed, Took}
 use Rattle.cf_peer.specs.declared.peer.Cause.{Cause}
-use Rattle.cf_peer.specs.declared.peer.Cause.TheVariants.{SendFailed}
+use Rattle.cf_peer.specs.declared.peer.Cause.TheVariants.{SendFailed, Omits}
 use Rattle.cf_peer.specs.declared.peer.Peer.{Peer}
 use Rattle.cf_peer.specs.Acts.{bytes_of, IsSendable, IsDoable}
 use Rattle.cf_wires.specs.Log.{Log, tally_of}
@@ -32,6 +33,7 @@ use Rattle.cf_sync.specs.Fetching.{MaySend, blocks_open, filters_open}
 use Rattle.cf_sync.specs.Due.{IsCalledFor}
 use Rattle.cf_sync.specs.Honesty.{asked}
 use Rattle.cf_sync.proofs.Counted.{same_use}
+use Rattle.cf_sync.proofs.Omitted.{words_unnamed}
 use Rattle.cf_hear.specs.Hearing.{HeardWhole, HeardFault, HeardExposed}
 use Rattle.cf_hear.specs.Exposing.{IsUnexposed}
 use Rattle.cf_hear.specs.Seen.{Seen, Follows}
@@ -42,11 +44,12 @@ use Rattle.cf_place.specs.declared.place.Place.{Place}
 use Rattle.cf_place.specs.declared.place.Place.TheVariants.{Here, Lost}
 use Rattle.cf_place.specs.declared.place.Loss.{Loss}
 use Rattle.cf_place.specs.declared.place.Loss.TheVariants.{Gone as HasGone, Closed as ClosedFor}
-use Rattle.cf_place.specs.Places.{IsGreetedBy, IsAnswered, IsLost, Keeps, Fits, nobody, PlacesStand, after, Allowed, Goes, CutFor, AreCalm, is_calm, is_here}
+use Rattle.cf_place.specs.Places.{IsGreetedBy, IsAnswered, IsLost, IsNamed, Keeps, Fits, nobody, PlacesStand, after, Allowed, Goes, CutFor, AreCalm, is_calm, is_here}
 use Rattle.cf_client.specs.Order.{AreTold}
 use Rattle.cf_client.specs.Steps.{Desk, Stands, IsInOrder, Taking, CutOff, Same, Moves}
-use Rattle.cf_client.proofs.Standing.{greeted_more, after-append, allowed-append, set_is, stand_at, stand_same, here_on, goes_start, sent_others, sent_here, closed_others, closed_here, number_within}
+use Rattle.cf_client.proofs.Standing.{greeted_more, after-append, allowed-append, set_is, stand_at, stand_same, here_on, goes_start, sent_others, sent_here, closed_others, closed_here, number_within, omitted_acts, omitted_set}
 use Rattle.cf_client.proofs.Losing.{lost_said, lost_refused, lost_went, goes_now, shut_now, cut_now}
+use Rattle.cf_client.proofs.Naming.{claimed_by, omitting_told}
 use Rattle.cf_client.proofs.Settled.{set_other}
 use Rattle.cf_client.proofs.Ordering.{told_replies, told_fault}
 use Rattle.cf_client.proofs.Spelled.{spelled_bytes}
@@ -115,7 +118,8 @@ deaf_goes : {watch : List (List ℕ)} (places : List Place) (acts : List Act) (l
     → acts ≡ [] → get_or places p.0 nobody ≡ Lost end → PlacesStand places log → Goes watch places acts (Took (Got p piece) ∷ log)
 deaf_goes places acts log p piece end none lost stand =
     goes_start places acts (Took (Got p piece) ∷ log) none (stand_same places log (Took (Got p piece)) stand
-    (λ q fits. got_fits (get_or places q nobody) p piece q (part_of log q) (λ same. (end, ap (λ k. get_or places k nobody) same ∙ lost)) fits) refl)
+    (λ q fits. got_fits (get_or places q nobody) p piece q (part_of log q) (λ same. (end, ap (λ k. get_or places k nobody) same ∙ lost)) fits) refl
+    (λ q omitted. omitted))
 
 deaf_tracks : (places : List Place) (acts : List Act) (log : Log) (p : PeerNo) (piece : List ℕ) (end : Loss) (seen : Seen)
     → acts ≡ [] → get_or places p.0 nobody ≡ Lost end → PlacesStand places log → Tracks seen log → Tracks seen (after acts (Took (Got p piece) ∷ log))
@@ -130,6 +134,12 @@ sends p rs = map (λ (m : Msg). Send p m) rs
 abbrev pub asked_all : List Msg → Part → Part
 asked_all [] part = part
 asked_all (r ∷ rs) part = asked_all rs (with_item (Asked r) part)
+
+-- replies claim nothing
+pub claims_asked : (rs : List Msg) (part : Part) → claims (counted (asked_all rs part).trail) ≡ claims
+    (counted part.trail)
+claims_asked [] part = refl
+claims_asked (r ∷ rs) part = claims_asked rs (with_item (Asked r) part)
 
 pub record RepliesDone (watch : List (List ℕ)) (p : PeerNo) (rs : List Msg) (log : Log) : Type 0 where
   pub allowed : Allowed watch (sends p rs) log
@@ -280,6 +290,8 @@ whole_at {watch = watch} places log p piece peer seen now acts lt stand on answe
     subst (λ (xs : List Act). Goes watch (set places p.0 (Here peer)) xs next) (sym whole.acts) (record {
       stand = record {
         count = grind (arith, common_steps, stand.count, done.count);
+        omitted = omitted_set places p.0 (Here peer) log (after (sends p rs) next) lt stand.omitted (λ is. cc)
+            (λ q other. omitted_acts (sends p rs) next q);
         each = λ q. elim (cases_eq q p.0) [
           | inl is ↦ subst (λ k. Fits (get_or (set places p.0 (Here peer)) k nobody) (part_of (after (sends p rs) next) k)) (sym is)
               (subst (λ x. Fits x (part_of (after (sends p rs) next) p.0)) (sym (set_is places p.0 (Here peer) lt)) mine)
@@ -366,8 +378,11 @@ whole_tracks places log p piece old peer seen now before acts none here stand tr
 fault_at : {watch : List (List ℕ)} (places : List Place) (log : Log) (p : PeerNo) (piece : List ℕ) (cause : Cause) (seen now : Seen) (acts : List Act)
     → p.0 < length places → PlacesStand places log → connected (trail log p.0) ≡ true → IsAnswered (trail log p.0)
     → (fault : HeardFault p seen now [] acts (part_of log p.0) (heard_part piece (part_of log p.0)) cause) → AreSendable fault.replies
+    → (part_of (after (sends p fault.replies) (Took (Got p piece) ∷ log)) p.0
+    ≡ asked_all fault.replies (heard_part piece (part_of log p.0))
+    → IsNamed (after (sends p fault.replies) (Took (Got p piece) ∷ log)) p.0 cause)
     → Goes watch (set places p.0 (Lost (ClosedFor cause))) (acts ++ Close p cause ∷ []) (Took (Got p piece) ∷ log)
-fault_at {watch = watch} places log p piece cause seen now acts lt stand on answered fault sendable =
+fault_at {watch = watch} places log p piece cause seen now acts lt stand on answered fault sendable named =
     let next = Took (Got p piece) ∷ log in
     let rs = fault.replies in
     let here = heard_log p piece log in
@@ -391,6 +406,9 @@ fault_at {watch = watch} places log p piece cause seen now acts lt stand on answ
     subst (λ (xs : List Act). Goes watch (set places p.0 (Lost end)) (xs ++ Close p cause ∷ []) next) (sym fault.acts) (record {
       stand = subst (PlacesStand (set places p.0 (Lost end))) (sym (after-append (sends p rs) (Close p cause) next)) (record {
         count = grind (arith, common_steps, stand.count, done.count);
+        omitted = omitted_set places p.0 (Lost end) log (Closed p ∷ later) lt stand.omitted
+            (λ is. (let omits : cause ≡ Omits = cc is in words_unnamed later p.0 (guilty ∙ ap Some omits)))
+            (λ q other omitted. inr (omitted_acts (sends p rs) next q omitted));
         each = λ q. elim (cases_eq q p.0) [
           | inl is ↦ subst (λ k. Fits (get_or (set places p.0 (Lost end)) k nobody) (part_of (Closed p ∷ later) k)) (sym is)
               (subst (λ x. Fits x (part_of (Closed p ∷ later) p.0)) (sym (set_is places p.0 (Lost end) lt)) mine)
@@ -398,7 +416,7 @@ fault_at {watch = watch} places log p piece cause seen now acts lt stand on answ
               (subst (λ t. Fits (get_or places q nobody) t) (sym (closed_others p q (part_of later q) other ∙ done.others q other ∙ got_others p piece q (part_of log q) other)) (stand.each q))
         ];
       });
-      allowed = allowed-append watch (sends p rs) (Close p cause) next done.allowed (count, inl (inl (up, guilty)), inl (λ sound. replied_all));
+      allowed = allowed-append watch (sends p rs) (Close p cause) next done.allowed (count, inl (inl (up, guilty)), inl (λ sound. replied_all), named at_end);
     })
 
 fault_of : (places : List Place) (log : Log) (p : PeerNo) (piece : List ℕ) (old : Peer) (cause : Cause) (seen now : Seen) (before acts : List Act)
@@ -409,14 +427,39 @@ fault_of places log p piece old cause seen now before acts none here stand track
     subst (λ (xs : List Act). HeardFault p seen now xs acts (part_of log p.0) (heard_part piece (part_of log p.0)) cause) none
     (heard (part_of log p.0) keeps.holds keeps.waits (follows_is seen log p.0 tracks keeps.holds.on keeps.holds.clean))
 
-faulty_goes : {watch : List (List ℕ)} (places : List Place) (log : Log) (p : PeerNo) (piece : List ℕ) (old : Peer) (cause : Cause) (seen now : Seen) (before acts : List Act)
+-- its claims are no omissions: none of them that counts was found to lack anything
+fault_named : (log : Log) (p : PeerNo) (piece : List ℕ) (cause : Cause) (seen now last : Seen) (acts : List Act)
+    → (fault : HeardFault p seen now [] acts (part_of log p.0) (heard_part piece (part_of log p.0)) cause)
+    → AreSendable fault.replies → IsPut now last p.0 None no_claims → Tracks seen log
+    → part_of (after (sends p fault.replies) (Took (Got p piece) ∷ log)) p.0
+    ≡ asked_all fault.replies (heard_part piece (part_of log p.0))
+    → IsNamed (after (sends p fault.replies) (Took (Got p piece) ∷ log)) p.0 cause
+fault_named log p piece cause seen now last acts fault sendable put tracks here right omits =
+    let next = Took (Got p piece) ∷ log in
+    let later = after (sends p fault.replies) next in
+    let end = heard_part piece (part_of log p.0) in
+    let read = tracks_faulty p seen now last [] acts piece log cause fault put tracks in
+    let tracked = sends_track p fault.replies read.0 next fault.are.each sendable read.1.0 in
+    let mine = claimed_by later p.0 omits in
+    let claim : claims (counted end.trail) omits.block ≡ Some mine.0 =
+    sym (ap (λ (x : Part). claims (counted x.trail) omits.block) here
+    ∙ ap (λ (c : Table). c omits.block) (claims_asked fault.replies end)) ∙ mine.1 in
+    let told : now.trials.told omits.block mine.0.hash.0 ≡ Some true =
+    ap (λ (hash : Hash32). now.trials.told omits.block hash.0) mine.2
+    ∙ sym (put.trials.told omits.block omits.hash.0) ∙ read.1.1.trials.told omits.block omits.hash.0
+    ∙ omitting_told read.0 later p.0 tracked right omits in
+    absurd (fault.spared omits.block mine.0 claim told)
+
+faulty_goes : {watch : List (List ℕ)} (places : List Place) (log : Log) (p : PeerNo) (piece : List ℕ) (old : Peer) (cause : Cause) (seen now last : Seen) (before acts : List Act)
     → p.0 < length places → before ≡ [] → get_or places p.0 nobody ≡ Here old → PlacesStand places log → Tracks seen log
-    → HearsFault p piece old seen now before acts cause → All IsDoable acts
+    → HearsFault p piece old seen now before acts cause → All IsDoable acts → IsPut now last p.0 None no_claims
     → Goes watch (set places p.0 (Lost (ClosedFor cause))) (acts ++ Close p cause ∷ []) (Took (Got p piece) ∷ log)
-faulty_goes places log p piece old cause seen now before acts lt none here stand tracks heard doable =
+faulty_goes places log p piece old cause seen now last before acts lt none here stand tracks heard doable put =
     let keeps = place_keeps places log p old here stand in
     let fault = fault_of places log p piece old cause seen now before acts none here stand tracks heard in
-    fault_at places log p piece cause seen now acts lt stand keeps.holds.on keeps.answered fault (sendable_by p fault.replies (subst (All IsDoable) fault.acts doable))
+    let sendable = sendable_by p fault.replies (subst (All IsDoable) fault.acts doable) in
+    fault_at places log p piece cause seen now acts lt stand keeps.holds.on keeps.answered fault sendable
+    (fault_named log p piece cause seen now last acts fault sendable put tracks)
 
 -- a piece in which a frame deserves a cause, and p's chain and claims given up
 faulty_tracks : (places : List Place) (log : Log) (p : PeerNo) (piece : List ℕ) (old : Peer) (cause : Cause) (seen now last : Seen) (before acts : List Act)
@@ -486,7 +529,7 @@ faulty_moves d p piece old cause now last acts lt none order here heard unexpose
     }) (extends_none d.acts (acts ++ Close p cause ∷ []) none)
     (λ all. All-push IsDoable acts (Close p cause) doable (omega (arith, lt, order.few))) (λ was. refl)
     (taken (λ log stood. record {
-      goes = goes_watch (put.watch ∙ watch) (faulty_goes d.places log p piece old cause d.seen now d.acts acts lt none here (start_places d log none stood) (start_tracks d log none stood) heard doable);
+      goes = goes_watch (put.watch ∙ watch) (faulty_goes d.places log p piece old cause d.seen now last d.acts acts lt none here (start_places d log none stood) (start_tracks d log none stood) heard doable put);
       tracks = faulty_tracks d.places log p piece old cause d.seen now last d.acts acts none here (start_places d log none stood) (start_tracks d log none stood) heard doable put;
       unexposed = unexposed_put now last p.0 put
           (unexposed_after d.places log p old d.seen (IsUnexposed now) here (start_places d log none stood) (start_tracks d log none stood) unexposes stood.unexposed);
@@ -534,21 +577,23 @@ gone_moves d p after none lt order here put =
     (taken (λ log stood. stands_start (set d.places p.0 (Lost HasGone)) after d.acts (Took (Gone p) ∷ log) none
     (stand_at d.places log p.0 (Lost HasGone) (Took (Gone p)) lt (start_places d log none stood) (λ q other. gone_others p q (part_of log q) other) refl
     (subst (λ (x : Part). IsLost HasGone x.trail) (sym (gone_here p (part_of log p.0)))
-    (goes_now (trail log p.0) (here_on (get_or d.places p.0 nobody) (part_of log p.0) ((start_places d log none stood).each p.0) ∙ here))))
+    (goes_now (trail log p.0) (here_on (get_or d.places p.0 nobody) (part_of log p.0) ((start_places d log none stood).each p.0) ∙ here)))
+    (λ is. cc) (λ q omitted. omitted))
     (tracks_gone d.seen after p log put (start_tracks d log none stood)) (unexposed_put d.seen after p.0 put stood.unexposed)))
 
 pub away_moves : (d : Desk) (p : PeerNo) → d.acts ≡ [] → IsInOrder d → is_here (get_or d.places p.0 nobody) ≡ false → Moves (Taking (Gone p)) d d
 away_moves d p none order away = stay_moves order (taken (λ log stood.
     let stand = start_places d log none stood in
     stands_start d.places d.seen d.acts (Took (Gone p) ∷ log) none
-    (stand_same d.places log (Took (Gone p)) stand (λ q fits. gone_fits (get_or d.places q nobody) p q (part_of log q) (λ same. ap (λ (k : ℕ). is_here (get_or d.places k nobody)) same ∙ away) fits) refl)
+    (stand_same d.places log (Took (Gone p)) stand (λ q fits. gone_fits (get_or d.places q nobody) p q (part_of log q) (λ same. ap (λ (k : ℕ). is_here (get_or d.places k nobody)) same ∙ away) fits) refl
+    (λ q omitted. omitted))
     (tracks_away d.seen p log (here_on (get_or d.places p.0 nobody) (part_of log p.0) (stand.each p.0) ∙ away) (start_tracks d log none stood)) stood.unexposed))
 
 -- the end of all deliveries changes nothing
 pub ended_moves : (d : Desk) → d.acts ≡ [] → IsInOrder d → Moves (Taking Ended) d d
 ended_moves d none order = stay_moves order (taken (λ log stood.
     stands_start d.places d.seen d.acts (Took Ended ∷ log) none
-    (stand_same d.places log (Took Ended) (start_places d log none stood) (λ q fits. fits) refl)
+    (stand_same d.places log (Took Ended) (start_places d log none stood) (λ q fits. fits) refl (λ q omitted. omitted))
     (tracks_ended d.seen log (start_tracks d log none stood)) stood.unexposed))
 
 -- the send to a peer has failed, and it is closed
@@ -556,6 +601,8 @@ cut_goes : {watch : List (List ℕ)} (places : List Place) (log cut : Log) (p : 
 cut_goes places log cut p lt stand is = record {
   stand = record {
     count = grind (arith, common_steps, stand.count, is.dials);
+    omitted = omitted_set places p.0 (Lost (ClosedFor SendFailed)) log (Closed p ∷ cut) lt stand.omitted (λ same. cc)
+        (λ q other omitted. inr (is.omitted q other omitted));
     each = λ q. elim (cases_eq q p.0) [
       | inl same ↦ subst (λ k. Fits (get_or (set places p.0 (Lost (ClosedFor SendFailed))) k nobody) (part_of (Closed p ∷ cut) k)) (sym same)
           (subst (λ x. Fits x (part_of (Closed p ∷ cut) p.0)) (sym (set_is places p.0 (Lost (ClosedFor SendFailed)) lt))
@@ -564,7 +611,7 @@ cut_goes places log cut p lt stand is = record {
           (subst (λ t. Fits (get_or places q nobody) t) (sym (closed_others p q (part_of cut q) other ∙ is.others q other)) (stand.each q))
     ];
   };
-  allowed = ((omega (arith, number_within places log p.0 stand lt, is.dials), inl (inr (inl (refl, is.broken))), inl (λ sound. absurd (both_ways (failed (trail cut p.0)) sound is.broken))), tt);
+  allowed = ((omega (arith, number_within places log p.0 stand lt, is.dials), inl (inr (inl (refl, is.broken))), inl (λ sound. absurd (both_ways (failed (trail cut p.0)) sound is.broken)), λ right omits. absurd (both_ways (connected (trail cut p.0)) is.off omits.there)), tt);
 }
 
 pub cut_moves : (d : Desk) (p : PeerNo) (after : Seen) → d.acts ≡ [] → p.0 < length d.places → IsInOrder d → IsPut d.seen after p.0 None no_claims

@@ -24,8 +24,20 @@ closed_in [] = []
 closed_in (Send p m ∷ acts) = closed_in acts
 closed_in (Close p cause ∷ acts) = p.0 ∷ closed_in acts
 
--- no act puts a question, and of those who are closed the lowest number comes first, none twice
+-- an act closes somebody
+abbrev pub is_closing : Act → Bool
+is_closing (Send p m) = false
+is_closing (Close p cause) = true
+
+-- nothing is sent once somebody is closed
+abbrev pub SendsFirst : List Act → Type 0
+SendsFirst [] = Unit {0}
+SendsFirst (Send p m ∷ acts) = SendsFirst acts
+SendsFirst (Close p cause ∷ acts) = list_all is_closing acts ≡ true
+
+-- no act puts a question, all that is sent comes before anybody is closed, and of those who are closed the lowest number comes first, none twice
 pub record AreTold (acts : List Act) : Type 0 where
+  pub replies : SendsFirst acts
   pub owed : list_any is_asking acts ≡ false
   pub closed : IsStrictlyIncreasing (closed_in acts)
 

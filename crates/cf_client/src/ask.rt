@@ -11,6 +11,8 @@ ghost use Rattle.cf_dispute.specs.Claims.{Table, Tables};
 ghost use Rattle.cf_hear.specs.Seen.{seen_of};
 ghost use Rattle.cf_msg.specs.declared.msg.Msg.TheVariants.{GetCfheaders, GetCfilters};
 ghost use Rattle.cf_peer.specs.Peer.{asked_for_claims, asked_for_filters};
+ghost use Rattle.cf_place.specs.declared.place.Loss.{Loss};
+ghost use Rattle.cf_place.specs.declared.place.Place.TheVariants.{Lost};
 ghost use Rattle.cf_place.specs.Places.{Fits, PlacesStand, AreCalm, is_calm, is_idle, is_wanting, is_settled, is_here, place_at, IsQuestion, IsFetch};
 ghost use Rattle.cf_client.specs.Settled.{AreRight, IsRightAt, IsAskedThrough, AreAskedThrough};
 ghost use Rattle.cf_client.specs.Order.{AddsQuestions, ClosesOne, ClosesLate};
@@ -31,6 +33,7 @@ fn pass_at(place: &mut Place, seconds: u32)
     requires { is_calm place.old ≡ true }
     ensures fits { (part : Part) → Fits place.old part → Fits place.new (with_item (Passed seconds) part) }
     ensures here { is_here place.new ≡ is_here place.old }
+    ensures lost { (loss : Loss) → place.new ≡ Lost loss → place.old ≡ Lost loss }
     ensures right { (table : Table) → IsRightAt place.old table → IsRightAt place.new table }
 {
     if let Place::Here(peer) = place {

@@ -5,6 +5,7 @@ use Rattle.cf_bytes.specs.declared.peer.PeerNo.{PeerNo}
 use Rattle.cf_block.specs.declared.tx.Block.{Block}
 use Rattle.cf_frame.specs.Stream.{read_stream}
 use Rattle.cf_msg.specs.declared.msg.Msg.{Msg}
+use Rattle.cf_dispute.specs.declared.claim.Claim.{Claim}
 use Rattle.cf_peer.specs.declared.act.Act.{Act}
 use Rattle.cf_peer.specs.declared.act.Act.TheVariants.{Send as SendTo}
 use Rattle.cf_peer.specs.declared.peer.Cause.{Cause}
@@ -12,7 +13,7 @@ use Rattle.cf_peer.specs.declared.peer.Peer.{Peer}
 use Rattle.cf_peer.specs.declared.peer.Reply.{Reply}
 use Rattle.cf_peer.specs.declared.peer.Reply.TheVariants.{Nothing as NoReply, Send, Close, Expose}
 use Rattle.cf_peer.specs.Trail.{Trail, Part, Said, connected, part_after, met, owed, reply_to}
-use Rattle.cf_peer.specs.Asking.{NothingOpen, request, verdict, counted, fetched, fetched_by, given, given_by}
+use Rattle.cf_peer.specs.Asking.{NothingOpen, claims, request, verdict, counted, fetched, fetched_by, given, given_by}
 use Rattle.cf_peer.specs.Hearing.{IsReply, Faulty}
 use Rattle.cf_peer.specs.Peer.{Holds, Hears}
 use Rattle.cf_tables.specs.Tables.{IsSameTable, with_blocks}
@@ -122,6 +123,7 @@ pub record Retains (before after : Seen) (p : PeerNo) (news : List Block) (jobs 
   pub opens : IsSameElse before.opens after.opens p.0
   pub trials : TrialsGo before.trials after.trials p.0 news jobs
 
+-- what came before a fault was taken; and of what counts of the peer's claims none was found to lack what its block pays
 pub record HeardFault (p : PeerNo) (seen now : Seen) (before after : List Act) (start end : Part) (cause : Cause) : Type 0 where
   pub replies : List Msg
   pub acts : after ≡ before ++ map (λ (m : Msg). SendTo p m) replies
@@ -133,6 +135,8 @@ pub record HeardFault (p : PeerNo) (seen now : Seen) (before after : List Act) (
   pub jobs : List Job
   pub gives : Gives start.trail end.trail jobs
   pub kept : Retains seen now p news jobs
+  pub spared : (block : Hash) (claim : Claim) → claims (counted end.trail) block ≡ Some claim
+      → now.trials.told block claim.hash.0 ≡ Some true → ⊥
 
 -- a piece was taken up to a message that exposed the peer: with nothing open to it what follows brings nothing, and it is closed
 pub record HeardExposed (p : PeerNo) (seen now : Seen) (before after : List Act) (start end : Part) (block filter : Hash) : Type 0 where

@@ -16,9 +16,10 @@ use Rattle.cf_peer.specs.declared.peer.Peer.{Peer}
 use Rattle.cf_peer.specs.Acts.{bytes_of, IsSendable}
 use Rattle.cf_wires.specs.Log.{Log, tally_of}
 use Rattle.cf_peer.specs.Trail.{Why, Went, Failing, Shutting, Trail, Called, Said, Refused, Asked, Passed, Lost as LostItem, Part, part_of, trail, connected, ready, failed, owed, replied, is_version, IsClientVersion}
-use Rattle.cf_peer.specs.Asking.{Deserves, block_entry, counted, fetched, given}
+use Rattle.cf_peer.specs.Asking.{Deserves, block_entry, claims, counted, fetched, given}
 use Rattle.cf_peer.specs.Peer.{Holds, calm, busy, wants, is_ready_peer, is_idle_peer, is_fetching}
-use Rattle.cf_sync.specs.Fetching.{IsBusy, IsQuiet, IsConnected, MaySend, DeservesIn, IsOmitting}
+use Rattle.cf_sync.specs.Blame.{HasOmitted}
+use Rattle.cf_sync.specs.Fetching.{IsBusy, IsQuiet, IsConnected, MaySend, DeservesIn, IsOmitting, Rightly}
 use Rattle.cf_sync.specs.Due.{IsCalledFor}
 use Rattle.cf_sync.specs.Kept.{KeepsTrials}
 use Rattle.cf_sync.specs.Planned.{IsSameGiven}
@@ -92,9 +93,10 @@ nobody = Lost NotDialled
 abbrev pub place_at : List Place → ℕ → Place
 place_at places p = slice_index_or places p nobody
 
--- the places stand for the log: one for each peer that was dialled, at its number, and nobody's at 0
+-- the places stand for the log: one for each peer that was dialled, at its number, and nobody's at 0; who was closed for an omission omitted something then
 pub record PlacesStand (places : List Place) (log : Log) : Type 0 where
   pub count : length places ≡ (tally_of log).dials + 1
+  pub omitted : (p : ℕ) → place_at places p ≡ Lost (ClosedFor Omits) → HasOmitted log p
   pub each : (p : ℕ) → Fits (place_at places p) (part_of log p)
 
 -- what an act leaves in the log when it is done
@@ -111,19 +113,30 @@ after (a ∷ acts) log = after acts (entry_of a ∷ log)
 abbrev pub IsReplied : Trail → Type 0
 IsReplied t = failed t ≡ false → replied t ≡ owed (counted t)
 
--- unless a send to it has failed, the first of the owed replies were sent
+-- a peer's part up to a moment after which it gave no filter and claimed nothing
+pub record IsUpToLast (t so_far : Trail) : Type 0 where
+  pub later : Trail
+  pub joined : t ≡ later ++ so_far
+  pub gave : given (counted t) ≡ given (counted so_far)
+  pub claimed : claims (counted t) ≡ claims (counted so_far)
+
+-- unless a send to it has failed, each reply that is owed to what counts of its words up to such a moment was sent
 abbrev pub IsRepliedFirst : Trail → Type 0
-IsRepliedFirst t = failed t ≡ false → (later : List Msg) × (owed (counted t) ≡ replied t ++ later)
+IsRepliedFirst t = failed t ≡ false → (so_far : Trail) × IsUpToLast t so_far × (replied t ≡ owed (counted so_far))
 
 -- who is closed was answered; who omits something, up to the words that exposed it
 abbrev pub IsRepliedIn : Log → ℕ → Type 0
 IsRepliedIn log p = IsReplied (trail log p) ⊎ (IsOmitting log p × IsRepliedFirst (trail log p))
 
+-- who omits something is closed for that
+abbrev pub IsNamed : Log → ℕ → Cause → Type 0
+IsNamed log p cause = Rightly log → IsOmitting log p → cause ≡ Omits
+
 -- an act may be done by a client that watches these scripts: what it sends may be sent to that peer, and what it asks about blocks is called for; whom it closes was
--- answered
+-- answered, and is closed for what it omits where it does
 abbrev pub MayAct : List (List ℕ) → Act → Log → Type 0
 MayAct watch (Send p m) log = (p.0 ≤ (tally_of log).dials) × IsSendable m × MaySend log p.0 m × IsCalledFor watch log p.0 m
-MayAct watch (Close p cause) log = (p.0 ≤ (tally_of log).dials) × DeservesIn log p.0 cause × IsRepliedIn log p.0
+MayAct watch (Close p cause) log = (p.0 ≤ (tally_of log).dials) × DeservesIn log p.0 cause × IsRepliedIn log p.0 × IsNamed log p.0 cause
 
 -- each act may be done when the ones before it are
 abbrev pub Allowed : List (List ℕ) → List Act → Log → Type 0
@@ -171,6 +184,7 @@ pub record CutFor (p : PeerNo) (log cut : Log) : Type 0 where
   pub came : given (counted (trail cut p.0)) ≡ given (counted (trail log p.0))
   pub gave : IsSameGiven log cut
   pub tests : KeepsTrials log cut
+  pub omitted : (q : ℕ) → q ≢ p.0 → HasOmitted log q → HasOmitted cut q
   pub dials : (tally_of cut).dials ≡ (tally_of log).dials
 
 -- what the client says of its state
@@ -255,7 +269,9 @@ EndTells EndsNotDialled t = IsLost NotDialled t
 EndTells EndsGone t = IsLost Gone t
 EndTells (EndsClosed cause) t = IsLost (ClosedFor cause) t
 
--- there is an end for each peer that was dialled, in the order of their numbers, and each tells how its peer stands
+-- there is an end for each peer that was dialled, in the order of their numbers, and each tells how its peer stands; who was closed for an omission omitted
+-- something then
 pub record EndsTell (ends : List PeerEnd) (log : Log) : Type 0 where
+  pub omitted : (i : ℕ) → slice_index_or ends i EndsNotDialled ≡ EndsClosed Omits → HasOmitted log (i + 1)
   pub count : length ends ≡ (tally_of log).dials
   pub each : (i : ℕ) → EndTells (slice_index_or ends i EndsNotDialled) (trail log (i + 1))

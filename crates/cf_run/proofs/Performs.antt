@@ -26,8 +26,10 @@ use Rattle.cf_peer.specs.Asking.{is_open, counted, fetched, given, Deserves, May
 use Rattle.cf_headers.specs.declared.store.HeaderStore.{Ghosts}
 use Rattle.cf_match.specs.declared.matcher.Matcher.{Ghosts as Judges}
 use Rattle.cf_sync.proofs.Alone.{alone_less}
+use Rattle.cf_sync.specs.Blame.{HasOmitted}
 use Rattle.cf_sync.specs.Fetching.{IsAlone, counted_part, DeservesIn, IsSameFetched, IsTested}
 use Rattle.cf_match.specs.declared.job.Job.{Job}
+use Rattle.cf_sync.proofs.Omitted.{omitted_unfailed}
 use Rattle.cf_sync.proofs.Plans.{omits_alike, off_omits_nothing}
 use Rattle.cf_sync.specs.Kept.{OpensAt, claims_kept}
 use Rattle.cf_sync.proofs.VerdictsGrow.{same_given}
@@ -250,8 +252,9 @@ skipped : {watch : List (List ℕ)} (a : Act) (acts : List Act) (progress : Prog
     → ((q : ℕ) → fetched (counted_part (e ∷ planned) q) ≡ fetched (counted_part planned q)) → ((q : ℕ) → given (counted_part (e ∷ planned) q) ≡ given (counted_part planned q))
     → ((job : Job) → IsTested (e ∷ planned) job → IsTested planned job) → IsSameGiven (e ∷ planned) planned
     → ((q : ℕ) (block : Hash) → q ≢ p → IsSameTest (e ∷ planned) planned q block)
+    → ((q : ℕ) → q ≢ p → HasOmitted (e ∷ planned) q → HasOmitted planned q)
     → Doing watch (a ∷ acts) progress called planned t → Doing watch acts progress called (e ∷ planned) t
-skipped a acts progress called planned t p e i is others here meant unclosed dials brought came tests gave aims doing =
+skipped a acts progress called planned t p e i is others here meant unclosed dials brought came tests gave aims omits doing =
     let it : (q : ℕ) → q ≡ p → is_pending (state_at progress.sends q) ≡ true = λ q same. ap (λ (k : ℕ). is_pending (state_at progress.sends k)) same ∙ is in
     record {
       actual = doing.actual;
@@ -277,6 +280,9 @@ skipped a acts progress called planned t p e i is others here meant unclosed dia
       };
       brought = λ q. brought q ∙ doing.brought q;
       came = λ q. came q ∙ doing.came q;
+      omitted = λ q told omitted.
+          let ne : q ≢ p = λ same. both_ways (is_untold doing.actual q) told (doing.pending q (it q same)) in
+          doing.omitted q told (omits q ne omitted);
       pending = doing.pending;
       due = λ q untold. elim (cases_eq q p) [
         | inl same ↦ ap (λ (b : Bool). b || list_any (closes q) acts) (it q same)
@@ -297,7 +303,8 @@ skipped_send acts progress called planned t p m is may doing =
     (λ q ne. sent_others p (bytes_of m) q (part_of planned q) ne)
     (λ q e. sent_here p (bytes_of m) m q (part_of planned q) e (spelled_bytes m may.1))
     (λ more meant. meant) (λ q ne. refl) refl (λ q. sent_brought p (bytes_of m) planned q) (λ q. sent_came p (bytes_of m) planned q) (λ job h. h)
-    (λ job. (λ h. h, λ h. h)) (λ q block ne. test_off planned p (bytes_of m) q block ne) doing
+    (λ job. (λ h. h, λ h. h)) (λ q block ne. test_off planned p (bytes_of m) q block ne)
+    (λ q ne omitted. omitted) doing
 
 pub skipped_close : {watch : List (List ℕ)} (acts : List Act) (progress : Progress) (called : List (List ℕ)) (planned : Log) (t : Told) (p : PeerNo) (cause : Cause)
     → is_pending (state_at progress.sends p.0) ≡ true
@@ -307,7 +314,8 @@ skipped_close acts progress called planned t p cause is doing =
     (λ q ne. closed_others p q (part_of planned q) ne)
     (λ q e. closed_here p q (part_of planned q) e)
     (λ more meant. meant) (λ q ne. closes_others p cause acts q ne) refl (λ q. closed_brought p planned q) (λ q. closed_came p planned q) (λ job h. h)
-    (λ job. (λ h. h, λ h. h)) (λ q block ne. (λ t. t, λ t. t)) doing
+    (λ job. (λ h. h, λ h. h)) (λ q block ne. (λ t. t, λ t. t))
+    (λ q ne omitted. elim omitted [ inl now ↦ absurd (ne (sym now.0)) | inr before ↦ before ]) doing
 
 reverse_push : (xs : List TraceLine) (x : TraceLine) → reverse (xs ++ x ∷ []) ≡ x ∷ reverse xs
 reverse_push xs x = reverse-append xs (x ∷ [])
@@ -364,6 +372,7 @@ sent_on acts progress trace called planned t p m command free line is may doing 
       };
       brought = λ q. sent_brought p bytes planned q ∙ doing.brought q ∙ sym (sent_brought p bytes doing.actual q);
       came = λ q. sent_came p bytes planned q ∙ doing.came q ∙ sym (sent_came p bytes doing.actual q);
+      omitted = doing.omitted;
       pending = doing.pending;
       due = doing.due;
       broken = λ q untold. let b = doing.broken q untold in (
@@ -490,6 +499,19 @@ closed_on acts progress trace called planned t p cause free line may doing =
       };
       brought = λ q. closed_brought p planned q ∙ doing.brought q ∙ sym (closed_brought p doing.actual q);
       came = λ q. closed_came p planned q ∙ doing.came q ∙ sym (closed_came p doing.actual q);
+      omitted = λ q told omitted. elim (cases_Bool (is_untold doing.actual q)) [
+        | inl untold ↦
+            let e : q ≡ p.0 = elim (cases_eq q p.0) [ inl e ↦ e | inr ne ↦ absurd (both_ways (is_untold doing.actual q) (sym (untold_closed_others p doing.actual q ne) ∙ told) untold) ] in
+            let k = doing.known q untold (ap (λ (n : ℕ). is_pending (state_at progress.sends n)) e ∙ free) in
+            absurd (elim omitted [
+              | inl now ↦ off_omits_nothing planned q k.0 now.1
+              | inr before ↦ both_ways (failed (trail planned q)) (omitted_unfailed planned q before) k.1
+            ])
+        | inr fine ↦ elim omitted [
+          | inl now ↦ inl (now.0, omits_alike planned doing.actual q (doing.plan.told q fine) doing.brought doing.plan.tested now.1)
+          | inr before ↦ inr (doing.omitted q fine before)
+        ]
+      ];
       pending = λ q it. let ne : q ≢ p.0 = λ e. both_ways (is_pending (state_at progress.sends q)) (ap (λ (n : ℕ). is_pending (state_at progress.sends n)) e ∙ free) it in
           untold_closed_others p doing.actual q ne ∙ doing.pending q it;
       due = λ q untold. let b = before q untold in
@@ -532,6 +554,10 @@ closed_again acts progress called planned t p cause free shut may doing =
       };
       brought = λ q. closed_brought p planned q ∙ doing.brought q;
       came = λ q. closed_came p planned q ∙ doing.came q;
+      omitted = λ q told omitted. elim omitted [
+        | inl now ↦ absurd (off_omits_nothing planned q (ap (λ (k : ℕ). connected (trail planned k)) (sym now.0) ∙ both.0) now.1)
+        | inr before ↦ doing.omitted q told before
+      ];
       pending = doing.pending;
       due = λ q untold. ap (λ (x : Bool). is_pending (state_at progress.sends q) || x) (sym (closes_others p cause acts q (other q untold))) ∙ doing.due q untold;
       broken = doing.broken;
@@ -626,6 +652,9 @@ failed_on acts progress called planned t p m lt free may doing =
       };
       brought = λ q. sent_brought p bytes planned q ∙ doing.brought q ∙ sym (failing_brought p doing.actual q);
       came = λ q. sent_came p bytes planned q ∙ doing.came q ∙ sym (failing_came p doing.actual q);
+      omitted = λ q fine omitted.
+          let ne : q ≢ p.0 = λ e. both_ways (is_untold (SendFailed p ∷ doing.actual) q) fine (untold_failing_here p doing.actual q e) in
+          (λ e. ne (sym e), doing.omitted q (sym (untold_failing_others p doing.actual q ne) ∙ fine) omitted);
       pending = λ q it. elim (cases_eq q p.0) [
         | inl e ↦ untold_failing_here p doing.actual q e
         | inr ne ↦ untold_failing_others p doing.actual q ne ∙ doing.pending q (sym (ap is_pending (there q ne)) ∙ it)
@@ -693,6 +722,7 @@ cut_for p log = record {
   came = failing_came p log p.0;
   gave = λ job. (λ h. h, λ h. h);
   tests = λ trials h. trials_stay (SendFailed p) log trials tt tt h;
+  omitted = λ q ne omitted. (λ e. ne (sym e), omitted);
   dials = refl;
 }
 
@@ -743,6 +773,7 @@ told_one rest progress called planned t p cause lt is doing =
       };
       brought = λ q. failing_brought p planned q ∙ doing.brought q;
       came = λ q. failing_came p planned q ∙ doing.came q;
+      omitted = λ q told omitted. doing.omitted q told omitted.1;
       pending = λ q it.
           let ne : q ≢ p.0 = λ e. both_ways (is_pending (state_at (set progress.sends p.0 Known) q)) (now q e) it in
           doing.pending q (sym (ap is_pending (there q ne)) ∙ it);
@@ -793,6 +824,7 @@ all_told c progress called planned t none reflects doing =
         alive = reflects.alive;
         places = record {
           count = reflects.places.count ∙ ap (λ (n : ℕ). n + 1) doing.plan.dials;
+          omitted = λ q is. doing.omitted q (told q) (reflects.places.omitted q is);
           each = λ q. fits_alike _ (part_of planned q) (part_of doing.actual q) (doing.plan.told q (told q)) (reflects.places.each q);
         };
         tracks = record {

@@ -87,6 +87,7 @@ same_doing c acts progress called names t u holds e notes told = record {
   plan = own_plan (e ∷ holds.actual) told;
   brought = λ q. refl;
   came = λ q. refl;
+  omitted = λ q fine omitted. omitted;
   pending = λ q it. absurd (both_ways (is_pending (state_at progress.sends q)) (holds.none q) it);
   due = λ q untold. absurd (both_ways (is_untold (e ∷ holds.actual) q) (told q) untold);
   broken = λ q untold. absurd (both_ways (is_untold (e ∷ holds.actual) q) (told q) untold);

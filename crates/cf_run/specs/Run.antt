@@ -24,7 +24,7 @@ use Rattle.cf_peer.specs.Trail.{trail, spelled, connected, failed}
 use Rattle.cf_peer.specs.Asking.{given}
 use Rattle.cf_scan.specs.declared.history.Entry.{Entry}
 use Rattle.cf_headers.specs.Chain.{NoHashClash}
-use Rattle.cf_sync.specs.Blame.{AreBlamed}
+use Rattle.cf_sync.specs.Blame.{AreBlamed, HasOmitted}
 use Rattle.cf_sync.specs.Fetching.{IsBusy, IsQuiet, IsConnected, IsSameFetched, Rightly, AreBytes, counted_part, DeservesIn}
 use Rattle.cf_sync.specs.Planned.{is_untold, IsPlanned, ArePlanned}
 use Rattle.cf_sync.specs.Sync.{HasAsked, IsHashed}
@@ -190,6 +190,7 @@ pub record Doing (watch : List (List ℕ)) (acts : List Act) (progress : Progres
   pub plan : IsPlanned planned actual
   pub brought : IsSameFetched planned actual
   pub came : IsSameCome planned actual
+  pub omitted : (q : ℕ) → is_untold actual q ≡ false → HasOmitted planned q → HasOmitted actual q
   pub pending : (q : ℕ) → is_pending (state_at progress.sends q) ≡ true → is_untold actual q ≡ true
   pub due : (q : ℕ) → is_untold actual q ≡ true → is_due progress acts q ≡ true
   pub broken : (q : ℕ) → is_untold actual q ≡ true → IsBroken actual q

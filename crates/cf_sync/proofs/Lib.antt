@@ -13,6 +13,7 @@ pub mod Grows
 pub mod Answered
 pub mod Brought
 pub mod Blamed
+pub mod Omitted
 pub mod Settles
 pub mod Tables
 pub mod SameFetched

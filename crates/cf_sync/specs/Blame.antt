@@ -7,7 +7,7 @@ use Rattle.cf_wires.specs.declared.event.Event.TheVariants.{Dialled, NotDialled,
 use Rattle.cf_wires.specs.Log.{Log}
 use Rattle.cf_peer.specs.Trail.{spelled, own}
 use Rattle.cf_peer.specs.Asking.{hashes_of}
-use Rattle.cf_sync.specs.Fetching.{counted_part, IsConnected, IsFetchedHash, Claims, IsDisputed, IsTestedWith, IsOmission}
+use Rattle.cf_sync.specs.Fetching.{counted_part, IsConnected, IsFetchedHash, Claims, IsDisputed, IsTestedWith, IsOmission, IsOmitting}
 
 -- ---- what is asked once
 
@@ -31,3 +31,15 @@ pub record AreBlamed (log : Log) (chain : Chain) : Type 0 where
       → (p : ℕ) → IsConnected log p → IsIn block (hashes_of (own (counted_part log p))) → (hash : Hash32) → Claims log p block hash → IsTestedWith log block hash
   pub clean : (block : Hash) → IsIn block (hashes_of chain) → (p : ℕ) → IsConnected log p → (hash : Hash32) → Claims log p block hash
       → (t : IsTestedWith log block hash) → IsOmission log block t.filter.filter → ⊥
+
+-- ---- who was closed for it
+
+-- p was closed while it omitted something, and no send to it has failed since
+abbrev pub HasOmitted : Log → ℕ → Type 0
+HasOmitted [] p = ⊥
+HasOmitted (Closed q ∷ log) p = ((q.0 ≡ p) × IsOmitting log p) ⊎ HasOmitted log p
+HasOmitted (SendFailed q ∷ log) p = (q.0 ≡ p → ⊥) × HasOmitted log p
+HasOmitted (Dialled q name ∷ log) p = HasOmitted log p
+HasOmitted (NotDialled q name ∷ log) p = HasOmitted log p
+HasOmitted (Sent q bytes ∷ log) p = HasOmitted log p
+HasOmitted (Took d ∷ log) p = HasOmitted log p

@@ -1,10 +1,15 @@
 use Rattle.std.proofs.Common.{◌≡◌, ◌≢◌, inl, inr, ℕ, ◌<◌, length, get_or, sym, ◌∙◌, ap, subst, arith}
 use Rattle.std.specs.Prelude.{slice_set}
-use Rattle.std.proofs.lemmas.Bool.{cases_eq}
-use Rattle.cf_peer.specs.Trail.{Passed, with_item}
+use Rattle.std.proofs.lemmas.Bool.{cases_eq, cases_lt}
+use Rattle.std.proofs.lemmas.Grind.{common_steps}
+use Rattle.std.proofs.lemmas.List.{get_or_past}
+use Rattle.cf_peer.specs.declared.peer.Cause.TheVariants.{Omits}
+use Rattle.cf_peer.specs.Trail.{Passed, part_of, trail, with_item}
+use Rattle.cf_place.specs.declared.place.Loss.TheVariants.{NotDialled, Closed as ClosedFor}
 use Rattle.cf_place.specs.declared.place.Place.{Place}
 use Rattle.cf_place.specs.Places.{Fits, is_here, nobody, place_at}
 use Rattle.cf_client.specs.Settled.{IsRightAt}
+use Rattle.cf_client.proofs.Losing.{lost_passed}
 use Rattle.cf_client.proofs.Settled.{set_other}
 use Rattle.cf_client.proofs.Standing.{any_default, set_is}
 use Rattle.cf_client.proofs.ask.pass_all.Goals as goal
@@ -27,6 +32,11 @@ loop-place-preserved c =
         | inl e ↦ ap is_here (ap (λ (k : ℕ). place_at (slice_set places i new) k) e ∙ here) ∙ c.pass_at.ensures.here ∙ sym (ap is_here (ap (place_at c.args.places.now) e ∙ item))
         | inr ne ↦ ap is_here (set_other places i p new ne) ∙ c.loop-place.invariant.here p
       ];
+      lost = λ p loss is. elim (cases_eq p i) [
+        | inl e ↦ ap (place_at c.args.places.now) e ∙ item
+            ∙ c.pass_at.ensures.lost loss (sym (ap (λ (k : ℕ). place_at (slice_set places i new) k) e ∙ here) ∙ is)
+        | inr ne ↦ c.loop-place.invariant.lost p loss (sym (set_other places i p new ne) ∙ is)
+      ];
       right = λ p table right. elim (cases_eq p i) [
         | inl e ↦ subst (λ (x : Place). IsRightAt x table) (sym (ap (λ (k : ℕ). place_at (slice_set places i new) k) e ∙ here))
             (c.pass_at.ensures.right table (subst (λ (x : Place). IsRightAt x table) (ap (place_at c.args.places.now) e ∙ item) right))
@@ -34,6 +44,21 @@ loop-place-preserved c =
       ];
       left = λ p le. let ne : p ≢ i = λ e. absurd (omega (arith, le, e)) in set_other places i p new ne ∙ c.loop-place.invariant.left p (omega (arith, le));
     }
+
+pub returns-clause-stand : goal.returns-clause-stand
+returns-clause-stand c = λ log stand. record {
+  count = grind (arith, common_steps, stand.count);
+  omitted = λ p is. stand.omitted p (c.loop-place.invariant.lost p (ClosedFor Omits) is);
+  each = λ p. elim (cases_lt p c.loop-place.place-index) [
+    | inl lt ↦ c.loop-place.invariant.done p lt (part_of log p) (stand.each p)
+    | inr le ↦
+        let past : place_at c.args.places.now p ≡ nobody = get_or_past c.args.places.now p nobody (omega (arith, le)) in
+        subst (λ (x : Place). Fits x (with_item (Passed c.args.seconds) (part_of log p)))
+        (sym (c.loop-place.invariant.left p le ∙ past))
+        (lost_passed NotDialled c.args.seconds (trail log p)
+        (subst (λ (x : Place). Fits x (part_of log p)) past (stand.each p)))
+  ];
+}
 
 pub returns-clause-right : goal.returns-clause-right
 returns-clause-right c = λ tables right p. c.loop-place.invariant.right p (tables p) (right p)

@@ -4,9 +4,10 @@ use Rattle.cf_hear.specs.Seen.{seen_of}
 use Rattle.cf_hear.proofs.Opening.{holds_none}
 use Rattle.cf_tracker.specs.Tracker.{claims_of, opens_of, trials_of}
 use Rattle.cf_place.specs.declared.place.Place.{Place}
-use Rattle.cf_place.specs.Places.{nobody}
+use Rattle.cf_place.specs.Places.{PlacesStand, nobody}
 use Rattle.cf_client.specs.Settled.{AreSettled, AreRight}
 use Rattle.cf_client.proofs.Settled.{settled_first}
+use Rattle.cf_client.proofs.Standing.{stand_first}
 use Rattle.cf_sync.proofs.KeptAims.{trials_start}
 use Rattle.cf_client.proofs.Rights.{right_first}
 use Rattle.cf_client.proofs.client.Client.new.Goals as goal
@@ -27,7 +28,9 @@ invariant_of-result-clause-right g c = λ alive.
 pub returns-clause-reflects : goal.returns-clause-reflects
 returns-clause-reflects g c = record {
   alive = refl;
-  places = search rules;
+  places =
+      let one : c.push.new.self.items ≡ nobody ∷ [] = c.in_ok-push.ensures.items ∙ ap (λ (places : List Place). places ++ nobody ∷ []) c.new-places.ensures.items in
+      subst (λ (places : List Place). PlacesStand places []) (sym {A = List Place} one) stand_first;
   tracks = record {
     kept = search rules;
     claimed = search rules;
