@@ -4,7 +4,7 @@ use Rattle.std.specs.Prelude.{unwrap_or}
 use Rattle.std.proofs.lemmas.Bool.{both_ways, cases_Bool}
 use Rattle.std.proofs.lemmas.Option.{none-some, same_Some}
 use Rattle.cf_bytes.specs.declared.peer.PeerNo.{PeerNo}
-use Rattle.cf_headers.specs.Chain.{Hash, Chain}
+use Rattle.cf_headers.specs.Chain.{Chain}
 use Rattle.cf_headers.specs.Heights.{common_of}
 use Rattle.cf_headers.specs.Store.{rank, IsBest as IsBestOf}
 use Rattle.cf_msg.specs.declared.msg.Msg.{Msg}

@@ -1,4 +1,4 @@
-use Rattle.std.proofs.Common.{length, arith}
+use Rattle.std.proofs.Common.{arith}
 use Rattle.cf_seek.proofs.Aiming.{put_at, put_off}
 use Rattle.cf_seek.proofs.aims.Aims.set.Goals as goal
 

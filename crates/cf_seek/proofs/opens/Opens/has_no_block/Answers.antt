@@ -1,4 +1,4 @@
-use Rattle.std.proofs.Common.{◌≡◌, ◌<◌, ◌≤◌, List, length, get_or, sym, ◌∙◌, ap, subst}
+use Rattle.std.proofs.Common.{◌<◌, ◌≤◌, List, length, get_or, sym, ◌∙◌, ap, subst}
 use Rattle.cf_seek.specs.declared.open_at.OpenAt.{OpenAt}
 use Rattle.cf_seek.specs.OpensOf.{block_at, block_or}
 use Rattle.cf_seek.proofs.Openings.{seat_at, seat_past}

@@ -8,7 +8,7 @@ use Rattle.cf_tracker.proofs.tracker.Tracker.answered.Goals as goal
 pub invariant_of-self : goal.invariant_of-self
 invariant_of-self g c = record {
   first = c.args.self.now.first;
-  listed = c.args.self.now.listed;
+  trials = c.args.self.now.trials;
   told = c.args.self.now.told;
   stands = c.args.self.now.stands;
   marks = unsought_all (g.H.HeaderStore.chain c.args.self.now.store) (table_in c.args.self.now.extracts) (tables_of c.args.self.now.claims) (verdicts_in c.args.self.now.judged)
@@ -18,7 +18,7 @@ invariant_of-self g c = record {
 pub invariant_of-self-else-left : goal.invariant_of-self-else-left
 invariant_of-self-else-left g c = record {
   first = c.args.self.now.first;
-  listed = c.args.self.now.listed;
+  trials = c.args.self.now.trials;
   told = c.args.self.now.told;
   stands = c.args.self.now.stands;
   marks = answered_marked (g.H.HeaderStore.chain c.args.self.now.store) (table_in c.args.self.now.extracts) (tables_of c.args.self.now.claims) (verdicts_in c.args.self.now.judged)

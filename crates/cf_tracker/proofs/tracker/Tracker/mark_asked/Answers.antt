@@ -11,7 +11,7 @@ invariant_of-self g c =
     let now = c.args.self.now in
     record {
       first = now.first;
-      listed = now.listed;
+      trials = now.trials;
       told = c.args.self.now.told;
       stands = c.args.self.now.stands;
       marks = opened_marked (g.H.HeaderStore.chain now.store) (table_in now.extracts) (tables_of now.claims) (verdicts_in now.judged) (opens_in now.opens)
@@ -23,7 +23,7 @@ invariant_of-self-2 g c =
     let now = c.args.self.now in
     record {
       first = now.first;
-      listed = now.listed;
+      trials = now.trials;
       told = c.args.self.now.told;
       stands = c.args.self.now.stands;
       marks = opened_marked (g.H.HeaderStore.chain now.store) (table_in now.extracts) (tables_of now.claims) (verdicts_in now.judged) (opens_in now.opens)

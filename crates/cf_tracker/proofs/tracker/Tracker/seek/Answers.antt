@@ -1,7 +1,7 @@
-use Rattle.std.proofs.Common.{◌≤◌, ℕ, List, length, subst, sym, arith}
-use Rattle.cf_bytes.specs.declared.hash.Hash32.{Hash32}
+use Rattle.std.proofs.Common.{◌≡◌, ◌≤◌, ℕ, List, length, subst, sym, arith}
 use Rattle.cf_dispute.specs.Of.{tables_of}
-use Rattle.cf_dispute.specs.Tables.{blocks_of}
+use Rattle.cf_headers.specs.Chain.{Chain}
+use Rattle.cf_headers.specs.Heights.{common_of}
 use Rattle.cf_headers.specs.Store.{own_of}
 use Rattle.cf_seek.specs.declared.cursors.Marks.{Marks}
 use Rattle.cf_tables.specs.Extracts.{table_in}
@@ -13,7 +13,11 @@ use Rattle.cf_seek.specs.Testing.{IsTrying}
 use Rattle.cf_tables.specs.Tests.{told_in}
 use Rattle.cf_seek.proofs.Along.{common_low}
 use Rattle.cf_seek.proofs.Opening.{opened, up_marked}
+use Rattle.cf_tracker.proofs.Tried.{tried_to, up_tried}
 use Rattle.cf_tracker.proofs.tracker.Tracker.seek.Goals as goal
+
+within : (common : ℕ) (own other : Chain) → common ≡ common_of own other → common ≤ length own
+within common own other is = (let low = common_low own other in omega (arith, is, low))
 
 pub next_sought-want-requires-clause-within : goal.next_sought-want-requires-clause-within
 next_sought-want-requires-clause-within g c =
@@ -41,7 +45,10 @@ invariant_of-self-2 g c =
     let opens = opens_in c.args.self.now.opens in
     record {
       first = c.args.self.now.first;
-      listed = c.args.self.now.listed;
+      trials = up_tried chains extracts tables (told_in c.args.self.now.tests) c.args.self.now.tried c.put-2.new.self c.args.p c.of-2.result
+          c.in_ok-wish.tried c.common-common.result c.of-2.ensures c.requires.first c.in_ok-wish.ensures.tried c.in_ok-wish.ensures.low
+          (within c.common-common.result (own_of chains c.args.p) (own_of chains c.args.other) c.common-common.ensures) c.put-2.ensures
+          c.args.self.now.trials;
       told = c.args.self.now.told;
       stands = c.args.self.now.stands;
       marks = subst (λ (xs : List Marks). ∥ AreMarked chains extracts tables verdicts opens xs ∥₁) (sym c.put.ensures)
@@ -72,6 +79,11 @@ pub returns-clause-trying : goal.returns-clause-trying
 returns-clause-trying g c =
     let now = c.args.self.now in
     let own = own_of (g.H.HeaderStore.chain now.store) c.args.p in
-    subst (λ (n : ℕ). IsTrying (table_in now.extracts) (tables_of now.claims) (told_in now.tests) c.args.p.0 own n (blocks_of now.disputes.blocks.items) c.in_ok-wish.wish) c.common-common.ensures
-    (subst (λ (xs : List Hash32). IsTrying (table_in now.extracts) (tables_of now.claims) (told_in now.tests) c.args.p.0 own c.common-common.result (blocks_of xs) c.in_ok-wish.wish)
-    c.as_slice.ensures.value c.in_ok-wish.ensures.trying)
+    subst (λ (n : ℕ). IsTrying (table_in now.extracts) (tables_of now.claims) (told_in now.tests) c.args.p.0 own n c.in_ok-wish.wish)
+    c.common-common.ensures c.in_ok-wish.ensures.trying
+
+pub wish_for-requires-clause-tried : goal.wish_for-requires-clause-tried
+wish_for-requires-clause-tried g c =
+    let now = c.args.self.now in
+    tried_to (g.H.HeaderStore.chain now.store) (table_in now.extracts) (tables_of now.claims) (told_in now.tests) now.tried c.args.p
+    c.of-2.result c.of-2.ensures c.requires.first now.trials
