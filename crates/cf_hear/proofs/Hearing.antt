@@ -13,7 +13,7 @@ use Rattle.cf_frame.specs.Lending.{HasFrame, IsFilled, after_frame}
 use Rattle.cf_frame.specs.Reading.{front_of}
 use Rattle.cf_frame.specs.Stream.{read_stream}
 use Rattle.cf_frame.proofs.Lending.{all_taken}
-use Rattle.cf_headers.specs.Chain.{Hash, Chain, IsIn, Accepted, Longer, NoLonger, Unlinked, Invalid, TooHigh, accept}
+use Rattle.cf_headers.specs.Chain.{Hash, Chain, Accepted, Longer, NoLonger, Unlinked, Invalid, TooHigh, accept}
 use Rattle.cf_headers.specs.Changes.{chain_after}
 use Rattle.cf_headers.specs.Store.{Puts, own_of}
 use Rattle.cf_lent.specs.declared.views.View.{View}
@@ -39,7 +39,6 @@ use Rattle.cf_scan.specs.declared.extracts.TxExtract.{TxExtract}
 use Rattle.cf_tables.specs.Tables.{Table, IsSameTable, with_block, with_blocks}
 use Rattle.cf_sync.proofs.Counted.{same_use}
 use Rattle.cf_sync.proofs.Grows.{said_brings}
-use Rattle.cf_sync.proofs.Listed.{in_left, in_right, in_either}
 use Rattle.cf_sync.proofs.VerdictsGrow.{said_gives}
 use Rattle.cf_tables.specs.Wanting.{IsSameTables}
 use Rattle.cf_match.specs.declared.job.Job.{Job}
@@ -60,17 +59,22 @@ use Rattle.cf_seek.specs.Opens.{Closes, IsSameElse, IsSameOpens}
 use Rattle.cf_sync.specs.Kept.{OpensAt}
 use Rattle.cf_sync.proofs.KeptOpens.{opens_closed}
 use Rattle.cf_hear.specs.Seen.{Seen, IsSameSeen, Follows}
-use Rattle.cf_hear.specs.Hearing.{Gains, Gives, IsGivenBetween, Retains, HearsSeen, HearsNext, Advances, Reveals, Stops, Brings, Midway, HeardWhole, HeardFault, HeardExposed, HeardPiece}
+use Rattle.cf_hear.specs.Hearing.{Gains, Gives, Retains, HearsSeen, HearsNext, Advances, Reveals, Stops, Brings, Midway, HeardWhole, HeardFault, HeardExposed, HeardPiece}
 use Rattle.cf_hear.specs.Exposing.{ExposesAmong}
 use Rattle.cf_hear.specs.declared.stop.Stop.{Stop}
 use Rattle.cf_hear.proofs.Trying.{IsOnce, gives_on, go_none, go_on, go_self, go_then, idle_by, once_by, one_empty, trials_self}
-use Rattle.cf_tables.specs.Trials.{IsSameTrials, TrialsGo}
+use Rattle.cf_tables.specs.Trials.{IsSameTrials, TrialsGo, judged_if}
 use Rattle.cf_hear.proofs.Opening.{else_of, else_self, else_then, opens_claims, opens_headers, opens_on, opens_other, opens_plain, opens_self}
 
 -- ---- what was seen
 
 pub same_seen : (s : Seen) → IsSameSeen s s
 same_seen s = record { watch = refl; chains = λ q. refl; claims = λ q block. refl; table = λ hash. refl; verdicts = λ block hash. refl; opens = opens_self s.opens; trials = trials_self s.trials }
+
+-- no filter changes a verdict
+pub none_judged : (aim : Bool) (watch : List (List ℕ)) (v : Verdicts) → AreSameVerdicts v (judged_if aim watch [] v)
+none_judged true watch v block hash = refl
+none_judged false watch v block hash = refl
 
 -- nothing came, and p's chain and claims are those of this trail
 pub gains_none : (s : Seen) (p : PeerNo) (t : Trail) → Follows s p.0 t → Gains s s p t [] []
@@ -80,7 +84,7 @@ gains_none s p t is = record {
   others = λ q ne. refl;
   claims = λ q ne block. refl;
   table = λ hash. refl;
-  verdicts = λ block hash. refl;
+  verdicts = none_judged (s.trials.aims p.0) s.watch s.verdicts;
   opens = else_self s.opens p.0;
   trials = go_self s.trials p.0;
 }
@@ -96,6 +100,13 @@ verdicts_append : (watch : List (List ℕ)) (jobs more : List Job) (before : Ver
 verdicts_append watch [] more before block hash = refl
 verdicts_append watch (job ∷ jobs) more before block hash = verdicts_append watch jobs more (with_verdict watch job before) block hash
 
+-- and so where they are judged
+judged_append : (aim : Bool) (watch : List (List ℕ)) (jobs more : List Job) (now before : Verdicts) → AreSameVerdicts now (judged_if aim watch jobs before)
+    → AreSameVerdicts (judged_if aim watch more now) (judged_if aim watch (jobs ++ more) before)
+judged_append true watch jobs more now before is = is
+judged_append false watch jobs more now before is = λ block hash.
+    same_all watch more now (with_verdicts watch jobs before) is block hash ∙ verdicts_append watch jobs more before block hash
+
 pub gains_then : (a b c : Seen) (p : PeerNo) (t u : Trail) (news more : List Block) (jobs later : List Job) → IsOnce news jobs more later → Gains a b p t news jobs → Gains b c p u more later
     → Gains a c p u (more ++ news) (jobs ++ later)
 gains_then a b c p t u news more jobs later once x y = record {
@@ -104,8 +115,10 @@ gains_then a b c p t u news more jobs later once x y = record {
   others = λ q ne. y.others q ne ∙ x.others q ne;
   claims = λ q ne block. y.claims q ne block ∙ x.claims q ne block;
   table = λ hash. y.table hash ∙ ap (λ (w : List (List ℕ)). with_blocks w more b.table hash) x.watch ∙ blocks_append a.watch more news b.table a.table x.table hash;
-  verdicts = λ block hash. y.verdicts block hash ∙ ap (λ (w : List (List ℕ)). with_verdicts w later b.verdicts block hash) x.watch
-      ∙ same_all a.watch later b.verdicts (with_verdicts a.watch jobs a.verdicts) x.verdicts block hash ∙ verdicts_append a.watch jobs later a.verdicts block hash;
+  verdicts = λ block hash. y.verdicts block hash
+      ∙ ap (λ (w : List (List ℕ)). judged_if (b.trials.aims p.0) w later b.verdicts block hash) x.watch
+      ∙ ap (λ (aim : Bool). judged_if aim a.watch later b.verdicts block hash) (x.trials.aims p.0)
+      ∙ judged_append (a.trials.aims p.0) a.watch jobs later b.verdicts a.verdicts x.verdicts block hash;
   opens = else_then a.opens b.opens c.opens p.0 x.opens y.opens;
   trials = go_then a.trials b.trials c.trials p.0 news more jobs later once x.trials y.trials;
 }
@@ -164,7 +177,7 @@ taken_hears before after p peer b t h brought f watch chains claims table verdic
     others = λ q ne. chains q;
     claims = λ q ne block. claims q block;
     table = table;
-    verdicts = verdicts;
+    verdicts = λ block hash. verdicts block hash ∙ none_judged (before.trials.aims p.0) before.watch before.verdicts block hash;
     opens = closes.others;
     trials = trials;
   }),
@@ -225,7 +238,7 @@ claims_hears before after p peer filter stop previous hashes t takes f watch cha
     others = λ q ne. chains q;
     claims = others;
     table = table;
-    verdicts = verdicts;
+    verdicts = λ block hash. verdicts block hash ∙ none_judged (before.trials.aims p.0) before.watch before.verdicts block hash;
     opens = else_of before.opens after.opens p.0 opens;
     trials = go_none before.trials after.trials p.0 trials;
   },
@@ -234,7 +247,7 @@ claims_hears before after p peer filter stop previous hashes t takes f watch cha
 -- a filter that was taken
 pub filter_hears : (before after : Seen) (p : PeerNo) (peer : Peer) (filter : ℕ) (block : Hash32) (bytes : List ℕ) (jobs : List Job) (t : Trail)
     → Holds peer (Said (Cfilter filter block bytes) ∷ t) → given_by (Cfilter filter block bytes) (request t) ≡ jobs → Follows before p.0 t → after.watch ≡ before.watch → ((q : ℕ) → after.chains q ≡ before.chains q)
-    → IsSameTables before.claims after.claims → IsSameTable after.table before.table → AreSameVerdicts after.verdicts (with_verdicts before.watch jobs before.verdicts)
+    → IsSameTables before.claims after.claims → IsSameTable after.table before.table → AreSameVerdicts after.verdicts (judged_if (before.trials.aims p.0) before.watch jobs before.verdicts)
     → OpensAt after.opens p.0 (Said (Cfilter filter block bytes) ∷ t) → IsSameElse before.opens after.opens p.0 → TrialsGo before.trials after.trials p.0 [] jobs
     → HearsSeen before after p peer (Cfilter filter block bytes) t NoReply
 filter_hears before after p peer filter block bytes jobs t h gives f watch chains claims table verdicts opens others trials = (
@@ -290,7 +303,7 @@ headers_hears before after p peer hs t h over puts f watch claims table verdicts
         others = puts.others;
         claims = λ q ne block. claims q block;
         table = λ hash. sym (table hash);
-        verdicts = verdicts;
+        verdicts = λ block hash. verdicts block hash ∙ none_judged (before.trials.aims p.0) before.watch before.verdicts block hash;
         opens = else_of before.opens after.opens p.0 opens;
         trials = go_none before.trials after.trials p.0 trials;
       },
@@ -469,24 +482,9 @@ brings_said peer m start t news h is =
     said_brings m t h.on h.clean ∙ ap (λ (bs : List Block). fetched_by m (request t) ++ bs) is ∙ sym (append_assoc (fetched_by m (request t)) news (fetched (counted start)))
 
 -- the filters that a message gave, and those before it
-gives_said : (peer : Peer) (m : Msg) (start t : Trail) (jobs : List Job) → Holds peer (Said m ∷ t) → IsGivenBetween start t jobs → IsGivenBetween start (Said m ∷ t) (jobs ++ given_by m (request t))
-gives_said peer m start t jobs h is =
-    let e : given (counted (Said m ∷ t)) ≡ given_by m (request t) ++ given (counted t) = said_gives m t h.on h.clean in
-    record {
-      new = λ job i. subst (λ (js : List Job). IsIn job js) (sym e) (elim (in_either job jobs (given_by m (request t)) i) [
-        | inl before ↦ in_right job (given_by m (request t)) (given (counted t)) (is.new job before)
-        | inr now ↦ in_left job (given_by m (request t)) (given (counted t)) now
-      ]);
-      old = λ job i. subst (λ (js : List Job). IsIn job js) (sym e) (in_right job (given_by m (request t)) (given (counted t)) (is.old job i));
-      only = λ job i. elim (in_either job (given_by m (request t)) (given (counted t)) (subst (λ (js : List Job). IsIn job js) e i)) [
-        | inl now ↦ inl (in_right job jobs (given_by m (request t)) now)
-        | inr before ↦ elim (is.only job before) [ inl j ↦ inl (in_left job jobs (given_by m (request t)) j) | inr old ↦ inr old ]
-      ];
-    }
-
-gave_said : (peer : Peer) (m : Msg) (start t : Trail) (news : List Block) (jobs : List Job) → Holds peer (Said m ∷ t) → ((news ≡ []) × (jobs ≡ [])) ⊎ (request t ≡ NothingOpen)
+gives_said : (peer : Peer) (m : Msg) (start t : Trail) (news : List Block) (jobs : List Job) → Holds peer (Said m ∷ t) → ((news ≡ []) × (jobs ≡ [])) ⊎ (request t ≡ NothingOpen)
     → Gives start t jobs → Gives start (Said m ∷ t) (jobs ++ given_by m (request t))
-gave_said peer m start t news jobs h idle is =
+gives_said peer m start t news jobs h idle is =
     said_gives m t h.on h.clean ∙ ap (λ (js : List Job). given_by m (request t) ++ js) is
     ∙ gives_on (given_by m (request t)) jobs (given (counted start))
     (one_empty news (fetched_by m (request t)) jobs (given_by m (request t)) (once_by m (request t) news jobs idle))
@@ -506,8 +504,7 @@ midway_start p peer waits seen acts piece start holds e f = record {
   news = [];
   brings = refl;
   jobs = [];
-  gives = record { new = λ job i. absurd i; old = λ job i. i; only = λ job i. inr i };
-  gave = refl;
+  gives = refl;
   gains = gains_none seen p start.trail f;
   idle = inl (refl, refl);
 }
@@ -526,8 +523,7 @@ midway_quiet p old new bytes rest seen now next before acts start end midway mov
   news = fetched_by moves.message (request midway.so_far) ++ midway.news;
   brings = brings_said new moves.message start.trail midway.so_far midway.news moves.holds midway.brings;
   jobs = midway.jobs ++ given_by moves.message (request midway.so_far);
-  gives = gives_said new moves.message start.trail midway.so_far midway.jobs moves.holds midway.gives;
-  gave = gave_said new moves.message start.trail midway.so_far midway.news midway.jobs moves.holds midway.idle midway.gave;
+  gives = gives_said new moves.message start.trail midway.so_far midway.news midway.jobs moves.holds midway.idle midway.gives;
   gains = gains_then seen now next p midway.so_far (Said moves.message ∷ midway.so_far) midway.news (fetched_by moves.message (request midway.so_far)) midway.jobs (given_by moves.message (request midway.so_far))
       (once_by moves.message (request midway.so_far) midway.news midway.jobs midway.idle) midway.gains moves.gains;
   idle = idle_by moves.message (request midway.so_far) midway.news midway.jobs midway.idle;
@@ -550,8 +546,7 @@ midway_reply p old new bytes rest seen now next before acts more start end r mid
       news = fetched_by moves.message (request midway.so_far) ++ midway.news;
       brings = brings_said new moves.message start.trail midway.so_far midway.news moves.holds midway.brings;
       jobs = midway.jobs ++ given_by moves.message (request midway.so_far);
-      gives = gives_said new moves.message start.trail midway.so_far midway.jobs moves.holds midway.gives;
-      gave = gave_said new moves.message start.trail midway.so_far midway.news midway.jobs moves.holds midway.idle midway.gave;
+      gives = gives_said new moves.message start.trail midway.so_far midway.news midway.jobs moves.holds midway.idle midway.gives;
       gains = gains_then seen now next p midway.so_far (Said moves.message ∷ midway.so_far) midway.news (fetched_by moves.message (request midway.so_far)) midway.jobs (given_by moves.message (request midway.so_far))
           (once_by moves.message (request midway.so_far) midway.news midway.jobs midway.idle) midway.gains moves.gains;
       idle = idle_by moves.message (request midway.so_far) midway.news midway.jobs midway.idle;
@@ -592,20 +587,12 @@ midway_whole p old new bytes waits left seen now next before acts start end midw
       brings = midway.brings;
       jobs = midway.jobs;
       gives = midway.gives;
-      gave = midway.gave;
       gains = gains_same seen now next p midway.so_far midway.news midway.jobs midway.gains answer.2;
     })
 
 met_end : (rs : List Msg) (t end : Trail) → (met t ≡ true → met end ≡ true) → (rs ≡ []) ⊎ (met t ≡ true) → (rs ≡ []) ⊎ (met end ≡ true)
 met_end rs t end known (inl none) = inl none
 met_end rs t end known (inr is) = inr (known is)
-
-pub gives_late : (t end start : Trail) (jobs : List Job) → given (counted end) ≡ given (counted t) → IsGivenBetween start t jobs → IsGivenBetween start end jobs
-gives_late t end start jobs e is = record {
-  new = λ job i. subst (λ (js : List Job). IsIn job js) (sym e) (is.new job i);
-  old = λ job i. subst (λ (js : List Job). IsIn job js) (sym e) (is.old job i);
-  only = λ job i. is.only job (subst (λ (js : List Job). IsIn job js) e i);
-}
 
 pub midway_fault : (p : PeerNo) (old : Peer) (bytes : List ℕ) (seen now next : Seen) (before acts : List Act) (start end : Part)
     (cause : Cause) (midway : Midway p old bytes seen now before acts start end)
@@ -621,8 +608,7 @@ midway_fault p old bytes seen now next before acts start end cause midway stops 
       news = midway.news;
       brings = faulty.same ∙ midway.brings;
       jobs = midway.jobs;
-      gives = gives_late midway.so_far end.trail start.trail midway.jobs faulty.same_given midway.gives;
-      gave = faulty.same_given ∙ midway.gave;
+      gives = faulty.same_given ∙ midway.gives;
       kept = gains_retains seen now next p midway.so_far midway.news midway.jobs midway.gains stops.same;
     }
 
@@ -648,7 +634,6 @@ midway_exposed p old new bytes rest seen now next before acts start end block fi
       brings = more.brings;
       jobs = more.jobs;
       gives = more.gives;
-      gave = more.gave;
       gains = more.gains;
       exposed = reveals.exposed;
     }

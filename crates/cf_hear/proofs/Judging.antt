@@ -17,6 +17,15 @@ judged_still {M} judges watch (suc n) a b c times still = (
   },
 )
 
+pub judged_kept : {M : Type 0} (judges : Judges M) (watch : List (List ℕ)) (a b c : Judging M) → IsJudgedBy judges watch a b → IsUnjudged b c → IsJudgedBy judges watch a c
+judged_kept judges watch a b c (inl none) still = inl (record { same = still.same ∙ none.same; kept = λ block hash. still.kept block hash ∙ none.kept block hash })
+judged_kept {M} judges watch a b c (inr one) still = inr (record {
+  jobs = one.jobs;
+  answer = one.answer;
+  judged = subst (λ (m : M). judges a.matcher one.jobs watch (Ok one.answer) m) (sym still.same) one.judged;
+  kept = λ block hash. still.kept block hash ∙ one.kept block hash;
+})
+
 -- what one message more did
 pub judged_then : {M : Type 0} (judges : Judges M) (watch now : List (List ℕ)) (a b c : Judging M) → AreJudgedBy judges watch a b → now ≡ watch → IsJudgedBy judges now b c → AreJudgedBy judges watch a c
 judged_then judges watch now a b c all is (inl still) = (all.0, judged_still judges watch all.0 a b c all.1 still)

@@ -1,45 +1,41 @@
 -- How what was seen goes on with the log.
-use Rattle.std.proofs.Common.{◌≡◌, ◌≢◌, inl, inr, ℕ, List, [], ◌∷◌, ◌++◌, Option, Some, None, Ok, Err, Bool, true, false, ◌==◌, if◌then◌else◌, refl, sym, ◌∙◌, ap, subst, arith}
-use Rattle.std.specs.Prelude.{◌&&◌, is_none}
+use Rattle.std.proofs.Common.{◌≡◌, ◌≢◌, inl, inr, ℕ, List, [], ◌∷◌, ◌++◌, Option, Some, None, Bool, true, false, ◌==◌, if◌then◌else◌, refl, sym, ◌∙◌, ap, subst, arith}
 use Rattle.std.proofs.lemmas.Grind.{common_steps}
 use Rattle.std.proofs.lemmas.Bool.{both_ways, cases_eq}
 use Rattle.cf_bytes.specs.declared.peer.PeerNo.{PeerNo}
 use Rattle.cf_block.specs.declared.tx.Block.{Block}
 use Rattle.cf_dispute.specs.Claims.{no_claims}
 use Rattle.cf_dispute.specs.Claims as dispute
-use Rattle.cf_frame.specs.declared.frame.Frame.{Frame}
-use Rattle.cf_frame.specs.declared.frame.FrameFault.{FrameFault}
-use Rattle.cf_frame.specs.Stream.{read_stream}
 use Rattle.cf_headers.specs.Chain.{Hash, Chain, IsIn}
 use Rattle.cf_headers.specs.Store.{Puts}
-use Rattle.cf_match.specs.declared.job.Job.{Job}
-use Rattle.cf_match.specs.Verdicts.{Verdicts, AreSameVerdicts, with_verdicts}
+use Rattle.cf_match.specs.Verdicts.{AreSameVerdicts}
 use Rattle.cf_msg.specs.declared.msg.Msg.{Msg}
-use Rattle.cf_msg.specs.Reading.{message_of}
 use Rattle.cf_peer.specs.declared.act.Act.{Act}
 use Rattle.cf_peer.specs.declared.peer.Cause.{Cause}
 use Rattle.cf_peer.specs.declared.peer.Peer.{Peer}
 use Rattle.cf_wires.specs.declared.event.Delivery.TheVariants.{Got, Gone, Tick, Ended}
 use Rattle.cf_wires.specs.declared.event.Event.TheVariants.{Dialled, NotDialled, Sent, Closed, Took}
 use Rattle.cf_wires.specs.Log.{Log}
-use Rattle.cf_peer.specs.Trail.{Trail, Part, Said, Asked, Lost, Went, Shutting, part_of, trail, went_on, asks, spelled, with_item, called_part, heard_part, hears, hears_fault, item_of, item_of_read, connected, own}
-use Rattle.cf_peer.specs.Asking.{NothingOpen, claims, counted, request, verdict, fetched, given, SameUse}
+use Rattle.cf_peer.specs.Trail.{Trail, Part, Asked, Lost, Went, Shutting, part_of, trail, went_on, asks, spelled, with_item, called_part, heard_part, connected, own}
+use Rattle.cf_peer.specs.Asking.{NothingOpen, claims, counted, request, fetched, given, SameUse}
 use Rattle.cf_sync.specs.Fetching.{HoldsFetched, IsConnected, IsFetched, blocks_open, filters_open}
 use Rattle.cf_sync.specs.Kept.{AimsAt, HoldsClaims, HoldsGiven, HoldsOpens, HoldsTrials, OpensAt, claims_kept}
+use Rattle.cf_sync.specs.Planned.{IsSameGiven}
+use Rattle.cf_sync.proofs.Answered.{none_came_same_given}
 use Rattle.cf_sync.proofs.KeptAims.{IsNoQuestion, aims_other, trials_piece, trials_same, trials_sent, trials_stay}
+use Rattle.cf_sync.proofs.KeptGiven.{verdicts_go}
 use Rattle.cf_sync.proofs.KeptOpens.{opens_closed, opens_put}
 use Rattle.cf_sync.proofs.Counted.{same_use}
 use Rattle.cf_sync.proofs.Deaf.{heard_deaf, heard_on}
 use Rattle.cf_sync.proofs.TableGrows.{holds_after_piece}
-use Rattle.cf_sync.proofs.VerdictsGrow.{grown_between, same_given}
+use Rattle.cf_sync.proofs.VerdictsGrow.{same_given}
 use Rattle.cf_seek.specs.Opens.{Closes, IsSameOpens}
 use Rattle.cf_tables.specs.Tables.{Table, IsSameTable}
 use Rattle.cf_tables.specs.Wanting.{ForgetsClaims, IsSameTables}
-use Rattle.cf_hear.specs.Hearing.{HeardWhole, HeardFault, HeardExposed, IsGivenBetween}
+use Rattle.cf_hear.specs.Hearing.{HeardWhole, HeardFault, HeardExposed}
 use Rattle.cf_hear.specs.Seen.{Seen, IsSameSeen}
-use Rattle.cf_hear.specs.Tracks.{HasOpened, Tracks, IsPut, IsSameElsewhere, chain_kept}
+use Rattle.cf_hear.specs.Tracks.{HasOpened, Tracks, IsPut, chain_kept}
 use Rattle.cf_tables.specs.Trials.{IsSameTrials}
-use Rattle.cf_hear.proofs.Hearing.{gives_late}
 use Rattle.cf_hear.proofs.Trying.{elsewhere_self, go_on, go_self, trials_self}
 use Rattle.cf_hear.proofs.Opening.{closed_on, closes_off, closes_then, else_by, else_self, holds_by, opens_asked, opens_by, opens_kept, opens_on}
 
@@ -57,10 +53,14 @@ holds_on watch now log next table new same_watch same_table same h = subst (λ (
 
 -- ---- a log that tells the same, or that p's chain and claims became others, and nothing is open to it
 
--- of each peer the same blocks and filters
+-- the same filters were given
+same_gave : (log : Log) → IsSameGiven log log
+same_gave log = λ job. (λ gave. gave, λ gave. gave)
+
+-- of each peer the same blocks, and the same filters
 pub record IsSameBrought (log next : Log) : Type 0 where
   pub blocks : (q : ℕ) → fetched (counted (trail next q)) ≡ fetched (counted (trail log q))
-  pub filters : (q : ℕ) → given (counted (trail next q)) ≡ given (counted (trail log q))
+  pub filters : IsSameGiven log next
 
 pub tracks_on : (before after : Seen) (log next : Log) → after.watch ≡ before.watch → IsSameTable after.table before.table → AreSameVerdicts after.verdicts before.verdicts
     → ((q : ℕ) → after.chains q ≡ chain_kept (trail next q)) → HoldsClaims next after.claims → HoldsOpens next after.opens → IsSameBrought log next
@@ -78,7 +78,7 @@ pub same_tracks : (before after : Seen) (log : Log) → IsSameSeen before after 
 same_tracks before after log same tracks =
     tracks_on before after log log same.watch same.table same.verdicts (λ q. same.chains q ∙ tracks.kept q) (λ q block. same.claims q block ∙ tracks.claimed q block)
     (λ q. opens_on before.opens after.opens q (trail log q) same.opens (tracks.opened q))
-    (record { blocks = λ q. refl; filters = λ q. refl }) (trials_same log before.trials after.trials same.trials.paid same.trials.told same.trials.aims tracks.trials) tracks
+    (record { blocks = λ q. refl; filters = same_gave log }) (trials_same log before.trials after.trials same.trials.paid same.trials.told same.trials.aims tracks.trials) tracks
 
 -- the log goes on, and no chain changes and no claims
 pub tracks_same : (s : Seen) (log next : Log) → ((q : ℕ) → chain_kept (trail next q) ≡ chain_kept (trail log q)) → ((q : ℕ) → claims_kept (trail next q) ≡ claims_kept (trail log q))
@@ -137,22 +137,18 @@ put_entered before last p puts table claims verdicts watch none opens idle trial
 
 -- ---- the entries
 
-brought_at : (log next : Log) (p : ℕ) → ((q : ℕ) → q ≢ p → part_of next q ≡ part_of log q) → fetched (counted (trail next p)) ≡ fetched (counted (trail log p)) → given (counted (trail next p)) ≡ given (counted (trail log p))
-    → IsSameBrought log next
+brought_at : (log next : Log) (p : ℕ) → ((q : ℕ) → q ≢ p → part_of next q ≡ part_of log q) → fetched (counted (trail next p)) ≡ fetched (counted (trail log p)) → IsSameGiven log next → IsSameBrought log next
 brought_at log next p others blocks filters = record {
   blocks = λ q. elim (cases_eq q p) [
     | inl is ↦ subst (λ (k : ℕ). fetched (counted (trail next k)) ≡ fetched (counted (trail log k))) (sym is) blocks
     | inr other ↦ ap (λ (x : Part). fetched (counted x.trail)) (others q other)
   ];
-  filters = λ q. elim (cases_eq q p) [
-    | inl is ↦ subst (λ (k : ℕ). given (counted (trail next k)) ≡ given (counted (trail log k))) (sym is) filters
-    | inr other ↦ ap (λ (x : Part). given (counted x.trail)) (others q other)
-  ];
+  filters = filters;
 }
 
 -- p is lost, in whatever way, and nothing else
 pub tracks_lost : (before after : Seen) (p : PeerNo) (log next : Log) → IsPut before after p.0 None no_claims → connected (trail next p.0) ≡ false → ((q : ℕ) → q ≢ p.0 → part_of next q ≡ part_of log q)
-    → fetched (counted (trail next p.0)) ≡ fetched (counted (trail log p.0)) → given (counted (trail next p.0)) ≡ given (counted (trail log p.0)) → HoldsTrials next before.trials → Tracks before log → Tracks after next
+    → fetched (counted (trail next p.0)) ≡ fetched (counted (trail log p.0)) → IsSameGiven log next → HoldsTrials next before.trials → Tracks before log → Tracks after next
 tracks_lost before after p log next put off others blocks filters trials tracks =
     tracks_put before after p.0 None no_claims log next put
     (sym (ap (λ (b : Bool). if b then Some (own (trail next p.0)) else None) off)) (sym (ap (λ (b : Bool). if b then claims (counted (trail next p.0)) else no_claims) off))
@@ -168,7 +164,7 @@ pub tracks_closed : (before after : Seen) (p : PeerNo) (log : Log) → IsPut bef
 tracks_closed before after p log put tracks =
     let here = closed_here p (part_of log p.0) in
     tracks_lost before after p log (Closed p ∷ log) put (ap (λ (x : Part). connected x.trail) here) (λ q other. closed_others p q (part_of log q) other)
-    (ap (λ (x : Part). fetched (counted x.trail)) here) (ap (λ (x : Part). given (counted x.trail)) here) (trials_stay (Closed p) log before.trials tt tt tracks.trials) tracks
+    (ap (λ (x : Part). fetched (counted x.trail)) here) (same_gave log) (trials_stay (Closed p) log before.trials tt tt tracks.trials) tracks
 
 gone_here : (p : PeerNo) (part : Part) → went_on (Took (Gone p)) p.0 part ≡ with_item (Lost Went) part
 gone_here p part = grind (arith, common_steps)
@@ -180,7 +176,7 @@ pub tracks_gone : (before after : Seen) (p : PeerNo) (log : Log) → IsPut befor
 tracks_gone before after p log put tracks =
     let here = gone_here p (part_of log p.0) in
     tracks_lost before after p log (Took (Gone p) ∷ log) put (ap (λ (x : Part). connected x.trail) here) (λ q other. gone_others p q (part_of log q) other)
-    (ap (λ (x : Part). fetched (counted x.trail)) here) (ap (λ (x : Part). given (counted x.trail)) here) (trials_stay (Took (Gone p)) log before.trials tt tt tracks.trials) tracks
+    (ap (λ (x : Part). fetched (counted x.trail)) here) (same_gave log) (trials_stay (Took (Gone p)) log before.trials tt tt tracks.trials) tracks
 
 called_here : (p : PeerNo) (name : List ℕ) (part : Part) → went_on (Dialled p name) p.0 part ≡ called_part part
 called_here p name part = grind (arith, common_steps)
@@ -194,7 +190,7 @@ tracks_dialled before after p name log put tracks =
     let next = Dialled p name ∷ log in
     tracks_put before after p.0 (Some []) no_claims log next put (sym (ap (λ (x : Part). chain_kept x.trail) here)) (sym (ap (λ (x : Part). claims_kept x.trail) here))
     (λ on. ap (λ (x : Part). request x.trail) here) (λ q other. called_others p name q (part_of log q) other)
-    (brought_at log next p.0 (λ q other. called_others p name q (part_of log q) other) (ap (λ (x : Part). fetched (counted x.trail)) here) (ap (λ (x : Part). given (counted x.trail)) here))
+    (brought_at log next p.0 (λ q other. called_others p name q (part_of log q) other) (ap (λ (x : Part). fetched (counted x.trail)) here) (same_gave log))
     (trials_stay (Dialled p name) log before.trials tt tt tracks.trials) tracks
 
 -- what is sent changes nothing that is kept
@@ -226,7 +222,7 @@ tracks_asked before after p bytes log same at aim tracks =
     (subst (OpensAt after.opens p.0) (sym (ap (λ (x : Part). x.trail) (sent_here p bytes (part_of log p.0)))) at))
     (record {
       blocks = λ q. sent_same (List Block) (λ t. fetched (counted t)) p bytes log q (λ m. refl);
-      filters = λ q. sent_same (List Job) (λ t. given (counted t)) p bytes log q (λ m. refl);
+      filters = same_gave log;
     }) (trials_sent p bytes log before.trials after.trials same.trials.paid same.trials.told same.trials.aims aim tracks.trials) tracks
 
 pub opened_self : (s : Seen) (p : ℕ) → HasOpened s s p
@@ -253,12 +249,12 @@ tracks_sent s p bytes m log is filters blocks none tracks =
 pub tracks_tick : (s : Seen) (seconds : ℕ) (log : Log) → Tracks s log → Tracks s (Took (Tick seconds) ∷ log)
 tracks_tick s seconds log tracks =
     tracks_same s log (Took (Tick seconds) ∷ log) (λ q. refl) (λ q. refl) (λ q. opens_kept s.opens q (trail log q) (trail (Took (Tick seconds) ∷ log) q) refl refl (tracks.opened q))
-    (record { blocks = λ q. refl; filters = λ q. refl }) (trials_stay (Took (Tick seconds)) log s.trials tt tt tracks.trials) tracks
+    (record { blocks = λ q. refl; filters = same_gave log }) (trials_stay (Took (Tick seconds)) log s.trials tt tt tracks.trials) tracks
 
 pub tracks_ended : (s : Seen) (log : Log) → Tracks s log → Tracks s (Took Ended ∷ log)
 tracks_ended s log tracks =
     tracks_same s log (Took Ended ∷ log) (λ q. refl) (λ q. refl) (λ q. opens_kept s.opens q (trail log q) (trail (Took Ended ∷ log) q) refl refl (tracks.opened q))
-    (record { blocks = λ q. refl; filters = λ q. refl }) (trials_stay (Took Ended) log s.trials tt tt tracks.trials) tracks
+    (record { blocks = λ q. refl; filters = same_gave log }) (trials_stay (Took Ended) log s.trials tt tt tracks.trials) tracks
 
 -- ---- a peer that isn't connected
 
@@ -304,7 +300,7 @@ pub tracks_missed : (s : Seen) (p : PeerNo) (name : List ℕ) (log : Log) → co
 tracks_missed s p name log off tracks =
     let here = missed_here p name (part_of log p.0) in
     tracks_lost s s p log (NotDialled p name ∷ log) (put_off s log p.0 off tracks) (ap (λ (x : Part). connected x.trail) here) (λ q other. missed_others p name q (part_of log q) other)
-    (ap (λ (x : Part). fetched (counted x.trail)) here) (ap (λ (x : Part). given (counted x.trail)) here) (trials_stay (NotDialled p name) log s.trials tt tt tracks.trials) tracks
+    (ap (λ (x : Part). fetched (counted x.trail)) here) (same_gave log) (trials_stay (NotDialled p name) log s.trials tt tt tracks.trials) tracks
 
 -- what it says doesn't count
 pub got_here : (p : PeerNo) (piece : List ℕ) (part : Part) → went_on (Took (Got p piece)) p.0 part ≡ heard_part piece part
@@ -313,28 +309,26 @@ got_here p piece part = grind (arith, common_steps)
 pub got_others : (p : PeerNo) (piece : List ℕ) (q : ℕ) (part : Part) → q ≢ p.0 → went_on (Took (Got p piece)) q part ≡ part
 got_others p piece q part ne = grind (arith, common_steps)
 
+deaf_gave : (p : PeerNo) (piece : List ℕ) (log : Log) → given (counted (trail (Took (Got p piece) ∷ log) p.0)) ≡ given (counted (trail log p.0)) → IsSameGiven log (Took (Got p piece) ∷ log)
+deaf_gave p piece log same =
+    let next = Took (Got p piece) ∷ log in
+    none_came_same_given (Took (Got p piece)) log (λ q. elim (cases_eq q p.0) [
+      | inl is ↦ subst (λ (k : ℕ). given (counted (trail next k)) ≡ given (counted (trail log k))) (sym is) same
+      | inr other ↦ ap (λ (x : Part). given (counted x.trail)) (got_others p piece q (part_of log q) other)
+    ])
+
 pub tracks_deaf : (s : Seen) (p : PeerNo) (piece : List ℕ) (log : Log) → connected (trail log p.0) ≡ false → Tracks s log → Tracks s (Took (Got p piece) ∷ log)
 tracks_deaf s p piece log off tracks =
     let here = got_here p piece (part_of log p.0) in
     let deaf = heard_deaf piece (part_of log p.0) off in
+    let same = ap (λ (x : Part). given (counted x.trail)) here ∙ ap given deaf in
     tracks_lost s s p log (Took (Got p piece) ∷ log) (put_off s log p.0 off tracks) (ap (λ (x : Part). connected x.trail) here ∙ heard_on piece (part_of log p.0) ∙ off)
     (λ q other. got_others p piece q (part_of log q) other)
-    (ap (λ (x : Part). fetched (counted x.trail)) here ∙ ap fetched deaf) (ap (λ (x : Part). given (counted x.trail)) here ∙ ap given deaf)
-    (trials_piece p piece log s.trials s.trials [] [] (ap (λ (x : Part). fetched (counted x.trail)) here ∙ ap fetched deaf) (ap (λ (x : Part). given (counted x.trail)) here ∙ ap given deaf)
+    (ap (λ (x : Part). fetched (counted x.trail)) here ∙ ap fetched deaf) (deaf_gave p piece log same)
+    (trials_piece p piece log s.trials s.trials [] [] (ap (λ (x : Part). fetched (counted x.trail)) here ∙ ap fetched deaf) same
     (go_self s.trials p.0) tracks.trials) tracks
 
 -- ---- a piece of a connected peer
-
--- the verdicts once a piece came
-got_given : (p : PeerNo) (piece : List ℕ) (log : Log) (watch : List (List ℕ)) (jobs : List Job) (before after : Verdicts) → IsGivenBetween (trail log p.0) (heard_part piece (part_of log p.0)).trail jobs
-    → AreSameVerdicts after (with_verdicts watch jobs before) → HoldsGiven watch log before → HoldsGiven watch (Took (Got p piece) ∷ log) after
-got_given p piece log watch jobs before after gives alike holds =
-    let t : trail (Took (Got p piece) ∷ log) p.0 ≡ (heard_part piece (part_of log p.0)).trail = ap (λ (x : Part). x.trail) (got_here p piece (part_of log p.0)) in
-    grown_between watch log (Took (Got p piece) ∷ log) p.0 jobs before after
-    (λ job i. subst (λ (x : Trail). IsIn job (given (counted x))) (sym t) (gives.new job i))
-    (λ job i. subst (λ (x : Trail). IsIn job (given (counted x))) (sym t) (gives.old job i))
-    (λ job i. gives.only job (subst (λ (x : Trail). IsIn job (given (counted x))) t i))
-    (λ q off. ap (λ (b : Bool). given (counted (if b then heard_part piece (part_of log q) else part_of log q).trail)) off) alike holds
 
 -- taken whole
 pub tracks_heard : (p : PeerNo) (peer : Peer) (seen now : Seen) (before after : List Act) (piece : List ℕ) (log : Log) → HeardWhole p peer seen now before after (part_of log p.0) (heard_part piece (part_of log p.0))
@@ -361,11 +355,11 @@ tracks_heard p peer seen now before after piece log heard tracks =
       fetched = subst (λ (w : List (List ℕ)). HoldsFetched w next now.table) (sym heard.gains.watch)
           (holds_after_piece seen.watch p piece log heard.news seen.table now.table (ap (λ (x : Trail). fetched (counted x)) t ∙ heard.brings) heard.gains.table tracks.fetched);
       given = subst (λ (w : List (List ℕ)). HoldsGiven w next now.verdicts) (sym heard.gains.watch)
-          (got_given p piece log seen.watch heard.jobs seen.verdicts now.verdicts heard.gives heard.gains.verdicts tracks.given);
+          (verdicts_go p piece log seen.watch seen.trials seen.verdicts now.verdicts heard.jobs (ap (λ (x : Trail). given (counted x)) t ∙ heard.gives) heard.gains.verdicts tracks.trials tracks.given);
       opened = opens_put log next seen.opens now.opens p.0 tracks.opened heard.gains.opens (λ q other. ap (λ (x : Part). x.trail) (others q other))
           (subst (OpensAt now.opens p.0) (sym t) heard.gains.follows.opens);
       trials = trials_piece p piece log seen.trials now.trials heard.news heard.jobs
-          (ap (λ (x : Trail). fetched (counted x)) t ∙ heard.brings) (ap (λ (x : Trail). given (counted x)) t ∙ heard.gave) heard.gains.trials tracks.trials;
+          (ap (λ (x : Trail). fetched (counted x)) t ∙ heard.brings) (ap (λ (x : Trail). given (counted x)) t ∙ heard.gives) heard.gains.trials tracks.trials;
     }
 
 -- One in which a frame deserves a cause: what was seen stands for the log with the piece, but for p's chain and claims, which are given up with it.
@@ -384,10 +378,11 @@ tracks_faulty p seen now last before acts piece log cause fault put tracks =
           fetched = subst (λ (w : List (List ℕ)). HoldsFetched w next last.table) (sym (put.watch ∙ fault.kept.watch))
               (holds_after_piece seen.watch p piece log fault.news seen.table last.table (ap (λ (x : Trail). fetched (counted x)) t ∙ fault.brings) (λ hash. put.table hash ∙ fault.kept.table hash) tracks.fetched);
           given = subst (λ (w : List (List ℕ)). HoldsGiven w next last.verdicts) (sym (put.watch ∙ fault.kept.watch))
-              (got_given p piece log seen.watch fault.jobs seen.verdicts last.verdicts fault.gives (λ block hash. put.verdicts block hash ∙ fault.kept.verdicts block hash) tracks.given);
+              (verdicts_go p piece log seen.watch seen.trials seen.verdicts last.verdicts fault.jobs (ap (λ (x : Trail). given (counted x)) t ∙ fault.gives)
+              (λ block hash. put.verdicts block hash ∙ fault.kept.verdicts block hash) tracks.trials tracks.given);
           opened = holds_by next;
           trials = trials_piece p piece log seen.trials last.trials fault.news fault.jobs
-              (ap (λ (x : Trail). fetched (counted x)) t ∙ fault.brings) (ap (λ (x : Trail). given (counted x)) t ∙ fault.gave)
+              (ap (λ (x : Trail). fetched (counted x)) t ∙ fault.brings) (ap (λ (x : Trail). given (counted x)) t ∙ fault.gives)
               (go_on seen.trials now.trials last.trials p.0 fault.news fault.jobs fault.kept.trials put.trials) tracks.trials;
         },
         record {
@@ -417,13 +412,13 @@ tracks_exposed p seen now before acts piece log block filter x blocks filters tr
     let next = Took (Got p piece) ∷ log in
     let t : trail next p.0 ≡ (heard_part piece (part_of log p.0)).trail = ap (λ (y : Part). y.trail) (got_here p piece (part_of log p.0)) in
     let brings : fetched (counted (trail next p.0)) ≡ x.news ++ fetched (counted (trail log p.0)) = ap (λ (u : Trail). fetched (counted u)) t ∙ blocks ∙ x.brings in
-    let gave : given (counted (trail next p.0)) ≡ x.jobs ++ given (counted (trail log p.0)) = ap (λ (u : Trail). given (counted u)) t ∙ filters ∙ x.gave in
+    let gives : given (counted (trail next p.0)) ≡ x.jobs ++ given (counted (trail log p.0)) = ap (λ (u : Trail). given (counted u)) t ∙ filters ∙ x.gives in
     record {
       kept = λ q. refl;
       claimed = λ q at. refl;
       fetched = subst (λ (w : List (List ℕ)). HoldsFetched w next now.table) (sym x.gains.watch) (holds_after_piece seen.watch p piece log x.news seen.table now.table brings x.gains.table tracks.fetched);
       given = subst (λ (w : List (List ℕ)). HoldsGiven w next now.verdicts) (sym x.gains.watch)
-          (got_given p piece log seen.watch x.jobs seen.verdicts now.verdicts (gives_late x.so_far (heard_part piece (part_of log p.0)).trail (trail log p.0) x.jobs filters x.gives) x.gains.verdicts tracks.given);
+          (verdicts_go p piece log seen.watch seen.trials seen.verdicts now.verdicts x.jobs gives x.gains.verdicts tracks.trials tracks.given);
       opened = holds_by next;
-      trials = trials_piece p piece log seen.trials now.trials x.news x.jobs brings gave x.gains.trials tracks.trials;
+      trials = trials_piece p piece log seen.trials now.trials x.news x.jobs brings gives x.gains.trials tracks.trials;
     }

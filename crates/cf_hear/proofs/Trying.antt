@@ -55,22 +55,16 @@ tested_alike aim other paid now jobs told new e p t =
       by true (job ∷ next ∷ js) = t
 
 -- by what the code does
-pub tested_not : (aim : Bool) (paid : Paid) (jobs : List Job) (told : Told) → aim ≡ false → IsSameTold told (tested_if aim paid jobs told)
-tested_not true paid jobs told off = cc
-tested_not false paid jobs told off = λ block filter. refl
+pub tested_more : (paid : Paid) (jobs : List Job) (told : Told) → length jobs ≢ 1 → IsSameTold told (tested_if true paid jobs told)
+tested_more paid [] told ne = λ block filter. refl
+tested_more paid (job ∷ []) told ne = absurd (ne refl)
+tested_more paid (job ∷ next ∷ jobs) told ne = λ block filter. refl
 
-pub tested_more : (aim : Bool) (paid : Paid) (jobs : List Job) (told : Told) → length jobs ≢ 1 → IsSameTold told (tested_if aim paid jobs told)
-tested_more false paid jobs told ne = λ block filter. refl
-tested_more true paid [] told ne = λ block filter. refl
-tested_more true paid (job ∷ []) told ne = absurd (ne refl)
-tested_more true paid (job ∷ next ∷ jobs) told ne = λ block filter. refl
-
-pub tested_one : (aim : Bool) (paid : Paid) (jobs : List Job) (job : Job) (told now : Told) → aim ≡ true → length jobs ≡ 1 → job ≡ get_or jobs 0 job
-    → IsSameTold now (with_found paid job told) → IsSameTold now (tested_if aim paid jobs told)
-tested_one false paid jobs job told now on one is t = cc
-tested_one true paid [] job told now on one is t = absurd (omega (arith, one))
-tested_one true paid (x ∷ []) job told now on one is t = subst (λ (j : Job). IsSameTold now (with_found paid j told)) is t
-tested_one true paid (x ∷ y ∷ jobs) job told now on one is t = absurd (omega (arith, one))
+pub tested_one : (paid : Paid) (jobs : List Job) (job : Job) (told now : Told) → length jobs ≡ 1 → job ≡ get_or jobs 0 job → IsSameTold now (with_found paid job told)
+    → IsSameTold now (tested_if true paid jobs told)
+tested_one paid [] job told now one is t = absurd (omega (arith, one))
+tested_one paid (x ∷ []) job told now one is t = subst (λ (j : Job). IsSameTold now (with_found paid j told)) is t
+tested_one paid (x ∷ y ∷ jobs) job told now one is t = absurd (omega (arith, one))
 
 -- ---- what came
 

@@ -296,21 +296,21 @@ block_send s log p common hash chain tracks is low free wish =
 -- ---- a filter that is to be tested
 
 -- where it stands on the chain
-pub test_part : (s : Seen) (log : Log) (p common : ℕ) (trial : Trial) (listed : List Hash) (chain : Chain) → chain ≡ own (trail log p)
-    → IsTrying s.table s.claims s.trials.told p chain common listed (Test trial) → IsTrial s.table s.claims s.trials.told p (own (trail log p)) common trial.block.0 trial.height
-test_part s log p common trial listed chain is tries = subst (λ (c : Chain). IsTrial s.table s.claims s.trials.told p c common trial.block.0 trial.height) is tries.1
+pub test_part : (s : Seen) (log : Log) (p common : ℕ) (trial : Trial) (chain : Chain) → chain ≡ own (trail log p)
+    → IsTrying s.table s.claims s.trials.told p chain common (Test trial) → IsTrial s.table s.claims s.trials.told p (own (trail log p)) common trial.block.0 trial.height
+test_part s log p common trial chain is tries = subst (λ (c : Chain). IsTrial s.table s.claims s.trials.told p c common trial.block.0 trial.height) is tries.0
 
-pub test_needed : (s : Seen) (log : Log) (p common : ℕ) (trial : Trial) (listed : List Hash) (chain : Chain) → Tracks s log → chain ≡ own (trail log p)
-    → IsTrying s.table s.claims s.trials.told p chain common listed (Test trial) → IsTestOf log p trial.height trial.block.0
-test_needed s log p common trial listed chain tracks is tries =
+pub test_needed : (s : Seen) (log : Log) (p common : ℕ) (trial : Trial) (chain : Chain) → Tracks s log → chain ≡ own (trail log p)
+    → IsTrying s.table s.claims s.trials.told p chain common (Test trial) → IsTestOf log p trial.height trial.block.0
+test_needed s log p common trial chain tracks is tries =
     trial_by s.watch log s.table s.claims s.trials.told tracks.fetched tracks.claimed tracks.trials.told p common trial.height trial.block.0
-    (test_part s log p common trial listed chain is tries)
+    (test_part s log p common trial chain is tries)
 
-test_may : (s : Seen) (log : Log) (p common : ℕ) (trial : Trial) (listed : List Hash) (chain : Chain) → Tracks s log → chain ≡ own (trail log p)
-    → IsFree (trail log p) → verdict (trail log p) ≡ None → IsTrying s.table s.claims s.trials.told p chain common listed (Test trial) → MayAsk (trail log p) (GetCfilters 0 trial.height trial.block)
-test_may s log p common trial listed chain tracks is free clean tries =
+test_may : (s : Seen) (log : Log) (p common : ℕ) (trial : Trial) (chain : Chain) → Tracks s log → chain ≡ own (trail log p)
+    → IsFree (trail log p) → verdict (trail log p) ≡ None → IsTrying s.table s.claims s.trials.told p chain common (Test trial) → MayAsk (trail log p) (GetCfilters 0 trial.height trial.block)
+test_may s log p common trial chain tracks is free clean tries =
     let t = trail log p in
-    let one = test_part s log p common trial listed chain is tries in
+    let one = test_part s log p common trial chain is tries in
     let at = at_height trial.block.0 (own t) trial.height one.stands in
     let long : length (lower trial.height (own t)) ≡ trial.height = length_lower trial.height (own t) at.1 in
     let up = one.above in
@@ -326,13 +326,13 @@ test_may s log p common trial listed chain tracks is free clean tries =
       ),
     )
 
-pub test_send : (s : Seen) (log : Log) (p common : ℕ) (trial : Trial) (listed : List Hash) (chain : Chain) → Tracks s log → chain ≡ own (trail log p)
-    → IsFree (trail log p) → verdict (trail log p) ≡ None → IsTrying s.table s.claims s.trials.told p chain common listed (Test trial)
+pub test_send : (s : Seen) (log : Log) (p common : ℕ) (trial : Trial) (chain : Chain) → Tracks s log → chain ≡ own (trail log p)
+    → IsFree (trail log p) → verdict (trail log p) ≡ None → IsTrying s.table s.claims s.trials.told p chain common (Test trial)
     → MaySend log p (GetCfilters 0 trial.height trial.block) × IsNeeded s.watch log p (GetCfilters 0 trial.height trial.block)
-test_send s log p common trial listed chain tracks is free clean tries =
-    let needed = test_needed s log p common trial listed chain tracks is tries in (
+test_send s log p common trial chain tracks is free clean tries =
+    let needed = test_needed s log p common trial chain tracks is tries in (
       record {
-        of_its_part = test_may s log p common trial listed chain tracks is free clean tries;
+        of_its_part = test_may s log p common trial chain tracks is free clean tries;
         wanted = tt;
         alone = test_alone log p 0 trial.height trial.block needed;
       },

@@ -1,5 +1,5 @@
 //! How a peer's bytes are taken.
-ghost use Rattle.std.specs.Prelude.{◌≡◌, ◌≢◌, ◌<◌, ◌≤◌, ◌++◌, ℕ, List, [], true, Some, None, Ok, IsSome, IfOk, IfSome, IfNone, OnOk, length, map, false};
+ghost use Rattle.std.specs.Prelude.{◌≡◌, ◌≢◌, ◌<◌, ◌≤◌, ◌++◌, ℕ, List, [], true, Some, None, Ok, IsSome, IfOk, IfSome, IfNone, OnOk, length, false};
 ghost use Rattle.std.specs.List.{All};
 ghost use Rattle.cf_frame.specs.Reading.{front_of};
 ghost use Rattle.cf_msg.specs.declared.msg.Msg.TheVariants.{Headers, Block as BlockMessage, Cfheaders, Cfilter};
@@ -7,19 +7,19 @@ ghost use Rattle.cf_lent.specs.View.{msg_of};
 ghost use Rattle.cf_peer.specs.Acts.{IsDoable};
 ghost use Rattle.cf_peer.specs.Trail.{Trail, Part, heard_part};
 ghost use Rattle.cf_peer.specs.Peer.{Holds, calm, is_idle_peer, IsReplySendable, IsRight};
-ghost use Rattle.cf_match.specs.Verdicts.{AreSameVerdicts, verdict_of, with_verdicts};
+ghost use Rattle.cf_match.specs.Verdicts.{AreSameVerdicts, with_verdicts};
 ghost use Rattle.cf_headers.specs.Store.{Stays};
 ghost use Rattle.cf_seek.specs.Opens.{Closes, IsSameElse, IsSameOpens};
 ghost use Rattle.cf_tables.specs.Tables.{IsSameTable};
 ghost use Rattle.cf_tables.specs.Tests.{IsSameTold};
-ghost use Rattle.cf_tables.specs.Trials.{IsSameTrials, tested_if};
+ghost use Rattle.cf_tables.specs.Trials.{IsSameTrials, judged_if, tested_if};
 ghost use Rattle.cf_tracker.specs.Tracker.{aims_of, chains_of, claims_of, opens_of, paid_of, table_of, tests_of, trials_of, verdicts_of, watch_of};
 ghost use Rattle.cf_tables.specs.Wanting.{IsSameTables};
 ghost use Rattle.cf_hear.specs.Seen.{Follows, seen_of};
 ghost use Rattle.cf_dispute.specs.Tables.{blocks_of};
 ghost use Rattle.cf_hear.specs.Hearing.{HearsSeen, HearsNext, HeardPiece, goes_on};
 ghost use Rattle.cf_hear.specs.Exposing.{Exposes, ExposesAmong, ExposesLast, ExposesNext, IsUnexposed};
-ghost use Rattle.cf_hear.specs.Judging.{IsJudgedBy, AreJudgedBy, judging_of};
+ghost use Rattle.cf_hear.specs.Judging.{HasJudged, IsJudgedBy, AreJudgedBy, judging_of};
 
 use crate::lists::{hashes_in, headers_in};
 use crate::stop::Stop;
@@ -28,7 +28,7 @@ use cf_bytes::{Cut, Hash32, NoMemory, PeerNo, Refused};
 use cf_frame::Framer;
 use cf_headers::HeaderStore;
 use cf_lent::View;
-use cf_match::{Job, Matcher, Verdict};
+use cf_match::{Job, Matcher};
 use cf_peer::{Act, Cause, Coming, Heard, Peer, Reply, cause_of, next_coming};
 use cf_seek::Exposure;
 use cf_tracker::Tracker;
@@ -170,14 +170,10 @@ fn let_go<H: HeaderStore>(tracker: &mut Tracker<H>, peer: &Peer, p: PeerNo)
     }
 }
 
-// Tests what a peer gave, where it was asked for that so that it is tested: then it is one filter.
-fn test_given<H: HeaderStore>(
-    tracker: &mut Tracker<H>,
-    p: PeerNo,
-    jobs: &[Job],
-) -> Result<(), NoMemory>
+// Tests what a peer gave to be tested: that is one filter.
+fn test_given<H: HeaderStore>(tracker: &mut Tracker<H>, jobs: &[Job]) -> Result<(), NoMemory>
     ensures told { OnOk result (IsSameTold (tests_of tracker.new)
-        (tested_if (aims_of tracker.old p.0) (paid_of tracker.old) jobs.now (tests_of tracker.old))) }
+        (tested_if true (paid_of tracker.old) jobs.now (tests_of tracker.old))) }
     ensures paid { (hash : List ℕ) → paid_of tracker.new hash ≡ paid_of tracker.old hash }
     ensures aims { (q : ℕ) → aims_of tracker.new q ≡ aims_of tracker.old q }
     ensures opens { IsSameOpens (opens_of tracker.old) (opens_of tracker.new) }
@@ -187,9 +183,6 @@ fn test_given<H: HeaderStore>(
     ensures verdicts { AreSameVerdicts (verdicts_of tracker.new) (verdicts_of tracker.old) }
     ensures watch { watch_of tracker.new ≡ watch_of tracker.old }
 {
-    if !tracker.is_test(p) {
-        return Ok(());
-    }
     if jobs.len() != 1 {
         return Ok(());
     }
@@ -197,16 +190,40 @@ fn test_given<H: HeaderStore>(
     Ok(())
 }
 
-// Keeps the verdicts on filters that a peer gave, and what tests of them find.
-fn keep_given<H: HeaderStore>(
+// Has the matcher judge what a peer gave, and keeps the verdicts.
+fn judge_given<H: HeaderStore, M: Matcher>(
     tracker: &mut Tracker<H>,
-    p: PeerNo,
+    matcher: &mut M,
     jobs: &[Job],
-    verdicts: &[Verdict],
 ) -> Result<(), NoMemory>
-    requires { verdicts.now ≡ map (verdict_of (watch_of tracker.old)) jobs.now }
     ensures ok { OnOk result (AreSameVerdicts (verdicts_of tracker.new)
         (with_verdicts (watch_of tracker.old) jobs.now (verdicts_of tracker.old))) }
+    ensures judged { OnOk result (HasJudged M.judges (watch_of tracker.old)
+        (judging_of tracker.old matcher.old) (judging_of tracker.new matcher.new)) }
+    ensures opens { OnOk result (IsSameOpens (opens_of tracker.old) (opens_of tracker.new)) }
+    ensures chains { OnOk result (Stays (chains_of tracker.old) (chains_of tracker.new)) }
+    ensures table { OnOk result (IsSameTable (table_of tracker.old) (table_of tracker.new)) }
+    ensures claims { OnOk result (IsSameTables (claims_of tracker.old) (claims_of tracker.new)) }
+    ensures watch { OnOk result (watch_of tracker.new ≡ watch_of tracker.old) }
+    ensures trials { OnOk result (IsSameTrials (trials_of tracker.old) (trials_of tracker.new)) }
+{
+    let verdicts = matcher.run(jobs, tracker.watch())?;
+    tracker.judge(jobs, verdicts.as_slice())?;
+    Ok(())
+}
+
+// Takes filters that a peer gave. Where it was asked for them so that they are tested they are only tested; else they are
+// judged, and not tested.
+fn take_given<H: HeaderStore, M: Matcher>(
+    tracker: &mut Tracker<H>,
+    matcher: &mut M,
+    p: PeerNo,
+    jobs: &[Job],
+) -> Result<(), NoMemory>
+    ensures ok { OnOk result (AreSameVerdicts (verdicts_of tracker.new)
+        (judged_if (aims_of tracker.old p.0) (watch_of tracker.old) jobs.now (verdicts_of tracker.old))) }
+    ensures judged { OnOk result (IsJudgedBy M.judges (watch_of tracker.old)
+        (judging_of tracker.old matcher.old) (judging_of tracker.new matcher.new)) }
     ensures told { OnOk result (IsSameTold (tests_of tracker.new)
         (tested_if (aims_of tracker.old p.0) (paid_of tracker.old) jobs.now (tests_of tracker.old))) }
     ensures paid { OnOk result ((hash : List ℕ) → paid_of tracker.new hash ≡ paid_of tracker.old hash) }
@@ -217,12 +234,15 @@ fn keep_given<H: HeaderStore>(
     ensures claims { OnOk result (IsSameTables (claims_of tracker.old) (claims_of tracker.new)) }
     ensures watch { OnOk result (watch_of tracker.new ≡ watch_of tracker.old) }
 {
-    tracker.judge(jobs, verdicts)?;
-    test_given(tracker, p, jobs)?;
+    if tracker.is_test(p) {
+        test_given(tracker, jobs)?;
+        return Ok(());
+    }
+    judge_given(tracker, matcher, jobs)?;
     Ok(())
 }
 
-// Takes a filter that a tracked peer sent. The last of a batch has all of them matched, and tested where they are to be.
+// Takes a filter that a tracked peer sent. The last of a batch has all of them judged, or tested where they are to be.
 fn hear_filter<H: HeaderStore, M: Matcher>(
     alloc: Global,
     tracker: &mut Tracker<H>,
@@ -252,8 +272,7 @@ fn hear_filter<H: HeaderStore, M: Matcher>(
         Heard::Nothing => Ok(Reply::Nothing),
         Heard::Close(cause) => Ok(Reply::Close(cause)),
         Heard::Whole(jobs) => {
-            let verdicts = matcher.run(jobs.as_slice(), tracker.watch())?;
-            keep_given(tracker, p, jobs.as_slice(), verdicts.as_slice())?;
+            take_given(tracker, matcher, p, jobs.as_slice())?;
             let_go(tracker, peer, p);
             Ok(reply_after(tracker, p, &[*block]))
         }
