@@ -28,7 +28,7 @@ use Rattle.cf_peer.specs.declared.peer.Peer.{Peer}
 use Rattle.cf_peer.specs.declared.peer.Reply.{Reply}
 use Rattle.cf_peer.specs.declared.peer.Reply.TheVariants.{Nothing as NoReply, Send, Close, Expose}
 use Rattle.cf_peer.specs.Acts.{IsSendable, IsDoable}
-use Rattle.cf_peer.specs.Trail.{Trail, Part, Said, part_after, heard_part, fault_in, first, longer_of, ready, met, own, owed}
+use Rattle.cf_peer.specs.Trail.{Trail, Part, Said, part_after, heard_part, fault_in, first, longer_of, ready, met, connected, own, owed}
 use Rattle.cf_peer.specs.Asking.{OpenRequest, NothingOpen, request, claims, claims_after, counted, fault_of, fetched, fetched_by, given, given_by, verdict}
 use Rattle.cf_peer.specs.Hearing.{IsReply, Faulty}
 use Rattle.cf_peer.specs.Peer.{Holds, IsRight, TakesClaims, awaits, cause_of_claims, Hears, is_plain, is_ready_peer}
@@ -60,7 +60,7 @@ use Rattle.cf_sync.specs.Kept.{OpensAt}
 use Rattle.cf_sync.proofs.KeptOpens.{opens_closed}
 use Rattle.cf_hear.specs.Seen.{Seen, IsSameSeen, Follows}
 use Rattle.cf_hear.specs.Hearing.{Gains, Gives, Retains, HearsSeen, HearsNext, Advances, Reveals, Stops, Brings, Midway, HeardWhole, HeardFault, HeardExposed, HeardPiece}
-use Rattle.cf_hear.specs.Exposing.{ExposesAmong}
+use Rattle.cf_hear.specs.Exposing.{ExposesAmong, IsUnexposed}
 use Rattle.cf_hear.specs.declared.stop.Stop.{Stop}
 use Rattle.cf_hear.proofs.Trying.{IsOnce, gives_on, go_none, go_on, go_self, go_then, idle_by, once_by, one_empty, trials_self}
 use Rattle.cf_tables.specs.Trials.{IsSameTrials, TrialsGo, judged_if}
@@ -594,10 +594,23 @@ met_end : (rs : List Msg) (t end : Trail) → (met t ≡ true → met end ≡ tr
 met_end rs t end known (inl none) = inl none
 met_end rs t end known (inr is) = inr (known is)
 
+-- where nobody is exposed the peer claims no filter that was found to lack something
+spared_by : (now next : Seen) (p : ℕ) (t end : Trail) (block : Hash) (claim : Claim) → connected t ≡ true → verdict t ≡ None → counted end ≡ counted t → Follows now p t
+    → IsSameSeen now next → IsUnexposed next → claims (counted end) block ≡ Some claim → next.trials.told block claim.hash.0 ≡ Some true → ⊥
+spared_by now next p t end block claim on clean counts f same none mine found = none p block claim.hash.0 (record {
+  claimed = record {
+    claim = claim;
+    mine = same.claims p block ∙ f.claims block ∙ sym (ap (λ (c : dispute.Table). c block) (same_use t on clean).claiming)
+        ∙ sym (ap (λ (u : Trail). claims u block) counts) ∙ mine;
+    this = refl;
+  };
+  found = found;
+})
+
 pub midway_fault : (p : PeerNo) (old : Peer) (bytes : List ℕ) (seen now next : Seen) (before acts : List Act) (start end : Part)
     (cause : Cause) (midway : Midway p old bytes seen now before acts start end)
-    → Stops now next bytes midway.so_far cause → HeardFault p seen next before acts start end cause
-midway_fault p old bytes seen now next before acts start end cause midway stops =
+    → Stops now next bytes midway.so_far cause → (IsUnexposed seen → IsUnexposed next) → HeardFault p seen next before acts start end cause
+midway_fault p old bytes seen now next before acts start end cause midway stops unexposed =
     let faulty = subst (λ (x : Part). Faulty midway.so_far x.trail cause) midway.leads stops.faulty in
     record {
       replies = midway.replies;
@@ -610,6 +623,8 @@ midway_fault p old bytes seen now next before acts start end cause midway stops 
       jobs = midway.jobs;
       gives = faulty.same_given ∙ midway.gives;
       kept = gains_retains seen now next p midway.so_far midway.news midway.jobs midway.gains stops.same;
+      spared = λ none block claim. spared_by now next p.0 midway.so_far end.trail block claim midway.holds.on midway.holds.clean faulty.counts
+          midway.gains.follows stops.same (unexposed none);
     }
 
 -- a message exposes the peer

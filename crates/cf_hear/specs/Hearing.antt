@@ -24,7 +24,7 @@ use Rattle.cf_headers.specs.Chain.{Hash}
 use Rattle.cf_seek.specs.Opens.{IsSameElse}
 use Rattle.cf_hear.specs.declared.stop.Stop.{Stop}
 use Rattle.cf_hear.specs.declared.stop.Stop.TheVariants.{Fault, Exposed}
-use Rattle.cf_hear.specs.Exposing.{IsExposedIn}
+use Rattle.cf_hear.specs.Exposing.{IsExposedIn, IsUnexposed}
 use Rattle.cf_hear.specs.Seen.{Seen, IsSameSeen, Follows}
 
 -- p's chain and claims are now those of this trail, and what is open to it; the extracts of these blocks came, the last of them first, and the verdicts on
@@ -123,7 +123,7 @@ pub record Retains (before after : Seen) (p : PeerNo) (news : List Block) (jobs 
   pub opens : IsSameElse before.opens after.opens p.0
   pub trials : TrialsGo before.trials after.trials p.0 news jobs
 
--- what came before a fault was taken; and of what counts of the peer's claims none was found to lack what its block pays
+-- what came before a fault was taken; and, where nobody was exposed before, of what counts of the peer's claims none was found to lack what its block pays
 pub record HeardFault (p : PeerNo) (seen now : Seen) (before after : List Act) (start end : Part) (cause : Cause) : Type 0 where
   pub replies : List Msg
   pub acts : after ≡ before ++ map (λ (m : Msg). SendTo p m) replies
@@ -135,7 +135,7 @@ pub record HeardFault (p : PeerNo) (seen now : Seen) (before after : List Act) (
   pub jobs : List Job
   pub gives : Gives start.trail end.trail jobs
   pub kept : Retains seen now p news jobs
-  pub spared : (block : Hash) (claim : Claim) → claims (counted end.trail) block ≡ Some claim
+  pub spared : IsUnexposed seen → (block : Hash) (claim : Claim) → claims (counted end.trail) block ≡ Some claim
       → now.trials.told block claim.hash.0 ≡ Some true → ⊥
 
 -- a piece was taken up to a message that exposed the peer: with nothing open to it what follows brings nothing, and it is closed

@@ -92,6 +92,8 @@ returns-in-Close-clause-heard g c = λ part holds waits f.
     (c.loop-reply.framer ++ c.loop-reply.rest) (c.hear_next.new.framer ++ c.hear_next.new.piece) c.hear_next.new.peer midway.so_far o) (c.in-Some.is ∙ ap Some c.in-Close.is) answer in
     midway_fault c.args.p c.loop-reply.peer (c.loop-reply.framer ++ c.loop-reply.rest) (seen_of c.args.tracker.now) (seen_of c.loop-reply.tracker) (seen_of c.hear_next.new.tracker)
     c.args.acts.now.items c.loop-reply.acts.items part (heard_part c.args.piece.now part) c.in-Close.cause midway stops
+    (λ none. subst (λ (o : Option Reply). ExposesNext (seen_of c.hear_next.new.tracker) c.args.p.0 o) (c.in-Some.is ∙ ap Some c.in-Close.is)
+    (c.in_ok-reply.ensures.exposes midway.so_far midway.holds midway.gains.follows (c.loop-reply.invariant.unexposed part holds waits f none)))
 
 pub returns-in-Close-clause-exposes : goal.returns-in-Close-clause-exposes
 returns-in-Close-clause-exposes g c = λ part holds waits f none.
