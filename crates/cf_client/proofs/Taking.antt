@@ -430,11 +430,11 @@ fault_of places log p piece old cause seen now before acts none here stand track
 -- its claims are no omissions: none of them that counts was found to lack anything
 fault_named : (log : Log) (p : PeerNo) (piece : List ℕ) (cause : Cause) (seen now last : Seen) (acts : List Act)
     → (fault : HeardFault p seen now [] acts (part_of log p.0) (heard_part piece (part_of log p.0)) cause)
-    → AreSendable fault.replies → IsPut now last p.0 None no_claims → Tracks seen log
+    → AreSendable fault.replies → IsPut now last p.0 None no_claims → Tracks seen log → IsUnexposed seen
     → part_of (after (sends p fault.replies) (Took (Got p piece) ∷ log)) p.0
     ≡ asked_all fault.replies (heard_part piece (part_of log p.0))
     → IsNamed (after (sends p fault.replies) (Took (Got p piece) ∷ log)) p.0 cause
-fault_named log p piece cause seen now last acts fault sendable put tracks here right omits =
+fault_named log p piece cause seen now last acts fault sendable put tracks unexposed here right omits =
     let next = Took (Got p piece) ∷ log in
     let later = after (sends p fault.replies) next in
     let end = heard_part piece (part_of log p.0) in
@@ -448,18 +448,18 @@ fault_named log p piece cause seen now last acts fault sendable put tracks here 
     ap (λ (hash : Hash32). now.trials.told omits.block hash.0) mine.2
     ∙ sym (put.trials.told omits.block omits.hash.0) ∙ read.1.1.trials.told omits.block omits.hash.0
     ∙ omitting_told read.0 later p.0 tracked right omits in
-    absurd (fault.spared omits.block mine.0 claim told)
+    absurd (fault.spared unexposed omits.block mine.0 claim told)
 
 faulty_goes : {watch : List (List ℕ)} (places : List Place) (log : Log) (p : PeerNo) (piece : List ℕ) (old : Peer) (cause : Cause) (seen now last : Seen) (before acts : List Act)
     → p.0 < length places → before ≡ [] → get_or places p.0 nobody ≡ Here old → PlacesStand places log → Tracks seen log
-    → HearsFault p piece old seen now before acts cause → All IsDoable acts → IsPut now last p.0 None no_claims
+    → HearsFault p piece old seen now before acts cause → All IsDoable acts → IsPut now last p.0 None no_claims → IsUnexposed seen
     → Goes watch (set places p.0 (Lost (ClosedFor cause))) (acts ++ Close p cause ∷ []) (Took (Got p piece) ∷ log)
-faulty_goes places log p piece old cause seen now last before acts lt none here stand tracks heard doable put =
+faulty_goes places log p piece old cause seen now last before acts lt none here stand tracks heard doable put unexposed =
     let keeps = place_keeps places log p old here stand in
     let fault = fault_of places log p piece old cause seen now before acts none here stand tracks heard in
     let sendable = sendable_by p fault.replies (subst (All IsDoable) fault.acts doable) in
     fault_at places log p piece cause seen now acts lt stand keeps.holds.on keeps.answered fault sendable
-    (fault_named log p piece cause seen now last acts fault sendable put tracks)
+    (fault_named log p piece cause seen now last acts fault sendable put tracks unexposed)
 
 -- a piece in which a frame deserves a cause, and p's chain and claims given up
 faulty_tracks : (places : List Place) (log : Log) (p : PeerNo) (piece : List ℕ) (old : Peer) (cause : Cause) (seen now last : Seen) (before acts : List Act)
@@ -529,7 +529,7 @@ faulty_moves d p piece old cause now last acts lt none order here heard unexpose
     }) (extends_none d.acts (acts ++ Close p cause ∷ []) none)
     (λ all. All-push IsDoable acts (Close p cause) doable (omega (arith, lt, order.few))) (λ was. refl)
     (taken (λ log stood. record {
-      goes = goes_watch (put.watch ∙ watch) (faulty_goes d.places log p piece old cause d.seen now last d.acts acts lt none here (start_places d log none stood) (start_tracks d log none stood) heard doable put);
+      goes = goes_watch (put.watch ∙ watch) (faulty_goes d.places log p piece old cause d.seen now last d.acts acts lt none here (start_places d log none stood) (start_tracks d log none stood) heard doable put stood.unexposed);
       tracks = faulty_tracks d.places log p piece old cause d.seen now last d.acts acts none here (start_places d log none stood) (start_tracks d log none stood) heard doable put;
       unexposed = unexposed_put now last p.0 put
           (unexposed_after d.places log p old d.seen (IsUnexposed now) here (start_places d log none stood) (start_tracks d log none stood) unexposes stood.unexposed);
