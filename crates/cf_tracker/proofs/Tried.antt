@@ -4,7 +4,7 @@ use Rattle.std.proofs.Common.{replicate, reverse, Option, Some, None, refl, sym,
 use Rattle.std.proofs.Math.Logic.{∥∥₁_map}
 use Rattle.std.specs.Prelude.{◌&&◌, IsSome, Result, Ok, Err, OnOk, OnErr, unwrap_or, if◌then◌else◌, slice_set}
 use Rattle.std.proofs.lemmas.Grind.{common_steps, not_there}
-use Rattle.std.proofs.lemmas.Bool.{cases_Bool, cases_eq, cases_lt}
+use Rattle.std.proofs.lemmas.Bool.{cases_eq, cases_lt}
 use Rattle.std.proofs.lemmas.List.{get_or-replicate, get_or_past, length-append, length-drop, length-replicate, length-reverse}
 use Rattle.cf_bytes.specs.declared.hash.Hash32.{Hash32}
 use Rattle.cf_bytes.specs.declared.memory.NoMemory.{NoMemory}
@@ -158,20 +158,20 @@ up_tried chains extracts tables told marks now p mark to common was some tried l
       on = λ up. (own, (refl, high (are p.0).on));
       tried = λ other e h above le. (let same1 : own ≡ other = cc e in subst (λ (c : Chain). AreTried extracts tables told p.0 c to) same1 tried h above le);
     }) are)) where
-  own : Chain
-  own = own_of chains p
+      own : Chain
+      own = own_of chains p
 
-  there : chains p.0 ≡ Some own
-  there = some_own (chains p.0) some
+      there : chains p.0 ≡ Some own
+      there = some_own (chains p.0) some
 
-  mine : (other : Chain) → chains p.0 ≡ Some other → tried_at marks p.0 ≤ length other → tried_at marks p.0 ≤ length own
-  mine other e le = (let same1 : Some other ≡ Some own = sym e ∙ there in let same2 : other ≡ own = cc same1 in subst (λ (c : Chain). tried_at marks p.0 ≤ length c) same2 le)
+      mine : (other : Chain) → chains p.0 ≡ Some other → tried_at marks p.0 ≤ length other → tried_at marks p.0 ≤ length own
+      mine other e le = (let same1 : Some other ≡ Some own = sym e ∙ there in let same2 : other ≡ own = cc same1 in subst (λ (c : Chain). tried_at marks p.0 ≤ length c) same2 le)
 
-  high : IsOn (chains p.0) (tried_at marks p.0) → to ≤ length own
-  high on = elim (cases_lt 0 (tried_at marks p.0)) [
-    | inl up ↦ (let le = mine (on up).0 (on up).1.0 (on up).1.1 in omega (arith, le, low, within, was))
-    | inr none ↦ omega (arith, none, low, within, was)
-  ]
+      high : IsOn (chains p.0) (tried_at marks p.0) → to ≤ length own
+      high on = elim (cases_lt 0 (tried_at marks p.0)) [
+        | inl up ↦ (let le = mine (on up).0 (on up).1.0 (on up).1.1 in omega (arith, le, low, within, was))
+        | inr none ↦ omega (arith, none, low, within, was)
+      ]
 
 -- a chain that grows
 grown_tried : (extracts : Table) (tables : Tables) (told : Told) (p : ℕ) (hs : List Header) (own next : Chain) (o : Option Chain) (mark : ℕ)
@@ -189,8 +189,8 @@ grown_tried extracts tables told p hs own next o mark is e t =
           (subst (IsToTry extracts tables told p) (ap (λ (c : Chain). hash_at c h) same1 ∙ sym (same_below hs own next h e (omega (arith, low)))) try)
           );
     } where
-  mine : (other : Chain) → o ≡ Some other → mark ≤ length other → mark ≤ length own
-  mine other e2 le = (let same1 : Some other ≡ Some own = sym e2 ∙ is in let same2 : other ≡ own = cc same1 in subst (λ (c : Chain). mark ≤ length c) same2 le)
+      mine : (other : Chain) → o ≡ Some other → mark ≤ length other → mark ≤ length own
+      mine other e2 le = (let same1 : Some other ≡ Some own = sym e2 ∙ is in let same2 : other ≡ own = cc same1 in subst (λ (c : Chain). mark ≤ length c) same2 le)
 
 -- a chain that stays
 kept_tried : (chains next : Chains) (extracts : Table) (tables : Tables) (told : Told) (marks : List ℕ) (p : PeerNo) → IsSome (chains p.0)
