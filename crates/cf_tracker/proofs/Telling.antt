@@ -23,7 +23,6 @@ use Rattle.cf_tracker.specs.Account.{IsTold, IsToldBy}
 use Rattle.cf_tables.specs.Extracts.{with_extract}
 use Rattle.cf_tables.specs.Tables.{IsSameTable, Table, placed_by, placed_one}
 use Rattle.cf_tracker.specs.Written.{IsWrittenAs, KeepsExtracts, extract_told, placed_written, written_as, written_at}
-use Rattle.cf_seek.proofs.SoughtStays.{same_true}
 
 -- ---- extracts that are kept
 

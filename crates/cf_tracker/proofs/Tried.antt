@@ -4,7 +4,7 @@ use Rattle.std.proofs.Common.{replicate, reverse, Option, Some, None, refl, sym,
 use Rattle.std.proofs.Math.Logic.{∥∥₁_map}
 use Rattle.std.specs.Prelude.{◌&&◌, IsSome, Result, Ok, Err, OnOk, OnErr, unwrap_or, if◌then◌else◌, slice_set}
 use Rattle.std.proofs.lemmas.Grind.{common_steps, not_there}
-use Rattle.std.proofs.lemmas.Bool.{cases_Bool, cases_eq, cases_lt}
+use Rattle.std.proofs.lemmas.Bool.{cases_eq, cases_lt}
 use Rattle.std.proofs.lemmas.List.{get_or-replicate, get_or_past, length-append, length-drop, length-replicate, length-reverse}
 use Rattle.cf_bytes.specs.declared.hash.Hash32.{Hash32}
 use Rattle.cf_bytes.specs.declared.memory.NoMemory.{NoMemory}

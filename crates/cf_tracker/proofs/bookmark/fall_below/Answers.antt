@@ -1,4 +1,4 @@
-use Rattle.std.proofs.Common.{◌≡◌, ◌∙◌, sym, ap}
+use Rattle.std.proofs.Common.{◌∙◌, ap}
 use Rattle.cf_headers.specs.Chain.{Chain}
 use Rattle.cf_headers.specs.Heights.{hash_at}
 use Rattle.cf_tracker.proofs.Writings.{entered_if, own_there, within_if}

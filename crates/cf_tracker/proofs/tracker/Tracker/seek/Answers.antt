@@ -46,7 +46,7 @@ invariant_of-self-2 g c =
     record {
       first = c.args.self.now.first;
       trials = up_tried chains extracts tables (told_in c.args.self.now.tests) c.args.self.now.tried c.put-2.new.self c.args.p c.of-2.result
-          c.in_ok-wish.tried c.common-common.result c.of-2.ensures c.requires.first c.in_ok-wish.ensures.tried c.in_ok-wish.ensures.low
+          c.in_ok-tried.tried c.common-common.result c.of-2.ensures c.requires.first c.in_ok-tried.ensures.tried c.in_ok-tried.ensures.low
           (within c.common-common.result (own_of chains c.args.p) (own_of chains c.args.other) c.common-common.ensures) c.put-2.ensures
           c.args.self.now.trials;
       told = c.args.self.now.told;
@@ -65,22 +65,22 @@ pub returns-clause-wish : goal.returns-clause-wish
 returns-clause-wish g c =
     let chains = g.H.HeaderStore.chain c.args.self.now.store in
     let own = own_of chains c.args.p in
-    subst (λ (n : ℕ). IsWish (table_in c.args.self.now.extracts) (tables_of c.args.self.now.claims) (verdicts_in c.args.self.now.judged) (opens_in c.args.self.now.opens) c.args.p.0 own n c.in_ok-wish.wish) c.common-common.ensures
-    c.in_ok-wish.ensures.wish
+    subst (λ (n : ℕ). IsWish (table_in c.args.self.now.extracts) (tables_of c.args.self.now.claims) (verdicts_in c.args.self.now.judged) (opens_in c.args.self.now.opens) c.args.p.0 own n c.in_ok-tried.wish) c.common-common.ensures
+    c.in_ok-tried.ensures.wish
 
 pub returns-clause-far : goal.returns-clause-far
 returns-clause-far g c =
     let chains = g.H.HeaderStore.chain c.args.self.now.store in
     let own = own_of chains c.args.p in
-    subst (λ (n : ℕ). GoesFar (table_in c.args.self.now.extracts) (tables_of c.args.self.now.claims) (verdicts_in c.args.self.now.judged) (opens_in c.args.self.now.opens) c.args.p.0 own n c.in_ok-wish.wish) c.common-common.ensures
-    c.in_ok-wish.ensures.far
+    subst (λ (n : ℕ). GoesFar (table_in c.args.self.now.extracts) (tables_of c.args.self.now.claims) (verdicts_in c.args.self.now.judged) (opens_in c.args.self.now.opens) c.args.p.0 own n c.in_ok-tried.wish) c.common-common.ensures
+    c.in_ok-tried.ensures.far
 
 pub returns-clause-trying : goal.returns-clause-trying
 returns-clause-trying g c =
     let now = c.args.self.now in
     let own = own_of (g.H.HeaderStore.chain now.store) c.args.p in
-    subst (λ (n : ℕ). IsTrying (table_in now.extracts) (tables_of now.claims) (told_in now.tests) c.args.p.0 own n c.in_ok-wish.wish)
-    c.common-common.ensures c.in_ok-wish.ensures.trying
+    subst (λ (n : ℕ). IsTrying (table_in now.extracts) (tables_of now.claims) (told_in now.tests) c.args.p.0 own n c.in_ok-tried.wish)
+    c.common-common.ensures c.in_ok-tried.ensures.trying
 
 pub wish_for-requires-clause-tried : goal.wish_for-requires-clause-tried
 wish_for-requires-clause-tried g c =
