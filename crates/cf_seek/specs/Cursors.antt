@@ -45,3 +45,7 @@ unpassed marks = record marks { passed = 0 }
 -- marks from which filters and blocks are looked for anew
 abbrev pub unsought : Marks → Marks
 unsought marks = record marks { sought = 0; passed = 0 }
+
+-- marks from which filters are looked for anew above what is passed
+abbrev pub settled : Marks → Marks
+settled marks = record marks { sought = min marks.sought marks.passed }

@@ -1,6 +1,6 @@
 //! Up to which heights what is known of the blocks of the peers' chains.
 ghost use Rattle.std.specs.Prelude.{◌≡◌, ◌≤◌, ℕ, true, false, replicate, slice_index_or, slice_set, vec_len, IfOk};
-ghost use Rattle.cf_seek.specs.Cursors.{fallen, further, lowered, marks_at, no_marks, raised, unpassed, unsought};
+ghost use Rattle.cf_seek.specs.Cursors.{fallen, further, lowered, marks_at, no_marks, raised, settled, unpassed, unsought};
 
 use cf_bytes::{NoMemory, PeerNo};
 use cf_headers::Change;
@@ -150,5 +150,14 @@ impl Cursors {
         ensures nine { result ≡ 9 }
     {
         self.marks.len() as u32
+    }
+
+    /// Filters are looked for anew along each peer's chain above the blocks that are passed.
+    pub fn settle(&mut self)
+        ensures { (q : ℕ) → marks_at self.new q ≡ settled (marks_at self.old q) }
+    {
+        for marks in self.marks.iter_mut() {
+            marks.sought = marks.sought.min(marks.passed);
+        }
     }
 }

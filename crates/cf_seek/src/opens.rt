@@ -121,4 +121,17 @@ impl Opens {
         self.peers[p.0 as usize].put_filters(blocks)?;
         Ok(())
     }
+
+    /// Whether no block is open to anybody. It takes no memory.
+    pub fn has_no_blocks(&self) -> bool
+        ensures yes { result ≡ true → (block : List ℕ) → IsBlockFree (opens_in self.now) block }
+        ensures no { result ≡ false → ((block : List ℕ) → IsBlockFree (opens_in self.now) block) → ⊥ }
+    {
+        for q in 0..self.peers.len() as u32 {
+            if !self.has_no_block(PeerNo(q)) {
+                return false;
+            }
+        }
+        true
+    }
 }

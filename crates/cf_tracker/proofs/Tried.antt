@@ -244,36 +244,39 @@ same_tried chains extracts before after told marks is =
     (λ q own e h up low. claims_back extracts before after told q (hash_at own h) (λ k. is k (hash_at own h)))
 
 -- one peer's claims are gone
-claimed_before : (before after : Tables) (p : ℕ) → ForgetsClaims before after p → (q : ℕ) (block : Hash) (claim : Claim)
+pub claimed_before : (before after : Tables) (p : ℕ) → ForgetsClaims before after p → (q : ℕ) (block : Hash) (claim : Claim)
     → after q block ≡ Some claim → before q block ≡ Some claim
 claimed_before before after p forgets q block claim e = elim (cases_eq q p) [
   | inl same1 ↦ (let no : None ≡ Some claim = sym (forgets.gone block) ∙ ap (λ (k : ℕ). after k block) (sym same1) ∙ e in cc)
   | inr ne ↦ sym (forgets.others q ne block) ∙ e
 ]
 
+pub disputed_before : (before after : Tables) (p : ℕ) (block : Hash) → ForgetsClaims before after p → IsAt after block Differ
+    → IsAt before block Differ
+disputed_before before after p block forgets d =
+    let c = d.1.1.1.1 in (
+      d.0,
+      (
+        d.1.0,
+        (
+          d.1.1.0,
+          (
+            d.1.1.1.0,
+            (
+              (c.0.0, claimed_before before after p forgets d.0 block c.0.0 c.0.1, c.0.2),
+              (c.1.0, claimed_before before after p forgets d.1.0 block c.1.0 c.1.1, c.1.2),
+              c.2,
+            ),
+          ),
+        ),
+      ),
+    )
+
 forgotten_back : (extracts : Table) (before after : Tables) (told : Told) (p q : ℕ) (block : Hash) → ForgetsClaims before after p
     → IsToTest extracts after told q block → IsToTest extracts before told q block
 forgotten_back extracts before after told p q block forgets w = record {
   fetched = w.fetched;
-  disputed =
-      let d = w.disputed in
-      let c = d.1.1.1.1 in (
-        d.0,
-        (
-          d.1.0,
-          (
-            d.1.1.0,
-            (
-              d.1.1.1.0,
-              (
-                (c.0.0, claimed_before before after p forgets d.0 block c.0.0 c.0.1, c.0.2),
-                (c.1.0, claimed_before before after p forgets d.1.0 block c.1.0 c.1.1, c.1.2),
-                c.2,
-              ),
-            ),
-          ),
-        ),
-      );
+  disputed = disputed_before before after p block forgets w.disputed;
   claim = w.claim;
   mine = claimed_before before after p forgets q block w.claim w.mine;
   untested = w.untested;
