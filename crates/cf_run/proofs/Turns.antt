@@ -217,7 +217,11 @@ ended_stops c progress called t holds busy = record {
     notes = took_notes progress called holds.actual t Ended tt holds.notes busy (orderly c progress called t holds);
     reflects = record {
       alive = holds.reflects.alive;
-      places = record { count = holds.reflects.places.count; each = holds.reflects.places.each };
+      places = record {
+        count = holds.reflects.places.count;
+        omitted = holds.reflects.places.omitted;
+        each = holds.reflects.places.each;
+      };
       tracks = tracks_ended (seen_by c) holds.actual holds.reflects.tracks;
       unexposed = holds.reflects.unexposed;
     };
