@@ -46,10 +46,10 @@ use Rattle.cf_client.proofs.Ordering.{told_shuts}
 use Rattle.cf_client.proofs.Rights.{right_set}
 use Rattle.cf_client.proofs.Steps.{IsChanged, entered_set, extends_none, start_places, start_tracks}
 use Rattle.cf_hear.proofs.Hearing.{right_same}
-use Rattle.cf_client.proofs.Shutting.{AreShut, IsGuilty, are_shut, in_below, number_in, shut_lost}
+use Rattle.cf_client.proofs.Shutting.{AreShut, IsGuilty, are_shut, in_below, number_in, shut_lost, unomitted_shuts}
 use Rattle.cf_client.proofs.Settled.{set_each, set_other}
-use Rattle.cf_client.proofs.Standing.{here_on, kept_replied, number_within, omitted_acts, set_is}
-use Rattle.cf_client.proofs.Taking.{HearsExposed, HearsUnexposed, RepliesDone, unexposed_after, asked_all, asked_replied, claims_asked, follows_is, got_others, heard_connected, heard_log, heard_says, place_keeps, replies_done, sendable_by, sends, sends_track, unchanged}
+use Rattle.cf_client.proofs.Standing.{here_on, kept_replied, number_within, omitted_acts, right_before, set_is}
+use Rattle.cf_client.proofs.Taking.{HearsExposed, HearsUnexposed, RepliesDone, unexposed_after, asked_all, asked_replied, claims_asked, follows_is, got_others, heard_connected, heard_log, heard_says, place_keeps, replies_done, sendable_by, sends, sends_track, unchanged, unomitted_sends}
 
 -- what is claimed of a block by a table of a connected peer
 claimed_hash : (table : Table) (block : Hash) (claim : Claim) → table block ≡ Some claim
@@ -345,6 +345,12 @@ module _ (d : Desk) (p : PeerNo) (piece : List ℕ) (old : Peer) (mid : Desk) (b
         | inl i ↦ (shut {watch = []}).omitted q i
         | inr out ↦ omitted_acts (map shut_act qs) sent q (omitted_acts (sends p rs) next q
             (stand.omitted q (sym ((shuts.kept q out).0 ∙ at_other q (left q out)) ∙ is)))
+      ];
+      named = λ right q is. elim (number_in q qs) [
+        | inl i ↦ (shuts.gone q i).0
+        | inr out ↦ (shuts.kept q out).0 ∙ at_other q (left q out)
+            ∙ stand.named (right_before (sends p rs) next (right_before (map shut_act qs) sent right)).1 q
+            (unomitted_sends p rs next q (unomitted_shuts qs sent q out is))
       ];
       each = λ q. elim (number_in q qs) [
         | inl i ↦ subst (λ (y : Place). Fits y (part_of last q)) (sym (shuts.gone q i).0)

@@ -169,6 +169,11 @@ ends_tell places log stand = record {
       = get_or-map end_of (drop 1 places) i nobody ∙ ap end_of (get_or_after_one places i nobody) in
       let number : 1 + i ≡ i + 1 = omega arith in
       subst (HasOmitted log) number (stand.omitted (1 + i) (end_omits (get_or places (1 + i) nobody) (sym at ∙ is)));
+  named = λ right i is.
+      let at : get_or (map end_of (drop 1 places)) i EndsNotDialled ≡ end_of (get_or places (1 + i) nobody)
+      = get_or-map end_of (drop 1 places) i nobody ∙ ap end_of (get_or_after_one places i nobody) in
+      let number : i + 1 ≡ 1 + i = omega arith in
+      at ∙ ap end_of (stand.named right (1 + i) (subst (HasOmitted log) number is));
   count = length-map (drop 1 places) end_of ∙ length-drop 1 places ∙ omega (arith, stand.count);
   each = λ i.
       let is : get_or (map end_of (drop 1 places)) i EndsNotDialled ≡ end_of (get_or places (1 + i) nobody)

@@ -290,6 +290,16 @@ are_shut watch (n ∷ qs) log rising guilty =
       ];
     }
 
+-- and nobody else has omitted something by that
+pub unomitted_shuts : (qs : List ℕ) (log : Log) (q : ℕ) → (IsIn q qs → ⊥) → HasOmitted (after (map shut_act qs) log) q
+    → HasOmitted log q
+unomitted_shuts [] log q out is = is
+unomitted_shuts (n ∷ qs) log q out is =
+    elim (unomitted_shuts qs (Closed (record { 0 = n }) ∷ log) q (λ j. out (inr j)) is) [
+      | inl now ↦ absurd (out (inl (sym now.0)))
+      | inr before ↦ before
+    ]
+
 -- how one that was connected is lost then
 pub shut_lost : (t : Trail) → connected t ≡ true → IsLost (ClosedFor Omits) (LostItem IsShutting ∷ t)
 shut_lost t on = record { off = refl; by = inr (none_failed t on, inl (on, inl refl)) }

@@ -13,7 +13,8 @@ use Rattle.cf_msg.specs.declared.msg.Msg.TheVariants.{Version, GetHeaders}
 use Rattle.cf_peer.specs.declared.act.Act.{Act}
 use Rattle.cf_peer.specs.declared.act.Act.TheVariants.{Send, Close}
 use Rattle.cf_wires.specs.declared.event.Event.{Event}
-use Rattle.cf_wires.specs.declared.event.Event.TheVariants.{Dialled, NotDialled, Sent, Closed}
+use Rattle.cf_wires.specs.declared.event.Event.TheVariants.{Dialled, NotDialled, Sent, SendFailed, Closed, Took}
+use Rattle.cf_peer.specs.declared.peer.Cause.{Cause}
 use Rattle.cf_peer.specs.declared.peer.Cause.TheVariants.{Omits, Overdue}
 use Rattle.cf_peer.specs.declared.peer.Peer.{Peer}
 use Rattle.cf_peer.specs.Acts.{bytes_of, IsSendable}
@@ -22,13 +23,15 @@ use Rattle.cf_peer.specs.Trail.{owed, Trail, Part, Called, Asked, Lost as LostIt
 use Rattle.cf_peer.specs.Asking.{counted, age, is_open, MayAsk, IsFree}
 use Rattle.cf_peer.specs.Peer.{Holds, wants, is_idle_peer, called_peer, asked_for_headers}
 use Rattle.cf_sync.specs.Blame.{HasOmitted}
-use Rattle.cf_sync.specs.Fetching.{MaySend}
+use Rattle.cf_sync.specs.Fetching.{MaySend, Rightly}
 use Rattle.cf_sync.specs.Due.{IsCalledFor}
 use Rattle.cf_sync.specs.Honesty.{asked}
 use Rattle.cf_sync.proofs.Counted.{same_use}
+use Rattle.cf_sync.proofs.Omitted.{connected_unomitted}
 use Rattle.cf_peer.proofs.Peers.{open_by, idle_request, late_is, wants_is, asked_headers_holds, called_holds}
 use Rattle.cf_place.specs.declared.place.Place.{Place}
 use Rattle.cf_place.specs.declared.place.Place.TheVariants.{Here, Lost}
+use Rattle.cf_place.specs.declared.place.Loss.{Loss}
 use Rattle.cf_place.specs.declared.place.Loss.TheVariants.{NotDialled as NeverCalled, Closed as ClosedFor}
 use Rattle.cf_place.specs.Places.{IsGreetedBy, IsAnswered, IsReplied, IsLost, IsNamed, Keeps, Fits, nobody, PlacesStand, entry_of, after, MayAct, Allowed, Goes, is_calm, is_busy, is_here, state_of, IsState, IsGreeting, IsQuestion, AsksAbove}
 use Rattle.cf_client.proofs.Spelled.{spelled_bytes}
@@ -74,6 +77,40 @@ omitted_set places i s log next lt before else_lost kept q is = elim (cases_eq q
       kept q other (before q (sym there ∙ is))
 ]
 
+-- the log before was as it may be
+pub right_event : (e : Event) (log : Log) → Rightly (e ∷ log) → Rightly log
+right_event (Dialled p name) log right = right
+right_event (NotDialled p name) log right = right
+right_event (Sent p bytes) log right = right.1
+right_event (SendFailed p) log right = right
+right_event (Closed p) log right = right.1
+right_event (Took d) log right = right.1
+
+pub right_before : (acts : List Act) (log : Log) → Rightly (after acts log) → Rightly log
+right_before [] log right = right
+right_before (a ∷ acts) log right = right_event (entry_of a) log (right_before acts (entry_of a ∷ log) right)
+
+-- who was closed while it omitted something has a place that says so
+abbrev pub AreNamed : List Place → Log → Type 0
+AreNamed places log = Rightly log → (q : ℕ) → HasOmitted log q → get_or places q nobody ≡ Lost (ClosedFor Omits)
+
+-- where one peer was closed, nobody else has omitted something by that
+pub unomitted_close : (p : PeerNo) (log : Log) (q : ℕ) → q ≢ p.0 → HasOmitted (Closed p ∷ log) q → HasOmitted log q
+unomitted_close p log q other (inl now) = absurd (other (sym now.0))
+unomitted_close p log q other (inr before) = before
+
+-- where one place was set, and says so where it is to
+pub named_set : (places : List Place) (i : ℕ) (s : Place) (log next : Log) → i < length places → AreNamed places log
+    → (Rightly next → Rightly log) → (Rightly next → HasOmitted next i → s ≡ Lost (ClosedFor Omits))
+    → ((q : ℕ) → q ≢ i → HasOmitted next q → HasOmitted log q) → AreNamed (set places i s) next
+named_set places i s log next lt before back here kept right q is = elim (cases_eq q i) [
+  | inl same ↦ ap (λ (k : ℕ). get_or (set places i s) k nobody) same ∙ set_is places i s lt
+      ∙ here right (subst (HasOmitted next) same is)
+  | inr other ↦
+      let there : get_or (set places i s) q nobody ≡ get_or places q nobody = grind (arith, common_steps) in
+      there ∙ before (back right) q (kept q other is)
+]
+
 push_other : (places : List Place) (p q : ℕ) (s : Place) → p ≡ length places → q ≢ p → get_or (places ++ s ∷ []) q nobody ≡ get_or places q nobody
 push_other places p q s last other = grind (arith, common_steps)
 
@@ -84,10 +121,13 @@ pub stand_at : (places : List Place) (log : Log) (i : ℕ) (s : Place) (e : Even
     → (noted e (tally_of log)).dials ≡ (tally_of log).dials
     → Fits s (went_on e i (part_of log i))
     → (s ≡ Lost (ClosedFor Omits) → ⊥) → ((q : ℕ) → HasOmitted log q → HasOmitted (e ∷ log) q)
+    → (Rightly (e ∷ log) → HasOmitted (e ∷ log) i → s ≡ Lost (ClosedFor Omits))
+    → ((q : ℕ) → q ≢ i → HasOmitted (e ∷ log) q → HasOmitted log q)
     → PlacesStand (set places i s) (e ∷ log)
-stand_at places log i s e lt stand others dials fits else_lost kept = record {
+stand_at places log i s e lt stand others dials fits else_lost kept here back = record {
   count = grind (arith, common_steps, stand.count);
   omitted = omitted_set places i s log (e ∷ log) lt stand.omitted else_lost (λ q other. kept q);
+  named = named_set places i s log (e ∷ log) lt stand.named (right_event e log) here back;
   each = λ p. elim (cases_eq p i) [
     | inl same ↦ subst (λ q. Fits (get_or (set places i s) q nobody) (went_on e q (part_of log q))) (sym same)
         (subst (λ x. Fits x (went_on e i (part_of log i))) (grind (arith, common_steps)) fits)
@@ -103,10 +143,12 @@ pub goes_act : {watch : List (List ℕ)} (places : List Place) (acts : List Act)
     → MayAct watch a (after acts log)
     → Fits s (went_on (entry_of a) i (part_of (after acts log) i))
     → (s ≡ Lost (ClosedFor Omits) → ⊥)
+    → (Rightly (entry_of a ∷ after acts log) → HasOmitted (entry_of a ∷ after acts log) i → s ≡ Lost (ClosedFor Omits))
+    → ((q : ℕ) → q ≢ i → HasOmitted (entry_of a ∷ after acts log) q → HasOmitted (after acts log) q)
     → Goes watch (set places i s) (acts ++ a ∷ []) log
-goes_act {watch = watch} places acts log i s a lt goes others dials may fits else_lost = record {
+goes_act {watch = watch} places acts log i s a lt goes others dials may fits else_lost here back = record {
   stand = subst (PlacesStand (set places i s)) (sym (after-append acts a log))
-      (stand_at places (after acts log) i s (entry_of a) lt goes.stand others dials fits else_lost (omitted_act a (after acts log)));
+      (stand_at places (after acts log) i s (entry_of a) lt goes.stand others dials fits else_lost (omitted_act a (after acts log)) here back);
   allowed = allowed-append watch acts a log goes.allowed may;
 }
 
@@ -156,6 +198,11 @@ late_goes places acts log i lt goes is named =
     (number_within places (after acts log) i goes.stand lt, inl (inr (inr (refl, o.0, o.1))), inl (late_replied (get_or places i nobody) part (goes.stand.each i) is), named)
     (subst (λ (x : Part). IsLost (ClosedFor Overdue) x.trail) (sym (closed_here p part)) (shut_now part.trail Overdue (and_parts (connected part.trail) _ o.0).0 (inr (inr (refl, o.0, o.1)))))
     (λ same. cc)
+    (λ right omitted. elim omitted [
+      | inl now ↦ ap (λ (c : Cause). Lost (ClosedFor c)) (named right.1 now.1)
+      | inr before ↦ absurd (connected_unomitted (after acts log) i (and_parts (connected part.trail) _ o.0).0 before)
+    ])
+    (unomitted_close p (after acts log))
 
 -- a peer to which nothing is open may be asked
 pub idle_free : (peer : Peer) (part : Part) → Keeps peer part → is_idle_peer peer ≡ true → IsFree part.trail
@@ -173,6 +220,8 @@ send_goes places acts log i now m lt goes sendable may needed keeps =
     (number_within places (after acts log) i goes.stand lt, sendable, may, needed)
     (subst (λ (x : Part). Keeps now x) (sym (sent_here p m part sendable)) keeps)
     (λ same. cc)
+    (λ right omitted. absurd (connected_unomitted (after acts log) i keeps.holds.on omitted))
+    (λ q other omitted. omitted)
 
 -- what is true of some place, or of none
 pub any_at : (p : Place → Bool) (places : List Place) → list_any p places ≡ true → (i : ℕ) × (p (get_or places i nobody) ≡ true)
@@ -246,10 +295,12 @@ pub stand_same : (places : List Place) (log : Log) (e : Event)
     → ((q : ℕ) → Fits (get_or places q nobody) (part_of log q) → Fits (get_or places q nobody) (went_on e q (part_of log q)))
     → (noted e (tally_of log)).dials ≡ (tally_of log).dials
     → ((q : ℕ) → HasOmitted log q → HasOmitted (e ∷ log) q)
+    → ((q : ℕ) → HasOmitted (e ∷ log) q → HasOmitted log q)
     → PlacesStand places (e ∷ log)
-stand_same places log e stand same dials kept = record {
+stand_same places log e stand same dials kept back = record {
   count = stand.count ∙ ap (λ (n : ℕ). n + 1) (sym dials);
   omitted = λ q is. kept q (stand.omitted q is);
+  named = λ right q is. stand.named (right_event e log right) q (back q is);
   each = λ q. same q (stand.each q);
 }
 
@@ -258,6 +309,7 @@ pub stand_first : PlacesStand (nobody ∷ []) []
 stand_first = record {
   count = refl;
   omitted = λ p is. absurd (let no = sym (first_at p) ∙ is in cc no);
+  named = λ right p is. absurd is;
   each = λ p. subst (λ (x : Place). Fits x (part_of [] p)) (sym (first_at p)) lost_never;
 } where
   first_at : (p : ℕ) → get_or (nobody ∷ []) p nobody ≡ nobody
@@ -271,11 +323,21 @@ goes_start {watch = watch} places acts log none stand =
 -- where one place was added that isn't so lost, another is
 omitted_push : (places : List Place) (s : Place) (log next : Log)
     → ((q : ℕ) → get_or places q nobody ≡ Lost (ClosedFor Omits) → HasOmitted log q)
-    → (s ≡ Lost (ClosedFor Omits) → ⊥) → ((q : ℕ) → HasOmitted log q → HasOmitted next q)
+    → (s ≡ Lost (ClosedFor Omits) → ⊥) → ((q : ℕ) → q ≢ length places → HasOmitted log q → HasOmitted next q)
     → (q : ℕ) → get_or (places ++ s ∷ []) q nobody ≡ Lost (ClosedFor Omits) → HasOmitted next q
 omitted_push places s log next before else_lost kept q is = elim (cases_eq q (length places)) [
   | inl same ↦ absurd (else_lost (sym (push_is places q s same) ∙ is))
-  | inr other ↦ kept q (before q (sym (push_other places (length places) q s refl other) ∙ is))
+  | inr other ↦ kept q other (before q (sym (push_other places (length places) q s refl other) ∙ is))
+]
+
+-- where one place was added, of a peer that hadn't omitted anything
+named_push : (places : List Place) (s : Place) (log next : Log) → AreNamed places log → (Rightly next → Rightly log)
+    → ((q : ℕ) → HasOmitted next q → HasOmitted log q) → AreNamed (places ++ s ∷ []) next
+named_push places s log next before back kept right q is = elim (cases_eq q (length places)) [
+  | inl same ↦
+      let past : get_or places q nobody ≡ nobody = grind (arith, common_steps) in
+      absurd (let no = sym past ∙ before (back right) q (kept q is) in cc no)
+  | inr other ↦ push_other places (length places) q s refl other ∙ before (back right) q (kept q is)
 ]
 
 -- a new place and the call of its peer
@@ -285,10 +347,12 @@ pub stand_push : (places : List Place) (log : Log) (p : ℕ) (s : Place) (e : Ev
     → (noted e (tally_of log)).dials ≡ (tally_of log).dials + 1
     → Fits s (went_on e p (part_of log p))
     → (s ≡ Lost (ClosedFor Omits) → ⊥) → ((q : ℕ) → HasOmitted log q → HasOmitted (e ∷ log) q)
+    → ((q : ℕ) → HasOmitted (e ∷ log) q → HasOmitted log q)
     → PlacesStand (places ++ s ∷ []) (e ∷ log)
-stand_push places log p s e last stand others dials fits else_lost kept = record {
+stand_push places log p s e last stand others dials fits else_lost kept back = record {
   count = grind (arith, common_steps, stand.count);
-  omitted = omitted_push places s log (e ∷ log) stand.omitted else_lost kept;
+  omitted = omitted_push places s log (e ∷ log) stand.omitted else_lost (λ q other. kept q);
+  named = named_push places s log (e ∷ log) stand.named (right_event e log) back;
   each = λ q. elim (cases_eq q p) [
     | inl same ↦ subst (λ k. Fits (get_or (places ++ s ∷ []) k nobody) (went_on e k (part_of log k))) (sym same)
         (subst (λ x. Fits x (went_on e p (part_of log p))) (sym (push_is places p s last)) fits)
@@ -339,7 +403,9 @@ called_goes {watch = watch} places log p name m last stand greeting =
       stand = record {
         count = grind (arith, common_steps, stand.count);
         omitted = omitted_push places (Here called_peer) log (Sent p (bytes_of m) ∷ Dialled p name ∷ log) stand.omitted
-            (λ same. cc) (λ q before. before);
+            (λ same. cc) (λ q other before. (λ same. other (sym same ∙ last), before));
+        named = named_push places (Here called_peer) log (Sent p (bytes_of m) ∷ Dialled p name ∷ log) stand.named
+            (λ right. right.1) (λ q is. is.1);
         each = λ q. elim (cases_eq q p.0) [
           | inl same ↦ subst (λ k. Fits (get_or (places ++ Here called_peer ∷ []) k nobody) (part_of (Sent p (bytes_of m) ∷ Dialled p name ∷ log) k)) (sym same)
               (subst (λ x. Fits x (part_of (Sent p (bytes_of m) ∷ Dialled p name ∷ log) p.0)) (sym (push_is places p.0 (Here called_peer) last)) mine)
@@ -368,7 +434,7 @@ refused_stand places log p name last stand =
     let before : IsLost NeverCalled (trail log p.0) = subst (λ (x : Place). Fits x (part_of log p.0)) past (stand.each p.0) in
     stand_push places log p.0 (Lost NeverCalled) (NotDialled p name) last stand (λ q other. grind (arith, common_steps)) refl
     (subst (λ (x : Part). IsLost NeverCalled x.trail) (sym (missed_here p name (part_of log p.0))) (lost_went NeverCalled (trail log p.0) before))
-    (λ same. cc) (λ q omitted. omitted)
+    (λ same. cc) (λ q omitted. omitted) (λ q omitted. omitted)
 
 -- beyond the places nobody is connected
 pub past_nobody : (places : List Place) (log : Log) (p : ℕ) → length places ≤ p → PlacesStand places log → connected (trail log p) ≡ false
@@ -395,3 +461,9 @@ state_is places log stand = elim (cases_Bool (list_any is_busy places)) [
         | inr down ↦ rw down (λ p. here_on (get_or places p nobody) (part_of log p) (stand.each p) ∙ none_at is_here places refl down p)
       ])
 ]
+
+-- a place that stays lost as it was
+pub still_lost : (was now : Place) (loss : Loss) → is_here now ≡ is_here was
+    → ((l : Loss) → now ≡ Lost l → was ≡ Lost l) → was ≡ Lost loss → now ≡ Lost loss
+still_lost was (Here peer) loss here back is = absurd (false≢true (sym (ap is_here is) ∙ sym here))
+still_lost was (Lost l) loss here back is = sym (back l refl) ∙ is

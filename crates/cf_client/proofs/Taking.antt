@@ -33,7 +33,8 @@ use Rattle.cf_sync.specs.Fetching.{MaySend, blocks_open, filters_open}
 use Rattle.cf_sync.specs.Due.{IsCalledFor}
 use Rattle.cf_sync.specs.Honesty.{asked}
 use Rattle.cf_sync.proofs.Counted.{same_use}
-use Rattle.cf_sync.proofs.Omitted.{words_unnamed}
+use Rattle.cf_sync.specs.Blame.{HasOmitted}
+use Rattle.cf_sync.proofs.Omitted.{connected_unomitted, words_unnamed}
 use Rattle.cf_hear.specs.Hearing.{HeardWhole, HeardFault, HeardExposed}
 use Rattle.cf_hear.specs.Exposing.{IsUnexposed}
 use Rattle.cf_hear.specs.Seen.{Seen, Follows}
@@ -47,7 +48,7 @@ use Rattle.cf_place.specs.declared.place.Loss.TheVariants.{Gone as HasGone, Clos
 use Rattle.cf_place.specs.Places.{IsGreetedBy, IsAnswered, IsLost, IsNamed, Keeps, Fits, nobody, PlacesStand, after, Allowed, Goes, CutFor, AreCalm, is_calm, is_here}
 use Rattle.cf_client.specs.Order.{AreTold}
 use Rattle.cf_client.specs.Steps.{Desk, Stands, IsInOrder, Taking, CutOff, Same, Moves}
-use Rattle.cf_client.proofs.Standing.{greeted_more, after-append, allowed-append, set_is, stand_at, stand_same, here_on, goes_start, sent_others, sent_here, closed_others, closed_here, number_within, omitted_acts, omitted_set}
+use Rattle.cf_client.proofs.Standing.{greeted_more, after-append, allowed-append, set_is, stand_at, stand_same, here_on, goes_start, sent_others, sent_here, closed_others, closed_here, number_within, named_set, omitted_acts, omitted_set, right_before, unomitted_close}
 use Rattle.cf_client.proofs.Losing.{lost_said, lost_refused, lost_went, goes_now, shut_now, cut_now}
 use Rattle.cf_client.proofs.Naming.{claimed_by, omitting_told}
 use Rattle.cf_client.proofs.Settled.{set_other}
@@ -119,7 +120,7 @@ deaf_goes : {watch : List (List ℕ)} (places : List Place) (acts : List Act) (l
 deaf_goes places acts log p piece end none lost stand =
     goes_start places acts (Took (Got p piece) ∷ log) none (stand_same places log (Took (Got p piece)) stand
     (λ q fits. got_fits (get_or places q nobody) p piece q (part_of log q) (λ same. (end, ap (λ k. get_or places k nobody) same ∙ lost)) fits) refl
-    (λ q omitted. omitted))
+    (λ q omitted. omitted) (λ q omitted. omitted))
 
 deaf_tracks : (places : List Place) (acts : List Act) (log : Log) (p : PeerNo) (piece : List ℕ) (end : Loss) (seen : Seen)
     → acts ≡ [] → get_or places p.0 nobody ≡ Lost end → PlacesStand places log → Tracks seen log → Tracks seen (after acts (Took (Got p piece) ∷ log))
@@ -263,6 +264,11 @@ set_set [] i a b = refl
 set_set (x ∷ places) zero a b = refl
 set_set (x ∷ places) (suc i) a b = ap (λ (xs : List Place). x ∷ xs) (set_set places i a b)
 
+-- who has omitted something after replies had before
+pub unomitted_sends : (p : PeerNo) (rs : List Msg) (log : Log) (q : ℕ) → HasOmitted (after (sends p rs) log) q → HasOmitted log q
+unomitted_sends p [] log q is = is
+unomitted_sends p (r ∷ rs) log q is = unomitted_sends p rs (Sent p (bytes_of r) ∷ log) q is
+
 -- a piece of a connected peer, all of which is taken
 whole_at : {watch : List (List ℕ)} (places : List Place) (log : Log) (p : PeerNo) (piece : List ℕ) (peer : Peer) (seen now : Seen) (acts : List Act)
     → p.0 < length places → PlacesStand places log → connected (trail log p.0) ≡ true → IsAnswered (trail log p.0)
@@ -292,6 +298,10 @@ whole_at {watch = watch} places log p piece peer seen now acts lt stand on answe
         count = grind (arith, common_steps, stand.count, done.count);
         omitted = omitted_set places p.0 (Here peer) log (after (sends p rs) next) lt stand.omitted (λ is. cc)
             (λ q other. omitted_acts (sends p rs) next q);
+        named = named_set places p.0 (Here peer) log (after (sends p rs) next) lt stand.named
+            (λ right. (right_before (sends p rs) next right).1)
+            (λ right is. absurd (connected_unomitted log p.0 on (unomitted_sends p rs next p.0 is)))
+            (λ q other. unomitted_sends p rs next q);
         each = λ q. elim (cases_eq q p.0) [
           | inl is ↦ subst (λ k. Fits (get_or (set places p.0 (Here peer)) k nobody) (part_of (after (sends p rs) next) k)) (sym is)
               (subst (λ x. Fits x (part_of (after (sends p rs) next) p.0)) (sym (set_is places p.0 (Here peer) lt)) mine)
@@ -409,6 +419,13 @@ fault_at {watch = watch} places log p piece cause seen now acts lt stand on answ
         omitted = omitted_set places p.0 (Lost end) log (Closed p ∷ later) lt stand.omitted
             (λ is. (let omits : cause ≡ Omits = cc is in words_unnamed later p.0 (guilty ∙ ap Some omits)))
             (λ q other omitted. inr (omitted_acts (sends p rs) next q omitted));
+        named = named_set places p.0 (Lost end) log (Closed p ∷ later) lt stand.named
+            (λ right. (right_before (sends p rs) next right.1).1)
+            (λ right is. elim is [
+              | inl now ↦ ap (λ (c : Cause). Lost (ClosedFor c)) (named at_end right.1 now.1)
+              | inr before ↦ absurd (connected_unomitted later p.0 up before)
+            ])
+            (λ q other is. unomitted_sends p rs next q (unomitted_close p later q other is));
         each = λ q. elim (cases_eq q p.0) [
           | inl is ↦ subst (λ k. Fits (get_or (set places p.0 (Lost end)) k nobody) (part_of (Closed p ∷ later) k)) (sym is)
               (subst (λ x. Fits x (part_of (Closed p ∷ later) p.0)) (sym (set_is places p.0 (Lost end) lt)) mine)
@@ -578,7 +595,10 @@ gone_moves d p after none lt order here put =
     (stand_at d.places log p.0 (Lost HasGone) (Took (Gone p)) lt (start_places d log none stood) (λ q other. gone_others p q (part_of log q) other) refl
     (subst (λ (x : Part). IsLost HasGone x.trail) (sym (gone_here p (part_of log p.0)))
     (goes_now (trail log p.0) (here_on (get_or d.places p.0 nobody) (part_of log p.0) ((start_places d log none stood).each p.0) ∙ here)))
-    (λ is. cc) (λ q omitted. omitted))
+    (λ is. cc) (λ q omitted. omitted)
+    (λ right omitted. absurd (connected_unomitted log p.0
+    (here_on (get_or d.places p.0 nobody) (part_of log p.0) ((start_places d log none stood).each p.0) ∙ here) omitted))
+    (λ q other omitted. omitted))
     (tracks_gone d.seen after p log put (start_tracks d log none stood)) (unexposed_put d.seen after p.0 put stood.unexposed)))
 
 pub away_moves : (d : Desk) (p : PeerNo) → d.acts ≡ [] → IsInOrder d → is_here (get_or d.places p.0 nobody) ≡ false → Moves (Taking (Gone p)) d d
@@ -586,14 +606,15 @@ away_moves d p none order away = stay_moves order (taken (λ log stood.
     let stand = start_places d log none stood in
     stands_start d.places d.seen d.acts (Took (Gone p) ∷ log) none
     (stand_same d.places log (Took (Gone p)) stand (λ q fits. gone_fits (get_or d.places q nobody) p q (part_of log q) (λ same. ap (λ (k : ℕ). is_here (get_or d.places k nobody)) same ∙ away) fits) refl
-    (λ q omitted. omitted))
+    (λ q omitted. omitted) (λ q omitted. omitted))
     (tracks_away d.seen p log (here_on (get_or d.places p.0 nobody) (part_of log p.0) (stand.each p.0) ∙ away) (start_tracks d log none stood)) stood.unexposed))
 
 -- the end of all deliveries changes nothing
 pub ended_moves : (d : Desk) → d.acts ≡ [] → IsInOrder d → Moves (Taking Ended) d d
 ended_moves d none order = stay_moves order (taken (λ log stood.
     stands_start d.places d.seen d.acts (Took Ended ∷ log) none
-    (stand_same d.places log (Took Ended) (start_places d log none stood) (λ q fits. fits) refl (λ q omitted. omitted))
+    (stand_same d.places log (Took Ended) (start_places d log none stood) (λ q fits. fits) refl (λ q omitted. omitted)
+    (λ q omitted. omitted))
     (tracks_ended d.seen log (start_tracks d log none stood)) stood.unexposed))
 
 -- the send to a peer has failed, and it is closed
@@ -603,6 +624,13 @@ cut_goes places log cut p lt stand is = record {
     count = grind (arith, common_steps, stand.count, is.dials);
     omitted = omitted_set places p.0 (Lost (ClosedFor SendFailed)) log (Closed p ∷ cut) lt stand.omitted (λ same. cc)
         (λ q other omitted. inr (is.omitted q other omitted));
+    named = named_set places p.0 (Lost (ClosedFor SendFailed)) log (Closed p ∷ cut) lt stand.named
+        (λ right. is.rightly right.1)
+        (λ right omitted. absurd (elim omitted [
+          | inl now ↦ both_ways (connected (trail cut p.0)) is.off now.1.there
+          | inr before ↦ is.cleared before
+        ]))
+        (λ q other omitted. is.unomitted q other (unomitted_close p cut q other omitted));
     each = λ q. elim (cases_eq q p.0) [
       | inl same ↦ subst (λ k. Fits (get_or (set places p.0 (Lost (ClosedFor SendFailed))) k nobody) (part_of (Closed p ∷ cut) k)) (sym same)
           (subst (λ x. Fits x (part_of (Closed p ∷ cut) p.0)) (sym (set_is places p.0 (Lost (ClosedFor SendFailed)) lt))

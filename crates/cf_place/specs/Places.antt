@@ -93,10 +93,12 @@ nobody = Lost NotDialled
 abbrev pub place_at : List Place → ℕ → Place
 place_at places p = slice_index_or places p nobody
 
--- the places stand for the log: one for each peer that was dialled, at its number, and nobody's at 0; who was closed for an omission omitted something then
+-- the places stand for the log: one for each peer that was dialled, at its number, and nobody's at 0; who was closed for an omission omitted something then,
+-- and who was closed while it omitted something is named so
 pub record PlacesStand (places : List Place) (log : Log) : Type 0 where
   pub count : length places ≡ (tally_of log).dials + 1
   pub omitted : (p : ℕ) → place_at places p ≡ Lost (ClosedFor Omits) → HasOmitted log p
+  pub named : Rightly log → (p : ℕ) → HasOmitted log p → place_at places p ≡ Lost (ClosedFor Omits)
   pub each : (p : ℕ) → Fits (place_at places p) (part_of log p)
 
 -- what an act leaves in the log when it is done
@@ -175,7 +177,7 @@ is_wanting (Lost loss) = false
 abbrev pub is_settled : Place → Bool
 is_settled place = is_calm place && not (is_wanting place)
 
--- the same log, but that a send to p failed: p's part alone differs, and p is cut off
+-- the same log, but that a send to p failed: p's part alone differs, and p is cut off, and isn't one that has omitted something
 pub record CutFor (p : PeerNo) (log cut : Log) : Type 0 where
   pub others : (q : ℕ) → q ≢ p.0 → part_of cut q ≡ part_of log q
   pub off : connected (trail cut p.0) ≡ false
@@ -185,6 +187,9 @@ pub record CutFor (p : PeerNo) (log cut : Log) : Type 0 where
   pub gave : IsSameGiven log cut
   pub tests : KeepsTrials log cut
   pub omitted : (q : ℕ) → q ≢ p.0 → HasOmitted log q → HasOmitted cut q
+  pub unomitted : (q : ℕ) → q ≢ p.0 → HasOmitted cut q → HasOmitted log q
+  pub cleared : HasOmitted cut p.0 → ⊥
+  pub rightly : Rightly cut → Rightly log
   pub dials : (tally_of cut).dials ≡ (tally_of log).dials
 
 -- what the client says of its state
@@ -270,8 +275,9 @@ EndTells EndsGone t = IsLost Gone t
 EndTells (EndsClosed cause) t = IsLost (ClosedFor cause) t
 
 -- there is an end for each peer that was dialled, in the order of their numbers, and each tells how its peer stands; who was closed for an omission omitted
--- something then
+-- something then, and who was closed while it omitted something ends so
 pub record EndsTell (ends : List PeerEnd) (log : Log) : Type 0 where
   pub omitted : (i : ℕ) → slice_index_or ends i EndsNotDialled ≡ EndsClosed Omits → HasOmitted log (i + 1)
+  pub named : Rightly log → (i : ℕ) → HasOmitted log (i + 1) → slice_index_or ends i EndsNotDialled ≡ EndsClosed Omits
   pub count : length ends ≡ (tally_of log).dials
   pub each : (i : ℕ) → EndTells (slice_index_or ends i EndsNotDialled) (trail log (i + 1))

@@ -27,7 +27,7 @@ use Rattle.cf_headers.specs.declared.store.HeaderStore.{Ghosts}
 use Rattle.cf_match.specs.declared.matcher.Matcher.{Ghosts as Judges}
 use Rattle.cf_sync.proofs.Alone.{alone_less}
 use Rattle.cf_sync.specs.Blame.{HasOmitted}
-use Rattle.cf_sync.specs.Fetching.{IsAlone, counted_part, DeservesIn, IsSameFetched, IsTested}
+use Rattle.cf_sync.specs.Fetching.{IsAlone, counted_part, DeservesIn, IsOmitting, IsSameFetched, IsTested, Rightly}
 use Rattle.cf_match.specs.declared.job.Job.{Job}
 use Rattle.cf_sync.proofs.Omitted.{omitted_unfailed}
 use Rattle.cf_sync.proofs.Plans.{omits_alike, off_omits_nothing}
@@ -48,7 +48,7 @@ use Rattle.cf_run.specs.declared.progress.SendState.{SendState}
 use Rattle.cf_run.specs.declared.progress.SendState.TheVariants.{Fine, Pending, Known}
 use Rattle.cf_run.specs.declared.trace.TraceLine.{TraceLine}
 use Rattle.cf_run.specs.declared.trace.TraceLine.TheVariants.{Sent as SentLine, Closed as ClosedLine}
-use Rattle.cf_place.specs.Places.{entry_of, IsReplied, IsRepliedFirst, IsRepliedIn, MayAct, CutFor, Fits}
+use Rattle.cf_place.specs.Places.{entry_of, IsNamed, IsReplied, IsRepliedFirst, IsRepliedIn, MayAct, CutFor, Fits}
 use Rattle.cf_client.specs.Stands.{Reflects, count_of, watch_by}
 use Rattle.cf_run.specs.Run.{Doing, ActsLeft, HoldsOver, closes, state_at, is_pending, is_fine, IsTraceOf}
 use Rattle.cf_sync.proofs.SameFetched.{same_wanted, same_holds}
@@ -253,8 +253,9 @@ skipped : {watch : List (List ℕ)} (a : Act) (acts : List Act) (progress : Prog
     → ((job : Job) → IsTested (e ∷ planned) job → IsTested planned job) → IsSameGiven (e ∷ planned) planned
     → ((q : ℕ) (block : Hash) → q ≢ p → IsSameTest (e ∷ planned) planned q block)
     → ((q : ℕ) → q ≢ p → HasOmitted (e ∷ planned) q → HasOmitted planned q)
+    → ((q : ℕ) → q ≢ p → HasOmitted planned q → HasOmitted (e ∷ planned) q) → (Rightly planned → Rightly (e ∷ planned))
     → Doing watch (a ∷ acts) progress called planned t → Doing watch acts progress called (e ∷ planned) t
-skipped a acts progress called planned t p e i is others here meant unclosed dials brought came tests gave aims omits doing =
+skipped a acts progress called planned t p e i is others here meant unclosed dials brought came tests gave aims omits stays right doing =
     let it : (q : ℕ) → q ≡ p → is_pending (state_at progress.sends q) ≡ true = λ q same. ap (λ (k : ℕ). is_pending (state_at progress.sends k)) same ∙ is in
     record {
       actual = doing.actual;
@@ -283,6 +284,10 @@ skipped a acts progress called planned t p e i is others here meant unclosed dia
       omitted = λ q told omitted.
           let ne : q ≢ p = λ same. both_ways (is_untold doing.actual q) told (doing.pending q (it q same)) in
           doing.omitted q told (omits q ne omitted);
+      unomitted = λ q told omitted.
+          let ne : q ≢ p = λ same. both_ways (is_untold doing.actual q) told (doing.pending q (it q same)) in
+          stays q ne (doing.unomitted q told omitted);
+      rightly = right doing.rightly;
       pending = doing.pending;
       due = λ q untold. elim (cases_eq q p) [
         | inl same ↦ ap (λ (b : Bool). b || list_any (closes q) acts) (it q same)
@@ -304,18 +309,19 @@ skipped_send acts progress called planned t p m is may doing =
     (λ q e. sent_here p (bytes_of m) m q (part_of planned q) e (spelled_bytes m may.1))
     (λ more meant. meant) (λ q ne. refl) refl (λ q. sent_brought p (bytes_of m) planned q) (λ q. sent_came p (bytes_of m) planned q) (λ job h. h)
     (λ job. (λ h. h, λ h. h)) (λ q block ne. test_off planned p (bytes_of m) q block ne)
-    (λ q ne omitted. omitted) doing
+    (λ q ne omitted. omitted) (λ q ne omitted. omitted) (λ right. ((m, spelled_bytes m may.1, may.2), right)) doing
 
 pub skipped_close : {watch : List (List ℕ)} (acts : List Act) (progress : Progress) (called : List (List ℕ)) (planned : Log) (t : Told) (p : PeerNo) (cause : Cause)
-    → is_pending (state_at progress.sends p.0) ≡ true
+    → is_pending (state_at progress.sends p.0) ≡ true → MayAct watch (Close p cause) planned
     → Doing watch (Close p cause ∷ acts) progress called planned t → Doing watch acts progress called (Closed p ∷ planned) t
-skipped_close acts progress called planned t p cause is doing =
+skipped_close acts progress called planned t p cause is may doing =
     skipped (Close p cause) acts progress called planned t p.0 (Closed p) (Lost Shutting) is
     (λ q ne. closed_others p q (part_of planned q) ne)
     (λ q e. closed_here p q (part_of planned q) e)
     (λ more meant. meant) (λ q ne. closes_others p cause acts q ne) refl (λ q. closed_brought p planned q) (λ q. closed_came p planned q) (λ job h. h)
     (λ job. (λ h. h, λ h. h)) (λ q block ne. (λ t. t, λ t. t))
-    (λ q ne omitted. elim omitted [ inl now ↦ absurd (ne (sym now.0)) | inr before ↦ before ]) doing
+    (λ q ne omitted. elim omitted [ inl now ↦ absurd (ne (sym now.0)) | inr before ↦ before ])
+    (λ q ne omitted. inr omitted) (λ right. ((cause, may.1), right)) doing
 
 reverse_push : (xs : List TraceLine) (x : TraceLine) → reverse (xs ++ x ∷ []) ≡ x ∷ reverse xs
 reverse_push xs x = reverse-append xs (x ∷ [])
@@ -373,6 +379,8 @@ sent_on acts progress trace called planned t p m command free line is may doing 
       brought = λ q. sent_brought p bytes planned q ∙ doing.brought q ∙ sym (sent_brought p bytes doing.actual q);
       came = λ q. sent_came p bytes planned q ∙ doing.came q ∙ sym (sent_came p bytes doing.actual q);
       omitted = doing.omitted;
+      unomitted = doing.unomitted;
+      rightly = ((m, spells, may.2), doing.rightly);
       pending = doing.pending;
       due = doing.due;
       broken = λ q untold. let b = doing.broken q untold in (
@@ -428,6 +436,16 @@ replied_in : (planned log : Log) (p : ℕ) → Alike (part_of planned p) (part_o
 replied_in planned log p alike brought tests (inl all) = inl (replied_alike (part_of planned p) (part_of log p) alike all)
 replied_in planned log p alike brought tests (inr o) = inr (omits_alike planned log p alike brought tests o.0, first_alike (part_of planned p) (part_of log p) alike o.1)
 
+-- who omits something does by the plan
+alike_back : (t u : Part) → Alike t u → Alike u t
+alike_back t u (inl same) = inl (sym same)
+alike_back t u (inr off) = inr (off.1, off.0, off.3, off.2, sym off.4, sym off.5)
+
+omits_planned : (planned log : Log) (p : ℕ) → Alike (part_of planned p) (part_of log p) → IsSameFetched planned log
+    → ((job : Job) → IsTested log job → IsTested planned job) → IsOmitting log p → IsOmitting planned p
+omits_planned planned log p alike brought tests omits =
+    omits_alike log planned p (alike_back (part_of planned p) (part_of log p) alike) (λ q. sym (brought q)) tests omits
+
 -- a peer is closed
 pub closed_on : {watch : List (List ℕ)} (acts : List Act) (progress : Progress) (trace : Vec TraceLine Global) (called : List (List ℕ)) (planned : Log) (t : Told) (p : PeerNo) (cause : Cause)
     → is_pending (state_at progress.sends p.0) ≡ false → trace.items ≡ progress.trace.items ++ ClosedLine p cause ∷ []
@@ -443,6 +461,11 @@ closed_on acts progress trace called planned t p cause free line may doing =
       | inl untold ↦ inl (λ sound. absurd (both_ways (failed (trail doing.actual p.0)) sound (doing.broken p.0 untold).1))
       | inr told ↦ replied_in planned doing.actual p.0 (doing.plan.told p.0 told) doing.brought doing.plan.tested may.2
     ] in
+    let is_named : IsNamed doing.actual p.0 cause = λ right omits. elim (cases_Bool (is_untold doing.actual p.0)) [
+      | inl untold ↦ absurd (both_ways (connected (trail doing.actual p.0)) (doing.broken p.0 untold).0 omits.there)
+      | inr told ↦ may.3 doing.rightly
+          (omits_planned planned doing.actual p.0 (doing.plan.told p.0 told) doing.brought doing.plan.tests omits)
+    ] in
     let before : (q : ℕ) → is_untold (Closed p ∷ doing.actual) q ≡ true → (q ≢ p.0) × (is_untold doing.actual q ≡ true) = λ q untold.
     let ne : q ≢ p.0 = λ e. both_ways (is_untold (Closed p ∷ doing.actual) q) (untold_closed_here p doing.actual q e) untold in
     (ne, sym (untold_closed_others p doing.actual q ne) ∙ untold) in
@@ -457,7 +480,7 @@ closed_on acts progress trace called planned t p cause free line may doing =
         numbered = doing.notes.numbered;
         first = doing.notes.first;
         traced = subst (λ (lines : List TraceLine). IsTraceOf (Closed p ∷ doing.actual) lines) (sym (ap reverse line ∙ reverse_push progress.trace.items (ClosedLine p cause)))
-            ((refl, deserves), doing.notes.traced);
+            ((refl, deserves, is_named), doing.notes.traced);
         named = doing.notes.named;
         off = λ q not_it. lost_off (p.0 == q) Shutting (part_of doing.actual q) (doing.notes.off q not_it);
         shut = λ q it. elim (cases_eq q p.0) [
@@ -512,6 +535,17 @@ closed_on acts progress trace called planned t p cause free line may doing =
           | inr before ↦ inr (doing.omitted q fine before)
         ]
       ];
+      unomitted = λ q told omitted. elim (cases_Bool (is_untold doing.actual q)) [
+        | inl untold ↦ absurd (elim omitted [
+          | inl now ↦ both_ways (connected (trail doing.actual q)) (doing.broken q untold).0 now.1.there
+          | inr before ↦ both_ways (failed (trail doing.actual q)) (omitted_unfailed doing.actual q before) (doing.broken q untold).1
+        ])
+        | inr fine ↦ elim omitted [
+          | inl now ↦ inl (now.0, omits_planned planned doing.actual q (doing.plan.told q fine) doing.brought doing.plan.tests now.1)
+          | inr before ↦ inr (doing.unomitted q fine before)
+        ]
+      ];
+      rightly = ((cause, may.1), doing.rightly);
       pending = λ q it. let ne : q ≢ p.0 = λ e. both_ways (is_pending (state_at progress.sends q)) (ap (λ (n : ℕ). is_pending (state_at progress.sends n)) e ∙ free) it in
           untold_closed_others p doing.actual q ne ∙ doing.pending q it;
       due = λ q untold. let b = before q untold in
@@ -558,6 +592,8 @@ closed_again acts progress called planned t p cause free shut may doing =
         | inl now ↦ absurd (off_omits_nothing planned q (ap (λ (k : ℕ). connected (trail planned k)) (sym now.0) ∙ both.0) now.1)
         | inr before ↦ doing.omitted q told before
       ];
+      unomitted = λ q told omitted. inr (doing.unomitted q told omitted);
+      rightly = ((cause, may.1), doing.rightly);
       pending = doing.pending;
       due = λ q untold. ap (λ (x : Bool). is_pending (state_at progress.sends q) || x) (sym (closes_others p cause acts q (other q untold))) ∙ doing.due q untold;
       broken = doing.broken;
@@ -655,6 +691,10 @@ failed_on acts progress called planned t p m lt free may doing =
       omitted = λ q fine omitted.
           let ne : q ≢ p.0 = λ e. both_ways (is_untold (SendFailed p ∷ doing.actual) q) fine (untold_failing_here p doing.actual q e) in
           (λ e. ne (sym e), doing.omitted q (sym (untold_failing_others p doing.actual q ne) ∙ fine) omitted);
+      unomitted = λ q fine omitted.
+          let ne : q ≢ p.0 = λ e. both_ways (is_untold (SendFailed p ∷ doing.actual) q) fine (untold_failing_here p doing.actual q e) in
+          doing.unomitted q (sym (untold_failing_others p doing.actual q ne) ∙ fine) omitted.1;
+      rightly = ((m, spells, may.2), doing.rightly);
       pending = λ q it. elim (cases_eq q p.0) [
         | inl e ↦ untold_failing_here p doing.actual q e
         | inr ne ↦ untold_failing_others p doing.actual q ne ∙ doing.pending q (sym (ap is_pending (there q ne)) ∙ it)
@@ -723,6 +763,9 @@ cut_for p log = record {
   gave = λ job. (λ h. h, λ h. h);
   tests = λ trials h. trials_stay (SendFailed p) log trials tt tt h;
   omitted = λ q ne omitted. (λ e. ne (sym e), omitted);
+  unomitted = λ q ne omitted. omitted.1;
+  cleared = λ omitted. omitted.0 refl;
+  rightly = λ right. right;
   dials = refl;
 }
 
@@ -774,6 +817,10 @@ told_one rest progress called planned t p cause lt is doing =
       brought = λ q. failing_brought p planned q ∙ doing.brought q;
       came = λ q. failing_came p planned q ∙ doing.came q;
       omitted = λ q told omitted. doing.omitted q told omitted.1;
+      unomitted = λ q told omitted.
+          let ne : q ≢ p.0 = λ e. both_ways (is_untold doing.actual q) told (doing.pending q (was q e)) in
+          (λ e. ne (sym e), doing.unomitted q told omitted);
+      rightly = doing.rightly;
       pending = λ q it.
           let ne : q ≢ p.0 = λ e. both_ways (is_pending (state_at (set progress.sends p.0 Known) q)) (now q e) it in
           doing.pending q (sym (ap is_pending (there q ne)) ∙ it);
@@ -825,6 +872,7 @@ all_told c progress called planned t none reflects doing =
         places = record {
           count = reflects.places.count ∙ ap (λ (n : ℕ). n + 1) doing.plan.dials;
           omitted = λ q is. doing.omitted q (told q) (reflects.places.omitted q is);
+          named = λ right q omitted. reflects.places.named doing.rightly q (doing.unomitted q (told q) omitted);
           each = λ q. fits_alike _ (part_of planned q) (part_of doing.actual q) (doing.plan.told q (told q)) (reflects.places.each q);
         };
         tracks = record {

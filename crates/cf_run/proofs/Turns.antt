@@ -88,6 +88,8 @@ same_doing c acts progress called names t u holds e notes told = record {
   brought = λ q. refl;
   came = λ q. refl;
   omitted = λ q fine omitted. omitted;
+  unomitted = λ q fine omitted. omitted;
+  rightly = notes.rightly;
   pending = λ q it. absurd (both_ways (is_pending (state_at progress.sends q)) (holds.none q) it);
   due = λ q untold. absurd (both_ways (is_untold (e ∷ holds.actual) q) (told q) untold);
   broken = λ q untold. absurd (both_ways (is_untold (e ∷ holds.actual) q) (told q) untold);
@@ -220,6 +222,7 @@ ended_stops c progress called t holds busy = record {
       places = record {
         count = holds.reflects.places.count;
         omitted = holds.reflects.places.omitted;
+        named = λ right. holds.reflects.places.named right.1;
         each = holds.reflects.places.each;
       };
       tracks = tracks_ended (seen_by c) holds.actual holds.reflects.tracks;

@@ -38,7 +38,7 @@ use Rattle.cf_run.specs.declared.progress.SendState.TheVariants.{Fine, Pending, 
 use Rattle.cf_place.specs.declared.state.State.TheVariants.{Synced as IsSynced, NoPeers as HasNoPeers}
 use Rattle.cf_run.specs.declared.trace.TraceLine.{TraceLine}
 use Rattle.cf_run.specs.declared.trace.TraceLine.TheVariants.{Sent as SentLine, Closed as ClosedLine}
-use Rattle.cf_place.specs.Places.{after, Allowed, IsRepliedIn, IsState}
+use Rattle.cf_place.specs.Places.{after, Allowed, IsNamed, IsRepliedIn, IsState}
 use Rattle.cf_client.specs.Stands.{Reflects, IsBlameless, IsInnocent, AreAnswered, watch_by}
 
 -- how the sends to a peer have gone
@@ -123,9 +123,10 @@ IsSentLine p bytes (ClosedLine q cause) = ⊥
 
 abbrev pub IsClosedLine : Log → PeerNo → TraceLine → Type 0
 IsClosedLine log p (SentLine q command) = ⊥
-IsClosedLine log p (ClosedLine q cause) = (q ≡ p) × DeservesIn log p.0 cause
+IsClosedLine log p (ClosedLine q cause) = (q ≡ p) × DeservesIn log p.0 cause × IsNamed log p.0 cause
 
--- the lines, the newest first, are those of the log: one for each message sent, and one for each close, with a cause that the peer deserved then
+-- the lines, the newest first, are those of the log: one for each message sent, and one for each close, with a cause that the peer deserved then, and
+-- that is what it omitted where it did
 abbrev pub IsTraceOf : Log → List TraceLine → Type 0
 IsTraceOf [] [] = Unit {0}
 IsTraceOf [] (line ∷ lines) = ⊥
@@ -191,6 +192,8 @@ pub record Doing (watch : List (List ℕ)) (acts : List Act) (progress : Progres
   pub brought : IsSameFetched planned actual
   pub came : IsSameCome planned actual
   pub omitted : (q : ℕ) → is_untold actual q ≡ false → HasOmitted planned q → HasOmitted actual q
+  pub unomitted : (q : ℕ) → is_untold actual q ≡ false → HasOmitted actual q → HasOmitted planned q
+  pub rightly : Rightly planned
   pub pending : (q : ℕ) → is_pending (state_at progress.sends q) ≡ true → is_untold actual q ≡ true
   pub due : (q : ℕ) → is_untold actual q ≡ true → is_due progress acts q ≡ true
   pub broken : (q : ℕ) → is_untold actual q ≡ true → IsBroken actual q

@@ -1,7 +1,7 @@
 -- Who has omitted something: what leaves it so; and that no words of a peer's own give that cause.
-use Rattle.std.proofs.Common.{◌≡◌, inl, inr, ℕ, ◌==◌, List, [], ◌∷◌, ◌++◌, length, Option, Some, None, Ok, Err, Bool, true, false, if◌then◌else◌, refl, ◌∙◌}
+use Rattle.std.proofs.Common.{◌≡◌, inl, inr, ℕ, ◌==◌, List, [], ◌∷◌, ◌++◌, length, Option, Some, None, Ok, Err, Bool, true, false, if◌then◌else◌, refl, sym, ◌∙◌}
 use Rattle.std.specs.Prelude.{◌||◌}
-use Rattle.std.proofs.lemmas.Bool.{false≢true, eqb-true}
+use Rattle.std.proofs.lemmas.Bool.{false≢true, eqb-true, eq-eqb}
 use Rattle.cf_block.specs.declared.tx.Block.{Block}
 use Rattle.cf_bytes.specs.declared.hash.Hash32.{Hash32}
 use Rattle.cf_dispute.specs.Claims.{Table, first_header, header_at}
@@ -169,7 +169,7 @@ pub omitted_unfailed : (log : Log) (p : ℕ) → HasOmitted log p → failed (tr
 omitted_unfailed [] p h = absurd h
 omitted_unfailed (Dialled q name ∷ log) p h =
     at_either IsUnfailed (q.0 == p) (called_part (part_of log p)) (part_of log p) (λ is. refl)
-    (λ off. omitted_unfailed log p h)
+    (λ off. omitted_unfailed log p h.1)
 omitted_unfailed (NotDialled q name ∷ log) p h =
     at_either IsUnfailed (q.0 == p) (with_item (Lost Went) (part_of log p)) (part_of log p)
     (λ is. omitted_unfailed log p h) (λ off. omitted_unfailed log p h)
@@ -196,3 +196,64 @@ omitted_unfailed (Took (Gone q) ∷ log) p h =
     (λ is. omitted_unfailed log p h) (λ off. omitted_unfailed log p h)
 omitted_unfailed (Took (Tick s) ∷ log) p h = omitted_unfailed log p h
 omitted_unfailed (Took Ended ∷ log) p h = omitted_unfailed log p h
+
+-- ---- who has omitted something is cut off
+
+frame_connected : (f : Frame) (t : Trail) → connected (item_of f ∷ t) ≡ connected t
+frame_connected f t = elim (message_of f) as (λ r. connected (item_of_read r ∷ t) ≡ connected t) [
+  | Ok m ↦ refl
+  | Err e ↦ refl
+]
+
+hears_connected : (fs : List Frame) (t : Trail) → connected (hears fs t) ≡ connected t
+hears_connected [] t = refl
+hears_connected (f ∷ fs) t = hears_connected fs (item_of f ∷ t) ∙ frame_connected f t
+
+end_connected : (o : Option FrameFault) (t : Trail) → connected (hears_fault o t) ≡ connected t
+end_connected None t = refl
+end_connected (Some fault) t = refl
+
+asks_connected : (o : Option Msg) (t : Trail) → connected (asks o t) ≡ connected t
+asks_connected None t = refl
+asks_connected (Some m) t = refl
+
+piece_connected : (piece : List ℕ) (part : Part) → connected (heard_part piece part).trail ≡ connected part.trail
+piece_connected piece part = (let r = read_stream (part.waits ++ piece) in
+    end_connected r.fault (hears r.frames part.trail) ∙ hears_connected r.frames part.trail)
+
+abbrev IsCutOff : Part → Type 0
+IsCutOff part = connected part.trail ≡ false
+
+pub omitted_cut_off : (log : Log) (p : ℕ) → HasOmitted log p → connected (trail log p) ≡ false
+omitted_cut_off [] p h = absurd h
+omitted_cut_off (Dialled q name ∷ log) p h =
+    at_either IsCutOff (q.0 == p) (called_part (part_of log p)) (part_of log p)
+    (λ is. absurd (h.0 (eqb-true q.0 p is))) (λ off. omitted_cut_off log p h.1)
+omitted_cut_off (NotDialled q name ∷ log) p h =
+    at_either IsCutOff (q.0 == p) (with_item (Lost Went) (part_of log p)) (part_of log p)
+    (λ is. refl) (λ off. omitted_cut_off log p h)
+omitted_cut_off (Sent q bytes ∷ log) p h =
+    at_either IsCutOff (q.0 == p) (record (part_of log p) { trail = asks (spelled bytes) (trail log p) })
+    (part_of log p) (λ is. asks_connected (spelled bytes) (trail log p) ∙ omitted_cut_off log p h)
+    (λ off. omitted_cut_off log p h)
+omitted_cut_off (SendFailed q ∷ log) p h =
+    at_either IsCutOff (q.0 == p) (with_item (Lost Failing) (part_of log p)) (part_of log p) (λ is. refl)
+    (λ off. omitted_cut_off log p h.1)
+omitted_cut_off (Closed q ∷ log) p (inl now) =
+    at_either IsCutOff (q.0 == p) (with_item (Lost Shutting) (part_of log p)) (part_of log p) (λ is. refl)
+    (λ off. absurd (false≢true (sym off ∙ eq-eqb q.0 p now.0)))
+omitted_cut_off (Closed q ∷ log) p (inr before) =
+    at_either IsCutOff (q.0 == p) (with_item (Lost Shutting) (part_of log p)) (part_of log p) (λ is. refl)
+    (λ off. omitted_cut_off log p before)
+omitted_cut_off (Took (Got q piece) ∷ log) p h =
+    at_either IsCutOff (q.0 == p) (heard_part piece (part_of log p)) (part_of log p)
+    (λ is. piece_connected piece (part_of log p) ∙ omitted_cut_off log p h) (λ off. omitted_cut_off log p h)
+omitted_cut_off (Took (Gone q) ∷ log) p h =
+    at_either IsCutOff (q.0 == p) (with_item (Lost Went) (part_of log p)) (part_of log p)
+    (λ is. refl) (λ off. omitted_cut_off log p h)
+omitted_cut_off (Took (Tick s) ∷ log) p h = omitted_cut_off log p h
+omitted_cut_off (Took Ended ∷ log) p h = omitted_cut_off log p h
+
+-- who is connected hasn't since it was dialled
+pub connected_unomitted : (log : Log) (p : ℕ) → connected (trail log p) ≡ true → HasOmitted log p → ⊥
+connected_unomitted log p on omitted = false≢true (sym (omitted_cut_off log p omitted) ∙ on)

@@ -34,12 +34,12 @@ pub record AreBlamed (log : Log) (chain : Chain) : Type 0 where
 
 -- ---- who was closed for it
 
--- p was closed while it omitted something, and no send to it has failed since
+-- p was closed while it omitted something, and since then no send to it has failed and it wasn't dialled
 abbrev pub HasOmitted : Log → ℕ → Type 0
 HasOmitted [] p = ⊥
 HasOmitted (Closed q ∷ log) p = ((q.0 ≡ p) × IsOmitting log p) ⊎ HasOmitted log p
 HasOmitted (SendFailed q ∷ log) p = (q.0 ≡ p → ⊥) × HasOmitted log p
-HasOmitted (Dialled q name ∷ log) p = HasOmitted log p
+HasOmitted (Dialled q name ∷ log) p = (q.0 ≡ p → ⊥) × HasOmitted log p
 HasOmitted (NotDialled q name ∷ log) p = HasOmitted log p
 HasOmitted (Sent q bytes ∷ log) p = HasOmitted log p
 HasOmitted (Took d ∷ log) p = HasOmitted log p

@@ -11,7 +11,7 @@ use Rattle.cf_place.specs.Places.{Fits, is_here, nobody, place_at}
 use Rattle.cf_client.specs.Settled.{IsRightAt}
 use Rattle.cf_client.proofs.Losing.{lost_passed}
 use Rattle.cf_client.proofs.Settled.{set_other}
-use Rattle.cf_client.proofs.Standing.{any_default, set_is}
+use Rattle.cf_client.proofs.Standing.{any_default, set_is, still_lost}
 use Rattle.cf_client.proofs.ask.pass_all.Goals as goal
 
 pub loop-place-preserved : goal.loop-place-preserved
@@ -49,6 +49,8 @@ pub returns-clause-stand : goal.returns-clause-stand
 returns-clause-stand c = λ log stand. record {
   count = grind (arith, common_steps, stand.count);
   omitted = λ p is. stand.omitted p (c.loop-place.invariant.lost p (ClosedFor Omits) is);
+  named = λ right p is. still_lost (place_at c.args.places.now p) (place_at c.loop-place.places p) (ClosedFor Omits)
+      (c.loop-place.invariant.here p) (c.loop-place.invariant.lost p) (stand.named right.1 p is);
   each = λ p. elim (cases_lt p c.loop-place.place-index) [
     | inl lt ↦ c.loop-place.invariant.done p lt (part_of log p) (stand.each p)
     | inr le ↦

@@ -8,7 +8,7 @@ use Rattle.cf_run.proofs.over.perform_close.Goals as goal
 pub returns-then-is_pending-clause-doing : goal.returns-then-is_pending-clause-doing
 returns-then-is_pending-clause-doing g c = λ watch more called planned may doing.
     let is : is_pending (state_at c.args.progress.now.sends c.args.p.0) ≡ true = sym c.is_pending.ensures ∙ c.if-is_pending.true in
-    skipped_close more c.args.progress.now called planned (g.W.Wires.told c.args.wires.now) c.args.p c.args.cause is doing
+    skipped_close more c.args.progress.now called planned (g.W.Wires.told c.args.wires.now) c.args.p c.args.cause is may doing
 
 pub returns-then-is_closed-clause-doing : goal.returns-then-is_closed-clause-doing
 returns-then-is_closed-clause-doing g c = λ watch more called planned may doing.
