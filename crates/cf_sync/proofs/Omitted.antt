@@ -1,4 +1,4 @@
--- Who has omitted something: what leaves it so; and that no words of a peer's own give that cause.
+-- Who has omitted something: what leaves it so; that no words of a peer's own give that cause; and that who is connected hasn't.
 use Rattle.std.proofs.Common.{◌≡◌, inl, inr, ℕ, ◌==◌, List, [], ◌∷◌, ◌++◌, length, Option, Some, None, Ok, Err, Bool, true, false, if◌then◌else◌, refl, sym, ◌∙◌}
 use Rattle.std.specs.Prelude.{◌||◌}
 use Rattle.std.proofs.lemmas.Bool.{false≢true, eqb-true, eq-eqb}
