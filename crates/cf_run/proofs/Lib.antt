@@ -1,4 +1,5 @@
 pub mod Courses
+pub mod AlikeParts
 pub mod Performs
 pub mod Turns
 pub mod Dialling

@@ -22,40 +22,33 @@ use Rattle.cf_peer.specs.Acts.{bytes_of}
 use Rattle.cf_wires.specs.Log.{Log, Told, Tells, tally_of, noted, tell, longer}
 use Rattle.cf_peer.specs.Trail.{Trail, Part, Why, Item, Asked, Lost, Failing, Shutting, spelled, asks, with_item, part_of, trail, went_on, connected, failed, is_failing}
 use Rattle.cf_dispute.specs.Claims.{Table}
-use Rattle.cf_peer.specs.Asking.{is_open, counted, fetched, given, Deserves, MayAsk}
+use Rattle.cf_peer.specs.Asking.{counted, fetched, given, MayAsk}
 use Rattle.cf_headers.specs.declared.store.HeaderStore.{Ghosts}
 use Rattle.cf_match.specs.declared.matcher.Matcher.{Ghosts as Judges}
 use Rattle.cf_sync.proofs.Alone.{alone_less}
 use Rattle.cf_sync.specs.Blame.{HasOmitted}
-use Rattle.cf_sync.specs.Fetching.{IsAlone, counted_part, DeservesIn, IsOmitting, IsSameFetched, IsTested, Rightly}
+use Rattle.cf_sync.specs.Fetching.{IsAlone, counted_part, DeservesIn, IsTested, Rightly}
 use Rattle.cf_match.specs.declared.job.Job.{Job}
 use Rattle.cf_sync.proofs.Omitted.{omitted_unfailed}
 use Rattle.cf_sync.proofs.Plans.{omits_alike, off_omits_nothing}
-use Rattle.cf_sync.specs.Kept.{OpensAt, claims_kept}
 use Rattle.cf_sync.proofs.VerdictsGrow.{same_given}
 use Rattle.cf_sync.specs.Planned.{is_untold, before_failure, IsMeant, Alike, IsSameGiven, IsSameTest}
 use Rattle.cf_sync.proofs.Planning.{planned_part}
-use Rattle.cf_hear.specs.Tracks.{chain_kept}
-use Rattle.cf_hear.proofs.Opening.{closes_off}
-use Rattle.cf_sync.proofs.KeptOpens.{opens_closed}
-use Rattle.cf_seek.specs.Opens.{Opens}
 use Rattle.cf_tracker.specs.Tracker.{opens_of, trials_of}
 use Rattle.cf_client.specs.declared.client.Client.{Client}
-use Rattle.cf_place.specs.declared.place.Place.{Place}
-use Rattle.cf_place.specs.declared.place.Place.TheVariants.{Here, Lost as LostPlace}
 use Rattle.cf_run.specs.declared.progress.Progress.{Progress}
 use Rattle.cf_run.specs.declared.progress.SendState.{SendState}
 use Rattle.cf_run.specs.declared.progress.SendState.TheVariants.{Fine, Pending, Known}
 use Rattle.cf_run.specs.declared.trace.TraceLine.{TraceLine}
 use Rattle.cf_run.specs.declared.trace.TraceLine.TheVariants.{Sent as SentLine, Closed as ClosedLine}
-use Rattle.cf_place.specs.Places.{entry_of, IsNamed, IsReplied, IsRepliedFirst, IsRepliedIn, MayAct, CutFor, Fits}
+use Rattle.cf_place.specs.Places.{entry_of, IsNamed, IsRepliedIn, MayAct, CutFor}
 use Rattle.cf_client.specs.Stands.{Reflects, count_of, watch_by}
 use Rattle.cf_run.specs.Run.{Doing, ActsLeft, HoldsOver, closes, state_at, is_pending, is_fine, IsTraceOf}
 use Rattle.cf_sync.proofs.SameFetched.{same_wanted, same_holds}
-use Rattle.cf_client.proofs.Losing.{lost_failed}
 use Rattle.cf_client.proofs.Spelled.{spelled_bytes}
 use Rattle.cf_sync.proofs.Blamed.{tested_stays}
 use Rattle.cf_sync.proofs.KeptAims.{closed_on as on_closed, failed_on as on_failed, sent_on as on_sent, test_alike, test_off, trials_alike, trials_stay}
+use Rattle.cf_run.proofs.AlikeParts.{deserved_in, deserved_in_off, failed_in_off, replied_in, omits_planned, fits_alike, chain_alike, claims_alike, opens_alike}
 
 -- with no act left
 only : (b : Bool) → (b || false) ≡ true → b ≡ true
@@ -392,59 +385,6 @@ sent_on acts progress trace called planned t p m command free line is may doing 
         asked_failed (p.0 == q) (spelled bytes) (part_of planned q) ∙ b.1,
       );
     }
-
-deserved : (t u : Part) (cause : Cause) → Alike t u → Deserves t.trail cause → Deserves u.trail cause
-deserved t u cause (inl same) h = subst (λ (x : Part). Deserves x.trail cause) same h
-deserved t u cause (inr off) (inl words) = absurd (both_ways (connected t.trail) off.0 words.0)
-deserved t u cause (inr off) (inr (inl fault)) = inr (inl (fault.0, off.3))
-deserved t u cause (inr off) (inr (inr late)) = absurd (both_ways (is_open t.trail) (rw off.0 refl) late.1)
-
--- who is cut off deserves a close for a failed send alone
-deserved_off : (t u : Trail) (cause : Cause) → connected t ≡ false → failed u ≡ true → Deserves t cause → Deserves u cause
-deserved_off t u cause off broken (inl words) = absurd (both_ways (connected t) off words.0)
-deserved_off t u cause off broken (inr (inl fault)) = inr (inl (fault.0, broken))
-deserved_off t u cause off broken (inr (inr late)) = absurd (both_ways (is_open t) (rw off refl) late.1)
-
-failed_off : (t : Trail) (cause : Cause) → connected t ≡ false → Deserves t cause → failed t ≡ true
-failed_off t cause off (inl words) = absurd (both_ways (connected t) off words.0)
-failed_off t cause off (inr (inl fault)) = fault.1
-failed_off t cause off (inr (inr late)) = absurd (both_ways (is_open t) (rw off refl) late.1)
-
-deserved_in : (planned log : Log) (p : ℕ) (cause : Cause) → Alike (part_of planned p) (part_of log p) → IsSameFetched planned log → ((job : Job) → IsTested planned job → IsTested log job)
-    → DeservesIn planned p cause → DeservesIn log p cause
-deserved_in planned log p cause alike brought tests (inl d) = inl (deserved (part_of planned p) (part_of log p) cause alike d)
-deserved_in planned log p cause alike brought tests (inr o) = inr (o.0, omits_alike planned log p alike brought tests o.1)
-
-deserved_in_off : (planned log : Log) (p : ℕ) (cause : Cause) → connected (trail planned p) ≡ false → failed (trail log p) ≡ true → DeservesIn planned p cause → DeservesIn log p cause
-deserved_in_off planned log p cause off broken (inl d) = inl (deserved_off (trail planned p) (trail log p) cause off broken d)
-deserved_in_off planned log p cause off broken (inr o) = absurd (off_omits_nothing planned p off o.1)
-
-failed_in_off : (planned : Log) (p : ℕ) (cause : Cause) → DeservesIn planned p cause → connected (trail planned p) ≡ false → failed (trail planned p) ≡ true
-failed_in_off planned p cause (inl d) off = failed_off (trail planned p) cause off d
-failed_in_off planned p cause (inr o) off = absurd (off_omits_nothing planned p off o.1)
-
-replied_alike : (t u : Part) → Alike t u → IsReplied t.trail → IsReplied u.trail
-replied_alike t u (inl same) h = subst (λ (x : Part). IsReplied x.trail) same h
-replied_alike t u (inr off) h = λ sound. absurd (both_ways (failed u.trail) sound off.3)
-
-first_alike : (t u : Part) → Alike t u → IsRepliedFirst t.trail → IsRepliedFirst u.trail
-first_alike t u (inl same) h = subst (λ (x : Part). IsRepliedFirst x.trail) same h
-first_alike t u (inr off) h = λ sound. absurd (both_ways (failed u.trail) sound off.3)
-
-replied_in : (planned log : Log) (p : ℕ) → Alike (part_of planned p) (part_of log p) → IsSameFetched planned log → ((job : Job) → IsTested planned job → IsTested log job)
-    → IsRepliedIn planned p → IsRepliedIn log p
-replied_in planned log p alike brought tests (inl all) = inl (replied_alike (part_of planned p) (part_of log p) alike all)
-replied_in planned log p alike brought tests (inr o) = inr (omits_alike planned log p alike brought tests o.0, first_alike (part_of planned p) (part_of log p) alike o.1)
-
--- who omits something does by the plan
-alike_back : (t u : Part) → Alike t u → Alike u t
-alike_back t u (inl same) = inl (sym same)
-alike_back t u (inr off) = inr (off.1, off.0, off.3, off.2, sym off.4, sym off.5)
-
-omits_planned : (planned log : Log) (p : ℕ) → Alike (part_of planned p) (part_of log p) → IsSameFetched planned log
-    → ((job : Job) → IsTested log job → IsTested planned job) → IsOmitting log p → IsOmitting planned p
-omits_planned planned log p alike brought tests omits =
-    omits_alike log planned p (alike_back (part_of planned p) (part_of log p) alike) (λ q. sym (brought q)) tests omits
 
 -- a peer is closed
 pub closed_on : {watch : List (List ℕ)} (acts : List Act) (progress : Progress) (trace : Vec TraceLine Global) (called : List (List ℕ)) (planned : Log) (t : Told) (p : PeerNo) (cause : Cause)
@@ -837,24 +777,6 @@ told_one rest progress called planned t p cause lt is doing =
         | inr ne ↦ absurd (both_ways (is_pending (state_at progress.sends q)) (sym (ap is_pending (there q ne)) ∙ clear) (only (is_pending (state_at progress.sends q)) (doing.due q untold)))
       ];
     }
-
-fits_alike : (place : Place) (t u : Part) → Alike t u → Fits place t → Fits place u
-fits_alike place t u (inl same) fits = subst (λ (x : Part). Fits place x) same fits
-fits_alike (Here peer) t u (inr off) fits = absurd (both_ways (connected t.trail) off.0 fits.holds.on)
-fits_alike (LostPlace loss) t u (inr off) fits = lost_failed loss t.trail u.trail off.2 off.3 off.1 fits
-
-chain_alike : (t u : Part) → Alike t u → chain_kept t.trail ≡ chain_kept u.trail
-chain_alike t u (inl same) = ap (λ (x : Part). chain_kept x.trail) same
-chain_alike t u (inr off) = rw (off.0, off.1) refl
-
-claims_alike : (t u : Part) → Alike t u → claims_kept t.trail ≡ claims_kept u.trail
-claims_alike t u (inl same) = ap (λ (x : Part). claims_kept x.trail) same
-claims_alike t u (inr off) = rw (off.0, off.1) refl
-
-opens_alike : (opens : Opens) (q : ℕ) (t u : Part) → Alike t u → OpensAt opens q t.trail → OpensAt opens q u.trail
-opens_alike opens q t u (inl same) at = subst (λ (x : Part). OpensAt opens q x.trail) same at
-opens_alike opens q t u (inr off) at =
-    opens_closed opens opens q u.trail (closes_off opens q t.trail at off.0) (λ on. absurd (both_ways (connected u.trail) off.1 on))
 
 -- with no failure pending the client reflects the actual log
 pub all_told : {H M : Type 0} {g : Ghosts H} {j : Judges M} (c : Client H M g j) (progress : Progress) (called : List (List ℕ)) (planned : Log) (t : Told) → ((q : ℕ) → is_pending (state_at progress.sends q) ≡ false)
