@@ -9,7 +9,7 @@ use Rattle.cf_peer.specs.declared.peer.Cause.{Cause}
 use Rattle.cf_peer.specs.declared.peer.Peer.{Peer}
 use Rattle.cf_wires.specs.Log.{Log}
 use Rattle.cf_peer.specs.Trail.{Trail, Part, part_of, connected, ready, failed}
-use Rattle.cf_peer.specs.Asking.{OpenRequest, NothingOpen, HeadersOpen, ClaimsOpen, FiltersOpen, BlockOpen, request, is_idle as idle_request, is_open, age, Deserves}
+use Rattle.cf_peer.specs.Asking.{OpenRequest, NothingOpen, HeadersOpen, ClaimsOpen, FiltersOpen, BlockOpen, PingOpen, request, is_idle as idle_request, is_open, age, Deserves}
 use Rattle.cf_peer.specs.Peer.{Holds, aged, age_in, calm}
 use Rattle.cf_client.specs.declared.client.Client.{Client}
 use Rattle.cf_place.specs.declared.place.Place.{Place}
@@ -25,6 +25,7 @@ aged_is HeadersOpen n is = refl
 aged_is (ClaimsOpen stop parent blocks) n is = refl
 aged_is (FiltersOpen left came) n is = refl
 aged_is (BlockOpen block) n is = refl
+aged_is (PingOpen number) n is = refl
 
 open_parts : (c rd i : Bool) → (c && (not rd || not i)) ≡ true → rd ≡ true → i ≡ false
 open_parts true true false h is = refl

@@ -10,6 +10,7 @@ use Rattle.std.proofs.lemmas.List.{length-map}
 use Rattle.cf_bytes.specs.declared.hash.Hash32.{Hash32}
 use Rattle.cf_headers.specs.Chain.{Hash, Chain, tip_hash}
 use Rattle.cf_headers.specs.Heights.{hash_at, common_of}
+use Rattle.cf_peer.specs.declared.mode.Mode.TheVariants.{Once}
 use Rattle.cf_peer.specs.declared.peer.Peer.{Peer}
 use Rattle.cf_wires.specs.Log.{Log}
 use Rattle.cf_peer.specs.Trail.{Trail, Part, part_of, trail, connected, ready, own}
@@ -111,7 +112,7 @@ asked_out_of places log s chain stand tracks settled decided best p on quiet =
     through_shared s p (get_or places p nobody) mine chain (settled.through p) (ap is_idle here.1 ∙ idle) kept best in
     let through : IsThrough s.table s.claims s.verdicts s.opens p mine (common_of mine chain) = both.0 in
     record {
-      heard_out = whole.hearing ∙ sym holds.hearing ∙ heard_by peer idle off;
+      heard_out = whole.hearing Once ∙ sym holds.hearing ∙ heard_by peer idle off;
       claimed = λ h one le.
           let same : s.claims p (hash_at mine h) ≡ claims (counted_part log p) (hash_at mine h) = tracks.claimed p (hash_at mine h) ∙ ap (λ (b : Bool). (if b then claims (counted_part log p) else no_claims) (hash_at mine h)) on in
           header_known (claims (counted_part log p)) (hash_at mine h) (λ above. subst IsSome same (through.claimed h one le above));

@@ -17,7 +17,7 @@ use Rattle.cf_headers.specs.Heights.{hash_at}
 use Rattle.cf_headers.specs.Rules.{same}
 use Rattle.cf_peer.specs.declared.peer.Peer.{Peer}
 use Rattle.cf_peer.specs.declared.peer.Request.{Request}
-use Rattle.cf_peer.specs.declared.peer.Request.TheVariants.{Nothing, Handshake, Headers as HeadersAsked, Claims as ClaimsAsked, Filters as FiltersAsked, Block as BlockAsked}
+use Rattle.cf_peer.specs.declared.peer.Request.TheVariants.{Nothing, Handshake, Headers as HeadersAsked, Claims as ClaimsAsked, Filters as FiltersAsked, Block as BlockAsked, Ping as PingAsked}
 use Rattle.cf_peer.specs.Peer.{IsRight}
 use Rattle.cf_hear.proofs.Wishes.{in_span}
 use Rattle.cf_seek.proofs.Stops.{parent_is}
@@ -41,6 +41,7 @@ right_prop (HeadersAsked age) table = hlevel props
 right_prop (ClaimsAsked range age) table = hlevel props
 right_prop (FiltersAsked batch age) table = hlevel props
 right_prop (BlockAsked block age) table = hlevel props
+right_prop (PingAsked number age) table = hlevel props
 
 place_prop : (place : Place) (table : Table) → IsProp (IsRightAt place table)
 place_prop (Here peer) table = right_prop peer.request table

@@ -20,7 +20,7 @@ use Rattle.cf_peer.specs.declared.peer.Peer.{Peer}
 use Rattle.cf_peer.specs.Acts.{bytes_of, IsSendable}
 use Rattle.cf_wires.specs.Log.{Log, tally_of, noted}
 use Rattle.cf_peer.specs.Trail.{owed, Trail, Part, Called, Asked, Lost as LostItem, Went, Shutting, part_of, trail, went_on, asks, spelled, with_item, called_part, connected, own, replied, as_reply, is_version, IsClientVersion}
-use Rattle.cf_peer.specs.Asking.{counted, age, is_open, MayAsk, IsFree}
+use Rattle.cf_peer.specs.Asking.{counted, age, is_open, MayAsk, IsFree, PingOpen}
 use Rattle.cf_peer.specs.Peer.{Holds, wants, is_idle_peer, called_peer, asked_for_headers}
 use Rattle.cf_sync.specs.Blame.{HasOmitted}
 use Rattle.cf_sync.specs.Fetching.{MaySend, Rightly}

@@ -11,13 +11,13 @@ use Rattle.cf_match.specs.declared.job.Job.{Job}
 use Rattle.cf_msg.specs.declared.msg.Malformed.{Malformed}
 use Rattle.cf_msg.specs.declared.msg.Entry.{Entry}
 use Rattle.cf_msg.specs.declared.msg.Msg.{Msg}
-use Rattle.cf_msg.specs.declared.msg.Msg.TheVariants.{GetHeaders, Headers, GetData, Block as BlockMessage, GetCfheaders, Cfheaders, GetCfilters, Cfilter}
+use Rattle.cf_msg.specs.declared.msg.Msg.TheVariants.{Ping, Pong, GetHeaders, Headers, GetData, Block as BlockMessage, GetCfheaders, Cfheaders, GetCfilters, Cfilter}
 use Rattle.cf_msg.specs.Reading.{message_of}
 use Rattle.cf_wires.specs.declared.event.Delivery.TheVariants.{Got, Gone, Tick, Ended}
 use Rattle.cf_wires.specs.declared.event.Event.TheVariants.{Dialled, NotDialled, Sent, SendFailed, Closed, Took}
 use Rattle.cf_wires.specs.Log.{Log}
 use Rattle.cf_peer.specs.Trail.{Trail, Part, Asked, Lost, Went, Failing, Shutting, called_part, with_item, item_of, item_of_read, hears, hears_fault, part_after, heard_part, spelled, asks, part_of, trail, own}
-use Rattle.cf_peer.specs.Asking.{OpenRequest, NothingOpen, HeadersOpen, ClaimsOpen, FiltersOpen, BlockOpen, block_asked, blocks_from, claims_asked, filters_asked, request, request_after, filters_left, filter_of, is_answer_of, is_wanted, MayAsk}
+use Rattle.cf_peer.specs.Asking.{OpenRequest, NothingOpen, HeadersOpen, ClaimsOpen, FiltersOpen, BlockOpen, PingOpen, block_asked, blocks_from, claims_asked, filters_asked, request, request_after, filters_left, filter_of, is_answer_of, is_wanted, MayAsk}
 use Rattle.cf_sync.specs.Fetching.{Rightly}
 use Rattle.cf_sync.proofs.Entries.{at_either}
 
@@ -29,6 +29,7 @@ IsFilled (ClaimsOpen stop parent blocks) = Unit {0}
 IsFilled (FiltersOpen [] came) = ⊥
 IsFilled (FiltersOpen (next ∷ left) came) = Unit {0}
 IsFilled (BlockOpen block) = Unit {0}
+IsFilled (PingOpen number) = Unit {0}
 
 left_filled : (left : List Hash) (came : List Job) → IsFilled (filters_left left came)
 left_filled [] came = tt
@@ -49,6 +50,15 @@ after_filled (BlockMessage b) (BlockOpen wanted) h = by_test (is_wanted b wanted
   by_test : (b : Bool) → IsFilled (if b then NothingOpen else BlockOpen wanted)
   by_test true = tt
   by_test false = tt
+after_filled (Pong number) (PingOpen wanted) h = by_test (number == wanted) where
+  by_test : (b : Bool) → IsFilled (if b then NothingOpen else PingOpen wanted)
+  by_test true = tt
+  by_test false = tt
+after_filled (Pong number) NothingOpen h = h
+after_filled (Pong number) HeadersOpen h = h
+after_filled (Pong number) (ClaimsOpen stop parent blocks) h = h
+after_filled (Pong number) (FiltersOpen left came) h = h
+after_filled (Pong number) (BlockOpen block) h = h
 after_filled m r h = h
 
 -- ---- what is asked
@@ -88,6 +98,7 @@ for_filled t (GetCfilters filter start stop) may h =
     let range = may.1.0 in
     asked_filled (back_to stop.0 (own t)) start range.part range.tip range.low range.high
 for_filled t (GetData entries) may h = block_filled entries (request t) h
+for_filled t (Ping n) may h = tt
 for_filled t m may h = h
 
 -- ---- what is heard

@@ -21,7 +21,7 @@ use Rattle.cf_msg.specs.declared.msg.Malformed.{Malformed}
 use Rattle.cf_msg.specs.Reading.{message_of}
 use Rattle.cf_match.specs.declared.job.Job.{Job}
 use Rattle.cf_peer.specs.Trail.{Trail, Part, Lost, Shutting, trail, part_of, called_part, with_item, item_of, item_of_read, hears, hears_fault, part_after, heard_part, asks, spelled, connected, greeted, met, ready}
-use Rattle.cf_peer.specs.Asking.{OpenRequest, NothingOpen, HeadersOpen, ClaimsOpen, FiltersOpen, BlockOpen, claims, request, is_idle, is_open, HasSaid}
+use Rattle.cf_peer.specs.Asking.{OpenRequest, NothingOpen, HeadersOpen, ClaimsOpen, FiltersOpen, BlockOpen, PingOpen, claims, request, is_idle, is_open, HasSaid}
 use Rattle.cf_server.specs.Serving.{text_of}
 use Rattle.cf_server.proofs.Texts.{text-nil}
 use Rattle.cf_sync.specs.Fetching.{AreBytes, Rightly}
@@ -176,6 +176,7 @@ all_done blocks cs k HeadersOpen true mt gr true greets full owes = (let e = owe
 all_done blocks cs k (ClaimsOpen stop parent asked') true mt gr true greets full owes = (let e = owes.1.due in cc)
 all_done blocks cs k (FiltersOpen left came') true mt gr true greets full owes = absurd (open_filters left came' owes.1.filters owes.1.these (no_filters owes.1.filters owes.1.due) full)
 all_done blocks cs k (BlockOpen block) true mt gr true greets full owes = (let e = owes.1.due in cc)
+all_done blocks cs k (PingOpen number) true mt gr true greets full owes = absurd owes.1
 all_done blocks cs k r false true gr true greets full owes = (let e = owes.2 in cc)
 all_done blocks cs k r false false true true greets full owes = (let e = owes.1 in cc)
 all_done blocks cs k r false false false true greets full owes = absurd (false≢true greets)

@@ -22,10 +22,11 @@ use Rattle.cf_msg.specs.Reading.{message_of}
 use Rattle.cf_wires.specs.declared.event.Delivery.TheVariants.{Got, Gone, Tick, Ended}
 use Rattle.cf_wires.specs.declared.event.Event.{Event}
 use Rattle.cf_wires.specs.declared.event.Event.TheVariants.{Dialled, NotDialled, Sent, SendFailed, Closed, Took}
+use Rattle.cf_peer.specs.declared.mode.Mode.TheVariants.{Once}
 use Rattle.cf_scan.specs.declared.history.Entry.{Entry as HistoryEntry}
 use Rattle.cf_wires.specs.Log.{Log, tally_of}
 use Rattle.cf_peer.specs.Trail.{Trail, Part, Asked, Lost, Went, Failing, Shutting, called_part, with_item, item_of, item_of_read, hears, hears_fault, part_after, heard_part, spelled, asks, part_of, trail, connected, ready, own, heard}
-use Rattle.cf_peer.specs.Asking.{HasHeader, OpenRequest, NothingOpen, HeadersOpen, ClaimsOpen, FiltersOpen, BlockOpen, claims_asked, filters_asked, block_asked, claims, claims_after, request, request_after, is_idle, is_open, hashes_of, MayAsk}
+use Rattle.cf_peer.specs.Asking.{HasHeader, OpenRequest, NothingOpen, HeadersOpen, ClaimsOpen, FiltersOpen, BlockOpen, claims_asked, filters_asked, block_asked, claims, claims_after, request, request_after, is_idle, is_open, hashes_of, MayAsk, PingOpen}
 use Rattle.cf_played.specs.declared.kind.Way.TheVariants.{Silent}
 use Rattle.cf_played.specs.Answers.{came, told_to, is_answered, HasBegun}
 use Rattle.cf_run.specs.Run.{AreNumbered}
@@ -148,6 +149,7 @@ is_stuck HeadersOpen = false
 is_stuck (ClaimsOpen stop parent blocks) = true
 is_stuck (FiltersOpen left came') = true
 is_stuck (BlockOpen block) = true
+is_stuck (PingOpen number) = true
 
 -- asked something hard, it has that open; it claims nothing
 record IsStuck (t : Trail) : Type 0 where
@@ -162,6 +164,7 @@ soft_stuck (Headers hs) HeadersOpen soft h = absurd (false≢true h)
 soft_stuck (Headers hs) (ClaimsOpen stop parent blocks) soft h = refl
 soft_stuck (Headers hs) (FiltersOpen left came') soft h = refl
 soft_stuck (Headers hs) (BlockOpen block) soft h = refl
+soft_stuck (Headers hs) (PingOpen number) soft h = refl
 soft_stuck m r soft h = absurd soft
 
 soft_claims : (m : Msg) (r : OpenRequest) (cs : Table) → IsSoft m → claims_after m r cs ≡ cs
@@ -328,6 +331,7 @@ idle_free true true HeadersOpen on quiet = refl
 idle_free true true (ClaimsOpen stop parent blocks) on quiet = absurd (false≢true (sym quiet))
 idle_free true true (FiltersOpen left came') on quiet = absurd (false≢true (sym quiet))
 idle_free true true (BlockOpen block) on quiet = absurd (false≢true (sym quiet))
+idle_free true true (PingOpen number) on quiet = absurd (false≢true (sym quiet))
 
 is_false : (b : Bool) → (b ≡ true → ⊥) → b ≡ false
 is_false true h = absurd (h refl)
@@ -352,7 +356,7 @@ silent_idle log p blocks bytes good clash right numbered greets some few plays o
     let honest = honest_peer log p blocks bytes good clash right numbered greets some few (plays_honest blocks log p right soft plays) in
     let clean = (honest_good blocks (chain_setting log blocks clash good) log p (never_omits log p blocks bytes clash good.each) right honest.honest).keeps.clean in
     let whole = same_use t on clean in
-    record { honest = honest; none = whole.claiming ∙ st.none; same_own = whole.chain; same_heard = whole.hearing }
+    record { honest = honest; none = whole.claiming ∙ st.none; same_own = whole.chain; same_heard = whole.hearing Once }
 
 -- and its chain isn't the best one
 no_claim_at : (block : Hash) (cs : Table) → cs ≡ no_claims → same (block_hash_of genesis_header) block ≡ false → IsSome (header_at first_header cs block) → ⊥

@@ -54,7 +54,7 @@ use Rattle.cf_dispute.specs.Tables.{blocks_of, claim_fault}
 use Rattle.cf_dispute.specs.Claims as dispute
 use Rattle.cf_headers.specs.Rules.{same as same_bytes}
 use Rattle.cf_peer.specs.declared.peer.Request.{Request}
-use Rattle.cf_peer.specs.declared.peer.Request.TheVariants.{Nothing, Handshake, Headers as HeadersAsked, Claims as ClaimsAsked, Filters as FiltersAsked, Block as BlockAsked}
+use Rattle.cf_peer.specs.declared.peer.Request.TheVariants.{Nothing, Handshake, Headers as HeadersAsked, Claims as ClaimsAsked, Filters as FiltersAsked, Block as BlockAsked, Ping as PingAsked}
 use Rattle.cf_seek.specs.Opens.{Closes, IsSameElse, IsSameOpens}
 use Rattle.cf_sync.specs.Kept.{OpensAt}
 use Rattle.cf_sync.proofs.KeptOpens.{opens_closed}
@@ -207,6 +207,7 @@ right_same (ClaimsAsked range age) a b is h = (
 )
 right_same (FiltersAsked batch age) a b is h = h
 right_same (BlockAsked block age) a b is h = tt
+right_same (PingAsked number age) a b is h = tt
 
 -- a run of blocks that is read as a slice: the same claims, and the same fault
 pub same_run : (previous : Hash32) (read blocks hashes : List Hash32) (table after : dispute.Table) → read ≡ blocks → ((block : Hash) → after block ≡ with_claims previous (blocks_of read) hashes table block)

@@ -1,19 +1,23 @@
 -- One peer's part of a log, message by message, the newest first, and what can be said of it. Nothing here knows of the client.
-use Rattle.std.specs.Prelude.{◌≡◌, ◌⊎◌, ℕ, pos, ◌==◌, nat_lt, Bool, true, false, ◌&&◌, ◌||◌, if◌then◌else◌, List, [], ◌∷◌, ◌++◌, replicate, codes, length, Option, Some, None, Result, Ok, Err, bit_and}
+use Rattle.std.specs.Prelude.{◌≡◌, ◌⊎◌, ℕ, pos, ◌==◌, nat_lt, Bool, true, false, ◌&&◌, ◌||◌, if◌then◌else◌, List, [], ◌∷◌, ◌++◌, replicate, codes, length, Option, Some, None, Result, Ok, Err, bit_and, is_none, not}
+use Rattle.std.specs.List.{list_any}
 use Rattle.cf_frame.specs.declared.frame.Frame.{Frame}
 use Rattle.cf_frame.specs.declared.frame.FrameFault.{FrameFault}
 use Rattle.cf_frame.specs.Stream.{StreamRead, read_stream}
 use Rattle.cf_block.specs.declared.header.Header.{Header}
-use Rattle.cf_headers.specs.Chain.{Chain, Accepted, Longer, NoLonger, Unlinked, Invalid, TooHigh, accept}
+use Rattle.cf_headers.specs.Chain.{Chain, Accepted, Longer, NoLonger, Unlinked, Invalid, TooHigh, accept, back_to}
+use Rattle.cf_msg.specs.declared.msg.Entry.{Entry}
 use Rattle.cf_msg.specs.declared.msg.Malformed.{Malformed}
 use Rattle.cf_msg.specs.declared.msg.Msg.{Msg}
-use Rattle.cf_msg.specs.declared.msg.Msg.TheVariants.{Version, Verack, Ping, Pong, Headers}
+use Rattle.cf_msg.specs.declared.msg.Msg.TheVariants.{Version, Verack, Ping, Pong, Headers, Inv}
 use Rattle.cf_msg.specs.declared.msg.NetAddress.{NetAddress}
 use Rattle.cf_msg.specs.Reading.{message_of}
 use Rattle.cf_wires.specs.declared.event.Delivery.{Delivery}
 use Rattle.cf_wires.specs.declared.event.Delivery.TheVariants.{Got, Gone, Tick, Ended}
 use Rattle.cf_wires.specs.declared.event.Event.{Event}
 use Rattle.cf_wires.specs.declared.event.Event.TheVariants.{Dialled, NotDialled, Sent, SendFailed, Closed, Took}
+use Rattle.cf_peer.specs.declared.mode.Mode.{Mode}
+use Rattle.cf_peer.specs.declared.mode.Mode.TheVariants.{Once, Following}
 use Rattle.cf_peer.specs.declared.peer.Cause.{Cause}
 use Rattle.cf_peer.specs.declared.peer.Cause.TheVariants.{BadFrame, Malformed as IsMalformed, Unlinked as NotLinked, InvalidHeader, TooHigh as AboveLimit}
 use Rattle.cf_wires.specs.Log.{Log}
@@ -196,7 +200,7 @@ own (Asked m ∷ t) = own t
 own (Passed s ∷ t) = own t
 own (Lost w ∷ t) = own t
 
--- headers have come that were empty, brought no longer chain or were fewer than 2000: it has no more to tell
+-- headers have come that were empty, brought no longer chain or were fewer than 2000: it has no more to tell, until there is news
 abbrev pub ends_by : Accepted → List Header → Bool
 ends_by (Longer next) hs = nat_lt (length hs) 2000
 ends_by NoLonger hs = true
@@ -208,15 +212,30 @@ abbrev pub ends_with : Msg → Chain → Bool
 ends_with (Headers hs) own = ends_by (accept hs own) hs
 ends_with m own = false
 
--- it has no more to tell: headers came that were empty, brought no longer chain, or were fewer than 2000
+-- it tells of a block that isn't on its own chain
+abbrev pub is_unknown : Chain → Entry → Bool
+is_unknown own entry = (entry.kind == 2) && is_none (back_to entry.hash.0 own)
+
+abbrev pub is_news : Msg → Chain → Bool
+is_news (Inv entries) own = list_any (is_unknown own) entries
+is_news m own = false
+
+-- a client that follows hears a peer out again after news
+abbrev pub still_heard : Mode → Msg → Chain → Bool → Bool
+still_heard Once m own heard = heard
+still_heard Following m own heard = if is_news m own then false else heard
+
+abbrev pub heard_in : Mode → Trail → Bool
+heard_in mode [] = false
+heard_in mode (Called ∷ t) = false
+heard_in mode (Said m ∷ t) = still_heard mode m (own t) (heard_in mode t) || (ready t && ends_with m (own t))
+heard_in mode (Refused c ∷ t) = heard_in mode t
+heard_in mode (Asked m ∷ t) = heard_in mode t
+heard_in mode (Passed s ∷ t) = heard_in mode t
+heard_in mode (Lost w ∷ t) = heard_in mode t
+
 abbrev pub heard : Trail → Bool
-heard [] = false
-heard (Called ∷ t) = false
-heard (Said m ∷ t) = heard t || (ready t && ends_with m (own t))
-heard (Refused c ∷ t) = heard t
-heard (Asked m ∷ t) = heard t
-heard (Passed s ∷ t) = heard t
-heard (Lost w ∷ t) = heard t
+heard t = heard_in Once t
 
 -- the cause for which headers have a peer closed
 abbrev pub fault_in : Accepted → Option Cause

@@ -6,10 +6,12 @@ mod claims;
 mod filters;
 mod held;
 mod lent;
+mod mode;
 mod peer;
 
 pub use act::Act;
 pub use claims::cause_of;
 pub use filters::Heard;
 pub use lent::{Coming, next_coming};
+pub use mode::Mode;
 pub use peer::{Batch, Cause, Peer, Range, Reply, Request};

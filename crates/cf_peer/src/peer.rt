@@ -1,5 +1,5 @@
 //! What the client keeps of one peer.
-ghost use Rattle.std.specs.Prelude.{◌≡◌, ℕ, List, true, false, not, None, Some, ◌∷◌, [], length};
+ghost use Rattle.std.specs.Prelude.{◌≡◌, ◌+◌, ℕ, List, true, false, not, None, Some, IfSome, ◌∷◌, [], length};
 ghost use Rattle.cf_block.specs.declared.header.Header.{Header};
 ghost use Rattle.cf_block.specs.declared.tx.Block.{Block};
 ghost use Rattle.cf_block.specs.Header.{block_hash_of};
@@ -8,15 +8,18 @@ ghost use Rattle.cf_dispute.specs.Claims.{Table};
 ghost use Rattle.cf_headers.specs.Chain.{accept};
 ghost use Rattle.cf_headers.specs.Changes.{link_height, change_of};
 ghost use Rattle.cf_msg.specs.declared.msg.Msg.{Msg};
-ghost use Rattle.cf_msg.specs.declared.msg.Msg.TheVariants.{Headers, Block as BlockMessage};
+ghost use Rattle.std.specs.List.{list_any};
+ghost use Rattle.cf_msg.specs.declared.msg.Entry.{Entry};
+ghost use Rattle.cf_msg.specs.declared.msg.Msg.TheVariants.{Headers, Inv, Ping, Block as BlockMessage};
 ghost use Rattle.cf_lent.specs.View.{msg_of};
-ghost use Rattle.cf_peer.specs.Trail.{Trail, Said, Passed, Asked, own, reply_to};
-ghost use Rattle.cf_peer.specs.Asking.{request, verdict, fetched_by};
-ghost use Rattle.cf_peer.specs.Peer.{Holds, Hears, IsRight, TakesHeaders, calm, called_peer, is_ready_peer, is_idle_peer, is_plain, IsVersionOf, busy, wants, awaits as awaits_block, is_fetching as fetches, asked_for_headers, asked_for_block, IsReplySendable};
+ghost use Rattle.cf_peer.specs.Trail.{Trail, Said, Passed, Asked, is_unknown, own, reply_to};
+ghost use Rattle.cf_peer.specs.Asking.{pings, request, verdict, fetched_by};
+ghost use Rattle.cf_peer.specs.Peer.{Holds, Hears, IsRight, TakesHeaders, calm, called_peer, is_ready_peer, is_idle_peer, is_plain, IsVersionOf, busy, wants, awaits as awaits_block, is_fetching as fetches, pinged, asked_for_headers, asked_for_block, IsReplySendable};
 
 use cf_bytes::{Hash32, Listed};
 use cf_frame::Framer;
 use cf_headers::Change;
+use crate::mode::Mode;
 use cf_lent::View;
 use cf_match::Job;
 use cf_msg::{Hashes, Msg};
@@ -102,6 +105,8 @@ pub enum Request {
     Filters(Batch, u64),
     /// `getdata` of the block with this hash.
     Block(Hash32, u64),
+    /// `ping` with this number.
+    Ping(u64, u64),
 }
 
 /// What a message has the client do.
@@ -124,18 +129,23 @@ pub struct Peer {
     pub(crate) met: bool,
     pub(crate) heard: bool,
     pub(crate) request: Request,
+    // Whether it is heard out again after news, and how many pings it was sent.
+    pub(crate) mode: Mode,
+    pub(crate) pings: u64,
 }
 
 impl Peer {
     /// A peer that was just dialled: its handshake is open.
-    pub fn called(alloc: Global) -> Peer
-        ensures { result ≡ called_peer }
+    pub fn called(alloc: Global, mode: Mode) -> Peer
+        ensures { result ≡ called_peer mode }
     {
         Peer {
             framer: Framer::new(alloc),
             met: false,
             heard: false,
             request: Request::Handshake(0),
+            mode,
+            pings: 0,
         }
     }
 
@@ -146,8 +156,8 @@ impl Peer {
         !matches!(self.request, Request::Handshake(_))
     }
 
-    /// Takes one message that is neither headers nor claims, a filter or a block.
-    #[tactic(auto, unfolding(cf_msg::specs::Message::payload_of))]
+    /// Takes one message that is neither headers nor claims, a filter, a block or news.
+    #[tactic(auto, unfolding(cf_msg::specs::Message::payload_of), using(crate::proofs::Modes::unheard_in))]
     pub fn hear(&mut self, message: &View) -> Reply
         requires plain { is_plain (msg_of message.now) ≡ true }
         ensures sendable { IsReplySendable result }
@@ -171,12 +181,62 @@ impl Peer {
                     Reply::Nothing
                 }
             }
+            View::Pong(number) => {
+                if self.is_pinged(*number) {
+                    self.request = Request::Nothing;
+                }
+                Reply::Nothing
+            }
             _ => Reply::Nothing,
         }
     }
 
+    /// Takes what it tells of blocks: whether one of them isn't on its own chain. In `Following` it is to be heard out again then.
+    pub fn hear_news(&mut self, unknown: bool)
+        ensures heard { (t : Trail) (entries : List Entry) → Holds self.old t → unknown ≡ list_any (is_unknown (own t)) entries → Holds self.new (Said (Inv entries) ∷ t) }
+        ensures right { (table : Table) → IsRight self.old.request table → IsRight self.new.request table }
+        ensures waits { self.new.framer ≡ self.old.framer }
+        ensures calm { calm self.old ≡ true → calm self.new ≡ true }
+        ensures mode { self.new.mode ≡ self.old.mode }
+    {
+        match self.mode {
+            Mode::Once => {}
+            Mode::Following => {
+                if unknown {
+                    self.heard = false;
+                }
+            }
+        }
+    }
+
+    /// Opens a ping, and answers its number: one above that of the last, 1 for the first. `None` where all numbers were used.
+    pub fn ask_ping(&mut self) -> Option<u64>
+        requires { is_idle_peer self.old ≡ true }
+        ensures asked { IfSome result (λ number. (t : Trail) → Holds self.old t → (number ≡ pings t + 1) × Holds self.new (Asked (Ping number) ∷ t)) }
+        ensures none { result ≡ None → self.new ≡ self.old }
+        ensures right { (table : Table) → IsRight self.old.request table → IsRight self.new.request table }
+        ensures waits { self.new.framer ≡ self.old.framer }
+        ensures calm { calm self.new ≡ true }
+        ensures mode { self.new.mode ≡ self.old.mode }
+    {
+        let number = self.pings.checked_add(1)?;
+        self.pings = number;
+        self.request = Request::Ping(number, 0);
+        Some(number)
+    }
+
+    // Whether the `ping` with this number is open to it.
+    fn is_pinged(&self, number: u64) -> bool
+        ensures { result ≡ pinged number self.now }
+    {
+        match &self.request {
+            Request::Ping(wanted, _) => number == *wanted,
+            _ => false,
+        }
+    }
+
     // Takes a version: the first must have service bits 0 and 6, and a later one changes nothing.
-    #[tactic(auto, unfolding(cf_msg::specs::Message::payload_of))]
+    #[tactic(auto, unfolding(cf_msg::specs::Message::payload_of), using(crate::proofs::Modes::unheard_in))]
     fn hear_version(&mut self, services: u64) -> Reply
         ensures sendable { IsReplySendable result }
         ensures heard { (t : Trail) (m : Msg) → Holds self.old t → IsVersionOf services m → Hears self.new m t result }
@@ -196,6 +256,7 @@ impl Peer {
 
     /// Takes what so many headers did to the chain of a ready peer: the cause that they give, if they give one. Headers end an
     /// open `getheaders`; where there were fewer than 2000, or they made no longer chain, the peer has no more to tell.
+    #[tactic(auto, using(crate::proofs::Modes::headers_heard))]
     pub fn hear_headers(&mut self, change: &Change, count: usize) -> Option<Cause>
         requires ready { is_ready_peer self.old ≡ true }
         ensures heard { (t : Trail) (hs : List Header) → Holds self.old t → count ≡ length hs → change.now ≡ change_of (link_height hs (own t)) (accept hs (own t)) → TakesHeaders self.new hs t result }
@@ -254,6 +315,7 @@ impl Peer {
             Request::Claims(_, age) => *age += seconds,
             Request::Filters(_, age) => *age += seconds,
             Request::Block(_, age) => *age += seconds,
+            Request::Ping(_, age) => *age += seconds,
         }
     }
 
@@ -267,7 +329,8 @@ impl Peer {
             | Request::Headers(age)
             | Request::Claims(_, age)
             | Request::Filters(_, age)
-            | Request::Block(_, age) => *age >= 60,
+            | Request::Block(_, age)
+            | Request::Ping(_, age) => *age >= 60,
         }
     }
 

@@ -12,7 +12,7 @@ use Rattle.cf_headers.specs.Shown.{Shows, AreApart}
 use Rattle.cf_headers.proofs.ChainLaws.{back_in, part_valid}
 use Rattle.cf_headers.proofs.Longest.{same_chain}
 use Rattle.cf_msg.specs.declared.msg.Msg.{Msg}
-use Rattle.cf_msg.specs.declared.msg.Msg.TheVariants.{GetHeaders, Headers, GetData, Block as BlockMessage, GetCfheaders, Cfheaders, GetCfilters, Cfilter}
+use Rattle.cf_msg.specs.declared.msg.Msg.TheVariants.{Ping, Pong, GetHeaders, Headers, GetData, Block as BlockMessage, GetCfheaders, Cfheaders, GetCfilters, Cfilter}
 use Rattle.cf_peer.specs.declared.peer.Cause.{Cause}
 use Rattle.cf_peer.specs.declared.peer.Cause.TheVariants.{WrongCount, WrongPrevious}
 use Rattle.cf_wires.specs.Log.{Log}
@@ -102,6 +102,7 @@ moved (Cfheaders filter stop' previous hashes) t stop parent blocks clean e = el
 moved (Headers hs) t stop parent blocks clean e = inl (ap (λ r. request_after (Headers hs) r) e)
 moved (Cfilter filter block bytes) t stop parent blocks clean e = inl (ap (λ r. request_after (Cfilter filter block bytes) r) e)
 moved (BlockMessage b) t stop parent blocks clean e = inl (ap (λ r. request_after (BlockMessage b) r) e)
+moved (Pong number) t stop parent blocks clean e = inl (ap (λ r. request_after (Pong number) r) e)
 moved m t stop parent blocks clean e = inl e
 
 after_said : (m : Msg) (t : Trail) (start : ℕ) (stop : Hash) → fault_of m t ≡ None → Since t start stop → Since (Said m ∷ t) start stop
@@ -123,6 +124,7 @@ still_open (GetHeaders version locator s) t stop parent blocks may e = absurd (l
 still_open (GetCfheaders filter start s) t stop parent blocks may e = absurd (let no : ClaimsOpen stop parent blocks ≡ NothingOpen = sym e ∙ may.0.idle in cc)
 still_open (GetCfilters filter start s) t stop parent blocks may e = absurd (let no : ClaimsOpen stop parent blocks ≡ NothingOpen = sym e ∙ may.0.idle in cc)
 still_open (GetData entries) t stop parent blocks may e = absurd (let no : ClaimsOpen stop parent blocks ≡ NothingOpen = sym e ∙ may.0.idle in cc)
+still_open (Ping number) t stop parent blocks may e = absurd may
 still_open m t stop parent blocks may e = e
 
 has_since : (t : Trail) → connected t ≡ true → verdict t ≡ None → AskedRightly t → (filter start : ℕ) (stop : Hash32) → WasAsked t (GetCfheaders filter start stop) → Since t start stop.0

@@ -13,11 +13,11 @@ use Rattle.cf_headers.specs.Shown.{Shows, AreApart}
 use Rattle.cf_match.specs.declared.job.Job.{Job}
 use Rattle.cf_msg.specs.declared.msg.Entry.{Entry}
 use Rattle.cf_msg.specs.declared.msg.Msg.{Msg}
-use Rattle.cf_msg.specs.declared.msg.Msg.TheVariants.{GetHeaders, Headers, GetData, Block as BlockMessage, GetCfheaders, Cfheaders, GetCfilters, Cfilter}
+use Rattle.cf_msg.specs.declared.msg.Msg.TheVariants.{Ping, Pong, GetHeaders, Headers, GetData, Block as BlockMessage, GetCfheaders, Cfheaders, GetCfilters, Cfilter}
 use Rattle.cf_peer.specs.declared.peer.Cause.TheVariants.{OtherFilter}
 use Rattle.cf_wires.specs.Log.{Log}
 use Rattle.cf_peer.specs.Trail.{Trail, Part, Called, Said, Refused, Asked, Passed, Lost, part_of, trail, connected, own, WasAsked}
-use Rattle.cf_peer.specs.Asking.{OpenRequest, NothingOpen, HeadersOpen, ClaimsOpen, FiltersOpen, BlockOpen, is_answer_of, is_this, is_wanted, blocks_from, block_below, claims_asked, filters_asked, filters_left, filter_of, filter_fault, claims, claims_after, given, given_by, hash_claimed, request, request_for, request_after, fault_of, verdict, counted, lists, IsClaimed, MayAsk}
+use Rattle.cf_peer.specs.Asking.{OpenRequest, NothingOpen, HeadersOpen, ClaimsOpen, FiltersOpen, BlockOpen, is_answer_of, is_this, is_wanted, blocks_from, block_below, claims_asked, filters_asked, filters_left, filter_of, filter_fault, claims, claims_after, given, given_by, hash_claimed, request, request_for, request_after, fault_of, verdict, counted, lists, IsClaimed, MayAsk, PingOpen}
 use Rattle.cf_sync.specs.Fetching.{AreBytes, IsConnected, IsFetchedHash, IsFilterWanted, IsGiven, AreFiltersWanted, MaySend, Rightly, blocks_in}
 use Rattle.cf_sync.specs.Planned.{Alike, IsPlanned, is_untold}
 use Rattle.cf_sync.specs.Sync.{IsHashed}
@@ -68,6 +68,15 @@ open_before (BlockMessage b) (BlockOpen wanted) table stop parent blocks e = by 
   by : (x : Bool) → (if x then NothingOpen else BlockOpen wanted) ≡ ClaimsOpen stop parent blocks → WasOpen (BlockMessage b) (BlockOpen wanted) table stop parent blocks
   by true f = cc
   by false f = cc
+open_before (Pong number) (PingOpen wanted) table stop parent blocks e = by (number == wanted) e where
+  by : (x : Bool) → (if x then NothingOpen else PingOpen wanted) ≡ ClaimsOpen stop parent blocks → WasOpen (Pong number) (PingOpen wanted) table stop parent blocks
+  by true f = cc
+  by false f = cc
+open_before (Pong number) NothingOpen table stop parent blocks e = (e, λ block. refl)
+open_before (Pong number) HeadersOpen table stop parent blocks e = (e, λ block. refl)
+open_before (Pong number) (ClaimsOpen wanted below left) table stop parent blocks e = (e, λ block. refl)
+open_before (Pong number) (FiltersOpen left came) table stop parent blocks e = (e, λ block. refl)
+open_before (Pong number) (BlockOpen wanted) table stop parent blocks e = (e, λ block. refl)
 open_before m r table stop parent blocks e = (e, λ block. refl)
 
 -- of the blocks whose claims are asked for none is claimed
@@ -84,6 +93,7 @@ asked_fresh (GetCfilters filter start at) t may fresh stop parent blocks e block
     absurd (let no : FiltersOpen (blocks_from start may.1.0.part) [] ≡ ClaimsOpen stop parent blocks = sym (ap (λ o. filters_asked start o) may.1.0.tip) ∙ e in cc)
 asked_fresh (GetData entries) t may fresh stop parent blocks e block i claimed =
     absurd (let no : BlockOpen may.1.0.0 ≡ ClaimsOpen stop parent blocks = sym (ap (λ (es : List Entry). request_for (GetData es) (own t) (request t)) may.1.1) ∙ e in cc)
+asked_fresh (Ping number) t may fresh stop parent blocks e block i claimed = absurd may
 asked_fresh m t may fresh stop parent blocks e block i claimed = fresh stop parent blocks e block i claimed
 
 pub are_fresh : (t : Trail) → connected t ≡ true → verdict t ≡ None → AskedRightly t → AreFresh t
@@ -291,6 +301,7 @@ still_coming (GetHeaders version locator s) t left came may e = absurd (let no :
 still_coming (GetCfheaders filter start s) t left came may e = absurd (let no : FiltersOpen left came ≡ NothingOpen = sym e ∙ may.0.idle in cc)
 still_coming (GetCfilters filter start s) t left came may e = absurd (let no : FiltersOpen left came ≡ NothingOpen = sym e ∙ may.0.idle in cc)
 still_coming (GetData entries) t left came may e = absurd (let no : FiltersOpen left came ≡ NothingOpen = sym e ∙ may.0.idle in cc)
+still_coming (Ping number) t left came may e = absurd may
 still_coming m t left came may e = e
 
 after_asked : (n : Msg) (t : Trail) (start : ℕ) (stop : Hash) → MayAsk t n → Since t start stop → Since (Asked n ∷ t) start stop

@@ -44,3 +44,8 @@ pub mod Quieted
 pub mod Idle
 pub mod Deaf
 pub mod Plans
+pub mod Pings
+pub mod Growing
+pub mod Follows
+pub mod OneGrows
+pub mod LastText

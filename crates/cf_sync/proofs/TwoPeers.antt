@@ -31,6 +31,7 @@ use Rattle.cf_msg.specs.declared.msg.Msg.{Msg}
 use Rattle.cf_msg.specs.declared.msg.Msg.TheVariants.{Verack, Block as BlockMessage, Cfheaders, Cfilter}
 use Rattle.cf_wires.specs.declared.event.Delivery.TheVariants.{Got}
 use Rattle.cf_wires.specs.declared.event.Event.TheVariants.{Dialled, Sent, Took, Closed}
+use Rattle.cf_peer.specs.declared.mode.Mode.TheVariants.{Once}
 use Rattle.cf_peer.specs.Acts.{bytes_of}
 use Rattle.cf_peer.specs.Asking.{OpenRequest, is_spare, NothingOpen, ClaimsOpen, FiltersOpen, claims_asked, filters_asked, filter_of, claims, claims_after, claims_fault, filter_fault, fault_of, request_after, is_idle, given, given_by, HasHeader, IsFree, IsRange, request, is_committed, is_open, verdict, counted, lists, fetched, HasSaid, MayAsk, SameUse}
 use Rattle.cf_wires.specs.Log.{Log}
@@ -586,7 +587,7 @@ request_9 = ap (λ r. request_after its_claims r) request_8 ∙ rw self_hash ref
 pub first_same : same first_header.0 genesis_filter_header ≡ true
 first_same = same_from first_header.0 genesis_filter_header (ap (λ (h : Hash32). h.0) first_header_is)
 
-claims_fine : fault_of its_claims t_8 ≡ None
+pub claims_fine : fault_of its_claims t_8 ≡ None
 claims_fine = ap (λ r. claims_fault 0 only_hash.0 genesis_filter_header (record { 0 = only_filter_hash } ∷ []) r no_claims) request_8 ∙ rw (self_hash, same_self (block_hash_of genesis_header), first_same) refl
 
 clean_9 : verdict t_9 ≡ None
@@ -604,11 +605,13 @@ may_ask_filter_of t claim free e claimed = (
   ),
 )
 
-pub may_ask_filter : MayAsk t_9 ask_filter
-may_ask_filter =
-    let owed_9 = same_use t_9 refl clean_9 in
-    let free : IsFree t_9 = record { on = refl; over = refl; idle = request_9; answered = sym owed_9.owing } in
-    may_ask_filter_of t_9 only_claim free refl claim_found
+-- of one with this chain that claims its block
+pub may_filter_of : (t : Trail) → IsFree t → own t ≡ own t_7 → (claim : Claim) × (claims t only_hash.0 ≡ Some claim) → MayAsk t ask_filter
+unfolding range_of_one
+may_filter_of t free e claimed = (
+  free,
+  (range_of_one 1000 t (omega arith) e, λ block i. elim i [ inl f ↦ (claimed.0, ap (λ (x : List ℕ). claims t x) f ∙ claimed.1) | inr none ↦ absurd none ]),
+)
 
 pub request_10 : request t_10 ≡ FiltersOpen (only_hash.0 ∷ []) []
 request_10 = ap (λ o. filters_asked 1 o) back_only
@@ -736,7 +739,7 @@ pub counts_of : (t : Trail) → connected t ≡ true → verdict t ≡ None → 
 counts_of t on clean chain whole shown claimed = let u = same_use t on clean in record {
   same = u;
   chain = u.chain ∙ chain ∙ own_7;
-  heard_out = u.hearing ∙ whole;
+  heard_out = u.hearing Once ∙ whole;
   showing = u.showing ∙ shown;
   claimed = ap (λ (c : Table). c only_hash.0) (u.claiming ∙ claimed) ∙ claim_found;
 }

@@ -12,21 +12,23 @@ use Rattle.cf_match.specs.declared.job.Job.{Job}
 use Rattle.cf_match.specs.Verdicts.{misses}
 use Rattle.cf_msg.specs.declared.msg.Entry.{Entry as Wanted}
 use Rattle.cf_msg.specs.declared.msg.Msg.{Msg}
-use Rattle.cf_msg.specs.declared.msg.Msg.TheVariants.{GetData, GetCfilters}
+use Rattle.cf_msg.specs.declared.msg.Msg.TheVariants.{GetData, GetCfilters, Ping}
 use Rattle.cf_wires.specs.declared.event.Delivery.TheVariants.{Got, Gone, Tick, Ended}
 use Rattle.cf_wires.specs.declared.event.Event.{Event}
 use Rattle.cf_wires.specs.declared.event.Event.TheVariants.{Dialled, NotDialled, Sent, SendFailed, Closed, Took}
+use Rattle.cf_peer.specs.declared.mode.Mode.{Mode}
+use Rattle.cf_peer.specs.declared.mode.Mode.TheVariants.{Once, Following}
 use Rattle.cf_peer.specs.declared.peer.Cause.{Cause}
 use Rattle.cf_peer.specs.declared.peer.Cause.TheVariants.{Omits}
 use Rattle.cf_wires.specs.Log.{Log}
-use Rattle.cf_peer.specs.Trail.{Trail, trail, spelled, connected, own, heard}
+use Rattle.cf_peer.specs.Trail.{Trail, trail, spelled, connected, own, heard_in}
 use Rattle.cf_scan.specs.declared.extracts.TxExtract.{TxExtract}
 use Rattle.cf_scan.specs.declared.history.Entry.{Entry}
 use Rattle.cf_scan.specs.Extracts.{extract_of}
 use Rattle.cf_scan.specs.Scan.{scan_of}
 use Rattle.cf_tables.specs.Tables.{Table}
 use Rattle.cf_filter.specs.Lacking.{output_items_of, lacks}
-use Rattle.cf_peer.specs.Asking.{OpenRequest, NothingOpen, HeadersOpen, ClaimsOpen, FiltersOpen, BlockOpen, request, is_open, counted, claims, hash_claimed, HasHeader, fetched, given, blocks_from, Deserves, MayAsk}
+use Rattle.cf_peer.specs.Asking.{OpenRequest, NothingOpen, HeadersOpen, ClaimsOpen, FiltersOpen, BlockOpen, request, is_open, counted, claims, hash_claimed, HasHeader, fetched, given, blocks_from, Deserves, MayAskIn}
 
 -- ---- peers
 
@@ -265,17 +267,31 @@ IsFilterOpen log block = (q : ℕ) × (IsConnected log q × IsIn block (filters_
 abbrev pub IsBlockOpen : Log → Hash → Type 0
 IsBlockOpen log block = (q : ℕ) × (IsConnected log q × IsIn block (blocks_open (request (trail log q))))
 
+-- the last delivery is a tick
+abbrev pub is_after_tick : Log → Bool
+is_after_tick [] = false
+is_after_tick (Took (Got p piece) ∷ log) = false
+is_after_tick (Took (Gone p) ∷ log) = false
+is_after_tick (Took (Tick s) ∷ log) = true
+is_after_tick (Took Ended ∷ log) = false
+is_after_tick (Dialled p name ∷ log) = is_after_tick log
+is_after_tick (NotDialled p name ∷ log) = is_after_tick log
+is_after_tick (Sent p bytes ∷ log) = is_after_tick log
+is_after_tick (SendFailed p ∷ log) = is_after_tick log
+is_after_tick (Closed p ∷ log) = is_after_tick log
+
 -- what is asked of p is open to nobody: no filter of a block that wasn't fetched and whose filter is, and no block that is. (The filter of a
--- fetched block is asked for so that it is tested, of each peer by itself.)
+-- fetched block is asked for so that it is tested, of each peer by itself.) A ping is sent with a tick.
 abbrev pub IsAlone : Log → ℕ → Msg → Type 0
 IsAlone log p (GetCfilters filter start stop) =
     (block : Hash) → IsIn block (blocks_in start (back_to stop.0 (own (trail log p)))) → (IsFetchedHash log block → ⊥) → IsFilterOpen log block → ⊥
 IsAlone log p (GetData entries) = (entry : Wanted) → IsIn entry entries → IsBlockOpen log entry.hash.0 → ⊥
+IsAlone log p (Ping number) = is_after_tick log ≡ true
 IsAlone log p m = Unit {0}
 
 -- a message may be sent to p, by all that the log holds
-pub record MaySend (log : Log) (p : ℕ) (m : Msg) : Type 0 where
-  pub of_its_part : MayAsk (trail log p) m
+pub record MaySendIn (mode : Mode) (log : Log) (p : ℕ) (m : Msg) : Type 0 where
+  pub of_its_part : MayAskIn mode (trail log p) m
   pub wanted : IsWanted log m
   pub alone : IsAlone log p m
 
@@ -305,16 +321,28 @@ IsNeeded watch log p (GetCfilters filter start stop) = AreFiltersWanted log p st
 IsNeeded watch log p (GetData entries) = (entry : Wanted) → IsIn entry entries → IsBlockWanted watch log entry.hash.0
 IsNeeded watch log p m = Unit {0}
 
+-- by a client that ends once nothing is open
+abbrev pub MaySend : Log → ℕ → Msg → Type 0
+MaySend log p m = MaySendIn Once log p m
+
+-- a client that ends once nothing is open takes a delivery only while something is
+abbrev pub MayTake : Mode → Log → Type 0
+MayTake Once log = IsBusy log
+MayTake Following log = Unit {0}
+
 -- At each moment what was sent might be sent to that peer, what was closed deserved it, and a delivery was taken only while something
--- was open.
+-- was open, unless the client follows.
+abbrev pub RightlyIn : Mode → Log → Type 0
+RightlyIn mode [] = Unit {0}
+RightlyIn mode (Dialled p name ∷ log) = RightlyIn mode log
+RightlyIn mode (NotDialled p name ∷ log) = RightlyIn mode log
+RightlyIn mode (Sent p bytes ∷ log) = ((m : Msg) × (spelled bytes ≡ Some m) × MaySendIn mode log p.0 m) × RightlyIn mode log
+RightlyIn mode (SendFailed p ∷ log) = RightlyIn mode log
+RightlyIn mode (Closed p ∷ log) = ((cause : Cause) × DeservesIn log p.0 cause) × RightlyIn mode log
+RightlyIn mode (Took d ∷ log) = MayTake mode log × RightlyIn mode log
+
 abbrev pub Rightly : Log → Type 0
-Rightly [] = Unit {0}
-Rightly (Dialled p name ∷ log) = Rightly log
-Rightly (NotDialled p name ∷ log) = Rightly log
-Rightly (Sent p bytes ∷ log) = ((m : Msg) × (spelled bytes ≡ Some m) × MaySend log p.0 m) × Rightly log
-Rightly (SendFailed p ∷ log) = Rightly log
-Rightly (Closed p ∷ log) = ((cause : Cause) × DeservesIn log p.0 cause) × Rightly log
-Rightly (Took d ∷ log) = IsBusy log × Rightly log
+Rightly log = RightlyIn Once log
 
 -- ---- the best chain
 
@@ -345,13 +373,16 @@ IsTestedThrough log chain p =
 -- with the best one the filter header is known at each; each of them that stands in no open request for filters or for a block is settled; and where one
 -- was fetched and they differ on its filter, what the peer claims of it was tested.
 -- (A block with genesis's hash would never be asked about. Where no hashes clash there is none.)
-pub record IsAskedOut (watch : List (List ℕ)) (log : Log) (chain : Chain) (p : ℕ) : Type 0 where
-  pub heard_out : heard (counted_part log p) ≡ true
+pub record IsAskedOutIn (mode : Mode) (watch : List (List ℕ)) (log : Log) (chain : Chain) (p : ℕ) : Type 0 where
+  pub heard_out : heard_in mode (counted_part log p) ≡ true
   pub claimed : (h : ℕ) → 1 ≤ h → h ≤ common_of (own (counted_part log p)) chain → HasHeader (counted_part log p) (hash_at (own (counted_part log p)) h)
   pub settled : (h : ℕ) → 1 ≤ h → h ≤ common_of (own (counted_part log p)) chain → IsAbove (hash_at (own (counted_part log p)) h)
       → (IsFilterOpen log (hash_at (own (counted_part log p)) h) → ⊥) → (IsBlockOpen log (hash_at (own (counted_part log p)) h) → ⊥)
       → IsSettled watch log (hash_at (own (counted_part log p)) h)
   pub tested : IsTestedThrough log chain p
+
+abbrev pub IsAskedOut : List (List ℕ) → Log → Chain → ℕ → Type 0
+IsAskedOut watch log chain p = IsAskedOutIn Once watch log chain p
 
 -- ---- the history
 
