@@ -160,7 +160,7 @@ pub record HoldsNoMore (counts : Chains → ℕ → Type 0) (held : Held) (log :
   pub given : GaveAtLeast log held.verdicts
   pub extracts : held.extracts ≤ length (of_all blocks_fetched log)
   pub outputs : held.outputs ≤ length (of_all blocks_fetched log)
-  pub filters : Rightly log → held.filters ≡ length (of_all filters_kept log)
-  pub few_filters : Rightly log → held.filters ≤ 1000 * count_giving log
+  pub filters : RightlyIn Following log → held.filters ≡ length (of_all filters_kept log)
+  pub few_filters : RightlyIn Following log → held.filters ≤ 1000 * count_giving log
   pub waiting : held.bytes ≡ most_waiting log
   pub few_bytes : held.bytes < 4000024

@@ -1,19 +1,20 @@
 -- In which order the acts of one call stand.
-use Rattle.std.specs.Prelude.{◌≡◌, ◌⊎◌, ℕ, Bool, true, false, List, [], ◌∷◌, ◌++◌, map}
+use Rattle.std.specs.Prelude.{◌≡◌, ◌⊎◌, ℕ, Bool, true, false, not, ◌&&◌, List, [], ◌∷◌, ◌++◌, map}
 use Rattle.std.specs.List.{list_all, list_any}
 use Rattle.std.specs.List.Sorted.{IsStrictlyIncreasing}
 use Rattle.cf_msg.specs.declared.msg.Msg.{Msg}
 use Rattle.cf_peer.specs.declared.act.Act.{Act}
 use Rattle.cf_peer.specs.declared.act.Act.TheVariants.{Send, Close}
 use Rattle.cf_peer.specs.declared.peer.Cause.TheVariants.{Overdue}
-use Rattle.cf_peer.specs.Asking.{is_request}
+use Rattle.cf_msg.specs.declared.msg.Msg.TheVariants.{Ping}
+use Rattle.cf_peer.specs.Asking.{is_ping, is_request}
 
 -- whom an act is about
 abbrev pub number_of : Act → ℕ
 number_of (Send p m) = p.0
 number_of (Close p cause) = p.0
 
--- an act puts a question: for headers, claims of filters, filters or blocks
+-- an act puts a question: for headers, claims of filters, filters, blocks or a pong
 abbrev pub is_asking : Act → Bool
 is_asking (Send p m) = is_request m
 is_asking (Close p cause) = false
@@ -41,23 +42,59 @@ pub record AreTold (acts : List Act) : Type 0 where
   pub owed : list_any is_asking acts ≡ false
   pub closed : IsStrictlyIncreasing (closed_in acts)
 
--- each act puts a question, and of those who are asked the lowest number comes first, none twice
+-- an act puts a question that is no ping
+abbrev pub is_questioning : Act → Bool
+is_questioning (Send p m) = is_request m && not (is_ping m)
+is_questioning (Close p cause) = false
+
+-- each act puts a question that is no ping, and of those who are asked the lowest number comes first, none twice
 pub record AreAsked (acts : List Act) : Type 0 where
-  pub questions : list_all is_asking acts ≡ true
+  pub questions : list_all is_questioning acts ≡ true
   pub lowest : IsStrictlyIncreasing (map number_of acts)
 
--- the acts of one call: first what is owed and who is closed, then the questions, and nothing after them
+-- an act sends a ping
+abbrev pub is_pinging : Act → Bool
+is_pinging (Send p m) = is_ping m
+is_pinging (Close p cause) = false
+
+-- each act sends a ping, the lowest number first, none twice
+pub record ArePings (acts : List Act) : Type 0 where
+  pub pings : list_all is_pinging acts ≡ true
+  pub lowest : IsStrictlyIncreasing (map number_of acts)
+
+-- what is owed and who is closed, and the pings after that
+pub record ArePrepared (acts : List Act) : Type 0 where
+  pub told : List Act
+  pub pinged : List Act
+  pub split : acts ≡ told ++ pinged
+  pub first : AreTold told
+  pub next : ArePings pinged
+
+-- the acts of one call: first what is owed and who is closed, then the pings, then the other questions, and nothing after them
 pub record AreInOrder (acts : List Act) : Type 0 where
   pub told : List Act
+  pub pinged : List Act
   pub asked : List Act
-  pub split : acts ≡ told ++ asked
+  pub split : acts ≡ told ++ (pinged ++ asked)
   pub first : AreTold told
+  pub next : ArePings pinged
   pub last : AreAsked asked
 
 -- to the acts was added one question to this number, or nothing
 abbrev pub AsksOne : ℕ → List Act → List Act → Type 0
 AsksOne i before now =
-    (now ≡ before) ⊎ ((m : Msg) × (is_request m ≡ true) × (now ≡ before ++ Send (record { 0 = i }) m ∷ []))
+    (now ≡ before) ⊎ ((m : Msg) × (is_request m && not (is_ping m) ≡ true) × (now ≡ before ++ Send (record { 0 = i }) m ∷ []))
+
+-- to the acts was added a ping to this number, or nothing
+abbrev pub PingsOne : ℕ → List Act → List Act → Type 0
+PingsOne i before now =
+    (now ≡ before) ⊎ ((number : ℕ) × (now ≡ before ++ Send (record { 0 = i }) (Ping number) ∷ []))
+
+-- to the acts were added pings in order
+pub record AddsPings (before now : List Act) : Type 0 where
+  pub pinged : List Act
+  pub added : now ≡ before ++ pinged
+  pub are : ArePings pinged
 
 -- to the acts were added questions in order
 pub record AddsQuestions (before now : List Act) : Type 0 where

@@ -7,6 +7,7 @@ use Rattle.cf_headers.specs.Heights.{common_of}
 use Rattle.cf_headers.specs.Store.{IsBest}
 use Rattle.cf_hear.specs.Seen.{Seen}
 use Rattle.cf_match.specs.Verdicts.{Verdicts}
+use Rattle.cf_peer.specs.declared.mode.Mode.{Mode}
 use Rattle.cf_peer.specs.Peer.{IsRight}
 use Rattle.cf_tables.specs.Tables as extracts
 use Rattle.cf_seek.specs.Opens.{Opens}
@@ -57,7 +58,7 @@ abbrev pub AreAskedThrough : List Place → Seen → Type 0
 AreAskedThrough places s = (p : ℕ) → IsAskedThrough (place_at places p) s p
 
 -- between two calls of the client: nobody's request is late, nobody is left to ask, and it tracks the connected peers
-pub record AreSettled (places : List Place) (s : Seen) : Type 0 where
-  pub each : (p : ℕ) → is_settled (place_at places p) ≡ true
+pub record AreSettled (mode : Mode) (places : List Place) (s : Seen) : Type 0 where
+  pub each : (p : ℕ) → is_settled mode (place_at places p) ≡ true
   pub through : AreAskedThrough places s
   pub entered : AreEntered places s

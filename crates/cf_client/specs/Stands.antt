@@ -1,5 +1,5 @@
 -- What a client holds of a log.
-use Rattle.std.specs.Prelude.{◌≡◌, ℕ, zero, suc, ◌+◌, Bool, false, if◌then◌else◌, List, [], length}
+use Rattle.std.specs.Prelude.{◌≡◌, ◌⊎◌, ℕ, zero, suc, ◌+◌, Bool, true, false, if◌then◌else◌, List, [], length}
 use Rattle.cf_bytes.specs.declared.hash.Hash32.{Hash32}
 use Rattle.cf_headers.specs.Chain.{Chain, NoHashClash, tip_hash}
 use Rattle.cf_headers.specs.declared.store.HeaderStore.{Ghosts}
@@ -7,12 +7,16 @@ use Rattle.cf_match.specs.declared.matcher.Matcher.{Ghosts as Judges}
 use Rattle.cf_peer.specs.declared.act.Act.{Act}
 use Rattle.cf_wires.specs.Log.{Log, tally_of}
 use Rattle.cf_peer.specs.Trail.{trail}
-use Rattle.cf_peer.specs.Asking.{is_open, Deserves}
+use Rattle.cf_peer.specs.Asking.{is_open, pings, Deserves}
+use Rattle.cf_peer.specs.declared.mode.Mode.{Mode}
+use Rattle.cf_peer.specs.declared.mode.Mode.TheVariants.{Once, Following}
+use Rattle.cf_wires.specs.declared.event.Delivery.{Delivery}
+use Rattle.cf_wires.specs.declared.event.Delivery.TheVariants.{Got, Gone, Tick, Ended}
 use Rattle.cf_peer.specs.declared.peer.Cause.{Cause}
 use Rattle.cf_scan.specs.declared.history.Entry.{Entry}
 use Rattle.cf_scan.specs.Watching.{IsWatch}
 use Rattle.cf_sync.specs.Blame.{AreBlamed}
-use Rattle.cf_sync.specs.Fetching.{AreBytes, IsBest, IsConnected, IsAskedOut, IsOmitting, IsQuiet, Rightly}
+use Rattle.cf_sync.specs.Fetching.{AreBytes, IsBest, IsConnected, IsAskedOutIn, IsOmitting, IsQuiet, RightlyIn, Rule}
 use Rattle.cf_sync.specs.Sync.{IsHashed, IsToldOf}
 use Rattle.cf_client.specs.declared.client.Client.{Client}
 use Rattle.cf_place.specs.Places.{Words, IsAnswered, PlacesStand, after, Allowed}
@@ -37,10 +41,14 @@ pub record Reflects {H M : Type 0} {g : Ghosts H} {j : Judges M} (c : Client H M
 abbrev pub watch_by : {H M : Type 0} → {g : Ghosts H} {j : Judges M} → Client H M g j → List (List ℕ)
 watch_by c = watch_of c.tracker
 
+-- what it goes by: these scripts, and whether it goes on once nothing is open
+abbrev pub rule_by : {H M : Type 0} → {g : Ghosts H} {j : Judges M} → Client H M g j → Rule
+rule_by c = record { watch = watch_by c; mode = c.mode }
+
 -- the client reflects the log with the acts, each of which was allowed
 pub record Answers {H M : Type 0} {g : Ghosts H} {j : Judges M} (c : Client H M g j) (acts : List Act) (log : Log) : Type 0 where
   pub stand : Reflects c (after acts log)
-  pub allowed : Allowed (watch_by c) acts log
+  pub allowed : Allowed (rule_by c) acts log
 
 -- it found no memory once, and answers so from then on
 abbrev pub is_dead : {H M : Type 0} → {g : Ghosts H} {j : Judges M} → Client H M g j → Bool
@@ -57,7 +65,7 @@ IsBlameless log = (p : ℕ) → IsOmitting log p → ⊥
 -- With nothing open, where no strings clash: what each claims of the best chain's fetched blocks on which they differ was tested, and nobody is left whose filter
 -- omits something.
 abbrev pub HasBlamed : Log → Type 0
-HasBlamed log = AreBytes log → Rightly log → NoHashClash (IsHashed log []) → IsQuiet log → (chain : Chain) → IsBest log chain → AreBlamed log chain
+HasBlamed log = AreBytes log → RightlyIn Following log → NoHashClash (IsHashed log []) → IsQuiet log → (chain : Chain) → IsBest log chain → AreBlamed log chain
 
 -- each connected peer was sent the client's version, and what is owed to its messages
 abbrev pub AreAnswered : Log → Type 0
@@ -96,11 +104,21 @@ pub record IsTip (height : ℕ) (hash : Hash32) (log : Log) : Type 0 where
   pub hash_is : hash.0 ≡ tip_hash chain
 
 -- the best chain's tip and the history over it; whatever the rule of asking leaves true of that chain and a connected peer with nothing open is true
-pub record IsReportOf (watch : List (List ℕ)) (height : ℕ) (hash : Hash32) (entries : List Entry) (log : Log) : Type 0 where
-  pub watchable : IsWatch watch
-  pub told : IsToldOf watch height hash entries log
-  pub asked_out : (p : ℕ) → IsConnected log p → is_open (trail log p) ≡ false → IsAskedOut watch log told.chain p
+pub record IsReportOf (rule : Rule) (height : ℕ) (hash : Hash32) (entries : List Entry) (log : Log) : Type 0 where
+  pub watchable : IsWatch rule.watch
+  pub told : IsToldOf rule.watch height hash entries log
+  pub asked_out : (p : ℕ) → IsConnected log p → is_open (trail log p) ≡ false → IsAskedOutIn rule.mode rule.watch log told.chain p
 
 -- the history alone, over the chain of which the tip is told
-abbrev pub IsHistoryTold : List (List ℕ) → List Entry → Log → Type 0
-IsHistoryTold watch entries log = (height : ℕ) × ((hash : Hash32) × IsReportOf watch height hash entries log)
+abbrev pub IsHistoryTold : Rule → List Entry → Log → Type 0
+IsHistoryTold rule entries log = (height : ℕ) × ((hash : Hash32) × IsReportOf rule height hash entries log)
+
+-- once a tick was taken by a client that follows something is open to each connected peer: what was open before, a ping, or a handshake; unless all
+-- numbers of pings were used
+abbrev pub ArePinged : Mode → Delivery → Log → Type 0
+ArePinged Following (Tick seconds) log =
+    (p : ℕ) → IsConnected log p → (is_open (trail log p) ≡ true) ⊎ (pings (trail log p) ≡ 18446744073709551615)
+ArePinged Following (Got p piece) log = Unit {0}
+ArePinged Following (Gone p) log = Unit {0}
+ArePinged Following Ended log = Unit {0}
+ArePinged Once d log = Unit {0}

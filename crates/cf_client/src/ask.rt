@@ -15,13 +15,14 @@ ghost use Rattle.cf_place.specs.declared.place.Loss.{Loss};
 ghost use Rattle.cf_place.specs.declared.place.Place.TheVariants.{Lost};
 ghost use Rattle.cf_place.specs.Places.{Fits, PlacesStand, AreCalm, is_calm, is_idle, is_wanting, is_settled, is_here, place_at, IsQuestion, IsFetch};
 ghost use Rattle.cf_client.specs.Settled.{AreRight, IsRightAt, IsAskedThrough, AreAskedThrough};
-ghost use Rattle.cf_client.specs.Order.{AddsQuestions, ClosesOne, ClosesLate};
-ghost use Rattle.cf_client.specs.Steps.{desk, IsInOrder, Same, Moves, Asks, IsSent, IsSentFor};
+ghost use Rattle.cf_client.specs.Order.{AddsPings, AddsQuestions, ClosesOne, ClosesLate};
+ghost use Rattle.cf_client.specs.Steps.{desk, IsInOrder, Same, Ticked, Moves, Asks, HasPingedOut, IsPinged, IsSent, IsSentFor};
+ghost use Rattle.cf_peer.specs.declared.mode.Mode.TheVariants.{Following};
 
 use cf_bytes::{Hash32, NoMemory, PeerNo};
 use cf_headers::HeaderStore;
 use cf_msg::{Entries, Entry, Hashes, Msg};
-use cf_peer::{Act, Cause, Range};
+use cf_peer::{Act, Cause, Mode, Range};
 use cf_place::{Loss, Place};
 use cf_seek::{Span, Trial, Wish};
 use cf_tracker::Tracker;
@@ -62,7 +63,7 @@ fn close_if_late<H: HeaderStore>(
 ) -> Result<(), NoMemory>
     requires here { i < length places.old }
     requires order { IsInOrder (desk tracker.old places.old acts.old.items) }
-    ensures moves { OnOk result (Moves Same (desk tracker.old places.old acts.old.items) (desk tracker.new places.new acts.new.items)) }
+    ensures moves { (mode : Mode) → OnOk result (Moves mode Same (desk tracker.old places.old acts.old.items) (desk tracker.new places.new acts.new.items)) }
     ensures done { OnOk result (is_calm (place_at places.new i) ≡ true) }
     ensures others { OnOk result ((p : ℕ) → p ≢ i → place_at places.new p ≡ place_at places.old p) }
     ensures verdicts { OnOk result (AreSameVerdicts (verdicts_of tracker.new) (verdicts_of tracker.old)) }
@@ -85,13 +86,46 @@ pub(crate) fn close_late<H: HeaderStore>(
     acts: &mut Vec<Act>,
 ) -> Result<(), NoMemory>
     requires { IsInOrder (desk tracker.old places.old acts.old.items) }
-    ensures moves { OnOk result (Moves Same (desk tracker.old places.old acts.old.items) (desk tracker.new places.new acts.new.items)) }
+    ensures moves { (mode : Mode) → OnOk result (Moves mode Same (desk tracker.old places.old acts.old.items) (desk tracker.new places.new acts.new.items)) }
     ensures calm { OnOk result (AreCalm places.new) }
     ensures verdicts { OnOk result (AreSameVerdicts (verdicts_of tracker.new) (verdicts_of tracker.old)) }
     ensures closes { OnOk result (ClosesLate acts.old.items acts.new.items) }
 {
     for i in 0..places.len() {
         close_if_late(tracker, places, acts, i)?;
+    }
+    Ok(())
+}
+
+// Sends the peer at this place a ping, where it is connected and nothing is open to it.
+fn ping_if_idle(places: &mut [Place], acts: &mut Vec<Act>, i: usize) -> Result<(), NoMemory>
+    requires here { i < length places.old }
+    requires few { length places.old ≤ 9 }
+    ensures { OnOk result (IsPinged i places.old places.new acts.old.items acts.new.items) }
+{
+    if let Place::Here(peer) = &mut places[i]
+        && peer.is_idle()
+        && let Some(number) = peer.ask_ping()
+    {
+        acts.push(Act::Send(PeerNo(i as u32), Msg::Ping(number)))?;
+    }
+    Ok(())
+}
+
+/// Sends a ping to each connected peer to which nothing is open, the lowest number first: after a tick, in a client that
+/// follows.
+pub(crate) fn ping_all<H: HeaderStore>(
+    tracker: &Tracker<H>,
+    places: &mut [Place],
+    acts: &mut Vec<Act>,
+) -> Result<(), NoMemory>
+    requires { IsInOrder (desk tracker.now places.old acts.old.items) }
+    ensures moves { OnOk result (Moves Following Ticked (desk tracker.now places.old acts.old.items) (desk tracker.now places.new acts.new.items)) }
+    ensures pinged { OnOk result ((p : ℕ) → is_idle (place_at places.new p) ≡ true → HasPingedOut (place_at places.new p)) }
+    ensures pings { OnOk result (AddsPings acts.old.items acts.new.items) }
+{
+    for i in 0..places.len() {
+        ping_if_idle(places, acts, i)?;
     }
     Ok(())
 }
@@ -130,9 +164,10 @@ fn ask_for_headers<H: HeaderStore>(
     i: usize,
 ) -> Result<(), NoMemory>
     requires here { i < length places.old }
-    requires wanting { is_wanting (place_at places.old i) ≡ true }
+    requires idle { is_idle (place_at places.old i) ≡ true }
     requires order { IsInOrder (desk tracker.now places.old acts.old.items) }
-    ensures asks { OnOk result (Asks i (desk tracker.now places.old acts.old.items) (desk tracker.now places.new acts.new.items)) }
+    ensures asks { (mode : Mode) → is_wanting mode (place_at places.old i) ≡ true → OnOk result (Asks mode i
+        (desk tracker.now places.old acts.old.items) (desk tracker.now places.new acts.new.items)) }
     ensures busy { OnOk result (is_idle (place_at places.new i) ≡ false) }
 {
     let p = PeerNo(i as u32);
@@ -255,9 +290,9 @@ fn ask_about_blocks<H: HeaderStore>(
 ) -> Result<(), NoMemory>
     requires here { i < length places.old }
     requires idle { is_idle (place_at places.old i) ≡ true }
-    requires settled { is_settled (place_at places.old i) ≡ true }
     requires order { IsInOrder (desk tracker.old places.old acts.old.items) }
-    ensures asks { OnOk result (Asks i (desk tracker.old places.old acts.old.items) (desk tracker.new places.new acts.new.items)) }
+    ensures asks { (mode : Mode) → is_settled mode (place_at places.old i) ≡ true → OnOk result (Asks mode i
+        (desk tracker.old places.old acts.old.items) (desk tracker.new places.new acts.new.items)) }
     ensures through { OnOk result (IsAskedThrough (place_at places.new i) (seen_of tracker.new) i) }
 {
     let p = PeerNo(i as u32);
@@ -285,9 +320,10 @@ fn ask_about_blocks<H: HeaderStore>(
     }
 }
 
-// Asks the peer at this place if it is to be asked: for headers while it has more to tell, and then about the blocks of its chain.
+// Asks the peer at this place if a client of this mode is to ask it: for headers while it has more to tell, and then about the blocks of its chain.
 fn ask_if_wanted<H: HeaderStore>(
     alloc: Global,
+    mode: Mode,
     tracker: &mut Tracker<H>,
     places: &mut [Place],
     acts: &mut Vec<Act>,
@@ -296,10 +332,10 @@ fn ask_if_wanted<H: HeaderStore>(
     requires here { i < length places.old }
     requires calm { AreCalm places.old }
     requires order { IsInOrder (desk tracker.old places.old acts.old.items) }
-    ensures asks { OnOk result (Asks i (desk tracker.old places.old acts.old.items) (desk tracker.new places.new acts.new.items)) }
+    ensures asks { OnOk result (Asks mode i (desk tracker.old places.old acts.old.items) (desk tracker.new places.new acts.new.items)) }
     ensures through { OnOk result (IsAskedThrough (place_at places.new i) (seen_of tracker.new) i) }
 {
-    if places[i].wants_headers() {
+    if places[i].wants_headers(mode) {
         ask_for_headers(tracker, places, acts, i)?;
         return Ok(());
     }
@@ -313,20 +349,21 @@ fn ask_if_wanted<H: HeaderStore>(
 // Asks each peer that is to be asked, the lowest number first.
 fn ask_each<H: HeaderStore>(
     alloc: Global,
+    mode: Mode,
     tracker: &mut Tracker<H>,
     places: &mut [Place],
     acts: &mut Vec<Act>,
 ) -> Result<(), NoMemory>
     requires calm { AreCalm places.old }
     requires order { IsInOrder (desk tracker.old places.old acts.old.items) }
-    ensures moves { OnOk result (Moves Same (desk tracker.old places.old acts.old.items) (desk tracker.new places.new acts.new.items)) }
-    ensures settled { OnOk result ((p : ℕ) → is_settled (place_at places.new p) ≡ true) }
+    ensures moves { OnOk result (Moves mode Same (desk tracker.old places.old acts.old.items) (desk tracker.new places.new acts.new.items)) }
+    ensures settled { OnOk result ((p : ℕ) → is_settled mode (place_at places.new p) ≡ true) }
     ensures through { OnOk result (AreAskedThrough places.new (seen_of tracker.new)) }
     ensures verdicts { OnOk result (AreSameVerdicts (verdicts_of tracker.new) (verdicts_of tracker.old)) }
     ensures asked { OnOk result (AddsQuestions acts.old.items acts.new.items) }
 {
     for i in 0..places.len() {
-        ask_if_wanted(alloc, tracker, places, acts, i)?;
+        ask_if_wanted(alloc, mode, tracker, places, acts, i)?;
     }
     Ok(())
 }
@@ -334,19 +371,20 @@ fn ask_each<H: HeaderStore>(
 /// Asks each peer that is to be asked, the lowest number first, and writes what is settled of the best chain.
 pub(crate) fn ask_all<H: HeaderStore>(
     alloc: Global,
+    mode: Mode,
     tracker: &mut Tracker<H>,
     places: &mut [Place],
     acts: &mut Vec<Act>,
 ) -> Result<(), NoMemory>
     requires calm { AreCalm places.old }
     requires order { IsInOrder (desk tracker.old places.old acts.old.items) }
-    ensures moves { OnOk result (Moves Same (desk tracker.old places.old acts.old.items) (desk tracker.new places.new acts.new.items)) }
-    ensures settled { OnOk result ((p : ℕ) → is_settled (place_at places.new p) ≡ true) }
+    ensures moves { OnOk result (Moves mode Same (desk tracker.old places.old acts.old.items) (desk tracker.new places.new acts.new.items)) }
+    ensures settled { OnOk result ((p : ℕ) → is_settled mode (place_at places.new p) ≡ true) }
     ensures through { OnOk result (AreAskedThrough places.new (seen_of tracker.new)) }
     ensures verdicts { OnOk result (AreSameVerdicts (verdicts_of tracker.new) (verdicts_of tracker.old)) }
     ensures asked { OnOk result (AddsQuestions acts.old.items acts.new.items) }
 {
-    ask_each(alloc, tracker, places, acts)?;
+    ask_each(alloc, mode, tracker, places, acts)?;
     tracker.write_up()?;
     Ok(())
 }

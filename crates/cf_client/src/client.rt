@@ -15,7 +15,7 @@ use cf_bytes::{Hash32, NoMemory, PeerNo};
 use cf_headers::HeaderStore;
 use cf_match::Matcher;
 use cf_msg::{Bytes, Msg, NetAddress};
-use cf_peer::{Act, Peer};
+use cf_peer::{Act, Mode, Peer};
 use cf_place::{Loss, PeerEnd, Place, State};
 use cf_scan::{History, Watch};
 use cf_tracker::{Report, Tracker};
@@ -29,6 +29,8 @@ pub struct Client<H: HeaderStore, M: Matcher> {
     // The moment and the number that its `version` tells.
     moment: i64,
     nonce: u64,
+    // Whether it goes on once nothing is open.
+    mode: Mode,
     // Set while a call works, and for good where one found no memory.
     dead: bool,
     // What is kept of each peer, by its number; place 0 is nobody's.
@@ -37,7 +39,7 @@ pub struct Client<H: HeaderStore, M: Matcher> {
     tracker: Tracker<H>,
     matcher: M,
     ghost few: { vec_len places ≤ 9 },
-    ghost settled: { dead ≡ false → AreSettled places.items (seen_of tracker) },
+    ghost settled: { dead ≡ false → AreSettled mode places.items (seen_of tracker) },
     ghost right: { dead ≡ false → ∥ AreRight places.items (claims_of tracker) ∥₁ },
 }
 
@@ -126,7 +128,8 @@ fn greeting(alloc: Global, moment: i64, nonce: u64) -> Result<Msg, NoMemory>
 }
 
 impl<H: HeaderStore, M: Matcher> Client<H, M> {
-    ghost use Rattle.cf_sync.specs.Fetching.{Rightly};
+    ghost use Rattle.cf_sync.specs.Fetching.{RightlyIn, once};
+    ghost use Rattle.cf_peer.specs.declared.mode.Mode.TheVariants.{Following};
     ghost use Rattle.cf_wires.specs.Log.{Log};
     ghost use Rattle.cf_wires.specs.declared.event.Event.TheVariants.{Took, Dialled, NotDialled};
     ghost use Rattle.cf_peer.specs.declared.act.Act.TheVariants.{Close};
@@ -135,7 +138,7 @@ impl<H: HeaderStore, M: Matcher> Client<H, M> {
     ghost use Rattle.cf_client.specs.Order.{AreInOrder};
     ghost use Rattle.cf_client.specs.Steps.{Extends};
     ghost use Rattle.cf_client.specs.Holding.{Counts, HoldsNoMore};
-    ghost use Rattle.cf_client.specs.Stands.{Reflects, Answers, IsTip, IsReportOf, HasBlamed, IsHistoryTold, IsBlameless, IsInnocent, AreAnswered, is_dead, open_count, count_of, seen_by, watch_by, words_by, matcher_by, judging_by};
+    ghost use Rattle.cf_client.specs.Stands.{Reflects, Answers, ArePinged, IsTip, IsReportOf, HasBlamed, IsHistoryTold, IsBlameless, IsInnocent, AreAnswered, is_dead, open_count, count_of, rule_by, seen_by, watch_by, words_by, matcher_by, judging_by};
 
     /// A client that knows of no peer yet, over a store in which no peer is entered. It watches these scripts, and matches filters with them
     /// by this matcher. Its `version` tells this moment, in seconds since 1970, and this number.
@@ -152,7 +155,7 @@ impl<H: HeaderStore, M: Matcher> Client<H, M> {
         M: Drop,
         requires { (q : ℕ) → H.chain store q ≡ None }
         ensures reflects { IfOk result (λ c. Reflects c []) }
-        ensures watch { IfOk result (λ c. watch_by c ≡ watch) }
+        ensures rule { IfOk result (λ c. rule_by c ≡ once watch) }
         ensures words { IfOk result (λ c. words_by c ≡ record { moment = moment; number = nonce }) }
         ensures count { IfOk result (λ c. count_of c ≡ 1) }
         ensures matcher { IfOk result (λ c. matcher_by c ≡ matcher) }
@@ -164,11 +167,28 @@ impl<H: HeaderStore, M: Matcher> Client<H, M> {
             alloc,
             moment,
             nonce,
+            mode: Mode::Once,
             dead: false,
             places,
             tracker,
             matcher,
         })
+    }
+
+    /// The client, before its first dial, as one that goes on once nothing is open: it hears a peer out again that tells of a
+    /// block that isn't on that peer's own chain, and with a tick it sends a `ping` to each peer to which nothing is open.
+    pub fn following(self) -> Client<H, M>
+        requires untouched { Reflects self [] }
+        requires alone { count_of self ≡ 1 }
+        ensures reflects { Reflects result [] }
+        ensures rule { rule_by result ≡ record { watch = watch_by self; mode = Following } }
+        ensures words { words_by result ≡ words_by self }
+        ensures count { count_of result ≡ 1 }
+        ensures matcher { matcher_by result ≡ matcher_by self }
+    {
+        let mut client = self;
+        client.mode = Mode::Following;
+        client
     }
 
     /// A peer was dialled: the next in order, of at most eight. Here and in each call below, a client that has found no memory once
@@ -180,7 +200,7 @@ impl<H: HeaderStore, M: Matcher> Client<H, M> {
         ensures greets { IfOk result (λ acts. Greets (words_by self.old) p acts.items) }
         ensures doable { IfOk result (λ acts. All IsDoable acts.items) }
         ensures count { OnOk result (count_of self.new ≡ count_of self.old + 1) }
-        ensures watch { OnOk result (watch_by self.new ≡ watch_by self.old) }
+        ensures rule { OnOk result (rule_by self.new ≡ rule_by self.old) }
         ensures words { words_by self.new ≡ words_by self.old }
         ensures judged { OnOk result (IsUnjudged (judging_by self.old) (judging_by self.new)) }
         ensures dead { is_dead self.old ≡ true → IsErr result }
@@ -204,7 +224,7 @@ impl<H: HeaderStore, M: Matcher> Client<H, M> {
         requires next { p.0 ≡ count_of self.old }
         ensures reflects { OnOk result ((log : Log) → Reflects self.old log → Reflects self.new (NotDialled p name.now ∷ log)) }
         ensures count { OnOk result (count_of self.new ≡ count_of self.old + 1) }
-        ensures watch { OnOk result (watch_by self.new ≡ watch_by self.old) }
+        ensures rule { OnOk result (rule_by self.new ≡ rule_by self.old) }
         ensures words { words_by self.new ≡ words_by self.old }
         ensures judged { OnOk result (IsUnjudged (judging_by self.old) (judging_by self.new)) }
         ensures dead { is_dead self.old ≡ true → IsErr result }
@@ -228,11 +248,13 @@ impl<H: HeaderStore, M: Matcher> Client<H, M> {
         ensures tells { IfOk result (λ acts. (log : Log) → Reflects self.old log → All (ActTells (words_by self.old)) acts.items) }
         ensures doable { IfOk result (λ acts. All IsDoable acts.items) }
         ensures count { count_of self.new ≡ count_of self.old }
-        ensures watch { OnOk result (watch_by self.new ≡ watch_by self.old) }
+        ensures rule { OnOk result (rule_by self.new ≡ rule_by self.old) }
         ensures words { words_by self.new ≡ words_by self.old }
         ensures judged { OnOk result (AreJudgedBy M.judges (watch_by self.old)
             (judging_by self.old) (judging_by self.new)) }
         ensures in_order { IfOk result (λ acts. (log : Log) → Reflects self.old log → AreInOrder acts.items) }
+        ensures pings { IfOk result (λ acts. (log : Log) → Reflects self.old log
+            → ArePinged (rule_by self.old).mode d.now (done acts.items (Took d.now ∷ log))) }
         ensures blames { IfOk result (λ acts. (log : Log) → Reflects self.old log
             → HasBlamed (done acts.items (Took d.now ∷ log))) }
         ensures dead { is_dead self.old ≡ true → IsErr result }
@@ -246,13 +268,14 @@ impl<H: HeaderStore, M: Matcher> Client<H, M> {
         let places = self.places.as_mut_slice();
         deliver(
             self.alloc,
+            self.mode,
             &mut self.tracker,
             &mut self.matcher,
             places,
             &mut acts,
             d,
         )?;
-        ask_all(self.alloc, &mut self.tracker, places, &mut acts)?;
+        ask_all(self.alloc, self.mode, &mut self.tracker, places, &mut acts)?;
         self.dead = false;
         Ok(acts)
     }
@@ -265,7 +288,7 @@ impl<H: HeaderStore, M: Matcher> Client<H, M> {
         ensures first { IfOk result (λ acts. p.0 < count_of self.old → Extends (Close p SendFailed ∷ []) acts.items) }
         ensures doable { IfOk result (λ acts. All IsDoable acts.items) }
         ensures count { count_of self.new ≡ count_of self.old }
-        ensures watch { OnOk result (watch_by self.new ≡ watch_by self.old) }
+        ensures rule { OnOk result (rule_by self.new ≡ rule_by self.old) }
         ensures words { words_by self.new ≡ words_by self.old }
         ensures judged { OnOk result (IsUnjudged (judging_by self.old) (judging_by self.new)) }
         ensures in_order { IfOk result (λ acts. AreInOrder acts.items) }
@@ -279,7 +302,7 @@ impl<H: HeaderStore, M: Matcher> Client<H, M> {
         let mut acts = Vec::new(self.alloc);
         let places = self.places.as_mut_slice();
         cut_off(&mut self.tracker, places, &mut acts, p)?;
-        ask_all(self.alloc, &mut self.tracker, places, &mut acts)?;
+        ask_all(self.alloc, self.mode, &mut self.tracker, places, &mut acts)?;
         self.dead = false;
         Ok(acts)
     }
@@ -297,7 +320,7 @@ impl<H: HeaderStore, M: Matcher> Client<H, M> {
     pub fn state(&self) -> State
         ensures state { (log : Log) → Reflects self.now log → IsState result log }
         ensures nobody { (log : Log) → Reflects self.now log → IsInnocent log }
-        ensures blameless { (log : Log) → Reflects self.now log → Rightly log → IsBlameless log }
+        ensures blameless { (log : Log) → Reflects self.now log → RightlyIn Following log → IsBlameless log }
         ensures answered { (log : Log) → Reflects self.now log → AreAnswered log }
         ensures blamed { (log : Log) → Reflects self.now log → HasBlamed log }
     {
@@ -328,7 +351,7 @@ impl<H: HeaderStore, M: Matcher> Client<H, M> {
 
     /// The best chain's tip, and the history of its blocks that were fetched, both of one moment.
     pub fn report(&mut self) -> Result<Report, NoMemory>
-        ensures report { IfOk result (λ r. (log : Log) → Reflects self.old log → IsReportOf (watch_by self.old) r.height r.tip r.history log) }
+        ensures report { IfOk result (λ r. (log : Log) → Reflects self.old log → IsReportOf (rule_by self.old) r.height r.tip r.history log) }
         ensures same { OnOk result (self.new ≡ self.old) }
         ensures dead { is_dead self.old ≡ true → IsErr result }
         ensures err { OnErr result (is_dead self.new ≡ true) }
@@ -349,7 +372,7 @@ impl<H: HeaderStore, M: Matcher> Client<H, M> {
 
     /// The history of the best chain's blocks that were fetched.
     pub fn history(&mut self) -> Result<History, NoMemory>
-        ensures history { IfOk result (λ entries. (log : Log) → Reflects self.old log → IsHistoryTold (watch_by self.old) entries log) }
+        ensures history { IfOk result (λ entries. (log : Log) → Reflects self.old log → IsHistoryTold (rule_by self.old) entries log) }
         ensures same { OnOk result (self.new ≡ self.old) }
         ensures dead { is_dead self.old ≡ true → IsErr result }
         ensures err { OnErr result (is_dead self.new ≡ true) }

@@ -8,16 +8,16 @@ ghost use Rattle.cf_match.specs.Verdicts.{AreSameVerdicts};
 ghost use Rattle.cf_tracker.specs.Tracker.{verdicts_of, watch_of};
 ghost use Rattle.cf_hear.specs.Judging.{AreJudgedBy, judging_of};
 ghost use Rattle.cf_place.specs.Places.{AreCalm};
-ghost use Rattle.cf_client.specs.Order.{AreTold};
-ghost use Rattle.cf_client.specs.Steps.{desk, Stands, IsInOrder, Taking, CutOff, Moves};
+ghost use Rattle.cf_client.specs.Order.{ArePrepared, AreTold};
+ghost use Rattle.cf_client.specs.Steps.{desk, HasPinged, Stands, IsInOrder, Taking, CutOff, Moves};
 
-use crate::ask::{close_late, pass_all};
+use crate::ask::{close_late, pass_all, ping_all};
 use crate::blame::close_claimants;
 use cf_bytes::{NoMemory, PeerNo};
 use cf_headers::HeaderStore;
 use cf_hear::{Stop, hear_piece};
 use cf_match::Matcher;
-use cf_peer::{Act, Cause};
+use cf_peer::{Act, Cause, Mode};
 use cf_place::{Loss, Place};
 use cf_tracker::Tracker;
 use cf_wires::Delivery;
@@ -36,10 +36,10 @@ fn hear_from<H: HeaderStore, M: Matcher>(
 ) -> Result<(), NoMemory>
     requires none { acts.old.items ≡ [] }
     requires order { IsInOrder (desk tracker.old places.old acts.old.items) }
-    ensures moves { OnOk result (Moves (Taking (Got p piece.now)) (desk tracker.old places.old acts.old.items) (desk tracker.new places.new acts.new.items)) }
+    ensures moves { (mode : Mode) → OnOk result (Moves mode (Taking (Got p piece.now)) (desk tracker.old places.old acts.old.items) (desk tracker.new places.new acts.new.items)) }
     ensures judged { OnOk result (AreJudgedBy M.judges (watch_of tracker.old)
         (judging_of tracker.old matcher.old) (judging_of tracker.new matcher.new)) }
-    ensures told { OnOk result ((log : Log) → Stands (desk tracker.old places.old acts.old.items) log
+    ensures told { OnOk result ((mode : Mode) (log : Log) → Stands mode (desk tracker.old places.old acts.old.items) log
         → AreTold acts.new.items) }
 {
     let i = p.0 as usize;
@@ -67,7 +67,7 @@ fn hear_from<H: HeaderStore, M: Matcher>(
 // A peer has gone.
 fn lose<H: HeaderStore>(tracker: &mut Tracker<H>, places: &mut [Place], p: PeerNo)
     requires { IsInOrder (desk tracker.old places.old []) }
-    ensures moves { Moves (Taking (Gone p)) (desk tracker.old places.old []) (desk tracker.new places.new []) }
+    ensures moves { (mode : Mode) → Moves mode (Taking (Gone p)) (desk tracker.old places.old []) (desk tracker.new places.new []) }
     ensures verdicts { AreSameVerdicts (verdicts_of tracker.new) (verdicts_of tracker.old) }
 {
     let i = p.0 as usize;
@@ -86,7 +86,7 @@ pub(crate) fn cut_off<H: HeaderStore>(
 ) -> Result<(), NoMemory>
     requires none { acts.old.items ≡ [] }
     requires order { IsInOrder (desk tracker.old places.old acts.old.items) }
-    ensures moves { OnOk result (Moves (CutOff p places.old) (desk tracker.old places.old acts.old.items) (desk tracker.new places.new acts.new.items)) }
+    ensures moves { (mode : Mode) → OnOk result (Moves mode (CutOff p places.old) (desk tracker.old places.old acts.old.items) (desk tracker.new places.new acts.new.items)) }
     ensures first { OnOk result (p.0 < length places.old → acts.new.items ≡ Close p SendFailed ∷ []) }
     ensures verdicts { AreSameVerdicts (verdicts_of tracker.new) (verdicts_of tracker.old) }
     ensures told { OnOk result (AreTold acts.new.items) }
@@ -101,9 +101,10 @@ pub(crate) fn cut_off<H: HeaderStore>(
     Ok(())
 }
 
-/// Takes a delivery.
+/// Takes a delivery. With a tick a client that follows sends a ping to each peer to which nothing is open.
 pub(crate) fn deliver<H: HeaderStore, M: Matcher>(
     alloc: Global,
+    mode: Mode,
     tracker: &mut Tracker<H>,
     matcher: &mut M,
     places: &mut [Place],
@@ -113,11 +114,12 @@ pub(crate) fn deliver<H: HeaderStore, M: Matcher>(
     requires calm { AreCalm places.old }
     requires none { acts.old.items ≡ [] }
     requires order { IsInOrder (desk tracker.old places.old acts.old.items) }
-    ensures moves { OnOk result (Moves (Taking d.now) (desk tracker.old places.old acts.old.items) (desk tracker.new places.new acts.new.items)) }
+    ensures moves { OnOk result (Moves mode (Taking d.now) (desk tracker.old places.old acts.old.items) (desk tracker.new places.new acts.new.items)) }
     ensures judged { OnOk result (AreJudgedBy M.judges (watch_of tracker.old)
         (judging_of tracker.old matcher.old) (judging_of tracker.new matcher.new)) }
-    ensures told { OnOk result ((log : Log) → Stands (desk tracker.old places.old acts.old.items) log
-        → AreTold acts.new.items) }
+    ensures told { OnOk result ((log : Log) → Stands mode (desk tracker.old places.old acts.old.items) log
+        → ArePrepared acts.new.items) }
+    ensures pinged { OnOk result (HasPinged mode d.now places.new) }
 {
     match d {
         Delivery::Got(p, piece) => {
@@ -131,6 +133,9 @@ pub(crate) fn deliver<H: HeaderStore, M: Matcher>(
         Delivery::Tick(seconds) => {
             pass_all(places, *seconds);
             close_late(tracker, places, acts)?;
+            if let Mode::Following = mode {
+                ping_all(tracker, places, acts)?;
+            }
             Ok(())
         }
         Delivery::Ended => Ok(()),

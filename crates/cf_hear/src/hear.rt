@@ -1,14 +1,14 @@
 //! How a peer's bytes are taken.
 ghost use Rattle.std.specs.Prelude.{◌≡◌, ◌≢◌, ◌<◌, ◌≤◌, ◌++◌, ℕ, List, [], true, Some, None, Ok, IsSome, IfOk, IfSome, IfNone, OnOk, length, false};
-ghost use Rattle.std.specs.List.{All};
+ghost use Rattle.std.specs.List.{All, list_any};
 ghost use Rattle.cf_frame.specs.Reading.{front_of};
-ghost use Rattle.cf_msg.specs.declared.msg.Msg.TheVariants.{Headers, Block as BlockMessage, Cfheaders, Cfilter};
+ghost use Rattle.cf_msg.specs.declared.msg.Msg.TheVariants.{Headers, Inv, Block as BlockMessage, Cfheaders, Cfilter};
 ghost use Rattle.cf_lent.specs.View.{msg_of};
 ghost use Rattle.cf_peer.specs.Acts.{IsDoable};
-ghost use Rattle.cf_peer.specs.Trail.{Trail, Part, heard_part};
+ghost use Rattle.cf_peer.specs.Trail.{Trail, Part, heard_part, is_unknown};
 ghost use Rattle.cf_peer.specs.Peer.{Holds, calm, is_idle_peer, IsReplySendable, IsRight};
 ghost use Rattle.cf_match.specs.Verdicts.{AreSameVerdicts, with_verdicts};
-ghost use Rattle.cf_headers.specs.Store.{Stays};
+ghost use Rattle.cf_headers.specs.Store.{Stays, own_of};
 ghost use Rattle.cf_seek.specs.Opens.{Closes, IsSameElse, IsSameOpens};
 ghost use Rattle.cf_tables.specs.Tables.{IsSameTable};
 ghost use Rattle.cf_tables.specs.Tests.{IsSameTold};
@@ -27,7 +27,7 @@ use cf_block::{Header, block_hash};
 use cf_bytes::{Cut, Hash32, NoMemory, PeerNo, Refused};
 use cf_frame::Framer;
 use cf_headers::HeaderStore;
-use cf_lent::View;
+use cf_lent::{EntriesView, View};
 use cf_match::{Job, Matcher};
 use cf_peer::{Act, Cause, Coming, Heard, Peer, Reply, cause_of, next_coming};
 use cf_seek::Exposure;
@@ -279,6 +279,40 @@ fn hear_filter<H: HeaderStore, M: Matcher>(
     }
 }
 
+// Whether entries that a tracked peer tells name a block that isn't on its own chain.
+fn are_news<H: HeaderStore>(tracker: &Tracker<H>, p: PeerNo, entries: EntriesView) -> bool
+    requires { IsSome (chains_of tracker.now p.0) }
+    ensures { result ≡ list_any (is_unknown (own_of (chains_of tracker.now) p)) entries.entry }
+{
+    let mut entries = entries;
+    while let Some(entry) = entries.next() {
+        if entry.kind == 2 && tracker.place(p, &entry.hash).is_none() {
+            return true;
+        }
+    }
+    false
+}
+
+// Takes what a tracked peer tells of blocks (`inv`).
+fn hear_inv<H: HeaderStore>(
+    tracker: &Tracker<H>,
+    peer: &mut Peer,
+    p: PeerNo,
+    entries: EntriesView,
+) -> Reply
+    requires { IsSome (chains_of tracker.now p.0) }
+    ensures heard { (t : Trail) → Holds peer.old t → Follows (seen_of tracker.now) p.0 t → HearsSeen (seen_of tracker.now) (seen_of tracker.now) p peer.new (Inv entries.entry) t result }
+    ensures exposes { (t : Trail) → Holds peer.old t → Follows (seen_of tracker.now) p.0 t
+        → IsUnexposed (seen_of tracker.now) → Exposes (seen_of tracker.now) p.0 result }
+    ensures sendable { IsReplySendable result }
+    ensures right { IsRight peer.old.request (claims_of tracker.now p.0) → IsRight peer.new.request (claims_of tracker.now p.0) }
+    ensures waits { peer.new.framer ≡ peer.old.framer }
+    ensures calm { calm peer.old ≡ true → calm peer.new ≡ true }
+{
+    peer.hear_news(are_news(tracker, p, entries));
+    Reply::Nothing
+}
+
 // Takes one message of a tracked peer.
 fn hear<H: HeaderStore, M: Matcher>(
     alloc: Global,
@@ -351,6 +385,7 @@ fn hear<H: HeaderStore, M: Matcher>(
             )?;
             Ok(reply)
         }
+        View::Inv(entries) => Ok(hear_inv(tracker, peer, p, entries)),
         other => Ok(peer.hear(&other)),
     }
 }

@@ -1,5 +1,5 @@
 //! What the client keeps of one peer.
-ghost use Rattle.std.specs.Prelude.{◌≡◌, ◌+◌, ℕ, List, true, false, not, None, Some, IfSome, ◌∷◌, [], length};
+ghost use Rattle.std.specs.Prelude.{◌≡◌, ◌+◌, ℕ, List, true, false, not, None, Some, IfNone, IfSome, ◌×◌, ◌∷◌, [], length};
 ghost use Rattle.cf_block.specs.declared.header.Header.{Header};
 ghost use Rattle.cf_block.specs.declared.tx.Block.{Block};
 ghost use Rattle.cf_block.specs.Header.{block_hash_of};
@@ -14,7 +14,7 @@ ghost use Rattle.cf_msg.specs.declared.msg.Msg.TheVariants.{Headers, Inv, Ping, 
 ghost use Rattle.cf_lent.specs.View.{msg_of};
 ghost use Rattle.cf_peer.specs.Trail.{Trail, Said, Passed, Asked, is_unknown, own, reply_to};
 ghost use Rattle.cf_peer.specs.Asking.{pings, request, verdict, fetched_by};
-ghost use Rattle.cf_peer.specs.Peer.{Holds, Hears, IsRight, TakesHeaders, calm, called_peer, is_ready_peer, is_idle_peer, is_plain, IsVersionOf, busy, wants, awaits as awaits_block, is_fetching as fetches, pinged, asked_for_headers, asked_for_block, IsReplySendable};
+ghost use Rattle.cf_peer.specs.Peer.{Holds, Hears, IsRight, TakesHeaders, calm, called_peer, is_ready_peer, is_idle_peer, is_plain, IsVersionOf, busy, heard_out, heard_up_to, wants, awaits as awaits_block, is_fetching as fetches, pinged, asked_for_headers, asked_for_block, asked_for_ping, IsReplySendable};
 
 use cf_bytes::{Hash32, Listed};
 use cf_frame::Framer;
@@ -127,24 +127,25 @@ pub enum Reply {
 pub struct Peer {
     pub(crate) framer: Framer,
     pub(crate) met: bool,
+    // Whether it has no more to tell: at all, and since its last news.
     pub(crate) heard: bool,
+    pub(crate) current: bool,
     pub(crate) request: Request,
-    // Whether it is heard out again after news, and how many pings it was sent.
-    pub(crate) mode: Mode,
+    // How many pings it was sent since it was dialled.
     pub(crate) pings: u64,
 }
 
 impl Peer {
     /// A peer that was just dialled: its handshake is open.
-    pub fn called(alloc: Global, mode: Mode) -> Peer
-        ensures { result ≡ called_peer mode }
+    pub fn called(alloc: Global) -> Peer
+        ensures { result ≡ called_peer }
     {
         Peer {
             framer: Framer::new(alloc),
             met: false,
             heard: false,
+            current: false,
             request: Request::Handshake(0),
-            mode,
             pings: 0,
         }
     }
@@ -191,33 +192,23 @@ impl Peer {
         }
     }
 
-    /// Takes what it tells of blocks: whether one of them isn't on its own chain. In `Following` it is to be heard out again then.
+    /// Takes what it tells of blocks (`inv`): whether one of them isn't on its own chain. A client that follows hears it out again then.
     pub fn hear_news(&mut self, unknown: bool)
         ensures heard { (t : Trail) (entries : List Entry) → Holds self.old t → unknown ≡ list_any (is_unknown (own t)) entries → Holds self.new (Said (Inv entries) ∷ t) }
         ensures right { (table : Table) → IsRight self.old.request table → IsRight self.new.request table }
         ensures waits { self.new.framer ≡ self.old.framer }
         ensures calm { calm self.old ≡ true → calm self.new ≡ true }
-        ensures mode { self.new.mode ≡ self.old.mode }
     {
-        match self.mode {
-            Mode::Once => {}
-            Mode::Following => {
-                if unknown {
-                    self.heard = false;
-                }
-            }
+        if unknown {
+            self.current = false;
         }
     }
 
     /// Opens a ping, and answers its number: one above that of the last, 1 for the first. `None` where all numbers were used.
     pub fn ask_ping(&mut self) -> Option<u64>
         requires { is_idle_peer self.old ≡ true }
-        ensures asked { IfSome result (λ number. (t : Trail) → Holds self.old t → (number ≡ pings t + 1) × Holds self.new (Asked (Ping number) ∷ t)) }
-        ensures none { result ≡ None → self.new ≡ self.old }
-        ensures right { (table : Table) → IsRight self.old.request table → IsRight self.new.request table }
-        ensures waits { self.new.framer ≡ self.old.framer }
-        ensures calm { calm self.new ≡ true }
-        ensures mode { self.new.mode ≡ self.old.mode }
+        ensures asked { IfSome result (λ number. (number ≡ self.old.pings + 1) × (self.new ≡ asked_for_ping number self.old)) }
+        ensures none { IfNone result ((self.old.pings ≡ 18446744073709551615) × (self.new ≡ self.old)) }
     {
         let number = self.pings.checked_add(1)?;
         self.pings = number;
@@ -268,8 +259,8 @@ impl Peer {
             Change::Unlinked => return Some(Cause::Unlinked),
             Change::Invalid(_, _) => return Some(Cause::InvalidHeader),
             Change::TooHigh => return Some(Cause::TooHigh),
-            Change::NoLonger => self.heard = true,
-            Change::Longer(_) => self.heard = self.heard || count < 2000,
+            Change::NoLonger => self.hear_out(true),
+            Change::Longer(_) => self.hear_out(count < 2000),
         }
         if let Request::Headers(_) = self.request {
             self.request = Request::Nothing;
@@ -348,16 +339,34 @@ impl Peer {
         matches!(self.request, Request::Filters(_, _) | Request::Block(_, _))
     }
 
-    /// Whether it is to be asked for headers: nothing is open to it, and it has more to tell.
-    pub fn wants_headers(&self) -> bool
-        ensures { result ≡ wants self.now }
+    // It has no more to tell, or nothing has changed.
+    fn hear_out(&mut self, over: bool)
+        ensures { self.new ≡ heard_up_to over self.old }
     {
-        !self.heard && self.is_idle()
+        self.heard = self.heard || over;
+        self.current = self.current || over;
+    }
+
+    // Whether it has no more to tell to a client of this mode.
+    fn is_heard_out(&self, mode: Mode) -> bool
+        ensures { result ≡ heard_out mode self.now }
+    {
+        match mode {
+            Mode::Once => self.heard,
+            Mode::Following => self.current,
+        }
+    }
+
+    /// Whether a client of this mode is to ask it for headers: nothing is open to it, and it has more to tell.
+    pub fn wants_headers(&self, mode: Mode) -> bool
+        ensures { result ≡ wants mode self.now }
+    {
+        !self.is_heard_out(mode) && self.is_idle()
     }
 
     /// Opens a request for headers.
     pub fn ask_headers(&mut self)
-        requires { wants self.old ≡ true }
+        requires { is_idle_peer self.old ≡ true }
         ensures asked { self.new ≡ asked_for_headers self.old }
     {
         self.request = Request::Headers(0);

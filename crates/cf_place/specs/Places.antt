@@ -10,6 +10,8 @@ use Rattle.cf_peer.specs.declared.act.Act.{Act}
 use Rattle.cf_peer.specs.declared.act.Act.TheVariants.{Send, Close}
 use Rattle.cf_wires.specs.declared.event.Event.{Event}
 use Rattle.cf_wires.specs.declared.event.Event.TheVariants.{Sent, Closed}
+use Rattle.cf_peer.specs.declared.mode.Mode.{Mode}
+use Rattle.cf_peer.specs.declared.mode.Mode.TheVariants.{Following}
 use Rattle.cf_peer.specs.declared.peer.Cause.{Cause}
 use Rattle.cf_peer.specs.declared.peer.Cause.TheVariants.{SendFailed, Omits}
 use Rattle.cf_peer.specs.declared.peer.Peer.{Peer}
@@ -19,7 +21,7 @@ use Rattle.cf_peer.specs.Trail.{Why, Went, Failing, Shutting, Trail, Called, Sai
 use Rattle.cf_peer.specs.Asking.{Deserves, block_entry, claims, counted, fetched, given}
 use Rattle.cf_peer.specs.Peer.{Holds, calm, busy, wants, is_ready_peer, is_idle_peer, is_fetching}
 use Rattle.cf_sync.specs.Blame.{HasOmitted}
-use Rattle.cf_sync.specs.Fetching.{IsBusy, IsQuiet, IsConnected, MaySend, DeservesIn, IsOmitting, Rightly}
+use Rattle.cf_sync.specs.Fetching.{IsBusy, IsQuiet, IsConnected, MaySendIn, DeservesIn, IsOmitting, RightlyIn, Rule}
 use Rattle.cf_sync.specs.Due.{IsCalledFor}
 use Rattle.cf_sync.specs.Kept.{KeepsTrials}
 use Rattle.cf_sync.specs.Planned.{IsSameGiven}
@@ -98,7 +100,7 @@ place_at places p = slice_index_or places p nobody
 pub record PlacesStand (places : List Place) (log : Log) : Type 0 where
   pub count : length places ≡ (tally_of log).dials + 1
   pub omitted : (p : ℕ) → place_at places p ≡ Lost (ClosedFor Omits) → HasOmitted log p
-  pub named : Rightly log → (p : ℕ) → HasOmitted log p → place_at places p ≡ Lost (ClosedFor Omits)
+  pub named : RightlyIn Following log → (p : ℕ) → HasOmitted log p → place_at places p ≡ Lost (ClosedFor Omits)
   pub each : (p : ℕ) → Fits (place_at places p) (part_of log p)
 
 -- what an act leaves in the log when it is done
@@ -132,23 +134,23 @@ IsRepliedIn log p = IsReplied (trail log p) ⊎ (IsOmitting log p × IsRepliedFi
 
 -- who omits something is closed for that
 abbrev pub IsNamed : Log → ℕ → Cause → Type 0
-IsNamed log p cause = Rightly log → IsOmitting log p → cause ≡ Omits
+IsNamed log p cause = RightlyIn Following log → IsOmitting log p → cause ≡ Omits
 
--- an act may be done by a client that watches these scripts: what it sends may be sent to that peer, and what it asks about blocks is called for; whom it closes was
+-- an act may be done by a client that goes by this rule: what it sends may be sent to that peer, and what it asks about blocks is called for; whom it closes was
 -- answered, and is closed for what it omits where it does
-abbrev pub MayAct : List (List ℕ) → Act → Log → Type 0
-MayAct watch (Send p m) log = (p.0 ≤ (tally_of log).dials) × IsSendable m × MaySend log p.0 m × IsCalledFor watch log p.0 m
-MayAct watch (Close p cause) log = (p.0 ≤ (tally_of log).dials) × DeservesIn log p.0 cause × IsRepliedIn log p.0 × IsNamed log p.0 cause
+abbrev pub MayAct : Rule → Act → Log → Type 0
+MayAct rule (Send p m) log = (p.0 ≤ (tally_of log).dials) × IsSendable m × MaySendIn rule.mode log p.0 m × IsCalledFor rule log p.0 m
+MayAct rule (Close p cause) log = (p.0 ≤ (tally_of log).dials) × DeservesIn log p.0 cause × IsRepliedIn log p.0 × IsNamed log p.0 cause
 
 -- each act may be done when the ones before it are
-abbrev pub Allowed : List (List ℕ) → List Act → Log → Type 0
-Allowed watch [] log = Unit {0}
-Allowed watch (a ∷ acts) log = MayAct watch a log × Allowed watch acts (entry_of a ∷ log)
+abbrev pub Allowed : Rule → List Act → Log → Type 0
+Allowed rule [] log = Unit {0}
+Allowed rule (a ∷ acts) log = MayAct rule a log × Allowed rule acts (entry_of a ∷ log)
 
 -- the places stand for the log with the acts, each of which was allowed
-pub record Goes (watch : List (List ℕ)) (places : List Place) (acts : List Act) (log : Log) : Type 0 where
+pub record Goes (rule : Rule) (places : List Place) (acts : List Act) (log : Log) : Type 0 where
   pub stand : PlacesStand places (after acts log)
-  pub allowed : Allowed watch acts log
+  pub allowed : Allowed rule acts log
 
 -- no open request is 60 seconds old or more
 abbrev pub is_calm : Place → Bool
@@ -168,14 +170,14 @@ abbrev pub is_fetching_at : Place → Bool
 is_fetching_at (Here peer) = is_fetching peer
 is_fetching_at (Lost loss) = false
 
--- it is to be asked for headers
-abbrev pub is_wanting : Place → Bool
-is_wanting (Here peer) = wants peer
-is_wanting (Lost loss) = false
+-- a client of this mode is to ask it for headers
+abbrev pub is_wanting : Mode → Place → Bool
+is_wanting mode (Here peer) = wants mode peer
+is_wanting mode (Lost loss) = false
 
 -- between two calls of the client no open request is late, and nobody is left to ask for headers
-abbrev pub is_settled : Place → Bool
-is_settled place = is_calm place && not (is_wanting place)
+abbrev pub is_settled : Mode → Place → Bool
+is_settled mode place = is_calm place && not (is_wanting mode place)
 
 -- the same log, but that a send to p failed: p's part alone differs, and p is cut off, and isn't one that has omitted something
 pub record CutFor (p : PeerNo) (log cut : Log) : Type 0 where
@@ -189,7 +191,7 @@ pub record CutFor (p : PeerNo) (log cut : Log) : Type 0 where
   pub omitted : (q : ℕ) → q ≢ p.0 → HasOmitted log q → HasOmitted cut q
   pub unomitted : (q : ℕ) → q ≢ p.0 → HasOmitted cut q → HasOmitted log q
   pub cleared : HasOmitted cut p.0 → ⊥
-  pub rightly : Rightly cut → Rightly log
+  pub rightly : RightlyIn Following cut → RightlyIn Following log
   pub dials : (tally_of cut).dials ≡ (tally_of log).dials
 
 -- what the client says of its state
@@ -278,6 +280,6 @@ EndTells (EndsClosed cause) t = IsLost (ClosedFor cause) t
 -- something then, and who was closed while it omitted something ends so
 pub record EndsTell (ends : List PeerEnd) (log : Log) : Type 0 where
   pub omitted : (i : ℕ) → slice_index_or ends i EndsNotDialled ≡ EndsClosed Omits → HasOmitted log (i + 1)
-  pub named : Rightly log → (i : ℕ) → HasOmitted log (i + 1) → slice_index_or ends i EndsNotDialled ≡ EndsClosed Omits
+  pub named : RightlyIn Following log → (i : ℕ) → HasOmitted log (i + 1) → slice_index_or ends i EndsNotDialled ≡ EndsClosed Omits
   pub count : length ends ≡ (tally_of log).dials
   pub each : (i : ℕ) → EndTells (slice_index_or ends i EndsNotDialled) (trail log (i + 1))

@@ -2,7 +2,7 @@
 ghost use Rattle.std.specs.Prelude.{◌≡◌, not};
 ghost use Rattle.cf_place.specs.Places.{is_busy as busy_at, is_here as here_at, is_idle as idle_at, is_fetching_at, is_wanting, is_calm, end_by, end_of};
 
-use cf_peer::{Cause, Peer};
+use cf_peer::{Cause, Mode, Peer};
 use thiserror::Error;
 
 /// How a peer stands when a run ends.
@@ -96,12 +96,12 @@ impl Place {
         }
     }
 
-    /// Whether a connected peer is to be asked for headers.
-    pub fn wants_headers(&self) -> bool
-        ensures { result ≡ is_wanting self.now }
+    /// Whether a client of this mode is to ask a connected peer for headers.
+    pub fn wants_headers(&self, mode: Mode) -> bool
+        ensures { result ≡ is_wanting mode self.now }
     {
         match self {
-            Place::Here(peer) => peer.wants_headers(),
+            Place::Here(peer) => peer.wants_headers(mode),
             Place::Lost(_) => false,
         }
     }

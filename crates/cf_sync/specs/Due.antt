@@ -8,8 +8,8 @@ use Rattle.cf_msg.specs.declared.msg.Msg.{Msg}
 use Rattle.cf_msg.specs.declared.msg.Msg.TheVariants.{GetData, GetCfheaders, GetCfilters}
 use Rattle.cf_peer.specs.Asking.{block_entry}
 use Rattle.cf_wires.specs.Log.{Log}
-use Rattle.cf_peer.specs.Trail.{trail, own, heard}
-use Rattle.cf_sync.specs.Fetching.{IsBest, IsNeeded, HoldsFetched}
+use Rattle.cf_peer.specs.Trail.{trail, own, heard_in}
+use Rattle.cf_sync.specs.Fetching.{Rule, IsBest, IsNeeded, HoldsFetched}
 use Rattle.cf_sync.specs.Kept.{HoldsClaims, HoldsGiven, HoldsOpens, HoldsTests}
 use Rattle.cf_seek.specs.declared.spans.Wish.{Wish}
 use Rattle.cf_seek.specs.declared.spans.Wish.TheVariants.{Claims, Filters, Block, Test}
@@ -32,17 +32,17 @@ Puts wish m = ⊥
 -- the lowest that isn't judged and is open to nobody; where there is none of these, for the lowest block that is to be fetched and is open to
 -- nobody; and where there is none of these either, for the filter of the lowest fetched block on which they differ and of which what it claims wasn't
 -- tested. It goes as far as it may.
-pub record IsInTurn (watch : List (List ℕ)) (log : Log) (p : ℕ) (m : Msg) : Type 0 where
-  pub heard_out : heard (trail log p) ≡ true
+pub record IsInTurn (rule : Rule) (log : Log) (p : ℕ) (m : Msg) : Type 0 where
+  pub heard_out : heard_in rule.mode (trail log p) ≡ true
   pub chain : Chain
   pub best : IsBest log chain
   pub extracts : Table
   pub tables : Tables
   pub verdicts : Verdicts
-  pub fetched : HoldsFetched watch log extracts
+  pub fetched : HoldsFetched rule.watch log extracts
   pub claimed : HoldsClaims log tables
   pub opens : Opens
-  pub given : HoldsGiven watch log verdicts
+  pub given : HoldsGiven rule.watch log verdicts
   pub opened : HoldsOpens log opens
   pub wish : Wish
   pub wished : IsWish extracts tables verdicts opens p (own (trail log p)) (common_of (own (trail log p)) chain) wish
@@ -53,8 +53,8 @@ pub record IsInTurn (watch : List (List ℕ)) (log : Log) (p : ℕ) (m : Msg) : 
   pub tries : IsTrying extracts tables told p (own (trail log p)) (common_of (own (trail log p)) chain) wish
 
 -- what a client is to ask for that stands for this log, and when: each question about blocks in its turn
-abbrev pub IsCalledFor : List (List ℕ) → Log → ℕ → Msg → Type 0
-IsCalledFor watch log p (GetCfheaders filter start stop) = IsInTurn watch log p (GetCfheaders filter start stop)
-IsCalledFor watch log p (GetCfilters filter start stop) = IsNeeded watch log p (GetCfilters filter start stop) × IsInTurn watch log p (GetCfilters filter start stop)
-IsCalledFor watch log p (GetData entries) = IsNeeded watch log p (GetData entries) × IsInTurn watch log p (GetData entries)
-IsCalledFor watch log p m = Unit {0}
+abbrev pub IsCalledFor : Rule → Log → ℕ → Msg → Type 0
+IsCalledFor rule log p (GetCfheaders filter start stop) = IsInTurn rule log p (GetCfheaders filter start stop)
+IsCalledFor rule log p (GetCfilters filter start stop) = IsNeeded rule.watch log p (GetCfilters filter start stop) × IsInTurn rule log p (GetCfilters filter start stop)
+IsCalledFor rule log p (GetData entries) = IsNeeded rule.watch log p (GetData entries) × IsInTurn rule log p (GetData entries)
+IsCalledFor rule log p m = Unit {0}

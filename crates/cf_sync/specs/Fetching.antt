@@ -28,7 +28,7 @@ use Rattle.cf_scan.specs.Extracts.{extract_of}
 use Rattle.cf_scan.specs.Scan.{scan_of}
 use Rattle.cf_tables.specs.Tables.{Table}
 use Rattle.cf_filter.specs.Lacking.{output_items_of, lacks}
-use Rattle.cf_peer.specs.Asking.{OpenRequest, NothingOpen, HeadersOpen, ClaimsOpen, FiltersOpen, BlockOpen, request, is_open, counted, claims, hash_claimed, HasHeader, fetched, given, blocks_from, Deserves, MayAskIn}
+use Rattle.cf_peer.specs.Asking.{OpenRequest, NothingOpen, HeadersOpen, ClaimsOpen, FiltersOpen, BlockOpen, PingOpen, request, is_open, counted, claims, hash_claimed, HasHeader, fetched, given, blocks_from, Deserves, MayAskIn}
 
 -- ---- peers
 
@@ -252,6 +252,7 @@ filters_open HeadersOpen = []
 filters_open (ClaimsOpen stop parent blocks) = []
 filters_open (FiltersOpen left came) = map (λ (j : Job). j.block.0) came ++ left
 filters_open (BlockOpen block) = []
+filters_open (PingOpen number) = []
 
 abbrev pub blocks_open : OpenRequest → List Hash
 blocks_open NothingOpen = []
@@ -259,6 +260,7 @@ blocks_open HeadersOpen = []
 blocks_open (ClaimsOpen stop parent blocks) = []
 blocks_open (FiltersOpen left came) = []
 blocks_open (BlockOpen block) = block ∷ []
+blocks_open (PingOpen number) = []
 
 -- a block stands in a request for filters that is open to a connected peer; in one for a block
 abbrev pub IsFilterOpen : Log → Hash → Type 0
@@ -324,6 +326,15 @@ IsNeeded watch log p m = Unit {0}
 -- by a client that ends once nothing is open
 abbrev pub MaySend : Log → ℕ → Msg → Type 0
 MaySend log p m = MaySendIn Once log p m
+
+-- what a client goes by: the scripts that it watches, and how long it goes on
+pub record Rule : Type 0 where
+  pub watch : List (List ℕ)
+  pub mode : Mode
+
+-- that of one which ends once nothing is open
+abbrev pub once : List (List ℕ) → Rule
+once watch = record { watch = watch; mode = Once }
 
 -- a client that ends once nothing is open takes a delivery only while something is
 abbrev pub MayTake : Mode → Log → Type 0

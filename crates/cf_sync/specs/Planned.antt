@@ -7,7 +7,7 @@ use Rattle.cf_peer.specs.Trail.{Trail, Part, Called, Said, Refused, Asked, Passe
 use Rattle.cf_peer.specs.Asking.{counted, fetched, given}
 use Rattle.cf_match.specs.declared.job.Job.{Job}
 use Rattle.cf_headers.specs.Chain.{Hash}
-use Rattle.cf_sync.specs.Fetching.{MaySend, IsGiven, IsTest, IsTested}
+use Rattle.cf_sync.specs.Fetching.{Rule, MaySendIn, IsGiven, IsTest, IsTested, is_after_tick}
 use Rattle.cf_sync.specs.Due.{IsCalledFor}
 
 -- a send to this peer has failed since the last delivery, and the peer wasn't closed for it yet, so the client isn't told
@@ -55,7 +55,7 @@ abbrev pub IsSameGiven : Log → Log → Type 0
 IsSameGiven planned log = (job : Job) → (IsGiven planned job → IsGiven log job) × (IsGiven log job → IsGiven planned job)
 
 -- of a peer whose failed send isn't told its part just before that send, with what was planned on top; of all others the actual part, or one that is alike: cut
--- off by a failed send as well, with the same blocks and filters brought; and as many peers were dialled; and the same filters were given and tested, and are to be tested of those others
+-- off by a failed send as well, with the same blocks and filters brought; and as many peers were dialled; and the same filters were given and tested, and are to be tested of those others; and the last delivery is a tick of both or of neither
 pub record IsPlanned (planned log : Log) : Type 0 where
   pub told : (q : ℕ) → is_untold log q ≡ false → Alike (part_of planned q) (part_of log q)
   pub untold : (q : ℕ) → is_untold log q ≡ true
@@ -64,14 +64,15 @@ pub record IsPlanned (planned log : Log) : Type 0 where
   pub tested : (job : Job) → IsTested planned job → IsTested log job
   pub tests : (job : Job) → IsTested log job → IsTested planned job
   pub gave : IsSameGiven planned log
+  pub ticked : is_after_tick planned ≡ is_after_tick log
   pub aims : (q : ℕ) → is_untold log q ≡ false → connected (trail log q) ≡ true → (block : Hash) → IsSameTest planned log q block
 
 -- what was sent was wanted and called for by a client that knew of no failure that it wasn't told of yet
-abbrev pub ArePlanned : List (List ℕ) → Log → Type 0
-ArePlanned watch [] = Unit {0}
-ArePlanned watch (Dialled p name ∷ log) = ArePlanned watch log
-ArePlanned watch (NotDialled p name ∷ log) = ArePlanned watch log
-ArePlanned watch (Sent p bytes ∷ log) = ((m : Msg) × (spelled bytes ≡ Some m) × ((planned : Log) × (IsPlanned planned log × (MaySend planned p.0 m × IsCalledFor watch planned p.0 m)))) × ArePlanned watch log
-ArePlanned watch (SendFailed p ∷ log) = ArePlanned watch log
-ArePlanned watch (Closed p ∷ log) = ArePlanned watch log
-ArePlanned watch (Took d ∷ log) = ArePlanned watch log
+abbrev pub ArePlanned : Rule → Log → Type 0
+ArePlanned rule [] = Unit {0}
+ArePlanned rule (Dialled p name ∷ log) = ArePlanned rule log
+ArePlanned rule (NotDialled p name ∷ log) = ArePlanned rule log
+ArePlanned rule (Sent p bytes ∷ log) = ((m : Msg) × (spelled bytes ≡ Some m) × ((planned : Log) × (IsPlanned planned log × (MaySendIn rule.mode planned p.0 m × IsCalledFor rule planned p.0 m)))) × ArePlanned rule log
+ArePlanned rule (SendFailed p ∷ log) = ArePlanned rule log
+ArePlanned rule (Closed p ∷ log) = ArePlanned rule log
+ArePlanned rule (Took d ∷ log) = ArePlanned rule log
