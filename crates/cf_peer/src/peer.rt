@@ -16,10 +16,10 @@ ghost use Rattle.cf_peer.specs.Trail.{Trail, Said, Passed, Asked, is_unknown, ow
 ghost use Rattle.cf_peer.specs.Asking.{pings, request, verdict, fetched_by};
 ghost use Rattle.cf_peer.specs.Peer.{Holds, Hears, IsRight, TakesHeaders, calm, called_peer, is_ready_peer, is_idle_peer, is_plain, IsVersionOf, busy, heard_out, heard_up_to, wants, awaits as awaits_block, is_fetching as fetches, pinged, asked_for_headers, asked_for_block, asked_for_ping, IsReplySendable};
 
+use crate::mode::Mode;
 use cf_bytes::{Hash32, Listed};
 use cf_frame::Framer;
 use cf_headers::Change;
-use crate::mode::Mode;
 use cf_lent::View;
 use cf_match::Job;
 use cf_msg::{Hashes, Msg};

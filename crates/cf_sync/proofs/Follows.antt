@@ -121,7 +121,7 @@ never_at : (blocks : List Block) → Setting blocks → (first : ℕ) → first 
 never_at blocks set first low [] p right growing = tt
 never_at blocks set first low (Closed q ∷ log) p right growing = (
   (λ same. not_deserves (trail log p) right.0.0 (sound_at blocks set first low log p right.1 growing.3) (clean_at blocks set first low log p right.1 growing.3)
-    (subst (λ (k : ℕ). Deserves (trail log k) right.0.0) same right.0.1)),
+      (subst (λ (k : ℕ). Deserves (trail log k) right.0.0) same right.0.1)),
   never_at blocks set first low log p right.1 growing.3,
 )
 never_at blocks set first low (Dialled q name ∷ log) p right growing = never_at blocks set first low log p right growing.3
