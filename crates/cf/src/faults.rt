@@ -51,7 +51,9 @@ fn tell_file(rt: &HostRuntime, command: &Command) -> io::Result<bool> {
         Command::Replay { watch, session, .. } => {
             tell_first(rt, watch.as_str(), session.as_str())
         }
-        Command::Sync { watch, .. } => tell_reason(rt, watch.as_str()),
+        Command::Sync { watch, .. } | Command::Follow { watch, .. } => {
+            tell_reason(rt, watch.as_str())
+        }
         Command::Scan { file, watch } => tell_first(rt, watch.as_str(), file.as_str()),
         Command::Filter { file, .. } | Command::Prove { file, .. } | Command::Check { file } => {
             tell_reason(rt, file.as_str())
@@ -65,6 +67,10 @@ fn tell_file(rt: &HostRuntime, command: &Command) -> io::Result<bool> {
 fn written(command: &Command) -> Option<&str> {
     match command {
         Command::Sync {
+            record: Some(file),
+            ..
+        }
+        | Command::Follow {
             record: Some(file),
             ..
         }

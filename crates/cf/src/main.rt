@@ -33,7 +33,7 @@ fn told(rt: &HostRuntime, words: &[String], status: Status, reason: &Option<io::
     status
 }
 
-// Runs the command. `sync` goes over TCP.
+// Runs the command. `sync` and `follow` go over TCP.
 fn run_command<R: Wait + Threads + Sync + Copy + Drop + Send + 'static, K: Spawner>(
     rt: &HostRuntime,
     handle: R,

@@ -23,14 +23,14 @@ fn unreadable(e: &io::Error) -> Status {
     }
 }
 
-/// How many peers the words name for `sync`; none for another command, and where they ask for nothing.
+/// How many peers the words name for `sync` or `follow`; none for another command, and where they ask for nothing.
 ///
 /// # Errors
 ///
 /// Where no memory is found to read them.
 pub fn peers(alloc: Global, words: &[String]) -> Result<usize, NoMemory> {
     match &read_words(alloc, words) {
-        Ok(Command::Sync { peers, .. }) => Ok(peers.as_slice().len()),
+        Ok(Command::Sync { peers, .. } | Command::Follow { peers, .. }) => Ok(peers.as_slice().len()),
         Err(Refused::NoMemory) => Err(NoMemory),
         _ => Ok(0),
     }

@@ -7,4 +7,4 @@ mod texts;
 
 pub use own_texts::own_text;
 pub use status::{FileCause, Status, Which};
-pub use texts::text_of;
+pub use texts::{put_trace, text_of};

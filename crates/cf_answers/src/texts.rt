@@ -68,8 +68,8 @@ fn put_line(alloc: Global, line: &TraceLine, out: &mut Vec<u8>) -> Result<(), No
     Ok(())
 }
 
-// Writes the lines of a trace at the end of a text.
-fn put_trace(alloc: Global, lines: &[TraceLine], out: &mut Vec<u8>) -> Result<(), NoMemory>
+/// Writes the lines of a trace at the end of a text.
+pub fn put_trace(alloc: Global, lines: &[TraceLine], out: &mut Vec<u8>) -> Result<(), NoMemory>
     ensures { OnOk result (out.new.items ≡ out.old.items ++ trace_text lines.now) }
 {
     for line in lines {

@@ -5,14 +5,15 @@ use Rattle.std.proofs.lemmas.Bool.{both_ways}
 use Rattle.cf_place.specs.declared.place.PeerEnd.{PeerEnd}
 use Rattle.cf_wires.specs.Log.{Log}
 use Rattle.cf_input.specs.declared.words.Command.{Command}
-use Rattle.cf_input.specs.declared.words.Command.TheVariants.{Replay, Sync, Scan, Filter, Address, Prove, Check, Serve, Make, Demo}
+use Rattle.cf_input.specs.declared.words.Command.TheVariants.{Replay, Sync, Follow, Scan, Filter, Address, Prove, Check, Serve, Make, Demo}
 use Rattle.cf_answers.specs.declared.status.Status.{Status}
 use Rattle.cf_answers.specs.declared.status.Status.TheVariants.{Done, NoMemory, Usage, BadFile, FileFault, OutFault, NoPeers, Tired, Ended, LinkFault, NoNonce, NoHeight, NotThere, NotAddress}
 use Rattle.cf_place.specs.Places.{EndsTell}
 use Rattle.cf_loading.specs.Verdicts.{IsOfFile}
 use Rattle.cf_cli.proofs.Plays.{no_run}
-use Rattle.cf_cli.specs.Ends.{AreEndsOf, AreEndsAfter, AreEnds}
-use Rattle.cf_cli.specs.Statuses.{has_run, was_unbegun}
+use Rattle.cf_cli.proofs.Stays.{not_over}
+use Rattle.cf_cli.specs.Ends.{AreEndsOf, AreEndsAfter, AreEndsOver, AreEnds}
+use Rattle.cf_cli.specs.Statuses.{has_run, is_over, was_unbegun}
 
 -- they are put once a run is begun
 pub ends_put : (status : Status) (recorded : Bool) (log : Option Log) (before after : List PeerEnd) → was_unbegun status recorded ≡ false → AreEndsOf log after → AreEndsAfter status recorded log before after
@@ -55,11 +56,47 @@ run_begun (NoHeight tip) recorded is = refl
 run_begun (NotThere txid) recorded is = refl
 run_begun (NotAddress cause) recorded is = refl
 
+-- the same of a run that follows
+pub over_put : (status : Status) (recorded : Bool) (log : Option Log) (before after : List PeerEnd) → was_unbegun status recorded ≡ false → AreEndsOf log after → AreEndsOver status recorded log before after
+over_put status recorded log before after begun are = record {
+  told = λ is. are;
+  unbegun = λ is. absurd (both_ways (was_unbegun status recorded) begun is);
+  either = inr are;
+}
+
+pub over_stay : (status : Status) (recorded : Bool) (log : Option Log) (ends : List PeerEnd) → is_over status ≡ false → AreEndsOver status recorded log ends ends
+over_stay status recorded log ends not = record {
+  told = λ is. absurd (both_ways (is_over status) not is);
+  unbegun = λ is. refl;
+  either = inl refl;
+}
+
+pub over_early : (status : Status) (recorded : Bool) (log : Option Log) (ends : List PeerEnd) → IsOfFile status → AreEndsOver status recorded log ends ends
+over_early status recorded log ends is = over_stay status recorded log ends (not_over status (no_run status is))
+
+-- once it was begun, whatever becomes of its record
+pub over_recorded : (status : Status) (recorded : Bool) (log : Option Log) (before after : List PeerEnd) → was_unbegun status recorded ≡ false → AreEndsOver status false log before after
+    → AreEndsOver status recorded log before after
+over_recorded status recorded log before after begun are = record {
+  told = are.told;
+  unbegun = λ is. absurd (both_ways (was_unbegun status recorded) begun is);
+  either = are.either;
+}
+
+pub over_failed : (status other : Status) (recorded : Bool) (log : Option Log) (before after : List PeerEnd) → is_over other ≡ false → was_unbegun other recorded ≡ false
+    → AreEndsOver status false log before after → AreEndsOver other recorded log before after
+over_failed status other recorded log before after not begun are = record {
+  told = λ is. absurd (both_ways (is_over other) not is);
+  unbegun = λ is. absurd (both_ways (was_unbegun other recorded) begun is);
+  either = are.either;
+}
+
 -- no command changes them where no run was made
 pub ends_untold : (found : Option Command) (status : Status) (wires : Option Log) (tape : Log) (ends : List PeerEnd) → has_run status ≡ false → AreEnds found status wires tape ends ends
 ends_untold None status wires tape ends not = refl
-ends_untold (Some (Replay trace watch session)) status wires tape ends not = ends_stay status false (Some tape) ends not
+ends_untold (Some (Replay follow trace watch session)) status wires tape ends not = ends_stay status false (Some tape) ends not
 ends_untold (Some (Sync turns workers file watch peers)) status wires tape ends not = ends_stay status _ wires ends not
+ends_untold (Some (Follow turns workers file watch peers)) status wires tape ends not = over_stay status _ wires ends (not_over status not)
 ends_untold (Some (Scan file watch)) status wires tape ends not = refl
 ends_untold (Some (Filter file height)) status wires tape ends not = refl
 ends_untold (Some (Address text)) status wires tape ends not = refl

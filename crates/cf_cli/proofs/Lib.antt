@@ -9,4 +9,6 @@ pub mod Retold
 pub mod Serves
 pub mod Demos
 pub mod Doing
+pub mod Grown
+pub mod Stays
 pub mod Ends

@@ -22,7 +22,7 @@ use Rattle.cf_input.specs.declared.session.SessionFault.{SessionFault}
 use Rattle.cf_answers.specs.declared.status.Status.{Status}
 use Rattle.cf_answers.specs.declared.status.Status.TheVariants.{Done, NoMemory, Usage, BadFile, FileFault, OutFault, NoPeers, Tired, Ended, LinkFault, NoNonce, NoHeight, NotThere, NotAddress}
 use Rattle.cf_input.specs.declared.words.Command.{Command}
-use Rattle.cf_input.specs.declared.words.Command.TheVariants.{Replay, Sync}
+use Rattle.cf_input.specs.declared.words.Command.TheVariants.{Replay, Sync, Follow}
 use Rattle.cf_input.specs.SessionFile.{session_of}
 use Rattle.cf_input.specs.WatchFile.{watch_of}
 use Rattle.cf_cli.specs.Statuses.{has_run, may_dial, may_play, IsJudged, verdict_of, and_then}
@@ -208,7 +208,7 @@ has_nobody (NoHeight tip) off = refl
 has_nobody (NotThere txid) off = refl
 has_nobody (NotAddress cause) off = refl
 
-not_run : (status other : Status) → has_run status ≡ false → has_run other ≡ true → status ≡ other → ⊥
+pub not_run : (status other : Status) → has_run status ≡ false → has_run other ≡ true → status ≡ other → ⊥
 not_run status other off on is = false≢true (sym off ∙ ap has_run is ∙ on)
 
 -- new wires are within any bounds
@@ -216,7 +216,7 @@ new_within : (turns names : ℕ) (t : Told) → Tells [] t → IsWithin turns na
 new_within turns names t fresh = subst (λ (tally : Tally). IsWithin turns names tally) (sym fresh.counts) (record { taken = omega arith; dialled = omega arith; ended = omega arith })
 
 -- nothing more is told where no run is made
-tallied_early : (status : Status) (turns names : ℕ) (was now : Told) → has_run status ≡ false → IsOfRun status → IsWithin turns names now.tally → AreLeft was now → Tallied status turns names was now
+pub tallied_early : (status : Status) (turns names : ℕ) (was now : Told) → has_run status ≡ false → IsOfRun status → IsWithin turns names now.tally → AreLeft was now → Tallied status turns names was now
 tallied_early status turns names was now off answers within left = record {
   answers = answers;
   within = within;
@@ -346,11 +346,11 @@ pub judged_for : (o : Option Named) (found : Option Command) (c : Command) (stat
 judged_for None found c status e judged = tt
 judged_for (Some m) found c status e judged = λ other is. subst (λ (x : Command). IsJudged (verdict_of m x) status) (same_command found c other e is) judged
 
-pub judged_replay : (o : Option Named) (c : Command) (trace : Bool) (watch session watch_name session_name : List ℕ) (status : Status) → watch_name ≡ watch → session_name ≡ session
-    → c ≡ Replay trace watch session
+pub judged_replay : (o : Option Named) (c : Command) (follow trace : Bool) (watch session watch_name session_name : List ℕ) (status : Status) → watch_name ≡ watch → session_name ≡ session
+    → c ≡ Replay follow trace watch session
     → IfSome o (λ m. IsJudged (and_then (watch_verdict (finite.get m watch_name)) (session_verdict (finite.get m session_name))) status)
     → IfSome o (λ m. IsJudged (verdict_of m c) status)
-judged_replay o c trace watch session watch_name session_name status a b is judged =
+judged_replay o c follow trace watch session watch_name session_name status a b is judged =
     let one = subst (λ (w : List ℕ). IfSome o (λ m. IsJudged (and_then (watch_verdict (finite.get m w)) (session_verdict (finite.get m session_name))) status)) a judged in
     let two = subst (λ (w : List ℕ). IfSome o (λ m. IsJudged (and_then (watch_verdict (finite.get m watch)) (session_verdict (finite.get m w))) status)) b one in
     subst (λ (x : Command). IfSome o (λ m. IsJudged (verdict_of m x) status)) (sym is) two
@@ -360,6 +360,14 @@ pub judged_sync : (o : Option Named) (c : Command) (turns workers : ℕ) (file :
     → IfSome o (λ m. IsJudged (watch_verdict (finite.get m watch_name)) status)
     → IfSome o (λ m. IsJudged (verdict_of m c) status)
 judged_sync o c turns workers file watch peers watch_name status a is judged =
+    let one = subst (λ (w : List ℕ). IfSome o (λ m. IsJudged (watch_verdict (finite.get m w)) status)) a judged in
+    subst (λ (x : Command). IfSome o (λ m. IsJudged (verdict_of m x) status)) (sym is) one
+
+pub judged_follow : (o : Option Named) (c : Command) (turns workers : ℕ) (file : Option (List ℕ)) (watch : List ℕ) (peers : List (List ℕ)) (watch_name : List ℕ) (status : Status)
+    → watch_name ≡ watch → c ≡ Follow turns workers file watch peers
+    → IfSome o (λ m. IsJudged (watch_verdict (finite.get m watch_name)) status)
+    → IfSome o (λ m. IsJudged (verdict_of m c) status)
+judged_follow o c turns workers file watch peers watch_name status a is judged =
     let one = subst (λ (w : List ℕ). IfSome o (λ m. IsJudged (watch_verdict (finite.get m w)) status)) a judged in
     subst (λ (x : Command). IfSome o (λ m. IsJudged (verdict_of m x) status)) (sym is) one
 

@@ -1,18 +1,18 @@
 -- What becomes of the files.
-use Rattle.std.proofs.Common.{◌≡◌, ℕ, Bool, false, List, Option, Some, None, refl, sym, subst}
+use Rattle.std.proofs.Common.{◌≡◌, ◌≢◌, ℕ, Bool, false, List, Option, Some, None, refl, sym, subst}
 use Rattle.std.specs.Prelude.{is_some, IfSome}
 use Rattle.std.specs.FinMap as finite
 use Rattle.std.proofs.lemmas.Bool.{false≢true}
 use Rattle.cf_bytes.specs.Files.{Named, SameElsewhere}
 use Rattle.cf_wires.specs.Log.{Log}
 use Rattle.cf_input.specs.declared.words.Command.{Command}
-use Rattle.cf_input.specs.declared.words.Command.TheVariants.{Sync}
+use Rattle.cf_input.specs.declared.words.Command.TheVariants.{Sync, Follow}
 use Rattle.cf_answers.specs.declared.status.Status.{Status}
 use Rattle.cf_answers.specs.declared.status.Status.TheVariants.{Done, NoMemory, Usage, BadFile, FileFault, OutFault, NoPeers, Tired, Ended, LinkFault, NoNonce, NoHeight, NotThere, NotAddress}
-use Rattle.cf_cli.specs.Statuses.{IsJudged, was_unbegun}
+use Rattle.cf_cli.specs.Statuses.{IsJudged, was_refused, was_unbegun}
 use Rattle.cf_loading.specs.Verdicts.{IsOfFile, Verdict, Good, watch_verdict}
 use Rattle.cf_cli.specs.Recording.{HasRecord, KeepsOthers, Records, may_write}
-use Rattle.cf_cli.specs.Theorem.{AnswersTo}
+use Rattle.cf_cli.specs.Theorem.{AnswersTo, IsOfRun}
 use Rattle.cf_run.specs.declared.outcome.End.{End}
 use Rattle.cf_run.specs.declared.outcome.End.TheVariants.{Synced as IsSynced, NoPeers as HasNoPeers, Tired as IsTired, Ended as HasEnded}
 use Rattle.cf_place.specs.declared.place.PeerEnd.{PeerEnd}
@@ -51,6 +51,24 @@ end_records HasNoPeers ends status file log before after is kept = subst (λ (s 
 end_records IsTired ends status file log before after is kept = subst (λ (s : Status). Records s file log before after) (sym is) kept
 end_records HasEnded ends status file log before after is kept = subst (λ (s : Status). Records s file log before after) (sym is) kept
 
+-- the record of a run that was begun, where memory was not wanting
+pub begun_records : (status : Status) (file : Option (List ℕ)) (log : Option Log) (before after : Option Named) → IsOfRun status → was_refused status ≡ false → status ≢ NoMemory
+    → HasRecord file log before after → Records status file log before after
+begun_records Done file log before after is begun enough kept = kept
+begun_records NoMemory file log before after is begun enough kept = absurd (enough refl)
+begun_records (BadFile which place cause) file log before after is begun enough kept = absurd (false≢true (sym begun))
+begun_records FileFault file log before after is begun enough kept = absurd (false≢true (sym begun))
+begun_records OutFault file log before after is begun enough kept = kept
+begun_records (NoPeers ends) file log before after is begun enough kept = kept
+begun_records Tired file log before after is begun enough kept = kept
+begun_records Ended file log before after is begun enough kept = kept
+begun_records Usage file log before after is begun enough kept = absurd is
+begun_records LinkFault file log before after is begun enough kept = absurd is
+begun_records (NoNonce height) file log before after is begun enough kept = absurd is
+begun_records (NoHeight tip) file log before after is begun enough kept = absurd is
+begun_records (NotThere txid) file log before after is begun enough kept = absurd is
+begun_records (NotAddress cause) file log before after is begun enough kept = absurd is
+
 -- the same files, told by what they are equal to
 pub records_from : (status : Status) (file : Option (List ℕ)) (log : Option Log) (first before after : Option Named) → before ≡ first → Records status file log before after
     → Records status file log first after
@@ -80,6 +98,11 @@ unrecorded_by (Some name) status log before after h off = absurd (false≢true (
 pub sync_writes : (c : Command) (turns workers : ℕ) (file : Option (List ℕ)) (watch : List ℕ) (peers : List (List ℕ)) (status : Status) (log : Option Log) (before after : Option Named)
     → c ≡ Sync turns workers file watch peers → Records status file log before after → may_write (Some c) ≡ false → after ≡ before
 sync_writes c turns workers file watch peers status log before after is h =
+    subst (λ (x : Command). may_write (Some x) ≡ false → after ≡ before) (sym is) (unrecorded_by file status log before after h)
+
+pub follow_writes : (c : Command) (turns workers : ℕ) (file : Option (List ℕ)) (watch : List ℕ) (peers : List (List ℕ)) (status : Status) (log : Option Log) (before after : Option Named)
+    → c ≡ Follow turns workers file watch peers → Records status file log before after → may_write (Some c) ≡ false → after ≡ before
+follow_writes c turns workers file watch peers status log before after is h =
     subst (λ (x : Command). may_write (Some x) ≡ false → after ≡ before) (sym is) (unrecorded_by file status log before after h)
 
 -- the files that a command doesn't change, told of its words

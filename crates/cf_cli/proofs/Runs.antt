@@ -19,7 +19,7 @@ use Rattle.cf_peer.specs.Trail.{trail, connected}
 use Rattle.cf_scan.specs.declared.history.Entry.{Entry}
 use Rattle.cf_scan.specs.HistoryText.{history_text}
 use Rattle.cf_scan.specs.Scan.{scan_of}
-use Rattle.cf_sync.specs.Fetching.{IsQuiet, IsBusy, IsConnected}
+use Rattle.cf_sync.specs.Fetching.{IsQuiet, IsBusy, IsConnected, once}
 use Rattle.cf_sync.specs.Sync.{SyncTheorem, IsHistoryOf}
 use Rattle.cf_answers.specs.declared.status.Status.{Status}
 use Rattle.cf_answers.specs.declared.status.Status.TheVariants.{Done, NoMemory, Usage, BadFile, FileFault, OutFault, NoPeers, Tired, Ended, LinkFault, NoNonce, NoHeight, NotThere, NotAddress}
@@ -40,7 +40,7 @@ ended_not_quiet : (log : Log) → IsEnd HasEnded log → IsQuiet log → ⊥
 ended_not_quiet log why quiet = busy_not_quiet why.0 why.1.1 (λ p. subst (λ (l : Log). is_open (trail l p) ≡ false) why.1.0 (quiet p))
 
 -- a run doesn't end for want of peers where somebody is connected
-somebody_left : (end : End) (log : Log) (p : ℕ) → IsEnd end log → IsConnected log p → end ≢ HasNoPeers
+pub somebody_left : (end : End) (log : Log) (p : ℕ) → IsEnd end log → IsConnected log p → end ≢ HasNoPeers
 somebody_left end log p why here is = let nobody : IsEnd HasNoPeers log = subst (λ (e : End). IsEnd e log) is why in both_ways (connected (trail log p)) (nobody p) here
 
 settles : (end : End) (status : Status) (recorded : Bool) (before after : Option (List ℕ)) (text : List ℕ) (log : Log) → IsAnswerOf end status before after text → IsEnd end log → end ≢ HasNoPeers → IsQuiet log → Settles status recorded
@@ -96,7 +96,7 @@ quiet_once_synced end log why is = let synced : IsEnd IsSynced log = subst (λ (
 
 pub kept_of : (watch : List (List ℕ)) (end : End) (height : ℕ) (tip : Hash32) (entries : List Entry) (lines : List TraceLine) (names : List (List ℕ)) (status : Status) (recorded trace : Bool)
     (before after : Option (List ℕ)) (log : Log)
-    → Followed watch end height tip entries lines names log → SyncTheorem watch height tip entries log → IsAnswerOf end status before after (run_text trace lines end entries height tip)
+    → Followed (once watch) end height tip entries lines names log → SyncTheorem watch height tip entries log → IsAnswerOf end status before after (run_text trace lines end entries height tip)
     → TellsEnds status log → Kept status recorded trace watch names before after log
 kept_of watch end height tip entries lines names status recorded trace before after log followed theorem answer stands = record {
   writes = λ p blocks serves none is off.
@@ -129,7 +129,7 @@ kept_without (Some log) watch names recorded trace before after = record {
 -- where the record can't be written: the run followed the rules, and an honest peer was not closed
 kept_unrecorded : (watch names : List (List ℕ)) (end : End) (height : ℕ) (tip : Hash32) (entries : List Entry) (lines : List TraceLine) (recorded trace : Bool)
     (before after : Option (List ℕ)) (log : Log) → recorded ≡ true
-    → Followed watch end height tip entries lines names log → SyncTheorem watch height tip entries log → Kept FileFault recorded trace watch names before after log
+    → Followed (once watch) end height tip entries lines names log → SyncTheorem watch height tip entries log → Kept FileFault recorded trace watch names before after log
 kept_unrecorded watch names end height tip entries lines recorded trace before after log on followed theorem = record {
   writes = λ p blocks serves none is off. cc;
   answers = λ p blocks serves quiet. on;
@@ -141,7 +141,7 @@ kept_unrecorded watch names end height tip entries lines recorded trace before a
 
 pub unrecorded_told : (o : Option Log) (watch names : List (List ℕ)) (end : End) (height : ℕ) (tip : Hash32) (entries : List Entry) (lines : List TraceLine) (recorded trace : Bool)
     (before after : Option (List ℕ)) → recorded ≡ true
-    → IfSome o (λ log. Followed watch end height tip entries lines names log) → IfSome o (λ log. SyncTheorem watch height tip entries log)
+    → IfSome o (λ log. Followed (once watch) end height tip entries lines names log) → IfSome o (λ log. SyncTheorem watch height tip entries log)
     → IfSome o (λ log. Kept FileFault recorded trace watch names before after log)
 unrecorded_told None watch names end height tip entries lines recorded trace before after on followed theorem = tt
 unrecorded_told (Some log) watch names end height tip entries lines recorded trace before after on followed theorem =
@@ -149,7 +149,7 @@ unrecorded_told (Some log) watch names end height tip entries lines recorded tra
 
 pub kept_told : (o : Option Log) (watch : List (List ℕ)) (end : End) (height : ℕ) (tip : Hash32) (entries : List Entry) (lines : List TraceLine) (names : List (List ℕ)) (status : Status) (recorded trace : Bool)
     (before after : Option (List ℕ))
-    → IfSome o (λ log. Followed watch end height tip entries lines names log) → IfSome o (λ log. SyncTheorem watch height tip entries log)
+    → IfSome o (λ log. Followed (once watch) end height tip entries lines names log) → IfSome o (λ log. SyncTheorem watch height tip entries log)
     → IsAnswerOf end status before after (run_text trace lines end entries height tip) → IfSome o (TellsEnds status)
     → IfSome o (λ log. Kept status recorded trace watch names before after log)
 kept_told None watch end height tip entries lines names status recorded trace before after followed theorem answer stands = tt

@@ -1,5 +1,5 @@
 -- What is told of how each peer stands at the end of a run.
-use Rattle.std.specs.Prelude.{◌≡◌, ◌⊎◌, Bool, true, false, if◌then◌else◌, List, Option, Some, is_some, IfSome}
+use Rattle.std.specs.Prelude.{◌≡◌, ◌⊎◌, Bool, true, false, List, Option, Some, is_some, IfSome}
 use Rattle.cf_place.specs.declared.place.PeerEnd.{PeerEnd}
 use Rattle.cf_place.specs.Places.{EndsTell}
 use Rattle.cf_wires.specs.Log.{Log}
@@ -29,6 +29,5 @@ pub record AreEndsOver (status : Status) (recorded : Bool) (log : Option Log) (b
 abbrev pub AreEnds : Option Command → Status → Option Log → Log → List PeerEnd → List PeerEnd → Type 0
 AreEnds (Some (Sync turns workers file watch peers)) status wires tape before after = AreEndsAfter status (is_some file) wires before after
 AreEnds (Some (Follow turns workers file watch peers)) status wires tape before after = AreEndsOver status (is_some file) wires before after
-AreEnds (Some (Replay follow trace watch session)) status wires tape before after =
-    if follow then AreEndsOver status false (Some tape) before after else AreEndsAfter status false (Some tape) before after
+AreEnds (Some (Replay follow trace watch session)) status wires tape before after = AreEndsAfter status false (Some tape) before after
 AreEnds command status wires tape before after = after ≡ before

@@ -1,5 +1,5 @@
 -- What is promised of `follow`, and of `replay --follow`.
-use Rattle.std.specs.Prelude.{◌≡◌, ◌≢◌, ◌⊎◌, ℕ, Bool, true, false, List, ◌++◌, length, reverse, take, Option, IfSome, Ok}
+use Rattle.std.specs.Prelude.{◌≡◌, ◌≢◌, ◌⊎◌, ℕ, Bool, true, false, List, [], ◌++◌, length, reverse, take, Option, IfSome, Ok}
 use Rattle.std.specs.FinMap as finite
 use Rattle.cf_bytes.specs.Files.{Named}
 use Rattle.cf_bytes.specs.Outside.{with_more}
@@ -26,15 +26,15 @@ use Rattle.cf_scan.specs.HistoryText.{history_text}
 use Rattle.cf_scan.specs.Scan.{scan_of}
 use Rattle.cf_input.specs.WatchFile.{watch_of}
 use Rattle.cf_answers.specs.declared.status.Status.{Status}
-use Rattle.cf_answers.specs.declared.status.Status.TheVariants.{Done, NoMemory, FileFault}
+use Rattle.cf_answers.specs.declared.status.Status.TheVariants.{Done, NoMemory}
 use Rattle.cf_answers.specs.Texts.{trace_text}
 use Rattle.cf_cli.specs.Statuses.{has_run, is_over}
 use Rattle.cf_cli.specs.Theorem.{AnswersTo, IsComplete, Tallied}
 
--- the texts behind the trace, where it is asked for
-abbrev pub with_texts : Bool → List TraceLine → List (List ℕ) → List ℕ
-with_texts true lines texts = trace_text lines ++ joined texts
-with_texts false lines texts = joined texts
+-- the trace before other bytes, where it is asked for
+abbrev pub with_trace : Bool → List TraceLine → List ℕ → List ℕ
+with_trace true lines bytes = trace_text lines ++ bytes
+with_trace false lines bytes = bytes
 
 -- a run that follows came to its end, by the log, and the texts of all its quiet moments were written whole
 pub record Stayed (status : Status) (trace : Bool) (scripts names : List (List ℕ)) (before after : Option (List ℕ)) (log : Log) : Type 0 where
@@ -49,7 +49,7 @@ pub record Stayed (status : Status) (trace : Bool) (scripts names : List (List �
   pub answered : AnswersTo end ends status
   pub texts : List (List ℕ)
   pub puts : ArePut scripts log texts
-  pub written : after ≡ with_more before (with_texts trace lines texts)
+  pub written : after ≡ with_more before (with_trace trace lines (joined texts))
 
 -- where it failed: a beginning of the trace, where it is asked for, and of the texts of the quiet moments was written
 pub record BegunTexts (trace : Bool) (scripts : List (List ℕ)) (before after : Option (List ℕ)) (log : Log) : Type 0 where
@@ -57,7 +57,7 @@ pub record BegunTexts (trace : Bool) (scripts : List (List ℕ)) (before after :
   pub traced : (trace ≡ false) ⊎ ((after ≡ before) ⊎ IsTraceOf log (reverse lines))
   pub texts : List (List ℕ)
   pub puts : WerePut scripts log texts ⊎ ArePut scripts log texts
-  pub begun : HasBegun (with_texts trace lines texts) before after
+  pub begun : HasBegun (with_trace trace lines (joined texts)) before after
 
 -- a peer whose chain grows up to these blocks, over a log whose strings, with those of the blocks and of their filters, don't clash
 pub record Grows (log : Log) (p : ℕ) (blocks : List Block) (first : ℕ) : Type 0 where
@@ -83,10 +83,11 @@ pub record KeptOn (status : Status) (recorded trace : Bool) (scripts names : Lis
   pub begun : is_over status ≡ false → BegunTexts trace scripts before after log
   pub right : status ≢ NoMemory → AreBytes log × RightlyIn Following log
 
--- the same with the scripts of the watch file
+-- the same with the scripts of the watch file, which was read before anything passed
 pub record KeptOnOver (status : Status) (recorded trace : Bool) (files : Option Named) (watch : List ℕ) (names : List (List ℕ)) (before after : Option (List ℕ)) (log : Log) : Type 0 where
   pub scripts : List (List ℕ)
   pub watched : has_run status ≡ true → IfSome files (λ m. IfSome (finite.get m watch) (λ bytes. watch_of bytes ≡ Ok scripts))
+  pub unwatched : (log ≡ []) ⊎ IfSome files (λ m. IfSome (finite.get m watch) (λ bytes. watch_of bytes ≡ Ok scripts))
   pub kept : KeptOn status recorded trace scripts names before after log
 
 -- what is promised over any wires: the same as of `sync`, and Done only where the turns are taken, or the wires have no more to give

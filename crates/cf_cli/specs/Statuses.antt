@@ -86,8 +86,8 @@ abbrev pub is_no_peers : Status → Bool
 is_no_peers (NoPeers ends) = true
 is_no_peers status = false
 
--- a command that puts texts as its run goes on, so that some may stand when it fails
-abbrev pub goes_on : Option Command → Bool
-goes_on (Some (Replay follow trace watch session)) = follow
-goes_on (Some (Follow turns workers file watch peers)) = true
-goes_on command = false
+-- whether a command that was answered so may have written text: once it was carried out; and `follow`, which puts each text as its run goes on, once its
+-- run was begun
+abbrev pub may_say : Option Command → Status → Bool
+may_say (Some (Follow turns workers file watch peers)) status = not (was_unbegun status (is_some file))
+may_say command status = has_run status

@@ -1,4 +1,4 @@
-//! A run of the client over any wires, and what is written of it.
+//! A run of the client over any wires that ends once nothing is open, and what is written of it.
 ghost use Rattle.std.specs.Prelude.{◌≡◌, ◌≤◌, [], length, IfSome, is_some, true, false};
 ghost use Rattle.cf_bytes.specs.Files.{IsAtMostWritten};
 ghost use Rattle.cf_bytes.specs.Outside.{HasRisen};
@@ -23,8 +23,8 @@ use cf_scan::Watch;
 use cf_wires::Wires;
 use std::alloc::Global;
 
-// The answer to a run whose text was written.
-fn status_of(end: End, ends: Vec<PeerEnd>) -> Status
+/// The answer to a run whose text was written.
+pub(crate) fn status_of(end: End, ends: Vec<PeerEnd>) -> Status
     ensures answer { AnswersTo end ends.items result }
     ensures answers { IsOfRun result }
     ensures ran { has_run result ≡ true }
@@ -42,7 +42,7 @@ fn status_of(end: End, ends: Vec<PeerEnd>) -> Status
 /// the tip once nothing is open. The wires are new, and not finished. Where a file is named for the log, its session lines are written to it before
 /// any text. How each peer stands at the end of the run is put into `ends`, in the order of their numbers.
 #[tactic(auto, using(crate::proofs::Asking::unwritten))]
-pub(crate) fn follow<F: Files, W: Wires, M: Matcher + Drop, O: Sink>(
+pub(crate) fn run_once<F: Files, W: Wires, M: Matcher + Drop, O: Sink>(
     alloc: Global,
     files: &mut F,
     wires: &mut W,

@@ -11,6 +11,7 @@ mod proving;
 mod reading;
 mod recording;
 mod serving;
+mod staying;
 
 pub use demoing::{demo_text, session};
 pub use laws::laws_of_records;

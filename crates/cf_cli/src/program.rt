@@ -1,5 +1,5 @@
 //! All that the program does.
-ghost use Rattle.std.specs.Prelude.{◌≡◌, ◌≢◌, ◌≤◌, ◌⊎◌, true, false, [], ◌∷◌, length, IfSome, is_some, Some, None};
+ghost use Rattle.std.specs.Prelude.{◌≡◌, ◌≢◌, ◌≤◌, ◌⊎◌, if◌then◌else◌, true, false, [], ◌∷◌, length, IfSome, is_some, Some, None};
 ghost use Rattle.std.specs.FinMap as finite;
 ghost use Rattle.cf_bytes.specs.Outside.{HasRisen};
 ghost use Rattle.cf_run.specs.Names.{names_in};
@@ -11,24 +11,26 @@ ghost use Rattle.cf_played.specs.Told.{log_of as played_log, peers_of, finished_
 ghost use Rattle.cf_input.specs.SessionFile.{session_of};
 ghost use Rattle.cf_cli.specs.Asking.{AsksFor, AreAsked, Whole};
 ghost use Rattle.cf_cli.specs.Recording.{Records, may_write};
-ghost use Rattle.cf_cli.specs.Statuses.{IsJudged, goes_on, has_run, was_refused, was_unbegun, may_dial, may_play, and_then, verdict_of};
+ghost use Rattle.cf_cli.specs.Statuses.{IsJudged, has_run, was_refused, was_unbegun, may_dial, may_play, may_say, and_then, verdict_of};
 ghost use Rattle.cf_loading.specs.Verdicts.{watch_verdict, session_verdict};
 ghost use Rattle.cf_serve.specs.Links.{link_now};
 ghost use Rattle.cf_cli.specs.Serving.{may_serve};
 ghost use Rattle.cf_cli.specs.Doing.{Does, around};
-ghost use Rattle.cf_cli.specs.Ends.{AreEnds, AreEndsAfter};
+ghost use Rattle.cf_cli.specs.Ends.{AreEnds, AreEndsAfter, AreEndsOver};
 ghost use Rattle.cf_cli.specs.Demo.{may_show};
+ghost use Rattle.cf_cli.specs.Following.{KeptOnOver, IsReplayedOn, TalliedOn};
 ghost use Rattle.cf_cli.specs.Theorem.{KeptOver, IsReplayed, Tallied, PlaysSession};
 ghost use Rattle.cf_input.specs.Words.{command_of, HasFewPeers};
 ghost use Rattle.cf_input.specs.declared.words.Command.{Command};
 
 use crate::addressing::address;
 use crate::demoing::demo;
-use crate::following::follow;
+use crate::following::run_once;
 use crate::making::make;
 use crate::proving::{check, prove};
 use crate::reading::{filter, scan};
 use crate::serving::serve;
+use crate::staying::{stay, stay_on_tape};
 use cf_answers::Status;
 use cf_bytes::{Files, Refused, Sink};
 use cf_conn::Duplex;
@@ -46,12 +48,13 @@ use std::alloc::Global;
 use std::sync::Wait;
 use std::thread::Threads;
 
-// Follows the session of a file, on the tape that is handed in.
+// Follows the session of a file, on the tape that is handed in: until nothing is open, or as its chains grow.
 fn replay<F: Files, O: Sink>(
     alloc: Global,
     files: &mut F,
     watch: &str,
     session: &str,
+    follow: bool,
     trace: bool,
     moment: i64,
     nonce: u64,
@@ -63,7 +66,8 @@ fn replay<F: Files, O: Sink>(
     requires failing { failing_of tape.old ≡ [] }
     requires open { finished_of tape.old ≡ false }
     ensures judged { IfSome (F.files files.old) (λ m. IsJudged (and_then (watch_verdict (finite.get m watch.now)) (session_verdict (finite.get m session.now))) result) }
-    ensures replayed { IsReplayed result MOST_TURNS trace (F.files files.old) watch.now (O.written out.old) (O.written out.new) (told_of tape.old) (told_of tape.new) (log_of tape.new) }
+    ensures replayed { if follow then IsReplayedOn result MOST_TURNS trace (F.files files.old) watch.now (O.written out.old) (O.written out.new) (told_of tape.old) (told_of tape.new) (log_of tape.new)
+        else IsReplayed result MOST_TURNS trace (F.files files.old) watch.now (O.written out.old) (O.written out.new) (told_of tape.old) (told_of tape.new) (log_of tape.new) }
     ensures plays { IfSome (F.files files.old) (λ m. IfSome (finite.get m session.now) (λ bytes. PlaysSession result (session_of bytes) (log_of tape.new))) }
     ensures versions { IsOfWords (record { moment = moment; number = nonce }) (log_of tape.new) }
     ensures unchanged { F.files files.new ≡ F.files files.old }
@@ -84,21 +88,37 @@ fn replay<F: Files, O: Sink>(
         Err(status) => return status,
     };
     tape.load(session.dials, session.deliveries);
-    follow(
-        alloc,
-        files,
-        tape,
-        &None,
-        &session.names,
-        scripts,
-        Plain::new(alloc),
-        moment,
-        nonce,
-        MOST_TURNS,
-        trace,
-        out,
-        ends,
-    )
+    if follow {
+        stay_on_tape(
+            alloc,
+            tape,
+            &session.names,
+            scripts,
+            Plain::new(alloc),
+            moment,
+            nonce,
+            MOST_TURNS,
+            trace,
+            out,
+            ends,
+        )
+    } else {
+        run_once(
+            alloc,
+            files,
+            tape,
+            &None,
+            &session.names,
+            scripts,
+            Plain::new(alloc),
+            moment,
+            nonce,
+            MOST_TURNS,
+            trace,
+            out,
+            ends,
+        )
+    }
 }
 
 // Follows the peers of these names, of one to eight, over the wires that are handed in, and records what passes them where a file is named for it.
@@ -146,9 +166,59 @@ fn sync<R: Wait + Threads + Copy + Drop + Send + 'static, F: Files, W: Wires, K:
     let Ok(matcher) = Parallel::new(rt, alloc, spawner, workers) else {
         return Status::NoMemory;
     };
-    follow(
+    run_once(
         alloc, files, wires, log_file, peers, scripts, matcher, moment, nonce, turns, false, out,
         ends,
+    )
+}
+
+// Follows the peers of these names, of one to eight, as their chains grow, over the wires that are handed in, and records what passes them where a file
+// is named for it. Filters are judged by so many threads.
+fn follow<R: Wait + Threads + Copy + Drop + Send + 'static, F: Files, W: Wires, K: Spawner, O: Sink>(
+    rt: R,
+    alloc: Global,
+    files: &mut F,
+    watch: &str,
+    peers: &[String],
+    log_file: &Option<Word>,
+    workers: u32,
+    moment: i64,
+    nonce: u64,
+    turns: u32,
+    wires: &mut W,
+    spawner: &mut K,
+    out: &mut O,
+    ends: &mut Vec<PeerEnd>,
+) -> Status
+    requires fresh { Tells [] (W.told wires.old) }
+    requires open { (W.told wires.old).finished ≡ false }
+    requires few { length peers.now ≤ 8 }
+    requires some { 1 ≤ workers }
+    requires most { workers ≤ 64 }
+    ensures judged { IfSome (F.files files.old) (λ m. IsJudged (watch_verdict (finite.get m watch.now)) result) }
+    ensures kept { IfSome (W.told wires.new).log (λ log. KeptOnOver result (is_some log_file.now) false (F.files files.old) watch.now (names_in peers.now) (O.written out.old) (O.written out.new) log) }
+    ensures tallied { TalliedOn result turns (length (names_in peers.now)) (W.told wires.old) (W.told wires.new) }
+    ensures dialled { HasDialled (names_in peers.now) (W.told wires.new) }
+    ensures versions { HasWords (record { moment = moment; number = nonce }) (W.told wires.new) }
+    ensures failures { IfSome (W.told wires.new).log (λ log. HasFailed log → HasRisen (W.faults wires.old) (W.faults wires.new)) }
+    ensures records { Records result log_file.now (W.told wires.new).log (F.files files.old) (F.files files.new) }
+    ensures files { AsksFor F.reads F.opens F.parts F.writes (Whole watch.now ∷ []) log_file.now files.old files.new }
+    ensures file_fault { result ≡ Status.FileFault → HasRisen (F.faults files.old) (F.faults files.new) }
+    ensures out_fault { result ≡ Status.OutFault → HasRisen (O.faults out.old) (O.faults out.new) }
+    ensures unwritten { was_unbegun result (is_some log_file.now) ≡ true → O.written out.new ≡ O.written out.old }
+    ensures undialled { was_unbegun result (is_some log_file.now) ≡ true → W.told wires.new ≡ W.told wires.old }
+    ensures asked { result ≢ Status.Usage }
+    ensures ends { AreEndsOver result (is_some log_file.now) (W.told wires.new).log ends.old.items ends.new.items }
+{
+    let scripts = match load_watch(alloc, files, watch) {
+        Ok(scripts) => scripts,
+        Err(status) => return status,
+    };
+    let Ok(matcher) = Parallel::new(rt, alloc, spawner, workers) else {
+        return Status::NoMemory;
+    };
+    stay(
+        alloc, files, wires, log_file, peers, scripts, matcher, moment, nonce, turns, out, ends,
     )
 }
 
@@ -208,7 +278,7 @@ where
     ensures files { AreAsked F.reads F.opens F.parts F.writes (Some command) files.old files.new }
     ensures file_fault { result ≡ Status.FileFault → HasRisen (F.faults files.old) (F.faults files.new) }
     ensures out_fault { result ≡ Status.OutFault → HasRisen (O.faults out.old) (O.faults out.new) }
-    ensures unwritten { goes_on (Some command) ≡ false → has_run result ≡ false → O.written out.new ≡ O.written out.old }
+    ensures unwritten { may_say (Some command) result ≡ false → O.written out.new ≡ O.written out.old }
     ensures failures { IfSome (W.told wires.new).log (λ log. HasFailed log → HasRisen (W.faults wires.old) (W.faults wires.new)) }
     ensures undialled { may_dial (Some command) result ≡ false → W.told wires.new ≡ W.told wires.old }
     ensures unplayed { may_play (Some command) result ≡ false → told_of tape.new ≡ told_of tape.old }
@@ -220,6 +290,7 @@ where
 {
     match command {
         Command::Replay {
+            follow,
             trace,
             watch,
             session,
@@ -228,6 +299,7 @@ where
             files,
             watch.as_str(),
             session.as_str(),
+            follow,
             trace,
             moment,
             nonce,
@@ -242,6 +314,28 @@ where
             watch,
             peers,
         } => sync(
+            rt,
+            alloc,
+            files,
+            watch.as_str(),
+            peers.as_slice(),
+            &record,
+            threads_of(workers),
+            moment,
+            nonce,
+            turns,
+            wires,
+            spawner,
+            out,
+            ends,
+        ),
+        Command::Follow {
+            turns,
+            workers,
+            record,
+            watch,
+            peers,
+        } => follow(
             rt,
             alloc,
             files,
@@ -300,7 +394,7 @@ where
 /// `NoMemory` may come in place of any other answer. `Usage` comes where the words ask for nothing. The watch file is judged first, then the session
 /// file: what is missing, refused or good is answered so. After that the run is made; a record of it, where `sync` is asked for one, is put into its
 /// file; and its text is written. `follow` writes the text of each quiet moment at once, and its record at the end; `replay --follow` writes the texts of
-/// all of them after the trace. With `NoMemory`, `Usage`, `BadFile` and `FileFault` no text was written but by these two. With the last three no wires
+/// all of them after the trace. With `NoMemory`, `Usage`, `BadFile` and `FileFault` no text was written, but by a `follow` whose run was begun. With the last three no wires
 /// were used, but for a `FileFault` that comes where the record can't be written; `sync` and `follow` alone use `wires`, `replay` alone `tape`, `demo` alone `played`, `serve` alone
 /// `link`. `make` puts its records into its file; of the other commands only `sync` and `follow` with a record change a file. Of the files at most those that the
 /// command names are read, the watch file first and each once, a file of blocks by parts, and after that at most the one that it writes is written, once.
@@ -356,7 +450,7 @@ where
     ensures files { AreAsked F.reads F.opens F.parts F.writes (command_of (names_in words.now)) files.old files.new }
     ensures file_fault { result ≡ Status.FileFault → HasRisen (F.faults files.old) (F.faults files.new) }
     ensures out_fault { result ≡ Status.OutFault → HasRisen (O.faults out.old) (O.faults out.new) }
-    ensures unwritten { goes_on (command_of (names_in words.now)) ≡ false → has_run result ≡ false → O.written out.new ≡ O.written out.old }
+    ensures unwritten { may_say (command_of (names_in words.now)) result ≡ false → O.written out.new ≡ O.written out.old }
     ensures failures { IfSome (W.told wires.new).log (λ log. HasFailed log → HasRisen (W.faults wires.old) (W.faults wires.new)) }
     ensures undialled { may_dial (command_of (names_in words.now)) result ≡ false → W.told wires.new ≡ W.told wires.old }
     ensures unplayed { may_play (command_of (names_in words.now)) result ≡ false → told_of tape.new ≡ told_of tape.old }

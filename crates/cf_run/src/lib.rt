@@ -9,5 +9,5 @@ mod trace;
 
 pub use outcome::{End, Outcome};
 pub use over::{follow_over, sync_over};
-pub use texts::{TextFail, Texts};
+pub use texts::{Kept, Live, TextFail, Texts};
 pub use trace::TraceLine;

@@ -3,7 +3,8 @@ ghost use Rattle.std.specs.Prelude.{◌≡◌, ◌≢◌, ◌↔◌, ℕ, None, 
 ghost use Rattle.cf_bytes.specs.Outside.{HasRisen};
 ghost use Rattle.cf_client.specs.Holding.{HoldsNoMore};
 ghost use Rattle.cf_run.specs.Names.{names_in};
-ghost use Rattle.cf_sync.specs.Fetching.{Rule, following, once};
+ghost use Rattle.cf_sync.specs.Fetching.{AreBytes, RightlyIn, Rule, following, once};
+ghost use Rattle.cf_peer.specs.declared.mode.Mode.TheVariants.{Following};
 ghost use Rattle.cf_sync.specs.Growing.{FollowTheorem};
 ghost use Rattle.cf_run.specs.Texts.{HasPut, HasPutSome, IsOver};
 ghost use Rattle.cf_sync.specs.Sync.{SyncTheorem};
@@ -633,7 +634,8 @@ pub fn follow_over<W: Wires, H: HeaderStore + Drop, M: Matcher + Drop, T: Texts>
     ensures tired { IfOk result (λ o. o.end ≡ End.Tired → (W.told wires.new).tally.taken ≡ turns) }
     ensures ended { IfOk result (λ o. o.end ≡ End.Ended → (W.told wires.new).tally.ended ≡ 1) }
     ensures early { IfOk result (λ o. o.end ≡ End.Ended → (W.told wires.new).tally.taken < turns) }
-    ensures dialled { OnOk result ((W.told wires.new).tally.dials ≡ length names.now) }
+    ensures dialled { (IsErrOf result TextFail.NoMemory → ⊥) → (W.told wires.new).tally.dials ≡ length names.now }
+    ensures right { IsErrOf result TextFail.Failed → IfSome (W.told wires.new).log (λ log. AreBytes log × RightlyIn Following log) }
     ensures first { HasDialled (names_in names.now) (W.told wires.new) }
     ensures most { (W.told wires.new).tally.taken ≤ turns }
     ensures once { (W.told wires.new).tally.ended ≤ 1 }
@@ -643,6 +645,7 @@ pub fn follow_over<W: Wires, H: HeaderStore + Drop, M: Matcher + Drop, T: Texts>
     ensures failures { IfSome (W.told wires.new).log (λ log. HasFailed log → HasRisen (W.faults wires.old) (W.faults wires.new)) }
     ensures failed { IsErrOf result TextFail.Failed → HasRisen (T.faults texts.old) (T.faults texts.new) }
     ensures fine { OnOk result (T.faults texts.new ≡ T.faults texts.old) }
+    ensures same_reference { T.holds texts.new ≡ T.holds texts.old }
 {
     let outcome = follow_all(
         alloc, wires, names, watch, store, matcher, moment, nonce, turns, texts,

@@ -5,21 +5,31 @@ use Rattle.cf_serve.specs.Links.{LinkTold, link_now}
 use Rattle.cf_cli.specs.Serving.{IsServing}
 use Rattle.cf_wires.specs.Memory.{told_of}
 use Rattle.cf_run.proofs.Versions.{new_words}
-use Rattle.cf_cli.proofs.Plays.{versions_so, unplayed_words, judged_replay, judged_sync, new_unfailed}
-use Rattle.cf_cli.proofs.Records.{sync_writes}
+use Rattle.cf_cli.proofs.Plays.{versions_so, unplayed_words, judged_replay, judged_sync, judged_follow, new_unfailed}
+use Rattle.cf_cli.proofs.Records.{sync_writes, follow_writes}
 use Rattle.cf_cli.proofs.Demos.{demo_uses}
+use Rattle.cf_cli.proofs.Doing.{replays_by}
 use Rattle.cf_cli.proofs.Serves.{serve_uses}
 use Rattle.cf_cli.proofs.program.perform.Goals as goal
 
 pub returns-in-Replay-clause-judged : goal.returns-in-Replay-clause-judged
 returns-in-Replay-clause-judged g c =
-    judged_replay (g.F.Files.files c.args.files.now) c.args.command c.in-Replay.trace c.in-Replay.watch c.in-Replay.session c.as_str.result.now c.as_str-in-Replay.result.now c.replay.result
+    judged_replay (g.F.Files.files c.args.files.now) c.args.command c.in-Replay.follow c.in-Replay.trace c.in-Replay.watch c.in-Replay.session c.as_str.result.now c.as_str-in-Replay.result.now c.replay.result
     c.as_str.ensures c.as_str-in-Replay.ensures c.in-Replay.is c.replay.ensures.judged
 
 pub returns-in-Sync-clause-judged : goal.returns-in-Sync-clause-judged
 returns-in-Sync-clause-judged g c =
     judged_sync (g.F.Files.files c.args.files.now) c.args.command c.in-Sync.turns c.in-Sync.workers c.in-Sync.«record» c.in-Sync.watch c.in-Sync.peers c.as_str-in-Sync.result.now c.sync.result
     c.as_str-in-Sync.ensures c.in-Sync.is c.sync.ensures.judged
+
+pub returns-in-Follow-clause-judged : goal.returns-in-Follow-clause-judged
+returns-in-Follow-clause-judged g c =
+    judged_follow (g.F.Files.files c.args.files.now) c.args.command c.in-Follow.turns c.in-Follow.workers c.in-Follow.«record» c.in-Follow.watch c.in-Follow.peers c.as_str-in-Follow.result.now c.follow.result
+    c.as_str-in-Follow.ensures c.in-Follow.is c.follow.ensures.judged
+
+pub returns-in-Follow-clause-unchanged : goal.returns-in-Follow-clause-unchanged
+returns-in-Follow-clause-unchanged g c =
+    follow_writes c.args.command c.in-Follow.turns c.in-Follow.workers c.in-Follow.«record» c.in-Follow.watch c.in-Follow.peers c.follow.result _ _ _ c.in-Follow.is c.follow.ensures.records
 
 pub returns-in-Sync-clause-unchanged : goal.returns-in-Sync-clause-unchanged
 returns-in-Sync-clause-unchanged g c =
@@ -63,6 +73,14 @@ returns-in-Address-clause-versions g c = new_words _ _ c.requires.wires
 
 pub returns-in-Sync-clause-tape_versions : goal.returns-in-Sync-clause-tape_versions
 returns-in-Sync-clause-tape_versions g c = unplayed_words _ _ c.requires.log
+
+pub returns-in-Follow-clause-tape_versions : goal.returns-in-Follow-clause-tape_versions
+returns-in-Follow-clause-tape_versions g c = unplayed_words _ _ c.requires.log
+
+pub returns-in-Follow-clause-versions : goal.returns-in-Follow-clause-versions
+returns-in-Follow-clause-versions g c =
+    versions_so _ c.args.moment c.args.nonce (g.W.Wires.told c.follow.new.wires)
+    (to_z-of_z {w = w64} {z = c.args.moment} (search rules)) c.follow.ensures.versions
 
 pub returns-in-Scan-clause-tape_versions : goal.returns-in-Scan-clause-tape_versions
 returns-in-Scan-clause-tape_versions g c = unplayed_words _ _ c.requires.log
@@ -123,10 +141,8 @@ pub returns-in-Demo-clause-unshown : goal.returns-in-Demo-clause-unshown
 returns-in-Demo-clause-unshown g c = demo_uses c.args.command c.in-Demo.seed c.in-Demo.blocks c.in-Demo.is
 
 pub returns-in-Replay-clause-does : goal.returns-in-Replay-clause-does
-returns-in-Replay-clause-does g c = rw c.in-Replay.is (record {
-  replayed = rw c.as_str.ensures at c.replay.ensures.replayed;
-  plays = rw c.as_str-in-Replay.ensures at c.replay.ensures.plays;
-})
+returns-in-Replay-clause-does g c =
+    rw c.in-Replay.is (replays_by c.in-Replay.follow c.replay.result c.in-Replay.trace c.in-Replay.watch c.in-Replay.session _ _ (rw c.as_str.ensures at c.replay.ensures.replayed) (rw c.as_str-in-Replay.ensures at c.replay.ensures.plays))
 
 pub returns-in-Sync-clause-does : goal.returns-in-Sync-clause-does
 returns-in-Sync-clause-does g c = rw c.in-Sync.is (record {
@@ -134,6 +150,14 @@ returns-in-Sync-clause-does g c = rw c.in-Sync.is (record {
   tallied = rw c.as_slice.ensures at c.sync.ensures.tallied;
   dialled = rw c.as_slice.ensures at c.sync.ensures.dialled;
   records = c.sync.ensures.records;
+})
+
+pub returns-in-Follow-clause-does : goal.returns-in-Follow-clause-does
+returns-in-Follow-clause-does g c = rw c.in-Follow.is (record {
+  kept = rw (c.as_str-in-Follow.ensures, c.as_slice-in-Follow.ensures) at c.follow.ensures.kept;
+  tallied = rw c.as_slice-in-Follow.ensures at c.follow.ensures.tallied;
+  dialled = rw c.as_slice-in-Follow.ensures at c.follow.ensures.dialled;
+  records = c.follow.ensures.records;
 })
 
 pub returns-in-Scan-clause-does : goal.returns-in-Scan-clause-does
@@ -170,6 +194,9 @@ returns-in-Replay-clause-files g c = rw c.in-Replay.is (rw (c.as_str.ensures, c.
 pub returns-in-Sync-clause-files : goal.returns-in-Sync-clause-files
 returns-in-Sync-clause-files g c = rw c.in-Sync.is (rw c.as_str-in-Sync.ensures at c.sync.ensures.files)
 
+pub returns-in-Follow-clause-files : goal.returns-in-Follow-clause-files
+returns-in-Follow-clause-files g c = rw c.in-Follow.is (rw c.as_str-in-Follow.ensures at c.follow.ensures.files)
+
 pub returns-in-Scan-clause-files : goal.returns-in-Scan-clause-files
 returns-in-Scan-clause-files g c = rw c.in-Scan.is (c.scan.new.files, rw (c.as_str-in-Scan.ensures, c.as_str-in-Scan-2.ensures) at c.scan.ensures.files, refl)
 
@@ -199,6 +226,9 @@ returns-in-Replay-clause-ends g c = rw c.in-Replay.is c.replay.ensures.ends
 
 pub returns-in-Sync-clause-ends : goal.returns-in-Sync-clause-ends
 returns-in-Sync-clause-ends g c = rw c.in-Sync.is c.sync.ensures.ends
+
+pub returns-in-Follow-clause-ends : goal.returns-in-Follow-clause-ends
+returns-in-Follow-clause-ends g c = rw c.in-Follow.is c.follow.ensures.ends
 
 pub returns-in-Scan-clause-ends : goal.returns-in-Scan-clause-ends
 returns-in-Scan-clause-ends g c = rw c.in-Scan.is refl

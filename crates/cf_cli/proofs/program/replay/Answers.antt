@@ -23,10 +23,10 @@ pub returns-clause-replayed : goal.returns-clause-replayed
 returns-clause-replayed g c =
     let names = names_in c.deref.result.now in (
       names,
-      over_watch c.follow.result false c.args.trace (g.F.Files.files c.args.files.now) c.args.watch.now c.in-Ok.scripts names (g.O.Sink.written c.args.out.now) (g.O.Sink.written c.follow.new.out)
-          (log_of c.follow.new.wires) c.in-Ok.ensures.scripts c.follow.ensures.kept,
-      subst (λ (t : Told). Tallied c.follow.result 10000000 (length names) t (told_of c.follow.new.wires)) (same_told c.load.new.self c.args.tape.now c.load.ensures.log c.load.ensures.finished)
-          c.follow.ensures.tallied,
+      over_watch c.run_once.result false c.args.trace (g.F.Files.files c.args.files.now) c.args.watch.now c.in-Ok.scripts names (g.O.Sink.written c.args.out.now) (g.O.Sink.written c.run_once.new.out)
+          (log_of c.run_once.new.wires) c.in-Ok.ensures.scripts c.run_once.ensures.kept,
+      subst (λ (t : Told). Tallied c.run_once.result 10000000 (length names) t (told_of c.run_once.new.wires)) (same_told c.load.new.self c.args.tape.now c.load.ensures.log c.load.ensures.finished)
+          c.run_once.ensures.tallied,
     )
 
 pub returns-in-Err-clause-plays : goal.returns-in-Err-clause-plays
@@ -40,12 +40,12 @@ pub returns-clause-plays : goal.returns-clause-plays
 returns-clause-plays g c =
     let s = c.in-Ok-load_session.session in
     let script : Script = record { dials = s.dials.items; deliveries = s.deliveries.items } in
-    told_plays (g.F.Files.files c.args.files.now) c.args.session.now c.follow.result script (log_of c.follow.new.wires)
+    told_plays (g.F.Files.files c.args.files.now) c.args.session.now c.run_once.result script (log_of c.run_once.new.wires)
     (told_so (g.F.Files.files c.load_watch.new.files) (g.F.Files.files c.args.files.now) c.args.session.now script c.load_watch.ensures.same c.in-Ok-load_session.ensures.script)
-    (plays_of c.follow.result (names_in c.deref.result.now) script c.follow.new.wires
-    (c.follow.ensures.same ∙ ap Some (ap (λ (x : Script). made x (failing_of c.load.new.self)) c.load.ensures.script ∙ ap (made script) (c.load.ensures.failing ∙ c.requires.failing)))
+    (plays_of c.run_once.result (names_in c.deref.result.now) script c.run_once.new.wires
+    (c.run_once.ensures.same ∙ ap Some (ap (λ (x : Script). made x (failing_of c.load.new.self)) c.load.ensures.script ∙ ap (made script) (c.load.ensures.failing ∙ c.requires.failing)))
     (ap names_in c.deref.ensures.value ∙ c.in-Ok-load_session.ensures.named)
-    c.follow.ensures.dialled c.follow.ensures.tallied.whole)
+    c.run_once.ensures.dialled c.run_once.ensures.tallied.whole)
 
 pub returns-in-Err-clause-versions : goal.returns-in-Err-clause-versions
 returns-in-Err-clause-versions g c = unplayed_words _ _ c.requires.log
@@ -55,8 +55,8 @@ returns-in-Err-load_session-clause-versions g c = unplayed_words _ _ c.requires.
 
 pub returns-clause-versions : goal.returns-clause-versions
 returns-clause-versions g c =
-    versions_so _ c.args.moment c.args.nonce (told_of c.follow.new.wires)
-    (to_z-of_z {w = w64} {z = c.args.moment} (search rules)) c.follow.ensures.versions
+    versions_so _ c.args.moment c.args.nonce (told_of c.run_once.new.wires)
+    (to_z-of_z {w = w64} {z = c.args.moment} (search rules)) c.run_once.ensures.versions
 
 pub returns-in-Err-clause-ends : goal.returns-in-Err-clause-ends
 returns-in-Err-clause-ends g c = ends_early c.in-Err.status _ _ _ c.in-Err.ensures.only
@@ -65,4 +65,4 @@ pub returns-in-Err-load_session-clause-ends : goal.returns-in-Err-load_session-c
 returns-in-Err-load_session-clause-ends g c = ends_early c.in-Err-load_session.status _ _ _ c.in-Err-load_session.ensures.only
 
 pub returns-clause-ends : goal.returns-clause-ends
-returns-clause-ends g c = c.follow.ensures.ends
+returns-clause-ends g c = c.run_once.ensures.ends

@@ -17,8 +17,8 @@ returns-in-Err-clause-kept g c =
 
 pub returns-clause-kept : goal.returns-clause-kept
 returns-clause-kept g c =
-    told_over_watch (g.W.Wires.told c.follow.new.wires).log c.follow.result (is_some c.args.log_file.now) false (g.F.Files.files c.args.files.now) c.args.watch.now c.in-Ok.scripts (names_in c.args.peers.now)
-    (g.O.Sink.written c.args.out.now) (g.O.Sink.written c.follow.new.out) c.in-Ok.ensures.scripts c.follow.ensures.kept
+    told_over_watch (g.W.Wires.told c.run_once.new.wires).log c.run_once.result (is_some c.args.log_file.now) false (g.F.Files.files c.args.files.now) c.args.watch.now c.in-Ok.scripts (names_in c.args.peers.now)
+    (g.O.Sink.written c.args.out.now) (g.O.Sink.written c.run_once.new.out) c.in-Ok.ensures.scripts c.run_once.ensures.kept
 
 pub returns-in-Err-clause-records : goal.returns-in-Err-clause-records
 returns-in-Err-clause-records g c =
@@ -26,8 +26,8 @@ returns-in-Err-clause-records g c =
 
 pub returns-clause-records : goal.returns-clause-records
 returns-clause-records g c =
-    records_from c.follow.result c.args.log_file.now _ (g.F.Files.files c.args.files.now) (g.F.Files.files c.load_watch.new.files) (g.F.Files.files c.follow.new.files) c.load_watch.ensures.same
-    c.follow.ensures.records
+    records_from c.run_once.result c.args.log_file.now _ (g.F.Files.files c.args.files.now) (g.F.Files.files c.load_watch.new.files) (g.F.Files.files c.run_once.new.files) c.load_watch.ensures.same
+    c.run_once.ensures.records
 
 pub returns-in-Err-clause-tallied : goal.returns-in-Err-clause-tallied
 returns-in-Err-clause-tallied g c = early_tallied c.in-Err.status _ _ _ c.in-Err.ensures.only c.requires.fresh
@@ -46,12 +46,12 @@ returns-in-Err-clause-versions g c = new_words _ _ c.requires.fresh
 
 pub returns-clause-versions : goal.returns-clause-versions
 returns-clause-versions g c =
-    versions_so _ c.args.moment c.args.nonce (g.W.Wires.told c.follow.new.wires)
-    (to_z-of_z {w = w64} {z = c.args.moment} (search rules)) c.follow.ensures.versions
+    versions_so _ c.args.moment c.args.nonce (g.W.Wires.told c.run_once.new.wires)
+    (to_z-of_z {w = w64} {z = c.args.moment} (search rules)) c.run_once.ensures.versions
 
 pub returns-clause-judged : goal.returns-clause-judged
 returns-clause-judged g c =
-    judged_once_begun (g.F.Files.files c.args.files.now) c.args.watch.now c.follow.result (is_some c.args.log_file.now) c.in-Ok.ensures.answer c.follow.ensures.begun
+    judged_once_begun (g.F.Files.files c.args.files.now) c.args.watch.now c.run_once.result (is_some c.args.log_file.now) c.in-Ok.ensures.answer c.run_once.ensures.begun
 
 pub returns-in-Err-clause-files : goal.returns-in-Err-clause-files
 returns-in-Err-clause-files g c =
@@ -68,4 +68,4 @@ pub returns-in_default-clause-ends : goal.returns-in_default-clause-ends
 returns-in_default-clause-ends g c = ends_stay _ _ _ _ refl
 
 pub returns-clause-ends : goal.returns-clause-ends
-returns-clause-ends g c = c.follow.ensures.ends
+returns-clause-ends g c = c.run_once.ensures.ends

@@ -1,0 +1,387 @@
+-- What a run that follows has written, and how it ended.
+use Rattle.std.proofs.Common.{◌≡◌, ◌≢◌, ◌⊎◌, inl, inr, ℕ, ◌<◌, ◌≤◌, Bool, true, false, List, [], ◌∷◌, ◌++◌, length, reverse, take, Option, Some, None, refl, sym, ◌∙◌, ap, subst, arith, append_assoc}
+use Rattle.std.specs.Prelude.{◌↔◌, IfSome, Ok}
+use Rattle.std.specs.FinMap as finite
+use Rattle.std.proofs.lemmas.Bool.{both_ways, false≢true}
+use Rattle.std.proofs.lemmas.List.{append-nil, take_all}
+use Rattle.cf_bytes.specs.Files.{Named}
+use Rattle.cf_bytes.specs.Outside.{with_more}
+use Rattle.cf_bytes.specs.declared.hash.Hash32.{Hash32}
+use Rattle.cf_block.specs.declared.tx.Block.{Block}
+use Rattle.cf_chain.specs.Grow.{top_hash}
+use Rattle.cf_run.specs.declared.outcome.End.{End}
+use Rattle.cf_run.specs.declared.outcome.End.TheVariants.{Synced as IsSynced, NoPeers as HasNoPeers, Tired as IsTired, Ended as HasEnded}
+use Rattle.cf_run.specs.declared.trace.TraceLine.{TraceLine}
+use Rattle.cf_run.specs.Run.{Followed, IsTraceOf, NobodyLeft}
+use Rattle.cf_run.specs.Texts.{HasBegun, HasPut, HasPutSome, IsOver, joined}
+use Rattle.cf_place.specs.declared.place.PeerEnd.{PeerEnd}
+use Rattle.cf_place.specs.Places.{EndsTell}
+use Rattle.cf_peer.specs.declared.mode.Mode.TheVariants.{Following}
+use Rattle.cf_peer.specs.Trail.{trail}
+use Rattle.cf_sync.specs.Fetching.{AreBytes, IsConnected, IsQuiet, RightlyIn, following}
+use Rattle.cf_sync.specs.Growing.{FollowTheorem, IsTold, OthersShowNone}
+use Rattle.cf_sync.specs.Honesty.{IsNeverClosed}
+use Rattle.cf_sync.specs.Putting.{ArePut, WerePut}
+use Rattle.cf_sync.specs.Sync.{IsHashed}
+use Rattle.cf_wires.specs.Log.{Log, Told, Tells}
+use Rattle.cf_scan.specs.declared.history.Entry.{Entry}
+use Rattle.cf_scan.specs.HistoryText.{history_text}
+use Rattle.cf_scan.specs.Scan.{scan_of}
+use Rattle.cf_input.specs.WatchFile.{watch_of}
+use Rattle.cf_answers.specs.declared.status.Status.{Status}
+use Rattle.cf_answers.specs.declared.status.Status.TheVariants.{Done, NoMemory, Usage, BadFile, FileFault, OutFault, NoPeers, Tired, Ended, LinkFault, NoNonce, NoHeight, NotThere, NotAddress}
+use Rattle.cf_answers.specs.Texts.{trace_text}
+use Rattle.cf_loading.specs.Verdicts.{IsOfFile}
+use Rattle.cf_cli.specs.Following.{BegunTexts, EndsBy, Grows, IsReplayedOn, KeptOn, KeptOnOver, Stayed, TalliedOn, with_trace}
+use Rattle.cf_cli.specs.Statuses.{has_run, is_over, was_refused, was_unbegun}
+use Rattle.cf_cli.specs.Theorem.{AnswersTo, IsComplete, IsOfRun, IsWhole, IsWithin}
+use Rattle.cf_cli.proofs.Grown.{grown_last, grown_never}
+use Rattle.cf_cli.proofs.Plays.{early_tallied, no_run, not_run, run_tallied, spent_tallied, tallied_early, unwritten_tallied}
+use Rattle.cf_cli.proofs.Runs.{somebody_left}
+
+-- ---- its answers
+
+-- a run that ended so is over
+pub over_by : (end : End) (ends : List PeerEnd) (status : Status) → AnswersTo end ends status → is_over status ≡ true
+over_by IsSynced ends status is = ap is_over is
+over_by HasNoPeers ends status is = ap is_over is.1
+over_by IsTired ends status is = ap is_over is
+over_by HasEnded ends status is = ap is_over is
+
+-- where somebody is left it is complete
+complete_by : (end : End) (ends : List PeerEnd) (status : Status) (recorded : Bool) → AnswersTo end ends status → end ≢ HasNoPeers → IsComplete status recorded
+complete_by IsSynced ends status recorded is somebody = subst (λ (s : Status). IsComplete s recorded) (sym is) tt
+complete_by HasNoPeers ends status recorded is somebody = absurd (somebody refl)
+complete_by IsTired ends status recorded is somebody = subst (λ (s : Status). IsComplete s recorded) (sym is) tt
+complete_by HasEnded ends status recorded is somebody = subst (λ (s : Status). IsComplete s recorded) (sym is) tt
+
+-- what is answered to a file is no end of a run
+pub not_over : (status : Status) → has_run status ≡ false → is_over status ≡ false
+not_over Done off = absurd (false≢true (sym off))
+not_over NoMemory off = refl
+not_over Usage off = refl
+not_over (BadFile which place cause) off = refl
+not_over FileFault off = refl
+not_over OutFault off = refl
+not_over (NoPeers ends) off = absurd (false≢true (sym off))
+not_over Tired off = absurd (false≢true (sym off))
+not_over Ended off = absurd (false≢true (sym off))
+not_over LinkFault off = refl
+not_over (NoNonce height) off = refl
+not_over (NoHeight tip) off = refl
+not_over (NotThere txid) off = refl
+not_over (NotAddress cause) off = refl
+
+-- what wasn't refused was begun
+pub begun_by : (status : Status) (recorded : Bool) → was_refused status ≡ false → was_unbegun status recorded ≡ false
+begun_by Done recorded off = refl
+begun_by NoMemory recorded off = refl
+begun_by Usage recorded off = off
+begun_by (BadFile which place cause) recorded off = off
+begun_by FileFault recorded off = absurd (false≢true (sym off))
+begun_by OutFault recorded off = refl
+begun_by (NoPeers ends) recorded off = refl
+begun_by Tired recorded off = refl
+begun_by Ended recorded off = refl
+begun_by LinkFault recorded off = refl
+begun_by (NoNonce height) recorded off = refl
+begun_by (NoHeight tip) recorded off = refl
+begun_by (NotThere txid) recorded off = refl
+begun_by (NotAddress cause) recorded off = refl
+
+-- ---- its texts
+
+with_nothing : (before : Option (List ℕ)) → with_more before [] ≡ before
+with_nothing None = refl
+with_nothing (Some bytes) = ap Some (append-nil bytes)
+
+-- nothing of a text was taken; or all of it
+nothing_begun : (text : List ℕ) (before : Option (List ℕ)) → HasBegun text before before
+nothing_begun text before = record { n = 0; within = omega arith; taken = sym (with_nothing before) }
+
+all_begun : (text : List ℕ) (before after : Option (List ℕ)) → after ≡ with_more before text → HasBegun text before after
+all_begun text before after e = record {
+  n = length text;
+  within = omega arith;
+  taken = e ∙ ap (with_more before) (sym (take_all (length text) text (omega arith)));
+}
+
+-- the last of the texts is written last
+ends_by : (trace : Bool) (lines : List TraceLine) (text : List ℕ) (more : List (List ℕ)) (before after : Option (List ℕ))
+    → after ≡ with_more before (with_trace trace lines (joined (text ∷ more))) → EndsBy text before after
+ends_by true lines text more before after e =
+    let same : (trace_text lines ++ joined more) ++ text ≡ trace_text lines ++ (joined more ++ text) = rw append_assoc refl in
+    record { earlier = trace_text lines ++ joined more; written = e ∙ ap (with_more before) (sym same) }
+ends_by false lines text more before after e = record { earlier = joined more; written = e }
+
+last_written : (scripts : List (List ℕ)) (trace : Bool) (lines : List TraceLine) (texts : List (List ℕ)) (before after : Option (List ℕ)) (log : Log)
+    → ArePut scripts log texts → after ≡ with_more before (with_trace trace lines (joined texts))
+    → (p : ℕ) (blocks : List Block) (first top : ℕ) → Grows log p blocks first → IsTold blocks first (trail log p) top → OthersShowNone log p (take top blocks)
+    → IsConnected log p → IsQuiet log
+    → EndsBy (history_text (scan_of (take top blocks) scripts) (length (take top blocks)) (top_hash (take top blocks))) before after
+last_written scripts trace lines texts before after log puts written p blocks first top grows told none on quiet =
+    let last = grown_last scripts log puts.0 texts puts.1.1 p blocks first top grows.apart grows.growing told none on quiet in
+    ends_by trace lines (history_text (scan_of (take top blocks) scripts) (length (take top blocks)) (top_hash (take top blocks))) last.0 before after
+    (written ∙ ap (λ (xs : List (List ℕ)). with_more before (with_trace trace lines (joined xs))) last.1)
+
+-- what was put whole was begun
+pub some_put : (scripts : List (List ℕ)) (log : Log) (before after : Option (List ℕ)) → HasPut scripts log before after → HasPutSome scripts log before after
+some_put scripts log before after put = record {
+  texts = put.texts;
+  puts = inr put.puts;
+  begun = all_begun (joined put.texts) before after put.taken;
+}
+
+pub some_put_told : (o : Option Log) (scripts : List (List ℕ)) (before after : Option (List ℕ)) → IfSome o (λ log. HasPut scripts log before after)
+    → IfSome o (λ log. HasPutSome scripts log before after)
+some_put_told None scripts before after put = tt
+some_put_told (Some log) scripts before after put = some_put scripts log before after put
+
+-- nothing was put over new wires
+pub new_put_told : (o : Option Log) (scripts : List (List ℕ)) (before : Option (List ℕ)) → IfSome o (λ log. log ≡ []) → IfSome o (λ log. HasPutSome scripts log before before)
+new_put_told None scripts before none = tt
+new_put_told (Some log) scripts before none = record {
+  texts = [];
+  puts = inl (subst (λ (l : Log). WerePut scripts l []) (sym none) refl);
+  begun = nothing_begun [] before;
+}
+
+-- ---- a run that is over
+
+stayed_kept : (status : Status) (recorded trace : Bool) (scripts names : List (List ℕ)) (before after : Option (List ℕ)) (log : Log)
+    → (s : Stayed status trace scripts names before after log) → FollowTheorem scripts s.height s.tip s.entries log → KeptOn status recorded trace scripts names before after log
+stayed_kept status recorded trace scripts names before after log s theorem = record {
+  last = λ p blocks first top grows told none quiet over.
+      last_written scripts trace s.lines s.texts before after log s.puts s.written p blocks first top grows told none
+      (theorem.somebody p blocks first grows.apart grows.growing) quiet;
+  complete = λ p blocks first grows.
+      complete_by s.end s.ends status recorded s.answered
+      (somebody_left s.end log p s.followed.why (theorem.somebody p blocks first grows.apart grows.growing));
+  never = λ p blocks first grows ne. theorem.never p blocks first grows.apart grows.growing;
+  ran = λ over. s;
+  begun = λ off. absurd (both_ways (is_over status) off (over_by s.end s.ends status s.answered));
+  right = λ ne. (s.followed.asked.bytes, s.followed.asked.rightly);
+}
+
+-- all its texts were written, by what takes them
+pub stayed_told : (o : Option Log) (scripts : List (List ℕ)) (end : End) (height : ℕ) (tip : Hash32) (entries : List Entry) (lines : List TraceLine) (names : List (List ℕ))
+    (ends : List PeerEnd) (status : Status) (recorded trace : Bool) (first told before after : Option (List ℕ))
+    → IfSome o (λ log. Followed (following scripts) end height tip entries lines names log) → IfSome o (λ log. FollowTheorem scripts height tip entries log)
+    → IfSome o (λ log. EndsTell ends log) → AnswersTo end ends status → IfSome o (λ log. HasPut scripts log first told)
+    → ((texts : List (List ℕ)) → told ≡ with_more first (joined texts) → after ≡ with_more before (with_trace trace lines (joined texts)))
+    → IfSome o (λ log. KeptOn status recorded trace scripts names before after log)
+stayed_told None scripts end height tip entries lines names ends status recorded trace first told before after followed theorem stands answered put write = tt
+stayed_told (Some log) scripts end height tip entries lines names ends status recorded trace first told before after followed theorem stands answered put write =
+    stayed_kept status recorded trace scripts names before after log (record {
+      end = end;
+      height = height;
+      tip = tip;
+      entries = entries;
+      lines = lines;
+      followed = followed;
+      ends = ends;
+      stands = stands;
+      answered = answered;
+      texts = put.texts;
+      puts = put.puts;
+      written = write put.texts put.taken;
+    }) theorem
+
+-- it is over, but the sink has failed
+unwritten_kept : (recorded trace : Bool) (scripts : List (List ℕ)) (end : End) (height : ℕ) (tip : Hash32) (entries : List Entry) (lines : List TraceLine)
+    (names texts : List (List ℕ)) (before after : Option (List ℕ)) (log : Log)
+    → Followed (following scripts) end height tip entries lines names log → FollowTheorem scripts height tip entries log → ArePut scripts log texts
+    → HasBegun (with_trace trace lines (joined texts)) before after → KeptOn OutFault recorded trace scripts names before after log
+unwritten_kept recorded trace scripts end height tip entries lines names texts before after log followed theorem puts begun = record {
+  last = λ p blocks first top grows told none quiet over. absurd (false≢true over);
+  complete = λ p blocks first grows. tt;
+  never = λ p blocks first grows ne. theorem.never p blocks first grows.apart grows.growing;
+  ran = λ over. absurd (false≢true over);
+  begun = λ off. record { lines = lines; traced = inr (inr followed.traced); texts = texts; puts = inr puts; begun = begun };
+  right = λ ne. (followed.asked.bytes, followed.asked.rightly);
+}
+
+pub unwritten_told : (o : Option Log) (scripts : List (List ℕ)) (end : End) (height : ℕ) (tip : Hash32) (entries : List Entry) (lines : List TraceLine) (names : List (List ℕ))
+    (recorded trace : Bool) (first told before after : Option (List ℕ))
+    → IfSome o (λ log. Followed (following scripts) end height tip entries lines names log) → IfSome o (λ log. FollowTheorem scripts height tip entries log)
+    → IfSome o (λ log. HasPut scripts log first told)
+    → ((texts : List (List ℕ)) → told ≡ with_more first (joined texts) → HasBegun (with_trace trace lines (joined texts)) before after)
+    → IfSome o (λ log. KeptOn OutFault recorded trace scripts names before after log)
+unwritten_told None scripts end height tip entries lines names recorded trace first told before after followed theorem put begin = tt
+unwritten_told (Some log) scripts end height tip entries lines names recorded trace first told before after followed theorem put begin =
+    unwritten_kept recorded trace scripts end height tip entries lines names put.texts before after log followed theorem put.puts (begin put.texts put.taken)
+
+-- ---- a run that failed
+
+-- a text could not be put
+pub failed_told : (o : Option Log) (scripts names : List (List ℕ)) (recorded : Bool) (before after : Option (List ℕ))
+    → IfSome o (λ log. HasPutSome scripts log before after) → IfSome o (λ log. AreBytes log × RightlyIn Following log)
+    → IfSome o (λ log. KeptOn OutFault recorded false scripts names before after log)
+failed_told None scripts names recorded before after put right = tt
+failed_told (Some log) scripts names recorded before after put right = record {
+  last = λ p blocks first top grows told none quiet over. absurd (false≢true over);
+  complete = λ p blocks first grows. tt;
+  never = λ p blocks first grows ne. grown_never log p blocks first right.0 right.1 grows.apart grows.growing;
+  ran = λ over. absurd (false≢true over);
+  begun = λ off. record { lines = []; traced = inl refl; texts = put.texts; puts = put.puts; begun = put.begun };
+  right = λ ne. right;
+}
+
+-- memory was wanting
+spent_kept : (recorded trace : Bool) (scripts names : List (List ℕ)) (before after : Option (List ℕ)) (log : Log) → BegunTexts trace scripts before after log
+    → KeptOn NoMemory recorded trace scripts names before after log
+spent_kept recorded trace scripts names before after log begun = record {
+  last = λ p blocks first top grows told none quiet over. absurd (false≢true over);
+  complete = λ p blocks first grows. tt;
+  never = λ p blocks first grows ne. absurd (ne refl);
+  ran = λ over. absurd (false≢true over);
+  begun = λ off. begun;
+  right = λ ne. absurd (ne refl);
+}
+
+-- with what was put until then
+pub spent_told : (o : Option Log) (scripts names : List (List ℕ)) (recorded : Bool) (before after : Option (List ℕ)) → IfSome o (λ log. HasPutSome scripts log before after)
+    → IfSome o (λ log. KeptOn NoMemory recorded false scripts names before after log)
+spent_told None scripts names recorded before after put = tt
+spent_told (Some log) scripts names recorded before after put =
+    spent_kept recorded false scripts names before after log (record { lines = []; traced = inl refl; texts = put.texts; puts = put.puts; begun = put.begun })
+
+-- before anything was written
+pub silent_told : (o : Option Log) (scripts names : List (List ℕ)) (recorded trace : Bool) (first told before : Option (List ℕ))
+    → IfSome o (λ log. HasPutSome scripts log first told) → IfSome o (λ log. KeptOn NoMemory recorded trace scripts names before before log)
+silent_told None scripts names recorded trace first told before put = tt
+silent_told (Some log) scripts names recorded trace first told before put =
+    spent_kept recorded trace scripts names before before log
+    (record { lines = []; traced = inr (inl refl); texts = put.texts; puts = put.puts; begun = nothing_begun (with_trace trace [] (joined put.texts)) before })
+
+-- ---- a run that is recorded
+
+stayed_begun : (status : Status) (trace : Bool) (scripts names : List (List ℕ)) (before after : Option (List ℕ)) (log : Log) → Stayed status trace scripts names before after log
+    → BegunTexts trace scripts before after log
+stayed_begun status trace scripts names before after log s = record {
+  lines = s.lines;
+  traced = inr (inr s.followed.traced);
+  texts = s.texts;
+  puts = inr s.puts;
+  begun = all_begun (with_trace trace s.lines (joined s.texts)) before after s.written;
+}
+
+-- however it ended, the texts were begun
+kept_begun : (status : Status) (recorded trace : Bool) (scripts names : List (List ℕ)) (before after : Option (List ℕ)) (log : Log)
+    → KeptOn status recorded trace scripts names before after log → BegunTexts trace scripts before after log
+kept_begun status recorded trace scripts names before after log kept = by (is_over status) refl where
+  by : (b : Bool) → is_over status ≡ b → BegunTexts trace scripts before after log
+  by true over = stayed_begun status trace scripts names before after log (kept.ran over)
+  by false off = kept.begun off
+
+-- the record could not be written
+pub unrecorded_on : (o : Option Log) (status : Status) (recorded : Bool) (scripts names : List (List ℕ)) (before after : Option (List ℕ)) → status ≢ NoMemory → recorded ≡ true
+    → IfSome o (λ log. (b : Bool) → KeptOn status b false scripts names before after log) → IfSome o (λ log. KeptOn FileFault recorded false scripts names before after log)
+unrecorded_on None status recorded scripts names before after enough on kept = tt
+unrecorded_on (Some log) status recorded scripts names before after enough on kept = record {
+  last = λ p blocks first top grows told none quiet over. absurd (false≢true over);
+  complete = λ p blocks first grows. on;
+  never = λ p blocks first grows ne. (kept recorded).never p blocks first grows enough;
+  ran = λ over. absurd (false≢true over);
+  begun = λ off. kept_begun status recorded false scripts names before after log (kept recorded);
+  right = λ ne. (kept recorded).right enough;
+}
+
+-- or no memory was found for it
+pub spent_on : (o : Option Log) (status : Status) (recorded : Bool) (scripts names : List (List ℕ)) (before after : Option (List ℕ))
+    → IfSome o (λ log. (b : Bool) → KeptOn status b false scripts names before after log) → IfSome o (λ log. KeptOn NoMemory recorded false scripts names before after log)
+spent_on None status recorded scripts names before after kept = tt
+spent_on (Some log) status recorded scripts names before after kept =
+    spent_kept recorded false scripts names before after log (kept_begun status recorded false scripts names before after log (kept recorded))
+
+pub recorded_on : (o : Option Log) (status : Status) (recorded : Bool) (scripts names : List (List ℕ)) (before after : Option (List ℕ))
+    → IfSome o (λ log. (b : Bool) → KeptOn status b false scripts names before after log) → IfSome o (λ log. KeptOn status recorded false scripts names before after log)
+recorded_on None status recorded scripts names before after kept = tt
+recorded_on (Some log) status recorded scripts names before after kept = kept recorded
+
+-- ---- where no run was made
+
+early_kept_on : (status : Status) (recorded trace : Bool) (scripts names : List (List ℕ)) (b : Option (List ℕ)) (log : Log) → has_run status ≡ false → log ≡ []
+    → KeptOn status recorded trace scripts names b b log
+early_kept_on status recorded trace scripts names b log off none = subst (λ (l : Log). KeptOn status recorded trace scripts names b b l) (sym none) (record {
+  last = λ p blocks first top grows told alone quiet over. absurd (false≢true grows.growing.dialled);
+  complete = λ p blocks first grows. absurd (false≢true grows.growing.dialled);
+  never = λ p blocks first grows ne. tt;
+  ran = λ over. absurd (both_ways (is_over status) (not_over status off) over);
+  begun = λ is. record { lines = []; traced = inr (inl refl); texts = []; puts = inl refl; begun = nothing_begun (with_trace trace [] []) b };
+  right = λ ne. (tt, tt);
+})
+
+pub early_over_on : (status : Status) (recorded trace : Bool) (files : Option Named) (watch : List ℕ) (names : List (List ℕ)) (b : Option (List ℕ)) (log : Log) → IsOfFile status → log ≡ []
+    → KeptOnOver status recorded trace files watch names b b log
+early_over_on status recorded trace files watch names b log is none = record {
+  scripts = [];
+  watched = λ made. absurd (false≢true (sym (no_run status is) ∙ made));
+  unwatched = inl none;
+  kept = early_kept_on status recorded trace [] names b log (no_run status is) none;
+}
+
+-- the same for wires that are new, which may tell no log
+pub early_told_on : (t : Told) (status : Status) (recorded trace : Bool) (files : Option Named) (watch : List ℕ) (names : List (List ℕ)) (b : Option (List ℕ)) → IsOfFile status → Tells [] t
+    → IfSome t.log (λ log. KeptOnOver status recorded trace files watch names b b log)
+early_told_on t status recorded trace files watch names b is fresh = told_over t.log fresh.content where
+  told_over : (o : Option Log) → IfSome o (λ l. l ≡ []) → IfSome o (λ log. KeptOnOver status recorded trace files watch names b b log)
+  told_over None none = tt
+  told_over (Some log) none = early_over_on status recorded trace files watch names b log is none
+
+-- with the scripts of the watch file
+pub over_watch_on : (status : Status) (recorded trace : Bool) (files : Option Named) (watch : List ℕ) (scripts names : List (List ℕ)) (before after : Option (List ℕ)) (log : Log)
+    → IfSome files (λ m. IfSome (finite.get m watch) (λ bytes. watch_of bytes ≡ Ok scripts)) → KeptOn status recorded trace scripts names before after log
+    → KeptOnOver status recorded trace files watch names before after log
+over_watch_on status recorded trace files watch scripts names before after log read kept = record { scripts = scripts; watched = λ made. read; unwatched = inr read; kept = kept }
+
+pub told_over_watch_on : (o : Option Log) (status : Status) (recorded trace : Bool) (files : Option Named) (watch : List ℕ) (scripts names : List (List ℕ)) (before after : Option (List ℕ))
+    → IfSome files (λ m. IfSome (finite.get m watch) (λ bytes. watch_of bytes ≡ Ok scripts)) → IfSome o (λ log. KeptOn status recorded trace scripts names before after log)
+    → IfSome o (λ log. KeptOnOver status recorded trace files watch names before after log)
+told_over_watch_on None status recorded trace files watch scripts names before after read kept = tt
+told_over_watch_on (Some log) status recorded trace files watch scripts names before after read kept =
+    over_watch_on status recorded trace files watch scripts names before after log read kept
+
+-- ---- what is promised over any wires
+
+pub early_tallied_on : (status : Status) (turns names : ℕ) (t : Told) → IsOfFile status → Tells [] t → TalliedOn status turns names t t
+early_tallied_on status turns names t is fresh = record {
+  tallied = early_tallied status turns names t is fresh;
+  done = λ same. absurd (not_run status Done (no_run status is) refl same);
+}
+
+-- memory was wanting once they were used
+pub spent_tallied_on : (turns names : ℕ) (was now : Told) → IsWithin turns names now.tally → now.finished ≡ true → TalliedOn NoMemory turns names was now
+spent_tallied_on turns names was now within finished = record { tallied = spent_tallied turns names was now within finished; done = λ same. cc }
+
+-- a text could not be put
+pub unwritten_tallied_on : (turns names : ℕ) (was now : Told) → IsWithin turns names now.tally → IsWhole names now → TalliedOn OutFault turns names was now
+unwritten_tallied_on turns names was now within whole = record { tallied = unwritten_tallied turns names was now within whole; done = λ same. cc }
+
+-- the run failed after it ended so
+pub failed_tallied_on : (status other : Status) (turns names : ℕ) (was now : Told) → has_run other ≡ false → IsOfRun other → TalliedOn status turns names was now → TalliedOn other turns names was now
+failed_tallied_on status other turns names was now off answers so = record {
+  tallied = tallied_early other turns names was now off answers so.tallied.within so.tallied.left;
+  done = λ same. absurd (not_run other Done off refl same);
+}
+
+done_by : (end : End) (ends : List PeerEnd) (status : Status) → AnswersTo end ends status → status ≡ Done → end ≡ IsSynced
+done_by IsSynced ends status is done = refl
+done_by HasNoPeers ends status is done = let other : status ≡ NoPeers is.0 = is.1 in cc
+done_by IsTired ends status is done = cc
+done_by HasEnded ends status is done = cc
+
+-- the run was made, and ended so
+pub run_tallied_on : (end : End) (ends : List PeerEnd) (status : Status) (turns names : ℕ) (was now : Told) → AnswersTo end ends status → IsWithin turns names now.tally → IsWhole names now
+    → (end ≡ HasNoPeers) ↔ NobodyLeft now.tally → (end ≡ IsSynced → IsOver turns now.tally) → (end ≡ IsTired → now.tally.taken ≡ turns) → (end ≡ HasEnded → now.tally.ended ≡ 1)
+    → (end ≡ HasEnded → now.tally.taken < turns) → TalliedOn status turns names was now
+run_tallied_on end ends status turns names was now is within whole nobody over tired ended early = record {
+  tallied = run_tallied end ends status turns names was now is within whole nobody tired ended early;
+  done = λ same. over (done_by end ends status is same);
+}
+
+-- what is promised of `replay --follow` where the tape wasn't used
+pub early_replayed_on : (status : Status) (turns : ℕ) (trace : Bool) (files : Option Named) (watch : List ℕ) (b : Option (List ℕ)) (t : Told) (log : Log)
+    → IsOfFile status → Tells [] t → log ≡ [] → IsReplayedOn status turns trace files watch b b t t log
+early_replayed_on status turns trace files watch b t log is fresh none =
+    ([], early_over_on status false trace files watch [] b log is none, early_tallied_on status turns 0 t is fresh)
