@@ -30,7 +30,9 @@ fn unreadable(e: &io::Error) -> Status {
 /// Where no memory is found to read them.
 pub fn peers(alloc: Global, words: &[String]) -> Result<usize, NoMemory> {
     match &read_words(alloc, words) {
-        Ok(Command::Sync { peers, .. } | Command::Follow { peers, .. }) => Ok(peers.as_slice().len()),
+        Ok(Command::Sync { peers, .. } | Command::Follow { peers, .. }) => Ok(
+            peers.as_slice().len(),
+        ),
         Err(Refused::NoMemory) => Err(NoMemory),
         _ => Ok(0),
     }

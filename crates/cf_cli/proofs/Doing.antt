@@ -37,7 +37,7 @@ does_so found c status z y nonce before after is same did x asked =
 -- what is promised of `replay`, in either mode
 pub replays_by : (follow : Bool) (status : Status) (trace : Bool) (watch session : List ℕ) (before after : Around)
     → (if follow then IsReplayedOn status most_turns trace before.files watch before.written after.written before.tape after.tape after.taped
-        else IsReplayed status most_turns trace before.files watch before.written after.written before.tape after.tape after.taped)
+    else IsReplayed status most_turns trace before.files watch before.written after.written before.tape after.tape after.taped)
     → IfSome before.files (λ m. IfSome (finite.get m session) (λ bytes. PlaysSession status (session_of bytes) after.taped))
     → (if follow then IsFollowedOn status trace watch session before after else IsFollowed status trace watch session before after)
 replays_by true status trace watch session before after replayed plays = record { replayed = replayed; plays = plays }

@@ -1,6 +1,6 @@
 -- What a run that follows has written, and how it ended.
 use Rattle.std.proofs.Common.{◌≡◌, ◌≢◌, ◌⊎◌, inl, inr, ℕ, ◌<◌, ◌≤◌, Bool, true, false, List, [], ◌∷◌, ◌++◌, length, reverse, take, Option, Some, None, refl, sym, ◌∙◌, ap, subst, arith, append_assoc}
-use Rattle.std.specs.Prelude.{◌↔◌, IfSome, Ok}
+use Rattle.std.specs.Prelude.{◌↔◌, if◌then◌else◌, IfSome, Ok}
 use Rattle.std.specs.FinMap as finite
 use Rattle.std.proofs.lemmas.Bool.{both_ways, false≢true}
 use Rattle.std.proofs.lemmas.List.{append-nil, take_all}
@@ -34,9 +34,9 @@ use Rattle.cf_answers.specs.Texts.{trace_text}
 use Rattle.cf_loading.specs.Verdicts.{IsOfFile}
 use Rattle.cf_cli.specs.Following.{BegunTexts, EndsBy, Grows, IsReplayedOn, KeptOn, KeptOnOver, Stayed, TalliedOn, with_trace}
 use Rattle.cf_cli.specs.Statuses.{has_run, is_over, was_refused, was_unbegun}
-use Rattle.cf_cli.specs.Theorem.{AnswersTo, IsComplete, IsOfRun, IsWhole, IsWithin}
+use Rattle.cf_cli.specs.Theorem.{AnswersTo, IsComplete, IsOfRun, IsReplayed, IsWhole, IsWithin}
 use Rattle.cf_cli.proofs.Grown.{grown_last, grown_never}
-use Rattle.cf_cli.proofs.Plays.{early_tallied, no_run, not_run, run_tallied, spent_tallied, tallied_early, unwritten_tallied}
+use Rattle.cf_cli.proofs.Plays.{early_replayed, early_tallied, no_run, not_run, run_tallied, spent_tallied, tallied_early, unwritten_tallied}
 use Rattle.cf_cli.proofs.Runs.{somebody_left}
 
 -- ---- its answers
@@ -146,6 +146,26 @@ new_put_told (Some log) scripts before none = record {
   begun = nothing_begun [] before;
 }
 
+-- texts that were kept from the first on are all that is kept
+kept_bytes : (old now bytes : List ℕ) (texts : List (List ℕ)) → old ≡ [] → bytes ≡ now → Some now ≡ with_more (Some old) (joined texts) → bytes ≡ joined texts
+kept_bytes old now bytes texts none same put =
+    let all : now ≡ old ++ joined texts = cc in
+    same ∙ all ∙ ap (λ (x : List ℕ). x ++ joined texts) none
+
+-- and they are written behind the trace
+pub tape_written : (trace : Bool) (lines : List TraceLine) (old now bytes text : List ℕ) (before after : Option (List ℕ)) → old ≡ [] → bytes ≡ now
+    → text ≡ with_trace trace lines bytes → after ≡ with_more before text
+    → (texts : List (List ℕ)) → Some now ≡ with_more (Some old) (joined texts) → after ≡ with_more before (with_trace trace lines (joined texts))
+tape_written trace lines old now bytes text before after none same is written texts put =
+    written ∙ ap (with_more before) (is ∙ ap (with_trace trace lines) (kept_bytes old now bytes texts none same put))
+
+pub tape_begun : (trace : Bool) (lines : List TraceLine) (old now bytes text : List ℕ) (before after : Option (List ℕ)) → old ≡ [] → bytes ≡ now
+    → text ≡ with_trace trace lines bytes → (n : ℕ) → n ≤ length text → after ≡ with_more before (take n text)
+    → (texts : List (List ℕ)) → Some now ≡ with_more (Some old) (joined texts) → HasBegun (with_trace trace lines (joined texts)) before after
+tape_begun trace lines old now bytes text before after none same is n low written texts put =
+    subst (λ (t : List ℕ). HasBegun t before after) (is ∙ ap (with_trace trace lines) (kept_bytes old now bytes texts none same put))
+    (record { n = n; within = low; taken = written })
+
 -- ---- a run that is over
 
 stayed_kept : (status : Status) (recorded trace : Bool) (scripts names : List (List ℕ)) (before after : Option (List ℕ)) (log : Log)
@@ -254,6 +274,11 @@ silent_told (Some log) scripts names recorded trace first told before put =
     spent_kept recorded trace scripts names before before log
     (record { lines = []; traced = inr (inl refl); texts = put.texts; puts = put.puts; begun = nothing_begun (with_trace trace [] (joined put.texts)) before })
 
+-- before anything passed
+pub fresh_told : (o : Option Log) (scripts names : List (List ℕ)) (recorded trace : Bool) (before : Option (List ℕ)) → IfSome o (λ log. log ≡ [])
+    → IfSome o (λ log. KeptOn NoMemory recorded trace scripts names before before log)
+fresh_told o scripts names recorded trace before none = silent_told o scripts names recorded trace before before before (new_put_told o scripts before none)
+
 -- ---- a run that is recorded
 
 stayed_begun : (status : Status) (trace : Bool) (scripts names : List (List ℕ)) (before after : Option (List ℕ)) (log : Log) → Stayed status trace scripts names before after log
@@ -276,7 +301,7 @@ kept_begun status recorded trace scripts names before after log kept = by (is_ov
 
 -- the record could not be written
 pub unrecorded_on : (o : Option Log) (status : Status) (recorded : Bool) (scripts names : List (List ℕ)) (before after : Option (List ℕ)) → status ≢ NoMemory → recorded ≡ true
-    → IfSome o (λ log. (b : Bool) → KeptOn status b false scripts names before after log) → IfSome o (λ log. KeptOn FileFault recorded false scripts names before after log)
+    → ((b : Bool) → IfSome o (λ log. KeptOn status b false scripts names before after log)) → IfSome o (λ log. KeptOn FileFault recorded false scripts names before after log)
 unrecorded_on None status recorded scripts names before after enough on kept = tt
 unrecorded_on (Some log) status recorded scripts names before after enough on kept = record {
   last = λ p blocks first top grows told none quiet over. absurd (false≢true over);
@@ -289,15 +314,10 @@ unrecorded_on (Some log) status recorded scripts names before after enough on ke
 
 -- or no memory was found for it
 pub spent_on : (o : Option Log) (status : Status) (recorded : Bool) (scripts names : List (List ℕ)) (before after : Option (List ℕ))
-    → IfSome o (λ log. (b : Bool) → KeptOn status b false scripts names before after log) → IfSome o (λ log. KeptOn NoMemory recorded false scripts names before after log)
+    → ((b : Bool) → IfSome o (λ log. KeptOn status b false scripts names before after log)) → IfSome o (λ log. KeptOn NoMemory recorded false scripts names before after log)
 spent_on None status recorded scripts names before after kept = tt
 spent_on (Some log) status recorded scripts names before after kept =
     spent_kept recorded false scripts names before after log (kept_begun status recorded false scripts names before after log (kept recorded))
-
-pub recorded_on : (o : Option Log) (status : Status) (recorded : Bool) (scripts names : List (List ℕ)) (before after : Option (List ℕ))
-    → IfSome o (λ log. (b : Bool) → KeptOn status b false scripts names before after log) → IfSome o (λ log. KeptOn status recorded false scripts names before after log)
-recorded_on None status recorded scripts names before after kept = tt
-recorded_on (Some log) status recorded scripts names before after kept = kept recorded
 
 -- ---- where no run was made
 
@@ -358,10 +378,28 @@ spent_tallied_on turns names was now within finished = record { tallied = spent_
 pub unwritten_tallied_on : (turns names : ℕ) (was now : Told) → IsWithin turns names now.tally → IsWhole names now → TalliedOn OutFault turns names was now
 unwritten_tallied_on turns names was now within whole = record { tallied = unwritten_tallied turns names was now within whole; done = λ same. cc }
 
--- the run failed after it ended so
-pub failed_tallied_on : (status other : Status) (turns names : ℕ) (was now : Told) → has_run other ≡ false → IsOfRun other → TalliedOn status turns names was now → TalliedOn other turns names was now
-failed_tallied_on status other turns names was now off answers so = record {
-  tallied = tallied_early other turns names was now off answers so.tallied.within so.tallied.left;
+-- the run was made over wires that keep a log since then
+pub tallied_from : (status : Status) (turns names : ℕ) (was first now : Told) → now.finished ≡ true → TalliedOn status turns names first now → TalliedOn status turns names was now
+tallied_from status turns names was first now finished so = record {
+  tallied = record {
+    answers = so.tallied.answers;
+    within = so.tallied.within;
+    whole = so.tallied.whole;
+    left = inr finished;
+    no_peers = so.tallied.no_peers;
+    somebody = so.tallied.somebody;
+    tired = so.tallied.tired;
+    ended = so.tallied.ended;
+    early = so.tallied.early;
+  };
+  done = so.done;
+}
+
+-- and failed after it ended so
+pub failed_tallied_on : (status other : Status) (turns names : ℕ) (was first now : Told) → has_run other ≡ false → IsOfRun other → now.finished ≡ true → TalliedOn status turns names first now
+    → TalliedOn other turns names was now
+failed_tallied_on status other turns names was first now off answers finished so = record {
+  tallied = tallied_early other turns names was now off answers so.tallied.within (inr finished);
   done = λ same. absurd (not_run other Done off refl same);
 }
 
@@ -385,3 +423,9 @@ pub early_replayed_on : (status : Status) (turns : ℕ) (trace : Bool) (files : 
     → IsOfFile status → Tells [] t → log ≡ [] → IsReplayedOn status turns trace files watch b b t t log
 early_replayed_on status turns trace files watch b t log is fresh none =
     ([], early_over_on status false trace files watch [] b log is none, early_tallied_on status turns 0 t is fresh)
+
+-- the same in either mode
+pub early_replayed_either : (follow : Bool) (status : Status) (turns : ℕ) (trace : Bool) (files : Option Named) (watch : List ℕ) (b : Option (List ℕ)) (t : Told) (log : Log)
+    → IsOfFile status → Tells [] t → log ≡ [] → (if follow then IsReplayedOn status turns trace files watch b b t t log else IsReplayed status turns trace files watch b b t t log)
+early_replayed_either true = early_replayed_on
+early_replayed_either false = early_replayed

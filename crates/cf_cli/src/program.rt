@@ -88,11 +88,12 @@ fn replay<F: Files, O: Sink>(
         Err(status) => return status,
     };
     tape.load(session.dials, session.deliveries);
+    let names = session.names.as_slice();
     if follow {
         stay_on_tape(
             alloc,
             tape,
-            &session.names,
+            names,
             scripts,
             Plain::new(alloc),
             moment,
@@ -108,7 +109,7 @@ fn replay<F: Files, O: Sink>(
             files,
             tape,
             &None,
-            &session.names,
+            names,
             scripts,
             Plain::new(alloc),
             moment,
@@ -174,7 +175,13 @@ fn sync<R: Wait + Threads + Copy + Drop + Send + 'static, F: Files, W: Wires, K:
 
 // Follows the peers of these names, of one to eight, as their chains grow, over the wires that are handed in, and records what passes them where a file
 // is named for it. Filters are judged by so many threads.
-fn follow<R: Wait + Threads + Copy + Drop + Send + 'static, F: Files, W: Wires, K: Spawner, O: Sink>(
+fn follow<
+    R: Wait + Threads + Copy + Drop + Send + 'static,
+    F: Files,
+    W: Wires,
+    K: Spawner,
+    O: Sink,
+>(
     rt: R,
     alloc: Global,
     files: &mut F,

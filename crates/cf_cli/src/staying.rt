@@ -1,5 +1,5 @@
 //! A run of the client that follows over any wires, and what is written of it.
-ghost use Rattle.std.specs.Prelude.{◌≡◌, ◌≤◌, Bool, [], length, IfOk, IfSome, IsSome, is_some, true, false};
+ghost use Rattle.std.specs.Prelude.{◌≡◌, ◌≤◌, ℕ, Bool, [], length, IfOk, IfSome, IsSome, None, is_some, true, false};
 ghost use Rattle.cf_bytes.specs.Files.{IsAtMostWritten};
 ghost use Rattle.cf_bytes.specs.Outside.{HasRisen};
 ghost use Rattle.cf_run.specs.Names.{names_in};
@@ -15,7 +15,7 @@ use crate::following::status_of;
 use crate::recording::{keep_where, write_record};
 use cf_answers::{Status, put_trace};
 use cf_bytes::{Files, NoMemory, Refused, Sink, put_all};
-use cf_headers::Tree;
+use cf_headers::{HeaderStore, Tree};
 use cf_input::Word;
 use cf_match::Matcher;
 use cf_place::PeerEnd;
@@ -25,11 +25,12 @@ use cf_wires::Wires;
 use std::alloc::Global;
 
 // Follows the peers of these names over new wires, and puts the text of each quiet moment to `out` at once.
-fn stay_live<W: Wires, M: Matcher + Drop, O: Sink>(
+fn stay_live<W: Wires, H: HeaderStore + Drop, M: Matcher + Drop, O: Sink>(
     alloc: Global,
     wires: &mut W,
     names: &[String],
     watch: Watch,
+    store: H,
     matcher: M,
     moment: i64,
     nonce: u64,
@@ -40,20 +41,19 @@ fn stay_live<W: Wires, M: Matcher + Drop, O: Sink>(
     requires fresh { Tells [] (W.told wires.old) }
     requires open { (W.told wires.old).finished ≡ false }
     requires few { length names.now ≤ 8 }
-    ensures kept { IfSome (W.told wires.new).log (λ log. (recorded : Bool) → KeptOn result recorded false watch (names_in names.now) (O.written out.old) (O.written out.new) log) }
+    requires empty { (q : ℕ) → H.chain store q ≡ None }
+    ensures kept { (recorded : Bool) → IfSome (W.told wires.new).log (λ log. KeptOn result recorded false watch (names_in names.now) (O.written out.old) (O.written out.new) log) }
     ensures tallied { TalliedOn result turns (length (names_in names.now)) (W.told wires.old) (W.told wires.new) }
     ensures versions { HasWords (record { moment = moment; number = nonce }) (W.told wires.new) }
     ensures dialled { HasDialled (names_in names.now) (W.told wires.new) }
     ensures failures { IfSome (W.told wires.new).log (λ log. HasFailed log → HasRisen (W.faults wires.old) (W.faults wires.new)) }
     ensures keeps { W.keeps wires.new ≡ W.keeps wires.old }
+    ensures finished { (W.told wires.new).finished ≡ true }
     ensures logged { IsSome (W.told wires.old).log → IsSome (W.told wires.new).log }
     ensures out_fault { result ≡ Status.OutFault → HasRisen (O.faults out.old) (O.faults out.new) }
     ensures unrefused { was_refused result ≡ false }
     ensures ends { AreEndsOver result false (W.told wires.new).log ends.old.items ends.new.items }
 {
-    let Ok(store) = Tree::new(alloc) else {
-        return Status::NoMemory;
-    };
     let mut texts = Live::new(out);
     match follow_over(
         alloc, wires, names, watch, store, matcher, moment, nonce, turns, &mut texts,
@@ -103,9 +103,12 @@ pub(crate) fn stay<F: Files, W: Wires, M: Matcher + Drop, O: Sink>(
     ensures written { IsAtMostWritten F.writes log_file.now files.old files.new }
     ensures ends { AreEndsOver result (is_some log_file.now) (W.told wires.new).log ends.old.items ends.new.items }
 {
+    let Ok(store) = Tree::new(alloc) else {
+        return Status::NoMemory;
+    };
     keep_where(wires, log_file);
     let status = stay_live(
-        alloc, wires, names, watch, matcher, moment, nonce, turns, out, ends,
+        alloc, wires, names, watch, store, matcher, moment, nonce, turns, out, ends,
     );
     if let Status::NoMemory = status {
         return Status::NoMemory;
@@ -165,10 +168,11 @@ pub(crate) fn stay_on_tape<W: Wires, M: Matcher + Drop, O: Sink>(
         return Status::NoMemory;
     };
     let mut texts = Kept::new(alloc);
-    let Ok(outcome) = follow_over(
+    let outcome = match follow_over(
         alloc, wires, names, watch, store, matcher, moment, nonce, turns, &mut texts,
-    ) else {
-        return Status::NoMemory;
+    ) {
+        Ok(outcome) => outcome,
+        Err(_) => return Status::NoMemory,
     };
     let Ok(stands) = outcome.ends.as_slice().to_vec(alloc) else {
         return Status::NoMemory;

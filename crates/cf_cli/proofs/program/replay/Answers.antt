@@ -1,33 +1,43 @@
-use Rattle.std.proofs.Common.{false, Some, length, rules, ◌∙◌, ap, subst}
+use Rattle.std.proofs.Common.{false, true, Some, length, rules, ◌∙◌, ap, subst}
 use Rattle.std.proofs.Math.Facts.{to_z-of_z}
 use Rattle.std.specs.Int.{w64}
 use Rattle.cf_run.specs.Names.{names_in}
 use Rattle.cf_wires.specs.Log.{Told}
 use Rattle.cf_wires.specs.Memory.{log_of, failing_of, told_of}
 use Rattle.cf_wires.specs.Wires.{Script}
-use Rattle.cf_cli.proofs.Plays.{versions_so, unplayed_words, made, plays_of, told_so, told_plays, early_replayed, early_plays, new_tape, same_told, over_watch}
+use Rattle.cf_cli.proofs.Plays.{versions_so, unplayed_words, made, plays_of, told_so, told_plays, early_plays, new_tape, same_told, over_watch}
+use Rattle.cf_cli.proofs.Stays.{early_replayed_either, over_watch_on}
+use Rattle.cf_cli.specs.Following.{TalliedOn}
 use Rattle.cf_cli.specs.Theorem.{Tallied}
 use Rattle.cf_cli.proofs.Ends.{ends_early}
 use Rattle.cf_cli.proofs.program.replay.Goals as goal
 
 pub returns-in-Err-clause-replayed : goal.returns-in-Err-clause-replayed
 returns-in-Err-clause-replayed g c =
-    early_replayed c.in-Err.status _ c.args.trace (g.F.Files.files c.args.files.now) c.args.watch.now _ _ _ c.in-Err.ensures.only (new_tape c.args.tape.now c.requires.log) c.requires.log
+    early_replayed_either c.args.follow c.in-Err.status _ c.args.trace (g.F.Files.files c.args.files.now) c.args.watch.now _ _ _ c.in-Err.ensures.only (new_tape c.args.tape.now c.requires.log) c.requires.log
 
 pub returns-in-Err-load_session-clause-replayed : goal.returns-in-Err-load_session-clause-replayed
 returns-in-Err-load_session-clause-replayed g c =
-    early_replayed c.in-Err-load_session.status _ c.args.trace (g.F.Files.files c.args.files.now) c.args.watch.now _ _ _ c.in-Err-load_session.ensures.only
+    early_replayed_either c.args.follow c.in-Err-load_session.status _ c.args.trace (g.F.Files.files c.args.files.now) c.args.watch.now _ _ _ c.in-Err-load_session.ensures.only
     (new_tape c.args.tape.now c.requires.log) c.requires.log
 
-pub returns-clause-replayed : goal.returns-clause-replayed
-returns-clause-replayed g c =
-    let names = names_in c.deref.result.now in (
-      names,
-      over_watch c.run_once.result false c.args.trace (g.F.Files.files c.args.files.now) c.args.watch.now c.in-Ok.scripts names (g.O.Sink.written c.args.out.now) (g.O.Sink.written c.run_once.new.out)
-          (log_of c.run_once.new.wires) c.in-Ok.ensures.scripts c.run_once.ensures.kept,
-      subst (λ (t : Told). Tallied c.run_once.result 10000000 (length names) t (told_of c.run_once.new.wires)) (same_told c.load.new.self c.args.tape.now c.load.ensures.log c.load.ensures.finished)
-          c.run_once.ensures.tallied,
-    )
+pub returns-then-follow-clause-replayed : goal.returns-then-follow-clause-replayed
+returns-then-follow-clause-replayed g c = rw c.if-follow.true (
+  names_in c.as_slice.result.now,
+  over_watch_on c.stay_on_tape.result false c.args.trace (g.F.Files.files c.args.files.now) c.args.watch.now c.in-Ok.scripts (names_in c.as_slice.result.now) (g.O.Sink.written c.args.out.now)
+      (g.O.Sink.written c.stay_on_tape.new.out) (log_of c.stay_on_tape.new.wires) c.in-Ok.ensures.scripts c.stay_on_tape.ensures.kept,
+  subst (λ (t : Told). TalliedOn c.stay_on_tape.result 10000000 (length (names_in c.as_slice.result.now)) t (told_of c.stay_on_tape.new.wires))
+      (same_told c.load.new.self c.args.tape.now c.load.ensures.log c.load.ensures.finished) c.stay_on_tape.ensures.tallied,
+)
+
+pub returns-else-follow-clause-replayed : goal.returns-else-follow-clause-replayed
+returns-else-follow-clause-replayed g c = rw c.if-follow.false (
+  names_in c.as_slice.result.now,
+  over_watch c.run_once.result false c.args.trace (g.F.Files.files c.args.files.now) c.args.watch.now c.in-Ok.scripts (names_in c.as_slice.result.now) (g.O.Sink.written c.args.out.now)
+      (g.O.Sink.written c.run_once.new.out) (log_of c.run_once.new.wires) c.in-Ok.ensures.scripts c.run_once.ensures.kept,
+  subst (λ (t : Told). Tallied c.run_once.result 10000000 (length (names_in c.as_slice.result.now)) t (told_of c.run_once.new.wires))
+      (same_told c.load.new.self c.args.tape.now c.load.ensures.log c.load.ensures.finished) c.run_once.ensures.tallied,
+)
 
 pub returns-in-Err-clause-plays : goal.returns-in-Err-clause-plays
 returns-in-Err-clause-plays g c = early_plays (g.F.Files.files c.args.files.now) c.args.session.now c.in-Err.status _ c.in-Err.ensures.only c.requires.log
@@ -36,15 +46,26 @@ pub returns-in-Err-load_session-clause-plays : goal.returns-in-Err-load_session-
 returns-in-Err-load_session-clause-plays g c =
     early_plays (g.F.Files.files c.args.files.now) c.args.session.now c.in-Err-load_session.status _ c.in-Err-load_session.ensures.only c.requires.log
 
-pub returns-clause-plays : goal.returns-clause-plays
-returns-clause-plays g c =
+pub returns-then-follow-clause-plays : goal.returns-then-follow-clause-plays
+returns-then-follow-clause-plays g c =
+    let s = c.in-Ok-load_session.session in
+    let script : Script = record { dials = s.dials.items; deliveries = s.deliveries.items } in
+    told_plays (g.F.Files.files c.args.files.now) c.args.session.now c.stay_on_tape.result script (log_of c.stay_on_tape.new.wires)
+    (told_so (g.F.Files.files c.load_watch.new.files) (g.F.Files.files c.args.files.now) c.args.session.now script c.load_watch.ensures.same c.in-Ok-load_session.ensures.script)
+    (plays_of c.stay_on_tape.result (names_in c.as_slice.result.now) script c.stay_on_tape.new.wires
+    (c.stay_on_tape.ensures.same ∙ ap Some (ap (λ (x : Script). made x (failing_of c.load.new.self)) c.load.ensures.script ∙ ap (made script) (c.load.ensures.failing ∙ c.requires.failing)))
+    (ap names_in c.as_slice.ensures.value ∙ c.in-Ok-load_session.ensures.named)
+    c.stay_on_tape.ensures.dialled c.stay_on_tape.ensures.tallied.tallied.whole)
+
+pub returns-else-follow-clause-plays : goal.returns-else-follow-clause-plays
+returns-else-follow-clause-plays g c =
     let s = c.in-Ok-load_session.session in
     let script : Script = record { dials = s.dials.items; deliveries = s.deliveries.items } in
     told_plays (g.F.Files.files c.args.files.now) c.args.session.now c.run_once.result script (log_of c.run_once.new.wires)
     (told_so (g.F.Files.files c.load_watch.new.files) (g.F.Files.files c.args.files.now) c.args.session.now script c.load_watch.ensures.same c.in-Ok-load_session.ensures.script)
-    (plays_of c.run_once.result (names_in c.deref.result.now) script c.run_once.new.wires
+    (plays_of c.run_once.result (names_in c.as_slice.result.now) script c.run_once.new.wires
     (c.run_once.ensures.same ∙ ap Some (ap (λ (x : Script). made x (failing_of c.load.new.self)) c.load.ensures.script ∙ ap (made script) (c.load.ensures.failing ∙ c.requires.failing)))
-    (ap names_in c.deref.ensures.value ∙ c.in-Ok-load_session.ensures.named)
+    (ap names_in c.as_slice.ensures.value ∙ c.in-Ok-load_session.ensures.named)
     c.run_once.ensures.dialled c.run_once.ensures.tallied.whole)
 
 pub returns-in-Err-clause-versions : goal.returns-in-Err-clause-versions
@@ -53,8 +74,13 @@ returns-in-Err-clause-versions g c = unplayed_words _ _ c.requires.log
 pub returns-in-Err-load_session-clause-versions : goal.returns-in-Err-load_session-clause-versions
 returns-in-Err-load_session-clause-versions g c = unplayed_words _ _ c.requires.log
 
-pub returns-clause-versions : goal.returns-clause-versions
-returns-clause-versions g c =
+pub returns-then-follow-clause-versions : goal.returns-then-follow-clause-versions
+returns-then-follow-clause-versions g c =
+    versions_so _ c.args.moment c.args.nonce (told_of c.stay_on_tape.new.wires)
+    (to_z-of_z {w = w64} {z = c.args.moment} (search rules)) c.stay_on_tape.ensures.versions
+
+pub returns-else-follow-clause-versions : goal.returns-else-follow-clause-versions
+returns-else-follow-clause-versions g c =
     versions_so _ c.args.moment c.args.nonce (told_of c.run_once.new.wires)
     (to_z-of_z {w = w64} {z = c.args.moment} (search rules)) c.run_once.ensures.versions
 
@@ -64,5 +90,8 @@ returns-in-Err-clause-ends g c = ends_early c.in-Err.status _ _ _ c.in-Err.ensur
 pub returns-in-Err-load_session-clause-ends : goal.returns-in-Err-load_session-clause-ends
 returns-in-Err-load_session-clause-ends g c = ends_early c.in-Err-load_session.status _ _ _ c.in-Err-load_session.ensures.only
 
-pub returns-clause-ends : goal.returns-clause-ends
-returns-clause-ends g c = c.run_once.ensures.ends
+pub returns-then-follow-clause-ends : goal.returns-then-follow-clause-ends
+returns-then-follow-clause-ends g c = c.stay_on_tape.ensures.ends
+
+pub returns-else-follow-clause-ends : goal.returns-else-follow-clause-ends
+returns-else-follow-clause-ends g c = c.run_once.ensures.ends
