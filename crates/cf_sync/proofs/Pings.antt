@@ -26,14 +26,18 @@ none_left (n ∷ left) came = tt
 after_said : (m : Msg) (r : OpenRequest) → IsNoPing r → IsNoPing (request_after m r)
 after_said (Headers hs) HeadersOpen is = tt
 after_said (Cfheaders filter stop previous hashes) (ClaimsOpen wanted parent blocks) is =
-    elim (is_answer_of filter stop.0 wanted) as (λ b. IsNoPing (if b then NothingOpen else ClaimsOpen wanted parent blocks)) [ true ↦ tt | false ↦ tt ]
+    elim (is_answer_of filter stop.0 wanted) as
+    (λ b. IsNoPing (if b then NothingOpen else ClaimsOpen wanted parent blocks)) [ true ↦ tt | false ↦ tt ]
 after_said (Cfilter filter block bytes) (FiltersOpen (next ∷ left) came) is =
-    elim (is_answer_of filter block.0 next) as (λ b. IsNoPing (if b then filters_left left (came ++ filter_of block bytes ∷ []) else FiltersOpen (next ∷ left) came)) [
+    elim (is_answer_of filter block.0 next) as
+    (λ b. IsNoPing (if b then filters_left left (came ++ filter_of block bytes ∷ []) else FiltersOpen (next ∷ left)
+    came)) [
       | true ↦ none_left left (came ++ filter_of block bytes ∷ [])
       | false ↦ tt
     ]
 after_said (BlockMessage b) (BlockOpen wanted) is =
-    elim (is_wanted b wanted) as (λ x. IsNoPing (if x then NothingOpen else BlockOpen wanted)) [ true ↦ tt | false ↦ tt ]
+    elim (is_wanted b wanted) as (λ x. IsNoPing (if x then NothingOpen else BlockOpen wanted))
+    [ true ↦ tt | false ↦ tt ]
 after_said (Pong number) (PingOpen wanted) is = absurd is
 after_said m r is = is
 

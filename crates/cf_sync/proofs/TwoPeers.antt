@@ -605,14 +605,6 @@ may_ask_filter_of t claim free e claimed = (
   ),
 )
 
--- of one with this chain that claims its block
-pub may_filter_of : (t : Trail) → IsFree t → own t ≡ own t_7 → (claim : Claim) × (claims t only_hash.0 ≡ Some claim) → MayAsk t ask_filter
-unfolding range_of_one
-may_filter_of t free e claimed = (
-  free,
-  (range_of_one 1000 t (omega arith) e, λ block i. elim i [ inl f ↦ (claimed.0, ap (λ (x : List ℕ). claims t x) f ∙ claimed.1) | inr none ↦ absurd none ]),
-)
-
 pub request_10 : request t_10 ≡ FiltersOpen (only_hash.0 ∷ []) []
 request_10 = ap (λ o. filters_asked 1 o) back_only
 

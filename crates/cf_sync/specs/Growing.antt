@@ -21,8 +21,9 @@ use Rattle.cf_sync.specs.Sync.{IsHashed, IsHistoryOf}
 
 -- ---- what it says
 
--- Blocks are those of its chain in the end, the lowest first. As it grows it has the lower ones of them. Where it stands: the height of the chain that it answered at
--- or announced last; whether a version was answered; the rest of the answer that it gives; and what it was asked besides, the oldest first.
+-- Blocks are those of its chain in the end, the lowest first. As it grows it has the lower ones of them. Where it
+-- stands: the height of the chain that it answered at or announced last; whether a version was answered; the rest of
+-- the answer that it gives; and what it was asked besides, the oldest first.
 pub record Turn : Type 0 where
   pub height : ℕ
   pub met : Bool
@@ -96,20 +97,23 @@ Says blocks m s now = (n : ℕ) × SaysNow blocks m (taken_up n blocks s) now
 abbrev pub new_turn : ℕ → Turn
 new_turn first = record { height = first; met = false; left = []; asked = [] }
 
--- where it may stand after all that passed since it was dialled: each whole frame of it spells a message, and the bytes behind them aren't bad
+-- where it may stand after all that passed since it was dialled: each whole frame of it spells a message, and the
+-- bytes behind them aren't bad
 abbrev pub Reaches : List Block → ℕ → Trail → Turn → Type 0
 Reaches blocks first [] s = s ≡ new_turn first
 Reaches blocks first (Called ∷ t) s = s ≡ new_turn first
 Reaches blocks first (Said m ∷ t) s = (before : Turn) × Reaches blocks first t before × Says blocks m before s
 Reaches blocks first (Refused c ∷ t) s = ⊥
-Reaches blocks first (Asked m ∷ t) s = (before : Turn) × Reaches blocks first t before × (s ≡ record before { asked = before.asked ++ m ∷ [] })
+Reaches blocks first (Asked m ∷ t) s = (before : Turn) × Reaches blocks first t before ×
+    (s ≡ record before { asked = before.asked ++ m ∷ [] })
 Reaches blocks first (Passed n ∷ t) s = Reaches blocks first t s
 Reaches blocks first (Lost w ∷ t) s = Reaches blocks first t s
 
 -- at every moment of the log p has answered so, and in time
 abbrev pub IsGrowingOver : Log → ℕ → List Block → ℕ → Type 0
 IsGrowingOver [] p blocks first = Unit {0}
-IsGrowingOver (e ∷ log) p blocks first = ((s : Turn) × Reaches blocks first (trail (e ∷ log) p) s) × InTime e log p × Stays e p × IsGrowingOver log p blocks first
+IsGrowingOver (e ∷ log) p blocks first = ((s : Turn) × Reaches blocks first (trail (e ∷ log) p) s) × InTime e log p
+    × Stays e p × IsGrowingOver log p blocks first
 
 -- a peer whose chain grows up to these blocks, from the chain of a height on
 pub record IsGrowing (log : Log) (p : ℕ) (blocks : List Block) (first : ℕ) : Type 0 where
@@ -150,14 +154,20 @@ IsTold blocks first t height = IsTip blocks first height (last_told t)
 -- no other connected peer has shown another chain that is as long
 abbrev pub OthersShowNone : Log → ℕ → List Block → Type 0
 OthersShowNone log p blocks =
-    (q : ℕ) (other : Chain) → q ≢ p → IsConnected log q → Shows (lists (counted_part log q)) other → length (headers_of blocks) ≤ length other → other ≡ headers_of blocks
+    (q : ℕ) (other : Chain) → q ≢ p → IsConnected log q → Shows (lists (counted_part log q)) other
+    → length (headers_of blocks) ≤ length other → other ≡ headers_of blocks
 
 -- ---- what follows
 
--- The follow theorem: where p grows, and no two of the strings that were hashed have one hash, p is never closed and is still connected; and where no other connected
--- peer has shown another chain as long as the one that p told of last, with nothing open the tip and the history are those of that chain, each of its blocks scanned.
-pub record FollowTheorem (watch : List (List ℕ)) (height : ℕ) (hash : Hash32) (entries : List HistoryEntry) (log : Log) : Type 0 where
-  pub never : (p : ℕ) (blocks : List Block) (first : ℕ) → NoHashClash (IsHashed log blocks) → IsGrowing log p blocks first → IsNeverClosed log p
-  pub somebody : (p : ℕ) (blocks : List Block) (first : ℕ) → NoHashClash (IsHashed log blocks) → IsGrowing log p blocks first → IsConnected log p
-  pub exact : (p : ℕ) (blocks : List Block) (first top : ℕ) → NoHashClash (IsHashed log blocks) → IsGrowing log p blocks first → IsTold blocks first (trail log p) top
+-- The follow theorem: where p grows, and no two of the strings that were hashed have one hash, p is never closed and
+-- is still connected; and where no other connected peer has shown another chain as long as the one that p told of
+-- last, with nothing open the tip and the history are those of that chain, each of its blocks scanned.
+pub record FollowTheorem (watch : List (List ℕ)) (height : ℕ) (hash : Hash32) (entries : List HistoryEntry)
+    (log : Log) : Type 0 where
+  pub never : (p : ℕ) (blocks : List Block) (first : ℕ) → NoHashClash (IsHashed log blocks)
+      → IsGrowing log p blocks first → IsNeverClosed log p
+  pub somebody : (p : ℕ) (blocks : List Block) (first : ℕ) → NoHashClash (IsHashed log blocks)
+      → IsGrowing log p blocks first → IsConnected log p
+  pub exact : (p : ℕ) (blocks : List Block) (first top : ℕ) → NoHashClash (IsHashed log blocks)
+      → IsGrowing log p blocks first → IsTold blocks first (trail log p) top
       → OthersShowNone log p (take top blocks) → IsQuiet log → IsHistoryOf watch (take top blocks) height hash entries
