@@ -31,6 +31,7 @@ use Rattle.cf_sync.proofs.Counted.{same_use}
 use Rattle.cf_sync.proofs.Entries.{at_either}
 use Rattle.cf_sync.proofs.Growing.{Kept, keeps_growing, own_told, one_told, lower_setting, filter_within}
 use Rattle.cf_sync.proofs.HonestLemmas.{Hearing, hearing_hears}
+use Rattle.cf_sync.proofs.Modes.{rightly_before_in}
 use Rattle.cf_sync.proofs.Ranges.{in_take}
 use Rattle.cf_sync.proofs.Remembers.{asked_rightly_in}
 use Rattle.cf_sync.proofs.Serves.{AreTrue}
@@ -119,14 +120,6 @@ sound_on (Took (Gone q)) log p right none time stays s =
 sound_on (Took (Tick n)) log p right none time stays s = record { on = s.on; young = time; whole = s.whole }
 sound_on (Took Ended) log p right none time stays s = s
 
-rightly_then : (e : Event) (log : Log) → RightlyIn Following (e ∷ log) → RightlyIn Following log
-rightly_then (Dialled q name) log r = r
-rightly_then (NotDialled q name) log r = r
-rightly_then (Sent q bytes) log r = r.1
-rightly_then (SendFailed q) log r = r
-rightly_then (Closed q) log r = r.1
-rightly_then (Took d) log r = r.1
-
 -- ---- at each moment
 
 -- what the theorem assumes of a log and a chain of blocks
@@ -139,7 +132,7 @@ premises_before : (e : Event) (log : Log) (blocks : List Block) → Premises (e 
 premises_before e log blocks w = record {
   bytes = bytes_before e log w.bytes;
   clash = clash_before e log blocks w.clash;
-  right = rightly_then e log w.right;
+  right = rightly_before_in Following e log w.right;
 }
 
 -- what is true of a lower chain's claims is true of the whole chain's

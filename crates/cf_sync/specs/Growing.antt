@@ -30,22 +30,25 @@ pub record Turn : Type 0 where
   pub left : List Msg
   pub asked : List Msg
 
--- it takes up the next message once the answer before is given, by the chain of its height
+-- It takes up the next message once the answer before is given: what it then has to say, by the chain of its height.
 abbrev pub left_then : List Block → Bool → List Msg → List Msg → List Msg
 left_then blocks met (n ∷ left) asked = n ∷ left
 left_then blocks met [] [] = []
 left_then blocks met [] (q ∷ asked) = answered (pos 0) 0 blocks met q
 
+-- whether a version was answered then
 abbrev pub met_then : Bool → List Msg → List Msg → Bool
 met_then met (n ∷ left) asked = met
 met_then met [] [] = met
 met_then met [] (q ∷ asked) = met || is_version q
 
+-- what it hasn't taken up then
 abbrev pub asked_then : List Msg → List Msg → List Msg
 asked_then (n ∷ left) asked = asked
 asked_then [] [] = []
 asked_then [] (q ∷ asked) = asked
 
+-- where it stands once it has taken up the next message
 abbrev pub taking_up : List Block → Turn → Turn
 taking_up blocks s = record {
   height = s.height;
@@ -54,6 +57,7 @@ taking_up blocks s = record {
   asked = asked_then s.left s.asked;
 }
 
+-- and once it has taken up so many
 abbrev pub taken_up : ℕ → List Block → Turn → Turn
 taken_up zero blocks s = s
 taken_up (suc n) blocks s = taken_up n blocks (taking_up blocks s)
@@ -81,10 +85,12 @@ pub record SaysNext (m : Msg) (s now : Turn) : Type 0 where
   pub answer : IsAnswer m due
   pub next : now ≡ record s { left = rest }
 
+-- small talk leaves it where it stands
 abbrev pub SaysPlain : Bool → Msg → Turn → Turn → Type 0
 SaysPlain true m s now = now ≡ s
 SaysPlain false m s now = SaysNext m s now
 
+-- any message but an announcement is small talk or the next of its answer
 abbrev pub SaysNow : List Block → Msg → Turn → Turn → Type 0
 SaysNow blocks (Inv entries) s now = Announces blocks entries s now
 SaysNow blocks m s now = SaysPlain (is_small_talk m) m s now
@@ -104,16 +110,17 @@ Reaches blocks first [] s = s ≡ new_turn first
 Reaches blocks first (Called ∷ t) s = s ≡ new_turn first
 Reaches blocks first (Said m ∷ t) s = (before : Turn) × Reaches blocks first t before × Says blocks m before s
 Reaches blocks first (Refused c ∷ t) s = ⊥
-Reaches blocks first (Asked m ∷ t) s = (before : Turn) × Reaches blocks first t before ×
-    (s ≡ record before { asked = before.asked ++ m ∷ [] })
+Reaches blocks first (Asked m ∷ t) s =
+    (before : Turn) × Reaches blocks first t before × (s ≡ record before { asked = before.asked ++ m ∷ [] })
 Reaches blocks first (Passed n ∷ t) s = Reaches blocks first t s
 Reaches blocks first (Lost w ∷ t) s = Reaches blocks first t s
 
 -- at every moment of the log p has answered so, and in time
 abbrev pub IsGrowingOver : Log → ℕ → List Block → ℕ → Type 0
 IsGrowingOver [] p blocks first = Unit {0}
-IsGrowingOver (e ∷ log) p blocks first = ((s : Turn) × Reaches blocks first (trail (e ∷ log) p) s) × InTime e log p
-    × Stays e p × IsGrowingOver log p blocks first
+IsGrowingOver (e ∷ log) p blocks first =
+    ((s : Turn) × Reaches blocks first (trail (e ∷ log) p) s) × InTime e log p × Stays e p
+    × IsGrowingOver log p blocks first
 
 -- a peer whose chain grows up to these blocks, from the chain of a height on
 pub record IsGrowing (log : Log) (p : ℕ) (blocks : List Block) (first : ℕ) : Type 0 where
@@ -125,10 +132,12 @@ pub record IsGrowing (log : Log) (p : ℕ) (blocks : List Block) (first : ℕ) :
 
 -- ---- which chain it has told of
 
+-- the hash that the first entry names, or what was there before
 abbrev pub hash_first : List Entry → Option Hash → Option Hash
 hash_first [] before = before
 hash_first (entry ∷ more) before = Some entry.hash.0
 
+-- the hash that a message announces, or what was there before
 abbrev pub told_by : Msg → Option Hash → Option Hash
 told_by (Inv entries) before = hash_first entries before
 told_by m before = before
@@ -143,6 +152,7 @@ last_told (Asked m ∷ t) = last_told t
 last_told (Passed s ∷ t) = last_told t
 last_told (Lost w ∷ t) = last_told t
 
+-- the chain up to this height is the one with this tip, or the first where there is none
 abbrev pub IsTip : List Block → ℕ → ℕ → Option Hash → Type 0
 IsTip blocks first height None = height ≡ first
 IsTip blocks first height (Some hash) = (height ≤ length blocks) × (top_hash (take height blocks) ≡ hash)

@@ -11,12 +11,14 @@ use Rattle.cf_peer.specs.Acts.{bytes_of}
 use Rattle.cf_wires.specs.Log.{Log}
 use Rattle.cf_sync.specs.Example.{only_hash, honest_peer, its_version, question, its_headers, false_headers, ask_claims, its_claims, ask_filter, its_filter, log_2}
 
+-- the ping that it is sent with the tick, and its answer
 abbrev pub ping_one : Msg
 ping_one = Ping 1
 
 abbrev pub pong_one : Msg
 pong_one = Pong 1
 
+-- its announcement of the one block
 abbrev pub news : Msg
 news = announcement only_hash.0
 

@@ -24,17 +24,15 @@ pub record IsAtRest (log : Log) : Type 0 where
 -- history and the tip as they are known then
 pub record PutsAt (watch : List (List ℕ)) (log : Log) (before now : List (List ℕ)) : Type 0 where
   pub at_rest : IsAtRest log
-      → (height : ℕ) ×
-      ((hash : Hash32) ×
-      ((entries : List Entry) ×
-      (HasAskedIn Following watch height hash entries log × (now ≡ put (history_text entries height hash.0) before))))
+      → (height : ℕ) × ((hash : Hash32) × ((entries : List Entry)
+      × (HasAskedIn Following watch height hash entries log × (now ≡ put (history_text entries height hash.0) before))))
   pub elsewhere : (IsAtRest log → ⊥) → now ≡ before
 
 -- what was put before each delivery of the log
 abbrev pub WerePut : List (List ℕ) → Log → List (List ℕ) → Type 0
 WerePut watch [] texts = texts ≡ []
-WerePut watch (Took d ∷ log) texts = (before : List (List ℕ)) ×
-    (WerePut watch log before × PutsAt watch log before texts)
+WerePut watch (Took d ∷ log) texts =
+    (before : List (List ℕ)) × (WerePut watch log before × PutsAt watch log before texts)
 WerePut watch (Dialled p name ∷ log) texts = WerePut watch log texts
 WerePut watch (NotDialled p name ∷ log) texts = WerePut watch log texts
 WerePut watch (Sent p bytes ∷ log) texts = WerePut watch log texts
