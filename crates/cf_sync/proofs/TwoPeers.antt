@@ -605,6 +605,12 @@ may_ask_filter_of t claim free e claimed = (
   ),
 )
 
+pub may_ask_filter : MayAsk t_9 ask_filter
+may_ask_filter =
+    let owed_9 = same_use t_9 refl clean_9 in
+    let free : IsFree t_9 = record { on = refl; over = refl; idle = request_9; answered = sym owed_9.owing } in
+    may_ask_filter_of t_9 only_claim free refl claim_found
+
 pub request_10 : request t_10 ≡ FiltersOpen (only_hash.0 ∷ []) []
 request_10 = ap (λ o. filters_asked 1 o) back_only
 
