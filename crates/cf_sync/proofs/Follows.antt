@@ -1,15 +1,15 @@
 -- The follow theorem, from what a client that follows leaves true of a log.
-use Rattle.std.proofs.Common.{◌≡◌, inl, inr, ℕ, zero, suc, ◌<◌, ◌≤◌, List, [], ◌∷◌, ◌++◌, length, take, Option, Some, None, true, false, ◌==◌, refl, sym, ◌∙◌, ap, subst, arith}
+use Rattle.std.proofs.Common.{◌≡◌, inl, inr, ℕ, zero, suc, ◌<◌, ◌≤◌, List, [], ◌∷◌, ◌++◌, length, take, Option, Some, None, true, false, ◌==◌, refl, sym, ◌∙◌, subst, arith}
 use Rattle.std.specs.FinMap.{empty}
 use Rattle.std.proofs.lemmas.Bool.{both_ways, false≢true, eqb-true}
 use Rattle.cf_bytes.specs.declared.hash.Hash32.{Hash32}
 use Rattle.cf_block.specs.declared.tx.Block.{Block}
 use Rattle.cf_chain.specs.Coins.{CoinMap, after_block}
-use Rattle.cf_chain.specs.Good.{AreGoodBlocks, headers_of}
+use Rattle.cf_chain.specs.Good.{AreGoodBlocks}
 use Rattle.cf_dispute.specs.Claims.{Table}
 use Rattle.cf_frame.specs.declared.frame.FrameFault.{FrameFault}
 use Rattle.cf_frame.specs.Stream.{StreamRead, read_stream}
-use Rattle.cf_headers.specs.Chain.{NoHashClash, IsIn}
+use Rattle.cf_headers.specs.Chain.{NoHashClash}
 use Rattle.cf_msg.specs.declared.msg.Msg.{Msg}
 use Rattle.cf_msg.specs.declared.msg.Msg.TheVariants.{Ping, GetHeaders, GetData, GetCfheaders, GetCfilters}
 use Rattle.cf_wires.specs.declared.event.Delivery.TheVariants.{Got, Gone, Tick, Ended}
@@ -18,7 +18,7 @@ use Rattle.cf_wires.specs.declared.event.Event.TheVariants.{Dialled, NotDialled,
 use Rattle.cf_peer.specs.declared.mode.Mode.TheVariants.{Following}
 use Rattle.cf_peer.specs.declared.peer.Cause.{Cause}
 use Rattle.cf_wires.specs.Log.{Log}
-use Rattle.cf_peer.specs.Trail.{Trail, Part, Called, Asked, Passed, Lost, Went, Failing, Shutting, called_part, with_item, hears, hears_fault, part_after, heard_part, spelled, asks, part_of, trail, connected, failed}
+use Rattle.cf_peer.specs.Trail.{Trail, Part, Asked, Lost, Went, Failing, Shutting, called_part, with_item, hears, hears_fault, part_after, heard_part, spelled, asks, part_of, trail, connected, failed}
 use Rattle.cf_peer.specs.Asking.{is_open, age, claims, verdict, Deserves}
 use Rattle.cf_scan.specs.declared.history.Entry.{Entry}
 use Rattle.cf_sync.specs.Fetching.{AreBytes, DeservesIn, IsConnected, IsOmitting, IsQuiet, RightlyIn}
@@ -29,7 +29,7 @@ use Rattle.cf_sync.proofs.Blamed.{bytes_before, clash_before, truth_omits_nothin
 use Rattle.cf_sync.proofs.Chains.{Setting}
 use Rattle.cf_sync.proofs.Counted.{same_use}
 use Rattle.cf_sync.proofs.Entries.{at_either}
-use Rattle.cf_sync.proofs.Growing.{Kept, keeps_growing, own_told, one_told, lower_setting, filter_within}
+use Rattle.cf_sync.proofs.Growing.{keeps_growing, own_told, one_told, lower_setting, filter_within}
 use Rattle.cf_sync.proofs.HonestLemmas.{Hearing, hearing_hears}
 use Rattle.cf_sync.proofs.Modes.{rightly_before_in}
 use Rattle.cf_sync.proofs.Ranges.{in_take}

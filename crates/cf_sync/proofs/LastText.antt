@@ -6,7 +6,6 @@ use Rattle.cf_bytes.specs.declared.hash.Hash32.{Hash32}
 use Rattle.cf_block.specs.declared.tx.Block.{Block}
 use Rattle.cf_chain.specs.Grow.{top_hash}
 use Rattle.cf_headers.specs.Chain.{NoHashClash}
-use Rattle.cf_peer.specs.declared.mode.Mode.TheVariants.{Following}
 use Rattle.cf_wires.specs.Log.{Log}
 use Rattle.cf_peer.specs.Trail.{trail}
 use Rattle.cf_scan.specs.declared.history.Entry.{Entry}
@@ -15,7 +14,7 @@ use Rattle.cf_scan.specs.Scan.{scan_of}
 use Rattle.cf_sync.specs.Fetching.{IsConnected, IsQuiet}
 use Rattle.cf_sync.specs.Growing.{IsGrowing, IsTold, OthersShowNone}
 use Rattle.cf_sync.specs.Putting.{put, PutsAt, EndsWith}
-use Rattle.cf_sync.specs.Sync.{IsHashed, HasAskedIn, IsHistoryOf}
+use Rattle.cf_sync.specs.Sync.{IsHashed, IsHistoryOf}
 use Rattle.cf_sync.proofs.Follows.{follow_theorem_of}
 
 put_ends : (text : List ℕ) (texts : List (List ℕ)) → EndsWith text (put text texts)

@@ -1,8 +1,7 @@
 -- The run of a peer whose chain grows, moment by moment: all that the follow theorem asks for is met, at both quiet
 -- moments.
-use Rattle.std.proofs.Common.{if◌then◌else◌, ◌≡◌, ◌≢◌, inl, inr, ℕ, pos, ◌<◌, ◌≤◌, List, [], ◌∷◌, ◌++◌, length, Some, None, Bool, true, false, not, ◌||◌, ◌==◌, refl, sym, ◌∙◌, ap, subst, arith}
+use Rattle.std.proofs.Common.{if◌then◌else◌, ◌≡◌, ◌≢◌, inl, inr, ℕ, pos, ◌<◌, ◌≤◌, List, [], ◌∷◌, ◌++◌, length, Some, None, Bool, true, false, not, ◌==◌, refl, sym, ◌∙◌, ap, subst, arith}
 use Rattle.std.specs.Prelude.{option_map}
-use Rattle.std.proofs.Math.Facts.{sfits_lit}
 use Rattle.std.proofs.lemmas.Bool.{cases_Bool, false≢true, eqb-true}
 use Rattle.sha2.specs.Sha256.{compress, digest_bytes, first_words, hash_after, rounds, schedule, sha256}
 use Rattle.cf_bytes.specs.Compact.{compact}
@@ -31,8 +30,7 @@ use Rattle.cf_peer.specs.declared.mode.Mode.TheVariants.{Following}
 use Rattle.cf_peer.specs.Acts.{bytes_of, IsSendable}
 use Rattle.cf_wires.specs.Log.{Log}
 use Rattle.cf_peer.specs.Trail.{Trail, Part, Called, Said, Asked, Passed, called_part, with_item, heard_part, spelled, asks, part_of, trail, connected, own, heard_in, first}
-use Rattle.cf_peer.specs.Asking.{NothingOpen, ClaimsOpen, FiltersOpen, is_idle, is_spare, is_open, age, request, request_after, claims, claims_after, claims_asked, filters_asked, claims_fault, filter_fault, fault_of, verdict, counted, lists, given, given_by, filter_of, hash_claimed, hashes_of, HasSaid, IsFree, block_entry, MayAskIn}
-use Rattle.cf_scan.specs.Scan.{scan_of}
+use Rattle.cf_peer.specs.Asking.{NothingOpen, ClaimsOpen, FiltersOpen, is_idle, is_spare, is_open, age, request, request_after, claims, claims_after, claims_asked, filters_asked, claims_fault, filter_fault, fault_of, verdict, counted, given, given_by, filter_of, hash_claimed, hashes_of, HasSaid, IsFree, block_entry, MayAskIn}
 use Rattle.cf_scan.specs.Watching.{IsWatch}
 use Rattle.cf_sync.specs.Example.{only_header, only_hash, chain_of_one, honest_peer, our_version, its_version, question, its_headers, false_headers, ask_claims, its_claims, ask_filter, its_filter, genesis_hash, no_stop, only_filter, only_filter_hash, genesis_filter_header, other_watch, log_1, log_2}
 use Rattle.cf_sync.specs.Growth.{ping_one, pong_one, news, grow_3, grow_4, grow_5, grow_6, first_quiet, grow_8, grow_9, grow_10, grow_11, grow_12, grow_13, grow_14, grow_15, grow_16, growing_run}

@@ -10,7 +10,6 @@ use Rattle.cf_headers.specs.Shown.{Shows}
 use Rattle.cf_msg.specs.declared.msg.Entry.{Entry}
 use Rattle.cf_msg.specs.declared.msg.Msg.{Msg}
 use Rattle.cf_msg.specs.declared.msg.Msg.TheVariants.{Pong, Inv}
-use Rattle.cf_wires.specs.declared.event.Event.{Event}
 use Rattle.cf_wires.specs.Log.{Log}
 use Rattle.cf_peer.specs.Trail.{Trail, Called, Said, Refused, Asked, Passed, Lost, trail}
 use Rattle.cf_peer.specs.Asking.{lists}
