@@ -659,7 +659,7 @@ pub tick_moves : (mode : Mode) (d : Desk) (places : List Place) (seconds : ℕ) 
     → Moves mode Same (record { places = places; seen = d.seen; acts = d.acts }) now → AreCalm now.places → Moves mode (Taking (Tick seconds)) d now
 tick_moves mode d places seconds now none passed closed calm = record {
   stands = λ log next is stood.
-      let ticked = stands_start places d.seen d.acts (Took (Tick seconds) ∷ log) none (passed log (start_places d log none stood)) (tracks_tick d.seen seconds log (start_tracks d log none stood)) stood.unexposed in
+      let ticked = stands_start {mode = mode} places d.seen d.acts (Took (Tick seconds) ∷ log) none (passed log (start_places d log none stood)) (tracks_tick d.seen seconds log (start_tracks d log none stood)) stood.unexposed in
       closed.stands (Took (Tick seconds) ∷ log) next is ticked;
   order = closed.order;
   watch = closed.watch;
