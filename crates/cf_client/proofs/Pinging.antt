@@ -21,7 +21,7 @@ use Rattle.cf_place.specs.declared.place.Place.{Place}
 use Rattle.cf_place.specs.declared.place.Place.TheVariants.{Here}
 use Rattle.cf_place.specs.Places.{Goes, after as done, is_idle, nobody}
 use Rattle.cf_client.specs.Order.{PingsOne}
-use Rattle.cf_client.specs.Steps.{Desk, HasPingedOut, IsInOrder, IsNextPing, IsPinged, IsSent, Moves, Stands, Ticked}
+use Rattle.cf_client.specs.Steps.{Desk, HasPingedOut, IsInOrder, IsNextPing, IsPinged, Moves, Stands, Ticked}
 use Rattle.cf_client.proofs.Acting.{aim_kept, idle_at, sent_tracks}
 use Rattle.cf_client.proofs.Best.{rule_in}
 use Rattle.cf_client.proofs.Settled.{set_other}
@@ -83,7 +83,7 @@ next_here number place peer here next = subst (IsNextPing number) here next
 
 pub pinged_moves : (d : Desk) (i : ℕ) (places : List Place) (acts : List Act) → i < length d.places → IsInOrder d
     → IsPinged i d.places places d.acts acts → Moves Following Ticked d (record { places = places; seen = d.seen; acts = acts })
-pinged_moves d i places acts lt order (inl (number, next, sent)) =
+pinged_moves d i places acts lt order (inl (number, (next, sent))) =
     subst (λ (ps : List Place). Moves Following Ticked d (record { places = ps; seen = d.seen; acts = acts })) (sym sent.kept)
     (subst (λ (xs : List Act). Moves Following Ticked d (record { places = set d.places i (Here (asked_for_ping number sent.peer)); seen = d.seen; acts = xs })) (sym sent.added)
     (ping_moves d i sent.peer number lt order sent.here sent.idle (next_here number (get_or d.places i nobody) sent.peer sent.here next) sent.sendable))
@@ -93,18 +93,18 @@ pinged_moves d i places acts lt order (inr (same, none, out)) =
     (ticked_self d order))
 
 pub pinged_one : (i : ℕ) (places now : List Place) (acts more : List Act) → IsPinged i places now acts more → PingsOne i acts more
-pinged_one i places now acts more (inl (number, next, sent)) = inr (number, sent.added)
+pinged_one i places now acts more (inl (number, (next, sent))) = inr (number, sent.added)
 pinged_one i places now acts more (inr (same, none, out)) = inl none
 
 pub pinged_others : (i : ℕ) (places now : List Place) (acts more : List Act) → IsPinged i places now acts more → (p : ℕ) → p ≢ i
     → get_or now p nobody ≡ get_or places p nobody
-pinged_others i places now acts more (inl (number, next, sent)) p other =
+pinged_others i places now acts more (inl (number, (next, sent))) p other =
     ap (λ (ps : List Place). get_or ps p nobody) sent.kept ∙ set_other places i p (Here (asked_for_ping number sent.peer)) other
 pinged_others i places now acts more (inr (same, none, out)) p other = ap (λ (ps : List Place). get_or ps p nobody) same
 
 pub pinged_here : (i : ℕ) (places now : List Place) (acts more : List Act) → i < length places → IsPinged i places now acts more
     → is_idle (get_or now i nobody) ≡ true → HasPingedOut (get_or now i nobody)
-pinged_here i places now acts more lt (inl (number, next, sent)) idle =
+pinged_here i places now acts more lt (inl (number, (next, sent))) idle =
     let this = ap (λ (ps : List Place). get_or ps i nobody) sent.kept ∙ set_is places i (Here (asked_for_ping number sent.peer)) lt in
     absurd (both_ways (is_idle (get_or now i nobody)) (ap is_idle this) idle)
 pinged_here i places now acts more lt (inr (same, none, out)) idle =

@@ -67,9 +67,9 @@ pub extends_one : (acts : List Act) (a : Act) → Extends acts (acts ++ a ∷ []
 extends_one acts a = (a ∷ [], refl)
 
 -- one step after another, which stands for the same log
-pub moves_on : {mode : Mode} {way more : Way} {a b c : Desk} → ((log next : Log) → way log next → more next next)
-    → Moves mode way a b → Moves mode more b c → Moves mode way a c
-moves_on still one two = record {
+pub moves_on : {mode : Mode} {way more : Way} {a b c : Desk} → Moves mode way a b → Moves mode more b c
+    → ((log next : Log) → way log next → more next next) → Moves mode way a c
+moves_on one two still = record {
   stands = λ log next on stood. two.stands next next (still log next on) (one.stands log next on stood);
   order = two.order;
   watch = two.watch ∙ one.watch;
@@ -79,14 +79,14 @@ moves_on still one two = record {
 }
 
 pub moves_then : {mode : Mode} {way : Way} {a b c : Desk} → Moves mode way a b → Moves mode Same b c → Moves mode way a c
-moves_then one two = moves_on (λ log next on. refl) one two
+moves_then one two = moves_on one two (λ log next on. refl)
 
 -- right after a tick
 pub moves_ticked : {mode : Mode} {a b c : Desk} → Moves mode Ticked a b → Moves mode Ticked b c → Moves mode Ticked a c
-moves_ticked one two = moves_on (λ log next on. (refl, ap is_after_tick on.0 ∙ on.1)) one two
+moves_ticked one two = moves_on one two (λ log next on. (refl, ap is_after_tick on.0 ∙ on.1))
 
 pub moves_tick : {mode : Mode} {a b c : Desk} (seconds : ℕ) → Moves mode (Taking (Tick seconds)) a b → Moves mode Ticked b c → Moves mode (Taking (Tick seconds)) a c
-moves_tick seconds one two = moves_on (λ log next on. (refl, ap is_after_tick on)) one two
+moves_tick seconds one two = moves_on one two (λ log next on. (refl, ap is_after_tick on))
 
 -- a desk with no acts yet stands for a log if its places do, and what was seen is what the log says
 pub stands_start : {mode : Mode} (places : List Place) (seen : Seen) (acts : List Act) (log : Log) → acts ≡ [] → PlacesStand places log → Tracks seen log → IsUnexposed seen
@@ -212,8 +212,11 @@ off_and : (b : Bool) → (b && false) ≡ false
 off_and true = refl
 off_and false = refl
 
+settled_of : (young wanted idle : Bool) → young ≡ true → idle ≡ false → (young && not (wanted && idle)) ≡ true
+settled_of young wanted idle is off = rw (is, off, off_and wanted) refl
+
 busy_settled : (mode : Mode) (peer : Peer) → is_idle_peer peer ≡ false → calm peer ≡ true → is_settled mode (Here peer) ≡ true
-busy_settled mode peer busy young = rw (young, busy, off_and (not (heard_out mode peer))) refl
+busy_settled mode peer busy young = settled_of (calm peer) (not (heard_out mode peer)) (is_idle_peer peer) young busy
 
 -- a connected peer is asked something
 sent_asks : (mode : Mode) (d : Desk) (after : Seen) (i : ℕ) (peer now : Peer) (m : Msg) → i < length d.places → IsInOrder d → get_or d.places i nobody ≡ Here peer
@@ -263,7 +266,7 @@ pub claims_asks : (mode : Mode) (d : Desk) (after : Seen) (i common : ℕ) (span
     → Asks mode i d (record { places = places; seen = after; acts = acts })
 claims_asks mode d after i common span places acts lt order settled low wish far tries opened opens aimed sent =
     about_asks mode d after i (GetCfheaders 0 span.start span.stop) (asked_for_claims (range_in span)) places acts lt order sent refl
-    refl refl refl
+    refl refl
     (let le = wish.1.1.1 in claims_right d.seen.claims i (chain_at d.seen i) wish.1.0 span 0 wish.0.0 (omega (arith, le, low)) wish.1.1.0 wish.0.2 wish.1.1.3) opened
     (λ log stood. claims_goes mode d.places d.acts log d.seen i sent.peer common span lt stood.goes sent.here sent.idle (ended_by mode (get_or d.places i nobody) sent.peer sent.here sent.idle settled) far tries stood.tracks low wish sent.sendable)
     (λ log stood. claims_tracks d.places d.acts log d.seen after i common sent.peer span stood.goes sent.here sent.idle sent.sendable opened wish opens aimed stood.tracks)
@@ -275,7 +278,7 @@ pub filters_asks : (mode : Mode) (d : Desk) (after : Seen) (i common : ℕ) (spa
     → Asks mode i d (record { places = places; seen = after; acts = acts })
 filters_asks mode d after i common span places acts lt order settled low wish far tries opened opens aimed sent =
     about_asks mode d after i (GetCfilters 0 span.start span.stop) (asked_for_filters span.blocks.items) places acts lt order sent refl
-    refl refl refl
+    refl refl
     (filters_right (chain_at d.seen i) wish.1.0 span wish.0.1 wish.1.1.0) opened
     (λ log stood. filters_goes mode d.places d.acts log d.seen i sent.peer common span lt stood.goes sent.here sent.idle (ended_by mode (get_or d.places i nobody) sent.peer sent.here sent.idle settled) far tries stood.tracks low wish sent.sendable)
     (λ log stood. filters_tracks d.places d.acts log d.seen after i common sent.peer span stood.goes sent.here sent.idle sent.sendable opened wish opens low aimed stood.tracks)
@@ -286,7 +289,7 @@ pub block_asks : (mode : Mode) (d : Desk) (after : Seen) (i common : ℕ) (hash 
     → IsSentFor i hash d.places places d.acts acts → Asks mode i d (record { places = places; seen = after; acts = acts })
 block_asks mode d after i common hash places acts lt order settled low wish far tries opened opens aimed for =
     about_asks mode d after i for.message (asked_for_block hash) places acts lt order for.sent (block_asked hash for.message for.asks)
-    refl refl refl tt opened
+    refl refl tt opened
     (λ log stood. block_goes mode d.places d.acts log d.seen i for.sent.peer common hash for.message lt stood.goes for.sent.here for.sent.idle (ended_by mode (get_or d.places i nobody) for.sent.peer for.sent.here for.sent.idle settled) far tries stood.tracks low wish for.sent.sendable for.asks)
     (λ log stood. block_tracks d.places d.acts log d.seen after i for.sent.peer hash for.message stood.goes for.sent.here for.sent.idle for.sent.sendable for.asks opened opens aimed stood.tracks)
 
@@ -297,7 +300,7 @@ pub test_asks : (mode : Mode) (d : Desk) (after : Seen) (i common : ℕ) (trial 
     → Asks mode i d (record { places = places; seen = after; acts = acts })
 test_asks mode d after i common trial places acts lt order settled wish far tries opened opens aimed sent =
     about_asks mode d after i (GetCfilters 0 trial.height trial.block) (asked_for_filters (trial.block ∷ [])) places acts lt order sent refl
-    refl refl refl
+    refl refl
     (omega arith) opened
     (λ log stood. test_goes mode d.places d.acts log d.seen i sent.peer common trial lt stood.goes sent.here sent.idle (ended_by mode (get_or d.places i nobody) sent.peer sent.here sent.idle settled) far tries stood.tracks wish sent.sendable)
     (λ log stood. test_tracks d.places d.acts log d.seen after i common sent.peer trial stood.goes sent.here sent.idle sent.sendable opened tries opens aimed stood.tracks)
