@@ -51,7 +51,7 @@ ping_goes places acts log s i peer number lt goes here idle next sendable ticked
     })
     tt
     (asked_keeps (asked_for_ping number peer) peer (part_of l i) (Ping number) keeps
-        (asked_ping_holds peer (trail l i) number keeps.holds idle next) refl refl refl)
+    (asked_ping_holds peer (trail l i) number keeps.holds idle next) refl refl refl)
 
 ping_tracks : {rule : Rule} (places : List Place) (acts : List Act) (log : Log) (s : Seen) (i : ℕ) (peer : Peer) (number : ℕ)
     → Goes rule places acts log → get_or places i nobody ≡ Here peer → is_idle_peer peer ≡ true → IsSendable (Ping number)

@@ -201,11 +201,11 @@ sent_moves mode way stays d after i peer now m lt order here doable young right 
     })
     (extends_one d.acts (Send (record { 0 = i }) m)) (λ all. All-push IsDoable d.acts (Send (record { 0 = i }) m) all doable) (λ was. young)
     (λ log next on stood. (let is = stays log next on in
-      subst (Stands mode (acted d i (Here now) after (Send (record { 0 = i }) m))) (sym is) (record {
-        goes = goes_watch opened.watch (goes log (subst (way log) is on) stood);
-        tracks = tracks log stood;
-        unexposed = unexposed_on d.seen after opened.claims opened.trials.told stood.unexposed;
-      })))
+    subst (Stands mode (acted d i (Here now) after (Send (record { 0 = i }) m))) (sym is) (record {
+      goes = goes_watch opened.watch (goes log (subst (way log) is on) stood);
+      tracks = tracks log stood;
+      unexposed = unexposed_on d.seen after opened.claims opened.trials.told stood.unexposed;
+    })))
 
 -- a peer to which something is open, not for long, is settled
 off_and : (b : Bool) → (b && false) ≡ false
