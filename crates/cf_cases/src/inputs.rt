@@ -16,8 +16,8 @@ fn put_names(peers: &PeerNames, out: &mut String) -> Option<()> {
     Some(())
 }
 
-// The name of a command over peers and its numbers, the file of its record where there is one, the watch file and the peers.
-fn run_told(
+// A command over peers: its name, its numbers, the file of its record where there is one, the watch file and the peers.
+fn over_peers(
     alloc: Global,
     name: &str,
     turns: u32,
@@ -45,8 +45,12 @@ fn told(alloc: Global, command: &Command) -> Option<String> {
             watch,
             session,
         } => {
-            let name = if *follow { "replay --follow" } else { "replay" };
-            format!(in alloc; "{name} {trace} {} {}", watch.as_str(), session.as_str()).ok()
+            format!(in alloc;
+                "replay {follow} {trace} {} {}",
+                watch.as_str(),
+                session.as_str()
+            )
+            .ok()
         }
         Command::Sync {
             turns,
@@ -54,14 +58,14 @@ fn told(alloc: Global, command: &Command) -> Option<String> {
             record,
             watch,
             peers,
-        } => run_told(alloc, "sync", *turns, *workers, record, watch, peers),
+        } => over_peers(alloc, "sync", *turns, *workers, record, watch, peers),
         Command::Follow {
             turns,
             workers,
             record,
             watch,
             peers,
-        } => run_told(alloc, "follow", *turns, *workers, record, watch, peers),
+        } => over_peers(alloc, "follow", *turns, *workers, record, watch, peers),
         Command::Scan { file, watch } => {
             format!(in alloc; "scan {} {}", file.as_str(), watch.as_str()).ok()
         }
