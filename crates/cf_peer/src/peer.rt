@@ -1,5 +1,5 @@
 //! What the client keeps of one peer.
-ghost use Rattle.std.specs.Prelude.{◌≡◌, ◌+◌, ℕ, List, true, false, not, None, Some, IfNone, IfSome, ◌×◌, ◌∷◌, [], length};
+ghost use Rattle.std.specs.Prelude.{◌≡◌, ◌+◌, ℕ, List, true, false, not, None, Some, IfNone, IfSome, ◌∷◌, [], length};
 ghost use Rattle.cf_block.specs.declared.header.Header.{Header};
 ghost use Rattle.cf_block.specs.declared.tx.Block.{Block};
 ghost use Rattle.cf_block.specs.Header.{block_hash_of};
