@@ -2,6 +2,7 @@
 ghost use Rattle.std.specs.Prelude.{◌≡◌, ℕ, List, [], Option, Some, OnOk, OnErr, IsErrOf};
 ghost use Rattle.cf_bytes.specs.Outside.{HasRisen, with_more};
 ghost use Rattle.cf_run.specs.Texts.{HasBegun};
+ghost use Rattle.cf_run.specs.declared.texts.TextFail.TheVariants.{NoMemory as NoTextMemory};
 
 use cf_bytes::{NoMemory, Sink, put_all};
 use std::alloc::{AllocError, Global};
@@ -19,17 +20,17 @@ pub enum TextFail {
 }
 
 impl From<NoMemory> for TextFail {
-    fn from(_: NoMemory) -> TextFail
-        ensures { result ≡ TextFail.NoMemory }
-    {
+    ghost from_gives = { λ _ e. e ≡ NoTextMemory };
+
+    fn from(_e: NoMemory) -> TextFail {
         TextFail::NoMemory
     }
 }
 
 impl From<AllocError> for TextFail {
-    fn from(_: AllocError) -> TextFail
-        ensures { result ≡ TextFail.NoMemory }
-    {
+    ghost from_gives = { λ _ e. e ≡ NoTextMemory };
+
+    fn from(_e: AllocError) -> TextFail {
         TextFail::NoMemory
     }
 }
@@ -76,6 +77,7 @@ impl<'a, S: Sink> Texts for Live<'a, S> {
 
     ghost holds = { λ t. t.sink.ghost_name };
 
+    #[tactic(auto, using(crate::proofs::Puts::begun_so))]
     fn put(&mut self, text: &str) -> Result<(), TextFail> {
         match put_all(self.sink, text.as_bytes()) {
             Ok(()) => Ok(()),
@@ -115,6 +117,7 @@ impl Texts for Kept {
 
     ghost holds = { λ t. 0 };
 
+    #[tactic(auto, using(crate::proofs::Puts::begun_none))]
     fn put(&mut self, text: &str) -> Result<(), TextFail> {
         self.bytes.extend_from_slice(text.as_bytes())?;
         Ok(())
