@@ -1,6 +1,6 @@
 -- What a command does, told of its words, and where no memory is found for them.
 use Rattle.std.proofs.Common.{◌≡◌, inl, ℕ, ℤ, Bool, true, false, List, [], length, Option, Some, None, Result, Ok, Err, refl, subst}
-use Rattle.std.specs.Prelude.{if◌then◌else◌, is_some, nat_lt, IfSome}
+use Rattle.std.specs.Prelude.{is_some, nat_lt, IfSome}
 use Rattle.std.specs.FinMap as finite
 use Rattle.cf_bytes.specs.Files.{Named}
 use Rattle.cf_bytes.specs.declared.hash.Hash32.{Hash32}
@@ -14,34 +14,21 @@ use Rattle.cf_input.specs.declared.watch_file.WatchFileFault.{WatchFileFault}
 use Rattle.cf_input.specs.declared.words.Command.{Command}
 use Rattle.cf_input.specs.declared.words.Command.TheVariants.{Replay, Sync, Follow, Scan, Filter, Address, Prove, Check, Serve, Make, Demo}
 use Rattle.cf_input.specs.ProofFile.{proof_file_of}
-use Rattle.cf_input.specs.SessionFile.{session_of}
 use Rattle.cf_input.specs.WatchFile.{watch_of}
-use Rattle.cf_input.specs.Words.{most_turns}
 use Rattle.cf_wires.specs.Log.{Tells}
 use Rattle.cf_answers.specs.declared.status.Status.{Status}
 use Rattle.cf_answers.specs.declared.status.Status.TheVariants.{NoMemory}
-use Rattle.cf_cli.specs.Doing.{Around, Does, IsFollowed, IsFollowedOn}
-use Rattle.cf_cli.specs.Following.{IsReplayedOn}
+use Rattle.cf_cli.specs.Doing.{Around, Does}
 use Rattle.cf_cli.specs.Proving.{Checks, Proves, TakesWhatIsProved}
 use Rattle.cf_cli.specs.Reading.{Filters, Scans, TellsFilter, TellsHeight}
-use Rattle.cf_cli.specs.Theorem.{IsReplayed, PlaysSession}
-use Rattle.cf_cli.proofs.Plays.{early_plays, early_replayed, early_tallied, early_told, new_dialled, same_command}
-use Rattle.cf_cli.proofs.Stays.{early_replayed_on, early_tallied_on, early_told_on}
+use Rattle.cf_cli.proofs.Plays.{early_plays, early_tallied, early_told, new_dialled, same_command}
+use Rattle.cf_cli.proofs.Stays.{early_replayed_in, early_tallied_on, early_told_on}
 
 -- the same of the words, and of the same moment
 pub does_so : (found : Option Command) (c : Command) (status : Status) (z y : ℤ) (nonce : ℕ) (before after : Around) → found ≡ Some c → z ≡ y → Does c status z nonce before after
     → (x : Command) → found ≡ Some x → Does x status y nonce before after
 does_so found c status z y nonce before after is same did x asked =
     subst (λ (k : Command). Does k status y nonce before after) (same_command found c x is asked) (subst (λ (m : ℤ). Does c status m nonce before after) same did)
-
--- what is promised of `replay`, in either mode
-pub replays_by : (follow : Bool) (status : Status) (trace : Bool) (watch session : List ℕ) (before after : Around)
-    → (if follow then IsReplayedOn status most_turns trace before.files watch before.written after.written before.tape after.tape after.taped
-    else IsReplayed status most_turns trace before.files watch before.written after.written before.tape after.tape after.taped)
-    → IfSome before.files (λ m. IfSome (finite.get m session) (λ bytes. PlaysSession status (session_of bytes) after.taped))
-    → (if follow then IsFollowedOn status trace watch session before after else IsFollowed status trace watch session before after)
-replays_by true status trace watch session before after replayed plays = record { replayed = replayed; plays = plays }
-replays_by false status trace watch session before after replayed plays = record { replayed = replayed; plays = plays }
 
 -- ---- nothing was done
 
@@ -89,12 +76,8 @@ under_both (Some m) one two {P} h = held (finite.get m one) (finite.get m two) w
 
 -- where no memory is found for the words nothing has changed, and all that is promised of each command holds
 pub undone : (c : Command) (moment : ℤ) (nonce : ℕ) (a : Around) → Tells [] a.wires → Tells [] a.tape → a.taped ≡ [] → Does c NoMemory moment nonce a a
-undone (Replay true trace watch session) moment nonce a wires tape log = record {
-  replayed = early_replayed_on NoMemory _ trace a.files watch a.written a.tape a.taped tt tape log;
-  plays = early_plays a.files session NoMemory a.taped tt log;
-}
-undone (Replay false trace watch session) moment nonce a wires tape log = record {
-  replayed = early_replayed NoMemory _ trace a.files watch a.written a.tape a.taped tt tape log;
+undone (Replay follow trace watch session) moment nonce a wires tape log = record {
+  replayed = early_replayed_in follow NoMemory _ trace a.files watch a.written a.tape a.taped tt tape log;
   plays = early_plays a.files session NoMemory a.taped tt log;
 }
 undone (Sync turns workers file watch peers) moment nonce a wires tape log = record {

@@ -1,6 +1,6 @@
 -- What a run that follows has written, and how it ended.
 use Rattle.std.proofs.Common.{◌≡◌, ◌≢◌, ◌⊎◌, inl, inr, ℕ, ◌<◌, ◌≤◌, Bool, true, false, List, [], ◌∷◌, ◌++◌, length, reverse, take, Option, Some, None, refl, sym, ◌∙◌, ap, subst, arith, append_assoc}
-use Rattle.std.specs.Prelude.{◌↔◌, if◌then◌else◌, IfSome, Ok}
+use Rattle.std.specs.Prelude.{◌↔◌, IfSome, Ok}
 use Rattle.std.specs.FinMap as finite
 use Rattle.std.proofs.lemmas.Bool.{both_ways, false≢true}
 use Rattle.std.proofs.lemmas.List.{append-nil, take_all}
@@ -32,9 +32,9 @@ use Rattle.cf_answers.specs.declared.status.Status.{Status}
 use Rattle.cf_answers.specs.declared.status.Status.TheVariants.{Done, NoMemory, Usage, BadFile, FileFault, OutFault, NoPeers, Tired, Ended, LinkFault, NoNonce, NoHeight, NotThere, NotAddress}
 use Rattle.cf_answers.specs.Texts.{trace_text}
 use Rattle.cf_loading.specs.Verdicts.{IsOfFile}
-use Rattle.cf_cli.specs.Following.{BegunTexts, EndsBy, Grows, IsReplayedOn, KeptOn, KeptOnOver, Stayed, TalliedOn, with_trace}
+use Rattle.cf_cli.specs.Following.{BegunTexts, EndsBy, Grows, IsReplayedIn, IsReplayedOn, KeptOn, KeptOnOver, Stayed, TalliedOn, with_trace}
 use Rattle.cf_cli.specs.Statuses.{has_run, is_over, was_refused, was_unbegun}
-use Rattle.cf_cli.specs.Theorem.{AnswersTo, IsComplete, IsOfRun, IsReplayed, IsWhole, IsWithin}
+use Rattle.cf_cli.specs.Theorem.{AnswersTo, IsComplete, IsOfRun, IsWhole, IsWithin}
 use Rattle.cf_cli.proofs.Grown.{grown_last, grown_never}
 use Rattle.cf_cli.proofs.Plays.{early_replayed, early_tallied, no_run, not_run, run_tallied, spent_tallied, tallied_early, unwritten_tallied}
 use Rattle.cf_cli.proofs.Runs.{somebody_left}
@@ -425,7 +425,7 @@ early_replayed_on status turns trace files watch b t log is fresh none =
     ([], early_over_on status false trace files watch [] b log is none, early_tallied_on status turns 0 t is fresh)
 
 -- the same in either mode
-pub early_replayed_either : (follow : Bool) (status : Status) (turns : ℕ) (trace : Bool) (files : Option Named) (watch : List ℕ) (b : Option (List ℕ)) (t : Told) (log : Log)
-    → IsOfFile status → Tells [] t → log ≡ [] → (if follow then IsReplayedOn status turns trace files watch b b t t log else IsReplayed status turns trace files watch b b t t log)
-early_replayed_either true = early_replayed_on
-early_replayed_either false = early_replayed
+pub early_replayed_in : (follow : Bool) (status : Status) (turns : ℕ) (trace : Bool) (files : Option Named) (watch : List ℕ) (b : Option (List ℕ)) (t : Told) (log : Log)
+    → IsOfFile status → Tells [] t → log ≡ [] → IsReplayedIn follow status turns trace files watch b b t t log
+early_replayed_in true = early_replayed_on
+early_replayed_in false = early_replayed

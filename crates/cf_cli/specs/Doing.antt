@@ -1,5 +1,5 @@
 -- What each command does.
-use Rattle.std.specs.Prelude.{◌≡◌, ℕ, ℤ, Bool, false, if◌then◌else◌, List, length, Option, is_some, IfSome}
+use Rattle.std.specs.Prelude.{◌≡◌, ℕ, ℤ, Bool, false, List, length, Option, is_some, IfSome}
 use Rattle.std.specs.FinMap as finite
 use Rattle.cf_bytes.specs.Files.{Named}
 use Rattle.cf_run.specs.Run.{HasDialled}
@@ -20,8 +20,8 @@ use Rattle.cf_cli.specs.Proving.{IsProved, IsChecked}
 use Rattle.cf_cli.specs.Reading.{IsScanned, IsFiltered, IsAddressed}
 use Rattle.cf_cli.specs.Recording.{Records}
 use Rattle.cf_cli.specs.Serving.{IsServing}
-use Rattle.cf_cli.specs.Following.{KeptOnOver, IsReplayedOn, TalliedOn}
-use Rattle.cf_cli.specs.Theorem.{KeptOver, IsReplayed, Tallied, PlaysSession}
+use Rattle.cf_cli.specs.Following.{IsReplayedIn, KeptOnOver, TalliedOn}
+use Rattle.cf_cli.specs.Theorem.{KeptOver, Tallied, PlaysSession}
 
 -- all that a run is handed: what stands in the files, what the sink was given, what the wires and the tape tell, the log of the tape, what the link
 -- tells, and the log of the played peers
@@ -54,9 +54,9 @@ pub record IsSynced (status : Status) (turns : ℕ) (file : Option (List ℕ)) (
   pub dialled : HasDialled peers after.wires
   pub records : Records status file after.wires.log before.files after.files
 
--- all that is promised of `replay`: the same over the tape, and that it plays the session
-pub record IsFollowed (status : Status) (trace : Bool) (watch session : List ℕ) (before after : Around) : Type 0 where
-  pub replayed : IsReplayed status most_turns trace before.files watch before.written after.written before.tape after.tape after.taped
+-- all that is promised of `replay`, with `--follow` or without: the same over the tape, and that it plays the session
+pub record IsFollowed (follow : Bool) (status : Status) (trace : Bool) (watch session : List ℕ) (before after : Around) : Type 0 where
+  pub replayed : IsReplayedIn follow status most_turns trace before.files watch before.written after.written before.tape after.tape after.taped
   pub plays : IfSome before.files (λ m. IfSome (finite.get m session) (λ bytes. PlaysSession status (session_of bytes) after.taped))
 
 -- all that is promised of `follow`: the follow theorem over the log of the wires, where they tell it; what holds over any wires; that the names which
@@ -67,15 +67,9 @@ pub record IsFollowing (status : Status) (turns : ℕ) (file : Option (List ℕ)
   pub dialled : HasDialled peers after.wires
   pub records : Records status file after.wires.log before.files after.files
 
--- all that is promised of `replay --follow`: the same over the tape, and that it plays the session
-pub record IsFollowedOn (status : Status) (trace : Bool) (watch session : List ℕ) (before after : Around) : Type 0 where
-  pub replayed : IsReplayedOn status most_turns trace before.files watch before.written after.written before.tape after.tape after.taped
-  pub plays : IfSome before.files (λ m. IfSome (finite.get m session) (λ bytes. PlaysSession status (session_of bytes) after.taped))
-
 -- what a command does that is answered so, at this moment and with this random number, by what is around it before and after
 abbrev pub Does : Command → Status → ℤ → ℕ → Around → Around → Type 0
-Does (Replay follow trace watch session) status moment nonce before after =
-    if follow then IsFollowedOn status trace watch session before after else IsFollowed status trace watch session before after
+Does (Replay follow trace watch session) status moment nonce before after = IsFollowed follow status trace watch session before after
 Does (Sync turns workers file watch peers) status moment nonce before after = IsSynced status turns file watch peers before after
 Does (Follow turns workers file watch peers) status moment nonce before after = IsFollowing status turns file watch peers before after
 Does (Scan file watch) status moment nonce before after = IsScanned status before.files watch file before.written after.written

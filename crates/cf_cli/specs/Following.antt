@@ -29,7 +29,7 @@ use Rattle.cf_answers.specs.declared.status.Status.{Status}
 use Rattle.cf_answers.specs.declared.status.Status.TheVariants.{Done, NoMemory}
 use Rattle.cf_answers.specs.Texts.{trace_text}
 use Rattle.cf_cli.specs.Statuses.{has_run, is_over}
-use Rattle.cf_cli.specs.Theorem.{AnswersTo, IsComplete, Tallied}
+use Rattle.cf_cli.specs.Theorem.{AnswersTo, IsComplete, IsReplayed, Tallied}
 
 -- the trace before other bytes, where it is asked for
 abbrev pub with_trace : Bool → List TraceLine → List ℕ → List ℕ
@@ -99,3 +99,8 @@ pub record TalliedOn (status : Status) (turns names : ℕ) (was now : Told) : Ty
 abbrev pub IsReplayedOn : Status → ℕ → Bool → Option Named → List ℕ → Option (List ℕ) → Option (List ℕ) → Told → Told → Log → Type 0
 IsReplayedOn status turns trace files watch before after was now log =
     (names : List (List ℕ)) × KeptOnOver status false trace files watch names before after log × TalliedOn status turns (length names) was now
+
+-- what is promised of `replay`, with `--follow` or without
+abbrev pub IsReplayedIn : Bool → Status → ℕ → Bool → Option Named → List ℕ → Option (List ℕ) → Option (List ℕ) → Told → Told → Log → Type 0
+IsReplayedIn true status turns trace files watch before after was now log = IsReplayedOn status turns trace files watch before after was now log
+IsReplayedIn false status turns trace files watch before after was now log = IsReplayed status turns trace files watch before after was now log

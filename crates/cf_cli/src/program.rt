@@ -1,5 +1,5 @@
 //! All that the program does.
-ghost use Rattle.std.specs.Prelude.{◌≡◌, ◌≢◌, ◌≤◌, ◌⊎◌, if◌then◌else◌, true, false, [], ◌∷◌, length, IfSome, is_some, Some, None};
+ghost use Rattle.std.specs.Prelude.{◌≡◌, ◌≢◌, ◌≤◌, ◌⊎◌, true, false, [], ◌∷◌, length, IfSome, is_some, Some, None};
 ghost use Rattle.std.specs.FinMap as finite;
 ghost use Rattle.cf_bytes.specs.Outside.{HasRisen};
 ghost use Rattle.cf_run.specs.Names.{names_in};
@@ -18,8 +18,8 @@ ghost use Rattle.cf_cli.specs.Serving.{may_serve};
 ghost use Rattle.cf_cli.specs.Doing.{Does, around};
 ghost use Rattle.cf_cli.specs.Ends.{AreEnds, AreEndsAfter, AreEndsOver};
 ghost use Rattle.cf_cli.specs.Demo.{may_show};
-ghost use Rattle.cf_cli.specs.Following.{KeptOnOver, IsReplayedOn, TalliedOn};
-ghost use Rattle.cf_cli.specs.Theorem.{KeptOver, IsReplayed, Tallied, PlaysSession};
+ghost use Rattle.cf_cli.specs.Following.{IsReplayedIn, KeptOnOver, TalliedOn};
+ghost use Rattle.cf_cli.specs.Theorem.{KeptOver, Tallied, PlaysSession};
 ghost use Rattle.cf_input.specs.Words.{command_of, HasFewPeers};
 ghost use Rattle.cf_input.specs.declared.words.Command.{Command};
 
@@ -66,8 +66,7 @@ fn replay<F: Files, O: Sink>(
     requires failing { failing_of tape.old ≡ [] }
     requires open { finished_of tape.old ≡ false }
     ensures judged { IfSome (F.files files.old) (λ m. IsJudged (and_then (watch_verdict (finite.get m watch.now)) (session_verdict (finite.get m session.now))) result) }
-    ensures replayed { if follow then IsReplayedOn result MOST_TURNS trace (F.files files.old) watch.now (O.written out.old) (O.written out.new) (told_of tape.old) (told_of tape.new) (log_of tape.new)
-        else IsReplayed result MOST_TURNS trace (F.files files.old) watch.now (O.written out.old) (O.written out.new) (told_of tape.old) (told_of tape.new) (log_of tape.new) }
+    ensures replayed { IsReplayedIn follow result MOST_TURNS trace (F.files files.old) watch.now (O.written out.old) (O.written out.new) (told_of tape.old) (told_of tape.new) (log_of tape.new) }
     ensures plays { IfSome (F.files files.old) (λ m. IfSome (finite.get m session.now) (λ bytes. PlaysSession result (session_of bytes) (log_of tape.new))) }
     ensures versions { IsOfWords (record { moment = moment; number = nonce }) (log_of tape.new) }
     ensures unchanged { F.files files.new ≡ F.files files.old }

@@ -8,7 +8,6 @@ use Rattle.cf_run.proofs.Versions.{new_words}
 use Rattle.cf_cli.proofs.Plays.{versions_so, unplayed_words, judged_replay, judged_sync, judged_follow, new_unfailed}
 use Rattle.cf_cli.proofs.Records.{sync_writes, follow_writes}
 use Rattle.cf_cli.proofs.Demos.{demo_uses}
-use Rattle.cf_cli.proofs.Doing.{replays_by}
 use Rattle.cf_cli.proofs.Serves.{serve_uses}
 use Rattle.cf_cli.proofs.program.perform.Goals as goal
 
@@ -141,8 +140,10 @@ pub returns-in-Demo-clause-unshown : goal.returns-in-Demo-clause-unshown
 returns-in-Demo-clause-unshown g c = demo_uses c.args.command c.in-Demo.seed c.in-Demo.blocks c.in-Demo.is
 
 pub returns-in-Replay-clause-does : goal.returns-in-Replay-clause-does
-returns-in-Replay-clause-does g c =
-    rw c.in-Replay.is (replays_by c.in-Replay.follow c.replay.result c.in-Replay.trace c.in-Replay.watch c.in-Replay.session _ _ (rw c.as_str.ensures at c.replay.ensures.replayed) (rw c.as_str-in-Replay.ensures at c.replay.ensures.plays))
+returns-in-Replay-clause-does g c = rw c.in-Replay.is (record {
+  replayed = rw c.as_str.ensures at c.replay.ensures.replayed;
+  plays = rw c.as_str-in-Replay.ensures at c.replay.ensures.plays;
+})
 
 pub returns-in-Sync-clause-does : goal.returns-in-Sync-clause-does
 returns-in-Sync-clause-does g c = rw c.in-Sync.is (record {

@@ -6,7 +6,7 @@ use Rattle.cf_wires.specs.Log.{Told}
 use Rattle.cf_wires.specs.Memory.{log_of, failing_of, told_of}
 use Rattle.cf_wires.specs.Wires.{Script}
 use Rattle.cf_cli.proofs.Plays.{versions_so, unplayed_words, made, plays_of, told_so, told_plays, early_plays, new_tape, same_told, over_watch}
-use Rattle.cf_cli.proofs.Stays.{early_replayed_either, over_watch_on}
+use Rattle.cf_cli.proofs.Stays.{early_replayed_in, over_watch_on}
 use Rattle.cf_cli.specs.Following.{TalliedOn}
 use Rattle.cf_cli.specs.Theorem.{Tallied}
 use Rattle.cf_cli.proofs.Ends.{ends_early}
@@ -14,11 +14,11 @@ use Rattle.cf_cli.proofs.program.replay.Goals as goal
 
 pub returns-in-Err-clause-replayed : goal.returns-in-Err-clause-replayed
 returns-in-Err-clause-replayed g c =
-    early_replayed_either c.args.follow c.in-Err.status _ c.args.trace (g.F.Files.files c.args.files.now) c.args.watch.now _ _ _ c.in-Err.ensures.only (new_tape c.args.tape.now c.requires.log) c.requires.log
+    early_replayed_in c.args.follow c.in-Err.status _ c.args.trace (g.F.Files.files c.args.files.now) c.args.watch.now _ _ _ c.in-Err.ensures.only (new_tape c.args.tape.now c.requires.log) c.requires.log
 
 pub returns-in-Err-load_session-clause-replayed : goal.returns-in-Err-load_session-clause-replayed
 returns-in-Err-load_session-clause-replayed g c =
-    early_replayed_either c.args.follow c.in-Err-load_session.status _ c.args.trace (g.F.Files.files c.args.files.now) c.args.watch.now _ _ _ c.in-Err-load_session.ensures.only
+    early_replayed_in c.args.follow c.in-Err-load_session.status _ c.args.trace (g.F.Files.files c.args.files.now) c.args.watch.now _ _ _ c.in-Err-load_session.ensures.only
     (new_tape c.args.tape.now c.requires.log) c.requires.log
 
 pub returns-then-follow-clause-replayed : goal.returns-then-follow-clause-replayed

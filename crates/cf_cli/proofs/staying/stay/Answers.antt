@@ -1,0 +1,123 @@
+use Rattle.std.proofs.Common.{false, refl, rules, sym, ◌∙◌, ap}
+use Rattle.std.proofs.Math.Facts.{to_z-of_z}
+use Rattle.std.proofs.lemmas.Bool.{false≢true}
+use Rattle.std.specs.Int.{w64}
+use Rattle.std.specs.Prelude.{is_some, not}
+use Rattle.cf_run.specs.Names.{names_in}
+use Rattle.cf_run.proofs.Versions.{new_words}
+use Rattle.cf_answers.specs.declared.status.Status.TheVariants.{NoMemory, FileFault}
+use Rattle.cf_cli.specs.Statuses.{was_refused}
+use Rattle.cf_cli.proofs.Ends.{over_failed, over_recorded, over_stay}
+use Rattle.cf_cli.proofs.Plays.{new_dialled, new_unfailed, versions_so}
+use Rattle.cf_cli.proofs.Records.{begun_records}
+use Rattle.cf_cli.proofs.Stays.{begun_by, early_tallied_on, failed_tallied_on, fresh_told, spent_on, tallied_from, unrecorded_on}
+use Rattle.cf_cli.proofs.staying.stay.Goals as goal
+
+-- ---- no memory is found before the run
+
+pub returns-in_default-clause-kept : goal.returns-in_default-clause-kept
+returns-in_default-clause-kept g c =
+    fresh_told (g.W.Wires.told c.args.wires.now).log c.args.watch (names_in c.args.names.now) (is_some c.args.log_file.now) false (g.O.Sink.written c.args.out.now) c.requires.fresh.content
+
+pub returns-in_default-clause-tallied : goal.returns-in_default-clause-tallied
+returns-in_default-clause-tallied g c = early_tallied_on NoMemory _ _ _ tt c.requires.fresh
+
+pub returns-in_default-clause-versions : goal.returns-in_default-clause-versions
+returns-in_default-clause-versions g c = new_words _ _ c.requires.fresh
+
+pub returns-in_default-clause-dialled : goal.returns-in_default-clause-dialled
+returns-in_default-clause-dialled g c = new_dialled _ _ c.requires.fresh
+
+pub returns-in_default-clause-failures : goal.returns-in_default-clause-failures
+returns-in_default-clause-failures g c = new_unfailed _ _ _ c.requires.fresh
+
+pub returns-in_default-clause-ends : goal.returns-in_default-clause-ends
+returns-in_default-clause-ends g c = over_stay _ _ _ _ refl
+
+-- ---- nor in it
+
+pub returns-in-NoMemory-clause-kept : goal.returns-in-NoMemory-clause-kept
+returns-in-NoMemory-clause-kept g c =
+    spent_on (g.W.Wires.told c.stay_live.new.wires).log c.stay_live.result (is_some c.args.log_file.now) c.args.watch (names_in c.args.names.now) (g.O.Sink.written c.args.out.now)
+    (g.O.Sink.written c.stay_live.new.out) c.stay_live.ensures.kept
+
+pub returns-in-NoMemory-clause-tallied : goal.returns-in-NoMemory-clause-tallied
+returns-in-NoMemory-clause-tallied g c = failed_tallied_on c.stay_live.result NoMemory _ _ _ _ _ refl tt c.stay_live.ensures.finished c.stay_live.ensures.tallied
+
+pub returns-in-NoMemory-clause-versions : goal.returns-in-NoMemory-clause-versions
+returns-in-NoMemory-clause-versions g c =
+    versions_so _ c.args.moment c.args.nonce (g.W.Wires.told c.stay_live.new.wires)
+    (to_z-of_z {w = w64} {z = c.args.moment} (search rules)) c.stay_live.ensures.versions
+
+pub returns-in-NoMemory-clause-ends : goal.returns-in-NoMemory-clause-ends
+returns-in-NoMemory-clause-ends g c = over_failed c.stay_live.result NoMemory _ _ _ _ refl refl c.stay_live.ensures.ends
+
+-- ---- nor for the record
+
+pub returns-in-Err-NoMemory-clause-kept : goal.returns-in-Err-NoMemory-clause-kept
+returns-in-Err-NoMemory-clause-kept g c =
+    spent_on (g.W.Wires.told c.stay_live.new.wires).log c.stay_live.result (is_some c.args.log_file.now) c.args.watch (names_in c.args.names.now) (g.O.Sink.written c.args.out.now)
+    (g.O.Sink.written c.stay_live.new.out) c.stay_live.ensures.kept
+
+pub returns-in-Err-NoMemory-clause-tallied : goal.returns-in-Err-NoMemory-clause-tallied
+returns-in-Err-NoMemory-clause-tallied g c = failed_tallied_on c.stay_live.result NoMemory _ _ _ _ _ refl tt c.stay_live.ensures.finished c.stay_live.ensures.tallied
+
+pub returns-in-Err-NoMemory-clause-versions : goal.returns-in-Err-NoMemory-clause-versions
+returns-in-Err-NoMemory-clause-versions g c =
+    versions_so _ c.args.moment c.args.nonce (g.W.Wires.told c.stay_live.new.wires)
+    (to_z-of_z {w = w64} {z = c.args.moment} (search rules)) c.stay_live.ensures.versions
+
+pub returns-in-Err-NoMemory-clause-ends : goal.returns-in-Err-NoMemory-clause-ends
+returns-in-Err-NoMemory-clause-ends g c = over_failed c.stay_live.result NoMemory _ _ _ _ refl refl c.stay_live.ensures.ends
+
+-- ---- the record can't be written
+
+pub returns-in-Err-No-clause-kept : goal.returns-in-Err-No-clause-kept
+returns-in-Err-No-clause-kept g c =
+    let files = rw c.in-Err-No.field-0-is at c.in-Err-No.ensures.files in
+    unrecorded_on (g.W.Wires.told c.stay_live.new.wires).log c.stay_live.result (is_some c.args.log_file.now) c.args.watch (names_in c.args.names.now) (g.O.Sink.written c.args.out.now)
+    (g.O.Sink.written c.stay_live.new.out) c.in_default-stay_live.not-NoMemory files.0 c.stay_live.ensures.kept
+
+pub returns-in-Err-No-clause-tallied : goal.returns-in-Err-No-clause-tallied
+returns-in-Err-No-clause-tallied g c = failed_tallied_on c.stay_live.result FileFault _ _ _ _ _ refl tt c.stay_live.ensures.finished c.stay_live.ensures.tallied
+
+pub returns-in-Err-No-clause-versions : goal.returns-in-Err-No-clause-versions
+returns-in-Err-No-clause-versions g c =
+    versions_so _ c.args.moment c.args.nonce (g.W.Wires.told c.stay_live.new.wires)
+    (to_z-of_z {w = w64} {z = c.args.moment} (search rules)) c.stay_live.ensures.versions
+
+pub returns-in-Err-No-clause-begun : goal.returns-in-Err-No-clause-begun
+returns-in-Err-No-clause-begun g c =
+    let files = rw c.in-Err-No.field-0-is at c.in-Err-No.ensures.files in
+    ap not files.0
+
+pub returns-in-Err-No-clause-ends : goal.returns-in-Err-No-clause-ends
+returns-in-Err-No-clause-ends g c =
+    let files = rw c.in-Err-No.field-0-is at c.in-Err-No.ensures.files in
+    over_failed c.stay_live.result FileFault _ _ _ _ refl (ap not files.0) c.stay_live.ensures.ends
+
+-- ---- it stands, or none is asked for
+
+pub returns-in-Ok-clause-kept : goal.returns-in-Ok-clause-kept
+returns-in-Ok-clause-kept g c = c.stay_live.ensures.kept (is_some c.args.log_file.now)
+
+pub returns-in-Ok-clause-tallied : goal.returns-in-Ok-clause-tallied
+returns-in-Ok-clause-tallied g c = tallied_from c.stay_live.result _ _ _ _ _ c.stay_live.ensures.finished c.stay_live.ensures.tallied
+
+pub returns-in-Ok-clause-versions : goal.returns-in-Ok-clause-versions
+returns-in-Ok-clause-versions g c =
+    versions_so _ c.args.moment c.args.nonce (g.W.Wires.told c.stay_live.new.wires)
+    (to_z-of_z {w = w64} {z = c.args.moment} (search rules)) c.stay_live.ensures.versions
+
+pub returns-in-Ok-clause-records : goal.returns-in-Ok-clause-records
+returns-in-Ok-clause-records g c =
+    begun_records c.stay_live.result c.args.log_file.now _ _ _ c.stay_live.ensures.tallied.tallied.answers c.stay_live.ensures.unrefused c.in_default-stay_live.not-NoMemory c.in-Ok-write_record.ensures.files
+
+pub returns-in-Ok-clause-file_fault : goal.returns-in-Ok-clause-file_fault
+returns-in-Ok-clause-file_fault g c = λ is. absurd (false≢true (sym c.stay_live.ensures.unrefused ∙ ap was_refused is))
+
+pub returns-in-Ok-clause-begun : goal.returns-in-Ok-clause-begun
+returns-in-Ok-clause-begun g c = begun_by c.stay_live.result _ c.stay_live.ensures.unrefused
+
+pub returns-in-Ok-clause-ends : goal.returns-in-Ok-clause-ends
+returns-in-Ok-clause-ends g c = over_recorded c.stay_live.result _ _ _ _ (begun_by c.stay_live.result _ c.stay_live.ensures.unrefused) c.stay_live.ensures.ends
