@@ -95,14 +95,14 @@ added_by text bytes before last same value is added =
 pub not_put : (text : List ℕ) (before : List (List ℕ)) (last : Option (String Global)) (now : Option (List ℕ)) → put text before ≡ before → IsLast last before
     → PutsOne text before last now now
 not_put text before last now same is = record {
-  last = subst (IsLast last) (sym same) is;
+  newest = subst (IsLast last) (sym same) is;
   taken = λ first old. subst (λ (texts : List (List ℕ)). now ≡ with_more first (joined texts)) (sym same) old;
 }
 
 pub one_put : (text : List ℕ) (before : List (List ℕ)) (s : String Global) (old new : Option (List ℕ)) → put text before ≡ text ∷ before → string_bytes s ≡ text
     → new ≡ with_more old text → PutsOne text before (Some s) old new
 one_put text before s old new added is more = record {
-  last = (before, added ∙ ap (λ (x : List ℕ). x ∷ before) (sym is));
+  newest = (before, added ∙ ap (λ (x : List ℕ). x ∷ before) (sym is));
   taken = λ first so_far. subst (λ (texts : List (List ℕ)). new ≡ with_more first (joined texts)) (sym added) (joined_more text before first old new more so_far);
 }
 
@@ -124,7 +124,7 @@ pub none_next : {H M : Type 0} {g : Ghosts H} {j : Judges M} (c : Client H M g j
     → ((log : Log) → Reflects c log → IsAtRest log → ⊥) → PutsNext c before last now now
 none_next c before last now is unrested = record {
   texts = before;
-  last = is;
+  newest = is;
   puts = λ log reflects bytes right. record { at_rest = λ rest. absurd (unrested log reflects rest); elsewhere = λ not_it. refl };
   taken = λ first old. old;
 }
@@ -171,7 +171,7 @@ pub one_next : {H M : Type 0} {g : Ghosts H} {j : Judges M} (c : Client H M g j)
     → PutsOne text before last old new → PutsNext c before last old new
 one_next c before last old new text height hash entries follows state report is one = record {
   texts = put text before;
-  last = one.last;
+  newest = one.newest;
   puts = text_puts c before text height hash entries follows state report is;
   taken = one.taken;
 }
@@ -251,7 +251,7 @@ pub have_then : {H M : Type 0} {g : Ghosts H} {j : Judges M} (c : Client H M g j
     → PutsNext c have.texts next old new → ((watch texts : List (List ℕ)) → PutBy watch texts t → PutBefore watch texts u) → HavePut watch next u first new
 have_then c progress called t u watch last next first old new holds follows same have more taken = record {
   texts = more.texts;
-  last = more.last;
+  newest = more.newest;
   puts = taken watch more.texts (put_by c progress called t watch have.texts more.texts holds follows same more.puts have.puts);
   taken = more.taken first have.taken;
 }
@@ -268,7 +268,7 @@ some_then c progress called t u watch last next first old new holds follows same
 
 -- nothing was put yet
 pub none_have : (watch : List (List ℕ)) (t : Told) (now : Option (List ℕ)) → PutBefore watch [] t → HavePut watch None t now now
-none_have watch t now were = record { texts = []; last = refl; puts = were; taken = sym (more_none now) }
+none_have watch t now were = record { texts = []; newest = refl; puts = were; taken = sym (more_none now) }
 
 pub none_before : (watch : List (List ℕ)) (t : Told) → Tells [] t → PutBefore watch [] t
 none_before watch t tells = by t.log tells.content where

@@ -53,19 +53,19 @@ IsLast (Some last) texts = EndsWith (string_bytes last) texts
 -- texts that were put so far: those before each delivery, of which this is the last one; and what was taken of them
 pub record HavePut (watch : List (List ℕ)) (last : Option (String Global)) (t : Told) (before now : Option (List ℕ)) : Type 0 where
   pub texts : List (List ℕ)
-  pub last : IsLast last texts
+  pub newest : IsLast last texts
   pub puts : PutBefore watch texts t
   pub taken : now ≡ with_more before (joined texts)
 
 -- a text was put, unless it is the last one
 pub record PutsOne (text : List ℕ) (before : List (List ℕ)) (last : Option (String Global)) (old new : Option (List ℕ)) : Type 0 where
-  pub last : IsLast last (put text before)
+  pub newest : IsLast last (put text before)
   pub taken : (first : Option (List ℕ)) → old ≡ with_more first (joined before) → new ≡ with_more first (joined (put text before))
 
 -- texts, with what a moment adds, of each log that the client reflects
 pub record PutsNext {H M : Type 0} {g : Ghosts H} {j : Judges M} (c : Client H M g j) (before : List (List ℕ)) (last : Option (String Global)) (old new : Option (List ℕ)) : Type 0 where
   pub texts : List (List ℕ)
-  pub last : IsLast last texts
+  pub newest : IsLast last texts
   pub puts : (log : Log) → Reflects c log → AreBytes log → RightlyIn Following log → PutsAt (watch_by c) log before texts
   pub taken : (first : Option (List ℕ)) → old ≡ with_more first (joined before) → new ≡ with_more first (joined texts)
 

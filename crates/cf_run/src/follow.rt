@@ -1,5 +1,5 @@
 //! A run that follows: the dials, the deliveries, and the texts of its quiet moments.
-ghost use Rattle.std.specs.Prelude.{◌≡◌, ◌≢◌, ◌↔◌, ℕ, None, ◌<◌, ◌≤◌, ◌+◌, ◌∷◌, [], List, Option, OnOk, IfOk, OnErr, IfSome, IsErrOf, Some, false, length, string_bytes, if◌then◌else◌};
+ghost use Rattle.std.specs.Prelude.{◌≡◌, ◌≢◌, ◌↔◌, ℕ, None, ◌<◌, ◌≤◌, ◌+◌, ◌∷◌, [], List, Option, OnOk, IfOk, OnErr, IfSome, IsErrOf, Some, false, true, length, string_bytes, if◌then◌else◌};
 ghost use Rattle.cf_bytes.specs.Outside.{HasRisen, with_more};
 ghost use Rattle.cf_client.specs.Holding.{HoldsNoMore};
 ghost use Rattle.cf_client.specs.Stands.{Reflects, count_of, rule_by, watch_by, words_by};

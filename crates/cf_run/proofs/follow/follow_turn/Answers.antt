@@ -33,12 +33,12 @@ returns-clause-turned g c = λ called holds.
 pub returns-then-more-clause-puts : goal.returns-then-more-clause-puts
 returns-then-more-clause-puts g c = λ is watch called first same holds have.
     have_then c.args.client.now c.args.progress.now called (g.W.Wires.told c.args.wires.now) (g.W.Wires.told c.take_next.new.wires) watch c.args.last.now c.put_at_rest.new.last
-    first _ _ holds c.requires.follows same have (c.in_ok-put_at_rest.ensures.put have.texts have.last) c.in_ok-more.ensures.puts
+    first _ _ holds c.requires.follows same have (c.in_ok-put_at_rest.ensures.put have.texts have.newest) c.in_ok-more.ensures.puts
 
 pub returns-in-NoPeers-clause-all_put : goal.returns-in-NoPeers-clause-all_put
 returns-in-NoPeers-clause-all_put g c = λ e is watch called first same holds have.
     all_by c.args.client.now c.args.progress.now called (g.W.Wires.told c.args.wires.now) watch c.args.last.now c.put_at_rest.new.last
-    first _ _ holds c.requires.follows same have (c.in_ok-put_at_rest.ensures.put have.texts have.last)
+    first _ _ holds c.requires.follows same have (c.in_ok-put_at_rest.ensures.put have.texts have.newest)
 
 pub returns-clause-all_put : goal.returns-clause-all_put
 returns-clause-all_put g c = λ e is watch called first same holds have.
@@ -48,20 +48,20 @@ returns-clause-all_put g c = λ e is watch called first same holds have.
     let rule = rule_same same_client in
     let follows = ap (λ (r : Rule). r.mode) rule ∙ c.requires.follows in
     let have_more = have_then c.args.client.now c.args.progress.now called (g.W.Wires.told c.args.wires.now) (g.W.Wires.told c.take_next.new.wires) watch c.args.last.now c.put_at_rest.new.last
-    first (g.T.Texts.told c.args.texts.now) (g.T.Texts.told c.put_at_rest.new.texts) holds c.requires.follows same have (c.in_ok-put_at_rest.ensures.put have.texts have.last) c.in_ok-more.ensures.puts in
+    first (g.T.Texts.told c.args.texts.now) (g.T.Texts.told c.put_at_rest.new.texts) holds c.requires.follows same have (c.in_ok-put_at_rest.ensures.put have.texts have.newest) c.in_ok-more.ensures.puts in
     let same_watch = ap (λ (r : Rule). r.watch) rule ∙ same in
     all_by c.take_next.new.client c.take_next.new.progress called (g.W.Wires.told c.take_next.new.wires) watch c.put_at_rest.new.last c.put_at_rest-2.new.last
-    first _ _ now follows same_watch have_more (c.in_ok-put_at_rest-2.ensures.put have_more.texts have_more.last)
+    first _ _ now follows same_watch have_more (c.in_ok-put_at_rest-2.ensures.put have_more.texts have_more.newest)
 
 pub returns-in_err-put_at_rest-clause-put_some : goal.returns-in_err-put_at_rest-clause-put_some
 returns-in_err-put_at_rest-clause-put_some g c = λ watch called first same holds have.
     some_by c.args.client.now c.args.progress.now called (g.W.Wires.told c.args.wires.now) watch c.args.last.now
-    first _ _ holds c.requires.follows same have (c.in_err-put_at_rest.ensures.put_some have.texts have.last)
+    first _ _ holds c.requires.follows same have (c.in_err-put_at_rest.ensures.put_some have.texts have.newest)
 
 pub returns-in_err-more-clause-put_some : goal.returns-in_err-more-clause-put_some
 returns-in_err-more-clause-put_some g c = λ watch called first same holds have.
     some_then c.args.client.now c.args.progress.now called (g.W.Wires.told c.args.wires.now) (g.W.Wires.told c.take_next.new.wires) watch c.args.last.now c.put_at_rest.new.last
-    first _ _ holds c.requires.follows same have (c.in_ok-put_at_rest.ensures.put have.texts have.last) c.in_err-more.ensures.turns.puts
+    first _ _ holds c.requires.follows same have (c.in_ok-put_at_rest.ensures.put have.texts have.newest) c.in_err-more.ensures.turns.puts
 
 pub returns-in_err-put_at_rest-2-clause-put_some : goal.returns-in_err-put_at_rest-2-clause-put_some
 returns-in_err-put_at_rest-2-clause-put_some g c = λ watch called first same holds have.
@@ -71,10 +71,10 @@ returns-in_err-put_at_rest-2-clause-put_some g c = λ watch called first same ho
     let rule = rule_same same_client in
     let follows = ap (λ (r : Rule). r.mode) rule ∙ c.requires.follows in
     let have_more = have_then c.args.client.now c.args.progress.now called (g.W.Wires.told c.args.wires.now) (g.W.Wires.told c.take_next.new.wires) watch c.args.last.now c.put_at_rest.new.last
-    first (g.T.Texts.told c.args.texts.now) (g.T.Texts.told c.put_at_rest.new.texts) holds c.requires.follows same have (c.in_ok-put_at_rest.ensures.put have.texts have.last) c.in_ok-more.ensures.puts in
+    first (g.T.Texts.told c.args.texts.now) (g.T.Texts.told c.put_at_rest.new.texts) holds c.requires.follows same have (c.in_ok-put_at_rest.ensures.put have.texts have.newest) c.in_ok-more.ensures.puts in
     let same_watch = ap (λ (r : Rule). r.watch) rule ∙ same in
     some_by c.take_next.new.client c.take_next.new.progress called (g.W.Wires.told c.take_next.new.wires) watch c.put_at_rest.new.last
-    first _ _ now follows same_watch have_more (c.in_err-put_at_rest-2.ensures.put_some have_more.texts have_more.last)
+    first _ _ now follows same_watch have_more (c.in_err-put_at_rest-2.ensures.put_some have_more.texts have_more.newest)
 
 pub returns-in_err-put_at_rest-clause-right : goal.returns-in_err-put_at_rest-clause-right
 returns-in_err-put_at_rest-clause-right g c = λ failed called holds.

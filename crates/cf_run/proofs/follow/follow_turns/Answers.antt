@@ -67,7 +67,7 @@ pub returns-clause-put : goal.returns-clause-put
 returns-clause-put g c = λ watch called same holds were.
     let have = c.loop-turn.invariant.puts watch called same holds were in
     all_by c.loop-turn.client c.loop-turn.progress called (g.W.Wires.told c.loop-turn.wires) watch c.loop-turn.last c.put_at_rest.new.last (g.T.Texts.told c.args.texts.now) _ _
-    (c.loop-turn.invariant.holds called holds) c.loop-turn.invariant.follows (ap (λ (r : Rule). r.watch) c.loop-turn.invariant.rule ∙ same) have (c.in_ok-put_at_rest.ensures.put have.texts have.last)
+    (c.loop-turn.invariant.holds called holds) c.loop-turn.invariant.follows (ap (λ (r : Rule). r.watch) c.loop-turn.invariant.rule ∙ same) have (c.in_ok-put_at_rest.ensures.put have.texts have.newest)
 
 pub returns-in_err-end-clause-put_some : goal.returns-in_err-end-clause-put_some
 returns-in_err-end-clause-put_some g c = λ watch called same holds were.
@@ -78,7 +78,7 @@ pub returns-in_err-put_at_rest-clause-put_some : goal.returns-in_err-put_at_rest
 returns-in_err-put_at_rest-clause-put_some g c = λ watch called same holds were.
     let have = c.loop-turn.invariant.puts watch called same holds were in
     some_by c.loop-turn.client c.loop-turn.progress called (g.W.Wires.told c.loop-turn.wires) watch c.loop-turn.last (g.T.Texts.told c.args.texts.now) _ _
-    (c.loop-turn.invariant.holds called holds) c.loop-turn.invariant.follows (ap (λ (r : Rule). r.watch) c.loop-turn.invariant.rule ∙ same) have (c.in_err-put_at_rest.ensures.put_some have.texts have.last)
+    (c.loop-turn.invariant.holds called holds) c.loop-turn.invariant.follows (ap (λ (r : Rule). r.watch) c.loop-turn.invariant.rule ∙ same) have (c.in_err-put_at_rest.ensures.put_some have.texts have.newest)
 
 pub returns-in_err-end-clause-right : goal.returns-in_err-end-clause-right
 returns-in_err-end-clause-right g c = λ failed called holds. c.in_err-end.ensures.right failed called (c.loop-turn.invariant.holds called holds)
