@@ -19,10 +19,11 @@ use Rattle.cf_headers.proofs.Locators.{hash_in}
 use Rattle.cf_headers.proofs.Stacks.{length_lower}
 use Rattle.cf_msg.specs.declared.msg.Entry.{Entry}
 use Rattle.cf_msg.specs.declared.msg.Msg.TheVariants.{GetCfheaders, GetCfilters, GetData}
-use Rattle.cf_peer.specs.Asking.{HasHeader, IsClaimed, IsFree, MayAsk, block_entry, blocks_from, claims, counted, hashes_of, verdict}
+use Rattle.cf_peer.specs.declared.mode.Mode.{Mode}
+use Rattle.cf_peer.specs.Asking.{HasHeader, IsClaimed, IsFree, MayAskIn, block_entry, blocks_from, claims, counted, hashes_of, verdict}
 use Rattle.cf_wires.specs.Log.{Log}
 use Rattle.cf_peer.specs.Trail.{Trail, trail, connected, own}
-use Rattle.cf_sync.specs.Fetching.{IsFilterWanted, AreFiltersWanted, IsNeeded, IsBlockWanted, IsTestOf, MaySend, blocks_in}
+use Rattle.cf_sync.specs.Fetching.{IsFilterWanted, AreFiltersWanted, IsNeeded, IsBlockWanted, IsTestOf, MaySendIn, blocks_in}
 use Rattle.cf_sync.proofs.FreshTests.{test_alone, tip_only}
 use Rattle.cf_sync.proofs.KeptOpens.{block_alone, filters_alone}
 use Rattle.cf_sync.proofs.Kept.{filter_by, block_by}
@@ -196,9 +197,9 @@ start_less : (n : ℕ) → 1 ≤ n → pred n + 1 ≡ n
 start_less zero le = absurd (omega (arith, le))
 start_less (suc n) le = omega arith
 
-pub claims_may : (s : Seen) (log : Log) (p common : ℕ) (span : Span) (chain : Chain) → Tracks s log → chain ≡ own (trail log p) → common ≤ length chain
-    → IsFree (trail log p) → verdict (trail log p) ≡ None → IsWish s.table s.claims s.verdicts s.opens p chain common (Claims span) → MayAsk (trail log p) (GetCfheaders 0 span.start span.stop)
-claims_may s log p common span chain tracks is low free clean wish =
+pub claims_may : (mode : Mode) (s : Seen) (log : Log) (p common : ℕ) (span : Span) (chain : Chain) → Tracks s log → chain ≡ own (trail log p) → common ≤ length chain
+    → IsFree (trail log p) → verdict (trail log p) ≡ None → IsWish s.table s.claims s.verdicts s.opens p chain common (Claims span) → MayAskIn mode (trail log p) (GetCfheaders 0 span.start span.stop)
+claims_may mode s log p common span chain tracks is low free clean wish =
     let t = trail log p in
     let sp = wish.1.1.0 in
     let le = wish.1.1.1 in
@@ -229,9 +230,9 @@ claims_may s log p common span chain tracks is low free clean wish =
 claimed_at : (s : Seen) (t : Trail) (p : ℕ) (block : Hash) → ((x : Hash) → s.claims p x ≡ claims t x) → (claim : Claim) × (s.claims p block ≡ Some claim) → IsClaimed t block
 claimed_at s t p block cl mine = (mine.0, sym (cl block) ∙ mine.1)
 
-pub filters_may : (s : Seen) (log : Log) (p common : ℕ) (span : Span) (chain : Chain) → Tracks s log → chain ≡ own (trail log p) → common ≤ length chain
-    → IsFree (trail log p) → verdict (trail log p) ≡ None → IsWish s.table s.claims s.verdicts s.opens p chain common (Filters span) → MayAsk (trail log p) (GetCfilters 0 span.start span.stop)
-filters_may s log p common span chain tracks is low free clean wish =
+pub filters_may : (mode : Mode) (s : Seen) (log : Log) (p common : ℕ) (span : Span) (chain : Chain) → Tracks s log → chain ≡ own (trail log p) → common ≤ length chain
+    → IsFree (trail log p) → verdict (trail log p) ≡ None → IsWish s.table s.claims s.verdicts s.opens p chain common (Filters span) → MayAskIn mode (trail log p) (GetCfilters 0 span.start span.stop)
+filters_may mode s log p common span chain tracks is low free clean wish =
     let t = trail log p in
     let sp = wish.1.1.0 in
     let le = wish.1.1.1 in
@@ -254,39 +255,39 @@ filters_may s log p common span chain tracks is low free clean wish =
       ),
     )
 
-pub block_may : (log : Log) (p common : ℕ) (s : Seen) (hash : Hash32) (chain : Chain) → chain ≡ own (trail log p) → common ≤ length chain → IsFree (trail log p)
-    → IsWish s.table s.claims s.verdicts s.opens p chain common (Block hash) → MayAsk (trail log p) (GetData (block_entry hash ∷ []))
-block_may log p common s hash chain is low free wish =
+pub block_may : (mode : Mode) (log : Log) (p common : ℕ) (s : Seen) (hash : Hash32) (chain : Chain) → chain ≡ own (trail log p) → common ≤ length chain → IsFree (trail log p)
+    → IsWish s.table s.claims s.verdicts s.opens p chain common (Block hash) → MayAskIn mode (trail log p) (GetData (block_entry hash ∷ []))
+block_may mode log p common s hash chain is low free wish =
     let le = wish.1.0.2 in
     let among : IsIn (hash_at chain wish.0) (hashes_of chain) = hash_in chain wish.0 wish.1.0.1 (omega (arith, le, low)) in
     (free, (hash, refl, subst (λ (c : Chain). IsIn hash.0 (hashes_of c)) is (subst (λ (h : Hash). IsIn h (hashes_of chain)) (sym wish.1.1) among)))
 
 -- ---- and so may be sent, and is needed
 
-pub claims_send : (s : Seen) (log : Log) (p common : ℕ) (span : Span) (chain : Chain) → Tracks s log → chain ≡ own (trail log p) → common ≤ length chain
+pub claims_send : (mode : Mode) (s : Seen) (log : Log) (p common : ℕ) (span : Span) (chain : Chain) → Tracks s log → chain ≡ own (trail log p) → common ≤ length chain
     → IsFree (trail log p) → verdict (trail log p) ≡ None → IsWish s.table s.claims s.verdicts s.opens p chain common (Claims span)
-    → MaySend log p (GetCfheaders 0 span.start span.stop) × IsNeeded s.watch log p (GetCfheaders 0 span.start span.stop)
-claims_send s log p common span chain tracks is low free clean wish = (record { of_its_part = claims_may s log p common span chain tracks is low free clean wish; wanted = tt; alone = tt }, tt)
+    → MaySendIn mode log p (GetCfheaders 0 span.start span.stop) × IsNeeded s.watch log p (GetCfheaders 0 span.start span.stop)
+claims_send mode s log p common span chain tracks is low free clean wish = (record { of_its_part = claims_may mode s log p common span chain tracks is low free clean wish; wanted = tt; alone = tt }, tt)
 
-pub filters_send : (s : Seen) (log : Log) (p common : ℕ) (span : Span) (chain : Chain) → Tracks s log → chain ≡ own (trail log p) → common ≤ length chain
+pub filters_send : (mode : Mode) (s : Seen) (log : Log) (p common : ℕ) (span : Span) (chain : Chain) → Tracks s log → chain ≡ own (trail log p) → common ≤ length chain
     → IsFree (trail log p) → verdict (trail log p) ≡ None → IsWish s.table s.claims s.verdicts s.opens p chain common (Filters span)
-    → MaySend log p (GetCfilters 0 span.start span.stop) × IsNeeded s.watch log p (GetCfilters 0 span.start span.stop)
-filters_send s log p common span chain tracks is low free clean wish = (
+    → MaySendIn mode log p (GetCfilters 0 span.start span.stop) × IsNeeded s.watch log p (GetCfilters 0 span.start span.stop)
+filters_send mode s log p common span chain tracks is low free clean wish = (
   record {
-    of_its_part = filters_may s log p common span chain tracks is low free clean wish;
+    of_its_part = filters_may mode s log p common span chain tracks is low free clean wish;
     wanted = tt;
     alone = filters_alone log s.opens p 0 span.start span.stop tracks.opened (filters_free s log p common span chain is low wish);
   },
   inl (filters_needed s log p common span chain tracks is low wish),
 )
 
-pub block_send : (s : Seen) (log : Log) (p common : ℕ) (hash : Hash32) (chain : Chain) → Tracks s log → chain ≡ own (trail log p) → common ≤ length chain
+pub block_send : (mode : Mode) (s : Seen) (log : Log) (p common : ℕ) (hash : Hash32) (chain : Chain) → Tracks s log → chain ≡ own (trail log p) → common ≤ length chain
     → IsFree (trail log p) → IsWish s.table s.claims s.verdicts s.opens p chain common (Block hash)
-    → MaySend log p (GetData (block_entry hash ∷ [])) × IsNeeded s.watch log p (GetData (block_entry hash ∷ []))
-block_send s log p common hash chain tracks is low free wish =
+    → MaySendIn mode log p (GetData (block_entry hash ∷ [])) × IsNeeded s.watch log p (GetData (block_entry hash ∷ []))
+block_send mode s log p common hash chain tracks is low free wish =
     let needed = block_needed s log p common hash chain tracks wish in (
       record {
-        of_its_part = block_may log p common s hash chain is low free wish;
+        of_its_part = block_may mode log p common s hash chain is low free wish;
         wanted = λ entry i. (needed entry i).0;
         alone = block_alone log s.opens p hash tracks.opened (subst (IsBlockFree s.opens) (sym wish.1.1) wish.1.0.5.free);
       },
@@ -306,9 +307,9 @@ test_needed s log p common trial chain tracks is tries =
     trial_by s.watch log s.table s.claims s.trials.told tracks.fetched tracks.claimed tracks.trials.told p common trial.height trial.block.0
     (test_part s log p common trial chain is tries)
 
-test_may : (s : Seen) (log : Log) (p common : ℕ) (trial : Trial) (chain : Chain) → Tracks s log → chain ≡ own (trail log p)
-    → IsFree (trail log p) → verdict (trail log p) ≡ None → IsTrying s.table s.claims s.trials.told p chain common (Test trial) → MayAsk (trail log p) (GetCfilters 0 trial.height trial.block)
-test_may s log p common trial chain tracks is free clean tries =
+test_may : (mode : Mode) (s : Seen) (log : Log) (p common : ℕ) (trial : Trial) (chain : Chain) → Tracks s log → chain ≡ own (trail log p)
+    → IsFree (trail log p) → verdict (trail log p) ≡ None → IsTrying s.table s.claims s.trials.told p chain common (Test trial) → MayAskIn mode (trail log p) (GetCfilters 0 trial.height trial.block)
+test_may mode s log p common trial chain tracks is free clean tries =
     let t = trail log p in
     let one = test_part s log p common trial chain is tries in
     let at = at_height trial.block.0 (own t) trial.height one.stands in
@@ -326,13 +327,13 @@ test_may s log p common trial chain tracks is free clean tries =
       ),
     )
 
-pub test_send : (s : Seen) (log : Log) (p common : ℕ) (trial : Trial) (chain : Chain) → Tracks s log → chain ≡ own (trail log p)
+pub test_send : (mode : Mode) (s : Seen) (log : Log) (p common : ℕ) (trial : Trial) (chain : Chain) → Tracks s log → chain ≡ own (trail log p)
     → IsFree (trail log p) → verdict (trail log p) ≡ None → IsTrying s.table s.claims s.trials.told p chain common (Test trial)
-    → MaySend log p (GetCfilters 0 trial.height trial.block) × IsNeeded s.watch log p (GetCfilters 0 trial.height trial.block)
-test_send s log p common trial chain tracks is free clean tries =
+    → MaySendIn mode log p (GetCfilters 0 trial.height trial.block) × IsNeeded s.watch log p (GetCfilters 0 trial.height trial.block)
+test_send mode s log p common trial chain tracks is free clean tries =
     let needed = test_needed s log p common trial chain tracks is tries in (
       record {
-        of_its_part = test_may s log p common trial chain tracks is free clean tries;
+        of_its_part = test_may mode s log p common trial chain tracks is free clean tries;
         wanted = tt;
         alone = test_alone log p 0 trial.height trial.block needed;
       },
