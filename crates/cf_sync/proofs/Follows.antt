@@ -264,3 +264,10 @@ follow_theorem_of watch height hash entries log h = record {
   exact = λ p blocks first top clash peer told none quiet.
       growing_history watch height hash entries log h p blocks first top clash peer told none quiet;
 }
+
+-- what grows is never closed, whatever was told of the log
+pub growing_never : (log : Log) (p : ℕ) (blocks : List Block) (first : ℕ) → AreBytes log → RightlyIn Following log
+    → NoHashClash (IsHashed log blocks) → IsGrowing log p blocks first → IsNeverClosed log p
+growing_never log p blocks first bytes right clash peer =
+    never_at blocks (setting_from log blocks clash peer.good peer.low) peer.good.each first peer.from log p
+    (record { bytes = bytes; clash = clash; right = right }) peer.growing
