@@ -9,6 +9,5 @@ pub mod Retold
 pub mod Serves
 pub mod Demos
 pub mod Doing
-pub mod Grown
 pub mod Stays
 pub mod Ends

@@ -1,5 +1,5 @@
 -- What a run that follows has written, and how it ended.
-use Rattle.std.proofs.Common.{◌≡◌, ◌≢◌, ◌⊎◌, inl, inr, ℕ, ◌<◌, ◌≤◌, Bool, true, false, List, [], ◌∷◌, ◌++◌, length, reverse, take, Option, Some, None, refl, sym, ◌∙◌, ap, subst, arith, append_assoc}
+use Rattle.std.proofs.Common.{◌≡◌, ◌≢◌, inl, inr, ℕ, ◌<◌, ◌≤◌, Bool, true, false, List, [], ◌∷◌, ◌++◌, length, take, Option, Some, None, refl, sym, ◌∙◌, ap, subst, arith, append_assoc}
 use Rattle.std.specs.Prelude.{◌↔◌, IfSome, Ok}
 use Rattle.std.specs.FinMap as finite
 use Rattle.std.proofs.lemmas.Bool.{both_ways, false≢true}
@@ -12,7 +12,7 @@ use Rattle.cf_chain.specs.Grow.{top_hash}
 use Rattle.cf_run.specs.declared.outcome.End.{End}
 use Rattle.cf_run.specs.declared.outcome.End.TheVariants.{Synced as IsSynced, NoPeers as HasNoPeers, Tired as IsTired, Ended as HasEnded}
 use Rattle.cf_run.specs.declared.trace.TraceLine.{TraceLine}
-use Rattle.cf_run.specs.Run.{Followed, IsTraceOf, NobodyLeft}
+use Rattle.cf_run.specs.Run.{Followed, NobodyLeft}
 use Rattle.cf_run.specs.Texts.{HasBegun, HasPut, HasPutSome, IsOver, joined}
 use Rattle.cf_place.specs.declared.place.PeerEnd.{PeerEnd}
 use Rattle.cf_place.specs.Places.{EndsTell}
@@ -20,9 +20,9 @@ use Rattle.cf_peer.specs.declared.mode.Mode.TheVariants.{Following}
 use Rattle.cf_peer.specs.Trail.{trail}
 use Rattle.cf_sync.specs.Fetching.{AreBytes, IsConnected, IsQuiet, RightlyIn, following}
 use Rattle.cf_sync.specs.Growing.{FollowTheorem, IsTold, OthersShowNone}
-use Rattle.cf_sync.specs.Honesty.{IsNeverClosed}
 use Rattle.cf_sync.specs.Putting.{ArePut, WerePut}
-use Rattle.cf_sync.specs.Sync.{IsHashed}
+use Rattle.cf_sync.proofs.Follows.{growing_never}
+use Rattle.cf_sync.proofs.LastText.{last_text}
 use Rattle.cf_wires.specs.Log.{Log, Told, Tells}
 use Rattle.cf_scan.specs.declared.history.Entry.{Entry}
 use Rattle.cf_scan.specs.HistoryText.{history_text}
@@ -35,7 +35,6 @@ use Rattle.cf_loading.specs.Verdicts.{IsOfFile}
 use Rattle.cf_cli.specs.Following.{BegunTexts, EndsBy, Grows, IsReplayedIn, IsReplayedOn, KeptOn, KeptOnOver, Stayed, TalliedOn, with_trace}
 use Rattle.cf_cli.specs.Statuses.{has_run, is_over, was_refused, was_unbegun}
 use Rattle.cf_cli.specs.Theorem.{AnswersTo, IsComplete, IsOfRun, IsWhole, IsWithin}
-use Rattle.cf_cli.proofs.Grown.{grown_last, grown_never}
 use Rattle.cf_cli.proofs.Plays.{early_replayed, early_tallied, no_run, not_run, run_tallied, spent_tallied, tallied_early, unwritten_tallied}
 use Rattle.cf_cli.proofs.Runs.{somebody_left}
 
@@ -120,7 +119,7 @@ last_written : (scripts : List (List ℕ)) (trace : Bool) (lines : List TraceLin
     → IsConnected log p → IsQuiet log
     → EndsBy (history_text (scan_of (take top blocks) scripts) (length (take top blocks)) (top_hash (take top blocks))) before after
 last_written scripts trace lines texts before after log puts written p blocks first top grows told none on quiet =
-    let last = grown_last scripts log puts.0 texts puts.1.1 p blocks first top grows.apart grows.growing told none on quiet in
+    let last = last_text scripts log puts.0 texts puts.1.1 p blocks first top grows.apart grows.growing told none on quiet in
     ends_by trace lines (history_text (scan_of (take top blocks) scripts) (length (take top blocks)) (top_hash (take top blocks))) last.0 before after
     (written ∙ ap (λ (xs : List (List ℕ)). with_more before (with_trace trace lines (joined xs))) last.1)
 
@@ -241,7 +240,7 @@ failed_told None scripts names recorded before after put right = tt
 failed_told (Some log) scripts names recorded before after put right = record {
   last = λ p blocks first top grows told none quiet over. absurd (false≢true over);
   complete = λ p blocks first grows. tt;
-  never = λ p blocks first grows ne. grown_never log p blocks first right.0 right.1 grows.apart grows.growing;
+  never = λ p blocks first grows ne. growing_never log p blocks first right.0 right.1 grows.apart grows.growing;
   ran = λ over. absurd (false≢true over);
   begun = λ off. record { lines = []; traced = inl refl; texts = put.texts; puts = put.puts; begun = put.begun };
   right = λ ne. right;

@@ -19,7 +19,7 @@ use cf_headers::{HeaderStore, Tree};
 use cf_input::Word;
 use cf_match::Matcher;
 use cf_place::PeerEnd;
-use cf_run::{Kept, Live, TextFail, TraceLine, follow_over};
+use cf_run::{Kept, Live, Outcome, TextFail, follow_over};
 use cf_scan::Watch;
 use cf_wires::Wires;
 use std::alloc::Global;
@@ -124,14 +124,14 @@ pub(crate) fn stay<F: Files, W: Wires, M: Matcher + Drop, O: Sink>(
 fn behind_trace(
     alloc: Global,
     trace: bool,
-    lines: &[TraceLine],
+    outcome: &Outcome,
     bytes: &[u8],
 ) -> Result<Vec<u8>, NoMemory>
-    ensures { IfOk result (λ text. text.items ≡ with_trace trace lines.now bytes.now) }
+    ensures { IfOk result (λ text. text.items ≡ with_trace trace outcome.now.trace.items bytes.now) }
 {
     let mut text = Vec::new(alloc);
     if trace {
-        put_trace(alloc, lines, &mut text)?;
+        put_trace(alloc, &outcome.trace, &mut text)?;
     }
     text.extend_from_slice(bytes)?;
     Ok(text)
@@ -178,7 +178,7 @@ pub(crate) fn stay_on_tape<W: Wires, M: Matcher + Drop, O: Sink>(
         return Status::NoMemory;
     };
     *ends = stands;
-    let Ok(text) = behind_trace(alloc, trace, &outcome.trace, texts.bytes()) else {
+    let Ok(text) = behind_trace(alloc, trace, &outcome, texts.bytes()) else {
         return Status::NoMemory;
     };
     match put_all(out, &text) {

@@ -1,4 +1,4 @@
-use Rattle.std.proofs.Common.{false, true, Some, length, rules, ◌∙◌, ap, subst}
+use Rattle.std.proofs.Common.{false, Some, length, rules, ◌∙◌, ap, subst}
 use Rattle.std.proofs.Math.Facts.{to_z-of_z}
 use Rattle.std.specs.Int.{w64}
 use Rattle.cf_run.specs.Names.{names_in}
@@ -23,19 +23,19 @@ returns-in-Err-load_session-clause-replayed g c =
 
 pub returns-then-follow-clause-replayed : goal.returns-then-follow-clause-replayed
 returns-then-follow-clause-replayed g c = rw c.if-follow.true (
-  names_in c.as_slice.result.now,
-  over_watch_on c.stay_on_tape.result false c.args.trace (g.F.Files.files c.args.files.now) c.args.watch.now c.in-Ok.scripts (names_in c.as_slice.result.now) (g.O.Sink.written c.args.out.now)
+  names_in c.as_slice-names.result.now,
+  over_watch_on c.stay_on_tape.result false c.args.trace (g.F.Files.files c.args.files.now) c.args.watch.now c.in-Ok.scripts (names_in c.as_slice-names.result.now) (g.O.Sink.written c.args.out.now)
       (g.O.Sink.written c.stay_on_tape.new.out) (log_of c.stay_on_tape.new.wires) c.in-Ok.ensures.scripts c.stay_on_tape.ensures.kept,
-  subst (λ (t : Told). TalliedOn c.stay_on_tape.result 10000000 (length (names_in c.as_slice.result.now)) t (told_of c.stay_on_tape.new.wires))
+  subst (λ (t : Told). TalliedOn c.stay_on_tape.result 10000000 (length (names_in c.as_slice-names.result.now)) t (told_of c.stay_on_tape.new.wires))
       (same_told c.load.new.self c.args.tape.now c.load.ensures.log c.load.ensures.finished) c.stay_on_tape.ensures.tallied,
 )
 
 pub returns-else-follow-clause-replayed : goal.returns-else-follow-clause-replayed
 returns-else-follow-clause-replayed g c = rw c.if-follow.false (
-  names_in c.as_slice.result.now,
-  over_watch c.run_once.result false c.args.trace (g.F.Files.files c.args.files.now) c.args.watch.now c.in-Ok.scripts (names_in c.as_slice.result.now) (g.O.Sink.written c.args.out.now)
+  names_in c.as_slice-names.result.now,
+  over_watch c.run_once.result false c.args.trace (g.F.Files.files c.args.files.now) c.args.watch.now c.in-Ok.scripts (names_in c.as_slice-names.result.now) (g.O.Sink.written c.args.out.now)
       (g.O.Sink.written c.run_once.new.out) (log_of c.run_once.new.wires) c.in-Ok.ensures.scripts c.run_once.ensures.kept,
-  subst (λ (t : Told). Tallied c.run_once.result 10000000 (length (names_in c.as_slice.result.now)) t (told_of c.run_once.new.wires))
+  subst (λ (t : Told). Tallied c.run_once.result 10000000 (length (names_in c.as_slice-names.result.now)) t (told_of c.run_once.new.wires))
       (same_told c.load.new.self c.args.tape.now c.load.ensures.log c.load.ensures.finished) c.run_once.ensures.tallied,
 )
 
@@ -52,9 +52,9 @@ returns-then-follow-clause-plays g c =
     let script : Script = record { dials = s.dials.items; deliveries = s.deliveries.items } in
     told_plays (g.F.Files.files c.args.files.now) c.args.session.now c.stay_on_tape.result script (log_of c.stay_on_tape.new.wires)
     (told_so (g.F.Files.files c.load_watch.new.files) (g.F.Files.files c.args.files.now) c.args.session.now script c.load_watch.ensures.same c.in-Ok-load_session.ensures.script)
-    (plays_of c.stay_on_tape.result (names_in c.as_slice.result.now) script c.stay_on_tape.new.wires
+    (plays_of c.stay_on_tape.result (names_in c.as_slice-names.result.now) script c.stay_on_tape.new.wires
     (c.stay_on_tape.ensures.same ∙ ap Some (ap (λ (x : Script). made x (failing_of c.load.new.self)) c.load.ensures.script ∙ ap (made script) (c.load.ensures.failing ∙ c.requires.failing)))
-    (ap names_in c.as_slice.ensures.value ∙ c.in-Ok-load_session.ensures.named)
+    (ap names_in c.as_slice-names.ensures.value ∙ c.in-Ok-load_session.ensures.named)
     c.stay_on_tape.ensures.dialled c.stay_on_tape.ensures.tallied.tallied.whole)
 
 pub returns-else-follow-clause-plays : goal.returns-else-follow-clause-plays
@@ -63,9 +63,9 @@ returns-else-follow-clause-plays g c =
     let script : Script = record { dials = s.dials.items; deliveries = s.deliveries.items } in
     told_plays (g.F.Files.files c.args.files.now) c.args.session.now c.run_once.result script (log_of c.run_once.new.wires)
     (told_so (g.F.Files.files c.load_watch.new.files) (g.F.Files.files c.args.files.now) c.args.session.now script c.load_watch.ensures.same c.in-Ok-load_session.ensures.script)
-    (plays_of c.run_once.result (names_in c.as_slice.result.now) script c.run_once.new.wires
+    (plays_of c.run_once.result (names_in c.as_slice-names.result.now) script c.run_once.new.wires
     (c.run_once.ensures.same ∙ ap Some (ap (λ (x : Script). made x (failing_of c.load.new.self)) c.load.ensures.script ∙ ap (made script) (c.load.ensures.failing ∙ c.requires.failing)))
-    (ap names_in c.as_slice.ensures.value ∙ c.in-Ok-load_session.ensures.named)
+    (ap names_in c.as_slice-names.ensures.value ∙ c.in-Ok-load_session.ensures.named)
     c.run_once.ensures.dialled c.run_once.ensures.tallied.whole)
 
 pub returns-in-Err-clause-versions : goal.returns-in-Err-clause-versions

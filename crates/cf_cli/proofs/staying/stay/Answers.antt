@@ -38,53 +38,53 @@ returns-in_default-clause-ends g c = over_stay _ _ _ _ refl
 
 pub returns-in-NoMemory-clause-kept : goal.returns-in-NoMemory-clause-kept
 returns-in-NoMemory-clause-kept g c =
-    spent_on (g.W.Wires.told c.stay_live.new.wires).log c.stay_live.result (is_some c.args.log_file.now) c.args.watch (names_in c.args.names.now) (g.O.Sink.written c.args.out.now)
-    (g.O.Sink.written c.stay_live.new.out) c.stay_live.ensures.kept
+    spent_on (g.W.Wires.told c.stay_live-status.new.wires).log c.stay_live-status.result (is_some c.args.log_file.now) c.args.watch (names_in c.args.names.now) (g.O.Sink.written c.args.out.now)
+    (g.O.Sink.written c.stay_live-status.new.out) c.stay_live-status.ensures.kept
 
 pub returns-in-NoMemory-clause-tallied : goal.returns-in-NoMemory-clause-tallied
-returns-in-NoMemory-clause-tallied g c = failed_tallied_on c.stay_live.result NoMemory _ _ _ _ _ refl tt c.stay_live.ensures.finished c.stay_live.ensures.tallied
+returns-in-NoMemory-clause-tallied g c = failed_tallied_on c.stay_live-status.result NoMemory _ _ _ _ _ refl tt c.stay_live-status.ensures.finished c.stay_live-status.ensures.tallied
 
 pub returns-in-NoMemory-clause-versions : goal.returns-in-NoMemory-clause-versions
 returns-in-NoMemory-clause-versions g c =
-    versions_so _ c.args.moment c.args.nonce (g.W.Wires.told c.stay_live.new.wires)
-    (to_z-of_z {w = w64} {z = c.args.moment} (search rules)) c.stay_live.ensures.versions
+    versions_so _ c.args.moment c.args.nonce (g.W.Wires.told c.stay_live-status.new.wires)
+    (to_z-of_z {w = w64} {z = c.args.moment} (search rules)) c.stay_live-status.ensures.versions
 
 pub returns-in-NoMemory-clause-ends : goal.returns-in-NoMemory-clause-ends
-returns-in-NoMemory-clause-ends g c = over_failed c.stay_live.result NoMemory _ _ _ _ refl refl c.stay_live.ensures.ends
+returns-in-NoMemory-clause-ends g c = over_failed c.stay_live-status.result NoMemory _ _ _ _ refl refl c.stay_live-status.ensures.ends
 
 -- ---- nor for the record
 
 pub returns-in-Err-NoMemory-clause-kept : goal.returns-in-Err-NoMemory-clause-kept
 returns-in-Err-NoMemory-clause-kept g c =
-    spent_on (g.W.Wires.told c.stay_live.new.wires).log c.stay_live.result (is_some c.args.log_file.now) c.args.watch (names_in c.args.names.now) (g.O.Sink.written c.args.out.now)
-    (g.O.Sink.written c.stay_live.new.out) c.stay_live.ensures.kept
+    spent_on (g.W.Wires.told c.stay_live-status.new.wires).log c.stay_live-status.result (is_some c.args.log_file.now) c.args.watch (names_in c.args.names.now) (g.O.Sink.written c.args.out.now)
+    (g.O.Sink.written c.stay_live-status.new.out) c.stay_live-status.ensures.kept
 
 pub returns-in-Err-NoMemory-clause-tallied : goal.returns-in-Err-NoMemory-clause-tallied
-returns-in-Err-NoMemory-clause-tallied g c = failed_tallied_on c.stay_live.result NoMemory _ _ _ _ _ refl tt c.stay_live.ensures.finished c.stay_live.ensures.tallied
+returns-in-Err-NoMemory-clause-tallied g c = failed_tallied_on c.stay_live-status.result NoMemory _ _ _ _ _ refl tt c.stay_live-status.ensures.finished c.stay_live-status.ensures.tallied
 
 pub returns-in-Err-NoMemory-clause-versions : goal.returns-in-Err-NoMemory-clause-versions
 returns-in-Err-NoMemory-clause-versions g c =
-    versions_so _ c.args.moment c.args.nonce (g.W.Wires.told c.stay_live.new.wires)
-    (to_z-of_z {w = w64} {z = c.args.moment} (search rules)) c.stay_live.ensures.versions
+    versions_so _ c.args.moment c.args.nonce (g.W.Wires.told c.stay_live-status.new.wires)
+    (to_z-of_z {w = w64} {z = c.args.moment} (search rules)) c.stay_live-status.ensures.versions
 
 pub returns-in-Err-NoMemory-clause-ends : goal.returns-in-Err-NoMemory-clause-ends
-returns-in-Err-NoMemory-clause-ends g c = over_failed c.stay_live.result NoMemory _ _ _ _ refl refl c.stay_live.ensures.ends
+returns-in-Err-NoMemory-clause-ends g c = over_failed c.stay_live-status.result NoMemory _ _ _ _ refl refl c.stay_live-status.ensures.ends
 
 -- ---- the record can't be written
 
 pub returns-in-Err-No-clause-kept : goal.returns-in-Err-No-clause-kept
 returns-in-Err-No-clause-kept g c =
     let files = rw c.in-Err-No.field-0-is at c.in-Err-No.ensures.files in
-    unrecorded_on (g.W.Wires.told c.stay_live.new.wires).log c.stay_live.result (is_some c.args.log_file.now) c.args.watch (names_in c.args.names.now) (g.O.Sink.written c.args.out.now)
-    (g.O.Sink.written c.stay_live.new.out) c.in_default-stay_live.not-NoMemory files.0 c.stay_live.ensures.kept
+    unrecorded_on (g.W.Wires.told c.stay_live-status.new.wires).log c.stay_live-status.result (is_some c.args.log_file.now) c.args.watch (names_in c.args.names.now) (g.O.Sink.written c.args.out.now)
+    (g.O.Sink.written c.stay_live-status.new.out) (search rules) files.0 c.stay_live-status.ensures.kept
 
 pub returns-in-Err-No-clause-tallied : goal.returns-in-Err-No-clause-tallied
-returns-in-Err-No-clause-tallied g c = failed_tallied_on c.stay_live.result FileFault _ _ _ _ _ refl tt c.stay_live.ensures.finished c.stay_live.ensures.tallied
+returns-in-Err-No-clause-tallied g c = failed_tallied_on c.stay_live-status.result FileFault _ _ _ _ _ refl tt c.stay_live-status.ensures.finished c.stay_live-status.ensures.tallied
 
 pub returns-in-Err-No-clause-versions : goal.returns-in-Err-No-clause-versions
 returns-in-Err-No-clause-versions g c =
-    versions_so _ c.args.moment c.args.nonce (g.W.Wires.told c.stay_live.new.wires)
-    (to_z-of_z {w = w64} {z = c.args.moment} (search rules)) c.stay_live.ensures.versions
+    versions_so _ c.args.moment c.args.nonce (g.W.Wires.told c.stay_live-status.new.wires)
+    (to_z-of_z {w = w64} {z = c.args.moment} (search rules)) c.stay_live-status.ensures.versions
 
 pub returns-in-Err-No-clause-begun : goal.returns-in-Err-No-clause-begun
 returns-in-Err-No-clause-begun g c =
@@ -94,30 +94,30 @@ returns-in-Err-No-clause-begun g c =
 pub returns-in-Err-No-clause-ends : goal.returns-in-Err-No-clause-ends
 returns-in-Err-No-clause-ends g c =
     let files = rw c.in-Err-No.field-0-is at c.in-Err-No.ensures.files in
-    over_failed c.stay_live.result FileFault _ _ _ _ refl (ap not files.0) c.stay_live.ensures.ends
+    over_failed c.stay_live-status.result FileFault _ _ _ _ refl (ap not files.0) c.stay_live-status.ensures.ends
 
 -- ---- it stands, or none is asked for
 
-pub returns-in-Ok-clause-kept : goal.returns-in-Ok-clause-kept
-returns-in-Ok-clause-kept g c = c.stay_live.ensures.kept (is_some c.args.log_file.now)
+pub returns-in-Ok-write_record-clause-kept : goal.returns-in-Ok-write_record-clause-kept
+returns-in-Ok-write_record-clause-kept g c = c.stay_live-status.ensures.kept (is_some c.args.log_file.now)
 
-pub returns-in-Ok-clause-tallied : goal.returns-in-Ok-clause-tallied
-returns-in-Ok-clause-tallied g c = tallied_from c.stay_live.result _ _ _ _ _ c.stay_live.ensures.finished c.stay_live.ensures.tallied
+pub returns-in-Ok-write_record-clause-tallied : goal.returns-in-Ok-write_record-clause-tallied
+returns-in-Ok-write_record-clause-tallied g c = tallied_from c.stay_live-status.result _ _ _ _ _ c.stay_live-status.ensures.finished c.stay_live-status.ensures.tallied
 
-pub returns-in-Ok-clause-versions : goal.returns-in-Ok-clause-versions
-returns-in-Ok-clause-versions g c =
-    versions_so _ c.args.moment c.args.nonce (g.W.Wires.told c.stay_live.new.wires)
-    (to_z-of_z {w = w64} {z = c.args.moment} (search rules)) c.stay_live.ensures.versions
+pub returns-in-Ok-write_record-clause-versions : goal.returns-in-Ok-write_record-clause-versions
+returns-in-Ok-write_record-clause-versions g c =
+    versions_so _ c.args.moment c.args.nonce (g.W.Wires.told c.stay_live-status.new.wires)
+    (to_z-of_z {w = w64} {z = c.args.moment} (search rules)) c.stay_live-status.ensures.versions
 
-pub returns-in-Ok-clause-records : goal.returns-in-Ok-clause-records
-returns-in-Ok-clause-records g c =
-    begun_records c.stay_live.result c.args.log_file.now _ _ _ c.stay_live.ensures.tallied.tallied.answers c.stay_live.ensures.unrefused c.in_default-stay_live.not-NoMemory c.in-Ok-write_record.ensures.files
+pub returns-in-Ok-write_record-clause-records : goal.returns-in-Ok-write_record-clause-records
+returns-in-Ok-write_record-clause-records g c =
+    begun_records c.stay_live-status.result c.args.log_file.now _ _ _ c.stay_live-status.ensures.tallied.tallied.answers c.stay_live-status.ensures.unrefused (search rules) c.in-Ok-write_record.ensures.files
 
-pub returns-in-Ok-clause-file_fault : goal.returns-in-Ok-clause-file_fault
-returns-in-Ok-clause-file_fault g c = λ is. absurd (false≢true (sym c.stay_live.ensures.unrefused ∙ ap was_refused is))
+pub returns-in-Ok-write_record-clause-file_fault : goal.returns-in-Ok-write_record-clause-file_fault
+returns-in-Ok-write_record-clause-file_fault g c = λ is. absurd (false≢true (sym c.stay_live-status.ensures.unrefused ∙ ap was_refused is))
 
-pub returns-in-Ok-clause-begun : goal.returns-in-Ok-clause-begun
-returns-in-Ok-clause-begun g c = begun_by c.stay_live.result _ c.stay_live.ensures.unrefused
+pub returns-in-Ok-write_record-clause-begun : goal.returns-in-Ok-write_record-clause-begun
+returns-in-Ok-write_record-clause-begun g c = begun_by c.stay_live-status.result _ c.stay_live-status.ensures.unrefused
 
-pub returns-in-Ok-clause-ends : goal.returns-in-Ok-clause-ends
-returns-in-Ok-clause-ends g c = over_recorded c.stay_live.result _ _ _ _ (begun_by c.stay_live.result _ c.stay_live.ensures.unrefused) c.stay_live.ensures.ends
+pub returns-in-Ok-write_record-clause-ends : goal.returns-in-Ok-write_record-clause-ends
+returns-in-Ok-write_record-clause-ends g c = over_recorded c.stay_live-status.result _ _ _ _ (begun_by c.stay_live-status.result _ c.stay_live-status.ensures.unrefused) c.stay_live-status.ensures.ends

@@ -1,10 +1,9 @@
-use Rattle.std.proofs.Common.{List, ℕ, false, refl, rules, sym, ◌∙◌}
+use Rattle.std.proofs.Common.{false, refl, rules, sym, ◌∙◌}
 use Rattle.std.proofs.Math.Facts.{to_z-of_z}
 use Rattle.std.proofs.lemmas.List.{length-map}
 use Rattle.std.specs.Int.{w64}
 use Rattle.std.specs.Prelude.{string_bytes}
 use Rattle.cf_run.specs.Names.{names_in}
-use Rattle.cf_answers.specs.declared.status.Status.TheVariants.{NoMemory, OutFault}
 use Rattle.cf_cli.proofs.Ends.{copied, over_put, over_stay}
 use Rattle.cf_cli.proofs.Plays.{versions_so}
 use Rattle.cf_cli.proofs.Stays.{begun_by, failed_told, run_tallied_on, some_put_told, spent_tallied_on, spent_told, stayed_told, unwritten_tallied_on}

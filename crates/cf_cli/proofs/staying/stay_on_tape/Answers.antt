@@ -1,4 +1,4 @@
-use Rattle.std.proofs.Common.{List, ℕ, Option, Some, false, refl, rules, sym, ◌∙◌}
+use Rattle.std.proofs.Common.{Some, false, refl, rules, sym, ◌∙◌}
 use Rattle.std.proofs.Math.Facts.{to_z-of_z}
 use Rattle.std.proofs.lemmas.List.{length-map}
 use Rattle.std.specs.Int.{w64}
@@ -19,17 +19,17 @@ returns-in_default-clause-kept g c =
 
 pub returns-in-Err-clause-kept : goal.returns-in-Err-clause-kept
 returns-in-Err-clause-kept g c =
-    silent_told (g.W.Wires.told c.follow_over.new.wires).log c.args.watch (names_in c.args.names.now) false c.args.trace (Some c.new.result.bytes.items) (Some c.follow_over.new.texts.bytes.items)
+    silent_told (g.W.Wires.told c.follow_over.new.wires).log c.args.watch (names_in c.args.names.now) false c.args.trace (Some c.new-texts.result.bytes.items) (Some c.follow_over.new.texts.bytes.items)
     (g.O.Sink.written c.args.out.now) c.in-Err.ensures.put_some
 
 pub returns-in_default-to_vec-clause-kept : goal.returns-in_default-to_vec-clause-kept
 returns-in_default-to_vec-clause-kept g c =
-    silent_told (g.W.Wires.told c.follow_over.new.wires).log c.args.watch (names_in c.args.names.now) false c.args.trace (Some c.new.result.bytes.items) (Some c.follow_over.new.texts.bytes.items)
+    silent_told (g.W.Wires.told c.follow_over.new.wires).log c.args.watch (names_in c.args.names.now) false c.args.trace (Some c.new-texts.result.bytes.items) (Some c.follow_over.new.texts.bytes.items)
     (g.O.Sink.written c.args.out.now) (some_put_told (g.W.Wires.told c.follow_over.new.wires).log c.args.watch _ _ c.in-Ok-follow_over.ensures.put)
 
 pub returns-in_default-behind_trace-clause-kept : goal.returns-in_default-behind_trace-clause-kept
 returns-in_default-behind_trace-clause-kept g c =
-    silent_told (g.W.Wires.told c.follow_over.new.wires).log c.args.watch (names_in c.args.names.now) false c.args.trace (Some c.new.result.bytes.items) (Some c.follow_over.new.texts.bytes.items)
+    silent_told (g.W.Wires.told c.follow_over.new.wires).log c.args.watch (names_in c.args.names.now) false c.args.trace (Some c.new-texts.result.bytes.items) (Some c.follow_over.new.texts.bytes.items)
     (g.O.Sink.written c.args.out.now) (some_put_told (g.W.Wires.told c.follow_over.new.wires).log c.args.watch _ _ c.in-Ok-follow_over.ensures.put)
 
 pub returns-in_default-clause-tallied : goal.returns-in_default-clause-tallied
@@ -93,10 +93,10 @@ returns-in-Ok-put_all-clause-kept g c =
     let before = g.O.Sink.written c.args.out.now in
     let after = g.O.Sink.written c.put_all.new.sink in
     stayed_told (g.W.Wires.told c.follow_over.new.wires).log c.args.watch o.end o.height o.tip o.history o.trace.items (names_in c.args.names.now) o.ends.items c.status_of.result false c.args.trace
-    (Some c.new.result.bytes.items) (Some c.follow_over.new.texts.bytes.items) before after
+    (Some c.new-texts.result.bytes.items) (Some c.follow_over.new.texts.bytes.items) before after
     c.in-Ok-follow_over.ensures.followed c.in-Ok-follow_over.ensures.theorem c.in-Ok-follow_over.ensures.ends c.status_of.ensures.answer c.in-Ok-follow_over.ensures.put
-    (tape_written c.args.trace o.trace.items c.new.result.bytes.items c.follow_over.new.texts.bytes.items c.bytes.result.now c.deref-2.result.now before after
-    c.new.ensures c.bytes.ensures (c.deref-2.ensures.value ∙ c.in-Ok-behind_trace.ensures) c.in-Ok-put_all.ensures.ok)
+    (tape_written c.args.trace o.trace.items c.new-texts.result.bytes.items c.follow_over.new.texts.bytes.items c.bytes.result.now c.deref.result.now before after
+    c.new-texts.ensures c.bytes.ensures (c.deref.ensures.value ∙ c.in-Ok-behind_trace.ensures) c.in-Ok-put_all.ensures.ok)
 
 pub returns-in-Err-put_all-clause-kept : goal.returns-in-Err-put_all-clause-kept
 returns-in-Err-put_all-clause-kept g c =
@@ -104,10 +104,10 @@ returns-in-Err-put_all-clause-kept g c =
     let before = g.O.Sink.written c.args.out.now in
     let after = g.O.Sink.written c.put_all.new.sink in
     unwritten_told (g.W.Wires.told c.follow_over.new.wires).log c.args.watch o.end o.height o.tip o.history o.trace.items (names_in c.args.names.now) false c.args.trace
-    (Some c.new.result.bytes.items) (Some c.follow_over.new.texts.bytes.items) before after
+    (Some c.new-texts.result.bytes.items) (Some c.follow_over.new.texts.bytes.items) before after
     c.in-Ok-follow_over.ensures.followed c.in-Ok-follow_over.ensures.theorem c.in-Ok-follow_over.ensures.put
-    (tape_begun c.args.trace o.trace.items c.new.result.bytes.items c.follow_over.new.texts.bytes.items c.bytes.result.now c.deref-2.result.now before after
-    c.new.ensures c.bytes.ensures (c.deref-2.ensures.value ∙ c.in-Ok-behind_trace.ensures) c.in-Err-put_all.ensures.err.0 c.in-Err-put_all.ensures.err.1 c.in-Err-put_all.ensures.err.2)
+    (tape_begun c.args.trace o.trace.items c.new-texts.result.bytes.items c.follow_over.new.texts.bytes.items c.bytes.result.now c.deref.result.now before after
+    c.new-texts.ensures c.bytes.ensures (c.deref.ensures.value ∙ c.in-Ok-behind_trace.ensures) c.in-Err-put_all.ensures.err.0 c.in-Err-put_all.ensures.err.1 c.in-Err-put_all.ensures.err.2)
 
 pub returns-in-Ok-put_all-clause-tallied : goal.returns-in-Ok-put_all-clause-tallied
 returns-in-Ok-put_all-clause-tallied g c =
