@@ -13,20 +13,20 @@ pub returns-in-Ok-clause-kept : goal.returns-in-Ok-clause-kept
 returns-in-Ok-clause-kept g c = λ recorded.
     let o = c.in-Ok.outcome in
     stayed_told (g.W.Wires.told c.follow_over.new.wires).log c.args.watch o.end o.height o.tip o.history o.trace.items (names_in c.args.names.now) o.ends.items c.status_of.result recorded false
-    _ _ _ _ c.in-Ok.ensures.followed c.in-Ok.ensures.theorem c.in-Ok.ensures.ends c.status_of.ensures.answer c.in-Ok.ensures.put (λ texts e. e)
+    _ _ _ _ c.in-Ok.ensures.followed c.in-Ok.ensures.theorem c.in-Ok.ensures.ends c.status_of.ensures.answer (rw c.new-texts.ensures.same at c.in-Ok.ensures.put) (λ texts e. e)
 
 pub returns-in_default-clause-kept : goal.returns-in_default-clause-kept
 returns-in_default-clause-kept g c = λ recorded.
     spent_told (g.W.Wires.told c.follow_over.new.wires).log c.args.watch (names_in c.args.names.now) recorded _ _
-    (some_put_told (g.W.Wires.told c.follow_over.new.wires).log c.args.watch _ _ c.in-Ok.ensures.put)
+    (some_put_told (g.W.Wires.told c.follow_over.new.wires).log c.args.watch _ _ (rw c.new-texts.ensures.same at c.in-Ok.ensures.put))
 
 pub returns-in-Err-Failed-clause-kept : goal.returns-in-Err-Failed-clause-kept
 returns-in-Err-Failed-clause-kept g c = λ recorded.
-    failed_told (g.W.Wires.told c.follow_over.new.wires).log c.args.watch (names_in c.args.names.now) recorded _ _ c.in-Err-Failed.ensures.put_some (c.in-Err-Failed.ensures.right c.in-Err-Failed.field-0-is)
+    failed_told (g.W.Wires.told c.follow_over.new.wires).log c.args.watch (names_in c.args.names.now) recorded _ _ (rw c.new-texts.ensures.same at c.in-Err-Failed.ensures.put_some) (c.in-Err-Failed.ensures.right c.in-Err-Failed.field-0-is)
 
 pub returns-in-Err-NoMemory-clause-kept : goal.returns-in-Err-NoMemory-clause-kept
 returns-in-Err-NoMemory-clause-kept g c = λ recorded.
-    spent_told (g.W.Wires.told c.follow_over.new.wires).log c.args.watch (names_in c.args.names.now) recorded _ _ c.in-Err-NoMemory.ensures.put_some
+    spent_told (g.W.Wires.told c.follow_over.new.wires).log c.args.watch (names_in c.args.names.now) recorded _ _ (rw c.new-texts.ensures.same at c.in-Err-NoMemory.ensures.put_some)
 
 pub returns-in-Ok-clause-tallied : goal.returns-in-Ok-clause-tallied
 returns-in-Ok-clause-tallied g c =
