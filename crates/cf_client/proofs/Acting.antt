@@ -15,6 +15,7 @@ use Rattle.cf_msg.specs.declared.msg.Msg.{Msg}
 use Rattle.cf_msg.specs.declared.msg.Msg.TheVariants.{Version, GetHeaders, GetData, GetCfheaders, GetCfilters}
 use Rattle.cf_peer.specs.declared.act.Act.TheVariants.{Send, Close}
 use Rattle.cf_peer.specs.declared.act.Act.{Act}
+use Rattle.cf_peer.specs.declared.mode.Mode.{Mode}
 use Rattle.cf_peer.specs.declared.peer.Cause.{Cause}
 use Rattle.cf_peer.specs.declared.peer.Peer.{Peer}
 use Rattle.cf_peer.specs.declared.peer.Range.{Range}
@@ -23,9 +24,9 @@ use Rattle.cf_wires.specs.Log.{Log}
 use Rattle.cf_peer.specs.Trail.{Trail, IsClientVersion, asks, part_of, trail, connected, own, Asked}
 use Rattle.cf_wires.specs.declared.event.Event.TheVariants.{Sent}
 use Rattle.cf_peer.specs.Asking.{FiltersOpen, NothingOpen, blocks_from, claims_asked, filters_asked, request}
-use Rattle.cf_peer.specs.Peer.{Holds, wants, is_idle_peer, asked_for_headers, asked_for_claims, asked_for_filters, asked_for_block}
+use Rattle.cf_peer.specs.Peer.{Holds, heard_out, wants, is_idle_peer, asked_for_headers, asked_for_claims, asked_for_filters, asked_for_block}
 use Rattle.cf_peer.proofs.Peers.{idle_request, asked_claims_holds, asked_filters_holds, asked_block_holds}
-use Rattle.cf_sync.specs.Fetching.{IsConnected, MaySend, IsNeeded, blocks_open, filters_open}
+use Rattle.cf_sync.specs.Fetching.{IsConnected, MaySendIn, IsNeeded, Rule, blocks_open, filters_open}
 use Rattle.cf_sync.specs.Kept.{AimsAt, OpensAt}
 use Rattle.cf_sync.proofs.Counted.{same_use}
 use Rattle.cf_sync.proofs.KeptOpens.{opens_block, opens_filters}
@@ -54,7 +55,7 @@ use Rattle.cf_place.specs.declared.place.Place.{Place}
 use Rattle.cf_place.specs.declared.place.Place.TheVariants.{Here}
 use Rattle.cf_place.specs.Places.{Keeps, nobody, after as done, AsksAbove, AsksFor, Goes, IsQuestion}
 use Rattle.cf_client.specs.Settled.{chain_at}
-use Rattle.cf_client.proofs.Best.{Furthest, Tries, in_turn}
+use Rattle.cf_client.proofs.Best.{Furthest, Tries, in_turn, rule_in}
 use Rattle.cf_client.proofs.Standing.{after-append, wants_goes, send_goes, keeps_at, asked_keeps, idle_free}
 use Rattle.cf_client.proofs.Spelled.{spelled_bytes}
 
@@ -155,7 +156,7 @@ sent_tracks before after acts log p m sendable same at aim tracks =
     (subst (λ (o : Option Msg). OpensAt after.opens p.0 (asks o (trail (done acts log) p.0))) (sym (spelled_bytes m sendable)) at) aim tracks)
 
 -- what is no question for filters leaves whether what is open is to be tested
-aim_kept : (before after : Seen) (l : Log) (p : PeerNo) (m : Msg) → IsSendable m → IsNoQuestion (Some m) → after.trials.aims p.0 ≡ before.trials.aims p.0 → Tracks before l
+pub aim_kept : (before after : Seen) (l : Log) (p : PeerNo) (m : Msg) → IsSendable m → IsNoQuestion (Some m) → after.trials.aims p.0 ≡ before.trials.aims p.0 → Tracks before l
     → IsConnected l p.0 → AimsAt (Sent p (bytes_of m) ∷ l) p.0 (after.trials.aims p.0)
 aim_kept before after l p m sendable none same tracks on =
     subst (λ (b : Bool). AimsAt (Sent p (bytes_of m) ∷ l) p.0 b) (sym same) (aims_other p (bytes_of m) l (Some m) (before.trials.aims p.0) (spelled_bytes m sendable) none (tracks.trials.aims p.0 on))
@@ -179,11 +180,11 @@ pub version_only : (m : Msg) → IsClientVersion m → IsNoQuestion (Some m)
 version_only (Version version services time to from nonce agent height relay) ours = λ filter start stop e. cc
 version_only m ours = absurd ours
 
-idle_at : {watch : List (List ℕ)} (places : List Place) (acts : List Act) (log : Log) (i : ℕ) (peer : Peer) → Goes watch places acts log → get_or places i nobody ≡ Here peer
+pub idle_at : {rule : Rule} (places : List Place) (acts : List Act) (log : Log) (i : ℕ) (peer : Peer) → Goes rule places acts log → get_or places i nobody ≡ Here peer
     → is_idle_peer peer ≡ true → request (trail (done acts log) i) ≡ NothingOpen
 idle_at places acts log i peer goes here idle = (idle_request peer (trail (done acts log) i) (keeps_at places acts log i peer goes here).holds idle).1
 
-pub headers_tracks : {watch : List (List ℕ)} (places : List Place) (acts : List Act) (log : Log) (s : Seen) (i : ℕ) (peer : Peer) (m : Msg) → Goes watch places acts log
+pub headers_tracks : {rule : Rule} (places : List Place) (acts : List Act) (log : Log) (s : Seen) (i : ℕ) (peer : Peer) (m : Msg) → Goes rule places acts log
     → get_or places i nobody ≡ Here peer → is_idle_peer peer ≡ true → IsQuestion (chain_at s i) m → Tracks s (done acts log)
     → Tracks s (done (acts ++ Send (record { 0 = i }) m ∷ []) log)
 headers_tracks places acts log s i peer m goes here idle question tracks =
@@ -192,7 +193,7 @@ headers_tracks places acts log s i peer m goes here idle question tracks =
     sent_tracks s s acts log (record { 0 = i }) m question.sendable (opened_self s i) (opens_asked s.opens i m t same.0 same.1 (tracks.opened i))
     (aim_kept s s (done acts log) (record { 0 = i }) m question.sendable (headers_only m (chain_at s i) question.asks) refl tracks) tracks
 
-pub claims_tracks : (places : List Place) (acts : List Act) (log : Log) (s after : Seen) (i common : ℕ) (peer : Peer) (span : Span) → Goes s.watch places acts log
+pub claims_tracks : {rule : Rule} (places : List Place) (acts : List Act) (log : Log) (s after : Seen) (i common : ℕ) (peer : Peer) (span : Span) → Goes rule places acts log
     → get_or places i nobody ≡ Here peer → is_idle_peer peer ≡ true → IsSendable (GetCfheaders 0 span.start span.stop) → HasOpened s after i
     → IsWish s.table s.claims s.verdicts s.opens i (chain_at s i) common (Claims span) → IsSameOpens s.opens after.opens → IsAimed i (Claims span) s.trials.aims after.trials.aims → Tracks s (done acts log)
     → Tracks after (done (acts ++ Send (record { 0 = i }) (GetCfheaders 0 span.start span.stop) ∷ []) log)
@@ -210,7 +211,7 @@ claims_tracks places acts log s after i common peer span goes here idle sendable
     (ap (λ (o : Option Chain). blocks_open (claims_asked span.start span.stop.0 o)) tip ∙ sym (ap blocks_open none)) (tracks.opened i)))
     (aim_kept s after l (record { 0 = i }) m sendable (λ filter start stop e. cc) aimed.here tracks) tracks
 
-pub filters_tracks : (places : List Place) (acts : List Act) (log : Log) (s after : Seen) (i common : ℕ) (peer : Peer) (span : Span) → Goes s.watch places acts log
+pub filters_tracks : {rule : Rule} (places : List Place) (acts : List Act) (log : Log) (s after : Seen) (i common : ℕ) (peer : Peer) (span : Span) → Goes rule places acts log
     → get_or places i nobody ≡ Here peer → is_idle_peer peer ≡ true → IsSendable (GetCfilters 0 span.start span.stop) → HasOpened s after i
     → IsWish s.table s.claims s.verdicts s.opens i (chain_at s i) common (Filters span) → OpensFilters s.opens after.opens i (blocks_of span.blocks.items) → common ≤ length (chain_at s i)
     → IsAimed i (Filters span) s.trials.aims after.trials.aims → Tracks s (done acts log)
@@ -238,7 +239,7 @@ one_named (h ∷ below) height block is up tip =
     let one : suc (length below) - length below ≡ 1 = omega arith in
     ap (λ (n : ℕ). blocks_from n (h ∷ below)) is ∙ ap (λ (k : ℕ). map block_hash_of (reverse (take k (h ∷ below)))) one ∙ ap (λ (x : Hash). x ∷ []) tip
 
-pub test_tracks : (places : List Place) (acts : List Act) (log : Log) (s after : Seen) (i common : ℕ) (peer : Peer) (trial : Trial) → Goes s.watch places acts log
+pub test_tracks : {rule : Rule} (places : List Place) (acts : List Act) (log : Log) (s after : Seen) (i common : ℕ) (peer : Peer) (trial : Trial) → Goes rule places acts log
     → get_or places i nobody ≡ Here peer → is_idle_peer peer ≡ true → IsSendable (GetCfilters 0 trial.height trial.block) → HasOpened s after i
     → IsTrying s.table s.claims s.trials.told i (chain_at s i) common (Test trial) → OpensFilters s.opens after.opens i (trial.block.0 ∷ [])
     → IsAimed i (Test trial) s.trials.aims after.trials.aims → Tracks s (done acts log)
@@ -259,7 +260,7 @@ test_tracks places acts log s after i common peer trial goes here idle sendable 
     (λ on1. subst (λ (b : Bool). AimsAt (Sent (record { 0 = i }) (bytes_of m) ∷ l) i b) (sym aimed.here)
     (aims_asked (record { 0 = i }) (bytes_of m) l 0 trial.height trial.block true (spelled_bytes m sendable) (aims_for_test l i trial.height trial.block.0 used.chain needed))) tracks
 
-pub block_tracks : (places : List Place) (acts : List Act) (log : Log) (s after : Seen) (i : ℕ) (peer : Peer) (hash : Hash32) (m : Msg) → Goes s.watch places acts log
+pub block_tracks : {rule : Rule} (places : List Place) (acts : List Act) (log : Log) (s after : Seen) (i : ℕ) (peer : Peer) (hash : Hash32) (m : Msg) → Goes rule places acts log
     → get_or places i nobody ≡ Here peer → is_idle_peer peer ≡ true → IsSendable m → AsksFor hash m → HasOpened s after i
     → OpensBlock s.opens after.opens i hash.0 → IsAimed i (Block hash) s.trials.aims after.trials.aims → Tracks s (done acts log)
     → Tracks after (done (acts ++ Send (record { 0 = i }) m ∷ []) log)
@@ -273,9 +274,9 @@ block_tracks places acts log s after i peer hash (GetData entries) goes here idl
 block_tracks places acts log s after i peer hash m goes here idle sendable asked opened opens aimed tracks = absurd asked
 
 -- for headers
-pub headers_goes : {watch : List (List ℕ)} (places : List Place) (acts : List Act) (log : Log) (s : Seen) (i : ℕ) (peer : Peer) (m : Msg)
-    → i < length places → Goes watch places acts log → get_or places i nobody ≡ Here peer → wants peer ≡ true → Tracks s (done acts log) → IsQuestion (chain_at s i) m
-    → Goes watch (set places i (Here (asked_for_headers peer))) (acts ++ Send (record { 0 = i }) m ∷ []) log
+pub headers_goes : {rule : Rule} (places : List Place) (acts : List Act) (log : Log) (s : Seen) (i : ℕ) (peer : Peer) (m : Msg)
+    → i < length places → Goes rule places acts log → get_or places i nobody ≡ Here peer → wants rule.mode peer ≡ true → Tracks s (done acts log) → IsQuestion (chain_at s i) m
+    → Goes rule (set places i (Here (asked_for_headers peer))) (acts ++ Send (record { 0 = i }) m ∷ []) log
 headers_goes places acts log s i peer m lt goes here is tracks question =
     wants_goes places acts log i peer (chain_at s i) m lt goes here is (own_tracked s (done acts log) i tracks (keeps_at places acts log i peer goes here).holds.on) question
 
@@ -284,71 +285,71 @@ abbrev pub range_in : Span → Range
 range_in span = record { stop = span.stop; parent = span.parent; blocks = span.blocks.items }
 
 -- for claims of filters
-pub claims_goes : (places : List Place) (acts : List Act) (log : Log) (s : Seen) (i : ℕ) (peer : Peer) (common : ℕ) (span : Span)
-    → i < length places → Goes s.watch places acts log → get_or places i nobody ≡ Here peer → is_idle_peer peer ≡ true → peer.heard ≡ true → Furthest s i common (Claims span) → Tries s i common (Claims span) → Tracks s (done acts log) → common ≤ length (chain_at s i)
+pub claims_goes : (mode : Mode) (places : List Place) (acts : List Act) (log : Log) (s : Seen) (i : ℕ) (peer : Peer) (common : ℕ) (span : Span)
+    → i < length places → Goes (rule_in mode s) places acts log → get_or places i nobody ≡ Here peer → is_idle_peer peer ≡ true → heard_out mode peer ≡ true → Furthest s i common (Claims span) → Tries s i common (Claims span) → Tracks s (done acts log) → common ≤ length (chain_at s i)
     → IsWish s.table s.claims s.verdicts s.opens i (chain_at s i) common (Claims span) → IsSendable (GetCfheaders 0 span.start span.stop)
-    → Goes s.watch (set places i (Here (asked_for_claims (range_in span) peer))) (acts ++ Send (record { 0 = i }) (GetCfheaders 0 span.start span.stop) ∷ []) log
-claims_goes places acts log s i peer common span lt goes here idle ended far tries tracks low wish sendable =
+    → Goes (rule_in mode s) (set places i (Here (asked_for_claims (range_in span) peer))) (acts ++ Send (record { 0 = i }) (GetCfheaders 0 span.start span.stop) ∷ []) log
+claims_goes mode places acts log s i peer common span lt goes here idle ended far tries tracks low wish sendable =
     let keeps : Keeps peer (part_of (done acts log) i) = keeps_at places acts log i peer goes here in
     let is : chain_at s i ≡ own (trail (done acts log) i) = own_tracked s (done acts log) i tracks keeps.holds.on in
-    let may = claims_send s (done acts log) i common span (chain_at s i) tracks is low (idle_free peer (part_of (done acts log) i) keeps idle) keeps.holds.clean wish in
+    let may = claims_send mode s (done acts log) i common span (chain_at s i) tracks is low (idle_free peer (part_of (done acts log) i) keeps idle) keeps.holds.clean wish in
     let sp = wish.1.1.0 in
     send_goes places acts log i (asked_for_claims (range_in span) peer) (GetCfheaders 0 span.start span.stop) lt goes sendable may.0
-    (in_turn places (done acts log) s i common (Claims span) (GetCfheaders 0 span.start span.stop) goes.stand tracks is (sym keeps.holds.hearing ∙ ended) far tries wish (refl, refl))
+    (in_turn mode places (done acts log) s i common (Claims span) (GetCfheaders 0 span.start span.stop) goes.stand tracks is (sym (keeps.holds.hearing mode) ∙ ended) far tries wish (refl, refl))
     (asked_keeps (asked_for_claims (range_in span) peer) peer (part_of (done acts log) i) (GetCfheaders 0 span.start span.stop) keeps
     (asked_claims_holds peer (trail (done acts log) i) (range_in span) 0 span.start sp.part keeps.holds idle (ap (λ (c : Chain). back_to span.stop.0 c) (sym is) ∙ sp.tip) sp.parent sp.blocks) refl refl refl)
 
 -- for filters
-pub filters_goes : (places : List Place) (acts : List Act) (log : Log) (s : Seen) (i : ℕ) (peer : Peer) (common : ℕ) (span : Span)
-    → i < length places → Goes s.watch places acts log → get_or places i nobody ≡ Here peer → is_idle_peer peer ≡ true → peer.heard ≡ true → Furthest s i common (Filters span) → Tries s i common (Filters span) → Tracks s (done acts log) → common ≤ length (chain_at s i)
+pub filters_goes : (mode : Mode) (places : List Place) (acts : List Act) (log : Log) (s : Seen) (i : ℕ) (peer : Peer) (common : ℕ) (span : Span)
+    → i < length places → Goes (rule_in mode s) places acts log → get_or places i nobody ≡ Here peer → is_idle_peer peer ≡ true → heard_out mode peer ≡ true → Furthest s i common (Filters span) → Tries s i common (Filters span) → Tracks s (done acts log) → common ≤ length (chain_at s i)
     → IsWish s.table s.claims s.verdicts s.opens i (chain_at s i) common (Filters span) → IsSendable (GetCfilters 0 span.start span.stop)
-    → Goes s.watch (set places i (Here (asked_for_filters span.blocks.items peer))) (acts ++ Send (record { 0 = i }) (GetCfilters 0 span.start span.stop) ∷ []) log
-filters_goes places acts log s i peer common span lt goes here idle ended far tries tracks low wish sendable =
+    → Goes (rule_in mode s) (set places i (Here (asked_for_filters span.blocks.items peer))) (acts ++ Send (record { 0 = i }) (GetCfilters 0 span.start span.stop) ∷ []) log
+filters_goes mode places acts log s i peer common span lt goes here idle ended far tries tracks low wish sendable =
     let keeps : Keeps peer (part_of (done acts log) i) = keeps_at places acts log i peer goes here in
     let is : chain_at s i ≡ own (trail (done acts log) i) = own_tracked s (done acts log) i tracks keeps.holds.on in
-    let may = filters_send s (done acts log) i common span (chain_at s i) tracks is low (idle_free peer (part_of (done acts log) i) keeps idle) keeps.holds.clean wish in
+    let may = filters_send mode s (done acts log) i common span (chain_at s i) tracks is low (idle_free peer (part_of (done acts log) i) keeps idle) keeps.holds.clean wish in
     let sp = wish.1.1.0 in
     send_goes places acts log i (asked_for_filters span.blocks.items peer) (GetCfilters 0 span.start span.stop) lt goes sendable may.0 (
       may.1,
-      in_turn places (done acts log) s i common (Filters span) (GetCfilters 0 span.start span.stop) goes.stand tracks is (sym keeps.holds.hearing ∙ ended) far tries wish (refl, refl),
+      in_turn mode places (done acts log) s i common (Filters span) (GetCfilters 0 span.start span.stop) goes.stand tracks is (sym (keeps.holds.hearing mode) ∙ ended) far tries wish (refl, refl),
     )
     (asked_keeps (asked_for_filters span.blocks.items peer) peer (part_of (done acts log) i) (GetCfilters 0 span.start span.stop) keeps
     (asked_filters_holds peer (trail (done acts log) i) span.blocks.items 0 span.start span.stop sp.part keeps.holds idle (ap (λ (c : Chain). back_to span.stop.0 c) (sym is) ∙ sp.tip) sp.blocks) refl refl refl)
 
 -- for a block
-pub block_goes : (places : List Place) (acts : List Act) (log : Log) (s : Seen) (i : ℕ) (peer : Peer) (common : ℕ) (hash : Hash32) (m : Msg)
-    → i < length places → Goes s.watch places acts log → get_or places i nobody ≡ Here peer → is_idle_peer peer ≡ true → peer.heard ≡ true → Furthest s i common (Block hash) → Tries s i common (Block hash) → Tracks s (done acts log) → common ≤ length (chain_at s i)
+pub block_goes : (mode : Mode) (places : List Place) (acts : List Act) (log : Log) (s : Seen) (i : ℕ) (peer : Peer) (common : ℕ) (hash : Hash32) (m : Msg)
+    → i < length places → Goes (rule_in mode s) places acts log → get_or places i nobody ≡ Here peer → is_idle_peer peer ≡ true → heard_out mode peer ≡ true → Furthest s i common (Block hash) → Tries s i common (Block hash) → Tracks s (done acts log) → common ≤ length (chain_at s i)
     → IsWish s.table s.claims s.verdicts s.opens i (chain_at s i) common (Block hash) → IsSendable m → AsksFor hash m
-    → Goes s.watch (set places i (Here (asked_for_block hash peer))) (acts ++ Send (record { 0 = i }) m ∷ []) log
-block_goes places acts log s i peer common hash (GetData entries) lt goes here idle ended far tries tracks low wish sendable asks =
+    → Goes (rule_in mode s) (set places i (Here (asked_for_block hash peer))) (acts ++ Send (record { 0 = i }) m ∷ []) log
+block_goes mode places acts log s i peer common hash (GetData entries) lt goes here idle ended far tries tracks low wish sendable asks =
     let keeps : Keeps peer (part_of (done acts log) i) = keeps_at places acts log i peer goes here in
     let is : chain_at s i ≡ own (trail (done acts log) i) = own_tracked s (done acts log) i tracks keeps.holds.on in
-    let may = block_send s (done acts log) i common hash (chain_at s i) tracks is low (idle_free peer (part_of (done acts log) i) keeps idle) wish in
+    let may = block_send mode s (done acts log) i common hash (chain_at s i) tracks is low (idle_free peer (part_of (done acts log) i) keeps idle) wish in
     send_goes places acts log i (asked_for_block hash peer) (GetData entries) lt goes sendable
-    (subst (λ (es : List Entry). MaySend (done acts log) i (GetData es)) (sym asks) may.0) (
+    (subst (λ (es : List Entry). MaySendIn mode (done acts log) i (GetData es)) (sym asks) may.0) (
       subst (λ (es : List Entry). IsNeeded s.watch (done acts log) i (GetData es)) (sym asks) may.1,
-      in_turn places (done acts log) s i common (Block hash) (GetData entries) goes.stand tracks is (sym keeps.holds.hearing ∙ ended) far tries wish asks,
+      in_turn mode places (done acts log) s i common (Block hash) (GetData entries) goes.stand tracks is (sym (keeps.holds.hearing mode) ∙ ended) far tries wish asks,
     )
     (asked_keeps (asked_for_block hash peer) peer (part_of (done acts log) i) (GetData entries) keeps
     (subst (λ (es : List Entry). Holds (asked_for_block hash peer) (Asked (GetData es) ∷ trail (done acts log) i)) (sym asks) (asked_block_holds peer (trail (done acts log) i) hash keeps.holds idle)) refl refl refl)
-block_goes places acts log s i peer common hash m lt goes here idle ended far tries tracks low wish sendable asks = absurd asks
+block_goes mode places acts log s i peer common hash m lt goes here idle ended far tries tracks low wish sendable asks = absurd asks
 
 -- for a filter that is to be tested
-pub test_goes : (places : List Place) (acts : List Act) (log : Log) (s : Seen) (i : ℕ) (peer : Peer) (common : ℕ) (trial : Trial)
-    → i < length places → Goes s.watch places acts log → get_or places i nobody ≡ Here peer → is_idle_peer peer ≡ true → peer.heard ≡ true → Furthest s i common (Test trial)
+pub test_goes : (mode : Mode) (places : List Place) (acts : List Act) (log : Log) (s : Seen) (i : ℕ) (peer : Peer) (common : ℕ) (trial : Trial)
+    → i < length places → Goes (rule_in mode s) places acts log → get_or places i nobody ≡ Here peer → is_idle_peer peer ≡ true → heard_out mode peer ≡ true → Furthest s i common (Test trial)
     → Tries s i common (Test trial) → Tracks s (done acts log)
     → IsWish s.table s.claims s.verdicts s.opens i (chain_at s i) common (Test trial) → IsSendable (GetCfilters 0 trial.height trial.block)
-    → Goes s.watch (set places i (Here (asked_for_filters (trial.block ∷ []) peer))) (acts ++ Send (record { 0 = i }) (GetCfilters 0 trial.height trial.block) ∷ []) log
-test_goes places acts log s i peer common trial lt goes here idle ended far tries tracks wish sendable =
+    → Goes (rule_in mode s) (set places i (Here (asked_for_filters (trial.block ∷ []) peer))) (acts ++ Send (record { 0 = i }) (GetCfilters 0 trial.height trial.block) ∷ []) log
+test_goes mode places acts log s i peer common trial lt goes here idle ended far tries tracks wish sendable =
     let keeps : Keeps peer (part_of (done acts log) i) = keeps_at places acts log i peer goes here in
     let t = trail (done acts log) i in
     let is : chain_at s i ≡ own t = own_tracked s (done acts log) i tracks keeps.holds.on in
-    let may = test_send s (done acts log) i common trial (chain_at s i) tracks is (idle_free peer (part_of (done acts log) i) keeps idle) keeps.holds.clean tries in
+    let may = test_send mode s (done acts log) i common trial (chain_at s i) tracks is (idle_free peer (part_of (done acts log) i) keeps idle) keeps.holds.clean tries in
     let needed = test_needed s (done acts log) i common trial (chain_at s i) tracks is tries in
     let up = (test_part s (done acts log) i common trial (chain_at s i) is tries).above in
     send_goes places acts log i (asked_for_filters (trial.block ∷ []) peer) (GetCfilters 0 trial.height trial.block) lt goes sendable may.0 (
       may.1,
-      in_turn places (done acts log) s i common (Test trial) (GetCfilters 0 trial.height trial.block) goes.stand tracks is (sym keeps.holds.hearing ∙ ended) far tries wish (refl, refl),
+      in_turn mode places (done acts log) s i common (Test trial) (GetCfilters 0 trial.height trial.block) goes.stand tracks is (sym (keeps.holds.hearing mode) ∙ ended) far tries wish (refl, refl),
     )
     (asked_keeps (asked_for_filters (trial.block ∷ []) peer) peer (part_of (done acts log) i) (GetCfilters 0 trial.height trial.block) keeps
     (asked_filters_holds peer t (trial.block ∷ []) 0 trial.height trial.block needed.part keeps.holds idle needed.tip

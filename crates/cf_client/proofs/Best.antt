@@ -8,11 +8,12 @@ use Rattle.cf_headers.specs.Chain.{Chain}
 use Rattle.cf_headers.specs.Heights.{common_of}
 use Rattle.cf_headers.specs.Store.{rank, IsBest as IsBestOf}
 use Rattle.cf_msg.specs.declared.msg.Msg.{Msg}
+use Rattle.cf_peer.specs.declared.mode.Mode.{Mode}
 use Rattle.cf_peer.specs.declared.peer.Peer.{Peer}
 use Rattle.cf_wires.specs.Log.{Log}
-use Rattle.cf_peer.specs.Trail.{Trail, Part, part_of, trail, connected, own, heard}
+use Rattle.cf_peer.specs.Trail.{Trail, Part, part_of, trail, connected, own, heard_in}
 use Rattle.cf_peer.specs.Asking.{SameUse}
-use Rattle.cf_sync.specs.Fetching.{AreShorterBefore, IsConnected, IsBest, counted_part}
+use Rattle.cf_sync.specs.Fetching.{AreShorterBefore, IsConnected, IsBest, Rule, counted_part}
 use Rattle.cf_sync.specs.Due.{IsInTurn, Puts}
 use Rattle.cf_sync.proofs.Counted.{same_use}
 use Rattle.cf_hear.specs.Seen.{Seen}
@@ -113,6 +114,10 @@ best_back places log s chain stand tracks best = by best.shown where
 
 -- ---- what is called for
 
+-- what a client of this mode goes by that has seen this
+abbrev pub rule_in : Mode → Seen → Rule
+rule_in mode s = record { watch = s.watch; mode = mode }
+
 -- a question goes as far as it may within what a peer's chain shares with the best one
 pub record Furthest (s : Seen) (i common : ℕ) (wish : Wish) : Type 0 where
   pub best : PeerNo
@@ -129,9 +134,9 @@ some_chain None low = absurd (omega (arith, low))
 some_chain (Some own) low = refl
 
 -- what a tracker wishes of a peer that was heard out it is its turn to be asked
-pub in_turn : (places : List Place) (log : Log) (s : Seen) (i common : ℕ) (wish : Wish) (m : Msg) → PlacesStand places log → Tracks s log → chain_at s i ≡ own (trail log i) → heard (trail log i) ≡ true
-    → Furthest s i common wish → Tries s i common wish → IsWish s.table s.claims s.verdicts s.opens i (chain_at s i) common wish → Puts wish m → IsInTurn s.watch log i m
-in_turn places log s i common wish m stand tracks mine ended far tries wished puts =
+pub in_turn : (mode : Mode) (places : List Place) (log : Log) (s : Seen) (i common : ℕ) (wish : Wish) (m : Msg) → PlacesStand places log → Tracks s log → chain_at s i ≡ own (trail log i) → heard_in mode (trail log i) ≡ true
+    → Furthest s i common wish → Tries s i common wish → IsWish s.table s.claims s.verdicts s.opens i (chain_at s i) common wish → Puts wish m → IsInTurn (rule_in mode s) log i m
+in_turn mode places log s i common wish m stand tracks mine ended far tries wished puts =
     let chain : Chain = chain_at s far.best.0 in
     let low : 0 < rank (s.chains far.best.0) = (let some = far.is.0 in omega (arith, some)) in
     record {

@@ -3,8 +3,9 @@ use Rattle.std.proofs.Common.{ℕ, []}
 use Rattle.cf_headers.specs.Chain.{Chain, NoHashClash}
 use Rattle.cf_headers.specs.declared.store.HeaderStore.{Ghosts}
 use Rattle.cf_match.specs.declared.matcher.Matcher.{Ghosts as Judges}
+use Rattle.cf_peer.specs.declared.mode.Mode.TheVariants.{Following}
 use Rattle.cf_wires.specs.Log.{Log}
-use Rattle.cf_sync.specs.Fetching.{AreBytes, IsBest, IsConnected, IsTestedThrough, Rightly}
+use Rattle.cf_sync.specs.Fetching.{AreBytes, IsBest, IsConnected, IsTestedThrough, RightlyIn}
 use Rattle.cf_sync.specs.Blame.{AreBlamed}
 use Rattle.cf_sync.specs.Sync.{IsHashed}
 use Rattle.cf_sync.proofs.Quieted.{are_blamed}
@@ -15,12 +16,12 @@ use Rattle.cf_client.proofs.Naming.{blameless_seen}
 use Rattle.cf_client.proofs.Reporting.{tested_of}
 
 pub blameless : {H M : Type 0} {g : Ghosts H} {j : Judges M} (c : Client H M g j) (log : Log) → Reflects c log
-    → Rightly log → IsBlameless log
+    → RightlyIn Following log → IsBlameless log
 blameless c log reflects right = blameless_seen (seen_by c) log reflects.tracks reflects.unexposed right
 
 -- at a quiet moment, once what each claims of the fetched blocks on which they differ was tested
 pub has_blamed : {H M : Type 0} {g : Ghosts H} {j : Judges M} (c : Client H M g j) (log : Log) (chain : Chain)
-    → Reflects c log → AreBytes log → Rightly log → NoHashClash (IsHashed log [])
+    → Reflects c log → AreBytes log → RightlyIn Following log → NoHashClash (IsHashed log [])
     → IsBest log chain → ((p : ℕ) → IsConnected log p → IsTestedThrough log chain p) → AreBlamed log chain
 has_blamed c log chain reflects bytes right clash best through = are_blamed log chain bytes clash best through
     (blameless c log reflects right)
@@ -30,5 +31,5 @@ pub blames_now : {H M : Type 0} {g : Ghosts H} {j : Judges M} (c : Client H M g 
     → HasBlamed log
 blames_now c log reflects bytes right clash quiet chain best =
     has_blamed c log chain reflects bytes right clash best
-    (λ p on. tested_of c.places.items log (seen_by c) chain reflects.places reflects.tracks (c.settled reflects.alive)
+    (λ p on. tested_of c.mode c.places.items log (seen_by c) chain reflects.places reflects.tracks (c.settled reflects.alive)
     (best_back c.places.items log (seen_by c) chain reflects.places reflects.tracks best) p on (quiet p))

@@ -12,6 +12,7 @@ use Rattle.cf_frame.specs.Stream.{StreamRead, read_stream}
 use Rattle.cf_headers.specs.Chain.{Hash, IsIn}
 use Rattle.cf_msg.specs.declared.msg.Msg.{Msg}
 use Rattle.cf_peer.specs.declared.act.Act.{Act}
+use Rattle.cf_peer.specs.declared.mode.Mode.{Mode}
 use Rattle.cf_peer.specs.declared.peer.Peer.{Peer}
 use Rattle.cf_peer.specs.Acts.{IsDoable}
 use Rattle.cf_peer.specs.Peer.{calm}
@@ -24,7 +25,7 @@ use Rattle.cf_frame.specs.declared.frame.FrameFault.{FrameFault}
 use Rattle.cf_wires.specs.declared.event.Delivery.TheVariants.{Got}
 use Rattle.cf_wires.specs.declared.event.Event.TheVariants.{Closed, Took}
 use Rattle.cf_wires.specs.Log.{Log}
-use Rattle.cf_sync.specs.Fetching.{IsOmitting}
+use Rattle.cf_sync.specs.Fetching.{IsOmitting, Rule, once}
 use Rattle.cf_sync.specs.Planned.{IsSameGiven}
 use Rattle.cf_sync.proofs.Counted.{same_use}
 use Rattle.cf_sync.proofs.Idle.{BringsNothing, rest_brings_nothing, rest_claims_nothing}
@@ -107,10 +108,10 @@ after_all : (one two : List Act) (log : Log) → after (one ++ two) log ≡ afte
 after_all [] two log = refl
 after_all (a ∷ one) two log = after_all one two (entry_of a ∷ log)
 
-allowed_all : (watch : List (List ℕ)) (one two : List Act) (log : Log) → Allowed watch one log
-    → Allowed watch two (after one log) → Allowed watch (one ++ two) log
-allowed_all watch [] two log may more = more
-allowed_all watch (a ∷ one) two log may more = (may.0, allowed_all watch one two (entry_of a ∷ log) may.1 more)
+allowed_all : (rule : Rule) (one two : List Act) (log : Log) → Allowed rule one log
+    → Allowed rule two (after one log) → Allowed rule (one ++ two) log
+allowed_all rule [] two log may more = more
+allowed_all rule (a ∷ one) two log may more = (may.0, allowed_all rule one two (entry_of a ∷ log) may.1 more)
 
 doable_all : (acts : List Act) (qs : List ℕ) → ((q : ℕ) → IsIn q qs → q < 9) → All IsDoable acts
     → All IsDoable (acts ++ map shut_act qs)
@@ -185,7 +186,7 @@ module _ (d : Desk) (p : PeerNo) (piece : List ℕ) (old : Peer) (mid : Desk) (b
       ∙ ap (λ (ms : List Msg). ms ++ (rs ++ more)) (sym sent_before)
       ∙ sym (ap (λ (y : Part). replied y.trail ++ (rs ++ more)) at_next)
 
-  done : {watch : List (List ℕ)} → RepliesDone watch p rs next
+  done : {rule : Rule} → RepliesDone rule p rs next
   done = replies_done p rs more next (number_within d.places log p.0 stand lt) x.are.each
       (sendable_by p rs (subst (All IsDoable) x.acts doable)) up
       (met_late rs x.are.after_version) due where
@@ -198,7 +199,7 @@ module _ (d : Desk) (p : PeerNo) (piece : List ℕ) (old : Peer) (mid : Desk) (b
   sent = after (sends p rs) next
 
   at_end : part_of sent p.0 ≡ asked_all rs end
-  at_end = (done {watch = []}).here ∙ ap (asked_all rs) at_next
+  at_end = (done {rule = once []}).here ∙ ap (asked_all rs) at_next
 
   first : IsRepliedFirst (trail sent p.0)
   first sound =
@@ -251,7 +252,7 @@ module _ (d : Desk) (p : PeerNo) (piece : List ℕ) (old : Peer) (mid : Desk) (b
       ∙ ap (λ (c : Table). c block) (rest.0 ∙ use_so_far.claiming) ∙ sym (x.gains.follows.claims block) ∙ is
 
   others_same : (q : ℕ) → q ≢ p.0 → part_of sent q ≡ part_of log q
-  others_same q other = (done {watch = []}).others q other ∙ got_others p piece q (part_of log q) other
+  others_same q other = (done {rule = once []}).others q other ∙ got_others p piece q (part_of log q) other
 
   guilty_here : (claim : Claim) → mid.seen.claims p.0 block ≡ Some claim → claim.hash.0 ≡ filter → IsGuilty sent p.0
   guilty_here claim is this =
@@ -262,7 +263,7 @@ module _ (d : Desk) (p : PeerNo) (piece : List ℕ) (old : Peer) (mid : Desk) (b
         number = omega (
           arith,
           number_within d.places log p.0 stand lt,
-          (done {watch = []}).count,
+          (done {rule = once []}).count,
         );
         omits = omits;
         replied = inr (omits, first);
@@ -280,7 +281,7 @@ module _ (d : Desk) (p : PeerNo) (piece : List ℕ) (old : Peer) (mid : Desk) (b
       let omits = omitting q claim (ap (λ (y : Part). connected y.trail) same
       ∙ on) (ap (λ (y : Part). claims (counted y.trail) block) same ∙ mine) this in
       record {
-        number = omega (arith, in_use d.places q stays, stand.count, (done {watch = []}).count);
+        number = omega (arith, in_use d.places q stays, stand.count, (done {rule = once []}).count);
         omits = omits;
         replied = inl (subst (λ (y : Part). IsReplied y.trail) (sym same)
             (answered_at (place_at d.places q) (part_of log q) (stand.each q) stays));
@@ -321,28 +322,28 @@ module _ (d : Desk) (p : PeerNo) (piece : List ℕ) (old : Peer) (mid : Desk) (b
               ∙ c.here) c.claimed.mine c.claimed.this
         ]
 
-    shut : {watch : List (List ℕ)} → AreShut watch qs sent
-    shut {watch = watch} = are_shut watch qs sent shuts.rising guilty
+    shut : {rule : Rule} → AreShut rule qs sent
+    shut {rule = rule} = are_shut rule qs sent shuts.rising guilty
 
     abbrev last : Log
     last = after (map shut_act qs) sent
 
     off : (q : ℕ) → IsIn q qs → connected (trail last q) ≡ false
-    off q i = ap (λ (y : Part). connected y.trail) ((shut {watch = []}).here q i)
+    off q i = ap (λ (y : Part). connected y.trail) ((shut {rule = once []}).here q i)
 
     left : (q : ℕ) → (IsIn q qs → ⊥) → q ≢ p.0
     left q out this = out (subst (λ (k : ℕ). IsIn k qs) (sym this) p_closed)
 
     as_before : (q : ℕ) → (IsIn q qs → ⊥) → part_of last q ≡ part_of log q
-    as_before q out = (shut {watch = []}).others q out ∙ others_same q (left q out)
+    as_before q out = (shut {rule = once []}).others q out ∙ others_same q (left q out)
 
     places_stand : PlacesStand now.places last
     places_stand = record {
       count = shuts.count ∙ ap (λ (ps : List Place). length ps) placed ∙ length-set d.places p.0 (Here peer)
           ∙ stand.count
-          ∙ ap (λ (n : ℕ). n + 1) (sym ((shut {watch = []}).dials ∙ (done {watch = []}).count));
+          ∙ ap (λ (n : ℕ). n + 1) (sym ((shut {rule = once []}).dials ∙ (done {rule = once []}).count));
       omitted = λ q is. elim (number_in q qs) [
-        | inl i ↦ (shut {watch = []}).omitted q i
+        | inl i ↦ (shut {rule = once []}).omitted q i
         | inr out ↦ omitted_acts (map shut_act qs) sent q (omitted_acts (sends p rs) next q
             (stand.omitted q (sym ((shuts.kept q out).0 ∙ at_other q (left q out)) ∙ is)))
       ];
@@ -354,7 +355,7 @@ module _ (d : Desk) (p : PeerNo) (piece : List ℕ) (old : Peer) (mid : Desk) (b
       ];
       each = λ q. elim (number_in q qs) [
         | inl i ↦ subst (λ (y : Place). Fits y (part_of last q)) (sym (shuts.gone q i).0)
-            (subst (λ (y : Part). Fits shut_place y) (sym ((shut {watch = []}).here q i))
+            (subst (λ (y : Part). Fits shut_place y) (sym ((shut {rule = once []}).here q i))
             (shut_lost (trail sent q) (guilty q i).omits.there))
         | inr out ↦ subst (λ (y : Place). Fits y (part_of last q)) (sym ((shuts.kept q out).0
             ∙ at_other q (left q out)))
@@ -365,8 +366,8 @@ module _ (d : Desk) (p : PeerNo) (piece : List ℕ) (old : Peer) (mid : Desk) (b
     brought : IsSameBrought sent last
     brought = record {
       blocks = λ q. elim (number_in q qs) [
-        | inl i ↦ ap (λ (y : Part). fetched (counted y.trail)) ((shut {watch = []}).here q i)
-        | inr out ↦ ap (λ (y : Part). fetched (counted y.trail)) ((shut {watch = []}).others q out)
+        | inl i ↦ ap (λ (y : Part). fetched (counted y.trail)) ((shut {rule = once []}).here q i)
+        | inr out ↦ ap (λ (y : Part). fetched (counted y.trail)) ((shut {rule = once []}).others q out)
       ];
       filters = shut_gave qs sent;
     }
@@ -409,19 +410,19 @@ module _ (d : Desk) (p : PeerNo) (piece : List ℕ) (old : Peer) (mid : Desk) (b
               )
         ])
         brought (trials_same last mid.seen.trials now.seen.trials shuts.trials.paid shuts.trials.told
-        shuts.trials.aims ((shut {watch = []}).trials mid.seen.trials read.trials)) read
+        shuts.trials.aims ((shut {rule = once []}).trials mid.seen.trials read.trials)) read
 
     ends : after now.acts next ≡ last
     ends = ap (λ (xs : List Act). after xs next) (shuts.added ∙ ap (λ (xs : List Act). xs ++ map shut_act qs) x.acts)
         ∙ after_all (sends p rs) (map shut_act qs) next
 
-    exposed_stands : IsUnexposed now.seen → Stands now next
-    exposed_stands unexposed = record {
+    exposed_stands : (mode : Mode) → IsUnexposed now.seen → Stands mode now next
+    exposed_stands mode unexposed = record {
       goes = record {
         stand = subst (PlacesStand now.places) (sym ends) places_stand;
-        allowed = subst (λ (xs : List Act). Allowed now.seen.watch xs next) (sym (shuts.added
+        allowed = subst (λ (xs : List Act). Allowed (record { watch = now.seen.watch; mode = mode }) xs next) (sym (shuts.added
             ∙ ap (λ (xs : List Act). xs ++ map shut_act qs) x.acts))
-            (allowed_all now.seen.watch (sends p rs) (map shut_act qs) next done.allowed shut.allowed);
+            (allowed_all (record { watch = now.seen.watch; mode = mode }) (sends p rs) (map shut_act qs) next done.allowed shut.allowed);
       };
       tracks = subst (Tracks now.seen) (sym ends) tracked;
       unexposed = unexposed;
@@ -512,14 +513,14 @@ shut_order block filter mid now order shuts = record {
   right_on (Here peer) a b same right = right_same peer.request a b same right
   right_on (Lost loss) a b same right = tt
 
-pub exposed_moves : (d : Desk) (p : PeerNo) (piece : List ℕ) (old peer : Peer) (mid now : Desk) (block filter : Hash)
+pub exposed_moves : (mode : Mode) (d : Desk) (p : PeerNo) (piece : List ℕ) (old peer : Peer) (mid now : Desk) (block filter : Hash)
     → p.0 < length d.places → d.acts ≡ [] → IsInOrder d → get_or d.places p.0 nobody ≡ Here old
     → HearsExposed p piece old d.seen mid.seen d.acts mid.acts block filter
     → HearsUnexposed p old d.seen (IsExposing mid.seen p.0 block filter) → IsChanged d.seen mid.seen p.0 (Here peer)
     → mid.places ≡ set d.places p.0 (Here peer)
     → All IsDoable mid.acts → (calm old ≡ true → calm peer ≡ true) → Shuts block filter mid now
-    → Moves (Taking (Got p piece)) d now
-exposed_moves d p piece old peer mid now block filter lt none order here heard unexposes changed placed doable calms
+    → Moves mode (Taking (Got p piece)) d now
+exposed_moves mode d p piece old peer mid now block filter lt none order here heard unexposes changed placed doable calms
     shuts =
     let middle : IsInOrder mid = record {
       few = omega (arith, order.few, ap (λ (ps : List Place). length ps) placed, length-set d.places p.0 (Here peer));
@@ -539,8 +540,8 @@ exposed_moves d p piece old peer mid now block filter lt none order here heard u
           (IsExposing mid.seen p.0 block filter) here stand tracks unexposes stood.unexposed in
           let clear = nobody_exposed p.0 block filter mid now exposing up (λ q here_too. in_use mid.places q here_too)
           (λ q. sym (middle.entered q)) (claimed_there d mid p log tracks changed) shuts in
-          subst (Stands now) (sym is) (exposed_stands d p piece old mid block filter log none here lt stand tracks
-          heard doable peer now placed changed.others order shuts clear);
+          subst (Stands mode now) (sym is) (exposed_stands d p piece old mid block filter log none here lt stand tracks
+          heard doable peer now placed changed.others order shuts mode clear);
       order = shut_order block filter mid now middle shuts;
       watch = shuts.watch ∙ changed.watch;
       more = extends_none d.acts now.acts none;
@@ -556,12 +557,12 @@ exposed_moves d p piece old peer mid now block filter lt none order here heard u
     }
 
 -- what was told is in order
-pub exposed_told : (d : Desk) (p : PeerNo) (piece : List ℕ) (old peer : Peer) (mid now : Desk) (block filter : Hash)
+pub exposed_told : (mode : Mode) (d : Desk) (p : PeerNo) (piece : List ℕ) (old peer : Peer) (mid now : Desk) (block filter : Hash)
     (log : Log)
     → p.0 < length d.places → d.acts ≡ [] → IsInOrder d → get_or d.places p.0 nobody ≡ Here old
     → HearsExposed p piece old d.seen mid.seen d.acts mid.acts block filter
     → IsChanged d.seen mid.seen p.0 (Here peer) → mid.places ≡ set d.places p.0 (Here peer) → All IsDoable mid.acts
-    → Shuts block filter mid now → Stands d log → AreTold now.acts
-exposed_told d p piece old peer mid now block filter log lt none order here heard changed placed doable shuts stood =
+    → Shuts block filter mid now → Stands mode d log → AreTold now.acts
+exposed_told mode d p piece old peer mid now block filter log lt none order here heard changed placed doable shuts stood =
     shuts_told d p piece old mid block filter log none here lt (start_places d log none stood)
     (start_tracks d log none stood) heard doable peer now placed changed.others order shuts

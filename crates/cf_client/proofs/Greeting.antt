@@ -11,13 +11,15 @@ use Rattle.cf_msg.specs.declared.msg.Msg.{Msg}
 use Rattle.cf_msg.specs.declared.msg.Msg.TheVariants.{Version}
 use Rattle.cf_peer.specs.declared.act.Act.{Act}
 use Rattle.cf_peer.specs.declared.act.Act.TheVariants.{Send, Close}
+use Rattle.cf_peer.specs.declared.mode.Mode.{Mode}
 use Rattle.cf_wires.specs.declared.event.Delivery.{Delivery}
 use Rattle.cf_wires.specs.declared.event.Delivery.TheVariants.{Got, Gone, Tick, Ended}
 use Rattle.cf_wires.specs.declared.event.Event.TheVariants.{Sent, Closed, Took}
 use Rattle.cf_peer.specs.Acts.{bytes_of}
 use Rattle.cf_wires.specs.Log.{Log}
 use Rattle.cf_peer.specs.Trail.{Trail, Part, Lost, Went, Shutting, part_of, trail, asks, spelled, with_item, heard_part, connected, greeted, is_version}
-use Rattle.cf_peer.specs.Asking.{MayAsk}
+use Rattle.cf_peer.specs.Asking.{MayAskIn}
+use Rattle.cf_sync.specs.Fetching.{Rule}
 use Rattle.cf_client.specs.declared.client.Client.{Client}
 use Rattle.cf_place.specs.declared.place.Place.{Place}
 use Rattle.cf_place.specs.declared.place.Place.TheVariants.{Here, Lost as LostPlace}
@@ -80,15 +82,15 @@ reflects_cut c p log cut is reflects = λ q. elim (cases_eq q p.0) [
 ]
 
 -- who was greeted is sent no version again
-asked_tells : (words : Words) (t : Trail) (m : Msg) → IsGreetedOn t → MayAsk t m → TellsWords words m
-asked_tells words t (Version version services time to from nonce agent height relay) is may = absurd (both_ways (greeted t) may.1 (is may.0))
-asked_tells words t m is may = tt
+asked_tells : (mode : Mode) (words : Words) (t : Trail) (m : Msg) → IsGreetedOn t → MayAskIn mode t m → TellsWords words m
+asked_tells mode words t (Version version services time to from nonce agent height relay) is may = absurd (both_ways (greeted t) may.1 (is may.0))
+asked_tells mode words t m is may = tt
 
 -- where each connected peer was greeted, no act that is allowed sends a version
-pub acts_tell : (watch : List (List ℕ)) (words : Words) (acts : List Act) (log : Log) → AreGreeted log → Allowed watch acts log → All (ActTells words) acts
-acts_tell watch words [] log all allowed = All-nil (ActTells words)
-acts_tell watch words (Send p m ∷ acts) log all allowed =
-    All-cons (ActTells words) (Send p m) acts (asked_tells words (trail log p.0) m (all p.0) allowed.0.2.of_its_part)
-    (acts_tell watch words acts (Sent p (bytes_of m) ∷ log) (sent_greeted log p (bytes_of m) all) allowed.1)
-acts_tell watch words (Close p cause ∷ acts) log all allowed =
-    All-cons (ActTells words) (Close p cause) acts tt (acts_tell watch words acts (Closed p ∷ log) (closed_greeted log p all) allowed.1)
+pub acts_tell : (rule : Rule) (words : Words) (acts : List Act) (log : Log) → AreGreeted log → Allowed rule acts log → All (ActTells words) acts
+acts_tell rule words [] log all allowed = All-nil (ActTells words)
+acts_tell rule words (Send p m ∷ acts) log all allowed =
+    All-cons (ActTells words) (Send p m) acts (asked_tells rule.mode words (trail log p.0) m (all p.0) allowed.0.2.of_its_part)
+    (acts_tell rule words acts (Sent p (bytes_of m) ∷ log) (sent_greeted log p (bytes_of m) all) allowed.1)
+acts_tell rule words (Close p cause ∷ acts) log all allowed =
+    All-cons (ActTells words) (Close p cause) acts tt (acts_tell rule words acts (Closed p ∷ log) (closed_greeted log p all) allowed.1)

@@ -5,7 +5,7 @@ use Rattle.std.proofs.lemmas.Grind.{common_steps}
 use Rattle.std.proofs.lemmas.Bool.{cases_eq, cases_lt}
 use Rattle.std.proofs.lemmas.List.{length-map, length-append, take_all}
 use Rattle.std.proofs.lemmas.List.Sums.{sum_by_more}
-use Rattle.std.specs.Prelude.{IsSome, is_none}
+use Rattle.std.specs.Prelude.{◌==◌, IsSome, is_none}
 use Rattle.std.specs.List.{sum_by}
 use Rattle.cf_bytes.specs.declared.hash.Hash32.{Hash32}
 use Rattle.cf_block.specs.declared.tx.Block.{Block}
@@ -25,17 +25,18 @@ use Rattle.cf_hear.specs.Seen.{Seen}
 use Rattle.cf_hear.specs.Tracks.{Tracks, chain_kept}
 use Rattle.cf_match.specs.declared.job.Job.{Job}
 use Rattle.cf_msg.specs.declared.msg.Msg.{Msg}
-use Rattle.cf_msg.specs.declared.msg.Msg.TheVariants.{GetHeaders, Headers, GetData, Block as BlockMessage, GetCfheaders, Cfheaders, GetCfilters, Cfilter}
+use Rattle.cf_msg.specs.declared.msg.Msg.TheVariants.{Ping, Pong, GetHeaders, Headers, GetData, Block as BlockMessage, GetCfheaders, Cfheaders, GetCfilters, Cfilter}
+use Rattle.cf_peer.specs.declared.mode.Mode.TheVariants.{Following}
 use Rattle.cf_peer.specs.Held.{count_came}
 use Rattle.cf_peer.specs.Peer.{aged, request_of}
 use Rattle.cf_peer.specs.Trail.{Trail, Part, Called, Said, Refused, Asked, Passed, Lost, part_of, trail, connected, ready, own}
-use Rattle.cf_peer.specs.Asking.{OpenRequest, NothingOpen, HeadersOpen, ClaimsOpen, FiltersOpen, BlockOpen, is_answer_of, is_wanted, blocks_from, claims_asked, filters_asked, filters_left, filter_of, request, request_for, request_after, age, claims, claims_after, verdict, counted, fetched, given, MayAsk}
-use Rattle.cf_sync.specs.Fetching.{Rightly, HoldsFetched}
+use Rattle.cf_peer.specs.Asking.{OpenRequest, NothingOpen, HeadersOpen, ClaimsOpen, FiltersOpen, BlockOpen, PingOpen, is_answer_of, is_wanted, blocks_from, claims_asked, filters_asked, filters_left, filter_of, request, request_for, request_after, age, claims, claims_after, verdict, counted, fetched, given, MayAskIn}
+use Rattle.cf_sync.specs.Fetching.{RightlyIn, HoldsFetched}
 use Rattle.cf_sync.specs.Honesty.{was_called}
 use Rattle.cf_sync.specs.Kept.{HoldsClaims, HoldsGiven, HoldsOutputs, claims_kept}
 use Rattle.cf_sync.proofs.Answered.{given_wide}
 use Rattle.cf_sync.proofs.Listed.{in_left, in_right}
-use Rattle.cf_sync.proofs.Remembers.{AskedRightly, asked_rightly}
+use Rattle.cf_sync.proofs.Remembers.{AskedRightlyIn, asked_rightly_in}
 use Rattle.cf_tables.specs.Held.{CountsBlocks, CountsOutputs, CountsVerdicts}
 use Rattle.cf_wires.specs.Log.{Log, tally_of}
 use Rattle.cf_client.specs.declared.held.Held.{Held}
@@ -320,6 +321,7 @@ aged_came HeadersOpen a = refl
 aged_came (ClaimsOpen stop parent blocks) a = refl
 aged_came (FiltersOpen left came) a = refl
 aged_came (BlockOpen block) a = refl
+aged_came (PingOpen number) a = refl
 
 fits_came : (place : Place) (part : Part) → Fits place part → came_at place ≡ length (filters_kept part.trail)
 fits_came (Here peer) part k =
@@ -354,6 +356,7 @@ asked_in HeadersOpen = 0
 asked_in (ClaimsOpen stop parent blocks) = 0
 asked_in (FiltersOpen left came) = length left + length came
 asked_in (BlockOpen block) = 0
+asked_in (PingOpen number) = 0
 
 asked_after : (m : Msg) (r : OpenRequest) → asked_in (request_after m r) ≤ asked_in r
 unfolding asked_in
@@ -371,12 +374,16 @@ asked_after (BlockMessage b) (BlockOpen wanted) = by (is_wanted b wanted) where
   by : (x : Bool) → asked_in (if x then NothingOpen else BlockOpen wanted) ≤ 0
   by true = omega arith
   by false = omega arith
+asked_after (Pong number) (PingOpen wanted) = by (number == wanted) where
+  by : (x : Bool) → asked_in (if x then NothingOpen else PingOpen wanted) ≤ 0
+  by true = omega arith
+  by false = omega arith
 asked_after m r = omega arith
 
 range_short : (start : ℕ) (part : Chain) → 1 ≤ start → start ≤ length part → length part - start < 1000 → length (blocks_from start part) ≤ 1000
 range_short start part low high bound = grind (arith, common_steps)
 
-asked_for : (m : Msg) (t : Trail) → MayAsk t m → asked_in (request t) ≤ 1000 → asked_in (request_for m (own t) (request t)) ≤ 1000
+asked_for : (m : Msg) (t : Trail) → MayAskIn Following t m → asked_in (request t) ≤ 1000 → asked_in (request_for m (own t) (request t)) ≤ 1000
 unfolding asked_in
 asked_for (GetHeaders version locator stop) t may few = omega arith
 asked_for (GetCfheaders filter start stop) t may few = by (back_to stop.0 (own t)) where
@@ -389,9 +396,10 @@ asked_for (GetCfilters filter start stop) t may few =
     subst (λ (o : Option Chain). asked_in (filters_asked start o) ≤ 1000) (sym range.tip) (omega (arith, short))
 asked_for (GetData []) t may few = few
 asked_for (GetData (entry ∷ more)) t may few = omega arith
+asked_for (Ping number) t may few = omega arith
 asked_for m t may few = few
 
-few_asked : (t : Trail) → AskedRightly t → asked_in (request t) ≤ 1000
+few_asked : (t : Trail) → AskedRightlyIn Following t → asked_in (request t) ≤ 1000
 unfolding asked_in
 few_asked [] right = omega arith
 few_asked (Called ∷ t) right = omega arith
@@ -411,8 +419,9 @@ came_few HeadersOpen few = omega arith
 came_few (ClaimsOpen stop parent blocks) few = omega arith
 came_few (FiltersOpen left came) few = omega (arith, few)
 came_few (BlockOpen block) few = omega arith
+came_few (PingOpen number) few = omega arith
 
-kept_few : (t : Trail) → AskedRightly t → length (filters_kept t) ≤ thousand_if (is_giving t)
+kept_few : (t : Trail) → AskedRightlyIn Following t → length (filters_kept t) ≤ thousand_if (is_giving t)
 kept_few t right = by (connected t) where
   by : (b : Bool) → length (if b then filters_in (request t) else []) ≤ thousand_if (b && is_for_filters (request t))
   by true = came_few (request t) (few_asked t right)
@@ -429,8 +438,8 @@ thousand_below f test each (suc n) =
       by true le = omega (arith, le)
       by false le = omega (arith, le)
 
-pub few_filters : (log : Log) → Rightly log → length (of_all filters_kept log) ≤ 1000 * count_giving log
-few_filters log right = thousand_below (λ (p : ℕ). filters_kept (trail log p)) (λ (p : ℕ). is_giving (trail log p)) (λ p. kept_few (trail log p) (asked_rightly log p right)) ((tally_of log).dials + 1)
+pub few_filters : (log : Log) → RightlyIn Following log → length (of_all filters_kept log) ≤ 1000 * count_giving log
+few_filters log right = thousand_below (λ (p : ℕ). filters_kept (trail log p)) (λ (p : ℕ). is_giving (trail log p)) (λ p. kept_few (trail log p) (asked_rightly_in Following log p right)) ((tally_of log).dials + 1)
 
 giving_few : (test : ℕ → Bool) (n : ℕ) → count_below test n ≤ n
 giving_few test zero = omega arith
@@ -455,7 +464,7 @@ holds_no_more counts places s held log headers counted filters bytes few stand t
   waiting = bytes ∙ most_is places log stand;
   few_bytes = (let most = most_few places log stand in omega (arith, bytes, most));
 } where
-  exact : Rightly log → held.filters ≡ length (of_all filters_kept log)
+  exact : RightlyIn Following log → held.filters ≡ length (of_all filters_kept log)
   exact right =
       let sum = came_sum places log stand in
       let most = few_filters log right in

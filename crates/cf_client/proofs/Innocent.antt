@@ -5,6 +5,7 @@ use Rattle.std.proofs.lemmas.Bool.{cases_Bool, both_ways, false≢true, and_part
 use Rattle.std.proofs.lemmas.Bool.Decides.{nat_tests}
 use Rattle.cf_headers.specs.declared.store.HeaderStore.{Ghosts}
 use Rattle.cf_match.specs.declared.matcher.Matcher.{Ghosts as Judges}
+use Rattle.cf_peer.specs.declared.mode.Mode.{Mode}
 use Rattle.cf_peer.specs.declared.peer.Cause.{Cause}
 use Rattle.cf_peer.specs.declared.peer.Peer.{Peer}
 use Rattle.cf_wires.specs.Log.{Log}
@@ -47,8 +48,8 @@ peer_innocent peer t cause h is (inl words) = (let e : None ≡ Some cause = sym
 peer_innocent peer t cause h is (inr (inl fault)) = both_ways (failed t) (none_failed t h.on) fault.1
 peer_innocent peer t cause h is (inr (inr late)) = calm_young (age_in peer.request) is (omega (arith, age_kept peer t h late.1, late.2))
 
-settled_calm : (place : Place) → is_settled place ≡ true → is_calm place ≡ true
-settled_calm place h = (and_parts (is_calm place) (not (is_wanting place)) h).0
+settled_calm : (mode : Mode) (place : Place) → is_settled mode place ≡ true → is_calm place ≡ true
+settled_calm mode place h = (and_parts (is_calm place) (not (is_wanting mode place)) h).0
 
 place_innocent : (place : Place) (part : Part) (cause : Cause) → Fits place part → is_calm place ≡ true → connected part.trail ≡ true → Deserves part.trail cause → ⊥
 place_innocent (Here peer) part cause fits is on deserves = peer_innocent peer part.trail cause fits.holds is deserves
@@ -56,7 +57,7 @@ place_innocent (LostPlace end) part cause lost is on deserves = both_ways (conne
 
 pub innocent : {H M : Type 0} {g : Ghosts H} {j : Judges M} (c : Client H M g j) (log : Log) → Reflects c log → IsInnocent log
 innocent c log reflects = λ p on cause deserves.
-    place_innocent (place_at c.places.items p) (part_of log p) cause (reflects.places.each p) (settled_calm (place_at c.places.items p) ((c.settled reflects.alive).each p)) on deserves
+    place_innocent (place_at c.places.items p) (part_of log p) cause (reflects.places.each p) (settled_calm c.mode (place_at c.places.items p) ((c.settled reflects.alive).each p)) on deserves
 
 place_answered : (place : Place) (part : Part) → Fits place part → connected part.trail ≡ true → IsAnswered part.trail
 place_answered (Here peer) part keeps on = keeps.answered

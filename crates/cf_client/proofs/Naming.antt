@@ -6,8 +6,9 @@ use Rattle.cf_dispute.specs.declared.claim.Claim.{Claim}
 use Rattle.cf_dispute.specs.Claims.{no_claims}
 use Rattle.cf_peer.specs.Asking.{claims, counted}
 use Rattle.cf_peer.specs.Trail.{trail}
+use Rattle.cf_peer.specs.declared.mode.Mode.TheVariants.{Following}
 use Rattle.cf_wires.specs.Log.{Log}
-use Rattle.cf_sync.specs.Fetching.{IsOmitting, Rightly}
+use Rattle.cf_sync.specs.Fetching.{IsOmitting, RightlyIn}
 use Rattle.cf_sync.proofs.KeptTests.{holds_all}
 use Rattle.cf_hear.specs.Seen.{Seen}
 use Rattle.cf_hear.specs.Exposing.{IsUnexposed}
@@ -25,7 +26,7 @@ pub claimed_by : (log : Log) (p : ℕ) → (o : IsOmitting log p) → (claim : C
 claimed_by log p o = claim_of (claims (counted (trail log p)) o.block) o.hash o.claimed
 
 -- it is kept of that filter that it lacks something
-pub omitting_told : (s : Seen) (log : Log) (p : ℕ) → Tracks s log → Rightly log → (o : IsOmitting log p)
+pub omitting_told : (s : Seen) (log : Log) (p : ℕ) → Tracks s log → RightlyIn Following log → (o : IsOmitting log p)
     → s.trials.told o.block o.hash.0 ≡ Some true
 omitting_told s log p tracks right o = by (s.trials.told o.block o.hash.0) refl where
   by : (found : Option Bool) → s.trials.told o.block o.hash.0 ≡ found → s.trials.told o.block o.hash.0 ≡ Some true
@@ -34,7 +35,7 @@ omitting_told s log p tracks right o = by (s.trials.told o.block o.hash.0) refl 
   by (Some false) is = absurd (holds_all log s.trials.paid s.trials.told right tracks.trials.paid tracks.trials.clean
       o.block o.hash is o.tested o.omits)
 
-pub blameless_seen : (s : Seen) (log : Log) → Tracks s log → IsUnexposed s → Rightly log → IsBlameless log
+pub blameless_seen : (s : Seen) (log : Log) → Tracks s log → IsUnexposed s → RightlyIn Following log → IsBlameless log
 blameless_seen s log tracks none right p o =
     let mine = claimed_by log p o in
     none p o.block o.hash.0 (record {

@@ -1,5 +1,5 @@
 -- Acts in order: questions that are added one after another, closes that are, and replies.
-use Rattle.std.proofs.Common.{◌≡◌, ℕ, ◌<◌, ◌≤◌, ◌+◌, ◌&&◌, ◌||◌, Bool, true, false, inl, inr, List, [], ◌∷◌, ◌++◌, length, map, get_or, refl, sym, ◌∙◌, ap, subst, arith, append_assoc}
+use Rattle.std.proofs.Common.{◌≡◌, ℕ, ◌<◌, ◌≤◌, ◌+◌, ◌&&◌, ◌||◌, not, Bool, true, false, inl, inr, List, [], ◌∷◌, ◌++◌, length, map, get_or, refl, sym, ◌∙◌, ap, subst, arith, append_assoc}
 use Rattle.std.specs.List.{All, list_all, list_any, AllByRecursion}
 use Rattle.std.specs.List.Sorted.{IsStrictlyIncreasing}
 use Rattle.std.proofs.Math.Seq.{get_or-append_seam}
@@ -12,23 +12,27 @@ use Rattle.cf_bytes.specs.declared.hash.Hash32.{Hash32}
 use Rattle.cf_bytes.specs.declared.peer.PeerNo.{PeerNo}
 use Rattle.cf_headers.specs.Chain.{Chain}
 use Rattle.cf_msg.specs.declared.msg.Msg.{Msg}
-use Rattle.cf_msg.specs.declared.msg.Msg.TheVariants.{Verack, Pong, GetHeaders, GetData}
+use Rattle.cf_msg.specs.declared.msg.Msg.TheVariants.{Verack, Ping, Pong, GetHeaders, GetData}
 use Rattle.cf_peer.specs.declared.act.Act.{Act}
 use Rattle.cf_peer.specs.declared.act.Act.TheVariants.{Send, Close}
 use Rattle.cf_peer.specs.declared.peer.Cause.{Cause}
 use Rattle.cf_peer.specs.declared.peer.Cause.TheVariants.{Overdue}
-use Rattle.cf_peer.specs.Asking.{is_request}
+use Rattle.cf_peer.specs.Asking.{is_ping, is_request}
 use Rattle.cf_peer.specs.Hearing.{IsReply}
 use Rattle.cf_place.specs.Places.{AsksAbove, AsksFor}
 use Rattle.cf_client.specs.Shutting.{shut_act}
-use Rattle.cf_client.specs.Order.{number_of, is_asking, is_closing, closed_in, SendsFirst, AreTold, AreAsked, AreInOrder, AsksOne, AddsQuestions, ClosesOne, ClosesLate}
+use Rattle.cf_client.specs.Order.{number_of, is_asking, is_questioning, is_pinging, is_closing, closed_in, SendsFirst, AreTold, ArePrepared, AreInOrder, AsksOne, AddsQuestions, PingsOne, AddsPings, ClosesOne, ClosesLate}
 
--- the questions for headers above a chain and for a block are questions
-pub above_asks : (chain : Chain) (m : Msg) → AsksAbove chain m → is_request m ≡ true
+-- a message puts a question, and is no ping
+abbrev pub is_question : Msg → Bool
+is_question m = is_request m && not (is_ping m)
+
+-- the questions for headers above a chain and for a block are such
+pub above_asks : (chain : Chain) (m : Msg) → AsksAbove chain m → is_question m ≡ true
 above_asks chain (GetHeaders version locator stop) asks = refl
 above_asks chain m asks = absurd asks
 
-pub block_asked : (hash : Hash32) (m : Msg) → AsksFor hash m → is_request m ≡ true
+pub block_asked : (hash : Hash32) (m : Msg) → AsksFor hash m → is_question m ≡ true
 block_asked hash (GetData entries) asks = refl
 block_asked hash m asks = absurd asks
 
@@ -76,14 +80,18 @@ asks_none n acts = record {
   below = All-nil (λ (p : ℕ). p < n);
 }
 
-asked_push : (asked : List Act) (act : Act) → AreAsked asked → All (λ p. p < number_of act) (map number_of asked)
-    → is_asking act ≡ true → AreAsked (asked ++ act ∷ [])
-asked_push asked act are below question = record {
-  questions = list_all-append is_asking asked (act ∷ []) ∙ ap (λ (b : Bool). b && (is_asking act && true)) are.questions
-      ∙ ap (λ (b : Bool). b && true) question;
-  lowest = subst IsStrictlyIncreasing (sym (map-append number_of asked (act ∷ [])))
-      (rising_push (map number_of asked) (number_of act) are.lowest below);
-}
+all_push : (test : Act → Bool) (acts : List Act) (act : Act) → list_all test acts ≡ true → test act ≡ true → list_all test (acts ++ act ∷ []) ≡ true
+all_push test acts act all one = list_all-append test acts (act ∷ []) ∙ ap (λ (b : Bool). b && (test act && true)) all ∙ ap (λ (b : Bool). b && true) one
+
+lowest_push : (acts : List Act) (act : Act) → IsStrictlyIncreasing (map number_of acts) → All (λ p. p < number_of act) (map number_of acts)
+    → IsStrictlyIncreasing (map number_of (acts ++ act ∷ []))
+lowest_push acts act lowest below = subst IsStrictlyIncreasing (sym (map-append number_of acts (act ∷ [])))
+    (rising_push (map number_of acts) (number_of act) lowest below)
+
+acts_below : (acts : List Act) (i : ℕ) (act : Act) → number_of act ≡ i → All (λ (p : ℕ). p < i) (map number_of acts)
+    → All (λ (p : ℕ). p < i + 1) (map number_of (acts ++ act ∷ []))
+acts_below acts i act is below = subst (All (λ (p : ℕ). p < i + 1)) (sym (map-append number_of acts (act ∷ [])))
+    (subst (λ (n : ℕ). All (λ (p : ℕ). p < i + 1) (map number_of acts ++ n ∷ [])) (sym is) (below_push (map number_of acts) i below))
 
 -- one question more, or none
 pub asks_next : (i : ℕ) (before acts now : List Act) → AsksBelow i before acts
@@ -99,10 +107,46 @@ asks_next i before acts now so_far (inr (m, question, added)) =
       adds = record {
         asked = asked ++ act ∷ [];
         added = added ∙ ap (λ (xs : List Act). xs ++ act ∷ []) so_far.adds.added ∙ append_assoc before asked (act ∷ []);
-        are = asked_push asked act so_far.adds.are so_far.below question;
+        are = record {
+          questions = all_push is_questioning asked act so_far.adds.are.questions question;
+          lowest = lowest_push asked act so_far.adds.are.lowest so_far.below;
+        };
       };
-      below = subst (All (λ (p : ℕ). p < i + 1)) (sym (map-append number_of asked (act ∷ [])))
-          (below_push (map number_of asked) i so_far.below);
+      below = acts_below asked i act refl so_far.below;
+    }
+
+-- ---- the pings of one call
+
+-- on the way through the numbers: only lower ones were sent one
+pub record PingsBelow (n : ℕ) (before now : List Act) : Type 0 where
+  pub adds : AddsPings before now
+  pub below : All (λ (p : ℕ). p < n) (map number_of adds.pinged)
+
+pub pings_none : (n : ℕ) (acts : List Act) → PingsBelow n acts acts
+pings_none n acts = record {
+  adds = record { pinged = []; added = sym (append-nil acts); are = record { pings = refl; lowest = rising_none } };
+  below = All-nil (λ (p : ℕ). p < n);
+}
+
+-- one ping more, or none
+pub pings_next : (i : ℕ) (before acts now : List Act) → PingsBelow i before acts → PingsOne i acts now → PingsBelow (i + 1) before now
+pings_next i before acts now so_far (inl same) = record {
+  adds = record { pinged = so_far.adds.pinged; added = same ∙ so_far.adds.added; are = so_far.adds.are };
+  below = all_higher (map number_of so_far.adds.pinged) i (i + 1) (omega arith) so_far.below;
+}
+pings_next i before acts now so_far (inr (number, added)) =
+    let act = Send (record { 0 = i }) (Ping number) in
+    let pinged = so_far.adds.pinged in
+    record {
+      adds = record {
+        pinged = pinged ++ act ∷ [];
+        added = added ∙ ap (λ (xs : List Act). xs ++ act ∷ []) so_far.adds.added ∙ append_assoc before pinged (act ∷ []);
+        are = record {
+          pings = all_push is_pinging pinged act so_far.adds.are.pings refl;
+          lowest = lowest_push pinged act so_far.adds.are.lowest so_far.below;
+        };
+      };
+      below = acts_below pinged i act refl so_far.below;
     }
 
 -- ---- who is closed for silence
@@ -238,12 +282,27 @@ told_shuts p rs qs acts are rising is = subst AreTold (sym is) (record {
 pub told_close : (p : PeerNo) (cause : Cause) (acts : List Act) → acts ≡ Close p cause ∷ [] → AreTold acts
 told_close p cause acts is = subst AreTold (sym is) (record { replies = refl; owed = refl; closed = rising_one p.0 })
 
--- and then the questions
-pub in_order_by : (told acts : List Act) → AreTold told → AddsQuestions told acts → AreInOrder acts
-in_order_by told acts first adds = record {
-  told = told;
-  asked = adds.asked;
-  split = adds.added;
+-- and then the pings, or none
+pub prepared_by : (told acts : List Act) → AreTold told → AddsPings told acts → ArePrepared acts
+prepared_by told acts first adds = record { told = told; pinged = adds.pinged; split = adds.added; first = first; next = adds.are }
+
+pub prepared_none : (acts : List Act) → AreTold acts → ArePrepared acts
+prepared_none acts first = record {
+  told = acts;
+  pinged = [];
+  split = sym (append-nil acts);
   first = first;
+  next = record { pings = refl; lowest = rising_none };
+}
+
+-- and then the questions
+pub in_order_by : (before acts : List Act) → ArePrepared before → AddsQuestions before acts → AreInOrder acts
+in_order_by before acts ready adds = record {
+  told = ready.told;
+  pinged = ready.pinged;
+  asked = adds.asked;
+  split = adds.added ∙ ap (λ (xs : List Act). xs ++ adds.asked) ready.split ∙ append_assoc ready.told ready.pinged adds.asked;
+  first = ready.first;
+  next = ready.next;
   last = adds.are;
 }

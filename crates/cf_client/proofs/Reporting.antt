@@ -10,7 +10,7 @@ use Rattle.std.proofs.lemmas.List.{length-map}
 use Rattle.cf_bytes.specs.declared.hash.Hash32.{Hash32}
 use Rattle.cf_headers.specs.Chain.{Hash, Chain, tip_hash}
 use Rattle.cf_headers.specs.Heights.{hash_at, common_of}
-use Rattle.cf_peer.specs.declared.mode.Mode.TheVariants.{Once}
+use Rattle.cf_peer.specs.declared.mode.Mode.{Mode}
 use Rattle.cf_peer.specs.declared.peer.Peer.{Peer}
 use Rattle.cf_wires.specs.Log.{Log}
 use Rattle.cf_peer.specs.Trail.{Trail, Part, part_of, trail, connected, ready, own}
@@ -25,7 +25,7 @@ use Rattle.cf_scan.specs.declared.history.Entry.{Entry}
 use Rattle.cf_scan.specs.Watching.{IsWatch}
 use Rattle.cf_peer.specs.declared.peer.Cause.TheVariants.{Omits}
 use Rattle.cf_sync.specs.Blame.{HasOmitted}
-use Rattle.cf_sync.specs.Fetching.{IsBlockOpen, IsConnected, IsAskedOut, IsTestedThrough, IsFilterOpen, IsScanOver, IsSettled, counted_part}
+use Rattle.cf_sync.specs.Fetching.{IsBlockOpen, IsConnected, IsAskedOutIn, IsTestedThrough, IsFilterOpen, IsScanOver, IsSettled, counted_part}
 use Rattle.cf_sync.proofs.Counted.{same_use}
 use Rattle.cf_sync.proofs.KeptOpens.{settled_else}
 use Rattle.cf_sync.proofs.Tables.{history_over}
@@ -85,9 +85,9 @@ through_shared s p place own chain through idle kept (inl b) =
 through_shared s p place own chain through idle kept (inr none) = absurd (none-some own (sym (none.0 p) ∙ kept))
 
 -- what a connected peer with nothing open claims of the fetched blocks on which they differ was tested
-pub tested_of : (places : List Place) (log : Log) (s : Seen) (chain : Chain) → PlacesStand places log → Tracks s log → AreSettled places s → IsBestChain s.chains chain
+pub tested_of : (mode : Mode) (places : List Place) (log : Log) (s : Seen) (chain : Chain) → PlacesStand places log → Tracks s log → AreSettled mode places s → IsBestChain s.chains chain
     → (p : ℕ) → IsConnected log p → is_open (trail log p) ≡ false → IsTestedThrough log chain p
-tested_of places log s chain stand tracks settled best p on quiet =
+tested_of mode places log s chain stand tracks settled best p on quiet =
     let here = here_of (get_or places p nobody) (part_of log p) (stand.each p) on in
     let holds : Holds here.0 (trail log p) = here.2.holds in
     let mine : Chain = own (counted_part log p) in
@@ -96,9 +96,9 @@ tested_of places log s chain stand tracks settled best p on quiet =
     through_shared s p (get_or places p nobody) mine chain (settled.through p) (ap is_idle here.1 ∙ idle_of here.0 (trail log p) holds quiet) kept best in
     tested_by s log chain p tracks on both.1
 
-pub asked_out_of : (places : List Place) (log : Log) (s : Seen) (chain : Chain) → PlacesStand places log → Tracks s log → AreSettled places s → ((block : Hash) → (at : At) × IsAt s.claims block at) → IsBestChain s.chains chain
-    → (p : ℕ) → IsConnected log p → is_open (trail log p) ≡ false → IsAskedOut s.watch log chain p
-asked_out_of places log s chain stand tracks settled decided best p on quiet =
+pub asked_out_of : (mode : Mode) (places : List Place) (log : Log) (s : Seen) (chain : Chain) → PlacesStand places log → Tracks s log → AreSettled mode places s → ((block : Hash) → (at : At) × IsAt s.claims block at) → IsBestChain s.chains chain
+    → (p : ℕ) → IsConnected log p → is_open (trail log p) ≡ false → IsAskedOutIn mode s.watch log chain p
+asked_out_of mode places log s chain stand tracks settled decided best p on quiet =
     let t : Trail = trail log p in
     let mine : Chain = own (counted_part log p) in
     let here = here_of (get_or places p nobody) (part_of log p) (stand.each p) on in
@@ -106,27 +106,27 @@ asked_out_of places log s chain stand tracks settled decided best p on quiet =
     let holds : Holds peer t = here.2.holds in
     let whole = same_use t on holds.clean in
     let idle : is_idle_peer peer ≡ true = idle_of peer t holds quiet in
-    let off : wants peer ≡ false = settled_off (Here peer) (subst (λ (x : Place). is_settled x ≡ true) here.1 (settled.each p)) in
+    let off : wants mode peer ≡ false = settled_off mode (Here peer) (subst (λ (x : Place). is_settled mode x ≡ true) here.1 (settled.each p)) in
     let kept : s.chains p ≡ Some mine = tracks.kept p ∙ on_kept t on ∙ ap (λ (c : Chain). Some c) (sym whole.chain) in
     let both : IsDoneWith s p mine (common_of mine chain) =
     through_shared s p (get_or places p nobody) mine chain (settled.through p) (ap is_idle here.1 ∙ idle) kept best in
     let through : IsThrough s.table s.claims s.verdicts s.opens p mine (common_of mine chain) = both.0 in
     record {
-      heard_out = whole.hearing Once ∙ sym holds.hearing ∙ heard_by peer idle off;
+      heard_out = whole.hearing mode ∙ sym (holds.hearing mode) ∙ heard_by mode peer idle off;
       claimed = λ h one le.
           let same : s.claims p (hash_at mine h) ≡ claims (counted_part log p) (hash_at mine h) = tracks.claimed p (hash_at mine h) ∙ ap (λ (b : Bool). (if b then claims (counted_part log p) else no_claims) (hash_at mine h)) on in
           header_known (claims (counted_part log p)) (hash_at mine h) (λ above. subst IsSome same (through.claimed h one le above));
       settled = λ h one le above no_filter no_block.
           let d = decided (hash_at mine h) in
           settled_at log s p mine (common_of mine chain) h d.0 tracks d.1 one le through above no_filter no_block;
-      tested = tested_of places log s chain stand tracks settled best p on quiet;
+      tested = tested_of mode places log s chain stand tracks settled best p on quiet;
     }
 
 -- ---- what is told
 
-pub report_is : (places : List Place) (log : Log) (s : Seen) (height : ℕ) (hash : Hash32) (entries : List Entry) → PlacesStand places log → Tracks s log → AreSettled places s
-    → ((block : Hash) → (at : At) × IsAt s.claims block at) → IsWatch s.watch → IsReport s.chains s.table height hash entries → IsReportOf s.watch height hash entries log
-report_is places log s height hash entries stand tracks settled decided watchable r = record {
+pub report_is : (mode : Mode) (places : List Place) (log : Log) (s : Seen) (height : ℕ) (hash : Hash32) (entries : List Entry) → PlacesStand places log → Tracks s log → AreSettled mode places s
+    → ((block : Hash) → (at : At) × IsAt s.claims block at) → IsWatch s.watch → IsReport s.chains s.table height hash entries → IsReportOf (record { watch = s.watch; mode = mode }) height hash entries log
+report_is mode places log s height hash entries stand tracks settled decided watchable r = record {
   watchable = watchable;
   told = record {
     chain = r.chain;
@@ -135,7 +135,7 @@ report_is places log s height hash entries stand tracks settled decided watchabl
     hash_is = r.hash_is;
     scanned = subst (λ (es : List Entry). IsScanOver s.watch log r.chain es) (sym r.history) (history_over s.watch log s.table tracks.fetched r.chain);
   };
-  asked_out = asked_out_of places log s r.chain stand tracks settled decided r.best;
+  asked_out = asked_out_of mode places log s r.chain stand tracks settled decided r.best;
 }
 
 -- ---- how each peer stands

@@ -14,7 +14,7 @@ use Rattle.cf_peer.specs.Trail.{Part, Trail, Lost as LostItem, Shutting as IsShu
 use Rattle.cf_wires.specs.declared.event.Event.TheVariants.{Closed}
 use Rattle.cf_wires.specs.Log.{Log, tally_of}
 use Rattle.cf_sync.specs.Blame.{HasOmitted}
-use Rattle.cf_sync.specs.Fetching.{IsOmitting}
+use Rattle.cf_sync.specs.Fetching.{IsOmitting, Rule}
 use Rattle.cf_sync.specs.Kept.{KeepsTrials}
 use Rattle.cf_sync.proofs.Blamed.{tested_stays}
 use Rattle.cf_sync.proofs.Grows.{fetched_stays}
@@ -245,8 +245,8 @@ guilty_on c log q other g =
     }
 
 -- all of them are closed, one after another
-pub record AreShut (watch : List (List ℕ)) (qs : List ℕ) (log : Log) : Type 0 where
-  pub allowed : Allowed watch (map shut_act qs) log
+pub record AreShut (rule : Rule) (qs : List ℕ) (log : Log) : Type 0 where
+  pub allowed : Allowed rule (map shut_act qs) log
   pub here : (q : ℕ) → IsIn q qs → part_of (after (map shut_act qs) log) q ≡ with_item (LostItem IsShutting)
       (part_of log q)
   pub others : (q : ℕ) → (IsIn q qs → ⊥) → part_of (after (map shut_act qs) log) q ≡ part_of log q
@@ -254,9 +254,9 @@ pub record AreShut (watch : List (List ℕ)) (qs : List ℕ) (log : Log) : Type 
   pub trials : KeepsTrials log (after (map shut_act qs) log)
   pub omitted : (q : ℕ) → IsIn q qs → HasOmitted (after (map shut_act qs) log) q
 
-pub are_shut : (watch : List (List ℕ)) (qs : List ℕ) (log : Log) → IsStrictlyIncreasing qs
-    → ((q : ℕ) → IsIn q qs → IsGuilty log q) → AreShut watch qs log
-are_shut watch [] log rising guilty = record {
+pub are_shut : (rule : Rule) (qs : List ℕ) (log : Log) → IsStrictlyIncreasing qs
+    → ((q : ℕ) → IsIn q qs → IsGuilty log q) → AreShut rule qs log
+are_shut rule [] log rising guilty = record {
   allowed = tt;
   here = λ q i. absurd i;
   others = λ q out. refl;
@@ -264,10 +264,10 @@ are_shut watch [] log rising guilty = record {
   trials = λ trials holds. holds;
   omitted = λ q i. absurd i;
 }
-are_shut watch (n ∷ qs) log rising guilty =
+are_shut rule (n ∷ qs) log rising guilty =
     let c : PeerNo = record { 0 = n } in
     let above = rising_above n qs rising in
-    let more = are_shut watch qs (Closed c ∷ log) (rising_tail n qs rising)
+    let more = are_shut rule qs (Closed c ∷ log) (rising_tail n qs rising)
     (λ q i. guilty_on c log q (λ same. (let lt = above q i in absurd (omega (arith, lt, same))))
     (guilty q (inr i))) in
     let first = guilty n (inl refl) in

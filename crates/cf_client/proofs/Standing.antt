@@ -1,7 +1,7 @@
 -- How the places go on with the log.
 use Rattle.std.proofs.Common.{◌≡◌, ◌≢◌, inl, inr, ℕ, zero, suc, ◌+◌, ◌<◌, ◌≤◌, List, [], ◌∷◌, ◌++◌, length, get_or, set, Option, Bool, true, false, refl, sym, ◌∙◌, ap, subst, arith}
 use Rattle.std.proofs.lemmas.Grind.{common_steps}
-use Rattle.std.specs.Prelude.{◌||◌}
+use Rattle.std.specs.Prelude.{◌||◌, not}
 use Rattle.std.proofs.lemmas.Bool.{cases_eq, cases_Bool, or_cases, and_parts, both_ways, false≢true}
 use Rattle.std.specs.List.{list_any}
 use Rattle.std.proofs.lemmas.List.{append-nil}
@@ -14,16 +14,18 @@ use Rattle.cf_peer.specs.declared.act.Act.{Act}
 use Rattle.cf_peer.specs.declared.act.Act.TheVariants.{Send, Close}
 use Rattle.cf_wires.specs.declared.event.Event.{Event}
 use Rattle.cf_wires.specs.declared.event.Event.TheVariants.{Dialled, NotDialled, Sent, SendFailed, Closed, Took}
+use Rattle.cf_peer.specs.declared.mode.Mode.{Mode}
+use Rattle.cf_peer.specs.declared.mode.Mode.TheVariants.{Following}
 use Rattle.cf_peer.specs.declared.peer.Cause.{Cause}
 use Rattle.cf_peer.specs.declared.peer.Cause.TheVariants.{Omits, Overdue}
 use Rattle.cf_peer.specs.declared.peer.Peer.{Peer}
 use Rattle.cf_peer.specs.Acts.{bytes_of, IsSendable}
 use Rattle.cf_wires.specs.Log.{Log, tally_of, noted}
 use Rattle.cf_peer.specs.Trail.{owed, Trail, Part, Called, Asked, Lost as LostItem, Went, Shutting, part_of, trail, went_on, asks, spelled, with_item, called_part, connected, own, replied, as_reply, is_version, IsClientVersion}
-use Rattle.cf_peer.specs.Asking.{counted, age, is_open, MayAsk, IsFree, PingOpen}
-use Rattle.cf_peer.specs.Peer.{Holds, wants, is_idle_peer, called_peer, asked_for_headers}
+use Rattle.cf_peer.specs.Asking.{counted, age, is_open, MayAskIn, IsFree}
+use Rattle.cf_peer.specs.Peer.{Holds, heard_out, wants, is_idle_peer, called_peer, asked_for_headers}
 use Rattle.cf_sync.specs.Blame.{HasOmitted}
-use Rattle.cf_sync.specs.Fetching.{MaySend, Rightly}
+use Rattle.cf_sync.specs.Fetching.{MaySendIn, RightlyIn, Rule}
 use Rattle.cf_sync.specs.Due.{IsCalledFor}
 use Rattle.cf_sync.specs.Honesty.{asked}
 use Rattle.cf_sync.proofs.Counted.{same_use}
@@ -41,9 +43,9 @@ pub after-append : (acts : List Act) (a : Act) (log : Log) → after (acts ++ a 
 after-append [] a log = refl
 after-append (b ∷ acts) a log = after-append acts a (entry_of b ∷ log)
 
-pub allowed-append : (watch : List (List ℕ)) (acts : List Act) (a : Act) (log : Log) → Allowed watch acts log → MayAct watch a (after acts log) → Allowed watch (acts ++ a ∷ []) log
-allowed-append watch [] a log h may = (may, tt)
-allowed-append watch (b ∷ acts) a log h may = (h.0, allowed-append watch acts a (entry_of b ∷ log) h.1 may)
+pub allowed-append : (rule : Rule) (acts : List Act) (a : Act) (log : Log) → Allowed rule acts log → MayAct rule a (after acts log) → Allowed rule (acts ++ a ∷ []) log
+allowed-append rule [] a log h may = (may, tt)
+allowed-append rule (b ∷ acts) a log h may = (h.0, allowed-append rule acts a (entry_of b ∷ log) h.1 may)
 
 -- the place that was set, or put at the end
 pub set_is : (places : List Place) (i : ℕ) (s : Place) → i < length places → get_or (set places i s) i nobody ≡ s
@@ -78,7 +80,7 @@ omitted_set places i s log next lt before else_lost kept q is = elim (cases_eq q
 ]
 
 -- the log before was as it may be
-pub right_event : (e : Event) (log : Log) → Rightly (e ∷ log) → Rightly log
+pub right_event : (e : Event) (log : Log) → RightlyIn Following (e ∷ log) → RightlyIn Following log
 right_event (Dialled p name) log right = right
 right_event (NotDialled p name) log right = right
 right_event (Sent p bytes) log right = right.1
@@ -86,13 +88,13 @@ right_event (SendFailed p) log right = right
 right_event (Closed p) log right = right.1
 right_event (Took d) log right = right.1
 
-pub right_before : (acts : List Act) (log : Log) → Rightly (after acts log) → Rightly log
+pub right_before : (acts : List Act) (log : Log) → RightlyIn Following (after acts log) → RightlyIn Following log
 right_before [] log right = right
 right_before (a ∷ acts) log right = right_event (entry_of a) log (right_before acts (entry_of a ∷ log) right)
 
 -- who was closed while it omitted something has a place that says so
 abbrev pub AreNamed : List Place → Log → Type 0
-AreNamed places log = Rightly log → (q : ℕ) → HasOmitted log q → get_or places q nobody ≡ Lost (ClosedFor Omits)
+AreNamed places log = RightlyIn Following log → (q : ℕ) → HasOmitted log q → get_or places q nobody ≡ Lost (ClosedFor Omits)
 
 -- where one peer was closed, nobody else has omitted something by that
 pub unomitted_close : (p : PeerNo) (log : Log) (q : ℕ) → q ≢ p.0 → HasOmitted (Closed p ∷ log) q → HasOmitted log q
@@ -101,7 +103,7 @@ unomitted_close p log q other (inr before) = before
 
 -- where one place was set, and says so where it is to
 pub named_set : (places : List Place) (i : ℕ) (s : Place) (log next : Log) → i < length places → AreNamed places log
-    → (Rightly next → Rightly log) → (Rightly next → HasOmitted next i → s ≡ Lost (ClosedFor Omits))
+    → (RightlyIn Following next → RightlyIn Following log) → (RightlyIn Following next → HasOmitted next i → s ≡ Lost (ClosedFor Omits))
     → ((q : ℕ) → q ≢ i → HasOmitted next q → HasOmitted log q) → AreNamed (set places i s) next
 named_set places i s log next lt before back here kept right q is = elim (cases_eq q i) [
   | inl same ↦ ap (λ (k : ℕ). get_or (set places i s) k nobody) same ∙ set_is places i s lt
@@ -121,7 +123,7 @@ pub stand_at : (places : List Place) (log : Log) (i : ℕ) (s : Place) (e : Even
     → (noted e (tally_of log)).dials ≡ (tally_of log).dials
     → Fits s (went_on e i (part_of log i))
     → (s ≡ Lost (ClosedFor Omits) → ⊥) → ((q : ℕ) → HasOmitted log q → HasOmitted (e ∷ log) q)
-    → (Rightly (e ∷ log) → HasOmitted (e ∷ log) i → s ≡ Lost (ClosedFor Omits))
+    → (RightlyIn Following (e ∷ log) → HasOmitted (e ∷ log) i → s ≡ Lost (ClosedFor Omits))
     → ((q : ℕ) → q ≢ i → HasOmitted (e ∷ log) q → HasOmitted log q)
     → PlacesStand (set places i s) (e ∷ log)
 stand_at places log i s e lt stand others dials fits else_lost kept here back = record {
@@ -136,20 +138,20 @@ stand_at places log i s e lt stand others dials fits else_lost kept here back = 
   ];
 }
 
-pub goes_act : {watch : List (List ℕ)} (places : List Place) (acts : List Act) (log : Log) (i : ℕ) (s : Place) (a : Act)
-    → i < length places → Goes watch places acts log
+pub goes_act : {rule : Rule} (places : List Place) (acts : List Act) (log : Log) (i : ℕ) (s : Place) (a : Act)
+    → i < length places → Goes rule places acts log
     → ((q : ℕ) → q ≢ i → went_on (entry_of a) q (part_of (after acts log) q) ≡ part_of (after acts log) q)
     → (noted (entry_of a) (tally_of (after acts log))).dials ≡ (tally_of (after acts log)).dials
-    → MayAct watch a (after acts log)
+    → MayAct rule a (after acts log)
     → Fits s (went_on (entry_of a) i (part_of (after acts log) i))
     → (s ≡ Lost (ClosedFor Omits) → ⊥)
-    → (Rightly (entry_of a ∷ after acts log) → HasOmitted (entry_of a ∷ after acts log) i → s ≡ Lost (ClosedFor Omits))
+    → (RightlyIn Following (entry_of a ∷ after acts log) → HasOmitted (entry_of a ∷ after acts log) i → s ≡ Lost (ClosedFor Omits))
     → ((q : ℕ) → q ≢ i → HasOmitted (entry_of a ∷ after acts log) q → HasOmitted (after acts log) q)
-    → Goes watch (set places i s) (acts ++ a ∷ []) log
-goes_act {watch = watch} places acts log i s a lt goes others dials may fits else_lost here back = record {
+    → Goes rule (set places i s) (acts ++ a ∷ []) log
+goes_act {rule = rule} places acts log i s a lt goes others dials may fits else_lost here back = record {
   stand = subst (PlacesStand (set places i s)) (sym (after-append acts a log))
       (stand_at places (after acts log) i s (entry_of a) lt goes.stand others dials fits else_lost (omitted_act a (after acts log)) here back);
-  allowed = allowed-append watch acts a log goes.allowed may;
+  allowed = allowed-append rule acts a log goes.allowed may;
 }
 
 -- an entry of one peer changes nobody else's part
@@ -186,10 +188,10 @@ late_replied : (place : Place) (part : Part) → Fits place part → is_calm pla
 late_replied (Here peer) part keeps is = kept_replied peer part keeps
 late_replied (Lost end) part off is = absurd (false≢true (sym is))
 
-pub late_goes : {watch : List (List ℕ)} (places : List Place) (acts : List Act) (log : Log) (i : ℕ)
-    → i < length places → Goes watch places acts log → is_calm (get_or places i nobody) ≡ false
+pub late_goes : {rule : Rule} (places : List Place) (acts : List Act) (log : Log) (i : ℕ)
+    → i < length places → Goes rule places acts log → is_calm (get_or places i nobody) ≡ false
     → IsNamed (after acts log) i Overdue
-    → Goes watch (set places i (Lost (ClosedFor Overdue))) (acts ++ Close (record { 0 = i }) Overdue ∷ []) log
+    → Goes rule (set places i (Lost (ClosedFor Overdue))) (acts ++ Close (record { 0 = i }) Overdue ∷ []) log
 late_goes places acts log i lt goes is named =
     let p : PeerNo = record { 0 = i } in
     let part = part_of (after acts log) i in
@@ -209,10 +211,10 @@ pub idle_free : (peer : Peer) (part : Part) → Keeps peer part → is_idle_peer
 idle_free peer part keeps is = let idle = idle_request peer part.trail keeps.holds is in record { on = keeps.holds.on; over = idle.0; idle = idle.1; answered = all_replied peer part keeps }
 
 -- a message is sent, where it may be sent and the place then holds what it is to hold
-pub send_goes : {watch : List (List ℕ)} (places : List Place) (acts : List Act) (log : Log) (i : ℕ) (now : Peer) (m : Msg)
-    → i < length places → Goes watch places acts log → IsSendable m → MaySend (after acts log) i m → IsCalledFor watch (after acts log) i m
+pub send_goes : {rule : Rule} (places : List Place) (acts : List Act) (log : Log) (i : ℕ) (now : Peer) (m : Msg)
+    → i < length places → Goes rule places acts log → IsSendable m → MaySendIn rule.mode (after acts log) i m → IsCalledFor rule (after acts log) i m
     → Keeps now (with_item (Asked m) (part_of (after acts log) i))
-    → Goes watch (set places i (Here now)) (acts ++ Send (record { 0 = i }) m ∷ []) log
+    → Goes rule (set places i (Here now)) (acts ++ Send (record { 0 = i }) m ∷ []) log
 send_goes places acts log i now m lt goes sendable may needed keeps =
     let p : PeerNo = record { 0 = i } in
     let part = part_of (after acts log) i in
@@ -251,15 +253,15 @@ asked_answered t m answered other none = record {
 }
 
 -- headers
-question_may : (log : Log) (p : ℕ) (peer : Peer) (m : Msg) → Keeps peer (part_of log p) → wants peer ≡ true → AsksAbove (own (trail log p)) m → MaySend log p m
-question_may log p peer (GetHeaders version locator stop) h is asks = let w = wants_is peer (trail log p) h.holds (all_replied peer (part_of log p) h) is in record { of_its_part = (w.0, w.1, asks.0, asks.1, asks.2); wanted = tt; alone = tt }
-question_may log p peer m h is asks = absurd asks
+question_may : (mode : Mode) (log : Log) (p : ℕ) (peer : Peer) (m : Msg) → Keeps peer (part_of log p) → wants mode peer ≡ true → AsksAbove (own (trail log p)) m → MaySendIn mode log p m
+question_may mode log p peer (GetHeaders version locator stop) h is asks = let w = wants_is mode peer (trail log p) h.holds (all_replied peer (part_of log p) h) is in record { of_its_part = (w.0, w.1, asks.0, asks.1, asks.2); wanted = tt; alone = tt }
+question_may mode log p peer m h is asks = absurd asks
 
-question_needed : (watch : List (List ℕ)) (log : Log) (p : ℕ) (chain : Chain) (m : Msg) → AsksAbove chain m → IsCalledFor watch log p m
-question_needed watch log p chain (GetHeaders version locator stop) asks = tt
-question_needed watch log p chain m asks = absurd asks
+question_needed : (rule : Rule) (log : Log) (p : ℕ) (chain : Chain) (m : Msg) → AsksAbove chain m → IsCalledFor rule log p m
+question_needed rule log p chain (GetHeaders version locator stop) asks = tt
+question_needed rule log p chain m asks = absurd asks
 
-question_keeps : (peer : Peer) (part : Part) (chain : Chain) (m : Msg) → Keeps peer part → wants peer ≡ true → AsksAbove chain m → Keeps (asked_for_headers peer) (with_item (Asked m) part)
+question_keeps : (peer : Peer) (part : Part) (chain : Chain) (m : Msg) → Keeps peer part → is_idle_peer peer ≡ true → AsksAbove chain m → Keeps (asked_for_headers peer) (with_item (Asked m) part)
 question_keeps peer part chain (GetHeaders version locator stop) keeps is asks = record {
   holds = asked_headers_holds peer part.trail version locator stop keeps.holds is;
   waits = keeps.waits;
@@ -267,18 +269,18 @@ question_keeps peer part chain (GetHeaders version locator stop) keeps is asks =
 }
 question_keeps peer part chain m keeps is asks = absurd asks
 
-pub wants_goes : {watch : List (List ℕ)} (places : List Place) (acts : List Act) (log : Log) (i : ℕ) (peer : Peer) (chain : Chain) (m : Msg)
-    → i < length places → Goes watch places acts log → get_or places i nobody ≡ Here peer → wants peer ≡ true → chain ≡ own (trail (after acts log) i) → IsQuestion chain m
-    → Goes watch (set places i (Here (asked_for_headers peer))) (acts ++ Send (record { 0 = i }) m ∷ []) log
-wants_goes {watch = watch} places acts log i peer chain m lt goes here is mine question =
+pub wants_goes : {rule : Rule} (places : List Place) (acts : List Act) (log : Log) (i : ℕ) (peer : Peer) (chain : Chain) (m : Msg)
+    → i < length places → Goes rule places acts log → get_or places i nobody ≡ Here peer → wants rule.mode peer ≡ true → chain ≡ own (trail (after acts log) i) → IsQuestion chain m
+    → Goes rule (set places i (Here (asked_for_headers peer))) (acts ++ Send (record { 0 = i }) m ∷ []) log
+wants_goes {rule = rule} places acts log i peer chain m lt goes here is mine question =
     let keeps : Keeps peer (part_of (after acts log) i) = subst (λ (x : Place). Fits x (part_of (after acts log) i)) here (goes.stand.each i) in
     send_goes places acts log i (asked_for_headers peer) m lt goes question.sendable
-    (question_may (after acts log) i peer m keeps is (subst (λ (c : Chain). AsksAbove c m) mine question.asks))
-    (question_needed watch (after acts log) i chain m question.asks)
-    (question_keeps peer (part_of (after acts log) i) chain m keeps is question.asks)
+    (question_may rule.mode (after acts log) i peer m keeps is (subst (λ (c : Chain). AsksAbove c m) mine question.asks))
+    (question_needed rule (after acts log) i chain m question.asks)
+    (question_keeps peer (part_of (after acts log) i) chain m keeps (and_parts (not (heard_out rule.mode peer)) (is_idle_peer peer) is).1 question.asks)
 
 -- a message is asked of a connected peer to which nothing is open
-pub keeps_at : {watch : List (List ℕ)} (places : List Place) (acts : List Act) (log : Log) (i : ℕ) (peer : Peer) → Goes watch places acts log → get_or places i nobody ≡ Here peer
+pub keeps_at : {rule : Rule} (places : List Place) (acts : List Act) (log : Log) (i : ℕ) (peer : Peer) → Goes rule places acts log → get_or places i nobody ≡ Here peer
     → Keeps peer (part_of (after acts log) i)
 keeps_at places acts log i peer goes here = subst (λ (x : Place). Fits x (part_of (after acts log) i)) here (goes.stand.each i)
 
@@ -316,9 +318,9 @@ stand_first = record {
   first_at zero = refl
   first_at (suc p) = refl
 
-pub goes_start : {watch : List (List ℕ)} (places : List Place) (acts : List Act) (log : Log) → acts ≡ [] → PlacesStand places log → Goes watch places acts log
-goes_start {watch = watch} places acts log none stand =
-    subst (λ a. Goes watch places a log) (sym none) (record { stand = stand; allowed = tt })
+pub goes_start : {rule : Rule} (places : List Place) (acts : List Act) (log : Log) → acts ≡ [] → PlacesStand places log → Goes rule places acts log
+goes_start {rule = rule} places acts log none stand =
+    subst (λ a. Goes rule places a log) (sym none) (record { stand = stand; allowed = tt })
 
 -- where one place was added that isn't so lost, another is
 omitted_push : (places : List Place) (s : Place) (log next : Log)
@@ -331,7 +333,7 @@ omitted_push places s log next before else_lost kept q is = elim (cases_eq q (le
 ]
 
 -- where one place was added, of a peer that hadn't omitted anything
-named_push : (places : List Place) (s : Place) (log next : Log) → AreNamed places log → (Rightly next → Rightly log)
+named_push : (places : List Place) (s : Place) (log next : Log) → AreNamed places log → (RightlyIn Following next → RightlyIn Following log)
     → ((q : ℕ) → HasOmitted next q → HasOmitted log q) → AreNamed (places ++ s ∷ []) next
 named_push places s log next before back kept right q is = elim (cases_eq q (length places)) [
   | inl same ↦
@@ -367,17 +369,17 @@ dialled_others p name q part ne = grind (arith, common_steps)
 dialled_here : (p : PeerNo) (name : List ℕ) (part : Part) → went_on (Dialled p name) p.0 part ≡ called_part part
 dialled_here p name part = grind (arith, common_steps)
 
-greeting_may : (log : Log) (p : ℕ) (t : Trail) (m : Msg) → trail log p ≡ Called ∷ t → IsClientVersion m → MaySend log p m
-greeting_may log p t (Version version services time to from nonce agent height relay) here ours = record {
-  of_its_part = subst (λ (x : Trail). MayAsk x (Version version services time to from nonce agent height relay)) (sym here) (refl, refl, ours);
+greeting_may : (mode : Mode) (log : Log) (p : ℕ) (t : Trail) (m : Msg) → trail log p ≡ Called ∷ t → IsClientVersion m → MaySendIn mode log p m
+greeting_may mode log p t (Version version services time to from nonce agent height relay) here ours = record {
+  of_its_part = subst (λ (x : Trail). MayAskIn mode x (Version version services time to from nonce agent height relay)) (sym here) (refl, refl, ours);
   wanted = tt;
   alone = tt;
 }
-greeting_may log p t m here ours = absurd ours
+greeting_may mode log p t m here ours = absurd ours
 
-greeting_needed : (watch : List (List ℕ)) (log : Log) (p : ℕ) (m : Msg) → IsClientVersion m → IsCalledFor watch log p m
-greeting_needed watch log p (Version version services time to from nonce agent height relay) ours = tt
-greeting_needed watch log p m ours = absurd ours
+greeting_needed : (rule : Rule) (log : Log) (p : ℕ) (m : Msg) → IsClientVersion m → IsCalledFor rule log p m
+greeting_needed rule log p (Version version services time to from nonce agent height relay) ours = tt
+greeting_needed rule log p m ours = absurd ours
 
 greeting_keeps : (part : Part) (m : Msg) → IsClientVersion m → Keeps called_peer (with_item (Asked m) (called_part part))
 greeting_keeps part (Version version services time to from nonce agent height relay) ours = record {
@@ -391,9 +393,9 @@ greeting_keeps part m ours = absurd ours
 sent_part : (log : Log) (p : PeerNo) (m : Msg) (q : ℕ) → q ≢ p.0 → part_of (Sent p (bytes_of m) ∷ log) q ≡ part_of log q
 sent_part log p m q ne = sent_others p (bytes_of m) q (part_of log q) ne
 
-pub called_goes : {watch : List (List ℕ)} (places : List Place) (log : Log) (p : PeerNo) (name : List ℕ) (m : Msg) → p.0 ≡ length places → PlacesStand places log → IsGreeting m
-    → Goes watch (places ++ Here called_peer ∷ []) (Send p m ∷ []) (Dialled p name ∷ log)
-called_goes {watch = watch} places log p name m last stand greeting =
+pub called_goes : {rule : Rule} (places : List Place) (log : Log) (p : PeerNo) (name : List ℕ) (m : Msg) → p.0 ≡ length places → PlacesStand places log → IsGreeting m
+    → Goes rule (places ++ Here called_peer ∷ []) (Send p m ∷ []) (Dialled p name ∷ log)
+called_goes {rule = rule} places log p name m last stand greeting =
     let part = part_of log p.0 in
     let here : part_of (Dialled p name ∷ log) p.0 ≡ called_part part = dialled_here p name part in
     let now : part_of (Sent p (bytes_of m) ∷ Dialled p name ∷ log) p.0 ≡ with_item (Asked m) (called_part part) =
@@ -417,8 +419,8 @@ called_goes {watch = watch} places log p name m last stand greeting =
         (
           omega (arith, stand.count, last),
           greeting.sendable,
-          greeting_may (Dialled p name ∷ log) p.0 part.trail m (ap (λ (x : Part). x.trail) here) greeting.ours,
-          greeting_needed watch (Dialled p name ∷ log) p.0 m greeting.ours,
+          greeting_may rule.mode (Dialled p name ∷ log) p.0 part.trail m (ap (λ (x : Part). x.trail) here) greeting.ours,
+          greeting_needed rule (Dialled p name ∷ log) p.0 m greeting.ours,
         ),
         tt,
       );

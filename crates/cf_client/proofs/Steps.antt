@@ -1,10 +1,9 @@
 -- How steps of the client are put together, and what each single act is as a step.
 use Rattle.std.proofs.Common.{◌≡◌, ◌≢◌, inl, inr, ℕ, ◌<◌, ◌≤◌, Bool, List, [], ◌∷◌, ◌++◌, length, get_or, set, None, true, false, refl, sym, ◌∙◌, ap, subst, arith, append_assoc}
-use Rattle.std.proofs.lemmas.Bool.{and_parts, cases_eq}
+use Rattle.std.proofs.lemmas.Bool.{and_parts, both_ways, cases_eq}
 use Rattle.std.proofs.lemmas.List.{append-nil, length-set}
 use Rattle.std.proofs.lemmas.List.Elements.{All-push}
-use Rattle.std.specs.Prelude.{is_some, not}
-use Rattle.std.proofs.lemmas.Grind.{common_steps}
+use Rattle.std.specs.Prelude.{◌&&◌, is_some, not}
 use Rattle.std.specs.List.{All}
 use Rattle.cf_bytes.specs.declared.hash.Hash32.{Hash32}
 use Rattle.cf_dispute.specs.Claims.{no_claims}
@@ -13,14 +12,16 @@ use Rattle.cf_msg.specs.declared.msg.Msg.{Msg}
 use Rattle.cf_msg.specs.declared.msg.Msg.TheVariants.{GetCfheaders, GetCfilters}
 use Rattle.cf_peer.specs.declared.act.Act.{Act}
 use Rattle.cf_peer.specs.declared.act.Act.TheVariants.{Send, Close}
+use Rattle.cf_peer.specs.declared.mode.Mode.{Mode}
 use Rattle.cf_peer.specs.declared.peer.Cause.TheVariants.{Overdue}
 use Rattle.cf_peer.specs.declared.peer.Peer.{Peer}
 use Rattle.cf_wires.specs.declared.event.Delivery.{Delivery}
+use Rattle.cf_wires.specs.declared.event.Delivery.TheVariants.{Tick}
 use Rattle.cf_wires.specs.declared.event.Event.TheVariants.{Took}
 use Rattle.cf_peer.specs.Acts.{IsDoable}
 use Rattle.cf_wires.specs.Log.{Log}
-use Rattle.cf_peer.specs.Asking.{is_request}
-use Rattle.cf_peer.specs.Peer.{IsRight, calm, wants, is_idle_peer, asked_for_headers, asked_for_claims, asked_for_filters, asked_for_block}
+use Rattle.cf_peer.specs.Peer.{IsRight, calm, heard_out, wants, is_idle_peer, asked_for_headers, asked_for_claims, asked_for_filters, asked_for_block}
+use Rattle.cf_sync.specs.Fetching.{is_after_tick}
 use Rattle.cf_seek.specs.declared.spans.Span.{Span}
 use Rattle.cf_seek.specs.declared.spans.Wish.{Wish}
 use Rattle.cf_seek.specs.declared.spans.Wish.TheVariants.{Claims, Filters, Block, Test}
@@ -41,13 +42,13 @@ use Rattle.cf_place.specs.declared.place.Loss.{Loss}
 use Rattle.cf_place.specs.declared.place.Loss.TheVariants.{Closed as ClosedFor}
 use Rattle.cf_place.specs.Places.{Goes, PlacesStand, after as done, nobody, is_calm, is_here, is_idle, is_settled, IsQuestion}
 use Rattle.cf_client.specs.Settled.{AreEntered, AreRight, AreSettled, IsAskedThrough, IsRightAt, chain_at}
-use Rattle.cf_client.specs.Steps.{Desk, Stands, IsInOrder, IsSent, IsSentFor, Way, Same, Taking, Extends, Moves, Asks}
-use Rattle.cf_client.proofs.Ordering.{above_asks, block_asked}
+use Rattle.cf_client.specs.Steps.{Desk, Stands, IsInOrder, IsSent, IsSentFor, Way, Same, Ticked, Taking, Extends, Moves, Asks}
+use Rattle.cf_client.proofs.Ordering.{is_question, above_asks, block_asked}
 use Rattle.cf_client.proofs.Standing.{set_is, late_goes, goes_start}
 use Rattle.cf_client.proofs.Naming.{blameless_seen}
 use Rattle.cf_client.proofs.Settled.{set_each, set_other, settled_off, heard_by, asked_busy}
 use Rattle.cf_client.proofs.Rights.{right_of, right_set, claims_right, filters_right}
-use Rattle.cf_client.proofs.Best.{Furthest, Tries}
+use Rattle.cf_client.proofs.Best.{Furthest, Tries, rule_in}
 use Rattle.cf_client.proofs.Acting.{range_in, closed_tracks, headers_goes, claims_goes, filters_goes, block_goes, headers_tracks, claims_tracks, filters_tracks, block_tracks, test_goes, test_tracks, seen_same}
 
 -- ---- steps, put together
@@ -65,9 +66,11 @@ extends_none before now none = (now, sym (ap (λ (xs : List Act). xs ++ now) non
 pub extends_one : (acts : List Act) (a : Act) → Extends acts (acts ++ a ∷ [])
 extends_one acts a = (a ∷ [], refl)
 
-pub moves_then : {way : Way} {a b c : Desk} → Moves way a b → Moves Same b c → Moves way a c
-moves_then one two = record {
-  stands = λ log next on stood. two.stands next next refl (one.stands log next on stood);
+-- one step after another, which stands for the same log
+pub moves_on : {mode : Mode} {way more : Way} {a b c : Desk} → Moves mode way a b → Moves mode more b c
+    → ((log next : Log) → way log next → more next next) → Moves mode way a c
+moves_on one two still = record {
+  stands = λ log next on stood. two.stands next next (still log next on) (one.stands log next on stood);
   order = two.order;
   watch = two.watch ∙ one.watch;
   more = extends_then _ _ _ one.more two.more;
@@ -75,23 +78,33 @@ moves_then one two = record {
   calm = λ calm. two.calm (one.calm calm);
 }
 
+pub moves_then : {mode : Mode} {way : Way} {a b c : Desk} → Moves mode way a b → Moves mode Same b c → Moves mode way a c
+moves_then one two = moves_on one two (λ log next on. refl)
+
+-- right after a tick
+pub moves_ticked : {mode : Mode} {a b c : Desk} → Moves mode Ticked a b → Moves mode Ticked b c → Moves mode Ticked a c
+moves_ticked one two = moves_on one two (λ log next on. (refl, ap is_after_tick on.0 ∙ on.1))
+
+pub moves_tick : {mode : Mode} {a b c : Desk} (seconds : ℕ) → Moves mode (Taking (Tick seconds)) a b → Moves mode Ticked b c → Moves mode (Taking (Tick seconds)) a c
+moves_tick seconds one two = moves_on one two (λ log next on. (refl, ap is_after_tick on))
+
 -- a desk with no acts yet stands for a log if its places do, and what was seen is what the log says
-pub stands_start : (places : List Place) (seen : Seen) (acts : List Act) (log : Log) → acts ≡ [] → PlacesStand places log → Tracks seen log → IsUnexposed seen
-    → Stands (record { places = places; seen = seen; acts = acts }) log
-stands_start places seen acts log none stand tracks unexposed = subst (λ (xs : List Act). Stands (record { places = places; seen = seen; acts = xs }) log) (sym none) (record {
+pub stands_start : {mode : Mode} (places : List Place) (seen : Seen) (acts : List Act) (log : Log) → acts ≡ [] → PlacesStand places log → Tracks seen log → IsUnexposed seen
+    → Stands mode (record { places = places; seen = seen; acts = acts }) log
+stands_start {mode = mode} places seen acts log none stand tracks unexposed = subst (λ (xs : List Act). Stands mode (record { places = places; seen = seen; acts = xs }) log) (sym none) (record {
   goes = goes_start places [] log refl stand;
   tracks = tracks;
   unexposed = unexposed;
 })
 
-pub start_places : (d : Desk) (log : Log) → d.acts ≡ [] → Stands d log → PlacesStand d.places log
+pub start_places : {mode : Mode} (d : Desk) (log : Log) → d.acts ≡ [] → Stands mode d log → PlacesStand d.places log
 start_places d log none stood = subst (λ (xs : List Act). PlacesStand d.places (done xs log)) none stood.goes.stand
 
-pub start_tracks : (d : Desk) (log : Log) → d.acts ≡ [] → Stands d log → Tracks d.seen log
+pub start_tracks : {mode : Mode} (d : Desk) (log : Log) → d.acts ≡ [] → Stands mode d log → Tracks d.seen log
 start_tracks d log none stood = subst (λ (xs : List Act). Tracks d.seen (done xs log)) none stood.tracks
 
 -- between two calls the desk is in order
-pub in_order : (places : List Place) (seen : Seen) (acts : List Act) → length places ≤ 9 → AreSettled places seen → ∥ AreRight places seen.claims ∥₁ → IsInOrder (record { places = places; seen = seen; acts = acts })
+pub in_order : {mode : Mode} (places : List Place) (seen : Seen) (acts : List Act) → length places ≤ 9 → AreSettled mode places seen → ∥ AreRight places seen.claims ∥₁ → IsInOrder (record { places = places; seen = seen; acts = acts })
 in_order places seen acts few settled right = record { few = few; entered = settled.entered; right = right_of places seen.claims right }
 
 -- ---- one act, by which one place changes
@@ -108,7 +121,7 @@ abbrev pub acted : Desk → ℕ → Place → Seen → Act → Desk
 acted d i s seen a = record { places = set d.places i s; seen = seen; acts = d.acts ++ a ∷ [] }
 
 -- nothing changes, as the log goes on
-pub stay_moves : {way : Way} {d : Desk} → IsInOrder d → ((log next : Log) → way log next → Stands d log → Stands d next) → Moves way d d
+pub stay_moves : {mode : Mode} {way : Way} {d : Desk} → IsInOrder d → ((log next : Log) → way log next → Stands mode d log → Stands mode d next) → Moves mode way d d
 stay_moves {d = d} order stands = record { stands = stands; order = order; watch = refl; more = extends_self d.acts; doable = λ all. all; calm = λ calm. calm }
 
 -- what was seen changes of one peer alone, and agrees with what is kept of it
@@ -124,10 +137,10 @@ pub is_lost : (before after : Seen) (i : ℕ) (loss : Loss) → IsPut before aft
 is_lost before after i loss put = record { watch = put.watch; others = put.others; here = sym (ap is_some put.here); claims = put.claims_others; right = tt }
 
 -- one place is set
-pub set_moves : {way : Way} {d : Desk} {after : Seen} {acts : List Act} (i : ℕ) (s : Place) → i < length d.places → IsInOrder d → IsChanged d.seen after i s → Extends d.acts acts
+pub set_moves : {mode : Mode} {way : Way} {d : Desk} {after : Seen} {acts : List Act} (i : ℕ) (s : Place) → i < length d.places → IsInOrder d → IsChanged d.seen after i s → Extends d.acts acts
     → (All IsDoable d.acts → All IsDoable acts) → (is_calm (get_or d.places i nobody) ≡ true → is_calm s ≡ true)
-    → ((log next : Log) → way log next → Stands d log → Stands (record { places = set d.places i s; seen = after; acts = acts }) next)
-    → Moves way d (record { places = set d.places i s; seen = after; acts = acts })
+    → ((log next : Log) → way log next → Stands mode d log → Stands mode (record { places = set d.places i s; seen = after; acts = acts }) next)
+    → Moves mode way d (record { places = set d.places i s; seen = after; acts = acts })
 set_moves {d = d} {after = after} i s lt order changed more doable calm stands = record {
   stands = stands;
   order = record {
@@ -142,23 +155,25 @@ set_moves {d = d} {after = after} i s lt order changed more doable calm stands =
 }
 
 -- how what is shown of one log serves a way
-pub same : {d now : Desk} → ((log : Log) → Stands d log → Stands now log) → (log next : Log) → Same log next → Stands d log → Stands now next
-same {now = now} stands log next is stood = subst (Stands now) (sym is) (stands log stood)
+pub same : {mode : Mode} {d now : Desk} → ((log : Log) → Stands mode d log → Stands mode now log) → (log next : Log) → Same log next → Stands mode d log → Stands mode now next
+same {mode = mode} {now = now} stands log next is stood = subst (Stands mode now) (sym is) (stands log stood)
 
-pub taken : {d now : Desk} {x : Delivery} → ((log : Log) → Stands d log → Stands now (Took x ∷ log)) → (log next : Log) → Taking x log next → Stands d log → Stands now next
-taken {now = now} stands log next is stood = subst (Stands now) (sym is) (stands log stood)
+pub taken : {mode : Mode} {d now : Desk} {x : Delivery} → ((log : Log) → Stands mode d log → Stands mode now (Took x ∷ log)) → (log next : Log) → Taking x log next → Stands mode d log → Stands mode now next
+taken {mode = mode} {now = now} stands log next is stood = subst (Stands mode now) (sym is) (stands log stood)
 
-pub moves_self : (d : Desk) → IsInOrder d → Moves Same d d
+pub moves_self : {mode : Mode} (d : Desk) → IsInOrder d → Moves mode Same d d
 moves_self d order = stay_moves order (same (λ log stood. stood))
 
 -- a desk whose acts and places go on with the log, and whose seen things are those of another watch list that is the same
-pub goes_watch : {watch now : List (List ℕ)} {places : List Place} {acts : List Act} {log : Log} → now ≡ watch → Goes watch places acts log → Goes now places acts log
-goes_watch {places = places} {acts = acts} {log = log} same goes = subst (λ (w : List (List ℕ)). Goes w places acts log) (sym same) goes
+pub goes_watch : {mode : Mode} {watch now : List (List ℕ)} {places : List Place} {acts : List Act} {log : Log} → now ≡ watch
+    → Goes (record { watch = watch; mode = mode }) places acts log → Goes (record { watch = now; mode = mode }) places acts log
+goes_watch {mode = mode} {places = places} {acts = acts} {log = log} same goes =
+    subst (λ (w : List (List ℕ)). Goes (record { watch = w; mode = mode }) places acts log) (sym same) goes
 
 -- a peer is closed for its silence
-pub late_moves : (d : Desk) (i : ℕ) (after : Seen) → i < length d.places → IsInOrder d → is_calm (get_or d.places i nobody) ≡ false → IsPut d.seen after i None no_claims
-    → Moves Same d (acted d i (Lost (ClosedFor Overdue)) after (Close (record { 0 = i }) Overdue))
-late_moves d i after lt order late put =
+pub late_moves : (mode : Mode) (d : Desk) (i : ℕ) (after : Seen) → i < length d.places → IsInOrder d → is_calm (get_or d.places i nobody) ≡ false → IsPut d.seen after i None no_claims
+    → Moves mode Same d (acted d i (Lost (ClosedFor Overdue)) after (Close (record { 0 = i }) Overdue))
+late_moves mode d i after lt order late put =
     set_moves i (Lost (ClosedFor Overdue)) lt order (is_lost d.seen after i (ClosedFor Overdue) put) (extends_one d.acts (Close (record { 0 = i }) Overdue))
     (λ all. All-push IsDoable d.acts (Close (record { 0 = i }) Overdue) all (omega (arith, lt, order.few))) (λ was. refl)
     (same (λ log stood. record {
@@ -168,121 +183,143 @@ late_moves d i after lt order late put =
       unexposed = unexposed_put d.seen after i put stood.unexposed;
     }))
 
+-- a connected peer is sent what may be sent to it
+pub sent_moves : (mode : Mode) (way : Way) → ((log next : Log) → way log next → next ≡ log) → (d : Desk) (after : Seen) (i : ℕ) (peer now : Peer) (m : Msg)
+    → i < length d.places → IsInOrder d → get_or d.places i nobody ≡ Here peer
+    → IsDoable (Send (record { 0 = i }) m) → calm now ≡ true → IsRight now.request (d.seen.claims i) → HasOpened d.seen after i
+    → ((log : Log) → way log log → Stands mode d log → Goes (rule_in mode d.seen) (set d.places i (Here now)) (d.acts ++ Send (record { 0 = i }) m ∷ []) log)
+    → ((log : Log) → Stands mode d log → Tracks after (done (d.acts ++ Send (record { 0 = i }) m ∷ []) log))
+    → Moves mode way d (acted d i (Here now) after (Send (record { 0 = i }) m))
+sent_moves mode way stays d after i peer now m lt order here doable young right opened goes tracks =
+    set_moves i (Here now) lt order
+    (record {
+      watch = opened.watch;
+      others = λ q other. opened.chains q;
+      here = sym (ap is_here here) ∙ order.entered i ∙ ap is_some (sym (opened.chains i));
+      claims = λ q other block. opened.claims q block;
+      right = right_same now.request (d.seen.claims i) (after.claims i) (opened.claims i) right;
+    })
+    (extends_one d.acts (Send (record { 0 = i }) m)) (λ all. All-push IsDoable d.acts (Send (record { 0 = i }) m) all doable) (λ was. young)
+    (λ log next on stood. (let is = stays log next on in
+    subst (Stands mode (acted d i (Here now) after (Send (record { 0 = i }) m))) (sym is) (record {
+      goes = goes_watch opened.watch (goes log (subst (way log) is on) stood);
+      tracks = tracks log stood;
+      unexposed = unexposed_on d.seen after opened.claims opened.trials.told stood.unexposed;
+    })))
+
+-- a peer to which something is open, not for long, is settled
+off_and : (b : Bool) → (b && false) ≡ false
+off_and true = refl
+off_and false = refl
+
+settled_of : (young wanted idle : Bool) → young ≡ true → idle ≡ false → (young && not (wanted && idle)) ≡ true
+settled_of young wanted idle is off = rw (is, off, off_and wanted) refl
+
+busy_settled : (mode : Mode) (peer : Peer) → is_idle_peer peer ≡ false → calm peer ≡ true → is_settled mode (Here peer) ≡ true
+busy_settled mode peer busy young = settled_of (calm peer) (not (heard_out mode peer)) (is_idle_peer peer) young busy
+
 -- a connected peer is asked something
-sent_asks : (d : Desk) (after : Seen) (i : ℕ) (peer now : Peer) (m : Msg) → i < length d.places → IsInOrder d → get_or d.places i nobody ≡ Here peer
-    → IsDoable (Send (record { 0 = i }) m) → is_request m ≡ true → is_settled (Here now) ≡ true → is_calm (Here now) ≡ true → IsRight now.request (d.seen.claims i) → HasOpened d.seen after i
-    → ((log : Log) → Stands d log → Goes d.seen.watch (set d.places i (Here now)) (d.acts ++ Send (record { 0 = i }) m ∷ []) log)
-    → ((log : Log) → Stands d log → Tracks after (done (d.acts ++ Send (record { 0 = i }) m ∷ []) log))
-    → Asks i d (acted d i (Here now) after (Send (record { 0 = i }) m))
-sent_asks d after i peer now m lt order here doable question settled calm right opened goes tracks = record {
-  moves = set_moves i (Here now) lt order
-      (record {
-        watch = opened.watch;
-        others = λ q other. opened.chains q;
-        here = sym (ap is_here here) ∙ order.entered i ∙ ap is_some (sym (opened.chains i));
-        claims = λ q other block. opened.claims q block;
-        right = right_same now.request (d.seen.claims i) (after.claims i) (opened.claims i) right;
-      })
-      (extends_one d.acts (Send (record { 0 = i }) m)) (λ all. All-push IsDoable d.acts (Send (record { 0 = i }) m) all doable) (λ was. calm)
-      (same (λ log stood. record { goes = goes_watch opened.watch (goes log stood); tracks = tracks log stood; unexposed = unexposed_on d.seen after opened.claims opened.trials.told stood.unexposed }));
+sent_asks : (mode : Mode) (d : Desk) (after : Seen) (i : ℕ) (peer now : Peer) (m : Msg) → i < length d.places → IsInOrder d → get_or d.places i nobody ≡ Here peer
+    → IsDoable (Send (record { 0 = i }) m) → is_question m ≡ true → is_idle_peer now ≡ false → calm now ≡ true → IsRight now.request (d.seen.claims i) → HasOpened d.seen after i
+    → ((log : Log) → Stands mode d log → Goes (rule_in mode d.seen) (set d.places i (Here now)) (d.acts ++ Send (record { 0 = i }) m ∷ []) log)
+    → ((log : Log) → Stands mode d log → Tracks after (done (d.acts ++ Send (record { 0 = i }) m ∷ []) log))
+    → Asks mode i d (acted d i (Here now) after (Send (record { 0 = i }) m))
+sent_asks mode d after i peer now m lt order here doable question busy young right opened goes tracks = record {
+  moves = sent_moves mode Same (λ log next is. is) d after i peer now m lt order here doable young right opened (λ log is. goes log) tracks;
   asked = inr (m, question, refl);
   seen = opened;
-  settled = ap is_settled (set_is d.places i (Here now) lt) ∙ settled;
+  settled = ap (is_settled mode) (set_is d.places i (Here now) lt) ∙ busy_settled mode now busy young;
+  idle = λ is. absurd (both_ways (is_idle_peer now) busy (sym (ap is_idle (set_is d.places i (Here now) lt)) ∙ is));
   others = λ p other. set_other d.places i p (Here now) other;
 }
 
-pub question_asks : (d : Desk) (i : ℕ) (peer : Peer) (m : Msg) → i < length d.places → IsInOrder d → get_or d.places i nobody ≡ Here peer → wants peer ≡ true → IsQuestion (chain_at d.seen i) m
-    → Asks i d (acted d i (Here (asked_for_headers peer)) d.seen (Send (record { 0 = i }) m))
-question_asks d i peer m lt order here wanted question =
-    sent_asks d d.seen i peer (asked_for_headers peer) m lt order here (omega (arith, lt, order.few), question.sendable)
-    (above_asks (chain_at d.seen i) m question.asks) (grind (arith, common_steps)) refl tt (opened_self d.seen i)
+pub question_asks : (mode : Mode) (d : Desk) (i : ℕ) (peer : Peer) (m : Msg) → i < length d.places → IsInOrder d → get_or d.places i nobody ≡ Here peer → wants mode peer ≡ true → IsQuestion (chain_at d.seen i) m
+    → Asks mode i d (acted d i (Here (asked_for_headers peer)) d.seen (Send (record { 0 = i }) m))
+question_asks mode d i peer m lt order here wanted question =
+    sent_asks mode d d.seen i peer (asked_for_headers peer) m lt order here (omega (arith, lt, order.few), question.sendable)
+    (above_asks (chain_at d.seen i) m question.asks) refl refl tt (opened_self d.seen i)
     (λ log stood. headers_goes d.places d.acts log d.seen i peer m lt stood.goes here wanted stood.tracks question)
-    (λ log stood. headers_tracks d.places d.acts log d.seen i peer m stood.goes here (and_parts (not peer.heard) (is_idle_peer peer) wanted).1 question stood.tracks)
+    (λ log stood. headers_tracks d.places d.acts log d.seen i peer m stood.goes here (and_parts (not (heard_out mode peer)) (is_idle_peer peer) wanted).1 question stood.tracks)
 
 -- a message is asked about the blocks of its chain
-about_asks : (d : Desk) (after : Seen) (i : ℕ) (m : Msg) (change : Peer → Peer) (places : List Place) (acts : List Act) → i < length d.places → IsInOrder d → (sent : IsSent i m change d.places places d.acts acts)
-    → is_request m ≡ true → is_settled (Here (change sent.peer)) ≡ true → is_calm (Here (change sent.peer)) ≡ true → IsRight (change sent.peer).request (d.seen.claims i) → HasOpened d.seen after i
-    → ((log : Log) → Stands d log → Goes d.seen.watch (set d.places i (Here (change sent.peer))) (d.acts ++ Send (record { 0 = i }) m ∷ []) log)
-    → ((log : Log) → Stands d log → Tracks after (done (d.acts ++ Send (record { 0 = i }) m ∷ []) log))
-    → Asks i d (record { places = places; seen = after; acts = acts })
-about_asks d after i m change places acts lt order sent question settled calm right opened goes tracks =
-    subst (λ (ps : List Place). Asks i d (record { places = ps; seen = after; acts = acts })) (sym sent.kept)
-    (subst (λ (xs : List Act). Asks i d (record { places = set d.places i (Here (change sent.peer)); seen = after; acts = xs })) (sym sent.added)
-    (sent_asks d after i sent.peer (change sent.peer) m lt order sent.here (omega (arith, lt, order.few), sent.sendable) question settled calm right opened goes tracks))
+about_asks : (mode : Mode) (d : Desk) (after : Seen) (i : ℕ) (m : Msg) (change : Peer → Peer) (places : List Place) (acts : List Act) → i < length d.places → IsInOrder d → (sent : IsSent i m change d.places places d.acts acts)
+    → is_question m ≡ true → is_idle_peer (change sent.peer) ≡ false → calm (change sent.peer) ≡ true → IsRight (change sent.peer).request (d.seen.claims i) → HasOpened d.seen after i
+    → ((log : Log) → Stands mode d log → Goes (rule_in mode d.seen) (set d.places i (Here (change sent.peer))) (d.acts ++ Send (record { 0 = i }) m ∷ []) log)
+    → ((log : Log) → Stands mode d log → Tracks after (done (d.acts ++ Send (record { 0 = i }) m ∷ []) log))
+    → Asks mode i d (record { places = places; seen = after; acts = acts })
+about_asks mode d after i m change places acts lt order sent question busy young right opened goes tracks =
+    subst (λ (ps : List Place). Asks mode i d (record { places = ps; seen = after; acts = acts })) (sym sent.kept)
+    (subst (λ (xs : List Act). Asks mode i d (record { places = set d.places i (Here (change sent.peer)); seen = after; acts = xs })) (sym sent.added)
+    (sent_asks mode d after i sent.peer (change sent.peer) m lt order sent.here (omega (arith, lt, order.few), sent.sendable) question busy young right opened goes tracks))
 
 -- by what its tracker wishes of a peer that has nothing open
 abbrev pub WishAt : Desk → ℕ → ℕ → Wish → Type 0
 WishAt d i common wish = IsWish d.seen.table d.seen.claims d.seen.verdicts d.seen.opens i (chain_at d.seen i) common wish
 
-ended_by : (peer : Peer) → is_idle_peer peer ≡ true → is_settled (Here peer) ≡ true → peer.heard ≡ true
-ended_by peer idle was = heard_by peer idle (settled_off (Here peer) was)
+ended_by : (mode : Mode) (place : Place) (peer : Peer) → place ≡ Here peer → is_idle_peer peer ≡ true → is_settled mode place ≡ true → heard_out mode peer ≡ true
+ended_by mode place peer here idle was = heard_by mode peer idle (settled_off mode (Here peer) (subst (λ (x : Place). is_settled mode x ≡ true) here was))
 
-settled_by : (peer : Peer) (change : Peer → Peer) → is_idle_peer peer ≡ true → is_settled (Here peer) ≡ true → (change peer).heard ≡ peer.heard → calm (change peer) ≡ true → is_settled (Here (change peer)) ≡ true
-settled_by peer change idle was kept young =
-    let off : wants peer ≡ false = settled_off (Here peer) was in
-    let heard : peer.heard ≡ true = heard_by peer idle off in
-    rw (young, ap (λ (b : Bool). not b) (kept ∙ heard)) refl
-
-pub claims_asks : (d : Desk) (after : Seen) (i common : ℕ) (span : Span) (places : List Place) (acts : List Act) → i < length d.places → IsInOrder d → is_settled (get_or d.places i nobody) ≡ true → common ≤ length (chain_at d.seen i)
+pub claims_asks : (mode : Mode) (d : Desk) (after : Seen) (i common : ℕ) (span : Span) (places : List Place) (acts : List Act) → i < length d.places → IsInOrder d → is_settled mode (get_or d.places i nobody) ≡ true → common ≤ length (chain_at d.seen i)
     → WishAt d i common (Claims span) → Furthest d.seen i common (Claims span) → Tries d.seen i common (Claims span) → HasOpened d.seen after i → IsSameOpens d.seen.opens after.opens
     → IsAimed i (Claims span) d.seen.trials.aims after.trials.aims
     → IsSent i (GetCfheaders 0 span.start span.stop) (asked_for_claims (range_in span)) d.places places d.acts acts
-    → Asks i d (record { places = places; seen = after; acts = acts })
-claims_asks d after i common span places acts lt order settled low wish far tries opened opens aimed sent =
-    about_asks d after i (GetCfheaders 0 span.start span.stop) (asked_for_claims (range_in span)) places acts lt order sent refl
-    (settled_by sent.peer (asked_for_claims (range_in span)) sent.idle (subst (λ (x : Place). is_settled x ≡ true) sent.here settled) refl refl) refl
+    → Asks mode i d (record { places = places; seen = after; acts = acts })
+claims_asks mode d after i common span places acts lt order settled low wish far tries opened opens aimed sent =
+    about_asks mode d after i (GetCfheaders 0 span.start span.stop) (asked_for_claims (range_in span)) places acts lt order sent refl
+    refl refl
     (let le = wish.1.1.1 in claims_right d.seen.claims i (chain_at d.seen i) wish.1.0 span 0 wish.0.0 (omega (arith, le, low)) wish.1.1.0 wish.0.2 wish.1.1.3) opened
-    (λ log stood. claims_goes d.places d.acts log d.seen i sent.peer common span lt stood.goes sent.here sent.idle (ended_by sent.peer sent.idle (subst (λ (x : Place). is_settled x ≡ true) sent.here settled)) far tries stood.tracks low wish sent.sendable)
+    (λ log stood. claims_goes mode d.places d.acts log d.seen i sent.peer common span lt stood.goes sent.here sent.idle (ended_by mode (get_or d.places i nobody) sent.peer sent.here sent.idle settled) far tries stood.tracks low wish sent.sendable)
     (λ log stood. claims_tracks d.places d.acts log d.seen after i common sent.peer span stood.goes sent.here sent.idle sent.sendable opened wish opens aimed stood.tracks)
 
-pub filters_asks : (d : Desk) (after : Seen) (i common : ℕ) (span : Span) (places : List Place) (acts : List Act) → i < length d.places → IsInOrder d → is_settled (get_or d.places i nobody) ≡ true → common ≤ length (chain_at d.seen i)
+pub filters_asks : (mode : Mode) (d : Desk) (after : Seen) (i common : ℕ) (span : Span) (places : List Place) (acts : List Act) → i < length d.places → IsInOrder d → is_settled mode (get_or d.places i nobody) ≡ true → common ≤ length (chain_at d.seen i)
     → WishAt d i common (Filters span) → Furthest d.seen i common (Filters span) → Tries d.seen i common (Filters span) → HasOpened d.seen after i
     → OpensFilters d.seen.opens after.opens i (blocks_of span.blocks.items) → IsAimed i (Filters span) d.seen.trials.aims after.trials.aims
     → IsSent i (GetCfilters 0 span.start span.stop) (asked_for_filters span.blocks.items) d.places places d.acts acts
-    → Asks i d (record { places = places; seen = after; acts = acts })
-filters_asks d after i common span places acts lt order settled low wish far tries opened opens aimed sent =
-    about_asks d after i (GetCfilters 0 span.start span.stop) (asked_for_filters span.blocks.items) places acts lt order sent refl
-    (settled_by sent.peer (asked_for_filters span.blocks.items) sent.idle (subst (λ (x : Place). is_settled x ≡ true) sent.here settled) refl refl) refl
+    → Asks mode i d (record { places = places; seen = after; acts = acts })
+filters_asks mode d after i common span places acts lt order settled low wish far tries opened opens aimed sent =
+    about_asks mode d after i (GetCfilters 0 span.start span.stop) (asked_for_filters span.blocks.items) places acts lt order sent refl
+    refl refl
     (filters_right (chain_at d.seen i) wish.1.0 span wish.0.1 wish.1.1.0) opened
-    (λ log stood. filters_goes d.places d.acts log d.seen i sent.peer common span lt stood.goes sent.here sent.idle (ended_by sent.peer sent.idle (subst (λ (x : Place). is_settled x ≡ true) sent.here settled)) far tries stood.tracks low wish sent.sendable)
+    (λ log stood. filters_goes mode d.places d.acts log d.seen i sent.peer common span lt stood.goes sent.here sent.idle (ended_by mode (get_or d.places i nobody) sent.peer sent.here sent.idle settled) far tries stood.tracks low wish sent.sendable)
     (λ log stood. filters_tracks d.places d.acts log d.seen after i common sent.peer span stood.goes sent.here sent.idle sent.sendable opened wish opens low aimed stood.tracks)
 
-pub block_asks : (d : Desk) (after : Seen) (i common : ℕ) (hash : Hash32) (places : List Place) (acts : List Act) → i < length d.places → IsInOrder d → is_settled (get_or d.places i nobody) ≡ true → common ≤ length (chain_at d.seen i)
+pub block_asks : (mode : Mode) (d : Desk) (after : Seen) (i common : ℕ) (hash : Hash32) (places : List Place) (acts : List Act) → i < length d.places → IsInOrder d → is_settled mode (get_or d.places i nobody) ≡ true → common ≤ length (chain_at d.seen i)
     → WishAt d i common (Block hash) → Furthest d.seen i common (Block hash) → Tries d.seen i common (Block hash) → HasOpened d.seen after i
     → OpensBlock d.seen.opens after.opens i hash.0 → IsAimed i (Block hash) d.seen.trials.aims after.trials.aims
-    → IsSentFor i hash d.places places d.acts acts → Asks i d (record { places = places; seen = after; acts = acts })
-block_asks d after i common hash places acts lt order settled low wish far tries opened opens aimed for =
-    about_asks d after i for.message (asked_for_block hash) places acts lt order for.sent (block_asked hash for.message for.asks)
-    (settled_by for.sent.peer (asked_for_block hash) for.sent.idle (subst (λ (x : Place). is_settled x ≡ true) for.sent.here settled) refl refl) refl tt opened
-    (λ log stood. block_goes d.places d.acts log d.seen i for.sent.peer common hash for.message lt stood.goes for.sent.here for.sent.idle (ended_by for.sent.peer for.sent.idle (subst (λ (x : Place). is_settled x ≡ true) for.sent.here settled)) far tries stood.tracks low wish for.sent.sendable for.asks)
+    → IsSentFor i hash d.places places d.acts acts → Asks mode i d (record { places = places; seen = after; acts = acts })
+block_asks mode d after i common hash places acts lt order settled low wish far tries opened opens aimed for =
+    about_asks mode d after i for.message (asked_for_block hash) places acts lt order for.sent (block_asked hash for.message for.asks)
+    refl refl tt opened
+    (λ log stood. block_goes mode d.places d.acts log d.seen i for.sent.peer common hash for.message lt stood.goes for.sent.here for.sent.idle (ended_by mode (get_or d.places i nobody) for.sent.peer for.sent.here for.sent.idle settled) far tries stood.tracks low wish for.sent.sendable for.asks)
     (λ log stood. block_tracks d.places d.acts log d.seen after i for.sent.peer hash for.message stood.goes for.sent.here for.sent.idle for.sent.sendable for.asks opened opens aimed stood.tracks)
 
-pub test_asks : (d : Desk) (after : Seen) (i common : ℕ) (trial : Trial) (places : List Place) (acts : List Act) → i < length d.places → IsInOrder d → is_settled (get_or d.places i nobody) ≡ true
+pub test_asks : (mode : Mode) (d : Desk) (after : Seen) (i common : ℕ) (trial : Trial) (places : List Place) (acts : List Act) → i < length d.places → IsInOrder d → is_settled mode (get_or d.places i nobody) ≡ true
     → WishAt d i common (Test trial) → Furthest d.seen i common (Test trial) → Tries d.seen i common (Test trial) → HasOpened d.seen after i
     → OpensFilters d.seen.opens after.opens i (trial.block.0 ∷ []) → IsAimed i (Test trial) d.seen.trials.aims after.trials.aims
     → IsSent i (GetCfilters 0 trial.height trial.block) (asked_for_filters (trial.block ∷ [])) d.places places d.acts acts
-    → Asks i d (record { places = places; seen = after; acts = acts })
-test_asks d after i common trial places acts lt order settled wish far tries opened opens aimed sent =
-    about_asks d after i (GetCfilters 0 trial.height trial.block) (asked_for_filters (trial.block ∷ [])) places acts lt order sent refl
-    (settled_by sent.peer (asked_for_filters (trial.block ∷ [])) sent.idle (subst (λ (x : Place). is_settled x ≡ true) sent.here settled) refl refl) refl
+    → Asks mode i d (record { places = places; seen = after; acts = acts })
+test_asks mode d after i common trial places acts lt order settled wish far tries opened opens aimed sent =
+    about_asks mode d after i (GetCfilters 0 trial.height trial.block) (asked_for_filters (trial.block ∷ [])) places acts lt order sent refl
+    refl refl
     (omega arith) opened
-    (λ log stood. test_goes d.places d.acts log d.seen i sent.peer common trial lt stood.goes sent.here sent.idle (ended_by sent.peer sent.idle (subst (λ (x : Place). is_settled x ≡ true) sent.here settled)) far tries stood.tracks wish sent.sendable)
+    (λ log stood. test_goes mode d.places d.acts log d.seen i sent.peer common trial lt stood.goes sent.here sent.idle (ended_by mode (get_or d.places i nobody) sent.peer sent.here sent.idle settled) far tries stood.tracks wish sent.sendable)
     (λ log stood. test_tracks d.places d.acts log d.seen after i common sent.peer trial stood.goes sent.here sent.idle sent.sendable opened tries opens aimed stood.tracks)
 
 -- nothing is asked of a peer that is settled, and what was seen stays
-pub none_asked : (d : Desk) (i : ℕ) → IsInOrder d → is_settled (get_or d.places i nobody) ≡ true → Asks i d d
-none_asked d i order settled = record {
+pub none_asked : (mode : Mode) (d : Desk) (i : ℕ) → IsInOrder d → is_settled mode (get_or d.places i nobody) ≡ true → Asks mode i d d
+none_asked mode d i order settled = record {
   moves = moves_self d order;
   asked = inl refl;
   seen = opened_self d.seen i;
   settled = settled;
+  idle = λ is. refl;
   others = λ p other. refl;
 }
 
-pub quiet_asked : (d : Desk) (after : Seen) (i : ℕ) → IsInOrder d → is_settled (get_or d.places i nobody) ≡ true → IsSameSeen d.seen after
-    → Asks i d (record { places = d.places; seen = after; acts = d.acts })
-quiet_asked d after i order settled same =
-    subst (λ (s : Seen). Asks i d (record { places = d.places; seen = s; acts = d.acts })) (sym (seen_same d.seen after same)) (none_asked d i order settled)
+pub quiet_asked : (mode : Mode) (d : Desk) (after : Seen) (i : ℕ) → IsInOrder d → is_settled mode (get_or d.places i nobody) ≡ true → IsSameSeen d.seen after
+    → Asks mode i d (record { places = d.places; seen = after; acts = d.acts })
+quiet_asked mode d after i order settled same =
+    subst (λ (s : Seen). Asks mode i d (record { places = d.places; seen = s; acts = d.acts })) (sym (seen_same d.seen after same)) (none_asked mode d i order settled)
 
 -- ---- and then it has nothing left to be asked, or something is open to it
 

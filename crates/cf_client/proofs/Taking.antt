@@ -16,6 +16,7 @@ use Rattle.cf_msg.specs.declared.msg.Msg.TheVariants.{Verack, Pong}
 use Rattle.cf_msg.specs.Reading.{message_of}
 use Rattle.cf_peer.specs.declared.act.Act.{Act}
 use Rattle.cf_peer.specs.declared.act.Act.TheVariants.{Send, Close}
+use Rattle.cf_peer.specs.declared.mode.Mode.{Mode}
 use Rattle.cf_wires.specs.declared.event.Delivery.TheVariants.{Got, Gone, Tick, Ended}
 use Rattle.cf_wires.specs.declared.event.Event.TheVariants.{Sent, Closed, Took}
 use Rattle.cf_peer.specs.declared.peer.Cause.{Cause}
@@ -29,7 +30,7 @@ use Rattle.cf_peer.specs.Peer.{Holds, calm}
 use Rattle.cf_peer.specs.Hearing.{IsReply}
 use Rattle.cf_dispute.specs.Claims.{Table, no_claims}
 use Rattle.cf_headers.specs.Chain.{Hash}
-use Rattle.cf_sync.specs.Fetching.{MaySend, blocks_open, filters_open}
+use Rattle.cf_sync.specs.Fetching.{MaySendIn, Rule, blocks_open, filters_open}
 use Rattle.cf_sync.specs.Due.{IsCalledFor}
 use Rattle.cf_sync.specs.Honesty.{asked}
 use Rattle.cf_sync.proofs.Counted.{same_use}
@@ -115,8 +116,8 @@ got_fits (Here peer) p piece q part lost fits = elim (cases_eq q p.0) [
 ]
 got_fits (Lost end) p piece q part lost fits = deaf_fits end p piece q part fits
 
-deaf_goes : {watch : List (List ℕ)} (places : List Place) (acts : List Act) (log : Log) (p : PeerNo) (piece : List ℕ) (end : Loss)
-    → acts ≡ [] → get_or places p.0 nobody ≡ Lost end → PlacesStand places log → Goes watch places acts (Took (Got p piece) ∷ log)
+deaf_goes : {rule : Rule} (places : List Place) (acts : List Act) (log : Log) (p : PeerNo) (piece : List ℕ) (end : Loss)
+    → acts ≡ [] → get_or places p.0 nobody ≡ Lost end → PlacesStand places log → Goes rule places acts (Took (Got p piece) ∷ log)
 deaf_goes places acts log p piece end none lost stand =
     goes_start places acts (Took (Got p piece) ∷ log) none (stand_same places log (Took (Got p piece)) stand
     (λ q fits. got_fits (get_or places q nobody) p piece q (part_of log q) (λ same. (end, ap (λ k. get_or places k nobody) same ∙ lost)) fits) refl
@@ -142,8 +143,8 @@ pub claims_asked : (rs : List Msg) (part : Part) → claims (counted (asked_all 
 claims_asked [] part = refl
 claims_asked (r ∷ rs) part = claims_asked rs (with_item (Asked r) part)
 
-pub record RepliesDone (watch : List (List ℕ)) (p : PeerNo) (rs : List Msg) (log : Log) : Type 0 where
-  pub allowed : Allowed watch (sends p rs) log
+pub record RepliesDone (rule : Rule) (p : PeerNo) (rs : List Msg) (log : Log) : Type 0 where
+  pub allowed : Allowed rule (sends p rs) log
   pub here : part_of (after (sends p rs) log) p.0 ≡ asked_all rs (part_of log p.0)
   pub others : (q : ℕ) → q ≢ p.0 → part_of (after (sends p rs) log) q ≡ part_of log q
   pub count : (tally_of (after (sends p rs) log)).dials ≡ (tally_of log).dials
@@ -171,9 +172,9 @@ AreDueFirst rs more t = owed (counted t) ≡ replied t ++ (rs ++ more)
 due_all : (rs : List Msg) (t : Trail) → AreDue rs t → AreDueFirst rs [] t
 due_all rs t due = due ∙ ap (λ (xs : List Msg). replied t ++ xs) (sym (append-nil rs))
 
-reply_sent : (r : Msg) (log : Log) (p : ℕ) → IsReply r → connected (trail log p) ≡ true → met (trail log p) ≡ true → IsNextReply (trail log p) r → MaySend log p r
-reply_sent r log p is on over =
-    by_reply (λ (m : Msg). IsNextReply (trail log p) m → MaySend log p m) (λ next. record { of_its_part = (on, over, next); wanted = tt; alone = tt }) (λ number next. record { of_its_part = (on, over, next); wanted = tt; alone = tt }) r is
+reply_sent : (mode : Mode) (r : Msg) (log : Log) (p : ℕ) → IsReply r → connected (trail log p) ≡ true → met (trail log p) ≡ true → IsNextReply (trail log p) r → MaySendIn mode log p r
+reply_sent mode r log p is on over =
+    by_reply (λ (m : Msg). IsNextReply (trail log p) m → MaySendIn mode log p m) (λ next. record { of_its_part = (on, over, next); wanted = tt; alone = tt }) (λ number next. record { of_its_part = (on, over, next); wanted = tt; alone = tt }) r is
 
 -- once the first of them is sent
 due_next : (r : Msg) (rs more : List Msg) (before after : Part) → IsReply r → after ≡ with_item (Asked r) before → AreDueFirst (r ∷ rs) more before.trail → AreDueFirst rs more after.trail
@@ -181,20 +182,20 @@ due_next r rs more before after is here due =
     ap (λ (x : Part). owed (counted x.trail)) here ∙ due ∙ sym (append_assoc (replied before.trail) (r ∷ []) (rs ++ more))
     ∙ ap (λ (xs : List Msg). (replied before.trail ++ xs) ++ (rs ++ more)) (sym (as_itself r is)) ∙ sym (ap (λ (x : Part). replied x.trail ++ (rs ++ more)) here)
 
-reply_needed : (watch : List (List ℕ)) (r : Msg) (log : Log) (p : ℕ) → IsReply r → IsCalledFor watch log p r
-reply_needed watch r log p is = by_reply (IsCalledFor watch log p) tt (λ number. tt) r is
+reply_needed : (rule : Rule) (r : Msg) (log : Log) (p : ℕ) → IsReply r → IsCalledFor rule log p r
+reply_needed rule r log p is = by_reply (IsCalledFor rule log p) tt (λ number. tt) r is
 
-pub replies_done : {watch : List (List ℕ)} (p : PeerNo) (rs more : List Msg) (log : Log) → p.0 ≤ (tally_of log).dials → AllByRecursion IsReply rs → AreSendable rs
-    → connected (trail log p.0) ≡ true → (rs ≡ []) ⊎ (met (trail log p.0) ≡ true) → AreDueFirst rs more (trail log p.0) → RepliesDone watch p rs log
+pub replies_done : {rule : Rule} (p : PeerNo) (rs more : List Msg) (log : Log) → p.0 ≤ (tally_of log).dials → AllByRecursion IsReply rs → AreSendable rs
+    → connected (trail log p.0) ≡ true → (rs ≡ []) ⊎ (met (trail log p.0) ≡ true) → AreDueFirst rs more (trail log p.0) → RepliesDone rule p rs log
 replies_done p [] more log number are sendable on over due = record { allowed = tt; here = refl; others = λ q ne. refl; count = refl }
 replies_done p (r ∷ rs) more log number are sendable on (inl none) due = absurd (let e : r ∷ rs ≡ [] = none in cc)
-replies_done {watch = watch} p (r ∷ rs) more log number are sendable on (inr over) due =
+replies_done {rule = rule} p (r ∷ rs) more log number are sendable on (inr over) due =
     let next = Sent p (bytes_of r) ∷ log in
     let here : part_of next p.0 ≡ with_item (Asked r) (part_of log p.0) = sent_here p r (part_of log p.0) sendable.0 in
-    let rest = replies_done {watch = watch} p rs more next number are.1 sendable.1 (ap (λ (x : Part). connected x.trail) here ∙ on) (inr (ap (λ (x : Part). met x.trail) here ∙ over))
+    let rest = replies_done {rule = rule} p rs more next number are.1 sendable.1 (ap (λ (x : Part). connected x.trail) here ∙ on) (inr (ap (λ (x : Part). met x.trail) here ∙ over))
     (due_next r rs more (part_of log p.0) (part_of next p.0) are.0 here due) in
     record {
-      allowed = ((number, sendable.0, reply_sent r log p.0 are.0 on over (rs ++ more, due), reply_needed watch r log p.0 are.0), rest.allowed);
+      allowed = ((number, sendable.0, reply_sent rule.mode r log p.0 are.0 on over (rs ++ more, due), reply_needed rule r log p.0 are.0), rest.allowed);
       here = rest.here ∙ ap (asked_all rs) here;
       others = λ q ne. rest.others q ne ∙ sent_others p (bytes_of r) q (part_of log q) ne;
       count = rest.count;
@@ -212,8 +213,8 @@ pub record Unchanged (rs : List Msg) (part : Part) : Type 0 where
 
 holds_asked : (r : Msg) (peer : Peer) (t : Trail) → IsReply r → Holds peer t → Holds peer (Asked r ∷ t)
 holds_asked r peer t is h = by_reply (λ (m : Msg). Holds peer (Asked m ∷ t))
-    (record { on = h.on; called = h.called; meeting = h.meeting; open_one = h.open_one; hearing = h.hearing; clean = h.clean; orderly = h.orderly; acquainted = h.acquainted })
-    (λ number. record { on = h.on; called = h.called; meeting = h.meeting; open_one = h.open_one; hearing = h.hearing; clean = h.clean; orderly = h.orderly; acquainted = h.acquainted }) r is
+    (record { on = h.on; called = h.called; meeting = h.meeting; open_one = h.open_one; hearing = h.hearing; numbered = h.numbered; clean = h.clean; orderly = h.orderly; acquainted = h.acquainted })
+    (λ number. record { on = h.on; called = h.called; meeting = h.meeting; open_one = h.open_one; hearing = h.hearing; numbered = h.numbered; clean = h.clean; orderly = h.orderly; acquainted = h.acquainted }) r is
 
 no_version : (r : Msg) → IsReply r → is_version r ≡ false
 no_version r is = by_reply (λ (m : Msg). is_version m ≡ false) refl (λ number. refl) r is
@@ -270,17 +271,17 @@ unomitted_sends p [] log q is = is
 unomitted_sends p (r ∷ rs) log q is = unomitted_sends p rs (Sent p (bytes_of r) ∷ log) q is
 
 -- a piece of a connected peer, all of which is taken
-whole_at : {watch : List (List ℕ)} (places : List Place) (log : Log) (p : PeerNo) (piece : List ℕ) (peer : Peer) (seen now : Seen) (acts : List Act)
+whole_at : {rule : Rule} (places : List Place) (log : Log) (p : PeerNo) (piece : List ℕ) (peer : Peer) (seen now : Seen) (acts : List Act)
     → p.0 < length places → PlacesStand places log → connected (trail log p.0) ≡ true → IsAnswered (trail log p.0)
     → (whole : HeardWhole p peer seen now [] acts (part_of log p.0) (heard_part piece (part_of log p.0))) → AreSendable whole.replies
-    → Goes watch (set places p.0 (Here peer)) acts (Took (Got p piece) ∷ log)
-whole_at {watch = watch} places log p piece peer seen now acts lt stand on answered whole sendable =
+    → Goes rule (set places p.0 (Here peer)) acts (Took (Got p piece) ∷ log)
+whole_at {rule = rule} places log p piece peer seen now acts lt stand on answered whole sendable =
     let next = Took (Got p piece) ∷ log in
     let rs = whole.replies in
     let here = heard_log p piece log in
     let part = heard_part piece (part_of log p.0) in
     let up : connected (trail next p.0) ≡ true = ap (λ (x : Part). connected x.trail) here ∙ heard_connected piece (part_of log p.0) ∙ on in
-    let done = replies_done {watch = watch} p rs [] next (number_within places log p.0 stand lt) whole.are.each sendable up (met_by p rs (part_of next p.0) part here whole.are.after_version)
+    let done = replies_done {rule = rule} p rs [] next (number_within places log p.0 stand lt) whole.are.each sendable up (met_by p rs (part_of next p.0) part here whole.are.after_version)
     (due_all rs (trail next p.0) (due_by piece rs (part_of log p.0) (part_of next p.0) here answered ((same_use part.trail whole.holds.on whole.holds.clean).owing ∙ whole.owes))) in
     let same = unchanged rs part whole.are.each in
     let at_end : part_of (after (sends p rs) next) p.0 ≡ asked_all rs part = done.here ∙ ap (asked_all rs) here in
@@ -293,7 +294,7 @@ whole_at {watch = watch} places log p piece peer seen now acts lt stand on answe
       };
     } in
     let mine : Fits (Here peer) (part_of (after (sends p rs) next) p.0) = subst (λ (x : Part). Keeps peer x) (sym at_end) keeps in
-    subst (λ (xs : List Act). Goes watch (set places p.0 (Here peer)) xs next) (sym whole.acts) (record {
+    subst (λ (xs : List Act). Goes rule (set places p.0 (Here peer)) xs next) (sym whole.acts) (record {
       stand = record {
         count = grind (arith, common_steps, stand.count, done.count);
         omitted = omitted_set places p.0 (Here peer) log (after (sends p rs) next) lt stand.omitted (λ is. cc)
@@ -347,10 +348,10 @@ whole_of places log p piece old peer seen now before acts none here stand tracks
     subst (λ (xs : List Act). HeardWhole p peer seen now xs acts (part_of log p.0) (heard_part piece (part_of log p.0))) none
     (heard (part_of log p.0) keeps.holds keeps.waits (follows_is seen log p.0 tracks keeps.holds.on keeps.holds.clean))
 
-heard_goes : {watch : List (List ℕ)} (places : List Place) (log : Log) (p : PeerNo) (piece : List ℕ) (old peer : Peer) (seen now : Seen) (before acts : List Act)
+heard_goes : {rule : Rule} (places : List Place) (log : Log) (p : PeerNo) (piece : List ℕ) (old peer : Peer) (seen now : Seen) (before acts : List Act)
     → p.0 < length places → before ≡ [] → get_or places p.0 nobody ≡ Here old → PlacesStand places log → Tracks seen log
     → HearsWhole p piece old peer seen now before acts → All IsDoable acts
-    → Goes watch (set places p.0 (Here peer)) acts (Took (Got p piece) ∷ log)
+    → Goes rule (set places p.0 (Here peer)) acts (Took (Got p piece) ∷ log)
 heard_goes places log p piece old peer seen now before acts lt none here stand tracks heard doable =
     let keeps = place_keeps places log p old here stand in
     let whole = whole_of places log p piece old peer seen now before acts none here stand tracks heard in
@@ -385,21 +386,21 @@ whole_tracks places log p piece old peer seen now before acts none here stand tr
     subst (λ (xs : List Act). Tracks now (after xs next)) (sym whole.acts) (sends_track p whole.replies now next whole.are.each sendable (tracks_heard p peer seen now [] acts piece log whole tracks))
 
 -- a piece in which a frame deserves a cause: the peer is closed
-fault_at : {watch : List (List ℕ)} (places : List Place) (log : Log) (p : PeerNo) (piece : List ℕ) (cause : Cause) (seen now : Seen) (acts : List Act)
+fault_at : {rule : Rule} (places : List Place) (log : Log) (p : PeerNo) (piece : List ℕ) (cause : Cause) (seen now : Seen) (acts : List Act)
     → p.0 < length places → PlacesStand places log → connected (trail log p.0) ≡ true → IsAnswered (trail log p.0)
     → (fault : HeardFault p seen now [] acts (part_of log p.0) (heard_part piece (part_of log p.0)) cause) → AreSendable fault.replies
     → (part_of (after (sends p fault.replies) (Took (Got p piece) ∷ log)) p.0
     ≡ asked_all fault.replies (heard_part piece (part_of log p.0))
     → IsNamed (after (sends p fault.replies) (Took (Got p piece) ∷ log)) p.0 cause)
-    → Goes watch (set places p.0 (Lost (ClosedFor cause))) (acts ++ Close p cause ∷ []) (Took (Got p piece) ∷ log)
-fault_at {watch = watch} places log p piece cause seen now acts lt stand on answered fault sendable named =
+    → Goes rule (set places p.0 (Lost (ClosedFor cause))) (acts ++ Close p cause ∷ []) (Took (Got p piece) ∷ log)
+fault_at {rule = rule} places log p piece cause seen now acts lt stand on answered fault sendable named =
     let next = Took (Got p piece) ∷ log in
     let rs = fault.replies in
     let here = heard_log p piece log in
     let part = heard_part piece (part_of log p.0) in
     let on_then : connected (trail next p.0) ≡ true = ap (λ (x : Part). connected x.trail) here ∙ heard_connected piece (part_of log p.0) ∙ on in
     let number = number_within places log p.0 stand lt in
-    let done = replies_done {watch = watch} p rs [] next number fault.are.each sendable on_then (met_by p rs (part_of next p.0) part here fault.are.after_version)
+    let done = replies_done {rule = rule} p rs [] next number fault.are.each sendable on_then (met_by p rs (part_of next p.0) part here fault.are.after_version)
     (due_all rs (trail next p.0) (due_by piece rs (part_of log p.0) (part_of next p.0) here answered fault.owes)) in
     let same = unchanged rs part fault.are.each in
     let later = after (sends p rs) next in
@@ -413,7 +414,7 @@ fault_at {watch = watch} places log p piece cause seen now acts lt stand on answ
     let mine : IsLost end (part_of (Closed p ∷ later) p.0).trail =
     subst (λ (x : Part). IsLost end x.trail) (sym (closed_here p (part_of later p.0))) (shut_now (trail later p.0) cause up (inl (up, guilty))) in
     let count : p.0 ≤ (tally_of later).dials = omega (arith, number, done.count) in
-    subst (λ (xs : List Act). Goes watch (set places p.0 (Lost end)) (xs ++ Close p cause ∷ []) next) (sym fault.acts) (record {
+    subst (λ (xs : List Act). Goes rule (set places p.0 (Lost end)) (xs ++ Close p cause ∷ []) next) (sym fault.acts) (record {
       stand = subst (PlacesStand (set places p.0 (Lost end))) (sym (after-append (sends p rs) (Close p cause) next)) (record {
         count = grind (arith, common_steps, stand.count, done.count);
         omitted = omitted_set places p.0 (Lost end) log (Closed p ∷ later) lt stand.omitted
@@ -433,7 +434,7 @@ fault_at {watch = watch} places log p piece cause seen now acts lt stand on answ
               (subst (λ t. Fits (get_or places q nobody) t) (sym (closed_others p q (part_of later q) other ∙ done.others q other ∙ got_others p piece q (part_of log q) other)) (stand.each q))
         ];
       });
-      allowed = allowed-append watch (sends p rs) (Close p cause) next done.allowed (count, inl (inl (up, guilty)), inl (λ sound. replied_all), named at_end);
+      allowed = allowed-append rule (sends p rs) (Close p cause) next done.allowed (count, inl (inl (up, guilty)), inl (λ sound. replied_all), named at_end);
     })
 
 fault_of : (places : List Place) (log : Log) (p : PeerNo) (piece : List ℕ) (old : Peer) (cause : Cause) (seen now : Seen) (before acts : List Act)
@@ -467,10 +468,10 @@ fault_named log p piece cause seen now last acts fault sendable put tracks unexp
     ∙ omitting_told read.0 later p.0 tracked right omits in
     absurd (fault.spared unexposed omits.block mine.0 claim told)
 
-faulty_goes : {watch : List (List ℕ)} (places : List Place) (log : Log) (p : PeerNo) (piece : List ℕ) (old : Peer) (cause : Cause) (seen now last : Seen) (before acts : List Act)
+faulty_goes : {rule : Rule} (places : List Place) (log : Log) (p : PeerNo) (piece : List ℕ) (old : Peer) (cause : Cause) (seen now last : Seen) (before acts : List Act)
     → p.0 < length places → before ≡ [] → get_or places p.0 nobody ≡ Here old → PlacesStand places log → Tracks seen log
     → HearsFault p piece old seen now before acts cause → All IsDoable acts → IsPut now last p.0 None no_claims → IsUnexposed seen
-    → Goes watch (set places p.0 (Lost (ClosedFor cause))) (acts ++ Close p cause ∷ []) (Took (Got p piece) ∷ log)
+    → Goes rule (set places p.0 (Lost (ClosedFor cause))) (acts ++ Close p cause ∷ []) (Took (Got p piece) ∷ log)
 faulty_goes places log p piece old cause seen now last before acts lt none here stand tracks heard doable put unexposed =
     let keeps = place_keeps places log p old here stand in
     let fault = fault_of places log p piece old cause seen now before acts none here stand tracks heard in
@@ -510,19 +511,19 @@ unexposed_after places log p old seen after here stand tracks unexposes none =
 -- ---- deliveries, as steps
 
 -- a piece of a peer that isn't connected
-pub deaf_moves : (d : Desk) (p : PeerNo) (piece : List ℕ) (end : Loss) → d.acts ≡ [] → IsInOrder d → get_or d.places p.0 nobody ≡ Lost end → Moves (Taking (Got p piece)) d d
-deaf_moves d p piece end none order lost = stay_moves order (taken (λ log stood. record {
+pub deaf_moves : (mode : Mode) (d : Desk) (p : PeerNo) (piece : List ℕ) (end : Loss) → d.acts ≡ [] → IsInOrder d → get_or d.places p.0 nobody ≡ Lost end → Moves mode (Taking (Got p piece)) d d
+deaf_moves mode d p piece end none order lost = stay_moves order (taken (λ log stood. record {
   goes = deaf_goes d.places d.acts log p piece end none lost (start_places d log none stood);
   tracks = deaf_tracks d.places d.acts log p piece end d.seen none lost (start_places d log none stood) (start_tracks d log none stood);
   unexposed = stood.unexposed;
 }))
 
 -- a piece all of which is taken
-pub heard_moves : (d : Desk) (p : PeerNo) (piece : List ℕ) (old peer : Peer) (now : Seen) (acts : List Act)
+pub heard_moves : (mode : Mode) (d : Desk) (p : PeerNo) (piece : List ℕ) (old peer : Peer) (now : Seen) (acts : List Act)
     → p.0 < length d.places → d.acts ≡ [] → IsInOrder d → get_or d.places p.0 nobody ≡ Here old → HearsWhole p piece old peer d.seen now d.acts acts
     → HearsUnexposed p old d.seen (IsUnexposed now) → IsChanged d.seen now p.0 (Here peer) → All IsDoable acts → (calm old ≡ true → calm peer ≡ true)
-    → Moves (Taking (Got p piece)) d (record { places = set d.places p.0 (Here peer); seen = now; acts = acts })
-heard_moves d p piece old peer now acts lt none order here heard unexposes changed doable calms =
+    → Moves mode (Taking (Got p piece)) d (record { places = set d.places p.0 (Here peer); seen = now; acts = acts })
+heard_moves mode d p piece old peer now acts lt none order here heard unexposes changed doable calms =
     set_moves p.0 (Here peer) lt order changed (extends_none d.acts acts none) (λ all. doable) (λ was. calms (subst (λ (y : Place). is_calm y ≡ true) here was))
     (taken (λ log stood. record {
       goes = goes_watch changed.watch (heard_goes d.places log p piece old peer d.seen now d.acts acts lt none here (start_places d log none stood) (start_tracks d log none stood) heard doable);
@@ -531,12 +532,12 @@ heard_moves d p piece old peer now acts lt none order here heard unexposes chang
     }))
 
 -- a piece in which a frame deserves a cause, for which its peer is closed and forgotten
-pub faulty_moves : (d : Desk) (p : PeerNo) (piece : List ℕ) (old : Peer) (cause : Cause) (now last : Seen) (acts : List Act)
+pub faulty_moves : (mode : Mode) (d : Desk) (p : PeerNo) (piece : List ℕ) (old : Peer) (cause : Cause) (now last : Seen) (acts : List Act)
     → p.0 < length d.places → d.acts ≡ [] → IsInOrder d → get_or d.places p.0 nobody ≡ Here old → HearsFault p piece old d.seen now d.acts acts cause → HearsUnexposed p old d.seen (IsUnexposed now)
     → ((q : ℕ) → q ≢ p.0 → now.chains q ≡ d.seen.chains q) → ((q : ℕ) → q ≢ p.0 → (block : Hash) → now.claims q block ≡ d.seen.claims q block) → now.watch ≡ d.seen.watch → All IsDoable acts
     → IsPut now last p.0 None no_claims
-    → Moves (Taking (Got p piece)) d (record { places = set d.places p.0 (Lost (ClosedFor cause)); seen = last; acts = acts ++ Close p cause ∷ [] })
-faulty_moves d p piece old cause now last acts lt none order here heard unexposes others claims watch doable put =
+    → Moves mode (Taking (Got p piece)) d (record { places = set d.places p.0 (Lost (ClosedFor cause)); seen = last; acts = acts ++ Close p cause ∷ [] })
+faulty_moves mode d p piece old cause now last acts lt none order here heard unexposes others claims watch doable put =
     set_moves p.0 (Lost (ClosedFor cause)) lt order (record {
       watch = put.watch ∙ watch;
       others = λ q other. put.others q other ∙ others q other;
@@ -553,18 +554,18 @@ faulty_moves d p piece old cause now last acts lt none order here heard unexpose
     }))
 
 -- what is sent for a piece are replies, and then its peer may be closed
-pub whole_told : (d : Desk) (p : PeerNo) (piece : List ℕ) (old peer : Peer) (now : Seen) (acts : List Act) (log : Log)
+pub whole_told : (mode : Mode) (d : Desk) (p : PeerNo) (piece : List ℕ) (old peer : Peer) (now : Seen) (acts : List Act) (log : Log)
     → d.acts ≡ [] → get_or d.places p.0 nobody ≡ Here old → HearsWhole p piece old peer d.seen now d.acts acts
-    → Stands d log → AreTold acts
-whole_told d p piece old peer now acts log none here heard stood =
+    → Stands mode d log → AreTold acts
+whole_told mode d p piece old peer now acts log none here heard stood =
     let whole = whole_of d.places log p piece old peer d.seen now d.acts acts none here
     (start_places d log none stood) (start_tracks d log none stood) heard in
     told_replies p whole.replies acts whole.are.each whole.acts
 
-pub fault_told : (d : Desk) (p : PeerNo) (piece : List ℕ) (old : Peer) (cause : Cause) (now : Seen) (acts : List Act)
+pub fault_told : (mode : Mode) (d : Desk) (p : PeerNo) (piece : List ℕ) (old : Peer) (cause : Cause) (now : Seen) (acts : List Act)
     (log : Log) → d.acts ≡ [] → get_or d.places p.0 nobody ≡ Here old
-    → HearsFault p piece old d.seen now d.acts acts cause → Stands d log → AreTold (acts ++ Close p cause ∷ [])
-fault_told d p piece old cause now acts log none here heard stood =
+    → HearsFault p piece old d.seen now d.acts acts cause → Stands mode d log → AreTold (acts ++ Close p cause ∷ [])
+fault_told mode d p piece old cause now acts log none here heard stood =
     let fault = fault_of d.places log p piece old cause d.seen now d.acts acts none here
     (start_places d log none stood) (start_tracks d log none stood) heard in
     told_fault p cause fault.replies acts fault.are.each fault.acts
@@ -587,9 +588,9 @@ gone_fits (Lost end) p q part away lost = elim (cases_eq q p.0) [
   | inr other ↦ subst (λ (x : Part). IsLost end x.trail) (sym (gone_others p q part other)) lost
 ]
 
-pub gone_moves : (d : Desk) (p : PeerNo) (after : Seen) → d.acts ≡ [] → p.0 < length d.places → IsInOrder d → is_here (get_or d.places p.0 nobody) ≡ true → IsPut d.seen after p.0 None no_claims
-    → Moves (Taking (Gone p)) d (record { places = set d.places p.0 (Lost HasGone); seen = after; acts = d.acts })
-gone_moves d p after none lt order here put =
+pub gone_moves : (mode : Mode) (d : Desk) (p : PeerNo) (after : Seen) → d.acts ≡ [] → p.0 < length d.places → IsInOrder d → is_here (get_or d.places p.0 nobody) ≡ true → IsPut d.seen after p.0 None no_claims
+    → Moves mode (Taking (Gone p)) d (record { places = set d.places p.0 (Lost HasGone); seen = after; acts = d.acts })
+gone_moves mode d p after none lt order here put =
     set_moves p.0 (Lost HasGone) lt order (is_lost d.seen after p.0 HasGone put) (extends_self d.acts) (λ all. all) (λ was. refl)
     (taken (λ log stood. stands_start (set d.places p.0 (Lost HasGone)) after d.acts (Took (Gone p) ∷ log) none
     (stand_at d.places log p.0 (Lost HasGone) (Took (Gone p)) lt (start_places d log none stood) (λ q other. gone_others p q (part_of log q) other) refl
@@ -601,8 +602,8 @@ gone_moves d p after none lt order here put =
     (λ q other omitted. omitted))
     (tracks_gone d.seen after p log put (start_tracks d log none stood)) (unexposed_put d.seen after p.0 put stood.unexposed)))
 
-pub away_moves : (d : Desk) (p : PeerNo) → d.acts ≡ [] → IsInOrder d → is_here (get_or d.places p.0 nobody) ≡ false → Moves (Taking (Gone p)) d d
-away_moves d p none order away = stay_moves order (taken (λ log stood.
+pub away_moves : (mode : Mode) (d : Desk) (p : PeerNo) → d.acts ≡ [] → IsInOrder d → is_here (get_or d.places p.0 nobody) ≡ false → Moves mode (Taking (Gone p)) d d
+away_moves mode d p none order away = stay_moves order (taken (λ log stood.
     let stand = start_places d log none stood in
     stands_start d.places d.seen d.acts (Took (Gone p) ∷ log) none
     (stand_same d.places log (Took (Gone p)) stand (λ q fits. gone_fits (get_or d.places q nobody) p q (part_of log q) (λ same. ap (λ (k : ℕ). is_here (get_or d.places k nobody)) same ∙ away) fits) refl
@@ -610,15 +611,15 @@ away_moves d p none order away = stay_moves order (taken (λ log stood.
     (tracks_away d.seen p log (here_on (get_or d.places p.0 nobody) (part_of log p.0) (stand.each p.0) ∙ away) (start_tracks d log none stood)) stood.unexposed))
 
 -- the end of all deliveries changes nothing
-pub ended_moves : (d : Desk) → d.acts ≡ [] → IsInOrder d → Moves (Taking Ended) d d
-ended_moves d none order = stay_moves order (taken (λ log stood.
+pub ended_moves : (mode : Mode) (d : Desk) → d.acts ≡ [] → IsInOrder d → Moves mode (Taking Ended) d d
+ended_moves mode d none order = stay_moves order (taken (λ log stood.
     stands_start d.places d.seen d.acts (Took Ended ∷ log) none
     (stand_same d.places log (Took Ended) (start_places d log none stood) (λ q fits. fits) refl (λ q omitted. omitted)
     (λ q omitted. omitted))
     (tracks_ended d.seen log (start_tracks d log none stood)) stood.unexposed))
 
 -- the send to a peer has failed, and it is closed
-cut_goes : {watch : List (List ℕ)} (places : List Place) (log cut : Log) (p : PeerNo) → p.0 < length places → PlacesStand places log → CutFor p log cut → Goes watch (set places p.0 (Lost (ClosedFor SendFailed))) (Close p SendFailed ∷ []) cut
+cut_goes : {rule : Rule} (places : List Place) (log cut : Log) (p : PeerNo) → p.0 < length places → PlacesStand places log → CutFor p log cut → Goes rule (set places p.0 (Lost (ClosedFor SendFailed))) (Close p SendFailed ∷ []) cut
 cut_goes places log cut p lt stand is = record {
   stand = record {
     count = grind (arith, common_steps, stand.count, is.dials);
@@ -642,23 +643,23 @@ cut_goes places log cut p lt stand is = record {
   allowed = ((omega (arith, number_within places log p.0 stand lt, is.dials), inl (inr (inl (refl, is.broken))), inl (λ sound. absurd (both_ways (failed (trail cut p.0)) sound is.broken)), λ right omits. absurd (both_ways (connected (trail cut p.0)) is.off omits.there)), tt);
 }
 
-pub cut_moves : (d : Desk) (p : PeerNo) (after : Seen) → d.acts ≡ [] → p.0 < length d.places → IsInOrder d → IsPut d.seen after p.0 None no_claims
-    → Moves (CutOff p d.places) d (record { places = set d.places p.0 (Lost (ClosedFor SendFailed)); seen = after; acts = d.acts ++ Close p SendFailed ∷ [] })
-cut_moves d p after none lt order put =
+pub cut_moves : (mode : Mode) (d : Desk) (p : PeerNo) (after : Seen) → d.acts ≡ [] → p.0 < length d.places → IsInOrder d → IsPut d.seen after p.0 None no_claims
+    → Moves mode (CutOff p d.places) d (record { places = set d.places p.0 (Lost (ClosedFor SendFailed)); seen = after; acts = d.acts ++ Close p SendFailed ∷ [] })
+cut_moves mode d p after none lt order put =
     set_moves p.0 (Lost (ClosedFor SendFailed)) lt order (is_lost d.seen after p.0 (ClosedFor SendFailed) put) (extends_one d.acts (Close p SendFailed)) (λ all. All-push IsDoable d.acts (Close p SendFailed) all (omega (arith, lt, order.few))) (λ was. refl)
     (λ log cut is stood.
-    subst (λ (xs : List Act). Stands (record { places = set d.places p.0 (Lost (ClosedFor SendFailed)); seen = after; acts = xs ++ Close p SendFailed ∷ [] }) cut) (sym none) (record {
+    subst (λ (xs : List Act). Stands mode (record { places = set d.places p.0 (Lost (ClosedFor SendFailed)); seen = after; acts = xs ++ Close p SendFailed ∷ [] }) cut) (sym none) (record {
       goes = cut_goes d.places log cut p is.0 (start_places d log none stood) is.1;
       tracks = cut_tracks log cut p d.seen after (start_tracks d log none stood) is.1 put;
       unexposed = unexposed_put d.seen after p.0 put stood.unexposed;
     }))
 
 -- time has passed, and then whoever was late was closed
-pub tick_moves : (d : Desk) (places : List Place) (seconds : ℕ) (now : Desk) → d.acts ≡ [] → ((log : Log) → PlacesStand d.places log → PlacesStand places (Took (Tick seconds) ∷ log))
-    → Moves Same (record { places = places; seen = d.seen; acts = d.acts }) now → AreCalm now.places → Moves (Taking (Tick seconds)) d now
-tick_moves d places seconds now none passed closed calm = record {
+pub tick_moves : (mode : Mode) (d : Desk) (places : List Place) (seconds : ℕ) (now : Desk) → d.acts ≡ [] → ((log : Log) → PlacesStand d.places log → PlacesStand places (Took (Tick seconds) ∷ log))
+    → Moves mode Same (record { places = places; seen = d.seen; acts = d.acts }) now → AreCalm now.places → Moves mode (Taking (Tick seconds)) d now
+tick_moves mode d places seconds now none passed closed calm = record {
   stands = λ log next is stood.
-      let ticked = stands_start places d.seen d.acts (Took (Tick seconds) ∷ log) none (passed log (start_places d log none stood)) (tracks_tick d.seen seconds log (start_tracks d log none stood)) stood.unexposed in
+      let ticked = stands_start {mode = mode} places d.seen d.acts (Took (Tick seconds) ∷ log) none (passed log (start_places d log none stood)) (tracks_tick d.seen seconds log (start_tracks d log none stood)) stood.unexposed in
       closed.stands (Took (Tick seconds) ∷ log) next is ticked;
   order = closed.order;
   watch = closed.watch;

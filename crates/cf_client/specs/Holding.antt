@@ -13,8 +13,9 @@ use Rattle.cf_match.specs.declared.job.Job.{Job}
 use Rattle.cf_msg.specs.declared.msg.Msg.{Msg}
 use Rattle.cf_msg.specs.declared.msg.Msg.TheVariants.{Cfheaders}
 use Rattle.cf_peer.specs.Trail.{Trail, Part, part_of, Called, Said, Refused, Asked, Passed, Lost, trail, connected, own}
-use Rattle.cf_peer.specs.Asking.{OpenRequest, NothingOpen, HeadersOpen, ClaimsOpen, FiltersOpen, BlockOpen, is_answer_of, request, counted, fetched, given}
-use Rattle.cf_sync.specs.Fetching.{IsConnected, IsGiven, Rightly}
+use Rattle.cf_peer.specs.declared.mode.Mode.TheVariants.{Following}
+use Rattle.cf_peer.specs.Asking.{OpenRequest, NothingOpen, HeadersOpen, ClaimsOpen, FiltersOpen, BlockOpen, PingOpen, is_answer_of, request, counted, fetched, given}
+use Rattle.cf_sync.specs.Fetching.{IsConnected, IsGiven, RightlyIn}
 use Rattle.cf_tables.specs.Held.{CountsBlocks, CountsOutputs, CountsVerdicts}
 use Rattle.cf_wires.specs.Log.{Log, tally_of}
 use Rattle.cf_peer.specs.Held.{count_came}
@@ -67,6 +68,7 @@ filters_in HeadersOpen = []
 filters_in (ClaimsOpen stop parent blocks) = []
 filters_in (FiltersOpen left came) = came
 filters_in (BlockOpen block) = []
+filters_in (PingOpen number) = []
 
 -- those of a connected peer's open request
 abbrev pub filters_kept : Trail → List Job
@@ -84,6 +86,7 @@ is_for_filters HeadersOpen = false
 is_for_filters (ClaimsOpen stop parent blocks) = false
 is_for_filters (FiltersOpen left came) = true
 is_for_filters (BlockOpen block) = false
+is_for_filters (PingOpen number) = false
 
 -- filters are open to a connected peer
 abbrev pub is_giving : Trail → Bool

@@ -118,11 +118,12 @@ HasPinged Following (Gone p) places = Unit {0}
 HasPinged Following (Tick seconds) places = (p : ℕ) → is_idle (place_at places p) ≡ true → HasPingedOut (place_at places p)
 HasPinged Following Ended places = Unit {0}
 
--- the peer at this place is asked, if it is to be, and is settled; nobody else is asked or has its place changed, and of
--- what was seen no more changes than what is open to it
+-- the peer at this place is asked, if it is to be, and is settled; where nothing is open to it then, it is left as it was; nobody
+-- else is asked or has its place changed, and of what was seen no more changes than what is open to it
 pub record Asks (mode : Mode) (i : ℕ) (before now : Desk) : Type 0 where
   pub moves : Moves mode Same before now
   pub asked : AsksOne i before.acts now.acts
   pub seen : HasOpened before.seen now.seen i
   pub settled : is_settled mode (place_at now.places i) ≡ true
+  pub idle : is_idle (place_at now.places i) ≡ true → place_at now.places i ≡ place_at before.places i
   pub others : (p : ℕ) → p ≢ i → place_at now.places p ≡ place_at before.places p

@@ -360,6 +360,7 @@ fn ask_each<H: HeaderStore>(
     ensures settled { OnOk result ((p : ℕ) → is_settled mode (place_at places.new p) ≡ true) }
     ensures through { OnOk result (AreAskedThrough places.new (seen_of tracker.new)) }
     ensures verdicts { OnOk result (AreSameVerdicts (verdicts_of tracker.new) (verdicts_of tracker.old)) }
+    ensures busy { OnOk result ((p : ℕ) → is_idle (place_at places.new p) ≡ true → place_at places.new p ≡ place_at places.old p) }
     ensures asked { OnOk result (AddsQuestions acts.old.items acts.new.items) }
 {
     for i in 0..places.len() {
@@ -382,6 +383,7 @@ pub(crate) fn ask_all<H: HeaderStore>(
     ensures settled { OnOk result ((p : ℕ) → is_settled mode (place_at places.new p) ≡ true) }
     ensures through { OnOk result (AreAskedThrough places.new (seen_of tracker.new)) }
     ensures verdicts { OnOk result (AreSameVerdicts (verdicts_of tracker.new) (verdicts_of tracker.old)) }
+    ensures busy { OnOk result ((p : ℕ) → is_idle (place_at places.new p) ≡ true → place_at places.new p ≡ place_at places.old p) }
     ensures asked { OnOk result (AddsQuestions acts.old.items acts.new.items) }
 {
     ask_each(alloc, mode, tracker, places, acts)?;

@@ -133,10 +133,13 @@ pub(crate) fn deliver<H: HeaderStore, M: Matcher>(
         Delivery::Tick(seconds) => {
             pass_all(places, *seconds);
             close_late(tracker, places, acts)?;
-            if let Mode::Following = mode {
-                ping_all(tracker, places, acts)?;
+            match mode {
+                Mode::Once => Ok(()),
+                Mode::Following => {
+                    ping_all(tracker, places, acts)?;
+                    Ok(())
+                }
             }
-            Ok(())
         }
         Delivery::Ended => Ok(()),
     }

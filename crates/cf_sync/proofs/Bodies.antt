@@ -14,11 +14,12 @@ use Rattle.cf_wires.specs.declared.event.Delivery.TheVariants.{Got}
 use Rattle.cf_wires.specs.declared.event.Event.{Event}
 use Rattle.cf_wires.specs.declared.event.Event.TheVariants.{Took}
 use Rattle.cf_wires.specs.Log.{Log}
+use Rattle.cf_peer.specs.declared.mode.Mode.TheVariants.{Following}
 use Rattle.cf_peer.specs.Trail.{Trail, Said, item_of, item_of_read, hears, hears_fault, part_after, heard_part, part_of, trail}
 use Rattle.cf_peer.specs.Asking.{OpenRequest, BlockOpen, is_wanted, is_committed, counts, counted, fetched, fetched_by, request}
-use Rattle.cf_sync.specs.Fetching.{IsFetched, Rightly}
+use Rattle.cf_sync.specs.Fetching.{IsFetched, RightlyIn}
 use Rattle.cf_sync.proofs.Grows.{fetched_before}
-use Rattle.cf_sync.proofs.HonestLemmas.{rightly_before}
+use Rattle.cf_sync.proofs.Modes.{rightly_before_in}
 use Rattle.cf_sync.proofs.Listed.{in_either}
 use Rattle.cf_sync.proofs.Once.{Brings, frames_bring, in_if, newly, open_unfetched, said_brings}
 
@@ -106,10 +107,11 @@ one_entry (Took (Got q piece)) log a b i j = by (q.0 == i.0) refl i.1 (q.0 == j.
 one_entry e log a b i j = elim (fetched_before e log a i) [ inl old ↦ inl (inl old) | inr none ↦ absurd none ]
 
 -- two fetched blocks with one hash are one
-pub one_body : (log : Log) → Rightly log → (a b : Block) → IsFetched log a → IsFetched log b → block_hash_of a.header ≡ block_hash_of b.header → a ≡ b
+pub one_body : (log : Log) → RightlyIn Following log → (a b : Block) → IsFetched log a → IsFetched log b
+    → block_hash_of a.header ≡ block_hash_of b.header → a ≡ b
 one_body [] right a b i j e = absurd i.1
 one_body (entry ∷ log) right a b i j e =
-    let before : Rightly log = rightly_before entry log right in
+    let before : RightlyIn Following log = rightly_before_in Following entry log right in
     elim (one_entry entry log a b i j) [
       | inr same ↦ same
       | inl either ↦ elim either [

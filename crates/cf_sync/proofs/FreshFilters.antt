@@ -190,6 +190,7 @@ one_given filter block bytes t job clean gives = by (request t) refl gives where
   by HeadersOpen e g = cc
   by (ClaimsOpen stop parent blocks) e g = cc
   by (BlockOpen wanted) e g = cc
+  by (PingOpen number) e g = cc
   by (FiltersOpen [] came) e g = cc
   by (FiltersOpen (next ∷ y ∷ left) came) e g = cc
   by (FiltersOpen (next ∷ []) came) e g = elim (cases_Bool (is_answer_of filter block.0 next)) [

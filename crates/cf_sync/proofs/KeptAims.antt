@@ -15,14 +15,14 @@ use Rattle.cf_headers.specs.Chain.{Hash, Chain, IsIn, back_to}
 use Rattle.cf_match.specs.declared.job.Job.{Job}
 use Rattle.cf_msg.specs.declared.msg.Msg.{Msg}
 use Rattle.cf_msg.specs.declared.msg.Entry.{Entry}
-use Rattle.cf_msg.specs.declared.msg.Msg.TheVariants.{GetHeaders, Headers, GetData, Block as BlockMessage, GetCfheaders, Cfheaders, GetCfilters, Cfilter}
+use Rattle.cf_msg.specs.declared.msg.Msg.TheVariants.{GetHeaders, Headers, GetData, Block as BlockMessage, GetCfheaders, Cfheaders, GetCfilters, Cfilter, Ping, Pong}
 use Rattle.cf_msg.specs.Reading.{message_of}
 use Rattle.cf_wires.specs.declared.event.Delivery.TheVariants.{Got, Gone, Tick, Ended}
 use Rattle.cf_wires.specs.declared.event.Event.{Event}
 use Rattle.cf_wires.specs.declared.event.Event.TheVariants.{Dialled, NotDialled, Sent, SendFailed, Closed, Took}
 use Rattle.cf_wires.specs.Log.{Log}
 use Rattle.cf_peer.specs.Trail.{Trail, Part, Said, Lost, Went, Failing, Shutting, called_part, with_item, item_of_read, item_of, hears, hears_fault, part_after, heard_part, part_of, trail, went_on, asks, spelled, connected, own}
-use Rattle.cf_peer.specs.Asking.{OpenRequest, NothingOpen, HeadersOpen, ClaimsOpen, FiltersOpen, BlockOpen, block_asked, blocks_from, claims_asked, filter_of, filters_asked, is_answer_of, is_committed, is_wanted, request, request_after, counts, counted, fetched, fetched_by, given, given_by}
+use Rattle.cf_peer.specs.Asking.{OpenRequest, NothingOpen, HeadersOpen, ClaimsOpen, FiltersOpen, BlockOpen, PingOpen, block_asked, blocks_from, claims_asked, filter_of, filters_asked, is_answer_of, is_committed, is_wanted, request, request_after, counts, counted, fetched, fetched_by, given, given_by}
 use Rattle.cf_filter.specs.Lacking.{output_items_of}
 use Rattle.cf_headers.specs.Rules.{same}
 use Rattle.cf_tables.specs.Outputs.{Paid, lacks_kept}
@@ -98,6 +98,13 @@ open_said (BlockMessage b) HeadersOpen = inl refl
 open_said (BlockMessage b) (ClaimsOpen stop parent bs) = inl refl
 open_said (BlockMessage b) (FiltersOpen left came) = inl refl
 open_said (BlockMessage b) (BlockOpen wanted) = ends_if (is_wanted b wanted) NothingOpen (BlockOpen wanted) [] (λ is. inl refl) (λ off. inl refl)
+open_said (Pong number) NothingOpen = inl refl
+open_said (Pong number) HeadersOpen = inl refl
+open_said (Pong number) (ClaimsOpen stop parent bs) = inl refl
+open_said (Pong number) (FiltersOpen left came) = inl refl
+open_said (Pong number) (BlockOpen wanted) = inl refl
+open_said (Pong number) (PingOpen wanted) =
+    ends_if (number == wanted) NothingOpen (PingOpen wanted) [] (λ is. inl refl) (λ off. inl refl)
 open_said m r = inl refl
 
 -- an answer brings one block at most, or the filters that were open
@@ -537,6 +544,7 @@ asked_ends (Some (GetData entries)) t unasked = by entries where
   by : (es : List Entry) → OnlyEnds (filters_open (block_asked es (request (counted t)))) (filters_open (request (counted t)))
   by [] = inl refl
   by (entry ∷ more) = inr refl
+asked_ends (Some (Ping number)) t unasked = inr refl
 asked_ends (Some m) t unasked = inl refl
 
 test_stays : (o : Option Msg) (log : Log) (block : Hash) (before : Type 0) → IsNoQuestion o → test_after true o log block before → before

@@ -22,6 +22,7 @@ use Rattle.cf_wires.specs.declared.event.Delivery.TheVariants.{Got, Gone, Tick, 
 use Rattle.cf_wires.specs.declared.event.Event.{Event}
 use Rattle.cf_wires.specs.declared.event.Event.TheVariants.{Dialled, NotDialled, Sent, SendFailed, Closed, Took}
 use Rattle.cf_wires.specs.Log.{Log}
+use Rattle.cf_peer.specs.declared.mode.Mode.TheVariants.{Following}
 use Rattle.cf_peer.specs.Asking.{fetched, given}
 use Rattle.cf_peer.specs.Trail.{trail, own}
 use Rattle.cf_scan.specs.declared.extracts.TxExtract.{TxExtract}
@@ -32,7 +33,7 @@ use Rattle.cf_tables.specs.Tests.{Told, found_too}
 use Rattle.cf_tables.specs.Trials.{with_found}
 use Rattle.cf_seek.proofs.Along.{common_low}
 use Rattle.cf_seek.proofs.Stops.{back_ends, found_low}
-use Rattle.cf_sync.specs.Fetching.{counted_part, IsAbove, IsConnected, IsDisputed, IsFetched, IsFetchedHash, IsNoPiece, IsOmission, IsSameFetched, IsTest, IsTested, IsTestedWith, IsTestOf, IsTestWanted, HoldsFetched, Rightly, IsTestedThrough}
+use Rattle.cf_sync.specs.Fetching.{counted_part, IsAbove, IsConnected, IsDisputed, IsFetched, IsFetchedHash, IsNoPiece, IsOmission, IsSameFetched, IsTest, IsTested, IsTestedWith, IsTestOf, IsTestWanted, HoldsFetched, RightlyIn, IsTestedThrough}
 use Rattle.cf_sync.specs.Kept.{AreClean, HoldsClaims, HoldsOutputs, HoldsTests}
 use Rattle.cf_sync.proofs.Answered.{fetched_hash_stays, test_fetched}
 use Rattle.cf_sync.proofs.Blamed.{tested_stays}
@@ -355,7 +356,8 @@ lacks_alike : (a b : Hash) (x y : Block) → a ≡ b → x ≡ y → (filter : L
 lacks_alike a b x y e one filter h = (λ k. lacks (e k) (output_items_of (one k)) filter) ∙ h
 
 -- where it is told that it lacks nothing, it is no omission
-pub holds_all : (l : Log) (paid : Paid) (told : Told) → Rightly l → HoldsOutputs l paid → AreClean l paid told
+pub holds_all : (l : Log) (paid : Paid) (told : Told) → RightlyIn Following l
+    → HoldsOutputs l paid → AreClean l paid told
     → (block : Hash) (hash : Hash32) → told block hash.0 ≡ Some false → (t : IsTestedWith l block hash) → IsOmission l block t.filter.filter → ⊥
 holds_all l paid told right outputs clean block hash is t o = by (paid block) refl where
   by : (found : Option (List (List ℕ))) → paid block ≡ found → ⊥

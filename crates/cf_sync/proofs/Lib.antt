@@ -2,6 +2,7 @@ pub mod Listed
 pub mod Entries
 pub mod Spelled
 pub mod Chains
+pub mod Modes
 pub mod Serving
 pub mod Ranges
 pub mod Serves

@@ -10,16 +10,18 @@ use Rattle.cf_headers.specs.Chain.{Hash, Chain, IsIn, back_to}
 use Rattle.cf_match.specs.declared.job.Job.{Job}
 use Rattle.cf_msg.specs.declared.msg.Entry.{Entry}
 use Rattle.cf_msg.specs.declared.msg.Msg.{Msg}
-use Rattle.cf_msg.specs.declared.msg.Msg.TheVariants.{GetHeaders, Headers, GetData, Block as BlockMessage, GetCfheaders, Cfheaders, GetCfilters, Cfilter}
+use Rattle.cf_msg.specs.declared.msg.Msg.TheVariants.{GetHeaders, Headers, GetData, Block as BlockMessage, GetCfheaders, Cfheaders, GetCfilters, Cfilter, Ping, Pong}
 use Rattle.cf_msg.specs.Reading.{message_of}
 use Rattle.cf_wires.specs.declared.event.Delivery.TheVariants.{Got, Gone, Tick, Ended}
 use Rattle.cf_wires.specs.declared.event.Event.{Event}
 use Rattle.cf_wires.specs.declared.event.Event.TheVariants.{Dialled, NotDialled, Sent, SendFailed, Closed, Took}
 use Rattle.cf_wires.specs.Log.{Log}
+use Rattle.cf_peer.specs.declared.mode.Mode.TheVariants.{Following}
 use Rattle.cf_peer.specs.Trail.{Trail, Part, Said, Asked, Lost, Went, Failing, Shutting, called_part, with_item, item_of, item_of_read, hears, hears_fault, part_after, heard_part, spelled, asks, part_of, trail, connected, own}
-use Rattle.cf_peer.specs.Asking.{OpenRequest, NothingOpen, HeadersOpen, ClaimsOpen, FiltersOpen, BlockOpen, request, request_for, request_after, filter_of, claims_asked, filters_asked, is_wanted, is_committed, is_answer_of, block_entry, fault_of, verdict, counts, counted, fetched, fetched_by}
-use Rattle.cf_sync.specs.Fetching.{Rightly, IsConnected, IsFetched, IsFetchedHash, IsWanted, IsFilterOpen, IsBlockOpen, MaySend, filters_open, blocks_open, blocks_in}
+use Rattle.cf_peer.specs.Asking.{OpenRequest, NothingOpen, HeadersOpen, ClaimsOpen, FiltersOpen, BlockOpen, PingOpen, request, request_for, request_after, filter_of, claims_asked, filters_asked, is_wanted, is_committed, is_answer_of, block_entry, fault_of, verdict, counts, counted, fetched, fetched_by}
+use Rattle.cf_sync.specs.Fetching.{RightlyIn, IsConnected, IsFetched, IsFetchedHash, IsWanted, IsFilterOpen, IsBlockOpen, MaySendIn, filters_open, blocks_open, blocks_in}
 use Rattle.cf_sync.proofs.Entries.{at_either}
+use Rattle.cf_sync.proofs.Modes.{rightly_before_in}
 use Rattle.std.specs.Prelude.{is_none}
 use Rattle.cf_block.specs.declared.tx.Block.{Block}
 use Rattle.cf_block.specs.Header.{block_hash_of}
@@ -62,6 +64,13 @@ blocks_said (BlockMessage b) (ClaimsOpen stop parent bs) block i = i
 blocks_said (BlockMessage b) (FiltersOpen left came) block i = i
 blocks_said (BlockMessage b) (BlockOpen wanted) block i =
     either (λ r. IsIn block (blocks_open r) → IsIn block (wanted ∷ [])) (is_wanted b wanted) NothingOpen (BlockOpen wanted) (λ is1 j. absurd j) (λ off j. j) i
+blocks_said (Pong number) NothingOpen block i = i
+blocks_said (Pong number) HeadersOpen block i = i
+blocks_said (Pong number) (ClaimsOpen stop parent bs) block i = i
+blocks_said (Pong number) (FiltersOpen left came) block i = i
+blocks_said (Pong number) (BlockOpen wanted) block i = i
+blocks_said (Pong number) (PingOpen wanted) block i =
+    either (λ r. IsIn block (blocks_open r) → ⊥) (number == wanted) NothingOpen (PingOpen wanted) (λ is1 j. j) (λ off j. j) i
 blocks_said m r block i = i
 
 -- the filter that came moves over
@@ -107,6 +116,13 @@ filters_said (BlockMessage b) HeadersOpen block i = i
 filters_said (BlockMessage b) (ClaimsOpen stop parent bs) block i = i
 filters_said (BlockMessage b) (FiltersOpen left came) block i = i
 filters_said (BlockMessage b) (BlockOpen wanted) block i = either (λ r. IsIn block (filters_open r) → ⊥) (is_wanted b wanted) NothingOpen (BlockOpen wanted) (λ is1 j. j) (λ off j. j) i
+filters_said (Pong number) NothingOpen block i = i
+filters_said (Pong number) HeadersOpen block i = i
+filters_said (Pong number) (ClaimsOpen stop parent bs) block i = i
+filters_said (Pong number) (FiltersOpen left came) block i = i
+filters_said (Pong number) (BlockOpen wanted) block i = i
+filters_said (Pong number) (PingOpen wanted) block i =
+    either (λ r. IsIn block (filters_open r) → ⊥) (number == wanted) NothingOpen (PingOpen wanted) (λ is1 j. j) (λ off j. j) i
 filters_said m r block i = i
 
 -- ---- what is asked is open to nobody
@@ -122,7 +138,7 @@ IsUnfetched log block = IsFetchedHash log block → ⊥
 abbrev IsNewFilter : Log → Hash → Type 0
 IsNewFilter log block = IsUnfetched log block → IsFilterOpen log block → ⊥
 
-blocks_asked : (log : Log) (p : ℕ) (m : Msg) (block : Hash) → MaySend log p m → IsIn block (blocks_open (request_for m (own (trail log p)) (request (trail log p))))
+blocks_asked : (log : Log) (p : ℕ) (m : Msg) (block : Hash) → MaySendIn Following log p m → IsIn block (blocks_open (request_for m (own (trail log p)) (request (trail log p))))
     → IsIn block (blocks_open (request (trail log p))) ⊎ IsNewBlock log block
 blocks_asked log p (GetHeaders version locator stop) block may i = absurd i
 blocks_asked log p (GetCfheaders filter start stop) block may i = absurd (by (back_to stop.0 (own (trail log p))) i) where
@@ -146,9 +162,10 @@ blocks_asked log p (GetData entries) block may i =
     ] where
       fresh : (entries : List Entry) (at : Hash32) → IsIn (block_entry at) entries → IsWanted log (GetData entries) → IsFetchedHash log at.0 → ⊥
       fresh entries at first wanted got = wanted (block_entry at) first got
+blocks_asked log p (Ping number) block may i = absurd i
 blocks_asked log p m block may i = inl i
 
-filters_asked_new : (log : Log) (p : ℕ) (m : Msg) (block : Hash) → MaySend log p m → IsIn block (filters_open (request_for m (own (trail log p)) (request (trail log p))))
+filters_asked_new : (log : Log) (p : ℕ) (m : Msg) (block : Hash) → MaySendIn Following log p m → IsIn block (filters_open (request_for m (own (trail log p)) (request (trail log p))))
     → IsIn block (filters_open (request (trail log p))) ⊎ IsNewFilter log block
 filters_asked_new log p (GetHeaders version locator stop) block may i = absurd i
 filters_asked_new log p (GetCfheaders filter start stop) block may i = absurd (by (back_to stop.0 (own (trail log p))) i) where
@@ -164,6 +181,7 @@ filters_asked_new log p (GetData entries) block may i =
     let is : entries ≡ block_entry at ∷ [] = may.of_its_part.1.1 in
     let j = subst (λ (es : List Entry). IsIn block (filters_open (request_for (GetData es) (own (trail log p)) (request (trail log p))))) is i in
     absurd j
+filters_asked_new log p (Ping number) block may i = absurd i
 filters_asked_new log p m block may i = inl i
 
 -- ---- along a log
@@ -189,7 +207,7 @@ record JustAsked (Free : Log → Hash → Type 0) (e : Event) (log : Log) (p : �
 
 module _ (what : OpenRequest → List Hash) (none : (block : Hash) → IsIn block (what NothingOpen) → ⊥) (said : (m : Msg) (r : OpenRequest) (block : Hash) → IsIn block (what (request_after m r)) → IsIn block (what r))
     (Free : Log → Hash → Type 0)
-    (new : (log : Log) (p : ℕ) (m : Msg) (block : Hash) → MaySend log p m → IsIn block (what (request_for m (own (trail log p)) (request (trail log p)))) → IsIn block (what (request (trail log p))) ⊎ Free log block) where
+    (new : (log : Log) (p : ℕ) (m : Msg) (block : Hash) → MaySendIn Following log p m → IsIn block (what (request_for m (own (trail log p)) (request (trail log p)))) → IsIn block (what (request (trail log p))) ⊎ Free log block) where
   in_heard : (fs : List Frame) (t : Trail) (block : Hash) → IsIn block (what (request (hears fs t))) → IsIn block (what (request t))
   in_heard [] t block i = i
   in_heard (f ∷ fs) t block i = by (message_of f) (in_heard fs (item_of f ∷ t) block i) where
@@ -206,7 +224,7 @@ module _ (what : OpenRequest → List Hash) (none : (block : Hash) → IsIn bloc
   abbrev Before : Event → Log → ℕ → Hash → Part → Type 0
   Before e log p block part = StandsIn what part.trail block → StandsIn what (trail log p) block ⊎ JustAsked Free e log p block
 
-  stood : (e : Event) (log : Log) (p : ℕ) (block : Hash) → Rightly (e ∷ log) → StandsIn what (trail (e ∷ log) p) block → StandsIn what (trail log p) block ⊎ JustAsked Free e log p block
+  stood : (e : Event) (log : Log) (p : ℕ) (block : Hash) → RightlyIn Following (e ∷ log) → StandsIn what (trail (e ∷ log) p) block → StandsIn what (trail log p) block ⊎ JustAsked Free e log p block
   stood (Dialled q name) log p block right st =
       at_either (Before (Dialled q name) log p block) (q.0 == p) (called_part (part_of log p)) (part_of log p) (λ is s. absurd (none block s.1)) (λ off s. inl s) st
   stood (NotDialled q name) log p block right st =
@@ -227,30 +245,22 @@ module _ (what : OpenRequest → List Hash) (none : (block : Hash) → IsIn bloc
       (λ is s.
       let e : q.0 ≡ p = eqb-true q.0 p is in
       let t : StandsIn what (Asked right.0.0 ∷ trail log p) block = subst (λ (o : Option Msg). StandsIn what (asks o (trail log p)) block) right.0.1 s in
-      elim (new log p right.0.0 block (subst (λ (k : ℕ). MaySend log k right.0.0) e right.0.2) t.1) [
+      elim (new log p right.0.0 block (subst (λ (k : ℕ). MaySendIn Following log k right.0.0) e right.0.2) t.1) [
         | inl i ↦ inl (t.0, i)
         | inr free ↦ inr (record { who = q; bytes = bytes; is = refl; here = e; free = free })
       ])
       (λ off s. inl s) st
 
-  rest_right : (e : Event) (log : Log) → Rightly (e ∷ log) → Rightly log
-  rest_right (Dialled q name) log right = right
-  rest_right (NotDialled q name) log right = right
-  rest_right (SendFailed q) log right = right
-  rest_right (Closed q) log right = right.1
-  rest_right (Sent q bytes) log right = right.1
-  rest_right (Took d) log right = right.1
-
   -- two requests that are open hold no block of which this is so now, and was so before
   one_of : (Live : Log → Hash → Type 0) → ((e : Event) (log : Log) (block : Hash) → Live (e ∷ log) block → Live log block)
       → ((log : Log) (block : Hash) → Live log block → Free log block → (q : ℕ) → StandsIn what (trail log q) block → ⊥)
-      → (log : Log) → Rightly log → (p q : ℕ) (block : Hash) → Live log block → StandsIn what (trail log p) block → StandsIn what (trail log q) block → p ≡ q
+      → (log : Log) → RightlyIn Following log → (p q : ℕ) (block : Hash) → Live log block → StandsIn what (trail log p) block → StandsIn what (trail log q) block → p ≡ q
   one_of Live before apart [] right p q block live s t = absurd (false≢true s.0)
   one_of Live before apart (e ∷ log) right p q block live s t =
       let lived : Live log block = before e log block live in
       elim (stood e log p block right s) [
         | inl a ↦ elim (stood e log q block right t) [
-          | inl b ↦ one_of Live before apart log (rest_right e log right) p q block lived a b
+          | inl b ↦ one_of Live before apart log (rightly_before_in Following e log right) p q block lived a b
           | inr b ↦ absurd (apart log block lived b.free p a)
         ]
         | inr a ↦ elim (stood e log q block right t) [
@@ -262,17 +272,17 @@ module _ (what : OpenRequest → List Hash) (none : (block : Hash) → IsIn bloc
 abbrev IsAny : Log → Hash → Type 0
 IsAny log block = Unit {0}
 
-one_block_at : (log : Log) → Rightly log → (p q : ℕ) (block : Hash) → StandsIn blocks_open (trail log p) block → StandsIn blocks_open (trail log q) block → p ≡ q
+one_block_at : (log : Log) → RightlyIn Following log → (p q : ℕ) (block : Hash) → StandsIn blocks_open (trail log p) block → StandsIn blocks_open (trail log q) block → p ≡ q
 one_block_at log right p q block s t =
     one_of blocks_open (λ b i. i) blocks_said IsNewBlock blocks_asked IsAny (λ e l b any. tt) (λ l b any free n st. free.0 (n, st)) log right p q block tt s t
 
-pub one_block : (log : Log) → Rightly log → (p q : ℕ) (block : Hash) → IsConnected log p → IsConnected log q → IsIn block (blocks_open (request (trail log p))) → IsIn block (blocks_open (request (trail log q))) → p ≡ q
+pub one_block : (log : Log) → RightlyIn Following log → (p q : ℕ) (block : Hash) → IsConnected log p → IsConnected log q → IsIn block (blocks_open (request (trail log p))) → IsIn block (blocks_open (request (trail log q))) → p ≡ q
 one_block log right p q block on there i j = one_block_at log right p q block (on, i) (there, j)
 
 unfetched_before : (e : Event) (log : Log) (block : Hash) → IsUnfetched (e ∷ log) block → IsUnfetched log block
 unfetched_before e log block none got = none (got.0, fetched_stays e log got.0 got.1, got.2)
 
-pub one_filter : (log : Log) → Rightly log → (p q : ℕ) (block : Hash) → (IsFetchedHash log block → ⊥) → IsConnected log p → IsConnected log q
+pub one_filter : (log : Log) → RightlyIn Following log → (p q : ℕ) (block : Hash) → (IsFetchedHash log block → ⊥) → IsConnected log p → IsConnected log q
     → IsIn block (filters_open (request (trail log p))) → IsIn block (filters_open (request (trail log q))) → p ≡ q
 one_filter log right p q block none on there i j =
     one_of filters_open (λ b i. i) filters_said IsNewFilter filters_asked_new IsUnfetched unfetched_before (λ l b live free n s. free live (n, s)) log right p q block none (on, i) (there, j)
@@ -358,20 +368,20 @@ newly (Took (Got q piece)) log b got = elim (by (q.0 == got.0) got.1) [ inl i �
   by false i = inl i
 newly e log b got = elim (fetched_before e log b got) [ inl old ↦ inl old | inr none ↦ absurd none ]
 
-pub open_unfetched : (log : Log) → Rightly log → (p : ℕ) (block : Hash) → StandsIn blocks_open (trail log p) block → IsFetchedHash log block → ⊥
+pub open_unfetched : (log : Log) → RightlyIn Following log → (p : ℕ) (block : Hash) → StandsIn blocks_open (trail log p) block → IsFetchedHash log block → ⊥
 open_unfetched [] right p block s got = absurd (false≢true s.0)
 open_unfetched (e ∷ log) right p block s got =
     let st = stood blocks_open (λ b i. i) blocks_said IsNewBlock blocks_asked e log p block right s in
     elim (newly e log got.0 got.1) [
       | inl old ↦ elim st [
-        | inl was ↦ open_unfetched log (rest_right blocks_open (λ b i. i) blocks_said IsNewBlock blocks_asked e log right) p block was (got.0, old, got.2)
+        | inl was ↦ open_unfetched log (rightly_before_in Following e log right) p block was (got.0, old, got.2)
         | inr just ↦ just.free.1 (got.0, old, got.2)
       ]
       | inr new ↦ (
           let there : StandsIn blocks_open (trail log new.0) block = subst (StandsIn blocks_open (trail log new.0)) got.2 new.1.0 in
           elim st [
             | inl was ↦ (
-                let same_peer : p ≡ new.0 = one_block_at log (rest_right blocks_open (λ b i. i) blocks_said IsNewBlock blocks_asked e log right) p new.0 block was there in
+                let same_peer : p ≡ new.0 = one_block_at log (rightly_before_in Following e log right) p new.0 block was there in
                 new.1.1 block (subst (λ (k : ℕ). IsIn block (blocks_open (request (trail (e ∷ log) k)))) same_peer s.1)
                 )
             | inr just ↦ just.free.0 (new.0, there)

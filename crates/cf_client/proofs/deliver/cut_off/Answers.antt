@@ -10,9 +10,9 @@ use Rattle.cf_client.proofs.Taking.{cut_moves}
 use Rattle.cf_client.proofs.deliver.cut_off.Goals as goal
 
 pub returns-clause-moves : goal.returns-clause-moves
-returns-clause-moves g c =
+returns-clause-moves g c = λ mode.
     rw c.in_ok-push.ensures.items
-    (cut_moves (desk c.args.tracker.now c.args.places.now c.args.acts.now.items) c.args.p (seen_of c.forget.new.self) c.requires.none (omega arith) c.requires.order
+    (cut_moves mode (desk c.args.tracker.now c.args.places.now c.args.acts.now.items) c.args.p (seen_of c.forget.new.self) c.requires.none (omega arith) c.requires.order
     (put_forgotten (seen_of c.args.tracker.now) (seen_of c.forget.new.self) c.args.p c.forget.ensures.chains c.forget.ensures.table c.forget.ensures.claims c.forget.ensures.verdicts c.forget.ensures.watch c.forget.ensures.opens c.forget.ensures.trials))
 
 pub returns-then-i-places-clause-told : goal.returns-then-i-places-clause-told

@@ -10,6 +10,7 @@ use Rattle.cf_tracker.specs.Tracker.{claims_of}
 use Rattle.cf_peer.specs.Peer.{called_peer}
 use Rattle.cf_place.specs.declared.place.Place.TheVariants.{Here}
 use Rattle.cf_peer.specs.Trail.{trail}
+use Rattle.cf_client.specs.Stands.{rule_by}
 use Rattle.cf_client.proofs.Acting.{version_asks, version_only}
 use Rattle.cf_client.proofs.Settled.{settled_called}
 use Rattle.cf_client.proofs.Spelled.{spelled_bytes}
@@ -22,7 +23,7 @@ invariant_of-self-2-clause-settled g c = λ alive.
     let before = seen_of c.args.self.now.tracker in
     let now = seen_of c.enter.new.self in
     rw (c.in_ok-push-2.ensures.items, c.called.ensures)
-    (settled_called c.args.self.now.places.items before now c.args.p c.requires.next
+    (settled_called c.args.self.now.mode c.args.self.now.places.items before now c.args.p c.requires.next
     (record { chains = c.in_ok-enter.ensures.ok; claims = c.in_ok-enter.ensures.claims; table = c.in_ok-enter.ensures.table; verdicts = c.in_ok-enter.ensures.verdicts; opens = c.in_ok-enter.ensures.opens; trials = c.in_ok-enter.ensures.trials }) (c.args.self.now.settled c.if-self.false))
 
 pub invariant_of-self-2-clause-right : goal.invariant_of-self-2-clause-right
@@ -38,7 +39,7 @@ returns-clause-answers g c = λ log reflects.
     let m = c.in_ok-greeting.field-0 in
     let le : length c.args.self.now.places.items ≤ c.args.p.0 = omega (arith, c.requires.next) in
     let off = past_nobody c.args.self.now.places.items log c.args.p.0 le reflects.places in
-    let goes = called_goes c.args.self.now.places.items log c.args.p c.args.name.now m c.requires.next reflects.places c.in_ok-greeting.ensures.greeting in
+    let goes = called_goes {rule = rule_by c.args.self.now} c.args.self.now.places.items log c.args.p c.args.name.now m c.requires.next reflects.places c.in_ok-greeting.ensures.greeting in
     let put = put_entered before now c.args.p c.in_ok-enter.ensures.ok c.in_ok-enter.ensures.table c.in_ok-enter.ensures.claims c.in_ok-enter.ensures.verdicts c.in_ok-enter.ensures.watch
     (none_claimed before log c.args.p.0 off reflects.tracks) c.in_ok-enter.ensures.opens (none_open before log c.args.p.0 off reflects.tracks) c.in_ok-enter.ensures.trials in
     let next = Dialled c.args.p c.args.name.now ∷ log in

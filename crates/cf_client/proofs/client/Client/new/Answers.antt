@@ -1,6 +1,7 @@
 use Rattle.std.proofs.Common.{◌≡◌, List, [], ◌∷◌, ◌++◌, None, Some, true, refl, rules, sym, ◌∙◌, ap, subst}
 use Rattle.cf_dispute.proofs.Genesis.{first_header_is}
 use Rattle.cf_hear.specs.Seen.{seen_of}
+use Rattle.cf_peer.specs.declared.mode.Mode.TheVariants.{Once}
 use Rattle.cf_hear.proofs.Opening.{holds_none}
 use Rattle.cf_tracker.specs.Tracker.{claims_of, opens_of, trials_of}
 use Rattle.cf_place.specs.declared.place.Place.{Place}
@@ -18,7 +19,7 @@ new-requires-clause-first g c = sym first_header_is
 pub invariant_of-result-clause-settled : goal.invariant_of-result-clause-settled
 invariant_of-result-clause-settled g c = λ alive.
     let one : c.push.new.self.items ≡ nobody ∷ [] = c.in_ok-push.ensures.items ∙ ap (λ (places : List Place). places ++ nobody ∷ []) c.new-places.ensures.items in
-    subst (λ (places : List Place). AreSettled places (seen_of c.in_ok-tracker.tracker)) (sym {A = List Place} one) (settled_first (seen_of c.in_ok-tracker.tracker) c.in_ok-tracker.ensures.chains)
+    subst (λ (places : List Place). AreSettled Once places (seen_of c.in_ok-tracker.tracker)) (sym {A = List Place} one) (settled_first Once (seen_of c.in_ok-tracker.tracker) c.in_ok-tracker.ensures.chains)
 
 pub invariant_of-result-clause-right : goal.invariant_of-result-clause-right
 invariant_of-result-clause-right g c = λ alive.

@@ -14,7 +14,7 @@ use Rattle.cf_client.proofs.client.Client.not_dialled.Goals as goal
 pub invariant_of-self-2-clause-settled : goal.invariant_of-self-2-clause-settled
 invariant_of-self-2-clause-settled g c = λ alive.
     rw c.in_ok-push.ensures.items
-    (settled_missed c.args.self.now.places.items (seen_of c.args.self.now.tracker) c.args.p.0 NotDialled c.requires.next (c.args.self.now.settled c.if-self.false))
+    (settled_missed c.args.self.now.mode c.args.self.now.places.items (seen_of c.args.self.now.tracker) c.args.p.0 NotDialled c.requires.next (c.args.self.now.settled c.if-self.false))
 
 pub invariant_of-self-2-clause-right : goal.invariant_of-self-2-clause-right
 invariant_of-self-2-clause-right g c = λ alive.

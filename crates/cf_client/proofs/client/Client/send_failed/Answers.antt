@@ -1,12 +1,13 @@
-use Rattle.std.proofs.Common.{◌<◌, List, length, refl, sym, ◌∙◌, subst, ap, arith}
+use Rattle.std.proofs.Common.{◌<◌, ℕ, List, length, refl, sym, ◌∙◌, subst, ap, arith}
 use Rattle.std.proofs.lemmas.List.{with_items_is}
+use Rattle.cf_sync.specs.Fetching.{Rule}
 use Rattle.cf_place.specs.declared.place.Place.{Place}
 use Rattle.cf_place.specs.Places.{PlacesStand, after}
 use Rattle.cf_hear.specs.Seen.{seen_of}
 use Rattle.cf_client.specs.Stands.{words_by}
 use Rattle.cf_tracker.specs.Tracker.{claims_of, watch_of}
 use Rattle.cf_client.specs.Settled.{AreSettled, AreRight}
-use Rattle.cf_client.proofs.Ordering.{in_order_by}
+use Rattle.cf_client.proofs.Ordering.{in_order_by, prepared_none}
 use Rattle.cf_client.proofs.Steps.{in_order, stands_start}
 use Rattle.cf_client.proofs.Greeting.{reflects_cut, acts_tell}
 use Rattle.cf_client.proofs.client.Client.send_failed.Goals as goal
@@ -18,7 +19,7 @@ cut_off-requires-clause-order g c =
     let same = sym c.as_mut_slice-places.ensures.value in
     in_order c.as_mut_slice-places.result.now seen c.new-acts.result.items
     (omega (arith, c.args.self.now.few, kept.ok.0, ap (λ (places : List Place). length places) c.as_mut_slice-places.ensures.value))
-    (subst (λ (places : List Place). AreSettled places seen) same (c.args.self.now.settled c.if-self.false))
+    (subst (λ (places : List Place). AreSettled c.args.self.now.mode places seen) same (c.args.self.now.settled c.if-self.false))
     (subst (λ (places : List Place). ∥ AreRight places (claims_of c.args.self.now.tracker) ∥₁) same (c.args.self.now.right c.if-self.false))
 
 pub invariant_of-self-2-clause-settled : goal.invariant_of-self-2-clause-settled
@@ -27,7 +28,7 @@ invariant_of-self-2-clause-settled g c = λ alive.
     let whole = with_items_is kept c.ask_all.new.places
     (omega (arith, c.ask_all.auto.places, c.cut_off.auto.places, c.as_mut_slice-places.ensures.len, ap (λ (places : List Place). length places) c.as_mut_slice-places.ensures.value, kept.ok.0)) in
     let asked = c.in_ok-ask_all.ensures in
-    subst (λ (places : List Place). AreSettled places (seen_of c.ask_all.new.tracker)) (sym whole) (record { each = asked.settled; through = asked.through; entered = asked.moves.order.entered })
+    subst (λ (places : List Place). AreSettled c.args.self.now.mode places (seen_of c.ask_all.new.tracker)) (sym whole) (record { each = asked.settled; through = asked.through; entered = asked.moves.order.entered })
 
 pub invariant_of-self-2-clause-right : goal.invariant_of-self-2-clause-right
 invariant_of-self-2-clause-right g c = λ alive.
@@ -41,8 +42,8 @@ returns-clause-answers g c = λ log cut lt reflects is.
     let kept = c.args.self.now.places in
     let here = subst (λ (places : List Place). c.args.p.0 < length places) (sym c.as_mut_slice-places.ensures.value) lt in
     let stand = subst (λ (places : List Place). PlacesStand places log) (sym c.as_mut_slice-places.ensures.value) reflects.places in
-    let start = stands_start c.as_mut_slice-places.result.now (seen_of c.args.self.now.tracker) c.new-acts.result.items log c.new-acts.ensures.items stand reflects.tracks reflects.unexposed in
-    let asked = c.in_ok-ask_all.ensures.moves.stands cut cut refl (c.in_ok-cut_off.ensures.moves.stands log cut (here, is) start) in
+    let start = stands_start {mode = c.args.self.now.mode} c.as_mut_slice-places.result.now (seen_of c.args.self.now.tracker) c.new-acts.result.items log c.new-acts.ensures.items stand reflects.tracks reflects.unexposed in
+    let asked = c.in_ok-ask_all.ensures.moves.stands cut cut refl ((c.in_ok-cut_off.ensures.moves c.args.self.now.mode).stands log cut (here, is) start) in
     let whole = with_items_is kept c.ask_all.new.places
     (omega (arith, c.ask_all.auto.places, c.cut_off.auto.places, c.as_mut_slice-places.ensures.len, ap (λ (places : List Place). length places) c.as_mut_slice-places.ensures.value, kept.ok.0)) in
     record {
@@ -57,12 +58,18 @@ returns-clause-answers g c = λ log cut lt reflects is.
 
 pub returns-clause-tells : goal.returns-clause-tells
 returns-clause-tells g c = λ log cut lt reflects is.
-    acts_tell (watch_of c.ask_all.new.tracker) (words_by c.args.self.now) c.ask_all.new.acts.items cut (reflects_cut c.args.self.now c.args.p log cut is reflects) (returns-clause-answers g c log cut lt reflects is).allowed
+    acts_tell (record { watch = watch_of c.ask_all.new.tracker; mode = c.args.self.now.mode }) (words_by c.args.self.now) c.ask_all.new.acts.items cut (reflects_cut c.args.self.now c.args.p log cut is reflects) (returns-clause-answers g c log cut lt reflects is).allowed
+
+pub returns-clause-rule : goal.returns-clause-rule
+returns-clause-rule g c =
+    let by : List (List ℕ) → Rule = λ watch. record { watch = watch; mode = c.args.self.now.mode } in
+    ap by (c.in_ok-ask_all.ensures.moves.watch ∙ (c.in_ok-cut_off.ensures.moves c.args.self.now.mode).watch)
 
 pub returns-clause-judged : goal.returns-clause-judged
 returns-clause-judged g c = record { same = refl; kept = λ block hash. c.in_ok-ask_all.ensures.verdicts block hash ∙ c.in_ok-cut_off.ensures.verdicts block hash }
 
 pub returns-clause-in_order : goal.returns-clause-in_order
 returns-clause-in_order g c =
-    in_order_by c.cut_off.new.acts.items c.ask_all.new.acts.items c.in_ok-cut_off.ensures.told
+    in_order_by c.cut_off.new.acts.items c.ask_all.new.acts.items
+    (prepared_none c.cut_off.new.acts.items c.in_ok-cut_off.ensures.told)
     c.in_ok-ask_all.ensures.asked
