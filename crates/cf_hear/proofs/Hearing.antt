@@ -1,6 +1,6 @@
 -- What is taken of a piece of a peer's bytes, message by message.
 use Rattle.std.proofs.Common.{◌≡◌, ◌≢◌, ◌⊎◌, inl, inr, ℕ, List, [], ◌∷◌, ◌++◌, map, length, take, drop, Option, Some, None, Result, Ok, Err, ◌<◌, ◌≤◌, Bool, true, false, if◌then◌else◌, refl, sym, ◌∙◌, ap, subst, append_assoc, arith}
-use Rattle.std.specs.List.{All, AllByRecursion}
+use Rattle.std.specs.List.{All, AllByRecursion, list_any}
 use Rattle.std.proofs.lemmas.List.{append-nil, length-append, take-append-drop}
 use Rattle.std.proofs.lemmas.Bool.{cases_eq}
 use Rattle.std.proofs.lemmas.List.Elements.{All-append, All-nil, All-cons}
@@ -13,14 +13,16 @@ use Rattle.cf_frame.specs.Lending.{HasFrame, IsFilled, after_frame}
 use Rattle.cf_frame.specs.Reading.{front_of}
 use Rattle.cf_frame.specs.Stream.{read_stream}
 use Rattle.cf_frame.proofs.Lending.{all_taken}
-use Rattle.cf_headers.specs.Chain.{Hash, Chain, Accepted, Longer, NoLonger, Unlinked, Invalid, TooHigh, accept}
+use Rattle.cf_headers.specs.Chain.{Hash, Chain, Accepted, Longer, NoLonger, Unlinked, Invalid, TooHigh, accept, back_to}
 use Rattle.cf_headers.specs.Changes.{chain_after}
+use Rattle.cf_headers.specs.Heights.{height_of}
 use Rattle.cf_headers.specs.Store.{Puts, own_of}
 use Rattle.cf_lent.specs.declared.views.View.{View}
 use Rattle.cf_lent.specs.declared.views.View.TheVariants as lents
 use Rattle.cf_lent.specs.View.{msg_of}
+use Rattle.cf_msg.specs.declared.msg.Entry.{Entry}
 use Rattle.cf_msg.specs.declared.msg.Msg.{Msg}
-use Rattle.cf_msg.specs.declared.msg.Msg.TheVariants.{Headers, Block as BlockMessage, Cfheaders, Cfilter}
+use Rattle.cf_msg.specs.declared.msg.Msg.TheVariants.{Headers, Inv, Block as BlockMessage, Cfheaders, Cfilter}
 use Rattle.cf_peer.specs.declared.act.Act.{Act}
 use Rattle.cf_peer.specs.declared.act.Act.TheVariants.{Send as SendTo}
 use Rattle.cf_peer.specs.declared.peer.Cause.{Cause}
@@ -28,7 +30,7 @@ use Rattle.cf_peer.specs.declared.peer.Peer.{Peer}
 use Rattle.cf_peer.specs.declared.peer.Reply.{Reply}
 use Rattle.cf_peer.specs.declared.peer.Reply.TheVariants.{Nothing as NoReply, Send, Close, Expose}
 use Rattle.cf_peer.specs.Acts.{IsSendable, IsDoable}
-use Rattle.cf_peer.specs.Trail.{Trail, Part, Said, part_after, heard_part, fault_in, first, longer_of, ready, met, connected, own, owed}
+use Rattle.cf_peer.specs.Trail.{Trail, Part, Said, part_after, heard_part, fault_in, first, longer_of, ready, met, connected, own, owed, is_unknown}
 use Rattle.cf_peer.specs.Asking.{OpenRequest, NothingOpen, request, claims, claims_after, counted, fault_of, fetched, fetched_by, given, given_by, verdict}
 use Rattle.cf_peer.specs.Hearing.{IsReply, Faulty}
 use Rattle.cf_peer.specs.Peer.{Holds, IsRight, TakesClaims, awaits, cause_of_claims, Hears, is_plain, is_ready_peer}
@@ -44,7 +46,7 @@ use Rattle.cf_tables.specs.Wanting.{IsSameTables}
 use Rattle.cf_match.specs.declared.job.Job.{Job}
 use Rattle.cf_match.specs.Verdicts.{Verdicts, AreSameVerdicts, with_verdict, with_verdicts}
 use Rattle.cf_tables.proofs.Judgings.{same_all}
-use Rattle.std.specs.Prelude.{IfOk, IsSome, option_map, unwrap_or}
+use Rattle.std.specs.Prelude.{IfOk, IsSome, is_none, is_some, not, option_map, unwrap_or}
 use Rattle.cf_block.specs.declared.header.Header.{Header}
 use Rattle.cf_block.specs.Header.{genesis_header}
 use Rattle.cf_dispute.specs.declared.claim.Claim.{Claim}
@@ -64,7 +66,7 @@ use Rattle.cf_hear.specs.Exposing.{ExposesAmong, IsUnexposed}
 use Rattle.cf_hear.specs.declared.stop.Stop.{Stop}
 use Rattle.cf_hear.proofs.Trying.{IsOnce, gives_on, go_none, go_on, go_self, go_then, idle_by, once_by, one_empty, trials_self}
 use Rattle.cf_tables.specs.Trials.{IsSameTrials, TrialsGo, judged_if}
-use Rattle.cf_hear.proofs.Opening.{else_of, else_self, else_then, opens_claims, opens_headers, opens_on, opens_other, opens_plain, opens_self}
+use Rattle.cf_hear.proofs.Opening.{else_of, else_self, else_then, opens_claims, opens_headers, opens_news, opens_on, opens_other, opens_plain, opens_self}
 
 -- ---- what was seen
 
@@ -348,12 +350,14 @@ headers_end before after p old peer hs t cause holds over gives puts f watch cla
 pub plain_lent : (v : View) → ((hs : List Header) → v ≡ lents.Headers hs → ⊥) → ((b : Block) → v ≡ lents.Block b → ⊥)
     → ((filter : ℕ) (block : Hash32) (bytes : List ℕ) → v ≡ lents.Cfilter filter block bytes → ⊥)
     → ((filter : ℕ) (stop previous : Hash32) (hashes : List Hash32) → v ≡ lents.Cfheaders filter stop previous hashes → ⊥)
+    → ((entries : List Entry) → v ≡ lents.Inv entries → ⊥)
     → is_plain (msg_of v) ≡ true
-plain_lent (lents.Headers hs) headers block filter claims = absurd (headers hs refl)
-plain_lent (lents.Block b) headers block filter claims = absurd (block b refl)
-plain_lent (lents.Cfilter f b y) headers block filter claims = absurd (filter f b y refl)
-plain_lent (lents.Cfheaders f s p hs) headers block filter claims = absurd (claims f s p hs refl)
-plain_lent v headers block filter claims = refl
+plain_lent (lents.Headers hs) headers block filter claims news = absurd (headers hs refl)
+plain_lent (lents.Block b) headers block filter claims news = absurd (block b refl)
+plain_lent (lents.Cfilter f b y) headers block filter claims news = absurd (filter f b y refl)
+plain_lent (lents.Cfheaders f s p hs) headers block filter claims news = absurd (claims f s p hs refl)
+plain_lent (lents.Inv entries) headers block filter claims news = absurd (news entries refl)
+plain_lent v headers block filter claims news = refl
 
 plain_given : (m : Msg) (r : OpenRequest) → is_plain m ≡ true → given_by m r ≡ []
 plain_given (Cfilter filter block bytes) r plain = cc plain
@@ -379,6 +383,37 @@ plain_hears seen p peer m t NoReply plain hears f = (hears, gains_plain seen p m
 plain_hears seen p peer m t (Send reply) plain hears f = (hears, gains_plain seen p m t plain f)
 plain_hears seen p peer m t (Close cause) plain hears f = (hears, same_seen seen)
 plain_hears seen p peer m t (Expose block filter) plain hears f = absurd hears
+
+-- what p tells of blocks changes no chain, and of what is kept beside the peer nothing
+news_own : (entries : List Entry) (t : Trail) → own (Said (Inv entries) ∷ t) ≡ own t
+news_own entries t = alike (ready t) (own t) where
+  alike : (x : Bool) (chain : Chain) → (if x then chain else chain) ≡ chain
+  alike true chain = refl
+  alike false chain = refl
+
+pub news_hears : (seen : Seen) (p : PeerNo) (peer : Peer) (entries : List Entry) (t : Trail)
+    → Holds peer (Said (Inv entries) ∷ t) → Follows seen p.0 t → HearsSeen seen seen p peer (Inv entries) t NoReply
+news_hears seen p peer entries t h f = (
+  (h, refl),
+  gains_none seen p (Said (Inv entries) ∷ t)
+      (follows_on seen p.0 (Inv entries) t (news_own entries t) (λ block. refl) (opens_news seen.opens p.0 entries t f.opens) f),
+)
+
+-- what is unknown on the chain that is kept of p is so on its own
+pub unknown_by : (seen : Seen) (p : PeerNo) (entries : List Entry) (t : Trail) (unknown : Bool) → Follows seen p.0 t
+    → unknown ≡ list_any (is_unknown (own_of seen.chains p)) entries → unknown ≡ list_any (is_unknown (own t)) entries
+unknown_by seen p entries t unknown f e =
+    e ∙ ap (λ (o : Option Chain). list_any (is_unknown (unwrap_or o [])) entries) f.chain
+
+-- a hash that stands at no height of a chain isn't led back to by it
+pub is_unplaced : (place : Option ℕ) (off : Bool) (hash : Hash) (chain : Chain) → place ≡ height_of hash chain
+    → is_some place ≡ not off → off ≡ is_none (back_to hash chain)
+is_unplaced place off hash chain e is = by off (back_to hash chain) (sym (ap is_some e) ∙ is) where
+  by : (r : Bool) (o : Option Chain) → is_some (option_map length o) ≡ not r → r ≡ is_none o
+  by true None f = refl
+  by false None f = cc f
+  by true (Some part) f = cc f
+  by false (Some part) f = refl
 
 -- what a message that was read does to the peer and to what was seen
 pub hears_next : (before after : Seen) (p : PeerNo) (bytes rest : List ℕ) (new : Peer) (m : Msg) (t : Trail) (r : Reply)

@@ -10,15 +10,16 @@ use Rattle.cf_dispute.proofs.PutIn.{same_true, same_from}
 use Rattle.cf_headers.specs.Chain.{Hash, IsIn}
 use Rattle.cf_headers.specs.Rules.{same}
 use Rattle.cf_match.specs.declared.job.Job.{Job}
+use Rattle.cf_msg.specs.declared.msg.Entry.{Entry}
 use Rattle.cf_msg.specs.declared.msg.Msg.{Msg}
-use Rattle.cf_msg.specs.declared.msg.Msg.TheVariants.{Headers, Block as BlockMessage, Cfheaders, Cfilter}
+use Rattle.cf_msg.specs.declared.msg.Msg.TheVariants.{Pong, Headers, Inv, Block as BlockMessage, Cfheaders, Cfilter}
 use Rattle.cf_peer.specs.declared.peer.Peer.{Peer}
 use Rattle.cf_peer.specs.declared.peer.Request.TheVariants.{Handshake}
 use Rattle.cf_wires.specs.Log.{Log}
 use Rattle.cf_peer.specs.Trail.{Trail, Said, Asked, connected, ready, trail}
-use Rattle.cf_peer.specs.Asking.{OpenRequest, NothingOpen, HeadersOpen, ClaimsOpen, FiltersOpen, BlockOpen, age, filter_of, given_by, is_answer_of, is_wanted, request, request_after}
+use Rattle.cf_peer.specs.Asking.{OpenRequest, NothingOpen, HeadersOpen, ClaimsOpen, FiltersOpen, BlockOpen, PingOpen, age, filter_of, given_by, is_answer_of, is_wanted, request, request_after}
 use Rattle.cf_peer.specs.Peer.{Holds, aged, awaits, is_block_of, is_idle_peer, is_nothing, is_plain}
-use Rattle.cf_peer.proofs.Peers.{awaits_is, idle_request, plain_said}
+use Rattle.cf_peer.proofs.Peers.{awaits_is, idle_request}
 use Rattle.cf_seek.specs.Opens.{Opens, Closes, IsBlockFree, IsFilterFree, IsSameElse, IsSameOpens}
 use Rattle.cf_sync.specs.Fetching.{blocks_open, filters_open}
 use Rattle.cf_sync.specs.Kept.{HoldsOpens, OpensAt}
@@ -193,6 +194,7 @@ leaves_headers hs HeadersOpen = (λ block i. i, λ block i. i)
 leaves_headers hs (ClaimsOpen stop parent blocks) = (λ block i. i, λ block i. i)
 leaves_headers hs (FiltersOpen left came) = (λ block i. i, λ block i. i)
 leaves_headers hs (BlockOpen wanted) = (λ block i. i, λ block i. i)
+leaves_headers hs (PingOpen number) = (λ block i. i, λ block i. i)
 
 leaves_claims : (filter : ℕ) (stop previous : Hash32) (hashes : List Hash32) (r : OpenRequest) → Leaves (Cfheaders filter stop previous hashes) r
 leaves_claims filter stop previous hashes NothingOpen = (λ block i. i, λ block i. i)
@@ -200,6 +202,7 @@ leaves_claims filter stop previous hashes HeadersOpen = (λ block i. i, λ block
 leaves_claims filter stop previous hashes (ClaimsOpen wanted parent blocks) = (λ block i. absurd i, λ block i. absurd i)
 leaves_claims filter stop previous hashes (FiltersOpen left came) = (λ block i. i, λ block i. i)
 leaves_claims filter stop previous hashes (BlockOpen wanted) = (λ block i. i, λ block i. i)
+leaves_claims filter stop previous hashes (PingOpen number) = (λ block i. i, λ block i. i)
 
 pub opens_headers : (opens : Opens) (p : ℕ) (hs : List Header) (t : Trail) → OpensAt opens p t → OpensAt opens p (Said (Headers hs) ∷ t)
 opens_headers opens p hs t at = opens_said opens p (Headers hs) t (leaves_headers hs (request t)) at
@@ -209,8 +212,29 @@ pub opens_claims : (opens : Opens) (p filter : ℕ) (stop previous : Hash32) (ha
 opens_claims opens p filter stop previous hashes t at =
     opens_said opens p (Cfheaders filter stop previous hashes) t (leaves_claims filter stop previous hashes (request t)) at
 
+-- a pong may end a ping, and nothing else that is open
+leaves_pong : (number : ℕ) (r : OpenRequest) → Leaves (Pong number) r
+leaves_pong number NothingOpen = (λ block i. i, λ block i. i)
+leaves_pong number HeadersOpen = (λ block i. i, λ block i. i)
+leaves_pong number (ClaimsOpen stop parent blocks) = (λ block i. i, λ block i. i)
+leaves_pong number (FiltersOpen left came) = (λ block i. i, λ block i. i)
+leaves_pong number (BlockOpen wanted) = (λ block i. i, λ block i. i)
+leaves_pong number (PingOpen wanted) = (λ block i. absurd i, λ block i. absurd i)
+
+leaves_plain : (m : Msg) (r : OpenRequest) → is_plain m ≡ true → Leaves m r
+leaves_plain (Pong number) r plain = leaves_pong number r
+leaves_plain (Headers hs) r plain = cc plain
+leaves_plain (BlockMessage b) r plain = cc plain
+leaves_plain (Cfheaders filter stop previous hashes) r plain = cc plain
+leaves_plain (Cfilter filter block bytes) r plain = cc plain
+leaves_plain m r plain = leaves_same m r refl
+
 pub opens_plain : (opens : Opens) (p : ℕ) (m : Msg) (t : Trail) → is_plain m ≡ true → OpensAt opens p t → OpensAt opens p (Said m ∷ t)
-opens_plain opens p m t plain at = opens_said opens p m t (leaves_same m (request t) (plain_said m t plain).1) at
+opens_plain opens p m t plain at = opens_said opens p m t (leaves_plain m (request t) plain) at
+
+pub opens_news : (opens : Opens) (p : ℕ) (entries : List Entry) (t : Trail) → OpensAt opens p t
+    → OpensAt opens p (Said (Inv entries) ∷ t)
+opens_news opens p entries t at = opens_said opens p (Inv entries) t (leaves_same (Inv entries) (request t) refl) at
 
 -- ---- a block
 
@@ -234,6 +258,7 @@ opens_other opens p peer b h t holds e is at =
       by on HeadersOpen a off orderly = refl
       by on (ClaimsOpen stop parent blocks) a off orderly = refl
       by on (FiltersOpen left came) a off orderly = refl
+      by on (PingOpen number) a off orderly = refl
       by true (BlockOpen wanted) a off orderly = other_same b wanted (off_wanted b wanted h is off)
       by false (BlockOpen wanted) a off orderly = (let none = orderly refl in cc)
 
@@ -272,6 +297,7 @@ leaves_filter filter block bytes (FiltersOpen (next ∷ x ∷ left) came) none =
   λ b i. absurd i,
 )
 leaves_filter filter block bytes (BlockOpen wanted) none = (λ b i. i, λ b i. i)
+leaves_filter filter block bytes (PingOpen number) none = (λ b i. i, λ b i. i)
 
 pub opens_filter : (opens : Opens) (p filter : ℕ) (block : Hash32) (bytes : List ℕ) (t : Trail) → given_by (Cfilter filter block bytes) (request t) ≡ [] → OpensAt opens p t
     → OpensAt opens p (Said (Cfilter filter block bytes) ∷ t)
@@ -290,6 +316,7 @@ ends_or_leaves filter block bytes (FiltersOpen (next ∷ []) came) = elim (cases
 ]
 ends_or_leaves filter block bytes (FiltersOpen (next ∷ x ∷ left) came) = inr refl
 ends_or_leaves filter block bytes (BlockOpen wanted) = inr refl
+ends_or_leaves filter block bytes (PingOpen number) = inr refl
 
 -- a filter of what may be a whole batch: nothing is open to p then, or what was open stays
 pub opens_whole : (before after : Opens) (p : ℕ) (old new : Peer) (filter : ℕ) (block : Hash32) (bytes : List ℕ) (t : Trail) → Holds old t

@@ -1,5 +1,5 @@
 //! How a peer's bytes are taken.
-ghost use Rattle.std.specs.Prelude.{◌≡◌, ◌≢◌, ◌<◌, ◌≤◌, ◌++◌, ℕ, List, [], true, Some, None, Ok, IsSome, IfOk, IfSome, IfNone, OnOk, length, false};
+ghost use Rattle.std.specs.Prelude.{◌≡◌, ◌≢◌, ◌<◌, ◌≤◌, ◌++◌, ℕ, List, [], true, Some, None, Ok, IsSome, IfOk, IfSome, IfNone, OnOk, is_none, length, false};
 ghost use Rattle.std.specs.List.{All, list_any};
 ghost use Rattle.cf_frame.specs.Reading.{front_of};
 ghost use Rattle.cf_msg.specs.declared.msg.Msg.TheVariants.{Headers, Inv, Block as BlockMessage, Cfheaders, Cfilter};
@@ -8,6 +8,7 @@ ghost use Rattle.cf_peer.specs.Acts.{IsDoable};
 ghost use Rattle.cf_peer.specs.Trail.{Trail, Part, heard_part, is_unknown};
 ghost use Rattle.cf_peer.specs.Peer.{Holds, calm, is_idle_peer, IsReplySendable, IsRight};
 ghost use Rattle.cf_match.specs.Verdicts.{AreSameVerdicts, with_verdicts};
+ghost use Rattle.cf_headers.specs.Chain.{back_to};
 ghost use Rattle.cf_headers.specs.Store.{Stays, own_of};
 ghost use Rattle.cf_seek.specs.Opens.{Closes, IsSameElse, IsSameOpens};
 ghost use Rattle.cf_tables.specs.Tables.{IsSameTable};
@@ -29,6 +30,7 @@ use cf_frame::Framer;
 use cf_headers::HeaderStore;
 use cf_lent::{EntriesView, View};
 use cf_match::{Job, Matcher};
+use cf_msg::Entry;
 use cf_peer::{Act, Cause, Coming, Heard, Peer, Reply, cause_of, next_coming};
 use cf_seek::Exposure;
 use cf_tracker::Tracker;
@@ -279,14 +281,31 @@ fn hear_filter<H: HeaderStore, M: Matcher>(
     }
 }
 
-// Whether entries that a tracked peer tells name a block that isn't on its own chain.
+// Whether the block with this hash isn't on a tracked peer's own chain.
+#[tactic(auto, using(crate::proofs::Hearing::is_unplaced))]
+fn is_off_chain<H: HeaderStore>(tracker: &Tracker<H>, p: PeerNo, hash: &Hash32) -> bool
+    requires { IsSome (chains_of tracker.now p.0) }
+    ensures { result ≡ is_none (back_to hash.now.0 (own_of (chains_of tracker.now) p)) }
+{
+    tracker.place(p, hash).is_none()
+}
+
+// Whether an entry that a tracked peer tells names a block that isn't on its own chain.
+fn is_news<H: HeaderStore>(tracker: &Tracker<H>, p: PeerNo, entry: &Entry) -> bool
+    requires { IsSome (chains_of tracker.now p.0) }
+    ensures { result ≡ is_unknown (own_of (chains_of tracker.now) p) entry.now }
+{
+    entry.kind == 2 && is_off_chain(tracker, p, &entry.hash)
+}
+
+// Whether one of the entries that a tracked peer tells names such a block.
 fn are_news<H: HeaderStore>(tracker: &Tracker<H>, p: PeerNo, entries: EntriesView) -> bool
     requires { IsSome (chains_of tracker.now p.0) }
     ensures { result ≡ list_any (is_unknown (own_of (chains_of tracker.now) p)) entries.entry }
 {
     let mut entries = entries;
     while let Some(entry) = entries.next() {
-        if entry.kind == 2 && tracker.place(p, &entry.hash).is_none() {
+        if is_news(tracker, p, &entry) {
             return true;
         }
     }

@@ -8,7 +8,7 @@ pub returns-in_default-clause-heard : goal.returns-in_default-clause-heard
 returns-in_default-clause-heard g c = λ t h f.
     let d = c.in_default in
     plain_hears (seen_of c.args.tracker.now) c.args.p c.hear.new.self (msg_of c.args.message) t c.hear.result
-    (plain_lent c.args.message d.not-Headers d.not-Block d.not-Cfilter d.not-Cfheaders) (c.hear.ensures.heard t h) f
+    (plain_lent c.args.message d.not-Headers d.not-Block d.not-Cfilter d.not-Cfheaders d.not-Inv) (c.hear.ensures.heard t h) f
 
 pub returns-in_default-clause-exposes : goal.returns-in_default-clause-exposes
 returns-in_default-clause-exposes g c = λ t h f.
