@@ -107,7 +107,8 @@ one_entry (Took (Got q piece)) log a b i j = by (q.0 == i.0) refl i.1 (q.0 == j.
 one_entry e log a b i j = elim (fetched_before e log a i) [ inl old ↦ inl (inl old) | inr none ↦ absurd none ]
 
 -- two fetched blocks with one hash are one
-pub one_body : (log : Log) → RightlyIn Following log → (a b : Block) → IsFetched log a → IsFetched log b → block_hash_of a.header ≡ block_hash_of b.header → a ≡ b
+pub one_body : (log : Log) → RightlyIn Following log → (a b : Block) → IsFetched log a → IsFetched log b
+    → block_hash_of a.header ≡ block_hash_of b.header → a ≡ b
 one_body [] right a b i j e = absurd i.1
 one_body (entry ∷ log) right a b i j e =
     let before : RightlyIn Following log = rightly_before_in Following entry log right in

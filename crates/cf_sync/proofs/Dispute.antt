@@ -13,7 +13,6 @@ use Rattle.cf_headers.specs.Chain.{Chain, Accepted, back_to, IsIn, NoHashClash, 
 use Rattle.cf_msg.specs.declared.msg.Msg.{Msg}
 use Rattle.cf_msg.specs.declared.msg.Msg.TheVariants.{Verack, Cfheaders, Block as BlockMessage, Cfilter}
 use Rattle.cf_msg.specs.Message.{payload_of}
-use Rattle.cf_peer.specs.declared.mode.Mode.TheVariants.{Once}
 use Rattle.cf_peer.specs.Acts.{bytes_of, IsSendable}
 use Rattle.cf_peer.specs.Asking.{block_entry, is_spare, NothingOpen, ClaimsOpen, FiltersOpen, claims_asked, claims, claims_after, claims_fault, hash_claimed, fault_of, request, request_after, is_idle, is_open, verdict, counted, fetched, hashes_of, HasSaid, MayAsk, SameUse, IsFree, filter_fault, filter_of, filters_asked, given, given_by}
 use Rattle.cf_wires.specs.Log.{Log}

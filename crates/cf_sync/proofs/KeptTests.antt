@@ -356,7 +356,8 @@ lacks_alike : (a b : Hash) (x y : Block) → a ≡ b → x ≡ y → (filter : L
 lacks_alike a b x y e one filter h = (λ k. lacks (e k) (output_items_of (one k)) filter) ∙ h
 
 -- where it is told that it lacks nothing, it is no omission
-pub holds_all : (l : Log) (paid : Paid) (told : Told) → RightlyIn Following l → HoldsOutputs l paid → AreClean l paid told
+pub holds_all : (l : Log) (paid : Paid) (told : Told) → RightlyIn Following l
+    → HoldsOutputs l paid → AreClean l paid told
     → (block : Hash) (hash : Hash32) → told block hash.0 ≡ Some false → (t : IsTestedWith l block hash) → IsOmission l block t.filter.filter → ⊥
 holds_all l paid told right outputs clean block hash is t o = by (paid block) refl where
   by : (found : Option (List (List ℕ))) → paid block ≡ found → ⊥

@@ -17,8 +17,8 @@ use Rattle.cf_sync.specs.Fetching.{MaySendIn, RightlyIn}
 still_unheard : (m : Msg) (chain : Chain) (so_far ends : Bool) → so_far ≡ false → ends ≡ false
     → (still_heard Following m chain so_far || ends) ≡ false
 still_unheard m chain so_far ends off none =
-    ap (λ (b : Bool). (if is_news m chain then false else b) || ends) off ∙ ap (λ (b : Bool). unless (is_news m chain) || b) none
-    ∙ by (is_news m chain) where
+    ap (λ (b : Bool). (if is_news m chain then false else b) || ends) off
+    ∙ ap (λ (b : Bool). unless (is_news m chain) || b) none ∙ by (is_news m chain) where
       unless : Bool → Bool
       unless news = if news then false else false
 
@@ -53,7 +53,8 @@ pub asks_following : (mode : Mode) (t : Trail) (m : Msg) → MayAskIn mode t m �
 asks_following Once t m may = may_ask_following t m may
 asks_following Following t m may = may
 
-pub sends_following : (mode : Mode) (log : Log) (p : ℕ) (m : Msg) → MaySendIn mode log p m → MaySendIn Following log p m
+pub sends_following : (mode : Mode) (log : Log) (p : ℕ) (m : Msg) → MaySendIn mode log p m
+    → MaySendIn Following log p m
 sends_following mode log p m may = record {
   of_its_part = asks_following mode (trail log p) m may.of_its_part;
   wanted = may.wanted;

@@ -21,6 +21,7 @@ use Rattle.cf_peer.specs.Trail.{Trail, Part, Said, Asked, Lost, Went, Failing, S
 use Rattle.cf_peer.specs.Asking.{OpenRequest, NothingOpen, HeadersOpen, ClaimsOpen, FiltersOpen, BlockOpen, PingOpen, request, request_for, request_after, filter_of, claims_asked, filters_asked, is_wanted, is_committed, is_answer_of, block_entry, fault_of, verdict, counts, counted, fetched, fetched_by}
 use Rattle.cf_sync.specs.Fetching.{RightlyIn, IsConnected, IsFetched, IsFetchedHash, IsWanted, IsFilterOpen, IsBlockOpen, MaySendIn, filters_open, blocks_open, blocks_in}
 use Rattle.cf_sync.proofs.Entries.{at_either}
+use Rattle.cf_sync.proofs.Modes.{rightly_before_in}
 use Rattle.std.specs.Prelude.{is_none}
 use Rattle.cf_block.specs.declared.tx.Block.{Block}
 use Rattle.cf_block.specs.Header.{block_hash_of}
@@ -250,14 +251,6 @@ module _ (what : OpenRequest → List Hash) (none : (block : Hash) → IsIn bloc
       ])
       (λ off s. inl s) st
 
-  rest_right : (e : Event) (log : Log) → RightlyIn Following (e ∷ log) → RightlyIn Following log
-  rest_right (Dialled q name) log right = right
-  rest_right (NotDialled q name) log right = right
-  rest_right (SendFailed q) log right = right
-  rest_right (Closed q) log right = right.1
-  rest_right (Sent q bytes) log right = right.1
-  rest_right (Took d) log right = right.1
-
   -- two requests that are open hold no block of which this is so now, and was so before
   one_of : (Live : Log → Hash → Type 0) → ((e : Event) (log : Log) (block : Hash) → Live (e ∷ log) block → Live log block)
       → ((log : Log) (block : Hash) → Live log block → Free log block → (q : ℕ) → StandsIn what (trail log q) block → ⊥)
@@ -267,7 +260,7 @@ module _ (what : OpenRequest → List Hash) (none : (block : Hash) → IsIn bloc
       let lived : Live log block = before e log block live in
       elim (stood e log p block right s) [
         | inl a ↦ elim (stood e log q block right t) [
-          | inl b ↦ one_of Live before apart log (rest_right e log right) p q block lived a b
+          | inl b ↦ one_of Live before apart log (rightly_before_in Following e log right) p q block lived a b
           | inr b ↦ absurd (apart log block lived b.free p a)
         ]
         | inr a ↦ elim (stood e log q block right t) [
@@ -381,14 +374,14 @@ open_unfetched (e ∷ log) right p block s got =
     let st = stood blocks_open (λ b i. i) blocks_said IsNewBlock blocks_asked e log p block right s in
     elim (newly e log got.0 got.1) [
       | inl old ↦ elim st [
-        | inl was ↦ open_unfetched log (rest_right blocks_open (λ b i. i) blocks_said IsNewBlock blocks_asked e log right) p block was (got.0, old, got.2)
+        | inl was ↦ open_unfetched log (rightly_before_in Following e log right) p block was (got.0, old, got.2)
         | inr just ↦ just.free.1 (got.0, old, got.2)
       ]
       | inr new ↦ (
           let there : StandsIn blocks_open (trail log new.0) block = subst (StandsIn blocks_open (trail log new.0)) got.2 new.1.0 in
           elim st [
             | inl was ↦ (
-                let same_peer : p ≡ new.0 = one_block_at log (rest_right blocks_open (λ b i. i) blocks_said IsNewBlock blocks_asked e log right) p new.0 block was there in
+                let same_peer : p ≡ new.0 = one_block_at log (rightly_before_in Following e log right) p new.0 block was there in
                 new.1.1 block (subst (λ (k : ℕ). IsIn block (blocks_open (request (trail (e ∷ log) k)))) same_peer s.1)
                 )
             | inr just ↦ just.free.0 (new.0, there)
