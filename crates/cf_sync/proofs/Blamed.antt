@@ -24,7 +24,7 @@ use Rattle.cf_frame.specs.declared.frame.FrameFault.{FrameFault}
 use Rattle.cf_frame.specs.Stream.{StreamRead, read_stream}
 use Rattle.cf_msg.specs.declared.msg.Msg.{Msg}
 use Rattle.cf_peer.specs.Trail.{Trail, Part, Item, Called, Said, Refused, Asked, Passed, Lost, Went, Failing, Shutting, called_part, with_item, item_of, hears, hears_fault, part_after, heard_part, spelled, asks, part_of, trail}
-use Rattle.cf_peer.specs.Asking.{HasSaid, claims}
+use Rattle.cf_peer.specs.Asking.{HasSaid, claims, verdict}
 use Rattle.cf_filter.specs.Lacking.{output_items_of, lacks}
 use Rattle.cf_sync.specs.Fetching.{counted_part, AreBytes, IsTest, IsTested, IsOmitting}
 use Rattle.cf_sync.specs.Honesty.{IsTrueOf}
@@ -32,6 +32,7 @@ use Rattle.cf_sync.specs.Sync.{IsHashed}
 use Rattle.cf_sync.proofs.Answered.{answered_stays, answered_wide}
 use Rattle.cf_sync.proofs.Counted.{same_use}
 use Rattle.cf_sync.proofs.HonestLemmas.{Good, NeverOmits, good_truth}
+use Rattle.cf_sync.proofs.Serves.{AreTrue}
 use Rattle.cf_filter.proofs.OwnFilter.{own_filter}
 use Rattle.cf_sync.proofs.Untouched.{few_items}
 use Rattle.cf_sync.proofs.Brought.{fetched_is, given_is}
@@ -76,13 +77,14 @@ claim_is (Some claim) hash e = (claim, (refl, cc))
 same_lacks : (a b : List ℕ) (x y : Block) (f g : List ℕ) → a ≡ b → x ≡ y → f ≡ g → lacks b (output_items_of y) g ≡ false → lacks a (output_items_of x) f ≡ false
 same_lacks a b x y f g e same h own = (λ i. lacks (e i) (output_items_of (same i)) (h i)) ∙ own
 
--- a filter that a good peer claims lacks nothing that a fetched block pays
-pub good_omits_nothing : (log : Log) (p : ℕ) (blocks : List Block) → AreBytes log → NoHashClash (IsHashed log blocks) → AreGoodBlocks empty blocks → Good blocks (trail log p) → IsOmitting log p → ⊥
-good_omits_nothing log p blocks bytes clash all good o =
-    let same = same_use (trail log p) o.there good.keeps.clean in
+-- a filter that a peer claims whose claims are true lacks nothing that a fetched block pays
+pub truth_omits_nothing : (log : Log) (p : ℕ) (blocks : List Block) → AreBytes log → NoHashClash (IsHashed log blocks)
+    → AreGoodBlocks empty blocks → verdict (trail log p) ≡ None → AreTrue blocks (claims (trail log p)) → IsOmitting log p → ⊥
+truth_omits_nothing log p blocks bytes clash all clean truth o =
+    let same = same_use (trail log p) o.there clean in
     let c = claim_is (claims (counted_part log p) o.block) o.hash o.claimed in
     let mine : claims (trail log p) o.block ≡ Some c.0 = sym (ap (λ (t : Table). t o.block) same.claiming) ∙ c.1.0 in
-    let true_one : IsTrueOf blocks o.block c.0 = (good_truth blocks (trail log p) good).claimed o.block c.0 mine in
+    let true_one : IsTrueOf blocks o.block c.0 = truth o.block c.0 mine in
     let w = filter_of_block empty first_filtered.header blocks all true_one.filter true_one.in_chain in
     let text : filter_hash_of o.tested.filter.filter ≡ filter_hash_of true_one.filter.filter = o.tested.this ∙ sym (ap (λ (h : Hash32). h.0) c.1.1) ∙ true_one.hash in
     let filter : o.tested.filter.filter ≡ true_one.filter.filter = given_is log blocks clash true_one.filter true_one.in_chain o.tested.filter (answered_wide IsTest log o.tested.filter o.tested.tested) text in
@@ -93,6 +95,10 @@ good_omits_nothing log p blocks bytes clash all good o =
     let none : lacks o.block (output_items_of o.omits.body) o.tested.filter.filter ≡ false =
     same_lacks o.block (block_hash_of w.block.header) o.omits.body w.block o.tested.filter.filter (basic_filter_of (block_hash_of w.block.header) (items_of w.block w.spent)) (sym name) body made own in
     both_ways (lacks o.block (output_items_of o.omits.body) o.tested.filter.filter) none o.omits.lacking
+
+pub good_omits_nothing : (log : Log) (p : ℕ) (blocks : List Block) → AreBytes log → NoHashClash (IsHashed log blocks) → AreGoodBlocks empty blocks → Good blocks (trail log p) → IsOmitting log p → ⊥
+good_omits_nothing log p blocks bytes clash all good o =
+    truth_omits_nothing log p blocks bytes clash all good.keeps.clean (good_truth blocks (trail log p) good).claimed o
 
 -- ---- at each moment
 
@@ -134,7 +140,7 @@ said_on (Took (Gone q)) log p m h = at_either (IsSaidIn m) (q.0 == p) (with_item
 said_on (Took (Tick s)) log p m h = h
 said_on (Took Ended) log p m h = h
 
-bytes_before : (e : Event) (log : Log) → AreBytes (e ∷ log) → AreBytes log
+pub bytes_before : (e : Event) (log : Log) → AreBytes (e ∷ log) → AreBytes log
 bytes_before (Dialled q name) log h = h
 bytes_before (NotDialled q name) log h = h
 bytes_before (Sent q bytes) log h = h
@@ -150,7 +156,7 @@ hashed_on e log blocks s (inl first) = inl first
 hashed_on e log blocks s (inr (inl came)) = inr (inl (came.0, (came.1.0, said_on e log came.0 came.1.0 came.1.1, came.1.2)))
 hashed_on e log blocks s (inr (inr own)) = inr (inr own)
 
-clash_before : (e : Event) (log : Log) (blocks : List Block) → NoHashClash (IsHashed (e ∷ log) blocks) → NoHashClash (IsHashed log blocks)
+pub clash_before : (e : Event) (log : Log) (blocks : List Block) → NoHashClash (IsHashed (e ∷ log) blocks) → NoHashClash (IsHashed log blocks)
 clash_before e log blocks c = record {
   apart = λ a b i j f. c.apart a b (hashed_on e log blocks a i) (hashed_on e log blocks b j) f;
   real = λ a i f. c.real a (hashed_on e log blocks a i) f;

@@ -1,7 +1,7 @@
--- The run of a peer whose chain grows, moment by moment: all that the follow theorem asks for is met, at both quiet moments.
-use Rattle.std.proofs.Common.{if◌then◌else◌, ◌≡◌, ◌≢◌, inl, inr, ℕ, pos, ◌<◌, ◌≤◌, List, [], ◌∷◌, ◌++◌, length, Some, None, Bool, true, false, not, ◌||◌, ◌==◌, refl, sym, ◌∙◌, ap, subst, arith}
+-- The run of a peer whose chain grows, moment by moment: all that the follow theorem asks for is met, at both quiet
+-- moments.
+use Rattle.std.proofs.Common.{if◌then◌else◌, ◌≡◌, ◌≢◌, inl, inr, ℕ, pos, ◌<◌, ◌≤◌, List, [], ◌∷◌, ◌++◌, length, Some, None, Bool, true, false, not, ◌==◌, refl, sym, ◌∙◌, ap, subst, arith}
 use Rattle.std.specs.Prelude.{option_map}
-use Rattle.std.proofs.Math.Facts.{sfits_lit}
 use Rattle.std.proofs.lemmas.Bool.{cases_Bool, false≢true, eqb-true}
 use Rattle.sha2.specs.Sha256.{compress, digest_bytes, first_words, hash_after, rounds, schedule, sha256}
 use Rattle.cf_bytes.specs.Compact.{compact}
@@ -18,6 +18,7 @@ use Rattle.cf_dispute.specs.Claims.{Table, no_claims, with_claim}
 use Rattle.cf_filter.specs.Filter.{match_of}
 use Rattle.cf_frame.specs.Frame.{spelling}
 use Rattle.cf_headers.specs.Chain.{Chain, IsIn, NoHashClash}
+use Rattle.cf_headers.specs.Heights.{hash_at, common_of}
 use Rattle.cf_match.specs.Verdicts.{is_miss}
 use Rattle.cf_msg.specs.declared.msg.Msg.{Msg}
 use Rattle.cf_msg.specs.declared.msg.Msg.TheVariants.{Verack, Headers, Block as BlockMessage}
@@ -29,20 +30,21 @@ use Rattle.cf_peer.specs.declared.mode.Mode.TheVariants.{Following}
 use Rattle.cf_peer.specs.Acts.{bytes_of, IsSendable}
 use Rattle.cf_wires.specs.Log.{Log}
 use Rattle.cf_peer.specs.Trail.{Trail, Part, Called, Said, Asked, Passed, called_part, with_item, heard_part, spelled, asks, part_of, trail, connected, own, heard_in, first}
-use Rattle.cf_peer.specs.Asking.{NothingOpen, ClaimsOpen, FiltersOpen, is_idle, is_spare, is_open, age, request, request_after, claims, claims_after, claims_asked, filters_asked, claims_fault, filter_fault, fault_of, verdict, counted, lists, given, given_by, filter_of, hash_claimed, hashes_of, HasSaid, IsFree, block_entry, MayAskIn}
-use Rattle.cf_scan.specs.Scan.{scan_of}
+use Rattle.cf_peer.specs.Asking.{NothingOpen, ClaimsOpen, FiltersOpen, is_idle, is_spare, is_open, age, request, request_after, claims, claims_after, claims_asked, filters_asked, claims_fault, filter_fault, fault_of, verdict, counted, given, given_by, filter_of, hash_claimed, hashes_of, HasSaid, IsFree, block_entry, MayAskIn}
 use Rattle.cf_scan.specs.Watching.{IsWatch}
 use Rattle.cf_sync.specs.Example.{only_header, only_hash, chain_of_one, honest_peer, our_version, its_version, question, its_headers, false_headers, ask_claims, its_claims, ask_filter, its_filter, genesis_hash, no_stop, only_filter, only_filter_hash, genesis_filter_header, other_watch, log_1, log_2}
 use Rattle.cf_sync.specs.Growth.{ping_one, pong_one, news, grow_3, grow_4, grow_5, grow_6, first_quiet, grow_8, grow_9, grow_10, grow_11, grow_12, grow_13, grow_14, grow_15, grow_16, growing_run}
-use Rattle.cf_sync.specs.Fetching.{IsQuiet, IsFetched, IsNoneFetching, IsCleared, RightlyIn, AreBytes, IsConnected}
+use Rattle.cf_sync.specs.Fetching.{counted_part, IsQuiet, IsFetched, IsCleared, RightlyIn, AreBytes, IsConnected}
 use Rattle.cf_sync.specs.Honesty.{was_called}
 use Rattle.cf_sync.specs.Growing.{Turn, Reaches, IsGrowingOver, IsGrowing, IsTold, OthersShowNone}
 use Rattle.cf_sync.specs.Sync.{strings_of, IsHashed, HasAskedIn}
+use Rattle.cf_sync.proofs.Alone.{IsNoneFetching, none_filters}
+use Rattle.cf_sync.proofs.Answered.{came_given}
 use Rattle.cf_sync.proofs.Computed.{name_is, are_small, small_bytes, version_small, verack_small, headers_small, false_headers_small, claims_small, filter_small}
 use Rattle.cf_sync.proofs.Counted.{same_use, said_counts}
 use Rattle.cf_sync.proofs.Filters.{only_filter_hash_is, only_misses}
 use Rattle.cf_sync.proofs.Chains.{same_self}
-use Rattle.cf_sync.proofs.TwoPeers.{IsKnown, no_clash, chain_known, headers_known, filter_known, SaysKnown, good_chain, has_room, headers_answer, claims_answer, filter_answer, accepted, of_part, other_hash, self_hash, back_only, may_ask_of, may_filter_of, only_claim, hash_same, first_same, own_7, HasNone, unsaid, still_true, ClaimsIt, claims_it, nobody_claims, nobody_below}
+use Rattle.cf_sync.proofs.TwoPeers.{IsKnown, no_clash, chain_known, headers_known, filter_known, SaysKnown, good_chain, has_room, headers_answer, claims_answer, filter_answer, accepted, of_part, other_hash, self_hash, back_only, may_ask_of, may_ask_filter_of, only_claim, hash_same, first_same, own_7, HasNone, unsaid, still_true, ClaimsIt, claims_it, SharesIt, shares_it, nobody_below}
 use Rattle.cf_sync.proofs.Written.{at_rest, spelled_is, sent_part, got_part, our_sendable, its_sendable, verack_sendable, question_sendable, headers_sendable, none_sendable, claims_sendable, filter_sendable, ask_claims_sendable, ask_filter_sendable, entry_fits}
 
 -- ---- its messages
@@ -63,14 +65,20 @@ pong_sendable = record { spelled = omega arith; short = omega (arith, pong_lengt
 
 pub news_sendable : IsSendable news
 unfolding payload_of
-news_sendable = record { spelled = (omega arith, (entry_fits, tt)); short = omega (arith, entries_size (block_entry only_hash ∷ []) (entry_fits, tt)) }
+news_sendable =
+    record {
+      spelled = (omega arith, (entry_fits, tt));
+      short =
+          omega (arith, entries_size (block_entry only_hash ∷ []) (entry_fits, tt));
+    }
 
 pong_small : are_small (bytes_of pong_one) ≡ true
 unfolding first_words schedule rounds compress hash_after digest_bytes sha256 hash_of spelling payload_of compact
 pong_small = refl
 
 news_small : are_small (bytes_of news) ≡ true
-unfolding first_words schedule rounds compress hash_after digest_bytes sha256 hash_of spelling payload_of compact block_hash_of header_spelling only_header
+unfolding first_words schedule rounds compress hash_after digest_bytes sha256 hash_of spelling payload_of compact
+    block_hash_of header_spelling only_header
 news_small = refl
 
 -- ---- its part, moment by moment
@@ -194,16 +202,20 @@ ticks (e ∷ log) = ticks log
 none_passes : (log : Log) (k : ℕ) → (1 == k) ≡ false → IsOfOne log → part_of log k ≡ at_rest (ticks log)
 none_passes [] k off h = refl
 none_passes (Dialled q name ∷ log) k off h =
-    ap (λ (x : Bool). if x then called_part (part_of log k) else part_of log k) (ap (λ (n : ℕ). n == k) h.0 ∙ off) ∙ none_passes log k off h.1
+    ap (λ (x : Bool). if x then called_part (part_of log k) else part_of log k) (ap (λ (n : ℕ). n == k) h.0 ∙ off)
+    ∙ none_passes log k off h.1
 none_passes (Sent q bytes ∷ log) k off h =
-    ap (λ (x : Bool). if x then record (part_of log k) { trail = asks (spelled bytes) (trail log k) } else part_of log k) (ap (λ (n : ℕ). n == k) h.0 ∙ off) ∙ none_passes log k off h.1
+    ap (λ (x : Bool). if x then record (part_of log k) { trail = asks (spelled bytes) (trail log k) } else part_of log
+    k) (ap (λ (n : ℕ). n == k) h.0 ∙ off) ∙ none_passes log k off h.1
 none_passes (Took (Got q piece) ∷ log) k off h =
-    ap (λ (x : Bool). if x then heard_part piece (part_of log k) else part_of log k) (ap (λ (n : ℕ). n == k) h.0 ∙ off) ∙ none_passes log k off h.1
+    ap (λ (x : Bool). if x then heard_part piece (part_of log k) else part_of log k) (ap (λ (n : ℕ). n == k) h.0 ∙ off)
+    ∙ none_passes log k off h.1
 none_passes (Took (Tick s) ∷ log) k off h = ap (λ (part : Part). with_item (Passed s) part) (none_passes log k off h)
 none_passes (e ∷ log) k off h = absurd h
 
 -- what holds of the peer, and of nobody, holds of each
-at_one : (P : Trail → Type 0) (log : Log) (here : Trail) (p : ℕ) → part_of log 1 ≡ at_rest here → IsOfOne log → P here → P (ticks log) → P (trail log p)
+at_one : (P : Trail → Type 0) (log : Log) (here : Trail) (p : ℕ) → part_of log 1 ≡ at_rest here → IsOfOne log → P here
+    → P (ticks log) → P (trail log p)
 at_one P log here p one all h none = elim (cases_Bool (1 == p)) [
   | inl is1 ↦ subst (λ (k : ℕ). P (trail log k)) (eqb-true 1 p is1) (of_part P (part_of log 1) here one h)
   | inr off ↦ of_part P (part_of log p) (ticks log) (none_passes log p off all) none
@@ -229,46 +241,88 @@ r_2 : Reaches chain_of_one 0 v_2 (turn 0 false [] (our_version ∷ []))
 r_2 = (turn 0 false [] [], refl, refl)
 
 r_3 : Reaches chain_of_one 0 v_3 (turn 0 true (Verack ∷ []) [])
-r_3 = (turn 0 false [] (our_version ∷ []), r_2, (1, record { due = version_reply (pos 0) 0 []; rest = Verack ∷ []; left = refl; answer = (refl, refl); next = refl }))
+r_3 = (
+  turn 0 false [] (our_version ∷ []),
+  r_2,
+  (
+    1,
+    record {
+      due = version_reply (pos 0) 0 [];
+      rest = Verack ∷ [];
+      left = refl;
+      answer = (refl, refl);
+      next =
+          refl;
+    },
+  ),
+)
 
 r_4 : Reaches chain_of_one 0 v_4 (turn 0 true (Verack ∷ []) (Verack ∷ []))
 r_4 = (turn 0 true (Verack ∷ []) [], r_3, refl)
 
 r_5 : Reaches chain_of_one 0 v_5 (turn 0 true [] (Verack ∷ []))
-r_5 = (turn 0 true (Verack ∷ []) (Verack ∷ []), r_4, (0, record { due = Verack; rest = []; left = refl; answer = refl; next = refl }))
+r_5 = (
+  turn 0 true (Verack ∷ []) (Verack ∷ []),
+  r_4,
+  (0, record { due = Verack; rest = []; left = refl; answer = refl; next = refl }),
+)
 
 r_6 : Reaches chain_of_one 0 v_6 (turn 0 true [] (Verack ∷ question ∷ []))
 r_6 = (turn 0 true [] (Verack ∷ []), r_5, refl)
 
 r_7 : Reaches chain_of_one 0 v_7 (turn 0 true [] [])
-r_7 = (turn 0 true [] (Verack ∷ question ∷ []), r_6, (2, record { due = false_headers; rest = []; left = none_answer; answer = refl; next = refl }))
+r_7 = (
+  turn 0 true [] (Verack ∷ question ∷ []),
+  r_6,
+  (2, record { due = false_headers; rest = []; left = none_answer; answer = refl; next = refl }),
+)
 
 r_9 : Reaches chain_of_one 0 v_9 (turn 0 true [] (ping_one ∷ []))
 r_9 = (turn 0 true [] [], r_7, refl)
 
 r_10 : Reaches chain_of_one 0 v_10 (turn 1 true [] (ping_one ∷ []))
-r_10 = (turn 0 true [] (ping_one ∷ []), r_9, (0, record { between = refl; height = 1; up = omega arith; low = omega arith; tip = refl; next = refl }))
+r_10 = (
+  turn 0 true [] (ping_one ∷ []),
+  r_9,
+  (0, record { between = refl; height = 1; up = omega arith; low = omega arith; tip = refl; next = refl }),
+)
 
 r_11 : Reaches chain_of_one 0 v_11 (turn 1 true [] [])
-r_11 = (turn 1 true [] (ping_one ∷ []), r_10, (1, record { due = pong_one; rest = []; left = refl; answer = refl; next = refl }))
+r_11 = (
+  turn 1 true [] (ping_one ∷ []),
+  r_10,
+  (1, record { due = pong_one; rest = []; left = refl; answer = refl; next = refl }),
+)
 
 r_12 : Reaches chain_of_one 0 v_12 (turn 1 true [] (question ∷ []))
 r_12 = (turn 1 true [] [], r_11, refl)
 
 r_13 : Reaches chain_of_one 0 v_13 (turn 1 true [] [])
-r_13 = (turn 1 true [] (question ∷ []), r_12, (1, record { due = its_headers; rest = []; left = headers_answer; answer = refl; next = refl }))
+r_13 = (
+  turn 1 true [] (question ∷ []),
+  r_12,
+  (1, record { due = its_headers; rest = []; left = headers_answer; answer = refl; next = refl }),
+)
 
 r_14 : Reaches chain_of_one 0 v_14 (turn 1 true [] (ask_claims ∷ []))
 r_14 = (turn 1 true [] [], r_13, refl)
 
 r_15 : Reaches chain_of_one 0 v_15 (turn 1 true [] [])
-r_15 = (turn 1 true [] (ask_claims ∷ []), r_14, (1, record { due = its_claims; rest = []; left = claims_answer; answer = refl; next = refl }))
+r_15 = (
+  turn 1 true [] (ask_claims ∷ []),
+  r_14,
+  (1, record { due = its_claims; rest = []; left = claims_answer; answer = refl; next = refl }),
+)
 
 r_16 : Reaches chain_of_one 0 v_16 (turn 1 true [] (ask_filter ∷ []))
 r_16 = (turn 1 true [] [], r_15, refl)
 
 r_17 : Reaches chain_of_one 0 v_17 (turn 1 true [] [])
-r_17 = (turn 1 true [] (ask_filter ∷ []), r_16, (1, record { due = its_filter; rest = []; left = filter_answer; answer = refl; next = refl }))
+r_17 = (
+  turn 1 true [] (ask_filter ∷ []),
+  r_16,
+  (1, record { due = its_filter; rest = []; left = filter_answer; answer = refl; next = refl }),
+)
 
 abbrev Stands : Trail → Type 0
 Stands t = (s : Turn) × Reaches chain_of_one 0 t s
@@ -293,7 +347,12 @@ grows_7 = (
         at_log grow_4 v_4 p_4 (_, r_4),
         tt,
         tt,
-        (at_log grow_3 v_3 p_3 (_, r_3), tt, tt, (at_log log_2 v_2 p_2 (_, r_2), tt, tt, (at_log log_1 v_1 p_1 (turn 0 false [] [], refl), tt, tt, tt))),
+        (
+          at_log grow_3 v_3 p_3 (_, r_3),
+          tt,
+          tt,
+          (at_log log_2 v_2 p_2 (_, r_2), tt, tt, (at_log log_1 v_1 p_1 (turn 0 false [] [], refl), tt, tt, tt)),
+        ),
       ),
     ),
   ),
@@ -331,7 +390,12 @@ grows_17 = (
               at_log grow_11 v_11 p_11 (_, r_11),
               tt,
               tt,
-              (at_log grow_10 v_10 p_10 (_, r_10), tt, tt, (at_log grow_9 v_9 p_9 (_, r_9), tt, tt, (at_log grow_8 v_8 p_8 (_, r_7), in_time, tt, grows_7))),
+              (
+                at_log grow_10 v_10 p_10 (_, r_10),
+                tt,
+                tt,
+                (at_log grow_9 v_9 p_9 (_, r_9), tt, tt, (at_log grow_8 v_8 p_8 (_, r_7), in_time, tt, grows_7)),
+              ),
             ),
           ),
         ),
@@ -341,10 +405,24 @@ grows_17 = (
 )
 
 pub is_growing : IsGrowing growing_run 1 chain_of_one 0
-is_growing = record { good = good_chain; low = has_room; from = omega arith; dialled = of_part (λ t. was_called t ≡ true) (part_of growing_run 1) v_17 p_17 refl; growing = grows_17 }
+is_growing = record {
+  good = good_chain;
+  low = has_room;
+  from = omega arith;
+  dialled =
+      of_part (λ t. was_called t ≡ true) (part_of growing_run 1) v_17 p_17 refl;
+  growing = grows_17;
+}
 
 pub was_growing : IsGrowing first_quiet 1 chain_of_one 0
-was_growing = record { good = good_chain; low = has_room; from = omega arith; dialled = of_part (λ t. was_called t ≡ true) (part_of first_quiet 1) v_7 p_7 refl; growing = grows_7 }
+was_growing = record {
+  good = good_chain;
+  low = has_room;
+  from = omega arith;
+  dialled =
+      of_part (λ t. was_called t ≡ true) (part_of first_quiet 1) v_7 p_7 refl;
+  growing = grows_7;
+}
 
 pub is_told : IsTold chain_of_one 0 (trail growing_run 1) 1
 is_told = of_part (λ t. IsTold chain_of_one 0 t 1) (part_of growing_run 1) v_17 p_17 (omega arith, refl)
@@ -361,13 +439,16 @@ says_17 m bytes (inr (inr (inl e))) i = headers_known bytes (subst (λ (x : Msg)
 says_17 m bytes (inr (inr (inr (inl e)))) i = absurd (subst (λ (x : Msg). IsIn bytes (strings_of x)) e i)
 says_17 m bytes (inr (inr (inr (inr (inl e))))) i = absurd (subst (λ (x : Msg). IsIn bytes (strings_of x)) e i)
 says_17 m bytes (inr (inr (inr (inr (inr (inl e)))))) i = absurd (subst (λ (x : Msg). IsIn bytes (strings_of x)) e i)
-says_17 m bytes (inr (inr (inr (inr (inr (inr (inl e))))))) i = absurd (subst (λ (x : Msg). IsIn bytes (strings_of x)) e i)
-says_17 m bytes (inr (inr (inr (inr (inr (inr (inr (inl e)))))))) i = absurd (subst (λ (x : Msg). IsIn bytes (strings_of x)) e i)
+says_17 m bytes (inr (inr (inr (inr (inr (inr (inl e))))))) i =
+    absurd (subst (λ (x : Msg). IsIn bytes (strings_of x)) e i)
+says_17 m bytes (inr (inr (inr (inr (inr (inr (inr (inl e)))))))) i =
+    absurd (subst (λ (x : Msg). IsIn bytes (strings_of x)) e i)
 says_17 m bytes (inr (inr (inr (inr (inr (inr (inr (inr none)))))))) i = absurd none
 
 run_known : (bytes : List ℕ) → IsHashed growing_run chain_of_one bytes → IsKnown bytes
 run_known bytes (inl e) = inl e
-run_known bytes (inr (inl received)) = at_one SaysKnown growing_run v_17 received.0 p_17 one_17 says_17 (λ m b none i. absurd none) received.1.0 bytes received.1.1 received.1.2
+run_known bytes (inr (inl received)) = at_one SaysKnown growing_run v_17 received.0 p_17 one_17 says_17
+    (λ m b none i. absurd none) received.1.0 bytes received.1.1 received.1.2
 run_known bytes (inr (inr of_blocks)) = chain_known bytes of_blocks
 
 pub growing_apart : NoHashClash (IsHashed growing_run chain_of_one)
@@ -397,19 +478,24 @@ clean_13 : verdict v_13 ≡ None
 clean_13 = rw accepted refl
 
 claims_fine : fault_of its_claims v_14 ≡ None
-claims_fine = ap (λ r. claims_fault 0 only_hash.0 genesis_filter_header (record { 0 = only_filter_hash } ∷ []) r no_claims) request_14 ∙ rw (self_hash, same_self (block_hash_of genesis_header), first_same) refl
+claims_fine =
+    ap (λ r. claims_fault 0 only_hash.0 genesis_filter_header (record { 0 = only_filter_hash } ∷ []) r no_claims)
+    request_14 ∙ rw (self_hash, same_self (block_hash_of genesis_header), first_same) refl
 
 clean_15 : verdict v_15 ≡ None
 clean_15 = ap (λ x. first x (fault_of its_claims v_14)) clean_13 ∙ claims_fine
 
 may_ask_filter : MayAskIn Following v_15 ask_filter
-may_ask_filter = may_filter_of v_15 (record { on = refl; over = refl; idle = request_15 }) refl (only_claim, claim_found)
+may_ask_filter = may_ask_filter_of v_15 only_claim
+    (record { on = refl; over = refl; idle = request_15; answered = sym (same_use v_15 refl clean_15).owing }) refl
+    claim_found
 
 request_16 : request v_16 ≡ FiltersOpen (only_hash.0 ∷ []) []
 request_16 = ap (λ o. filters_asked 1 o) back_only
 
 filter_fine : fault_of its_filter v_16 ≡ None
-filter_fine = ap (λ r. filter_fault 0 only_hash.0 only_filter r (claims v_15)) request_16 ∙ rw (self_hash, claim_found, hash_same) refl
+filter_fine = ap (λ r. filter_fault 0 only_hash.0 only_filter r (claims v_15)) request_16
+    ∙ rw (self_hash, claim_found, hash_same) refl
 
 clean_17 : verdict v_17 ≡ None
 clean_17 = ap (λ x. first x (fault_of its_filter v_16)) clean_15 ∙ filter_fine
@@ -423,18 +509,52 @@ IsSpare t = connected t ≡ true → is_spare (request t) ≡ true
 none_open_15 : IsNoneFetching grow_15
 none_open_15 q = at_one IsSpare grow_15 v_15 q p_15 one_17.1.1 (λ on. ap (λ r. is_spare r) request_15) (λ on. refl)
 
+free_13 : IsFree v_13
+free_13 = record { on = refl; over = refl; idle = refl; answered = sym (same_use v_13 refl clean_13).owing }
+
 right_7 : RightlyIn Following first_quiet
 right_7 = (
   tt,
   (
-    (question, spelled_is question question_sendable, record { of_its_part = of_part (λ t. MayAskIn Following t question) (part_of grow_5 1) v_5 p_5 (record { on = refl; over = refl; idle = refl }, refl, refl, refl, refl); wanted = tt; alone = tt }),
+    (
+      question,
+      spelled_is question question_sendable,
+      record {
+        of_its_part = of_part (λ t. MayAskIn Following t question) (part_of grow_5 1) v_5 p_5
+            (record { on = refl; over = refl; idle = refl; answered = refl }, refl, refl, refl, refl);
+        wanted = tt;
+        alone =
+            tt;
+      },
+    ),
     (
       tt,
       (
-        (Verack, spelled_is Verack verack_sendable, record { of_its_part = of_part (λ t. MayAskIn Following t Verack) (part_of grow_3 1) v_3 p_3 (refl, refl, ([], refl)); wanted = tt; alone = tt }),
+        (
+          Verack,
+          spelled_is Verack verack_sendable,
+          record {
+            of_its_part = of_part (λ t. MayAskIn Following t Verack) (part_of grow_3 1) v_3 p_3
+                (refl, refl, ([], refl));
+            wanted = tt;
+            alone = tt;
+          },
+        ),
         (
           tt,
-          ((our_version, spelled_is our_version our_sendable, record { of_its_part = of_part (λ t. MayAskIn Following t our_version) (part_of log_1 1) v_1 p_1 (refl, refl, (refl, refl, refl, refl, refl, refl, refl)); wanted = tt; alone = tt }), tt),
+          (
+            (
+              our_version,
+              spelled_is our_version our_sendable,
+              record {
+                of_its_part = of_part (λ t. MayAskIn Following t our_version) (part_of log_1 1) v_1 p_1
+                    (refl, refl, (refl, refl, refl, refl, refl, refl, refl));
+                wanted = tt;
+                alone = tt;
+              },
+            ),
+            tt,
+          ),
         ),
       ),
     ),
@@ -447,7 +567,17 @@ right_11 = (
   (
     tt,
     (
-      (ping_one, spelled_is ping_one ping_sendable, record { of_its_part = of_part (λ t. MayAskIn Following t ping_one) (part_of grow_8 1) v_8 p_8 (record { on = refl; over = refl; idle = refl }, refl); wanted = tt; alone = refl }),
+      (
+        ping_one,
+        spelled_is ping_one ping_sendable,
+        record {
+          of_its_part = of_part (λ t. MayAskIn Following t ping_one)
+              (part_of grow_8 1) v_8 p_8
+              (record { on = refl; over = refl; idle = refl; answered = sym (same_use v_8 refl refl).owing }, refl);
+          wanted = tt;
+          alone = refl;
+        },
+      ),
       (tt, right_7),
     ),
   ),
@@ -457,15 +587,46 @@ pub growing_right : RightlyIn Following growing_run
 growing_right = (
   tt,
   (
-    (ask_filter, spelled_is ask_filter ask_filter_sendable, record { of_its_part = of_part (λ t. MayAskIn Following t ask_filter) (part_of grow_15 1) v_15 p_15 may_ask_filter; wanted = tt; alone = none_open_15 }),
+    (
+      ask_filter,
+      spelled_is ask_filter ask_filter_sendable,
+      record {
+        of_its_part = of_part (λ t. MayAskIn Following t ask_filter) (part_of grow_15 1) v_15 p_15 may_ask_filter;
+        wanted = tt;
+        alone = none_filters grow_15 1 0 1 only_hash none_open_15;
+      },
+    ),
     (
       tt,
       (
-        (ask_claims, spelled_is ask_claims ask_claims_sendable, record { of_its_part = of_part (λ t. MayAskIn Following t ask_claims) (part_of grow_13 1) v_13 p_13 (may_ask_of v_13 (record { on = refl; over = refl; idle = refl }) refl (λ block. refl)); wanted = tt; alone = tt }),
+        (
+          ask_claims,
+          spelled_is ask_claims ask_claims_sendable,
+          record {
+            of_its_part = of_part (λ t. MayAskIn Following t ask_claims) (part_of grow_13 1) v_13 p_13
+                (may_ask_of v_13 free_13 refl (λ block. refl));
+            wanted = tt;
+            alone = tt;
+          },
+        ),
         (
           tt,
           (
-            (question, spelled_is question question_sendable, record { of_its_part = of_part (λ t. MayAskIn Following t question) (part_of grow_11 1) v_11 p_11 (record { on = refl; over = refl; idle = refl }, again_11, refl, refl, refl); wanted = tt; alone = tt }),
+            (
+              question,
+              spelled_is question question_sendable,
+              record {
+                of_its_part = of_part (λ t. MayAskIn Following t question) (part_of grow_11 1) v_11 p_11 (
+                  record { on = refl; over = refl; idle = refl; answered = sym (same_use v_11 refl refl).owing },
+                  again_11,
+                  refl,
+                  refl,
+                  refl,
+                );
+                wanted = tt;
+                alone = tt;
+              },
+            ),
             right_11,
           ),
         ),
@@ -477,7 +638,8 @@ growing_right = (
 -- ---- both quiet moments
 
 pub growing_quiet : IsQuiet growing_run
-growing_quiet p = at_one (λ t. is_open t ≡ false) growing_run v_17 p p_17 one_17 (ap (λ r. not (is_idle r)) request_17) refl
+growing_quiet p = at_one (λ t. is_open t ≡ false) growing_run v_17 p p_17 one_17 (ap (λ r. not (is_idle r)) request_17)
+    refl
 
 pub first_is_quiet : IsQuiet first_quiet
 first_is_quiet p = at_one (λ t. is_open t ≡ false) first_quiet v_7 p p_7 one_7 refl refl
@@ -496,14 +658,20 @@ pub others_showed_none : OthersShowNone first_quiet 1 []
 others_showed_none q other off on shows long = absurd (alone_there first_quiet q one_7 refl off on)
 
 bytes_7 : AreBytes first_quiet
-bytes_7 = (small_bytes (bytes_of false_headers) false_headers_small, (small_bytes (bytes_of Verack) verack_small, (small_bytes (bytes_of its_version) version_small, tt)))
+bytes_7 = (
+  small_bytes (bytes_of false_headers) false_headers_small,
+  (small_bytes (bytes_of Verack) verack_small, (small_bytes (bytes_of its_version) version_small, tt)),
+)
 
 bytes_17 : AreBytes growing_run
 bytes_17 = (
   small_bytes (bytes_of its_filter) filter_small,
   (
     small_bytes (bytes_of its_claims) claims_small,
-    (small_bytes (bytes_of its_headers) headers_small, (small_bytes (bytes_of pong_one) pong_small, (small_bytes (bytes_of news) news_small, bytes_7))),
+    (
+      small_bytes (bytes_of its_headers) headers_small,
+      (small_bytes (bytes_of pong_one) pong_small, (small_bytes (bytes_of news) news_small, bytes_7)),
+    ),
   ),
 )
 
@@ -513,6 +681,19 @@ watch_fits = refl
 heard_7 : heard_in Following (counted v_7) ≡ true
 heard_7 = (same_use v_7 refl refl).hearing Following
 
+-- it shares no block with genesis alone
+abbrev SharesNone : Trail → Type 0
+SharesNone t = (h : ℕ) → 1 ≤ h → h ≤ common_of (own (counted t)) [] → ⊥
+
+none_shared : (t : Trail) → own (counted t) ≡ [] → SharesNone t
+none_shared t is h one le =
+    let none : common_of (own (counted t)) [] ≡ 0 = ap (λ (c : Chain). common_of c []) is in
+    omega (arith, one, le, none)
+
+apart_7 : (p : ℕ) → SharesNone (trail first_quiet p)
+apart_7 p = at_one SharesNone first_quiet v_7 p p_7 one_7 (none_shared v_7 (same_use v_7 refl refl).chain)
+    (none_shared [] refl)
+
 pub first_asked : HasAskedIn Following other_watch 0 genesis_hash [] first_quiet
 first_asked = record {
   watchable = watch_fits;
@@ -521,7 +702,8 @@ first_asked = record {
   told = record {
     chain = [];
     best = record {
-      longest = λ p on. at_one (λ t. length (own (counted t)) ≤ 0) first_quiet v_7 p p_7 one_7 (let e = ap (λ (c : Chain). length c) (same_use v_7 refl refl).chain in omega (arith, e)) (omega arith);
+      longest = λ p on. at_one (λ t. length (own (counted t)) ≤ 0) first_quiet v_7 p p_7 one_7
+          (let e = ap (λ (c : Chain). length c) (same_use v_7 refl refl).chain in omega (arith, e)) (omega arith);
       shown = inl (
         1,
         (
@@ -536,9 +718,11 @@ first_asked = record {
     scanned = record { blocks = []; taken = tt; history = refl };
   };
   asked_out = λ p on idle. record {
-    heard_out = at_one (λ t. connected t ≡ true → heard_in Following (counted t) ≡ true) first_quiet v_7 p p_7 one_7 (λ is1. heard_7) (λ is1. absurd (false≢true is1)) on;
-    claimed = λ mine block i. absurd i;
-    settled = λ spare mine block i above. absurd i;
+    heard_out = at_one (λ t. connected t ≡ true → heard_in Following (counted t) ≡ true) first_quiet v_7 p p_7 one_7
+        (λ is1. heard_7) (λ is1. absurd (false≢true is1)) on;
+    claimed = λ h one le. absurd (apart_7 p h one le);
+    settled = λ h one le above no_filter no_block. absurd (apart_7 p h one le);
+    tested = λ h one le above got disputed hash claims_this. absurd (apart_7 p h one le);
   };
 }
 
@@ -546,7 +730,8 @@ heard_13 : heard_in Following v_13 ≡ true
 heard_13 = rw (again_11, accepted) refl
 
 heard_17 : heard_in Following (counted v_17) ≡ true
-heard_17 = (same_use v_17 refl clean_17).hearing Following ∙ still_true (heard_in Following v_15) (still_true (heard_in Following v_13) heard_13)
+heard_17 = (same_use v_17 refl clean_17).hearing Following ∙ still_true (heard_in Following v_15)
+    (still_true (heard_in Following v_13) heard_13)
 
 chain_17 : own (counted v_17) ≡ only_header ∷ []
 chain_17 = (same_use v_17 refl clean_17).chain ∙ own_7
@@ -556,36 +741,17 @@ claimed_17 = ap (λ (c : Table). c only_hash.0) (same_use v_17 refl clean_17).cl
 
 given_17 : IsIn (filter_of only_hash only_filter) (given (counted v_17))
 given_17 =
-    let open_16 : request (counted v_16) ≡ FiltersOpen (only_hash.0 ∷ []) [] = (same_use v_16 refl clean_15).open_one ∙ request_16 in
+    let open_16 : request (counted v_16) ≡ FiltersOpen (only_hash.0 ∷ []) [] = (same_use v_16 refl clean_15).open_one
+    ∙ request_16 in
     let one : counted v_17 ≡ Said its_filter ∷ counted v_16 = said_counts its_filter v_16 refl clean_17 in
-    let by : given_by its_filter (request (counted v_16)) ≡ filter_of only_hash only_filter ∷ [] = ap (λ r. given_by its_filter r) open_16 ∙ rw self_hash refl in
-    subst (λ (t : Trail). IsIn (filter_of only_hash only_filter) (given t)) (sym one) (subst (λ js. IsIn (filter_of only_hash only_filter) (js ++ given (counted v_16))) (sym by) (inl refl))
+    let by : given_by its_filter (request (counted v_16)) ≡ filter_of only_hash only_filter ∷ [] =
+    ap (λ r. given_by its_filter r) open_16 ∙ rw self_hash refl in
+    subst (λ (t : Trail). IsIn (filter_of only_hash only_filter) (given t)) (sym one)
+    (subst (λ js. IsIn (filter_of only_hash only_filter) (js ++ given (counted v_16))) (sym by) (inl refl))
 
 abbrev AgreesWithIt : Trail → Type 0
-AgreesWithIt t = (hash : Hash32) → hash_claimed (claims (counted t)) only_hash.0 ≡ Some hash → hash ≡ record { 0 = only_filter_hash }
-
-cleared : IsCleared other_watch growing_run only_hash.0
-cleared = record {
-  hash = record { 0 = only_filter_hash };
-  agreed = record {
-    who = 1;
-    there = of_part (λ t. connected t ≡ true) (part_of growing_run 1) v_17 p_17 refl;
-    claims = of_part (λ t. hash_claimed (claims (counted t)) only_hash.0 ≡ Some (record { 0 = only_filter_hash })) (part_of growing_run 1) v_17 p_17
-        (ap (λ o. option_map (λ (c : Claim). c.hash) o) claimed_17);
-    alone = λ p hash on is. at_one AgreesWithIt growing_run v_17 p p_17 one_17
-        (λ hash e. let f : Some (record { 0 = only_filter_hash }) ≡ Some hash = sym (ap (λ o. option_map (λ (c : Claim). c.hash) o) claimed_17) ∙ e in let g : record { 0 = only_filter_hash } ≡ hash = cc in sym g)
-        (λ hash e. absurd (let f : None ≡ Some hash = e in cc)) hash is;
-  };
-  filter = filter_of only_hash only_filter;
-  given = (1, of_part (λ t. IsIn (filter_of only_hash only_filter) (given (counted t))) (part_of growing_run 1) v_17 p_17 given_17);
-  of_block = refl;
-  this = only_filter_hash_is;
-  verdict = ap (λ (x : List ℕ). is_miss (match_of x other_watch only_filter)) name_is ∙ ap is_miss only_misses;
-}
-
-cleared_settled : (block : List ℕ) → IsIn block (hashes_of (only_header ∷ [])) → IsCleared other_watch growing_run block
-cleared_settled block (inl e) = subst (λ (x : List ℕ). IsCleared other_watch growing_run x) (sym e) cleared
-cleared_settled block (inr none) = absurd none
+AgreesWithIt t = (hash : Hash32) → hash_claimed (claims (counted t)) only_hash.0 ≡ Some hash
+    → hash ≡ record { 0 = only_filter_hash }
 
 no_block : (b : Block) → HasSaid v_17 (BlockMessage b) → ⊥
 no_block b (inl e) = cc
@@ -601,6 +767,35 @@ no_block b (inr (inr (inr (inr (inr (inr (inr (inr none)))))))) = none
 none_fetched : (b : Block) → IsFetched growing_run b → ⊥
 none_fetched b got = at_one HasNone growing_run v_17 got.0 p_17 one_17 (unsaid v_17 no_block) (λ c i. i) b got.1
 
+cleared : IsCleared other_watch growing_run only_hash.0
+cleared = record {
+  hash = record { 0 = only_filter_hash };
+  agreed = record {
+    who = 1;
+    there = of_part (λ t. connected t ≡ true) (part_of growing_run 1) v_17 p_17 refl;
+    claims = of_part (λ t. hash_claimed (claims (counted t)) only_hash.0 ≡ Some (record { 0 = only_filter_hash }))
+        (part_of growing_run 1) v_17 p_17
+        (ap (λ o. option_map (λ (c : Claim). c.hash) o) claimed_17);
+    alone = λ p hash on is. at_one AgreesWithIt growing_run v_17 p p_17 one_17
+        (λ hash e. let f : Some (record { 0 = only_filter_hash }) ≡ Some hash =
+        sym (ap (λ o. option_map (λ (c : Claim). c.hash) o) claimed_17) ∙ e in
+        let g : record { 0 = only_filter_hash } ≡ hash = cc in sym g)
+        (λ hash e. absurd (let f : None ≡ Some hash = e in cc)) hash is;
+  };
+  filter = filter_of only_hash only_filter;
+  given = came_given growing_run 1 (filter_of only_hash only_filter)
+      (of_part (λ t. IsIn (filter_of only_hash only_filter) (given (counted t))) (part_of growing_run 1) v_17 p_17
+      given_17)
+      (λ got. none_fetched got.0 got.1);
+  of_block = refl;
+  this = only_filter_hash_is;
+  verdict = ap (λ (x : List ℕ). is_miss (match_of x other_watch only_filter)) name_is ∙ ap is_miss only_misses;
+}
+
+cleared_settled : (block : List ℕ) → IsIn block (hashes_of (only_header ∷ [])) → IsCleared other_watch growing_run block
+cleared_settled block (inl e) = subst (λ (x : List ℕ). IsCleared other_watch growing_run x) (sym e) cleared
+cleared_settled block (inr none) = absurd none
+
 pub growing_asked : HasAskedIn Following other_watch 1 only_hash [] growing_run
 growing_asked = record {
   watchable = watch_fits;
@@ -609,7 +804,8 @@ growing_asked = record {
   told = record {
     chain = only_header ∷ [];
     best = record {
-      longest = λ p on. at_one (λ t. length (own (counted t)) ≤ 1) growing_run v_17 p p_17 one_17 (let e = ap (λ (c : Chain). length c) chain_17 in omega (arith, e)) (omega arith);
+      longest = λ p on. at_one (λ t. length (own (counted t)) ≤ 1) growing_run v_17 p p_17 one_17
+          (let e = ap (λ (c : Chain). length c) chain_17 in omega (arith, e)) (omega arith);
       shown = inl (
         1,
         (
@@ -621,13 +817,25 @@ growing_asked = record {
     };
     height_is = refl;
     hash_is = refl;
-    scanned = record { blocks = record { header = only_header; txs = [] } ∷ []; taken = (inr ((λ got. none_fetched got.0 got.1), refl), tt); history = refl };
+    scanned = record {
+      blocks = record { header = only_header; txs = [] } ∷ [];
+      taken =
+          (inr ((λ got. none_fetched got.0 got.1), refl), tt);
+      history = refl;
+    };
   };
   asked_out = λ p on idle. record {
-    heard_out = at_one (λ t. connected t ≡ true → heard_in Following (counted t) ≡ true) growing_run v_17 p p_17 one_17 (λ is1. heard_17) (λ is1. absurd (false≢true is1)) on;
-    claimed = at_one ClaimsIt growing_run v_17 p p_17 one_17 (claims_it v_17 only_claim claimed_17) nobody_ticks;
-    settled = λ spare mine block i above. inr (cleared_settled block i);
+    heard_out = at_one (λ t. connected t ≡ true → heard_in Following (counted t) ≡ true) growing_run v_17 p p_17 one_17
+        (λ is1. heard_17) (λ is1. absurd (false≢true is1)) on;
+    claimed = at_one ClaimsIt growing_run v_17 p p_17 one_17 (claims_it v_17 only_claim claimed_17 chain_17)
+        ticks_claim;
+    settled = λ h one le above no_filter no_block. inr (cleared_settled (hash_at (own (counted_part growing_run p)) h)
+        (inl (at_one SharesIt growing_run v_17 p p_17 one_17 (shares_it v_17 chain_17) ticks_share h one le)));
+    tested = λ h one le above got disputed hash claims_this. absurd (none_fetched got.0 got.1);
   };
 } where
-  nobody_ticks : ClaimsIt (Passed 5 ∷ [])
-  nobody_ticks mine block i = absurd (let none : [] ≡ only_header ∷ [] = mine in cc)
+  ticks_claim : ClaimsIt (Passed 5 ∷ [])
+  ticks_claim h one le = absurd (omega (arith, one, le))
+
+  ticks_share : SharesIt (Passed 5 ∷ [])
+  ticks_share h one le = absurd (omega (arith, one, le))

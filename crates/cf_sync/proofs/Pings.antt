@@ -1,13 +1,13 @@
 -- No ping is open in the log of a client that ends once nothing is open.
-use Rattle.std.proofs.Common.{◌≡◌, ℕ, List, [], ◌∷◌, Option, Some, None, true, false, Bool, ◌==◌, if◌then◌else◌, refl, sym, ◌∙◌, ap, subst, ◌++◌}
-use Rattle.cf_headers.specs.Chain.{Hash, Chain}
+use Rattle.std.proofs.Common.{◌≡◌, ℕ, List, [], ◌∷◌, true, false, if◌then◌else◌, subst, ◌++◌}
+use Rattle.cf_headers.specs.Chain.{Hash}
 use Rattle.cf_match.specs.declared.job.Job.{Job}
 use Rattle.cf_msg.specs.declared.msg.Entry.{Entry}
 use Rattle.cf_msg.specs.declared.msg.Msg.{Msg}
 use Rattle.cf_msg.specs.declared.msg.Msg.TheVariants.{Ping, Pong, GetHeaders, Headers, GetData, Block as BlockMessage, GetCfheaders, Cfheaders, GetCfilters, Cfilter}
 use Rattle.cf_wires.specs.Log.{Log}
 use Rattle.cf_peer.specs.Trail.{Trail, Called, Said, Refused, Asked, Passed, Lost, trail, own}
-use Rattle.cf_peer.specs.Asking.{OpenRequest, NothingOpen, HeadersOpen, ClaimsOpen, FiltersOpen, BlockOpen, PingOpen, request, request_for, request_after, is_wanted, is_answer_of, filters_left, filter_of, claims_asked, filters_asked, block_asked, MayAsk}
+use Rattle.cf_peer.specs.Asking.{OpenRequest, NothingOpen, HeadersOpen, ClaimsOpen, FiltersOpen, BlockOpen, PingOpen, request, request_for, request_after, is_wanted, is_answer_of, filters_left, filter_of, block_asked, MayAsk}
 use Rattle.cf_sync.specs.Fetching.{Rightly}
 use Rattle.cf_sync.proofs.Remembers.{AskedRightly, asked_rightly}
 
@@ -26,14 +26,18 @@ none_left (n ∷ left) came = tt
 after_said : (m : Msg) (r : OpenRequest) → IsNoPing r → IsNoPing (request_after m r)
 after_said (Headers hs) HeadersOpen is = tt
 after_said (Cfheaders filter stop previous hashes) (ClaimsOpen wanted parent blocks) is =
-    elim (is_answer_of filter stop.0 wanted) as (λ b. IsNoPing (if b then NothingOpen else ClaimsOpen wanted parent blocks)) [ true ↦ tt | false ↦ tt ]
+    elim (is_answer_of filter stop.0 wanted) as
+    (λ b. IsNoPing (if b then NothingOpen else ClaimsOpen wanted parent blocks)) [ true ↦ tt | false ↦ tt ]
 after_said (Cfilter filter block bytes) (FiltersOpen (next ∷ left) came) is =
-    elim (is_answer_of filter block.0 next) as (λ b. IsNoPing (if b then filters_left left (came ++ filter_of block bytes ∷ []) else FiltersOpen (next ∷ left) came)) [
+    elim (is_answer_of filter block.0 next) as
+    (λ b. IsNoPing (if b then filters_left left (came ++ filter_of block bytes ∷ []) else FiltersOpen (next ∷ left)
+    came)) [
       | true ↦ none_left left (came ++ filter_of block bytes ∷ [])
       | false ↦ tt
     ]
 after_said (BlockMessage b) (BlockOpen wanted) is =
-    elim (is_wanted b wanted) as (λ x. IsNoPing (if x then NothingOpen else BlockOpen wanted)) [ true ↦ tt | false ↦ tt ]
+    elim (is_wanted b wanted) as (λ x. IsNoPing (if x then NothingOpen else BlockOpen wanted))
+    [ true ↦ tt | false ↦ tt ]
 after_said (Pong number) (PingOpen wanted) is = absurd is
 after_said m r is = is
 

@@ -611,14 +611,6 @@ may_ask_filter =
     let free : IsFree t_9 = record { on = refl; over = refl; idle = request_9; answered = sym owed_9.owing } in
     may_ask_filter_of t_9 only_claim free refl claim_found
 
--- of one with this chain that claims its block
-pub may_filter_of : (t : Trail) → IsFree t → own t ≡ own t_7 → (claim : Claim) × (claims t only_hash.0 ≡ Some claim) → MayAsk t ask_filter
-unfolding range_of_one
-may_filter_of t free e claimed = (
-  free,
-  (range_of_one 1000 t (omega arith) e, λ block i. elim i [ inl f ↦ (claimed.0, ap (λ (x : List ℕ). claims t x) f ∙ claimed.1) | inr none ↦ absurd none ]),
-)
-
 pub request_10 : request t_10 ≡ FiltersOpen (only_hash.0 ∷ []) []
 request_10 = ap (λ o. filters_asked 1 o) back_only
 

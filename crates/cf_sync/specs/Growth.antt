@@ -1,6 +1,7 @@
--- A run with one peer whose chain grows: it answers as the machine of genesis alone does, announces a block after a tick, and answers as the machine of the chain of that
--- block then. So the run is quiet twice. What is asked of it after the announcement: its headers, its claims, and the filter of the block, which clears it.
-use Rattle.std.specs.Prelude.{ℕ, List, ◌∷◌}
+-- A run with one peer whose chain grows: it answers as the machine of genesis alone does, announces a block after a
+-- tick, and answers as the machine of the chain of that block then. So the run is quiet twice. What is asked of it
+-- after the announcement: its headers, its claims, and the filter of the block, which clears it.
+use Rattle.std.specs.Prelude.{◌∷◌}
 use Rattle.cf_chain.specs.Grow.{announcement}
 use Rattle.cf_msg.specs.declared.msg.Msg.{Msg}
 use Rattle.cf_msg.specs.declared.msg.Msg.TheVariants.{Verack, Ping, Pong}
@@ -10,12 +11,14 @@ use Rattle.cf_peer.specs.Acts.{bytes_of}
 use Rattle.cf_wires.specs.Log.{Log}
 use Rattle.cf_sync.specs.Example.{only_hash, honest_peer, its_version, question, its_headers, false_headers, ask_claims, its_claims, ask_filter, its_filter, log_2}
 
+-- the ping that it is sent with the tick, and its answer
 abbrev pub ping_one : Msg
 ping_one = Ping 1
 
 abbrev pub pong_one : Msg
 pong_one = Pong 1
 
+-- its announcement of the one block
 abbrev pub news : Msg
 news = announcement only_hash.0
 

@@ -1,5 +1,5 @@
 -- The texts that a client which follows puts, one at each quiet moment where it differs from the last.
-use Rattle.std.specs.Prelude.{◌≡◌, ◌⊎◌, ℕ, bytes_eq, if◌then◌else◌, List, [], ◌∷◌}
+use Rattle.std.specs.Prelude.{◌≡◌, ℕ, bytes_eq, if◌then◌else◌, List, [], ◌∷◌}
 use Rattle.cf_bytes.specs.declared.hash.Hash32.{Hash32}
 use Rattle.cf_wires.specs.declared.event.Event.TheVariants.{Dialled, NotDialled, Sent, SendFailed, Closed, Took}
 use Rattle.cf_peer.specs.declared.mode.Mode.TheVariants.{Following}
@@ -20,15 +20,19 @@ pub record IsAtRest (log : Log) : Type 0 where
   pub who : ℕ
   pub there : IsConnected log who
 
--- what was put by a moment right before the next delivery, or at the end, where this was put before: at rest the history and the tip as they are known then
+-- what was put by a moment right before the next delivery, or at the end, where this was put before: at rest the
+-- history and the tip as they are known then
 pub record PutsAt (watch : List (List ℕ)) (log : Log) (before now : List (List ℕ)) : Type 0 where
-  pub at_rest : IsAtRest log → (height : ℕ) × ((hash : Hash32) × ((entries : List Entry) × (HasAskedIn Following watch height hash entries log × (now ≡ put (history_text entries height hash.0) before))))
+  pub at_rest : IsAtRest log
+      → (height : ℕ) × ((hash : Hash32) × ((entries : List Entry)
+      × (HasAskedIn Following watch height hash entries log × (now ≡ put (history_text entries height hash.0) before))))
   pub elsewhere : (IsAtRest log → ⊥) → now ≡ before
 
 -- what was put before each delivery of the log
 abbrev pub WerePut : List (List ℕ) → Log → List (List ℕ) → Type 0
 WerePut watch [] texts = texts ≡ []
-WerePut watch (Took d ∷ log) texts = (before : List (List ℕ)) × (WerePut watch log before × PutsAt watch log before texts)
+WerePut watch (Took d ∷ log) texts =
+    (before : List (List ℕ)) × (WerePut watch log before × PutsAt watch log before texts)
 WerePut watch (Dialled p name ∷ log) texts = WerePut watch log texts
 WerePut watch (NotDialled p name ∷ log) texts = WerePut watch log texts
 WerePut watch (Sent p bytes ∷ log) texts = WerePut watch log texts
