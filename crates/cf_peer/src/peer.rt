@@ -1,5 +1,5 @@
 //! What the client keeps of one peer.
-ghost use Rattle.std.specs.Prelude.{◌≡◌, ◌+◌, ℕ, List, true, false, not, None, Some, IfNone, IfSome, ◌∷◌, [], length};
+ghost use Rattle.std.specs.Prelude.{◌≡◌, ◌+◌, List, true, false, not, None, Some, IfNone, IfSome, ◌∷◌, [], length};
 ghost use Rattle.cf_block.specs.declared.header.Header.{Header};
 ghost use Rattle.cf_block.specs.declared.tx.Block.{Block};
 ghost use Rattle.cf_block.specs.Header.{block_hash_of};
@@ -10,11 +10,11 @@ ghost use Rattle.cf_headers.specs.Changes.{link_height, change_of};
 ghost use Rattle.cf_msg.specs.declared.msg.Msg.{Msg};
 ghost use Rattle.std.specs.List.{list_any};
 ghost use Rattle.cf_msg.specs.declared.msg.Entry.{Entry};
-ghost use Rattle.cf_msg.specs.declared.msg.Msg.TheVariants.{Headers, Inv, Ping, Block as BlockMessage};
+ghost use Rattle.cf_msg.specs.declared.msg.Msg.TheVariants.{Inv, Block as BlockMessage};
 ghost use Rattle.cf_lent.specs.View.{msg_of};
-ghost use Rattle.cf_peer.specs.Trail.{Trail, Said, Passed, Asked, is_unknown, own, reply_to};
-ghost use Rattle.cf_peer.specs.Asking.{pings, request, verdict, fetched_by};
-ghost use Rattle.cf_peer.specs.Peer.{Holds, Hears, IsRight, TakesHeaders, calm, called_peer, is_ready_peer, is_idle_peer, is_plain, IsVersionOf, busy, heard_out, heard_up_to, wants, awaits as awaits_block, is_fetching as fetches, pinged, asked_for_headers, asked_for_block, asked_for_ping, IsReplySendable};
+ghost use Rattle.cf_peer.specs.Trail.{Trail, Said, Passed, is_unknown, own};
+ghost use Rattle.cf_peer.specs.Asking.{request, fetched_by};
+ghost use Rattle.cf_peer.specs.Peer.{Holds, Hears, IsRight, TakesHeaders, calm, called_peer, is_ready_peer, is_idle_peer, is_plain, IsVersionOf, heard_out, heard_up_to, wants, awaits as awaits_block, is_fetching as fetches, pinged, asked_for_headers, asked_for_block, asked_for_ping, IsReplySendable};
 
 use crate::mode::Mode;
 use cf_bytes::{Hash32, Listed};
