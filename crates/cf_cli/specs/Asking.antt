@@ -3,7 +3,7 @@ use Rattle.std.specs.Prelude.{◌≡◌, ◌⊎◌, ℕ, List, [], ◌∷◌, Op
 use Rattle.cf_bytes.specs.Files.{Reads, Opens, Parts, Writes, IsRead, IsAtMostWritten}
 use Rattle.cf_conn.specs.Opened.{IsReadByParts}
 use Rattle.cf_input.specs.declared.words.Command.{Command}
-use Rattle.cf_input.specs.declared.words.Command.TheVariants.{Replay, Sync, Scan, Filter, Address, Prove, Check, Serve, Make, Demo}
+use Rattle.cf_input.specs.declared.words.Command.TheVariants.{Replay, Sync, Follow, Scan, Filter, Address, Prove, Check, Serve, Make, Demo}
 
 -- a file of this name that is read whole, by one call; or one that is opened and read by parts
 pub data FileRead : Type 0 where
@@ -12,8 +12,9 @@ pub data FileRead : Type 0 where
 
 -- the files that a command reads, in this order: those of blocks by parts
 abbrev pub files_read : Command → List FileRead
-files_read (Replay trace watch session) = Whole watch ∷ Whole session ∷ []
+files_read (Replay follow trace watch session) = Whole watch ∷ Whole session ∷ []
 files_read (Sync turns workers file watch peers) = Whole watch ∷ []
+files_read (Follow turns workers file watch peers) = Whole watch ∷ []
 files_read (Scan file watch) = Whole watch ∷ ByParts file ∷ []
 files_read (Filter file height) = ByParts file ∷ []
 files_read (Address text) = []
@@ -23,10 +24,11 @@ files_read (Serve grow count file address) = ByParts file ∷ []
 files_read (Make witness seed blocks file) = []
 files_read (Demo seed blocks) = []
 
--- the file that a command writes: `make` its chain, and `sync` the record that is asked for
+-- the file that a command writes: `make` its chain, and `sync` and `follow` the record that is asked for
 abbrev pub name_written : Command → Option (List ℕ)
 name_written (Make witness seed blocks file) = Some file
 name_written (Sync turns workers file watch peers) = file
+name_written (Follow turns workers file watch peers) = file
 name_written command = None
 
 -- the file was read, whole or by parts

@@ -1,5 +1,5 @@
 -- What each command does.
-use Rattle.std.specs.Prelude.{◌≡◌, ℕ, ℤ, Bool, false, List, length, Option, is_some, IfSome}
+use Rattle.std.specs.Prelude.{◌≡◌, ℕ, ℤ, Bool, false, if◌then◌else◌, List, length, Option, is_some, IfSome}
 use Rattle.std.specs.FinMap as finite
 use Rattle.cf_bytes.specs.Files.{Named}
 use Rattle.cf_run.specs.Run.{HasDialled}
@@ -10,7 +10,7 @@ use Rattle.cf_played.specs.Told.{log_of as played_log}
 use Rattle.cf_played.specs.declared.played.Played.{Played}
 use Rattle.cf_serve.specs.Links.{LinkTold}
 use Rattle.cf_input.specs.declared.words.Command.{Command}
-use Rattle.cf_input.specs.declared.words.Command.TheVariants.{Replay, Sync, Scan, Filter, Address, Prove, Check, Serve, Make, Demo}
+use Rattle.cf_input.specs.declared.words.Command.TheVariants.{Replay, Sync, Follow, Scan, Filter, Address, Prove, Check, Serve, Make, Demo}
 use Rattle.cf_input.specs.SessionFile.{session_of}
 use Rattle.cf_input.specs.Words.{most_turns}
 use Rattle.cf_answers.specs.declared.status.Status.{Status}
@@ -20,6 +20,7 @@ use Rattle.cf_cli.specs.Proving.{IsProved, IsChecked}
 use Rattle.cf_cli.specs.Reading.{IsScanned, IsFiltered, IsAddressed}
 use Rattle.cf_cli.specs.Recording.{Records}
 use Rattle.cf_cli.specs.Serving.{IsServing}
+use Rattle.cf_cli.specs.Following.{KeptOnOver, IsReplayedOn, TalliedOn}
 use Rattle.cf_cli.specs.Theorem.{KeptOver, IsReplayed, Tallied, PlaysSession}
 
 -- all that a run is handed: what stands in the files, what the sink was given, what the wires and the tape tell, the log of the tape, what the link
@@ -58,10 +59,25 @@ pub record IsFollowed (status : Status) (trace : Bool) (watch session : List ℕ
   pub replayed : IsReplayed status most_turns trace before.files watch before.written after.written before.tape after.tape after.taped
   pub plays : IfSome before.files (λ m. IfSome (finite.get m session) (λ bytes. PlaysSession status (session_of bytes) after.taped))
 
+-- all that is promised of `follow`: the follow theorem over the log of the wires, where they tell it; what holds over any wires; that the names which
+-- were dialled are the first of those given; and the files
+pub record IsFollowing (status : Status) (turns : ℕ) (file : Option (List ℕ)) (watch : List ℕ) (peers : List (List ℕ)) (before after : Around) : Type 0 where
+  pub kept : IfSome after.wires.log (λ log. KeptOnOver status (is_some file) false before.files watch peers before.written after.written log)
+  pub tallied : TalliedOn status turns (length peers) before.wires after.wires
+  pub dialled : HasDialled peers after.wires
+  pub records : Records status file after.wires.log before.files after.files
+
+-- all that is promised of `replay --follow`: the same over the tape, and that it plays the session
+pub record IsFollowedOn (status : Status) (trace : Bool) (watch session : List ℕ) (before after : Around) : Type 0 where
+  pub replayed : IsReplayedOn status most_turns trace before.files watch before.written after.written before.tape after.tape after.taped
+  pub plays : IfSome before.files (λ m. IfSome (finite.get m session) (λ bytes. PlaysSession status (session_of bytes) after.taped))
+
 -- what a command does that is answered so, at this moment and with this random number, by what is around it before and after
 abbrev pub Does : Command → Status → ℤ → ℕ → Around → Around → Type 0
-Does (Replay trace watch session) status moment nonce before after = IsFollowed status trace watch session before after
+Does (Replay follow trace watch session) status moment nonce before after =
+    if follow then IsFollowedOn status trace watch session before after else IsFollowed status trace watch session before after
 Does (Sync turns workers file watch peers) status moment nonce before after = IsSynced status turns file watch peers before after
+Does (Follow turns workers file watch peers) status moment nonce before after = IsFollowing status turns file watch peers before after
 Does (Scan file watch) status moment nonce before after = IsScanned status before.files watch file before.written after.written
 Does (Filter file height) status moment nonce before after = IsFiltered status before.files file height before.written after.written
 Does (Address text) status moment nonce before after = IsAddressed status text before.written after.written

@@ -1,12 +1,12 @@
 -- What is told of how each peer stands at the end of a run.
-use Rattle.std.specs.Prelude.{◌≡◌, ◌⊎◌, Bool, true, false, List, Option, Some, is_some, IfSome}
+use Rattle.std.specs.Prelude.{◌≡◌, ◌⊎◌, Bool, true, false, if◌then◌else◌, List, Option, Some, is_some, IfSome}
 use Rattle.cf_place.specs.declared.place.PeerEnd.{PeerEnd}
 use Rattle.cf_place.specs.Places.{EndsTell}
 use Rattle.cf_wires.specs.Log.{Log}
 use Rattle.cf_input.specs.declared.words.Command.{Command}
-use Rattle.cf_input.specs.declared.words.Command.TheVariants.{Replay, Sync}
+use Rattle.cf_input.specs.declared.words.Command.TheVariants.{Replay, Sync, Follow}
 use Rattle.cf_answers.specs.declared.status.Status.{Status}
-use Rattle.cf_cli.specs.Statuses.{has_run, was_unbegun}
+use Rattle.cf_cli.specs.Statuses.{has_run, is_over, was_unbegun}
 
 -- where the log is told, there is an end for each peer that was dialled, in the order of their numbers, and each tells how its peer stands
 abbrev pub AreEndsOf : Option Log → List PeerEnd → Type 0
@@ -19,8 +19,16 @@ pub record AreEndsAfter (status : Status) (recorded : Bool) (log : Option Log) (
   pub unbegun : was_unbegun status recorded ≡ true → after ≡ before
   pub either : (after ≡ before) ⊎ AreEndsOf log after
 
--- the ends after a command that was answered so: those of the log of the wires after `sync`, of the tape after `replay`; no other changes them
+-- the same of a run that follows, which may fail before it is over
+pub record AreEndsOver (status : Status) (recorded : Bool) (log : Option Log) (before after : List PeerEnd) : Type 0 where
+  pub told : is_over status ≡ true → AreEndsOf log after
+  pub unbegun : was_unbegun status recorded ≡ true → after ≡ before
+  pub either : (after ≡ before) ⊎ AreEndsOf log after
+
+-- the ends after a command that was answered so: those of the log of the wires after `sync` and `follow`, of the tape after `replay`; no other changes them
 abbrev pub AreEnds : Option Command → Status → Option Log → Log → List PeerEnd → List PeerEnd → Type 0
 AreEnds (Some (Sync turns workers file watch peers)) status wires tape before after = AreEndsAfter status (is_some file) wires before after
-AreEnds (Some (Replay trace watch session)) status wires tape before after = AreEndsAfter status false (Some tape) before after
+AreEnds (Some (Follow turns workers file watch peers)) status wires tape before after = AreEndsOver status (is_some file) wires before after
+AreEnds (Some (Replay follow trace watch session)) status wires tape before after =
+    if follow then AreEndsOver status false (Some tape) before after else AreEndsAfter status false (Some tape) before after
 AreEnds command status wires tape before after = after ≡ before

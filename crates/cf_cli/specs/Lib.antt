@@ -10,3 +10,4 @@ pub mod Serving
 pub mod Demo
 pub mod Doing
 pub mod Ends
+pub mod Following

@@ -3,9 +3,9 @@ use Rattle.std.specs.Prelude.{◌≡◌, Bool, true, false, not, Option, Some, i
 use Rattle.std.specs.FinMap as finite
 use Rattle.cf_bytes.specs.Files.{Named}
 use Rattle.cf_answers.specs.declared.status.Status.{Status}
-use Rattle.cf_answers.specs.declared.status.Status.TheVariants.{NoMemory, Usage, BadFile, FileFault, NoPeers}
+use Rattle.cf_answers.specs.declared.status.Status.TheVariants.{Done, NoMemory, Usage, BadFile, FileFault, NoPeers, Tired, Ended}
 use Rattle.cf_input.specs.declared.words.Command.{Command}
-use Rattle.cf_input.specs.declared.words.Command.TheVariants.{Replay, Sync, Scan, Filter, Address, Prove, Check, Serve, Make, Demo}
+use Rattle.cf_input.specs.declared.words.Command.TheVariants.{Replay, Sync, Follow, Scan, Filter, Address, Prove, Check, Serve, Make, Demo}
 use Rattle.cf_loading.specs.Verdicts.{Verdict, Missing, Bad, Good, watch_verdict, session_verdict, blocks_verdict, proof_verdict}
 
 -- the watch file is judged first
@@ -20,8 +20,9 @@ no_file = Good
 
 -- what the files of a command are judged as, in the order in which they are judged: the watch file first
 abbrev pub verdict_of : Named → Command → Verdict
-verdict_of files (Replay trace watch session) = and_then (watch_verdict (finite.get files watch)) (session_verdict (finite.get files session))
+verdict_of files (Replay follow trace watch session) = and_then (watch_verdict (finite.get files watch)) (session_verdict (finite.get files session))
 verdict_of files (Sync turns workers file watch peers) = watch_verdict (finite.get files watch)
+verdict_of files (Follow turns workers file watch peers) = watch_verdict (finite.get files watch)
 verdict_of files (Scan file watch) = and_then (watch_verdict (finite.get files watch)) (blocks_verdict (finite.get files file))
 verdict_of files (Filter file height) = blocks_verdict (finite.get files file)
 verdict_of files (Address text) = no_file
@@ -62,16 +63,31 @@ has_run (BadFile which place cause) = false
 has_run FileFault = false
 has_run status = true
 
--- whether a command that was answered so may have used the wires that were handed in: `sync` alone does
+-- whether a command that was answered so may have used the wires that were handed in: `sync` and `follow` alone do
 abbrev pub may_dial : Option Command → Status → Bool
 may_dial (Some (Sync turns workers file watch peers)) status = not (was_unbegun status (is_some file))
+may_dial (Some (Follow turns workers file watch peers)) status = not (was_unbegun status (is_some file))
 may_dial command status = false
 
 -- the same of the tape, which `replay` alone uses
 abbrev pub may_play : Option Command → Status → Bool
-may_play (Some (Replay trace watch session)) status = not (was_refused status)
+may_play (Some (Replay follow trace watch session)) status = not (was_refused status)
 may_play command status = false
+
+-- a run over wires came to its end, and all that is written of it was
+abbrev pub is_over : Status → Bool
+is_over Done = true
+is_over (NoPeers ends) = true
+is_over Tired = true
+is_over Ended = true
+is_over status = false
 
 abbrev pub is_no_peers : Status → Bool
 is_no_peers (NoPeers ends) = true
 is_no_peers status = false
+
+-- a command that puts texts as its run goes on, so that some may stand when it fails
+abbrev pub goes_on : Option Command → Bool
+goes_on (Some (Replay follow trace watch session)) = follow
+goes_on (Some (Follow turns workers file watch peers)) = true
+goes_on command = false

@@ -14,7 +14,7 @@ use Rattle.cf_place.specs.declared.place.PeerEnd.{PeerEnd}
 use Rattle.cf_run.specs.declared.trace.TraceLine.{TraceLine}
 use Rattle.cf_place.specs.Places.{EndsTell}
 use Rattle.cf_run.specs.Run.{Followed, NobodyLeft}
-use Rattle.cf_sync.specs.Fetching.{IsQuiet}
+use Rattle.cf_sync.specs.Fetching.{IsQuiet, once}
 use Rattle.cf_sync.specs.Honesty.{IsHonest, ShowsNoOther, IsNeverClosed}
 use Rattle.cf_sync.specs.Sync.{IsHashed}
 use Rattle.cf_wires.specs.Dials.{goes_as_made}
@@ -50,7 +50,7 @@ pub record Ran (status : Status) (trace : Bool) (scripts names : List (List ℕ)
   pub tip : Hash32
   pub entries : List Entry
   pub lines : List TraceLine
-  pub followed : Followed scripts end height tip entries lines names log
+  pub followed : Followed (once scripts) end height tip entries lines names log
   pub answered : IsAnswerOf end status before after (run_text trace lines end entries height tip)
   pub stands : TellsEnds status log
 
@@ -61,7 +61,7 @@ pub record WasFollowed (scripts names : List (List ℕ)) (log : Log) : Type 0 wh
   pub tip : Hash32
   pub entries : List Entry
   pub lines : List TraceLine
-  pub followed : Followed scripts end height tip entries lines names log
+  pub followed : Followed (once scripts) end height tip entries lines names log
 
 -- Done, or the answer of a sink that fails, of want of memory, or of a record that can't be written
 abbrev pub Settles : Status → Bool → Type 0

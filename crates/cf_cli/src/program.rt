@@ -11,7 +11,7 @@ ghost use Rattle.cf_played.specs.Told.{log_of as played_log, peers_of, finished_
 ghost use Rattle.cf_input.specs.SessionFile.{session_of};
 ghost use Rattle.cf_cli.specs.Asking.{AsksFor, AreAsked, Whole};
 ghost use Rattle.cf_cli.specs.Recording.{Records, may_write};
-ghost use Rattle.cf_cli.specs.Statuses.{IsJudged, has_run, was_refused, was_unbegun, may_dial, may_play, and_then, verdict_of};
+ghost use Rattle.cf_cli.specs.Statuses.{IsJudged, goes_on, has_run, was_refused, was_unbegun, may_dial, may_play, and_then, verdict_of};
 ghost use Rattle.cf_loading.specs.Verdicts.{watch_verdict, session_verdict};
 ghost use Rattle.cf_serve.specs.Links.{link_now};
 ghost use Rattle.cf_cli.specs.Serving.{may_serve};
@@ -208,7 +208,7 @@ where
     ensures files { AreAsked F.reads F.opens F.parts F.writes (Some command) files.old files.new }
     ensures file_fault { result ≡ Status.FileFault → HasRisen (F.faults files.old) (F.faults files.new) }
     ensures out_fault { result ≡ Status.OutFault → HasRisen (O.faults out.old) (O.faults out.new) }
-    ensures unwritten { has_run result ≡ false → O.written out.new ≡ O.written out.old }
+    ensures unwritten { goes_on (Some command) ≡ false → has_run result ≡ false → O.written out.new ≡ O.written out.old }
     ensures failures { IfSome (W.told wires.new).log (λ log. HasFailed log → HasRisen (W.faults wires.old) (W.faults wires.new)) }
     ensures undialled { may_dial (Some command) result ≡ false → W.told wires.new ≡ W.told wires.old }
     ensures unplayed { may_play (Some command) result ≡ false → told_of tape.new ≡ told_of tape.old }
@@ -292,19 +292,20 @@ where
 }
 
 /// All that the program does. The first word is the program's name; `moment` is the time in seconds since 1970 and `nonce` a random number, which
-/// the client's `version` tells. `sync` goes over `wires`, `replay` over `tape`, and `demo` over the peers that it adds to `played`; all three are new,
+/// the client's `version` tells. `sync` and `follow` go over `wires`, `replay` over `tape`, and `demo` over the peers that it adds to `played`; all three are new,
 /// nothing has passed them, they aren't finished, no call of `tape` is to fail, and `played` has no peers. `serve` goes over `link`, and starts its
-/// connections by `spawner`, and so do `sync` and `demo` the threads that judge filters. With `--grow` it tells `joins` of each block that joins its
+/// connections by `spawner`, and so do `sync`, `follow` and `demo` the threads that judge filters. With `--grow` it tells `joins` of each block that joins its
 /// chain. The text goes to `out`.
 ///
 /// `NoMemory` may come in place of any other answer. `Usage` comes where the words ask for nothing. The watch file is judged first, then the session
 /// file: what is missing, refused or good is answered so. After that the run is made; a record of it, where `sync` is asked for one, is put into its
-/// file; and its text is written. With `NoMemory`, `Usage`, `BadFile` and `FileFault` no text was written. With the last three no wires were used, but
-/// for a `FileFault` that comes where the record can't be written; `sync` alone uses `wires`, `replay` alone `tape`, `demo` alone `played`, `serve` alone
-/// `link`. `make` puts its records into its file; of the other commands only `sync` with a record changes a file. Of the files at most those that the
+/// file; and its text is written. `follow` writes the text of each quiet moment at once, and its record at the end; `replay --follow` writes the texts of
+/// all of them after the trace. With `NoMemory`, `Usage`, `BadFile` and `FileFault` no text was written but by these two. With the last three no wires
+/// were used, but for a `FileFault` that comes where the record can't be written; `sync` and `follow` alone use `wires`, `replay` alone `tape`, `demo` alone `played`, `serve` alone
+/// `link`. `make` puts its records into its file; of the other commands only `sync` and `follow` with a record change a file. Of the files at most those that the
 /// command names are read, the watch file first and each once, a file of blocks by parts, and after that at most the one that it writes is written, once.
 ///
-/// How each peer stands once `sync` or `replay` has made its run is put into `ends`, in the order of their numbers. Where no run was begun, and with each
+/// How each peer stands once `sync`, `follow` or `replay` has made its run is put into `ends`, in the order of their numbers. Where no run was begun, and with each
 /// other command, `ends` stays as it is handed in.
 pub fn run<
     R: Wait + Threads + Sync + Copy + Drop + Send + 'static,
@@ -355,7 +356,7 @@ where
     ensures files { AreAsked F.reads F.opens F.parts F.writes (command_of (names_in words.now)) files.old files.new }
     ensures file_fault { result ≡ Status.FileFault → HasRisen (F.faults files.old) (F.faults files.new) }
     ensures out_fault { result ≡ Status.OutFault → HasRisen (O.faults out.old) (O.faults out.new) }
-    ensures unwritten { has_run result ≡ false → O.written out.new ≡ O.written out.old }
+    ensures unwritten { goes_on (command_of (names_in words.now)) ≡ false → has_run result ≡ false → O.written out.new ≡ O.written out.old }
     ensures failures { IfSome (W.told wires.new).log (λ log. HasFailed log → HasRisen (W.faults wires.old) (W.faults wires.new)) }
     ensures undialled { may_dial (command_of (names_in words.now)) result ≡ false → W.told wires.new ≡ W.told wires.old }
     ensures unplayed { may_play (command_of (names_in words.now)) result ≡ false → told_of tape.new ≡ told_of tape.old }

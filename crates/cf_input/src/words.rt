@@ -56,8 +56,10 @@ pub const MOST_PLAYED: u32 = HEIGHT_LIMIT - 2;
 /// What the words ask for.
 #[derive(Drop)]
 pub enum Command {
-    /// The client over a session file; with `trace`, what it sends and closes is written too.
+    /// The client over a session file; with `follow` one that goes on once nothing is open; with `trace`, what it sends and
+    /// closes is written too.
     Replay {
+        follow: bool,
         trace: bool,
         watch: Word,
         session: Word,
@@ -65,6 +67,15 @@ pub enum Command {
     /// The client over the wires that are handed in, with 1 to 8 peers. It takes at most so many deliveries, judges filters
     /// in so many threads, and what passed the wires is kept in a file, where one is named.
     Sync {
+        turns: u32,
+        workers: u32,
+        record: Option<Word>,
+        watch: Word,
+        peers: PeerNames,
+    },
+    /// The same of a client that goes on once nothing is open: the text of each moment at which nothing is open is written at
+    /// once.
+    Follow {
         turns: u32,
         workers: u32,
         record: Option<Word>,

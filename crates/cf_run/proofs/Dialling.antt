@@ -55,8 +55,8 @@ dialled_on names t u has none = record {
 }
 
 -- what was followed, holds the theorem
-pub theorem_in : (watch : List (List ℕ)) (called : List (List ℕ)) (r : Result Outcome NoMemory) (o : Option Log)
-    → IfOk r (λ x. IfSome o (λ log. Followed watch x.end x.height x.tip x.history x.trace.items called log)) → IfOk r (λ x. IfSome o (λ log. SyncTheorem watch x.height x.tip x.history log))
+pub theorem_in : (rule : Rule) (called : List (List ℕ)) (r : Result Outcome NoMemory) (o : Option Log)
+    → IfOk r (λ x. IfSome o (λ log. Followed rule x.end x.height x.tip x.history x.trace.items called log)) → IfOk r (λ x. IfSome o (λ log. SyncTheorem watch x.height x.tip x.history log))
 theorem_in watch called (Ok x) (Some log) f = sync_theorem_of watch x.height x.tip x.history log f.asked
 theorem_in watch called (Ok x) None f = tt
 theorem_in watch called (Err e) o f = tt

@@ -42,7 +42,7 @@ use Rattle.cf_run.specs.declared.progress.SendState.TheVariants.{Fine, Pending, 
 use Rattle.cf_run.specs.declared.trace.TraceLine.{TraceLine}
 use Rattle.cf_run.specs.declared.trace.TraceLine.TheVariants.{Sent as SentLine, Closed as ClosedLine}
 use Rattle.cf_place.specs.Places.{entry_of, IsNamed, IsRepliedIn, MayAct, CutFor}
-use Rattle.cf_client.specs.Stands.{Reflects, count_of, watch_by}
+use Rattle.cf_client.specs.Stands.{Reflects, count_of, rule_by}
 use Rattle.cf_run.specs.Run.{Doing, ActsLeft, HoldsOver, closes, state_at, is_pending, is_fine, IsTraceOf}
 use Rattle.cf_sync.proofs.SameFetched.{same_wanted, same_holds}
 use Rattle.cf_client.proofs.Spelled.{spelled_bytes}
@@ -212,15 +212,15 @@ asked_on t (Cfcheckpt filter stop headers) h = absurd h
 asked_on t (Other command payload) h = absurd h
 
 -- a connected peer, by the plan, whose failed send isn't pending has had none that isn't told
-known_told : {watch : List (List ℕ)} (acts : List Act) (progress : Progress) (called : List (List ℕ)) (planned : Log) (t : Told) (p : ℕ)
-    → is_pending (state_at progress.sends p) ≡ false → connected (trail planned p) ≡ true → (doing : Doing watch acts progress called planned t) → is_untold doing.actual p ≡ false
+known_told : {rule : Rule} (acts : List Act) (progress : Progress) (called : List (List ℕ)) (planned : Log) (t : Told) (p : ℕ)
+    → is_pending (state_at progress.sends p) ≡ false → connected (trail planned p) ≡ true → (doing : Doing rule acts progress called planned t) → is_untold doing.actual p ≡ false
 known_told acts progress called planned t p free on doing = elim (cases_Bool (is_untold doing.actual p)) [
   | inl untold ↦ absurd (both_ways (connected (trail planned p)) (doing.known p untold free).0 on)
   | inr told ↦ told
 ]
 
 -- who is connected has the part that was planned
-connected_same : {watch : List (List ℕ)} (acts : List Act) (progress : Progress) (called : List (List ℕ)) (planned : Log) (t : Told) → (doing : Doing watch acts progress called planned t) → (q : ℕ) → connected (trail doing.actual q) ≡ true → part_of planned q ≡ part_of doing.actual q
+connected_same : {rule : Rule} (acts : List Act) (progress : Progress) (called : List (List ℕ)) (planned : Log) (t : Told) → (doing : Doing rule acts progress called planned t) → (q : ℕ) → connected (trail doing.actual q) ≡ true → part_of planned q ≡ part_of doing.actual q
 connected_same acts progress called planned t doing q on = elim (cases_Bool (is_untold doing.actual q)) [
   | inl untold ↦ absurd (both_ways (connected (trail doing.actual q)) (doing.broken q untold).0 on)
   | inr told ↦ elim (doing.plan.told q told) [
@@ -230,12 +230,12 @@ connected_same acts progress called planned t doing q on = elim (cases_Bool (is_
 ]
 
 -- what is asked is open to nobody by the plan, and so indeed
-alone_too : {watch : List (List ℕ)} (acts : List Act) (progress : Progress) (called : List (List ℕ)) (planned : Log) (t : Told) → (doing : Doing watch acts progress called planned t) → (p : ℕ) (m : Msg) → part_of planned p ≡ part_of doing.actual p
+alone_too : {rule : Rule} (acts : List Act) (progress : Progress) (called : List (List ℕ)) (planned : Log) (t : Told) → (doing : Doing rule acts progress called planned t) → (p : ℕ) (m : Msg) → part_of planned p ≡ part_of doing.actual p
     → IsAlone planned p m → IsAlone doing.actual p m
 alone_too acts progress called planned t doing p m same alone = alone_less planned doing.actual p m doing.brought (connected_same acts progress called planned t doing) same alone
 
 -- an act on a peer whose failed send is pending is planned, and not done
-skipped : {watch : List (List ℕ)} (a : Act) (acts : List Act) (progress : Progress) (called : List (List ℕ)) (planned : Log) (t : Told) (p : ℕ) (e : Event) (i : Item)
+skipped : {rule : Rule} (a : Act) (acts : List Act) (progress : Progress) (called : List (List ℕ)) (planned : Log) (t : Told) (p : ℕ) (e : Event) (i : Item)
     → is_pending (state_at progress.sends p) ≡ true
     → ((q : ℕ) → q ≢ p → went_on e q (part_of planned q) ≡ part_of planned q)
     → ((q : ℕ) → q ≡ p → went_on e q (part_of planned q) ≡ with_item i (part_of planned q))
@@ -247,7 +247,7 @@ skipped : {watch : List (List ℕ)} (a : Act) (acts : List Act) (progress : Prog
     → ((q : ℕ) (block : Hash) → q ≢ p → IsSameTest (e ∷ planned) planned q block)
     → ((q : ℕ) → q ≢ p → HasOmitted (e ∷ planned) q → HasOmitted planned q)
     → ((q : ℕ) → q ≢ p → HasOmitted planned q → HasOmitted (e ∷ planned) q) → (Rightly planned → Rightly (e ∷ planned))
-    → Doing watch (a ∷ acts) progress called planned t → Doing watch acts progress called (e ∷ planned) t
+    → Doing rule (a ∷ acts) progress called planned t → Doing rule acts progress called (e ∷ planned) t
 skipped a acts progress called planned t p e i is others here meant unclosed dials brought came tests gave aims omits stays right doing =
     let it : (q : ℕ) → q ≡ p → is_pending (state_at progress.sends q) ≡ true = λ q same. ap (λ (k : ℕ). is_pending (state_at progress.sends k)) same ∙ is in
     record {
@@ -293,9 +293,9 @@ skipped a acts progress called planned t p e i is others here meant unclosed dia
       ];
     }
 
-pub skipped_send : {watch : List (List ℕ)} (acts : List Act) (progress : Progress) (called : List (List ℕ)) (planned : Log) (t : Told) (p : PeerNo) (m : Msg)
-    → is_pending (state_at progress.sends p.0) ≡ true → MayAct watch (Send p m) planned
-    → Doing watch (Send p m ∷ acts) progress called planned t → Doing watch acts progress called (Sent p (bytes_of m) ∷ planned) t
+pub skipped_send : {rule : Rule} (acts : List Act) (progress : Progress) (called : List (List ℕ)) (planned : Log) (t : Told) (p : PeerNo) (m : Msg)
+    → is_pending (state_at progress.sends p.0) ≡ true → MayAct rule (Send p m) planned
+    → Doing rule (Send p m ∷ acts) progress called planned t → Doing rule acts progress called (Sent p (bytes_of m) ∷ planned) t
 skipped_send acts progress called planned t p m is may doing =
     skipped (Send p m) acts progress called planned t p.0 (Sent p (bytes_of m)) (Asked m) is
     (λ q ne. sent_others p (bytes_of m) q (part_of planned q) ne)
@@ -304,9 +304,9 @@ skipped_send acts progress called planned t p m is may doing =
     (λ job. (λ h. h, λ h. h)) (λ q block ne. test_off planned p (bytes_of m) q block ne)
     (λ q ne omitted. omitted) (λ q ne omitted. omitted) (λ right. ((m, spelled_bytes m may.1, may.2), right)) doing
 
-pub skipped_close : {watch : List (List ℕ)} (acts : List Act) (progress : Progress) (called : List (List ℕ)) (planned : Log) (t : Told) (p : PeerNo) (cause : Cause)
-    → is_pending (state_at progress.sends p.0) ≡ true → MayAct watch (Close p cause) planned
-    → Doing watch (Close p cause ∷ acts) progress called planned t → Doing watch acts progress called (Closed p ∷ planned) t
+pub skipped_close : {rule : Rule} (acts : List Act) (progress : Progress) (called : List (List ℕ)) (planned : Log) (t : Told) (p : PeerNo) (cause : Cause)
+    → is_pending (state_at progress.sends p.0) ≡ true → MayAct rule (Close p cause) planned
+    → Doing rule (Close p cause ∷ acts) progress called planned t → Doing rule acts progress called (Closed p ∷ planned) t
 skipped_close acts progress called planned t p cause is may doing =
     skipped (Close p cause) acts progress called planned t p.0 (Closed p) (Lost Shutting) is
     (λ q ne. closed_others p q (part_of planned q) ne)
@@ -320,10 +320,10 @@ reverse_push : (xs : List TraceLine) (x : TraceLine) → reverse (xs ++ x ∷ []
 reverse_push xs x = reverse-append xs (x ∷ [])
 
 -- a message is sent
-pub sent_on : {watch : List (List ℕ)} (acts : List Act) (progress : Progress) (trace : Vec TraceLine Global) (called : List (List ℕ)) (planned : Log) (t : Told) (p : PeerNo) (m : Msg) (command : List ℕ)
+pub sent_on : {rule : Rule} (acts : List Act) (progress : Progress) (trace : Vec TraceLine Global) (called : List (List ℕ)) (planned : Log) (t : Told) (p : PeerNo) (m : Msg) (command : List ℕ)
     → is_pending (state_at progress.sends p.0) ≡ false → trace.items ≡ progress.trace.items ++ SentLine p command ∷ [] → command ≡ command_of m
-    → MayAct watch (Send p m) planned
-    → Doing watch (Send p m ∷ acts) progress called planned t → Doing watch acts (record progress { trace = trace }) called (Sent p (bytes_of m) ∷ planned) (tell (Sent p (bytes_of m)) t)
+    → MayAct rule (Send p m) planned
+    → Doing rule (Send p m ∷ acts) progress called planned t → Doing rule acts (record progress { trace = trace }) called (Sent p (bytes_of m) ∷ planned) (tell (Sent p (bytes_of m)) t)
 sent_on acts progress trace called planned t p m command free line is may doing =
     let bytes = bytes_of m in
     let spells : spelled bytes ≡ Some m = spelled_bytes m may.1 in
@@ -387,11 +387,11 @@ sent_on acts progress trace called planned t p m command free line is may doing 
     }
 
 -- a peer is closed
-pub closed_on : {watch : List (List ℕ)} (acts : List Act) (progress : Progress) (trace : Vec TraceLine Global) (called : List (List ℕ)) (planned : Log) (t : Told) (p : PeerNo) (cause : Cause)
+pub closed_on : {rule : Rule} (acts : List Act) (progress : Progress) (trace : Vec TraceLine Global) (called : List (List ℕ)) (planned : Log) (t : Told) (p : PeerNo) (cause : Cause)
     → is_pending (state_at progress.sends p.0) ≡ false → trace.items ≡ progress.trace.items ++ ClosedLine p cause ∷ []
-    → MayAct watch (Close p cause) planned
-    → Doing watch (Close p cause ∷ acts) progress called planned t
-    → Doing watch acts (record progress { closed = set progress.closed p.0 true; trace = trace }) called (Closed p ∷ planned) (tell (Closed p) t)
+    → MayAct rule (Close p cause) planned
+    → Doing rule (Close p cause ∷ acts) progress called planned t
+    → Doing rule acts (record progress { closed = set progress.closed p.0 true; trace = trace }) called (Closed p ∷ planned) (tell (Closed p) t)
 closed_on acts progress trace called planned t p cause free line may doing =
     let deserves : DeservesIn doing.actual p.0 cause = elim (cases_Bool (is_untold doing.actual p.0)) [
       | inl untold ↦ deserved_in_off planned doing.actual p.0 cause (doing.known p.0 untold free).0 (doing.broken p.0 untold).1 may.1
@@ -497,9 +497,9 @@ closed_on acts progress trace called planned t p cause free line may doing =
     }
 
 -- a peer was closed already, and a second close is not done
-pub closed_again : {watch : List (List ℕ)} (acts : List Act) (progress : Progress) (called : List (List ℕ)) (planned : Log) (t : Told) (p : PeerNo) (cause : Cause)
-    → is_pending (state_at progress.sends p.0) ≡ false → get_or progress.closed p.0 false ≡ true → MayAct watch (Close p cause) planned
-    → Doing watch (Close p cause ∷ acts) progress called planned t → Doing watch acts progress called (Closed p ∷ planned) t
+pub closed_again : {rule : Rule} (acts : List Act) (progress : Progress) (called : List (List ℕ)) (planned : Log) (t : Told) (p : PeerNo) (cause : Cause)
+    → is_pending (state_at progress.sends p.0) ≡ false → get_or progress.closed p.0 false ≡ true → MayAct rule (Close p cause) planned
+    → Doing rule (Close p cause ∷ acts) progress called planned t → Doing rule acts progress called (Closed p ∷ planned) t
 closed_again acts progress called planned t p cause free shut may doing =
     let s = doing.notes.shut p.0 shut in
     let both : (connected (trail planned p.0) ≡ false) × (failed (trail planned p.0) ≡ true) × (failed (trail doing.actual p.0) ≡ true) =
@@ -551,11 +551,11 @@ closed_again acts progress called planned t p cause free shut may doing =
       twice t u (inr o) off h = (o.0, o.2, o.3)
 
 -- a send fails
-pub failed_on : {watch : List (List ℕ)} (acts : List Act) (progress : Progress) (called : List (List ℕ)) (planned : Log) (t : Told) (p : PeerNo) (m : Msg)
+pub failed_on : {rule : Rule} (acts : List Act) (progress : Progress) (called : List (List ℕ)) (planned : Log) (t : Told) (p : PeerNo) (m : Msg)
     → p.0 < length progress.sends → is_pending (state_at progress.sends p.0) ≡ false
-    → MayAct watch (Send p m) planned
-    → Doing watch (Send p m ∷ acts) progress called planned t
-    → Doing watch acts (record progress { sends = set progress.sends p.0 Pending }) called (Sent p (bytes_of m) ∷ planned) (tell (SendFailed p) t)
+    → MayAct rule (Send p m) planned
+    → Doing rule (Send p m ∷ acts) progress called planned t
+    → Doing rule acts (record progress { sends = set progress.sends p.0 Pending }) called (Sent p (bytes_of m) ∷ planned) (tell (SendFailed p) t)
 failed_on acts progress called planned t p m lt free may doing =
     let here : state_at (set progress.sends p.0 Pending) p.0 ≡ Pending = get_or-set_same progress.sends p.0 Pending Fine lt in
     let pends : (q : ℕ) → q ≡ p.0 → is_pending (state_at (set progress.sends p.0 Pending) q) ≡ true = λ q e. ap (λ (k : ℕ). is_pending (state_at (set progress.sends p.0 Pending) k)) e ∙ ap is_pending here in
@@ -659,8 +659,8 @@ failed_on acts progress called planned t p m lt free may doing =
     }
 
 -- a peer that may be asked, with no failed send pending, has had none
-pub may_send : {watch : List (List ℕ)} (acts : List Act) (progress : Progress) (called : List (List ℕ)) (planned : Log) (t : Told) (p : PeerNo) (m : Msg)
-    → is_pending (state_at progress.sends p.0) ≡ false → MayAct watch (Send p m) planned → Doing watch acts progress called planned t → is_fine (state_at progress.sends p.0) ≡ true
+pub may_send : {rule : Rule} (acts : List Act) (progress : Progress) (called : List (List ℕ)) (planned : Log) (t : Told) (p : PeerNo) (m : Msg)
+    → is_pending (state_at progress.sends p.0) ≡ false → MayAct rule (Send p m) planned → Doing rule acts progress called planned t → is_fine (state_at progress.sends p.0) ≡ true
 may_send acts progress called planned t p m free may doing = elim (cases_Bool (is_fine (state_at progress.sends p.0))) [
   | inl fine ↦ fine
   | inr not_it ↦
@@ -671,14 +671,14 @@ may_send acts progress called planned t p m free may doing = elim (cases_Bool (i
 ]
 
 -- one more act is done
-pub acts_more : {watch : List (List ℕ)} (acts : List Act) (i : ℕ) (a : Act) (end : Log) (progress next : Progress) (called : List (List ℕ)) (t u : Told)
+pub acts_more : {rule : Rule} (acts : List Act) (i : ℕ) (a : Act) (end : Log) (progress next : Progress) (called : List (List ℕ)) (t u : Told)
     → i < length acts → a ≡ get_or acts i a
-    → ActsLeft watch (drop i acts) end progress called t
-    → ((more : List Act) (called : List (List ℕ)) (planned : Log) → MayAct watch a planned → Doing watch (a ∷ more) progress called planned t → Doing watch more next called (entry_of a ∷ planned) u)
-    → ActsLeft watch (drop (i + 1) acts) end next called u
-acts_more {watch = watch} acts i a end progress next called t u lt is left step =
+    → ActsLeft rule (drop i acts) end progress called t
+    → ((more : List Act) (called : List (List ℕ)) (planned : Log) → MayAct rule a planned → Doing rule (a ∷ more) progress called planned t → Doing rule more next called (entry_of a ∷ planned) u)
+    → ActsLeft rule (drop (i + 1) acts) end next called u
+acts_more {rule = rule} acts i a end progress next called t u lt is left step =
     let cut : drop i acts ≡ a ∷ drop (suc i) acts = drop-cons acts i a lt ∙ ap (λ (x : Act). x ∷ drop (suc i) acts) (sym is) in
-    let l : ActsLeft watch (a ∷ drop (suc i) acts) end progress called t = subst (λ (xs : List Act). ActsLeft watch xs end progress called t) cut left in
+    let l : ActsLeft rule (a ∷ drop (suc i) acts) end progress called t = subst (λ (xs : List Act). ActsLeft rule xs end progress called t) cut left in
     rw add-one (record {
       planned = entry_of a ∷ l.planned;
       allowed = l.allowed.1;
@@ -687,10 +687,10 @@ acts_more {watch = watch} acts i a end progress next called t u lt is left step 
     })
 
 -- where none is left all are done
-pub acts_done : {watch : List (List ℕ)} (acts : List Act) (i : ℕ) (end : Log) (progress : Progress) (called : List (List ℕ)) (t : Told) → length acts ≤ i → ActsLeft watch (drop i acts) end progress called t → Doing watch [] progress called end t
-acts_done {watch = watch} acts i end progress called t le left =
-    let l : ActsLeft watch [] end progress called t = subst (λ (xs : List Act). ActsLeft watch xs end progress called t) (drop_of_length-le acts le) left in
-    subst (λ (log : Log). Doing watch [] progress called log t) l.leads l.doing
+pub acts_done : {rule : Rule} (acts : List Act) (i : ℕ) (end : Log) (progress : Progress) (called : List (List ℕ)) (t : Told) → length acts ≤ i → ActsLeft rule (drop i acts) end progress called t → Doing rule [] progress called end t
+acts_done {rule = rule} acts i end progress called t le left =
+    let l : ActsLeft rule [] end progress called t = subst (λ (xs : List Act). ActsLeft rule xs end progress called t) (drop_of_length-le acts le) left in
+    subst (λ (log : Log). Doing rule [] progress called log t) l.leads l.doing
 
 -- the log in which a failed send is told
 pub cut_for : (p : PeerNo) (log : Log) → CutFor p log (SendFailed p ∷ log)
@@ -710,9 +710,9 @@ cut_for p log = record {
 }
 
 -- the client is told of a failed send, and its acts begin with the peer's close
-pub told_one : {watch : List (List ℕ)} (rest : List Act) (progress : Progress) (called : List (List ℕ)) (planned : Log) (t : Told) (p : PeerNo) (cause : Cause)
+pub told_one : {rule : Rule} (rest : List Act) (progress : Progress) (called : List (List ℕ)) (planned : Log) (t : Told) (p : PeerNo) (cause : Cause)
     → p.0 < length progress.sends → is_pending (state_at progress.sends p.0) ≡ true
-    → Doing watch [] progress called planned t → Doing watch (Close p cause ∷ rest) (record progress { sends = set progress.sends p.0 Known }) called (SendFailed p ∷ planned) t
+    → Doing rule [] progress called planned t → Doing rule (Close p cause ∷ rest) (record progress { sends = set progress.sends p.0 Known }) called (SendFailed p ∷ planned) t
 told_one rest progress called planned t p cause lt is doing =
     let here : state_at (set progress.sends p.0 Known) p.0 ≡ Known = get_or-set_same progress.sends p.0 Known Fine lt in
     let there : (q : ℕ) → q ≢ p.0 → state_at (set progress.sends p.0 Known) q ≡ state_at progress.sends q = λ q ne. get_or-set_other progress.sends p.0 q Known Fine ne in
@@ -780,7 +780,7 @@ told_one rest progress called planned t p cause lt is doing =
 
 -- with no failure pending the client reflects the actual log
 pub all_told : {H M : Type 0} {g : Ghosts H} {j : Judges M} (c : Client H M g j) (progress : Progress) (called : List (List ℕ)) (planned : Log) (t : Told) → ((q : ℕ) → is_pending (state_at progress.sends q) ≡ false)
-    → Reflects c planned → Doing (watch_by c) [] progress called planned t → HoldsOver c progress called t
+    → Reflects c planned → Doing (rule_by c) [] progress called planned t → HoldsOver c progress called t
 all_told c progress called planned t none reflects doing =
     let told : (q : ℕ) → is_untold doing.actual q ≡ false = λ q. elim (cases_Bool (is_untold doing.actual q)) [
       | inl untold ↦ absurd (both_ways (is_pending (state_at progress.sends q)) (none q) (only (is_pending (state_at progress.sends q)) (doing.due q untold)))
@@ -813,14 +813,14 @@ all_told c progress called planned t none reflects doing =
     }
 
 -- a peer whose failed send is still to be told was dialled
-pub in_use : {watch : List (List ℕ)} (acts : List Act) (progress : Progress) (called : List (List ℕ)) (planned : Log) (t : Told) (p : ℕ)
-    → is_pending (state_at progress.sends p) ≡ true → Doing watch acts progress called planned t → p < (tally_of planned).dials + 1
+pub in_use : {rule : Rule} (acts : List Act) (progress : Progress) (called : List (List ℕ)) (planned : Log) (t : Told) (p : ℕ)
+    → is_pending (state_at progress.sends p) ≡ true → Doing rule acts progress called planned t → p < (tally_of planned).dials + 1
 in_use acts progress called planned t p is doing = elim (cases_lt (tally_of doing.actual).dials p) [
   | inl past ↦ absurd (both_ways (is_pending (state_at progress.sends p)) (not_pending (state_at progress.sends p) (doing.notes.new p past).0) is)
   | inr le ↦ omega (arith, doing.plan.dials)
 ]
 
 -- and so it has a number that the client uses
-pub in_count : {H M : Type 0} {g : Ghosts H} {j : Judges M} {watch : List (List ℕ)} (c : Client H M g j) (acts : List Act) (progress : Progress) (called : List (List ℕ)) (planned : Log) (t : Told) (p : ℕ)
-    → is_pending (state_at progress.sends p) ≡ true → Reflects c planned → Doing watch acts progress called planned t → p < count_of c
+pub in_count : {H M : Type 0} {g : Ghosts H} {j : Judges M} {rule : Rule} (c : Client H M g j) (acts : List Act) (progress : Progress) (called : List (List ℕ)) (planned : Log) (t : Told) (p : ℕ)
+    → is_pending (state_at progress.sends p) ≡ true → Reflects c planned → Doing rule acts progress called planned t → p < count_of c
 in_count c acts progress called planned t p is reflects doing = (let used = in_use acts progress called planned t p is doing in omega (arith, used, reflects.places.count))

@@ -36,7 +36,7 @@ use Rattle.cf_run.specs.declared.progress.SendState.TheVariants.{Fine}
 use Rattle.cf_run.specs.declared.trace.TraceLine.{TraceLine}
 use Rattle.cf_run.specs.Names.{names_in}
 use Rattle.cf_hear.proofs.Tracking.{tracks_ended}
-use Rattle.cf_client.specs.Stands.{Reflects, IsReportOf, seen_by, watch_by}
+use Rattle.cf_client.specs.Stands.{Reflects, IsReportOf, seen_by, rule_by}
 use Rattle.cf_run.specs.Run.{IsOrderly, WasOrderly, AreNumbered, IsUntaken, Notes, Doing, HoldsOver, Stopped, Finished, AreBytesOf, IsEnd, IsEndTold, IsTraceOf, names_of, is_lost, NobodyLeft, state_at, is_pending, is_fine}
 use Rattle.cf_peer.specs.declared.act.Act.{Act}
 use Rattle.cf_sync.specs.Planned.{is_untold, ArePlanned}
@@ -75,12 +75,12 @@ more_names : (log : Log) (d : Dial) (called : List (List ℕ)) → names_of log 
 more_names log d called is = map-append (λ (x : Dial). x.name) (dials log) (d ∷ []) ∙ ap (λ (xs : List (List ℕ)). xs ++ d.name ∷ []) is
 
 -- under the same watch list
-pub doing_watch : {watch now : List (List ℕ)} {acts : List Act} {progress : Progress} {called : List (List ℕ)} {planned : Log} {t : Told} → now ≡ watch → Doing watch acts progress called planned t → Doing now acts progress called planned t
+pub doing_watch : {watch now : List (List ℕ)} {acts : List Act} {progress : Progress} {called : List (List ℕ)} {planned : Log} {t : Told} → now ≡ watch → Doing rule acts progress called planned t → Doing now acts progress called planned t
 doing_watch {acts = acts} {progress = progress} {called = called} {planned = planned} {t = t} same doing = subst (λ (w : List (List ℕ)). Doing w acts progress called planned t) (sym same) doing
 
 -- with every failed send told, the client's log is as it is, whatever is to be done
 same_doing : {H M : Type 0} {g : Ghosts H} {j : Judges M} (c : Client H M g j) (acts : List Act) (progress : Progress) (called : List (List ℕ)) (names : List (List ℕ)) (t u : Told) (holds : HoldsOver c progress called t) (e : Event)
-    → Notes (watch_by c) progress names (e ∷ holds.actual) u → ((q : ℕ) → is_untold (e ∷ holds.actual) q ≡ false) → Doing (watch_by c) acts progress names (e ∷ holds.actual) u
+    → Notes (rule_by c) progress names (e ∷ holds.actual) u → ((q : ℕ) → is_untold (e ∷ holds.actual) q ≡ false) → Doing (rule_by c) acts progress names (e ∷ holds.actual) u
 same_doing c acts progress called names t u holds e notes told = record {
   actual = e ∷ holds.actual;
   notes = notes;
@@ -112,7 +112,7 @@ untaken_so log t tells untaken unended = (sym (ap (λ (x : Tally). x.taken) tell
 -- a peer is dialled
 pub dial_doing : {H M : Type 0} {g : Ghosts H} {j : Judges M} (c : Client H M g j) (acts : List Act) (progress : Progress) (called : List (List ℕ)) (t : Told) (p : PeerNo) (name : List ℕ) (holds : HoldsOver c progress called t)
     → p.0 ≡ t.tally.dials + 1 → t.tally.dials < 8 → t.tally.taken ≡ 0 → t.tally.ended ≡ 0
-    → Doing (watch_by c) acts progress (called ++ name ∷ []) (Dialled p name ∷ holds.actual) (tell (Dialled p name) t)
+    → Doing (rule_by c) acts progress (called ++ name ∷ []) (Dialled p name ∷ holds.actual) (tell (Dialled p name) t)
 dial_doing c acts progress called t p name holds is room untaken unended =
     let count : t.tally.dials ≡ (tally_of holds.actual).dials = ap (λ (x : Tally). x.dials) holds.notes.tells.counts in
     let past : (tally_of holds.actual).dials < p.0 = omega (arith, count, is) in
@@ -139,7 +139,7 @@ dial_doing c acts progress called t p name holds is room untaken unended =
 -- a dial fails
 pub not_dialled_holds : {H M : Type 0} {g : Ghosts H} {j : Judges M} (c d : Client H M g j) (progress : Progress) (called : List (List ℕ)) (t : Told) (p : PeerNo) (name : List ℕ) (holds : HoldsOver c progress called t)
     → p.0 ≡ t.tally.dials + 1 → t.tally.dials < 8 → t.tally.taken ≡ 0 → t.tally.ended ≡ 0
-    → watch_by d ≡ watch_by c → Reflects d (NotDialled p name ∷ holds.actual)
+    → rule_by d ≡ rule_by c → Reflects d (NotDialled p name ∷ holds.actual)
     → HoldsOver d progress (called ++ name ∷ []) (tell (NotDialled p name) t)
 not_dialled_holds c d progress called t p name holds is room untaken unended watch reflects =
     let count : t.tally.dials ≡ (tally_of holds.actual).dials = ap (λ (x : Tally). x.dials) holds.notes.tells.counts in
@@ -149,7 +149,7 @@ not_dialled_holds c d progress called t p name holds is room untaken unended wat
         tells = tells_more holds.actual t (NotDialled p name) holds.notes.tells;
         bytes = holds.notes.bytes;
         rightly = holds.notes.rightly;
-        planned = subst (λ (w : List (List ℕ)). ArePlanned w holds.actual) (sym watch) holds.notes.planned;
+        planned = subst (λ (w : Rule). ArePlanned w holds.actual) (sym watch) holds.notes.planned;
         order = holds.notes.order;
         numbered = (is ∙ ap (λ (n : ℕ). n + 1) count, holds.notes.numbered);
         first = (untaken_so holds.actual t holds.notes.tells untaken unended, holds.notes.first);
@@ -186,8 +186,8 @@ took_bytes Ended log is h = h
 took_numbered : (d : Delivery) (log : Log) → AreNumbered log → AreNumbered (Took d ∷ log)
 took_numbered d log h = h
 
-took_notes : {watch : List (List ℕ)} (progress : Progress) (called : List (List ℕ)) (log : Log) (t : Told) (d : Delivery) → AreBytesOf d → Notes watch progress called log t → IsBusy log → IsOrderly log
-    → Notes watch progress called (Took d ∷ log) (tell (Took d) t)
+took_notes : {rule : Rule} (progress : Progress) (called : List (List ℕ)) (log : Log) (t : Told) (d : Delivery) → AreBytesOf d → Notes rule progress called log t → IsBusy log → IsOrderly log
+    → Notes rule progress called (Took d ∷ log) (tell (Took d) t)
 took_notes progress called log t d is notes busy in_order = record {
   tells = tells_more log t (Took d) notes.tells;
   bytes = took_bytes d log is notes.bytes;
@@ -206,7 +206,7 @@ took_notes progress called log t d is notes busy in_order = record {
 
 -- a delivery is taken
 pub took_doing : {H M : Type 0} {g : Ghosts H} {j : Judges M} (c : Client H M g j) (acts : List Act) (progress : Progress) (called : List (List ℕ)) (t : Told) (d : Delivery) → AreBytesOf d → (holds : HoldsOver c progress called t) → IsBusy holds.actual
-    → Doing (watch_by c) acts progress called (Took d ∷ holds.actual) (tell (Took d) t)
+    → Doing (rule_by c) acts progress called (Took d ∷ holds.actual) (tell (Took d) t)
 took_doing c acts progress called t d is holds busy =
     same_doing c acts progress called called t (tell (Took d) t) holds (Took d) (took_notes progress called holds.actual t d is holds.notes busy (orderly c progress called t holds)) (λ q. refl)
 
@@ -358,15 +358,15 @@ somebody EndedFirst log why =
     inl (busy.0, subst (λ (l : Log). connected (trail l busy.0) ≡ true) (sym why.1.0) (open_on (trail why.0 busy.0) busy.1))
 
 -- a client that is the same tells the same
-pub report_same : {H M : Type 0} {g : Ghosts H} {j : Judges M} (c d : Client H M g j) (height : ℕ) (hash : Hash32) (entries : List Entry) → d ≡ c → ((log : Log) → Reflects d log → IsReportOf (watch_by d) height hash entries log)
-    → (log : Log) → Reflects c log → IsReportOf (watch_by c) height hash entries log
+pub report_same : {H M : Type 0} {g : Ghosts H} {j : Judges M} (c d : Client H M g j) (height : ℕ) (hash : Hash32) (entries : List Entry) → d ≡ c → ((log : Log) → Reflects d log → IsReportOf (rule_by d) height hash entries log)
+    → (log : Log) → Reflects c log → IsReportOf (rule_by c) height hash entries log
 report_same {H = H} {M = M} {g = g} {j = j} c d height hash entries same told =
-    subst (λ (x : Client H M g j). (log : Log) → Reflects x log → IsReportOf (watch_by x) height hash entries log) same told
+    subst (λ (x : Client H M g j). (log : Log) → Reflects x log → IsReportOf (rule_by x) height hash entries log) same told
 
 -- what a run that stopped has done
 pub finishes : {H M : Type 0} {g : Ghosts H} {j : Judges M} (end : End) (c : Client H M g j) (progress : Progress) (called : List (List ℕ)) (t : Told) (height : ℕ) (hash : Hash32) (entries : List Entry)
-    → Stopped end c progress called t → ((log : Log) → Reflects c log → IsReportOf (watch_by c) height hash entries log)
-    → Finished (watch_by c) end height hash entries progress.trace.items called t
+    → Stopped end c progress called t → ((log : Log) → Reflects c log → IsReportOf (rule_by c) height hash entries log)
+    → Finished (rule_by c) end height hash entries progress.trace.items called t
 finishes end c progress called t height hash entries stopped told =
     let holds = stopped.holds in
     let report = told holds.actual holds.reflects in
@@ -381,7 +381,7 @@ finishes end c progress called t height hash entries stopped told =
           told = report.told;
           asked_out = report.asked_out;
         };
-        settled = λ is. followed_is (watch_by c) height hash entries holds.actual
+        settled = λ is. followed_is (rule_by c) height hash entries holds.actual
             (record { watchable = report.watchable; bytes = holds.notes.bytes; rightly = holds.notes.rightly; told = report.told; asked_out = report.asked_out })
             (subst (λ (e : End). IsEnd e holds.actual) is stopped.why).0 (subst (λ (e : End). IsEnd e holds.actual) is stopped.why).1;
         blames = λ clash quiet. has_blamed c holds.actual report.told.chain holds.reflects holds.notes.bytes holds.notes.rightly clash report.told.best
@@ -514,7 +514,7 @@ ends_so EndedFirst log why off =
     absurd (not_open (trail why.0 busy.0) (subst (λ (l : Log). connected (trail l busy.0) ≡ false) why.1.0 (off busy.0)) busy.1)
 
 -- a run ends for want of peers exactly where the tally has nobody left
-pub no_peers : (watch : List (List ℕ)) (end : End) (height : ℕ) (hash : Hash32) (entries : List Entry) (lines : List TraceLine) (called : List (List ℕ)) (t : Told) → Finished watch end height hash entries lines called t
+pub no_peers : (rule : Rule) (end : End) (height : ℕ) (hash : Hash32) (entries : List Entry) (lines : List TraceLine) (called : List (List ℕ)) (t : Told) → Finished rule end height hash entries lines called t
     → (end ≡ NoPeers) ↔ NobodyLeft t.tally
 no_peers watch end height hash entries lines called t f = (
   (λ is. let off = subst (λ (e : End). IsEnd e f.actual) is f.followed.why in

@@ -8,12 +8,12 @@ use Rattle.cf_client.specs.declared.client.Client.{Client}
 use Rattle.cf_run.specs.declared.outcome.End.{End}
 use Rattle.cf_run.specs.declared.outcome.End.TheVariants.{Tired, Ended as EndedFirst}
 use Rattle.cf_run.specs.Run.{Course, HasDialled}
-use Rattle.cf_client.specs.Stands.{count_of, watch_by, words_by}
+use Rattle.cf_client.specs.Stands.{count_of, rule_by, words_by}
 
--- the client counts one peer more, and watches and tells the same
+-- the client counts one peer more, and goes by and tells the same
 pub record CountsOne {H M : Type 0} {g : Ghosts H} {j : Judges M} (c d : Client H M g j) : Type 0 where
   pub count : count_of d ≡ count_of c + 1
-  pub watch : watch_by d ≡ watch_by c
+  pub rule : rule_by d ≡ rule_by c
   pub words : words_by d ≡ words_by c
 
 -- a run over new wires, whatever was answered: the first of the names were dialled, and no more deliveries were taken than it has turns

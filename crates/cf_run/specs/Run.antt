@@ -10,6 +10,7 @@ use Rattle.cf_msg.specs.declared.msg.Msg.{Msg}
 use Rattle.cf_msg.specs.Message.{command_of}
 use Rattle.cf_peer.specs.declared.act.Act.{Act}
 use Rattle.cf_peer.specs.declared.act.Act.TheVariants.{Send, Close}
+use Rattle.cf_peer.specs.declared.mode.Mode.TheVariants.{Following}
 use Rattle.cf_wires.specs.declared.event.Delivery.{Delivery}
 use Rattle.cf_wires.specs.declared.event.Delivery.TheVariants.{Got, Gone, Tick, Ended}
 use Rattle.cf_frame.specs.Stream.{IsBytes}
@@ -25,9 +26,9 @@ use Rattle.cf_peer.specs.Asking.{given}
 use Rattle.cf_scan.specs.declared.history.Entry.{Entry}
 use Rattle.cf_headers.specs.Chain.{NoHashClash}
 use Rattle.cf_sync.specs.Blame.{AreBlamed, HasOmitted}
-use Rattle.cf_sync.specs.Fetching.{IsBusy, IsQuiet, IsConnected, IsSameFetched, Rightly, AreBytes, counted_part, DeservesIn}
+use Rattle.cf_sync.specs.Fetching.{IsBusy, IsQuiet, IsConnected, IsSameFetched, Rule, RightlyIn, AreBytes, counted_part, DeservesIn}
 use Rattle.cf_sync.specs.Planned.{is_untold, IsPlanned, ArePlanned}
-use Rattle.cf_sync.specs.Sync.{HasAsked, IsHashed}
+use Rattle.cf_sync.specs.Sync.{HasAskedIn, IsHashed}
 use Rattle.cf_sync.specs.Sync as sync
 use Rattle.cf_client.specs.declared.client.Client.{Client}
 use Rattle.cf_run.specs.declared.outcome.End.{End}
@@ -39,7 +40,7 @@ use Rattle.cf_place.specs.declared.state.State.TheVariants.{Synced as IsSynced, 
 use Rattle.cf_run.specs.declared.trace.TraceLine.{TraceLine}
 use Rattle.cf_run.specs.declared.trace.TraceLine.TheVariants.{Sent as SentLine, Closed as ClosedLine}
 use Rattle.cf_place.specs.Places.{after, Allowed, IsNamed, IsRepliedIn, IsState}
-use Rattle.cf_client.specs.Stands.{Reflects, IsBlameless, IsInnocent, AreAnswered, watch_by}
+use Rattle.cf_client.specs.Stands.{Reflects, IsBlameless, IsInnocent, AreAnswered, rule_by}
 
 -- how the sends to a peer have gone
 abbrev pub state_at : List SendState → ℕ → SendState
@@ -148,11 +149,11 @@ abbrev pub HasNames : List (List ℕ) → Told → Type 0
 HasNames called t = IfSome t.log (λ log. names_of log ≡ called)
 
 -- what the run's own notes say of the log as it is
-pub record Notes (watch : List (List ℕ)) (progress : Progress) (called : List (List ℕ)) (actual : Log) (t : Told) : Type 0 where
+pub record Notes (rule : Rule) (progress : Progress) (called : List (List ℕ)) (actual : Log) (t : Told) : Type 0 where
   pub tells : Tells actual t
   pub bytes : AreBytes actual
-  pub rightly : Rightly actual
-  pub planned : ArePlanned watch actual
+  pub rightly : RightlyIn rule.mode actual
+  pub planned : ArePlanned rule actual
   pub order : WasOrderly actual
   pub numbered : AreNumbered actual
   pub first : AreDialledFirst actual
@@ -185,15 +186,15 @@ abbrev pub IsBroken : Log → ℕ → Type 0
 IsBroken log q = (connected (trail log q) ≡ false) × (failed (trail log q) ≡ true)
 
 -- with these acts left to be done, some log that the wires tell is the planned one, but for the peers whose failed sends aren't told
-pub record Doing (watch : List (List ℕ)) (acts : List Act) (progress : Progress) (called : List (List ℕ)) (planned : Log) (t : Told) : Type 0 where
+pub record Doing (rule : Rule) (acts : List Act) (progress : Progress) (called : List (List ℕ)) (planned : Log) (t : Told) : Type 0 where
   pub actual : Log
-  pub notes : Notes watch progress called actual t
+  pub notes : Notes rule progress called actual t
   pub plan : IsPlanned planned actual
   pub brought : IsSameFetched planned actual
   pub came : IsSameCome planned actual
   pub omitted : (q : ℕ) → is_untold actual q ≡ false → HasOmitted planned q → HasOmitted actual q
   pub unomitted : (q : ℕ) → is_untold actual q ≡ false → HasOmitted actual q → HasOmitted planned q
-  pub rightly : Rightly planned
+  pub rightly : RightlyIn Following planned
   pub pending : (q : ℕ) → is_pending (state_at progress.sends q) ≡ true → is_untold actual q ≡ true
   pub due : (q : ℕ) → is_untold actual q ≡ true → is_due progress acts q ≡ true
   pub broken : (q : ℕ) → is_untold actual q ≡ true → IsBroken actual q
@@ -202,23 +203,23 @@ pub record Doing (watch : List (List ℕ)) (acts : List Act) (progress : Progres
 -- the client reflects the log that the wires tell, and every failure is told
 pub record HoldsOver {H M : Type 0} {g : Ghosts H} {j : Judges M} (c : Client H M g j) (progress : Progress) (called : List (List ℕ)) (t : Told) : Type 0 where
   pub actual : Log
-  pub notes : Notes (watch_by c) progress called actual t
+  pub notes : Notes (rule_by c) progress called actual t
   pub reflects : Reflects c actual
   pub told_all : (q : ℕ) → is_untold actual q ≡ false
   pub none : (q : ℕ) → is_pending (state_at progress.sends q) ≡ false
 
 -- what is left of the acts leads from here to where all of them lead
-pub record ActsLeft (watch : List (List ℕ)) (acts : List Act) (end : Log) (progress : Progress) (called : List (List ℕ)) (t : Told) : Type 0 where
+pub record ActsLeft (rule : Rule) (acts : List Act) (end : Log) (progress : Progress) (called : List (List ℕ)) (t : Told) : Type 0 where
   pub planned : Log
-  pub allowed : Allowed watch acts planned
+  pub allowed : Allowed rule acts planned
   pub leads : after acts planned ≡ end
-  pub doing : Doing watch acts progress called planned t
+  pub doing : Doing rule acts progress called planned t
 
 -- the client reflects a planned log, and waits to be told of pending failures
 pub record Waits {H M : Type 0} {g : Ghosts H} {j : Judges M} (c : Client H M g j) (progress : Progress) (called : List (List ℕ)) (t : Told) : Type 0 where
   pub planned : Log
   pub reflects : Reflects c planned
-  pub doing : Doing (watch_by c) [] progress called planned t
+  pub doing : Doing (rule_by c) [] progress called planned t
 
 -- a dial or a send has failed
 abbrev pub is_failure : Event → Bool
@@ -315,11 +316,11 @@ IsEnd EndedFirst log = (before : Log) × ((log ≡ Took Ended ∷ before) × IsB
 -- What a run that ended so has done, by its log. With nothing open each connected peer was heard out, and its filter header is known at each block that its own
 -- chain shares with the best one; and each of the best chain's blocks is settled. With nothing open what each claims of the fetched blocks on which they differ was
 -- tested, and nobody is left whose filter omits something (where no strings clash).
-pub record Followed (watch : List (List ℕ)) (end : End) (height : ℕ) (hash : Hash32) (entries : List Entry) (lines : List TraceLine) (called : List (List ℕ)) (log : Log) : Type 0 where
-  pub asked : HasAsked watch height hash entries log
-  pub settled : end ≡ Synced → sync.Followed watch height hash entries log
+pub record Followed (rule : Rule) (end : End) (height : ℕ) (hash : Hash32) (entries : List Entry) (lines : List TraceLine) (called : List (List ℕ)) (log : Log) : Type 0 where
+  pub asked : HasAskedIn rule.mode rule.watch height hash entries log
+  pub settled : end ≡ Synced → sync.FollowedIn rule.mode rule.watch height hash entries log
   pub blames : NoHashClash (IsHashed log []) → IsQuiet log → AreBlamed log asked.told.chain
-  pub planned : ArePlanned watch log
+  pub planned : ArePlanned rule log
   pub was_orderly : WasOrderly log
   pub orderly : IsOrderly log
   pub numbered : AreNumbered log
@@ -329,10 +330,10 @@ pub record Followed (watch : List (List ℕ)) (end : End) (height : ℕ) (hash :
   pub why : IsEnd end log
 
 -- the same of some log that the wires tell, or their tally alone
-pub record Finished (watch : List (List ℕ)) (end : End) (height : ℕ) (hash : Hash32) (entries : List Entry) (lines : List TraceLine) (called : List (List ℕ)) (t : Told) : Type 0 where
+pub record Finished (rule : Rule) (end : End) (height : ℕ) (hash : Hash32) (entries : List Entry) (lines : List TraceLine) (called : List (List ℕ)) (t : Told) : Type 0 where
   pub actual : Log
   pub tells : Tells actual t
-  pub followed : Followed watch end height hash entries lines called actual
+  pub followed : Followed rule end height hash entries lines called actual
   pub few : (tally_of actual).dials ≤ 8
 
 -- a run stops for this reason

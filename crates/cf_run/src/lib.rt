@@ -4,8 +4,10 @@
 mod outcome;
 mod over;
 mod progress;
+mod texts;
 mod trace;
 
 pub use outcome::{End, Outcome};
-pub use over::sync_over;
+pub use over::{follow_over, sync_over};
+pub use texts::{TextFail, Texts};
 pub use trace::TraceLine;

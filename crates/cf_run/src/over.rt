@@ -3,11 +3,14 @@ ghost use Rattle.std.specs.Prelude.{◌≡◌, ◌≢◌, ◌↔◌, ℕ, None, 
 ghost use Rattle.cf_bytes.specs.Outside.{HasRisen};
 ghost use Rattle.cf_client.specs.Holding.{HoldsNoMore};
 ghost use Rattle.cf_run.specs.Names.{names_in};
+ghost use Rattle.cf_sync.specs.Fetching.{Rule, following, once};
+ghost use Rattle.cf_sync.specs.Growing.{FollowTheorem};
+ghost use Rattle.cf_run.specs.Texts.{HasPut, HasPutSome, IsOver};
 ghost use Rattle.cf_sync.specs.Sync.{SyncTheorem};
 ghost use Rattle.cf_place.specs.Places.{MayAct, Allowed, after, entry_of, EndsTell, Words, TellsWords, ActTells};
 ghost use Rattle.cf_run.specs.Passing.{CountsOne, EndsWithin, Passes};
 ghost use Rattle.cf_run.specs.Run.{Followed, NobodyLeft, HasFailed, Course, Doing, HoldsOver, AreBytesOf, moment, Runs, Performs, Dials, Turns, IsOneMore, IsNoMore, HasDialled, HasNames, Turned, Stopped, IsEnd, IsInStep, IsEndTold};
-ghost use Rattle.cf_client.specs.Stands.{Reflects, Answers, IsReportOf, count_of, watch_by, words_by};
+ghost use Rattle.cf_client.specs.Stands.{Reflects, Answers, IsReportOf, count_of, rule_by, words_by};
 ghost use Rattle.cf_run.specs.Versions.{KeepsWords, HasWords};
 ghost use Rattle.std.specs.List.{All};
 ghost use Rattle.cf_frame.specs.Stream.{IsBytes};
@@ -21,6 +24,7 @@ ghost use Rattle.cf_wires.specs.declared.event.Event.TheVariants.{Dialled, Sent,
 
 use crate::outcome::{End, Outcome};
 use crate::progress::Progress;
+use crate::texts::{TextFail, Texts};
 use crate::trace::TraceLine;
 use cf_bytes::{NoMemory, PeerNo};
 use cf_client::Client;
@@ -68,7 +72,7 @@ fn perform_send<W: Wires>(
     requires sendable { IsSendable message.now }
     requires step { IsInStep (W.told wires.old) progress.old }
     requires open { (W.told wires.old).finished ≡ false }
-    ensures doing { OnOk result ((watch : List (List ℕ)) (more : List Act) (called : List (List ℕ)) (planned : Log) → MayAct watch (Send p message.now) planned → Doing watch (Send p message.now ∷ more) progress.old called planned (W.told wires.old) → Doing watch more progress.new called (Sent p (bytes_of message.now) ∷ planned) (W.told wires.new)) }
+    ensures doing { OnOk result ((rule : Rule) (more : List Act) (called : List (List ℕ)) (planned : Log) → MayAct rule (Send p message.now) planned → Doing rule (Send p message.now ∷ more) progress.old called planned (W.told wires.old) → Doing rule more progress.new called (Sent p (bytes_of message.now) ∷ planned) (W.told wires.new)) }
     ensures versions { (words : Words) → TellsWords words message.now → KeepsWords words (W.told wires.old) (W.told wires.new) }
     ensures performs { Performs (moment (W.told wires.old) (W.faults wires.old) (W.script wires.old) (W.keeps wires.old) progress.old) (moment (W.told wires.new) (W.faults wires.new) (W.script wires.new) (W.keeps wires.new) progress.new) }
 {
@@ -98,7 +102,7 @@ fn perform_close<W: Wires>(
     requires number { p.0 < 9 }
     requires step { IsInStep (W.told wires.old) progress.old }
     requires open { (W.told wires.old).finished ≡ false }
-    ensures doing { OnOk result ((watch : List (List ℕ)) (more : List Act) (called : List (List ℕ)) (planned : Log) → MayAct watch (Close p cause) planned → Doing watch (Close p cause ∷ more) progress.old called planned (W.told wires.old) → Doing watch more progress.new called (Closed p ∷ planned) (W.told wires.new)) }
+    ensures doing { OnOk result ((rule : Rule) (more : List Act) (called : List (List ℕ)) (planned : Log) → MayAct rule (Close p cause) planned → Doing rule (Close p cause ∷ more) progress.old called planned (W.told wires.old) → Doing rule more progress.new called (Closed p ∷ planned) (W.told wires.new)) }
     ensures versions { (words : Words) → KeepsWords words (W.told wires.old) (W.told wires.new) }
     ensures performs { Performs (moment (W.told wires.old) (W.faults wires.old) (W.script wires.old) (W.keeps wires.old) progress.old) (moment (W.told wires.new) (W.faults wires.new) (W.script wires.new) (W.keeps wires.new) progress.new) }
 {
@@ -124,7 +128,7 @@ fn perform_one<W: Wires>(
     requires doable { IsDoable act.now }
     requires step { IsInStep (W.told wires.old) progress.old }
     requires open { (W.told wires.old).finished ≡ false }
-    ensures doing { OnOk result ((watch : List (List ℕ)) (more : List Act) (called : List (List ℕ)) (planned : Log) → MayAct watch act.now planned → Doing watch (act.now ∷ more) progress.old called planned (W.told wires.old) → Doing watch more progress.new called (entry_of act.now ∷ planned) (W.told wires.new)) }
+    ensures doing { OnOk result ((rule : Rule) (more : List Act) (called : List (List ℕ)) (planned : Log) → MayAct rule act.now planned → Doing rule (act.now ∷ more) progress.old called planned (W.told wires.old) → Doing rule more progress.new called (entry_of act.now ∷ planned) (W.told wires.new)) }
     ensures versions { (words : Words) → ActTells words act.now → KeepsWords words (W.told wires.old) (W.told wires.new) }
     ensures performs { Performs (moment (W.told wires.old) (W.faults wires.old) (W.script wires.old) (W.keeps wires.old) progress.old) (moment (W.told wires.new) (W.faults wires.new) (W.script wires.new) (W.keeps wires.new) progress.new) }
 {
@@ -150,7 +154,7 @@ fn perform<W: Wires>(
     requires doable { All IsDoable acts.now }
     requires step { IsInStep (W.told wires.old) progress.old }
     requires open { (W.told wires.old).finished ≡ false }
-    ensures doing { OnOk result ((watch : List (List ℕ)) (called : List (List ℕ)) (planned : Log) → Allowed watch acts.now planned → Doing watch acts.now progress.old called planned (W.told wires.old) → Doing watch [] progress.new called (after acts.now planned) (W.told wires.new)) }
+    ensures doing { OnOk result ((rule : Rule) (called : List (List ℕ)) (planned : Log) → Allowed rule acts.now planned → Doing rule acts.now progress.old called planned (W.told wires.old) → Doing rule [] progress.new called (after acts.now planned) (W.told wires.new)) }
     ensures versions { (words : Words) → All (ActTells words) acts.now → KeepsWords words (W.told wires.old) (W.told wires.new) }
     ensures performs { Performs (moment (W.told wires.old) (W.faults wires.old) (W.script wires.old) (W.keeps wires.old) progress.old) (moment (W.told wires.new) (W.faults wires.new) (W.script wires.new) (W.keeps wires.new) progress.new) }
 {
@@ -169,10 +173,10 @@ fn settle<W: Wires, H: HeaderStore, M: Matcher>(
 ) -> Result<(), NoMemory>
     requires step { IsInStep (W.told wires.old) progress.old }
     requires open { (W.told wires.old).finished ≡ false }
-    ensures holds { OnOk result ((called : List (List ℕ)) (planned : Log) → Reflects client.old planned → Doing (watch_by client.old) [] progress.old called planned (W.told wires.old) → HoldsOver client.new progress.new called (W.told wires.new)) }
-    ensures versions { (called : List (List ℕ)) (planned : Log) → Reflects client.old planned → Doing (watch_by client.old) [] progress.old called planned (W.told wires.old) → KeepsWords (words_by client.old) (W.told wires.old) (W.told wires.new) }
+    ensures holds { OnOk result ((called : List (List ℕ)) (planned : Log) → Reflects client.old planned → Doing (rule_by client.old) [] progress.old called planned (W.told wires.old) → HoldsOver client.new progress.new called (W.told wires.new)) }
+    ensures versions { (called : List (List ℕ)) (planned : Log) → Reflects client.old planned → Doing (rule_by client.old) [] progress.old called planned (W.told wires.old) → KeepsWords (words_by client.old) (W.told wires.old) (W.told wires.new) }
     ensures count { OnOk result (count_of client.new ≡ count_of client.old) }
-    ensures watch { OnOk result (watch_by client.new ≡ watch_by client.old) }
+    ensures rule { OnOk result (rule_by client.new ≡ rule_by client.old) }
     ensures words { words_by client.new ≡ words_by client.old }
     ensures performs { Performs (moment (W.told wires.old) (W.faults wires.old) (W.script wires.old) (W.keeps wires.old) progress.old) (moment (W.told wires.new) (W.faults wires.new) (W.script wires.new) (W.keeps wires.new) progress.new) }
 {
@@ -195,10 +199,10 @@ fn carry_out<W: Wires, H: HeaderStore, M: Matcher>(
     requires doable { All IsDoable acts.now }
     requires step { IsInStep (W.told wires.old) progress.old }
     requires open { (W.told wires.old).finished ≡ false }
-    ensures holds { OnOk result ((called : List (List ℕ)) (log : Log) → Answers client.old acts.now log → Doing (watch_by client.old) acts.now progress.old called log (W.told wires.old) → HoldsOver client.new progress.new called (W.told wires.new)) }
-    ensures versions { (called : List (List ℕ)) (log : Log) → Answers client.old acts.now log → Doing (watch_by client.old) acts.now progress.old called log (W.told wires.old) → All (ActTells (words_by client.old)) acts.now → KeepsWords (words_by client.old) (W.told wires.old) (W.told wires.new) }
+    ensures holds { OnOk result ((called : List (List ℕ)) (log : Log) → Answers client.old acts.now log → Doing (rule_by client.old) acts.now progress.old called log (W.told wires.old) → HoldsOver client.new progress.new called (W.told wires.new)) }
+    ensures versions { (called : List (List ℕ)) (log : Log) → Answers client.old acts.now log → Doing (rule_by client.old) acts.now progress.old called log (W.told wires.old) → All (ActTells (words_by client.old)) acts.now → KeepsWords (words_by client.old) (W.told wires.old) (W.told wires.new) }
     ensures count { OnOk result (count_of client.new ≡ count_of client.old) }
-    ensures watch { OnOk result (watch_by client.new ≡ watch_by client.old) }
+    ensures rule { OnOk result (rule_by client.new ≡ rule_by client.old) }
     ensures words { words_by client.new ≡ words_by client.old }
     ensures performs { Performs (moment (W.told wires.old) (W.faults wires.old) (W.script wires.old) (W.keeps wires.old) progress.old) (moment (W.told wires.new) (W.faults wires.new) (W.script wires.new) (W.keeps wires.new) progress.new) }
 {
@@ -221,10 +225,10 @@ fn greet<W: Wires, H: HeaderStore, M: Matcher>(
     requires step { IsInStep (W.told wires.old) progress.old }
     requires open { (W.told wires.old).finished ≡ false }
     ensures holds { OnOk result ((called : List (List ℕ)) (log : Log) → Reflects client.old log
-        → ((acts : List Act) → Doing (watch_by client.old) acts progress.old called (Dialled p name.now ∷ log) (W.told wires.old))
+        → ((acts : List Act) → Doing (rule_by client.old) acts progress.old called (Dialled p name.now ∷ log) (W.told wires.old))
         → HoldsOver client.new progress.new called (W.told wires.new)) }
     ensures versions { (called : List (List ℕ)) (log : Log) → Reflects client.old log
-        → ((acts : List Act) → Doing (watch_by client.old) acts progress.old called (Dialled p name.now ∷ log) (W.told wires.old))
+        → ((acts : List Act) → Doing (rule_by client.old) acts progress.old called (Dialled p name.now ∷ log) (W.told wires.old))
         → KeepsWords (words_by client.old) (W.told wires.old) (W.told wires.new) }
     ensures counts { OnOk result (CountsOne client.old client.new) }
     ensures performs { Performs
@@ -294,7 +298,7 @@ fn take_turn<W: Wires, H: HeaderStore, M: Matcher>(
     requires open { (W.told wires.old).finished ≡ false }
     ensures turned { IfOk result (λ end. (called : List (List ℕ)) → HoldsOver client.old progress.old called (W.told wires.old) → Turned end client.new progress.new called (W.told wires.new)) }
     ensures versions { (called : List (List ℕ)) → HoldsOver client.old progress.old called (W.told wires.old) → KeepsWords (words_by client.old) (W.told wires.old) (W.told wires.new) }
-    ensures watch { OnOk result (watch_by client.new ≡ watch_by client.old) }
+    ensures rule { OnOk result (rule_by client.new ≡ rule_by client.old) }
     ensures words { words_by client.new ≡ words_by client.old }
     ensures taken { IfOk result (λ end. IfNone end ((W.told wires.new).tally.taken ≡ (W.told wires.old).tally.taken + 1)) }
     ensures untaken { IfOk result (λ end. IfSome end (λ e. (W.told wires.new).tally.taken ≡ (W.told wires.old).tally.taken)) }
@@ -334,7 +338,7 @@ fn dial_all<W: Wires, H: HeaderStore, M: Matcher>(
     requires open { (W.told wires.old).finished ≡ false }
     ensures holds { OnOk result (HoldsOver client.old progress.old [] (W.told wires.old) → HoldsOver client.new progress.new (names_in names.now) (W.told wires.new)) }
     ensures versions { HoldsOver client.old progress.old [] (W.told wires.old) → KeepsWords (words_by client.old) (W.told wires.old) (W.told wires.new) }
-    ensures watch { OnOk result (watch_by client.new ≡ watch_by client.old) }
+    ensures rule { OnOk result (rule_by client.new ≡ rule_by client.old) }
     ensures words { OnOk result (words_by client.new ≡ words_by client.old) }
     ensures dialled { OnOk result ((W.told wires.new).tally.dials ≡ length names.now) }
     ensures first { HasNames [] (W.told wires.old) → HasDialled (names_in names.now) (W.told wires.new) }
@@ -374,7 +378,7 @@ fn take_turns<W: Wires, H: HeaderStore, M: Matcher>(
     requires open { (W.told wires.old).finished ≡ false }
     ensures stopped { IfOk result (λ end. (called : List (List ℕ)) → HoldsOver client.old progress.old called (W.told wires.old) → Stopped end client.new progress.new called (W.told wires.new)) }
     ensures versions { (called : List (List ℕ)) → HoldsOver client.old progress.old called (W.told wires.old) → KeepsWords (words_by client.old) (W.told wires.old) (W.told wires.new) }
-    ensures watch { OnOk result (watch_by client.new ≡ watch_by client.old) }
+    ensures rule { OnOk result (rule_by client.new ≡ rule_by client.old) }
     ensures words { words_by client.new ≡ words_by client.old }
     ensures tired { IfOk result (λ end. end ≡ End.Tired → (W.told wires.new).tally.taken ≡ turns) }
     ensures ended { IfOk result (λ end. end ≡ End.Ended → (W.told wires.new).tally.ended ≡ 1) }
@@ -400,7 +404,7 @@ fn outcome_of<H: HeaderStore, M: Matcher>(
 ) -> Result<Outcome, NoMemory>
     ensures end { IfOk result (λ o. o.end ≡ end) }
     ensures trace { IfOk result (λ o. o.trace ≡ progress.trace) }
-    ensures report { IfOk result (λ o. (log : Log) → Reflects client.old log → IsReportOf (watch_by client.old) o.height o.tip o.history log) }
+    ensures report { IfOk result (λ o. (log : Log) → Reflects client.old log → IsReportOf (rule_by client.old) o.height o.tip o.history log) }
     ensures ends { IfOk result (λ o. (log : Log) → Reflects client.old log → EndsTell o.ends.items log) }
     ensures held { IfOk result (λ o. (log : Log) → Reflects client.old log → HoldsNoMore H.counts o.held log) }
 {
@@ -434,7 +438,7 @@ fn follow<W: Wires, H: HeaderStore + Drop, M: Matcher + Drop>(
     requires open { (W.told wires.old).finished ≡ false }
     requires few { length names.now ≤ 8 }
     requires empty { (q : ℕ) → H.chain store q ≡ None }
-    ensures followed { IfOk result (λ o. IfSome (W.told wires.new).log (λ log. Followed watch o.end o.height o.tip o.history o.trace.items (names_in names.now) log)) }
+    ensures followed { IfOk result (λ o. IfSome (W.told wires.new).log (λ log. Followed (once watch) o.end o.height o.tip o.history o.trace.items (names_in names.now) log)) }
     ensures ends { IfOk result (λ o. IfSome (W.told wires.new).log (λ log. EndsTell o.ends.items log)) }
     ensures held { IfOk result (λ o. IfSome (W.told wires.new).log (λ log. HoldsNoMore H.counts o.held log)) }
     ensures versions { HasWords (record { moment = moment; number = nonce }) (W.told wires.new) }
@@ -470,7 +474,7 @@ pub fn sync_over<W: Wires, H: HeaderStore + Drop, M: Matcher + Drop>(
     requires open { (W.told wires.old).finished ≡ false }
     requires few { length names.now ≤ 8 }
     requires empty { (q : ℕ) → H.chain store q ≡ None }
-    ensures followed { IfOk result (λ o. IfSome (W.told wires.new).log (λ log. Followed watch o.end o.height o.tip o.history o.trace.items (names_in names.now) log)) }
+    ensures followed { IfOk result (λ o. IfSome (W.told wires.new).log (λ log. Followed (once watch) o.end o.height o.tip o.history o.trace.items (names_in names.now) log)) }
     ensures ends { IfOk result (λ o. IfSome (W.told wires.new).log (λ log. EndsTell o.ends.items log)) }
     ensures held { IfOk result (λ o. IfSome (W.told wires.new).log (λ log. HoldsNoMore H.counts o.held log)) }
     ensures versions { HasWords (record { moment = moment; number = nonce }) (W.told wires.new) }
@@ -490,6 +494,158 @@ pub fn sync_over<W: Wires, H: HeaderStore + Drop, M: Matcher + Drop>(
 {
     let outcome = follow(
         alloc, wires, names, watch, store, matcher, moment, nonce, turns,
+    );
+    wires.finish();
+    outcome
+}
+
+// Where nothing is open and a peer is connected, puts the text of the history and the tip, unless it is the last one that was put.
+fn put_at_rest<H: HeaderStore, M: Matcher, T: Texts>(
+    alloc: Global,
+    client: &mut Client<H, M>,
+    texts: &mut T,
+    last: &mut Option<String>,
+) -> Result<(), TextFail> {
+    match client.state() {
+        State::Synced => {}
+        State::Working | State::NoPeers => return Ok(()),
+    }
+    let report = client.report()?;
+    let text = report.history.text(alloc, report.height, &report.tip)?;
+    if is_last(last, text.as_str()) {
+        return Ok(());
+    }
+    texts.put(text.as_str())?;
+    *last = Some(text);
+    Ok(())
+}
+
+// Whether this is the last text that was put.
+fn is_last(last: &Option<String>, text: &str) -> bool {
+    match last {
+        Some(last) => last.as_str() == text,
+        None => false,
+    }
+}
+
+// How a run that follows ends once its wires give no more.
+fn end_of_wires<H: HeaderStore, M: Matcher>(client: &Client<H, M>) -> End {
+    match client.state() {
+        State::Working => End::Ended,
+        State::Synced => End::Synced,
+        State::NoPeers => End::NoPeers,
+    }
+}
+
+// Takes one delivery of a run that follows, unless no peer is connected.
+fn take_next<W: Wires, H: HeaderStore, M: Matcher>(
+    alloc: Global,
+    wires: &mut W,
+    client: &mut Client<H, M>,
+    progress: &mut Progress,
+) -> Result<Option<End>, NoMemory> {
+    if let State::NoPeers = client.state() {
+        return Ok(Some(End::NoPeers));
+    }
+    let d = wires.next()?;
+    if let Delivery::Ended = &d {
+        return Ok(Some(end_of_wires(client)));
+    }
+    note_bytes(&d);
+    let acts = client.step(&d)?;
+    carry_out(alloc, wires, client, &acts, progress)?;
+    Ok(None)
+}
+
+// Takes turns until the run ends, and puts the text of each quiet moment.
+fn follow_turns<W: Wires, H: HeaderStore, M: Matcher, T: Texts>(
+    alloc: Global,
+    wires: &mut W,
+    client: &mut Client<H, M>,
+    progress: &mut Progress,
+    turns: u32,
+    texts: &mut T,
+) -> Result<End, TextFail> {
+    let mut last = None;
+    for _turn in 0..turns {
+        put_at_rest(alloc, client, texts, &mut last)?;
+        if let Some(end) = take_next(alloc, wires, client, progress)? {
+            put_at_rest(alloc, client, texts, &mut last)?;
+            return Ok(end);
+        }
+    }
+    put_at_rest(alloc, client, texts, &mut last)?;
+    Ok(last_end(client))
+}
+
+// Dials the peers, follows what they show, and puts together what came of it.
+fn follow_all<W: Wires, H: HeaderStore + Drop, M: Matcher + Drop, T: Texts>(
+    alloc: Global,
+    wires: &mut W,
+    names: &[String],
+    watch: Watch,
+    store: H,
+    matcher: M,
+    moment: i64,
+    nonce: u64,
+    turns: u32,
+    texts: &mut T,
+) -> Result<Outcome, TextFail> {
+    let mut client = Client::new(alloc, watch, store, matcher, moment, nonce)?.following();
+    let mut progress = Progress::new(alloc);
+    dial_all(alloc, wires, &mut client, &mut progress, names)?;
+    let end = follow_turns(alloc, wires, &mut client, &mut progress, turns, texts)?;
+    let outcome = outcome_of(&mut client, progress, end)?;
+    Ok(outcome)
+}
+
+/// Dials the peers in order, at most eight, and follows the best chain that they show as it grows, until no peer is left, the
+/// stated number of deliveries was taken, or the wires give no more. At each moment between two deliveries at which nothing is
+/// open and a peer is connected the text of the history and the tip is put, unless it is the last one that was put. It ends
+/// with `Synced` where the turns are taken or the wires give no more with nothing open, and a peer is connected. The wires are
+/// new: nothing has passed them, and they aren't finished. They are finished once, whatever is answered. In the store no peer is
+/// entered.
+pub fn follow_over<W: Wires, H: HeaderStore + Drop, M: Matcher + Drop, T: Texts>(
+    alloc: Global,
+    wires: &mut W,
+    names: &[String],
+    watch: Watch,
+    store: H,
+    matcher: M,
+    moment: i64,
+    nonce: u64,
+    turns: u32,
+    texts: &mut T,
+) -> Result<Outcome, TextFail>
+    requires fresh { Tells [] (W.told wires.old) }
+    requires open { (W.told wires.old).finished ≡ false }
+    requires few { length names.now ≤ 8 }
+    requires empty { (q : ℕ) → H.chain store q ≡ None }
+    ensures followed { IfOk result (λ o. IfSome (W.told wires.new).log (λ log. Followed (following watch) o.end o.height o.tip o.history o.trace.items (names_in names.now) log)) }
+    ensures put { OnOk result (IfSome (W.told wires.new).log (λ log. HasPut watch log (T.told texts.old) (T.told texts.new))) }
+    ensures put_some { OnErr result (IfSome (W.told wires.new).log (λ log. HasPutSome watch log (T.told texts.old) (T.told texts.new))) }
+    ensures theorem { IfOk result (λ o. IfSome (W.told wires.new).log (λ log. FollowTheorem watch o.height o.tip o.history log)) }
+    ensures ends { IfOk result (λ o. IfSome (W.told wires.new).log (λ log. EndsTell o.ends.items log)) }
+    ensures held { IfOk result (λ o. IfSome (W.told wires.new).log (λ log. HoldsNoMore H.counts o.held log)) }
+    ensures versions { HasWords (record { moment = moment; number = nonce }) (W.told wires.new) }
+    ensures no_peers { IfOk result (λ o. (o.end ≡ End.NoPeers) ↔ NobodyLeft (W.told wires.new).tally) }
+    ensures done { IfOk result (λ o. o.end ≡ End.Synced → IsOver turns (W.told wires.new).tally) }
+    ensures tired { IfOk result (λ o. o.end ≡ End.Tired → (W.told wires.new).tally.taken ≡ turns) }
+    ensures ended { IfOk result (λ o. o.end ≡ End.Ended → (W.told wires.new).tally.ended ≡ 1) }
+    ensures early { IfOk result (λ o. o.end ≡ End.Ended → (W.told wires.new).tally.taken < turns) }
+    ensures dialled { OnOk result ((W.told wires.new).tally.dials ≡ length names.now) }
+    ensures first { HasDialled (names_in names.now) (W.told wires.new) }
+    ensures most { (W.told wires.new).tally.taken ≤ turns }
+    ensures once { (W.told wires.new).tally.ended ≤ 1 }
+    ensures finished { (W.told wires.new).finished ≡ true }
+    ensures keeps { W.keeps wires.new ≡ W.keeps wires.old }
+    ensures course { Course (W.told wires.old) (W.told wires.new) (W.faults wires.old) (W.faults wires.new) (W.script wires.old) (W.script wires.new) }
+    ensures failures { IfSome (W.told wires.new).log (λ log. HasFailed log → HasRisen (W.faults wires.old) (W.faults wires.new)) }
+    ensures failed { IsErrOf result TextFail.Failed → HasRisen (T.faults texts.old) (T.faults texts.new) }
+    ensures fine { OnOk result (T.faults texts.new ≡ T.faults texts.old) }
+{
+    let outcome = follow_all(
+        alloc, wires, names, watch, store, matcher, moment, nonce, turns, texts,
     );
     wires.finish();
     outcome

@@ -336,6 +336,10 @@ pub record Rule : Type 0 where
 abbrev pub once : List (List ℕ) → Rule
 once watch = record { watch = watch; mode = Once }
 
+-- that of one which follows
+abbrev pub following : List (List ℕ) → Rule
+following watch = record { watch = watch; mode = Following }
+
 -- a client that ends once nothing is open takes a delivery only while something is
 abbrev pub MayTake : Mode → Log → Type 0
 MayTake Once log = IsBusy log

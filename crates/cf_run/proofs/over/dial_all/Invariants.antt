@@ -1,6 +1,6 @@
 use Rattle.std.proofs.Common.{◌≡◌, ◌+◌, [], take}
 use Rattle.cf_run.specs.Names.{names_in}
-use Rattle.cf_client.specs.Stands.{count_of, watch_by, words_by}
+use Rattle.cf_client.specs.Stands.{count_of, rule_by, words_by}
 use Rattle.cf_run.specs.Versions.{KeepsWords}
 use Rattle.cf_run.specs.Run.{HoldsOver, HasNames, moment, Runs}
 use Rattle.cf_run.proofs.over.dial_all.Given as goal
@@ -13,7 +13,7 @@ invariant-loop-name g l = record {
   dials : (g.W.Wires.told l.wires).tally.dials ≡ l.name-index;
   taken : (g.W.Wires.told l.wires).tally.taken ≡ 0;
   unended : (g.W.Wires.told l.wires).tally.ended ≡ 0;
-  watch : watch_by l.client ≡ watch_by l.fn.client;
+  watch : rule_by l.client ≡ rule_by l.fn.client;
   words : words_by l.client ≡ words_by l.fn.client;
   next : count_of l.client ≡ (g.W.Wires.told l.wires).tally.dials + 1;
   runs : Runs (moment (g.W.Wires.told l.fn.wires) (g.W.Wires.faults l.fn.wires) (g.W.Wires.script l.fn.wires) (g.W.Wires.keeps l.fn.wires) l.fn.progress) (moment (g.W.Wires.told l.wires) (g.W.Wires.faults l.wires) (g.W.Wires.script l.wires) (g.W.Wires.keeps l.wires) l.progress);

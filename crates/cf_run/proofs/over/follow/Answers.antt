@@ -6,7 +6,7 @@ use Rattle.cf_client.specs.Holding.{HoldsNoMore}
 use Rattle.cf_run.specs.Names.{names_in}
 use Rattle.cf_place.specs.Places.{EndsTell}
 use Rattle.cf_run.specs.Run.{Followed}
-use Rattle.cf_client.specs.Stands.{watch_by, words_by}
+use Rattle.cf_client.specs.Stands.{rule_by, words_by}
 use Rattle.cf_run.proofs.Versions.{new_words, has_so, words_then, words_so}
 use Rattle.cf_run.proofs.Turns.{starts, finishes, no_peers, told_so}
 use Rattle.cf_run.proofs.Dialling.{none_named}
@@ -21,10 +21,10 @@ returns-clause-followed g c =
     let stopped = c.in_ok-end.ensures.stopped called (c.in_ok-dial_all.ensures.holds start) in
     let o = c.in_ok-outcome.outcome in
     let end = finishes c.in_ok-end.end c.take_turns.new.client c.take_turns.new.progress called t o.height o.tip o.history stopped c.in_ok-outcome.ensures.report in
-    let watched = c.in_ok-end.ensures.watch ∙ c.in_ok-dial_all.ensures.watch ∙ c.in_ok-client.ensures.watch in
+    let watched = c.in_ok-end.ensures.rule ∙ c.in_ok-dial_all.ensures.rule ∙ c.in_ok-client.ensures.rule in
     rw (c.in_ok-outcome.ensures.end, c.in_ok-outcome.ensures.trace) (
-    subst (λ (watch : List (List ℕ)). IfSome t.log (Followed watch c.in_ok-end.end o.height o.tip o.history c.take_turns.new.progress.trace.items called)) watched
-    (told_so t.log end.actual (Followed (watch_by c.take_turns.new.client) c.in_ok-end.end o.height o.tip o.history c.take_turns.new.progress.trace.items called) end.tells.content end.followed))
+    subst (λ (rule : Rule). IfSome t.log (Followed rule c.in_ok-end.end o.height o.tip o.history c.take_turns.new.progress.trace.items called)) watched
+    (told_so t.log end.actual (Followed (rule_by c.take_turns.new.client) c.in_ok-end.end o.height o.tip o.history c.take_turns.new.progress.trace.items called) end.tells.content end.followed))
 
 pub returns-clause-ends : goal.returns-clause-ends
 returns-clause-ends g c =
@@ -52,7 +52,7 @@ returns-clause-no_peers g c =
     let stopped = c.in_ok-end.ensures.stopped called (c.in_ok-dial_all.ensures.holds start) in
     let o = c.in_ok-outcome.outcome in
     let end = finishes c.in_ok-end.end c.take_turns.new.client c.take_turns.new.progress called t o.height o.tip o.history stopped c.in_ok-outcome.ensures.report in
-    rw c.in_ok-outcome.ensures.end (no_peers (watch_by c.take_turns.new.client) c.in_ok-end.end o.height o.tip o.history c.take_turns.new.progress.trace.items called t end)
+    rw c.in_ok-outcome.ensures.end (no_peers (rule_by c.take_turns.new.client) c.in_ok-end.end o.height o.tip o.history c.take_turns.new.progress.trace.items called t end)
 
 pub returns-in_err-client-clause-versions : goal.returns-in_err-client-clause-versions
 returns-in_err-client-clause-versions g c = new_words _ (g.W.Wires.told c.args.wires.now) c.requires.fresh

@@ -8,8 +8,8 @@ use Rattle.cf_run.proofs.over.perform.Given as goal
 
 abbrev pub invariant-loop-act : goal.invariant-loop-act
 invariant-loop-act g l = record {
-  doing : (watch : List (List ℕ)) (called : List (List ℕ)) (planned : Log) → Allowed watch l.acts planned → Doing watch l.acts l.fn.progress called planned (g.W.Wires.told l.fn.wires)
-      → ActsLeft watch (drop l.act-index l.acts) (after l.acts planned) l.progress called (g.W.Wires.told l.wires);
+  doing : (rule : Rule) (called : List (List ℕ)) (planned : Log) → Allowed rule l.acts planned → Doing rule l.acts l.fn.progress called planned (g.W.Wires.told l.fn.wires)
+      → ActsLeft rule (drop l.act-index l.acts) (after l.acts planned) l.progress called (g.W.Wires.told l.wires);
   versions : (words : Words) → All (ActTells words) l.acts → KeepsWords words (g.W.Wires.told l.fn.wires) (g.W.Wires.told l.wires);
   performs : Performs (moment (g.W.Wires.told l.fn.wires) (g.W.Wires.faults l.fn.wires) (g.W.Wires.script l.fn.wires) (g.W.Wires.keeps l.fn.wires) l.fn.progress) (moment (g.W.Wires.told l.wires) (g.W.Wires.faults l.wires) (g.W.Wires.script l.wires) (g.W.Wires.keeps l.wires) l.progress);
 }

@@ -1,18 +1,18 @@
 use Rattle.std.proofs.Common.{◌≡◌, List, [], ℕ}
 use Rattle.cf_wires.specs.Log.{Log}
-use Rattle.cf_client.specs.Stands.{Reflects, count_of, watch_by, words_by}
+use Rattle.cf_client.specs.Stands.{Reflects, count_of, rule_by, words_by}
 use Rattle.cf_run.specs.Versions.{KeepsWords}
 use Rattle.cf_run.specs.Run.{Doing, Waits, trouble, moment, Performs}
 use Rattle.cf_run.proofs.over.settle.Given as goal
 
 abbrev pub invariant-loop-p : goal.invariant-loop-p
 invariant-loop-p g l = record {
-  waits : (called : List (List ℕ)) (planned : Log) → Reflects l.fn.client planned → Doing (watch_by l.fn.client) [] l.fn.progress called planned (g.W.Wires.told l.fn.wires)
+  waits : (called : List (List ℕ)) (planned : Log) → Reflects l.fn.client planned → Doing (rule_by l.fn.client) [] l.fn.progress called planned (g.W.Wires.told l.fn.wires)
       → Waits l.client l.progress called (g.W.Wires.told l.wires);
-  versions : (called : List (List ℕ)) (planned : Log) → Reflects l.fn.client planned → Doing (watch_by l.fn.client) [] l.fn.progress called planned (g.W.Wires.told l.fn.wires)
+  versions : (called : List (List ℕ)) (planned : Log) → Reflects l.fn.client planned → Doing (rule_by l.fn.client) [] l.fn.progress called planned (g.W.Wires.told l.fn.wires)
       → KeepsWords (words_by l.fn.client) (g.W.Wires.told l.fn.wires) (g.W.Wires.told l.wires);
   count : count_of l.client ≡ count_of l.fn.client;
-  watch : watch_by l.client ≡ watch_by l.fn.client;
+  watch : rule_by l.client ≡ rule_by l.fn.client;
   words : words_by l.client ≡ words_by l.fn.client;
   performs : Performs (moment (g.W.Wires.told l.fn.wires) (g.W.Wires.faults l.fn.wires) (g.W.Wires.script l.fn.wires) (g.W.Wires.keeps l.fn.wires) l.fn.progress) (moment (g.W.Wires.told l.wires) (g.W.Wires.faults l.wires) (g.W.Wires.script l.wires) (g.W.Wires.keeps l.wires) l.progress);
 }

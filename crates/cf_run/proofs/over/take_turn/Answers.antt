@@ -28,7 +28,7 @@ returns-clause-turned g c = λ called holds.
     let a = c.in_ok-acts.ensures.answers holds.actual holds.reflects in
     c.in_ok-carry_out.ensures.holds called log
     (subst (λ (acts : List Act). Answers c.step.new.self acts log) (sym c.deref.ensures.value) a)
-    (doing_watch c.in_ok-acts.ensures.watch (rw c.in_ok-d.ensures.took doing))
+    (doing_watch c.in_ok-acts.ensures.rule (rw c.in_ok-d.ensures.took doing))
 
 pub returns-clause-taken : goal.returns-clause-taken
 returns-clause-taken g c = c.in_ok-carry_out.ensures.performs.counts.taken ∙ ap (λ (t : Told). t.tally.taken) c.in_ok-d.ensures.took ∙ took_counts c.in_ok-d.d (g.W.Wires.told c.args.wires.now) c.in_default.not-Ended
@@ -66,7 +66,7 @@ returns-clause-versions g c = λ called holds.
     (entry_keeps (words_by c.args.client.now) (Took d) _ _ c.in_ok-d.ensures.took tt)
     (c.in_ok-carry_out.ensures.versions called log
     (subst (λ (acts : List Act). Answers c.step.new.self acts log) (sym c.deref.ensures.value) a)
-    (doing_watch c.in_ok-acts.ensures.watch (rw c.in_ok-d.ensures.took doing))
+    (doing_watch c.in_ok-acts.ensures.rule (rw c.in_ok-d.ensures.took doing))
     (acts_tell_so _ _ c.in_ok-acts.acts.items _ (sym c.in_ok-acts.ensures.words) c.deref.ensures.value (c.in_ok-acts.ensures.tells holds.actual holds.reflects)))
 
 pub returns-in_err-carry_out-clause-versions : goal.returns-in_err-carry_out-clause-versions
@@ -79,5 +79,5 @@ returns-in_err-carry_out-clause-versions g c = λ called holds.
     (entry_keeps (words_by c.args.client.now) (Took d) _ _ c.in_ok-d.ensures.took tt)
     (c.in_err-carry_out.ensures.versions called log
     (subst (λ (acts : List Act). Answers c.step.new.self acts log) (sym c.deref.ensures.value) a)
-    (doing_watch c.in_ok-acts.ensures.watch (rw c.in_ok-d.ensures.took doing))
+    (doing_watch c.in_ok-acts.ensures.rule (rw c.in_ok-d.ensures.took doing))
     (acts_tell_so _ _ c.in_ok-acts.acts.items _ (sym c.in_ok-acts.ensures.words) c.deref.ensures.value (c.in_ok-acts.ensures.tells holds.actual holds.reflects)))

@@ -1,0 +1,100 @@
+-- What is promised of `follow`, and of `replay --follow`.
+use Rattle.std.specs.Prelude.{◌≡◌, ◌≢◌, ◌⊎◌, ℕ, Bool, true, false, List, ◌++◌, length, reverse, take, Option, IfSome, Ok}
+use Rattle.std.specs.FinMap as finite
+use Rattle.cf_bytes.specs.Files.{Named}
+use Rattle.cf_bytes.specs.Outside.{with_more}
+use Rattle.cf_bytes.specs.declared.hash.Hash32.{Hash32}
+use Rattle.cf_block.specs.declared.tx.Block.{Block}
+use Rattle.cf_chain.specs.Grow.{top_hash}
+use Rattle.cf_headers.specs.Chain.{NoHashClash}
+use Rattle.cf_run.specs.declared.outcome.End.{End}
+use Rattle.cf_place.specs.declared.place.PeerEnd.{PeerEnd}
+use Rattle.cf_run.specs.declared.trace.TraceLine.{TraceLine}
+use Rattle.cf_place.specs.Places.{EndsTell}
+use Rattle.cf_run.specs.Run.{Followed, IsTraceOf}
+use Rattle.cf_run.specs.Texts.{HasBegun, IsOver, joined}
+use Rattle.cf_sync.specs.Fetching.{AreBytes, IsQuiet, RightlyIn, following}
+use Rattle.cf_sync.specs.Growing.{IsGrowing, IsTold, OthersShowNone}
+use Rattle.cf_sync.specs.Honesty.{IsNeverClosed}
+use Rattle.cf_sync.specs.Putting.{WerePut, ArePut}
+use Rattle.cf_sync.specs.Sync.{IsHashed}
+use Rattle.cf_peer.specs.declared.mode.Mode.TheVariants.{Following}
+use Rattle.cf_peer.specs.Trail.{trail}
+use Rattle.cf_wires.specs.Log.{Log, Told}
+use Rattle.cf_scan.specs.declared.history.Entry.{Entry}
+use Rattle.cf_scan.specs.HistoryText.{history_text}
+use Rattle.cf_scan.specs.Scan.{scan_of}
+use Rattle.cf_input.specs.WatchFile.{watch_of}
+use Rattle.cf_answers.specs.declared.status.Status.{Status}
+use Rattle.cf_answers.specs.declared.status.Status.TheVariants.{Done, NoMemory, FileFault}
+use Rattle.cf_answers.specs.Texts.{trace_text}
+use Rattle.cf_cli.specs.Statuses.{has_run, is_over}
+use Rattle.cf_cli.specs.Theorem.{AnswersTo, IsComplete, Tallied}
+
+-- the texts behind the trace, where it is asked for
+abbrev pub with_texts : Bool → List TraceLine → List (List ℕ) → List ℕ
+with_texts true lines texts = trace_text lines ++ joined texts
+with_texts false lines texts = joined texts
+
+-- a run that follows came to its end, by the log, and the texts of all its quiet moments were written whole
+pub record Stayed (status : Status) (trace : Bool) (scripts names : List (List ℕ)) (before after : Option (List ℕ)) (log : Log) : Type 0 where
+  pub end : End
+  pub height : ℕ
+  pub tip : Hash32
+  pub entries : List Entry
+  pub lines : List TraceLine
+  pub followed : Followed (following scripts) end height tip entries lines names log
+  pub ends : List PeerEnd
+  pub stands : EndsTell ends log
+  pub answered : AnswersTo end ends status
+  pub texts : List (List ℕ)
+  pub puts : ArePut scripts log texts
+  pub written : after ≡ with_more before (with_texts trace lines texts)
+
+-- where it failed: a beginning of the trace, where it is asked for, and of the texts of the quiet moments was written
+pub record BegunTexts (trace : Bool) (scripts : List (List ℕ)) (before after : Option (List ℕ)) (log : Log) : Type 0 where
+  pub lines : List TraceLine
+  pub traced : (trace ≡ false) ⊎ ((after ≡ before) ⊎ IsTraceOf log (reverse lines))
+  pub texts : List (List ℕ)
+  pub puts : WerePut scripts log texts ⊎ ArePut scripts log texts
+  pub begun : HasBegun (with_texts trace lines texts) before after
+
+-- a peer whose chain grows up to these blocks, over a log whose strings, with those of the blocks and of their filters, don't clash
+pub record Grows (log : Log) (p : ℕ) (blocks : List Block) (first : ℕ) : Type 0 where
+  pub growing : IsGrowing log p blocks first
+  pub apart : NoHashClash (IsHashed log blocks)
+
+-- a text was written last
+pub record EndsBy (text : List ℕ) (before after : Option (List ℕ)) : Type 0 where
+  pub earlier : List ℕ
+  pub written : after ≡ with_more before (earlier ++ text)
+
+-- The follow theorem for the program. Whatever peers send: where the chain of one of them grows as it answers, no other connected peer has shown another
+-- chain as long as the one that it told of last, and nothing is open when the run is over, then what was written last is exactly the history that a plain
+-- scan of every block of that chain gives for the watched scripts, with its tip; no answer comes but for the end of the deliveries, a sink that fails, want of
+-- memory, or a record that can't be written; and that peer is never closed.
+pub record KeptOn (status : Status) (recorded trace : Bool) (scripts names : List (List ℕ)) (before after : Option (List ℕ)) (log : Log) : Type 0 where
+  pub last : (p : ℕ) (blocks : List Block) (first top : ℕ) → Grows log p blocks first → IsTold blocks first (trail log p) top
+      → OthersShowNone log p (take top blocks) → IsQuiet log → is_over status ≡ true
+      → EndsBy (history_text (scan_of (take top blocks) scripts) (length (take top blocks)) (top_hash (take top blocks))) before after
+  pub complete : (p : ℕ) (blocks : List Block) (first : ℕ) → Grows log p blocks first → IsComplete status recorded
+  pub never : (p : ℕ) (blocks : List Block) (first : ℕ) → Grows log p blocks first → status ≢ NoMemory → IsNeverClosed log p
+  pub ran : is_over status ≡ true → Stayed status trace scripts names before after log
+  pub begun : is_over status ≡ false → BegunTexts trace scripts before after log
+  pub right : status ≢ NoMemory → AreBytes log × RightlyIn Following log
+
+-- the same with the scripts of the watch file
+pub record KeptOnOver (status : Status) (recorded trace : Bool) (files : Option Named) (watch : List ℕ) (names : List (List ℕ)) (before after : Option (List ℕ)) (log : Log) : Type 0 where
+  pub scripts : List (List ℕ)
+  pub watched : has_run status ≡ true → IfSome files (λ m. IfSome (finite.get m watch) (λ bytes. watch_of bytes ≡ Ok scripts))
+  pub kept : KeptOn status recorded trace scripts names before after log
+
+-- what is promised over any wires: the same as of `sync`, and Done only where the turns are taken, or the wires have no more to give
+pub record TalliedOn (status : Status) (turns names : ℕ) (was now : Told) : Type 0 where
+  pub tallied : Tallied status turns names was now
+  pub done : status ≡ Done → IsOver turns now.tally
+
+-- what is promised of `replay --follow` over a tape: the same, of a log whose names aren't told
+abbrev pub IsReplayedOn : Status → ℕ → Bool → Option Named → List ℕ → Option (List ℕ) → Option (List ℕ) → Told → Told → Log → Type 0
+IsReplayedOn status turns trace files watch before after was now log =
+    (names : List (List ℕ)) × KeptOnOver status false trace files watch names before after log × TalliedOn status turns (length names) was now
