@@ -15,6 +15,8 @@ use Rattle.cf_run.specs.declared.progress.Progress.{Progress}
 use Rattle.cf_wires.specs.Log.{Log, Told, Tells, tell, longer, dials}
 use Rattle.cf_wires.specs.Wires.{Made}
 use Rattle.cf_run.specs.Run.{Course, SameCounts, NoFailure, HasFailed, is_failure, trouble, HasNames, names_of, Moment, moment, Runs, Performs, IsOneMore, IsNoMore, Dials, Turns, IsInStep}
+use Rattle.cf_run.specs.Texts.{PutBefore, PutBy}
+use Rattle.cf_sync.specs.Putting.{WerePut, ArePut}
 
 rises_then : (f g h : ℕ) → HasRisen f g → g ≤ h → HasRisen f h
 rises_then f g h risen le = omega (arith, risen, le)
@@ -97,7 +99,7 @@ runs_then {a = a} {b = b} {c = c} one two = record {
 }
 
 pub counts_self : (t : Told) → SameCounts t t
-counts_self t = record { dials = refl; taken = refl; ended = refl; named = λ called h. h }
+counts_self t = record { dials = refl; taken = refl; ended = refl; named = λ called h. h; puts = λ watch texts h. h }
 
 pub counts_on : (t u v : Told) → SameCounts t u → SameCounts u v → SameCounts t v
 counts_on t u v one two = record {
@@ -105,6 +107,7 @@ counts_on t u v one two = record {
   taken = two.taken ∙ one.taken;
   ended = two.ended ∙ one.ended;
   named = λ called h. two.named called (one.named called h);
+  puts = λ watch texts h. two.puts watch texts (one.puts watch texts h);
 }
 
 pub performs_self : (a : Moment) → IsInStep a.told a.progress → Performs a a
@@ -174,13 +177,36 @@ names_more_in e t name more called has = kept t.log has where
   kept None h = h
   kept (Some log) h = more log ∙ ap (λ (names : List (List ℕ)). names ++ name ∷ []) h
 
+-- an entry that is no delivery
+pub puts_kept : (e : Event) (t : Told) → ((watch : List (List ℕ)) (log : Log) (texts : List (List ℕ)) → WerePut watch log texts → WerePut watch (e ∷ log) texts)
+    → (watch texts : List (List ℕ)) → PutBefore watch texts t → PutBefore watch texts (tell e t)
+puts_kept e t same watch texts has = kept t.log has where
+  kept : (o : Option Log) → IfSome o (λ log. WerePut watch log texts) → IfSome (longer e o) (λ log. WerePut watch log texts)
+  kept None h = tt
+  kept (Some log) h = same watch log texts h
+
+-- one that is
+pub puts_taken : (d : Delivery) (t u : Told) → u ≡ tell (Took d) t → (watch texts : List (List ℕ)) → PutBy watch texts t → PutBefore watch texts u
+puts_taken d t u told watch texts has = subst (PutBefore watch texts) (sym told) (taken t.log has) where
+  taken : (o : Option Log) → IfSome o (λ log. ArePut watch log texts) → IfSome (longer (Took d) o) (λ log. WerePut watch log texts)
+  taken None h = tt
+  taken (Some log) h = h
+
 pub dialled_one : (p : PeerNo) (name : List ℕ) (t u : Told) → u ≡ tell (Dialled p name) t → IsOneMore name t u
-dialled_one p name t u told = subst (IsOneMore name t) (sym told) (record { dials = refl; named = names_more_in (Dialled p name) t name more }) where
+dialled_one p name t u told = subst (IsOneMore name t) (sym told) (record {
+  dials = refl;
+  named = names_more_in (Dialled p name) t name more;
+  puts = puts_kept (Dialled p name) t (λ watch log texts h. h);
+}) where
   more : (log : Log) → names_of (Dialled p name ∷ log) ≡ names_of log ++ name ∷ []
   more log = map-append (λ (d : Dial). d.name) (dials log) (record { name = name; answered = true } ∷ [])
 
 pub missed_one : (p : PeerNo) (name : List ℕ) (t u : Told) → u ≡ tell (NotDialled p name) t → IsOneMore name t u
-missed_one p name t u told = subst (IsOneMore name t) (sym told) (record { dials = refl; named = names_more_in (NotDialled p name) t name more }) where
+missed_one p name t u told = subst (IsOneMore name t) (sym told) (record {
+  dials = refl;
+  named = names_more_in (NotDialled p name) t name more;
+  puts = puts_kept (NotDialled p name) t (λ watch log texts h. h);
+}) where
   more : (log : Log) → names_of (NotDialled p name ∷ log) ≡ names_of log ++ name ∷ []
   more log = map-append (λ (d : Dial). d.name) (dials log) (record { name = name; answered = false } ∷ [])
 
@@ -191,6 +217,7 @@ pub one_more_then : (t u v : Told) (name : List ℕ) → IsOneMore name t u → 
 one_more_then t u v name more counts = record {
   dials = counts.dials ∙ more.dials;
   named = λ called h. counts.named (called ++ name ∷ []) (more.named called h);
+  puts = λ watch texts h. counts.puts watch texts (more.puts watch texts h);
 }
 
 -- after a dial acts are done
@@ -201,11 +228,12 @@ dials_then {a = a} {b = b} {c = c} name runs more taken ended performs = record 
   taken = performs.counts.taken ∙ taken;
   ended = performs.counts.ended ∙ ended;
   most = inl (one_more_then a.told b.told c.told name more performs.counts);
+  puts = (one_more_then a.told b.told c.told name more performs.counts).puts;
 }
 
 -- a dial was made, and then nothing
 pub dials_alone : (name : List ℕ) (a b : Moment) → Runs a b → IsOneMore name a.told b.told → b.told.tally.taken ≡ a.told.tally.taken → b.told.tally.ended ≡ a.told.tally.ended → Dials name a b
-dials_alone name a b runs more taken ended = record { runs = runs; taken = taken; ended = ended; most = inl more }
+dials_alone name a b runs more taken ended = record { runs = runs; taken = taken; ended = ended; most = inl more; puts = more.puts }
 
 -- nothing was dialled
 pub dials_none : (name : List ℕ) (a b : Moment) → Runs a b → b.told ≡ a.told → Dials name a b
@@ -214,6 +242,7 @@ dials_none name a b runs same = record {
   taken = ap (λ (t : Told). t.tally.taken) same;
   ended = ap (λ (t : Told). t.tally.ended) same;
   most = inr (record { dials = ap (λ (t : Told). t.tally.dials) same; named = λ called h. subst (HasNames called) (sym same) h });
+  puts = λ watch texts h. subst (PutBefore watch texts) (sym same) h;
 }
 
 -- ---- turns
@@ -224,6 +253,7 @@ turns_none a b runs same = record {
   same = record { dials = ap (λ (t : Told). t.tally.dials) same; named = λ called h. subst (HasNames called) (sym same) h };
   taken = omega (arith, ap (λ (t : Told). t.tally.taken) same);
   ended = omega (arith, ap (λ (t : Told). t.tally.ended) same);
+  puts = λ watch texts h. inr (subst (PutBy watch texts) (sym same) h);
 }
 
 took_no_more : (d : Delivery) (t : Told) → IsNoMore t (tell (Took d) t)
@@ -248,15 +278,17 @@ turns_took d a b runs told =
       same = subst (IsNoMore a.told) (sym told) n;
       taken = omega (arith, ap (λ (t : Told). t.tally.taken) told, m.0);
       ended = omega (arith, ap (λ (t : Told). t.tally.ended) told, m.1);
+      puts = λ watch texts h. inl (puts_taken d a.told b.told told watch texts h);
     }
 
 -- and then acts were done
-pub turns_then : {a b c : Moment} → Turns a b → Performs b c → Turns a c
-turns_then {a = a} {b = b} {c = c} turns performs = record {
+pub turns_then : {b c : Moment} (d : Delivery) (a : Moment) → Runs a b → b.told ≡ tell (Took d) a.told → Performs b c → Turns a c
+turns_then {b = b} {c = c} d a runs told performs = let turns = turns_took d a b runs told in record {
   runs = runs_then {a = a} {b = b} {c = c} turns.runs performs.runs;
   same = record { dials = performs.counts.dials ∙ turns.same.dials; named = λ called h. performs.counts.named called (turns.same.named called h) };
   taken = omega (arith, turns.taken, performs.counts.taken);
   ended = omega (arith, turns.ended, performs.counts.ended);
+  puts = λ watch texts h. inl (performs.counts.puts watch texts (puts_taken d a.told b.told told watch texts h));
 }
 
 pub no_more_self : (t : Told) → IsNoMore t t

@@ -5,6 +5,7 @@ use Rattle.std.specs.declared.alloc.Global.{Global}
 use Rattle.std.proofs.lemmas.List.{take-map, length-map}
 use Rattle.cf_wires.specs.Log.{Log, Told, Tally, Tells}
 use Rattle.cf_bytes.specs.declared.memory.NoMemory.{NoMemory}
+use Rattle.cf_sync.specs.Fetching.{once}
 use Rattle.cf_sync.specs.Sync.{SyncTheorem}
 use Rattle.cf_sync.proofs.Settles.{sync_theorem_of}
 use Rattle.cf_run.specs.declared.outcome.Outcome.{Outcome}
@@ -55,8 +56,8 @@ dialled_on names t u has none = record {
 }
 
 -- what was followed, holds the theorem
-pub theorem_in : (rule : Rule) (called : List (List ℕ)) (r : Result Outcome NoMemory) (o : Option Log)
-    → IfOk r (λ x. IfSome o (λ log. Followed rule x.end x.height x.tip x.history x.trace.items called log)) → IfOk r (λ x. IfSome o (λ log. SyncTheorem watch x.height x.tip x.history log))
+pub theorem_in : (watch : List (List ℕ)) (called : List (List ℕ)) (r : Result Outcome NoMemory) (o : Option Log)
+    → IfOk r (λ x. IfSome o (λ log. Followed (once watch) x.end x.height x.tip x.history x.trace.items called log)) → IfOk r (λ x. IfSome o (λ log. SyncTheorem watch x.height x.tip x.history log))
 theorem_in watch called (Ok x) (Some log) f = sync_theorem_of watch x.height x.tip x.history log f.asked
 theorem_in watch called (Ok x) None f = tt
 theorem_in watch called (Err e) o f = tt

@@ -5,3 +5,4 @@ pub mod Turns
 pub mod Dialling
 pub mod Versions
 pub mod Passing
+pub mod Puts

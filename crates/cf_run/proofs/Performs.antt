@@ -22,12 +22,15 @@ use Rattle.cf_peer.specs.Acts.{bytes_of}
 use Rattle.cf_wires.specs.Log.{Log, Told, Tells, tally_of, noted, tell, longer}
 use Rattle.cf_peer.specs.Trail.{Trail, Part, Why, Item, Asked, Lost, Failing, Shutting, spelled, asks, with_item, part_of, trail, went_on, connected, failed, is_failing}
 use Rattle.cf_dispute.specs.Claims.{Table}
-use Rattle.cf_peer.specs.Asking.{counted, fetched, given, MayAsk}
+use Rattle.cf_peer.specs.Asking.{counted, fetched, given, MayAskIn, MayPing}
+use Rattle.cf_peer.specs.declared.mode.Mode.{Mode}
+use Rattle.cf_peer.specs.declared.mode.Mode.TheVariants.{Once, Following}
 use Rattle.cf_headers.specs.declared.store.HeaderStore.{Ghosts}
 use Rattle.cf_match.specs.declared.matcher.Matcher.{Ghosts as Judges}
 use Rattle.cf_sync.proofs.Alone.{alone_less}
+use Rattle.cf_sync.proofs.Modes.{sends_following}
 use Rattle.cf_sync.specs.Blame.{HasOmitted}
-use Rattle.cf_sync.specs.Fetching.{IsAlone, counted_part, DeservesIn, IsTested, Rightly}
+use Rattle.cf_sync.specs.Fetching.{IsAlone, counted_part, DeservesIn, IsTested, RightlyIn, Rule, is_after_tick}
 use Rattle.cf_match.specs.declared.job.Job.{Job}
 use Rattle.cf_sync.proofs.Omitted.{omitted_unfailed}
 use Rattle.cf_sync.proofs.Plans.{omits_alike, off_omits_nothing}
@@ -193,23 +196,27 @@ closes_here p cause acts q e = grind (arith, common_steps)
 closes_others : (p : PeerNo) (cause : Cause) (acts : List Act) (q : ℕ) → q ≢ p.0 → list_any (closes q) (Close p cause ∷ acts) ≡ list_any (closes q) acts
 closes_others p cause acts q ne = grind (arith, common_steps)
 
-asked_on : (t : Trail) (m : Msg) → MayAsk t m → connected t ≡ true
-asked_on t (Version version services time to from nonce agent height relay) h = h.0
-asked_on t Verack h = h.0
-asked_on t (Ping n) h = absurd h
-asked_on t (Pong n) h = h.0
-asked_on t (GetHeaders version locator stop) h = h.0.on
-asked_on t (Headers hs) h = absurd h
-asked_on t (GetData entries) h = h.0.on
-asked_on t (Inv entries) h = absurd h
-asked_on t (Block block) h = absurd h
-asked_on t (GetCfilters filter start stop) h = h.0.on
-asked_on t (Cfilter filter block bytes) h = absurd h
-asked_on t (GetCfheaders filter start stop) h = h.0.on
-asked_on t (Cfheaders filter stop previous hashes) h = absurd h
-asked_on t (GetCfcheckpt filter stop) h = absurd h
-asked_on t (Cfcheckpt filter stop headers) h = absurd h
-asked_on t (Other command payload) h = absurd h
+pinged_on : (mode : Mode) (t : Trail) (number : ℕ) → MayPing mode t number → connected t ≡ true
+pinged_on Once t number h = absurd h
+pinged_on Following t number h = h.0.on
+
+asked_on : (mode : Mode) (t : Trail) (m : Msg) → MayAskIn mode t m → connected t ≡ true
+asked_on mode t (Version version services time to from nonce agent height relay) h = h.0
+asked_on mode t Verack h = h.0
+asked_on mode t (Ping n) h = pinged_on mode t n h
+asked_on mode t (Pong n) h = h.0
+asked_on mode t (GetHeaders version locator stop) h = h.0.on
+asked_on mode t (Headers hs) h = absurd h
+asked_on mode t (GetData entries) h = h.0.on
+asked_on mode t (Inv entries) h = absurd h
+asked_on mode t (Block block) h = absurd h
+asked_on mode t (GetCfilters filter start stop) h = h.0.on
+asked_on mode t (Cfilter filter block bytes) h = absurd h
+asked_on mode t (GetCfheaders filter start stop) h = h.0.on
+asked_on mode t (Cfheaders filter stop previous hashes) h = absurd h
+asked_on mode t (GetCfcheckpt filter stop) h = absurd h
+asked_on mode t (Cfcheckpt filter stop headers) h = absurd h
+asked_on mode t (Other command payload) h = absurd h
 
 -- a connected peer, by the plan, whose failed send isn't pending has had none that isn't told
 known_told : {rule : Rule} (acts : List Act) (progress : Progress) (called : List (List ℕ)) (planned : Log) (t : Told) (p : ℕ)
@@ -232,7 +239,7 @@ connected_same acts progress called planned t doing q on = elim (cases_Bool (is_
 -- what is asked is open to nobody by the plan, and so indeed
 alone_too : {rule : Rule} (acts : List Act) (progress : Progress) (called : List (List ℕ)) (planned : Log) (t : Told) → (doing : Doing rule acts progress called planned t) → (p : ℕ) (m : Msg) → part_of planned p ≡ part_of doing.actual p
     → IsAlone planned p m → IsAlone doing.actual p m
-alone_too acts progress called planned t doing p m same alone = alone_less planned doing.actual p m doing.brought (connected_same acts progress called planned t doing) same alone
+alone_too acts progress called planned t doing p m same alone = alone_less planned doing.actual p m doing.brought doing.plan.ticked (connected_same acts progress called planned t doing) same alone
 
 -- an act on a peer whose failed send is pending is planned, and not done
 skipped : {rule : Rule} (a : Act) (acts : List Act) (progress : Progress) (called : List (List ℕ)) (planned : Log) (t : Told) (p : ℕ) (e : Event) (i : Item)
@@ -246,9 +253,10 @@ skipped : {rule : Rule} (a : Act) (acts : List Act) (progress : Progress) (calle
     → ((job : Job) → IsTested (e ∷ planned) job → IsTested planned job) → IsSameGiven (e ∷ planned) planned
     → ((q : ℕ) (block : Hash) → q ≢ p → IsSameTest (e ∷ planned) planned q block)
     → ((q : ℕ) → q ≢ p → HasOmitted (e ∷ planned) q → HasOmitted planned q)
-    → ((q : ℕ) → q ≢ p → HasOmitted planned q → HasOmitted (e ∷ planned) q) → (Rightly planned → Rightly (e ∷ planned))
+    → ((q : ℕ) → q ≢ p → HasOmitted planned q → HasOmitted (e ∷ planned) q) → (RightlyIn Following planned → RightlyIn Following (e ∷ planned))
+    → is_after_tick (e ∷ planned) ≡ is_after_tick planned
     → Doing rule (a ∷ acts) progress called planned t → Doing rule acts progress called (e ∷ planned) t
-skipped a acts progress called planned t p e i is others here meant unclosed dials brought came tests gave aims omits stays right doing =
+skipped a acts progress called planned t p e i is others here meant unclosed dials brought came tests gave aims omits stays right ticked doing =
     let it : (q : ℕ) → q ≡ p → is_pending (state_at progress.sends q) ≡ true = λ q same. ap (λ (k : ℕ). is_pending (state_at progress.sends k)) same ∙ is in
     record {
       actual = doing.actual;
@@ -266,6 +274,7 @@ skipped a acts progress called planned t p e i is others here meant unclosed dia
         tested = λ job h. doing.plan.tested job (tests job h);
         tests = λ job h. tested_stays e planned job (doing.plan.tests job h);
         gave = λ job. (λ h. (doing.plan.gave job).0 ((gave job).0 h), λ h. (gave job).1 ((doing.plan.gave job).1 h));
+        ticked = ticked ∙ doing.plan.ticked;
         aims = λ q fine on block.
             let ne : q ≢ p = λ same. both_ways (is_untold doing.actual q) fine (doing.pending q (it q same)) in
             let one = aims q block ne in
@@ -296,13 +305,14 @@ skipped a acts progress called planned t p e i is others here meant unclosed dia
 pub skipped_send : {rule : Rule} (acts : List Act) (progress : Progress) (called : List (List ℕ)) (planned : Log) (t : Told) (p : PeerNo) (m : Msg)
     → is_pending (state_at progress.sends p.0) ≡ true → MayAct rule (Send p m) planned
     → Doing rule (Send p m ∷ acts) progress called planned t → Doing rule acts progress called (Sent p (bytes_of m) ∷ planned) t
-skipped_send acts progress called planned t p m is may doing =
+skipped_send {rule = rule} acts progress called planned t p m is may doing =
     skipped (Send p m) acts progress called planned t p.0 (Sent p (bytes_of m)) (Asked m) is
     (λ q ne. sent_others p (bytes_of m) q (part_of planned q) ne)
     (λ q e. sent_here p (bytes_of m) m q (part_of planned q) e (spelled_bytes m may.1))
     (λ more meant. meant) (λ q ne. refl) refl (λ q. sent_brought p (bytes_of m) planned q) (λ q. sent_came p (bytes_of m) planned q) (λ job h. h)
     (λ job. (λ h. h, λ h. h)) (λ q block ne. test_off planned p (bytes_of m) q block ne)
-    (λ q ne omitted. omitted) (λ q ne omitted. omitted) (λ right. ((m, spelled_bytes m may.1, may.2), right)) doing
+    (λ q ne omitted. omitted) (λ q ne omitted. omitted)
+    (λ right. ((m, spelled_bytes m may.1, sends_following rule.mode planned p.0 m may.2), right)) refl doing
 
 pub skipped_close : {rule : Rule} (acts : List Act) (progress : Progress) (called : List (List ℕ)) (planned : Log) (t : Told) (p : PeerNo) (cause : Cause)
     → is_pending (state_at progress.sends p.0) ≡ true → MayAct rule (Close p cause) planned
@@ -314,7 +324,7 @@ skipped_close acts progress called planned t p cause is may doing =
     (λ more meant. meant) (λ q ne. closes_others p cause acts q ne) refl (λ q. closed_brought p planned q) (λ q. closed_came p planned q) (λ job h. h)
     (λ job. (λ h. h, λ h. h)) (λ q block ne. (λ t. t, λ t. t))
     (λ q ne omitted. elim omitted [ inl now ↦ absurd (ne (sym now.0)) | inr before ↦ before ])
-    (λ q ne omitted. inr omitted) (λ right. ((cause, may.1), right)) doing
+    (λ q ne omitted. inr omitted) (λ right. ((cause, may.1), right)) refl doing
 
 reverse_push : (xs : List TraceLine) (x : TraceLine) → reverse (xs ++ x ∷ []) ≡ x ∷ reverse xs
 reverse_push xs x = reverse-append xs (x ∷ [])
@@ -324,10 +334,10 @@ pub sent_on : {rule : Rule} (acts : List Act) (progress : Progress) (trace : Vec
     → is_pending (state_at progress.sends p.0) ≡ false → trace.items ≡ progress.trace.items ++ SentLine p command ∷ [] → command ≡ command_of m
     → MayAct rule (Send p m) planned
     → Doing rule (Send p m ∷ acts) progress called planned t → Doing rule acts (record progress { trace = trace }) called (Sent p (bytes_of m) ∷ planned) (tell (Sent p (bytes_of m)) t)
-sent_on acts progress trace called planned t p m command free line is may doing =
+sent_on {rule = rule} acts progress trace called planned t p m command free line is may doing =
     let bytes = bytes_of m in
     let spells : spelled bytes ≡ Some m = spelled_bytes m may.1 in
-    let on : connected (trail planned p.0) ≡ true = asked_on (trail planned p.0) m may.2.of_its_part in
+    let on : connected (trail planned p.0) ≡ true = asked_on rule.mode (trail planned p.0) m may.2.of_its_part in
     let told : is_untold doing.actual p.0 ≡ false = known_told (Send p m ∷ acts) progress called planned t p.0 free on doing in
     let same : part_of planned p.0 ≡ part_of doing.actual p.0 = planned_part planned doing.actual p.0 doing.plan told on in
     let other : (q : ℕ) → is_untold doing.actual q ≡ true → q ≢ p.0 = λ q untold e. both_ways (is_untold doing.actual q) (ap (is_untold doing.actual) e ∙ told) untold in
@@ -341,7 +351,7 @@ sent_on acts progress trace called planned t p m command free line is may doing 
             m,
             spells,
             record {
-              of_its_part = subst (λ (x : Part). MayAsk x.trail m) same may.2.of_its_part;
+              of_its_part = subst (λ (x : Part). MayAskIn rule.mode x.trail m) same may.2.of_its_part;
               wanted = same_wanted planned doing.actual doing.brought m may.2.wanted;
               alone = alone_too (Send p m ∷ acts) progress called planned t doing p.0 m same may.2.alone;
             },
@@ -367,13 +377,14 @@ sent_on acts progress trace called planned t p m command free line is may doing 
         tested = doing.plan.tested;
         tests = doing.plan.tests;
         gave = doing.plan.gave;
+        ticked = doing.plan.ticked;
         aims = λ q fine on block. test_alike planned doing.actual p bytes q block doing.brought (doing.plan.aims q fine (on_sent p bytes doing.actual q on) block);
       };
       brought = λ q. sent_brought p bytes planned q ∙ doing.brought q ∙ sym (sent_brought p bytes doing.actual q);
       came = λ q. sent_came p bytes planned q ∙ doing.came q ∙ sym (sent_came p bytes doing.actual q);
       omitted = doing.omitted;
       unomitted = doing.unomitted;
-      rightly = ((m, spells, may.2), doing.rightly);
+      rightly = ((m, spells, sends_following rule.mode planned p.0 m may.2), doing.rightly);
       pending = doing.pending;
       due = doing.due;
       broken = λ q untold. let b = doing.broken q untold in (
@@ -453,6 +464,7 @@ closed_on acts progress trace called planned t p cause free line may doing =
         tested = doing.plan.tested;
         tests = doing.plan.tests;
         gave = doing.plan.gave;
+        ticked = doing.plan.ticked;
         aims = λ q fine on block. elim (cases_Bool (is_untold doing.actual q)) [
           | inl untold ↦
               let e : q ≡ p.0 = elim (cases_eq q p.0) [ inl e ↦ e | inr ne ↦ absurd (both_ways (is_untold doing.actual q) (sym (untold_closed_others p doing.actual q ne) ∙ fine) untold) ] in
@@ -524,6 +536,7 @@ closed_again acts progress called planned t p cause free shut may doing =
         tested = doing.plan.tested;
         tests = doing.plan.tests;
         gave = doing.plan.gave;
+        ticked = doing.plan.ticked;
         aims = doing.plan.aims;
       };
       brought = λ q. closed_brought p planned q ∙ doing.brought q;
@@ -556,13 +569,13 @@ pub failed_on : {rule : Rule} (acts : List Act) (progress : Progress) (called : 
     → MayAct rule (Send p m) planned
     → Doing rule (Send p m ∷ acts) progress called planned t
     → Doing rule acts (record progress { sends = set progress.sends p.0 Pending }) called (Sent p (bytes_of m) ∷ planned) (tell (SendFailed p) t)
-failed_on acts progress called planned t p m lt free may doing =
+failed_on {rule = rule} acts progress called planned t p m lt free may doing =
     let here : state_at (set progress.sends p.0 Pending) p.0 ≡ Pending = get_or-set_same progress.sends p.0 Pending Fine lt in
     let pends : (q : ℕ) → q ≡ p.0 → is_pending (state_at (set progress.sends p.0 Pending) q) ≡ true = λ q e. ap (λ (k : ℕ). is_pending (state_at (set progress.sends p.0 Pending) k)) e ∙ ap is_pending here in
     let there : (q : ℕ) → q ≢ p.0 → state_at (set progress.sends p.0 Pending) q ≡ state_at progress.sends q = λ q ne. get_or-set_other progress.sends p.0 q Pending Fine ne in
     let bytes = bytes_of m in
     let spells : spelled bytes ≡ Some m = spelled_bytes m may.1 in
-    let on : connected (trail planned p.0) ≡ true = asked_on (trail planned p.0) m may.2.of_its_part in
+    let on : connected (trail planned p.0) ≡ true = asked_on rule.mode (trail planned p.0) m may.2.of_its_part in
     let told : is_untold doing.actual p.0 ≡ false = known_told (Send p m ∷ acts) progress called planned t p.0 free on doing in
     let same : part_of planned p.0 ≡ part_of doing.actual p.0 = planned_part planned doing.actual p.0 doing.plan told on in
     let on_too : connected (trail doing.actual p.0) ≡ true = sym (ap (λ (x : Part). connected x.trail) same) ∙ on in
@@ -620,6 +633,7 @@ failed_on acts progress called planned t p m lt free may doing =
         tested = doing.plan.tested;
         tests = doing.plan.tests;
         gave = doing.plan.gave;
+        ticked = doing.plan.ticked;
         aims = λ q fine on block.
             let ne : q ≢ p.0 = λ e. both_ways (is_untold (SendFailed p ∷ doing.actual) q) fine (untold_failing_here p doing.actual q e) in
             let one = test_off planned p bytes q block ne in
@@ -634,7 +648,7 @@ failed_on acts progress called planned t p m lt free may doing =
       unomitted = λ q fine omitted.
           let ne : q ≢ p.0 = λ e. both_ways (is_untold (SendFailed p ∷ doing.actual) q) fine (untold_failing_here p doing.actual q e) in
           doing.unomitted q (sym (untold_failing_others p doing.actual q ne) ∙ fine) omitted.1;
-      rightly = ((m, spells, may.2), doing.rightly);
+      rightly = ((m, spells, sends_following rule.mode planned p.0 m may.2), doing.rightly);
       pending = λ q it. elim (cases_eq q p.0) [
         | inl e ↦ untold_failing_here p doing.actual q e
         | inr ne ↦ untold_failing_others p doing.actual q ne ∙ doing.pending q (sym (ap is_pending (there q ne)) ∙ it)
@@ -661,10 +675,10 @@ failed_on acts progress called planned t p m lt free may doing =
 -- a peer that may be asked, with no failed send pending, has had none
 pub may_send : {rule : Rule} (acts : List Act) (progress : Progress) (called : List (List ℕ)) (planned : Log) (t : Told) (p : PeerNo) (m : Msg)
     → is_pending (state_at progress.sends p.0) ≡ false → MayAct rule (Send p m) planned → Doing rule acts progress called planned t → is_fine (state_at progress.sends p.0) ≡ true
-may_send acts progress called planned t p m free may doing = elim (cases_Bool (is_fine (state_at progress.sends p.0))) [
+may_send {rule = rule} acts progress called planned t p m free may doing = elim (cases_Bool (is_fine (state_at progress.sends p.0))) [
   | inl fine ↦ fine
   | inr not_it ↦
-      let on = asked_on (trail planned p.0) m may.2.of_its_part in
+      let on = asked_on rule.mode (trail planned p.0) m may.2.of_its_part in
       let told = known_told acts progress called planned t p.0 free on doing in
       absurd (both_ways (connected (trail doing.actual p.0)) (doing.notes.off p.0 not_it)
       (ap (λ (x : Part). connected x.trail) (sym (planned_part planned doing.actual p.0 doing.plan told on)) ∙ on))
@@ -752,6 +766,7 @@ told_one rest progress called planned t p cause lt is doing =
         tested = doing.plan.tested;
         tests = doing.plan.tests;
         gave = doing.plan.gave;
+        ticked = doing.plan.ticked;
         aims = doing.plan.aims;
       };
       brought = λ q. failing_brought p planned q ∙ doing.brought q;

@@ -26,7 +26,9 @@ use Rattle.cf_wires.specs.Log.{Log, Told, Tally, Tells, tally_of, tell, dials}
 use Rattle.cf_peer.specs.Trail.{Trail, Part, Why, Lost, Failing, Shutting, Went, item_of, item_of_read, hears, hears_fault, heard_part, called_part, with_item, part_of, trail, went_on, connected, ready}
 use Rattle.cf_peer.specs.Asking.{is_open, is_idle, request}
 use Rattle.cf_scan.specs.declared.history.Entry.{Entry}
-use Rattle.cf_sync.specs.Fetching.{IsBusy, IsConnected, AreBytes}
+use Rattle.cf_peer.specs.declared.mode.Mode.{Mode}
+use Rattle.cf_peer.specs.declared.mode.Mode.TheVariants.{Once, Following}
+use Rattle.cf_sync.specs.Fetching.{IsBusy, IsConnected, AreBytes, MayTake, RightlyIn, Rule}
 use Rattle.cf_client.specs.declared.client.Client.{Client}
 use Rattle.cf_run.specs.declared.outcome.End.{End}
 use Rattle.cf_run.specs.declared.outcome.End.TheVariants.{Synced, NoPeers, Tired, Ended as EndedFirst}
@@ -36,12 +38,13 @@ use Rattle.cf_run.specs.declared.progress.SendState.TheVariants.{Fine}
 use Rattle.cf_run.specs.declared.trace.TraceLine.{TraceLine}
 use Rattle.cf_run.specs.Names.{names_in}
 use Rattle.cf_hear.proofs.Tracking.{tracks_ended}
-use Rattle.cf_client.specs.Stands.{Reflects, IsReportOf, seen_by, rule_by}
+use Rattle.cf_client.specs.Stands.{Reflects, IsReportOf, seen_by, rule_by, words_by}
 use Rattle.cf_run.specs.Run.{IsOrderly, WasOrderly, AreNumbered, IsUntaken, Notes, Doing, HoldsOver, Stopped, Finished, AreBytesOf, IsEnd, IsEndTold, IsTraceOf, names_of, is_lost, NobodyLeft, state_at, is_pending, is_fine}
 use Rattle.cf_peer.specs.declared.act.Act.{Act}
 use Rattle.cf_sync.specs.Planned.{is_untold, ArePlanned}
 use Rattle.cf_sync.proofs.Planning.{own_plan}
-use Rattle.cf_sync.proofs.Settles.{followed_is}
+use Rattle.cf_sync.proofs.Modes.{rightly_following}
+use Rattle.cf_sync.proofs.Settles.{followed_in}
 use Rattle.cf_client.proofs.Innocent.{innocent, answered}
 use Rattle.cf_client.proofs.Blaming.{blameless, has_blamed}
 use Rattle.cf_run.proofs.Performs.{tells_more, lost_off, sent_connected, untold_failing_here, untold_failing_others, untold_closed_others}
@@ -74,9 +77,9 @@ dialled_others p name q part ne = grind (arith, common_steps)
 more_names : (log : Log) (d : Dial) (called : List (List ℕ)) → names_of log ≡ called → map (λ (x : Dial). x.name) (dials log ++ d ∷ []) ≡ called ++ d.name ∷ []
 more_names log d called is = map-append (λ (x : Dial). x.name) (dials log) (d ∷ []) ∙ ap (λ (xs : List (List ℕ)). xs ++ d.name ∷ []) is
 
--- under the same watch list
-pub doing_watch : {watch now : List (List ℕ)} {acts : List Act} {progress : Progress} {called : List (List ℕ)} {planned : Log} {t : Told} → now ≡ watch → Doing rule acts progress called planned t → Doing now acts progress called planned t
-doing_watch {acts = acts} {progress = progress} {called = called} {planned = planned} {t = t} same doing = subst (λ (w : List (List ℕ)). Doing w acts progress called planned t) (sym same) doing
+-- by the same rule
+pub doing_rule : {rule now : Rule} {acts : List Act} {progress : Progress} {called : List (List ℕ)} {planned : Log} {t : Told} → now ≡ rule → Doing rule acts progress called planned t → Doing now acts progress called planned t
+doing_rule {acts = acts} {progress = progress} {called = called} {planned = planned} {t = t} same doing = subst (λ (r : Rule). Doing r acts progress called planned t) (sym same) doing
 
 -- with every failed send told, the client's log is as it is, whatever is to be done
 same_doing : {H M : Type 0} {g : Ghosts H} {j : Judges M} (c : Client H M g j) (acts : List Act) (progress : Progress) (called : List (List ℕ)) (names : List (List ℕ)) (t u : Told) (holds : HoldsOver c progress called t) (e : Event)
@@ -89,7 +92,7 @@ same_doing c acts progress called names t u holds e notes told = record {
   came = λ q. refl;
   omitted = λ q fine omitted. omitted;
   unomitted = λ q fine omitted. omitted;
-  rightly = notes.rightly;
+  rightly = rightly_following (rule_by c).mode (e ∷ holds.actual) notes.rightly;
   pending = λ q it. absurd (both_ways (is_pending (state_at progress.sends q)) (holds.none q) it);
   due = λ q untold. absurd (both_ways (is_untold (e ∷ holds.actual) q) (told q) untold);
   broken = λ q untold. absurd (both_ways (is_untold (e ∷ holds.actual) q) (told q) untold);
@@ -100,7 +103,7 @@ same_doing c acts progress called names t u holds e notes told = record {
 pub orderly : {H M : Type 0} {g : Ghosts H} {j : Judges M} (c : Client H M g j) (progress : Progress) (called : List (List ℕ)) (t : Told) (holds : HoldsOver c progress called t) → IsOrderly holds.actual
 orderly c progress called t holds = record {
   innocent = innocent c holds.actual holds.reflects;
-  blameless = blameless c holds.actual holds.reflects holds.notes.rightly;
+  blameless = blameless c holds.actual holds.reflects (rightly_following (rule_by c).mode holds.actual holds.notes.rightly);
   answered = answered c holds.actual holds.reflects;
   told = holds.told_all;
 }
@@ -141,15 +144,15 @@ pub not_dialled_holds : {H M : Type 0} {g : Ghosts H} {j : Judges M} (c d : Clie
     → p.0 ≡ t.tally.dials + 1 → t.tally.dials < 8 → t.tally.taken ≡ 0 → t.tally.ended ≡ 0
     → rule_by d ≡ rule_by c → Reflects d (NotDialled p name ∷ holds.actual)
     → HoldsOver d progress (called ++ name ∷ []) (tell (NotDialled p name) t)
-not_dialled_holds c d progress called t p name holds is room untaken unended watch reflects =
+not_dialled_holds c d progress called t p name holds is room untaken unended same reflects =
     let count : t.tally.dials ≡ (tally_of holds.actual).dials = ap (λ (x : Tally). x.dials) holds.notes.tells.counts in
     record {
       actual = NotDialled p name ∷ holds.actual;
       notes = record {
         tells = tells_more holds.actual t (NotDialled p name) holds.notes.tells;
         bytes = holds.notes.bytes;
-        rightly = holds.notes.rightly;
-        planned = subst (λ (w : Rule). ArePlanned w holds.actual) (sym watch) holds.notes.planned;
+        rightly = subst (λ (r : Rule). RightlyIn r.mode holds.actual) (sym same) holds.notes.rightly;
+        planned = subst (λ (r : Rule). ArePlanned r holds.actual) (sym same) holds.notes.planned;
         order = holds.notes.order;
         numbered = (is ∙ ap (λ (n : ℕ). n + 1) count, holds.notes.numbered);
         first = (untaken_so holds.actual t holds.notes.tells untaken unended, holds.notes.first);
@@ -186,12 +189,12 @@ took_bytes Ended log is h = h
 took_numbered : (d : Delivery) (log : Log) → AreNumbered log → AreNumbered (Took d ∷ log)
 took_numbered d log h = h
 
-took_notes : {rule : Rule} (progress : Progress) (called : List (List ℕ)) (log : Log) (t : Told) (d : Delivery) → AreBytesOf d → Notes rule progress called log t → IsBusy log → IsOrderly log
+took_notes : {rule : Rule} (progress : Progress) (called : List (List ℕ)) (log : Log) (t : Told) (d : Delivery) → AreBytesOf d → Notes rule progress called log t → MayTake rule.mode log → IsOrderly log
     → Notes rule progress called (Took d ∷ log) (tell (Took d) t)
-took_notes progress called log t d is notes busy in_order = record {
+took_notes progress called log t d is notes may in_order = record {
   tells = tells_more log t (Took d) notes.tells;
   bytes = took_bytes d log is notes.bytes;
-  rightly = (busy, notes.rightly);
+  rightly = (may, notes.rightly);
   planned = notes.planned;
   order = (in_order, notes.order);
   numbered = notes.numbered;
@@ -204,35 +207,75 @@ took_notes progress called log t d is notes busy in_order = record {
   few = omega (arith, took_dials d log, notes.few);
 }
 
--- a delivery is taken
-pub took_doing : {H M : Type 0} {g : Ghosts H} {j : Judges M} (c : Client H M g j) (acts : List Act) (progress : Progress) (called : List (List ℕ)) (t : Told) (d : Delivery) → AreBytesOf d → (holds : HoldsOver c progress called t) → IsBusy holds.actual
-    → Doing (rule_by c) acts progress called (Took d ∷ holds.actual) (tell (Took d) t)
-took_doing c acts progress called t d is holds busy =
-    same_doing c acts progress called called t (tell (Took d) t) holds (Took d) (took_notes progress called holds.actual t d is holds.notes busy (orderly c progress called t holds)) (λ q. refl)
+-- while something is open a delivery may be taken by a client of either mode
+pub may_take : (mode : Mode) (log : Log) → IsBusy log → MayTake mode log
+may_take Once log busy = busy
+may_take Following log busy = tt
 
--- the wires have no more to give
-pub ended_stops : {H M : Type 0} {g : Ghosts H} {j : Judges M} (c : Client H M g j) (progress : Progress) (called : List (List ℕ)) (t : Told) (holds : HoldsOver c progress called t) → IsBusy holds.actual
-    → Stopped EndedFirst c progress called (tell (Took Ended) t)
-ended_stops c progress called t holds busy = record {
+-- a delivery is taken
+pub took_doing : {H M : Type 0} {g : Ghosts H} {j : Judges M} (c : Client H M g j) (acts : List Act) (progress : Progress) (called : List (List ℕ)) (t : Told) (d : Delivery) → AreBytesOf d → (holds : HoldsOver c progress called t) → MayTake (rule_by c).mode holds.actual
+    → Doing (rule_by c) acts progress called (Took d ∷ holds.actual) (tell (Took d) t)
+took_doing c acts progress called t d is holds may =
+    same_doing c acts progress called called t (tell (Took d) t) holds (Took d) (took_notes progress called holds.actual t d is holds.notes may (orderly c progress called t holds)) (λ q. refl)
+
+-- a client that follows may always take a delivery
+pub may_follow : (mode : Mode) (log : Log) → mode ≡ Following → MayTake mode log
+may_follow mode log follows = subst (λ (m : Mode). MayTake m log) (sym follows) tt
+
+-- a client that is the same holds the same
+pub holds_same : {H M : Type 0} {g : Ghosts H} {j : Judges M} {c d : Client H M g j} {progress : Progress} {called : List (List ℕ)} {t : Told} → d ≡ c → HoldsOver c progress called t → HoldsOver d progress called t
+holds_same {H = H} {M = M} {g = g} {j = j} {progress = progress} {called = called} {t = t} same holds = subst (λ (x : Client H M g j). HoldsOver x progress called t) (sym same) holds
+
+pub rule_same : {H M : Type 0} {g : Ghosts H} {j : Judges M} {c d : Client H M g j} → d ≡ c → rule_by d ≡ rule_by c
+rule_same {H = H} {M = M} {g = g} {j = j} same = ap (λ (x : Client H M g j). rule_by x) same
+
+pub words_same : {H M : Type 0} {g : Ghosts H} {j : Judges M} {c d : Client H M g j} → d ≡ c → words_by d ≡ words_by c
+words_same {H = H} {M = M} {g = g} {j = j} same = ap (λ (x : Client H M g j). words_by x) same
+
+pub mode_same : {H M : Type 0} {g : Ghosts H} {j : Judges M} {c d : Client H M g j} {mode : Mode} → d ≡ c → (rule_by c).mode ≡ mode → (rule_by d).mode ≡ mode
+mode_same same is = ap (λ (r : Rule). r.mode) (rule_same same) ∙ is
+
+-- a client that isn't told of the end reflects the log with it
+reflects_ended : {H M : Type 0} {g : Ghosts H} {j : Judges M} (c : Client H M g j) (log : Log) → Reflects c log → Reflects c (Took Ended ∷ log)
+reflects_ended c log reflects = record {
+  alive = reflects.alive;
+  places = record {
+    count = reflects.places.count;
+    omitted = reflects.places.omitted;
+    named = λ right. reflects.places.named right.1;
+    each = reflects.places.each;
+  };
+  tracks = tracks_ended (seen_by c) log reflects.tracks;
+  unexposed = reflects.unexposed;
+}
+
+-- the wires have no more to give, and the run ends
+pub ended_stops : {H M : Type 0} {g : Ghosts H} {j : Judges M} (end : End) (c : Client H M g j) (progress : Progress) (called : List (List ℕ)) (t : Told) (holds : HoldsOver c progress called t)
+    → MayTake (rule_by c).mode holds.actual → IsEnd end (Took Ended ∷ holds.actual) → Stopped end c progress called (tell (Took Ended) t)
+ended_stops end c progress called t holds may why = record {
   holds = record {
     actual = Took Ended ∷ holds.actual;
-    notes = took_notes progress called holds.actual t Ended tt holds.notes busy (orderly c progress called t holds);
-    reflects = record {
-      alive = holds.reflects.alive;
-      places = record {
-        count = holds.reflects.places.count;
-        omitted = holds.reflects.places.omitted;
-        named = λ right. holds.reflects.places.named right.1;
-        each = holds.reflects.places.each;
-      };
-      tracks = tracks_ended (seen_by c) holds.actual holds.reflects.tracks;
-      unexposed = holds.reflects.unexposed;
-    };
+    notes = took_notes progress called holds.actual t Ended tt holds.notes may (orderly c progress called t holds);
+    reflects = reflects_ended c holds.actual holds.reflects;
     told_all = λ q. refl;
     none = holds.none;
   };
-  why = (holds.actual, (refl, busy));
+  why = why;
 }
+
+-- and what a client that follows holds then
+pub ended_holds : {H M : Type 0} {g : Ghosts H} {j : Judges M} {c d : Client H M g j} {progress next : Progress} {called : List (List ℕ)} {t u : Told} → (rule_by c).mode ≡ Following
+    → d ≡ c → next ≡ progress → u ≡ tell (Took Ended) t → HoldsOver c progress called t → HoldsOver d next called u
+ended_holds {c = c} {d = d} {progress = progress} {next = next} {called = called} {t = t} {u = u} follows same noted told holds =
+    let now : HoldsOver c progress called (tell (Took Ended) t) = record {
+      actual = Took Ended ∷ holds.actual;
+      notes = took_notes progress called holds.actual t Ended tt holds.notes (may_follow (rule_by c).mode holds.actual follows) (orderly c progress called t holds);
+      reflects = reflects_ended c holds.actual holds.reflects;
+      told_all = λ q. refl;
+      none = holds.none;
+    } in
+    holds_same {c = c} {d = d} same
+    (subst (λ (p : Progress). HoldsOver c p called u) (sym noted) (subst (λ (x : Told). HoldsOver c progress called x) (sym told) now))
 
 pub took_counts : (d : Delivery) (t : Told) → (d ≡ Ended → ⊥) → (tell (Took d) t).tally.taken ≡ t.tally.taken + 1
 took_counts (Got p piece) t ne = refl
@@ -381,10 +424,10 @@ finishes end c progress called t height hash entries stopped told =
           told = report.told;
           asked_out = report.asked_out;
         };
-        settled = λ is. followed_is (rule_by c) height hash entries holds.actual
+        settled = λ is. followed_in (rule_by c).mode (rule_by c).watch height hash entries holds.actual
             (record { watchable = report.watchable; bytes = holds.notes.bytes; rightly = holds.notes.rightly; told = report.told; asked_out = report.asked_out })
             (subst (λ (e : End). IsEnd e holds.actual) is stopped.why).0 (subst (λ (e : End). IsEnd e holds.actual) is stopped.why).1;
-        blames = λ clash quiet. has_blamed c holds.actual report.told.chain holds.reflects holds.notes.bytes holds.notes.rightly clash report.told.best
+        blames = λ clash quiet. has_blamed c holds.actual report.told.chain holds.reflects holds.notes.bytes (rightly_following (rule_by c).mode holds.actual holds.notes.rightly) clash report.told.best
             (λ p on. (report.asked_out p on (quiet p)).tested);
         planned = holds.notes.planned;
         was_orderly = holds.notes.order;
@@ -516,7 +559,7 @@ ends_so EndedFirst log why off =
 -- a run ends for want of peers exactly where the tally has nobody left
 pub no_peers : (rule : Rule) (end : End) (height : ℕ) (hash : Hash32) (entries : List Entry) (lines : List TraceLine) (called : List (List ℕ)) (t : Told) → Finished rule end height hash entries lines called t
     → (end ≡ NoPeers) ↔ NobodyLeft t.tally
-no_peers watch end height hash entries lines called t f = (
+no_peers rule end height hash entries lines called t f = (
   (λ is. let off = subst (λ (e : End). IsEnd e f.actual) is f.followed.why in
       subst NobodyLeft (sym f.tells.counts)
       (λ p one le. lost_mark f.actual p f.followed.numbered f.followed.was_orderly f.followed.orderly (off p) one le (omega (arith, le, f.few)))),

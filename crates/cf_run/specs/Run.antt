@@ -41,6 +41,7 @@ use Rattle.cf_run.specs.declared.trace.TraceLine.{TraceLine}
 use Rattle.cf_run.specs.declared.trace.TraceLine.TheVariants.{Sent as SentLine, Closed as ClosedLine}
 use Rattle.cf_place.specs.Places.{after, Allowed, IsNamed, IsRepliedIn, IsState}
 use Rattle.cf_client.specs.Stands.{Reflects, IsBlameless, IsInnocent, AreAnswered, rule_by}
+use Rattle.cf_run.specs.Texts.{PutBefore, PutBy}
 
 -- how the sends to a peer have gone
 abbrev pub state_at : List SendState → ℕ → SendState
@@ -246,12 +247,13 @@ pub record Course (t u : Told) (f g : ℕ) (s r : Option Made) : Type 0 where
   pub logged : IsSome t.log → IsSome u.log
   pub script : r ≡ s
 
--- no count changes, and nobody is dialled
+-- no count changes, nobody is dialled, and no delivery is taken
 pub record SameCounts (t u : Told) : Type 0 where
   pub dials : u.tally.dials ≡ t.tally.dials
   pub taken : u.tally.taken ≡ t.tally.taken
   pub ended : u.tally.ended ≡ t.tally.ended
   pub named : (called : List (List ℕ)) → HasNames called t → HasNames called u
+  pub puts : (watch texts : List (List ℕ)) → PutBefore watch texts t → PutBefore watch texts u
 
 -- the run at a moment: what its wires told, how often what is outside has failed, their script, whether they keep their log, and the run's own notes
 pub record Moment : Type 0 where
@@ -282,6 +284,7 @@ pub record Performs (a b : Moment) : Type 0 where
 pub record IsOneMore (name : List ℕ) (t u : Told) : Type 0 where
   pub dials : u.tally.dials ≡ t.tally.dials + 1
   pub named : (called : List (List ℕ)) → HasNames called t → HasNames (called ++ name ∷ []) u
+  pub puts : (watch texts : List (List ℕ)) → PutBefore watch texts t → PutBefore watch texts u
 
 pub record IsNoMore (t u : Told) : Type 0 where
   pub dials : u.tally.dials ≡ t.tally.dials
@@ -293,6 +296,7 @@ pub record Dials (name : List ℕ) (a b : Moment) : Type 0 where
   pub taken : b.told.tally.taken ≡ a.told.tally.taken
   pub ended : b.told.tally.ended ≡ a.told.tally.ended
   pub most : IsOneMore name a.told b.told ⊎ IsNoMore a.told b.told
+  pub puts : (watch texts : List (List ℕ)) → PutBefore watch texts a.told → PutBefore watch texts b.told
 
 -- a turn was begun: at most one delivery was taken, or the end told, and nobody was dialled
 pub record Turns (a b : Moment) : Type 0 where
@@ -300,6 +304,7 @@ pub record Turns (a b : Moment) : Type 0 where
   pub same : IsNoMore a.told b.told
   pub taken : b.told.tally.taken ≤ a.told.tally.taken + 1
   pub ended : b.told.tally.ended ≤ a.told.tally.ended + 1
+  pub puts : (watch texts : List (List ℕ)) → PutBy watch texts a.told → PutBefore watch texts b.told ⊎ PutBy watch texts b.told
 
 -- so many of the names were dialled, the first of them in order
 pub record HasDialled (names : List (List ℕ)) (t : Told) : Type 0 where

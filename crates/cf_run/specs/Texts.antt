@@ -1,8 +1,15 @@
 -- What was put of the texts of a run that follows.
-use Rattle.std.specs.Prelude.{◌≡◌, ◌⊎◌, ℕ, ◌≤◌, List, [], ◌∷◌, ◌++◌, length, take, Option}
+use Rattle.std.specs.Prelude.{◌≡◌, ◌⊎◌, ℕ, ◌≤◌, List, [], ◌∷◌, ◌++◌, length, take, Option, Some, None, IfSome, String, string_bytes}
+use Rattle.std.specs.declared.alloc.Global.{Global}
 use Rattle.cf_bytes.specs.Outside.{with_more}
-use Rattle.cf_wires.specs.Log.{Log, Tally}
-use Rattle.cf_sync.specs.Putting.{WerePut, ArePut}
+use Rattle.cf_headers.specs.declared.store.HeaderStore.{Ghosts}
+use Rattle.cf_match.specs.declared.matcher.Matcher.{Ghosts as Judges}
+use Rattle.cf_peer.specs.declared.mode.Mode.TheVariants.{Following}
+use Rattle.cf_wires.specs.Log.{Log, Tally, Told}
+use Rattle.cf_sync.specs.Fetching.{AreBytes, RightlyIn}
+use Rattle.cf_sync.specs.Putting.{WerePut, ArePut, PutsAt, EndsWith, put}
+use Rattle.cf_client.specs.declared.client.Client.{Client}
+use Rattle.cf_client.specs.Stands.{Reflects, watch_by}
 
 -- a beginning of a text was taken
 pub record HasBegun (text : List ℕ) (before now : Option (List ℕ)) : Type 0 where
@@ -30,3 +37,51 @@ pub record HasPutSome (watch : List (List ℕ)) (log : Log) (before now : Option
 -- the turns are taken, or the wires have no more to give
 abbrev pub IsOver : ℕ → Tally → Type 0
 IsOver turns tally = (tally.taken ≡ turns) ⊎ (tally.ended ≡ 1)
+
+-- where the log is told: the texts that were put before each of its deliveries; and by now
+abbrev pub PutBefore : List (List ℕ) → List (List ℕ) → Told → Type 0
+PutBefore watch texts t = IfSome t.log (λ log. WerePut watch log texts)
+
+abbrev pub PutBy : List (List ℕ) → List (List ℕ) → Told → Type 0
+PutBy watch texts t = IfSome t.log (λ log. ArePut watch log texts)
+
+-- the last text is the newest of these
+abbrev pub IsLast : Option (String Global) → List (List ℕ) → Type 0
+IsLast None texts = texts ≡ []
+IsLast (Some last) texts = EndsWith (string_bytes last) texts
+
+-- texts that were put so far: those before each delivery, of which this is the last one; and what was taken of them
+pub record HavePut (watch : List (List ℕ)) (last : Option (String Global)) (t : Told) (before now : Option (List ℕ)) : Type 0 where
+  pub texts : List (List ℕ)
+  pub newest : IsLast last texts
+  pub puts : PutBefore watch texts t
+  pub taken : now ≡ with_more before (joined texts)
+
+-- a text was put, unless it is the last one
+pub record PutsOne (text : List ℕ) (before : List (List ℕ)) (last : Option (String Global)) (old new : Option (List ℕ)) : Type 0 where
+  pub newest : IsLast last (put text before)
+  pub taken : (first : Option (List ℕ)) → old ≡ with_more first (joined before) → new ≡ with_more first (joined (put text before))
+
+-- texts, with what a moment adds, of each log that the client reflects
+pub record PutsNext {H M : Type 0} {g : Ghosts H} {j : Judges M} (c : Client H M g j) (before : List (List ℕ)) (last : Option (String Global)) (old new : Option (List ℕ)) : Type 0 where
+  pub texts : List (List ℕ)
+  pub newest : IsLast last texts
+  pub puts : (log : Log) → Reflects c log → AreBytes log → RightlyIn Following log → PutsAt (watch_by c) log before texts
+  pub taken : (first : Option (List ℕ)) → old ≡ with_more first (joined before) → new ≡ with_more first (joined texts)
+
+-- a beginning of them: no more than was put before, or with what the moment adds
+pub record PutsSome {H M : Type 0} {g : Ghosts H} {j : Judges M} (c : Client H M g j) (before : List (List ℕ)) (old new : Option (List ℕ)) : Type 0 where
+  pub texts : List (List ℕ)
+  pub puts : (log : Log) → Reflects c log → AreBytes log → RightlyIn Following log → (texts ≡ before) ⊎ PutsAt (watch_by c) log before texts
+  pub begun : (first : Option (List ℕ)) → old ≡ with_more first (joined before) → HasBegun (joined texts) first new
+
+-- all texts were put, by now; and a beginning of them, by now or before the last delivery
+pub record AllPut (watch : List (List ℕ)) (t : Told) (before now : Option (List ℕ)) : Type 0 where
+  pub texts : List (List ℕ)
+  pub puts : PutBy watch texts t
+  pub taken : now ≡ with_more before (joined texts)
+
+pub record SomePut (watch : List (List ℕ)) (t : Told) (before now : Option (List ℕ)) : Type 0 where
+  pub texts : List (List ℕ)
+  pub puts : PutBefore watch texts t ⊎ PutBy watch texts t
+  pub begun : HasBegun (joined texts) before now

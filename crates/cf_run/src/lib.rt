@@ -1,13 +1,15 @@
 //! The run over wires: a client is told what the wires bring, and what it answers is sent, until nothing more comes.
 #![tactic(auto)]
 
+mod follow;
 mod outcome;
 mod over;
 mod progress;
 mod texts;
 mod trace;
 
+pub use follow::follow_over;
 pub use outcome::{End, Outcome};
-pub use over::{follow_over, sync_over};
-pub use texts::{TextFail, Texts};
+pub use over::sync_over;
+pub use texts::{Kept, Live, TextFail, Texts};
 pub use trace::TraceLine;

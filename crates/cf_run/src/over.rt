@@ -3,9 +3,8 @@ ghost use Rattle.std.specs.Prelude.{◌≡◌, ◌≢◌, ◌↔◌, ℕ, None, 
 ghost use Rattle.cf_bytes.specs.Outside.{HasRisen};
 ghost use Rattle.cf_client.specs.Holding.{HoldsNoMore};
 ghost use Rattle.cf_run.specs.Names.{names_in};
-ghost use Rattle.cf_sync.specs.Fetching.{Rule, following, once};
-ghost use Rattle.cf_sync.specs.Growing.{FollowTheorem};
-ghost use Rattle.cf_run.specs.Texts.{HasPut, HasPutSome, IsOver};
+ghost use Rattle.cf_sync.specs.Fetching.{MayTake, Rule, once};
+ghost use Rattle.cf_run.specs.Texts.{PutBefore, PutBy};
 ghost use Rattle.cf_sync.specs.Sync.{SyncTheorem};
 ghost use Rattle.cf_place.specs.Places.{MayAct, Allowed, after, entry_of, EndsTell, Words, TellsWords, ActTells};
 ghost use Rattle.cf_run.specs.Passing.{CountsOne, EndsWithin, Passes};
@@ -20,11 +19,11 @@ ghost use Rattle.cf_peer.specs.declared.act.Act.TheVariants.{Send, Close};
 ghost use Rattle.cf_peer.specs.Acts.{IsDoable, IsSendable, bytes_of};
 ghost use Rattle.cf_wires.specs.Log.{Log, Tells, tell};
 ghost use Rattle.cf_wires.specs.Wires.{HasCause};
-ghost use Rattle.cf_wires.specs.declared.event.Event.TheVariants.{Dialled, Sent, SendFailed, Closed};
+ghost use Rattle.cf_wires.specs.declared.event.Delivery.TheVariants.{Ended};
+ghost use Rattle.cf_wires.specs.declared.event.Event.TheVariants.{Dialled, Sent, SendFailed, Closed, Took};
 
 use crate::outcome::{End, Outcome};
 use crate::progress::Progress;
-use crate::texts::{TextFail, Texts};
 use crate::trace::TraceLine;
 use cf_bytes::{NoMemory, PeerNo};
 use cf_client::Client;
@@ -287,6 +286,35 @@ fn note_bytes(d: &Delivery)
     }
 }
 
+// Takes the next delivery, and does what the client then wants. Says whether there was one: the client isn't told of the end.
+pub(crate) fn take_next<W: Wires, H: HeaderStore, M: Matcher>(
+    alloc: Global,
+    wires: &mut W,
+    client: &mut Client<H, M>,
+    progress: &mut Progress,
+) -> Result<bool, NoMemory>
+    requires step { IsInStep (W.told wires.old) progress.old }
+    requires open { (W.told wires.old).finished ≡ false }
+    ensures holds { IfOk result (λ more. more ≡ true → (called : List (List ℕ)) (holds : HoldsOver client.old progress.old called (W.told wires.old)) → MayTake (rule_by client.old).mode holds.actual → HoldsOver client.new progress.new called (W.told wires.new)) }
+    ensures over { IfOk result (λ more. more ≡ false → (client.new ≡ client.old) × (progress.new ≡ progress.old) × (W.told wires.new ≡ tell (Took Ended) (W.told wires.old))) }
+    ensures versions { (called : List (List ℕ)) (holds : HoldsOver client.old progress.old called (W.told wires.old)) → MayTake (rule_by client.old).mode holds.actual → KeepsWords (words_by client.old) (W.told wires.old) (W.told wires.new) }
+    ensures puts { OnOk result ((watch texts : List (List ℕ)) → PutBy watch texts (W.told wires.old) → PutBefore watch texts (W.told wires.new)) }
+    ensures rule { OnOk result (rule_by client.new ≡ rule_by client.old) }
+    ensures words { words_by client.new ≡ words_by client.old }
+    ensures taken { IfOk result (λ more. more ≡ true → (W.told wires.new).tally.taken ≡ (W.told wires.old).tally.taken + 1) }
+    ensures unended { IfOk result (λ more. more ≡ true → (W.told wires.new).tally.ended ≡ (W.told wires.old).tally.ended) }
+    ensures turns { Turns (moment (W.told wires.old) (W.faults wires.old) (W.script wires.old) (W.keeps wires.old) progress.old) (moment (W.told wires.new) (W.faults wires.new) (W.script wires.new) (W.keeps wires.new) progress.new) }
+{
+    let d = wires.next()?;
+    if let Delivery::Ended = &d {
+        return Ok(false);
+    }
+    note_bytes(&d);
+    let acts = client.step(&d)?;
+    carry_out(alloc, wires, client, &acts, progress)?;
+    Ok(true)
+}
+
 // Takes one delivery, if something is open.
 fn take_turn<W: Wires, H: HeaderStore, M: Matcher>(
     alloc: Global,
@@ -311,18 +339,15 @@ fn take_turn<W: Wires, H: HeaderStore, M: Matcher>(
         State::NoPeers => return Ok(Some(End::NoPeers)),
         State::Working => {}
     }
-    let d = wires.next()?;
-    if let Delivery::Ended = &d {
-        return Ok(Some(End::Ended));
+    let more = take_next(alloc, wires, client, progress)?;
+    if more {
+        return Ok(None);
     }
-    note_bytes(&d);
-    let acts = client.step(&d)?;
-    carry_out(alloc, wires, client, &acts, progress)?;
-    Ok(None)
+    Ok(Some(End::Ended))
 }
 
 // Dials the names in order.
-fn dial_all<W: Wires, H: HeaderStore, M: Matcher>(
+pub(crate) fn dial_all<W: Wires, H: HeaderStore, M: Matcher>(
     alloc: Global,
     wires: &mut W,
     client: &mut Client<H, M>,
@@ -344,6 +369,7 @@ fn dial_all<W: Wires, H: HeaderStore, M: Matcher>(
     ensures first { HasNames [] (W.told wires.old) → HasDialled (names_in names.now) (W.told wires.new) }
     ensures taken { (W.told wires.new).tally.taken ≡ 0 }
     ensures unended { (W.told wires.new).tally.ended ≡ 0 }
+    ensures puts { (watch texts : List (List ℕ)) → PutBefore watch texts (W.told wires.old) → PutBefore watch texts (W.told wires.new) }
     ensures runs { Runs (moment (W.told wires.old) (W.faults wires.old) (W.script wires.old) (W.keeps wires.old) progress.old) (moment (W.told wires.new) (W.faults wires.new) (W.script wires.new) (W.keeps wires.new) progress.new) }
 {
     for name in names {
@@ -353,7 +379,7 @@ fn dial_all<W: Wires, H: HeaderStore, M: Matcher>(
 }
 
 // How a run ends once its turns are used up.
-fn last_end<H: HeaderStore, M: Matcher>(client: &Client<H, M>) -> End
+pub(crate) fn last_end<H: HeaderStore, M: Matcher>(client: &Client<H, M>) -> End
     ensures end { (log : Log) → Reflects client.now log → IsEnd result log }
     ensures unended { result ≢ End.Ended }
 {
@@ -397,7 +423,7 @@ fn take_turns<W: Wires, H: HeaderStore, M: Matcher>(
 }
 
 // What came of a run that ended so.
-fn outcome_of<H: HeaderStore, M: Matcher>(
+pub(crate) fn outcome_of<H: HeaderStore, M: Matcher>(
     client: &mut Client<H, M>,
     progress: Progress,
     end: End,
@@ -494,158 +520,6 @@ pub fn sync_over<W: Wires, H: HeaderStore + Drop, M: Matcher + Drop>(
 {
     let outcome = follow(
         alloc, wires, names, watch, store, matcher, moment, nonce, turns,
-    );
-    wires.finish();
-    outcome
-}
-
-// Where nothing is open and a peer is connected, puts the text of the history and the tip, unless it is the last one that was put.
-fn put_at_rest<H: HeaderStore, M: Matcher, T: Texts>(
-    alloc: Global,
-    client: &mut Client<H, M>,
-    texts: &mut T,
-    last: &mut Option<String>,
-) -> Result<(), TextFail> {
-    match client.state() {
-        State::Synced => {}
-        State::Working | State::NoPeers => return Ok(()),
-    }
-    let report = client.report()?;
-    let text = report.history.text(alloc, report.height, &report.tip)?;
-    if is_last(last, text.as_str()) {
-        return Ok(());
-    }
-    texts.put(text.as_str())?;
-    *last = Some(text);
-    Ok(())
-}
-
-// Whether this is the last text that was put.
-fn is_last(last: &Option<String>, text: &str) -> bool {
-    match last {
-        Some(last) => last.as_str() == text,
-        None => false,
-    }
-}
-
-// How a run that follows ends once its wires give no more.
-fn end_of_wires<H: HeaderStore, M: Matcher>(client: &Client<H, M>) -> End {
-    match client.state() {
-        State::Working => End::Ended,
-        State::Synced => End::Synced,
-        State::NoPeers => End::NoPeers,
-    }
-}
-
-// Takes one delivery of a run that follows, unless no peer is connected.
-fn take_next<W: Wires, H: HeaderStore, M: Matcher>(
-    alloc: Global,
-    wires: &mut W,
-    client: &mut Client<H, M>,
-    progress: &mut Progress,
-) -> Result<Option<End>, NoMemory> {
-    if let State::NoPeers = client.state() {
-        return Ok(Some(End::NoPeers));
-    }
-    let d = wires.next()?;
-    if let Delivery::Ended = &d {
-        return Ok(Some(end_of_wires(client)));
-    }
-    note_bytes(&d);
-    let acts = client.step(&d)?;
-    carry_out(alloc, wires, client, &acts, progress)?;
-    Ok(None)
-}
-
-// Takes turns until the run ends, and puts the text of each quiet moment.
-fn follow_turns<W: Wires, H: HeaderStore, M: Matcher, T: Texts>(
-    alloc: Global,
-    wires: &mut W,
-    client: &mut Client<H, M>,
-    progress: &mut Progress,
-    turns: u32,
-    texts: &mut T,
-) -> Result<End, TextFail> {
-    let mut last = None;
-    for _turn in 0..turns {
-        put_at_rest(alloc, client, texts, &mut last)?;
-        if let Some(end) = take_next(alloc, wires, client, progress)? {
-            put_at_rest(alloc, client, texts, &mut last)?;
-            return Ok(end);
-        }
-    }
-    put_at_rest(alloc, client, texts, &mut last)?;
-    Ok(last_end(client))
-}
-
-// Dials the peers, follows what they show, and puts together what came of it.
-fn follow_all<W: Wires, H: HeaderStore + Drop, M: Matcher + Drop, T: Texts>(
-    alloc: Global,
-    wires: &mut W,
-    names: &[String],
-    watch: Watch,
-    store: H,
-    matcher: M,
-    moment: i64,
-    nonce: u64,
-    turns: u32,
-    texts: &mut T,
-) -> Result<Outcome, TextFail> {
-    let mut client = Client::new(alloc, watch, store, matcher, moment, nonce)?.following();
-    let mut progress = Progress::new(alloc);
-    dial_all(alloc, wires, &mut client, &mut progress, names)?;
-    let end = follow_turns(alloc, wires, &mut client, &mut progress, turns, texts)?;
-    let outcome = outcome_of(&mut client, progress, end)?;
-    Ok(outcome)
-}
-
-/// Dials the peers in order, at most eight, and follows the best chain that they show as it grows, until no peer is left, the
-/// stated number of deliveries was taken, or the wires give no more. At each moment between two deliveries at which nothing is
-/// open and a peer is connected the text of the history and the tip is put, unless it is the last one that was put. It ends
-/// with `Synced` where the turns are taken or the wires give no more with nothing open, and a peer is connected. The wires are
-/// new: nothing has passed them, and they aren't finished. They are finished once, whatever is answered. In the store no peer is
-/// entered.
-pub fn follow_over<W: Wires, H: HeaderStore + Drop, M: Matcher + Drop, T: Texts>(
-    alloc: Global,
-    wires: &mut W,
-    names: &[String],
-    watch: Watch,
-    store: H,
-    matcher: M,
-    moment: i64,
-    nonce: u64,
-    turns: u32,
-    texts: &mut T,
-) -> Result<Outcome, TextFail>
-    requires fresh { Tells [] (W.told wires.old) }
-    requires open { (W.told wires.old).finished ≡ false }
-    requires few { length names.now ≤ 8 }
-    requires empty { (q : ℕ) → H.chain store q ≡ None }
-    ensures followed { IfOk result (λ o. IfSome (W.told wires.new).log (λ log. Followed (following watch) o.end o.height o.tip o.history o.trace.items (names_in names.now) log)) }
-    ensures put { OnOk result (IfSome (W.told wires.new).log (λ log. HasPut watch log (T.told texts.old) (T.told texts.new))) }
-    ensures put_some { OnErr result (IfSome (W.told wires.new).log (λ log. HasPutSome watch log (T.told texts.old) (T.told texts.new))) }
-    ensures theorem { IfOk result (λ o. IfSome (W.told wires.new).log (λ log. FollowTheorem watch o.height o.tip o.history log)) }
-    ensures ends { IfOk result (λ o. IfSome (W.told wires.new).log (λ log. EndsTell o.ends.items log)) }
-    ensures held { IfOk result (λ o. IfSome (W.told wires.new).log (λ log. HoldsNoMore H.counts o.held log)) }
-    ensures versions { HasWords (record { moment = moment; number = nonce }) (W.told wires.new) }
-    ensures no_peers { IfOk result (λ o. (o.end ≡ End.NoPeers) ↔ NobodyLeft (W.told wires.new).tally) }
-    ensures done { IfOk result (λ o. o.end ≡ End.Synced → IsOver turns (W.told wires.new).tally) }
-    ensures tired { IfOk result (λ o. o.end ≡ End.Tired → (W.told wires.new).tally.taken ≡ turns) }
-    ensures ended { IfOk result (λ o. o.end ≡ End.Ended → (W.told wires.new).tally.ended ≡ 1) }
-    ensures early { IfOk result (λ o. o.end ≡ End.Ended → (W.told wires.new).tally.taken < turns) }
-    ensures dialled { OnOk result ((W.told wires.new).tally.dials ≡ length names.now) }
-    ensures first { HasDialled (names_in names.now) (W.told wires.new) }
-    ensures most { (W.told wires.new).tally.taken ≤ turns }
-    ensures once { (W.told wires.new).tally.ended ≤ 1 }
-    ensures finished { (W.told wires.new).finished ≡ true }
-    ensures keeps { W.keeps wires.new ≡ W.keeps wires.old }
-    ensures course { Course (W.told wires.old) (W.told wires.new) (W.faults wires.old) (W.faults wires.new) (W.script wires.old) (W.script wires.new) }
-    ensures failures { IfSome (W.told wires.new).log (λ log. HasFailed log → HasRisen (W.faults wires.old) (W.faults wires.new)) }
-    ensures failed { IsErrOf result TextFail.Failed → HasRisen (T.faults texts.old) (T.faults texts.new) }
-    ensures fine { OnOk result (T.faults texts.new ≡ T.faults texts.old) }
-{
-    let outcome = follow_all(
-        alloc, wires, names, watch, store, matcher, moment, nonce, turns, texts,
     );
     wires.finish();
     outcome

@@ -25,9 +25,10 @@ loop-name-preserved g c = record {
       one_dialled c.args.names.now c.loop-name.name-index c.name-item.result c.as_str.result.now _ _ (omega arith) c.name-item.is c.as_str.ensures.value
       (c.loop-name.invariant.named none) c.in_ok-dial_one.ensures.one;
   dials = c.in_ok-dial_one.ensures.one.dials ∙ ap (λ (n : ℕ). n + 1) c.loop-name.invariant.dials;
+  puts = λ watch texts put. c.in_ok-dial_one.ensures.dials.puts watch texts (c.loop-name.invariant.puts watch texts put);
   taken = c.in_ok-dial_one.ensures.dials.taken ∙ c.loop-name.invariant.taken;
   unended = c.in_ok-dial_one.ensures.dials.ended ∙ c.loop-name.invariant.unended;
-  watch = c.in_ok-dial_one.ensures.counts.watch ∙ c.loop-name.invariant.watch;
+  rule = c.in_ok-dial_one.ensures.counts.rule ∙ c.loop-name.invariant.rule;
   words = c.in_ok-dial_one.ensures.counts.words ∙ c.loop-name.invariant.words;
   next = c.in_ok-dial_one.ensures.counts.count ∙ ap (λ (n : ℕ). n + 1) (c.loop-name.invariant.next ∙ sym c.in_ok-dial_one.ensures.one.dials);
   runs = runs_then c.loop-name.invariant.runs c.in_ok-dial_one.ensures.dials.runs;
@@ -37,3 +38,6 @@ pub returns-in_err-dial_one-clause-versions : goal.returns-in_err-dial_one-claus
 returns-in_err-dial_one-clause-versions g c = λ start.
     keeps_then (words_by c.loop-name.client) (words_by c.args.client.now) (g.W.Wires.told c.args.wires.now) (g.W.Wires.told c.loop-name.wires) (g.W.Wires.told c.dial_one.new.wires) c.loop-name.invariant.words (c.loop-name.invariant.versions start)
     (c.in_err-dial_one.ensures.versions (names_in (take c.loop-name.name-index c.args.names.now)) (c.loop-name.invariant.holds start))
+
+pub returns-in_err-dial_one-clause-puts : goal.returns-in_err-dial_one-clause-puts
+returns-in_err-dial_one-clause-puts g c = λ watch texts put. c.in_err-dial_one.ensures.dials.puts watch texts (c.loop-name.invariant.puts watch texts put)

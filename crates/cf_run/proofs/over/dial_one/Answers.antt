@@ -52,7 +52,7 @@ returns-in_ok-not_dialled-in-Err-Failed-clause-holds g c = λ called holds.
     let e = c.in_ok-not_dialled-in-Err-Failed.ensures in
     let p : PeerNo = record { 0 = (g.W.Wires.told c.args.wires.now).tally.dials + 1 } in
     rw (c.in-Err-Failed.ensures.not_dialled (ap Err c.in-Err-Failed.field-0-is))
-    (not_dialled_holds c.args.client.now c.not_dialled.new.self c.args.progress.now called (g.W.Wires.told c.args.wires.now) p c.args.name.now holds refl c.requires.room c.requires.untaken c.requires.unended e.watch
+    (not_dialled_holds c.args.client.now c.not_dialled.new.self c.args.progress.now called (g.W.Wires.told c.args.wires.now) p c.args.name.now holds refl c.requires.room c.requires.untaken c.requires.unended e.rule
     (subst (λ (q : PeerNo). Reflects c.not_dialled.new.self (NotDialled q c.args.name.now ∷ holds.actual))
     (ap (λ (n : ℕ). record { 0 = n }) (c.next_number.ensures ∙ c.requires.next)) (e.reflects holds.actual holds.reflects)))
 
@@ -63,7 +63,7 @@ returns-in_ok-not_dialled-in-Err-Failed-clause-versions g c = λ called holds.
 pub returns-in_ok-not_dialled-in-Err-Failed-clause-counts : goal.returns-in_ok-not_dialled-in-Err-Failed-clause-counts
 returns-in_ok-not_dialled-in-Err-Failed-clause-counts g c =
     let e = c.in_ok-not_dialled-in-Err-Failed.ensures in
-    record { count = e.count; watch = e.watch; words = e.words }
+    record { count = e.count; rule = e.rule; words = e.words }
 
 pub returns-in_ok-not_dialled-in-Err-Failed-clause-one : goal.returns-in_ok-not_dialled-in-Err-Failed-clause-one
 returns-in_ok-not_dialled-in-Err-Failed-clause-one g c =

@@ -7,6 +7,7 @@ use Rattle.cf_run.specs.Names.{names_in}
 use Rattle.cf_place.specs.Places.{EndsTell}
 use Rattle.cf_run.specs.Run.{Followed}
 use Rattle.cf_client.specs.Stands.{rule_by, words_by}
+use Rattle.cf_sync.specs.Fetching.{Rule}
 use Rattle.cf_run.proofs.Versions.{new_words, has_so, words_then, words_so}
 use Rattle.cf_run.proofs.Turns.{starts, finishes, no_peers, told_so}
 use Rattle.cf_run.proofs.Dialling.{none_named}

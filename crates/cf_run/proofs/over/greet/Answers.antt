@@ -4,7 +4,7 @@ use Rattle.cf_wires.specs.declared.event.Event.TheVariants.{Dialled}
 use Rattle.cf_client.specs.Stands.{Answers, words_by}
 use Rattle.cf_run.proofs.Courses.{performs_self}
 use Rattle.cf_run.proofs.Passing.{keeps_so}
-use Rattle.cf_run.proofs.Turns.{doing_watch}
+use Rattle.cf_run.proofs.Turns.{doing_rule}
 use Rattle.cf_run.proofs.Versions.{greeting_tells, acts_tell_so}
 use Rattle.cf_run.proofs.over.greet.Goals as goal
 
@@ -13,7 +13,7 @@ returns-clause-holds g c = λ called log reflects doing.
     let now = Dialled c.args.p c.args.name.now ∷ log in
     c.in_ok-carry_out.ensures.holds called now
     (subst (λ (acts : List Act). Answers c.dialled.new.self acts now) (sym c.deref.ensures.value) (c.in_ok-acts.ensures.answers log reflects))
-    (doing_watch c.in_ok-acts.ensures.rule (doing c.deref.result.now))
+    (doing_rule c.in_ok-acts.ensures.rule (doing c.deref.result.now))
 
 pub returns-clause-versions : goal.returns-clause-versions
 returns-clause-versions g c = λ called log reflects doing.
@@ -22,7 +22,7 @@ returns-clause-versions g c = λ called log reflects doing.
     keeps_so _ (words_by c.args.client.now) (g.W.Wires.told c.args.wires.now) (g.W.Wires.told c.carry_out.new.wires) c.in_ok-acts.ensures.words
     (c.in_ok-carry_out.ensures.versions called now
     (subst (λ (acts : List Act). Answers c.dialled.new.self acts now) (sym c.deref.ensures.value) (c.in_ok-acts.ensures.answers log reflects))
-    (doing_watch c.in_ok-acts.ensures.rule (doing c.deref.result.now))
+    (doing_rule c.in_ok-acts.ensures.rule (doing c.deref.result.now))
     (acts_tell_so _ _ c.in_ok-acts.acts.items _ (sym c.in_ok-acts.ensures.words) c.deref.ensures.value tells))
 
 pub returns-in_err-carry_out-clause-versions : goal.returns-in_err-carry_out-clause-versions
@@ -32,7 +32,7 @@ returns-in_err-carry_out-clause-versions g c = λ called log reflects doing.
     keeps_so _ (words_by c.args.client.now) (g.W.Wires.told c.args.wires.now) (g.W.Wires.told c.carry_out.new.wires) c.in_ok-acts.ensures.words
     (c.in_err-carry_out.ensures.versions called now
     (subst (λ (acts : List Act). Answers c.dialled.new.self acts now) (sym c.deref.ensures.value) (c.in_ok-acts.ensures.answers log reflects))
-    (doing_watch c.in_ok-acts.ensures.rule (doing c.deref.result.now))
+    (doing_rule c.in_ok-acts.ensures.rule (doing c.deref.result.now))
     (acts_tell_so _ _ c.in_ok-acts.acts.items _ (sym c.in_ok-acts.ensures.words) c.deref.ensures.value tells))
 
 pub returns-in_err-acts-clause-versions : goal.returns-in_err-acts-clause-versions
@@ -41,7 +41,7 @@ returns-in_err-acts-clause-versions g c = λ called log reflects doing has. has
 pub returns-clause-counts : goal.returns-clause-counts
 returns-clause-counts g c = record {
   count = c.in_ok-carry_out.ensures.count ∙ c.in_ok-acts.ensures.count;
-  watch = c.in_ok-carry_out.ensures.rule ∙ c.in_ok-acts.ensures.rule;
+  rule = c.in_ok-carry_out.ensures.rule ∙ c.in_ok-acts.ensures.rule;
   words = c.in_ok-carry_out.ensures.words ∙ c.in_ok-acts.ensures.words;
 }
 

@@ -6,18 +6,18 @@ use Rattle.cf_run.proofs.Versions.{sent_keeps, entry_keeps, same_keeps}
 use Rattle.cf_run.proofs.over.perform_send.Goals as goal
 
 pub returns-then-is_pending-clause-doing : goal.returns-then-is_pending-clause-doing
-returns-then-is_pending-clause-doing g c = λ watch more called planned may doing.
+returns-then-is_pending-clause-doing g c = λ rule more called planned may doing.
     let is : is_pending (state_at c.args.progress.now.sends c.args.p.0) ≡ true = sym c.is_pending.ensures ∙ c.if-is_pending.true in
     skipped_send more c.args.progress.now called planned (g.W.Wires.told c.args.wires.now) c.args.p c.args.message.now is may doing
 
 pub returns-in_ok-push-in-Ok-clause-doing : goal.returns-in_ok-push-in-Ok-clause-doing
-returns-in_ok-push-in-Ok-clause-doing g c = λ watch more called planned may doing.
+returns-in_ok-push-in-Ok-clause-doing g c = λ rule more called planned may doing.
     let free : is_pending (state_at c.args.progress.now.sends c.args.p.0) ≡ false = sym c.is_pending.ensures ∙ c.if-is_pending.false in
     rw c.in-Ok.ensures.sent.1
     (sent_on more c.args.progress.now c.push.new.self called planned _ c.args.p c.args.message.now c.in-Ok.command free c.in_ok-push-in-Ok.ensures.items c.in-Ok.ensures.sent.0 may doing)
 
 pub returns-in-Err-Failed-clause-doing : goal.returns-in-Err-Failed-clause-doing
-returns-in-Err-Failed-clause-doing g c = λ watch more called planned may doing.
+returns-in-Err-Failed-clause-doing g c = λ rule more called planned may doing.
     let progress = c.args.progress.now in
     let free : is_pending (state_at progress.sends c.args.p.0) ≡ false = sym c.is_pending.ensures ∙ c.if-is_pending.false in
     let fine = may_send _ progress called planned _ c.args.p c.args.message.now free may doing in

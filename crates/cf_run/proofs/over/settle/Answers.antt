@@ -8,7 +8,7 @@ use Rattle.cf_place.specs.Places.{Allowed, after}
 use Rattle.cf_run.specs.Run.{Doing}
 use Rattle.cf_run.proofs.Courses.{noted_performs, performs_then}
 use Rattle.cf_client.specs.Stands.{rule_by}
-use Rattle.cf_run.proofs.Turns.{doing_watch}
+use Rattle.cf_run.proofs.Turns.{doing_rule}
 use Rattle.cf_run.proofs.Performs.{cut_for, told_one, all_told, in_count}
 use Rattle.cf_client.specs.Stands.{words_by}
 use Rattle.cf_run.proofs.Versions.{acts_tell_so}
@@ -24,13 +24,13 @@ loop-p-preserved g c = record {
       let used = in_count c.loop-p.client [] c.loop-p.progress called w.planned (g.W.Wires.told c.loop-p.wires) p.0 c.in-Some.ensures.some.1 w.reflects w.doing in
       let a = c.in_ok-acts.ensures.answers w.planned next used w.reflects (cut_for p w.planned) in
       let first = c.in_ok-acts.ensures.first used in
-      let told = told_one {watch = rule_by c.loop-p.client} first.0 c.loop-p.progress called w.planned (g.W.Wires.told c.loop-p.wires) p SendFault lt c.in-Some.ensures.some.1 w.doing in
-      let watch = rule_by c.loop-p.client in
+      let told = told_one {rule = rule_by c.loop-p.client} first.0 c.loop-p.progress called w.planned (g.W.Wires.told c.loop-p.wires) p SendFault lt c.in-Some.ensures.some.1 w.doing in
+      let rule = rule_by c.loop-p.client in
       let begun = subst (λ (acts : List Act). Doing rule acts (record c.loop-p.progress { sends = set c.loop-p.progress.sends p.0 Known }) called next (g.W.Wires.told c.loop-p.wires)) (sym first.1 ∙ sym c.deref.ensures.value) told in
       let noted = subst (λ (x : Progress). Doing rule c.deref.result.now x called next (g.W.Wires.told c.loop-p.wires)) {x = record c.loop-p.progress { sends = set c.loop-p.progress.sends c.in-Some.p.0 Known }} (sym c.note_told.ensures.told) begun in
       let same = c.in_ok-acts.ensures.rule in
       let allowed = subst (λ (acts : List Act). Allowed (rule_by c.send_failed.new.self) acts next) (sym c.deref.ensures.value) a.allowed in
-      let done = c.in_ok-perform.ensures.doing (rule_by c.send_failed.new.self) called next allowed (doing_watch same noted) in
+      let done = c.in_ok-perform.ensures.doing (rule_by c.send_failed.new.self) called next allowed (doing_rule same noted) in
       record {
         planned = after c.in_ok-acts.acts.items next;
         reflects = a.stand;
@@ -44,7 +44,7 @@ loop-p-preserved g c = record {
       c.in_ok-perform.ensures.versions (words_by c.args.client.now) (acts_tell_so _ _ c.in_ok-acts.acts.items _ c.loop-p.invariant.words c.deref.ensures.value tells)
       (c.loop-p.invariant.versions called planned reflects doing has);
   count = c.in_ok-acts.ensures.count ∙ c.loop-p.invariant.count;
-  watch = c.in_ok-acts.ensures.rule ∙ c.loop-p.invariant.watch;
+  rule = c.in_ok-acts.ensures.rule ∙ c.loop-p.invariant.rule;
   words = c.in_ok-acts.ensures.words ∙ c.loop-p.invariant.words;
   performs = performs_then c.loop-p.invariant.performs
       (performs_then (noted_performs _ _ _ _ c.loop-p.progress _ (ap (λ (x : Progress). x.closed) c.note_told.ensures.told) c.note_told.ensures.fewer c.loop-p.invariant.performs.runs.step) c.in_ok-perform.ensures.performs);

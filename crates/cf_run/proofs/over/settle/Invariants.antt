@@ -12,7 +12,7 @@ invariant-loop-p g l = record {
   versions : (called : List (List ℕ)) (planned : Log) → Reflects l.fn.client planned → Doing (rule_by l.fn.client) [] l.fn.progress called planned (g.W.Wires.told l.fn.wires)
       → KeepsWords (words_by l.fn.client) (g.W.Wires.told l.fn.wires) (g.W.Wires.told l.wires);
   count : count_of l.client ≡ count_of l.fn.client;
-  watch : rule_by l.client ≡ rule_by l.fn.client;
+  rule : rule_by l.client ≡ rule_by l.fn.client;
   words : words_by l.client ≡ words_by l.fn.client;
   performs : Performs (moment (g.W.Wires.told l.fn.wires) (g.W.Wires.faults l.fn.wires) (g.W.Wires.script l.fn.wires) (g.W.Wires.keeps l.fn.wires) l.fn.progress) (moment (g.W.Wires.told l.wires) (g.W.Wires.faults l.wires) (g.W.Wires.script l.wires) (g.W.Wires.keeps l.wires) l.progress);
 }

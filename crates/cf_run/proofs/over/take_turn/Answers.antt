@@ -1,12 +1,9 @@
-use Rattle.std.proofs.Common.{◌≡◌, List, ◌∷◌, sym, ◌∙◌, ap, subst, refl}
-use Rattle.cf_peer.specs.declared.act.Act.{Act}
-use Rattle.cf_wires.specs.declared.event.Delivery.{Delivery}
-use Rattle.cf_wires.specs.declared.event.Event.TheVariants.{Took}
-use Rattle.cf_wires.specs.Log.{tell, Told}
-use Rattle.cf_client.specs.Stands.{Answers, words_by}
-use Rattle.cf_run.proofs.Versions.{entry_keeps, same_keeps, acts_tell_so, keeps_then}
-use Rattle.cf_run.proofs.Turns.{took_doing, doing_watch, ended_stops, took_counts, took_closed}
-use Rattle.cf_run.proofs.Courses.{told_runs, turns_took, turns_then}
+use Rattle.std.proofs.Common.{refl, ap}
+use Rattle.cf_wires.specs.Log.{Told}
+use Rattle.cf_client.specs.Stands.{rule_by}
+use Rattle.cf_run.specs.declared.outcome.End.TheVariants.{Ended as EndedFirst}
+use Rattle.cf_run.proofs.Turns.{ended_stops, may_take}
+use Rattle.cf_run.proofs.Courses.{runs_self, turns_none}
 use Rattle.cf_run.proofs.over.take_turn.Goals as goal
 
 pub returns-in-Synced-clause-turned : goal.returns-in-Synced-clause-turned
@@ -15,31 +12,44 @@ returns-in-Synced-clause-turned g c = λ called holds. record { holds = holds; w
 pub returns-in-NoPeers-clause-turned : goal.returns-in-NoPeers-clause-turned
 returns-in-NoPeers-clause-turned g c = λ called holds. record { holds = holds; why = c.in-NoPeers.ensures.state holds.actual holds.reflects }
 
-pub returns-in-Ended-clause-turned : goal.returns-in-Ended-clause-turned
-returns-in-Ended-clause-turned g c = λ called holds.
-    let told = subst (λ (d : Delivery). g.W.Wires.told c.next.new.self ≡ tell (Took d) (g.W.Wires.told c.args.wires.now)) c.in-Ended.is c.in_ok-d.ensures.took in
-    rw told (ended_stops c.args.client.now c.args.progress.now called _ holds (c.in-Working.ensures.state holds.actual holds.reflects))
+pub returns-in-Synced-clause-turns : goal.returns-in-Synced-clause-turns
+returns-in-Synced-clause-turns g c = turns_none _ _ (runs_self _ c.requires.step) refl
+
+pub returns-in-NoPeers-clause-turns : goal.returns-in-NoPeers-clause-turns
+returns-in-NoPeers-clause-turns g c = turns_none _ _ (runs_self _ c.requires.step) refl
+
+pub returns-then-more-clause-turned : goal.returns-then-more-clause-turned
+returns-then-more-clause-turned g c = λ called holds.
+    c.in_ok-more.ensures.holds c.if-more.true called holds (may_take (rule_by c.args.client.now).mode holds.actual (c.in-Working.ensures.state holds.actual holds.reflects))
 
 pub returns-clause-turned : goal.returns-clause-turned
 returns-clause-turned g c = λ called holds.
-    let d = c.in_ok-d.d in
-    let log = Took d ∷ holds.actual in
-    let doing = took_doing c.args.client.now c.deref.result.now c.args.progress.now called (g.W.Wires.told c.args.wires.now) d c.note_bytes.ensures holds (c.in-Working.ensures.state holds.actual holds.reflects) in
-    let a = c.in_ok-acts.ensures.answers holds.actual holds.reflects in
-    c.in_ok-carry_out.ensures.holds called log
-    (subst (λ (acts : List Act). Answers c.step.new.self acts log) (sym c.deref.ensures.value) a)
-    (doing_watch c.in_ok-acts.ensures.rule (rw c.in_ok-d.ensures.took doing))
+    let busy = c.in-Working.ensures.state holds.actual holds.reflects in
+    let over = c.in_ok-more.ensures.over c.if-more.false in
+    rw (over.0, over.1, over.2)
+    (ended_stops EndedFirst c.args.client.now c.args.progress.now called (g.W.Wires.told c.args.wires.now) holds (may_take (rule_by c.args.client.now).mode holds.actual busy)
+    (holds.actual, (refl, busy)))
 
-pub returns-clause-taken : goal.returns-clause-taken
-returns-clause-taken g c = c.in_ok-carry_out.ensures.performs.counts.taken ∙ ap (λ (t : Told). t.tally.taken) c.in_ok-d.ensures.took ∙ took_counts c.in_ok-d.d (g.W.Wires.told c.args.wires.now) c.in_default.not-Ended
+pub returns-then-more-clause-taken : goal.returns-then-more-clause-taken
+returns-then-more-clause-taken g c = c.in_ok-more.ensures.taken c.if-more.true
+
+pub returns-clause-untaken : goal.returns-clause-untaken
+returns-clause-untaken g c = ap (λ (t : Told). t.tally.taken) (c.in_ok-more.ensures.over c.if-more.false).2
+
+pub returns-then-more-clause-ended : goal.returns-then-more-clause-ended
+returns-then-more-clause-ended g c = c.in_ok-more.ensures.unended c.if-more.true
+
+pub returns-clause-ended : goal.returns-clause-ended
+returns-clause-ended g c = ap (λ (t : Told). t.tally.ended) (c.in_ok-more.ensures.over c.if-more.false).2
+
+pub returns-then-more-clause-turns : goal.returns-then-more-clause-turns
+returns-then-more-clause-turns g c = c.in_ok-more.ensures.turns
 
 pub returns-clause-turns : goal.returns-clause-turns
-returns-clause-turns g c =
-    turns_then
-    (turns_took c.in_ok-d.d _ _
-    (told_runs (Took c.in_ok-d.d) _ _ refl c.in_ok-d.ensures.took c.in_ok-d.ensures.later c.in_ok-d.ensures.same c.in_ok-d.ensures.keeps (took_closed c.in_ok-d.d (g.W.Wires.told c.args.wires.now)) refl c.requires.step)
-    c.in_ok-d.ensures.took)
-    c.in_ok-carry_out.ensures.performs
+returns-clause-turns g c = c.in_ok-more.ensures.turns
+
+pub returns-in_err-more-clause-turns : goal.returns-in_err-more-clause-turns
+returns-in_err-more-clause-turns g c = c.in_err-more.ensures.turns
 
 pub returns-in-Synced-clause-versions : goal.returns-in-Synced-clause-versions
 returns-in-Synced-clause-versions g c = λ called holds has. has
@@ -47,37 +57,14 @@ returns-in-Synced-clause-versions g c = λ called holds has. has
 pub returns-in-NoPeers-clause-versions : goal.returns-in-NoPeers-clause-versions
 returns-in-NoPeers-clause-versions g c = λ called holds has. has
 
-pub returns-in_err-d-clause-versions : goal.returns-in_err-d-clause-versions
-returns-in_err-d-clause-versions g c = λ called holds. same_keeps (words_by c.args.client.now) _ _ c.in_err-d.ensures.err
-
-pub returns-in-Ended-clause-versions : goal.returns-in-Ended-clause-versions
-returns-in-Ended-clause-versions g c = λ called holds. entry_keeps (words_by c.args.client.now) (Took c.in_ok-d.d) _ _ c.in_ok-d.ensures.took tt
-
-pub returns-in_err-acts-clause-versions : goal.returns-in_err-acts-clause-versions
-returns-in_err-acts-clause-versions g c = λ called holds. entry_keeps (words_by c.args.client.now) (Took c.in_ok-d.d) _ _ c.in_ok-d.ensures.took tt
+pub returns-then-more-clause-versions : goal.returns-then-more-clause-versions
+returns-then-more-clause-versions g c = λ called holds.
+    c.in_ok-more.ensures.versions called holds (may_take (rule_by c.args.client.now).mode holds.actual (c.in-Working.ensures.state holds.actual holds.reflects))
 
 pub returns-clause-versions : goal.returns-clause-versions
 returns-clause-versions g c = λ called holds.
-    let d = c.in_ok-d.d in
-    let log = Took d ∷ holds.actual in
-    let doing = took_doing c.args.client.now c.deref.result.now c.args.progress.now called (g.W.Wires.told c.args.wires.now) d c.note_bytes.ensures holds (c.in-Working.ensures.state holds.actual holds.reflects) in
-    let a = c.in_ok-acts.ensures.answers holds.actual holds.reflects in
-    keeps_then _ (words_by c.args.client.now) (g.W.Wires.told c.args.wires.now) (g.W.Wires.told c.next.new.self) (g.W.Wires.told c.carry_out.new.wires) c.in_ok-acts.ensures.words
-    (entry_keeps (words_by c.args.client.now) (Took d) _ _ c.in_ok-d.ensures.took tt)
-    (c.in_ok-carry_out.ensures.versions called log
-    (subst (λ (acts : List Act). Answers c.step.new.self acts log) (sym c.deref.ensures.value) a)
-    (doing_watch c.in_ok-acts.ensures.rule (rw c.in_ok-d.ensures.took doing))
-    (acts_tell_so _ _ c.in_ok-acts.acts.items _ (sym c.in_ok-acts.ensures.words) c.deref.ensures.value (c.in_ok-acts.ensures.tells holds.actual holds.reflects)))
+    c.in_ok-more.ensures.versions called holds (may_take (rule_by c.args.client.now).mode holds.actual (c.in-Working.ensures.state holds.actual holds.reflects))
 
-pub returns-in_err-carry_out-clause-versions : goal.returns-in_err-carry_out-clause-versions
-returns-in_err-carry_out-clause-versions g c = λ called holds.
-    let d = c.in_ok-d.d in
-    let log = Took d ∷ holds.actual in
-    let doing = took_doing c.args.client.now c.deref.result.now c.args.progress.now called (g.W.Wires.told c.args.wires.now) d c.note_bytes.ensures holds (c.in-Working.ensures.state holds.actual holds.reflects) in
-    let a = c.in_ok-acts.ensures.answers holds.actual holds.reflects in
-    keeps_then _ (words_by c.args.client.now) (g.W.Wires.told c.args.wires.now) (g.W.Wires.told c.next.new.self) (g.W.Wires.told c.carry_out.new.wires) c.in_ok-acts.ensures.words
-    (entry_keeps (words_by c.args.client.now) (Took d) _ _ c.in_ok-d.ensures.took tt)
-    (c.in_err-carry_out.ensures.versions called log
-    (subst (λ (acts : List Act). Answers c.step.new.self acts log) (sym c.deref.ensures.value) a)
-    (doing_watch c.in_ok-acts.ensures.rule (rw c.in_ok-d.ensures.took doing))
-    (acts_tell_so _ _ c.in_ok-acts.acts.items _ (sym c.in_ok-acts.ensures.words) c.deref.ensures.value (c.in_ok-acts.ensures.tells holds.actual holds.reflects)))
+pub returns-in_err-more-clause-versions : goal.returns-in_err-more-clause-versions
+returns-in_err-more-clause-versions g c = λ called holds.
+    c.in_err-more.ensures.versions called holds (may_take (rule_by c.args.client.now).mode holds.actual (c.in-Working.ensures.state holds.actual holds.reflects))

@@ -36,7 +36,7 @@ loop-turn-preserved g c = record {
       keeps_then (words_by c.loop-turn.client) (words_by c.args.client.now) (g.W.Wires.told c.args.wires.now) (g.W.Wires.told c.loop-turn.wires) (g.W.Wires.told c.take_turn.new.wires)
       c.loop-turn.invariant.words (c.loop-turn.invariant.versions called holds)
       (c.in_ok-end.ensures.versions called (c.loop-turn.invariant.holds called holds));
-  watch = c.in_ok-end.ensures.rule ∙ c.loop-turn.invariant.watch;
+  rule = c.in_ok-end.ensures.rule ∙ c.loop-turn.invariant.rule;
   words = c.in_ok-end.ensures.words ∙ c.loop-turn.invariant.words;
   taken =
       subst (λ (o : Option End). IfNone o ((g.W.Wires.told c.take_turn.new.wires).tally.taken ≡ (g.W.Wires.told c.loop-turn.wires).tally.taken + 1)) c.in_default.is c.in_ok-end.ensures.taken

@@ -8,7 +8,7 @@ abbrev pub invariant-loop-turn : goal.invariant-loop-turn
 invariant-loop-turn g l = record {
   holds : (called : List (List ℕ)) → HoldsOver l.fn.client l.fn.progress called (g.W.Wires.told l.fn.wires) → HoldsOver l.client l.progress called (g.W.Wires.told l.wires);
   versions : (called : List (List ℕ)) → HoldsOver l.fn.client l.fn.progress called (g.W.Wires.told l.fn.wires) → KeepsWords (words_by l.fn.client) (g.W.Wires.told l.fn.wires) (g.W.Wires.told l.wires);
-  watch : rule_by l.client ≡ rule_by l.fn.client;
+  rule : rule_by l.client ≡ rule_by l.fn.client;
   words : words_by l.client ≡ words_by l.fn.client;
   taken : (g.W.Wires.told l.wires).tally.taken ≡ l._turn;
   unended : (g.W.Wires.told l.wires).tally.ended ≡ 0;

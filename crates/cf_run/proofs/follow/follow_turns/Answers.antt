@@ -1,0 +1,116 @@
+use Rattle.std.proofs.Common.{inr, ℕ, ◌+◌, Option, Some, refl, ◌∙◌, ap, subst, arith}
+use Rattle.cf_sync.specs.Fetching.{Rule}
+use Rattle.cf_client.specs.Stands.{words_by}
+use Rattle.cf_run.specs.declared.outcome.End.{End}
+use Rattle.cf_run.specs.Run.{Turned}
+use Rattle.cf_run.proofs.Courses.{runs_self, runs_then, no_more_self, no_more_then}
+use Rattle.cf_run.proofs.Turns.{holds_same, rule_same, stops}
+use Rattle.cf_run.proofs.Versions.{keeps_then}
+use Rattle.cf_run.proofs.Puts.{on_err, all_by, none_have, right_now, some_by}
+use Rattle.cf_run.proofs.follow.follow_turns.Goals as goal
+
+pub loop-turn-init : goal.loop-turn-init
+loop-turn-init g c = record {
+  follows = c.requires.follows;
+  holds = λ called holds. holds;
+  puts = λ watch called same holds were. none_have watch (g.W.Wires.told c.args.wires.now) (g.T.Texts.told c.args.texts.now) were;
+  versions = λ called holds has. has;
+  rule = refl;
+  words = refl;
+  taken = c.requires.fresh;
+  unended = c.requires.unended;
+  same = no_more_self _;
+  runs = runs_self _ c.requires.step;
+  fine = refl;
+  same_reference = refl;
+}
+
+pub loop-turn-preserved : goal.loop-turn-preserved
+loop-turn-preserved g c = record {
+  follows = ap (λ (r : Rule). r.mode) c.in_ok-end.ensures.rule ∙ c.loop-turn.invariant.follows;
+  holds = λ called holds.
+      subst (λ (o : Option End). Turned o c.follow_turn.new.client c.follow_turn.new.progress called (g.W.Wires.told c.follow_turn.new.wires)) c.in_default.is
+      (c.in_ok-end.ensures.turned called (c.loop-turn.invariant.holds called holds));
+  puts = λ watch called same holds were.
+      c.in_ok-end.ensures.puts c.in_default.is watch called (g.T.Texts.told c.args.texts.now) (ap (λ (r : Rule). r.watch) c.loop-turn.invariant.rule ∙ same)
+      (c.loop-turn.invariant.holds called holds) (c.loop-turn.invariant.puts watch called same holds were);
+  versions = λ called holds.
+      keeps_then (words_by c.loop-turn.client) (words_by c.args.client.now) (g.W.Wires.told c.args.wires.now) (g.W.Wires.told c.loop-turn.wires) (g.W.Wires.told c.follow_turn.new.wires)
+      c.loop-turn.invariant.words (c.loop-turn.invariant.versions called holds)
+      (c.in_ok-end.ensures.versions called (c.loop-turn.invariant.holds called holds));
+  rule = c.in_ok-end.ensures.rule ∙ c.loop-turn.invariant.rule;
+  words = c.in_ok-end.ensures.words ∙ c.loop-turn.invariant.words;
+  taken = c.in_ok-end.ensures.taken c.in_default.is ∙ ap (λ (n : ℕ). n + 1) c.loop-turn.invariant.taken;
+  unended = c.in_ok-end.ensures.unended c.in_default.is ∙ c.loop-turn.invariant.unended;
+  same = no_more_then (g.W.Wires.told c.args.wires.now) (g.W.Wires.told c.loop-turn.wires) (g.W.Wires.told c.follow_turn.new.wires) c.loop-turn.invariant.same c.in_ok-end.ensures.turns.same;
+  runs = runs_then c.loop-turn.invariant.runs c.in_ok-end.ensures.turns.runs;
+  fine = c.in_ok-end.ensures.fine ∙ c.loop-turn.invariant.fine;
+  same_reference = c.in_ok-end.ensures.same_reference ∙ c.loop-turn.invariant.same_reference;
+}
+
+pub returns-in-Some-clause-stopped : goal.returns-in-Some-clause-stopped
+returns-in-Some-clause-stopped g c = λ called holds.
+    subst (λ (o : Option End). Turned o c.follow_turn.new.client c.follow_turn.new.progress called (g.W.Wires.told c.follow_turn.new.wires)) c.in-Some.is
+    (c.in_ok-end.ensures.turned called (c.loop-turn.invariant.holds called holds))
+
+pub returns-clause-stopped : goal.returns-clause-stopped
+returns-clause-stopped g c = λ called holds.
+    let held = holds_same {c = c.loop-turn.client} {d = c.put_at_rest.new.client} c.in_ok-put_at_rest.ensures.same (c.loop-turn.invariant.holds called holds) in
+    stops c.last_end.result c.put_at_rest.new.client c.loop-turn.progress called (g.W.Wires.told c.loop-turn.wires) held c.last_end.ensures.end
+
+pub returns-in-Some-clause-put : goal.returns-in-Some-clause-put
+returns-in-Some-clause-put g c = λ watch called same holds were.
+    c.in_ok-end.ensures.all_put c.in-Some.end c.in-Some.is watch called (g.T.Texts.told c.args.texts.now) (ap (λ (r : Rule). r.watch) c.loop-turn.invariant.rule ∙ same)
+    (c.loop-turn.invariant.holds called holds) (c.loop-turn.invariant.puts watch called same holds were)
+
+pub returns-clause-put : goal.returns-clause-put
+returns-clause-put g c = λ watch called same holds were.
+    let have = c.loop-turn.invariant.puts watch called same holds were in
+    all_by c.loop-turn.client c.loop-turn.progress called (g.W.Wires.told c.loop-turn.wires) watch c.loop-turn.last c.put_at_rest.new.last (g.T.Texts.told c.args.texts.now) _ _
+    (c.loop-turn.invariant.holds called holds) c.loop-turn.invariant.follows (ap (λ (r : Rule). r.watch) c.loop-turn.invariant.rule ∙ same) have (c.in_ok-put_at_rest.ensures.put have.texts have.newest)
+
+pub returns-in_err-end-clause-put_some : goal.returns-in_err-end-clause-put_some
+returns-in_err-end-clause-put_some g c = on_err _ (λ watch called same holds were.
+    c.in_err-end.ensures.put_some watch called (g.T.Texts.told c.args.texts.now) (ap (λ (r : Rule). r.watch) c.loop-turn.invariant.rule ∙ same)
+    (c.loop-turn.invariant.holds called holds) (c.loop-turn.invariant.puts watch called same holds were))
+
+pub returns-in_err-put_at_rest-clause-put_some : goal.returns-in_err-put_at_rest-clause-put_some
+returns-in_err-put_at_rest-clause-put_some g c = on_err _ (λ watch called same holds were.
+    let have = c.loop-turn.invariant.puts watch called same holds were in
+    some_by c.loop-turn.client c.loop-turn.progress called (g.W.Wires.told c.loop-turn.wires) watch c.loop-turn.last (g.T.Texts.told c.args.texts.now) _ _
+    (c.loop-turn.invariant.holds called holds) c.loop-turn.invariant.follows (ap (λ (r : Rule). r.watch) c.loop-turn.invariant.rule ∙ same) have (c.in_err-put_at_rest.ensures.put_some have.texts have.newest))
+
+pub returns-in_err-end-clause-right : goal.returns-in_err-end-clause-right
+returns-in_err-end-clause-right g c = λ failed called holds. c.in_err-end.ensures.right failed called (c.loop-turn.invariant.holds called holds)
+
+pub returns-in_err-put_at_rest-clause-right : goal.returns-in_err-put_at_rest-clause-right
+returns-in_err-put_at_rest-clause-right g c = λ failed called holds.
+    right_now c.loop-turn.client c.loop-turn.progress called (g.W.Wires.told c.loop-turn.wires) (c.loop-turn.invariant.holds called holds) c.loop-turn.invariant.follows
+
+pub returns-in-Some-clause-versions : goal.returns-in-Some-clause-versions
+returns-in-Some-clause-versions g c = λ called holds.
+    keeps_then (words_by c.loop-turn.client) (words_by c.args.client.now) (g.W.Wires.told c.args.wires.now) (g.W.Wires.told c.loop-turn.wires) (g.W.Wires.told c.follow_turn.new.wires) c.loop-turn.invariant.words (c.loop-turn.invariant.versions called holds)
+    (c.in_ok-end.ensures.versions called (c.loop-turn.invariant.holds called holds))
+
+pub returns-in_err-end-clause-versions : goal.returns-in_err-end-clause-versions
+returns-in_err-end-clause-versions g c = λ called holds.
+    keeps_then (words_by c.loop-turn.client) (words_by c.args.client.now) (g.W.Wires.told c.args.wires.now) (g.W.Wires.told c.loop-turn.wires) (g.W.Wires.told c.follow_turn.new.wires) c.loop-turn.invariant.words (c.loop-turn.invariant.versions called holds)
+    (c.in_err-end.ensures.versions called (c.loop-turn.invariant.holds called holds))
+
+pub returns-clause-rule : goal.returns-clause-rule
+returns-clause-rule g c = rule_same c.in_ok-put_at_rest.ensures.same ∙ c.loop-turn.invariant.rule
+
+pub returns-in-Some-clause-rule : goal.returns-in-Some-clause-rule
+returns-in-Some-clause-rule g c = c.in_ok-end.ensures.rule ∙ c.loop-turn.invariant.rule
+
+pub returns-in-Some-clause-done : goal.returns-in-Some-clause-done
+returns-in-Some-clause-done g c = λ is. inr (c.in_ok-end.ensures.ended c.in-Some.end c.in-Some.is (λ no. cc (is, no)) ∙ ap (λ (n : ℕ). n + 1) c.loop-turn.invariant.unended)
+
+pub returns-in-Some-clause-ended : goal.returns-in-Some-clause-ended
+returns-in-Some-clause-ended g c = λ is. c.in_ok-end.ensures.ended c.in-Some.end c.in-Some.is (λ no. cc (is, no)) ∙ ap (λ (n : ℕ). n + 1) c.loop-turn.invariant.unended
+
+pub returns-in-Some-clause-tired : goal.returns-in-Some-clause-tired
+returns-in-Some-clause-tired g c = λ is. absurd (c.in_ok-end.ensures.untired (c.in-Some.is ∙ ap Some is))
+
+pub returns-in-Some-clause-early : goal.returns-in-Some-clause-early
+returns-in-Some-clause-early g c = λ is. (let none = c.in_ok-end.ensures.untaken (λ no. cc (c.in-Some.is, no)) in omega (arith, none, c.loop-turn.invariant.taken))

@@ -1,0 +1,5 @@
+use Rattle.cf_run.proofs.Puts.{last_none, last_some}
+use Rattle.cf_run.proofs.follow.is_last.Goals as goal
+
+pub returns-in-None : goal.returns-in-None
+returns-in-None c = λ before is. last_none c.args.text.now before c.args.last.now c.in-None.is is

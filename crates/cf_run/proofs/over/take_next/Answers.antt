@@ -1,0 +1,85 @@
+use Rattle.std.proofs.Common.{◌≡◌, List, ◌∷◌, true, false, sym, ◌∙◌, ap, subst, refl}
+use Rattle.std.proofs.lemmas.Bool.{false≢true}
+use Rattle.cf_peer.specs.declared.act.Act.{Act}
+use Rattle.cf_wires.specs.declared.event.Delivery.{Delivery}
+use Rattle.cf_wires.specs.declared.event.Event.TheVariants.{Took}
+use Rattle.cf_wires.specs.Log.{tell, Told}
+use Rattle.cf_client.specs.Stands.{Answers, words_by}
+use Rattle.cf_run.proofs.Versions.{entry_keeps, same_keeps, acts_tell_so, keeps_then}
+use Rattle.cf_run.proofs.Turns.{took_doing, doing_rule, took_counts, took_closed}
+use Rattle.cf_run.proofs.Courses.{told_runs, turns_took, turns_then, puts_taken}
+use Rattle.cf_run.proofs.over.take_next.Goals as goal
+
+pub returns-clause-holds : goal.returns-clause-holds
+returns-clause-holds g c = λ is called holds may.
+    let d = c.in_ok-d.d in
+    let log = Took d ∷ holds.actual in
+    let doing = took_doing c.args.client.now c.deref.result.now c.args.progress.now called (g.W.Wires.told c.args.wires.now) d c.note_bytes.ensures holds may in
+    let a = c.in_ok-acts.ensures.answers holds.actual holds.reflects in
+    c.in_ok-carry_out.ensures.holds called log
+    (subst (λ (acts : List Act). Answers c.step.new.self acts log) (sym c.deref.ensures.value) a)
+    (doing_rule c.in_ok-acts.ensures.rule (rw c.in_ok-d.ensures.took doing))
+
+pub returns-in-Ended-clause-over : goal.returns-in-Ended-clause-over
+returns-in-Ended-clause-over g c = λ is.
+    (refl, refl, subst (λ (d : Delivery). g.W.Wires.told c.next.new.self ≡ tell (Took d) (g.W.Wires.told c.args.wires.now)) c.in-Ended.is c.in_ok-d.ensures.took)
+
+pub returns-clause-puts : goal.returns-clause-puts
+returns-clause-puts g c = λ watch texts put.
+    c.in_ok-carry_out.ensures.performs.counts.puts watch texts (puts_taken c.in_ok-d.d _ _ c.in_ok-d.ensures.took watch texts put)
+
+pub returns-in-Ended-clause-puts : goal.returns-in-Ended-clause-puts
+returns-in-Ended-clause-puts g c = λ watch texts put. puts_taken c.in_ok-d.d _ _ c.in_ok-d.ensures.took watch texts put
+
+pub returns-clause-taken : goal.returns-clause-taken
+returns-clause-taken g c = λ is.
+    c.in_ok-carry_out.ensures.performs.counts.taken ∙ ap (λ (t : Told). t.tally.taken) c.in_ok-d.ensures.took ∙ took_counts c.in_ok-d.d (g.W.Wires.told c.args.wires.now) c.in_default.not-Ended
+
+pub returns-clause-turns : goal.returns-clause-turns
+returns-clause-turns g c =
+    turns_then c.in_ok-d.d _
+    (told_runs (Took c.in_ok-d.d) _ _ refl c.in_ok-d.ensures.took c.in_ok-d.ensures.later c.in_ok-d.ensures.same c.in_ok-d.ensures.keeps (took_closed c.in_ok-d.d (g.W.Wires.told c.args.wires.now)) refl c.requires.step)
+    c.in_ok-d.ensures.took
+    c.in_ok-carry_out.ensures.performs
+
+pub returns-in_err-carry_out-clause-turns : goal.returns-in_err-carry_out-clause-turns
+returns-in_err-carry_out-clause-turns g c =
+    turns_then c.in_ok-d.d _
+    (told_runs (Took c.in_ok-d.d) _ _ refl c.in_ok-d.ensures.took c.in_ok-d.ensures.later c.in_ok-d.ensures.same c.in_ok-d.ensures.keeps (took_closed c.in_ok-d.d (g.W.Wires.told c.args.wires.now)) refl c.requires.step)
+    c.in_ok-d.ensures.took
+    c.in_err-carry_out.ensures.performs
+
+pub returns-in_err-d-clause-versions : goal.returns-in_err-d-clause-versions
+returns-in_err-d-clause-versions g c = λ called holds may. same_keeps (words_by c.args.client.now) _ _ c.in_err-d.ensures.err
+
+pub returns-in-Ended-clause-versions : goal.returns-in-Ended-clause-versions
+returns-in-Ended-clause-versions g c = λ called holds may. entry_keeps (words_by c.args.client.now) (Took c.in_ok-d.d) _ _ c.in_ok-d.ensures.took tt
+
+pub returns-in_err-acts-clause-versions : goal.returns-in_err-acts-clause-versions
+returns-in_err-acts-clause-versions g c = λ called holds may. entry_keeps (words_by c.args.client.now) (Took c.in_ok-d.d) _ _ c.in_ok-d.ensures.took tt
+
+pub returns-clause-versions : goal.returns-clause-versions
+returns-clause-versions g c = λ called holds may.
+    let d = c.in_ok-d.d in
+    let log = Took d ∷ holds.actual in
+    let doing = took_doing c.args.client.now c.deref.result.now c.args.progress.now called (g.W.Wires.told c.args.wires.now) d c.note_bytes.ensures holds may in
+    let a = c.in_ok-acts.ensures.answers holds.actual holds.reflects in
+    keeps_then _ (words_by c.args.client.now) (g.W.Wires.told c.args.wires.now) (g.W.Wires.told c.next.new.self) (g.W.Wires.told c.carry_out.new.wires) c.in_ok-acts.ensures.words
+    (entry_keeps (words_by c.args.client.now) (Took d) _ _ c.in_ok-d.ensures.took tt)
+    (c.in_ok-carry_out.ensures.versions called log
+    (subst (λ (acts : List Act). Answers c.step.new.self acts log) (sym c.deref.ensures.value) a)
+    (doing_rule c.in_ok-acts.ensures.rule (rw c.in_ok-d.ensures.took doing))
+    (acts_tell_so _ _ c.in_ok-acts.acts.items _ (sym c.in_ok-acts.ensures.words) c.deref.ensures.value (c.in_ok-acts.ensures.tells holds.actual holds.reflects)))
+
+pub returns-in_err-carry_out-clause-versions : goal.returns-in_err-carry_out-clause-versions
+returns-in_err-carry_out-clause-versions g c = λ called holds may.
+    let d = c.in_ok-d.d in
+    let log = Took d ∷ holds.actual in
+    let doing = took_doing c.args.client.now c.deref.result.now c.args.progress.now called (g.W.Wires.told c.args.wires.now) d c.note_bytes.ensures holds may in
+    let a = c.in_ok-acts.ensures.answers holds.actual holds.reflects in
+    keeps_then _ (words_by c.args.client.now) (g.W.Wires.told c.args.wires.now) (g.W.Wires.told c.next.new.self) (g.W.Wires.told c.carry_out.new.wires) c.in_ok-acts.ensures.words
+    (entry_keeps (words_by c.args.client.now) (Took d) _ _ c.in_ok-d.ensures.took tt)
+    (c.in_err-carry_out.ensures.versions called log
+    (subst (λ (acts : List Act). Answers c.step.new.self acts log) (sym c.deref.ensures.value) a)
+    (doing_rule c.in_ok-acts.ensures.rule (rw c.in_ok-d.ensures.took doing))
+    (acts_tell_so _ _ c.in_ok-acts.acts.items _ (sym c.in_ok-acts.ensures.words) c.deref.ensures.value (c.in_ok-acts.ensures.tells holds.actual holds.reflects)))

@@ -1,0 +1,303 @@
+//! A run that follows: the dials, the deliveries, and the texts of its quiet moments.
+ghost use Rattle.std.specs.Prelude.{◌≡◌, ◌≢◌, ◌↔◌, ℕ, None, ◌<◌, ◌≤◌, ◌+◌, ◌∷◌, [], List, Option, OnOk, IfOk, OnErr, IfSome, IsErrOf, Some, false, true, length, string_bytes, if◌then◌else◌};
+ghost use Rattle.cf_bytes.specs.Outside.{HasRisen, with_more};
+ghost use Rattle.cf_client.specs.Holding.{HoldsNoMore};
+ghost use Rattle.cf_client.specs.Stands.{Reflects, count_of, rule_by, watch_by, words_by};
+ghost use Rattle.cf_peer.specs.declared.mode.Mode.TheVariants.{Following};
+ghost use Rattle.cf_place.specs.Places.{EndsTell};
+ghost use Rattle.cf_run.specs.Names.{names_in};
+ghost use Rattle.cf_run.specs.Passing.{EndsWithin, Passes};
+ghost use Rattle.cf_run.specs.Run.{Course, Followed, HasDialled, HasFailed, HoldsOver, IsEnd, IsInStep, IsNoMore, NobodyLeft, Runs, Stopped, Turned, Turns, moment};
+ghost use Rattle.cf_run.specs.Texts.{AllPut, HasBegun, HasPut, HasPutSome, HavePut, IsLast, IsOver, PutBefore, PutsNext, PutsOne, PutsSome, SomePut, joined};
+ghost use Rattle.cf_run.specs.Versions.{HasWords, KeepsWords};
+ghost use Rattle.cf_sync.specs.Fetching.{AreBytes, RightlyIn, following};
+ghost use Rattle.cf_sync.specs.Growing.{FollowTheorem};
+ghost use Rattle.cf_sync.specs.Putting.{put};
+ghost use Rattle.cf_wires.specs.Log.{Log, Tells};
+ghost use Rattle.cf_wires.specs.declared.event.Delivery.TheVariants.{Ended};
+ghost use Rattle.cf_wires.specs.declared.event.Event.TheVariants.{Took};
+
+use crate::outcome::{End, Outcome};
+use crate::over::{dial_all, last_end, outcome_of, take_next};
+use crate::progress::Progress;
+use crate::texts::{TextFail, Texts};
+use cf_bytes::NoMemory;
+use cf_client::Client;
+use cf_headers::HeaderStore;
+use cf_match::Matcher;
+use cf_place::State;
+use cf_scan::Watch;
+use cf_wires::Wires;
+use std::alloc::Global;
+
+// Whether this is the last text that was put.
+fn is_last(last: &Option<String>, text: &str) -> bool
+    ensures { (before : List (List ℕ)) → IsLast last.now before → put text.now before ≡ (if result then before else text.now ∷ before) }
+{
+    match last {
+        Some(last) => text == last.as_str(),
+        None => false,
+    }
+}
+
+// Puts a text, unless it is the last one that was put.
+fn put_text<T: Texts>(
+    texts: &mut T,
+    last: &mut Option<String>,
+    text: String,
+) -> Result<(), TextFail>
+    ensures put { OnOk result ((before : List (List ℕ)) → IsLast last.old before → PutsOne (string_bytes text) before last.new (T.told texts.old) (T.told texts.new)) }
+    ensures begun { OnErr result ((before : List (List ℕ)) (first : Option (List ℕ)) → IsLast last.old before → T.told texts.old ≡ with_more first (joined before) → HasBegun (joined (put (string_bytes text) before)) first (T.told texts.new)) }
+    ensures fine { OnOk result (T.faults texts.new ≡ T.faults texts.old) }
+    ensures failed { IsErrOf result TextFail.Failed → HasRisen (T.faults texts.old) (T.faults texts.new) }
+    ensures same_reference { T.holds texts.new ≡ T.holds texts.old }
+{
+    if is_last(last, text.as_str()) {
+        return Ok(());
+    }
+    texts.put(text.as_str())?;
+    *last = Some(text);
+    Ok(())
+}
+
+// Where nothing is open and a peer is connected, puts the text of the history and the tip, unless it is the last one that was put.
+fn put_at_rest<H: HeaderStore, M: Matcher, T: Texts>(
+    alloc: Global,
+    client: &mut Client<H, M>,
+    texts: &mut T,
+    last: &mut Option<String>,
+) -> Result<(), TextFail>
+    requires follows { (rule_by client.old).mode ≡ Following }
+    ensures put { OnOk result ((before : List (List ℕ)) → IsLast last.old before → PutsNext client.old before last.new (T.told texts.old) (T.told texts.new)) }
+    ensures put_some { OnErr result ((before : List (List ℕ)) → IsLast last.old before → PutsSome client.old before (T.told texts.old) (T.told texts.new)) }
+    ensures same { OnOk result (client.new ≡ client.old) }
+    ensures fine { OnOk result (T.faults texts.new ≡ T.faults texts.old) }
+    ensures failed { IsErrOf result TextFail.Failed → HasRisen (T.faults texts.old) (T.faults texts.new) }
+    ensures same_reference { T.holds texts.new ≡ T.holds texts.old }
+{
+    match client.state() {
+        State::Working => return Ok(()),
+        State::NoPeers => return Ok(()),
+        State::Synced => {}
+    }
+    let report = client.report()?;
+    let text = report.history.text(alloc, report.height, &report.tip)?;
+    put_text(texts, last, text)?;
+    Ok(())
+}
+
+// How a run that follows ends once its wires give no more, of which the client isn't told.
+fn end_of_wires<H: HeaderStore, M: Matcher>(client: &Client<H, M>) -> End
+    ensures end { (log : Log) → Reflects client.now log → IsEnd result (Took Ended ∷ log) }
+    ensures untired { result ≢ End.Tired }
+{
+    match client.state() {
+        State::Working => End::Ended,
+        State::Synced => End::Synced,
+        State::NoPeers => End::NoPeers,
+    }
+}
+
+// Puts the text of a quiet moment, and takes the next delivery, unless no peer is connected.
+fn follow_turn<W: Wires, H: HeaderStore, M: Matcher, T: Texts>(
+    alloc: Global,
+    wires: &mut W,
+    client: &mut Client<H, M>,
+    progress: &mut Progress,
+    texts: &mut T,
+    last: &mut Option<String>,
+) -> Result<Option<End>, TextFail>
+    requires follows { (rule_by client.old).mode ≡ Following }
+    requires step { IsInStep (W.told wires.old) progress.old }
+    requires open { (W.told wires.old).finished ≡ false }
+    ensures turned { IfOk result (λ end. (called : List (List ℕ)) → HoldsOver client.old progress.old called (W.told wires.old) → Turned end client.new progress.new called (W.told wires.new)) }
+    ensures puts { IfOk result (λ end. end ≡ None → (watch called : List (List ℕ)) (first : Option (List ℕ)) → watch_by client.old ≡ watch → HoldsOver client.old progress.old called (W.told wires.old)
+        → HavePut watch last.old (W.told wires.old) first (T.told texts.old) → HavePut watch last.new (W.told wires.new) first (T.told texts.new)) }
+    ensures all_put { IfOk result (λ end. (e : End) → end ≡ Some e → (watch called : List (List ℕ)) (first : Option (List ℕ)) → watch_by client.old ≡ watch → HoldsOver client.old progress.old called (W.told wires.old)
+        → HavePut watch last.old (W.told wires.old) first (T.told texts.old) → AllPut watch (W.told wires.new) first (T.told texts.new)) }
+    ensures put_some { OnErr result ((watch called : List (List ℕ)) (first : Option (List ℕ)) → watch_by client.old ≡ watch → HoldsOver client.old progress.old called (W.told wires.old)
+        → HavePut watch last.old (W.told wires.old) first (T.told texts.old) → SomePut watch (W.told wires.new) first (T.told texts.new)) }
+    ensures right { IsErrOf result TextFail.Failed → (called : List (List ℕ)) → HoldsOver client.old progress.old called (W.told wires.old) → IfSome (W.told wires.new).log (λ log. AreBytes log × RightlyIn Following log) }
+    ensures versions { (called : List (List ℕ)) → HoldsOver client.old progress.old called (W.told wires.old) → KeepsWords (words_by client.old) (W.told wires.old) (W.told wires.new) }
+    ensures rule { OnOk result (rule_by client.new ≡ rule_by client.old) }
+    ensures words { OnOk result (words_by client.new ≡ words_by client.old) }
+    ensures taken { IfOk result (λ end. end ≡ None → (W.told wires.new).tally.taken ≡ (W.told wires.old).tally.taken + 1) }
+    ensures untaken { IfOk result (λ end. end ≢ None → (W.told wires.new).tally.taken ≡ (W.told wires.old).tally.taken) }
+    ensures untired { IfOk result (λ end. end ≢ Some End.Tired) }
+    ensures unended { IfOk result (λ end. end ≡ None → (W.told wires.new).tally.ended ≡ (W.told wires.old).tally.ended) }
+    ensures ended { IfOk result (λ end. (e : End) → end ≡ Some e → e ≢ End.NoPeers → (W.told wires.new).tally.ended ≡ (W.told wires.old).tally.ended + 1) }
+    ensures turns { Turns (moment (W.told wires.old) (W.faults wires.old) (W.script wires.old) (W.keeps wires.old) progress.old) (moment (W.told wires.new) (W.faults wires.new) (W.script wires.new) (W.keeps wires.new) progress.new) }
+    ensures fine { OnOk result (T.faults texts.new ≡ T.faults texts.old) }
+    ensures failed { IsErrOf result TextFail.Failed → HasRisen (T.faults texts.old) (T.faults texts.new) }
+    ensures same_reference { T.holds texts.new ≡ T.holds texts.old }
+{
+    put_at_rest(alloc, client, texts, last)?;
+    if let State::NoPeers = client.state() {
+        return Ok(Some(End::NoPeers));
+    }
+    let more = take_next(alloc, wires, client, progress)?;
+    if more {
+        return Ok(None);
+    }
+    put_at_rest(alloc, client, texts, last)?;
+    Ok(Some(end_of_wires(client)))
+}
+
+// Takes turns until the run ends, and puts the text of each quiet moment.
+fn follow_turns<W: Wires, H: HeaderStore, M: Matcher, T: Texts>(
+    alloc: Global,
+    wires: &mut W,
+    client: &mut Client<H, M>,
+    progress: &mut Progress,
+    turns: u32,
+    texts: &mut T,
+) -> Result<End, TextFail>
+    requires follows { (rule_by client.old).mode ≡ Following }
+    requires fresh { (W.told wires.old).tally.taken ≡ 0 }
+    requires unended { (W.told wires.old).tally.ended ≡ 0 }
+    requires step { IsInStep (W.told wires.old) progress.old }
+    requires open { (W.told wires.old).finished ≡ false }
+    ensures stopped { IfOk result (λ end. (called : List (List ℕ)) → HoldsOver client.old progress.old called (W.told wires.old) → Stopped end client.new progress.new called (W.told wires.new)) }
+    ensures put { OnOk result ((watch called : List (List ℕ)) → watch_by client.old ≡ watch → HoldsOver client.old progress.old called (W.told wires.old) → PutBefore watch [] (W.told wires.old)
+        → AllPut watch (W.told wires.new) (T.told texts.old) (T.told texts.new)) }
+    ensures put_some { OnErr result ((watch called : List (List ℕ)) → watch_by client.old ≡ watch → HoldsOver client.old progress.old called (W.told wires.old) → PutBefore watch [] (W.told wires.old)
+        → SomePut watch (W.told wires.new) (T.told texts.old) (T.told texts.new)) }
+    ensures right { IsErrOf result TextFail.Failed → (called : List (List ℕ)) → HoldsOver client.old progress.old called (W.told wires.old) → IfSome (W.told wires.new).log (λ log. AreBytes log × RightlyIn Following log) }
+    ensures versions { (called : List (List ℕ)) → HoldsOver client.old progress.old called (W.told wires.old) → KeepsWords (words_by client.old) (W.told wires.old) (W.told wires.new) }
+    ensures rule { OnOk result (rule_by client.new ≡ rule_by client.old) }
+    ensures done { IfOk result (λ end. end ≡ End.Synced → IsOver turns (W.told wires.new).tally) }
+    ensures tired { IfOk result (λ end. end ≡ End.Tired → (W.told wires.new).tally.taken ≡ turns) }
+    ensures ended { IfOk result (λ end. end ≡ End.Ended → (W.told wires.new).tally.ended ≡ 1) }
+    ensures early { IfOk result (λ end. end ≡ End.Ended → (W.told wires.new).tally.taken < turns) }
+    ensures most { (W.told wires.new).tally.taken ≤ turns }
+    ensures once { (W.told wires.new).tally.ended ≤ 1 }
+    ensures same { IsNoMore (W.told wires.old) (W.told wires.new) }
+    ensures runs { Runs (moment (W.told wires.old) (W.faults wires.old) (W.script wires.old) (W.keeps wires.old) progress.old) (moment (W.told wires.new) (W.faults wires.new) (W.script wires.new) (W.keeps wires.new) progress.new) }
+    ensures fine { OnOk result (T.faults texts.new ≡ T.faults texts.old) }
+    ensures failed { IsErrOf result TextFail.Failed → HasRisen (T.faults texts.old) (T.faults texts.new) }
+    ensures same_reference { T.holds texts.new ≡ T.holds texts.old }
+{
+    let mut last = None;
+    for _turn in 0..turns {
+        if let Some(end) = follow_turn(alloc, wires, client, progress, texts, &mut last)? {
+            return Ok(end);
+        }
+    }
+    put_at_rest(alloc, client, texts, &mut last)?;
+    Ok(last_end(client))
+}
+
+// A client that follows, before its first dial.
+fn follower<H: HeaderStore + Drop, M: Matcher + Drop>(
+    alloc: Global,
+    watch: Watch,
+    store: H,
+    matcher: M,
+    moment: i64,
+    nonce: u64,
+) -> Result<Client<H, M>, NoMemory>
+    requires { (q : ℕ) → H.chain store q ≡ None }
+    ensures reflects { IfOk result (λ c. Reflects c []) }
+    ensures rule { IfOk result (λ c. rule_by c ≡ following watch) }
+    ensures words { IfOk result (λ c. words_by c ≡ record { moment = moment; number = nonce }) }
+    ensures count { IfOk result (λ c. count_of c ≡ 1) }
+{
+    let client = Client::new(alloc, watch, store, matcher, moment, nonce)?;
+    Ok(client.following())
+}
+
+// Dials the peers, follows what they show, and puts together what came of it.
+fn follow_all<W: Wires, H: HeaderStore + Drop, M: Matcher + Drop, T: Texts>(
+    alloc: Global,
+    wires: &mut W,
+    names: &[String],
+    watch: Watch,
+    store: H,
+    matcher: M,
+    moment: i64,
+    nonce: u64,
+    turns: u32,
+    texts: &mut T,
+) -> Result<Outcome, TextFail>
+    requires fresh { Tells [] (W.told wires.old) }
+    requires open { (W.told wires.old).finished ≡ false }
+    requires few { length names.now ≤ 8 }
+    requires empty { (q : ℕ) → H.chain store q ≡ None }
+    ensures followed { IfOk result (λ o. IfSome (W.told wires.new).log (λ log. Followed (following watch) o.end o.height o.tip o.history o.trace.items (names_in names.now) log)) }
+    ensures put { OnOk result (IfSome (W.told wires.new).log (λ log. HasPut watch log (T.told texts.old) (T.told texts.new))) }
+    ensures put_some { OnErr result (IfSome (W.told wires.new).log (λ log. HasPutSome watch log (T.told texts.old) (T.told texts.new))) }
+    ensures ends { IfOk result (λ o. IfSome (W.told wires.new).log (λ log. EndsTell o.ends.items log)) }
+    ensures held { IfOk result (λ o. IfSome (W.told wires.new).log (λ log. HoldsNoMore H.counts o.held log)) }
+    ensures versions { HasWords (record { moment = moment; number = nonce }) (W.told wires.new) }
+    ensures no_peers { IfOk result (λ o. (o.end ≡ End.NoPeers) ↔ NobodyLeft (W.told wires.new).tally) }
+    ensures done { IfOk result (λ o. o.end ≡ End.Synced → IsOver turns (W.told wires.new).tally) }
+    ensures within { IfOk result (λ o. EndsWithin o.end (length names.now) turns (W.told wires.new).tally) }
+    ensures dialled { (IsErrOf result TextFail.NoMemory → ⊥) → (W.told wires.new).tally.dials ≡ length names.now }
+    ensures right { IsErrOf result TextFail.Failed → IfSome (W.told wires.new).log (λ log. AreBytes log × RightlyIn Following log) }
+    ensures passes { Passes (names_in names.now) turns (W.told wires.old) (W.told wires.new) (W.faults wires.old)
+        (W.faults wires.new) (W.script wires.old) (W.script wires.new) (W.keeps wires.old) (W.keeps wires.new) }
+    ensures fine { OnOk result (T.faults texts.new ≡ T.faults texts.old) }
+    ensures failed { IsErrOf result TextFail.Failed → HasRisen (T.faults texts.old) (T.faults texts.new) }
+    ensures same_reference { T.holds texts.new ≡ T.holds texts.old }
+{
+    let mut client = follower(alloc, watch, store, matcher, moment, nonce)?;
+    let mut progress = Progress::new(alloc);
+    dial_all(alloc, wires, &mut client, &mut progress, names)?;
+    let end = follow_turns(alloc, wires, &mut client, &mut progress, turns, texts)?;
+    let outcome = outcome_of(&mut client, progress, end)?;
+    Ok(outcome)
+}
+
+/// Dials the peers in order, at most eight, and follows the best chain that they show as it grows, until no peer is left, the
+/// stated number of deliveries was taken, or the wires give no more. At each moment between two deliveries at which nothing is
+/// open and a peer is connected the text of the history and the tip is put, unless it is the last one that was put. It ends
+/// with `Synced` where the turns are taken or the wires give no more with nothing open, and a peer is connected. The wires are
+/// new: nothing has passed them, and they aren't finished. They are finished once, whatever is answered. In the store no peer is
+/// entered.
+pub fn follow_over<W: Wires, H: HeaderStore + Drop, M: Matcher + Drop, T: Texts>(
+    alloc: Global,
+    wires: &mut W,
+    names: &[String],
+    watch: Watch,
+    store: H,
+    matcher: M,
+    moment: i64,
+    nonce: u64,
+    turns: u32,
+    texts: &mut T,
+) -> Result<Outcome, TextFail>
+    requires fresh { Tells [] (W.told wires.old) }
+    requires open { (W.told wires.old).finished ≡ false }
+    requires few { length names.now ≤ 8 }
+    requires empty { (q : ℕ) → H.chain store q ≡ None }
+    ensures followed { IfOk result (λ o. IfSome (W.told wires.new).log (λ log. Followed (following watch) o.end o.height o.tip o.history o.trace.items (names_in names.now) log)) }
+    ensures put { OnOk result (IfSome (W.told wires.new).log (λ log. HasPut watch log (T.told texts.old) (T.told texts.new))) }
+    ensures put_some { OnErr result (IfSome (W.told wires.new).log (λ log. HasPutSome watch log (T.told texts.old) (T.told texts.new))) }
+    ensures theorem { IfOk result (λ o. IfSome (W.told wires.new).log (λ log. FollowTheorem watch o.height o.tip o.history log)) }
+    ensures ends { IfOk result (λ o. IfSome (W.told wires.new).log (λ log. EndsTell o.ends.items log)) }
+    ensures held { IfOk result (λ o. IfSome (W.told wires.new).log (λ log. HoldsNoMore H.counts o.held log)) }
+    ensures versions { HasWords (record { moment = moment; number = nonce }) (W.told wires.new) }
+    ensures no_peers { IfOk result (λ o. (o.end ≡ End.NoPeers) ↔ NobodyLeft (W.told wires.new).tally) }
+    ensures done { IfOk result (λ o. o.end ≡ End.Synced → IsOver turns (W.told wires.new).tally) }
+    ensures tired { IfOk result (λ o. o.end ≡ End.Tired → (W.told wires.new).tally.taken ≡ turns) }
+    ensures ended { IfOk result (λ o. o.end ≡ End.Ended → (W.told wires.new).tally.ended ≡ 1) }
+    ensures early { IfOk result (λ o. o.end ≡ End.Ended → (W.told wires.new).tally.taken < turns) }
+    ensures dialled { (IsErrOf result TextFail.NoMemory → ⊥) → (W.told wires.new).tally.dials ≡ length names.now }
+    ensures right { IsErrOf result TextFail.Failed → IfSome (W.told wires.new).log (λ log. AreBytes log × RightlyIn Following log) }
+    ensures first { HasDialled (names_in names.now) (W.told wires.new) }
+    ensures most { (W.told wires.new).tally.taken ≤ turns }
+    ensures once { (W.told wires.new).tally.ended ≤ 1 }
+    ensures finished { (W.told wires.new).finished ≡ true }
+    ensures keeps { W.keeps wires.new ≡ W.keeps wires.old }
+    ensures course { Course (W.told wires.old) (W.told wires.new) (W.faults wires.old) (W.faults wires.new) (W.script wires.old) (W.script wires.new) }
+    ensures failures { IfSome (W.told wires.new).log (λ log. HasFailed log → HasRisen (W.faults wires.old) (W.faults wires.new)) }
+    ensures failed { IsErrOf result TextFail.Failed → HasRisen (T.faults texts.old) (T.faults texts.new) }
+    ensures fine { OnOk result (T.faults texts.new ≡ T.faults texts.old) }
+    ensures same_reference { T.holds texts.new ≡ T.holds texts.old }
+{
+    let outcome = follow_all(
+        alloc, wires, names, watch, store, matcher, moment, nonce, turns, texts,
+    );
+    wires.finish();
+    outcome
+}
