@@ -20,8 +20,9 @@ filter may hold a script. The last line is the tip of the chain:
 
 usage: cf scan FILE WATCH
        cf filter FILE HEIGHT
-       cf replay [--trace] WATCH SESSION
+       cf replay [--follow] [--trace] WATCH SESSION
        cf sync [--turns N] [--workers N] [--record FILE] WATCH PEER..
+       cf follow [--turns N] [--workers N] [--record FILE] WATCH PEER..
        cf serve [--grow] [--connections N] FILE ADDRESS
        cf address TEXT
        cf prove FILE TXID
@@ -36,6 +37,8 @@ usage: cf scan FILE WATCH
            and the filter header of the block at HEIGHT (0 is genesis)
   replay   runs the client on what SESSION says that came from the peers
   sync     runs the client on the network, with 1 to 8 peers, each HOST:PORT
+  follow   goes on where sync would end: it asks for the blocks that its peers
+           tell of, and prints the history anew where it or the tip has changed
   serve    checks the blocks of FILE, and serves them and their filters to N
            connections (else 1000000) at ADDRESS, HOST:PORT; port 0 is any
   address  prints the script of an address of regtest, in hexadecimal, or the
@@ -49,6 +52,7 @@ usage: cf scan FILE WATCH
   demo     runs the client on three peers that are played, of which one is
            honest and serves a made chain of BLOCKS, 1 to 499998, blocks
 
+  --follow   goes on as follow does; the histories come behind the trace
   --trace    prints first what was sent to peer P, as `> P COMMAND`, and which
              peer was closed, as `x P CAUSE`
   --grow     takes the blocks that the connections bring, and tells of them;

@@ -16,16 +16,17 @@ fn put_names(peers: &PeerNames, out: &mut String) -> Option<()> {
     Some(())
 }
 
-// The numbers of `sync`, the file of its record where there is one, the watch file and the peers.
-fn sync_told(
+// A command over peers: its name, its numbers, the file of its record where there is one, the watch file and the peers.
+fn over_peers(
     alloc: Global,
+    name: &str,
     turns: u32,
     workers: u32,
     record: &Option<Word>,
     watch: &Word,
     peers: &PeerNames,
 ) -> Option<String> {
-    let mut text = format!(in alloc; "sync {turns} {workers}").ok()?;
+    let mut text = format!(in alloc; "{name} {turns} {workers}").ok()?;
     if let Some(file) = record {
         put_word("record", &mut text)?;
         put_word(file.as_str(), &mut text)?;
@@ -39,17 +40,32 @@ fn sync_told(
 fn told(alloc: Global, command: &Command) -> Option<String> {
     match command {
         Command::Replay {
+            follow,
             trace,
             watch,
             session,
-        } => { format!(in alloc; "replay {trace} {} {}", watch.as_str(), session.as_str()).ok() }
+        } => {
+            format!(in alloc;
+                "replay {follow} {trace} {} {}",
+                watch.as_str(),
+                session.as_str()
+            )
+            .ok()
+        }
         Command::Sync {
             turns,
             workers,
             record,
             watch,
             peers,
-        } => sync_told(alloc, *turns, *workers, record, watch, peers),
+        } => over_peers(alloc, "sync", *turns, *workers, record, watch, peers),
+        Command::Follow {
+            turns,
+            workers,
+            record,
+            watch,
+            peers,
+        } => over_peers(alloc, "follow", *turns, *workers, record, watch, peers),
         Command::Scan { file, watch } => {
             format!(in alloc; "scan {} {}", file.as_str(), watch.as_str()).ok()
         }

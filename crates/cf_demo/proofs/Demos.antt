@@ -29,7 +29,7 @@ use Rattle.cf_played.specs.Answers.{is_staying}
 use Rattle.cf_played.specs.Peers.{Peer, still}
 use Rattle.cf_scan.specs.declared.history.Entry.{Entry}
 use Rattle.cf_scan.specs.Extracts.{balance_of}
-use Rattle.cf_sync.specs.Fetching.{IsQuiet}
+use Rattle.cf_sync.specs.Fetching.{IsQuiet, once}
 use Rattle.cf_sync.specs.Honesty.{IsHonest}
 use Rattle.cf_sync.specs.Sync.{IsHashed, IsHistoryOf, SyncTheorem}
 use Rattle.cf_demo.specs.declared.demo.Demo.{Demo}
@@ -79,7 +79,7 @@ run_of watch peers names o log ran = record { bytes = ran.followed.asked.bytes; 
 
 -- what is said of a run that was answered
 pub has_run : (r : Result Outcome NoMemory) (watch : List (List ℕ)) (peers : List Peer) (names : List (String Global)) (log : Log)
-    → IfOk r (λ o. Followed watch o.end o.height o.tip o.history o.trace.items (names_in names) log) → IfOk r (λ o. EndsTell o.ends.items log) → IfOk r (λ o. SyncTheorem watch o.height o.tip o.history log)
+    → IfOk r (λ o. Followed (once watch) o.end o.height o.tip o.history o.trace.items (names_in names) log) → IfOk r (λ o. EndsTell o.ends.items log) → IfOk r (λ o. SyncTheorem watch o.height o.tip o.history log)
     → OnOk r ((i : ℕ) (peer : Peer) → slice_get peers i ≡ Some peer → peer.way ≡ Honest → i < length names → NoHashClash (IsHashed log peer.blocks) → IsHonest log (suc i) peer.blocks)
     → Accounts log peers → IfOk r (λ o. o.end ≡ Tired → (tally_of log).taken ≡ most_deliveries) → OnOk r ((tally_of log).dials ≡ length names) → IfOk r (λ o. HasRunOver watch peers (names_in names) o log)
 has_run (Ok o) watch peers names log followed stand theorem honest accounts tired dials =

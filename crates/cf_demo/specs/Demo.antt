@@ -36,7 +36,7 @@ use Rattle.cf_played.specs.Told.{HasAdded}
 use Rattle.cf_scan.specs.declared.history.Entry.{Entry}
 use Rattle.cf_scan.specs.Extracts.{balance_of}
 use Rattle.cf_scan.specs.Scan.{scan_of}
-use Rattle.cf_sync.specs.Fetching.{IsConnected, IsQuiet}
+use Rattle.cf_sync.specs.Fetching.{IsConnected, IsQuiet, once}
 use Rattle.cf_sync.specs.Honesty.{IsHonest}
 use Rattle.cf_sync.specs.Sync.{IsHashed, SyncTheorem}
 
@@ -169,7 +169,7 @@ pub record IsDemoOf (chain : List Block) (demo : Demo) : Type 0 where
 
 -- a run over these peers, new to it, has come to this
 pub record HasRunOver (watch : List (List ℕ)) (peers : List Peer) (names : List (List ℕ)) (outcome : Outcome) (log : Log) : Type 0 where
-  pub followed : Followed watch outcome.end outcome.height outcome.tip outcome.history outcome.trace.items names log
+  pub followed : Followed (once watch) outcome.end outcome.height outcome.tip outcome.history outcome.trace.items names log
   pub stand : EndsTell outcome.ends.items log
   pub theorem : SyncTheorem watch outcome.height outcome.tip outcome.history log
   pub honest : (i : ℕ) (peer : Peer) → slice_get peers i ≡ Some peer → peer.way ≡ Honest → i < length names → NoHashClash (IsHashed log peer.blocks) → IsHonest log (suc i) peer.blocks
@@ -212,7 +212,7 @@ pub record HasRun (watch : List (List ℕ)) (names : List (List ℕ)) (log : Log
   pub tip : Hash32
   pub entries : List Entry
   pub lines : List TraceLine
-  pub followed : Followed watch end height tip entries lines names log
+  pub followed : Followed (once watch) end height tip entries lines names log
 
 -- A run over one honest peer on a made chain, until nothing is open or so many deliveries were taken.
 pub record IsSession (seed blocks : ℕ) (log : Log) : Type 0 where

@@ -10,6 +10,7 @@ ghost use Rattle.cf_wires.specs.Log.{tally_of};
 ghost use Rattle.cf_played.specs.declared.kind.Way.TheVariants.{Honest};
 ghost use Rattle.cf_played.specs.Peers.{Peer, still};
 ghost use Rattle.cf_played.specs.Told.{log_of, finished_of, keeps_of, peers_of};
+ghost use Rattle.cf_sync.specs.Fetching.{once};
 ghost use Rattle.cf_sync.specs.Honesty.{IsHonest};
 ghost use Rattle.cf_sync.specs.Sync.{IsHashed, SyncTheorem};
 
@@ -38,7 +39,7 @@ pub fn sync_played<H: HeaderStore + Drop, M: Matcher + Drop>(
     requires open { finished_of played.old ≡ false }
     requires few { length names.now ≤ 8 }
     requires empty { (q : ℕ) → H.chain store q ≡ None }
-    ensures followed { IfOk result (λ o. Followed watch o.end o.height o.tip o.history o.trace.items (names_in names.now) (log_of played.new)) }
+    ensures followed { IfOk result (λ o. Followed (once watch) o.end o.height o.tip o.history o.trace.items (names_in names.now) (log_of played.new)) }
     ensures ends { IfOk result (λ o. EndsTell o.ends.items (log_of played.new)) }
     ensures versions { IsOfWords (record { moment = moment; number = nonce }) (log_of played.new) }
     ensures theorem { IfOk result (λ o. SyncTheorem watch o.height o.tip o.history (log_of played.new)) }

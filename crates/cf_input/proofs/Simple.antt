@@ -4,9 +4,9 @@ use Rattle.std.specs.Prelude.{codes}
 use Rattle.std.proofs.lemmas.Bool.{and_parts}
 use Rattle.clap.specs.Words.{is_simple, is_simple_and_free, new_app}
 use Rattle.clap.proofs.OnLiterals.{clap_on_literals}
-use Rattle.cf_input.specs.Words.{cli_app, client_app, with_sub, sync_app, replay_app, scan_app, filter_app, address_app, prove_app, check_app, serve_app, make_app, demo_app}
+use Rattle.cf_input.specs.Words.{cli_app, client_app, with_sub, sync_app, follow_app, replay_app, scan_app, filter_app, address_app, prove_app, check_app, serve_app, make_app, demo_app}
 
-pub client_is : client_app ≡ with_sub (with_sub (new_app (codes "cf")) sync_app) replay_app
+pub client_is : client_app ≡ with_sub (with_sub (with_sub (new_app (codes "cf")) sync_app) follow_app) replay_app
 unfolding client_app
 client_is = refl
 

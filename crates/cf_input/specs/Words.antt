@@ -12,7 +12,7 @@ use Rattle.cf_input.specs.Number.{number_at_most, number_within}
 use Rattle.cf_input.specs.Name.{is_name}
 use Rattle.cf_input.specs.SessionFile.{max_dials}
 use Rattle.cf_input.specs.declared.words.Command.{Command}
-use Rattle.cf_input.specs.declared.words.Command.TheVariants.{Address, Check, Demo, Filter, Make, Prove, Replay, Scan, Serve, Sync}
+use Rattle.cf_input.specs.declared.words.Command.TheVariants.{Address, Check, Demo, Filter, Follow, Make, Prove, Replay, Scan, Serve, Sync}
 
 -- an argument that has to be there
 abbrev pub needed : Rule → Rule
@@ -26,29 +26,43 @@ several r = record r { range = Some (record { start_inclusive = 1; end_inclusive
 abbrev pub trace : Rule
 trace = record (new_rule (codes "trace")) { long = Some (codes "trace"); action = Some SetTrue }
 
--- the option of `sync` for the most deliveries
+-- the option of `replay` for a client that goes on
+abbrev pub follow_rule : Rule
+follow_rule = record (new_rule (codes "follow")) { long = Some (codes "follow"); action = Some SetTrue }
+
+-- the option of `sync` and `follow` for the most deliveries
 abbrev pub turns : Rule
 turns = record (new_rule (codes "turns")) { long = Some (codes "turns") }
 
--- replay [--trace] WATCH SESSION
+-- replay [--follow] [--trace] WATCH SESSION
 abbrev pub replay_app : App
-replay_app = with_rule (with_rule (with_rule (new_app (codes "replay")) trace) (needed (new_rule (codes "watch")))) (needed (new_rule (codes "session")))
+replay_app =
+    with_rule (with_rule (with_rule (with_rule (new_app (codes "replay")) follow_rule) trace) (needed (new_rule (codes "watch"))))
+    (needed (new_rule (codes "session")))
 
--- the option of `sync` for how many threads judge filters
+-- the option of `sync` and `follow` for how many threads judge filters
 abbrev pub workers : Rule
 workers = record (new_rule (codes "workers")) { long = Some (codes "workers") }
 
--- the option of `sync` for the file of its record
+-- the option of `sync` and `follow` for the file of the record
 abbrev pub record_rule : Rule
 record_rule = record (new_rule (codes "record")) { long = Some (codes "record") }
 
--- sync [--turns N] [--workers N] [--record FILE]
-abbrev pub sync_options : App
-sync_options = with_rule (with_rule (with_rule (new_app (codes "sync")) turns) workers) record_rule
+-- a command over peers with its options alone: NAME [--turns N] [--workers N] [--record FILE]
+abbrev pub options_app : Text → App
+options_app name = with_rule (with_rule (with_rule (new_app name) turns) workers) record_rule
+
+-- a command over peers: NAME [--turns N] [--workers N] [--record FILE] WATCH PEER..
+abbrev pub peers_app : Text → App
+peers_app name = with_rule (with_rule (options_app name) (needed (new_rule (codes "watch")))) (several (needed (new_rule (codes "peer"))))
 
 -- sync [--turns N] [--workers N] [--record FILE] WATCH PEER..
 abbrev pub sync_app : App
-sync_app = with_rule (with_rule sync_options (needed (new_rule (codes "watch")))) (several (needed (new_rule (codes "peer"))))
+sync_app = peers_app (codes "sync")
+
+-- follow [--turns N] [--workers N] [--record FILE] WATCH PEER..
+abbrev pub follow_app : App
+follow_app = peers_app (codes "follow")
 
 -- a command of two words, both needed
 abbrev pub two_app : Text → Text → Text → App
@@ -112,7 +126,7 @@ with_sub a s = with_subcommand a s.top
 
 -- the command line, with the client's commands alone
 unfoldable pub client_app : App
-client_app = with_sub (with_sub (new_app (codes "cf")) sync_app) replay_app
+client_app = with_sub (with_sub (with_sub (new_app (codes "cf")) sync_app) follow_app) replay_app
 
 -- the whole command line: those over a block file come after them, then that over an address, those over proofs, the server, and those over a made chain
 unfoldable pub cli_app : App
@@ -206,23 +220,37 @@ played_of text = number_within most_played text
 abbrev pub replay_of : Met → Option Command
 replay_of met =
     option_and_then (λ watch. option_and_then (λ session.
-    Some (Replay (is_set (codes "trace") met) watch session))
+    Some (Replay (is_set (codes "follow") met) (is_set (codes "trace") met) watch session))
     (text_of (codes "session") met)) (text_of (codes "watch") met)
 
 -- the names of 1 to 8 peers
 abbrev pub are_names : List Text → Bool
 are_names texts = list_all is_name texts && (nat_lt 0 (length texts) && nat_le (length texts) max_dials)
 
+-- the command over peers: `follow` where the client goes on, else `sync`
+abbrev pub over_peers : Bool → ℕ → ℕ → Option Text → Text → List Text → Command
+over_peers true turns workers file watch peers = Follow turns workers file watch peers
+over_peers false turns workers file watch peers = Sync turns workers file watch peers
+
+-- the same, by what was found for its arguments
+abbrev pub over_peers_of : Bool → Met → Option Command
+over_peers_of follows met =
+    option_and_then (λ turns. option_and_then (λ workers. option_and_then (λ watch. option_and_then (λ peers.
+    if are_names peers then Some (over_peers follows turns workers (text_of (codes "record") met) watch peers) else None)
+    (texts_of (codes "peer") met)) (text_of (codes "watch") met)) (workers_of (text_of (codes "workers") met))) (turns_of (text_of (codes "turns") met))
+
 -- the command `sync`, by what was found for its arguments
 abbrev pub sync_of : Met → Option Command
-sync_of met =
-    option_and_then (λ turns. option_and_then (λ workers. option_and_then (λ watch. option_and_then (λ peers.
-    if are_names peers then Some (Sync turns workers (text_of (codes "record") met) watch peers) else None)
-    (texts_of (codes "peer") met)) (text_of (codes "watch") met)) (workers_of (text_of (codes "workers") met))) (turns_of (text_of (codes "turns") met))
+sync_of met = over_peers_of false met
+
+-- the command `follow`, by what was found for its arguments
+abbrev pub follow_of : Met → Option Command
+follow_of met = over_peers_of true met
 
 -- a run has at most 8 peers
 abbrev pub HasFewPeers : Command → Type 0
 HasFewPeers (Sync _ _ _ _ peers) = length peers ≤ max_dials
+HasFewPeers (Follow _ _ _ _ peers) = length peers ≤ max_dials
 HasFewPeers _ = Unit {0}
 
 -- the command `scan`, by what was found for its arguments
@@ -284,6 +312,7 @@ abbrev pub asked_of : Met → Option Command
 asked_of met =
     if is_met (codes "replay") met then replay_of met
     else if is_met (codes "sync") met then sync_of met
+    else if is_met (codes "follow") met then follow_of met
     else if is_met (codes "scan") met then scan_of met
     else if is_met (codes "filter") met then filter_of met
     else if is_met (codes "address") met then address_of met

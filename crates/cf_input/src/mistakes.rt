@@ -6,7 +6,7 @@ use cf_bytes::NoMemory;
 use clap::ArgMatches;
 use std::alloc::Global;
 
-// What is wrong with the peers of `sync`.
+// What is wrong with the peers of `sync` or `follow`.
 fn peers_mistake(matches: &ArgMatches) -> &'static str {
     match texts_of(matches, "peer") {
         Some(peers) if peers.len() > 8 => "there are more than 8 peers",
@@ -14,8 +14,8 @@ fn peers_mistake(matches: &ArgMatches) -> &'static str {
     }
 }
 
-// What is out of its range in the words of `sync`.
-fn sync_mistake(matches: &ArgMatches) -> &'static str {
+// What is out of its range in the words of `sync` or `follow`.
+fn run_mistake(matches: &ArgMatches) -> &'static str {
     if turns_of(text_of(matches, "turns")).is_none() {
         "N of --turns is a number from 1 to 10000000"
     } else if workers_of(text_of(matches, "workers")).is_none() {
@@ -57,8 +57,8 @@ fn range_mistake(matches: &ArgMatches) -> &'static str {
         "TXID is a transaction's hash, of 64 hexadecimal digits"
     } else if is_met(matches, "serve") {
         serve_mistake(matches)
-    } else if is_met(matches, "sync") {
-        sync_mistake(matches)
+    } else if is_met(matches, "sync") || is_met(matches, "follow") {
+        run_mistake(matches)
     } else if is_met(matches, "make") {
         make_mistake(matches)
     } else if is_met(matches, "demo") {

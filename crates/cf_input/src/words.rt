@@ -3,7 +3,7 @@ ghost use Rattle.std.specs.Prelude.{◌≡◌, ◌==◌, IfOk, IfErr, [], map, f
 ghost use Rattle.std.specs.List.{list_any};
 ghost use Rattle.clap.specs.Words.{App, Rule, app_of, rule_of, new_rule, subcommand_of, subcommand_rows_of, fault_of, with_rule};
 ghost use Rattle.clap.specs.declared.builder.command.Command.TheViews.{out-Command as fields_of};
-ghost use Rattle.cf_input.specs.Words.{trace, turns, workers, record_rule, several, needed, replay_app, sync_options, sync_app, connections, grow_rule, serve_app, one_app, two_app, witness_rule, make_app, with_sub, client_app, cli_app, text_of, texts_of, is_met, is_set, turns_of, workers_of, connections_of, height_of, seed_of, made_of, played_of, replay_of, sync_of, scan_of, filter_of, address_of, hash_in, prove_of, check_of, serve_of, make_of, demo_of, HasFewPeers, asked_of, is_faultless, command_of, is_help_word, is_version_word};
+ghost use Rattle.cf_input.specs.Words.{trace, follow_rule, turns, workers, record_rule, several, needed, replay_app, options_app, peers_app, connections, grow_rule, serve_app, one_app, two_app, witness_rule, make_app, with_sub, client_app, cli_app, text_of, texts_of, is_met, is_set, turns_of, workers_of, connections_of, height_of, seed_of, made_of, played_of, replay_of, over_peers, over_peers_of, scan_of, filter_of, address_of, hash_in, prove_of, check_of, serve_of, make_of, demo_of, HasFewPeers, asked_of, is_faultless, command_of, is_help_word, is_version_word};
 ghost use Rattle.cf_input.specs.Commands.{GivesOrUsage, IfUsage, refusal_of};
 
 use crate::number::{number_at_most, number_within};
@@ -152,6 +152,14 @@ fn trace_arg<'a>(alloc: Global) -> Arg<'a>
         .action(ArgAction::SetTrue)
 }
 
+fn follow_arg<'a>(alloc: Global) -> Arg<'a>
+    ensures { (rule_of result ≡ follow_rule) × (result.global ≡ false) }
+{
+    Arg::new(alloc, "follow")
+        .long("follow")
+        .action(ArgAction::SetTrue)
+}
+
 fn peers_arg<'a>(alloc: Global) -> Arg<'a>
     ensures { (rule_of result ≡ several (needed (new_rule (codes "peer")))) × (result.global ≡ false) }
 {
@@ -182,22 +190,23 @@ fn with_arg<'a>(
     }
 }
 
-// The command `sync` with its options alone.
-fn sync_options<'a>(alloc: Global) -> Result<clap::Command<'a>, AllocError>
-    ensures app { IfOk result (λ c. app_of c ≡ sync_options) }
+// A command over peers with its options alone.
+fn options_of<'a>(alloc: Global, name: &'a str) -> Result<clap::Command<'a>, AllocError>
+    ensures app { IfOk result (λ c. app_of c ≡ options_app name.entry.now) }
     ensures globals { IfOk result (λ c. (fields_of c).has_globals ≡ false) }
 {
-    let command = Ok(clap::Command::new(alloc, "sync"));
+    let command = Ok(clap::Command::new(alloc, name));
     let command = with_arg(command, turns_arg(alloc));
     let command = with_arg(command, workers_arg(alloc));
     with_arg(command, record_arg(alloc))
 }
 
-fn sync_command<'a>(alloc: Global) -> Result<clap::Command<'a>, AllocError>
-    ensures app { IfOk result (λ c. app_of c ≡ sync_app) }
+// A command over peers: `sync` or `follow`.
+fn peers_command<'a>(alloc: Global, name: &'a str) -> Result<clap::Command<'a>, AllocError>
+    ensures app { IfOk result (λ c. app_of c ≡ peers_app name.entry.now) }
     ensures globals { IfOk result (λ c. (fields_of c).has_globals ≡ false) }
 {
-    let command = with_arg(sync_options(alloc), word_arg(alloc, "watch"));
+    let command = with_arg(options_of(alloc, name), word_arg(alloc, "watch"));
     with_arg(command, peers_arg(alloc))
 }
 
@@ -206,6 +215,7 @@ fn replay_command<'a>(alloc: Global) -> Result<clap::Command<'a>, AllocError>
     ensures globals { IfOk result (λ c. (fields_of c).has_globals ≡ false) }
 {
     let command = Ok(clap::Command::new(alloc, "replay"));
+    let command = with_arg(command, follow_arg(alloc));
     let command = with_arg(command, trace_arg(alloc));
     let command = with_arg(command, word_arg(alloc, "watch"));
     with_arg(command, word_arg(alloc, "session"))
@@ -316,7 +326,8 @@ fn client_command<'a>(alloc: Global) -> Result<clap::Command<'a>, AllocError>
     ensures globals { IfOk result (λ c. (fields_of c).has_globals ≡ false) }
 {
     let command = Ok(clap::Command::new(alloc, "cf"));
-    let command = add(command, sync_command(alloc));
+    let command = add(command, peers_command(alloc, "sync"));
+    let command = add(command, peers_command(alloc, "follow"));
     add(command, replay_command(alloc))
 }
 
@@ -461,10 +472,12 @@ fn read_replay(alloc: Global, matches: &ArgMatches) -> Result<Command, Refused<U
 {
     let watch = text_of(matches, "watch").ok_or(Usage)?;
     let session = text_of(matches, "session").ok_or(Usage)?;
+    let follow = is_set(matches, "follow");
     let trace = is_set(matches, "trace");
     let watch = Word::new(alloc, watch)?;
     let session = Word::new(alloc, session)?;
     Ok(Command::Replay {
+        follow,
         trace,
         watch,
         session,
@@ -481,8 +494,43 @@ fn word_where(alloc: Global, text: Option<&str>) -> Result<Option<Word>, NoMemor
     }
 }
 
-fn read_sync(alloc: Global, matches: &ArgMatches) -> Result<Command, Refused<Usage>>
-    ensures { GivesOrUsage (sync_of (subcommand_rows_of matches.now)) result }
+// The command `follow`, or else `sync`.
+fn over_peers(
+    follows: bool,
+    turns: u32,
+    workers: u32,
+    file: Option<Word>,
+    watch: Word,
+    peers: PeerNames,
+) -> Command
+    ensures { result ≡ over_peers follows turns workers file watch peers }
+{
+    if follows {
+        Command::Follow {
+            turns,
+            workers,
+            record: file,
+            watch,
+            peers,
+        }
+    } else {
+        Command::Sync {
+            turns,
+            workers,
+            record: file,
+            watch,
+            peers,
+        }
+    }
+}
+
+// What `follow` asks for, or else `sync`.
+fn read_over_peers(
+    alloc: Global,
+    matches: &ArgMatches,
+    follows: bool,
+) -> Result<Command, Refused<Usage>>
+    ensures { GivesOrUsage (over_peers_of follows (subcommand_rows_of matches.now)) result }
 {
     let turns = turns_of(text_of(matches, "turns")).ok_or(Usage)?;
     let workers = workers_of(text_of(matches, "workers")).ok_or(Usage)?;
@@ -494,13 +542,7 @@ fn read_sync(alloc: Global, matches: &ArgMatches) -> Result<Command, Refused<Usa
     let record = word_where(alloc, text_of(matches, "record"))?;
     let watch = Word::new(alloc, watch)?;
     let peers = PeerNames::new(alloc, peers)?;
-    Ok(Command::Sync {
-        turns,
-        workers,
-        record,
-        watch,
-        peers,
-    })
+    Ok(over_peers(follows, turns, workers, record, watch, peers))
 }
 
 fn read_scan(alloc: Global, matches: &ArgMatches) -> Result<Command, Refused<Usage>>
@@ -613,7 +655,10 @@ fn read_met(alloc: Global, matches: &ArgMatches) -> Result<Command, Refused<Usag
         return read_replay(alloc, matches);
     }
     if is_met(matches, "sync") {
-        return read_sync(alloc, matches);
+        return read_over_peers(alloc, matches, false);
+    }
+    if is_met(matches, "follow") {
+        return read_over_peers(alloc, matches, true);
     }
     if is_met(matches, "scan") {
         return read_scan(alloc, matches);

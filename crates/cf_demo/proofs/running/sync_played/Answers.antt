@@ -4,6 +4,7 @@ use Rattle.cf_run.specs.declared.outcome.Outcome.{Outcome}
 use Rattle.cf_run.specs.Names.{names_in}
 use Rattle.cf_run.specs.Run.{Followed}
 use Rattle.cf_run.specs.Versions.{IsOfWords}
+use Rattle.cf_sync.specs.Fetching.{once}
 use Rattle.cf_played.specs.Peers.{still, made_of}
 use Rattle.cf_played.specs.Told.{log_of, peers_of}
 use Rattle.cf_demo.specs.Playing.{Accounts}
@@ -31,7 +32,7 @@ returns-clause-honest g c =
     let accounts : Accounts (log_of c.sync_over-outcome.new.wires) news = record { past = c.accounts.ensures.past; ticks = c.accounts.ensures.ticks; alike = c.accounts.ensures.alike; stays = c.accounts.ensures.stays } in
     let same : map still (peers_of c.args.played.now) ≡ map still news =
     c.same_peers-2.ensures.same (peers_of c.args.played.now) c.same_peers.ensures.good (sym {a = made_of (peers_of c.sync_over-outcome.new.wires)} c.sync_over-outcome.ensures.course.script) in
-    on_both {P = λ (o : Outcome). Followed c.args.watch o.end o.height o.tip o.history o.trace.items (names_in c.args.names.now) (log_of c.sync_over-outcome.new.wires)}
+    on_both {P = λ (o : Outcome). Followed (once c.args.watch) o.end o.height o.tip o.history o.trace.items (names_in c.args.names.now) (log_of c.sync_over-outcome.new.wires)}
     c.sync_over-outcome.result c.sync_over-outcome.ensures.followed c.sync_over-outcome.ensures.dialled (λ o f d i peer at way few clash.
     honest_among (peers_of c.args.played.now) news (log_of c.sync_over-outcome.new.wires) c.same_peers.ensures.good same accounts
     (record { bytes = f.asked.bytes; rightly = f.asked.rightly; numbered = f.numbered; orderly = f.was_orderly }) i peer at way (subst (λ (n : ℕ). i < n) (sym d) few) clash)
