@@ -7,23 +7,23 @@ PROGRAM is `.build/cf` unless it is named, and all cases run unless some are.
     later        the node of a peer comes to another branch: a second server, which starts later, serves it
     recorded     a `follow` of so many deliveries with a record, which `replay --follow` goes over
     gone         one of two servers ends, and then the other one
-    silent       one of two servers is stopped for longer than a `ping` may be open
-    slept        the client is stopped for longer than that; and so are the client and its server
+    silent       one of two servers is stopped for longer than a `ping` may be open, and is closed for it
+    slept        the client is stopped for longer than that, and in another run the client and its server
     interrupted  Ctrl-C, while nothing is open, and while the chain is being learned
     idle         what a minute costs in which nothing comes, from one peer and from eight
     cost         what a new block costs at heights of 10,000 and 100,000
     memory       what is held after 10,000 new blocks, beside a `follow` that begins with the same chain
 
-Each text that is written has to be that of a plain scan, in Python, of one of the chains as they stood at some moment, and
-the last one that of the chain as it stands; a text isn't written twice in a row. Blocks are brought by the script, as a
+Each text that is written has to be that of a plain scan, in Python, of one of the chains as it stood at some moment,
+and the last one that of the chain as it stands; none is written twice in a row. Blocks are brought by the script, as a
 peer of a server. What is waited for is looked at for PATIENCE seconds at most.
 
-A `Relay` stands between a client and a server where the server's news is to come at once and not with the next `pong`. Of
-`idle` and `cost` the processor's time counts. A minute in which nothing comes may take IDLE of it. The least of TRIES runs
-that take turns counts for a block, of a script that no block pays: at the greater height it may take MOST times as long.
-With one that an eighth of the blocks pays, each text has the whole history, so what a block costs then grows with that, and
-is only told. Memory is to be at most HELD times that of a client that begins with the whole chain. The status is 1 where a
-case ends otherwise.
+A `Relay` stands between a client and a server where the server's news is to come at once and not with the next `pong`.
+Of `idle` and `cost` the processor's time counts. A minute in which nothing comes may take IDLE of it. For a block the
+least of TRIES runs that take turns counts, where no block pays the watched script: at the greater height it may take
+MOST times as long. Where an eighth of the blocks pays it, each text has the whole history, and what a block costs grows
+with that: this is only told. Memory may be HELD times that of a client that begins with the whole chain. The status is
+1 where a case ends otherwise.
 """
 import argparse
 import os
@@ -43,7 +43,9 @@ from made_chain import records
 
 SEED, OTHER = 7, 8
 BELOW, JOINED, ROUNDS = 40, 1_000, 10
-LOW, HIGH, NEW, GROWN = 10_000, 100_000, 1_000, 10_000
+LOW, HIGH, GROWN = 10_000, 100_000, 10_000
+# So many blocks come, where none pays the watched script, and where an eighth does.
+NEW = {"unpaid": 1_000, "paid": 100}
 PATIENCE, OVERDUE, STOPPED, MINUTE = 60, 90, 75, 60
 TRIES, MOST, IDLE, HELD = 3, 1.3, 0.001, 1.5
 POKE = frame("ping", bytes(8))
@@ -114,20 +116,21 @@ class Server:
     def brings(self, count=1):
         """Brings the next blocks, and is told that they have come."""
         self.stream = self.stream or Stream(self.name)
-        self.stream.says(b"".join(frame("block", block) for block in self.chain.blocks[self.tip + 1:self.tip + 1 + count]))
+        blocks = self.chain.blocks[self.tip + 1:self.tip + 1 + count]
+        self.stream.says(b"".join(frame("block", block) for block in blocks))
         self.tip += count
         return self.chain.last_line(self.tip)
 
 
 class Relay(threading.Thread):
-    """An address at which one connection is one to a server. What comes is handed on frame by frame, so that others can be
-    put between."""
+    """An address at which one connection is one to a server. What comes is handed on frame by frame, so that others can
+    be put between."""
 
     def __init__(self, name):
         super().__init__(daemon=True)
         self.place = socket.create_server(("127.0.0.1", 0))
-        self.name, self.far, self.locks = "%s:%d" % self.place.getsockname(), None, (threading.Lock(), threading.Lock())
-        self.server = name
+        self.server, self.name = name, "%s:%d" % self.place.getsockname()
+        self.locks = threading.Lock(), threading.Lock()
         self.start()
 
     def run(self):
@@ -199,7 +202,8 @@ class Follower(Run):
 
     def ends(self, *statuses):
         comes(lambda: not self.thread.is_alive(), "it has ended", self)
-        wanted(self.join().status in statuses, "it ends with", self.status, "and not with", statuses, self.told()[-1000:])
+        what = ("it ends with", self.join().status, "and not with", statuses, self.told()[-1000:])
+        wanted(self.status in statuses, *what)
 
     def check(self, *chains):
         """Each text is that of one of these chains at some height, and none comes twice in a row."""
@@ -212,21 +216,26 @@ class Follower(Run):
         return texts
 
 
+def ended(*runs):
+    for run in runs:
+        run.stop()
+        run.join()
+
+
 class Around:
     """The program, a folder, watch files, and all that was started, which is ended with it."""
 
     def __init__(self, program, folder):
         self.program, self.folder, self.runs = program, folder, []
-        self.watch = {name: written(folder, name, [text.encode()]) for name, text in (("paid", PAID), ("unpaid", UNPAID))}
+        scripts = {"paid": PAID, "unpaid": UNPAID}
+        self.watch = {name: written(folder, name, [text.encode()]) for name, text in scripts.items()}
 
     def ran(self, run):
         self.runs.append(run)
         return run
 
     def end(self):
-        for run in self.runs:
-            run.stop()
-            run.join()
+        ended(*self.runs)
 
 
 def without_delay(connection):
@@ -304,7 +313,8 @@ def recorded(around):
     run.ends(0, 7)
     texts = run.check(chain)
     again = Run([around.program, "replay", "--follow", around.watch["paid"], record]).join()
-    wanted((run.status, again.status) in ((0, 0), (7, 8)), "the statuses are", run.status, again.status, run.told(), again.told())
+    statuses = run.status, again.status
+    wanted(statuses in ((0, 0), (7, 8)), "the statuses are", statuses, run.told(), again.told())
     wanted(again.text() == run.text(), "the replay writes something else")
     return f"80 deliveries, {len(texts)} texts, status {run.status}; the replay writes the same"
 
@@ -331,12 +341,13 @@ def silent(around):
     run = Follower(around, *(server.name for server in servers))
     run.comes_to(chain.last_line(BELOW))
     sent(signal.SIGSTOP, servers[1].run)
-    run.comes_to(servers[0].brings())
+    line = servers[0].brings()
     comes(lambda: "peer 2: closed: Overdue" in run.told(), "it is told that peer 2 is closed", run, OVERDUE)
+    run.comes_to(line)
     run.comes_to(servers[0].brings())
     wanted("peer 1" not in run.told().split("Overdue")[1], "peer 1 is told of:", run.told())
     run.check(chain)
-    return "the text of a new block came meanwhile, and after it was closed; standard error says\n" + run.told()
+    return "it was closed, and then the text of a new block came; standard error says\n" + run.told()
 
 
 def slept(around):
@@ -388,7 +399,8 @@ def idle(around):
     part, of_eight = ((seconds_of(run) - since) / MINUTE for run, since in zip((one, eight), before))
     wanted(part <= IDLE, "it takes", part, "of a processor, and", IDLE, "is the most that is wanted")
     wanted(len(texts_in(one.text())[0]) == len(texts_in(eight.text())[0]) == 1, "another text came")
-    return f"{part:.6f} of a processor with one peer at height {HIGH}, {of_eight:.6f} with eight; {IDLE} is the most that is wanted"
+    told = f"{part:.6f} of a processor with one peer at height {HIGH}, {of_eight:.6f} with eight"
+    return f"{told}; {IDLE} is the most that is wanted of one"
 
 
 def taken(around, chain, tip, count, watch):
@@ -407,21 +419,20 @@ def taken(around, chain, tip, count, watch):
 
 
 def cost(around):
-    chains = {height: Chain((SEED, height + NEW)) for height in (LOW, HIGH)}
+    chains = {height: Chain((SEED, height + max(NEW.values()))) for height in (LOW, HIGH)}
     told = {}
-    for watch in "unpaid", "paid":
+    for watch, count in NEW.items():
         found = {height: [] for height in chains}
         for _ in range(TRIES):
             for height, chain in chains.items():
-                run, server, seconds = taken(around, chain, height, NEW, watch)
+                run, server, seconds = taken(around, chain, height, count, watch)
                 found[height].append(seconds)
-                for each in (run, server.run):
-                    each.stop()
-                    each.join()
+                ended(run, server.run)
         low, high = (min(each) for each in found.values())
         told[watch] = f"{low * 1e6:.0f} and {high * 1e6:.0f} microseconds, {high / low:.2f} times"
         wanted(watch == "paid" or high <= MOST * low, told[watch], "and", MOST, "is the most that is wanted")
-    return f"a new block at heights {LOW} and {HIGH}: {told['unpaid']}; {MOST} is the most that is wanted. With the history: {told['paid']}"
+    what = f"a new block at heights {LOW} and {HIGH}: {told['unpaid']}; {MOST} is the most that is wanted"
+    return f"{what}. With a history: {told['paid']}"
 
 
 def memory_of(run):
@@ -438,8 +449,10 @@ def memory(around):
     fresh = Follower(around, server.name, watch="unpaid")
     fresh.comes_to(chain.last_line())
     whole, most_whole = memory_of(fresh)
-    told = f"{grown:.1f} MB after {GROWN} new blocks above {LOW}, {most_grown:.1f} at most; {whole:.1f} where it begins with them, {most_whole:.1f} at most"
-    wanted(grown <= HELD * whole and most_grown <= HELD * most_whole, told + ";", HELD, "times is the most that is wanted")
+    told = f"{grown:.1f} MB after {GROWN} new blocks above {LOW}, {most_grown:.1f} at most"
+    told += f"; {whole:.1f} where it begins with them, {most_whole:.1f} at most"
+    is_so = grown <= HELD * whole and most_grown <= HELD * most_whole
+    wanted(is_so, told + ";", HELD, "times that is the most that is wanted")
     return told
 
 

@@ -247,6 +247,10 @@ def pings():
     s = Following(2, 11).both_start(SHORT).pings(1, 2).pongs(2, 1).pings(2, seconds=30).pongs(2, 2)
     s.tick(30, "x 1 Overdue", "> 2 ping").pongs(2, 3).news(2, FOUR).shown(2, FOUR, 4, 4).rests(FOUR).row(DONE)
 
+    print("# It tells of that block while the first one's `ping` is open: the block is fetched, and the text waits.")
+    s = Following(2, 11).both_start(SHORT).pings(1, 2).pongs(2, 1).news(2, FOUR).shown(2, FOUR, 4, 4).row(ENDED)
+    s.pings(2, seconds=59).pongs(2, 2).row(ENDED).tick(1, "x 1 Overdue", "> 2 ping").pongs(2, 3).rests(FOUR).row(DONE)
+
     print("# A `pong` with another number, or with that of an earlier ping, or with nothing open, is read over. The")
     print("# session ends while a ping is open.")
     s = Following(1, 11).starts(SHORT).pongs(1, 1).pings(1).pongs(1, 0).pongs(1, 2).pongs(1, 1 << 56).row(ENDED)
@@ -290,6 +294,11 @@ def wires():
     s.over_wires("follow --workers 1 --record r --turns 8 w a", TIRED, turns=8)
     for number in (7, 8):
         s.over_wires("follow --record r w a", lost, [number])
+    print("# The same of two peers: the sending of the first one's `ping` fails, or of both.")
+    both = Following(2, 11).both_start(SHORT).pings(1, 2).pongs(2, 1).news(2, FOUR).shown(2, FOUR, 4, 4)
+    both.over_wires("follow w a b", ENDED)
+    both.over_wires("follow --record r w a b", DONE, [12])
+    both.over_wires("follow --record r w a b", no_peers(*[closed("SendFailed")] * 2), [12, 13])
     print("# The watch file can't be read: nothing is written. The record can't be written: the texts stand.")
     none = Following(1, 11)
     none.over_wires("follow x a", FILE)
