@@ -26,6 +26,7 @@ with that: this is only told. Memory may be HELD times that of a client that beg
 1 where a case ends otherwise.
 """
 import argparse
+import contextlib
 import os
 import signal
 import socket
@@ -36,8 +37,8 @@ import time
 
 from client import read_frames
 from conversation import GENESIS_HEADER, GENESIS_TX, THEIR_VERSION, double, frame, valued
-from growing import entry, listed
 from grow import Stream, seconds_of, side_by_side, wanted
+from growing import entry, listed
 from load import PAID, ROOT, UNPAID, Run, address_of, connected, written
 from made_chain import records
 
@@ -122,6 +123,16 @@ class Server:
         return self.chain.last_line(self.tip)
 
 
+def without_delay(connection):
+    connection.setsockopt(socket.IPPROTO_TCP, socket.TCP_NODELAY, 1)
+    return connection
+
+
+def shut(connection):
+    with contextlib.suppress(OSError):
+        connection.shutdown(socket.SHUT_RDWR)
+
+
 class Relay(threading.Thread):
     """An address at which one connection is one to a server. What comes is handed on frame by frame, so that others can
     be put between."""
@@ -137,29 +148,28 @@ class Relay(threading.Thread):
         self.near = without_delay(self.place.accept()[0])
         self.is_answered_by(connected(self.server))
         self.hand_on(self.near, self.tell_server)
-        self.far.close()
+        shut(self.far)
 
     def is_answered_by(self, far):
-        self.far = without_delay(far)
+        with self.locks[0]:
+            self.far = without_delay(far)
         threading.Thread(target=self.listen, args=(far,), daemon=True).start()
 
     def listen(self, far):
         """Hands on what a server says, and closes the client's connection once the last server has closed its own."""
         self.hand_on(far, self.tell_client)
         if far is self.far:
-            self.near.shutdown(socket.SHUT_RDWR)
+            shut(self.near)
 
     @staticmethod
     def hand_on(source, tell):
         waiting = b""
-        try:
+        with contextlib.suppress(OSError):
             while piece := source.recv(1 << 18):
                 waiting += piece
                 _, size = read_frames(waiting)
                 tell(waiting[:size])
                 waiting = waiting[size:]
-        except OSError:
-            pass
 
     def tell_server(self, frames):
         with self.locks[0]:
@@ -236,11 +246,6 @@ class Around:
 
     def end(self):
         ended(*self.runs)
-
-
-def without_delay(connection):
-    connection.setsockopt(socket.IPPROTO_TCP, socket.TCP_NODELAY, 1)
-    return connection
 
 
 def sent(signal_number, *runs):
