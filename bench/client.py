@@ -1,11 +1,15 @@
 """A client of filters, written in Python from BIP 157, BIP 158 and the Bitcoin developer reference: what it sends and
-whom it closes where peers deliver these bytes, how its run ends, and what it writes. `hostile.py`, `faults.py` and
-`changes.py` compare the program with it.
+whom it closes where peers deliver these bytes, how its run ends, and what it writes. `hostile.py`, `faults.py`,
+`following.py` and `changes.py` compare the program with it.
 
 docs/ARCHITECTURE.md has the rules in words: headers, then claims of filters, then filters, and last the blocks whose
 filters match or are in dispute; and nobody is asked for what is open to another. Of a block that was fetched, and on
 whose filter the peers differ, each is asked last for the filter that it claims; who claims one that lacks a script that
 the block pays is closed. It is plain, and made for few blocks.
+
+One that follows goes on once nothing is open. With each tick it sends a `ping`, with the numbers 1, 2 and so on, to each
+peer to which nothing is open, which is open until its `pong`. A peer that tells of a block which isn't on its own chain is
+asked for headers anew. Whenever nothing is open and a peer is connected it writes a text, unless that is the last one.
 """
 import struct
 
@@ -251,7 +255,7 @@ ANSWERS = {"getcfheaders": "cfheaders", "getcfilters": "cfilter", "getdata": "bl
 class Peer:
     def __init__(self):
         self.waiting, self.has_version, self.is_ready, self.is_heard = b"", False, False, False
-        self.asked, self.age, self.is_test = ("handshake", None), 0, False
+        self.asked, self.age, self.is_test, self.pings = ("handshake", None), 0, False, 0
         self.chain, self.times, self.claims = [double(GENESIS_HEADER)], [time_of(GENESIS_HEADER)], {}
 
     def ask(self, what, data, is_test=False):
@@ -261,8 +265,8 @@ class Peer:
 class Client:
     """What it keeps of its peers. A call gives acts: `(p, "> COMMAND")`, or `(p, "x CAUSE")`."""
 
-    def __init__(self, scripts, genesis_filter_header):
-        self.scripts, self.before_first = scripts, genesis_filter_header
+    def __init__(self, scripts, genesis_filter_header, follows=False):
+        self.scripts, self.before_first, self.follows = scripts, genesis_filter_header, follows
         self.peers, self.verdicts, self.blocks, self.tests = {}, {}, {}, {}
 
     def dialled(self, p):
@@ -302,7 +306,17 @@ class Client:
         for p in sorted(self.peers):
             if self.peers[p].asked and self.peers[p].age >= 60:
                 self.lose(p, acts, "Overdue")
+        if self.follows:
+            self.ping_all(acts)
         return acts + self.asks()
+
+    def ping_all(self, acts):
+        for p in sorted(self.peers):
+            peer = self.peers[p]
+            if peer.is_ready and not peer.asked:
+                peer.pings += 1
+                peer.ask("ping", peer.pings)
+                acts.append((p, "> ping"))
 
     def send_failed(self, p):
         acts = [(p, "x SendFailed")]
@@ -338,6 +352,12 @@ class Client:
                 peer.is_ready, peer.asked = True, None
         elif command == "headers":
             self.accept(peer, message)
+        elif command == "pong":
+            if peer.asked == ("ping", int.from_bytes(message, "little")):
+                peer.asked = None
+        elif command == "inv":
+            if self.follows and any(each[:4] == b"\2\0\0\0" and each[4:] not in peer.chain for each in message):
+                peer.is_heard = False
         elif peer.asked and command == ANSWERS.get(peer.asked[0]):
             getattr(self, "answer_" + command)(peer, message)
 
@@ -494,8 +514,8 @@ class Client:
 class Run:
     """A run over wires that give the lines of a session, and of whose dials and sends these fail, counted from 1."""
 
-    def __init__(self, lines, scripts, genesis_filter_header, failing=(), turns=10_000_000):
-        self.client = Client(scripts, genesis_filter_header)
+    def __init__(self, lines, scripts, genesis_filter_header, failing=(), turns=10_000_000, follows=False):
+        self.client, self.texts = Client(scripts, genesis_filter_header, follows), []
         self.failing, self.calls, self.untold, self.trace, self.log, self.ends = failing, 0, [], [], [], {}
         dials = [line.split(" ") for line in lines if line.split(" ")[0] in ("dial", "nodial")]
         for p, (word, name) in enumerate(dials, 1):
@@ -512,15 +532,22 @@ class Run:
 
     def follow(self, lines, turns):
         taken = 0
-        while self.client.is_working():
-            if taken == turns:
-                return "Tired"
-            if taken == len(lines):
-                return "Ended"
+        while self.goes_on():
+            if taken in (turns, len(lines)):
+                return "Done" if not self.client.is_working() else "Tired" if taken == turns else "Ended"
             self.log.append(lines[taken])
             self.do(self.step(*lines[taken].split(" ")))
             taken += 1
         return "Done" if self.client.best() else "NoPeers"
+
+    def goes_on(self):
+        """Whether one more delivery is wanted. Where nothing is open and a peer is connected, the text is written."""
+        if self.client.is_working() or not self.client.best():
+            return self.client.is_working()
+        text = self.client.history()
+        if self.texts[-1:] != [text]:
+            self.texts.append(text)
+        return self.client.follows
 
     def step(self, word, number, digits=""):
         number = int(number)
@@ -556,7 +583,7 @@ class Run:
         return TEXTS[self.end]
 
     def text(self):
-        return self.client.history() if self.end == "Done" else ""
+        return "".join(self.texts)
 
     def traced(self):
         return "".join(line + "\n" for line in self.trace) + self.text()

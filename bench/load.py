@@ -8,6 +8,7 @@ outputs more. Then the made chain is served to eight `sync` side by side and bes
 asks for all filters and never reads, and one that sends bytes that are no frames. Each `sync` is to end with status 0 and the text of `scan`, and each
 server with status 0 once its connections are over. No process runs for longer than LIMIT seconds.
 """
+import contextlib
 import os
 import random
 import re
@@ -55,7 +56,9 @@ class Run:
 
     def stop(self):
         if self.thread.is_alive():
-            os.kill(self.process.pid, signal.SIGKILL)
+            # It may end by itself just then.
+            with contextlib.suppress(ProcessLookupError):
+                os.kill(self.process.pid, signal.SIGKILL)
 
     def join(self):
         self.thread.join()

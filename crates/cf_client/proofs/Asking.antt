@@ -12,7 +12,7 @@ use Rattle.cf_block.specs.Header.{block_hash_of, genesis_header, header_spelling
 use Rattle.cf_headers.specs.Chain.{Chain, no_hash, locator_from, locator_of, IsWithinLimit}
 use Rattle.cf_headers.proofs.Locators.{locator_fits}
 use Rattle.cf_msg.specs.declared.msg.Entry.{Entry}
-use Rattle.cf_msg.specs.declared.msg.Msg.TheVariants.{Version, GetHeaders, GetData, GetCfilters, GetCfheaders}
+use Rattle.cf_msg.specs.declared.msg.Msg.TheVariants.{Version, Ping, GetHeaders, GetData, GetCfilters, GetCfheaders}
 use Rattle.cf_msg.specs.Message.{payload_of, IsEntry}
 use Rattle.cf_msg.proofs.Sizes.{version_size, getheaders_size, entries_size, range_size}
 use Rattle.cf_peer.specs.Acts.{IsSendable}
@@ -80,6 +80,13 @@ claims_sendable start stop few long = record { spelled = (lit< tt, few, long); s
 pub filters_sendable : (start : ℕ) (stop : Hash32) → start < 2 ^ 32 → length stop.0 ≡ 32 → IsSendable (GetCfilters 0 start stop)
 unfolding payload_of
 filters_sendable start stop few long = record { spelled = (lit< tt, few, long); short = (let size = range_size 0 start stop long in omega (arith, size)) }
+
+ping_length : (number : ℕ) → length (payload_of (Ping number)) ≡ 8
+unfolding payload_of
+ping_length number = refl
+
+pub ping_sendable : (number : ℕ) → number < 2 ^ 64 → IsSendable (Ping number)
+ping_sendable number few = record { spelled = few; short = omega (arith, ping_length number) }
 
 pub greeting_is : (time : ℤ) (nonce : ℕ) (agent : List ℕ) → FitsSigned w64 time → nonce < 2 ^ 64 → agent ≡ codes "/cf:1/"
     → IsGreeting (Version (pos 70016) 0 time no_address no_address nonce agent (pos 0) (Some 0))

@@ -73,6 +73,14 @@ ping_moves d i peer number lt order here idle next sendable =
     (λ log on stood. ping_goes d.places d.acts log d.seen i peer number lt stood.goes here idle next sendable on.1)
     (λ log stood. ping_tracks d.places d.acts log d.seen i peer number stood.goes here idle sendable stood.tracks)
 
+-- to these places and acts
+moved : (d : Desk) (places : List Place) (acts : List Act) (now : List Place) (more : List Act) → places ≡ now → acts ≡ more
+    → Moves Following Ticked d (record { places = now; seen = d.seen; acts = more })
+    → Moves Following Ticked d (record { places = places; seen = d.seen; acts = acts })
+moved d places acts now more same added moves =
+    subst (λ (ps : List Place). Moves Following Ticked d (record { places = ps; seen = d.seen; acts = acts })) (sym same)
+    (subst (λ (xs : List Act). Moves Following Ticked d (record { places = now; seen = d.seen; acts = xs })) (sym added) moves)
+
 -- nothing is sent
 pub ticked_self : (d : Desk) → IsInOrder d → Moves Following Ticked d d
 ticked_self d order = stay_moves order (λ log after on stood. subst (Stands Following d) (sym on.0) stood)
@@ -84,13 +92,11 @@ next_here number place peer here next = subst (IsNextPing number) here next
 pub pinged_moves : (d : Desk) (i : ℕ) (places : List Place) (acts : List Act) → i < length d.places → IsInOrder d
     → IsPinged i d.places places d.acts acts → Moves Following Ticked d (record { places = places; seen = d.seen; acts = acts })
 pinged_moves d i places acts lt order (inl (number, (next, sent))) =
-    subst (λ (ps : List Place). Moves Following Ticked d (record { places = ps; seen = d.seen; acts = acts })) (sym sent.kept)
-    (subst (λ (xs : List Act). Moves Following Ticked d (record { places = set d.places i (Here (asked_for_ping number sent.peer)); seen = d.seen; acts = xs })) (sym sent.added)
-    (ping_moves d i sent.peer number lt order sent.here sent.idle (next_here number (get_or d.places i nobody) sent.peer sent.here next) sent.sendable))
-pinged_moves d i places acts lt order (inr (same, none, out)) =
-    subst (λ (ps : List Place). Moves Following Ticked d (record { places = ps; seen = d.seen; acts = acts })) (sym same)
-    (subst (λ (xs : List Act). Moves Following Ticked d (record { places = d.places; seen = d.seen; acts = xs })) (sym none)
-    (ticked_self d order))
+    moved d places acts (set d.places i (Here (asked_for_ping number sent.peer))) (d.acts ++ Send (record { 0 = i }) (Ping number) ∷ [])
+    sent.kept sent.added
+    (ping_moves d i sent.peer number lt order sent.here sent.idle
+    (next_here number (get_or d.places i nobody) sent.peer sent.here next) sent.sendable)
+pinged_moves d i places acts lt order (inr (same, none, out)) = moved d places acts d.places d.acts same none (ticked_self d order)
 
 pub pinged_one : (i : ℕ) (places now : List Place) (acts more : List Act) → IsPinged i places now acts more → PingsOne i acts more
 pinged_one i places now acts more (inl (number, (next, sent))) = inr (number, sent.added)

@@ -213,8 +213,8 @@ pub record Unchanged (rs : List Msg) (part : Part) : Type 0 where
 
 holds_asked : (r : Msg) (peer : Peer) (t : Trail) → IsReply r → Holds peer t → Holds peer (Asked r ∷ t)
 holds_asked r peer t is h = by_reply (λ (m : Msg). Holds peer (Asked m ∷ t))
-    (record { on = h.on; called = h.called; meeting = h.meeting; open_one = h.open_one; hearing = h.hearing; numbered = h.numbered; clean = h.clean; orderly = h.orderly; acquainted = h.acquainted })
-    (λ number. record { on = h.on; called = h.called; meeting = h.meeting; open_one = h.open_one; hearing = h.hearing; numbered = h.numbered; clean = h.clean; orderly = h.orderly; acquainted = h.acquainted }) r is
+    (record { on = h.on; called = h.called; meeting = h.meeting; open_one = h.open_one; hearing = h.hearing; numbered = (let n = h.numbered in omega (arith, n)); clean = h.clean; orderly = h.orderly; acquainted = h.acquainted })
+    (λ number. record { on = h.on; called = h.called; meeting = h.meeting; open_one = h.open_one; hearing = h.hearing; numbered = (let n = h.numbered in omega (arith, n)); clean = h.clean; orderly = h.orderly; acquainted = h.acquainted }) r is
 
 no_version : (r : Msg) → IsReply r → is_version r ≡ false
 no_version r is = by_reply (λ (m : Msg). is_version m ≡ false) refl (λ number. refl) r is

@@ -371,7 +371,7 @@ gains_plain : (seen : Seen) (p : PeerNo) (m : Msg) (t : Trail) → is_plain m �
     → Gains seen seen p (Said m ∷ t) (fetched_by m (request t)) (given_by m (request t))
 gains_plain seen p m t plain f =
     let said = plain_said m t plain in
-    subst (λ (bs : List Block). Gains seen seen p (Said m ∷ t) bs (given_by m (request t))) (sym said.2)
+    subst (λ (bs : List Block). Gains seen seen p (Said m ∷ t) bs (given_by m (request t))) (sym said.1)
     (subst (λ (js : List Job). Gains seen seen p (Said m ∷ t) [] js) (sym (plain_given m (request t) plain))
     (gains_none seen p (Said m ∷ t)
     (follows_on seen p.0 m t said.0 (λ block. ap (λ (c : dispute.Table). c block) (plain_claims m (request t) (claims t) plain))

@@ -8,7 +8,7 @@ use Rattle.cf_hear.proofs.hear.are_news.Given as goal
 abbrev pub invariant-loop-entry : goal.invariant-loop-entry
 invariant-loop-entry g l = record {
   same : list_any (is_unknown (own_of (chains_of l.tracker) l.p)) l.fn.entries
-      ≡ list_any (is_unknown (own_of (chains_of l.tracker) l.p)) l.entries
+      ≡ list_any (is_unknown (own_of (chains_of l.tracker) l.p)) l.entries;
 }
 
 abbrev pub decreases-loop-entry : goal.decreases-loop-entry

@@ -12,7 +12,7 @@ use Rattle.cf_run.proofs.Versions.{new_words, has_so, words_then, words_so}
 use Rattle.cf_run.proofs.Turns.{starts, finishes, no_peers, told_so}
 use Rattle.cf_run.proofs.Dialling.{none_named}
 use Rattle.cf_run.proofs.Passing.{passes_none, passes_dials, passes_turns}
-use Rattle.cf_run.proofs.Puts.{all_some, all_told, none_before, none_put, some_told}
+use Rattle.cf_run.proofs.Puts.{on_err, all_some, all_told, none_before, none_put, some_told}
 use Rattle.cf_run.proofs.follow.follow_all.Goals as goal
 
 pub returns-clause-followed : goal.returns-clause-followed
@@ -138,32 +138,36 @@ returns-clause-put g c =
 
 pub returns-in_err-client-clause-put_some : goal.returns-in_err-client-clause-put_some
 returns-in_err-client-clause-put_some g c =
-    let t0 = g.W.Wires.told c.args.wires.now in
-    some_told c.args.watch t0 _ _ (none_put c.args.watch t0 _ (none_before c.args.watch t0 c.requires.fresh))
+    on_err _
+    (let t0 = g.W.Wires.told c.args.wires.now in
+    some_told c.args.watch t0 _ _ (none_put c.args.watch t0 _ (none_before c.args.watch t0 c.requires.fresh)))
 
 pub returns-in_err-dial_all-clause-put_some : goal.returns-in_err-dial_all-clause-put_some
 returns-in_err-dial_all-clause-put_some g c =
-    let were = c.in_err-dial_all.ensures.puts c.args.watch [] (none_before c.args.watch (g.W.Wires.told c.args.wires.now) c.requires.fresh) in
-    some_told c.args.watch (g.W.Wires.told c.dial_all.new.wires) _ _ (none_put c.args.watch (g.W.Wires.told c.dial_all.new.wires) _ were)
+    on_err _
+    (let were = c.in_err-dial_all.ensures.puts c.args.watch [] (none_before c.args.watch (g.W.Wires.told c.args.wires.now) c.requires.fresh) in
+    some_told c.args.watch (g.W.Wires.told c.dial_all.new.wires) _ _ (none_put c.args.watch (g.W.Wires.told c.dial_all.new.wires) _ were))
 
 pub returns-in_err-end-clause-put_some : goal.returns-in_err-end-clause-put_some
 returns-in_err-end-clause-put_some g c =
-    let t0 = g.W.Wires.told c.args.wires.now in
+    on_err _
+    (let t0 = g.W.Wires.told c.args.wires.now in
     let start = starts c.in_ok-client.client c.new-progress.result t0 c.in_ok-client.ensures.reflects c.new-progress.ensures.sends c.new-progress.ensures.closed c.new-progress.ensures.trace c.requires.fresh in
     let called = names_in c.args.names.now in
     let same = ap (λ (r : Rule). r.watch) (c.in_ok-dial_all.ensures.rule ∙ c.in_ok-client.ensures.rule) in
     let were = c.in_ok-dial_all.ensures.puts c.args.watch [] (none_before c.args.watch t0 c.requires.fresh) in
-    some_told c.args.watch (g.W.Wires.told c.follow_turns.new.wires) _ _ (c.in_err-end.ensures.put_some c.args.watch called same (c.in_ok-dial_all.ensures.holds start) were)
+    some_told c.args.watch (g.W.Wires.told c.follow_turns.new.wires) _ _ (c.in_err-end.ensures.put_some c.args.watch called same (c.in_ok-dial_all.ensures.holds start) were))
 
 pub returns-in_err-outcome-clause-put_some : goal.returns-in_err-outcome-clause-put_some
 returns-in_err-outcome-clause-put_some g c =
-    let t0 = g.W.Wires.told c.args.wires.now in
+    on_err _
+    (let t0 = g.W.Wires.told c.args.wires.now in
     let start = starts c.in_ok-client.client c.new-progress.result t0 c.in_ok-client.ensures.reflects c.new-progress.ensures.sends c.new-progress.ensures.closed c.new-progress.ensures.trace c.requires.fresh in
     let called = names_in c.args.names.now in
     let same = ap (λ (r : Rule). r.watch) (c.in_ok-dial_all.ensures.rule ∙ c.in_ok-client.ensures.rule) in
     let were = c.in_ok-dial_all.ensures.puts c.args.watch [] (none_before c.args.watch t0 c.requires.fresh) in
     let t = g.W.Wires.told c.follow_turns.new.wires in
-    some_told c.args.watch t _ _ (all_some c.args.watch t _ _ (c.in_ok-end.ensures.put c.args.watch called same (c.in_ok-dial_all.ensures.holds start) were))
+    some_told c.args.watch t _ _ (all_some c.args.watch t _ _ (c.in_ok-end.ensures.put c.args.watch called same (c.in_ok-dial_all.ensures.holds start) were)))
 
 pub returns-in_err-end-clause-right : goal.returns-in_err-end-clause-right
 returns-in_err-end-clause-right g c = λ failed.

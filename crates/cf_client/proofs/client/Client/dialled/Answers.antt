@@ -1,4 +1,4 @@
-use Rattle.std.proofs.Common.{◌≤◌, ◌∷◌, length, refl, arith}
+use Rattle.std.proofs.Common.{◌≤◌, ◌∷◌, ℕ, List, length, refl, ap, arith}
 use Rattle.std.proofs.Math.Logic.{∥∥₁_map}
 use Rattle.cf_wires.specs.declared.event.Event.TheVariants.{Dialled}
 use Rattle.cf_peer.specs.Acts.{bytes_of}
@@ -6,11 +6,11 @@ use Rattle.cf_hear.specs.Seen.{seen_of}
 use Rattle.cf_client.proofs.Standing.{called_goes}
 use Rattle.cf_hear.proofs.Exposing.{unexposed_put}
 use Rattle.cf_hear.proofs.Tracking.{none_open, tracks_dialled, tracks_sent, put_entered, none_claimed}
-use Rattle.cf_tracker.specs.Tracker.{claims_of}
+use Rattle.cf_tracker.specs.Tracker.{claims_of, watch_of}
 use Rattle.cf_peer.specs.Peer.{called_peer}
 use Rattle.cf_place.specs.declared.place.Place.TheVariants.{Here}
 use Rattle.cf_peer.specs.Trail.{trail}
-use Rattle.cf_client.specs.Stands.{rule_by}
+use Rattle.cf_sync.specs.Fetching.{Rule}
 use Rattle.cf_client.proofs.Acting.{version_asks, version_only}
 use Rattle.cf_client.proofs.Settled.{settled_called}
 use Rattle.cf_client.proofs.Spelled.{spelled_bytes}
@@ -39,7 +39,7 @@ returns-clause-answers g c = λ log reflects.
     let m = c.in_ok-greeting.field-0 in
     let le : length c.args.self.now.places.items ≤ c.args.p.0 = omega (arith, c.requires.next) in
     let off = past_nobody c.args.self.now.places.items log c.args.p.0 le reflects.places in
-    let goes = called_goes {rule = rule_by c.args.self.now} c.args.self.now.places.items log c.args.p c.args.name.now m c.requires.next reflects.places c.in_ok-greeting.ensures.greeting in
+    let goes = called_goes {rule = record { watch = watch_of c.enter.new.self; mode = c.args.self.now.mode }} c.args.self.now.places.items log c.args.p c.args.name.now m c.requires.next reflects.places c.in_ok-greeting.ensures.greeting in
     let put = put_entered before now c.args.p c.in_ok-enter.ensures.ok c.in_ok-enter.ensures.table c.in_ok-enter.ensures.claims c.in_ok-enter.ensures.verdicts c.in_ok-enter.ensures.watch
     (none_claimed before log c.args.p.0 off reflects.tracks) c.in_ok-enter.ensures.opens (none_open before log c.args.p.0 off reflects.tracks) c.in_ok-enter.ensures.trials in
     let next = Dialled c.args.p c.args.name.now ∷ log in
@@ -57,3 +57,8 @@ returns-clause-answers g c = λ log reflects.
 
 pub returns-clause-judged : goal.returns-clause-judged
 returns-clause-judged g c = record { same = refl; kept = c.in_ok-enter.ensures.verdicts }
+
+pub returns-clause-rule : goal.returns-clause-rule
+returns-clause-rule g c =
+    let by : List (List ℕ) → Rule = λ watch. record { watch = watch; mode = c.args.self.now.mode } in
+    ap by c.in_ok-enter.ensures.watch

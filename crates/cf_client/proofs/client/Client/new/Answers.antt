@@ -9,6 +9,7 @@ use Rattle.cf_place.specs.Places.{PlacesStand, nobody}
 use Rattle.cf_client.specs.Settled.{AreSettled, AreRight}
 use Rattle.cf_client.proofs.Settled.{settled_first}
 use Rattle.cf_client.proofs.Standing.{stand_first}
+use Rattle.cf_sync.specs.Fetching.{once}
 use Rattle.cf_sync.proofs.KeptAims.{trials_start}
 use Rattle.cf_client.proofs.Rights.{right_first}
 use Rattle.cf_client.proofs.client.Client.new.Goals as goal
@@ -42,3 +43,6 @@ returns-clause-reflects g c = record {
   };
   unexposed = λ q at of e. (let no : None ≡ Some true = sym (c.in_ok-tracker.ensures.told at of) ∙ e.found in cc no);
 }
+
+pub returns-clause-rule : goal.returns-clause-rule
+returns-clause-rule g c = ap once c.in_ok-tracker.ensures.watch
