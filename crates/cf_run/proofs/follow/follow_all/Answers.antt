@@ -1,4 +1,5 @@
-use Rattle.std.proofs.Common.{List, [], ℕ, sym, ◌∙◌, ap, subst, rules}
+use Rattle.std.proofs.Common.{◌≡◌, Err, List, [], ℕ, sym, ◌∙◌, ap, subst, rules}
+use Rattle.cf_run.specs.declared.texts.TextFail.TheVariants.{Failed}
 use Rattle.std.proofs.lemmas.Result.{err_from_is_err_and}
 use Rattle.std.proofs.Math.Facts.{to_z-of_z}
 use Rattle.std.specs.Int.{w64}
@@ -172,8 +173,11 @@ returns-in_err-outcome-clause-put_some g c =
 
 pub returns-in_err-end-clause-right : goal.returns-in_err-end-clause-right
 returns-in_err-end-clause-right g c = λ failed.
+    let p = err_from_is_err_and c.from_residual-in_err-end.result c.from_residual-in_err-end.ensures.1 in
+    let f : c.from_residual-in_err-end.result ≡ Err Failed = failed in
+    let e : c.in_err-end.field-0.0 ≡ Failed = cc (p.1, p.2, f) in
     let start = starts c.in_ok-client.client c.new-progress.result (g.W.Wires.told c.args.wires.now) c.in_ok-client.ensures.reflects c.new-progress.ensures.sends c.new-progress.ensures.closed c.new-progress.ensures.trace c.requires.fresh in
-    c.in_err-end.ensures.right failed (names_in c.args.names.now) (c.in_ok-dial_all.ensures.holds start)
+    c.in_err-end.ensures.right (ap Err e) (names_in c.args.names.now) (c.in_ok-dial_all.ensures.holds start)
 
 pub returns-clause-dialled : goal.returns-clause-dialled
 returns-clause-dialled g c = λ ne. c.in_ok-end.ensures.same.dials ∙ c.in_ok-dial_all.ensures.dialled

@@ -1,4 +1,5 @@
-use Rattle.std.proofs.Common.{inr, ℕ, ◌+◌, Option, Some, refl, ◌∙◌, ap, subst, arith}
+use Rattle.std.proofs.Common.{◌≡◌, Err, inr, ℕ, ◌+◌, Option, Some, refl, ◌∙◌, ap, subst, arith}
+use Rattle.cf_run.specs.declared.texts.TextFail.TheVariants.{Failed}
 use Rattle.std.proofs.lemmas.Result.{err_from_is_err_and}
 use Rattle.cf_sync.specs.Fetching.{Rule}
 use Rattle.cf_client.specs.Stands.{words_by}
@@ -82,7 +83,11 @@ returns-in_err-put_at_rest-clause-put_some g c = rw (err_from_is_err_and c.from_
     (c.loop-turn.invariant.holds called holds) c.loop-turn.invariant.follows (ap (λ (r : Rule). r.watch) c.loop-turn.invariant.rule ∙ same) have (c.in_err-put_at_rest.ensures.put_some have.texts have.newest))
 
 pub returns-in_err-end-clause-right : goal.returns-in_err-end-clause-right
-returns-in_err-end-clause-right g c = λ failed called holds. c.in_err-end.ensures.right failed called (c.loop-turn.invariant.holds called holds)
+returns-in_err-end-clause-right g c = λ failed called holds.
+    let p = err_from_is_err_and c.from_residual.result c.from_residual.ensures.1 in
+    let f : c.from_residual.result ≡ Err Failed = failed in
+    let e : c.in_err-end.field-0.0 ≡ Failed = cc (p.1, p.2, f) in
+    c.in_err-end.ensures.right (ap Err e) called (c.loop-turn.invariant.holds called holds)
 
 pub returns-in_err-put_at_rest-clause-right : goal.returns-in_err-put_at_rest-clause-right
 returns-in_err-put_at_rest-clause-right g c = λ failed called holds.
