@@ -48,7 +48,7 @@ peer_innocent peer t cause h is (inl words) = (let e : None ≡ Some cause = sym
 peer_innocent peer t cause h is (inr (inl fault)) = both_ways (failed t) (none_failed t h.on) fault.1
 peer_innocent peer t cause h is (inr (inr late)) = calm_young (age_in peer.request) is (omega (arith, age_kept peer t h late.1, late.2))
 
-settled_calm : (mode : Mode) (place : Place) → is_settled mode place ≡ true → is_calm place ≡ true
+pub settled_calm : (mode : Mode) (place : Place) → is_settled mode place ≡ true → is_calm place ≡ true
 settled_calm mode place h = (and_parts (is_calm place) (not (is_wanting mode place)) h).0
 
 place_innocent : (place : Place) (part : Part) (cause : Cause) → Fits place part → is_calm place ≡ true → connected part.trail ≡ true → Deserves part.trail cause → ⊥

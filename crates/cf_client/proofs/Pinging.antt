@@ -9,7 +9,7 @@ use Rattle.cf_peer.specs.declared.peer.Peer.{Peer}
 use Rattle.cf_peer.specs.Acts.{IsSendable}
 use Rattle.cf_peer.specs.Asking.{MayPing}
 use Rattle.cf_peer.specs.Peer.{is_idle_peer, asked_for_ping}
-use Rattle.cf_peer.specs.Trail.{Asked, part_of, trail}
+use Rattle.cf_peer.specs.Trail.{part_of, trail}
 use Rattle.cf_peer.proofs.Peers.{asked_ping_holds, ping_may}
 use Rattle.cf_sync.specs.Fetching.{Rule, blocks_open, filters_open, is_after_tick}
 use Rattle.cf_wires.specs.Log.{Log}

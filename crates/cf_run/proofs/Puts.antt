@@ -1,6 +1,6 @@
 -- What is put of the texts of a run that follows, from moment to moment.
 use Rattle.std.proofs.Common.{◌≡◌, ◌⊎◌, inl, inr, ℕ, ◌+◌, ◌≤◌, Bool, List, [], ◌∷◌, ◌++◌, length, take, String, string_bytes, Option, Some, None, Result, Ok, Err, refl, sym, ◌∙◌, ap, subst, arith, if◌then◌else◌}
-use Rattle.std.specs.Prelude.{IfSome, IfOk, OnErr, bytes_eq}
+use Rattle.std.specs.Prelude.{IfSome, IfOk, bytes_eq}
 use Rattle.std.specs.declared.alloc.Global.{Global}
 use Rattle.std.proofs.lemmas.Bool.{both_ways}
 use Rattle.std.proofs.lemmas.List.{append_assoc, append-nil, length-append}
@@ -30,11 +30,6 @@ use Rattle.cf_run.specs.declared.texts.TextFail.{TextFail}
 use Rattle.cf_run.specs.Run.{Followed, HoldsOver}
 use Rattle.cf_run.specs.Texts.{AllPut, HasBegun, HasPut, HasPutSome, HavePut, IsLast, PutBefore, PutBy, PutsNext, PutsOne, PutsSome, SomePut, joined}
 use Rattle.cf_run.proofs.Turns.{told_so}
-
--- an error that was passed on
-pub on_err : {A E P : Type 0} (r : Result A E) → P → OnErr r P
-on_err (Ok x) p = tt
-on_err (Err e) p = p
 
 -- ---- what is told, with more after it
 

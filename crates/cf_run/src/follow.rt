@@ -32,7 +32,8 @@ use std::alloc::Global;
 
 // Whether this is the last text that was put.
 fn is_last(last: &Option<String>, text: &str) -> bool
-    ensures { (before : List (List ℕ)) → IsLast last.now before → put text.now before ≡ (if result then before else text.now ∷ before) }
+    ensures { (before : List (List ℕ)) → IsLast last.now before
+        → put text.now before ≡ (if result then before else text.now ∷ before) }
 {
     match last {
         Some(last) => text == last.as_str(),
@@ -46,8 +47,11 @@ fn put_text<T: Texts>(
     last: &mut Option<String>,
     text: String,
 ) -> Result<(), TextFail>
-    ensures put { OnOk result ((before : List (List ℕ)) → IsLast last.old before → PutsOne (string_bytes text) before last.new (T.told texts.old) (T.told texts.new)) }
-    ensures begun { OnErr result ((before : List (List ℕ)) (first : Option (List ℕ)) → IsLast last.old before → T.told texts.old ≡ with_more first (joined before) → HasBegun (joined (put (string_bytes text) before)) first (T.told texts.new)) }
+    ensures put { OnOk result ((before : List (List ℕ)) → IsLast last.old before
+        → PutsOne (string_bytes text) before last.new (T.told texts.old) (T.told texts.new)) }
+    ensures begun { OnErr result ((before : List (List ℕ)) (first : Option (List ℕ)) → IsLast last.old before
+        → T.told texts.old ≡ with_more first (joined before)
+        → HasBegun (joined (put (string_bytes text) before)) first (T.told texts.new)) }
     ensures fine { OnOk result (T.faults texts.new ≡ T.faults texts.old) }
     ensures failed { IsErrOf result TextFail.Failed → HasRisen (T.faults texts.old) (T.faults texts.new) }
     ensures same_reference { T.holds texts.new ≡ T.holds texts.old }
@@ -60,7 +64,8 @@ fn put_text<T: Texts>(
     Ok(())
 }
 
-// Where nothing is open and a peer is connected, puts the text of the history and the tip, unless it is the last one that was put.
+// Where nothing is open and a peer is connected, puts the text of the history and the tip, unless it is the last one
+// that was put.
 fn put_at_rest<H: HeaderStore, M: Matcher, T: Texts>(
     alloc: Global,
     client: &mut Client<H, M>,
@@ -68,8 +73,10 @@ fn put_at_rest<H: HeaderStore, M: Matcher, T: Texts>(
     last: &mut Option<String>,
 ) -> Result<(), TextFail>
     requires follows { (rule_by client.old).mode ≡ Following }
-    ensures put { OnOk result ((before : List (List ℕ)) → IsLast last.old before → PutsNext client.old before last.new (T.told texts.old) (T.told texts.new)) }
-    ensures put_some { OnErr result ((before : List (List ℕ)) → IsLast last.old before → PutsSome client.old before (T.told texts.old) (T.told texts.new)) }
+    ensures put { OnOk result ((before : List (List ℕ)) → IsLast last.old before
+        → PutsNext client.old before last.new (T.told texts.old) (T.told texts.new)) }
+    ensures put_some { OnErr result ((before : List (List ℕ)) → IsLast last.old before
+        → PutsSome client.old before (T.told texts.old) (T.told texts.new)) }
     ensures same { OnOk result (client.new ≡ client.old) }
     ensures fine { OnOk result (T.faults texts.new ≡ T.faults texts.old) }
     ensures failed { IsErrOf result TextFail.Failed → HasRisen (T.faults texts.old) (T.faults texts.new) }
@@ -110,23 +117,41 @@ fn follow_turn<W: Wires, H: HeaderStore, M: Matcher, T: Texts>(
     requires follows { (rule_by client.old).mode ≡ Following }
     requires step { IsInStep (W.told wires.old) progress.old }
     requires open { (W.told wires.old).finished ≡ false }
-    ensures turned { IfOk result (λ end. (called : List (List ℕ)) → HoldsOver client.old progress.old called (W.told wires.old) → Turned end client.new progress.new called (W.told wires.new)) }
-    ensures puts { IfOk result (λ end. end ≡ None → (watch called : List (List ℕ)) (first : Option (List ℕ)) → watch_by client.old ≡ watch → HoldsOver client.old progress.old called (W.told wires.old)
-        → HavePut watch last.old (W.told wires.old) first (T.told texts.old) → HavePut watch last.new (W.told wires.new) first (T.told texts.new)) }
-    ensures all_put { IfOk result (λ end. (e : End) → end ≡ Some e → (watch called : List (List ℕ)) (first : Option (List ℕ)) → watch_by client.old ≡ watch → HoldsOver client.old progress.old called (W.told wires.old)
-        → HavePut watch last.old (W.told wires.old) first (T.told texts.old) → AllPut watch (W.told wires.new) first (T.told texts.new)) }
-    ensures put_some { OnErr result ((watch called : List (List ℕ)) (first : Option (List ℕ)) → watch_by client.old ≡ watch → HoldsOver client.old progress.old called (W.told wires.old)
-        → HavePut watch last.old (W.told wires.old) first (T.told texts.old) → SomePut watch (W.told wires.new) first (T.told texts.new)) }
-    ensures right { IsErrOf result TextFail.Failed → (called : List (List ℕ)) → HoldsOver client.old progress.old called (W.told wires.old) → IfSome (W.told wires.new).log (λ log. AreBytes log × RightlyIn Following log) }
-    ensures versions { (called : List (List ℕ)) → HoldsOver client.old progress.old called (W.told wires.old) → KeepsWords (words_by client.old) (W.told wires.old) (W.told wires.new) }
+    ensures turned { IfOk result (λ end. (called : List (List ℕ))
+        → HoldsOver client.old progress.old called (W.told wires.old)
+        → Turned end client.new progress.new called (W.told wires.new)) }
+    ensures puts { IfOk result (λ end. end ≡ None → (watch called : List (List ℕ)) (first : Option (List ℕ))
+        → watch_by client.old ≡ watch → HoldsOver client.old progress.old called (W.told wires.old)
+        → HavePut watch last.old (W.told wires.old) first (T.told texts.old)
+        → HavePut watch last.new (W.told wires.new) first (T.told texts.new)) }
+    ensures all_put { IfOk result (λ end. (e : End) → end ≡ Some e
+        → (watch called : List (List ℕ)) (first : Option (List ℕ)) → watch_by client.old ≡ watch
+        → HoldsOver client.old progress.old called (W.told wires.old)
+        → HavePut watch last.old (W.told wires.old) first (T.told texts.old)
+        → AllPut watch (W.told wires.new) first (T.told texts.new)) }
+    ensures put_some { OnErr result ((watch called : List (List ℕ)) (first : Option (List ℕ))
+        → watch_by client.old ≡ watch → HoldsOver client.old progress.old called (W.told wires.old)
+        → HavePut watch last.old (W.told wires.old) first (T.told texts.old)
+        → SomePut watch (W.told wires.new) first (T.told texts.new)) }
+    ensures right { IsErrOf result TextFail.Failed → (called : List (List ℕ))
+        → HoldsOver client.old progress.old called (W.told wires.old)
+        → IfSome (W.told wires.new).log (λ log. AreBytes log × RightlyIn Following log) }
+    ensures versions { (called : List (List ℕ)) → HoldsOver client.old progress.old called (W.told wires.old)
+        → KeepsWords (words_by client.old) (W.told wires.old) (W.told wires.new) }
     ensures rule { OnOk result (rule_by client.new ≡ rule_by client.old) }
     ensures words { OnOk result (words_by client.new ≡ words_by client.old) }
-    ensures taken { IfOk result (λ end. end ≡ None → (W.told wires.new).tally.taken ≡ (W.told wires.old).tally.taken + 1) }
-    ensures untaken { IfOk result (λ end. end ≢ None → (W.told wires.new).tally.taken ≡ (W.told wires.old).tally.taken) }
+    ensures taken { IfOk result (λ end. end ≡ None
+        → (W.told wires.new).tally.taken ≡ (W.told wires.old).tally.taken + 1) }
+    ensures untaken { IfOk result (λ end. end ≢ None
+        → (W.told wires.new).tally.taken ≡ (W.told wires.old).tally.taken) }
     ensures untired { IfOk result (λ end. end ≢ Some End.Tired) }
-    ensures unended { IfOk result (λ end. end ≡ None → (W.told wires.new).tally.ended ≡ (W.told wires.old).tally.ended) }
-    ensures ended { IfOk result (λ end. (e : End) → end ≡ Some e → e ≢ End.NoPeers → (W.told wires.new).tally.ended ≡ (W.told wires.old).tally.ended + 1) }
-    ensures turns { Turns (moment (W.told wires.old) (W.faults wires.old) (W.script wires.old) (W.keeps wires.old) progress.old) (moment (W.told wires.new) (W.faults wires.new) (W.script wires.new) (W.keeps wires.new) progress.new) }
+    ensures unended { IfOk result (λ end. end ≡ None
+        → (W.told wires.new).tally.ended ≡ (W.told wires.old).tally.ended) }
+    ensures ended { IfOk result (λ end. (e : End) → end ≡ Some e → e ≢ End.NoPeers
+        → (W.told wires.new).tally.ended ≡ (W.told wires.old).tally.ended + 1) }
+    ensures turns { Turns
+        (moment (W.told wires.old) (W.faults wires.old) (W.script wires.old) (W.keeps wires.old) progress.old)
+        (moment (W.told wires.new) (W.faults wires.new) (W.script wires.new) (W.keeps wires.new) progress.new) }
     ensures fine { OnOk result (T.faults texts.new ≡ T.faults texts.old) }
     ensures failed { IsErrOf result TextFail.Failed → HasRisen (T.faults texts.old) (T.faults texts.new) }
     ensures same_reference { T.holds texts.new ≡ T.holds texts.old }
@@ -157,13 +182,20 @@ fn follow_turns<W: Wires, H: HeaderStore, M: Matcher, T: Texts>(
     requires unended { (W.told wires.old).tally.ended ≡ 0 }
     requires step { IsInStep (W.told wires.old) progress.old }
     requires open { (W.told wires.old).finished ≡ false }
-    ensures stopped { IfOk result (λ end. (called : List (List ℕ)) → HoldsOver client.old progress.old called (W.told wires.old) → Stopped end client.new progress.new called (W.told wires.new)) }
-    ensures put { OnOk result ((watch called : List (List ℕ)) → watch_by client.old ≡ watch → HoldsOver client.old progress.old called (W.told wires.old) → PutBefore watch [] (W.told wires.old)
+    ensures stopped { IfOk result (λ end. (called : List (List ℕ))
+        → HoldsOver client.old progress.old called (W.told wires.old)
+        → Stopped end client.new progress.new called (W.told wires.new)) }
+    ensures put { OnOk result ((watch called : List (List ℕ)) → watch_by client.old ≡ watch
+        → HoldsOver client.old progress.old called (W.told wires.old) → PutBefore watch [] (W.told wires.old)
         → AllPut watch (W.told wires.new) (T.told texts.old) (T.told texts.new)) }
-    ensures put_some { OnErr result ((watch called : List (List ℕ)) → watch_by client.old ≡ watch → HoldsOver client.old progress.old called (W.told wires.old) → PutBefore watch [] (W.told wires.old)
+    ensures put_some { OnErr result ((watch called : List (List ℕ)) → watch_by client.old ≡ watch
+        → HoldsOver client.old progress.old called (W.told wires.old) → PutBefore watch [] (W.told wires.old)
         → SomePut watch (W.told wires.new) (T.told texts.old) (T.told texts.new)) }
-    ensures right { IsErrOf result TextFail.Failed → (called : List (List ℕ)) → HoldsOver client.old progress.old called (W.told wires.old) → IfSome (W.told wires.new).log (λ log. AreBytes log × RightlyIn Following log) }
-    ensures versions { (called : List (List ℕ)) → HoldsOver client.old progress.old called (W.told wires.old) → KeepsWords (words_by client.old) (W.told wires.old) (W.told wires.new) }
+    ensures right { IsErrOf result TextFail.Failed → (called : List (List ℕ))
+        → HoldsOver client.old progress.old called (W.told wires.old)
+        → IfSome (W.told wires.new).log (λ log. AreBytes log × RightlyIn Following log) }
+    ensures versions { (called : List (List ℕ)) → HoldsOver client.old progress.old called (W.told wires.old)
+        → KeepsWords (words_by client.old) (W.told wires.old) (W.told wires.new) }
     ensures rule { OnOk result (rule_by client.new ≡ rule_by client.old) }
     ensures done { IfOk result (λ end. end ≡ End.Synced → IsOver turns (W.told wires.new).tally) }
     ensures tired { IfOk result (λ end. end ≡ End.Tired → (W.told wires.new).tally.taken ≡ turns) }
@@ -172,7 +204,9 @@ fn follow_turns<W: Wires, H: HeaderStore, M: Matcher, T: Texts>(
     ensures most { (W.told wires.new).tally.taken ≤ turns }
     ensures once { (W.told wires.new).tally.ended ≤ 1 }
     ensures same { IsNoMore (W.told wires.old) (W.told wires.new) }
-    ensures runs { Runs (moment (W.told wires.old) (W.faults wires.old) (W.script wires.old) (W.keeps wires.old) progress.old) (moment (W.told wires.new) (W.faults wires.new) (W.script wires.new) (W.keeps wires.new) progress.new) }
+    ensures runs { Runs
+        (moment (W.told wires.old) (W.faults wires.old) (W.script wires.old) (W.keeps wires.old) progress.old)
+        (moment (W.told wires.new) (W.faults wires.new) (W.script wires.new) (W.keeps wires.new) progress.new) }
     ensures fine { OnOk result (T.faults texts.new ≡ T.faults texts.old) }
     ensures failed { IsErrOf result TextFail.Failed → HasRisen (T.faults texts.old) (T.faults texts.new) }
     ensures same_reference { T.holds texts.new ≡ T.holds texts.old }
@@ -223,9 +257,12 @@ fn follow_all<W: Wires, H: HeaderStore + Drop, M: Matcher + Drop, T: Texts>(
     requires open { (W.told wires.old).finished ≡ false }
     requires few { length names.now ≤ 8 }
     requires empty { (q : ℕ) → H.chain store q ≡ None }
-    ensures followed { IfOk result (λ o. IfSome (W.told wires.new).log (λ log. Followed (following watch) o.end o.height o.tip o.history o.trace.items (names_in names.now) log)) }
-    ensures put { OnOk result (IfSome (W.told wires.new).log (λ log. HasPut watch log (T.told texts.old) (T.told texts.new))) }
-    ensures put_some { OnErr result (IfSome (W.told wires.new).log (λ log. HasPutSome watch log (T.told texts.old) (T.told texts.new))) }
+    ensures followed { IfOk result (λ o. IfSome (W.told wires.new).log (λ log.
+        Followed (following watch) o.end o.height o.tip o.history o.trace.items (names_in names.now) log)) }
+    ensures put { OnOk result (IfSome (W.told wires.new).log (λ log.
+        HasPut watch log (T.told texts.old) (T.told texts.new))) }
+    ensures put_some { OnErr result (IfSome (W.told wires.new).log (λ log.
+        HasPutSome watch log (T.told texts.old) (T.told texts.new))) }
     ensures ends { IfOk result (λ o. IfSome (W.told wires.new).log (λ log. EndsTell o.ends.items log)) }
     ensures held { IfOk result (λ o. IfSome (W.told wires.new).log (λ log. HoldsNoMore H.counts o.held log)) }
     ensures versions { HasWords (record { moment = moment; number = nonce }) (W.told wires.new) }
@@ -233,7 +270,8 @@ fn follow_all<W: Wires, H: HeaderStore + Drop, M: Matcher + Drop, T: Texts>(
     ensures done { IfOk result (λ o. o.end ≡ End.Synced → IsOver turns (W.told wires.new).tally) }
     ensures within { IfOk result (λ o. EndsWithin o.end (length names.now) turns (W.told wires.new).tally) }
     ensures dialled { (IsErrOf result TextFail.NoMemory → ⊥) → (W.told wires.new).tally.dials ≡ length names.now }
-    ensures right { IsErrOf result TextFail.Failed → IfSome (W.told wires.new).log (λ log. AreBytes log × RightlyIn Following log) }
+    ensures right { IsErrOf result TextFail.Failed → IfSome (W.told wires.new).log (λ log.
+        AreBytes log × RightlyIn Following log) }
     ensures passes { Passes (names_in names.now) turns (W.told wires.old) (W.told wires.new) (W.faults wires.old)
         (W.faults wires.new) (W.script wires.old) (W.script wires.new) (W.keeps wires.old) (W.keeps wires.new) }
     ensures fine { OnOk result (T.faults texts.new ≡ T.faults texts.old) }
@@ -248,12 +286,12 @@ fn follow_all<W: Wires, H: HeaderStore + Drop, M: Matcher + Drop, T: Texts>(
     Ok(outcome)
 }
 
-/// Dials the peers in order, at most eight, and follows the best chain that they show as it grows, until no peer is left, the
-/// stated number of deliveries was taken, or the wires give no more. At each moment between two deliveries at which nothing is
-/// open and a peer is connected the text of the history and the tip is put, unless it is the last one that was put. It ends
-/// with `Synced` where the turns are taken or the wires give no more with nothing open, and a peer is connected. The wires are
-/// new: nothing has passed them, and they aren't finished. They are finished once, whatever is answered. In the store no peer is
-/// entered.
+/// Dials the peers in order, at most eight, and follows the best chain that they show as it grows, until no peer is
+/// left, the stated number of deliveries was taken, or the wires give no more. At each moment between two deliveries at
+/// which nothing is open and a peer is connected the text of the history and the tip is put, unless it is the last one
+/// that was put. It ends with `Synced` where the turns are taken or the wires give no more with nothing open, and a
+/// peer is connected. The wires are new: nothing has passed them, and they aren't finished. They are finished once,
+/// whatever is answered. In the store no peer is entered.
 pub fn follow_over<W: Wires, H: HeaderStore + Drop, M: Matcher + Drop, T: Texts>(
     alloc: Global,
     wires: &mut W,
@@ -270,10 +308,14 @@ pub fn follow_over<W: Wires, H: HeaderStore + Drop, M: Matcher + Drop, T: Texts>
     requires open { (W.told wires.old).finished ≡ false }
     requires few { length names.now ≤ 8 }
     requires empty { (q : ℕ) → H.chain store q ≡ None }
-    ensures followed { IfOk result (λ o. IfSome (W.told wires.new).log (λ log. Followed (following watch) o.end o.height o.tip o.history o.trace.items (names_in names.now) log)) }
-    ensures put { OnOk result (IfSome (W.told wires.new).log (λ log. HasPut watch log (T.told texts.old) (T.told texts.new))) }
-    ensures put_some { OnErr result (IfSome (W.told wires.new).log (λ log. HasPutSome watch log (T.told texts.old) (T.told texts.new))) }
-    ensures theorem { IfOk result (λ o. IfSome (W.told wires.new).log (λ log. FollowTheorem watch o.height o.tip o.history log)) }
+    ensures followed { IfOk result (λ o. IfSome (W.told wires.new).log (λ log.
+        Followed (following watch) o.end o.height o.tip o.history o.trace.items (names_in names.now) log)) }
+    ensures put { OnOk result (IfSome (W.told wires.new).log (λ log.
+        HasPut watch log (T.told texts.old) (T.told texts.new))) }
+    ensures put_some { OnErr result (IfSome (W.told wires.new).log (λ log.
+        HasPutSome watch log (T.told texts.old) (T.told texts.new))) }
+    ensures theorem { IfOk result (λ o. IfSome (W.told wires.new).log (λ log.
+        FollowTheorem watch o.height o.tip o.history log)) }
     ensures ends { IfOk result (λ o. IfSome (W.told wires.new).log (λ log. EndsTell o.ends.items log)) }
     ensures held { IfOk result (λ o. IfSome (W.told wires.new).log (λ log. HoldsNoMore H.counts o.held log)) }
     ensures versions { HasWords (record { moment = moment; number = nonce }) (W.told wires.new) }
@@ -283,14 +325,17 @@ pub fn follow_over<W: Wires, H: HeaderStore + Drop, M: Matcher + Drop, T: Texts>
     ensures ended { IfOk result (λ o. o.end ≡ End.Ended → (W.told wires.new).tally.ended ≡ 1) }
     ensures early { IfOk result (λ o. o.end ≡ End.Ended → (W.told wires.new).tally.taken < turns) }
     ensures dialled { (IsErrOf result TextFail.NoMemory → ⊥) → (W.told wires.new).tally.dials ≡ length names.now }
-    ensures right { IsErrOf result TextFail.Failed → IfSome (W.told wires.new).log (λ log. AreBytes log × RightlyIn Following log) }
+    ensures right { IsErrOf result TextFail.Failed → IfSome (W.told wires.new).log (λ log.
+        AreBytes log × RightlyIn Following log) }
     ensures first { HasDialled (names_in names.now) (W.told wires.new) }
     ensures most { (W.told wires.new).tally.taken ≤ turns }
     ensures once { (W.told wires.new).tally.ended ≤ 1 }
     ensures finished { (W.told wires.new).finished ≡ true }
     ensures keeps { W.keeps wires.new ≡ W.keeps wires.old }
-    ensures course { Course (W.told wires.old) (W.told wires.new) (W.faults wires.old) (W.faults wires.new) (W.script wires.old) (W.script wires.new) }
-    ensures failures { IfSome (W.told wires.new).log (λ log. HasFailed log → HasRisen (W.faults wires.old) (W.faults wires.new)) }
+    ensures course { Course (W.told wires.old) (W.told wires.new) (W.faults wires.old)
+        (W.faults wires.new) (W.script wires.old) (W.script wires.new) }
+    ensures failures { IfSome (W.told wires.new).log (λ log.
+        HasFailed log → HasRisen (W.faults wires.old) (W.faults wires.new)) }
     ensures failed { IsErrOf result TextFail.Failed → HasRisen (T.faults texts.old) (T.faults texts.new) }
     ensures fine { OnOk result (T.faults texts.new ≡ T.faults texts.old) }
     ensures same_reference { T.holds texts.new ≡ T.holds texts.old }

@@ -1,7 +1,6 @@
 use Rattle.std.proofs.Common.{◌≡◌, ℕ, ◌<◌, true, inl, inr, length, sym, ◌∙◌, ap, subst, arith}
 use Rattle.std.proofs.lemmas.Bool.{both_ways, cases_eq, cases_lt}
 use Rattle.std.proofs.lemmas.List.{get_or_past}
-use Rattle.cf_place.specs.declared.place.Place.{Place}
 use Rattle.cf_place.specs.Places.{is_idle, nobody, place_at}
 use Rattle.cf_client.specs.Steps.{desk, HasPingedOut}
 use Rattle.cf_client.proofs.Ordering.{pings_none, pings_next}

@@ -1,11 +1,12 @@
 use Rattle.std.proofs.Common.{refl, ◌∙◌, ap}
+use Rattle.std.proofs.lemmas.Result.{err_from_is_err_and}
 use Rattle.cf_wires.specs.Log.{Told}
 use Rattle.cf_sync.specs.Fetching.{Rule}
 use Rattle.cf_client.specs.Stands.{rule_by, words_by}
 use Rattle.cf_run.proofs.Courses.{runs_self, turns_none}
 use Rattle.cf_run.proofs.Passing.{keeps_so}
 use Rattle.cf_run.proofs.Turns.{ended_holds, ended_stops, holds_same, may_follow, mode_same, rule_same, words_same}
-use Rattle.cf_run.proofs.Puts.{on_err, all_by, have_then, right_now, some_by, some_then}
+use Rattle.cf_run.proofs.Puts.{all_by, have_then, right_now, some_by, some_then}
 use Rattle.cf_run.proofs.follow.follow_turn.Goals as goal
 
 pub returns-in-NoPeers-clause-turned : goal.returns-in-NoPeers-clause-turned
@@ -54,17 +55,17 @@ returns-clause-all_put g c = λ e is watch called first same holds have.
     first _ _ now follows same_watch have_more (c.in_ok-put_at_rest-2.ensures.put have_more.texts have_more.newest)
 
 pub returns-in_err-put_at_rest-clause-put_some : goal.returns-in_err-put_at_rest-clause-put_some
-returns-in_err-put_at_rest-clause-put_some g c = on_err _ (λ watch called first same holds have.
+returns-in_err-put_at_rest-clause-put_some g c = rw (err_from_is_err_and c.from_residual.result c.from_residual.ensures.1).1 (λ watch called first same holds have.
     some_by c.args.client.now c.args.progress.now called (g.W.Wires.told c.args.wires.now) watch c.args.last.now
     first _ _ holds c.requires.follows same have (c.in_err-put_at_rest.ensures.put_some have.texts have.newest))
 
 pub returns-in_err-more-clause-put_some : goal.returns-in_err-more-clause-put_some
-returns-in_err-more-clause-put_some g c = on_err _ (λ watch called first same holds have.
+returns-in_err-more-clause-put_some g c = rw (err_from_is_err_and c.from_residual-in_err-more.result c.from_residual-in_err-more.ensures.1).1 (λ watch called first same holds have.
     some_then c.args.client.now c.args.progress.now called (g.W.Wires.told c.args.wires.now) (g.W.Wires.told c.take_next.new.wires) watch c.args.last.now c.put_at_rest.new.last
     first _ _ holds c.requires.follows same have (c.in_ok-put_at_rest.ensures.put have.texts have.newest) c.in_err-more.ensures.turns.puts)
 
 pub returns-in_err-put_at_rest-2-clause-put_some : goal.returns-in_err-put_at_rest-2-clause-put_some
-returns-in_err-put_at_rest-2-clause-put_some g c = on_err _ (λ watch called first same holds have.
+returns-in_err-put_at_rest-2-clause-put_some g c = rw (err_from_is_err_and c.from_residual-in_err-put_at_rest-2.result c.from_residual-in_err-put_at_rest-2.ensures.1).1 (λ watch called first same holds have.
     let over = c.in_ok-more.ensures.over c.if-more.false in
     let same_client = over.0 ∙ c.in_ok-put_at_rest.ensures.same in
     let now = ended_holds {c = c.args.client.now} {d = c.take_next.new.client} c.requires.follows same_client over.1 over.2 holds in

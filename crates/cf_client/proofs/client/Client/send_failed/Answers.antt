@@ -1,8 +1,11 @@
 use Rattle.std.proofs.Common.{◌<◌, ℕ, List, length, refl, sym, ◌∙◌, subst, ap, arith}
 use Rattle.std.proofs.lemmas.List.{with_items_is}
+use Rattle.std.proofs.lemmas.List.Elements.{All-nil}
+use Rattle.std.specs.List.{All}
+use Rattle.cf_peer.specs.Acts.{IsDoable}
 use Rattle.cf_sync.specs.Fetching.{Rule}
 use Rattle.cf_place.specs.declared.place.Place.{Place}
-use Rattle.cf_place.specs.Places.{PlacesStand, after}
+use Rattle.cf_place.specs.Places.{AreCalm, PlacesStand, after, place_at}
 use Rattle.cf_hear.specs.Seen.{seen_of}
 use Rattle.cf_client.specs.Stands.{words_by}
 use Rattle.cf_tracker.specs.Tracker.{claims_of, watch_of}
@@ -10,6 +13,7 @@ use Rattle.cf_client.specs.Settled.{AreSettled, AreRight}
 use Rattle.cf_client.proofs.Ordering.{in_order_by, prepared_none}
 use Rattle.cf_client.proofs.Steps.{in_order, stands_start}
 use Rattle.cf_client.proofs.Greeting.{reflects_cut, acts_tell}
+use Rattle.cf_client.proofs.Innocent.{settled_calm}
 use Rattle.cf_client.proofs.client.Client.send_failed.Goals as goal
 
 pub cut_off-requires-clause-order : goal.cut_off-requires-clause-order
@@ -21,6 +25,18 @@ cut_off-requires-clause-order g c =
     (omega (arith, c.args.self.now.few, kept.ok.0, ap (λ (places : List Place). length places) c.as_mut_slice-places.ensures.value))
     (subst (λ (places : List Place). AreSettled c.args.self.now.mode places seen) same (c.args.self.now.settled c.if-self.false))
     (subst (λ (places : List Place). ∥ AreRight places (claims_of c.args.self.now.tracker) ∥₁) same (c.args.self.now.right c.if-self.false))
+
+pub ask_all-requires-clause-calm : goal.ask_all-requires-clause-calm
+ask_all-requires-clause-calm g c =
+    let mode = c.args.self.now.mode in
+    let kept = c.args.self.now.places.items in
+    let calm : AreCalm c.as_mut_slice-places.result.now =
+        subst AreCalm (sym c.as_mut_slice-places.ensures.value)
+        (λ p. settled_calm mode (place_at kept p) ((c.args.self.now.settled c.if-self.false).each p)) in
+    (c.in_ok-cut_off.ensures.moves mode).calm calm
+
+pub ask_all-requires-clause-order : goal.ask_all-requires-clause-order
+ask_all-requires-clause-order g c = (c.in_ok-cut_off.ensures.moves c.args.self.now.mode).order
 
 pub invariant_of-self-2-clause-settled : goal.invariant_of-self-2-clause-settled
 invariant_of-self-2-clause-settled g c = λ alive.
@@ -59,6 +75,11 @@ returns-clause-answers g c = λ log cut lt reflects is.
 pub returns-clause-tells : goal.returns-clause-tells
 returns-clause-tells g c = λ log cut lt reflects is.
     acts_tell (record { watch = watch_of c.ask_all.new.tracker; mode = c.args.self.now.mode }) (words_by c.args.self.now) c.ask_all.new.acts.items cut (reflects_cut c.args.self.now c.args.p log cut is reflects) (returns-clause-answers g c log cut lt reflects is).allowed
+
+pub returns-clause-doable : goal.returns-clause-doable
+returns-clause-doable g c =
+    c.in_ok-ask_all.ensures.moves.doable ((c.in_ok-cut_off.ensures.moves c.args.self.now.mode).doable
+    (subst (All IsDoable) (sym c.new-acts.ensures.items) (All-nil IsDoable)))
 
 pub returns-clause-rule : goal.returns-clause-rule
 returns-clause-rule g c =
