@@ -1,13 +1,15 @@
 -- What a client holds of a log.
-use Rattle.std.specs.Prelude.{◌≡◌, ◌⊎◌, ℕ, zero, suc, ◌+◌, Bool, true, false, if◌then◌else◌, List, [], length}
+use Rattle.std.specs.Prelude.{◌≡◌, ◌⊎◌, ℕ, zero, suc, ◌+◌, Bool, true, not, ◌&&◌, false, if◌then◌else◌, List, [], length}
 use Rattle.cf_bytes.specs.declared.hash.Hash32.{Hash32}
 use Rattle.cf_headers.specs.Chain.{Chain, NoHashClash, tip_hash}
 use Rattle.cf_headers.specs.declared.store.HeaderStore.{Ghosts}
 use Rattle.cf_match.specs.declared.matcher.Matcher.{Ghosts as Judges}
+use Rattle.std.specs.List.{All}
 use Rattle.cf_peer.specs.declared.act.Act.{Act}
+use Rattle.cf_peer.specs.declared.act.Act.TheVariants.{Send, Close}
 use Rattle.cf_wires.specs.Log.{Log, tally_of}
 use Rattle.cf_peer.specs.Trail.{trail}
-use Rattle.cf_peer.specs.Asking.{is_open, pings, Deserves}
+use Rattle.cf_peer.specs.Asking.{is_open, is_ping, is_request, pings, Deserves}
 use Rattle.cf_peer.specs.declared.mode.Mode.{Mode}
 use Rattle.cf_peer.specs.declared.mode.Mode.TheVariants.{Once, Following}
 use Rattle.cf_wires.specs.declared.event.Delivery.{Delivery}
@@ -112,6 +114,18 @@ pub record IsReportOf (rule : Rule) (height : ℕ) (hash : Hash32) (entries : Li
 -- the history alone, over the chain of which the tip is told
 abbrev pub IsHistoryTold : Rule → List Entry → Log → Type 0
 IsHistoryTold rule entries log = (height : ℕ) × ((hash : Hash32) × IsReportOf rule height hash entries log)
+
+-- what a client that follows does with a tick puts no question but a ping to who may be sent one
+abbrev pub AsksNone : Log → Act → Type 0
+AsksNone log (Send p m) = ((is_request m && not (is_ping m)) ≡ false) ⊎ (pings (trail log p.0) ≡ 18446744073709551615)
+AsksNone log (Close p cause) = Unit {0}
+
+abbrev pub AreTicked : Mode → Delivery → List Act → Log → Type 0
+AreTicked Once d acts log = Unit {0}
+AreTicked Following (Got p piece) acts log = Unit {0}
+AreTicked Following (Gone p) acts log = Unit {0}
+AreTicked Following (Tick seconds) acts log = All (AsksNone log) acts
+AreTicked Following Ended acts log = Unit {0}
 
 -- once a tick was taken by a client that follows something is open to each connected peer: what was open before, a ping, or a handshake; unless all
 -- numbers of pings were used

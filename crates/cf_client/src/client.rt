@@ -138,7 +138,7 @@ impl<H: HeaderStore, M: Matcher> Client<H, M> {
     ghost use Rattle.cf_client.specs.Order.{AreInOrder};
     ghost use Rattle.cf_client.specs.Steps.{Extends};
     ghost use Rattle.cf_client.specs.Holding.{Counts, HoldsNoMore};
-    ghost use Rattle.cf_client.specs.Stands.{Reflects, Answers, ArePinged, IsTip, IsReportOf, HasBlamed, IsHistoryTold, IsBlameless, IsInnocent, AreAnswered, is_dead, open_count, count_of, rule_by, seen_by, watch_by, words_by, matcher_by, judging_by};
+    ghost use Rattle.cf_client.specs.Stands.{Reflects, Answers, ArePinged, AreTicked, IsTip, IsReportOf, HasBlamed, IsHistoryTold, IsBlameless, IsInnocent, AreAnswered, is_dead, open_count, count_of, rule_by, seen_by, watch_by, words_by, matcher_by, judging_by};
 
     /// A client that knows of no peer yet, over a store in which no peer is entered. It watches these scripts, and matches filters with them
     /// by this matcher. Its `version` tells this moment, in seconds since 1970, and this number.
@@ -240,7 +240,7 @@ impl<H: HeaderStore, M: Matcher> Client<H, M> {
     }
 
     /// Takes a delivery, and says what is to be done: first what is owed and who is closed, then what is asked, each
-    /// from the lowest number on. Filters that come are judged by the client's matcher alone. Of a fetched block on whose filter
+    /// from the lowest number on. With a tick a client that follows sends pings, and asks nothing else. Filters that come are judged by the client's matcher alone. Of a fetched block on whose filter
     /// the connected peers differ each is asked for the filter that it claims, and whoever claims one that is none, or that
     /// lacks an output's script, is closed: so that with nothing open all of these were tested, and none that omits is left.
     pub fn step(&mut self, d: &Delivery) -> Result<Vec<Act>, NoMemory>
@@ -255,6 +255,8 @@ impl<H: HeaderStore, M: Matcher> Client<H, M> {
         ensures in_order { IfOk result (λ acts. (log : Log) → Reflects self.old log → AreInOrder acts.items) }
         ensures pings { IfOk result (λ acts. (log : Log) → Reflects self.old log
             → ArePinged (rule_by self.old).mode d.now (done acts.items (Took d.now ∷ log))) }
+        ensures ticked { IfOk result (λ acts. (log : Log) → Reflects self.old log
+            → AreTicked (rule_by self.old).mode d.now acts.items (Took d.now ∷ log)) }
         ensures blames { IfOk result (λ acts. (log : Log) → Reflects self.old log
             → HasBlamed (done acts.items (Took d.now ∷ log))) }
         ensures dead { is_dead self.old ≡ true → IsErr result }

@@ -10,7 +10,7 @@ use Rattle.cf_msg.specs.declared.msg.Msg.{Msg}
 use Rattle.cf_msg.specs.Message.{command_of}
 use Rattle.cf_peer.specs.declared.act.Act.{Act}
 use Rattle.cf_peer.specs.declared.act.Act.TheVariants.{Send, Close}
-use Rattle.cf_peer.specs.declared.mode.Mode.TheVariants.{Following}
+use Rattle.cf_peer.specs.declared.mode.Mode.TheVariants.{Once, Following}
 use Rattle.cf_wires.specs.declared.event.Delivery.{Delivery}
 use Rattle.cf_wires.specs.declared.event.Delivery.TheVariants.{Got, Gone, Tick, Ended}
 use Rattle.cf_frame.specs.Stream.{IsBytes}
@@ -22,11 +22,12 @@ use Rattle.cf_wires.specs.declared.event.Mark.TheVariants.{NotYet, Called, Misse
 use Rattle.cf_wires.specs.Log.{Log, Told, Tally, Tells, tally_of, mark_of, dials}
 use Rattle.cf_wires.specs.Wires.{Made}
 use Rattle.cf_peer.specs.Trail.{trail, spelled, connected, failed}
-use Rattle.cf_peer.specs.Asking.{given}
+use Rattle.cf_peer.specs.declared.mode.Mode.{Mode}
+use Rattle.cf_peer.specs.Asking.{given, is_open, pings}
 use Rattle.cf_scan.specs.declared.history.Entry.{Entry}
 use Rattle.cf_headers.specs.Chain.{NoHashClash}
 use Rattle.cf_sync.specs.Blame.{AreBlamed, HasOmitted}
-use Rattle.cf_sync.specs.Fetching.{IsBusy, IsQuiet, IsConnected, IsSameFetched, Rule, RightlyIn, AreBytes, counted_part, DeservesIn}
+use Rattle.cf_sync.specs.Fetching.{IsBusy, IsQuiet, IsConnected, IsSameFetched, Rule, RightlyIn, is_after_tick, AreBytes, counted_part, DeservesIn}
 use Rattle.cf_sync.specs.Planned.{is_untold, IsPlanned, ArePlanned}
 use Rattle.cf_sync.specs.Sync.{HasAskedIn, IsHashed}
 use Rattle.cf_sync.specs.Sync as sync
@@ -156,6 +157,7 @@ pub record Notes (rule : Rule) (progress : Progress) (called : List (List ℕ)) 
   pub rightly : RightlyIn rule.mode actual
   pub planned : ArePlanned rule actual
   pub order : WasOrderly actual
+  pub pinged : WerePinged rule.mode actual
   pub numbered : AreNumbered actual
   pub first : AreDialledFirst actual
   pub traced : IsTraceOf actual (reverse progress.trace.items)
@@ -318,6 +320,22 @@ IsEnd NoPeers log = IsState HasNoPeers log
 IsEnd Tired log = IsBusy log
 IsEnd EndedFirst log = (before : Log) × ((log ≡ Took Ended ∷ before) × IsBusy before)
 
+-- right after a tick something is open to each connected peer of a client that follows, unless all numbers of pings were used
+abbrev pub IsTicked : Mode → Log → Type 0
+IsTicked Once log = Unit {0}
+IsTicked Following log = is_after_tick log ≡ true → (p : ℕ) → IsConnected log p
+    → (is_open (trail log p) ≡ true) ⊎ (pings (trail log p) ≡ 18446744073709551615)
+
+-- so it was whenever a delivery was taken
+abbrev pub WerePinged : Mode → Log → Type 0
+WerePinged mode [] = Unit {0}
+WerePinged mode (Dialled p name ∷ log) = WerePinged mode log
+WerePinged mode (NotDialled p name ∷ log) = WerePinged mode log
+WerePinged mode (Sent p bytes ∷ log) = WerePinged mode log
+WerePinged mode (SendFailed p ∷ log) = WerePinged mode log
+WerePinged mode (Closed p ∷ log) = WerePinged mode log
+WerePinged mode (Took d ∷ log) = IsTicked mode log × WerePinged mode log
+
 -- What a run that ended so has done, by its log. With nothing open each connected peer was heard out, and its filter header is known at each block that its own
 -- chain shares with the best one; and each of the best chain's blocks is settled. With nothing open what each claims of the fetched blocks on which they differ was
 -- tested, and nobody is left whose filter omits something (where no strings clash).
@@ -333,6 +351,7 @@ pub record Followed (rule : Rule) (end : End) (height : ℕ) (hash : Hash32) (en
   pub traced : IsTraceOf log (reverse lines)
   pub named : names_of log ≡ called
   pub why : IsEnd end log
+  pub pinged : WerePinged rule.mode log
 
 -- the same of some log that the wires tell, or their tally alone
 pub record Finished (rule : Rule) (end : End) (height : ℕ) (hash : Hash32) (entries : List Entry) (lines : List TraceLine) (called : List (List ℕ)) (t : Told) : Type 0 where

@@ -22,7 +22,7 @@ abbrev pub joined : List (List ℕ) → List ℕ
 joined [] = []
 joined (text ∷ before) = joined before ++ text
 
--- the texts of all quiet moments of the log were put whole, and no others; that of the last moment among them
+-- the texts of all moments at rest were put whole, that of the last moment among them, each unless it is the last one, and no others
 pub record HasPut (watch : List (List ℕ)) (log : Log) (before now : Option (List ℕ)) : Type 0 where
   pub texts : List (List ℕ)
   pub puts : ArePut watch log texts

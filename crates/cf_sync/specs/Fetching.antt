@@ -340,13 +340,13 @@ once watch = record { watch = watch; mode = Once }
 abbrev pub following : List (List ℕ) → Rule
 following watch = record { watch = watch; mode = Following }
 
--- a client that ends once nothing is open takes a delivery only while something is
+-- a client that ends once nothing is open takes a delivery only while something is; one that follows, only while a peer is connected
 abbrev pub MayTake : Mode → Log → Type 0
 MayTake Once log = IsBusy log
-MayTake Following log = Unit {0}
+MayTake Following log = (p : ℕ) × IsConnected log p
 
 -- At each moment what was sent might be sent to that peer, what was closed deserved it, and a delivery was taken only while something
--- was open, unless the client follows.
+-- was open, or by one that follows while a peer was connected.
 abbrev pub RightlyIn : Mode → Log → Type 0
 RightlyIn mode [] = Unit {0}
 RightlyIn mode (Dialled p name ∷ log) = RightlyIn mode log
