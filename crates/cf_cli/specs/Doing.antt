@@ -20,7 +20,7 @@ use Rattle.cf_cli.specs.Proving.{IsProved, IsChecked}
 use Rattle.cf_cli.specs.Reading.{IsScanned, IsFiltered, IsAddressed}
 use Rattle.cf_cli.specs.Recording.{Records}
 use Rattle.cf_cli.specs.Serving.{IsServing}
-use Rattle.cf_cli.specs.Following.{IsReplayedIn, KeptOnOver, TalliedOn}
+use Rattle.cf_cli.specs.Following.{IsReplayedIn, KeptLive, TalliedOn}
 use Rattle.cf_cli.specs.Theorem.{KeptOver, Tallied, PlaysSession}
 
 -- all that a run is handed: what stands in the files, what the sink was given, what the wires and the tape tell, the log of the tape, what the link
@@ -62,7 +62,7 @@ pub record IsFollowed (follow : Bool) (status : Status) (trace : Bool) (watch se
 -- all that is promised of `follow`: the follow theorem over the log of the wires, where they tell it; what holds over any wires; that the names which
 -- were dialled are the first of those given; and the files
 pub record IsFollowing (status : Status) (turns : ℕ) (file : Option (List ℕ)) (watch : List ℕ) (peers : List (List ℕ)) (before after : Around) : Type 0 where
-  pub kept : IfSome after.wires.log (λ log. KeptOnOver status (is_some file) false before.files watch peers before.written after.written log)
+  pub kept : IfSome after.wires.log (λ log. KeptLive status (is_some file) before.files watch peers before.written after.written log)
   pub tallied : TalliedOn status turns (length peers) before.wires after.wires
   pub dialled : HasDialled peers after.wires
   pub records : Records status file after.wires.log before.files after.files

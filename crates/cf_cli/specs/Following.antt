@@ -12,11 +12,11 @@ use Rattle.cf_place.specs.declared.place.PeerEnd.{PeerEnd}
 use Rattle.cf_run.specs.declared.trace.TraceLine.{TraceLine}
 use Rattle.cf_place.specs.Places.{EndsTell}
 use Rattle.cf_run.specs.Run.{Followed, IsTraceOf}
-use Rattle.cf_run.specs.Texts.{HasBegun, IsOver, joined}
+use Rattle.cf_run.specs.Texts.{HasBegun, HasPutSome, IsOver, joined}
 use Rattle.cf_sync.specs.Fetching.{AreBytes, IsQuiet, RightlyIn, following}
 use Rattle.cf_sync.specs.Growing.{IsGrowing, IsTold, OthersShowNone}
 use Rattle.cf_sync.specs.Honesty.{IsNeverClosed}
-use Rattle.cf_sync.specs.Putting.{WerePut, ArePut}
+use Rattle.cf_sync.specs.Putting.{WerePut, ArePut, EndsWith}
 use Rattle.cf_sync.specs.Sync.{IsHashed}
 use Rattle.cf_peer.specs.declared.mode.Mode.TheVariants.{Following}
 use Rattle.cf_peer.specs.Trail.{trail}
@@ -64,10 +64,13 @@ pub record Grows (log : Log) (p : ℕ) (blocks : List Block) (first : ℕ) : Typ
   pub growing : IsGrowing log p blocks first
   pub apart : NoHashClash (IsHashed log blocks)
 
--- a text was written last
-pub record EndsBy (text : List ℕ) (before after : Option (List ℕ)) : Type 0 where
-  pub earlier : List ℕ
-  pub written : after ≡ with_more before (earlier ++ text)
+-- the texts of all moments at rest were written, and this is the last of them
+pub record EndsBy (trace : Bool) (scripts : List (List ℕ)) (text : List ℕ) (before after : Option (List ℕ)) (log : Log) : Type 0 where
+  pub lines : List TraceLine
+  pub texts : List (List ℕ)
+  pub puts : ArePut scripts log texts
+  pub last : EndsWith text texts
+  pub written : after ≡ with_more before (with_trace trace lines (joined texts))
 
 -- The follow theorem for the program. Whatever peers send: where the chain of one of them grows as it answers, no other connected peer has shown another
 -- chain as long as the one that it told of last, and nothing is open when the run is over, then what was written last is exactly the history that a plain
@@ -76,7 +79,7 @@ pub record EndsBy (text : List ℕ) (before after : Option (List ℕ)) : Type 0 
 pub record KeptOn (status : Status) (recorded trace : Bool) (scripts names : List (List ℕ)) (before after : Option (List ℕ)) (log : Log) : Type 0 where
   pub last : (p : ℕ) (blocks : List Block) (first top : ℕ) → Grows log p blocks first → IsTold blocks first (trail log p) top
       → OthersShowNone log p (take top blocks) → IsQuiet log → is_over status ≡ true
-      → EndsBy (history_text (scan_of (take top blocks) scripts) (length (take top blocks)) (top_hash (take top blocks))) before after
+      → EndsBy trace scripts (history_text (scan_of (take top blocks) scripts) (length (take top blocks)) (top_hash (take top blocks))) before after log
   pub complete : (p : ℕ) (blocks : List Block) (first : ℕ) → Grows log p blocks first → IsComplete status recorded
   pub never : (p : ℕ) (blocks : List Block) (first : ℕ) → Grows log p blocks first → status ≢ NoMemory → IsNeverClosed log p
   pub ran : is_over status ≡ true → Stayed status trace scripts names before after log
@@ -89,6 +92,12 @@ pub record KeptOnOver (status : Status) (recorded trace : Bool) (files : Option 
   pub watched : has_run status ≡ true → IfSome files (λ m. IfSome (finite.get m watch) (λ bytes. watch_of bytes ≡ Ok scripts))
   pub unwatched : (log ≡ []) ⊎ IfSome files (λ m. IfSome (finite.get m watch) (λ bytes. watch_of bytes ≡ Ok scripts))
   pub kept : KeptOn status recorded trace scripts names before after log
+
+-- the same of `follow`, which puts each text at once, and no trace: where it failed all that was due before the last delivery was put whole, and at most
+-- a beginning of what is due now
+pub record KeptLive (status : Status) (recorded : Bool) (files : Option Named) (watch : List ℕ) (names : List (List ℕ)) (before after : Option (List ℕ)) (log : Log) : Type 0 where
+  pub over : KeptOnOver status recorded false files watch names before after log
+  pub some : is_over status ≡ false → HasPutSome over.scripts log before after
 
 -- what is promised over any wires: the same as of `sync`, and Done only where the turns are taken, or the wires have no more to give
 pub record TalliedOn (status : Status) (turns names : ℕ) (was now : Told) : Type 0 where

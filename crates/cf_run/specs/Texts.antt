@@ -28,11 +28,24 @@ pub record HasPut (watch : List (List ℕ)) (log : Log) (before now : Option (Li
   pub puts : ArePut watch log texts
   pub taken : now ≡ with_more before (joined texts)
 
--- where no memory was found, or what takes the texts has failed: a beginning of the texts of the quiet moments, joined
-pub record HasPutSome (watch : List (List ℕ)) (log : Log) (before now : Option (List ℕ)) : Type 0 where
+-- where no memory was found: the texts of all moments at rest before the last delivery were put whole, or by now, and no others
+pub record HasPutSo (watch : List (List ℕ)) (log : Log) (before now : Option (List ℕ)) : Type 0 where
   pub texts : List (List ℕ)
   pub puts : WerePut watch log texts ⊎ ArePut watch log texts
-  pub begun : HasBegun (joined texts) before now
+  pub taken : now ≡ with_more before (joined texts)
+
+-- where what takes the texts has failed: the texts of all moments at rest before the last delivery were put whole, and of the one that is due now a
+-- beginning
+pub record HasPutBut (watch : List (List ℕ)) (log : Log) (before now : Option (List ℕ)) : Type 0 where
+  pub texts : List (List ℕ)
+  pub text : List ℕ
+  pub earlier : WerePut watch log texts
+  pub due : PutsAt watch log texts (text ∷ texts)
+  pub begun : HasBegun text (with_more before (joined texts)) now
+
+-- what was put of a run that was given up: all that was due before the last delivery whole, and at most a beginning of what is due now
+abbrev pub HasPutSome : List (List ℕ) → Log → Option (List ℕ) → Option (List ℕ) → Type 0
+HasPutSome watch log before now = HasPutSo watch log before now ⊎ HasPutBut watch log before now
 
 -- the turns are taken, or the wires have no more to give
 abbrev pub IsOver : ℕ → Tally → Type 0

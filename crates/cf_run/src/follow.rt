@@ -8,7 +8,7 @@ ghost use Rattle.cf_place.specs.Places.{EndsTell};
 ghost use Rattle.cf_run.specs.Names.{names_in};
 ghost use Rattle.cf_run.specs.Passing.{EndsWithin, Passes};
 ghost use Rattle.cf_run.specs.Run.{Course, Followed, HasDialled, HasFailed, HoldsOver, IsEnd, IsInStep, IsNoMore, NobodyLeft, Runs, Stopped, Turned, Turns, moment};
-ghost use Rattle.cf_run.specs.Texts.{AllPut, HasBegun, HasPut, HasPutSome, HavePut, IsLast, IsOver, PutBefore, PutsNext, PutsOne, PutsSome, SomePut, joined};
+ghost use Rattle.cf_run.specs.Texts.{AllPut, HasBegun, HasPut, HasPutBut, HasPutSo, HavePut, IsLast, IsOver, PutBefore, PutsNext, PutsOne, PutsSome, SomePut, joined};
 ghost use Rattle.cf_run.specs.Versions.{HasWords, KeepsWords};
 ghost use Rattle.cf_sync.specs.Fetching.{AreBytes, RightlyIn, following};
 ghost use Rattle.cf_sync.specs.Growing.{FollowTheorem};
@@ -261,8 +261,10 @@ fn follow_all<W: Wires, H: HeaderStore + Drop, M: Matcher + Drop, T: Texts>(
         Followed (following watch) o.end o.height o.tip o.history o.trace.items (names_in names.now) log)) }
     ensures put { OnOk result (IfSome (W.told wires.new).log (λ log.
         HasPut watch log (T.told texts.old) (T.told texts.new))) }
-    ensures put_some { OnErr result (IfSome (W.told wires.new).log (λ log.
-        HasPutSome watch log (T.told texts.old) (T.told texts.new))) }
+    ensures put_so { IsErrOf result TextFail.NoMemory → IfSome (W.told wires.new).log (λ log.
+        HasPutSo watch log (T.told texts.old) (T.told texts.new)) }
+    ensures put_but { IsErrOf result TextFail.Failed → IfSome (W.told wires.new).log (λ log.
+        HasPutBut watch log (T.told texts.old) (T.told texts.new)) }
     ensures ends { IfOk result (λ o. IfSome (W.told wires.new).log (λ log. EndsTell o.ends.items log)) }
     ensures held { IfOk result (λ o. IfSome (W.told wires.new).log (λ log. HoldsNoMore H.counts o.held log)) }
     ensures versions { HasWords (record { moment = moment; number = nonce }) (W.told wires.new) }
@@ -312,8 +314,10 @@ pub fn follow_over<W: Wires, H: HeaderStore + Drop, M: Matcher + Drop, T: Texts>
         Followed (following watch) o.end o.height o.tip o.history o.trace.items (names_in names.now) log)) }
     ensures put { OnOk result (IfSome (W.told wires.new).log (λ log.
         HasPut watch log (T.told texts.old) (T.told texts.new))) }
-    ensures put_some { OnErr result (IfSome (W.told wires.new).log (λ log.
-        HasPutSome watch log (T.told texts.old) (T.told texts.new))) }
+    ensures put_so { IsErrOf result TextFail.NoMemory → IfSome (W.told wires.new).log (λ log.
+        HasPutSo watch log (T.told texts.old) (T.told texts.new)) }
+    ensures put_but { IsErrOf result TextFail.Failed → IfSome (W.told wires.new).log (λ log.
+        HasPutBut watch log (T.told texts.old) (T.told texts.new)) }
     ensures theorem { IfOk result (λ o. IfSome (W.told wires.new).log (λ log.
         FollowTheorem watch o.height o.tip o.history log)) }
     ensures ends { IfOk result (λ o. IfSome (W.told wires.new).log (λ log. EndsTell o.ends.items log)) }
