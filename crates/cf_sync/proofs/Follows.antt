@@ -29,7 +29,8 @@ use Rattle.cf_sync.proofs.Blamed.{bytes_before, clash_before, truth_omits_nothin
 use Rattle.cf_sync.proofs.Chains.{Setting}
 use Rattle.cf_sync.proofs.Counted.{same_use}
 use Rattle.cf_sync.proofs.Entries.{at_either}
-use Rattle.cf_sync.proofs.Growing.{keeps_growing, own_told, one_told, lower_setting, filter_within}
+use Rattle.cf_sync.proofs.Growing.{keeps_growing, own_told, one_told}
+use Rattle.cf_sync.proofs.GrowingStages.{lower_setting, filter_within}
 use Rattle.cf_sync.proofs.HonestLemmas.{Hearing, hearing_hears}
 use Rattle.cf_sync.proofs.Modes.{rightly_before_in}
 use Rattle.cf_sync.proofs.Ranges.{in_take}

@@ -15,16 +15,17 @@ use Rattle.cf_msg.specs.declared.msg.Msg.{Msg}
 use Rattle.cf_msg.specs.declared.msg.Msg.TheVariants.{Ping, Pong, GetHeaders, Headers, GetData, Block as BlockMessage, GetCfheaders, Cfheaders, GetCfilters, Cfilter}
 use Rattle.cf_peer.specs.declared.peer.Cause.{Cause}
 use Rattle.cf_peer.specs.declared.peer.Cause.TheVariants.{WrongCount, WrongPrevious}
+use Rattle.cf_peer.specs.declared.mode.Mode.TheVariants.{Following}
 use Rattle.cf_wires.specs.Log.{Log}
 use Rattle.cf_peer.specs.Trail.{Trail, Called, Said, Refused, Asked, Passed, Lost, trail, connected, own, WasAsked}
-use Rattle.cf_peer.specs.Asking.{OpenRequest, NothingOpen, ClaimsOpen, is_answer_of, is_this, blocks_from, block_below, claims_asked, claims, claims_after, claims_fault, request, request_for, request_after, fault_of, verdict, lists, IsClaimed, MayAsk}
-use Rattle.cf_sync.specs.Fetching.{AreBytes, IsConnected, MaySend, Rightly}
+use Rattle.cf_peer.specs.Asking.{OpenRequest, NothingOpen, ClaimsOpen, is_answer_of, is_this, blocks_from, block_below, claims_asked, claims, claims_after, claims_fault, request, request_for, request_after, fault_of, verdict, lists, IsClaimed, MayAskIn}
+use Rattle.cf_sync.specs.Fetching.{AreBytes, IsConnected, MaySendIn, RightlyIn}
 use Rattle.cf_sync.specs.Sync.{IsHashed}
 use Rattle.cf_sync.proofs.Chains.{cases_same}
 use Rattle.cf_sync.proofs.Counted.{first_none, same_use}
 use Rattle.cf_sync.proofs.Fresh.{shown_more, own_is_shown}
 use Rattle.cf_sync.proofs.Listed.{in_right}
-use Rattle.cf_sync.proofs.Remembers.{AskedRightly, asked_rightly}
+use Rattle.cf_sync.proofs.Remembers.{AskedRightlyIn, asked_rightly_in}
 use Rattle.cf_seek.proofs.Stops.{back_ends}
 use Rattle.cf_sync.proofs.Settles.{shown_apart}
 
@@ -119,15 +120,15 @@ after_said m t start stop clean w = record {
   ];
 }
 
-still_open : (m : Msg) (t : Trail) (stop parent : Hash) (blocks : List Hash) → MayAsk t m → request t ≡ ClaimsOpen stop parent blocks → request (Asked m ∷ t) ≡ ClaimsOpen stop parent blocks
+still_open : (m : Msg) (t : Trail) (stop parent : Hash) (blocks : List Hash) → MayAskIn Following t m → request t ≡ ClaimsOpen stop parent blocks → request (Asked m ∷ t) ≡ ClaimsOpen stop parent blocks
 still_open (GetHeaders version locator s) t stop parent blocks may e = absurd (let no : ClaimsOpen stop parent blocks ≡ NothingOpen = sym e ∙ may.0.idle in cc)
 still_open (GetCfheaders filter start s) t stop parent blocks may e = absurd (let no : ClaimsOpen stop parent blocks ≡ NothingOpen = sym e ∙ may.0.idle in cc)
 still_open (GetCfilters filter start s) t stop parent blocks may e = absurd (let no : ClaimsOpen stop parent blocks ≡ NothingOpen = sym e ∙ may.0.idle in cc)
 still_open (GetData entries) t stop parent blocks may e = absurd (let no : ClaimsOpen stop parent blocks ≡ NothingOpen = sym e ∙ may.0.idle in cc)
-still_open (Ping number) t stop parent blocks may e = absurd may
+still_open (Ping number) t stop parent blocks may e = absurd (let no : ClaimsOpen stop parent blocks ≡ NothingOpen = sym e ∙ may.0.idle in cc)
 still_open m t stop parent blocks may e = e
 
-has_since : (t : Trail) → connected t ≡ true → verdict t ≡ None → AskedRightly t → (filter start : ℕ) (stop : Hash32) → WasAsked t (GetCfheaders filter start stop) → Since t start stop.0
+has_since : (t : Trail) → connected t ≡ true → verdict t ≡ None → AskedRightlyIn Following t → (filter start : ℕ) (stop : Hash32) → WasAsked t (GetCfheaders filter start stop) → Since t start stop.0
 has_since [] on clean right filter start stop was = absurd was
 has_since (Called ∷ t) on clean right filter start stop was = absurd was
 has_since (Said m ∷ t) on clean right filter start stop was =
@@ -135,7 +136,7 @@ has_since (Said m ∷ t) on clean right filter start stop was =
     after_said m t start stop.0 parts.1 (has_since t on parts.0 right filter start stop was)
 has_since (Refused c ∷ t) on clean right filter start stop was = absurd (let e = (first_none (verdict t) (Some c) clean).1 in cc)
 has_since (Asked n ∷ t) on clean right filter start stop (inl e) =
-    let may : MayAsk t (GetCfheaders filter start stop) = subst (λ (m : Msg). MayAsk t m) (sym e) right.0 in
+    let may : MayAskIn Following t (GetCfheaders filter start stop) = subst (λ (m : Msg). MayAskIn Following t m) (sym e) right.0 in
     record {
       chain = own t;
       shown = own_is_shown t on clean;
@@ -190,12 +191,12 @@ one_part t a b p q stop apart sa sb e f =
     (λ h i. sa.told h (subst (λ (c : Chain). IsIn h c) x.1 (in_right h x.0 p i))) (λ h i. sb.told h (subst (λ (c : Chain). IsIn h c) y.1 (in_right h y.0 q i)))
     (back_ends stop a p e ∙ sym (back_ends stop b q f))
 
-pub claims_not_again : (log : Log) (p : ℕ) → Rightly log → AreBytes log → NoHashClash (IsHashed log []) → IsConnected log p → verdict (trail log p) ≡ None
-    → (filter start : ℕ) (stop : Hash32) → MaySend log p (GetCfheaders filter start stop) → WasAsked (trail log p) (GetCfheaders filter start stop) → ⊥
+pub claims_not_again : (log : Log) (p : ℕ) → RightlyIn Following log → AreBytes log → NoHashClash (IsHashed log []) → IsConnected log p → verdict (trail log p) ≡ None
+    → (filter start : ℕ) (stop : Hash32) → MaySendIn Following log p (GetCfheaders filter start stop) → WasAsked (trail log p) (GetCfheaders filter start stop) → ⊥
 claims_not_again log p right bytes clash on clean filter start stop may was =
     let t : Trail = trail log p in
     let apart : AreApart (lists t) = subst AreApart (same_use t on clean).showing (shown_apart log p [] bytes clash) in
-    let w = has_since t on clean (asked_rightly log p right) filter start stop was in
+    let w = has_since t on clean (asked_rightly_in Following log p right) filter start stop was in
     let range = may.of_its_part.1.0 in
     elim w.since [
       | inl e ↦ absurd (let no : ClaimsOpen stop.0 (block_below start w.part) (blocks_from start w.part) ≡ NothingOpen = sym e ∙ may.of_its_part.0.idle in cc)

@@ -15,10 +15,11 @@ use Rattle.cf_msg.specs.declared.msg.Entry.{Entry}
 use Rattle.cf_msg.specs.declared.msg.Msg.{Msg}
 use Rattle.cf_msg.specs.declared.msg.Msg.TheVariants.{Ping, Pong, GetHeaders, Headers, GetData, Block as BlockMessage, GetCfheaders, Cfheaders, GetCfilters, Cfilter}
 use Rattle.cf_peer.specs.declared.peer.Cause.TheVariants.{OtherFilter}
+use Rattle.cf_peer.specs.declared.mode.Mode.TheVariants.{Following}
 use Rattle.cf_wires.specs.Log.{Log}
 use Rattle.cf_peer.specs.Trail.{Trail, Part, Called, Said, Refused, Asked, Passed, Lost, part_of, trail, connected, own, WasAsked}
-use Rattle.cf_peer.specs.Asking.{OpenRequest, NothingOpen, HeadersOpen, ClaimsOpen, FiltersOpen, BlockOpen, is_answer_of, is_this, is_wanted, blocks_from, block_below, claims_asked, filters_asked, filters_left, filter_of, filter_fault, claims, claims_after, given, given_by, hash_claimed, request, request_for, request_after, fault_of, verdict, counted, lists, IsClaimed, MayAsk, PingOpen}
-use Rattle.cf_sync.specs.Fetching.{AreBytes, IsConnected, IsFetchedHash, IsFilterWanted, IsGiven, AreFiltersWanted, MaySend, Rightly, blocks_in}
+use Rattle.cf_peer.specs.Asking.{OpenRequest, NothingOpen, HeadersOpen, ClaimsOpen, FiltersOpen, BlockOpen, is_answer_of, is_this, is_wanted, blocks_from, block_below, claims_asked, filters_asked, filters_left, filter_of, filter_fault, claims, claims_after, given, given_by, hash_claimed, request, request_for, request_after, fault_of, verdict, counted, lists, IsClaimed, MayAskIn, PingOpen}
+use Rattle.cf_sync.specs.Fetching.{AreBytes, IsConnected, IsFetchedHash, IsFilterWanted, IsGiven, AreFiltersWanted, MaySendIn, RightlyIn, blocks_in}
 use Rattle.cf_sync.specs.Planned.{Alike, IsPlanned, is_untold}
 use Rattle.cf_sync.specs.Sync.{IsHashed}
 use Rattle.cf_dispute.proofs.PutIn.{same_true}
@@ -28,7 +29,7 @@ use Rattle.cf_sync.proofs.Counted.{first_none, same_use}
 use Rattle.cf_sync.proofs.Fresh.{shown_more, own_is_shown}
 use Rattle.cf_sync.proofs.FreshClaims.{one_part, some_block}
 use Rattle.cf_sync.proofs.Listed.{in_left, in_right, in_either}
-use Rattle.cf_sync.proofs.Remembers.{AskedRightly, asked_rightly}
+use Rattle.cf_sync.proofs.Remembers.{AskedRightlyIn, asked_rightly_in}
 use Rattle.cf_sync.proofs.Settles.{shown_apart}
 use Rattle.cf_sync.proofs.VerdictsGrow.{said_gives}
 
@@ -83,7 +84,7 @@ open_before m r table stop parent blocks e = (e, λ block. refl)
 abbrev pub AreFresh : Trail → Type 0
 AreFresh t = (stop parent : Hash) (blocks : List Hash) → request t ≡ ClaimsOpen stop parent blocks → (block : Hash) → IsIn block blocks → IsClaimed t block → ⊥
 
-asked_fresh : (m : Msg) (t : Trail) → MayAsk t m → AreFresh t → AreFresh (Asked m ∷ t)
+asked_fresh : (m : Msg) (t : Trail) → MayAskIn Following t m → AreFresh t → AreFresh (Asked m ∷ t)
 asked_fresh (GetHeaders version locator at) t may fresh stop parent blocks e block i claimed = absurd (let no : HeadersOpen ≡ ClaimsOpen stop parent blocks = e in cc)
 asked_fresh (GetCfheaders filter start at) t may fresh stop parent blocks e block i claimed =
     let now : ClaimsOpen at.0 (block_below start may.1.0.part) (blocks_from start may.1.0.part) ≡ ClaimsOpen stop parent blocks = sym (ap (λ o. claims_asked start at.0 o) may.1.0.tip) ∙ e in
@@ -93,10 +94,10 @@ asked_fresh (GetCfilters filter start at) t may fresh stop parent blocks e block
     absurd (let no : FiltersOpen (blocks_from start may.1.0.part) [] ≡ ClaimsOpen stop parent blocks = sym (ap (λ o. filters_asked start o) may.1.0.tip) ∙ e in cc)
 asked_fresh (GetData entries) t may fresh stop parent blocks e block i claimed =
     absurd (let no : BlockOpen may.1.0.0 ≡ ClaimsOpen stop parent blocks = sym (ap (λ (es : List Entry). request_for (GetData es) (own t) (request t)) may.1.1) ∙ e in cc)
-asked_fresh (Ping number) t may fresh stop parent blocks e block i claimed = absurd may
+asked_fresh (Ping number) t may fresh stop parent blocks e block i claimed = absurd (let no : PingOpen number ≡ ClaimsOpen stop parent blocks = e in cc)
 asked_fresh m t may fresh stop parent blocks e block i claimed = fresh stop parent blocks e block i claimed
 
-pub are_fresh : (t : Trail) → connected t ≡ true → verdict t ≡ None → AskedRightly t → AreFresh t
+pub are_fresh : (t : Trail) → connected t ≡ true → verdict t ≡ None → AskedRightlyIn Following t → AreFresh t
 are_fresh [] on clean right stop parent blocks e block i claimed = absurd (false≢true on)
 are_fresh (Called ∷ t) on clean right stop parent blocks e block i claimed = absurd (let no : NothingOpen ≡ ClaimsOpen stop parent blocks = e in cc)
 are_fresh (Said m ∷ t) on clean right stop parent blocks e block i claimed =
@@ -297,15 +298,15 @@ after_said m t start stop on clean fresh w = record {
   ];
 }
 
-pub still_coming : (m : Msg) (t : Trail) (left : List Hash) (came : List Job) → MayAsk t m → request t ≡ FiltersOpen left came → request (Asked m ∷ t) ≡ FiltersOpen left came
+pub still_coming : (m : Msg) (t : Trail) (left : List Hash) (came : List Job) → MayAskIn Following t m → request t ≡ FiltersOpen left came → request (Asked m ∷ t) ≡ FiltersOpen left came
 still_coming (GetHeaders version locator s) t left came may e = absurd (let no : FiltersOpen left came ≡ NothingOpen = sym e ∙ may.0.idle in cc)
 still_coming (GetCfheaders filter start s) t left came may e = absurd (let no : FiltersOpen left came ≡ NothingOpen = sym e ∙ may.0.idle in cc)
 still_coming (GetCfilters filter start s) t left came may e = absurd (let no : FiltersOpen left came ≡ NothingOpen = sym e ∙ may.0.idle in cc)
 still_coming (GetData entries) t left came may e = absurd (let no : FiltersOpen left came ≡ NothingOpen = sym e ∙ may.0.idle in cc)
-still_coming (Ping number) t left came may e = absurd may
+still_coming (Ping number) t left came may e = absurd (let no : FiltersOpen left came ≡ NothingOpen = sym e ∙ may.0.idle in cc)
 still_coming m t left came may e = e
 
-after_asked : (n : Msg) (t : Trail) (start : ℕ) (stop : Hash) → MayAsk t n → Since t start stop → Since (Asked n ∷ t) start stop
+after_asked : (n : Msg) (t : Trail) (start : ℕ) (stop : Hash) → MayAskIn Following t n → Since t start stop → Since (Asked n ∷ t) start stop
 after_asked n t start stop may w = record {
   chain = w.chain;
   shown = w.shown;
@@ -319,7 +320,7 @@ after_asked n t start stop may w = record {
   ];
 }
 
-has_since : (t : Trail) → connected t ≡ true → verdict t ≡ None → AskedRightly t → (filter start : ℕ) (stop : Hash32) → WasAsked t (GetCfilters filter start stop) → Since t start stop.0
+has_since : (t : Trail) → connected t ≡ true → verdict t ≡ None → AskedRightlyIn Following t → (filter start : ℕ) (stop : Hash32) → WasAsked t (GetCfilters filter start stop) → Since t start stop.0
 has_since [] on clean right filter start stop was = absurd was
 has_since (Called ∷ t) on clean right filter start stop was = absurd was
 has_since (Said m ∷ t) on clean right filter start stop was =
@@ -327,7 +328,7 @@ has_since (Said m ∷ t) on clean right filter start stop was =
     after_said m t start stop.0 on clean (are_fresh t on before right) (has_since t on before right filter start stop was)
 has_since (Refused c ∷ t) on clean right filter start stop was = absurd (let e = (first_none (verdict t) (Some c) clean).1 in cc)
 has_since (Asked n ∷ t) on clean right filter start stop (inl e) =
-    let may : MayAsk t (GetCfilters filter start stop) = subst (λ (m : Msg). MayAsk t m) (sym e) right.0 in
+    let may : MayAskIn Following t (GetCfilters filter start stop) = subst (λ (m : Msg). MayAskIn Following t m) (sym e) right.0 in
     record {
       chain = own t;
       shown = own_is_shown t on clean;
@@ -360,13 +361,13 @@ has_since (Lost w ∷ t) on clean right filter start stop was = absurd (false≢
 -- ---- so it isn't asked for them again
 
 -- wanted by a log in which p's part is the same
-filters_not_by : (planned log : Log) (p : ℕ) → Rightly log → AreBytes log → NoHashClash (IsHashed log []) → IsConnected log p → verdict (trail log p) ≡ None
+filters_not_by : (planned log : Log) (p : ℕ) → RightlyIn Following log → AreBytes log → NoHashClash (IsHashed log []) → IsConnected log p → verdict (trail log p) ≡ None
     → part_of planned p ≡ part_of log p
-    → (filter start : ℕ) (stop : Hash32) → MaySend log p (GetCfilters filter start stop) → AreFiltersWanted planned p start stop.0 → WasAsked (trail log p) (GetCfilters filter start stop) → ⊥
+    → (filter start : ℕ) (stop : Hash32) → MaySendIn Following log p (GetCfilters filter start stop) → AreFiltersWanted planned p start stop.0 → WasAsked (trail log p) (GetCfilters filter start stop) → ⊥
 filters_not_by planned log p right bytes clash on clean one filter start stop may needed was =
     let t : Trail = trail log p in
     let apart : AreApart (lists t) = subst AreApart (same_use t on clean).showing (shown_apart log p [] bytes clash) in
-    let w = has_since t on clean (asked_rightly log p right) filter start stop was in
+    let w = has_since t on clean (asked_rightly_in Following log p right) filter start stop was in
     let range = may.of_its_part.1.0 in
     elim w.since [
       | inl c ↦ absurd (let no : FiltersOpen c.left c.came ≡ NothingOpen = sym c.is ∙ may.of_its_part.0.idle in cc)
@@ -389,8 +390,8 @@ filters_not_by planned log p right bytes clash on clean one filter start stop ma
           )
     ]
 
-pub filters_not_again : (log : Log) (p : ℕ) → Rightly log → AreBytes log → NoHashClash (IsHashed log []) → IsConnected log p → verdict (trail log p) ≡ None
-    → (filter start : ℕ) (stop : Hash32) → MaySend log p (GetCfilters filter start stop) → AreFiltersWanted log p start stop.0 → WasAsked (trail log p) (GetCfilters filter start stop) → ⊥
+pub filters_not_again : (log : Log) (p : ℕ) → RightlyIn Following log → AreBytes log → NoHashClash (IsHashed log []) → IsConnected log p → verdict (trail log p) ≡ None
+    → (filter start : ℕ) (stop : Hash32) → MaySendIn Following log p (GetCfilters filter start stop) → AreFiltersWanted log p start stop.0 → WasAsked (trail log p) (GetCfilters filter start stop) → ⊥
 filters_not_again log p right bytes clash on clean = filters_not_by log log p right bytes clash on clean refl
 
 -- p, which is connected, has the same part in the log of a client that isn't told yet of some failed sends
@@ -401,8 +402,8 @@ same_part planned log p on is told = by (is.told p told) where
   by (inr off) = absurd (false≢true (sym off.1 ∙ on))
 
 -- nor where such a client wants them
-pub filters_not_planned : (planned log : Log) (p : ℕ) → Rightly log → AreBytes log → NoHashClash (IsHashed log []) → IsConnected log p → verdict (trail log p) ≡ None
+pub filters_not_planned : (planned log : Log) (p : ℕ) → RightlyIn Following log → AreBytes log → NoHashClash (IsHashed log []) → IsConnected log p → verdict (trail log p) ≡ None
     → IsPlanned planned log → is_untold log p ≡ false
-    → (filter start : ℕ) (stop : Hash32) → MaySend log p (GetCfilters filter start stop) → AreFiltersWanted planned p start stop.0 → WasAsked (trail log p) (GetCfilters filter start stop) → ⊥
+    → (filter start : ℕ) (stop : Hash32) → MaySendIn Following log p (GetCfilters filter start stop) → AreFiltersWanted planned p start stop.0 → WasAsked (trail log p) (GetCfilters filter start stop) → ⊥
 filters_not_planned planned log p right bytes clash on clean is told =
     filters_not_by planned log p right bytes clash on clean (same_part planned log p on is told)

@@ -17,15 +17,16 @@ use Rattle.cf_msg.specs.declared.msg.Msg.{Msg}
 use Rattle.cf_msg.specs.declared.msg.Msg.TheVariants.{GetCfilters}
 use Rattle.cf_msg.specs.Reading.{message_of}
 use Rattle.cf_peer.specs.declared.peer.Cause.TheVariants.{BadFrame, Malformed as IsMalformed}
+use Rattle.cf_peer.specs.declared.mode.Mode.TheVariants.{Following}
 use Rattle.cf_wires.specs.declared.event.Delivery.TheVariants.{Got, Gone, Tick, Ended}
 use Rattle.cf_wires.specs.declared.event.Event.{Event}
 use Rattle.cf_wires.specs.declared.event.Event.TheVariants.{Dialled, NotDialled, Sent, SendFailed, Closed, Took}
 use Rattle.cf_wires.specs.Log.{Log}
 use Rattle.cf_peer.specs.Trail.{Trail, Part, Said, Refused, Asked, Passed, Lost, Went, Failing, Shutting, called_part, with_item, item_of, item_of_read, hears, hears_fault, part_after, heard_part, spelled, asks, part_of, trail, connected, own}
-use Rattle.cf_peer.specs.Asking.{NothingOpen, FiltersOpen, blocks_from, filters_asked, claims, given, given_by, hash_claimed, request, fault_of, verdict, counted, MayAsk}
+use Rattle.cf_peer.specs.Asking.{NothingOpen, FiltersOpen, blocks_from, filters_asked, claims, given, given_by, hash_claimed, request, fault_of, verdict, counted, MayAskIn}
 use Rattle.cf_seek.proofs.Stops.{back_ends}
 use Rattle.cf_sync.specs.Blame.{WasAskedSince}
-use Rattle.cf_sync.specs.Fetching.{IsAlone, IsConnected, blocks_in, IsFetchedHash, IsNew, IsTest, IsTested, IsTestOf, MaySend, Rightly, test_after}
+use Rattle.cf_sync.specs.Fetching.{IsAlone, IsConnected, blocks_in, IsFetchedHash, IsNew, IsTest, IsTested, IsTestOf, MaySendIn, RightlyIn, test_after}
 use Rattle.cf_sync.proofs.Blamed.{tested_stays}
 use Rattle.cf_sync.proofs.Counted.{first_none, same_use}
 use Rattle.cf_sync.proofs.Entries.{at_either}
@@ -33,7 +34,7 @@ use Rattle.cf_sync.specs.Planned.{IsPlanned, is_untold}
 use Rattle.cf_sync.proofs.FreshFilters.{AreComing, AreFresh, IsItsOwn, are_fresh, coming_said, its_own, same_part, still_coming}
 use Rattle.cf_sync.proofs.Listed.{in_left, in_right, reverse_in}
 use Rattle.cf_sync.proofs.Once.{still_connected}
-use Rattle.cf_sync.proofs.Remembers.{AskedRightly, asked_rightly}
+use Rattle.cf_sync.proofs.Remembers.{AskedRightlyIn, asked_rightly_in}
 use Rattle.cf_sync.proofs.VerdictsGrow.{said_gives}
 
 -- ---- the last block of a range
@@ -82,7 +83,7 @@ was_clean r t s = by r.fault s where
 
 -- what each message keeps is kept by a piece
 module _ (P : Trail → Type 0) (said : (m : Msg) (t : Trail) → connected t ≡ true → verdict (Said m ∷ t) ≡ None → AreFresh t → P t → P (Said m ∷ t)) where
-  through_frames : (fs : List Frame) (t : Trail) → IsClean (hears fs t) → AskedRightly t → P t → P (hears fs t)
+  through_frames : (fs : List Frame) (t : Trail) → IsClean (hears fs t) → AskedRightlyIn Following t → P t → P (hears fs t)
   through_frames [] t s right h = h
   through_frames (f ∷ fs) t s right h = elim (message_of f) as (λ r. IsClean (hears fs (item_of_read r ∷ t)) → P (hears fs (item_of_read r ∷ t))) [
     | Ok m ↦ λ s1. (
@@ -93,7 +94,7 @@ module _ (P : Trail → Type 0) (said : (m : Msg) (t : Trail) → connected t �
     | Err x ↦ λ s1. absurd (let no = (first_none (verdict t) (Some IsMalformed) (clean_before fs (Refused IsMalformed ∷ t) s1.1)).1 in cc)
   ] s
 
-  through : (r : StreamRead) (t : Trail) → IsClean (part_after r t).trail → AskedRightly t → P t → P (part_after r t).trail
+  through : (r : StreamRead) (t : Trail) → IsClean (part_after r t).trail → AskedRightlyIn Following t → P t → P (part_after r t).trail
   through r t s right h = by r.fault s where
     by : (o : Option FrameFault) → IsClean (hears_fault o (hears r.frames t)) → P (hears_fault o (hears r.frames t))
     by None s1 = through_frames r.frames t s1 right h
@@ -138,11 +139,11 @@ tried_on e log p start stop t test w = record {
 }
 
 -- a message that may be sent asks for no other filters while some are coming
-test_stays : (n : Msg) (t : Trail) (log : Log) (block : Hash) (left : List Hash) (came : List Job) (before : Type 0) → MayAsk t n → request t ≡ FiltersOpen left came → before → test_after true (Some n) log block before
+test_stays : (n : Msg) (t : Trail) (log : Log) (block : Hash) (left : List Hash) (came : List Job) (before : Type 0) → MayAskIn Following t n → request t ≡ FiltersOpen left came → before → test_after true (Some n) log block before
 test_stays (GetCfilters filter start stop) t log block left came before may e x = absurd (let no : FiltersOpen left came ≡ NothingOpen = sym e ∙ may.0.idle in cc)
 test_stays n t log block left came before may e x = x
 
-tried_asked : (q : PeerNo) (bytes : List ℕ) (n : Msg) (log : Log) (p start : ℕ) (stop : Hash) (t : Trail) → q.0 ≡ p → spelled bytes ≡ Some n → MayAsk t n → IsTried log p start stop t
+tried_asked : (q : PeerNo) (bytes : List ℕ) (n : Msg) (log : Log) (p start : ℕ) (stop : Hash) (t : Trail) → q.0 ≡ p → spelled bytes ≡ Some n → MayAskIn Following t n → IsTried log p start stop t
     → IsTried (Sent q bytes ∷ log) p start stop (Asked n ∷ t)
 tried_asked q bytes n log p start stop t here is may w = record {
   part = w.part;
@@ -162,7 +163,7 @@ tried_asked q bytes n log p start stop t here is may w = record {
   ];
 }
 
-tried_first : (q : PeerNo) (bytes : List ℕ) (log : Log) (p filter start : ℕ) (stop : Hash32) (t : Trail) → q.0 ≡ p → spelled bytes ≡ Some (GetCfilters filter start stop) → MayAsk t (GetCfilters filter start stop)
+tried_first : (q : PeerNo) (bytes : List ℕ) (log : Log) (p filter start : ℕ) (stop : Hash32) (t : Trail) → q.0 ≡ p → spelled bytes ≡ Some (GetCfilters filter start stop) → MayAskIn Following t (GetCfilters filter start stop)
     → IsFetchedHash log stop.0 → IsTried (Sent q bytes ∷ log) p start stop.0 (Asked (GetCfilters filter start stop) ∷ t)
 tried_first q bytes log p filter start stop t here is may fetched = record {
   part = may.1.0.part;
@@ -195,7 +196,7 @@ tried_passed s log p start stop t w = record {
 }
 
 -- in a piece of the peer's bytes
-tried_heard : (q : PeerNo) (piece : List ℕ) (log : Log) (p start : ℕ) (stop : Hash) → (q.0 == p) ≡ true → IsClean (heard_part piece (part_of log p)).trail → AskedRightly (trail log p)
+tried_heard : (q : PeerNo) (piece : List ℕ) (log : Log) (p start : ℕ) (stop : Hash) → (q.0 == p) ≡ true → IsClean (heard_part piece (part_of log p)).trail → AskedRightlyIn Following (trail log p)
     → IsTried log p start stop (trail log p) → IsTried (Took (Got q piece) ∷ log) p start stop (heard_part piece (part_of log p)).trail
 tried_heard q piece log p start stop is s right w = record {
   part = w.part;
@@ -237,7 +238,7 @@ IsTriedIn e log p start stop part = IsClean part.trail → IsTried (e ∷ log) p
 same_message : (o : Option Msg) (m n : Msg) → o ≡ Some m → o ≡ Some n → m ≡ n
 same_message o m n e f = (let both : Some m ≡ Some n = sym e ∙ f in cc)
 
-is_tried : (log : Log) (p filter start : ℕ) (stop : Hash32) → Rightly log → WasAskedSince log p (GetCfilters filter start stop) stop.0 → IsClean (trail log p) → IsTried log p start stop.0 (trail log p)
+is_tried : (log : Log) (p filter start : ℕ) (stop : Hash32) → RightlyIn Following log → WasAskedSince log p (GetCfilters filter start stop) stop.0 → IsClean (trail log p) → IsTried log p start stop.0 (trail log p)
 is_tried [] p filter start stop right was s = absurd was
 is_tried (Dialled q name ∷ log) p filter start stop right was s =
     at_either (IsTriedIn (Dialled q name) log p start stop.0) (q.0 == p) (called_part (part_of log p)) (part_of log p)
@@ -265,15 +266,15 @@ is_tried (Took Ended ∷ log) p filter start stop right was s =
     tried_on (Took Ended) log p start stop.0 (trail log p) (λ x. x) (is_tried log p filter start stop right.1 was s)
 is_tried (Took (Got q piece) ∷ log) p filter start stop right was s =
     at_either (IsTriedIn (Took (Got q piece)) log p start stop.0) (q.0 == p) (heard_part piece (part_of log p)) (part_of log p)
-    (λ is u. tried_heard q piece log p start stop.0 is u (asked_rightly log p right.1)
+    (λ is u. tried_heard q piece log p start stop.0 is u (asked_rightly_in Following log p right.1)
     (is_tried log p filter start stop right.1 was (was_clean (read_stream ((part_of log p).waits ++ piece)) (trail log p) u)))
     (λ off u. tried_on (Took (Got q piece)) log p start stop.0 (trail log p) (λ x. x) (is_tried log p filter start stop right.1 was u)) s
 is_tried (Sent q bytes ∷ log) p filter start stop right (inl first_one) s =
     at_either (IsTriedIn (Sent q bytes) log p start stop.0) (q.0 == p) (record (part_of log p) { trail = asks (spelled bytes) (trail log p) }) (part_of log p)
     (λ is u.
     let same : right.0.0 ≡ GetCfilters filter start stop = same_message (spelled bytes) right.0.0 (GetCfilters filter start stop) right.0.1 first_one.2 in
-    let may : MayAsk (trail log p) (GetCfilters filter start stop) =
-    subst (λ (m : Msg). MayAsk (trail log p) m) same (subst (λ (k : ℕ). MayAsk (trail log k) right.0.0) first_one.1 right.0.2.of_its_part) in
+    let may : MayAskIn Following (trail log p) (GetCfilters filter start stop) =
+    subst (λ (m : Msg). MayAskIn Following (trail log p) m) same (subst (λ (k : ℕ). MayAskIn Following (trail log k) right.0.0) first_one.1 right.0.2.of_its_part) in
     subst (λ (o : Option Msg). IsTried (Sent q bytes ∷ log) p start stop.0 (asks o (trail log p))) (sym first_one.2)
     (tried_first q bytes log p filter start stop (trail log p) first_one.1 first_one.2 may first_one.0))
     (λ off u. absurd (false≢true (sym off ∙ eq-eqb q.0 p first_one.1))) s
@@ -281,7 +282,7 @@ is_tried (Sent q bytes ∷ log) p filter start stop right (inr was) s =
     at_either (IsTriedIn (Sent q bytes) log p start stop.0) (q.0 == p) (record (part_of log p) { trail = asks (spelled bytes) (trail log p) }) (part_of log p)
     (λ is u.
     let here : q.0 ≡ p = eqb-true q.0 p is in
-    let may : MayAsk (trail log p) right.0.0 = subst (λ (k : ℕ). MayAsk (trail log k) right.0.0) here right.0.2.of_its_part in
+    let may : MayAskIn Following (trail log p) right.0.0 = subst (λ (k : ℕ). MayAskIn Following (trail log k) right.0.0) here right.0.2.of_its_part in
     let before : IsClean (trail log p) = subst (λ (o : Option Msg). IsClean (asks o (trail log p))) right.0.1 u in
     subst (λ (o : Option Msg). IsTried (Sent q bytes ∷ log) p start stop.0 (asks o (trail log p))) (sym right.0.1)
     (tried_asked q bytes right.0.0 log p start stop.0 (trail log p) here right.0.1 may (is_tried log p filter start stop right.1 was before)))
@@ -300,9 +301,9 @@ test_alone log p filter start stop test block i none stands =
 -- ---- so it isn't asked for again
 
 -- to be tested by a log in which p's part is the same, and that has the same tests
-tests_not_by : (planned log : Log) (p : ℕ) → Rightly log → IsConnected log p → verdict (trail log p) ≡ None
+tests_not_by : (planned log : Log) (p : ℕ) → RightlyIn Following log → IsConnected log p → verdict (trail log p) ≡ None
     → part_of planned p ≡ part_of log p → ((job : Job) → IsTested log job → IsTested planned job)
-    → (filter start : ℕ) (stop : Hash32) → MaySend log p (GetCfilters filter start stop) → IsTestOf planned p start stop.0
+    → (filter start : ℕ) (stop : Hash32) → MaySendIn Following log p (GetCfilters filter start stop) → IsTestOf planned p start stop.0
     → WasAskedSince log p (GetCfilters filter start stop) stop.0 → ⊥
 tests_not_by planned log p right on clean one tests filter start stop may test was =
     let t : Trail = trail log p in
@@ -319,14 +320,14 @@ tests_not_by planned log p right on clean one tests filter start stop may test w
           )
     ]
 
-pub tests_not_again : (log : Log) (p : ℕ) → Rightly log → IsConnected log p → verdict (trail log p) ≡ None
-    → (filter start : ℕ) (stop : Hash32) → MaySend log p (GetCfilters filter start stop) → IsTestOf log p start stop.0 → WasAskedSince log p (GetCfilters filter start stop) stop.0 → ⊥
+pub tests_not_again : (log : Log) (p : ℕ) → RightlyIn Following log → IsConnected log p → verdict (trail log p) ≡ None
+    → (filter start : ℕ) (stop : Hash32) → MaySendIn Following log p (GetCfilters filter start stop) → IsTestOf log p start stop.0 → WasAskedSince log p (GetCfilters filter start stop) stop.0 → ⊥
 tests_not_again log p right on clean = tests_not_by log log p right on clean refl (λ job tested. tested)
 
 -- nor where a client is to test it that isn't told yet of some failed sends
-pub tests_not_planned : (planned log : Log) (p : ℕ) → Rightly log → IsConnected log p → verdict (trail log p) ≡ None
+pub tests_not_planned : (planned log : Log) (p : ℕ) → RightlyIn Following log → IsConnected log p → verdict (trail log p) ≡ None
     → IsPlanned planned log → is_untold log p ≡ false
-    → (filter start : ℕ) (stop : Hash32) → MaySend log p (GetCfilters filter start stop) → IsTestOf planned p start stop.0
+    → (filter start : ℕ) (stop : Hash32) → MaySendIn Following log p (GetCfilters filter start stop) → IsTestOf planned p start stop.0
     → WasAskedSince log p (GetCfilters filter start stop) stop.0 → ⊥
 tests_not_planned planned log p right on clean is told =
     tests_not_by planned log p right on clean (same_part planned log p on is told) is.tests

@@ -46,6 +46,7 @@ pub mod Idle
 pub mod Deaf
 pub mod Plans
 pub mod Pings
+pub mod GrowingStages
 pub mod Growing
 pub mod Follows
 pub mod OneGrows

@@ -1,5 +1,6 @@
 -- What may be done by a client that ends once nothing is open may be done by one that follows.
-use Rattle.std.proofs.Common.{◌≡◌, ℕ, Bool, true, false, ◌∷◌, [], ◌||◌, if◌then◌else◌, refl, ◌∙◌, ap}
+use Rattle.std.proofs.Common.{◌≡◌, ℕ, Bool, true, false, ◌∷◌, [], ◌||◌, ◌&&◌, not, if◌then◌else◌, refl, ◌∙◌, ap}
+use Rattle.std.proofs.lemmas.Bool.{false≢true}
 use Rattle.cf_headers.specs.Chain.{Chain}
 use Rattle.cf_msg.specs.declared.msg.Msg.{Msg}
 use Rattle.cf_msg.specs.declared.msg.Msg.TheVariants.{GetHeaders, Ping}
@@ -8,9 +9,9 @@ use Rattle.cf_wires.specs.declared.event.Event.TheVariants.{Dialled, NotDialled,
 use Rattle.cf_wires.specs.Log.{Log}
 use Rattle.cf_peer.specs.declared.mode.Mode.{Mode}
 use Rattle.cf_peer.specs.declared.mode.Mode.TheVariants.{Once, Following}
-use Rattle.cf_peer.specs.Trail.{Trail, Called, Said, Refused, Asked, Passed, Lost, trail, heard_in, still_heard, is_news, own}
-use Rattle.cf_peer.specs.Asking.{MayAskIn}
-use Rattle.cf_sync.specs.Fetching.{MaySendIn, RightlyIn}
+use Rattle.cf_peer.specs.Trail.{Trail, Called, Said, Refused, Asked, Passed, Lost, trail, heard_in, still_heard, is_news, own, connected, ready}
+use Rattle.cf_peer.specs.Asking.{MayAskIn, is_open, is_idle, request}
+use Rattle.cf_sync.specs.Fetching.{MaySendIn, MayTake, RightlyIn}
 
 -- ---- a peer that wasn't heard out at all wasn't since its last news
 
@@ -61,6 +62,19 @@ sends_following mode log p m may = record {
   alone = may.alone;
 }
 
+-- ---- what is open is open to a peer that is connected
+
+both_left : (a b : Bool) → (a && b) ≡ true → a ≡ true
+both_left true b e = refl
+both_left false b e = absurd (false≢true e)
+
+open_on : (t : Trail) → is_open t ≡ true → connected t ≡ true
+open_on t e = both_left (connected t) (not (ready t) || not (is_idle (request t))) e
+
+takes_following : (mode : Mode) (log : Log) → MayTake mode log → MayTake Following log
+takes_following Once log busy = (busy.0, open_on (trail log busy.0) busy.1)
+takes_following Following log may = may
+
 -- ---- a log that is right by a mode is right by that of a client that follows
 
 pub rightly_following : (mode : Mode) (log : Log) → RightlyIn mode log → RightlyIn Following log
@@ -71,7 +85,7 @@ rightly_following mode (Sent p bytes ∷ log) right =
     ((right.0.0, right.0.1, sends_following mode log p.0 right.0.0 right.0.2), rightly_following mode log right.1)
 rightly_following mode (SendFailed p ∷ log) right = rightly_following mode log right
 rightly_following mode (Closed p ∷ log) right = (right.0, rightly_following mode log right.1)
-rightly_following mode (Took d ∷ log) right = (tt, rightly_following mode log right.1)
+rightly_following mode (Took d ∷ log) right = (takes_following mode log right.0, rightly_following mode log right.1)
 
 -- a log was right before its newest entry
 pub rightly_before_in : (mode : Mode) (e : Event) (log : Log) → RightlyIn mode (e ∷ log) → RightlyIn mode log

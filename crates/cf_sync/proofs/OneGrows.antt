@@ -34,7 +34,7 @@ use Rattle.cf_peer.specs.Asking.{NothingOpen, ClaimsOpen, FiltersOpen, is_idle, 
 use Rattle.cf_scan.specs.Watching.{IsWatch}
 use Rattle.cf_sync.specs.Example.{only_header, only_hash, chain_of_one, honest_peer, our_version, its_version, question, its_headers, false_headers, ask_claims, its_claims, ask_filter, its_filter, genesis_hash, no_stop, only_filter, only_filter_hash, genesis_filter_header, other_watch, log_1, log_2}
 use Rattle.cf_sync.specs.Growth.{ping_one, pong_one, news, grow_3, grow_4, grow_5, grow_6, first_quiet, grow_8, grow_9, grow_10, grow_11, grow_12, grow_13, grow_14, grow_15, grow_16, growing_run}
-use Rattle.cf_sync.specs.Fetching.{counted_part, IsQuiet, IsFetched, IsCleared, RightlyIn, AreBytes, IsConnected}
+use Rattle.cf_sync.specs.Fetching.{counted_part, IsQuiet, IsFetched, IsCleared, RightlyIn, MayTake, AreBytes, IsConnected}
 use Rattle.cf_sync.specs.Honesty.{was_called}
 use Rattle.cf_sync.specs.Growing.{Turn, Reaches, IsGrowingOver, IsGrowing, IsTold, OthersShowNone}
 use Rattle.cf_sync.specs.Sync.{strings_of, IsHashed, HasAskedIn}
@@ -503,6 +503,10 @@ clean_17 = ap (λ x. first x (fault_of its_filter v_16)) clean_15 ∙ filter_fin
 request_17 : request v_17 ≡ NothingOpen
 request_17 = ap (λ r. request_after its_filter r) request_16 ∙ rw self_hash refl
 
+-- a delivery may be taken, since it is connected
+there : (log : Log) (t : Trail) → part_of log 1 ≡ at_rest t → connected t ≡ true → MayTake Following log
+there log t is on = (1, of_part (λ u. connected u ≡ true) (part_of log 1) t is on)
+
 abbrev IsSpare : Trail → Type 0
 IsSpare t = connected t ≡ true → is_spare (request t) ≡ true
 
@@ -514,7 +518,7 @@ free_13 = record { on = refl; over = refl; idle = refl; answered = sym (same_use
 
 right_7 : RightlyIn Following first_quiet
 right_7 = (
-  tt,
+  there grow_6 v_6 p_6 refl,
   (
     (
       question,
@@ -528,7 +532,7 @@ right_7 = (
       },
     ),
     (
-      tt,
+      there grow_4 v_4 p_4 refl,
       (
         (
           Verack,
@@ -541,7 +545,7 @@ right_7 = (
           },
         ),
         (
-          tt,
+          there log_2 v_2 p_2 refl,
           (
             (
               our_version,
@@ -563,9 +567,9 @@ right_7 = (
 
 right_11 : RightlyIn Following grow_11
 right_11 = (
-  tt,
+  there grow_10 v_10 p_10 refl,
   (
-    tt,
+    there grow_9 v_9 p_9 refl,
     (
       (
         ping_one,
@@ -578,14 +582,14 @@ right_11 = (
           alone = refl;
         },
       ),
-      (tt, right_7),
+      (there first_quiet v_7 p_7 refl, right_7),
     ),
   ),
 )
 
 pub growing_right : RightlyIn Following growing_run
 growing_right = (
-  tt,
+  there grow_16 v_16 p_16 refl,
   (
     (
       ask_filter,
@@ -597,7 +601,7 @@ growing_right = (
       },
     ),
     (
-      tt,
+      there grow_14 v_14 p_14 refl,
       (
         (
           ask_claims,
@@ -610,7 +614,7 @@ growing_right = (
           },
         ),
         (
-          tt,
+          there grow_12 v_12 p_12 refl,
           (
             (
               question,

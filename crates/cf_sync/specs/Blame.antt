@@ -1,11 +1,11 @@
 -- Blame: the filters that differ on a fetched block are asked for and tested against what the block itself pays.
-use Rattle.std.specs.Prelude.{◌≡◌, ◌⊎◌, ℕ, [], ◌∷◌, Some}
+use Rattle.std.specs.Prelude.{◌≡◌, ◌⊎◌, ℕ, Bool, true, false, [], ◌∷◌, Some}
 use Rattle.cf_bytes.specs.declared.hash.Hash32.{Hash32}
 use Rattle.cf_headers.specs.Chain.{Hash, Chain, IsIn}
 use Rattle.cf_msg.specs.declared.msg.Msg.{Msg}
 use Rattle.cf_wires.specs.declared.event.Event.TheVariants.{Dialled, NotDialled, Sent, SendFailed, Closed, Took}
 use Rattle.cf_wires.specs.Log.{Log}
-use Rattle.cf_peer.specs.Trail.{spelled, own}
+use Rattle.cf_peer.specs.Trail.{Trail, Called, Said, Refused, Asked, Passed, Lost, spelled, own, is_news}
 use Rattle.cf_peer.specs.Asking.{hashes_of}
 use Rattle.cf_sync.specs.Fetching.{counted_part, IsConnected, IsFetchedHash, Claims, IsDisputed, IsTestedWith, IsOmission, IsOmitting}
 
@@ -21,6 +21,21 @@ WasAskedSince (NotDialled q name ∷ log) p m block = WasAskedSince log p m bloc
 WasAskedSince (SendFailed q ∷ log) p m block = WasAskedSince log p m block
 WasAskedSince (Closed q ∷ log) p m block = WasAskedSince log p m block
 WasAskedSince (Took d ∷ log) p m block = WasAskedSince log p m block
+
+-- with news what was before is gone
+abbrev pub before_news : Bool → Type 0 → Type 0
+before_news true before = ⊥
+before_news false before = before
+
+-- the same message was sent to a peer since it was dialled, and since it told last of a block that wasn't on its own chain
+abbrev pub WasAskedSinceNews : Trail → Msg → Type 0
+WasAskedSinceNews [] m = ⊥
+WasAskedSinceNews (Called ∷ t) m = ⊥
+WasAskedSinceNews (Said n ∷ t) m = before_news (is_news n (own t)) (WasAskedSinceNews t m)
+WasAskedSinceNews (Refused c ∷ t) m = WasAskedSinceNews t m
+WasAskedSinceNews (Asked n ∷ t) m = (m ≡ n) ⊎ WasAskedSinceNews t m
+WasAskedSinceNews (Passed s ∷ t) m = WasAskedSinceNews t m
+WasAskedSinceNews (Lost w ∷ t) m = WasAskedSinceNews t m
 
 -- ---- what follows
 
