@@ -10,7 +10,7 @@ use Rattle.cf_wires.specs.Log.{Log}
 use Rattle.cf_answers.specs.declared.status.Status.{Status}
 use Rattle.cf_answers.specs.declared.status.Status.TheVariants.{Done, NoMemory, Usage, BadFile, FileFault, OutFault, NoPeers, Tired, Ended, LinkFault, NoNonce, NoHeight, NotThere, NotAddress}
 use Rattle.cf_cli.specs.Demo.{IsDemoText, IsDemoed, IsUntold, demo_lines, lines_over, may_show}
-use Rattle.cf_cli.specs.Reading.{IsOfText, IsWritten}
+use Rattle.cf_offline.specs.Reading.{IsOfText, IsWritten}
 
 -- ---- the text
 

@@ -13,7 +13,7 @@ use Rattle.cf_loading.specs.Verdicts.{IsOfFile}
 use Rattle.cf_cli.proofs.Plays.{no_run}
 use Rattle.cf_cli.proofs.Stays.{not_over}
 use Rattle.cf_cli.specs.Ends.{AreEndsOf, AreEndsAfter, AreEndsOver, AreEnds}
-use Rattle.cf_cli.specs.Statuses.{has_run, is_over, was_unbegun}
+use Rattle.cf_answers.specs.Statuses.{has_run, is_over, was_unbegun}
 
 -- they are put once a run is begun
 pub ends_put : (status : Status) (recorded : Bool) (log : Option Log) (before after : List PeerEnd) → was_unbegun status recorded ≡ false → AreEndsOf log after → AreEndsAfter status recorded log before after

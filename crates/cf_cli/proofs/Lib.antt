@@ -1,10 +1,7 @@
 pub mod Asking
-pub mod Scans
 pub mod Records
 pub mod Runs
 pub mod Plays
-pub mod FilterTexts
-pub mod ProofTexts
 pub mod Retold
 pub mod Serves
 pub mod Demos

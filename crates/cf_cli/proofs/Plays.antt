@@ -25,8 +25,9 @@ use Rattle.cf_input.specs.declared.words.Command.{Command}
 use Rattle.cf_input.specs.declared.words.Command.TheVariants.{Replay, Sync, Follow}
 use Rattle.cf_input.specs.SessionFile.{session_of}
 use Rattle.cf_input.specs.WatchFile.{watch_of}
-use Rattle.cf_cli.specs.Statuses.{has_run, may_dial, may_play, IsJudged, verdict_of, and_then}
-use Rattle.cf_loading.specs.Verdicts.{IsOfFile, watch_verdict, session_verdict}
+use Rattle.cf_answers.specs.Statuses.{has_run}
+use Rattle.cf_cli.specs.Statuses.{may_dial, may_play, verdict_of}
+use Rattle.cf_loading.specs.Verdicts.{IsJudged, and_then, IsOfFile, watch_verdict, session_verdict}
 use Rattle.cf_cli.specs.Theorem.{AnswersTo, AreLeft, IsWhole, IsWithin, Kept, KeptOver, IsOfRun, IsReplayed, Plays, PlaysSession, Tallied, has_somebody}
 
 -- no run is made where a file is answered for

@@ -9,8 +9,8 @@ use Rattle.cf_input.specs.declared.words.Command.{Command}
 use Rattle.cf_input.specs.declared.words.Command.TheVariants.{Sync, Follow}
 use Rattle.cf_answers.specs.declared.status.Status.{Status}
 use Rattle.cf_answers.specs.declared.status.Status.TheVariants.{Done, NoMemory, Usage, BadFile, FileFault, OutFault, NoPeers, Tired, Ended, LinkFault, NoNonce, NoHeight, NotThere, NotAddress}
-use Rattle.cf_cli.specs.Statuses.{IsJudged, was_refused, was_unbegun}
-use Rattle.cf_loading.specs.Verdicts.{IsOfFile, Verdict, Good, watch_verdict}
+use Rattle.cf_loading.specs.Verdicts.{IsJudged, IsOfFile, Verdict, Good, watch_verdict}
+use Rattle.cf_answers.specs.Statuses.{was_refused, was_unbegun}
 use Rattle.cf_cli.specs.Recording.{HasRecord, KeepsOthers, Records, may_write}
 use Rattle.cf_cli.specs.Theorem.{AnswersTo, IsOfRun}
 use Rattle.cf_run.specs.declared.outcome.End.{End}

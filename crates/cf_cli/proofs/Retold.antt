@@ -27,7 +27,7 @@ use Rattle.cf_input.proofs.LineLawLemmas.{lines_again}
 use Rattle.cf_input.proofs.LineSteps.{before_true, before_false, after_true, after_false}
 use Rattle.cf_input.proofs.NumberLaws.{decimal_is_number}
 use Rattle.cf_cli.specs.Retelling.{told_deliveries, told_script, AreNames, IsOfSession, AreOfSession, IsRetold}
-use Rattle.cf_cli.proofs.ProofTexts.{not_lf, isnt, hex_line, hex_read}
+use Rattle.cf_offline.proofs.ProofTexts.{not_lf, isnt, hex_line, hex_read}
 
 -- ---- the text as lines
 

@@ -13,7 +13,7 @@ use Rattle.cf_serve.specs.declared.fail.ServeFail.TheVariants.{Failed, NoMemory 
 use Rattle.cf_conn.specs.Told.{Told}
 use Rattle.cf_answers.specs.declared.status.Status.{Status}
 use Rattle.cf_answers.specs.declared.status.Status.TheVariants.{Done, NoMemory, Usage, BadFile, FileFault, OutFault, NoPeers, Tired, Ended, LinkFault, NoNonce, NoHeight, NotThere, NotAddress}
-use Rattle.cf_cli.specs.Statuses.{was_refused}
+use Rattle.cf_answers.specs.Statuses.{was_refused}
 use Rattle.cf_cli.specs.Serving.{listening, ServesAt, MayServe, ServesChain, IsServing, answer_of, may_serve, served_by}
 use Rattle.cf_input.specs.declared.words.Command.{Command}
 use Rattle.cf_input.specs.declared.words.Command.TheVariants.{Serve}

@@ -33,7 +33,7 @@ use Rattle.cf_answers.specs.declared.status.Status.TheVariants.{Done, NoMemory, 
 use Rattle.cf_answers.specs.Texts.{trace_text}
 use Rattle.cf_loading.specs.Verdicts.{IsOfFile}
 use Rattle.cf_cli.specs.Following.{BegunTexts, EndsBy, Grows, IsReplayedIn, IsReplayedOn, KeptOn, KeptOnOver, Stayed, TalliedOn, with_trace}
-use Rattle.cf_cli.specs.Statuses.{has_run, is_over, was_refused, was_unbegun}
+use Rattle.cf_answers.specs.Statuses.{has_run, is_over, was_refused, was_unbegun}
 use Rattle.cf_cli.specs.Theorem.{AnswersTo, IsComplete, IsOfRun, IsWhole, IsWithin}
 use Rattle.cf_cli.proofs.Plays.{early_replayed, early_tallied, no_run, not_run, run_tallied, spent_tallied, tallied_early, unwritten_tallied}
 use Rattle.cf_cli.proofs.Runs.{somebody_left}

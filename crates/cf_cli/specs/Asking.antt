@@ -1,14 +1,9 @@
 -- Which files a command asks for.
-use Rattle.std.specs.Prelude.{◌≡◌, ◌⊎◌, ℕ, List, [], ◌∷◌, Option, Some, None}
-use Rattle.cf_bytes.specs.Files.{Reads, Opens, Parts, Writes, IsRead, IsAtMostWritten}
-use Rattle.cf_conn.specs.Opened.{IsReadByParts}
+use Rattle.std.specs.Prelude.{◌≡◌, ℕ, List, [], ◌∷◌, Option, Some, None}
+use Rattle.cf_bytes.specs.Files.{Reads, Opens, Parts, Writes, IsAtMostWritten}
 use Rattle.cf_input.specs.declared.words.Command.{Command}
 use Rattle.cf_input.specs.declared.words.Command.TheVariants.{Replay, Sync, Follow, Scan, Filter, Address, Prove, Check, Serve, Make, Demo}
-
--- a file of this name that is read whole, by one call; or one that is opened and read by parts
-pub data FileRead : Type 0 where
-  Whole : (name : List ℕ) → FileRead
-  ByParts : (name : List ℕ) → FileRead
+use Rattle.cf_loading.specs.Asking.{FileRead, Whole, ByParts, AreRead}
 
 -- the files that a command reads, in this order: those of blocks by parts
 abbrev pub files_read : Command → List FileRead
@@ -30,17 +25,6 @@ name_written (Make witness seed blocks file) = Some file
 name_written (Sync turns workers file watch peers) = file
 name_written (Follow turns workers file watch peers) = file
 name_written command = None
-
--- the file was read, whole or by parts
-abbrev pub HasRead : {F : Type 0} → Reads F → Opens F → Parts F → FileRead → F → F → Type 0
-HasRead reads opens parts (Whole name) before after = IsRead reads name before after
-HasRead reads opens parts (ByParts name) before after = IsReadByParts opens parts name before after
-
--- of these files the first ones were read, each once and in this order, and nothing else was asked of the files
-abbrev pub AreRead : {F : Type 0} → Reads F → Opens F → Parts F → List FileRead → F → F → Type 0
-AreRead reads opens parts [] before after = after ≡ before
-AreRead {F} reads opens parts (file ∷ files) before after =
-    (after ≡ before) ⊎ ((between : F) × HasRead reads opens parts file before between × AreRead reads opens parts files between after)
 
 -- of these files the first ones were read, each once and in this order, and then at most this one was written, once;
 -- nothing else was asked

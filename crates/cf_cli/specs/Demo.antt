@@ -19,7 +19,7 @@ use Rattle.cf_scan.specs.Extracts.{balance_of}
 use Rattle.cf_scan.specs.Scan.{scan_of}
 use Rattle.cf_answers.specs.declared.status.Status.{Status}
 use Rattle.cf_answers.specs.declared.status.Status.TheVariants.{Done, NoMemory, OutFault, NoPeers, Tired, NoNonce}
-use Rattle.cf_cli.specs.Reading.{IsWritten, named_line}
+use Rattle.cf_offline.specs.Reading.{IsWritten, named_line}
 
 -- ---- the text
 

@@ -15,9 +15,9 @@ use Rattle.cf_input.specs.SessionFile.{session_of}
 use Rattle.cf_input.specs.Words.{most_turns}
 use Rattle.cf_answers.specs.declared.status.Status.{Status}
 use Rattle.cf_cli.specs.Demo.{IsDemoed}
-use Rattle.cf_cli.specs.Making.{IsMaking}
-use Rattle.cf_cli.specs.Proving.{IsProved, IsChecked}
-use Rattle.cf_cli.specs.Reading.{IsScanned, IsFiltered, IsAddressed}
+use Rattle.cf_offline.specs.Making.{IsMaking}
+use Rattle.cf_offline.specs.Proving.{IsProved, IsChecked}
+use Rattle.cf_offline.specs.Reading.{IsScanned, IsFiltered, IsAddressed}
 use Rattle.cf_cli.specs.Recording.{Records}
 use Rattle.cf_cli.specs.Serving.{IsServing}
 use Rattle.cf_cli.specs.Following.{IsReplayedIn, KeptLive, TalliedOn}

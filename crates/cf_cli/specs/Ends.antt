@@ -6,7 +6,7 @@ use Rattle.cf_wires.specs.Log.{Log}
 use Rattle.cf_input.specs.declared.words.Command.{Command}
 use Rattle.cf_input.specs.declared.words.Command.TheVariants.{Replay, Sync, Follow}
 use Rattle.cf_answers.specs.declared.status.Status.{Status}
-use Rattle.cf_cli.specs.Statuses.{has_run, is_over, was_unbegun}
+use Rattle.cf_answers.specs.Statuses.{has_run, is_over, was_unbegun}
 
 -- where the log is told, there is an end for each peer that was dialled, in the order of their numbers, and each tells how its peer stands
 abbrev pub AreEndsOf : Option Log → List PeerEnd → Type 0

@@ -28,7 +28,7 @@ use Rattle.cf_input.specs.WatchFile.{watch_of}
 use Rattle.cf_answers.specs.declared.status.Status.{Status}
 use Rattle.cf_answers.specs.declared.status.Status.TheVariants.{Done, NoMemory}
 use Rattle.cf_answers.specs.Texts.{trace_text}
-use Rattle.cf_cli.specs.Statuses.{has_run, is_over}
+use Rattle.cf_answers.specs.Statuses.{has_run, is_over}
 use Rattle.cf_cli.specs.Theorem.{AnswersTo, IsComplete, IsReplayed, Tallied}
 
 -- the trace before other bytes, where it is asked for

@@ -1,11 +1,8 @@
 pub mod Asking
-pub mod Making
-pub mod Reading
 pub mod Retelling
 pub mod Recording
 pub mod Statuses
 pub mod Theorem
-pub mod Proving
 pub mod Serving
 pub mod Demo
 pub mod Doing

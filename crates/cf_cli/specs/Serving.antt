@@ -16,7 +16,7 @@ use Rattle.cf_service.specs.Machine.{IsServedBy}
 use Rattle.cf_service.specs.Growing.{IsServedWhileGrowing}
 use Rattle.cf_answers.specs.declared.status.Status.{Status}
 use Rattle.cf_answers.specs.declared.status.Status.TheVariants.{Done, NoMemory, BadFile, FileFault, LinkFault}
-use Rattle.cf_cli.specs.Statuses.{was_refused}
+use Rattle.cf_answers.specs.Statuses.{was_refused}
 
 -- it listens at one more address
 abbrev pub listening : LinkTold → List ℕ → LinkTold

@@ -7,14 +7,15 @@ ghost use Rattle.cf_wires.specs.Log.{Log};
 ghost use Rattle.cf_wires.specs.Session.{session_text};
 ghost use Rattle.cf_played.specs.Told.{finished_of, log_of, peers_of};
 ghost use Rattle.cf_cli.specs.Demo.{IsDemoText, IsDemoed, IsUnrecorded, IsUntold, count_line, demo_lines};
-ghost use Rattle.cf_cli.specs.Statuses.{IsJudged, has_run, no_file};
+ghost use Rattle.cf_loading.specs.Verdicts.{IsJudged, no_file};
+ghost use Rattle.cf_answers.specs.Statuses.{has_run};
 
-use crate::reading::{hash_line, write};
 use cf_answers::Status;
 use cf_bytes::{NoMemory, Sink};
 use cf_demo::{Demo, Unplayed, play_demo, play_session};
 use cf_input::MOST_PLAYED;
 use cf_match::Plain;
+use cf_offline::{hash_line, write};
 use cf_parallel::Parallel;
 use cf_played::Played;
 use cf_run::End;

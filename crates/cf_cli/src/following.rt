@@ -8,7 +8,7 @@ ghost use Rattle.cf_run.specs.Versions.{HasWords};
 ghost use Rattle.cf_wires.specs.Log.{Tells};
 ghost use Rattle.cf_cli.specs.Ends.{AreEndsAfter};
 ghost use Rattle.cf_cli.specs.Recording.{Records};
-ghost use Rattle.cf_cli.specs.Statuses.{has_run, was_refused, was_unbegun};
+ghost use Rattle.cf_answers.specs.Statuses.{has_run, was_refused, was_unbegun};
 ghost use Rattle.cf_cli.specs.Theorem.{Kept, Tallied, AnswersTo, IsOfRun};
 
 use crate::recording::{keep_where, write_record};

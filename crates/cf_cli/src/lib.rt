@@ -1,14 +1,10 @@
 //! The program: what each command does, and what is promised of its runs.
 #![tactic(auto)]
 
-mod addressing;
 mod demoing;
 mod following;
 mod laws;
-mod making;
 mod program;
-mod proving;
-mod reading;
 mod recording;
 mod serving;
 mod staying;

@@ -6,8 +6,8 @@ ghost use Rattle.cf_conn.specs.Opened.{IsReadByParts};
 ghost use Rattle.cf_serve.specs.Links.{link_now};
 ghost use Rattle.cf_serve.specs.Serving.{Counts};
 ghost use Rattle.cf_cli.specs.Serving.{ServesAt, MayServe, ServesChain, IsServing, answer_of, served_by};
-ghost use Rattle.cf_cli.specs.Statuses.{IsJudged, was_refused};
-ghost use Rattle.cf_loading.specs.Verdicts.{blocks_verdict};
+ghost use Rattle.cf_loading.specs.Verdicts.{IsJudged, blocks_verdict};
+ghost use Rattle.cf_answers.specs.Statuses.{was_refused};
 
 use cf_answers::Status;
 use cf_bytes::{Files, Hash32, NoMemory};

@@ -10,7 +10,7 @@ ghost use Rattle.cf_wires.specs.Log.{Tells};
 ghost use Rattle.cf_cli.specs.Ends.{AreEndsAfter, AreEndsOver};
 ghost use Rattle.cf_cli.specs.Following.{KeptOn, TalliedOn, with_trace};
 ghost use Rattle.cf_cli.specs.Recording.{Records};
-ghost use Rattle.cf_cli.specs.Statuses.{has_run, is_over, was_refused, was_unbegun};
+ghost use Rattle.cf_answers.specs.Statuses.{has_run, is_over, was_refused, was_unbegun};
 
 use crate::following::status_of;
 use crate::recording::{keep_where, write_record};

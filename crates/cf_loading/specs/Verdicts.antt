@@ -19,7 +19,7 @@ use Rattle.cf_input.specs.WatchFile.{watch_of}
 use Rattle.cf_answers.specs.declared.status.FileCause.{FileCause}
 use Rattle.cf_answers.specs.declared.status.FileCause.TheVariants.{TooBig, Watch as OfWatch, Session as OfSession, Blocks as OfBlocks, Proof as OfProof}
 use Rattle.cf_answers.specs.declared.status.Status.{Status}
-use Rattle.cf_answers.specs.declared.status.Status.TheVariants.{NoMemory, BadFile, FileFault}
+use Rattle.cf_answers.specs.declared.status.Status.TheVariants.{NoMemory, Usage, BadFile, FileFault}
 use Rattle.cf_answers.specs.declared.status.Which.{Which}
 use Rattle.cf_answers.specs.declared.status.Which.TheVariants.{Watch, Session, Blocks, Proof}
 
@@ -107,3 +107,26 @@ IsUnloaded (faults.BadBlock bad) status = status ≡ BadFile Blocks bad.number (
 IsUnloaded faults.TooBig status = status ≡ BadFile Blocks 0 TooBig
 IsUnloaded faults.ReadFault status = status ≡ FileFault
 IsUnloaded faults.NoMemory status = status ≡ NoMemory
+
+-- ---- the answers of commands
+
+-- the watch file is judged first
+abbrev pub and_then : Verdict → Verdict → Verdict
+and_then Missing later = Missing
+and_then (Bad which place cause) later = Bad which place cause
+and_then Good later = later
+
+-- a command that reads no file
+abbrev pub no_file : Verdict
+no_file = Good
+
+-- a file that is missing or refused is answered so, and no other is; a read may fail, and memory may be wanting
+abbrev pub IsJudged : Verdict → Status → Type 0
+IsJudged verdict FileFault = Unit {0}
+IsJudged verdict NoMemory = Unit {0}
+IsJudged verdict Usage = ⊥
+IsJudged Missing status = ⊥
+IsJudged (Bad which place cause) (BadFile w p c) = (w ≡ which) × (p ≡ place) × (c ≡ cause)
+IsJudged (Bad which place cause) status = ⊥
+IsJudged Good (BadFile w p c) = ⊥
+IsJudged Good status = Unit {0}

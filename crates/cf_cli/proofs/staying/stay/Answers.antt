@@ -6,7 +6,7 @@ use Rattle.std.specs.Prelude.{is_some, not}
 use Rattle.cf_run.specs.Names.{names_in}
 use Rattle.cf_run.proofs.Versions.{new_words}
 use Rattle.cf_answers.specs.declared.status.Status.TheVariants.{NoMemory, FileFault}
-use Rattle.cf_cli.specs.Statuses.{was_refused}
+use Rattle.cf_answers.specs.Statuses.{was_refused}
 use Rattle.cf_cli.proofs.Ends.{over_failed, over_recorded, over_stay}
 use Rattle.cf_cli.proofs.Plays.{new_dialled, new_unfailed, versions_so}
 use Rattle.cf_cli.proofs.Records.{begun_records}

@@ -38,10 +38,9 @@ use Rattle.cf_input.specs.declared.proof_file.Proven.{Proven}
 use Rattle.cf_input.proofs.LineSteps.{before_true, before_false, after_true, after_false}
 use Rattle.cf_answers.specs.declared.status.Status.{Status}
 use Rattle.cf_answers.specs.declared.status.Status.TheVariants.{Done, NoMemory, Usage, BadFile, FileFault, OutFault, NoPeers, Tired, Ended, LinkFault, NoNonce, NoHeight, NotThere, NotAddress}
-use Rattle.cf_cli.specs.Proving.{proof_text, IsTextAt, IsProofText, in_text, Checks, Takes, TakesWhatIsProved}
-use Rattle.cf_cli.specs.Reading.{named_line, IsWritten}
-use Rattle.cf_cli.specs.Statuses.{IsJudged}
-use Rattle.cf_loading.specs.Verdicts.{Good, proof_verdict}
+use Rattle.cf_offline.specs.Proving.{proof_text, IsTextAt, IsProofText, in_text, Checks, Takes, TakesWhatIsProved}
+use Rattle.cf_offline.specs.Reading.{named_line, IsWritten}
+use Rattle.cf_loading.specs.Verdicts.{IsJudged, Good, proof_verdict}
 
 -- ---- lines of hexadecimal digits
 

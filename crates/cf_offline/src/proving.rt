@@ -7,12 +7,12 @@ ghost use Rattle.cf_bytes.specs.Files.{IsRead};
 ghost use Rattle.cf_bytes.specs.Outside.{HasRisen};
 ghost use Rattle.cf_chain.specs.Good.{IsGoodChain};
 ghost use Rattle.cf_conn.specs.Opened.{IsReadByParts};
-ghost use Rattle.cf_cli.specs.Proving.{proof_text, in_text, IsTextAt, GivesProofText, TellsProof, Checks, IsOfFind, IsOfProve, IsProved, IsChecked};
-ghost use Rattle.cf_cli.specs.Reading.{IsWritten, IsOfScan, IsOfText};
+ghost use Rattle.cf_offline.specs.Proving.{proof_text, in_text, IsTextAt, GivesProofText, TellsProof, Checks, IsOfFind, IsOfProve, IsProved, IsChecked};
+ghost use Rattle.cf_offline.specs.Reading.{IsWritten, IsOfScan, IsOfText};
 ghost use Rattle.cf_index.specs.Finding.{first_place, StandsAt};
 ghost use Rattle.cf_input.specs.ProofFile.{proof_file_of};
-ghost use Rattle.cf_cli.specs.Statuses.{IsJudged, has_run};
-ghost use Rattle.cf_loading.specs.Verdicts.{blocks_verdict, proof_verdict};
+ghost use Rattle.cf_loading.specs.Verdicts.{IsJudged, blocks_verdict, proof_verdict};
+ghost use Rattle.cf_answers.specs.Statuses.{has_run};
 
 use crate::reading::{bytes_line, write};
 use cf_answers::Status;
@@ -87,8 +87,13 @@ fn text_in(alloc: Global, chain: &CheckedChain, txid: &Hash32) -> Result<Option<
     Ok(Some(text))
 }
 
-/// Writes the first transaction of a file of blocks with this hash, and a proof that it stands in its block.
-pub(crate) fn prove<F: Files, O: Sink>(
+/// Writes the first transaction of a file of blocks, above genesis, with this hash, and a proof that it stands in its
+/// block.
+///
+/// The answer is `Done` where the whole text was written, and `NotThere` where no block above genesis has such a
+/// transaction. `BadFile` and `FileFault` are those of `load_chain`; `OutFault` comes where the sink fails. But for
+/// `OutFault` nothing is written where the answer isn't `Done`.
+pub fn prove<F: Files, O: Sink>(
     alloc: Global,
     files: &mut F,
     file: &str,
@@ -164,13 +169,12 @@ fn check_file<F: Files, O: Sink>(alloc: Global, files: &mut F, file: &str, out: 
     }
 }
 
-/// Checks the proof of a file, and writes the block and the transaction that it tells of. What `prove` writes of a good chain is taken.
-pub(crate) fn check<F: Files, O: Sink>(
-    alloc: Global,
-    files: &mut F,
-    file: &str,
-    out: &mut O,
-) -> Status
+/// Checks the proof of a file, and writes the block and the transaction that it tells of. What `prove` writes of a good
+/// chain is taken.
+///
+/// The answer is `Done` where the whole line was written. `BadFile` and `FileFault` are those of `load_proof`, and
+/// nothing is written then; `OutFault` comes where the sink fails.
+pub fn check<F: Files, O: Sink>(alloc: Global, files: &mut F, file: &str, out: &mut O) -> Status
     ensures judged { IfSome (F.files files.old) (λ m. IsJudged (proof_verdict (finite.get m file.now)) result) }
     ensures checked { IsChecked result (F.files files.old) file.now (O.written out.old) (O.written out.new) }
     ensures unchanged { F.files files.new ≡ F.files files.old }

@@ -6,10 +6,10 @@ ghost use Rattle.cf_bytes.specs.Hash.{shown};
 ghost use Rattle.cf_bytes.specs.Outside.{HasRisen};
 ghost use Rattle.cf_chain.specs.Filters.{filter_at as filter_in};
 ghost use Rattle.cf_conn.specs.Opened.{IsReadByParts};
-ghost use Rattle.cf_cli.specs.Asking.{AreRead, Whole, ByParts};
-ghost use Rattle.cf_cli.specs.Reading.{named_line, filter_text, IsWritten, IsScanned, IsFiltered, IsOfText, IsOfFilter, IsOfHeight, TellsHeight};
-ghost use Rattle.cf_cli.specs.Statuses.{IsJudged, has_run, and_then};
-ghost use Rattle.cf_loading.specs.Verdicts.{watch_verdict, blocks_verdict};
+ghost use Rattle.cf_loading.specs.Asking.{AreRead, Whole, ByParts};
+ghost use Rattle.cf_offline.specs.Reading.{named_line, filter_text, IsWritten, IsScanned, IsFiltered, IsOfText, IsOfFilter, IsOfHeight, TellsHeight};
+ghost use Rattle.cf_loading.specs.Verdicts.{IsJudged, and_then, watch_verdict, blocks_verdict};
+ghost use Rattle.cf_answers.specs.Statuses.{has_run};
 
 use cf_answers::Status;
 use cf_bytes::{Files, Hash32, NoMemory, Sink, put_all, show};
@@ -32,8 +32,8 @@ fn line_of(alloc: Global, name: &str, value: &str) -> Result<String, NoMemory>
     Ok(format!(in alloc; "{name} {value}\n")?)
 }
 
-/// A line of a name and a hash, as people read it.
-pub(crate) fn hash_line(alloc: Global, name: &str, hash: &Hash32) -> Result<String, NoMemory>
+/// A line of a name and a hash, as people read it: the name, a space, 64 lower-case hexadecimal digits, and LF.
+pub fn hash_line(alloc: Global, name: &str, hash: &Hash32) -> Result<String, NoMemory>
     ensures { IfOk result (λ text. string_bytes text ≡ named_line name.now (shown hash.now.0)) }
 {
     let value = show(alloc, hash)?;
@@ -81,7 +81,10 @@ fn text_at(alloc: Global, index: &Index, height: u32) -> Result<Option<String>, 
 }
 
 /// Writes a whole text.
-pub(crate) fn write<O: Sink>(text: &[u8], out: &mut O) -> Status
+///
+/// The answer is `Done` once all of it was written, and `OutFault` where the sink fails: a beginning of it was written
+/// then, or nothing.
+pub fn write<O: Sink>(text: &[u8], out: &mut O) -> Status
     ensures written { IsWritten result (O.written out.old) (O.written out.new) text.now }
     ensures unwritten { has_run result ≡ false → O.written out.new ≡ O.written out.old }
     ensures fault { result ≡ Status.OutFault → HasRisen (O.faults out.old) (O.faults out.new) }
@@ -93,9 +96,12 @@ pub(crate) fn write<O: Sink>(text: &[u8], out: &mut O) -> Status
     }
 }
 
-/// Writes the history of the watched scripts in a file of blocks. The watch file is read first.
+/// Writes the history of the watched scripts in a file of blocks, and its tip. The watch file is read first.
+///
+/// The answer is `Done` where the whole text was written. `BadFile` and `FileFault` are those of `load_watch` and of
+/// `scan_file`, and nothing is written then; `OutFault` comes where the sink fails.
 #[tactic(auto, using(crate::proofs::Asking::read_first, crate::proofs::Asking::read_then, crate::proofs::Scans::scans_so))]
-pub(crate) fn scan<F: Files, O: Sink>(
+pub fn scan<F: Files, O: Sink>(
     alloc: Global,
     files: &mut F,
     file: &str,
@@ -120,8 +126,12 @@ pub(crate) fn scan<F: Files, O: Sink>(
     }
 }
 
-/// Writes the hash, the filter and the filter header of the block at a height of a file of blocks.
-pub(crate) fn filter<R: Threads + Sync, F: Files, O: Sink>(
+/// Writes the hash, the filter and the filter header of the block at a height of a file of blocks. Genesis has height 0.
+///
+/// The answer is `Done` where the whole text was written, and `NoHeight` with the height of the tip where the height is
+/// above it. `BadFile` and `FileFault` are those of `load_chain`; `OutFault` comes where the sink fails. But for
+/// `OutFault` nothing is written where the answer isn't `Done`.
+pub fn filter<R: Threads + Sync, F: Files, O: Sink>(
     rt: &R,
     alloc: Global,
     files: &mut F,

@@ -19,7 +19,7 @@ use Rattle.cf_input.specs.declared.proof_file.ProofFileFault.{ProofFileFault}
 use Rattle.cf_input.specs.declared.proof_file.Proven.{Proven}
 use Rattle.cf_answers.specs.declared.status.Status.{Status}
 use Rattle.cf_answers.specs.declared.status.Status.TheVariants.{Done, BadFile, OutFault, NotThere}
-use Rattle.cf_cli.specs.Reading.{named_line, IsWritten, IsUnwritten, IsOfScan, IsOfText}
+use Rattle.cf_offline.specs.Reading.{named_line, IsWritten, IsUnwritten, IsOfScan, IsOfText}
 
 -- ---- prove
 

@@ -1,8 +1,9 @@
 //! Addresses and scripts, told for one another.
 ghost use Rattle.std.specs.Prelude.{◌≡◌, ◌++◌, ◌∷◌, [], IfOk, false, string_bytes};
 ghost use Rattle.cf_bytes.specs.Outside.{HasRisen};
-ghost use Rattle.cf_cli.specs.Reading.{IsAddressed, IsOfText};
-ghost use Rattle.cf_cli.specs.Statuses.{IsJudged, has_run, no_file};
+ghost use Rattle.cf_offline.specs.Reading.{IsAddressed, IsOfText};
+ghost use Rattle.cf_loading.specs.Verdicts.{IsJudged, no_file};
+ghost use Rattle.cf_answers.specs.Statuses.{has_run};
 
 use crate::reading::write;
 use cf_answers::Status;
@@ -18,7 +19,10 @@ fn line_of(alloc: Global, text: &str) -> Result<String, NoMemory>
 }
 
 /// Writes the script of an address of regtest, in hexadecimal; or the address of a script in hexadecimal.
-pub(crate) fn address<O: Sink>(alloc: Global, text: &str, out: &mut O) -> Status
+///
+/// The answer is `Done` where the whole line was written, and `NotAddress` with the cause where the text is neither;
+/// `OutFault` comes where the sink fails.
+pub fn address<O: Sink>(alloc: Global, text: &str, out: &mut O) -> Status
     ensures judged { IsJudged no_file result }
     ensures addressed { IsAddressed result text.now (O.written out.old) (O.written out.new) }
     ensures unwritten { has_run result ≡ false → O.written out.new ≡ O.written out.old }

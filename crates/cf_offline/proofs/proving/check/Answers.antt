@@ -1,5 +1,5 @@
-use Rattle.cf_cli.proofs.ProofTexts.{takes}
-use Rattle.cf_cli.proofs.proving.check.Goals as goal
+use Rattle.cf_offline.proofs.ProofTexts.{takes}
+use Rattle.cf_offline.proofs.proving.check.Goals as goal
 
 pub returns-clause-checked : goal.returns-clause-checked
 returns-clause-checked g c = record {

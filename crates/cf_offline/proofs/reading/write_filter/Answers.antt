@@ -1,7 +1,7 @@
 use Rattle.std.proofs.Common.{◌∙◌, sym, ap, Some}
 use Rattle.std.specs.Prelude.{option_map, string_bytes}
-use Rattle.cf_cli.proofs.FilterTexts.{tells, is_above}
-use Rattle.cf_cli.proofs.reading.write_filter.Goals as goal
+use Rattle.cf_offline.proofs.FilterTexts.{tells, is_above}
+use Rattle.cf_offline.proofs.reading.write_filter.Goals as goal
 
 pub returns-in-Ok-Some-clause-told : goal.returns-in-Ok-Some-clause-told
 returns-in-Ok-Some-clause-told g c =

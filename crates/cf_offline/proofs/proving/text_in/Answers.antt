@@ -2,8 +2,8 @@ use Rattle.std.proofs.Common.{◌-◌, List, get_or, refl, sym, ◌∙◌, ap, s
 use Rattle.std.specs.Prelude.{string_bytes, IfSome}
 use Rattle.cf_block.specs.declared.tx.Block.{Block}
 use Rattle.cf_index.specs.Finding.{StandsAt}
-use Rattle.cf_cli.proofs.ProofTexts.{few_there, text_told}
-use Rattle.cf_cli.proofs.proving.text_in.Goals as goal
+use Rattle.cf_offline.proofs.ProofTexts.{few_there, text_told}
+use Rattle.cf_offline.proofs.proving.text_in.Goals as goal
 
 pub text_at-requires-clause-few : goal.text_at-requires-clause-few
 text_at-requires-clause-few c =

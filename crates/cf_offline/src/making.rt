@@ -2,7 +2,7 @@
 ghost use Rattle.std.specs.Prelude.{◌≡◌, Some};
 ghost use Rattle.cf_bytes.specs.Files.{IsAtMostWritten};
 ghost use Rattle.cf_bytes.specs.Outside.{HasRisen};
-ghost use Rattle.cf_cli.specs.Making.{IsMaking};
+ghost use Rattle.cf_offline.specs.Making.{IsMaking};
 
 use cf_answers::Status;
 use cf_bytes::{FileFail, Files, Refused};
@@ -11,8 +11,12 @@ use cf_make::made_records;
 use std::alloc::Global;
 
 /// Makes the chain of so many blocks that a seed tells, and writes its records to a file, their coinbases with a witness or
-/// without. More blocks than a chain may have, for which no words ask, are refused as for want of memory.
-pub(crate) fn make<F: Files>(
+/// without. More blocks than a chain may have, 500,000, for which no words ask, are refused as for want of memory.
+///
+/// The answer is `Done` where the file was written, and `NoNonce` with the lowest height at which none of the nonces from
+/// 0 to 65,535 serves; `FileFault` comes where the file can't be written, which alone may have changed. But for these
+/// two, `Done` and `FileFault`, nothing has changed.
+pub fn make<F: Files>(
     alloc: Global,
     files: &mut F,
     witness: bool,

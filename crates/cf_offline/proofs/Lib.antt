@@ -1,0 +1,4 @@
+pub mod Asking
+pub mod FilterTexts
+pub mod ProofTexts
+pub mod Scans
