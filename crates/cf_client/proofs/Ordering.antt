@@ -19,9 +19,10 @@ use Rattle.cf_peer.specs.declared.peer.Cause.{Cause}
 use Rattle.cf_peer.specs.declared.peer.Cause.TheVariants.{Overdue}
 use Rattle.cf_peer.specs.Asking.{is_ping, is_request}
 use Rattle.cf_peer.specs.Hearing.{IsReply}
-use Rattle.cf_place.specs.Places.{AsksAbove, AsksFor}
+use Rattle.cf_place.specs.declared.place.Place.{Place}
+use Rattle.cf_place.specs.Places.{AsksAbove, AsksFor, is_idle, nobody}
 use Rattle.cf_client.specs.Shutting.{shut_act}
-use Rattle.cf_client.specs.Order.{number_of, is_asking, is_questioning, is_pinging, is_closing, closed_in, SendsFirst, AreTold, ArePrepared, AreInOrder, AsksOne, AddsQuestions, PingsOne, AddsPings, ClosesOne, ClosesLate}
+use Rattle.cf_client.specs.Order.{number_of, is_asking, is_questioning, is_pinging, is_closing, closed_in, SendsFirst, AreTold, ArePrepared, AreInOrder, AsksOne, AddsQuestions, IsToIdle, PingsOne, AddsPings, ClosesOne, ClosesLate}
 
 -- a message puts a question, and is no ping
 abbrev pub is_question : Msg → Bool
@@ -70,13 +71,18 @@ below_push ns n below =
 -- ---- the questions of one call
 
 -- on the way through the numbers: only lower ones were asked
-pub record AsksBelow (n : ℕ) (before now : List Act) : Type 0 where
-  pub adds : AddsQuestions before now
+pub record AsksBelow (n : ℕ) (places : List Place) (before now : List Act) : Type 0 where
+  pub adds : AddsQuestions places before now
   pub below : All (λ (p : ℕ). p < n) (map number_of adds.asked)
 
-pub asks_none : (n : ℕ) (acts : List Act) → AsksBelow n acts acts
-asks_none n acts = record {
-  adds = record { asked = []; added = sym (append-nil acts); are = record { questions = refl; lowest = rising_none } };
+pub asks_none : (n : ℕ) (places : List Place) (acts : List Act) → AsksBelow n places acts acts
+asks_none n places acts = record {
+  adds = record {
+    asked = [];
+    idle = All-nil (IsToIdle places);
+    added = sym (append-nil acts);
+    are = record { questions = refl; lowest = rising_none };
+  };
   below = All-nil (λ (p : ℕ). p < n);
 }
 
@@ -93,19 +99,25 @@ acts_below : (acts : List Act) (i : ℕ) (act : Act) → number_of act ≡ i →
 acts_below acts i act is below = subst (All (λ (p : ℕ). p < i + 1)) (sym (map-append number_of acts (act ∷ [])))
     (subst (λ (n : ℕ). All (λ (p : ℕ). p < i + 1) (map number_of acts ++ n ∷ [])) (sym is) (below_push (map number_of acts) i below))
 
--- one question more, or none
-pub asks_next : (i : ℕ) (before acts now : List Act) → AsksBelow i before acts
-    → AsksOne i acts now → AsksBelow (i + 1) before now
-asks_next i before acts now so_far (inl same) = record {
-  adds = record { asked = so_far.adds.asked; added = same ∙ so_far.adds.added; are = so_far.adds.are };
+-- one question more, or none, where it is asked of a place at which nothing was open before either
+pub asks_next : (i : ℕ) (place : Place) (places : List Place) (before acts now : List Act) → AsksBelow i places before acts
+    → (is_idle place ≡ true → is_idle (get_or places i nobody) ≡ true) → AsksOne i place acts now → AsksBelow (i + 1) places before now
+asks_next i place places before acts now so_far kept (inl same) = record {
+  adds = record {
+    asked = so_far.adds.asked;
+    idle = so_far.adds.idle;
+    added = same ∙ so_far.adds.added;
+    are = so_far.adds.are;
+  };
   below = all_higher (map number_of so_far.adds.asked) i (i + 1) (omega arith) so_far.below;
 }
-asks_next i before acts now so_far (inr (m, question, added)) =
+asks_next i place places before acts now so_far kept (inr (m, idle, question, added)) =
     let act = Send (record { 0 = i }) m in
     let asked = so_far.adds.asked in
     record {
       adds = record {
         asked = asked ++ act ∷ [];
+        idle = All-push (IsToIdle places) asked act so_far.adds.idle (kept idle);
         added = added ∙ ap (λ (xs : List Act). xs ++ act ∷ []) so_far.adds.added ∙ append_assoc before asked (act ∷ []);
         are = record {
           questions = all_push is_questioning asked act so_far.adds.are.questions question;
@@ -151,7 +163,7 @@ pings_next i before acts now so_far (inr (number, added)) =
 
 -- ---- who is closed for silence
 
-abbrev shut : ℕ → Act
+abbrev pub shut : ℕ → Act
 shut p = Close (record { 0 = p }) Overdue
 
 -- on the way through the numbers: only lower ones were closed
@@ -296,8 +308,8 @@ prepared_none acts first = record {
 }
 
 -- and then the questions
-pub in_order_by : (before acts : List Act) → ArePrepared before → AddsQuestions before acts → AreInOrder acts
-in_order_by before acts ready adds = record {
+pub in_order_by : (places : List Place) (before acts : List Act) → ArePrepared before → AddsQuestions places before acts → AreInOrder acts
+in_order_by places before acts ready adds = record {
   told = ready.told;
   pinged = ready.pinged;
   asked = adds.asked;

@@ -115,3 +115,10 @@ pinged_here i places now acts more lt (inl (number, (next, sent))) idle =
     absurd (both_ways (is_idle (get_or now i nobody)) (ap is_idle this) idle)
 pinged_here i places now acts more lt (inr (same, none, out)) idle =
     subst (λ (ps : List Place). is_idle (get_or ps i nobody) ≡ true → HasPingedOut (get_or ps i nobody)) (sym same) out idle
+
+pub pinged_same : (i : ℕ) (places now : List Place) (acts more : List Act) → i < length places → IsPinged i places now acts more
+    → is_idle (get_or now i nobody) ≡ true → get_or now i nobody ≡ get_or places i nobody
+pinged_same i places now acts more lt (inl (number, (next, sent))) idle =
+    let this = ap (λ (ps : List Place). get_or ps i nobody) sent.kept ∙ set_is places i (Here (asked_for_ping number sent.peer)) lt in
+    absurd (both_ways (is_idle (get_or now i nobody)) (ap is_idle this) idle)
+pinged_same i places now acts more lt (inr (same, none, out)) idle = ap (λ (ps : List Place). get_or ps i nobody) same

@@ -40,7 +40,7 @@ use Rattle.cf_place.specs.declared.place.PeerEnd.TheVariants.{Ready, Waiting, No
 use Rattle.cf_place.specs.declared.place.Place.{Place}
 use Rattle.cf_place.specs.declared.place.Place.TheVariants.{Here, Lost}
 use Rattle.cf_place.specs.Places.{IsLost, Fits, nobody, PlacesStand, EndTells, EndsTell, end_by, end_of, is_idle, is_settled}
-use Rattle.cf_client.specs.Stands.{IsTip, IsReportOf}
+use Rattle.cf_client.specs.Stands.{IsBestTip, IsReportOf}
 use Rattle.cf_client.specs.Settled.{AreSettled, IsAskedThrough, IsThrough, IsTriedThrough, chain_at}
 use Rattle.cf_client.proofs.Best.{on_kept, here_of, best_is}
 use Rattle.cf_client.proofs.Settled.{settled_off, heard_by}
@@ -50,7 +50,7 @@ use Rattle.cf_client.proofs.Tried.{tested_by}
 -- ---- the best chain
 
 pub tip_is : (places : List Place) (log : Log) (s : Seen) (chain : Chain) (height : ℕ) (hash : Hash32) → PlacesStand places log → Tracks s log → IsBestChain s.chains chain
-    → height ≡ length chain → hash.0 ≡ tip_hash chain → IsTip height hash log
+    → height ≡ length chain → hash.0 ≡ tip_hash chain → IsBestTip height hash log
 tip_is places log s chain height hash stand tracks best high is = record { chain = chain; best = best_is places log s chain stand tracks best; height_is = high; hash_is = is }
 
 -- ---- what was asked

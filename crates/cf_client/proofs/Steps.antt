@@ -220,13 +220,13 @@ busy_settled mode peer busy young = settled_of (calm peer) (not (heard_out mode 
 
 -- a connected peer is asked something
 sent_asks : (mode : Mode) (d : Desk) (after : Seen) (i : ℕ) (peer now : Peer) (m : Msg) → i < length d.places → IsInOrder d → get_or d.places i nobody ≡ Here peer
-    → IsDoable (Send (record { 0 = i }) m) → is_question m ≡ true → is_idle_peer now ≡ false → calm now ≡ true → IsRight now.request (d.seen.claims i) → HasOpened d.seen after i
+    → is_idle_peer peer ≡ true → IsDoable (Send (record { 0 = i }) m) → is_question m ≡ true → is_idle_peer now ≡ false → calm now ≡ true → IsRight now.request (d.seen.claims i) → HasOpened d.seen after i
     → ((log : Log) → Stands mode d log → Goes (rule_in mode d.seen) (set d.places i (Here now)) (d.acts ++ Send (record { 0 = i }) m ∷ []) log)
     → ((log : Log) → Stands mode d log → Tracks after (done (d.acts ++ Send (record { 0 = i }) m ∷ []) log))
     → Asks mode i d (acted d i (Here now) after (Send (record { 0 = i }) m))
-sent_asks mode d after i peer now m lt order here doable question busy young right opened goes tracks = record {
+sent_asks mode d after i peer now m lt order here idle doable question busy young right opened goes tracks = record {
   moves = sent_moves mode Same (λ log next is. is) d after i peer now m lt order here doable young right opened (λ log is. goes log) tracks;
-  asked = inr (m, question, refl);
+  asked = inr (m, ap is_idle here ∙ idle, question, refl);
   seen = opened;
   settled = ap (is_settled mode) (set_is d.places i (Here now) lt) ∙ busy_settled mode now busy young;
   idle = λ is. absurd (both_ways (is_idle_peer now) busy (sym (ap is_idle (set_is d.places i (Here now) lt)) ∙ is));
@@ -236,7 +236,7 @@ sent_asks mode d after i peer now m lt order here doable question busy young rig
 pub question_asks : (mode : Mode) (d : Desk) (i : ℕ) (peer : Peer) (m : Msg) → i < length d.places → IsInOrder d → get_or d.places i nobody ≡ Here peer → wants mode peer ≡ true → IsQuestion (chain_at d.seen i) m
     → Asks mode i d (acted d i (Here (asked_for_headers peer)) d.seen (Send (record { 0 = i }) m))
 question_asks mode d i peer m lt order here wanted question =
-    sent_asks mode d d.seen i peer (asked_for_headers peer) m lt order here (omega (arith, lt, order.few), question.sendable)
+    sent_asks mode d d.seen i peer (asked_for_headers peer) m lt order here (and_parts (not (heard_out mode peer)) (is_idle_peer peer) wanted).1 (omega (arith, lt, order.few), question.sendable)
     (above_asks (chain_at d.seen i) m question.asks) refl refl tt (opened_self d.seen i)
     (λ log stood. headers_goes d.places d.acts log d.seen i peer m lt stood.goes here wanted stood.tracks question)
     (λ log stood. headers_tracks d.places d.acts log d.seen i peer m stood.goes here (and_parts (not (heard_out mode peer)) (is_idle_peer peer) wanted).1 question stood.tracks)
@@ -250,7 +250,7 @@ about_asks : (mode : Mode) (d : Desk) (after : Seen) (i : ℕ) (m : Msg) (change
 about_asks mode d after i m change places acts lt order sent question busy young right opened goes tracks =
     subst (λ (ps : List Place). Asks mode i d (record { places = ps; seen = after; acts = acts })) (sym sent.kept)
     (subst (λ (xs : List Act). Asks mode i d (record { places = set d.places i (Here (change sent.peer)); seen = after; acts = xs })) (sym sent.added)
-    (sent_asks mode d after i sent.peer (change sent.peer) m lt order sent.here (omega (arith, lt, order.few), sent.sendable) question busy young right opened goes tracks))
+    (sent_asks mode d after i sent.peer (change sent.peer) m lt order sent.here sent.idle (omega (arith, lt, order.few), sent.sendable) question busy young right opened goes tracks))
 
 -- by what its tracker wishes of a peer that has nothing open
 abbrev pub WishAt : Desk → ℕ → ℕ → Wish → Type 0

@@ -1,6 +1,6 @@
 -- In which order the acts of one call stand.
 use Rattle.std.specs.Prelude.{◌≡◌, ◌⊎◌, ℕ, Bool, true, false, not, ◌&&◌, List, [], ◌∷◌, ◌++◌, map}
-use Rattle.std.specs.List.{list_all, list_any}
+use Rattle.std.specs.List.{All, list_all, list_any}
 use Rattle.std.specs.List.Sorted.{IsStrictlyIncreasing}
 use Rattle.cf_msg.specs.declared.msg.Msg.{Msg}
 use Rattle.cf_peer.specs.declared.act.Act.{Act}
@@ -8,6 +8,8 @@ use Rattle.cf_peer.specs.declared.act.Act.TheVariants.{Send, Close}
 use Rattle.cf_peer.specs.declared.peer.Cause.TheVariants.{Overdue}
 use Rattle.cf_msg.specs.declared.msg.Msg.TheVariants.{Ping}
 use Rattle.cf_peer.specs.Asking.{is_ping, is_request}
+use Rattle.cf_place.specs.declared.place.Place.{Place}
+use Rattle.cf_place.specs.Places.{is_idle, place_at}
 
 -- whom an act is about
 abbrev pub number_of : Act → ℕ
@@ -80,10 +82,11 @@ pub record AreInOrder (acts : List Act) : Type 0 where
   pub next : ArePings pinged
   pub last : AreAsked asked
 
--- to the acts was added one question to this number, or nothing
-abbrev pub AsksOne : ℕ → List Act → List Act → Type 0
-AsksOne i before now =
-    (now ≡ before) ⊎ ((m : Msg) × (is_request m && not (is_ping m) ≡ true) × (now ≡ before ++ Send (record { 0 = i }) m ∷ []))
+-- to the acts was added one question to this number, at whose place nothing was open to a connected peer, or nothing
+abbrev pub AsksOne : ℕ → Place → List Act → List Act → Type 0
+AsksOne i place before now =
+    (now ≡ before)
+    ⊎ ((m : Msg) × (is_idle place ≡ true) × (is_request m && not (is_ping m) ≡ true) × (now ≡ before ++ Send (record { 0 = i }) m ∷ []))
 
 -- to the acts was added a ping to this number, or nothing
 abbrev pub PingsOne : ℕ → List Act → List Act → Type 0
@@ -96,9 +99,14 @@ pub record AddsPings (before now : List Act) : Type 0 where
   pub added : now ≡ before ++ pinged
   pub are : ArePings pinged
 
--- to the acts were added questions in order
-pub record AddsQuestions (before now : List Act) : Type 0 where
+-- an act is about a connected peer to which nothing was open
+abbrev pub IsToIdle : List Place → Act → Type 0
+IsToIdle places act = is_idle (place_at places (number_of act)) ≡ true
+
+-- to the acts were added questions in order, each to a connected peer to which nothing was open before them
+pub record AddsQuestions (places : List Place) (before now : List Act) : Type 0 where
   pub asked : List Act
+  pub idle : All (IsToIdle places) asked
   pub added : now ≡ before ++ asked
   pub are : AreAsked asked
 

@@ -99,7 +99,7 @@ abbrev pub judging_by : {H M : Type 0} → {g : Ghosts H} {j : Judges M} → Cli
 judging_by c = judging_of c.tracker c.matcher
 
 -- the height and the hash of the best chain's tip
-pub record IsTip (height : ℕ) (hash : Hash32) (log : Log) : Type 0 where
+pub record IsBestTip (height : ℕ) (hash : Hash32) (log : Log) : Type 0 where
   pub chain : Chain
   pub best : IsBest log chain
   pub height_is : height ≡ length chain
@@ -115,11 +115,12 @@ pub record IsReportOf (rule : Rule) (height : ℕ) (hash : Hash32) (entries : Li
 abbrev pub IsHistoryTold : Rule → List Entry → Log → Type 0
 IsHistoryTold rule entries log = (height : ℕ) × ((hash : Hash32) × IsReportOf rule height hash entries log)
 
--- what a client that follows does with a tick puts no question but a ping to who may be sent one
+-- an act puts no question but a ping, unless to a peer that was sent all pings that have numbers
 abbrev pub AsksNone : Log → Act → Type 0
 AsksNone log (Send p m) = ((is_request m && not (is_ping m)) ≡ false) ⊎ (pings (trail log p.0) ≡ 18446744073709551615)
 AsksNone log (Close p cause) = Unit {0}
 
+-- with a tick a client that follows asks nothing but pings, of whoever may be sent one
 abbrev pub AreTicked : Mode → Delivery → List Act → Log → Type 0
 AreTicked Once d acts log = Unit {0}
 AreTicked Following (Got p piece) acts log = Unit {0}

@@ -15,8 +15,10 @@ use Rattle.cf_wires.specs.declared.event.Delivery.{Delivery}
 use Rattle.cf_wires.specs.declared.event.Delivery.TheVariants.{Got, Gone, Tick, Ended}
 use Rattle.cf_wires.specs.declared.event.Event.TheVariants.{Took}
 use Rattle.cf_peer.specs.Acts.{IsDoable, IsSendable}
+use Rattle.cf_peer.specs.Asking.{pings}
 use Rattle.cf_wires.specs.Log.{Log}
 use Rattle.cf_peer.specs.Peer.{is_idle_peer, asked_for_block, asked_for_ping}
+use Rattle.cf_peer.specs.Trail.{trail}
 use Rattle.cf_sync.specs.Fetching.{is_after_tick}
 use Rattle.cf_tracker.specs.declared.tracker.Tracker.{Tracker}
 use Rattle.cf_place.specs.declared.place.Place.{Place}
@@ -118,11 +120,20 @@ HasPinged Following (Gone p) places = Unit {0}
 HasPinged Following (Tick seconds) places = (p : ℕ) → is_idle (place_at places p) ≡ true → HasPingedOut (place_at places p)
 HasPinged Following Ended places = Unit {0}
 
+-- with a tick a client that follows leaves nobody idle but who had been sent all pings before
+abbrev pub HasLeft : Mode → Delivery → List Place → Log → Type 0
+HasLeft Once d places log = Unit {0}
+HasLeft Following (Got p piece) places log = Unit {0}
+HasLeft Following (Gone p) places log = Unit {0}
+HasLeft Following (Tick seconds) places log =
+    (p : ℕ) → is_idle (place_at places p) ≡ true → pings (trail log p) ≡ 18446744073709551615
+HasLeft Following Ended places log = Unit {0}
+
 -- the peer at this place is asked, if it is to be, and is settled; where nothing is open to it then, it is left as it was; nobody
 -- else is asked or has its place changed, and of what was seen no more changes than what is open to it
 pub record Asks (mode : Mode) (i : ℕ) (before now : Desk) : Type 0 where
   pub moves : Moves mode Same before now
-  pub asked : AsksOne i before.acts now.acts
+  pub asked : AsksOne i (place_at before.places i) before.acts now.acts
   pub seen : HasOpened before.seen now.seen i
   pub settled : is_settled mode (place_at now.places i) ≡ true
   pub idle : is_idle (place_at now.places i) ≡ true → place_at now.places i ≡ place_at before.places i

@@ -122,6 +122,7 @@ pub(crate) fn ping_all<H: HeaderStore>(
     requires { IsInOrder (desk tracker.now places.old acts.old.items) }
     ensures moves { OnOk result (Moves Following Ticked (desk tracker.now places.old acts.old.items) (desk tracker.now places.new acts.new.items)) }
     ensures pinged { OnOk result ((p : ℕ) → is_idle (place_at places.new p) ≡ true → HasPingedOut (place_at places.new p)) }
+    ensures same { OnOk result ((p : ℕ) → is_idle (place_at places.new p) ≡ true → place_at places.new p ≡ place_at places.old p) }
     ensures pings { OnOk result (AddsPings acts.old.items acts.new.items) }
 {
     for i in 0..places.len() {
@@ -361,7 +362,7 @@ fn ask_each<H: HeaderStore>(
     ensures through { OnOk result (AreAskedThrough places.new (seen_of tracker.new)) }
     ensures verdicts { OnOk result (AreSameVerdicts (verdicts_of tracker.new) (verdicts_of tracker.old)) }
     ensures busy { OnOk result ((p : ℕ) → is_idle (place_at places.new p) ≡ true → place_at places.new p ≡ place_at places.old p) }
-    ensures asked { OnOk result (AddsQuestions acts.old.items acts.new.items) }
+    ensures asked { OnOk result (AddsQuestions places.old acts.old.items acts.new.items) }
 {
     for i in 0..places.len() {
         ask_if_wanted(alloc, mode, tracker, places, acts, i)?;
@@ -384,7 +385,7 @@ pub(crate) fn ask_all<H: HeaderStore>(
     ensures through { OnOk result (AreAskedThrough places.new (seen_of tracker.new)) }
     ensures verdicts { OnOk result (AreSameVerdicts (verdicts_of tracker.new) (verdicts_of tracker.old)) }
     ensures busy { OnOk result ((p : ℕ) → is_idle (place_at places.new p) ≡ true → place_at places.new p ≡ place_at places.old p) }
-    ensures asked { OnOk result (AddsQuestions acts.old.items acts.new.items) }
+    ensures asked { OnOk result (AddsQuestions places.old acts.old.items acts.new.items) }
 {
     ask_each(alloc, mode, tracker, places, acts)?;
     tracker.write_up()?;

@@ -138,7 +138,7 @@ impl<H: HeaderStore, M: Matcher> Client<H, M> {
     ghost use Rattle.cf_client.specs.Order.{AreInOrder};
     ghost use Rattle.cf_client.specs.Steps.{Extends};
     ghost use Rattle.cf_client.specs.Holding.{Counts, HoldsNoMore};
-    ghost use Rattle.cf_client.specs.Stands.{Reflects, Answers, ArePinged, AreTicked, IsTip, IsReportOf, HasBlamed, IsHistoryTold, IsBlameless, IsInnocent, AreAnswered, is_dead, open_count, count_of, rule_by, seen_by, watch_by, words_by, matcher_by, judging_by};
+    ghost use Rattle.cf_client.specs.Stands.{Reflects, Answers, ArePinged, AreTicked, IsBestTip, IsReportOf, HasBlamed, IsHistoryTold, IsBlameless, IsInnocent, AreAnswered, is_dead, open_count, count_of, rule_by, seen_by, watch_by, words_by, matcher_by, judging_by};
 
     /// A client that knows of no peer yet, over a store in which no peer is entered. It watches these scripts, and matches filters with them
     /// by this matcher. Its `version` tells this moment, in seconds since 1970, and this number.
@@ -240,9 +240,12 @@ impl<H: HeaderStore, M: Matcher> Client<H, M> {
     }
 
     /// Takes a delivery, and says what is to be done: first what is owed and who is closed, then what is asked, each
-    /// from the lowest number on. With a tick a client that follows sends pings, and asks nothing else. Filters that come are judged by the client's matcher alone. Of a fetched block on whose filter
-    /// the connected peers differ each is asked for the filter that it claims, and whoever claims one that is none, or that
-    /// lacks an output's script, is closed: so that with nothing open all of these were tested, and none that omits is left.
+    /// from the lowest number on. With a tick a client that follows sends pings, and asks nothing else but of a peer
+    /// for which no number of a ping is left; so what was open to a peer that is closed then is asked of others with a
+    /// later delivery. Filters that come are judged by the client's matcher alone. Of a fetched block on whose filter
+    /// the connected peers differ each is asked for the filter that it claims, and whoever claims one that is none, or
+    /// that lacks an output's script, is closed: so that with nothing open all of these were tested, and none that
+    /// omits is left.
     pub fn step(&mut self, d: &Delivery) -> Result<Vec<Act>, NoMemory>
         ensures answers { IfOk result (λ acts. (log : Log) → Reflects self.old log → Answers self.new acts.items (Took d.now ∷ log)) }
         ensures tells { IfOk result (λ acts. (log : Log) → Reflects self.old log → All (ActTells (words_by self.old)) acts.items) }
@@ -331,7 +334,7 @@ impl<H: HeaderStore, M: Matcher> Client<H, M> {
 
     /// The height and the hash of the best chain's tip. It takes no memory.
     pub fn tip(&self) -> (u32, Hash32)
-        ensures { (log : Log) → Reflects self.now log → IsTip result.0 result.1 log }
+        ensures { (log : Log) → Reflects self.now log → IsBestTip result.0 result.1 log }
     {
         self.tracker.tip()
     }

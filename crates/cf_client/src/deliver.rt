@@ -4,12 +4,13 @@ ghost use Rattle.cf_wires.specs.Log.{Log};
 ghost use Rattle.cf_peer.specs.declared.act.Act.TheVariants.{Close};
 ghost use Rattle.cf_peer.specs.declared.peer.Cause.TheVariants.{SendFailed};
 ghost use Rattle.cf_wires.specs.declared.event.Delivery.TheVariants.{Got, Gone};
+ghost use Rattle.cf_wires.specs.declared.event.Event.TheVariants.{Took};
 ghost use Rattle.cf_match.specs.Verdicts.{AreSameVerdicts};
 ghost use Rattle.cf_tracker.specs.Tracker.{verdicts_of, watch_of};
 ghost use Rattle.cf_hear.specs.Judging.{AreJudgedBy, judging_of};
 ghost use Rattle.cf_place.specs.Places.{AreCalm};
 ghost use Rattle.cf_client.specs.Order.{ArePrepared, AreTold};
-ghost use Rattle.cf_client.specs.Steps.{desk, HasPinged, Stands, IsInOrder, Taking, CutOff, Moves};
+ghost use Rattle.cf_client.specs.Steps.{desk, HasLeft, HasPinged, Stands, IsInOrder, Taking, CutOff, Moves};
 
 use crate::ask::{close_late, pass_all, ping_all};
 use crate::blame::close_claimants;
@@ -120,6 +121,8 @@ pub(crate) fn deliver<H: HeaderStore, M: Matcher>(
     ensures told { OnOk result ((log : Log) → Stands mode (desk tracker.old places.old acts.old.items) log
         → ArePrepared acts.new.items) }
     ensures pinged { OnOk result (HasPinged mode d.now places.new) }
+    ensures left { OnOk result ((log : Log) → Stands mode (desk tracker.old places.old acts.old.items) log
+        → HasLeft mode d.now places.new (Took d.now ∷ log)) }
 {
     match d {
         Delivery::Got(p, piece) => {

@@ -15,7 +15,7 @@ loop-i-init g c = record {
   done = λ p lt. absurd (omega (arith, lt));
   through = λ p lt. absurd (omega (arith, lt));
   idle = λ p is. refl;
-  asked = asks_none 0 c.args.acts.now.items;
+  asked = asks_none 0 c.args.places.now c.args.acts.now.items;
 }
 
 pub loop-i-preserved : goal.loop-i-preserved
@@ -39,8 +39,9 @@ loop-i-preserved g c =
             let here = c.in_ok-ask_if_wanted.ensures.asks.others p other in
             here ∙ c.loop-i.invariant.idle p (sym (ap is_idle here) ∙ is)
       ];
-      asked = asks_next c.loop-i.i c.args.acts.now.items c.loop-i.acts.items c.ask_if_wanted.new.acts.items c.loop-i.invariant.asked
-          c.in_ok-ask_if_wanted.ensures.asks.asked;
+      asked = asks_next c.loop-i.i (place_at c.loop-i.places c.loop-i.i) c.args.places.now c.args.acts.now.items c.loop-i.acts.items
+          c.ask_if_wanted.new.acts.items c.loop-i.invariant.asked
+          (λ is. sym (ap is_idle (c.loop-i.invariant.idle c.loop-i.i is)) ∙ is) c.in_ok-ask_if_wanted.ensures.asks.asked;
     }
 
 pub returns-clause-through : goal.returns-clause-through

@@ -1,15 +1,20 @@
-use Rattle.std.proofs.Common.{◌≡◌, ℕ, ◌<◌, true, inl, inr, length, sym, ◌∙◌, ap, subst, arith}
+use Rattle.std.proofs.Common.{◌≡◌, ℕ, ◌<◌, true, inl, inr, length, refl, sym, ◌∙◌, ap, subst, arith}
 use Rattle.std.proofs.lemmas.Bool.{both_ways, cases_eq, cases_lt}
 use Rattle.std.proofs.lemmas.List.{get_or_past}
 use Rattle.cf_place.specs.Places.{is_idle, nobody, place_at}
 use Rattle.cf_client.specs.Steps.{desk, HasPingedOut}
 use Rattle.cf_client.proofs.Ordering.{pings_none, pings_next}
-use Rattle.cf_client.proofs.Pinging.{pinged_here, pinged_moves, pinged_one, pinged_others, ticked_self}
+use Rattle.cf_client.proofs.Pinging.{pinged_here, pinged_moves, pinged_one, pinged_others, pinged_same, ticked_self}
 use Rattle.cf_client.proofs.Steps.{moves_ticked}
 use Rattle.cf_client.proofs.ask.ping_all.Goals as goal
 
 pub loop-i-init : goal.loop-i-init
-loop-i-init g c = record { moves = ticked_self _ c.requires; done = λ p lt. absurd (omega (arith, lt)); pings = pings_none 0 c.args.acts.now.items }
+loop-i-init g c = record {
+  moves = ticked_self _ c.requires;
+  done = λ p lt. absurd (omega (arith, lt));
+  same = λ p is. refl;
+  pings = pings_none 0 c.args.acts.now.items;
+}
 
 pub loop-i-preserved : goal.loop-i-preserved
 loop-i-preserved g c =
@@ -28,6 +33,16 @@ loop-i-preserved g c =
         | inr other ↦
             let kept = pinged_others i was now c.loop-i.acts.items c.ping_if_idle.new.acts.items sent p other in
             subst HasPingedOut (sym kept) (before.done p (omega (arith, less, other)) (sym (ap is_idle kept) ∙ idle))
+      ];
+      same = λ p idle. elim (cases_eq p i) [
+        | inl at ↦
+            let kept = pinged_same i was now c.loop-i.acts.items c.ping_if_idle.new.acts.items lt sent
+            (subst (λ (k : ℕ). is_idle (place_at now k) ≡ true) at idle) in
+            let here = ap (place_at now) at ∙ kept ∙ ap (place_at was) (sym at) in
+            here ∙ before.same p (sym (ap is_idle here) ∙ idle)
+        | inr other ↦
+            let here = pinged_others i was now c.loop-i.acts.items c.ping_if_idle.new.acts.items sent p other in
+            here ∙ before.same p (sym (ap is_idle here) ∙ idle)
       ];
       pings = pings_next i c.args.acts.now.items c.loop-i.acts.items c.ping_if_idle.new.acts.items before.pings
           (pinged_one i was now c.loop-i.acts.items c.ping_if_idle.new.acts.items sent);

@@ -31,8 +31,8 @@ ask_all-requires-clause-calm g c =
     let mode = c.args.self.now.mode in
     let kept = c.args.self.now.places.items in
     let calm : AreCalm c.as_mut_slice-places.result.now =
-        subst AreCalm (sym c.as_mut_slice-places.ensures.value)
-        (λ p. settled_calm mode (place_at kept p) ((c.args.self.now.settled c.if-self.false).each p)) in
+    subst AreCalm (sym c.as_mut_slice-places.ensures.value)
+    (λ p. settled_calm mode (place_at kept p) ((c.args.self.now.settled c.if-self.false).each p)) in
     (c.in_ok-cut_off.ensures.moves mode).calm calm
 
 pub ask_all-requires-clause-order : goal.ask_all-requires-clause-order
@@ -91,6 +91,6 @@ returns-clause-judged g c = record { same = refl; kept = λ block hash. c.in_ok-
 
 pub returns-clause-in_order : goal.returns-clause-in_order
 returns-clause-in_order g c =
-    in_order_by c.cut_off.new.acts.items c.ask_all.new.acts.items
+    in_order_by c.cut_off.new.places c.cut_off.new.acts.items c.ask_all.new.acts.items
     (prepared_none c.cut_off.new.acts.items c.in_ok-cut_off.ensures.told)
     c.in_ok-ask_all.ensures.asked
