@@ -240,8 +240,8 @@ there_so Working log busy ne = (busy.0, open_on (trail log busy.0) busy.1)
 there_so IsSynced log rest ne = rest.1
 there_so HasNoPeers log none ne = absurd (ne refl)
 
-pub may_follow : (mode : Mode) (s : State) (log : Log) → mode ≡ Following → IsState s log → (s ≡ HasNoPeers → ⊥) → MayTake mode log
-may_follow mode s log follows state ne = subst (λ (m : Mode). MayTake m log) (sym follows) (there_so s log state ne)
+pub may_follow : (mode : Mode) (s : State) (log : Log) → mode ≡ Following → (s ≡ HasNoPeers → ⊥) → IsState s log → MayTake mode log
+may_follow mode s log follows ne state = subst (λ (m : Mode). MayTake m log) (sym follows) (there_so s log state ne)
 
 -- a client that is the same holds the same
 pub holds_same : {H M : Type 0} {g : Ghosts H} {j : Judges M} {c d : Client H M g j} {progress : Progress} {called : List (List ℕ)} {t : Told} → d ≡ c → HoldsOver c progress called t → HoldsOver d progress called t
