@@ -46,7 +46,7 @@ use Rattle.cf_run.specs.declared.trace.TraceLine.{TraceLine}
 use Rattle.cf_run.specs.declared.trace.TraceLine.TheVariants.{Sent as SentLine, Closed as ClosedLine}
 use Rattle.cf_place.specs.Places.{entry_of, IsNamed, IsRepliedIn, MayAct, CutFor}
 use Rattle.cf_client.specs.Stands.{Reflects, count_of, rule_by}
-use Rattle.cf_run.specs.Run.{Doing, ActsLeft, HoldsOver, closes, state_at, is_pending, is_fine, IsTraceOf}
+use Rattle.cf_run.specs.Run.{Doing, ActsLeft, HoldsOver, IsTicked, closes, state_at, is_pending, is_fine, IsTraceOf}
 use Rattle.cf_sync.proofs.SameFetched.{same_wanted, same_holds}
 use Rattle.cf_client.proofs.Spelled.{spelled_bytes}
 use Rattle.cf_sync.proofs.Blamed.{tested_stays}
@@ -164,7 +164,7 @@ failing_here p q part e = grind (arith, common_steps)
 closed_here : (p : PeerNo) (q : ℕ) (part : Part) → q ≡ p.0 → went_on (Closed p) q part ≡ with_item (Lost Shutting) part
 closed_here p q part e = grind (arith, common_steps)
 
-sent_here : (p : PeerNo) (bytes : List ℕ) (m : Msg) (q : ℕ) (part : Part) → q ≡ p.0 → spelled bytes ≡ Some m → went_on (Sent p bytes) q part ≡ with_item (Asked m) part
+pub sent_here : (p : PeerNo) (bytes : List ℕ) (m : Msg) (q : ℕ) (part : Part) → q ≡ p.0 → spelled bytes ≡ Some m → went_on (Sent p bytes) q part ≡ with_item (Asked m) part
 sent_here p bytes m q part e is = ap (λ (b : Bool). if b then record part { trail = asks (spelled bytes) part.trail } else part) (same_number p.0 q e) ∙ ap (λ (o : Option Msg). record part { trail = asks o part.trail }) is where
   same_number : (n k : ℕ) → k ≡ n → (n == k) ≡ true
   same_number n k e = grind (arith, common_steps)
@@ -227,7 +227,7 @@ known_told acts progress called planned t p free on doing = elim (cases_Bool (is
 ]
 
 -- who is connected has the part that was planned
-connected_same : {rule : Rule} (acts : List Act) (progress : Progress) (called : List (List ℕ)) (planned : Log) (t : Told) → (doing : Doing rule acts progress called planned t) → (q : ℕ) → connected (trail doing.actual q) ≡ true → part_of planned q ≡ part_of doing.actual q
+pub connected_same : {rule : Rule} (acts : List Act) (progress : Progress) (called : List (List ℕ)) (planned : Log) (t : Told) → (doing : Doing rule acts progress called planned t) → (q : ℕ) → connected (trail doing.actual q) ≡ true → part_of planned q ≡ part_of doing.actual q
 connected_same acts progress called planned t doing q on = elim (cases_Bool (is_untold doing.actual q)) [
   | inl untold ↦ absurd (both_ways (connected (trail doing.actual q)) (doing.broken q untold).0 on)
   | inr told ↦ elim (doing.plan.told q told) [
@@ -360,6 +360,7 @@ sent_on {rule = rule} acts progress trace called planned t p m command free line
         );
         planned = ((m, spells, (planned, (doing.plan, (may.2, may.3)))), doing.notes.planned);
         order = doing.notes.order;
+        pinged = doing.notes.pinged;
         numbered = doing.notes.numbered;
         first = doing.notes.first;
         traced = subst (λ (lines : List TraceLine). IsTraceOf (Sent p bytes ∷ doing.actual) lines) (sym (ap reverse line ∙ reverse_push progress.trace.items (SentLine p command)))
@@ -428,6 +429,7 @@ closed_on acts progress trace called planned t p cause free line may doing =
         rightly = ((cause, deserves), doing.notes.rightly);
         planned = doing.notes.planned;
         order = (replied_all, doing.notes.order);
+        pinged = doing.notes.pinged;
         numbered = doing.notes.numbered;
         first = doing.notes.first;
         traced = subst (λ (lines : List TraceLine). IsTraceOf (Closed p ∷ doing.actual) lines) (sym (ap reverse line ∙ reverse_push progress.trace.items (ClosedLine p cause)))
@@ -588,6 +590,7 @@ failed_on {rule = rule} acts progress called planned t p m lt free may doing =
         rightly = doing.notes.rightly;
         planned = doing.notes.planned;
         order = (on_too, doing.notes.order);
+        pinged = doing.notes.pinged;
         numbered = doing.notes.numbered;
         first = doing.notes.first;
         traced = doing.notes.traced;
@@ -740,6 +743,7 @@ told_one rest progress called planned t p cause lt is doing =
         rightly = doing.notes.rightly;
         planned = doing.notes.planned;
         order = doing.notes.order;
+        pinged = doing.notes.pinged;
         numbered = doing.notes.numbered;
         first = doing.notes.first;
         traced = doing.notes.traced;
@@ -795,8 +799,8 @@ told_one rest progress called planned t p cause lt is doing =
 
 -- with no failure pending the client reflects the actual log
 pub all_told : {H M : Type 0} {g : Ghosts H} {j : Judges M} (c : Client H M g j) (progress : Progress) (called : List (List ℕ)) (planned : Log) (t : Told) → ((q : ℕ) → is_pending (state_at progress.sends q) ≡ false)
-    → Reflects c planned → Doing (rule_by c) [] progress called planned t → HoldsOver c progress called t
-all_told c progress called planned t none reflects doing =
+    → Reflects c planned → (doing : Doing (rule_by c) [] progress called planned t) → IsTicked (rule_by c).mode doing.actual → HoldsOver c progress called t
+all_told c progress called planned t none reflects doing ticked =
     let told : (q : ℕ) → is_untold doing.actual q ≡ false = λ q. elim (cases_Bool (is_untold doing.actual q)) [
       | inl untold ↦ absurd (both_ways (is_pending (state_at progress.sends q)) (none q) (only (is_pending (state_at progress.sends q)) (doing.due q untold)))
       | inr fine ↦ fine
@@ -823,6 +827,7 @@ all_told c progress called planned t none reflects doing =
         };
         unexposed = reflects.unexposed;
       };
+      ticked = ticked;
       told_all = told;
       none = none;
     }

@@ -1,10 +1,9 @@
 -- What is put of the texts of a run that follows, from moment to moment.
-use Rattle.std.proofs.Common.{◌≡◌, ◌⊎◌, inl, inr, ℕ, ◌+◌, ◌≤◌, Bool, List, [], ◌∷◌, ◌++◌, length, take, String, string_bytes, Option, Some, None, Result, Ok, Err, refl, sym, ◌∙◌, ap, subst, arith, if◌then◌else◌}
+use Rattle.std.proofs.Common.{◌≡◌, ◌⊎◌, inl, inr, ℕ, ◌+◌, ◌≤◌, Bool, true, false, List, [], ◌∷◌, ◌++◌, length, take, String, string_bytes, Option, Some, None, Result, Ok, Err, IfErr, is_err, refl, sym, ◌∙◌, ap, subst, arith, if◌then◌else◌}
 use Rattle.std.specs.Prelude.{IfSome, IfOk, bytes_eq}
 use Rattle.std.specs.declared.alloc.Global.{Global}
-use Rattle.std.proofs.lemmas.Bool.{both_ways}
-use Rattle.std.proofs.lemmas.List.{append_assoc, append-nil, length-append}
-use Rattle.std.proofs.Math.Seq.{take-length, take-append-add}
+use Rattle.std.proofs.lemmas.Bool.{both_ways, false≢true}
+use Rattle.std.proofs.lemmas.List.{append_assoc, append-nil}
 use Rattle.cf_bytes.specs.Outside.{with_more}
 use Rattle.cf_bytes.specs.declared.hash.Hash32.{Hash32}
 use Rattle.cf_headers.specs.declared.store.HeaderStore.{Ghosts}
@@ -27,8 +26,9 @@ use Rattle.cf_client.specs.Stands.{Reflects, IsReportOf, rule_by, watch_by}
 use Rattle.cf_run.specs.declared.outcome.Outcome.{Outcome}
 use Rattle.cf_run.specs.declared.progress.Progress.{Progress}
 use Rattle.cf_run.specs.declared.texts.TextFail.{TextFail}
+use Rattle.cf_run.specs.declared.texts.TextFail.TheVariants.{NoMemory, Failed}
 use Rattle.cf_run.specs.Run.{Followed, HoldsOver}
-use Rattle.cf_run.specs.Texts.{AllPut, HasBegun, HasPut, HasPutSome, HavePut, IsLast, PutBefore, PutBy, PutsNext, PutsOne, PutsSome, SomePut, joined}
+use Rattle.cf_run.specs.Texts.{AllPut, ButPut, HasBegun, HasPut, HasPutBut, HasPutSo, HavePut, IsLast, PutBefore, PutBy, PutsBegun, PutsNext, PutsOne, PutsSome, SoPut, SomePut, joined}
 use Rattle.cf_run.proofs.Turns.{told_so}
 
 -- ---- what is told, with more after it
@@ -45,30 +45,12 @@ joined_more : (text : List ℕ) (before : List (List ℕ)) (first old new : Opti
     → new ≡ with_more first (joined (text ∷ before))
 joined_more text before first old new more is = more ∙ ap (λ (o : Option (List ℕ)). with_more o text) is ∙ more_more first (joined before) text
 
-begun_all : (text : List ℕ) (first now : Option (List ℕ)) → now ≡ with_more first text → HasBegun text first now
-begun_all text first now is = record {
-  n = length text;
-  within = omega arith;
-  taken = is ∙ ap (with_more first) (sym (take-length text));
-}
-
 -- nothing of it, or so much
 pub begun_none : (text : List ℕ) (now : Option (List ℕ)) → HasBegun text now now
 begun_none text now = record { n = 0; within = omega arith; taken = sym (more_none now) }
 
 pub begun_so : (text bytes : List ℕ) (old new : Option (List ℕ)) → bytes ≡ text → ((n : ℕ) × (n ≤ length bytes) × (new ≡ with_more old (take n bytes))) → HasBegun text old new
 begun_so text bytes old new same so_much = subst (λ (x : List ℕ). HasBegun x old new) same (record { n = so_much.0; within = so_much.1; taken = so_much.2 })
-
-begun_more : (text : List ℕ) (before : List (List ℕ)) (first old new : Option (List ℕ)) → HasBegun text old new → old ≡ with_more first (joined before)
-    → HasBegun (joined (text ∷ before)) first new
-begun_more text before first old new begun is =
-    let size = length-append (joined before) text in
-    record {
-      n = length (joined before) + begun.n;
-      within = omega (arith, size, begun.within);
-      taken = begun.taken ∙ ap (λ (o : Option (List ℕ)). with_more o (take begun.n text)) is ∙ more_more first (joined before) (take begun.n text)
-          ∙ ap (with_more first) (sym (take-append-add (joined before) text begun.n));
-    }
 
 -- ---- one text
 
@@ -106,10 +88,11 @@ one_put text before s old new added is more = record {
   taken = λ first so_far. subst (λ (texts : List (List ℕ)). new ≡ with_more first (joined texts)) (sym added) (joined_more text before first old new more so_far);
 }
 
-pub one_begun : (text : List ℕ) (before : List (List ℕ)) (first old new : Option (List ℕ)) → put text before ≡ text ∷ before → HasBegun text old new
-    → old ≡ with_more first (joined before) → HasBegun (joined (put text before)) first new
-one_begun text before first old new added begun is =
-    subst (λ (texts : List (List ℕ)). HasBegun (joined texts) first new) (sym added) (begun_more text before first old new begun is)
+-- it isn't put
+pub begun_by : (fail : TextFail) (text : List ℕ) (before : List (List ℕ)) (old new : Option (List ℕ)) → put text before ≡ text ∷ before → HasBegun text old new
+    → (fail ≡ NoMemory → new ≡ old) → PutsBegun fail text before old new
+begun_by NoMemory text before old new added begun none = none refl
+begun_by Failed text before old new added begun none = (added, begun)
 
 -- ---- what a moment adds
 
@@ -176,22 +159,17 @@ one_next c before last old new text height hash entries follows state report is 
   taken = one.taken;
 }
 
--- nothing was put of it, or a beginning
-pub none_some : {H M : Type 0} {g : Ghosts H} {j : Judges M} (c : Client H M g j) (before : List (List ℕ)) (now : Option (List ℕ)) → PutsSome c before now now
-none_some c before now = record {
-  texts = before;
-  puts = λ log reflects bytes right. inl refl;
-  begun = λ first old. begun_all (joined before) first now old;
-}
-
-pub one_some : {H M : Type 0} {g : Ghosts H} {j : Judges M} (c : Client H M g j) (before : List (List ℕ)) (old new : Option (List ℕ)) (text : List ℕ) (height : ℕ) (hash : Hash32) (entries : List Entry)
-    → (rule_by c).mode ≡ Following → ((log : Log) → Reflects c log → IsState Synced log)
+-- it isn't put
+pub some_puts : {H M : Type 0} {g : Ghosts H} {j : Judges M} (fail : TextFail) (c : Client H M g j) (before : List (List ℕ)) (old new : Option (List ℕ)) (text : List ℕ) (height : ℕ) (hash : Hash32)
+    (entries : List Entry) → (rule_by c).mode ≡ Following → ((log : Log) → Reflects c log → IsState Synced log)
     → ((log : Log) → Reflects c log → IsReportOf (rule_by c) height hash entries log) → text ≡ history_text entries height hash.0
-    → ((first : Option (List ℕ)) → old ≡ with_more first (joined before) → HasBegun (joined (put text before)) first new) → PutsSome c before old new
-one_some c before old new text height hash entries follows state report is begun = record {
-  texts = put text before;
-  puts = λ log reflects bytes right. inr (text_puts c before text height hash entries follows state report is log reflects bytes right);
-  begun = begun;
+    → PutsBegun fail text before old new → PutsSome fail c before old new
+some_puts NoMemory c before old new text height hash entries follows state report is same = same
+some_puts Failed c before old new text height hash entries follows state report is begun = record {
+  text = text;
+  due = λ log reflects bytes right.
+      subst (λ (texts : List (List ℕ)). PutsAt (watch_by c) log before texts) begun.0 (text_puts c before text height hash entries follows state report is log reflects bytes right);
+  begun = begun.1;
 }
 
 -- ---- over wires
@@ -233,16 +211,19 @@ all_by c progress called t watch last next first old new holds follows same have
   taken = more.taken first have.taken;
 }
 
-pub some_by : {H M : Type 0} {g : Ghosts H} {j : Judges M} (c : Client H M g j) (progress : Progress) (called : List (List ℕ)) (t : Told) (watch : List (List ℕ)) (last : Option (String Global))
+pub some_by : {H M : Type 0} {g : Ghosts H} {j : Judges M} (fail : TextFail) (c : Client H M g j) (progress : Progress) (called : List (List ℕ)) (t : Told) (watch : List (List ℕ)) (last : Option (String Global))
     (first old new : Option (List ℕ)) → HoldsOver c progress called t → (rule_by c).mode ≡ Following → watch_by c ≡ watch → (have : HavePut watch last t first old)
-    → PutsSome c have.texts old new → SomePut watch t first new
-some_by c progress called t watch last first old new holds follows same have more = record {
-  texts = more.texts;
-  puts = elim (more.puts holds.actual holds.reflects holds.notes.bytes (subst (λ (m : Mode). RightlyIn m holds.actual) follows holds.notes.rightly)) [
-    | inl none ↦ inl (subst (λ (x : List (List ℕ)). PutBefore watch x t) (sym none) have.puts)
-    | inr puts ↦ inr (put_at c progress called t watch have.texts more.texts holds same puts have.puts)
-  ];
-  begun = more.begun first have.taken;
+    → PutsSome fail c have.texts old new → SomePut fail watch t first new
+some_by NoMemory c progress called t watch last first old new holds follows same have more = record { texts = have.texts; puts = inl have.puts; taken = more ∙ have.taken }
+some_by Failed c progress called t watch last first old new holds follows same have more = record {
+  texts = have.texts;
+  text = more.text;
+  earlier = have.puts;
+  due = told_so t.log holds.actual (λ log. PutsAt watch log have.texts (more.text ∷ have.texts)) holds.notes.tells.content
+      (subst (λ (x : List (List ℕ)). PutsAt x holds.actual have.texts (more.text ∷ have.texts)) same
+      (more.due holds.actual holds.reflects holds.notes.bytes (subst (λ (m : Mode). RightlyIn m holds.actual) follows holds.notes.rightly)));
+  begun = subst (λ (o : Option (List ℕ)). HasBegun more.text o new) have.taken more.begun;
+  right = right_now c progress called t holds follows;
 }
 
 -- and then a delivery is taken
@@ -259,11 +240,11 @@ have_then c progress called t u watch last next first old new holds follows same
 -- or no memory was found for it
 pub some_then : {H M : Type 0} {g : Ghosts H} {j : Judges M} (c : Client H M g j) (progress : Progress) (called : List (List ℕ)) (t u : Told) (watch : List (List ℕ)) (last next : Option (String Global))
     (first old new : Option (List ℕ)) → HoldsOver c progress called t → (rule_by c).mode ≡ Following → watch_by c ≡ watch → (have : HavePut watch last t first old)
-    → PutsNext c have.texts next old new → ((watch texts : List (List ℕ)) → PutBy watch texts t → PutBefore watch texts u ⊎ PutBy watch texts u) → SomePut watch u first new
+    → PutsNext c have.texts next old new → ((watch texts : List (List ℕ)) → PutBy watch texts t → PutBefore watch texts u ⊎ PutBy watch texts u) → SoPut watch u first new
 some_then c progress called t u watch last next first old new holds follows same have more taken = record {
   texts = more.texts;
   puts = taken watch more.texts (put_by c progress called t watch have.texts more.texts holds follows same more.puts have.puts);
-  begun = begun_all (joined more.texts) first new (more.taken first have.taken);
+  taken = more.taken first have.taken;
 }
 
 -- nothing was put yet
@@ -284,17 +265,51 @@ all_told watch t before now all = by t.log all.puts where
   by None puts = tt
   by (Some log) puts = record { texts = all.texts; puts = puts; taken = all.taken }
 
-pub some_told : (watch : List (List ℕ)) (t : Told) (before now : Option (List ℕ)) → SomePut watch t before now → IfSome t.log (λ log. HasPutSome watch log before now)
-some_told watch t before now some = by t.log some.puts where
-  by : (o : Option Log) → IfSome o (λ log. WerePut watch log some.texts) ⊎ IfSome o (λ log. ArePut watch log some.texts) → IfSome o (λ log. HasPutSome watch log before now)
+pub all_some : (watch : List (List ℕ)) (t : Told) (before now : Option (List ℕ)) → AllPut watch t before now → SoPut watch t before now
+all_some watch t before now all = record { texts = all.texts; puts = inr all.puts; taken = all.taken }
+
+pub none_put : (watch : List (List ℕ)) (t : Told) (now : Option (List ℕ)) → PutBefore watch [] t → SoPut watch t now now
+none_put watch t now were = record { texts = []; puts = inl were; taken = sym (more_none now) }
+
+-- of one that was given up
+so_told : (watch : List (List ℕ)) (t : Told) (before now : Option (List ℕ)) → SoPut watch t before now → IfSome t.log (λ log. HasPutSo watch log before now)
+so_told watch t before now so = by t.log so.puts where
+  by : (o : Option Log) → IfSome o (λ log. WerePut watch log so.texts) ⊎ IfSome o (λ log. ArePut watch log so.texts) → IfSome o (λ log. HasPutSo watch log before now)
   by None puts = tt
-  by (Some log) puts = record { texts = some.texts; puts = puts; begun = some.begun }
+  by (Some log) puts = record { texts = so.texts; puts = puts; taken = so.taken }
 
-pub all_some : (watch : List (List ℕ)) (t : Told) (before now : Option (List ℕ)) → AllPut watch t before now → SomePut watch t before now
-all_some watch t before now all = record { texts = all.texts; puts = inr all.puts; begun = begun_all (joined all.texts) before now all.taken }
+but_told : (watch : List (List ℕ)) (t : Told) (before now : Option (List ℕ)) → ButPut watch t before now → IfSome t.log (λ log. HasPutBut watch log before now)
+but_told watch t before now but = by t.log but.earlier but.due where
+  by : (o : Option Log) → IfSome o (λ log. WerePut watch log but.texts) → IfSome o (λ log. PutsAt watch log but.texts (but.text ∷ but.texts))
+      → IfSome o (λ log. HasPutBut watch log before now)
+  by None earlier due = tt
+  by (Some log) earlier due = record { texts = but.texts; text = but.text; earlier = earlier; due = due; begun = but.begun }
 
-pub none_put : (watch : List (List ℕ)) (t : Told) (now : Option (List ℕ)) → PutBefore watch [] t → SomePut watch t now now
-none_put watch t now were = record { texts = []; puts = inl were; begun = begun_all [] now now (sym (more_none now)) }
+-- how it failed
+abbrev is_refused : {T : Type 0} → Result T TextFail → Bool
+is_refused (Ok x) = false
+is_refused (Err NoMemory) = false
+is_refused (Err Failed) = true
+
+pub so_put : {T : Type 0} (watch : List (List ℕ)) (t : Told) (before now : Option (List ℕ)) (r : Result T TextFail) → IfErr r (λ fail. SomePut fail watch t before now) → r ≡ Err NoMemory
+    → IfSome t.log (λ log. HasPutSo watch log before now)
+so_put watch t before now (Ok x) some is = absurd (false≢true (ap is_err is))
+so_put watch t before now (Err NoMemory) some is = so_told watch t before now some
+so_put watch t before now (Err Failed) some is = absurd (false≢true (sym (ap is_refused is)))
+
+but_so : {T : Type 0} (watch : List (List ℕ)) (t : Told) (before now : Option (List ℕ)) (r : Result T TextFail) → IfErr r (λ fail. SomePut fail watch t before now) → r ≡ Err Failed
+    → ButPut watch t before now
+but_so watch t before now (Ok x) some is = absurd (false≢true (ap is_err is))
+but_so watch t before now (Err NoMemory) some is = absurd (false≢true (ap is_refused is))
+but_so watch t before now (Err Failed) some is = some
+
+pub but_put : {T : Type 0} (watch : List (List ℕ)) (t : Told) (before now : Option (List ℕ)) (r : Result T TextFail) → IfErr r (λ fail. SomePut fail watch t before now) → r ≡ Err Failed
+    → IfSome t.log (λ log. HasPutBut watch log before now)
+but_put watch t before now r some is = but_told watch t before now (but_so watch t before now r some is)
+
+pub right_put : {T : Type 0} (watch : List (List ℕ)) (t : Told) (before now : Option (List ℕ)) (r : Result T TextFail) → IfErr r (λ fail. SomePut fail watch t before now) → r ≡ Err Failed
+    → IfSome t.log (λ log. AreBytes log × RightlyIn Following log)
+right_put watch t before now r some is = (but_so watch t before now r some is).right
 
 -- what was followed, holds the theorem
 pub follow_theorem_in : (watch called : List (List ℕ)) (r : Result Outcome TextFail) (o : Option Log)

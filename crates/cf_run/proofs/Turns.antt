@@ -39,7 +39,7 @@ use Rattle.cf_run.specs.declared.trace.TraceLine.{TraceLine}
 use Rattle.cf_run.specs.Names.{names_in}
 use Rattle.cf_hear.proofs.Tracking.{tracks_ended}
 use Rattle.cf_client.specs.Stands.{Reflects, IsReportOf, seen_by, rule_by, words_by}
-use Rattle.cf_run.specs.Run.{IsOrderly, WasOrderly, AreNumbered, IsUntaken, Notes, Doing, HoldsOver, Stopped, Finished, AreBytesOf, IsEnd, IsEndTold, IsTraceOf, names_of, is_lost, NobodyLeft, state_at, is_pending, is_fine}
+use Rattle.cf_run.specs.Run.{IsOrderly, WasOrderly, AreNumbered, IsUntaken, Notes, Doing, HoldsOver, IsTicked, WerePinged, Stopped, Finished, AreBytesOf, IsEnd, IsEndTold, IsTraceOf, names_of, is_lost, NobodyLeft, state_at, is_pending, is_fine}
 use Rattle.cf_peer.specs.declared.act.Act.{Act}
 use Rattle.cf_sync.specs.Planned.{is_untold, ArePlanned}
 use Rattle.cf_sync.proofs.Planning.{own_plan}
@@ -47,6 +47,10 @@ use Rattle.cf_sync.proofs.Modes.{rightly_following}
 use Rattle.cf_sync.proofs.Settles.{followed_in}
 use Rattle.cf_client.proofs.Innocent.{innocent, answered}
 use Rattle.cf_client.proofs.Blaming.{blameless, has_blamed}
+use Rattle.cf_place.specs.declared.state.State.{State}
+use Rattle.cf_place.specs.declared.state.State.TheVariants.{Working, Synced as IsSynced, NoPeers as HasNoPeers}
+use Rattle.cf_place.specs.Places.{IsState}
+use Rattle.cf_run.proofs.Ticked.{ticked_ended, ticked_first, ticked_missed}
 use Rattle.cf_run.proofs.Performs.{tells_more, lost_off, sent_connected, untold_failing_here, untold_failing_others, untold_closed_others}
 
 -- what a piece says connects nobody, and cuts nobody off
@@ -126,6 +130,7 @@ dial_doing c acts progress called t p name holds is room untaken unended =
       rightly = holds.notes.rightly;
       planned = holds.notes.planned;
       order = holds.notes.order;
+      pinged = holds.notes.pinged;
       numbered = (is ∙ ap (λ (n : ℕ). n + 1) count, holds.notes.numbered);
       first = (untaken_so holds.actual t holds.notes.tells untaken unended, holds.notes.first);
       traced = holds.notes.traced;
@@ -154,6 +159,7 @@ not_dialled_holds c d progress called t p name holds is room untaken unended sam
         rightly = subst (λ (r : Rule). RightlyIn r.mode holds.actual) (sym same) holds.notes.rightly;
         planned = subst (λ (r : Rule). ArePlanned r holds.actual) (sym same) holds.notes.planned;
         order = holds.notes.order;
+        pinged = subst (λ (r : Rule). WerePinged r.mode holds.actual) (sym same) holds.notes.pinged;
         numbered = (is ∙ ap (λ (n : ℕ). n + 1) count, holds.notes.numbered);
         first = (untaken_so holds.actual t holds.notes.tells untaken unended, holds.notes.first);
         traced = holds.notes.traced;
@@ -164,6 +170,7 @@ not_dialled_holds c d progress called t p name holds is room untaken unended sam
         few = omega (arith, count, room);
       };
       reflects = reflects;
+      ticked = ticked_missed p name holds.actual same holds.ticked;
       told_all = holds.told_all;
       none = holds.none;
     }
@@ -189,14 +196,15 @@ took_bytes Ended log is h = h
 took_numbered : (d : Delivery) (log : Log) → AreNumbered log → AreNumbered (Took d ∷ log)
 took_numbered d log h = h
 
-took_notes : {rule : Rule} (progress : Progress) (called : List (List ℕ)) (log : Log) (t : Told) (d : Delivery) → AreBytesOf d → Notes rule progress called log t → MayTake rule.mode log → IsOrderly log
+took_notes : {rule : Rule} (progress : Progress) (called : List (List ℕ)) (log : Log) (t : Told) (d : Delivery) → AreBytesOf d → Notes rule progress called log t → MayTake rule.mode log → IsOrderly log → IsTicked rule.mode log
     → Notes rule progress called (Took d ∷ log) (tell (Took d) t)
-took_notes progress called log t d is notes may in_order = record {
+took_notes progress called log t d is notes may in_order ticked = record {
   tells = tells_more log t (Took d) notes.tells;
   bytes = took_bytes d log is notes.bytes;
   rightly = (may, notes.rightly);
   planned = notes.planned;
   order = (in_order, notes.order);
+  pinged = (ticked, notes.pinged);
   numbered = notes.numbered;
   first = notes.first;
   traced = notes.traced;
@@ -207,24 +215,40 @@ took_notes progress called log t d is notes may in_order = record {
   few = omega (arith, took_dials d log, notes.few);
 }
 
+-- what is open is open to a peer that is connected
+and_left : (a b : Bool) → (a && b) ≡ true → a ≡ true
+and_left true b h = refl
+and_left false b h = absurd (false≢true h)
+
+open_on : (t : Trail) → is_open t ≡ true → connected t ≡ true
+open_on t h = and_left (connected t) (not (ready t) || not (is_idle (request t))) h
+
 -- while something is open a delivery may be taken by a client of either mode
 pub may_take : (mode : Mode) (log : Log) → IsBusy log → MayTake mode log
 may_take Once log busy = busy
-may_take Following log busy = tt
+may_take Following log busy = (busy.0, open_on (trail log busy.0) busy.1)
 
 -- a delivery is taken
 pub took_doing : {H M : Type 0} {g : Ghosts H} {j : Judges M} (c : Client H M g j) (acts : List Act) (progress : Progress) (called : List (List ℕ)) (t : Told) (d : Delivery) → AreBytesOf d → (holds : HoldsOver c progress called t) → MayTake (rule_by c).mode holds.actual
     → Doing (rule_by c) acts progress called (Took d ∷ holds.actual) (tell (Took d) t)
 took_doing c acts progress called t d is holds may =
-    same_doing c acts progress called called t (tell (Took d) t) holds (Took d) (took_notes progress called holds.actual t d is holds.notes may (orderly c progress called t holds)) (λ q. refl)
+    same_doing c acts progress called called t (tell (Took d) t) holds (Took d) (took_notes progress called holds.actual t d is holds.notes may (orderly c progress called t holds) holds.ticked) (λ q. refl)
 
--- a client that follows may always take a delivery
-pub may_follow : (mode : Mode) (log : Log) → mode ≡ Following → MayTake mode log
-may_follow mode log follows = subst (λ (m : Mode). MayTake m log) (sym follows) tt
+-- a client that follows may take a delivery while a peer is connected
+there_so : (s : State) (log : Log) → IsState s log → (s ≡ HasNoPeers → ⊥) → MayTake Following log
+there_so Working log busy ne = (busy.0, open_on (trail log busy.0) busy.1)
+there_so IsSynced log rest ne = rest.1
+there_so HasNoPeers log none ne = absurd (ne refl)
+
+pub may_follow : (mode : Mode) (s : State) (log : Log) → mode ≡ Following → (s ≡ HasNoPeers → ⊥) → IsState s log → MayTake mode log
+may_follow mode s log follows ne state = subst (λ (m : Mode). MayTake m log) (sym follows) (there_so s log state ne)
 
 -- a client that is the same holds the same
 pub holds_same : {H M : Type 0} {g : Ghosts H} {j : Judges M} {c d : Client H M g j} {progress : Progress} {called : List (List ℕ)} {t : Told} → d ≡ c → HoldsOver c progress called t → HoldsOver d progress called t
 holds_same {H = H} {M = M} {g = g} {j = j} {progress = progress} {called = called} {t = t} same holds = subst (λ (x : Client H M g j). HoldsOver x progress called t) (sym same) holds
+
+pub reflects_same : {H M : Type 0} {g : Ghosts H} {j : Judges M} {c d : Client H M g j} {log : Log} → d ≡ c → Reflects d log → Reflects c log
+reflects_same {H = H} {M = M} {g = g} {j = j} {log = log} same reflects = subst (λ (x : Client H M g j). Reflects x log) same reflects
 
 pub rule_same : {H M : Type 0} {g : Ghosts H} {j : Judges M} {c d : Client H M g j} → d ≡ c → rule_by d ≡ rule_by c
 rule_same {H = H} {M = M} {g = g} {j = j} same = ap (λ (x : Client H M g j). rule_by x) same
@@ -255,22 +279,24 @@ pub ended_stops : {H M : Type 0} {g : Ghosts H} {j : Judges M} (end : End) (c : 
 ended_stops end c progress called t holds may why = record {
   holds = record {
     actual = Took Ended ∷ holds.actual;
-    notes = took_notes progress called holds.actual t Ended tt holds.notes may (orderly c progress called t holds);
+    notes = took_notes progress called holds.actual t Ended tt holds.notes may (orderly c progress called t holds) holds.ticked;
     reflects = reflects_ended c holds.actual holds.reflects;
+    ticked = ticked_ended (rule_by c).mode holds.actual;
     told_all = λ q. refl;
     none = holds.none;
   };
   why = why;
 }
 
--- and what a client that follows holds then
-pub ended_holds : {H M : Type 0} {g : Ghosts H} {j : Judges M} {c d : Client H M g j} {progress next : Progress} {called : List (List ℕ)} {t u : Told} → (rule_by c).mode ≡ Following
-    → d ≡ c → next ≡ progress → u ≡ tell (Took Ended) t → HoldsOver c progress called t → HoldsOver d next called u
-ended_holds {c = c} {d = d} {progress = progress} {next = next} {called = called} {t = t} {u = u} follows same noted told holds =
+-- and what its client holds then
+pub ended_holds : {H M : Type 0} {g : Ghosts H} {j : Judges M} {c d : Client H M g j} {progress next : Progress} {called : List (List ℕ)} {t u : Told}
+    → d ≡ c → next ≡ progress → u ≡ tell (Took Ended) t → (holds : HoldsOver c progress called t) → MayTake (rule_by c).mode holds.actual → HoldsOver d next called u
+ended_holds {c = c} {d = d} {progress = progress} {next = next} {called = called} {t = t} {u = u} same noted told holds may =
     let now : HoldsOver c progress called (tell (Took Ended) t) = record {
       actual = Took Ended ∷ holds.actual;
-      notes = took_notes progress called holds.actual t Ended tt holds.notes (may_follow (rule_by c).mode holds.actual follows) (orderly c progress called t holds);
+      notes = took_notes progress called holds.actual t Ended tt holds.notes may (orderly c progress called t holds) holds.ticked;
       reflects = reflects_ended c holds.actual holds.reflects;
+      ticked = ticked_ended (rule_by c).mode holds.actual;
       told_all = λ q. refl;
       none = holds.none;
     } in
@@ -385,13 +411,6 @@ marks_of [] p lt = record { size = refl; says = ap is_called (fresh_mark 9 p) }
 marks_of (e ∷ log) p lt = mark_step e log p lt (marks_of log p lt)
 
 -- why a run ends tells whether somebody is connected
-and_left : (a b : Bool) → (a && b) ≡ true → a ≡ true
-and_left true b h = refl
-and_left false b h = absurd (false≢true h)
-
-open_on : (t : Trail) → is_open t ≡ true → connected t ≡ true
-open_on t h = and_left (connected t) (not (ready t) || not (is_idle (request t))) h
-
 somebody : (end : End) (log : Log) → IsEnd end log → ((p : ℕ) × IsConnected log p) ⊎ ((p : ℕ) → connected (trail log p) ≡ false)
 somebody Synced log why = inl why.1
 somebody NoPeers log why = inr why
@@ -437,6 +456,7 @@ finishes end c progress called t height hash entries stopped told =
         traced = holds.notes.traced;
         named = holds.notes.named;
         why = stopped.why;
+        pinged = holds.notes.pinged;
       };
       few = holds.notes.few;
     }
@@ -595,6 +615,7 @@ starts c progress t reflects sends closed trace tells =
         rightly = tt;
         planned = tt;
         order = tt;
+        pinged = tt;
         numbered = tt;
         first = tt;
         traced = subst (λ (xs : List TraceLine). IsTraceOf [] (reverse xs)) (sym trace) tt;
@@ -605,6 +626,7 @@ starts c progress t reflects sends closed trace tells =
         few = omega arith;
       };
       reflects = reflects;
+      ticked = ticked_first (rule_by c).mode;
       told_all = λ q. refl;
       none = λ q. ap is_pending (fine q);
     }

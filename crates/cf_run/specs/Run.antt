@@ -150,6 +150,22 @@ names_of log = map (λ (d : Dial). d.name) (dials log)
 abbrev pub HasNames : List (List ℕ) → Told → Type 0
 HasNames called t = IfSome t.log (λ log. names_of log ≡ called)
 
+-- right after a tick something is open to each connected peer of a client that follows, unless all numbers of pings were used
+abbrev pub IsTicked : Mode → Log → Type 0
+IsTicked Once log = Unit {0}
+IsTicked Following log = is_after_tick log ≡ true → (p : ℕ) → IsConnected log p
+    → (is_open (trail log p) ≡ true) ⊎ (pings (trail log p) ≡ 18446744073709551615)
+
+-- so it was whenever a delivery was taken
+abbrev pub WerePinged : Mode → Log → Type 0
+WerePinged mode [] = Unit {0}
+WerePinged mode (Dialled p name ∷ log) = WerePinged mode log
+WerePinged mode (NotDialled p name ∷ log) = WerePinged mode log
+WerePinged mode (Sent p bytes ∷ log) = WerePinged mode log
+WerePinged mode (SendFailed p ∷ log) = WerePinged mode log
+WerePinged mode (Closed p ∷ log) = WerePinged mode log
+WerePinged mode (Took d ∷ log) = IsTicked mode log × WerePinged mode log
+
 -- what the run's own notes say of the log as it is
 pub record Notes (rule : Rule) (progress : Progress) (called : List (List ℕ)) (actual : Log) (t : Told) : Type 0 where
   pub tells : Tells actual t
@@ -208,6 +224,7 @@ pub record HoldsOver {H M : Type 0} {g : Ghosts H} {j : Judges M} (c : Client H 
   pub actual : Log
   pub notes : Notes (rule_by c) progress called actual t
   pub reflects : Reflects c actual
+  pub ticked : IsTicked (rule_by c).mode actual
   pub told_all : (q : ℕ) → is_untold actual q ≡ false
   pub none : (q : ℕ) → is_pending (state_at progress.sends q) ≡ false
 
@@ -218,10 +235,11 @@ pub record ActsLeft (rule : Rule) (acts : List Act) (end : Log) (progress : Prog
   pub leads : after acts planned ≡ end
   pub doing : Doing rule acts progress called planned t
 
--- the client reflects a planned log, and waits to be told of pending failures
-pub record Waits {H M : Type 0} {g : Ghosts H} {j : Judges M} (c : Client H M g j) (progress : Progress) (called : List (List ℕ)) (t : Told) : Type 0 where
+-- the client reflects a planned log, that goes on from a first one, and waits to be told of pending failures
+pub record Waits {H M : Type 0} {g : Ghosts H} {j : Judges M} (c : Client H M g j) (progress : Progress) (called : List (List ℕ)) (first : Log) (t : Told) : Type 0 where
   pub planned : Log
   pub reflects : Reflects c planned
+  pub ticked : IsTicked (rule_by c).mode first → IsTicked (rule_by c).mode planned
   pub doing : Doing (rule_by c) [] progress called planned t
 
 -- a dial or a send has failed
@@ -319,22 +337,6 @@ IsEnd Synced log = IsState IsSynced log
 IsEnd NoPeers log = IsState HasNoPeers log
 IsEnd Tired log = IsBusy log
 IsEnd EndedFirst log = (before : Log) × ((log ≡ Took Ended ∷ before) × IsBusy before)
-
--- right after a tick something is open to each connected peer of a client that follows, unless all numbers of pings were used
-abbrev pub IsTicked : Mode → Log → Type 0
-IsTicked Once log = Unit {0}
-IsTicked Following log = is_after_tick log ≡ true → (p : ℕ) → IsConnected log p
-    → (is_open (trail log p) ≡ true) ⊎ (pings (trail log p) ≡ 18446744073709551615)
-
--- so it was whenever a delivery was taken
-abbrev pub WerePinged : Mode → Log → Type 0
-WerePinged mode [] = Unit {0}
-WerePinged mode (Dialled p name ∷ log) = WerePinged mode log
-WerePinged mode (NotDialled p name ∷ log) = WerePinged mode log
-WerePinged mode (Sent p bytes ∷ log) = WerePinged mode log
-WerePinged mode (SendFailed p ∷ log) = WerePinged mode log
-WerePinged mode (Closed p ∷ log) = WerePinged mode log
-WerePinged mode (Took d ∷ log) = IsTicked mode log × WerePinged mode log
 
 -- What a run that ended so has done, by its log. With nothing open each connected peer was heard out, and its filter header is known at each block that its own
 -- chain shares with the best one; and each of the best chain's blocks is settled. With nothing open what each claims of the fetched blocks on which they differ was

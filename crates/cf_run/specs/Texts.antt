@@ -10,6 +10,8 @@ use Rattle.cf_sync.specs.Fetching.{AreBytes, RightlyIn}
 use Rattle.cf_sync.specs.Putting.{WerePut, ArePut, PutsAt, EndsWith, put}
 use Rattle.cf_client.specs.declared.client.Client.{Client}
 use Rattle.cf_client.specs.Stands.{Reflects, watch_by}
+use Rattle.cf_run.specs.declared.texts.TextFail.{TextFail}
+use Rattle.cf_run.specs.declared.texts.TextFail.TheVariants.{NoMemory, Failed}
 
 -- a beginning of a text was taken
 pub record HasBegun (text : List ℕ) (before now : Option (List ℕ)) : Type 0 where
@@ -82,19 +84,44 @@ pub record PutsNext {H M : Type 0} {g : Ghosts H} {j : Judges M} (c : Client H M
   pub puts : (log : Log) → Reflects c log → AreBytes log → RightlyIn Following log → PutsAt (watch_by c) log before texts
   pub taken : (first : Option (List ℕ)) → old ≡ with_more first (joined before) → new ≡ with_more first (joined texts)
 
--- a beginning of them: no more than was put before, or with what the moment adds
-pub record PutsSome {H M : Type 0} {g : Ghosts H} {j : Judges M} (c : Client H M g j) (before : List (List ℕ)) (old new : Option (List ℕ)) : Type 0 where
-  pub texts : List (List ℕ)
-  pub puts : (log : Log) → Reflects c log → AreBytes log → RightlyIn Following log → (texts ≡ before) ⊎ PutsAt (watch_by c) log before texts
-  pub begun : (first : Option (List ℕ)) → old ≡ with_more first (joined before) → HasBegun (joined texts) first new
+-- a text wasn't put: for want of memory nothing of it was taken, else it isn't the last one, and a beginning of it was
+abbrev pub PutsBegun : TextFail → List ℕ → List (List ℕ) → Option (List ℕ) → Option (List ℕ) → Type 0
+PutsBegun NoMemory text before old new = new ≡ old
+PutsBegun Failed text before old new = (put text before ≡ text ∷ before) × HasBegun text old new
 
--- all texts were put, by now; and a beginning of them, by now or before the last delivery
+-- a beginning of the text that is due by each log that the client reflects
+pub record PutsBut {H M : Type 0} {g : Ghosts H} {j : Judges M} (c : Client H M g j) (before : List (List ℕ)) (old new : Option (List ℕ)) : Type 0 where
+  pub text : List ℕ
+  pub due : (log : Log) → Reflects c log → AreBytes log → RightlyIn Following log → PutsAt (watch_by c) log before (text ∷ before)
+  pub begun : HasBegun text old new
+
+-- what was put at a moment at which it failed so
+abbrev pub PutsSome : {H M : Type 0} → {g : Ghosts H} {j : Judges M} → TextFail → Client H M g j → List (List ℕ) → Option (List ℕ) → Option (List ℕ) → Type 0
+PutsSome NoMemory c before old new = new ≡ old
+PutsSome Failed c before old new = PutsBut c before old new
+
+-- all texts were put, by now
 pub record AllPut (watch : List (List ℕ)) (t : Told) (before now : Option (List ℕ)) : Type 0 where
   pub texts : List (List ℕ)
   pub puts : PutBy watch texts t
   pub taken : now ≡ with_more before (joined texts)
 
-pub record SomePut (watch : List (List ℕ)) (t : Told) (before now : Option (List ℕ)) : Type 0 where
+-- all texts were put, before the last delivery or by now
+pub record SoPut (watch : List (List ℕ)) (t : Told) (before now : Option (List ℕ)) : Type 0 where
   pub texts : List (List ℕ)
   pub puts : PutBefore watch texts t ⊎ PutBy watch texts t
-  pub begun : HasBegun (joined texts) before now
+  pub taken : now ≡ with_more before (joined texts)
+
+-- all texts were put, before the last delivery, and a beginning of the one that is due now; and the log is right so far
+pub record ButPut (watch : List (List ℕ)) (t : Told) (before now : Option (List ℕ)) : Type 0 where
+  pub texts : List (List ℕ)
+  pub text : List ℕ
+  pub earlier : PutBefore watch texts t
+  pub due : IfSome t.log (λ log. PutsAt watch log texts (text ∷ texts))
+  pub begun : HasBegun text (with_more before (joined texts)) now
+  pub right : IfSome t.log (λ log. AreBytes log × RightlyIn Following log)
+
+-- what was put of a run that failed so
+abbrev pub SomePut : TextFail → List (List ℕ) → Told → Option (List ℕ) → Option (List ℕ) → Type 0
+SomePut NoMemory watch t before now = SoPut watch t before now
+SomePut Failed watch t before now = ButPut watch t before now

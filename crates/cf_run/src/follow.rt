@@ -1,6 +1,6 @@
 //! A run that follows: the dials, the deliveries, and the texts of its quiet moments.
-ghost use Rattle.std.specs.Prelude.{◌≡◌, ◌≢◌, ◌↔◌, ℕ, None, ◌<◌, ◌≤◌, ◌+◌, ◌∷◌, [], List, Option, OnOk, IfOk, OnErr, IfSome, IsErrOf, Some, false, true, length, string_bytes, if◌then◌else◌};
-ghost use Rattle.cf_bytes.specs.Outside.{HasRisen, with_more};
+ghost use Rattle.std.specs.Prelude.{◌≡◌, ◌≢◌, ◌↔◌, ℕ, None, ◌<◌, ◌≤◌, ◌+◌, ◌∷◌, [], List, Option, OnOk, IfOk, IfErr, IfSome, IsErrOf, Some, false, true, length, string_bytes, if◌then◌else◌};
+ghost use Rattle.cf_bytes.specs.Outside.{HasRisen};
 ghost use Rattle.cf_client.specs.Holding.{HoldsNoMore};
 ghost use Rattle.cf_client.specs.Stands.{Reflects, count_of, rule_by, watch_by, words_by};
 ghost use Rattle.cf_peer.specs.declared.mode.Mode.TheVariants.{Following};
@@ -8,7 +8,7 @@ ghost use Rattle.cf_place.specs.Places.{EndsTell};
 ghost use Rattle.cf_run.specs.Names.{names_in};
 ghost use Rattle.cf_run.specs.Passing.{EndsWithin, Passes};
 ghost use Rattle.cf_run.specs.Run.{Course, Followed, HasDialled, HasFailed, HoldsOver, IsEnd, IsInStep, IsNoMore, NobodyLeft, Runs, Stopped, Turned, Turns, moment};
-ghost use Rattle.cf_run.specs.Texts.{AllPut, HasBegun, HasPut, HasPutBut, HasPutSo, HavePut, IsLast, IsOver, PutBefore, PutsNext, PutsOne, PutsSome, SomePut, joined};
+ghost use Rattle.cf_run.specs.Texts.{AllPut, HasPut, HasPutBut, HasPutSo, HavePut, IsLast, IsOver, PutBefore, PutsBegun, PutsNext, PutsOne, PutsSome, SomePut};
 ghost use Rattle.cf_run.specs.Versions.{HasWords, KeepsWords};
 ghost use Rattle.cf_sync.specs.Fetching.{AreBytes, RightlyIn, following};
 ghost use Rattle.cf_sync.specs.Growing.{FollowTheorem};
@@ -49,9 +49,8 @@ fn put_text<T: Texts>(
 ) -> Result<(), TextFail>
     ensures put { OnOk result ((before : List (List ℕ)) → IsLast last.old before
         → PutsOne (string_bytes text) before last.new (T.told texts.old) (T.told texts.new)) }
-    ensures begun { OnErr result ((before : List (List ℕ)) (first : Option (List ℕ)) → IsLast last.old before
-        → T.told texts.old ≡ with_more first (joined before)
-        → HasBegun (joined (put (string_bytes text) before)) first (T.told texts.new)) }
+    ensures begun { IfErr result (λ fail. (before : List (List ℕ)) → IsLast last.old before
+        → PutsBegun fail (string_bytes text) before (T.told texts.old) (T.told texts.new)) }
     ensures fine { OnOk result (T.faults texts.new ≡ T.faults texts.old) }
     ensures failed { IsErrOf result TextFail.Failed → HasRisen (T.faults texts.old) (T.faults texts.new) }
     ensures same_reference { T.holds texts.new ≡ T.holds texts.old }
@@ -75,8 +74,8 @@ fn put_at_rest<H: HeaderStore, M: Matcher, T: Texts>(
     requires follows { (rule_by client.old).mode ≡ Following }
     ensures put { OnOk result ((before : List (List ℕ)) → IsLast last.old before
         → PutsNext client.old before last.new (T.told texts.old) (T.told texts.new)) }
-    ensures put_some { OnErr result ((before : List (List ℕ)) → IsLast last.old before
-        → PutsSome client.old before (T.told texts.old) (T.told texts.new)) }
+    ensures put_some { IfErr result (λ fail. (before : List (List ℕ)) → IsLast last.old before
+        → PutsSome fail client.old before (T.told texts.old) (T.told texts.new)) }
     ensures same { OnOk result (client.new ≡ client.old) }
     ensures fine { OnOk result (T.faults texts.new ≡ T.faults texts.old) }
     ensures failed { IsErrOf result TextFail.Failed → HasRisen (T.faults texts.old) (T.faults texts.new) }
@@ -129,13 +128,10 @@ fn follow_turn<W: Wires, H: HeaderStore, M: Matcher, T: Texts>(
         → HoldsOver client.old progress.old called (W.told wires.old)
         → HavePut watch last.old (W.told wires.old) first (T.told texts.old)
         → AllPut watch (W.told wires.new) first (T.told texts.new)) }
-    ensures put_some { OnErr result ((watch called : List (List ℕ)) (first : Option (List ℕ))
+    ensures put_some { IfErr result (λ fail. (watch called : List (List ℕ)) (first : Option (List ℕ))
         → watch_by client.old ≡ watch → HoldsOver client.old progress.old called (W.told wires.old)
         → HavePut watch last.old (W.told wires.old) first (T.told texts.old)
-        → SomePut watch (W.told wires.new) first (T.told texts.new)) }
-    ensures right { IsErrOf result TextFail.Failed → (called : List (List ℕ))
-        → HoldsOver client.old progress.old called (W.told wires.old)
-        → IfSome (W.told wires.new).log (λ log. AreBytes log × RightlyIn Following log) }
+        → SomePut fail watch (W.told wires.new) first (T.told texts.new)) }
     ensures versions { (called : List (List ℕ)) → HoldsOver client.old progress.old called (W.told wires.old)
         → KeepsWords (words_by client.old) (W.told wires.old) (W.told wires.new) }
     ensures rule { OnOk result (rule_by client.new ≡ rule_by client.old) }
@@ -188,12 +184,9 @@ fn follow_turns<W: Wires, H: HeaderStore, M: Matcher, T: Texts>(
     ensures put { OnOk result ((watch called : List (List ℕ)) → watch_by client.old ≡ watch
         → HoldsOver client.old progress.old called (W.told wires.old) → PutBefore watch [] (W.told wires.old)
         → AllPut watch (W.told wires.new) (T.told texts.old) (T.told texts.new)) }
-    ensures put_some { OnErr result ((watch called : List (List ℕ)) → watch_by client.old ≡ watch
+    ensures put_some { IfErr result (λ fail. (watch called : List (List ℕ)) → watch_by client.old ≡ watch
         → HoldsOver client.old progress.old called (W.told wires.old) → PutBefore watch [] (W.told wires.old)
-        → SomePut watch (W.told wires.new) (T.told texts.old) (T.told texts.new)) }
-    ensures right { IsErrOf result TextFail.Failed → (called : List (List ℕ))
-        → HoldsOver client.old progress.old called (W.told wires.old)
-        → IfSome (W.told wires.new).log (λ log. AreBytes log × RightlyIn Following log) }
+        → SomePut fail watch (W.told wires.new) (T.told texts.old) (T.told texts.new)) }
     ensures versions { (called : List (List ℕ)) → HoldsOver client.old progress.old called (W.told wires.old)
         → KeepsWords (words_by client.old) (W.told wires.old) (W.told wires.new) }
     ensures rule { OnOk result (rule_by client.new ≡ rule_by client.old) }
@@ -261,10 +254,8 @@ fn follow_all<W: Wires, H: HeaderStore + Drop, M: Matcher + Drop, T: Texts>(
         Followed (following watch) o.end o.height o.tip o.history o.trace.items (names_in names.now) log)) }
     ensures put { OnOk result (IfSome (W.told wires.new).log (λ log.
         HasPut watch log (T.told texts.old) (T.told texts.new))) }
-    ensures put_so { IsErrOf result TextFail.NoMemory → IfSome (W.told wires.new).log (λ log.
-        HasPutSo watch log (T.told texts.old) (T.told texts.new)) }
-    ensures put_but { IsErrOf result TextFail.Failed → IfSome (W.told wires.new).log (λ log.
-        HasPutBut watch log (T.told texts.old) (T.told texts.new)) }
+    ensures put_some { IfErr result (λ fail.
+        SomePut fail watch (W.told wires.new) (T.told texts.old) (T.told texts.new)) }
     ensures ends { IfOk result (λ o. IfSome (W.told wires.new).log (λ log. EndsTell o.ends.items log)) }
     ensures held { IfOk result (λ o. IfSome (W.told wires.new).log (λ log. HoldsNoMore H.counts o.held log)) }
     ensures versions { HasWords (record { moment = moment; number = nonce }) (W.told wires.new) }
@@ -272,8 +263,6 @@ fn follow_all<W: Wires, H: HeaderStore + Drop, M: Matcher + Drop, T: Texts>(
     ensures done { IfOk result (λ o. o.end ≡ End.Synced → IsOver turns (W.told wires.new).tally) }
     ensures within { IfOk result (λ o. EndsWithin o.end (length names.now) turns (W.told wires.new).tally) }
     ensures dialled { (IsErrOf result TextFail.NoMemory → ⊥) → (W.told wires.new).tally.dials ≡ length names.now }
-    ensures right { IsErrOf result TextFail.Failed → IfSome (W.told wires.new).log (λ log.
-        AreBytes log × RightlyIn Following log) }
     ensures passes { Passes (names_in names.now) turns (W.told wires.old) (W.told wires.new) (W.faults wires.old)
         (W.faults wires.new) (W.script wires.old) (W.script wires.new) (W.keeps wires.old) (W.keeps wires.new) }
     ensures fine { OnOk result (T.faults texts.new ≡ T.faults texts.old) }

@@ -8,7 +8,7 @@ ghost use Rattle.cf_run.specs.Texts.{PutBefore, PutBy};
 ghost use Rattle.cf_sync.specs.Sync.{SyncTheorem};
 ghost use Rattle.cf_place.specs.Places.{MayAct, Allowed, after, entry_of, EndsTell, Words, TellsWords, ActTells};
 ghost use Rattle.cf_run.specs.Passing.{CountsOne, EndsWithin, Passes};
-ghost use Rattle.cf_run.specs.Run.{Followed, NobodyLeft, HasFailed, Course, Doing, HoldsOver, AreBytesOf, moment, Runs, Performs, Dials, Turns, IsOneMore, IsNoMore, HasDialled, HasNames, Turned, Stopped, IsEnd, IsInStep, IsEndTold};
+ghost use Rattle.cf_run.specs.Run.{Followed, NobodyLeft, HasFailed, Course, Doing, HoldsOver, AreBytesOf, moment, Runs, Performs, Dials, Turns, IsOneMore, IsNoMore, HasDialled, HasNames, Turned, Stopped, IsEnd, IsInStep, IsEndTold, IsTicked};
 ghost use Rattle.cf_client.specs.Stands.{Reflects, Answers, IsReportOf, count_of, rule_by, words_by};
 ghost use Rattle.cf_run.specs.Versions.{KeepsWords, HasWords};
 ghost use Rattle.std.specs.List.{All};
@@ -172,7 +172,10 @@ fn settle<W: Wires, H: HeaderStore, M: Matcher>(
 ) -> Result<(), NoMemory>
     requires step { IsInStep (W.told wires.old) progress.old }
     requires open { (W.told wires.old).finished ≡ false }
-    ensures holds { OnOk result ((called : List (List ℕ)) (planned : Log) → Reflects client.old planned → Doing (rule_by client.old) [] progress.old called planned (W.told wires.old) → HoldsOver client.new progress.new called (W.told wires.new)) }
+    ensures holds { OnOk result ((called : List (List ℕ)) (planned : Log) → Reflects client.old planned
+        → Doing (rule_by client.old) [] progress.old called planned (W.told wires.old)
+        → IsTicked (rule_by client.old).mode planned
+        → HoldsOver client.new progress.new called (W.told wires.new)) }
     ensures versions { (called : List (List ℕ)) (planned : Log) → Reflects client.old planned → Doing (rule_by client.old) [] progress.old called planned (W.told wires.old) → KeepsWords (words_by client.old) (W.told wires.old) (W.told wires.new) }
     ensures count { OnOk result (count_of client.new ≡ count_of client.old) }
     ensures rule { OnOk result (rule_by client.new ≡ rule_by client.old) }
@@ -198,7 +201,10 @@ fn carry_out<W: Wires, H: HeaderStore, M: Matcher>(
     requires doable { All IsDoable acts.now }
     requires step { IsInStep (W.told wires.old) progress.old }
     requires open { (W.told wires.old).finished ≡ false }
-    ensures holds { OnOk result ((called : List (List ℕ)) (log : Log) → Answers client.old acts.now log → Doing (rule_by client.old) acts.now progress.old called log (W.told wires.old) → HoldsOver client.new progress.new called (W.told wires.new)) }
+    ensures holds { OnOk result ((called : List (List ℕ)) (log : Log) → Answers client.old acts.now log
+        → Doing (rule_by client.old) acts.now progress.old called log (W.told wires.old)
+        → IsTicked (rule_by client.old).mode (after acts.now log)
+        → HoldsOver client.new progress.new called (W.told wires.new)) }
     ensures versions { (called : List (List ℕ)) (log : Log) → Answers client.old acts.now log → Doing (rule_by client.old) acts.now progress.old called log (W.told wires.old) → All (ActTells (words_by client.old)) acts.now → KeepsWords (words_by client.old) (W.told wires.old) (W.told wires.new) }
     ensures count { OnOk result (count_of client.new ≡ count_of client.old) }
     ensures rule { OnOk result (rule_by client.new ≡ rule_by client.old) }
@@ -225,6 +231,7 @@ fn greet<W: Wires, H: HeaderStore, M: Matcher>(
     requires open { (W.told wires.old).finished ≡ false }
     ensures holds { OnOk result ((called : List (List ℕ)) (log : Log) → Reflects client.old log
         → ((acts : List Act) → Doing (rule_by client.old) acts progress.old called (Dialled p name.now ∷ log) (W.told wires.old))
+        → IsTicked (rule_by client.old).mode log
         → HoldsOver client.new progress.new called (W.told wires.new)) }
     ensures versions { (called : List (List ℕ)) (log : Log) → Reflects client.old log
         → ((acts : List Act) → Doing (rule_by client.old) acts progress.old called (Dialled p name.now ∷ log) (W.told wires.old))

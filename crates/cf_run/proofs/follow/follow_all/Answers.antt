@@ -1,5 +1,4 @@
-use Rattle.std.proofs.Common.{◌≡◌, Err, List, [], ℕ, sym, ◌∙◌, ap, subst, rules}
-use Rattle.cf_run.specs.declared.texts.TextFail.TheVariants.{Failed}
+use Rattle.std.proofs.Common.{List, [], ℕ, sym, ◌∙◌, ap, subst, rules}
 use Rattle.std.proofs.lemmas.Result.{err_from_is_err_and}
 use Rattle.std.proofs.Math.Facts.{to_z-of_z}
 use Rattle.std.specs.Int.{w64}
@@ -14,7 +13,7 @@ use Rattle.cf_run.proofs.Versions.{new_words, has_so, words_then, words_so}
 use Rattle.cf_run.proofs.Turns.{starts, finishes, no_peers, told_so}
 use Rattle.cf_run.proofs.Dialling.{none_named}
 use Rattle.cf_run.proofs.Passing.{passes_none, passes_dials, passes_turns}
-use Rattle.cf_run.proofs.Puts.{all_some, all_told, none_before, none_put, some_told}
+use Rattle.cf_run.proofs.Puts.{all_some, all_told, none_before, none_put}
 use Rattle.cf_run.proofs.follow.follow_all.Goals as goal
 
 pub returns-clause-followed : goal.returns-clause-followed
@@ -140,44 +139,34 @@ returns-clause-put g c =
 
 pub returns-in_err-client-clause-put_some : goal.returns-in_err-client-clause-put_some
 returns-in_err-client-clause-put_some g c =
-    rw (err_from_is_err_and c.from_residual.result c.from_residual.ensures.1).1
-    (let t0 = g.W.Wires.told c.args.wires.now in
-    some_told c.args.watch t0 _ _ (none_put c.args.watch t0 _ (none_before c.args.watch t0 c.requires.fresh)))
+    (let p = err_from_is_err_and c.from_residual.result c.from_residual.ensures.1 in rw (p.1, p.2)
+    (none_put c.args.watch (g.W.Wires.told c.args.wires.now) _ (none_before c.args.watch (g.W.Wires.told c.args.wires.now) c.requires.fresh)))
 
 pub returns-in_err-dial_all-clause-put_some : goal.returns-in_err-dial_all-clause-put_some
 returns-in_err-dial_all-clause-put_some g c =
-    rw (err_from_is_err_and c.from_residual-in_err-dial_all.result c.from_residual-in_err-dial_all.ensures.1).1
-    (let were = c.in_err-dial_all.ensures.puts c.args.watch [] (none_before c.args.watch (g.W.Wires.told c.args.wires.now) c.requires.fresh) in
-    some_told c.args.watch (g.W.Wires.told c.dial_all.new.wires) _ _ (none_put c.args.watch (g.W.Wires.told c.dial_all.new.wires) _ were))
+    (let p = err_from_is_err_and c.from_residual-in_err-dial_all.result c.from_residual-in_err-dial_all.ensures.1 in
+    let were = c.in_err-dial_all.ensures.puts c.args.watch [] (none_before c.args.watch (g.W.Wires.told c.args.wires.now) c.requires.fresh) in
+    rw (p.1, p.2) (none_put c.args.watch (g.W.Wires.told c.dial_all.new.wires) _ were))
 
 pub returns-in_err-end-clause-put_some : goal.returns-in_err-end-clause-put_some
 returns-in_err-end-clause-put_some g c =
-    rw (err_from_is_err_and c.from_residual-in_err-end.result c.from_residual-in_err-end.ensures.1).1
-    (let t0 = g.W.Wires.told c.args.wires.now in
+    (let p = err_from_is_err_and c.from_residual-in_err-end.result c.from_residual-in_err-end.ensures.1 in
+    let t0 = g.W.Wires.told c.args.wires.now in
     let start = starts c.in_ok-client.client c.new-progress.result t0 c.in_ok-client.ensures.reflects c.new-progress.ensures.sends c.new-progress.ensures.closed c.new-progress.ensures.trace c.requires.fresh in
     let called = names_in c.args.names.now in
     let same = ap (λ (r : Rule). r.watch) (c.in_ok-dial_all.ensures.rule ∙ c.in_ok-client.ensures.rule) in
     let were = c.in_ok-dial_all.ensures.puts c.args.watch [] (none_before c.args.watch t0 c.requires.fresh) in
-    some_told c.args.watch (g.W.Wires.told c.follow_turns.new.wires) _ _ (c.in_err-end.ensures.put_some c.args.watch called same (c.in_ok-dial_all.ensures.holds start) were))
+    rw (p.1, p.2) (c.in_err-end.ensures.put_some c.args.watch called same (c.in_ok-dial_all.ensures.holds start) were))
 
 pub returns-in_err-outcome-clause-put_some : goal.returns-in_err-outcome-clause-put_some
 returns-in_err-outcome-clause-put_some g c =
-    rw (err_from_is_err_and c.from_residual-in_err-outcome.result c.from_residual-in_err-outcome.ensures.1).1
-    (let t0 = g.W.Wires.told c.args.wires.now in
+    (let p = err_from_is_err_and c.from_residual-in_err-outcome.result c.from_residual-in_err-outcome.ensures.1 in
+    let t0 = g.W.Wires.told c.args.wires.now in
     let start = starts c.in_ok-client.client c.new-progress.result t0 c.in_ok-client.ensures.reflects c.new-progress.ensures.sends c.new-progress.ensures.closed c.new-progress.ensures.trace c.requires.fresh in
     let called = names_in c.args.names.now in
     let same = ap (λ (r : Rule). r.watch) (c.in_ok-dial_all.ensures.rule ∙ c.in_ok-client.ensures.rule) in
     let were = c.in_ok-dial_all.ensures.puts c.args.watch [] (none_before c.args.watch t0 c.requires.fresh) in
-    let t = g.W.Wires.told c.follow_turns.new.wires in
-    some_told c.args.watch t _ _ (all_some c.args.watch t _ _ (c.in_ok-end.ensures.put c.args.watch called same (c.in_ok-dial_all.ensures.holds start) were)))
-
-pub returns-in_err-end-clause-right : goal.returns-in_err-end-clause-right
-returns-in_err-end-clause-right g c = λ failed.
-    let p = err_from_is_err_and c.from_residual-in_err-end.result c.from_residual-in_err-end.ensures.1 in
-    let f : c.from_residual-in_err-end.result ≡ Err Failed = failed in
-    let e : c.in_err-end.field-0.0 ≡ Failed = cc (p.1, p.2, f) in
-    let start = starts c.in_ok-client.client c.new-progress.result (g.W.Wires.told c.args.wires.now) c.in_ok-client.ensures.reflects c.new-progress.ensures.sends c.new-progress.ensures.closed c.new-progress.ensures.trace c.requires.fresh in
-    c.in_err-end.ensures.right (ap Err e) (names_in c.args.names.now) (c.in_ok-dial_all.ensures.holds start)
+    rw (p.1, p.2) (all_some c.args.watch (g.W.Wires.told c.follow_turns.new.wires) _ _ (c.in_ok-end.ensures.put c.args.watch called same (c.in_ok-dial_all.ensures.holds start) were)))
 
 pub returns-clause-dialled : goal.returns-clause-dialled
 returns-clause-dialled g c = λ ne. c.in_ok-end.ensures.same.dials ∙ c.in_ok-dial_all.ensures.dialled

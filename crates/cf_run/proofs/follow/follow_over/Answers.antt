@@ -4,7 +4,7 @@ use Rattle.std.proofs.lemmas.Result.{IfOk-weaker}
 use Rattle.std.specs.Int.{w64}
 use Rattle.cf_run.specs.Names.{names_in}
 use Rattle.cf_run.specs.Versions.{HasWords}
-use Rattle.cf_run.proofs.Puts.{follow_theorem_in}
+use Rattle.cf_run.proofs.Puts.{but_put, follow_theorem_in, right_put, so_put}
 use Rattle.cf_run.proofs.follow.follow_over.Goals as goal
 
 pub returns-clause-theorem : goal.returns-clause-theorem
@@ -13,8 +13,11 @@ returns-clause-theorem g c = rw c.finish.ensures.told (follow_theorem_in c.args.
 pub returns-clause-put : goal.returns-clause-put
 returns-clause-put g c = rw c.finish.ensures.told c.follow_all-outcome.ensures.put
 
-pub returns-clause-put_some : goal.returns-clause-put_some
-returns-clause-put_some g c = rw c.finish.ensures.told c.follow_all-outcome.ensures.put_some
+pub returns-clause-put_so : goal.returns-clause-put_so
+returns-clause-put_so g c = rw c.finish.ensures.told (so_put c.args.watch (g.W.Wires.told c.follow_all-outcome.new.wires) _ _ c.follow_all-outcome.result c.follow_all-outcome.ensures.put_some)
+
+pub returns-clause-put_but : goal.returns-clause-put_but
+returns-clause-put_but g c = rw c.finish.ensures.told (but_put c.args.watch (g.W.Wires.told c.follow_all-outcome.new.wires) _ _ c.follow_all-outcome.result c.follow_all-outcome.ensures.put_some)
 
 pub returns-clause-no_peers : goal.returns-clause-no_peers
 returns-clause-no_peers g c = rw c.finish.ensures.told c.follow_all-outcome.ensures.no_peers
@@ -41,7 +44,7 @@ pub returns-clause-dialled : goal.returns-clause-dialled
 returns-clause-dialled g c = rw c.finish.ensures.told c.follow_all-outcome.ensures.dialled
 
 pub returns-clause-right : goal.returns-clause-right
-returns-clause-right g c = rw c.finish.ensures.told c.follow_all-outcome.ensures.right
+returns-clause-right g c = rw c.finish.ensures.told (right_put c.args.watch (g.W.Wires.told c.follow_all-outcome.new.wires) _ _ c.follow_all-outcome.result c.follow_all-outcome.ensures.put_some)
 
 pub returns-clause-first : goal.returns-clause-first
 returns-clause-first g c =

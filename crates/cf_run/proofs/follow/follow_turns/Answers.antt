@@ -1,5 +1,4 @@
-use Rattle.std.proofs.Common.{◌≡◌, Err, inr, ℕ, ◌+◌, Option, Some, refl, ◌∙◌, ap, subst, arith}
-use Rattle.cf_run.specs.declared.texts.TextFail.TheVariants.{Failed}
+use Rattle.std.proofs.Common.{◌≡◌, inr, ℕ, ◌+◌, Option, Some, refl, ◌∙◌, ap, subst, arith}
 use Rattle.std.proofs.lemmas.Result.{err_from_is_err_and}
 use Rattle.cf_sync.specs.Fetching.{Rule}
 use Rattle.cf_client.specs.Stands.{words_by}
@@ -8,7 +7,7 @@ use Rattle.cf_run.specs.Run.{Turned}
 use Rattle.cf_run.proofs.Courses.{runs_self, runs_then, no_more_self, no_more_then}
 use Rattle.cf_run.proofs.Turns.{holds_same, rule_same, stops}
 use Rattle.cf_run.proofs.Versions.{keeps_then}
-use Rattle.cf_run.proofs.Puts.{all_by, none_have, right_now, some_by}
+use Rattle.cf_run.proofs.Puts.{all_by, none_have, some_by}
 use Rattle.cf_run.proofs.follow.follow_turns.Goals as goal
 
 pub loop-turn-init : goal.loop-turn-init
@@ -72,26 +71,15 @@ returns-clause-put g c = λ watch called same holds were.
     (c.loop-turn.invariant.holds called holds) c.loop-turn.invariant.follows (ap (λ (r : Rule). r.watch) c.loop-turn.invariant.rule ∙ same) have (c.in_ok-put_at_rest.ensures.put have.texts have.newest)
 
 pub returns-in_err-end-clause-put_some : goal.returns-in_err-end-clause-put_some
-returns-in_err-end-clause-put_some g c = rw (err_from_is_err_and c.from_residual.result c.from_residual.ensures.1).1 (λ watch called same holds were.
+returns-in_err-end-clause-put_some g c = (let p = err_from_is_err_and c.from_residual.result c.from_residual.ensures.1 in rw (p.1, p.2) (λ watch called same holds were.
     c.in_err-end.ensures.put_some watch called (g.T.Texts.told c.args.texts.now) (ap (λ (r : Rule). r.watch) c.loop-turn.invariant.rule ∙ same)
-    (c.loop-turn.invariant.holds called holds) (c.loop-turn.invariant.puts watch called same holds were))
+    (c.loop-turn.invariant.holds called holds) (c.loop-turn.invariant.puts watch called same holds were)))
 
 pub returns-in_err-put_at_rest-clause-put_some : goal.returns-in_err-put_at_rest-clause-put_some
-returns-in_err-put_at_rest-clause-put_some g c = rw (err_from_is_err_and c.from_residual-in_err-put_at_rest.result c.from_residual-in_err-put_at_rest.ensures.1).1 (λ watch called same holds were.
+returns-in_err-put_at_rest-clause-put_some g c = (let p = err_from_is_err_and c.from_residual-in_err-put_at_rest.result c.from_residual-in_err-put_at_rest.ensures.1 in rw (p.1, p.2) (λ watch called same holds were.
     let have = c.loop-turn.invariant.puts watch called same holds were in
-    some_by c.loop-turn.client c.loop-turn.progress called (g.W.Wires.told c.loop-turn.wires) watch c.loop-turn.last (g.T.Texts.told c.args.texts.now) _ _
-    (c.loop-turn.invariant.holds called holds) c.loop-turn.invariant.follows (ap (λ (r : Rule). r.watch) c.loop-turn.invariant.rule ∙ same) have (c.in_err-put_at_rest.ensures.put_some have.texts have.newest))
-
-pub returns-in_err-end-clause-right : goal.returns-in_err-end-clause-right
-returns-in_err-end-clause-right g c = λ failed called holds.
-    let p = err_from_is_err_and c.from_residual.result c.from_residual.ensures.1 in
-    let f : c.from_residual.result ≡ Err Failed = failed in
-    let e : c.in_err-end.field-0.0 ≡ Failed = cc (p.1, p.2, f) in
-    c.in_err-end.ensures.right (ap Err e) called (c.loop-turn.invariant.holds called holds)
-
-pub returns-in_err-put_at_rest-clause-right : goal.returns-in_err-put_at_rest-clause-right
-returns-in_err-put_at_rest-clause-right g c = λ failed called holds.
-    right_now c.loop-turn.client c.loop-turn.progress called (g.W.Wires.told c.loop-turn.wires) (c.loop-turn.invariant.holds called holds) c.loop-turn.invariant.follows
+    some_by _ c.loop-turn.client c.loop-turn.progress called (g.W.Wires.told c.loop-turn.wires) watch c.loop-turn.last (g.T.Texts.told c.args.texts.now) _ _
+    (c.loop-turn.invariant.holds called holds) c.loop-turn.invariant.follows (ap (λ (r : Rule). r.watch) c.loop-turn.invariant.rule ∙ same) have (c.in_err-put_at_rest.ensures.put_some have.texts have.newest)))
 
 pub returns-in-Some-clause-versions : goal.returns-in-Some-clause-versions
 returns-in-Some-clause-versions g c = λ called holds.

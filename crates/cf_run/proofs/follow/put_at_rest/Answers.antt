@@ -1,6 +1,6 @@
 use Rattle.std.proofs.Common.{ℕ, ◌≡◌, refl, subst}
 use Rattle.std.proofs.lemmas.Result.{err_from_is_err_and}
-use Rattle.cf_run.proofs.Puts.{none_next, busy_unrested, alone_unrested, one_next, none_some, one_some}
+use Rattle.cf_run.proofs.Puts.{none_next, busy_unrested, alone_unrested, one_next, some_puts}
 use Rattle.cf_run.proofs.follow.put_at_rest.Goals as goal
 
 pub returns-in-Working-clause-put : goal.returns-in-Working-clause-put
@@ -18,13 +18,15 @@ returns-clause-put g c = λ before is.
     (c.in_ok-put_text.ensures.put before is)
 
 pub returns-in_err-report-clause-put_some : goal.returns-in_err-report-clause-put_some
-returns-in_err-report-clause-put_some g c = rw (err_from_is_err_and c.from_residual.result c.from_residual.ensures.1).1 (λ before is. none_some c.args.client.now before _)
+returns-in_err-report-clause-put_some g c = (let p = err_from_is_err_and c.from_residual.result c.from_residual.ensures.1 in rw (p.1, p.2) (λ before is. refl))
 
 pub returns-in_err-text-clause-put_some : goal.returns-in_err-text-clause-put_some
-returns-in_err-text-clause-put_some g c = rw (err_from_is_err_and c.from_residual-in_err-text.result c.from_residual-in_err-text.ensures.1).1 (λ before is. none_some c.args.client.now before _)
+returns-in_err-text-clause-put_some g c =
+    (let p = err_from_is_err_and c.from_residual-in_err-text.result c.from_residual-in_err-text.ensures.1 in rw (p.1, p.2) (λ before is. refl))
 
 pub returns-in_err-put_text-clause-put_some : goal.returns-in_err-put_text-clause-put_some
-returns-in_err-put_text-clause-put_some g c = rw (err_from_is_err_and c.from_residual-in_err-put_text.result c.from_residual-in_err-put_text.ensures.1).1 (λ before is.
+returns-in_err-put_text-clause-put_some g c =
+    (let p = err_from_is_err_and c.from_residual-in_err-put_text.result c.from_residual-in_err-put_text.ensures.1 in rw (p.1, p.2) (λ before is.
     let r = c.in_ok-report.report in
-    one_some c.args.client.now before _ _ _ r.height r.tip r.history c.requires.follows c.in-Synced.ensures.state c.in_ok-report.ensures.report c.in_ok-text.ensures
-    (λ first old. c.in_err-put_text.ensures.begun before first is old))
+    some_puts _ c.args.client.now before _ _ _ r.height r.tip r.history c.requires.follows c.in-Synced.ensures.state c.in_ok-report.ensures.report c.in_ok-text.ensures
+    (c.in_err-put_text.ensures.begun before is)))

@@ -1,8 +1,8 @@
-use Rattle.std.proofs.Common.{List, ℕ, true, false, refl, ◌∙◌, ap, subst}
+use Rattle.std.proofs.Common.{List, ℕ, Err, true, false, refl, ◌∙◌, ap, subst}
 use Rattle.std.proofs.lemmas.Result.{err_from_is_err_and}
 use Rattle.cf_bytes.specs.Outside.{with_more}
 use Rattle.cf_run.specs.Texts.{HasBegun}
-use Rattle.cf_run.proofs.Puts.{not_put, one_put, one_begun, added_by}
+use Rattle.cf_run.proofs.Puts.{not_put, one_put, begun_by, added_by}
 use Rattle.cf_run.proofs.follow.put_text.Goals as goal
 
 pub returns-then-is_last-clause-put : goal.returns-then-is_last-clause-put
@@ -16,7 +16,8 @@ returns-clause-put g c = λ before is.
     (c.in_ok-put.ensures.ok ∙ ap (with_more (g.T.Texts.told c.args.texts.now)) c.as_str-2.ensures.value)
 
 pub returns-in_err-put-clause-begun : goal.returns-in_err-put-clause-begun
-returns-in_err-put-clause-begun g c = rw (err_from_is_err_and c.from_residual.result c.from_residual.ensures.1).1 (λ before first is old.
-    one_begun _ before first _ _
+returns-in_err-put-clause-begun g c = (let p = err_from_is_err_and c.from_residual.result c.from_residual.ensures.1 in rw (p.1, p.2) (λ before is.
+    begun_by _ _ before _ _
     (added_by _ c.as_str.result.now before c.is_last.result false c.as_str.ensures.value c.if-is_last.false (c.is_last.ensures before is))
-    (subst (λ (text : List ℕ). HasBegun text (g.T.Texts.told c.args.texts.now) (g.T.Texts.told c.put.new.self)) c.as_str-2.ensures.value c.in_err-put.ensures.begun) old)
+    (subst (λ (text : List ℕ). HasBegun text (g.T.Texts.told c.args.texts.now) (g.T.Texts.told c.put.new.self)) c.as_str-2.ensures.value c.in_err-put.ensures.begun)
+    (λ none. (c.in_err-put.ensures.no_memory (ap Err none)).0)))

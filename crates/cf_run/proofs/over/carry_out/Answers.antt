@@ -4,8 +4,8 @@ use Rattle.cf_run.proofs.Courses.{performs_then}
 use Rattle.cf_run.proofs.over.carry_out.Goals as goal
 
 pub returns-clause-holds : goal.returns-clause-holds
-returns-clause-holds g c = λ called log answers doing.
-    c.in_ok-settle.ensures.holds called (after c.args.acts.now log) answers.stand (c.in_ok-perform.ensures.doing (rule_by c.args.client.now) called log answers.allowed doing)
+returns-clause-holds g c = λ called log answers doing ticked.
+    c.in_ok-settle.ensures.holds called (after c.args.acts.now log) answers.stand (c.in_ok-perform.ensures.doing (rule_by c.args.client.now) called log answers.allowed doing) ticked
 
 pub returns-clause-performs : goal.returns-clause-performs
 returns-clause-performs g c = performs_then c.in_ok-perform.ensures.performs c.in_ok-settle.ensures.performs

@@ -13,6 +13,7 @@ returns-in_ok-greet-in-Ok-clause-holds g c = λ called holds.
     c.in_ok-greet-in-Ok.ensures.holds (called ++ c.args.name.now ∷ []) holds.actual holds.reflects
     (λ acts. rw c.in-Ok.ensures.dialled.1
     (dial_doing c.args.client.now acts c.args.progress.now called (g.W.Wires.told c.args.wires.now) c.in-Ok.p c.args.name.now holds c.in-Ok.ensures.dialled.0 c.requires.room c.requires.untaken c.requires.unended))
+    holds.ticked
 
 pub returns-in_ok-greet-in-Ok-clause-versions : goal.returns-in_ok-greet-in-Ok-clause-versions
 returns-in_ok-greet-in-Ok-clause-versions g c = λ called holds.

@@ -4,16 +4,18 @@ use Rattle.cf_wires.specs.declared.event.Event.TheVariants.{Dialled}
 use Rattle.cf_client.specs.Stands.{Answers, words_by}
 use Rattle.cf_run.proofs.Courses.{performs_self}
 use Rattle.cf_run.proofs.Passing.{keeps_so}
+use Rattle.cf_run.proofs.Ticked.{ticked_greeted}
 use Rattle.cf_run.proofs.Turns.{doing_rule}
 use Rattle.cf_run.proofs.Versions.{greeting_tells, acts_tell_so}
 use Rattle.cf_run.proofs.over.greet.Goals as goal
 
 pub returns-clause-holds : goal.returns-clause-holds
-returns-clause-holds g c = λ called log reflects doing.
+returns-clause-holds g c = λ called log reflects doing ticked.
     let now = Dialled c.args.p c.args.name.now ∷ log in
-    c.in_ok-carry_out.ensures.holds called now
-    (subst (λ (acts : List Act). Answers c.dialled.new.self acts now) (sym c.deref.ensures.value) (c.in_ok-acts.ensures.answers log reflects))
+    let answers = subst (λ (acts : List Act). Answers c.dialled.new.self acts now) (sym c.deref.ensures.value) (c.in_ok-acts.ensures.answers log reflects) in
+    c.in_ok-carry_out.ensures.holds called now answers
     (doing_rule c.in_ok-acts.ensures.rule (doing c.deref.result.now))
+    (ticked_greeted c.deref.result.now c.args.p c.args.name.now log c.in_ok-acts.ensures.rule answers.allowed ticked)
 
 pub returns-clause-versions : goal.returns-clause-versions
 returns-clause-versions g c = λ called log reflects doing.

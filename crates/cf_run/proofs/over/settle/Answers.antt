@@ -1,18 +1,30 @@
-use Rattle.std.proofs.Common.{List, ◌∷◌, ◌<◌, [], length, set, sym, ◌∙◌, ap, subst}
+use Rattle.std.proofs.Common.{List, ◌∷◌, ◌<◌, [], length, set, refl, sym, ◌∙◌, ap, subst}
 use Rattle.cf_peer.specs.declared.act.Act.{Act}
 use Rattle.cf_wires.specs.declared.event.Event.TheVariants.{SendFailed}
 use Rattle.cf_peer.specs.declared.peer.Cause.TheVariants.{SendFailed as SendFault}
 use Rattle.cf_run.specs.declared.progress.Progress.{Progress}
 use Rattle.cf_run.specs.declared.progress.SendState.TheVariants.{Known}
 use Rattle.cf_place.specs.Places.{Allowed, after}
-use Rattle.cf_run.specs.Run.{Doing}
-use Rattle.cf_run.proofs.Courses.{noted_performs, performs_then}
+use Rattle.cf_run.specs.Run.{Doing, IsTicked}
+use Rattle.cf_sync.specs.Fetching.{Rule}
+use Rattle.cf_run.proofs.Courses.{noted_performs, performs_self, performs_then}
+use Rattle.cf_run.proofs.Ticked.{ticked_then, ticked_told}
 use Rattle.cf_client.specs.Stands.{rule_by}
 use Rattle.cf_run.proofs.Turns.{doing_rule}
 use Rattle.cf_run.proofs.Performs.{cut_for, told_one, all_told, in_count}
 use Rattle.cf_client.specs.Stands.{words_by}
 use Rattle.cf_run.proofs.Versions.{acts_tell_so}
 use Rattle.cf_run.proofs.over.settle.Goals as goal
+
+pub loop-p-init : goal.loop-p-init
+loop-p-init g c = record {
+  waits = λ called planned reflects doing. record { planned = planned; reflects = reflects; ticked = λ ticked. ticked; doing = doing };
+  versions = λ called planned reflects doing has. has;
+  count = refl;
+  rule = refl;
+  words = refl;
+  performs = performs_self _ c.requires.step;
+}
 
 pub loop-p-preserved : goal.loop-p-preserved
 loop-p-preserved g c = record {
@@ -34,6 +46,7 @@ loop-p-preserved g c = record {
       record {
         planned = after c.in_ok-acts.acts.items next;
         reflects = a.stand;
+        ticked = ticked_then c.in_ok-acts.acts.items p planned w.planned same a.allowed w.ticked;
         doing = subst (λ (acts : List Act). Doing (rule_by c.send_failed.new.self) [] c.perform.new.progress called (after acts next) (g.W.Wires.told c.perform.new.wires)) c.deref.ensures.value done;
       };
   versions = λ called planned reflects doing has.
@@ -51,9 +64,11 @@ loop-p-preserved g c = record {
 }
 
 pub returns-clause-holds : goal.returns-clause-holds
-returns-clause-holds g c = λ called planned reflects doing.
+returns-clause-holds g c = λ called planned reflects doing ticked.
     let w = c.loop-p.invariant.waits called planned reflects doing in
+    let now = w.ticked (subst (λ (r : Rule). IsTicked r.mode planned) (sym c.loop-p.invariant.rule) ticked) in
     all_told c.loop-p.client c.loop-p.progress called w.planned (g.W.Wires.told c.loop-p.wires) c.in_default.ensures.none w.reflects w.doing
+    (ticked_told c.loop-p.progress called w.planned (g.W.Wires.told c.loop-p.wires) w.doing now)
 
 pub returns-in_err-perform-clause-versions : goal.returns-in_err-perform-clause-versions
 returns-in_err-perform-clause-versions g c = λ called planned reflects doing has.

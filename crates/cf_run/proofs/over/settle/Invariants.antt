@@ -8,7 +8,7 @@ use Rattle.cf_run.proofs.over.settle.Given as goal
 abbrev pub invariant-loop-p : goal.invariant-loop-p
 invariant-loop-p g l = record {
   waits : (called : List (List ℕ)) (planned : Log) → Reflects l.fn.client planned → Doing (rule_by l.fn.client) [] l.fn.progress called planned (g.W.Wires.told l.fn.wires)
-      → Waits l.client l.progress called (g.W.Wires.told l.wires);
+      → Waits l.client l.progress called planned (g.W.Wires.told l.wires);
   versions : (called : List (List ℕ)) (planned : Log) → Reflects l.fn.client planned → Doing (rule_by l.fn.client) [] l.fn.progress called planned (g.W.Wires.told l.fn.wires)
       → KeepsWords (words_by l.fn.client) (g.W.Wires.told l.fn.wires) (g.W.Wires.told l.wires);
   count : count_of l.client ≡ count_of l.fn.client;

@@ -6,6 +6,7 @@ use Rattle.cf_wires.specs.declared.event.Event.TheVariants.{Took}
 use Rattle.cf_wires.specs.Log.{tell, Told}
 use Rattle.cf_client.specs.Stands.{Answers, words_by}
 use Rattle.cf_run.proofs.Versions.{entry_keeps, same_keeps, acts_tell_so, keeps_then}
+use Rattle.cf_run.proofs.Ticked.{ticked_taken}
 use Rattle.cf_run.proofs.Turns.{took_doing, doing_rule, took_counts, took_closed}
 use Rattle.cf_run.proofs.Courses.{told_runs, turns_took, turns_then, puts_taken}
 use Rattle.cf_run.proofs.over.take_next.Goals as goal
@@ -19,6 +20,7 @@ returns-clause-holds g c = λ is called holds may.
     c.in_ok-carry_out.ensures.holds called log
     (subst (λ (acts : List Act). Answers c.step.new.self acts log) (sym c.deref.ensures.value) a)
     (doing_rule c.in_ok-acts.ensures.rule (rw c.in_ok-d.ensures.took doing))
+    (ticked_taken d c.in_ok-acts.acts.items c.deref.result.now holds.actual c.in_ok-acts.ensures.rule c.deref.ensures.value (c.in_ok-acts.ensures.pings holds.actual holds.reflects))
 
 pub returns-in-Ended-clause-over : goal.returns-in-Ended-clause-over
 returns-in-Ended-clause-over g c = λ is.
