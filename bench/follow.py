@@ -347,12 +347,14 @@ def silent(around):
     run.comes_to(chain.last_line(BELOW))
     sent(signal.SIGSTOP, servers[1].run)
     line = servers[0].brings()
-    comes(lambda: "peer 2: closed: Overdue" in run.told(), "it is told that peer 2 is closed", run, OVERDUE)
-    run.comes_to(line)
+    # What the silent one was asked is open until it is closed, and no text comes before that.
+    comes(lambda: run.has_told(line), f"{line} is the last line", run, OVERDUE)
     run.comes_to(servers[0].brings())
-    wanted("peer 1" not in run.told().split("Overdue")[1], "peer 1 is told of:", run.told())
+    sent(signal.SIGKILL, servers[0].run)
+    run.ends(6)
+    wanted("peer 1: gone" in run.told() and "peer 2: closed: Overdue" in run.told(), "it tells at its end", run.told())
     run.check(chain)
-    return "it was closed, and then the text of a new block came; standard error says\n" + run.told()
+    return "once it was closed the texts of new blocks came; standard error says at the end\n" + run.told()
 
 
 def slept(around):

@@ -175,7 +175,7 @@ fn name_of(words: &[String]) -> &str {
 // What a user of this command can do about the end of its run.
 fn hint(status: &Status, name: &str) -> &'static str {
     match status {
-        Status::Tired if name == "sync" => "; --turns N sets that number",
+        Status::Tired if name == "sync" || name == "follow" => "; --turns N sets that number",
         Status::Ended if name == "replay" => "; the session is at its end",
         _ => "",
     }

@@ -22,35 +22,25 @@ needed r = record r { required = true }
 abbrev pub several : Rule → Rule
 several r = record r { range = Some (record { start_inclusive = 1; end_inclusive = usize_max }) }
 
--- the option of `replay` for the trace
-abbrev pub trace : Rule
-trace = record (new_rule (codes "trace")) { long = Some (codes "trace"); action = Some SetTrue }
+-- an option that takes a word: --NAME WORD
+abbrev pub option_rule : Text → Rule
+option_rule name = record (new_rule name) { long = Some name }
 
--- the option of `replay` for a client that goes on
-abbrev pub follow_rule : Rule
-follow_rule = record (new_rule (codes "follow")) { long = Some (codes "follow"); action = Some SetTrue }
-
--- the option of `sync` and `follow` for the most deliveries
-abbrev pub turns : Rule
-turns = record (new_rule (codes "turns")) { long = Some (codes "turns") }
+-- an option that takes none: --NAME
+abbrev pub flag_rule : Text → Rule
+flag_rule name = record (new_rule name) { long = Some name; action = Some SetTrue }
 
 -- replay [--follow] [--trace] WATCH SESSION
 abbrev pub replay_app : App
 replay_app =
-    with_rule (with_rule (with_rule (with_rule (new_app (codes "replay")) follow_rule) trace) (needed (new_rule (codes "watch"))))
+    with_rule
+    (with_rule (with_rule (with_rule (new_app (codes "replay")) (flag_rule (codes "follow"))) (flag_rule (codes "trace"))) (needed (new_rule (codes "watch"))))
     (needed (new_rule (codes "session")))
-
--- the option of `sync` and `follow` for how many threads judge filters
-abbrev pub workers : Rule
-workers = record (new_rule (codes "workers")) { long = Some (codes "workers") }
-
--- the option of `sync` and `follow` for the file of the record
-abbrev pub record_rule : Rule
-record_rule = record (new_rule (codes "record")) { long = Some (codes "record") }
 
 -- a command over peers with its options alone: NAME [--turns N] [--workers N] [--record FILE]
 abbrev pub options_app : Text → App
-options_app name = with_rule (with_rule (with_rule (new_app name) turns) workers) record_rule
+options_app name =
+    with_rule (with_rule (with_rule (new_app name) (option_rule (codes "turns"))) (option_rule (codes "workers"))) (option_rule (codes "record"))
 
 -- a command over peers: NAME [--turns N] [--workers N] [--record FILE] WATCH PEER..
 abbrev pub peers_app : Text → App
@@ -92,28 +82,18 @@ prove_app = two_app (codes "prove") (codes "file") (codes "txid")
 abbrev pub check_app : App
 check_app = one_app (codes "check") (codes "file")
 
--- the option of `serve` for how many connections
-abbrev pub connections : Rule
-connections = record (new_rule (codes "connections")) { long = Some (codes "connections") }
-
--- the option of `serve` for a chain that grows
-abbrev pub grow_rule : Rule
-grow_rule = record (new_rule (codes "grow")) { long = Some (codes "grow"); action = Some SetTrue }
-
 -- serve [--grow] [--connections N] FILE ADDRESS
 abbrev pub serve_app : App
 serve_app =
-    with_rule (with_rule (with_rule (with_rule (new_app (codes "serve")) grow_rule) connections) (needed (new_rule (codes "file"))))
+    with_rule
+    (with_rule (with_rule (with_rule (new_app (codes "serve")) (flag_rule (codes "grow"))) (option_rule (codes "connections"))) (needed (new_rule (codes "file"))))
     (needed (new_rule (codes "address")))
-
--- the option of `make` for coinbases with a witness
-abbrev pub witness_rule : Rule
-witness_rule = record (new_rule (codes "witness")) { long = Some (codes "witness"); action = Some SetTrue }
 
 -- make [--witness] SEED BLOCKS FILE
 abbrev pub make_app : App
 make_app =
-    with_rule (with_rule (with_rule (with_rule (new_app (codes "make")) witness_rule) (needed (new_rule (codes "seed")))) (needed (new_rule (codes "blocks"))))
+    with_rule
+    (with_rule (with_rule (with_rule (new_app (codes "make")) (flag_rule (codes "witness"))) (needed (new_rule (codes "seed")))) (needed (new_rule (codes "blocks"))))
     (needed (new_rule (codes "file")))
 
 -- demo SEED BLOCKS

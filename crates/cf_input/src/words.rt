@@ -3,7 +3,7 @@ ghost use Rattle.std.specs.Prelude.{◌≡◌, ◌==◌, IfOk, IfErr, [], map, f
 ghost use Rattle.std.specs.List.{list_any};
 ghost use Rattle.clap.specs.Words.{App, Rule, app_of, rule_of, new_rule, subcommand_of, subcommand_rows_of, fault_of, with_rule};
 ghost use Rattle.clap.specs.declared.builder.command.Command.TheViews.{out-Command as fields_of};
-ghost use Rattle.cf_input.specs.Words.{trace, follow_rule, turns, workers, record_rule, several, needed, replay_app, options_app, peers_app, connections, grow_rule, serve_app, one_app, two_app, witness_rule, make_app, with_sub, client_app, cli_app, text_of, texts_of, is_met, is_set, turns_of, workers_of, connections_of, height_of, seed_of, made_of, played_of, replay_of, over_peers, over_peers_of, scan_of, filter_of, address_of, hash_in, prove_of, check_of, serve_of, make_of, demo_of, HasFewPeers, asked_of, is_faultless, command_of, is_help_word, is_version_word};
+ghost use Rattle.cf_input.specs.Words.{flag_rule, option_rule, several, needed, replay_app, options_app, peers_app, serve_app, one_app, two_app, make_app, with_sub, client_app, cli_app, text_of, texts_of, is_met, is_set, turns_of, workers_of, connections_of, height_of, seed_of, made_of, played_of, replay_of, over_peers, over_peers_of, scan_of, filter_of, address_of, hash_in, prove_of, check_of, serve_of, make_of, demo_of, HasFewPeers, asked_of, is_faultless, command_of, is_help_word, is_version_word};
 ghost use Rattle.cf_input.specs.Commands.{GivesOrUsage, IfUsage, refusal_of};
 
 use crate::number::{number_at_most, number_within};
@@ -126,38 +126,18 @@ pub enum Command {
     },
 }
 
-fn turns_arg<'a>(alloc: Global) -> Arg<'a>
-    ensures { (rule_of result ≡ turns) × (result.global ≡ false) }
+// An option that takes a word.
+fn option_arg<'a>(alloc: Global, id: &'a str) -> Arg<'a>
+    ensures { (rule_of result ≡ option_rule id.entry.now) × (result.global ≡ false) }
 {
-    Arg::new(alloc, "turns").long("turns")
+    Arg::new(alloc, id).long(id)
 }
 
-fn workers_arg<'a>(alloc: Global) -> Arg<'a>
-    ensures { (rule_of result ≡ workers) × (result.global ≡ false) }
+// An option that takes none.
+fn flag_arg<'a>(alloc: Global, id: &'a str) -> Arg<'a>
+    ensures { (rule_of result ≡ flag_rule id.entry.now) × (result.global ≡ false) }
 {
-    Arg::new(alloc, "workers").long("workers")
-}
-
-fn record_arg<'a>(alloc: Global) -> Arg<'a>
-    ensures { (rule_of result ≡ record_rule) × (result.global ≡ false) }
-{
-    Arg::new(alloc, "record").long("record")
-}
-
-fn trace_arg<'a>(alloc: Global) -> Arg<'a>
-    ensures { (rule_of result ≡ trace) × (result.global ≡ false) }
-{
-    Arg::new(alloc, "trace")
-        .long("trace")
-        .action(ArgAction::SetTrue)
-}
-
-fn follow_arg<'a>(alloc: Global) -> Arg<'a>
-    ensures { (rule_of result ≡ follow_rule) × (result.global ≡ false) }
-{
-    Arg::new(alloc, "follow")
-        .long("follow")
-        .action(ArgAction::SetTrue)
+    Arg::new(alloc, id).long(id).action(ArgAction::SetTrue)
 }
 
 fn peers_arg<'a>(alloc: Global) -> Arg<'a>
@@ -196,9 +176,9 @@ fn options_of<'a>(alloc: Global, name: &'a str) -> Result<clap::Command<'a>, All
     ensures globals { IfOk result (λ c. (fields_of c).has_globals ≡ false) }
 {
     let command = Ok(clap::Command::new(alloc, name));
-    let command = with_arg(command, turns_arg(alloc));
-    let command = with_arg(command, workers_arg(alloc));
-    with_arg(command, record_arg(alloc))
+    let command = with_arg(command, option_arg(alloc, "turns"));
+    let command = with_arg(command, option_arg(alloc, "workers"));
+    with_arg(command, option_arg(alloc, "record"))
 }
 
 // A command over peers: `sync` or `follow`.
@@ -215,8 +195,8 @@ fn replay_command<'a>(alloc: Global) -> Result<clap::Command<'a>, AllocError>
     ensures globals { IfOk result (λ c. (fields_of c).has_globals ≡ false) }
 {
     let command = Ok(clap::Command::new(alloc, "replay"));
-    let command = with_arg(command, follow_arg(alloc));
-    let command = with_arg(command, trace_arg(alloc));
+    let command = with_arg(command, flag_arg(alloc, "follow"));
+    let command = with_arg(command, flag_arg(alloc, "trace"));
     let command = with_arg(command, word_arg(alloc, "watch"));
     with_arg(command, word_arg(alloc, "session"))
 }
@@ -244,37 +224,15 @@ fn two_words<'a>(
     with_arg(command, word_arg(alloc, two))
 }
 
-fn connections_arg<'a>(alloc: Global) -> Arg<'a>
-    ensures { (rule_of result ≡ connections) × (result.global ≡ false) }
-{
-    Arg::new(alloc, "connections").long("connections")
-}
-
-fn grow_arg<'a>(alloc: Global) -> Arg<'a>
-    ensures { (rule_of result ≡ grow_rule) × (result.global ≡ false) }
-{
-    Arg::new(alloc, "grow")
-        .long("grow")
-        .action(ArgAction::SetTrue)
-}
-
 fn serve_command<'a>(alloc: Global) -> Result<clap::Command<'a>, AllocError>
     ensures app { IfOk result (λ c. app_of c ≡ serve_app) }
     ensures globals { IfOk result (λ c. (fields_of c).has_globals ≡ false) }
 {
     let command = Ok(clap::Command::new(alloc, "serve"));
-    let command = with_arg(command, grow_arg(alloc));
-    let command = with_arg(command, connections_arg(alloc));
+    let command = with_arg(command, flag_arg(alloc, "grow"));
+    let command = with_arg(command, option_arg(alloc, "connections"));
     let command = with_arg(command, word_arg(alloc, "file"));
     with_arg(command, word_arg(alloc, "address"))
-}
-
-fn witness_arg<'a>(alloc: Global) -> Arg<'a>
-    ensures { (rule_of result ≡ witness_rule) × (result.global ≡ false) }
-{
-    Arg::new(alloc, "witness")
-        .long("witness")
-        .action(ArgAction::SetTrue)
 }
 
 fn make_command<'a>(alloc: Global) -> Result<clap::Command<'a>, AllocError>
@@ -282,7 +240,7 @@ fn make_command<'a>(alloc: Global) -> Result<clap::Command<'a>, AllocError>
     ensures globals { IfOk result (λ c. (fields_of c).has_globals ≡ false) }
 {
     let command = Ok(clap::Command::new(alloc, "make"));
-    let command = with_arg(command, witness_arg(alloc));
+    let command = with_arg(command, flag_arg(alloc, "witness"));
     let command = with_arg(command, word_arg(alloc, "seed"));
     let command = with_arg(command, word_arg(alloc, "blocks"));
     with_arg(command, word_arg(alloc, "file"))

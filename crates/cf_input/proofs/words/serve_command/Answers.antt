@@ -1,13 +1,15 @@
 use Rattle.std.specs.Prelude.{codes}
 use Rattle.clap.specs.Words.{new_app, new_rule, with_rule}
-use Rattle.cf_input.specs.Words.{connections, grow_rule, needed}
+use Rattle.cf_input.specs.Words.{flag_rule, needed, option_rule}
 use Rattle.cf_input.proofs.words.serve_command.Goals as goal
 
 pub returns-clause-app : goal.returns-clause-app
 returns-clause-app c =
-    let option = with_rule (new_app (codes "serve")) grow_rule in
-    let one = c.with_arg-command.ensures.app (new_app (codes "serve")) grow_rule c.new.ensures.app c.grow_arg.ensures.0 in
-    let two = c.with_arg-command-2.ensures.app option connections one c.connections_arg.ensures.0 in
+    let grow = flag_rule (codes "grow") in
+    let connections = option_rule (codes "connections") in
+    let option = with_rule (new_app (codes "serve")) grow in
+    let one = c.with_arg-command.ensures.app (new_app (codes "serve")) grow c.new.ensures.app c.flag_arg.ensures.0 in
+    let two = c.with_arg-command-2.ensures.app option connections one c.option_arg.ensures.0 in
     let three = c.with_arg-command-3.ensures.app (with_rule option connections) (needed (new_rule (codes "file"))) two c.word_arg.ensures.0 in
     c.with_arg.ensures.app (with_rule (with_rule option connections) (needed (new_rule (codes "file")))) (needed (new_rule (codes "address"))) three c.word_arg-2.ensures.0
 
