@@ -1,9 +1,10 @@
 -- What a run that follows has written, and how it ended.
-use Rattle.std.proofs.Common.{◌≡◌, ◌≢◌, inl, inr, ℕ, ◌<◌, ◌≤◌, Bool, true, false, List, [], ◌∷◌, ◌++◌, length, take, Option, Some, None, refl, sym, ◌∙◌, ap, subst, arith, append_assoc}
+use Rattle.std.proofs.Common.{◌≡◌, ◌≢◌, inl, inr, ℕ, ◌+◌, ◌<◌, ◌≤◌, Bool, true, false, List, [], ◌∷◌, ◌++◌, length, take, Option, Some, None, refl, sym, ◌∙◌, ap, subst, arith, append_assoc, length-append}
 use Rattle.std.specs.Prelude.{◌↔◌, IfSome, Ok}
 use Rattle.std.specs.FinMap as finite
 use Rattle.std.proofs.lemmas.Bool.{both_ways, false≢true}
-use Rattle.std.proofs.lemmas.List.{append-nil, take_all}
+use Rattle.std.proofs.lemmas.List.{append-nil}
+use Rattle.std.proofs.Math.Seq.{take-length, take-append-add}
 use Rattle.cf_bytes.specs.Files.{Named}
 use Rattle.cf_bytes.specs.Outside.{with_more}
 use Rattle.cf_bytes.specs.declared.hash.Hash32.{Hash32}
@@ -13,7 +14,9 @@ use Rattle.cf_run.specs.declared.outcome.End.{End}
 use Rattle.cf_run.specs.declared.outcome.End.TheVariants.{Synced as IsSynced, NoPeers as HasNoPeers, Tired as IsTired, Ended as HasEnded}
 use Rattle.cf_run.specs.declared.trace.TraceLine.{TraceLine}
 use Rattle.cf_run.specs.Run.{Followed, NobodyLeft}
-use Rattle.cf_run.specs.Texts.{HasBegun, HasPut, HasPutSome, IsOver, joined}
+use Rattle.cf_run.specs.Texts.{HasBegun, HasPut, HasPutBut, HasPutSo, HasPutSome, IsOver, joined}
+use Rattle.cf_run.specs.declared.texts.TextFail.{TextFail}
+use Rattle.cf_run.specs.declared.texts.TextFail.TheVariants.{Failed as HasFailed, NoMemory as LacksMemory}
 use Rattle.cf_place.specs.declared.place.PeerEnd.{PeerEnd}
 use Rattle.cf_place.specs.Places.{EndsTell}
 use Rattle.cf_peer.specs.declared.mode.Mode.TheVariants.{Following}
@@ -32,7 +35,7 @@ use Rattle.cf_answers.specs.declared.status.Status.{Status}
 use Rattle.cf_answers.specs.declared.status.Status.TheVariants.{Done, NoMemory, Usage, BadFile, FileFault, OutFault, NoPeers, Tired, Ended, LinkFault, NoNonce, NoHeight, NotThere, NotAddress}
 use Rattle.cf_answers.specs.Texts.{trace_text}
 use Rattle.cf_loading.specs.Verdicts.{IsOfFile}
-use Rattle.cf_cli.specs.Following.{BegunTexts, EndsBy, Grows, IsReplayedIn, IsReplayedOn, KeptOn, KeptOnOver, Stayed, TalliedOn, with_trace}
+use Rattle.cf_cli.specs.Following.{BegunTexts, EndsBy, Grows, IsReplayedIn, IsReplayedOn, KeptLive, KeptOn, KeptOnOver, Stayed, TalliedOn, with_trace}
 use Rattle.cf_answers.specs.Statuses.{has_run, is_over, was_refused, was_unbegun}
 use Rattle.cf_cli.specs.Theorem.{AnswersTo, IsComplete, IsOfRun, IsWhole, IsWithin}
 use Rattle.cf_cli.proofs.Plays.{early_replayed, early_tallied, no_run, not_run, run_tallied, spent_tallied, tallied_early, unwritten_tallied}
@@ -102,47 +105,103 @@ all_begun : (text : List ℕ) (before after : Option (List ℕ)) → after ≡ w
 all_begun text before after e = record {
   n = length text;
   within = omega arith;
-  taken = e ∙ ap (with_more before) (sym (take_all (length text) text (omega arith)));
+  taken = e ∙ ap (with_more before) (sym (take-length text));
 }
 
 -- the last of the texts is written last
-ends_by : (trace : Bool) (lines : List TraceLine) (text : List ℕ) (more : List (List ℕ)) (before after : Option (List ℕ))
-    → after ≡ with_more before (with_trace trace lines (joined (text ∷ more))) → EndsBy text before after
-ends_by true lines text more before after e =
-    let same : (trace_text lines ++ joined more) ++ text ≡ trace_text lines ++ (joined more ++ text) = rw append_assoc refl in
-    record { earlier = trace_text lines ++ joined more; written = e ∙ ap (with_more before) (sym same) }
-ends_by false lines text more before after e = record { earlier = joined more; written = e }
-
 last_written : (scripts : List (List ℕ)) (trace : Bool) (lines : List TraceLine) (texts : List (List ℕ)) (before after : Option (List ℕ)) (log : Log)
     → ArePut scripts log texts → after ≡ with_more before (with_trace trace lines (joined texts))
     → (p : ℕ) (blocks : List Block) (first top : ℕ) → Grows log p blocks first → IsTold blocks first (trail log p) top → OthersShowNone log p (take top blocks)
     → IsConnected log p → IsQuiet log
-    → EndsBy (history_text (scan_of (take top blocks) scripts) (length (take top blocks)) (top_hash (take top blocks))) before after
-last_written scripts trace lines texts before after log puts written p blocks first top grows told none on quiet =
-    let last = last_text scripts log puts.0 texts puts.1.1 p blocks first top grows.apart grows.growing told none on quiet in
-    ends_by trace lines (history_text (scan_of (take top blocks) scripts) (length (take top blocks)) (top_hash (take top blocks))) last.0 before after
-    (written ∙ ap (λ (xs : List (List ℕ)). with_more before (with_trace trace lines (joined xs))) last.1)
-
--- what was put whole was begun
-pub some_put : (scripts : List (List ℕ)) (log : Log) (before after : Option (List ℕ)) → HasPut scripts log before after → HasPutSome scripts log before after
-some_put scripts log before after put = record {
-  texts = put.texts;
-  puts = inr put.puts;
-  begun = all_begun (joined put.texts) before after put.taken;
+    → EndsBy trace scripts (history_text (scan_of (take top blocks) scripts) (length (take top blocks)) (top_hash (take top blocks))) before after log
+last_written scripts trace lines texts before after log puts written p blocks first top grows told none on quiet = record {
+  lines = lines;
+  texts = texts;
+  puts = puts;
+  last = last_text scripts log puts.0 texts puts.1.1 p blocks first top grows.apart grows.growing told none on quiet;
+  written = written;
 }
+
+-- all that was put of a run that is over is what was put where none is
+some_put : (scripts : List (List ℕ)) (log : Log) (before after : Option (List ℕ)) → HasPut scripts log before after → HasPutSome scripts log before after
+some_put scripts log before after put = inl (record { texts = put.texts; puts = inr put.puts; taken = put.taken })
 
 pub some_put_told : (o : Option Log) (scripts : List (List ℕ)) (before after : Option (List ℕ)) → IfSome o (λ log. HasPut scripts log before after)
     → IfSome o (λ log. HasPutSome scripts log before after)
 some_put_told None scripts before after put = tt
 some_put_told (Some log) scripts before after put = some_put scripts log before after put
 
+-- the same where no memory was found, and where what takes the texts has failed
+pub some_so_told : (o : Option Log) (scripts : List (List ℕ)) (before after : Option (List ℕ)) → IfSome o (λ log. HasPutSo scripts log before after)
+    → IfSome o (λ log. HasPutSome scripts log before after)
+some_so_told None scripts before after so = tt
+some_so_told (Some log) scripts before after so = inl so
+
+pub some_but_told : (o : Option Log) (scripts : List (List ℕ)) (before after : Option (List ℕ)) → IfSome o (λ log. HasPutBut scripts log before after)
+    → IfSome o (λ log. HasPutSome scripts log before after)
+some_but_told None scripts before after but = tt
+some_but_told (Some log) scripts before after but = inr but
+
+-- whichever it was
+pub some_by_told : (fail : TextFail) (o : Option Log) (scripts : List (List ℕ)) (before after : Option (List ℕ))
+    → (fail ≡ LacksMemory → IfSome o (λ log. HasPutSo scripts log before after)) → (fail ≡ HasFailed → IfSome o (λ log. HasPutBut scripts log before after))
+    → IfSome o (λ log. HasPutSome scripts log before after)
+some_by_told LacksMemory o scripts before after so but = some_so_told o scripts before after (so refl)
+some_by_told HasFailed o scripts before after so but = some_but_told o scripts before after (but refl)
+
 -- nothing was put over new wires
-pub new_put_told : (o : Option Log) (scripts : List (List ℕ)) (before : Option (List ℕ)) → IfSome o (λ log. log ≡ []) → IfSome o (λ log. HasPutSome scripts log before before)
-new_put_told None scripts before none = tt
-new_put_told (Some log) scripts before none = record {
+new_put : (scripts : List (List ℕ)) (log : Log) (before : Option (List ℕ)) → log ≡ [] → HasPutSome scripts log before before
+new_put scripts log before none = inl (record {
   texts = [];
   puts = inl (subst (λ (l : Log). WerePut scripts l []) (sym none) refl);
-  begun = nothing_begun [] before;
+  taken = sym (with_nothing before);
+})
+
+pub new_put_told : (o : Option Log) (scripts : List (List ℕ)) (before : Option (List ℕ)) → IfSome o (λ log. log ≡ []) → IfSome o (λ log. HasPutSome scripts log before before)
+new_put_told None scripts before none = tt
+new_put_told (Some log) scripts before none = new_put scripts log before none
+
+-- a text that was begun behind others
+with_both : (before : Option (List ℕ)) (a b : List ℕ) → with_more (with_more before a) b ≡ with_more before (a ++ b)
+with_both None a b = refl
+with_both (Some bytes) a b = ap Some (append_assoc bytes a b)
+
+begun_behind : (text : List ℕ) (texts : List (List ℕ)) (before after : Option (List ℕ)) → HasBegun text (with_more before (joined texts)) after
+    → HasBegun (joined (text ∷ texts)) before after
+begun_behind text texts before after begun =
+    let size = length-append (joined texts) text in
+    record {
+      n = length (joined texts) + begun.n;
+      within = omega (arith, size, begun.within);
+      taken = begun.taken ∙ with_both before (joined texts) (take begun.n text) ∙ ap (with_more before) (sym (take-append-add (joined texts) text begun.n));
+    }
+
+-- whatever was put of a run that was given up, no trace before it, is a beginning of its texts
+some_begun : (scripts : List (List ℕ)) (before after : Option (List ℕ)) (log : Log) → HasPutSome scripts log before after → BegunTexts false scripts before after log
+some_begun scripts before after log (inl so) = record {
+  lines = [];
+  traced = inl refl;
+  texts = so.texts;
+  puts = so.puts;
+  begun = all_begun (joined so.texts) before after so.taken;
+}
+some_begun scripts before after log (inr but) = record {
+  lines = [];
+  traced = inl refl;
+  texts = but.text ∷ but.texts;
+  puts = inr (but.texts, but.earlier, but.due);
+  begun = begun_behind but.text but.texts before after but.begun;
+}
+
+-- or nothing of it was written
+some_unwritten : (trace : Bool) (scripts : List (List ℕ)) (first told before : Option (List ℕ)) (log : Log) → BegunTexts false scripts first told log
+    → BegunTexts trace scripts before before log
+some_unwritten trace scripts first told before log begun = record {
+  lines = [];
+  traced = inr (inl refl);
+  texts = begun.texts;
+  puts = begun.puts;
+  begun = nothing_begun (with_trace trace [] (joined begun.texts)) before;
 }
 
 -- texts that were kept from the first on are all that is kept
@@ -242,7 +301,7 @@ failed_told (Some log) scripts names recorded before after put right = record {
   complete = λ p blocks first grows. tt;
   never = λ p blocks first grows ne. growing_never log p blocks first right.0 right.1 grows.apart grows.growing;
   ran = λ over. absurd (false≢true over);
-  begun = λ off. record { lines = []; traced = inl refl; texts = put.texts; puts = put.puts; begun = put.begun };
+  begun = λ off. some_begun scripts before after log put;
   right = λ ne. right;
 }
 
@@ -263,15 +322,14 @@ pub spent_told : (o : Option Log) (scripts names : List (List ℕ)) (recorded : 
     → IfSome o (λ log. KeptOn NoMemory recorded false scripts names before after log)
 spent_told None scripts names recorded before after put = tt
 spent_told (Some log) scripts names recorded before after put =
-    spent_kept recorded false scripts names before after log (record { lines = []; traced = inl refl; texts = put.texts; puts = put.puts; begun = put.begun })
+    spent_kept recorded false scripts names before after log (some_begun scripts before after log put)
 
 -- before anything was written
 pub silent_told : (o : Option Log) (scripts names : List (List ℕ)) (recorded trace : Bool) (first told before : Option (List ℕ))
     → IfSome o (λ log. HasPutSome scripts log first told) → IfSome o (λ log. KeptOn NoMemory recorded trace scripts names before before log)
 silent_told None scripts names recorded trace first told before put = tt
 silent_told (Some log) scripts names recorded trace first told before put =
-    spent_kept recorded trace scripts names before before log
-    (record { lines = []; traced = inr (inl refl); texts = put.texts; puts = put.puts; begun = nothing_begun (with_trace trace [] (joined put.texts)) before })
+    spent_kept recorded trace scripts names before before log (some_unwritten trace scripts first told before log (some_begun scripts first told log put))
 
 -- before anything passed
 pub fresh_told : (o : Option Log) (scripts names : List (List ℕ)) (recorded trace : Bool) (before : Option (List ℕ)) → IfSome o (λ log. log ≡ [])
@@ -297,6 +355,18 @@ kept_begun status recorded trace scripts names before after log kept = by (is_ov
   by : (b : Bool) → is_over status ≡ b → BegunTexts trace scripts before after log
   by true over = stayed_begun status trace scripts names before after log (kept.ran over)
   by false off = kept.begun off
+
+-- and what was put of them, whatever becomes of the record
+pub kept_some : (o : Option Log) (status : Status) (recorded : Bool) (scripts names : List (List ℕ)) (before after : Option (List ℕ))
+    → ((b : Bool) → IfSome o (λ log. KeptOn status b false scripts names before after log)) → (is_over status ≡ false → IfSome o (λ log. HasPutSome scripts log before after))
+    → IfSome o (λ log. HasPutSome scripts log before after)
+kept_some None status recorded scripts names before after kept some = tt
+kept_some (Some log) status recorded scripts names before after kept some = by (is_over status) refl where
+  by : (b : Bool) → is_over status ≡ b → HasPutSome scripts log before after
+  by true over =
+      let s = (kept recorded).ran over in
+      inl (record { texts = s.texts; puts = inr s.puts; taken = s.written })
+  by false off = some off
 
 -- the record could not be written
 pub unrecorded_on : (o : Option Log) (status : Status) (recorded : Bool) (scripts names : List (List ℕ)) (before after : Option (List ℕ)) → status ≢ NoMemory → recorded ≡ true
@@ -340,13 +410,13 @@ early_over_on status recorded trace files watch names b log is none = record {
   kept = early_kept_on status recorded trace [] names b log (no_run status is) none;
 }
 
--- the same for wires that are new, which may tell no log
-pub early_told_on : (t : Told) (status : Status) (recorded trace : Bool) (files : Option Named) (watch : List ℕ) (names : List (List ℕ)) (b : Option (List ℕ)) → IsOfFile status → Tells [] t
-    → IfSome t.log (λ log. KeptOnOver status recorded trace files watch names b b log)
-early_told_on t status recorded trace files watch names b is fresh = told_over t.log fresh.content where
-  told_over : (o : Option Log) → IfSome o (λ l. l ≡ []) → IfSome o (λ log. KeptOnOver status recorded trace files watch names b b log)
+-- the same of what `follow` puts, for wires that are new, which may tell no log
+pub early_told_on : (t : Told) (status : Status) (recorded : Bool) (files : Option Named) (watch : List ℕ) (names : List (List ℕ)) (b : Option (List ℕ)) → IsOfFile status → Tells [] t
+    → IfSome t.log (λ log. KeptLive status recorded files watch names b b log)
+early_told_on t status recorded files watch names b is fresh = told_over t.log fresh.content where
+  told_over : (o : Option Log) → IfSome o (λ l. l ≡ []) → IfSome o (λ log. KeptLive status recorded files watch names b b log)
   told_over None none = tt
-  told_over (Some log) none = early_over_on status recorded trace files watch names b log is none
+  told_over (Some log) none = record { over = early_over_on status recorded false files watch names b log is none; some = λ off. new_put _ log b none }
 
 -- with the scripts of the watch file
 pub over_watch_on : (status : Status) (recorded trace : Bool) (files : Option Named) (watch : List ℕ) (scripts names : List (List ℕ)) (before after : Option (List ℕ)) (log : Log)
@@ -354,12 +424,14 @@ pub over_watch_on : (status : Status) (recorded trace : Bool) (files : Option Na
     → KeptOnOver status recorded trace files watch names before after log
 over_watch_on status recorded trace files watch scripts names before after log read kept = record { scripts = scripts; watched = λ made. read; unwatched = inr read; kept = kept }
 
-pub told_over_watch_on : (o : Option Log) (status : Status) (recorded trace : Bool) (files : Option Named) (watch : List ℕ) (scripts names : List (List ℕ)) (before after : Option (List ℕ))
-    → IfSome files (λ m. IfSome (finite.get m watch) (λ bytes. watch_of bytes ≡ Ok scripts)) → IfSome o (λ log. KeptOn status recorded trace scripts names before after log)
-    → IfSome o (λ log. KeptOnOver status recorded trace files watch names before after log)
-told_over_watch_on None status recorded trace files watch scripts names before after read kept = tt
-told_over_watch_on (Some log) status recorded trace files watch scripts names before after read kept =
-    over_watch_on status recorded trace files watch scripts names before after log read kept
+pub told_over_watch_on : (o : Option Log) (status : Status) (recorded : Bool) (files : Option Named) (watch : List ℕ) (scripts names : List (List ℕ)) (before after : Option (List ℕ))
+    → IfSome files (λ m. IfSome (finite.get m watch) (λ bytes. watch_of bytes ≡ Ok scripts)) → IfSome o (λ log. KeptOn status recorded false scripts names before after log)
+    → (is_over status ≡ false → IfSome o (λ log. HasPutSome scripts log before after)) → IfSome o (λ log. KeptLive status recorded files watch names before after log)
+told_over_watch_on None status recorded files watch scripts names before after read kept some = tt
+told_over_watch_on (Some log) status recorded files watch scripts names before after read kept some = record {
+  over = record { scripts = scripts; watched = λ made. read; unwatched = inr read; kept = kept };
+  some = some;
+}
 
 -- ---- what is promised over any wires
 

@@ -14,12 +14,12 @@ use Rattle.cf_cli.proofs.program.follow.Goals as goal
 
 pub returns-in-Err-clause-kept : goal.returns-in-Err-clause-kept
 returns-in-Err-clause-kept g c =
-    early_told_on (g.W.Wires.told c.args.wires.now) c.in-Err.status (is_some c.args.log_file.now) false (g.F.Files.files c.args.files.now) c.args.watch.now (names_in c.args.peers.now) (g.O.Sink.written c.args.out.now)
+    early_told_on (g.W.Wires.told c.args.wires.now) c.in-Err.status (is_some c.args.log_file.now) (g.F.Files.files c.args.files.now) c.args.watch.now (names_in c.args.peers.now) (g.O.Sink.written c.args.out.now)
     c.in-Err.ensures.only c.requires.fresh
 
 pub returns-in_default-clause-kept : goal.returns-in_default-clause-kept
 returns-in_default-clause-kept g c =
-    early_told_on (g.W.Wires.told c.args.wires.now) NoMemory (is_some c.args.log_file.now) false (g.F.Files.files c.args.files.now) c.args.watch.now (names_in c.args.peers.now)
+    early_told_on (g.W.Wires.told c.args.wires.now) NoMemory (is_some c.args.log_file.now) (g.F.Files.files c.args.files.now) c.args.watch.now (names_in c.args.peers.now)
     (g.O.Sink.written c.args.out.now) tt c.requires.fresh
 
 pub returns-in_default-clause-tallied : goal.returns-in_default-clause-tallied
@@ -27,8 +27,9 @@ returns-in_default-clause-tallied g c = early_tallied_on NoMemory _ _ _ tt c.req
 
 pub returns-clause-kept : goal.returns-clause-kept
 returns-clause-kept g c =
-    told_over_watch_on (g.W.Wires.told c.stay.new.wires).log c.stay.result (is_some c.args.log_file.now) false (g.F.Files.files c.args.files.now) c.args.watch.now c.in-Ok.scripts (names_in c.args.peers.now)
+    told_over_watch_on (g.W.Wires.told c.stay.new.wires).log c.stay.result (is_some c.args.log_file.now) (g.F.Files.files c.args.files.now) c.args.watch.now c.in-Ok.scripts (names_in c.args.peers.now)
     (g.O.Sink.written c.args.out.now) (g.O.Sink.written c.stay.new.out) c.in-Ok.ensures.scripts c.stay.ensures.kept
+    c.stay.ensures.some
 
 pub returns-in-Err-clause-records : goal.returns-in-Err-clause-records
 returns-in-Err-clause-records g c =

@@ -1,12 +1,14 @@
 use Rattle.std.proofs.Common.{false, refl, rules, sym, ◌∙◌}
 use Rattle.std.proofs.Math.Facts.{to_z-of_z}
+use Rattle.std.proofs.lemmas.Bool.{both_ways}
 use Rattle.std.proofs.lemmas.List.{length-map}
 use Rattle.std.specs.Int.{w64}
 use Rattle.std.specs.Prelude.{string_bytes}
 use Rattle.cf_run.specs.Names.{names_in}
+use Rattle.cf_cli.specs.Statuses.{is_over}
 use Rattle.cf_cli.proofs.Ends.{copied, over_put, over_stay}
 use Rattle.cf_cli.proofs.Plays.{versions_so}
-use Rattle.cf_cli.proofs.Stays.{begun_by, failed_told, run_tallied_on, some_put_told, spent_tallied_on, spent_told, stayed_told, unwritten_tallied_on}
+use Rattle.cf_cli.proofs.Stays.{begun_by, failed_told, over_by, run_tallied_on, some_but_told, some_put_told, some_so_told, spent_tallied_on, spent_told, stayed_told, unwritten_tallied_on}
 use Rattle.cf_cli.proofs.staying.stay_live.Goals as goal
 
 pub returns-in-Ok-clause-kept : goal.returns-in-Ok-clause-kept
@@ -22,11 +24,29 @@ returns-in_default-clause-kept g c = λ recorded.
 
 pub returns-in-Err-Failed-clause-kept : goal.returns-in-Err-Failed-clause-kept
 returns-in-Err-Failed-clause-kept g c = λ recorded.
-    failed_told (g.W.Wires.told c.follow_over.new.wires).log c.args.watch (names_in c.args.names.now) recorded _ _ (rw c.new-texts.ensures.same at c.in-Err-Failed.ensures.put_some) (c.in-Err-Failed.ensures.right c.in-Err-Failed.field-0-is)
+    failed_told (g.W.Wires.told c.follow_over.new.wires).log c.args.watch (names_in c.args.names.now) recorded _ _
+    (some_but_told (g.W.Wires.told c.follow_over.new.wires).log c.args.watch _ _ (rw c.new-texts.ensures.same at c.in-Err-Failed.ensures.put_but c.in-Err-Failed.field-0-is))
+    (c.in-Err-Failed.ensures.right c.in-Err-Failed.field-0-is)
 
 pub returns-in-Err-NoMemory-clause-kept : goal.returns-in-Err-NoMemory-clause-kept
 returns-in-Err-NoMemory-clause-kept g c = λ recorded.
-    spent_told (g.W.Wires.told c.follow_over.new.wires).log c.args.watch (names_in c.args.names.now) recorded _ _ (rw c.new-texts.ensures.same at c.in-Err-NoMemory.ensures.put_some)
+    spent_told (g.W.Wires.told c.follow_over.new.wires).log c.args.watch (names_in c.args.names.now) recorded _ _
+    (some_so_told (g.W.Wires.told c.follow_over.new.wires).log c.args.watch _ _ (rw c.new-texts.ensures.same at c.in-Err-NoMemory.ensures.put_so c.in-Err-NoMemory.field-0-is))
+
+pub returns-in-Ok-clause-some : goal.returns-in-Ok-clause-some
+returns-in-Ok-clause-some g c = λ off.
+    absurd (both_ways (is_over c.status_of.result) off (over_by c.in-Ok.outcome.end c.in-Ok.outcome.ends.items c.status_of.result c.status_of.ensures.answer))
+
+pub returns-in_default-clause-some : goal.returns-in_default-clause-some
+returns-in_default-clause-some g c = λ off. some_put_told (g.W.Wires.told c.follow_over.new.wires).log c.args.watch _ _ (rw c.new-texts.ensures.same at c.in-Ok.ensures.put)
+
+pub returns-in-Err-Failed-clause-some : goal.returns-in-Err-Failed-clause-some
+returns-in-Err-Failed-clause-some g c = λ off.
+    some_but_told (g.W.Wires.told c.follow_over.new.wires).log c.args.watch _ _ (rw c.new-texts.ensures.same at c.in-Err-Failed.ensures.put_but c.in-Err-Failed.field-0-is)
+
+pub returns-in-Err-NoMemory-clause-some : goal.returns-in-Err-NoMemory-clause-some
+returns-in-Err-NoMemory-clause-some g c = λ off.
+    some_so_told (g.W.Wires.told c.follow_over.new.wires).log c.args.watch _ _ (rw c.new-texts.ensures.same at c.in-Err-NoMemory.ensures.put_so c.in-Err-NoMemory.field-0-is)
 
 pub returns-in-Ok-clause-tallied : goal.returns-in-Ok-clause-tallied
 returns-in-Ok-clause-tallied g c =

@@ -8,7 +8,7 @@ use Rattle.cf_run.proofs.Versions.{new_words}
 use Rattle.cf_answers.specs.declared.status.Status.TheVariants.{NoMemory, OutFault}
 use Rattle.cf_cli.proofs.Ends.{copied, ends_put, ends_stay, run_begun}
 use Rattle.cf_cli.proofs.Plays.{new_dialled, versions_so}
-use Rattle.cf_cli.proofs.Stays.{early_tallied_on, fresh_told, run_tallied_on, silent_told, some_put_told, spent_tallied_on, stayed_told, tape_begun, tape_written, unwritten_tallied_on, unwritten_told}
+use Rattle.cf_cli.proofs.Stays.{early_tallied_on, fresh_told, run_tallied_on, silent_told, some_by_told, some_put_told, spent_tallied_on, stayed_told, tape_begun, tape_written, unwritten_tallied_on, unwritten_told}
 use Rattle.cf_cli.proofs.staying.stay_on_tape.Goals as goal
 
 -- ---- no memory is found
@@ -20,7 +20,8 @@ returns-in_default-clause-kept g c =
 pub returns-in-Err-clause-kept : goal.returns-in-Err-clause-kept
 returns-in-Err-clause-kept g c =
     silent_told (g.W.Wires.told c.follow_over.new.wires).log c.args.watch (names_in c.args.names.now) false c.args.trace (Some c.new-texts.result.bytes.items) (Some c.follow_over.new.texts.bytes.items)
-    (g.O.Sink.written c.args.out.now) c.in-Err.ensures.put_some
+    (g.O.Sink.written c.args.out.now)
+    (some_by_told c.in-Err.field-0 (g.W.Wires.told c.follow_over.new.wires).log c.args.watch _ _ c.in-Err.ensures.put_so c.in-Err.ensures.put_but)
 
 pub returns-in_default-to_vec-clause-kept : goal.returns-in_default-to_vec-clause-kept
 returns-in_default-to_vec-clause-kept g c =
