@@ -41,12 +41,15 @@ fn run_command<R: Wait + Threads + Sync + Copy + Drop + Send + 'static, K: Spawn
     spawner: &mut K,
 ) -> Status {
     let alloc = rt.alloc();
-    let Ok(peers) = outside::peers(alloc, words) else {
+    let Ok(dials) = outside::dials(alloc, words) else {
         return told(rt, words, Status::NoMemory, &None);
     };
-    let Ok(mut edge) = Edge::new(rt, handle, spawner, peers) else {
+    let Ok(mut edge) = Edge::new(rt, handle, spawner, dials.peers) else {
         return told(rt, words, Status::NoMemory, &None);
     };
+    if dials.stays {
+        edge.network.tell_at_once();
+    }
     let mut files = StdFiles::new(rt);
     let mut ends = Vec::new(alloc);
     let status = run(

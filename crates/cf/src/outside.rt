@@ -23,18 +23,34 @@ fn unreadable(e: &io::Error) -> Status {
     }
 }
 
-/// How many peers the words name for `sync` or `follow`; none for another command, and where they ask for nothing.
+/// What the words ask of the network.
+pub struct Dials {
+    /// How many peers `sync` or `follow` names; none for another command, and where the words ask for nothing.
+    pub peers: usize,
+    /// Whether it is `follow`.
+    pub stays: bool,
+}
+
+/// What the words ask of the network.
 ///
 /// # Errors
 ///
 /// Where no memory is found to read them.
-pub fn peers(alloc: Global, words: &[String]) -> Result<usize, NoMemory> {
+pub fn dials(alloc: Global, words: &[String]) -> Result<Dials, NoMemory> {
     match &read_words(alloc, words) {
-        Ok(Command::Sync { peers, .. } | Command::Follow { peers, .. }) => Ok(
-            peers.as_slice().len(),
-        ),
+        Ok(Command::Sync { peers, .. }) => Ok(Dials {
+            peers: peers.as_slice().len(),
+            stays: false,
+        }),
+        Ok(Command::Follow { peers, .. }) => Ok(Dials {
+            peers: peers.as_slice().len(),
+            stays: true,
+        }),
         Err(Refused::NoMemory) => Err(NoMemory),
-        _ => Ok(0),
+        _ => Ok(Dials {
+            peers: 0,
+            stays: false,
+        }),
     }
 }
 

@@ -6,7 +6,7 @@ ghost use Rattle.cf_network.specs.Standing.{HasThreads};
 ghost use Rattle.cf_wires.specs.Log.{Tells};
 
 use crate::outside::SystemDialer;
-use crate::passed::{Asked, FilterSpan, Passed, Stand};
+use crate::passed::{Asked, FilterSpan, Passed, Progress, Stand};
 use crate::pulse::{Asker, Bell, Naps};
 use cf_bytes::{NoMemory, PeerNo};
 use cf_hub::Hub;
@@ -21,14 +21,17 @@ use std::thread::Threads;
 use std::time::Clock;
 
 /// Peers of which each has a reader in a thread of its own, and a ticker, as wires. It tells on standard error what passes: each dial that failed,
-/// and why; where that is a terminal, at most once a second how far it has come; and by `tell_stand` how a peer stands. Contracts see what
-/// the wires tell and how many threads wait, and not how they are made.
+/// and why; where that is a terminal, at most once a second how far it has come, if that has changed; where it is asked to, at once each peer that
+/// comes, goes or is closed, and how many are left; and by `tell_stand` how a peer stands. Contracts see what the wires tell and how many threads
+/// wait, and not how they are made.
 #[derive(Drop)]
 pub struct Network<R: Wait + Threads + Copy + Drop> {
     rt: HostRuntime,
     hub: Hub<SystemDialer, Naps<R>, R>,
     // Whether standard error is one.
     on_terminal: bool,
+    // Whether it is told at once how a peer comes to stand.
+    at_once: bool,
     // What asks the pulse for seconds, and ends it.
     asker: Asker,
     passed: Passed,
@@ -88,6 +91,7 @@ impl<R: Wait + Threads + Copy + Drop + Send + 'static> Network<R> {
             rt: *rt,
             hub: hub_of(rt, handle, pulse, spawner, peers)?,
             on_terminal: rt.stderr().is_terminal(),
+            at_once: false,
             asker: Asker::new(bell),
             passed: Passed::new(),
         })
@@ -104,15 +108,46 @@ impl<R: Wait + Threads + Copy + Drop> Network<R> {
     }
 
     // Tells how far it has come.
-    fn tell_progress(&self) -> io::Result<()> {
-        let passed = &self.passed;
+    fn tell_progress(&self, progress: Progress) -> io::Result<()> {
         eprintln!(&self.rt;
             "cf: peers connected: {}; best height: {}; filters: {}; blocks: {}",
-            passed.connected(),
-            passed.height(),
-            passed.filters(),
-            passed.blocks()
+            progress.connected, progress.height, progress.filters, progress.blocks
         )
+    }
+
+    // Tells how far it has come, where that is to be told.
+    fn tell_news(&mut self)
+        ensures same { self.new ≡ self.old }
+    {
+        if !self.on_terminal {
+            return;
+        }
+        if let Some(progress) = self.passed.news(self.rt.monotonic().ok()) {
+            let _told = self.tell_progress(progress);
+        }
+    }
+
+    // Tells how a peer has come to stand, and how many are connected, where that is told at once.
+    fn tell_change(&self, p: PeerNo) -> io::Result<()> {
+        if !self.at_once {
+            return Ok(());
+        }
+        match self.passed.stand(p) {
+            Some(Stand::Connected) => eprintln!(&self.rt; "cf: peer {}: connected", p.0),
+            Some(stand) => eprintln!(&self.rt;
+                "cf: peer {}: {stand}; peers left: {}",
+                p.0,
+                self.passed.connected()
+            ),
+            None => Ok(()),
+        }
+    }
+
+    /// From now on each peer that comes, goes or is closed is told of at once, with how many are left.
+    pub fn tell_at_once(&mut self)
+        ensures same { self.new ≡ self.old }
+    {
+        self.at_once = true;
     }
 
     /// What a peer was asked for that was closed since it was late with that.
@@ -160,7 +195,10 @@ impl<R: Wait + Threads + Copy + Drop> Wires for Network<R> {
         let known = self.hub.dialer().failed().len();
         let answer = self.hub.dial(name);
         match answer {
-            Ok(p) => self.passed.note_stand(p, Stand::Connected),
+            Ok(p) => {
+                self.passed.note_stand(p, Stand::Connected);
+                let _told = self.tell_change(p);
+            }
             Err(WireFail::Failed) => {
                 self.passed.note_not_dialled();
                 let _told = self.tell_failed(name, known);
@@ -182,6 +220,7 @@ impl<R: Wait + Threads + Copy + Drop> Wires for Network<R> {
     fn close(&mut self, p: PeerNo) {
         self.passed.note_closed(p);
         self.hub.close(p);
+        let _told = self.tell_change(p);
     }
 
     fn next(&mut self) -> Result<Delivery, NoMemory> {
@@ -190,9 +229,10 @@ impl<R: Wait + Threads + Copy + Drop> Wires for Network<R> {
         if let Ok(delivery) = &answer {
             self.asker.note(delivery);
             self.passed.note(delivery);
-            if self.on_terminal && self.passed.is_time(self.rt.monotonic().ok()) {
-                let _told = self.tell_progress();
+            if let Delivery::Gone(p) = delivery {
+                let _told = self.tell_change(*p);
             }
+            self.tell_news();
         }
         answer
     }

@@ -26,6 +26,9 @@ pub enum Asked {
     /// `getdata`.
     #[error("a block")]
     Block,
+    /// `ping`.
+    #[error("a pong")]
+    Ping,
 }
 
 // What a frame asks for, if it asks for anything.
@@ -45,6 +48,9 @@ fn asked_by(frame: &[u8]) -> Option<Asked> {
     }
     if command == b"getdata\0\0\0\0\0".as_slice() {
         return Some(Asked::Block);
+    }
+    if command == b"ping\0\0\0\0\0\0\0\0".as_slice() {
+        return Some(Asked::Ping);
     }
     None
 }
@@ -91,6 +97,19 @@ pub(crate) enum Stand {
     Closed(Option<FilterSpan>),
 }
 
+/// How far it has come.
+#[derive(Clone, Copy, PartialEq, Eq)]
+pub(crate) struct Progress {
+    /// How many peers are connected.
+    pub(crate) connected: usize,
+    /// The most headers that a peer has brought.
+    pub(crate) height: u32,
+    /// How many filters the peers have brought together.
+    pub(crate) filters: u32,
+    /// How many blocks they have.
+    pub(crate) blocks: u32,
+}
+
 /// What has passed the wires, as far as the user is told of it. Nobody has the number 0.
 #[derive(Drop)]
 pub(crate) struct Passed {
@@ -107,6 +126,8 @@ pub(crate) struct Passed {
     heard: Option<PeerNo>,
     // When a line was told last, or the first delivery came.
     told: Option<Duration>,
+    // How far it had come when that was told last.
+    last: Option<Progress>,
 }
 
 impl Passed {
@@ -120,6 +141,7 @@ impl Passed {
             at_tick: false,
             heard: None,
             told: None,
+            last: None,
         }
     }
 
@@ -190,8 +212,19 @@ impl Passed {
         }
     }
 
-    /// Whether a line may be told at this moment, where the clock tells it. Then it counts as told.
-    pub(crate) fn is_time(&mut self, now: Option<Duration>) -> bool {
+    /// How far it has come, if that is to be told at this moment, where the clock tells it: not as it was told last, and not too soon after that. Then
+    /// it counts as told.
+    pub(crate) fn news(&mut self, now: Option<Duration>) -> Option<Progress> {
+        let progress = Some(self.progress());
+        if self.last == progress || !self.is_time(now) {
+            return None;
+        }
+        self.last = progress;
+        progress
+    }
+
+    // Whether a line may be told at this moment. Then it counts as told.
+    fn is_time(&mut self, now: Option<Duration>) -> bool {
         let Some(now) = now else {
             return false;
         };
@@ -235,8 +268,17 @@ impl Passed {
             .count()
     }
 
-    /// The most headers that a peer has brought.
-    pub(crate) fn height(&self) -> u32 {
+    fn progress(&self) -> Progress {
+        Progress {
+            connected: self.connected(),
+            height: self.height(),
+            filters: self.filters(),
+            blocks: self.blocks(),
+        }
+    }
+
+    // The most headers that a peer has brought.
+    fn height(&self) -> u32 {
         let mut most = 0;
         for counts in &self.counts {
             most = counts.headers().max(most);
@@ -244,8 +286,8 @@ impl Passed {
         most
     }
 
-    /// How many filters the peers have brought together.
-    pub(crate) fn filters(&self) -> u32 {
+    // How many filters the peers have brought together.
+    fn filters(&self) -> u32 {
         let mut sum = 0u32;
         for counts in &self.counts {
             sum = sum.saturating_add(counts.filters());
@@ -253,8 +295,8 @@ impl Passed {
         sum
     }
 
-    /// How many blocks they have.
-    pub(crate) fn blocks(&self) -> u32 {
+    // How many blocks they have.
+    fn blocks(&self) -> u32 {
         let mut sum = 0u32;
         for counts in &self.counts {
             sum = sum.saturating_add(counts.blocks());

@@ -5,7 +5,7 @@ use Rattle.std.proofs.lemmas.List.{length-map}
 use Rattle.std.specs.Int.{w64}
 use Rattle.std.specs.Prelude.{string_bytes}
 use Rattle.cf_run.specs.Names.{names_in}
-use Rattle.cf_cli.specs.Statuses.{is_over}
+use Rattle.cf_answers.specs.Statuses.{is_over}
 use Rattle.cf_cli.proofs.Ends.{copied, over_put, over_stay}
 use Rattle.cf_cli.proofs.Plays.{versions_so}
 use Rattle.cf_cli.proofs.Stays.{begun_by, failed_told, over_by, run_tallied_on, some_but_told, some_put_told, some_so_told, spent_tallied_on, spent_told, stayed_told, unwritten_tallied_on}
