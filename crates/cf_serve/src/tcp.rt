@@ -22,6 +22,9 @@ const TELL_SECONDS: u64 = 60;
 /// How long a peer may be silent, in seconds.
 const READ_SECONDS: u64 = 1200;
 
+/// How often a call that was interrupted is made again: a machine that slept, or a process that was stopped, interrupts it.
+const TRIES: u32 = 1000;
+
 /// A connection over TCP.
 #[derive(Drop)]
 pub struct TcpConn {
@@ -39,6 +42,34 @@ pub struct TcpEnd {
     writes: u64,
 }
 
+// Reads some bytes. A call that was interrupted is made again.
+fn read_again(stream: &TcpStream, into: &mut [u8]) -> io::Result<usize>
+    ensures { IfOk result (λ n. n ≤ length into.new) }
+{
+    let mut stream = stream;
+    for _ in 0..TRIES {
+        match stream.read(into) {
+            Err(e) if e.kind() == ErrorKind::Interrupted => {}
+            answer => return answer,
+        }
+    }
+    Err(io::Error::from(ErrorKind::Interrupted))
+}
+
+// Writes some of the bytes. A call that was interrupted is made again.
+fn write_again(stream: &TcpStream, from: &[u8]) -> io::Result<usize>
+    ensures { IfOk result (λ n. n ≤ length from.now) }
+{
+    let mut stream = stream;
+    for _ in 0..TRIES {
+        match stream.write(from) {
+            Err(e) if e.kind() == ErrorKind::Interrupted => {}
+            answer => return answer,
+        }
+    }
+    Err(io::Error::from(ErrorKind::Interrupted))
+}
+
 // Reads some bytes; at most a buffer's.
 fn read_some(stream: &TcpStream, into: &mut [u8]) -> io::Result<usize>
     ensures some { IfOk result (λ n. n ≤ length into.new) }
@@ -46,8 +77,7 @@ fn read_some(stream: &TcpStream, into: &mut [u8]) -> io::Result<usize>
 {
     let mut buf = [0u8; 4096];
     let room = into.len().min(buf.len());
-    let mut stream = stream;
-    let n = stream.read(&mut buf[..room])?;
+    let n = read_again(stream, &mut buf[..room])?;
     into[..n].copy_from_slice(&buf[..n]);
     Ok(n)
 }
@@ -95,8 +125,7 @@ impl Duplex for TcpConn {
     }
 
     fn send(&mut self, from: &[u8]) -> Result<usize, Failed> {
-        let mut stream = &self.stream;
-        match stream.write(from) {
+        match write_again(&self.stream, from) {
             Ok(n) if n > 0 || from.is_empty() => Ok(n),
             _ => {
                 self.writes = self.writes.saturating_add(1);
@@ -181,12 +210,12 @@ fn is_want(e: &io::Error) -> bool {
     matches!(e.raw_os_error(), Some(12 | 23 | 24 | 105))
 }
 
-// Whether a connection was given up, forbidden or cut before it was accepted. The next one may do.
-// (EPERM, ENONET, EPROTO, ENOPROTOOPT, ENETDOWN, ENETUNREACH, ECONNABORTED, EHOSTDOWN, EHOSTUNREACH)
+// Whether a connection was given up, forbidden or cut before it was accepted, or the call was interrupted. The next one may do.
+// (EPERM, EINTR, ENONET, EPROTO, ENOPROTOOPT, ENETDOWN, ENETUNREACH, ECONNABORTED, EHOSTDOWN, EHOSTUNREACH)
 fn is_lost(e: &io::Error) -> bool {
     matches!(
         e.raw_os_error(),
-        Some(1 | 64 | 71 | 92 | 100 | 101 | 103 | 112 | 113)
+        Some(1 | 4 | 64 | 71 | 92 | 100 | 101 | 103 | 112 | 113)
     )
 }
 
