@@ -33,19 +33,11 @@ fn serve_mistake(matches: &ArgMatches) -> &'static str {
     }
 }
 
-// What is out of its range in the words of `make`.
-fn make_mistake(matches: &ArgMatches) -> &'static str {
+// What is out of its range in the words of `make` or `demo`, whose blocks are in this one.
+fn chain_mistake(matches: &ArgMatches, blocks: &'static str) -> &'static str {
     match text_of(matches, "seed").and_then(seed_of) {
         None => "SEED is a number from 0 to 4294967295",
-        Some(_) => "BLOCKS is a number from 1 to 500000",
-    }
-}
-
-// What is out of its range in the words of `demo`.
-fn demo_mistake(matches: &ArgMatches) -> &'static str {
-    match text_of(matches, "seed").and_then(seed_of) {
-        None => "SEED is a number from 0 to 4294967295",
-        Some(_) => "BLOCKS is a number from 1 to 499998",
+        Some(_) => blocks,
     }
 }
 
@@ -60,9 +52,9 @@ fn range_mistake(matches: &ArgMatches) -> &'static str {
     } else if is_met(matches, "sync") || is_met(matches, "follow") {
         run_mistake(matches)
     } else if is_met(matches, "make") {
-        make_mistake(matches)
+        chain_mistake(matches, "BLOCKS is a number from 1 to 500000")
     } else if is_met(matches, "demo") {
-        demo_mistake(matches)
+        chain_mistake(matches, "BLOCKS is a number from 1 to 499998")
     } else {
         "there is no command"
     }

@@ -56,8 +56,7 @@ pub const MOST_PLAYED: u32 = HEIGHT_LIMIT - 2;
 /// What the words ask for.
 #[derive(Drop)]
 pub enum Command {
-    /// The client over a session file; with `follow` one that goes on once nothing is open; with `trace`, what it sends and
-    /// closes is written too.
+    /// The client over a session file. With `follow` it goes on; with `trace` what it sends and closes is written too.
     Replay {
         follow: bool,
         trace: bool,
@@ -73,8 +72,7 @@ pub enum Command {
         watch: Word,
         peers: PeerNames,
     },
-    /// The same of a client that goes on once nothing is open: the text of each moment at which nothing is open is written at
-    /// once.
+    /// The same of a client that goes on: its text is written at once whenever nothing is open.
     Follow {
         turns: u32,
         workers: u32,
