@@ -18,7 +18,7 @@ pub returns-then-more-clause-turned : goal.returns-then-more-clause-turned
 returns-then-more-clause-turned g c = λ called holds.
     let held = holds_same {c = c.args.client.now} {d = c.put_at_rest.new.client} c.in_ok-put_at_rest.ensures.same holds in
     let may = may_follow (rule_by c.put_at_rest.new.client).mode _ held.actual (mode_same c.in_ok-put_at_rest.ensures.same c.requires.follows) c.in_default.not-NoPeers
-    (c.in_default.ensures.state held.actual held.reflects) in
+    (c.state.ensures.state held.actual held.reflects) in
     c.in_ok-more.ensures.holds c.if-more.true called held may
 
 pub returns-clause-turned : goal.returns-clause-turned
@@ -28,7 +28,7 @@ returns-clause-turned g c = λ called holds.
     let more = c.in_ok-put_at_rest-2.ensures.same ∙ over.0 in
     let same = more ∙ c.in_ok-put_at_rest.ensures.same in
     let held = holds_same {c = c.args.client.now} {d = last} same holds in
-    let state = c.in_default.ensures.state held.actual (reflects_same {c = c.put_at_rest.new.client} {d = last} more held.reflects) in
+    let state = c.state.ensures.state held.actual (reflects_same {c = c.put_at_rest.new.client} {d = last} more held.reflects) in
     let may = may_follow (rule_by last).mode _ held.actual (mode_same same c.requires.follows) c.in_default.not-NoPeers state in
     rw (over.1, over.2)
     (ended_stops c.end_of_wires.result last c.args.progress.now called (g.W.Wires.told c.args.wires.now) held may
@@ -48,7 +48,7 @@ pub returns-clause-all_put : goal.returns-clause-all_put
 returns-clause-all_put g c = λ e is watch called first same holds have.
     let over = c.in_ok-more.ensures.over c.if-more.false in
     let same_client = over.0 ∙ c.in_ok-put_at_rest.ensures.same in
-    let state = c.in_default.ensures.state holds.actual (reflects_same {c = c.put_at_rest.new.client} {d = c.args.client.now} (sym c.in_ok-put_at_rest.ensures.same) holds.reflects) in
+    let state = c.state.ensures.state holds.actual (reflects_same {c = c.put_at_rest.new.client} {d = c.args.client.now} (sym c.in_ok-put_at_rest.ensures.same) holds.reflects) in
     let may = may_follow (rule_by c.args.client.now).mode _ holds.actual c.requires.follows c.in_default.not-NoPeers state in
     let now = ended_holds {c = c.args.client.now} {d = c.take_next.new.client} same_client over.1 over.2 holds may in
     let rule = rule_same same_client in
@@ -73,7 +73,7 @@ pub returns-in_err-put_at_rest-2-clause-put_some : goal.returns-in_err-put_at_re
 returns-in_err-put_at_rest-2-clause-put_some g c = (let p = err_from_is_err_and c.from_residual-in_err-put_at_rest-2.result c.from_residual-in_err-put_at_rest-2.ensures.1 in rw (p.1, p.2) (λ watch called first same holds have.
     let over = c.in_ok-more.ensures.over c.if-more.false in
     let same_client = over.0 ∙ c.in_ok-put_at_rest.ensures.same in
-    let state = c.in_default.ensures.state holds.actual (reflects_same {c = c.put_at_rest.new.client} {d = c.args.client.now} (sym c.in_ok-put_at_rest.ensures.same) holds.reflects) in
+    let state = c.state.ensures.state holds.actual (reflects_same {c = c.put_at_rest.new.client} {d = c.args.client.now} (sym c.in_ok-put_at_rest.ensures.same) holds.reflects) in
     let may = may_follow (rule_by c.args.client.now).mode _ holds.actual c.requires.follows c.in_default.not-NoPeers state in
     let now = ended_holds {c = c.args.client.now} {d = c.take_next.new.client} same_client over.1 over.2 holds may in
     let rule = rule_same same_client in
@@ -94,7 +94,7 @@ pub returns-then-more-clause-versions : goal.returns-then-more-clause-versions
 returns-then-more-clause-versions g c = λ called holds.
     let held = holds_same {c = c.args.client.now} {d = c.put_at_rest.new.client} c.in_ok-put_at_rest.ensures.same holds in
     let may = may_follow (rule_by c.put_at_rest.new.client).mode _ held.actual (mode_same c.in_ok-put_at_rest.ensures.same c.requires.follows) c.in_default.not-NoPeers
-    (c.in_default.ensures.state held.actual held.reflects) in
+    (c.state.ensures.state held.actual held.reflects) in
     keeps_so (words_by c.put_at_rest.new.client) (words_by c.args.client.now) (g.W.Wires.told c.args.wires.now) (g.W.Wires.told c.take_next.new.wires)
     (words_same c.in_ok-put_at_rest.ensures.same)
     (c.in_ok-more.ensures.versions called held may)
@@ -103,7 +103,7 @@ pub returns-clause-versions : goal.returns-clause-versions
 returns-clause-versions g c = λ called holds.
     let held = holds_same {c = c.args.client.now} {d = c.put_at_rest.new.client} c.in_ok-put_at_rest.ensures.same holds in
     let may = may_follow (rule_by c.put_at_rest.new.client).mode _ held.actual (mode_same c.in_ok-put_at_rest.ensures.same c.requires.follows) c.in_default.not-NoPeers
-    (c.in_default.ensures.state held.actual held.reflects) in
+    (c.state.ensures.state held.actual held.reflects) in
     keeps_so (words_by c.put_at_rest.new.client) (words_by c.args.client.now) (g.W.Wires.told c.args.wires.now) (g.W.Wires.told c.take_next.new.wires)
     (words_same c.in_ok-put_at_rest.ensures.same)
     (c.in_ok-more.ensures.versions called held may)
@@ -112,7 +112,7 @@ pub returns-in_err-more-clause-versions : goal.returns-in_err-more-clause-versio
 returns-in_err-more-clause-versions g c = λ called holds.
     let held = holds_same {c = c.args.client.now} {d = c.put_at_rest.new.client} c.in_ok-put_at_rest.ensures.same holds in
     let may = may_follow (rule_by c.put_at_rest.new.client).mode _ held.actual (mode_same c.in_ok-put_at_rest.ensures.same c.requires.follows) c.in_default.not-NoPeers
-    (c.in_default.ensures.state held.actual held.reflects) in
+    (c.state.ensures.state held.actual held.reflects) in
     keeps_so (words_by c.put_at_rest.new.client) (words_by c.args.client.now) (g.W.Wires.told c.args.wires.now) (g.W.Wires.told c.take_next.new.wires)
     (words_same c.in_ok-put_at_rest.ensures.same)
     (c.in_err-more.ensures.versions called held may)
@@ -121,7 +121,7 @@ pub returns-in_err-put_at_rest-2-clause-versions : goal.returns-in_err-put_at_re
 returns-in_err-put_at_rest-2-clause-versions g c = λ called holds.
     let held = holds_same {c = c.args.client.now} {d = c.put_at_rest.new.client} c.in_ok-put_at_rest.ensures.same holds in
     let may = may_follow (rule_by c.put_at_rest.new.client).mode _ held.actual (mode_same c.in_ok-put_at_rest.ensures.same c.requires.follows) c.in_default.not-NoPeers
-    (c.in_default.ensures.state held.actual held.reflects) in
+    (c.state.ensures.state held.actual held.reflects) in
     keeps_so (words_by c.put_at_rest.new.client) (words_by c.args.client.now) (g.W.Wires.told c.args.wires.now) (g.W.Wires.told c.take_next.new.wires)
     (words_same c.in_ok-put_at_rest.ensures.same)
     (c.in_ok-more.ensures.versions called held may)
