@@ -1,5 +1,5 @@
 //! The run of a client over any wires: the dials, the turns, and the finish.
-ghost use Rattle.std.specs.Prelude.{◌≡◌, ◌≢◌, ◌↔◌, ℕ, None, ◌<◌, ◌≤◌, ◌+◌, ◌∷◌, ◌++◌, [], List, map, OnOk, IfOk, OnErr, IfNone, IfSome, IsErrOf, true, false, length, take};
+ghost use Rattle.std.specs.Prelude.{◌≡◌, ◌≢◌, ◌↔◌, ℕ, None, ◌<◌, ◌≤◌, ◌+◌, ◌∷◌, ◌++◌, [], List, OnOk, IfOk, IfNone, IfSome, IsErrOf, true, false, length};
 ghost use Rattle.cf_bytes.specs.Outside.{HasRisen};
 ghost use Rattle.cf_client.specs.Holding.{HoldsNoMore};
 ghost use Rattle.cf_run.specs.Names.{names_in};

@@ -1,4 +1,4 @@
-use Rattle.std.proofs.Common.{List, [], ℕ, sym, ◌∙◌, ap, subst, rules}
+use Rattle.std.proofs.Common.{[], sym, ◌∙◌, ap, subst, rules}
 use Rattle.std.proofs.lemmas.Result.{err_from_is_err_and}
 use Rattle.std.proofs.Math.Facts.{to_z-of_z}
 use Rattle.std.specs.Int.{w64}

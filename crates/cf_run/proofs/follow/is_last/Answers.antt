@@ -1,4 +1,4 @@
-use Rattle.cf_run.proofs.Puts.{last_none, last_some}
+use Rattle.cf_run.proofs.Puts.{last_none}
 use Rattle.cf_run.proofs.follow.is_last.Goals as goal
 
 pub returns-in-None : goal.returns-in-None

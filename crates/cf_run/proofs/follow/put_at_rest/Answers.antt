@@ -1,4 +1,4 @@
-use Rattle.std.proofs.Common.{ℕ, ◌≡◌, refl, subst}
+use Rattle.std.proofs.Common.{refl}
 use Rattle.std.proofs.lemmas.Result.{err_from_is_err_and}
 use Rattle.cf_run.proofs.Puts.{none_next, busy_unrested, alone_unrested, one_next, some_puts}
 use Rattle.cf_run.proofs.follow.put_at_rest.Goals as goal

@@ -1,5 +1,4 @@
-use Rattle.std.proofs.Common.{◌≡◌, List, ◌∷◌, true, false, sym, ◌∙◌, ap, subst, refl}
-use Rattle.std.proofs.lemmas.Bool.{false≢true}
+use Rattle.std.proofs.Common.{◌≡◌, List, ◌∷◌, sym, ◌∙◌, ap, subst, refl}
 use Rattle.cf_peer.specs.declared.act.Act.{Act}
 use Rattle.cf_wires.specs.declared.event.Delivery.{Delivery}
 use Rattle.cf_wires.specs.declared.event.Event.TheVariants.{Took}
@@ -8,7 +7,7 @@ use Rattle.cf_client.specs.Stands.{Answers, words_by}
 use Rattle.cf_run.proofs.Versions.{entry_keeps, same_keeps, acts_tell_so, keeps_then}
 use Rattle.cf_run.proofs.Ticked.{ticked_taken}
 use Rattle.cf_run.proofs.Turns.{took_doing, doing_rule, took_counts, took_closed}
-use Rattle.cf_run.proofs.Courses.{told_runs, turns_took, turns_then, puts_taken}
+use Rattle.cf_run.proofs.Courses.{told_runs, turns_then, puts_taken}
 use Rattle.cf_run.proofs.over.take_next.Goals as goal
 
 pub returns-clause-holds : goal.returns-clause-holds
