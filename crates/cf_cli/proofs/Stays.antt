@@ -189,7 +189,7 @@ some_begun scripts before after log (inr but) = record {
   lines = [];
   traced = inl refl;
   texts = but.text ∷ but.texts;
-  puts = inr (but.texts, but.earlier, but.due);
+  puts = inr (but.texts, (but.earlier, but.due));
   begun = begun_behind but.text but.texts before after but.begun;
 }
 

@@ -30,8 +30,8 @@ returns-then-follow-clause-replayed g c = rw c.if-follow.true (
       (same_told c.load.new.self c.args.tape.now c.load.ensures.log c.load.ensures.finished) c.stay_on_tape.ensures.tallied,
 )
 
-pub returns-else-follow-clause-replayed : goal.returns-else-follow-clause-replayed
-returns-else-follow-clause-replayed g c = rw c.if-follow.false (
+pub returns-clause-replayed : goal.returns-clause-replayed
+returns-clause-replayed g c = rw c.if-follow.false (
   names_in c.as_slice-names.result.now,
   over_watch c.run_once.result false c.args.trace (g.F.Files.files c.args.files.now) c.args.watch.now c.in-Ok.scripts (names_in c.as_slice-names.result.now) (g.O.Sink.written c.args.out.now)
       (g.O.Sink.written c.run_once.new.out) (log_of c.run_once.new.wires) c.in-Ok.ensures.scripts c.run_once.ensures.kept,
@@ -57,8 +57,8 @@ returns-then-follow-clause-plays g c =
     (ap names_in c.as_slice-names.ensures.value ∙ c.in-Ok-load_session.ensures.named)
     c.stay_on_tape.ensures.dialled c.stay_on_tape.ensures.tallied.tallied.whole)
 
-pub returns-else-follow-clause-plays : goal.returns-else-follow-clause-plays
-returns-else-follow-clause-plays g c =
+pub returns-clause-plays : goal.returns-clause-plays
+returns-clause-plays g c =
     let s = c.in-Ok-load_session.session in
     let script : Script = record { dials = s.dials.items; deliveries = s.deliveries.items } in
     told_plays (g.F.Files.files c.args.files.now) c.args.session.now c.run_once.result script (log_of c.run_once.new.wires)
@@ -79,8 +79,8 @@ returns-then-follow-clause-versions g c =
     versions_so _ c.args.moment c.args.nonce (told_of c.stay_on_tape.new.wires)
     (to_z-of_z {w = w64} {z = c.args.moment} (search rules)) c.stay_on_tape.ensures.versions
 
-pub returns-else-follow-clause-versions : goal.returns-else-follow-clause-versions
-returns-else-follow-clause-versions g c =
+pub returns-clause-versions : goal.returns-clause-versions
+returns-clause-versions g c =
     versions_so _ c.args.moment c.args.nonce (told_of c.run_once.new.wires)
     (to_z-of_z {w = w64} {z = c.args.moment} (search rules)) c.run_once.ensures.versions
 
@@ -93,5 +93,5 @@ returns-in-Err-load_session-clause-ends g c = ends_early c.in-Err-load_session.s
 pub returns-then-follow-clause-ends : goal.returns-then-follow-clause-ends
 returns-then-follow-clause-ends g c = c.stay_on_tape.ensures.ends
 
-pub returns-else-follow-clause-ends : goal.returns-else-follow-clause-ends
-returns-else-follow-clause-ends g c = c.run_once.ensures.ends
+pub returns-clause-ends : goal.returns-clause-ends
+returns-clause-ends g c = c.run_once.ensures.ends

@@ -85,32 +85,32 @@ returns-in-Err-NoMemory-clause-ends g c = over_failed c.stay_live-status.result 
 
 -- ---- the record can't be written
 
-pub returns-in-Err-No-clause-kept : goal.returns-in-Err-No-clause-kept
-returns-in-Err-No-clause-kept g c =
+pub returns-clause-kept : goal.returns-clause-kept
+returns-clause-kept g c =
     let files = rw c.in-Err-No.field-0-is at c.in-Err-No.ensures.files in
     unrecorded_on (g.W.Wires.told c.stay_live-status.new.wires).log c.stay_live-status.result (is_some c.args.log_file.now) c.args.watch (names_in c.args.names.now) (g.O.Sink.written c.args.out.now)
     (g.O.Sink.written c.stay_live-status.new.out) (search rules) files.0 c.stay_live-status.ensures.kept
 
-pub returns-in-Err-No-clause-some : goal.returns-in-Err-No-clause-some
-returns-in-Err-No-clause-some g c = λ off.
+pub returns-clause-some : goal.returns-clause-some
+returns-clause-some g c = λ off.
     kept_some (g.W.Wires.told c.stay_live-status.new.wires).log c.stay_live-status.result (is_some c.args.log_file.now) c.args.watch (names_in c.args.names.now) _ _
     c.stay_live-status.ensures.kept c.stay_live-status.ensures.some
 
-pub returns-in-Err-No-clause-tallied : goal.returns-in-Err-No-clause-tallied
-returns-in-Err-No-clause-tallied g c = failed_tallied_on c.stay_live-status.result FileFault _ _ _ _ _ refl tt c.stay_live-status.ensures.finished c.stay_live-status.ensures.tallied
+pub returns-clause-tallied : goal.returns-clause-tallied
+returns-clause-tallied g c = failed_tallied_on c.stay_live-status.result FileFault _ _ _ _ _ refl tt c.stay_live-status.ensures.finished c.stay_live-status.ensures.tallied
 
-pub returns-in-Err-No-clause-versions : goal.returns-in-Err-No-clause-versions
-returns-in-Err-No-clause-versions g c =
+pub returns-clause-versions : goal.returns-clause-versions
+returns-clause-versions g c =
     versions_so _ c.args.moment c.args.nonce (g.W.Wires.told c.stay_live-status.new.wires)
     (to_z-of_z {w = w64} {z = c.args.moment} (search rules)) c.stay_live-status.ensures.versions
 
-pub returns-in-Err-No-clause-begun : goal.returns-in-Err-No-clause-begun
-returns-in-Err-No-clause-begun g c =
+pub returns-clause-begun : goal.returns-clause-begun
+returns-clause-begun g c =
     let files = rw c.in-Err-No.field-0-is at c.in-Err-No.ensures.files in
     ap not files.0
 
-pub returns-in-Err-No-clause-ends : goal.returns-in-Err-No-clause-ends
-returns-in-Err-No-clause-ends g c =
+pub returns-clause-ends : goal.returns-clause-ends
+returns-clause-ends g c =
     let files = rw c.in-Err-No.field-0-is at c.in-Err-No.ensures.files in
     over_failed c.stay_live-status.result FileFault _ _ _ _ refl (ap not files.0) c.stay_live-status.ensures.ends
 

@@ -1,4 +1,4 @@
-use Rattle.std.proofs.Common.{false, refl, rules, sym, ◌∙◌}
+use Rattle.std.proofs.Common.{◌≡◌, Err, false, refl, rules, sym, ◌∙◌, ap}
 use Rattle.std.proofs.Math.Facts.{to_z-of_z}
 use Rattle.std.proofs.lemmas.Bool.{both_ways}
 use Rattle.std.proofs.lemmas.List.{length-map}
@@ -11,49 +11,57 @@ use Rattle.cf_cli.proofs.Plays.{versions_so}
 use Rattle.cf_cli.proofs.Stays.{begun_by, failed_told, over_by, run_tallied_on, some_but_told, some_put_told, some_so_told, spent_tallied_on, spent_told, stayed_told, unwritten_tallied_on}
 use Rattle.cf_cli.proofs.staying.stay_live.Goals as goal
 
-pub returns-in-Ok-clause-kept : goal.returns-in-Ok-clause-kept
-returns-in-Ok-clause-kept g c = λ recorded.
+pub returns-in-Ok-to_vec-clause-kept : goal.returns-in-Ok-to_vec-clause-kept
+returns-in-Ok-to_vec-clause-kept g c = λ recorded.
+    let same : c.follow_over.new.texts.sink.now ≡ c.out-1.given.0 = search rules in
     let o = c.in-Ok.outcome in
     stayed_told (g.W.Wires.told c.follow_over.new.wires).log c.args.watch o.end o.height o.tip o.history o.trace.items (names_in c.args.names.now) o.ends.items c.status_of.result recorded false
-    _ _ _ _ c.in-Ok.ensures.followed c.in-Ok.ensures.theorem c.in-Ok.ensures.ends c.status_of.ensures.answer (rw c.new-texts.ensures.same at c.in-Ok.ensures.put) (λ texts e. e)
+    _ _ _ _ c.in-Ok.ensures.followed c.in-Ok.ensures.theorem c.in-Ok.ensures.ends c.status_of.ensures.answer (rw (c.new-texts.ensures.same, same) at c.in-Ok.ensures.put) (λ texts e. e)
 
 pub returns-in_default-clause-kept : goal.returns-in_default-clause-kept
 returns-in_default-clause-kept g c = λ recorded.
+    let same : c.follow_over.new.texts.sink.now ≡ c.out-1.given.0 = search rules in
     spent_told (g.W.Wires.told c.follow_over.new.wires).log c.args.watch (names_in c.args.names.now) recorded _ _
-    (some_put_told (g.W.Wires.told c.follow_over.new.wires).log c.args.watch _ _ (rw c.new-texts.ensures.same at c.in-Ok.ensures.put))
+    (some_put_told (g.W.Wires.told c.follow_over.new.wires).log c.args.watch _ _ (rw (c.new-texts.ensures.same, same) at c.in-Ok.ensures.put))
 
 pub returns-in-Err-Failed-clause-kept : goal.returns-in-Err-Failed-clause-kept
 returns-in-Err-Failed-clause-kept g c = λ recorded.
+    let same : c.follow_over.new.texts.sink.now ≡ c.out-1.given.0 = search rules in
     failed_told (g.W.Wires.told c.follow_over.new.wires).log c.args.watch (names_in c.args.names.now) recorded _ _
-    (some_but_told (g.W.Wires.told c.follow_over.new.wires).log c.args.watch _ _ (rw c.new-texts.ensures.same at c.in-Err-Failed.ensures.put_but c.in-Err-Failed.field-0-is))
-    (c.in-Err-Failed.ensures.right c.in-Err-Failed.field-0-is)
+    (some_but_told (g.W.Wires.told c.follow_over.new.wires).log c.args.watch _ _ (rw (c.new-texts.ensures.same, same) at c.in-Err-Failed.ensures.put_but (ap Err c.in-Err-Failed.field-0-is)))
+    (c.in-Err-Failed.ensures.right (ap Err c.in-Err-Failed.field-0-is))
 
 pub returns-in-Err-NoMemory-clause-kept : goal.returns-in-Err-NoMemory-clause-kept
 returns-in-Err-NoMemory-clause-kept g c = λ recorded.
+    let same : c.follow_over.new.texts.sink.now ≡ c.out-1.given.0 = search rules in
     spent_told (g.W.Wires.told c.follow_over.new.wires).log c.args.watch (names_in c.args.names.now) recorded _ _
-    (some_so_told (g.W.Wires.told c.follow_over.new.wires).log c.args.watch _ _ (rw c.new-texts.ensures.same at c.in-Err-NoMemory.ensures.put_so c.in-Err-NoMemory.field-0-is))
+    (some_so_told (g.W.Wires.told c.follow_over.new.wires).log c.args.watch _ _ (rw (c.new-texts.ensures.same, same) at c.in-Err-NoMemory.ensures.put_so (ap Err c.in-Err-NoMemory.field-0-is)))
 
-pub returns-in-Ok-clause-some : goal.returns-in-Ok-clause-some
-returns-in-Ok-clause-some g c = λ off.
+pub returns-in-Ok-to_vec-clause-some : goal.returns-in-Ok-to_vec-clause-some
+returns-in-Ok-to_vec-clause-some g c = λ off.
     absurd (both_ways (is_over c.status_of.result) off (over_by c.in-Ok.outcome.end c.in-Ok.outcome.ends.items c.status_of.result c.status_of.ensures.answer))
 
 pub returns-in_default-clause-some : goal.returns-in_default-clause-some
-returns-in_default-clause-some g c = λ off. some_put_told (g.W.Wires.told c.follow_over.new.wires).log c.args.watch _ _ (rw c.new-texts.ensures.same at c.in-Ok.ensures.put)
+returns-in_default-clause-some g c = λ off.
+    let same : c.follow_over.new.texts.sink.now ≡ c.out-1.given.0 = search rules in
+    some_put_told (g.W.Wires.told c.follow_over.new.wires).log c.args.watch _ _ (rw (c.new-texts.ensures.same, same) at c.in-Ok.ensures.put)
 
 pub returns-in-Err-Failed-clause-some : goal.returns-in-Err-Failed-clause-some
 returns-in-Err-Failed-clause-some g c = λ off.
-    some_but_told (g.W.Wires.told c.follow_over.new.wires).log c.args.watch _ _ (rw c.new-texts.ensures.same at c.in-Err-Failed.ensures.put_but c.in-Err-Failed.field-0-is)
+    let same : c.follow_over.new.texts.sink.now ≡ c.out-1.given.0 = search rules in
+    some_but_told (g.W.Wires.told c.follow_over.new.wires).log c.args.watch _ _ (rw (c.new-texts.ensures.same, same) at c.in-Err-Failed.ensures.put_but (ap Err c.in-Err-Failed.field-0-is))
 
 pub returns-in-Err-NoMemory-clause-some : goal.returns-in-Err-NoMemory-clause-some
 returns-in-Err-NoMemory-clause-some g c = λ off.
-    some_so_told (g.W.Wires.told c.follow_over.new.wires).log c.args.watch _ _ (rw c.new-texts.ensures.same at c.in-Err-NoMemory.ensures.put_so c.in-Err-NoMemory.field-0-is)
+    let same : c.follow_over.new.texts.sink.now ≡ c.out-1.given.0 = search rules in
+    some_so_told (g.W.Wires.told c.follow_over.new.wires).log c.args.watch _ _ (rw (c.new-texts.ensures.same, same) at c.in-Err-NoMemory.ensures.put_so (ap Err c.in-Err-NoMemory.field-0-is))
 
-pub returns-in-Ok-clause-tallied : goal.returns-in-Ok-clause-tallied
-returns-in-Ok-clause-tallied g c =
+pub returns-in-Ok-to_vec-clause-tallied : goal.returns-in-Ok-to_vec-clause-tallied
+returns-in-Ok-to_vec-clause-tallied g c =
     let told = c.follow_over.ensures in
     let ok = c.in-Ok.ensures in
     run_tallied_on c.in-Ok.outcome.end _ c.status_of.result _ _ _ _ c.status_of.ensures.answer (record { taken = told.most; dialled = told.first.most; ended = told.once })
-    (record { dialled = ok.dialled (λ none. none) ∙ sym (length-map c.args.names.now string_bytes); finished = told.finished })
+    (record { dialled = ok.dialled (λ none. cc) ∙ sym (length-map c.args.names.now string_bytes); finished = told.finished })
     ok.no_peers ok.done ok.tired ok.ended ok.early
 
 pub returns-in_default-clause-tallied : goal.returns-in_default-clause-tallied
@@ -72,8 +80,8 @@ returns-in-Err-Failed-clause-tallied g c =
     unwritten_tallied_on _ _ _ _ (record { taken = told.most; dialled = told.first.most; ended = told.once })
     (record { dialled = c.in-Err-Failed.ensures.dialled (λ none. cc) ∙ sym (length-map c.args.names.now string_bytes); finished = told.finished })
 
-pub returns-in-Ok-clause-versions : goal.returns-in-Ok-clause-versions
-returns-in-Ok-clause-versions g c =
+pub returns-in-Ok-to_vec-clause-versions : goal.returns-in-Ok-to_vec-clause-versions
+returns-in-Ok-to_vec-clause-versions g c =
     versions_so _ c.args.moment c.args.nonce (g.W.Wires.told c.follow_over.new.wires)
     (to_z-of_z {w = w64} {z = c.args.moment} (search rules)) c.follow_over.ensures.versions
 
@@ -92,8 +100,8 @@ returns-in-Err-NoMemory-clause-versions g c =
     versions_so _ c.args.moment c.args.nonce (g.W.Wires.told c.follow_over.new.wires)
     (to_z-of_z {w = w64} {z = c.args.moment} (search rules)) c.follow_over.ensures.versions
 
-pub returns-in-Ok-clause-ends : goal.returns-in-Ok-clause-ends
-returns-in-Ok-clause-ends g c =
+pub returns-in-Ok-to_vec-clause-ends : goal.returns-in-Ok-to_vec-clause-ends
+returns-in-Ok-to_vec-clause-ends g c =
     over_put c.status_of.result false _ _ _ (begun_by c.status_of.result false c.status_of.ensures.unrefused)
     (copied (g.W.Wires.told c.follow_over.new.wires).log _ _ (c.in-Ok-to_vec.ensures.items_if_clones_equal (λ x y e. e) ∙ c.as_slice.ensures.value) c.in-Ok.ensures.ends)
 

@@ -1,4 +1,4 @@
-use Rattle.std.proofs.Common.{Some, false, refl, rules, sym, ◌∙◌}
+use Rattle.std.proofs.Common.{Err, Some, false, refl, rules, sym, ◌∙◌, ap}
 use Rattle.std.proofs.Math.Facts.{to_z-of_z}
 use Rattle.std.proofs.lemmas.List.{length-map}
 use Rattle.std.specs.Int.{w64}
@@ -21,7 +21,7 @@ pub returns-in-Err-clause-kept : goal.returns-in-Err-clause-kept
 returns-in-Err-clause-kept g c =
     silent_told (g.W.Wires.told c.follow_over.new.wires).log c.args.watch (names_in c.args.names.now) false c.args.trace (Some c.new-texts.result.bytes.items) (Some c.follow_over.new.texts.bytes.items)
     (g.O.Sink.written c.args.out.now)
-    (some_by_told c.in-Err.field-0 (g.W.Wires.told c.follow_over.new.wires).log c.args.watch _ _ c.in-Err.ensures.put_so c.in-Err.ensures.put_but)
+    (some_by_told c.in-Err.field-0 (g.W.Wires.told c.follow_over.new.wires).log c.args.watch _ _ (λ is. c.in-Err.ensures.put_so (ap Err is)) (λ is. c.in-Err.ensures.put_but (ap Err is)))
 
 pub returns-in_default-to_vec-clause-kept : goal.returns-in_default-to_vec-clause-kept
 returns-in_default-to_vec-clause-kept g c =
@@ -99,8 +99,8 @@ returns-in-Ok-put_all-clause-kept g c =
     (tape_written c.args.trace o.trace.items c.new-texts.result.bytes.items c.follow_over.new.texts.bytes.items c.bytes.result.now c.deref.result.now before after
     c.new-texts.ensures c.bytes.ensures (c.deref.ensures.value ∙ c.in-Ok-behind_trace.ensures) c.in-Ok-put_all.ensures.ok)
 
-pub returns-in-Err-put_all-clause-kept : goal.returns-in-Err-put_all-clause-kept
-returns-in-Err-put_all-clause-kept g c =
+pub returns-clause-kept : goal.returns-clause-kept
+returns-clause-kept g c =
     let o = c.in-Ok-follow_over.outcome in
     let before = g.O.Sink.written c.args.out.now in
     let after = g.O.Sink.written c.put_all.new.sink in
@@ -115,22 +115,22 @@ returns-in-Ok-put_all-clause-tallied g c =
     let told = c.follow_over.ensures in
     let ok = c.in-Ok-follow_over.ensures in
     run_tallied_on c.in-Ok-follow_over.outcome.end _ c.status_of.result _ _ _ _ c.status_of.ensures.answer (record { taken = told.most; dialled = told.first.most; ended = told.once })
-    (record { dialled = ok.dialled (λ none. none) ∙ sym (length-map c.args.names.now string_bytes); finished = told.finished })
+    (record { dialled = ok.dialled (λ none. cc) ∙ sym (length-map c.args.names.now string_bytes); finished = told.finished })
     ok.no_peers ok.done ok.tired ok.ended ok.early
 
-pub returns-in-Err-put_all-clause-tallied : goal.returns-in-Err-put_all-clause-tallied
-returns-in-Err-put_all-clause-tallied g c =
+pub returns-clause-tallied : goal.returns-clause-tallied
+returns-clause-tallied g c =
     let told = c.follow_over.ensures in
     unwritten_tallied_on _ _ _ _ (record { taken = told.most; dialled = told.first.most; ended = told.once })
-    (record { dialled = c.in-Ok-follow_over.ensures.dialled (λ none. none) ∙ sym (length-map c.args.names.now string_bytes); finished = told.finished })
+    (record { dialled = c.in-Ok-follow_over.ensures.dialled (λ none. cc) ∙ sym (length-map c.args.names.now string_bytes); finished = told.finished })
 
 pub returns-in-Ok-put_all-clause-versions : goal.returns-in-Ok-put_all-clause-versions
 returns-in-Ok-put_all-clause-versions g c =
     versions_so _ c.args.moment c.args.nonce (g.W.Wires.told c.follow_over.new.wires)
     (to_z-of_z {w = w64} {z = c.args.moment} (search rules)) c.follow_over.ensures.versions
 
-pub returns-in-Err-put_all-clause-versions : goal.returns-in-Err-put_all-clause-versions
-returns-in-Err-put_all-clause-versions g c =
+pub returns-clause-versions : goal.returns-clause-versions
+returns-clause-versions g c =
     versions_so _ c.args.moment c.args.nonce (g.W.Wires.told c.follow_over.new.wires)
     (to_z-of_z {w = w64} {z = c.args.moment} (search rules)) c.follow_over.ensures.versions
 
@@ -139,7 +139,7 @@ returns-in-Ok-put_all-clause-ends g c =
     ends_put c.status_of.result false _ _ _ (run_begun c.status_of.result false c.status_of.ensures.ran)
     (copied (g.W.Wires.told c.follow_over.new.wires).log _ _ (c.in-Ok-to_vec.ensures.items_if_clones_equal (λ x y e. e) ∙ c.as_slice.ensures.value) c.in-Ok-follow_over.ensures.ends)
 
-pub returns-in-Err-put_all-clause-ends : goal.returns-in-Err-put_all-clause-ends
-returns-in-Err-put_all-clause-ends g c =
+pub returns-clause-ends : goal.returns-clause-ends
+returns-clause-ends g c =
     ends_put OutFault false _ _ _ refl
     (copied (g.W.Wires.told c.follow_over.new.wires).log _ _ (c.in-Ok-to_vec.ensures.items_if_clones_equal (λ x y e. e) ∙ c.as_slice.ensures.value) c.in-Ok-follow_over.ensures.ends)
