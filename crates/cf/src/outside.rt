@@ -24,6 +24,7 @@ fn unreadable(e: &io::Error) -> Status {
 }
 
 /// What the words ask of the network.
+#[derive(Clone, Copy)]
 pub struct Dials {
     /// How many peers `sync` or `follow` names; none for another command, and where the words ask for nothing.
     pub peers: usize,
