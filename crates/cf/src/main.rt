@@ -41,7 +41,7 @@ fn run_command<R: Wait + Threads + Sync + Copy + Drop + Send + 'static, K: Spawn
     spawner: &mut K,
 ) -> Status {
     let alloc = rt.alloc();
-    let Ok(dials) = outside::dials(alloc, words) else {
+    let Ok(dials) = outside::read_dials(alloc, words) else {
         return told(rt, words, Status::NoMemory, &None);
     };
     let Ok(mut edge) = Edge::new(rt, handle, spawner, dials.peers) else {

@@ -37,7 +37,7 @@ pub struct Dials {
 /// # Errors
 ///
 /// Where no memory is found to read them.
-pub fn dials(alloc: Global, words: &[String]) -> Result<Dials, NoMemory> {
+pub fn read_dials(alloc: Global, words: &[String]) -> Result<Dials, NoMemory> {
     match &read_words(alloc, words) {
         Ok(Command::Sync { peers, .. }) => Ok(Dials {
             peers: peers.as_slice().len(),
