@@ -2,6 +2,8 @@
 //! network, and what went wrong, is told on standard error, and the exit status says which way the call ended.
 #![tactic(auto)]
 
+ghost use Rattle.std.specs.Prelude.{◌≡◌};
+
 mod faults;
 mod joined;
 mod listener;
@@ -13,6 +15,7 @@ use cf_answers::{Status, own_text};
 use cf_bytes::{StdFiles, WriterSink, put_all};
 use cf_cli::run;
 use cf_edge::Edge;
+use cf_network::Network;
 use cf_tasks::{InThreads, Spawner};
 use std::io;
 use std::process::ExitCode;
@@ -33,6 +36,15 @@ fn told(rt: &HostRuntime, words: &[String], status: Status, reason: &Option<io::
     status
 }
 
+// Where the client stays, each peer that comes, goes or is closed is told of at once.
+fn tell_changes<R: Wait + Threads + Copy + Drop>(network: &mut Network<R>, stays: bool)
+    ensures same { network.new ≡ network.old }
+{
+    if stays {
+        network.tell_at_once();
+    }
+}
+
 // Runs the command. `sync` and `follow` go over TCP.
 fn run_command<R: Wait + Threads + Sync + Copy + Drop + Send + 'static, K: Spawner>(
     rt: &HostRuntime,
@@ -47,9 +59,7 @@ fn run_command<R: Wait + Threads + Sync + Copy + Drop + Send + 'static, K: Spawn
     let Ok(mut edge) = Edge::new(rt, handle, spawner, dials.peers) else {
         return told(rt, words, Status::NoMemory, &None);
     };
-    if dials.stays {
-        edge.network.tell_at_once();
-    }
+    tell_changes(&mut edge.network, dials.stays);
     let mut files = StdFiles::new(rt);
     let mut ends = Vec::new(alloc);
     let status = run(
