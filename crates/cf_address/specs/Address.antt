@@ -1,4 +1,4 @@
--- Addresses of witness programs: BIP 173 "Segwit address format" and BIP 350.
+-- statement: addresses of witness programs: BIP 173 "Segwit address format" and BIP 350.
 use Rattle.std.specs.Prelude.{◌≡◌, ℕ, ◌≤◌, ◌⊎◌, nat_lt, nat_le, Bool, ◌&&◌, List, ◌∷◌, ◌++◌, length, map}
 use Rattle.std.specs.List.{list_all}
 use Rattle.std.specs.Char.{is_ascii_lowercase, to_ascii_uppercase}

@@ -1,4 +1,4 @@
--- The letters of the data of an address: BIP 173 "Bech32".
+-- statement: the letters of the data of an address: BIP 173 "Bech32".
 use Rattle.std.specs.Prelude.{ℕ, ◌==◌, nat_lt, Bool, List, slice_index}
 use Rattle.std.specs.List.{position_or_len}
 use Rattle.std.specs.Prelude.{codes}

@@ -1,4 +1,4 @@
--- The check value of an address: BIP 173 "Checksum", with the constant of BIP 350 "Bech32m".
+-- statement: the check value of an address: BIP 173 "Checksum", with the constant of BIP 350 "Bech32m".
 use Rattle.std.specs.Prelude.{ℕ, ◌*◌, ◌/◌, ◌%◌, ◌^◌, ◌==◌, if◌then◌else◌, List, ◌∷◌, ◌++◌, map, fold, bit_xor}
 use Rattle.std.specs.Int.{bit_at}
 

@@ -1,4 +1,4 @@
--- The script of an address, found from its text alone.
+-- statement: the script of an address, found from its text alone.
 use Rattle.std.specs.Prelude.{ℕ, zero, suc, ◌+◌, ◌-◌, ◌*◌, ◌/◌, ◌^◌, Bool, if◌then◌else◌, List, [], ◌∷◌, length, take, drop, map, slice_index, Option, Some, None}
 use Rattle.std.specs.Char.{to_ascii_lowercase}
 use Rattle.cf_address.specs.Alphabet.{value_of}

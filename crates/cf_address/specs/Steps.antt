@@ -1,4 +1,4 @@
--- What the steps of reading an address answer.
+-- machine: what the steps of reading an address answer.
 use Rattle.std.specs.Prelude.{◌≡◌, ℕ, ◌/◌, ◌*◌, ◌+◌, fold, true, false, List, length, map, Some, Vec, Result, Ok, Err}
 use Rattle.std.specs.Global.{Global}
 use Rattle.std.specs.List.{list_all}

@@ -1,4 +1,4 @@
--- Witness programs and their scripts: BIP 141 "Witness program".
+-- statement: witness programs and their scripts: BIP 141 "Witness program".
 use Rattle.std.specs.Prelude.{ℕ, ◌+◌, ◌≤◌, ◌==◌, nat_le, Bool, ◌&&◌, ◌||◌, if◌then◌else◌, IsTrue, List, ◌∷◌, length}
 use Rattle.cf_address.specs.Bits.{AreBelow}
 

@@ -1,4 +1,4 @@
--- The exit status of each answer.
+-- statement: the exit status of each answer.
 use Rattle.std.specs.Prelude.{ℕ}
 use Rattle.cf_answers.specs.declared.status.Status.{Status}
 use Rattle.cf_answers.specs.declared.status.Status.TheVariants.{Done, NoMemory, Usage, BadFile, FileFault, OutFault, NoPeers, Tired, Ended, LinkFault, NoNonce, NoHeight, NotThere, NotAddress}

@@ -1,4 +1,4 @@
--- What the answers say of what was done.
+-- statement: what the answers say of what was done.
 use Rattle.std.specs.Prelude.{Bool, true, false, not}
 use Rattle.cf_answers.specs.declared.status.Status.{Status}
 use Rattle.cf_answers.specs.declared.status.Status.TheVariants.{Done, NoMemory, Usage, BadFile, FileFault, NoPeers, Tired, Ended}

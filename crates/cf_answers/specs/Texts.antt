@@ -1,4 +1,4 @@
--- What the program writes of a run.
+-- statement: what the program writes of a run.
 use Rattle.std.specs.Prelude.{ℕ, ◌==◌, not, Bool, true, false, List, [], ◌∷◌, ◌++◌, codes, decimal, take_while}
 use Rattle.std.specs.List.{flat_map}
 use Rattle.cf_bytes.specs.declared.hash.Hash32.{Hash32}

@@ -1,4 +1,4 @@
--- Which transactions a header stands for (Bitcoin developer reference, "Merkle Trees").
+-- statement: which transactions a header stands for (Bitcoin developer reference, "Merkle Trees").
 use Rattle.std.specs.Prelude.{◌≡◌, ◌<◌, ◌==◌, ◌&&◌, ℕ, Bool, false, not, replicate, if◌then◌else◌, List, [], ◌∷◌, map, length, Option, Some, None, Result, Ok, Err, bytes_eq}
 use Rattle.std.specs.List.{list_any}
 use Rattle.cf_bytes.specs.declared.hash.Hash32.{Hash32}

@@ -1,4 +1,4 @@
--- What a hasher was fed.
+-- machine: what a hasher was fed.
 use Rattle.std.specs.Prelude.{ℕ, List, ◌++◌}
 use Rattle.sha2.specs.declared.Sha256.{Sha256}
 use Rattle.sha2.specs.Hashers.{Holds256}

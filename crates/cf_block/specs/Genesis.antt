@@ -1,4 +1,4 @@
--- The first block of regtest's chain, by its public bytes (Bitcoin Core, chainparams.cpp: time 1296688602, nonce 2, bits 0x207fffff,
+-- statement: the first block of regtest's chain, by its public bytes (Bitcoin Core, chainparams.cpp: time 1296688602, nonce 2, bits 0x207fffff,
 -- version 1, 50 coins; the headline and the key are those of the main chain's first block).
 use Rattle.std.specs.Prelude.{ℕ, pos, List, [], ◌∷◌, replicate}
 use Rattle.cf_block.specs.declared.tx.TxIn.{TxIn}

@@ -1,4 +1,4 @@
--- Headers (Bitcoin developer reference, "Block Headers"): version, previous hash, Merkle root, time, bits and nonce, 80 bytes.
+-- statement: headers (Bitcoin developer reference, "Block Headers"): version, previous hash, Merkle root, time, bits and nonce, 80 bytes.
 use Rattle.std.specs.Prelude.{◌≡◌, ℕ, pos, ◌^◌, ◌<◌, List, [], ◌∷◌, ◌++◌, length, replicate, Ok, Err, FitsSigned}
 use Rattle.std.specs.Int.{w32, to_le_bytes, cast_unsigned}
 use Rattle.cf_bytes.specs.Cut.{Read, bytes_at, number_at, int_at, ◌>>=◌}

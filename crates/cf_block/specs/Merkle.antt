@@ -1,4 +1,4 @@
--- Merkle trees over hashes, level by level (Bitcoin developer reference, "Merkle Trees").
+-- statement: Merkle trees over hashes, level by level (Bitcoin developer reference, "Merkle Trees").
 use Rattle.std.specs.Prelude.{◌≡◌, ◌≢◌, ℕ, zero, suc, ◌<◌, Bool, true, false, ◌||◌, nat_le, if◌then◌else◌, List, [], ◌∷◌, ◌++◌, map, length, nat_eq, ◌⊎◌}
 use Rattle.std.specs.Cmp.Lexicographic.{pointwise}
 use Rattle.cf_bytes.specs.Hash.{hash_of}

@@ -1,4 +1,4 @@
--- Outpoints: the outputs that a transaction names (Bitcoin developer reference, "Raw Transaction Format"), and the order in which maps
+-- statement: outpoints: the outputs that a transaction names (Bitcoin developer reference, "Raw Transaction Format"), and the order in which maps
 -- keep them: their transactions' hashes, byte by byte, and then their indexes.
 use Rattle.std.specs.Prelude.{ℕ, List, [], map, refl, if◌then◌else◌}
 use Rattle.std.specs.declared.cmp.Ordering.{Ordering}

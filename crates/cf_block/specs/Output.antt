@@ -1,4 +1,4 @@
--- Outputs.
+-- statement: outputs.
 use Rattle.std.specs.Prelude.{ℕ, List}
 
 -- a value and the script that it pays

@@ -1,4 +1,4 @@
--- What reading transactions and blocks gives: a value and the bytes after it, or the first fault and the bytes from the refused field on.
+-- statement: what reading transactions and blocks gives: a value and the bytes after it, or the first fault and the bytes from the refused field on.
 use Rattle.std.specs.Prelude.{◌≡◌, ℕ, ◌<◌, ◌-◌, ◌^◌, min, get_or, ◌==◌, nat_lt, if◌then◌else◌, List, [], ◌∷◌, length, Result, Ok, Err}
 use Rattle.std.specs.Int.{w32, w64}
 use Rattle.cf_bytes.specs.Cut.{Read, number_at, int_at, ◌>>=◌}

@@ -1,4 +1,4 @@
--- Sizes, as far as a number of 64 bits tells them.
+-- statement: sizes, as far as a number of 64 bits tells them.
 use Rattle.std.specs.Prelude.{ℕ, ◌-◌, ◌^◌, min}
 
 abbrev pub capped : ℕ → ℕ

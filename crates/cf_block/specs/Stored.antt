@@ -1,4 +1,4 @@
--- Blocks as files keep them: a transaction stands in its form without witnesses, or in the one with them (BIP 144,
+-- statement: blocks as files keep them: a transaction stands in its form without witnesses, or in the one with them (BIP 144,
 -- "Serialization"), of which the witnesses aren't kept.
 use Rattle.std.specs.Prelude.{◌≡◌, ◌⊎◌, ℕ, ◌≤◌, ◌==◌, nat_lt, Bool, true, false, ◌&&◌, ◌||◌, if◌then◌else◌, List, [], ◌∷◌, ◌++◌, drop, length, Ok, Err}
 use Rattle.std.specs.Int.{w32, to_le_bytes, cast_unsigned}

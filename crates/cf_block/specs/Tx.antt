@@ -1,4 +1,4 @@
--- Transactions and blocks (Bitcoin developer reference, "Raw Transaction Format" and "Serialized Blocks"), without witnesses.
+-- statement: transactions and blocks (Bitcoin developer reference, "Raw Transaction Format" and "Serialized Blocks"), without witnesses.
 use Rattle.std.specs.Prelude.{ℕ, ◌^◌, ◌<◌, ◌≤◌, List, ◌++◌, length, FitsSigned}
 use Rattle.std.specs.Int.{w32, w64, to_le_bytes, cast_unsigned}
 use Rattle.std.specs.List.{flat_map, AllByRecursion}

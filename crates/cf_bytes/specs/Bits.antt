@@ -1,4 +1,4 @@
--- Numbers as lists of bits, the most significant first.
+-- statement: numbers as lists of bits, the most significant first.
 use Rattle.std.specs.Prelude.{ℕ, suc, zero, ◌==◌, Bool, List, [], ◌∷◌}
 use Rattle.std.specs.Int.{bit_at}
 

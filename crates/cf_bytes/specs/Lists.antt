@@ -1,4 +1,4 @@
--- Fields one after another.
+-- statement: fields one after another.
 use Rattle.std.specs.Prelude.{ℕ, zero, suc, List, [], ◌∷◌, ◌++◌, length, Ok}
 use Rattle.cf_bytes.specs.declared.cut.CutFault.{CutFault}
 use Rattle.cf_bytes.specs.Cut.{Read, bytes_at, ◌>>=◌}

@@ -1,4 +1,4 @@
--- The coins of a chain: the outputs that nothing has spent yet (Bitcoin developer reference, "Transactions").
+-- statement: the coins of a chain: the outputs that nothing has spent yet (Bitcoin developer reference, "Transactions").
 use Rattle.std.specs.Prelude.{ℕ, suc, List, [], ◌∷◌, ◌++◌, fold, refl, option_to_list}
 use Rattle.std.specs.Coded.{Coded, code_by, coded×, coded_ℕ, coded_list}
 use Rattle.std.specs.FinMap.{FinMap, code, get, insert, remove}

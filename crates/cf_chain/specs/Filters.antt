@@ -1,4 +1,4 @@
--- The basic filters of a chain's blocks, and their headers (BIP 158, "Contents"; BIP 157, "Filter Headers").
+-- statement: the basic filters of a chain's blocks, and their headers (BIP 158, "Contents"; BIP 157, "Filter Headers").
 use Rattle.std.specs.Prelude.{ℕ, List, [], ◌∷◌, map, replicate, slice_get, Option}
 use Rattle.std.specs.FinMap.{empty}
 use Rattle.cf_block.specs.declared.tx.Block.{Block}

@@ -1,4 +1,4 @@
--- Which chains of blocks are good: what a full node of regtest asks of blocks without looking into scripts or amounts (Bitcoin developer
+-- statement: which chains of blocks are good: what a full node of regtest asks of blocks without looking into scripts or amounts (Bitcoin developer
 -- reference, "Block Chain"; BIP 30 in its narrow wording). How it is checked isn't said here.
 use Rattle.std.specs.Prelude.{◌≡◌, ℕ, suc, ◌≤◌, true, false, List, [], ◌∷◌, map, reverse, length, None, is_some, IsTrue}
 use Rattle.std.specs.FinMap.{get, insert, remove, empty}

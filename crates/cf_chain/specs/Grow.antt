@@ -1,4 +1,4 @@
--- What the serving machine of a chain that grows answers: that of the chain as it stands, and the tip where the asker wasn't told
+-- statement: what the serving machine of a chain that grows answers: that of the chain as it stands, and the tip where the asker wasn't told
 -- of it yet.
 use Rattle.std.specs.Prelude.{◌≡◌, ℕ, ℤ, ◌==◌, ◌&&◌, ◌||◌, nat_lt, Bool, true, false, if◌then◌else◌, List, [], ◌∷◌, ◌++◌, length, is_none}
 use Rattle.std.specs.List.{flat_map}

@@ -1,4 +1,4 @@
--- Heights in a chain of blocks: genesis stands at height 0, and the blocks above it follow, the lowest first (Bitcoin
+-- statement: heights in a chain of blocks: genesis stands at height 0, and the blocks above it follow, the lowest first (Bitcoin
 -- developer reference, "Block Height And Forking").
 use Rattle.std.specs.Prelude.{ℕ, Bool, List, ◌∷◌, Option}
 use Rattle.std.specs.List.{position}

@@ -1,4 +1,4 @@
--- What the serving machine of a chain answers (Bitcoin developer reference, "P2P Network"; BIP 157, "New Messages"). A chain is its
+-- statement: what the serving machine of a chain answers (Bitcoin developer reference, "P2P Network"; BIP 157, "New Messages"). A chain is its
 -- blocks above genesis, the lowest first.
 use Rattle.std.specs.Prelude.{ℕ, ℤ, zero, suc, pos, ◌-◌, ◌*◌, ◌/◌, ◌==◌, min, nat_lt, nat_le, Bool, true, false, ◌||◌, ◌&&◌, List, [], ◌∷◌, ◌++◌, map, length, take, drop, replicate, codes, slice_get, Option, Some, None, option_to_list, if◌then◌else◌}
 use Rattle.std.specs.List.{flat_map}

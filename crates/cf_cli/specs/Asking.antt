@@ -1,4 +1,4 @@
--- Which files a command asks for.
+-- statement: which files a command asks for.
 use Rattle.std.specs.Prelude.{◌≡◌, ℕ, List, [], ◌∷◌, Option, Some, None}
 use Rattle.cf_bytes.specs.Files.{Reads, Opens, Parts, Writes, IsAtMostWritten}
 use Rattle.cf_input.specs.declared.words.Command.{Command}

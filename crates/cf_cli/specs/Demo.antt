@@ -1,4 +1,4 @@
--- What is promised of `demo`, and of the session of a played peer.
+-- statement: what is promised of `demo`, and of the session of a played peer.
 use Rattle.std.specs.Prelude.{◌≡◌, ◌⊎◌, ℕ, ◌+◌, Bool, true, false, List, [], ◌++◌, length, codes, decimal, Option, Some}
 use Rattle.std.specs.List.{count_by}
 use Rattle.cf_block.specs.declared.tx.Block.{Block}

@@ -1,4 +1,4 @@
--- What each command does.
+-- statement: what each command does.
 use Rattle.std.specs.Prelude.{◌≡◌, ℕ, ℤ, Bool, false, List, length, Option, is_some, IfSome}
 use Rattle.std.specs.FinMap as finite
 use Rattle.cf_bytes.specs.Files.{Named}

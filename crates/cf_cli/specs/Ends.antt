@@ -1,4 +1,4 @@
--- What is told of how each peer stands at the end of a run.
+-- statement: what is told of how each peer stands at the end of a run.
 use Rattle.std.specs.Prelude.{◌≡◌, ◌⊎◌, Bool, true, false, List, Option, Some, is_some, IfSome}
 use Rattle.cf_place.specs.declared.place.PeerEnd.{PeerEnd}
 use Rattle.cf_place.specs.Places.{EndsTell}

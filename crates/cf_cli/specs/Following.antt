@@ -1,4 +1,4 @@
--- What is promised of `follow`, and of `replay --follow`.
+-- statement: what is promised of `follow`, and of `replay --follow`.
 use Rattle.std.specs.Prelude.{◌≡◌, ◌≢◌, ◌⊎◌, ℕ, Bool, true, false, List, [], ◌++◌, length, reverse, take, Option, IfSome, Ok}
 use Rattle.std.specs.FinMap as finite
 use Rattle.cf_bytes.specs.Files.{Named}

@@ -1,4 +1,4 @@
--- What becomes of the files.
+-- statement: what becomes of the files.
 use Rattle.std.specs.Prelude.{◌≡◌, ℕ, Bool, true, false, List, Option, Some, None, is_some, IfSome, IsSome, Result, Ok, Err}
 use Rattle.cf_bytes.specs.Files.{Named, SameElsewhere, with_file}
 use Rattle.cf_bytes.specs.Outside.{HasRisen}

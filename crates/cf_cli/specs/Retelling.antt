@@ -1,4 +1,4 @@
--- What the record of a run reads as.
+-- statement: what the record of a run reads as.
 use Rattle.std.specs.Prelude.{◌≡◌, ℕ, ◌<◌, ◌≤◌, true, List, [], ◌∷◌, ◌++◌, length}
 use Rattle.hex.specs.Hex.{IsBytes}
 use Rattle.cf_wires.specs.declared.event.Delivery.{Delivery}

@@ -1,4 +1,4 @@
--- What is promised of `serve`.
+-- statement: what is promised of `serve`.
 use Rattle.std.specs.Prelude.{◌≡◌, ℕ, ℤ, ◌+◌, ◌≤◌, ◌⊎◌, Bool, true, false, not, List, [], ◌∷◌, Option, Some, IfSome, Result, Ok, Err}
 use Rattle.std.specs.FinMap as finite
 use Rattle.cf_bytes.specs.Files.{Named}

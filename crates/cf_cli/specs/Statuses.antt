@@ -1,4 +1,4 @@
--- What a command's files are judged as, and what it may have done by its answer.
+-- statement: what a command's files are judged as, and what it may have done by its answer.
 use Rattle.std.specs.Prelude.{Bool, false, not, Option, Some, is_some}
 use Rattle.std.specs.FinMap as finite
 use Rattle.cf_bytes.specs.Files.{Named}

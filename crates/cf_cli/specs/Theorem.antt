@@ -1,4 +1,4 @@
--- What is promised of a run of the program.
+-- statement: what is promised of a run of the program.
 use Rattle.std.specs.Prelude.{◌≡◌, ◌≢◌, ◌⊎◌, ◌<◌, ◌≤◌, ℕ, Bool, true, false, List, [], length, take, Option, IfSome, Vec, Result, Ok, Err}
 use Rattle.std.specs.FinMap as finite
 use Rattle.std.specs.Global.{Global}

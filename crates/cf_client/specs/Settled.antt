@@ -1,4 +1,4 @@
--- What is true of a client's places and of what it has seen between two calls.
+-- machine: what is true of a client's places and of what it has seen between two calls.
 use Rattle.std.specs.Prelude.{◌≡◌, ℕ, true, List, [], is_some, unwrap_or, Some}
 use Rattle.cf_bytes.specs.declared.peer.PeerNo.{PeerNo}
 use Rattle.cf_dispute.specs.Claims.{Table, Tables}

@@ -1,4 +1,4 @@
--- Who is closed for a filter that omits something: each connected peer that claims it.
+-- machine: who is closed for a filter that omits something: each connected peer that claims it.
 use Rattle.std.specs.Prelude.{◌≡◌, ◌⊎◌, ℕ, ◌<◌, true, false, List, [], ◌∷◌, ◌++◌, None, length, map, slice_set}
 use Rattle.std.specs.List.{All}
 use Rattle.std.specs.List.Sorted.{IsStrictlyIncreasing}

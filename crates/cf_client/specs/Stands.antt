@@ -1,4 +1,4 @@
--- What a client holds of a log.
+-- machine: what a client holds of a log.
 use Rattle.std.specs.Prelude.{◌≡◌, ◌⊎◌, ℕ, zero, suc, ◌+◌, Bool, true, not, ◌&&◌, false, if◌then◌else◌, List, [], length}
 use Rattle.cf_bytes.specs.declared.hash.Hash32.{Hash32}
 use Rattle.cf_headers.specs.Chain.{Chain, NoHashClash, tip_hash}

@@ -1,4 +1,4 @@
--- What each step of the client keeps.
+-- machine: what each step of the client keeps.
 use Rattle.std.specs.Prelude.{◌≡◌, ◌≢◌, ◌⊎◌, ℕ, ◌+◌, ◌<◌, ◌≤◌, true, List, [], ◌∷◌, ◌++◌, length, slice_set}
 use Rattle.std.specs.List.{All}
 use Rattle.cf_bytes.specs.declared.hash.Hash32.{Hash32}

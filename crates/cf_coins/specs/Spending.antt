@@ -1,4 +1,4 @@
--- The check of a block's transactions against the coins: the coins after them, or the first fault.
+-- statement: the check of a block's transactions against the coins: the coins after them, or the first fault.
 use Rattle.std.specs.Prelude.{◌≡◌, ℕ, suc, not, if◌then◌else◌, List, [], ◌∷◌, map, Option, Some, None, Result, Ok, Err, is_some}
 use Rattle.std.specs.List.{list_any}
 use Rattle.std.specs.FinMap.{get, insert, remove}

@@ -1,4 +1,4 @@
--- The names that transactions touch: those of the coins that they spend, and those under which their outputs are put.
+-- machine: the names that transactions touch: those of the coins that they spend, and those under which their outputs are put.
 use Rattle.std.specs.Prelude.{◌≡◌, ℕ, suc, List, [], ◌∷◌, ◌++◌, Option, Some, None, Result, Ok, Err}
 use Rattle.std.specs.FinMap.{get, insert}
 use Rattle.cf_bytes.specs.declared.memory.Refused.{Refused}

@@ -1,4 +1,4 @@
--- A connection in memory.
+-- machine: a connection in memory.
 use Rattle.std.specs.Prelude.{◌≡◌, ℕ, List, Result}
 use Rattle.cf_bytes.specs.VecSink.{Kept, write_answer, after_write}
 use Rattle.cf_bytes.specs.declared.outside.Failed.{Failed}

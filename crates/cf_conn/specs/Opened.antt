@@ -1,4 +1,4 @@
--- Files that are read by parts.
+-- statement: files that are read by parts.
 use Rattle.std.specs.Prelude.{ℕ, List, Result}
 use Rattle.cf_bytes.specs.declared.files.FileFail.{FileFail}
 use Rattle.cf_bytes.specs.declared.outside.Failed.{Failed}

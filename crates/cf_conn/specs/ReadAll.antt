@@ -1,4 +1,4 @@
--- Reading a source to its end.
+-- statement: reading a source to its end.
 use Rattle.std.specs.Prelude.{◌≡◌, ℕ, ◌≤◌, ◌<◌, List, [], length, Option, IfSome, Result, Ok, Err, Vec}
 use Rattle.std.specs.Global.{Global}
 use Rattle.cf_bytes.specs.Outside.{HasRisen}

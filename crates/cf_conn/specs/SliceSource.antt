@@ -1,4 +1,4 @@
--- A source in memory.
+-- machine: a source in memory.
 use Rattle.std.specs.Prelude.{ℕ, min, Bool, true, ◌||◌, if◌then◌else◌, List, length, drop, Result, Ok, Err}
 use Rattle.cf_bytes.specs.Plan.{Calls, is_refused, after_call}
 use Rattle.cf_bytes.specs.declared.outside.Failed.{Failed}

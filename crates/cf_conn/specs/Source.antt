@@ -1,4 +1,4 @@
--- What sources tell.
+-- statement: what sources tell.
 use Rattle.std.specs.Prelude.{ℕ, Bool, false, ◌&&◌, nat_lt, ◌==◌, Result, Ok, Err}
 use Rattle.cf_bytes.specs.declared.outside.Failed.{Failed}
 pub use Rattle.cf_bytes.specs.Outside.{with_front}

@@ -1,4 +1,4 @@
--- Steps that lead from one state to another.
+-- statement: steps that lead from one state to another.
 use Rattle.std.specs.Prelude.{◌≡◌, ℕ, zero, suc}
 
 -- so many steps lead from the one to the other

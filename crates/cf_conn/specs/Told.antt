@@ -1,4 +1,4 @@
--- What a connection tells as it is closed.
+-- statement: what a connection tells as it is closed.
 use Rattle.std.specs.Prelude.{ℕ, Bool, List, Option}
 
 -- the bytes left and the bytes written, where they are told, whether its end was read, and how often it has failed

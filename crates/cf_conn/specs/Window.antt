@@ -1,4 +1,4 @@
--- The next bytes of a source, which can be looked at.
+-- machine: the next bytes of a source, which can be looked at.
 use Rattle.std.specs.Prelude.{◌≡◌, ℕ, ◌≤◌, ◌⊎◌, List, [], length, take, drop, option_map, Option, IfSome, Result, Ok, Err}
 use Rattle.cf_conn.specs.Source.{with_front}
 use Rattle.cf_bytes.specs.Outside.{HasRisen}

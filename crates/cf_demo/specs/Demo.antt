@@ -1,4 +1,4 @@
--- A demo: what is played, and what came of it.
+-- statement: a demo: what is played, and what came of it.
 use Rattle.std.specs.Prelude.{◌≡◌, ◌≢◌, ◌⊎◌, ℕ, suc, ◌+◌, ◌<◌, Bool, true, false, List, [], ◌∷◌, length, map, slice_get, codes, Option, Some}
 use Rattle.std.specs.Str.{bytes_eq}
 use Rattle.std.specs.List.{count_by, flat_map}

@@ -1,4 +1,4 @@
--- What is asked of the log of a run over peers in memory.
+-- statement: what is asked of the log of a run over peers in memory.
 use Rattle.std.specs.Prelude.{◌≡◌, ℕ, true, List, ◌∷◌, drop, suc, slice_get, Some}
 use Rattle.std.specs.List.{list_all}
 use Rattle.cf_block.specs.declared.tx.Block.{Block}

@@ -1,4 +1,4 @@
--- Three peers in memory, of whom one is honest.
+-- statement: three peers in memory, of whom one is honest.
 use Rattle.std.specs.Prelude.{◌≡◌, ◌<◌, List, length}
 use Rattle.cf_block.specs.declared.tx.Block.{Block}
 use Rattle.cf_chain.specs.Good.{IsGoodChain}

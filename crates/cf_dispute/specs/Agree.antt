@@ -1,4 +1,4 @@
--- Whether peers claim the same of blocks (BIP 157, "Client Operation").
+-- statement: whether peers claim the same of blocks (BIP 157, "Client Operation").
 use Rattle.std.specs.Prelude.{◌≡◌, List, None}
 use Rattle.cf_bytes.specs.declared.hash.Hash32.{Hash32}
 use Rattle.cf_headers.specs.Chain.{Hash, IsIn}

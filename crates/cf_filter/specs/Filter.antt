@@ -1,4 +1,4 @@
--- Basic filters, their hashes and their headers (BIP 158 and BIP 157).
+-- statement: basic filters, their hashes and their headers (BIP 158 and BIP 157).
 use Rattle.std.specs.Prelude.{ℕ, ◌*◌, ◌/◌, ◌%◌, ◌^◌, nat_le, Bool, if◌then◌else◌, List, [], ◌∷◌, ◌++◌, map, length, take, drop, Result}
 use Rattle.std.specs.Int.{w64, from_le_bytes}
 use Rattle.cf_bytes.specs.Hash.{hash_of}

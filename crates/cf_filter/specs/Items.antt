@@ -1,4 +1,4 @@
--- The items of a block's basic filter (BIP 158, "Contents").
+-- statement: the items of a block's basic filter (BIP 158, "Contents").
 use Rattle.std.specs.Prelude.{◌≢◌, ℕ, ◌==◌, Bool, false, not, ◌⊎◌, List, [], ◌∷◌, ◌++◌, map, filter, length, Contains, flat_map, slice_index, nat_eq, Vec}
 use Rattle.std.specs.Global.{Global}
 use Rattle.std.specs.List.{list_any}

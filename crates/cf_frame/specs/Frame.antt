@@ -1,4 +1,4 @@
--- Frames of the Bitcoin protocol on regtest, by the developer reference ("Message headers").
+-- statement: frames of the Bitcoin protocol on regtest, by the developer reference ("Message headers").
 use Rattle.std.specs.Prelude.{◌≡◌, ℕ, ◌≤◌, nat_le, ◌==◌, Bool, true, ◌&&◌, take_while, List, [], ◌∷◌, ◌++◌, length, take, drop}
 use Rattle.std.specs.Int.{w32, to_le_bytes}
 use Rattle.std.specs.List.{list_all}

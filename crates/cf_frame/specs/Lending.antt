@@ -1,4 +1,4 @@
--- What a framer lends, and how many bytes it takes of a piece.
+-- machine: what a framer lends, and how many bytes it takes of a piece.
 use Rattle.std.specs.Prelude.{◌≡◌, ℕ, ◌-◌, ◌<◌, ◌≤◌, Bool, true, false, List, ◌++◌, take, length, Option, Some, None, Result, Ok, Err}
 use Rattle.cf_bytes.specs.declared.cut.CutFault.{CutFault}
 use Rattle.cf_bytes.specs.Cut.{Read}

@@ -1,4 +1,4 @@
--- Reading a frame from the front of some bytes (Bitcoin developer reference, "Message Headers").
+-- statement: reading a frame from the front of some bytes (Bitcoin developer reference, "Message Headers").
 use Rattle.std.specs.Prelude.{◌≡◌, ℕ, nat_lt, not, if◌then◌else◌, List, ◌++◌, Option, Some, None, Result, Ok, Err}
 use Rattle.std.specs.Int.{w32}
 use Rattle.std.specs.Str.{bytes_eq}

@@ -1,4 +1,4 @@
--- Values that are asked for (BIP 158, "Golomb-Coded Set Multi-Match").
+-- statement: values that are asked for (BIP 158, "Golomb-Coded Set Multi-Match").
 use Rattle.std.specs.Prelude.{ℕ, ◌≤◌, ◌==◌, nat_lt, Bool, false, if◌then◌else◌, List, [], ◌∷◌, Result, Ok, Err}
 use Rattle.std.specs.List.{list_any}
 use Rattle.cf_bytes.specs.declared.cut.CutFault.{CutFault}

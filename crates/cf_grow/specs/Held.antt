@@ -1,4 +1,4 @@
--- What an answer holds: bytes, and blocks that it shares with the chain.
+-- machine: what an answer holds: bytes, and blocks that it shares with the chain.
 use Rattle.std.specs.Prelude.{ℕ, List}
 use Rattle.std.specs.List.{flat_map}
 use Rattle.cf_frame.specs.Frame.{spelling}

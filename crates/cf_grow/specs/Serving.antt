@@ -1,4 +1,4 @@
--- What a connection is served by a chain that grows, message by message.
+-- statement: what a connection is served by a chain that grows, message by message.
 use Rattle.std.specs.Prelude.{◌≡◌, ◌⊎◌, ℕ, ℤ, Bool, true, List, [], ◌∷◌, ◌++◌, Option, Some, None, Result, Ok, Err}
 use Rattle.cf_bytes.specs.Outside.{HasRisen}
 use Rattle.cf_conn.specs.Source.{with_front}

@@ -1,4 +1,4 @@
--- Whom tests expose: who claims a filter that was found to lack what its block pays.
+-- machine: whom tests expose: who claims a filter that was found to lack what its block pays.
 use Rattle.std.specs.Prelude.{◌≡◌, ◌⊎◌, ℕ, List, Option, Some, None}
 use Rattle.cf_headers.specs.Chain.{Hash, IsIn}
 use Rattle.cf_peer.specs.declared.peer.Reply.{Reply}

@@ -1,4 +1,4 @@
--- What is taken of a piece of a peer's bytes.
+-- machine: what is taken of a piece of a peer's bytes.
 use Rattle.std.specs.Prelude.{◌≡◌, ◌≢◌, ◌⊎◌, ℕ, Bool, true, false, List, [], ◌∷◌, ◌++◌, map, Option, Some, None}
 use Rattle.std.specs.List.{AllByRecursion}
 use Rattle.cf_bytes.specs.declared.peer.PeerNo.{PeerNo}

@@ -1,4 +1,4 @@
--- Whose verdicts are kept of the filters that came.
+-- machine: whose verdicts are kept of the filters that came.
 use Rattle.std.specs.Prelude.{◌≡◌, ◌⊎◌, ℕ, zero, suc, List, Result, Ok, Vec}
 use Rattle.std.specs.Global.{Global}
 use Rattle.cf_bytes.specs.declared.memory.NoMemory.{NoMemory}

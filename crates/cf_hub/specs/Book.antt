@@ -1,4 +1,4 @@
--- What a book tells.
+-- machine: what a book tells.
 use Rattle.std.specs.Prelude.{◌+◌, ◌<◌, ◌≤◌, ◌-◌, ◌^◌, Bool, not, vec_len, vec_capacity}
 use Rattle.std.specs.List.{count_by}
 use Rattle.cf_wires.specs.Log.{Told}

@@ -1,4 +1,4 @@
--- What is known of each reader, and of the ticker, once they are joined.
+-- machine: what is known of each reader, and of the ticker, once they are joined.
 use Rattle.std.specs.Prelude.{◌<◌, ℕ, List, Option, Some, None, All, map}
 use Rattle.cf_line.specs.declared.entry.Entry.{Entry}
 use Rattle.cf_line.specs.declared.entry.Ended.{Ended}

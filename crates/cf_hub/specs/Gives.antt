@@ -1,4 +1,4 @@
--- Which entries are deliveries.
+-- statement: which entries are deliveries.
 use Rattle.std.specs.Prelude.{◌≡◌, ◌==◌, ◌<◌, ◌≤◌, ℕ, zero, suc, Bool, false, ◌||◌, if◌then◌else◌, List, [], ◌∷◌, ◌++◌, length, take}
 use Rattle.std.specs.Option.{ForSome}
 use Rattle.cf_wires.specs.declared.event.Delivery.{Delivery}

@@ -1,4 +1,4 @@
--- What the deliveries that were given show of the sources, and of the pulse.
+-- statement: what the deliveries that were given show of the sources, and of the pulse.
 use Rattle.std.specs.Prelude.{◌≡◌, ◌⊎◌, ℕ, Bool, true, List, ◌++◌, Option, Some}
 use Rattle.cf_bytes.specs.Outside.{HasRisen}
 use Rattle.cf_wires.specs.declared.event.Delivery.{Delivery}

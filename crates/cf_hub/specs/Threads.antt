@@ -1,4 +1,4 @@
--- What a dial does to the threads that wait for tasks.
+-- machine: what a dial does to the threads that wait for tasks.
 use Rattle.std.specs.Prelude.{◌≡◌, ◌⊎◌, ℕ, Bool, true, false, List, [], ◌∷◌, ◌++◌, Option, Some, None, IfSome, IsSome, Result, Ok, Err}
 use Rattle.cf_bytes.specs.declared.outside.Failed.{Failed}
 use Rattle.cf_bytes.specs.declared.peer.PeerNo.{PeerNo}

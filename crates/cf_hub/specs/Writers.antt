@@ -1,4 +1,4 @@
--- What is written to peers.
+-- machine: what is written to peers.
 use Rattle.std.specs.Prelude.{◌≡◌, ◌⊎◌, ◌≤◌, ℕ, Bool, true, false, List, [], ◌∷◌, ◌++◌, Option, Some, None, Result, Ok, Err, length, map, take, slice_set, slice_index_or}
 use Rattle.std.specs.List.{sum_by, slice_get}
 use Rattle.cf_bytes.specs.Outside.{with_more}

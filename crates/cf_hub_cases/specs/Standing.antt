@@ -1,4 +1,4 @@
--- What contracts see of wires that tell the user what passes.
+-- machine: what contracts see of wires that tell the user what passes.
 use Rattle.std.specs.Prelude.{ℕ, Bool}
 use Rattle.cf_wires.specs.Log.{Told}
 

@@ -1,4 +1,4 @@
--- What comes over a hub whose outside tells all that it gives.
+-- statement: what comes over a hub whose outside tells all that it gives.
 use Rattle.std.specs.Prelude.{◌≡◌, ℕ, zero, suc, Bool, List, [], ◌∷◌, ◌++◌, Option, Some}
 use Rattle.std.specs.List.{slice_get}
 use Rattle.cf_wires.specs.declared.event.Delivery.{Delivery}

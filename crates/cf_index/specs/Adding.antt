@@ -1,4 +1,4 @@
--- One block more on a chain that is told.
+-- machine: one block more on a chain that is told.
 use Rattle.std.specs.Prelude.{◌≡◌, ℕ, List, [], ◌∷◌, Option, Some, None}
 use Rattle.std.specs.FinMap.{empty}
 use Rattle.cf_block.specs.declared.tx.Block.{Block}

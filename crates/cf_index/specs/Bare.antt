@@ -1,4 +1,4 @@
--- Filters whose headers aren't known yet.
+-- machine: filters whose headers aren't known yet.
 use Rattle.std.specs.Prelude.{◌≡◌, ◌≤◌, ℕ, List, get_or, length}
 use Rattle.std.specs.List.{AllZip}
 use Rattle.std.specs.FinMap.{empty}

@@ -1,4 +1,4 @@
--- Maps by hashes, in which the first value of a hash stands.
+-- machine: maps by hashes, in which the first value of a hash stands.
 use Rattle.std.specs.Prelude.{ℕ, List, refl, if◌then◌else◌}
 use Rattle.std.specs.declared.cmp.Ordering.{Ordering}
 use Rattle.std.specs.Ordering.{nat_cmp}

@@ -1,4 +1,4 @@
--- What is kept of a chain that was checked.
+-- machine: what is kept of a chain that was checked.
 use Rattle.std.specs.Prelude.{◌≡◌, ℕ, List, [], ◌∷◌, map}
 use Rattle.std.specs.FinMap.{empty}
 use Rattle.cf_bytes.specs.declared.hash.Hash32.{Hash32}

@@ -1,4 +1,4 @@
--- How a chain's filters are told.
+-- machine: how a chain's filters are told.
 use Rattle.std.specs.Prelude.{◌≡◌, ℕ, List, ◌++◌, map, take, drop}
 use Rattle.std.specs.FinMap.{empty}
 use Rattle.cf_block.specs.declared.tx.Block.{Block}

@@ -1,4 +1,4 @@
--- Where a transaction stands in a chain: the height of its block, and its place there, from 0.
+-- statement: where a transaction stands in a chain: the height of its block, and its place there, from 0.
 use Rattle.std.specs.Prelude.{◌≡◌, ◌<◌, ℕ, suc, List, [], ◌∷◌, ◌++◌, map, length, get_or, Option, Some, None, IfSome, option_map, bytes_eq}
 use Rattle.std.specs.Coded.{Coded, coded×, coded_ℕ}
 use Rattle.std.specs.FinMap.{code, get}

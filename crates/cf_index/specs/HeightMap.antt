@@ -1,4 +1,4 @@
--- Heights by the hashes of blocks.
+-- machine: heights by the hashes of blocks.
 use Rattle.std.specs.Prelude.{◌≡◌, ℕ, List}
 use Rattle.std.specs.Coded.{Coded, coded_ℕ}
 use Rattle.std.specs.FinMap.{code, get}

@@ -1,4 +1,4 @@
--- What an index keeps of a chain.
+-- machine: what an index keeps of a chain.
 use Rattle.std.specs.Prelude.{◌≡◌, List, map}
 use Rattle.cf_block.specs.declared.tx.Block.{Block}
 use Rattle.cf_block.specs.Genesis.{first_block}

@@ -1,4 +1,4 @@
--- What loading an index answers.
+-- statement: what loading an index answers.
 use Rattle.std.specs.Prelude.{◌≡◌, ℕ, ◌<◌, ◌≤◌, Bool, true, List, length, Option, IfSome, Result, Ok, Err}
 use Rattle.cf_bytes.specs.Outside.{HasRisen}
 use Rattle.cf_block.specs.declared.tx.Block.{Block}

@@ -1,4 +1,4 @@
--- Addresses of regtest (BIP 173, BIP 350), and scripts in hexadecimal.
+-- statement: addresses of regtest (BIP 173, BIP 350), and scripts in hexadecimal.
 use Rattle.std.specs.Prelude.{◌≡◌, ℕ, nat_lt, ◌||◌, if◌then◌else◌, Bool, true, false, List, codes, map, take, Option, Some, None, Result, Ok, Err, String, string_bytes}
 use Rattle.std.specs.Global.{Global}
 use Rattle.std.specs.Char.{to_ascii_lowercase}

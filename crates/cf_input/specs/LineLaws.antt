@@ -1,4 +1,4 @@
--- Texts made of lines.
+-- statement: texts made of lines.
 use Rattle.std.specs.Prelude.{◌≡◌, ℕ, ◌==◌, not, true, List, [], ◌∷◌, ◌++◌}
 use Rattle.std.specs.List.{list_all, flat_map}
 

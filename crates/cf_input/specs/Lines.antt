@@ -1,4 +1,4 @@
--- Files that are read line by line.
+-- statement: files that are read line by line.
 use Rattle.std.specs.Prelude.{◌≡◌, ℕ, ◌==◌, if◌then◌else◌, List, [], ◌∷◌, Option, Result, Ok, Err}
 use Rattle.std.specs.Result.{result_ok}
 use Rattle.hex.specs.Hex.{decode_of}

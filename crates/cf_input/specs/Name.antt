@@ -1,4 +1,4 @@
--- The names of peers.
+-- statement: the names of peers.
 use Rattle.std.specs.Prelude.{ℕ, ◌&&◌, nat_lt, nat_le, Bool, List, length}
 use Rattle.std.specs.List.{list_all}
 

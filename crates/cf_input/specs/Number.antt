@@ -1,4 +1,4 @@
--- Numbers in decimal, without a sign and without leading zeros.
+-- statement: numbers in decimal, without a sign and without leading zeros.
 use Rattle.std.specs.Prelude.{ℕ, ◌+◌, ◌*◌, ◌-◌, ◌==◌, ◌&&◌, not, nat_le, Bool, true, false, if◌then◌else◌, List, [], ◌∷◌, fold, Option, Some, None}
 use Rattle.std.specs.List.{list_all}
 

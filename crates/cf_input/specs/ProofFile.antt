@@ -1,4 +1,4 @@
--- The file of a proof: a transaction, and the proof that it stands in a block.
+-- statement: the file of a proof: a transaction, and the proof that it stands in a block.
 use Rattle.std.specs.Prelude.{ℕ, ◌==◌, if◌then◌else◌, List, codes, length, take, drop, Option, Some, None, Result, Ok, Err, bytes_eq}
 use Rattle.std.specs.List.{before_first, after_first}
 use Rattle.cf_bytes.specs.Cut.{Read, ◌>>=◌}

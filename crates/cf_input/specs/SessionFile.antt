@@ -1,4 +1,4 @@
--- A session file: the dials of a run, and then what is delivered, a line for each.
+-- statement: a session file: the dials of a run, and then what is delivered, a line for each.
 use Rattle.std.specs.Prelude.{ℕ, ◌+◌, ◌==◌, nat_le, Bool, true, false, if◌then◌else◌, List, [], ◌∷◌, ◌++◌, length, codes, Option, Some, None, Result, Ok, Err}
 use Rattle.std.specs.List.{before_first, after_first}
 use Rattle.std.specs.Str.{bytes_eq}

@@ -1,4 +1,4 @@
--- What a session holds.
+-- statement: what a session holds.
 use Rattle.std.specs.Prelude.{◌≡◌, map, string_bytes}
 use Rattle.cf_wires.specs.Wires.{Script}
 use Rattle.cf_wires.specs.declared.event.Dial.{Dial}

@@ -1,4 +1,4 @@
--- The file of the scripts that are watched: a script in hexadecimal, or an address, on each line.
+-- statement: the file of the scripts that are watched: a script in hexadecimal, or an address, on each line.
 use Rattle.std.specs.Prelude.{ℕ, ◌+◌, if◌then◌else◌, List, [], ◌∷◌, ◌++◌, length, Option, Some, None, Result, Ok, Err}
 use Rattle.cf_scan.specs.Watching.{watch_kind_of}
 use Rattle.cf_scan.specs.declared.watch.WatchKind.{WatchKind}

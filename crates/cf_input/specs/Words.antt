@@ -1,4 +1,4 @@
--- The program's words, as clap reads them.
+-- statement: the program's words, as clap reads them.
 use Rattle.std.specs.Prelude.{ℕ, ◌-◌, ◌≤◌, ◌==◌, ◌&&◌, ◌||◌, nat_lt, nat_le, Bool, if◌then◌else◌, List, [], ◌∷◌, length, reverse, codes, Option, Some, None, true, option_and_then, option_map, false}
 use Rattle.std.specs.List.{list_all}
 use Rattle.std.specs.Str.{bytes_eq}

@@ -1,4 +1,4 @@
--- Messages whose lists and bytes are lent, as messages.
+-- machine: messages whose lists and bytes are lent, as messages.
 use Rattle.std.specs.Prelude.{◌≡◌, ℕ, ◌-◌, List, Result, Ok, Err}
 use Rattle.cf_bytes.specs.Cut.{Read}
 use Rattle.cf_bytes.specs.Lists.{list_at, with_front}

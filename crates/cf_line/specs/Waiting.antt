@@ -1,4 +1,4 @@
--- Threads that wait for a task each.
+-- machine: threads that wait for a task each.
 use Rattle.std.specs.Prelude.{◌≡◌, ◌⊎◌, ◌+◌, ℕ}
 use Rattle.cf_bytes.specs.Outside.{HasRisen}
 

@@ -1,4 +1,4 @@
--- Chains held in places, by peer.
+-- machine: chains held in places, by peer.
 use Rattle.std.specs.Prelude.{◌≡◌, ◌≢◌, ℕ, ◌+◌, ◌*◌, ◌<◌, ◌≤◌, false, List, [], Option, Some, None, if◌then◌else◌, slice_index_or}
 use Rattle.cf_lists.specs.declared.slot.Slot.{Slot}
 use Rattle.cf_headers.specs.Chain.{Chain}

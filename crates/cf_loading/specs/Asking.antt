@@ -1,4 +1,4 @@
--- Which files are asked for, and how.
+-- statement: which files are asked for, and how.
 use Rattle.std.specs.Prelude.{◌≡◌, ◌⊎◌, ℕ, List, [], ◌∷◌}
 use Rattle.cf_bytes.specs.Files.{Reads, Opens, Parts, IsRead}
 use Rattle.cf_conn.specs.Opened.{IsReadByParts}

@@ -1,4 +1,4 @@
--- What a scan of the blocks that a source gives answers.
+-- statement: what a scan of the blocks that a source gives answers.
 use Rattle.std.specs.Prelude.{◌≡◌, ℕ, List, length, Option, Some, Result, Ok, Err, String, fold, string_bytes}
 use Rattle.std.specs.Global.{Global}
 use Rattle.cf_block.specs.declared.tx.Block.{Block}

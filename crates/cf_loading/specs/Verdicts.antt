@@ -1,4 +1,4 @@
--- What stands under a name that a command reads, and what reading it answers.
+-- statement: what stands under a name that a command reads, and what reading it answers.
 use Rattle.std.specs.Prelude.{◌≡◌, ℕ, nat_lt, if◌then◌else◌, List, length, Option, Some, None, Result, Ok, Err}
 use Rattle.cf_bytes.specs.Outside.{HasRisen}
 use Rattle.cf_bytes.specs.declared.files.FileFail.{FileFail}

@@ -1,4 +1,4 @@
--- Mining: the search for a nonce by which a header's hash meets the target (Bitcoin developer reference, "Proof Of Work").
+-- statement: mining: the search for a nonce by which a header's hash meets the target (Bitcoin developer reference, "Proof Of Work").
 use Rattle.std.specs.Prelude.{◌≡◌, ◌<◌, ℕ, Bool, true, false, Result, Ok, Err}
 use Rattle.cf_block.specs.declared.header.Header.{Header}
 use Rattle.cf_block.specs.Header.{block_hash_of}

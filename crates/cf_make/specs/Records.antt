@@ -1,4 +1,4 @@
--- Records of a block file: regtest's magic, the length of the block's bytes as a little-endian u32, and those bytes, in
+-- statement: records of a block file: regtest's magic, the length of the block's bytes as a little-endian u32, and those bytes, in
 -- which the coinbase stands without a witness or with one (BIP 144, "Serialization").
 use Rattle.std.specs.Prelude.{ℕ, Bool, if◌then◌else◌, List, [], ◌∷◌, ◌++◌, length, replicate}
 use Rattle.std.specs.Int.{w32, to_le_bytes}

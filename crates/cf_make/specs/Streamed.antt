@@ -1,4 +1,4 @@
--- Chains made a block at a time, of which only the records are kept.
+-- machine: chains made a block at a time, of which only the records are kept.
 use Rattle.std.specs.Prelude.{◌≡◌, ℕ, Bool, List, [], Result, Ok, Err}
 use Rattle.cf_bytes.specs.declared.memory.Refused.{Refused}
 use Rattle.cf_bytes.specs.declared.memory.Refused.TheVariants.{No, NoMemory}

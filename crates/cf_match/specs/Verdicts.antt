@@ -1,4 +1,4 @@
--- What a filter says of the watched scripts (BIP 158, "Golomb-Coded Set Multi-Match").
+-- statement: what a filter says of the watched scripts (BIP 158, "Golomb-Coded Set Multi-Match").
 use Rattle.std.specs.Prelude.{◌≡◌, ℕ, Bool, false, not, ◌&&◌, if◌then◌else◌, List, [], ◌∷◌, Option, Some, None, Result, Ok, Err}
 use Rattle.cf_golomb.specs.declared.fault.SetFault.{SetFault}
 use Rattle.cf_filter.specs.Filter.{match_of, filter_hash_of}

@@ -1,4 +1,4 @@
--- The commands of the messages that are looked into: their names, filled up with NULs to 12 bytes (Bitcoin developer reference,
+-- statement: the commands of the messages that are looked into: their names, filled up with NULs to 12 bytes (Bitcoin developer reference,
 -- "Message Headers").
 use Rattle.std.specs.Prelude.{ℕ, List, [], ◌∷◌, ◌++◌, codes, if◌then◌else◌}
 use Rattle.std.specs.Str.{bytes_eq}

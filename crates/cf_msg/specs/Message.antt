@@ -1,4 +1,4 @@
--- How messages are spelled: the command and the payload of each (Bitcoin developer reference, "P2P Network"; for the six messages of
+-- statement: how messages are spelled: the command and the payload of each (Bitcoin developer reference, "P2P Network"; for the six messages of
 -- compact filters BIP 157).
 use Rattle.std.specs.Prelude.{◌≡◌, ℕ, ◌<◌, ◌≤◌, ◌^◌, true, List, [], ◌∷◌, ◌++◌, length, Option, Some, None, FitsSigned}
 use Rattle.std.specs.Int.{w16, w32, w64, to_le_bytes, to_be_bytes, cast_unsigned}

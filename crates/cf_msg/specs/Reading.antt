@@ -1,4 +1,4 @@
--- Reading messages, field by field.
+-- statement: reading messages, field by field.
 use Rattle.std.specs.Prelude.{◌≡◌, ℕ, ◌-◌, ◌==◌, nat_lt, if◌then◌else◌, List, [], ◌∷◌, drop, length, Option, Some, None, Result, Ok, Err}
 use Rattle.std.specs.Int.{w16, w32, w64, from_be_bytes}
 use Rattle.cf_bytes.specs.Cut.{Read, byte_at, bytes_at, number_at, int_at, ◌>>=◌}

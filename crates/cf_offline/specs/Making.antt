@@ -1,4 +1,4 @@
--- What is promised of `make`.
+-- statement: what is promised of `make`.
 use Rattle.std.specs.Prelude.{◌≡◌, ℕ, Bool, List, [], Option}
 use Rattle.cf_bytes.specs.Files.{Named, SameElsewhere, with_file}
 use Rattle.cf_block.specs.declared.tx.Block.{Block}

@@ -1,4 +1,4 @@
--- What is promised of the commands over proofs of transactions.
+-- statement: what is promised of the commands over proofs of transactions.
 use Rattle.std.specs.Prelude.{◌≡◌, ℕ, List, [], ◌∷◌, ◌++◌, get_or, codes, Option, Some, None, IfSome, Result, Ok, Err}
 use Rattle.std.specs.FinMap as finite
 use Rattle.hex.specs.Hex.{encode_lower, IsBytes}

@@ -1,4 +1,4 @@
--- What a ticker sends of its pulse.
+-- machine: what a ticker sends of its pulse.
 use Rattle.std.specs.Prelude.{◌≡◌, ◌⊎◌, ℕ, Bool, true, List, [], ◌∷◌, ◌++◌, Option}
 use Rattle.cf_bytes.specs.Outside.{HasRisen, with_more}
 use Rattle.cf_line.specs.declared.entry.Entry.{Entry}

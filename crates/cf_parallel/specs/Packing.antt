@@ -1,4 +1,4 @@
--- Filters whose bytes stand one after another.
+-- machine: filters whose bytes stand one after another.
 use Rattle.std.specs.Prelude.{ℕ, min, List, [], ◌∷◌, length, take, drop}
 use Rattle.cf_match.specs.declared.job.Job.{Job}
 use Rattle.cf_parallel.specs.declared.packed.Head.{Head}

@@ -1,4 +1,4 @@
--- How a batch is cut in parts.
+-- machine: how a batch is cut in parts.
 use Rattle.std.specs.Prelude.{ℕ, zero, suc, ◌+◌, ◌*◌, ◌/◌, ◌%◌, min, List, [], ◌∷◌, ◌++◌, length, slice_range}
 
 -- where part k of n in w parts begins: the first n % w have one more than the others

@@ -1,4 +1,4 @@
--- What contracts see of a matcher over threads.
+-- machine: what contracts see of a matcher over threads.
 use Rattle.std.specs.Prelude.{◌≡◌, ◌⊎◌, ◌+◌, ℕ}
 use Rattle.cf_bytes.specs.Outside.{HasRisen}
 

@@ -1,4 +1,4 @@
--- What can be done of what the client wants.
+-- statement: what can be done of what the client wants.
 use Rattle.std.specs.Prelude.{ℕ, ◌<◌, ◌≤◌, List, length}
 use Rattle.cf_frame.specs.Frame.{spelling}
 use Rattle.cf_msg.specs.declared.msg.Msg.{Msg}

@@ -1,4 +1,4 @@
--- How much is kept of one peer.
+-- machine: how much is kept of one peer.
 use Rattle.std.specs.Prelude.{ℕ, length}
 use Rattle.cf_peer.specs.declared.peer.Request.{Request}
 use Rattle.cf_peer.specs.declared.peer.Request.TheVariants.{Nothing, Handshake, Headers as HeadersAsked, Claims as ClaimsAsked, Filters as FiltersAsked, Block as BlockAsked, Ping as PingAsked}

@@ -1,4 +1,4 @@
--- What is read of a peer's bytes, whatever follows them.
+-- machine: what is read of a peer's bytes, whatever follows them.
 use Rattle.std.specs.Prelude.{◌≡◌, ℕ, List, ◌∷◌, ◌++◌, Option, Some, None, Ok}
 use Rattle.cf_frame.specs.Reading.{front_of}
 use Rattle.cf_frame.specs.Stream.{read_stream}

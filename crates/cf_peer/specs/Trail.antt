@@ -1,4 +1,4 @@
--- One peer's part of a log, message by message, the newest first, and what can be said of it. Nothing here knows of the client.
+-- statement: one peer's part of a log, message by message, the newest first, and what can be said of it. Nothing here knows of the client.
 use Rattle.std.specs.Prelude.{◌≡◌, ◌⊎◌, ℕ, pos, ◌==◌, nat_lt, Bool, true, false, ◌&&◌, ◌||◌, if◌then◌else◌, List, [], ◌∷◌, ◌++◌, replicate, codes, length, Option, Some, None, Result, Ok, Err, bit_and, is_none}
 use Rattle.std.specs.List.{list_any}
 use Rattle.cf_frame.specs.declared.frame.Frame.{Frame}

@@ -1,4 +1,4 @@
--- What the places of a client hold of a log.
+-- machine: what the places of a client hold of a log.
 use Rattle.std.specs.Prelude.{◌++◌, ◌≡◌, ◌≢◌, ◌⊎◌, ℕ, ℤ, ◌+◌, ◌≤◌, Bool, true, false, not, ◌&&◌, if◌then◌else◌, List, [], ◌∷◌, map, length, slice_index_or}
 use Rattle.std.specs.List.{list_any}
 use Rattle.cf_bytes.specs.declared.peer.PeerNo.{PeerNo}

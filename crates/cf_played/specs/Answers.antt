@@ -1,4 +1,4 @@
--- What passed between the wires' user and one peer, by the log, and what a peer in memory answers to it.
+-- statement: what passed between the wires' user and one peer, by the log, and what a peer in memory answers to it.
 use Rattle.std.specs.Prelude.{◌≡◌, ◌⊎◌, ℕ, pos, ◌==◌, Bool, true, false, ◌||◌, List, [], ◌∷◌, ◌++◌, filter, length, take, option_to_list, if◌then◌else◌}
 use Rattle.std.specs.List.{AllByRecursion}
 use Rattle.cf_block.specs.declared.tx.Block.{Block}

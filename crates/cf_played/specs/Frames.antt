@@ -1,4 +1,4 @@
--- The frames of a peer's answers, one for each message.
+-- machine: the frames of a peer's answers, one for each message.
 use Rattle.std.specs.Prelude.{◌≡◌, ℕ, pos, ◌<◌, ◌^◌, Bool, true, List}
 use Rattle.std.specs.List.{AllByRecursion}
 use Rattle.cf_frame.specs.Frame.{spelling}

@@ -1,4 +1,4 @@
--- What a peer in memory hears of the bytes of one send.
+-- machine: what a peer in memory hears of the bytes of one send.
 use Rattle.std.specs.Prelude.{◌≡◌, List, ℕ, [], ◌∷◌, Option, Some, None}
 use Rattle.cf_frame.specs.declared.frame.Frame.{Frame}
 use Rattle.cf_frame.specs.Stream.{read_stream}

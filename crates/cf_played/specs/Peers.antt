@@ -1,4 +1,4 @@
--- A peer in memory as others see it.
+-- statement: a peer in memory as others see it.
 use Rattle.std.specs.Prelude.{◌≡◌, ◌≢◌, ℕ, suc, List, [], ◌∷◌, ◌++◌, map, true, slice_get, Option, Some}
 use Rattle.cf_block.specs.declared.tx.Block.{Block}
 use Rattle.cf_chain.specs.Good.{IsGoodChain}

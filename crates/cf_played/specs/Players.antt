@@ -1,4 +1,4 @@
--- What is kept of a peer in memory.
+-- machine: what is kept of a peer in memory.
 use Rattle.std.specs.Prelude.{◌≡◌, ◌⊎◌, ℕ, pos, suc, ◌<◌, true, false, List, ◌∷◌, ◌++◌, slice_get, slice_set, drop, length, Option, Some, option_to_list}
 use Rattle.cf_chain.specs.Serve.{replies}
 use Rattle.cf_msg.specs.declared.msg.Msg.{Msg}

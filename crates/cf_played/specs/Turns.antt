@@ -1,4 +1,4 @@
--- Whose turn it is, and what is delivered then.
+-- machine: whose turn it is, and what is delivered then.
 use Rattle.std.specs.Prelude.{◌≡◌, ◌≢◌, ◌⊎◌, ℕ, suc, ◌≤◌, ◌<◌, List, [], ◌∷◌, length, slice_get, slice_set, Option, Some, None}
 use Rattle.cf_wires.specs.declared.event.Delivery.{Delivery}
 use Rattle.cf_wires.specs.declared.event.Delivery.TheVariants.{Got, Gone, Tick, Ended}

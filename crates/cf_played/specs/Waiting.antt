@@ -1,4 +1,4 @@
--- What is delivered of bytes that wait, and what then waits.
+-- machine: what is delivered of bytes that wait, and what then waits.
 use Rattle.std.specs.Prelude.{ℕ, List, length, take, drop, min}
 
 -- the first 4,096, or all where there are fewer

@@ -1,4 +1,4 @@
--- How a peer of a kind answers.
+-- statement: how a peer of a kind answers.
 use Rattle.cf_played.specs.declared.kind.Kind.{Kind}
 use Rattle.cf_played.specs.declared.kind.Kind.TheVariants as kinds
 use Rattle.cf_played.specs.declared.kind.Way.{Way}

@@ -1,4 +1,4 @@
--- The fault of a field.
+-- statement: the fault of a field.
 use Rattle.cf_bytes.specs.declared.cut.CutFault.{CutFault}
 use Rattle.cf_bytes.specs.declared.cut.CutFault.TheVariants.{Short as CutShort, NotShortest as CutNotShortest, TooLarge as CutTooLarge}
 use Rattle.cf_proof.specs.declared.fault.ProofFault.{ProofFault}

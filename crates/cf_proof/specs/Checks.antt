@@ -1,4 +1,4 @@
--- The first thing that is wrong with a proof of a transaction.
+-- statement: the first thing that is wrong with a proof of a transaction.
 use Rattle.std.specs.Prelude.{◌≡◌, ℕ, ◌*◌, ◌==◌, nat_eq, nat_lt, nat_le, Bool, not, ◌||◌, if◌then◌else◌, List, length, Option, Some, None, Result, Ok, Err}
 use Rattle.std.specs.List.{list_any}
 use Rattle.std.specs.Cmp.Lexicographic.{pointwise}

@@ -1,4 +1,4 @@
--- The proof of one transaction of a block: BIP 37 "Constructing a partial merkle tree object".
+-- statement: the proof of one transaction of a block: BIP 37 "Constructing a partial merkle tree object".
 use Rattle.std.specs.Prelude.{◌≡◌, ◌<◌, replicate, ℕ, zero, suc, ◌+◌, ◌*◌, ◌/◌, ◌^◌, ◌==◌, Bool, true, false, if◌then◌else◌, List, [], ◌∷◌, ◌++◌, length}
 use Rattle.cf_block.specs.declared.tx.Block.{Block}
 use Rattle.cf_block.specs.Merkle.{txids}

@@ -1,4 +1,4 @@
--- A proof that a transaction stands in a block: BIP 37 "merkleblock", and how its bytes are read.
+-- statement: a proof that a transaction stands in a block: BIP 37 "merkleblock", and how its bytes are read.
 use Rattle.std.specs.Prelude.{ℕ, ◌==◌, Bool, if◌then◌else◌, List, [], ◌∷◌, ◌++◌, length, Result, Ok, Err}
 use Rattle.std.specs.Int.{w32, to_le_bytes, bit_at}
 use Rattle.std.specs.List.{flat_map}

@@ -1,4 +1,4 @@
--- What the steps of a check answer.
+-- machine: what the steps of a check answer.
 use Rattle.std.specs.Int.{bit_at}
 use Rattle.std.specs.Prelude.{◌≡◌, ℕ, zero, suc, ◌==◌, ◌++◌, ◌∷◌, [], Bool, List, Option, Some, None, Result, Ok, Err}
 use Rattle.cf_bytes.specs.declared.memory.Refused.{Refused}

@@ -1,4 +1,4 @@
--- A Merkle tree by heights and places: BIP 37 "Partial Merkle branch format".
+-- statement: a Merkle tree by heights and places: BIP 37 "Partial Merkle branch format".
 use Rattle.std.specs.Prelude.{ℕ, zero, suc, ◌+◌, ◌*◌, ◌/◌, ◌^◌, nat_le, nat_lt, Bool, if◌then◌else◌, List, [], get_or}
 use Rattle.cf_block.specs.Merkle.{next_level}
 

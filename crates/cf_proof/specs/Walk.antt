@@ -1,4 +1,4 @@
--- The walk through a partial Merkle tree, depth first: BIP 37 "Parsing a partial merkle tree object".
+-- statement: the walk through a partial Merkle tree, depth first: BIP 37 "Parsing a partial merkle tree object".
 use Rattle.std.specs.Prelude.{ℕ, zero, suc, ◌+◌, ◌*◌, nat_eq, Bool, true, false, ◌||◌, if◌then◌else◌, List, [], ◌∷◌, ◌++◌, Option, Some, None}
 use Rattle.std.specs.Option.{option_and_then, option_map}
 use Rattle.std.specs.Cmp.Lexicographic.{pointwise}

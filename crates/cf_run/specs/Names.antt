@@ -1,4 +1,4 @@
--- Names as they are dialled.
+-- statement: names as they are dialled.
 use Rattle.std.specs.Prelude.{ℕ, List, map, string_bytes, String}
 use Rattle.std.specs.declared.alloc.Global.{Global}
 

@@ -1,4 +1,4 @@
--- What a dial leaves of the client, and what a whole run leaves of its wires.
+-- machine: what a dial leaves of the client, and what a whole run leaves of its wires.
 use Rattle.std.specs.Prelude.{◌≡◌, ℕ, ◌+◌, ◌≤◌, ◌<◌, Bool, List, Option}
 use Rattle.cf_headers.specs.declared.store.HeaderStore.{Ghosts}
 use Rattle.cf_match.specs.declared.matcher.Matcher.{Ghosts as Judges}

@@ -1,4 +1,4 @@
--- A run of a client over wires.
+-- statement: a run of a client over wires.
 use Rattle.std.specs.Prelude.{◌≡◌, ◌⊎◌, ℕ, ◌+◌, ◌≤◌, ◌<◌, ◌==◌, ◌||◌, Bool, true, false, List, [], ◌∷◌, ◌++◌, length, map, take, reverse, slice_index_or, Option, Some, None, IfSome, IsSome}
 use Rattle.std.specs.List.{sum_by, list_any}
 use Rattle.cf_bytes.specs.Outside.{HasRisen}

@@ -1,4 +1,4 @@
--- What was put of the texts of a run that follows.
+-- statement: what was put of the texts of a run that follows.
 use Rattle.std.specs.Prelude.{◌≡◌, ◌⊎◌, ℕ, ◌≤◌, List, [], ◌∷◌, ◌++◌, length, take, Option, Some, None, IfSome, String, string_bytes}
 use Rattle.std.specs.declared.alloc.Global.{Global}
 use Rattle.cf_bytes.specs.Outside.{with_more}

@@ -1,4 +1,4 @@
--- Which versions were sent.
+-- statement: which versions were sent.
 use Rattle.std.specs.Prelude.{IfSome}
 use Rattle.std.specs.List.{AllByRecursion}
 use Rattle.cf_wires.specs.declared.event.Event.{Event}

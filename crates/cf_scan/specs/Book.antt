@@ -1,4 +1,4 @@
--- Which blocks a history with undo stands for.
+-- machine: which blocks a history with undo stands for.
 use Rattle.std.specs.Prelude.{◌≡◌, List, [], ◌∷◌, ◌++◌, take, drop, reverse}
 use Rattle.std.specs.FinMap.{empty}
 use Rattle.cf_scan.specs.declared.book.Book.{Book}

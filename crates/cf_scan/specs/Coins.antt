@@ -1,4 +1,4 @@
--- Watched coins: a finite map from outpoints to their outputs' values.
+-- statement: watched coins: a finite map from outpoints to their outputs' values.
 use Rattle.std.specs.Prelude.{◌≡◌, ℕ, ◌<◌, ◌^◌, List, sum, All}
 use Rattle.std.specs.Coded.{Coded, coded_ℕ}
 use Rattle.std.specs.FinMap.{FinMap, values, code, from_entries}

@@ -1,4 +1,4 @@
--- What is kept of a block that was fetched, and the history that is told from it.
+-- machine: what is kept of a block that was fetched, and the history that is told from it.
 use Rattle.std.specs.Prelude.{ℕ, zero, suc, if◌then◌else◌, List, [], ◌∷◌, ◌++◌, fold, map}
 use Rattle.cf_block.specs.declared.tx.OutPoint.{OutPoint}
 use Rattle.cf_block.specs.declared.tx.Tx.{Tx}

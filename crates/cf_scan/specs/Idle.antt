@@ -1,4 +1,4 @@
--- Blocks that a history can do without.
+-- statement: blocks that a history can do without.
 use Rattle.std.specs.Prelude.{◌≡◌, ℕ, suc, ◌<◌, Bool, false, List, length, slice_index_or, take, None}
 use Rattle.std.specs.List.{AllByRecursion}
 use Rattle.std.specs.FinMap.{get}

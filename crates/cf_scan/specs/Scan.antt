@@ -1,4 +1,4 @@
--- The plain scan: the history that a watcher has who reads every transaction of every block, from height 1 on.
+-- statement: the plain scan: the history that a watcher has who reads every transaction of every block, from height 1 on.
 use Rattle.std.specs.Prelude.{ℕ, suc, Bool, not, ◌||◌, ◌==◌, if◌then◌else◌, List, [], ◌∷◌, ◌++◌, fold, sum, sum_by, length}
 use Rattle.std.specs.Option.{option_to_list}
 use Rattle.std.specs.FinMap.{get, insert, remove, empty}

@@ -1,4 +1,4 @@
--- What coins that remember stand for.
+-- machine: what coins that remember stand for.
 use Rattle.std.specs.Prelude.{List}
 use Rattle.cf_scan.specs.declared.changes.Change.{Change}
 use Rattle.cf_scan.specs.declared.undo.UndoCoins.{UndoCoins}

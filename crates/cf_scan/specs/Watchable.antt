@@ -1,4 +1,4 @@
--- What the scripts of a watch have in common, one by one.
+-- statement: what the scripts of a watch have in common, one by one.
 use Rattle.std.specs.Prelude.{◌≡◌, ◌≢◌, ℕ, ◌<◌, ◌≤◌, false, List, length, slice_index, slice_index_or, take}
 use Rattle.cf_scan.specs.Watching.{is_watched}
 

@@ -1,4 +1,4 @@
--- Which scripts are watched. One that begins with 0x6a can't be spent, and filters leave it out (BIP 158, "Contents").
+-- statement: which scripts are watched. One that begins with 0x6a can't be spent, and filters leave it out (BIP 158, "Contents").
 use Rattle.std.specs.Prelude.{◌≡◌, ℕ, ◌≤◌, ◌==◌, nat_lt, nat_le, nat_eq, Bool, if◌then◌else◌, List, [], ◌∷◌, ◌++◌, length, slice_index, Option, Some, None, Vec, Result, Ok, Err}
 use Rattle.std.specs.Global.{Global}
 use Rattle.std.specs.List.{list_any}

@@ -1,4 +1,4 @@
--- Whether what peers were asked for last is to be tested.
+-- machine: whether what peers were asked for last is to be tested.
 use Rattle.std.specs.Prelude.{◌≡◌, ◌≢◌, ℕ, Bool, true, false, slice_index_or}
 use Rattle.cf_seek.specs.declared.aims.Aims.{Aims}
 use Rattle.cf_seek.specs.declared.spans.Wish.{Wish}

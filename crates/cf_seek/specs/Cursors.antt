@@ -1,4 +1,4 @@
--- Marks, by the peers' numbers.
+-- machine: marks, by the peers' numbers.
 use Rattle.std.specs.Prelude.{ℕ, ◌-◌, min, max, List, Option, Some, None, slice_index_or, slice_set}
 use Rattle.cf_headers.specs.declared.change.Change.{Change}
 use Rattle.cf_headers.specs.declared.change.Change.TheVariants.{Longer, NoLonger, Unlinked, Invalid, TooHigh}

@@ -1,4 +1,4 @@
--- What is open to all peers.
+-- machine: what is open to all peers.
 use Rattle.cf_seek.specs.declared.opens.Opens.{Opens as Kept}
 use Rattle.cf_seek.specs.Opens.{Opens}
 use Rattle.cf_seek.specs.OpensOf.{opens_among}

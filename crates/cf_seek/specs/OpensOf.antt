@@ -1,4 +1,4 @@
--- What is open, by what the code keeps.
+-- machine: what is open, by what the code keeps.
 use Rattle.std.specs.Prelude.{Bool, false, List, Option, Some, None, is_some, slice_get}
 use Rattle.std.specs.Ordering.{is_eq, nat_cmp}
 use Rattle.std.specs.Cmp.Lexicographic.{slice_cmp}

@@ -1,4 +1,4 @@
--- What is to be asked for that isn't open to anybody.
+-- statement: what is to be asked for that isn't open to anybody.
 use Rattle.std.specs.Prelude.{◌≡◌, ℕ, ◌≤◌, ◌+◌, ◌-◌, ◌⊎◌, false, None, Some, ◌<◌, List, length, slice_index_or}
 use Rattle.cf_dispute.specs.Claims.{Tables}
 use Rattle.cf_headers.specs.Chain.{Hash, Chain}

@@ -1,4 +1,4 @@
--- What one question is about.
+-- statement: what one question is about.
 use Rattle.std.specs.Prelude.{◌≡◌, ℕ, ◌≤◌, ◌<◌, ◌+◌, pred, [], ◌∷◌, map, length, Some}
 use Rattle.cf_bytes.specs.declared.hash.Hash32.{Hash32}
 use Rattle.cf_block.specs.Header.{block_hash_of}

@@ -1,4 +1,4 @@
--- Which filter is to be tested next: one that a peer claims of a fetched block on which they differ.
+-- statement: which filter is to be tested next: one that a peer claims of a fetched block on which they differ.
 use Rattle.std.specs.Prelude.{◌≡◌, ℕ, ◌≤◌, true, Option, Some, None, IsSome}
 use Rattle.cf_dispute.specs.declared.claim.At.TheVariants.{Differ}
 use Rattle.cf_dispute.specs.declared.claim.Claim.{Claim}

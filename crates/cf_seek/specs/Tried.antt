@@ -1,4 +1,4 @@
--- Up to where none of the peers' blocks is to be tested.
+-- machine: up to where none of the peers' blocks is to be tested.
 use Rattle.std.specs.Prelude.{◌≡◌, ℕ, ◌-◌, ◌<◌, ◌≤◌, min, List, Option, Some, None, length, slice_index_or, slice_set}
 use Rattle.cf_dispute.specs.Claims.{Tables}
 use Rattle.cf_headers.specs.declared.change.Change.{Change}

@@ -1,4 +1,4 @@
--- Tasks in a line.
+-- machine: tasks in a line.
 use Rattle.std.specs.Prelude.{Bool, List}
 
 -- the tasks that were started and not joined, in order, and whether there is room for one more

@@ -1,4 +1,4 @@
--- What a link tells.
+-- statement: what a link tells.
 use Rattle.std.specs.Prelude.{◌≡◌, ℕ, Bool, false, not, ◌&&◌, nat_le, if◌then◌else◌, List, [], ◌∷◌, ◌++◌, length, Option, Some, None}
 use Rattle.std.specs.Option.{ForSome}
 use Rattle.cf_conn.specs.Told.{Told}

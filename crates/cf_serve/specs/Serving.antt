@@ -1,4 +1,4 @@
--- What serving does to a link.
+-- statement: what serving does to a link.
 use Rattle.std.specs.Prelude.{◌≡◌, ℕ, ◌+◌, List, length, Result, Ok, Err}
 use Rattle.std.specs.List.{AllZip}
 use Rattle.cf_bytes.specs.Outside.{HasRisen}

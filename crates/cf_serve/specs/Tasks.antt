@@ -1,4 +1,4 @@
--- The tasks of connections, and what came of them.
+-- machine: the tasks of connections, and what came of them.
 use Rattle.std.specs.Prelude.{◌≡◌, ℕ, ◌+◌, List, ◌++◌, length, Option}
 use Rattle.std.specs.List.{AllZip}
 use Rattle.cf_conn.specs.Told.{Told}

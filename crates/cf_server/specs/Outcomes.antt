@@ -1,4 +1,4 @@
--- How serving ends.
+-- statement: how serving ends.
 use Rattle.std.specs.Prelude.{ℕ}
 use Rattle.cf_server.specs.declared.outcome.Outcome.{Outcome}
 use Rattle.cf_server.specs.declared.outcome.Outcome.TheVariants.{Closed, BadFrame, Malformed, ReadFault, WriteFault, Tired, NoMemory}

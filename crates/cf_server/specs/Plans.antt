@@ -1,4 +1,4 @@
--- Which replies are planned for a message.
+-- machine: which replies are planned for a message.
 use Rattle.std.specs.Prelude.{◌≡◌, ℕ, suc, ◌-◌, ◌==◌, min, Bool, true, false, List, [], ◌∷◌, ◌++◌, map, length, take, Option, Some, None, option_to_list, if◌then◌else◌}
 use Rattle.std.specs.List.{flat_map, range_with_len}
 use Rattle.cf_bytes.specs.declared.hash.Hash32.{Hash32}

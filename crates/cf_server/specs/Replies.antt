@@ -1,4 +1,4 @@
--- The replies that are planned for a message: each tells by heights what of the chain it sends, so that no plan copies the chain.
+-- machine: the replies that are planned for a message: each tells by heights what of the chain it sends, so that no plan copies the chain.
 use Rattle.std.specs.Prelude.{◌≡◌, suc, ◌+◌, ◌≤◌, ◌<◌, List, ◌++◌, map, length, take, drop, slice_index_or, Some}
 use Rattle.std.specs.List.{AllByRecursion}
 use Rattle.cf_block.specs.declared.tx.Block.{Block}

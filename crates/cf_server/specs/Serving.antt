@@ -1,4 +1,4 @@
--- What a connection is served: how its bytes are taken, and what each outcome tells of them.
+-- statement: what a connection is served: how its bytes are taken, and what each outcome tells of them.
 use Rattle.std.specs.Prelude.{◌≡◌, ℕ, ℤ, zero, suc, ◌≤◌, Bool, true, false, List, [], ◌∷◌, length, take, Option, Some, None, IfSome, Result, Ok, Err}
 use Rattle.std.specs.List.{flat_map}
 use Rattle.cf_bytes.specs.Outside.{HasRisen, with_more}

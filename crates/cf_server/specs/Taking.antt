@@ -1,4 +1,4 @@
--- What the steps of serving a connection do.
+-- machine: what the steps of serving a connection do.
 use Rattle.std.specs.Prelude.{◌≡◌, ℕ, ◌≤◌, ◌||◌, List, [], ◌∷◌, ◌++◌, Option, Some, None, Result, Ok, Err}
 use Rattle.cf_bytes.specs.Outside.{HasRisen}
 use Rattle.cf_conn.specs.Source.{with_front}

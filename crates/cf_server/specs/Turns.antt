@@ -1,4 +1,4 @@
--- What a server has read, it answers before it reads on.
+-- statement: what a server has read, it answers before it reads on.
 use Rattle.std.specs.Prelude.{◌≡◌, ℕ, ℤ, zero, suc, List, [], ◌++◌, Option, Some}
 use Rattle.cf_conn.specs.Source.{with_front}
 use Rattle.cf_block.specs.declared.tx.Block.{Block}

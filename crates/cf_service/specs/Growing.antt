@@ -1,4 +1,4 @@
--- A serving machine whose chain grows, and what a connection is served by it.
+-- statement: a serving machine whose chain grows, and what a connection is served by it.
 use Rattle.std.specs.Prelude.{◌≡◌, ℕ, ℤ, IfSome}
 use Rattle.cf_conn.specs.Told.{Told}
 use Rattle.cf_grow.specs.declared.ending.Ending.{Ending}

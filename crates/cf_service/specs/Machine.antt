@@ -1,4 +1,4 @@
--- A serving machine, and what a connection is served by it.
+-- statement: a serving machine, and what a connection is served by it.
 use Rattle.std.specs.Prelude.{◌≡◌, ℕ, ℤ, List, IfSome}
 use Rattle.cf_block.specs.declared.tx.Block.{Block}
 use Rattle.cf_conn.specs.Told.{Told}

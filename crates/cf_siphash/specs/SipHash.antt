@@ -1,4 +1,4 @@
--- SipHash-2-4 (Aumasson and Bernstein, "SipHash: a fast short-input PRF"). Numbers are below 2 ^ 64.
+-- statement: SipHash-2-4 (Aumasson and Bernstein, "SipHash: a fast short-input PRF"). Numbers are below 2 ^ 64.
 use Rattle.std.specs.Prelude.{ℕ, zero, suc, ◌+◌, ◌-◌, ◌*◌, ◌/◌, ◌%◌, ◌^◌, List, [], ◌∷◌, ◌++◌, length, take, drop, replicate}
 use Rattle.std.specs.Int.{w64, from_le_bytes, rotate_left}
 use Rattle.std.specs.Int.Bits.{bit_xor}

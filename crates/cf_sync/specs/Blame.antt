@@ -1,4 +1,4 @@
--- Blame: the filters that differ on a fetched block are asked for and tested against what the block itself pays.
+-- statement: blame: the filters that differ on a fetched block are asked for and tested against what the block itself pays.
 use Rattle.std.specs.Prelude.{◌≡◌, ◌⊎◌, ℕ, Bool, true, false, [], ◌∷◌, Some}
 use Rattle.cf_bytes.specs.declared.hash.Hash32.{Hash32}
 use Rattle.cf_headers.specs.Chain.{Hash, Chain, IsIn}

@@ -1,4 +1,4 @@
--- What is to be asked next, by all that a log holds.
+-- statement: what is to be asked next, by all that a log holds.
 use Rattle.std.specs.Prelude.{◌≡◌, ℕ, true, [], ◌∷◌}
 use Rattle.cf_dispute.specs.Claims.{Tables}
 use Rattle.cf_headers.specs.Chain.{Chain}

@@ -1,4 +1,4 @@
--- A peer whose chain grows while it answers, and what it is promised by a client that follows.
+-- statement: a peer whose chain grows while it answers, and what it is promised by a client that follows.
 use Rattle.std.specs.Prelude.{◌≡◌, ◌≢◌, ℕ, zero, suc, ◌≤◌, pos, Bool, true, false, ◌||◌, List, [], ◌∷◌, ◌++◌, length, take, Option, Some, None}
 use Rattle.cf_bytes.specs.declared.hash.Hash32.{Hash32}
 use Rattle.cf_block.specs.declared.tx.Block.{Block}

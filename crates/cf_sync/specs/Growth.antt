@@ -1,4 +1,4 @@
--- A run with one peer whose chain grows: it answers as the machine of genesis alone does, announces a block after a
+-- statement: a run with one peer whose chain grows: it answers as the machine of genesis alone does, announces a block after a
 -- tick, and answers as the machine of the chain of that block then. So the run is quiet twice. What is asked of it
 -- after the announcement: its headers, its claims, and the filter of the block, which clears it.
 use Rattle.std.specs.Prelude.{◌∷◌}

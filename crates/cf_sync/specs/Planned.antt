@@ -1,4 +1,4 @@
--- The log as a client knew it that wasn't told yet of some failed sends.
+-- statement: the log as a client knew it that wasn't told yet of some failed sends.
 use Rattle.std.specs.Prelude.{◌≡◌, ◌⊎◌, ℕ, ◌==◌, Bool, true, false, not, ◌&&◌, ◌||◌, if◌then◌else◌, [], ◌∷◌, ◌++◌, Some}
 use Rattle.cf_msg.specs.declared.msg.Msg.{Msg}
 use Rattle.cf_wires.specs.declared.event.Event.TheVariants.{Dialled, NotDialled, Sent, SendFailed, Closed, Took}

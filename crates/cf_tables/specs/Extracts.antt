@@ -1,4 +1,4 @@
--- The table that the code keeps.
+-- machine: the table that the code keeps.
 use Rattle.std.specs.Prelude.{List, if◌then◌else◌, Some, unwrap_or}
 use Rattle.std.specs.Ordering.{is_eq, nat_cmp}
 use Rattle.std.specs.Cmp.Lexicographic.{slice_cmp}

@@ -1,4 +1,4 @@
--- How many extracts, verdicts and outputs' items are kept.
+-- machine: how many extracts, verdicts and outputs' items are kept.
 use Rattle.std.specs.Prelude.{◌≡◌, ℕ, List, length, IsSome}
 use Rattle.cf_headers.specs.Chain.{Hash, IsIn}
 use Rattle.cf_headers.specs.Counts.{AreApart}

@@ -1,4 +1,4 @@
--- The verdicts that the code keeps.
+-- machine: the verdicts that the code keeps.
 use Rattle.std.specs.Prelude.{◌≡◌, List, ℕ, if◌then◌else◌, ◌&&◌, Some}
 use Rattle.std.specs.Ordering.{is_eq, nat_cmp, ordering_then}
 use Rattle.std.specs.Cmp.Lexicographic.{slice_cmp}

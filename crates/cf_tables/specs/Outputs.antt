@@ -1,4 +1,4 @@
--- What is kept of the outputs of fetched blocks.
+-- machine: what is kept of the outputs of fetched blocks.
 use Rattle.std.specs.Prelude.{List, ℕ, Bool, false, Option, Some, None, unwrap_or, if◌then◌else◌}
 use Rattle.std.specs.Ordering.{is_eq, nat_cmp}
 use Rattle.std.specs.Cmp.Lexicographic.{slice_cmp}

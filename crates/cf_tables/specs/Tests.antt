@@ -1,4 +1,4 @@
--- What was found of filters that were tested.
+-- machine: what was found of filters that were tested.
 use Rattle.std.specs.Prelude.{◌≡◌, Bool, false, Option, Some, unwrap_or, if◌then◌else◌, ◌&&◌, ◌||◌}
 use Rattle.std.specs.Ordering.{is_eq, nat_cmp, ordering_then}
 use Rattle.std.specs.Cmp.Lexicographic.{slice_cmp}

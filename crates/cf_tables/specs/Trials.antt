@@ -1,4 +1,4 @@
--- What is kept of tests, and what comes of blocks that are fetched and of filters that are given.
+-- machine: what is kept of tests, and what comes of blocks that are fetched and of filters that are given.
 use Rattle.std.specs.Prelude.{◌≡◌, ℕ, Bool, true, false, List, [], ◌∷◌}
 use Rattle.cf_block.specs.declared.tx.Block.{Block}
 use Rattle.cf_block.specs.Header.{block_hash_of}

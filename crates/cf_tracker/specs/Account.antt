@@ -1,4 +1,4 @@
--- The history that is written.
+-- machine: the history that is written.
 use Rattle.std.specs.Prelude.{List, reverse}
 use Rattle.cf_scan.specs.declared.book.Book.{Book}
 use Rattle.cf_scan.specs.Book.{Stands}

@@ -1,4 +1,4 @@
--- When the best chain's blocks are written.
+-- machine: when the best chain's blocks are written.
 use Rattle.std.specs.Prelude.{◌≡◌, ℕ, ◌<◌, ◌≤◌, min, List, length, Option, Some, None}
 use Rattle.cf_bytes.specs.declared.peer.PeerNo.{PeerNo}
 use Rattle.cf_dispute.specs.Claims.{Tables}

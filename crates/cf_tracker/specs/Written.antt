@@ -1,4 +1,4 @@
--- The blocks whose history is written, and what is told of them.
+-- machine: the blocks whose history is written, and what is told of them.
 use Rattle.std.specs.Prelude.{◌≡◌, ℕ, suc, ◌+◌, ◌<◌, ◌≤◌, Bool, true, false, is_some, List, [], ◌∷◌, length, slice_index_or, Option, Some, unwrap_or}
 use Rattle.cf_headers.specs.Chain.{Hash, Chain}
 use Rattle.cf_headers.specs.Heights.{hash_at}

@@ -1,4 +1,4 @@
--- What is read from lent bytes, item after item.
+-- machine: what is read from lent bytes, item after item.
 use Rattle.std.specs.Prelude.{◌≡◌, ℕ, ◌-◌, List, [], ◌∷◌, ◌++◌, length, Bool, true, false, Option, Some, None, Result, Ok, Err}
 use Rattle.std.specs.List.{flat_map, AllByRecursion}
 use Rattle.cf_bytes.specs.Cut.{Read}

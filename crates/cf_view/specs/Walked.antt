@@ -1,4 +1,4 @@
--- What a walk over lent transactions has found so far.
+-- machine: what a walk over lent transactions has found so far.
 use Rattle.std.specs.Prelude.{◌≡◌, ◌++◌, Bool, List, map}
 use Rattle.std.specs.List.{list_any}
 use Rattle.cf_bytes.specs.declared.hash.Hash32.{Hash32}

@@ -1,4 +1,4 @@
--- Files of blocks: which are good, and the first bad record of the others.
+-- statement: files of blocks: which are good, and the first bad record of the others.
 use Rattle.std.specs.Prelude.{◌≡◌, ◌⊎◌, ℕ, zero, suc, ◌+◌, ◌-◌, ◌==◌, Bool, false, nat_le, bytes_eq, if◌then◌else◌, List, [], ◌∷◌, ◌++◌, length, replicate, Option, Some, None, Result, Ok, Err}
 use Rattle.std.specs.List.{list_all}
 use Rattle.std.specs.FinMap.{empty}

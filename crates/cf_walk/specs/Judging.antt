@@ -1,4 +1,4 @@
--- What is kept of a chain's blocks to judge the next one, and what a step along a file's records answers where no block is kept.
+-- machine: what is kept of a chain's blocks to judge the next one, and what a step along a file's records answers where no block is kept.
 use Rattle.std.specs.Prelude.{◌≡◌, ◌⊎◌, ℕ, suc, ◌<◌, ◌≤◌, List, [], ◌∷◌, ◌++◌, length, map, Option, Some, None, IfSome, Result, Ok, Err, true, false}
 use Rattle.std.specs.FinMap.{empty}
 use Rattle.cf_bytes.specs.Cut.{◌>>=◌}

@@ -1,4 +1,4 @@
--- Records of a file of blocks, as nodes keep them (Bitcoin developer reference, "Serialized Blocks"): the network's
+-- statement: records of a file of blocks, as nodes keep them (Bitcoin developer reference, "Serialized Blocks"): the network's
 -- magic, the block's length, and the block, in which transactions may stand with witnesses (BIP 144, "Serialization").
 use Rattle.std.specs.Prelude.{◌≡◌, ℕ, ◌≤◌, List, [], ◌∷◌, ◌++◌, length, nat_lt, if◌then◌else◌, Result, Ok, Err, bytes_eq}
 use Rattle.std.specs.Int.{w32, to_le_bytes}

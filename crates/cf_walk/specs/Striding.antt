@@ -1,4 +1,4 @@
--- What a walk over a source's records has given, and what it answers.
+-- machine: what a walk over a source's records has given, and what it answers.
 use Rattle.std.specs.Prelude.{◌≡◌, ℕ, zero, ◌<◌, ◌≤◌, Bool, true, false, List, [], ◌∷◌, ◌++◌, length, take, drop, Option, Some, None, Result, Ok, Err}
 use Rattle.cf_bytes.specs.Outside.{HasRisen}
 use Rattle.cf_block.specs.declared.tx.Block.{Block}

@@ -1,4 +1,4 @@
--- How dials and sends go in memory.
+-- statement: how dials and sends go in memory.
 use Rattle.std.specs.Prelude.{◌≡◌, ℕ, ◌+◌, ◌<◌, ◌==◌, Bool, true, false, not, ◌&&◌, List, [], ◌∷◌, map, length, slice_index_or}
 use Rattle.std.specs.List.{list_any}
 use Rattle.cf_wires.specs.declared.event.Dial.{Dial}

@@ -1,4 +1,4 @@
--- What passed the wires, and what of it is kept whatever the wires are.
+-- statement: what passed the wires, and what of it is kept whatever the wires are.
 use Rattle.std.specs.Prelude.{◌≡◌, ℕ, ◌+◌, Bool, true, false, List, [], ◌∷◌, ◌++◌, Option, Some, None, IfSome, slice_set, slice_index_or, replicate}
 use Rattle.cf_bytes.specs.declared.peer.PeerNo.{PeerNo}
 use Rattle.cf_wires.specs.declared.event.Delivery.{Delivery}

@@ -1,4 +1,4 @@
--- The session lines of what passed the wires.
+-- statement: the session lines of what passed the wires.
 use Rattle.std.specs.Prelude.{ℕ, Bool, true, false, List, [], ◌∷◌, ◌++◌, codes}
 use Rattle.std.specs.Fmt.{decimal}
 use Rattle.std.specs.List.{flat_map}

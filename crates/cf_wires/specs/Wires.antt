@@ -1,4 +1,4 @@
--- When a call on wires may say that the outside failed.
+-- statement: when a call on wires may say that the outside failed.
 use Rattle.std.specs.Prelude.{ℕ, ◌≤◌, List, Result, IsErrOf}
 use Rattle.cf_bytes.specs.Outside.{HasRisen}
 use Rattle.cf_wires.specs.declared.event.Delivery.{Delivery}
