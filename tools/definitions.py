@@ -1,14 +1,26 @@
-"""What the contract of a function reaches: definitions of crates/*/specs, and the types and constants that the code declares, transitively."""
+#!/usr/bin/env python3
+"""What the contract of a function reaches: definitions of crates/*/specs, and the types and constants that the code declares, transitively.
+
+    tools/definitions.py --check    status 1, and each file of specs that has definitions and doesn't begin with its mark, where there is one
+
+A file of specs begins with its mark: `-- statement:` where its definitions are those that a promise is made of, and `-- machine:` where they say what a
+machine keeps between two calls, or speak of its fields. `./dev believe` shows both.
+"""
 import os
 import re
+import sys
 from dataclasses import dataclass, field
 
-from crates import TOP, below
-from sources import DEFINITION, OPERATOR, Crate, imports_of, text_of
+sys.dont_write_bytecode = True
+sys.path.insert(0, os.path.dirname(os.path.realpath(__file__)))
+
+from crates import TOP, below  # noqa: E402
+from sources import DEFINITION, OPERATOR, Crate, imports_of, text_of  # noqa: E402
 
 TOKEN = re.compile(r"[(){}\[\];,λ]|[^\s(){}\[\];,λ]+")
 OPENING, CLOSED = "({[", ")}]"
 PART = re.compile(r"Rattle\.(\w+)\.specs\.(.+)")
+MARK = re.compile(r"-- (statement|machine): \S")
 
 
 class NotFound(Exception):
@@ -112,6 +124,12 @@ def binder(tokens):
     return set(names) if all(re.fullmatch(r"\w+", name) for name in names) else set()
 
 
+def read_as_code(text, kind):
+    """What an item of code says, without its remarks and the names of its variants, which name no types."""
+    text = re.sub(r"//.*", "", text)
+    return re.sub(r"(?m)^    [A-Z]\w*", "", text) if kind == "enum" else text
+
+
 class Repository:
     """The crates' code and specs, read where they are asked for."""
 
@@ -163,7 +181,7 @@ class Repository:
     def of_code(self, crate, source, item):
         key = item.file, item.line
         if key not in self.modules:
-            text = "\n".join(text_of(item.file).split("\n")[item.line - 1 : item.last])
+            text = read_as_code("\n".join(text_of(item.file).split("\n")[item.line - 1 : item.last]), item.kind)
             scope = self.scope_of(crate, source)
             for block in source.blocks:
                 if (block.trait, block.type) in (("Model", item.name), (item.name, "")):
@@ -215,6 +233,21 @@ def spec_files(crate):
         for file in sorted(files):
             if file.endswith(".antt"):
                 yield os.path.relpath(os.path.join(folder, file), TOP)
+
+
+def mark_of(file):
+    """What a file of specs says that it is, or nothing."""
+    found = MARK.match(text_of(file))
+    return found[1] if found else ""
+
+
+def unmarked():
+    """The files of specs that have no mark, but for those that only name modules and those that are made by the toolchain."""
+    for crate in below():
+        for file in spec_files(crate):
+            is_made = file.startswith(f"crates/{crate}/specs/declared/")
+            if not is_made and not mark_of(file) and definitions_in(crate, file).own:
+                yield file
 
 
 def definitions_named(repository, name):
@@ -291,9 +324,10 @@ def by_file(found, order):
 
 
 def listed(found, order):
-    """Lines that list definitions by file, crate by crate from the lowest."""
+    """Lines that list definitions by file, crate by crate from the lowest, each file with its mark."""
     for file, those in by_file(found, order):
-        yield f"{file}: {counted(lines_in(those), 'line')}"
+        mark = mark_of(file) if file.endswith(".antt") else ""
+        yield f"{file}: {counted(lines_in(those), 'line')}" + (f", {mark}" if mark else "")
         for it in those:
             place = f"{it.first}-{it.last}" if it.last > it.first else str(it.first)
             yield f"  {place:>9}  {it.name}" + (f", {it.kind}" if it.kind != "definition" else "")
@@ -336,3 +370,31 @@ def report(name):
     files = len({it.file for it in specs})
     yield f"In all: {counted(len(specs), 'definition')} in {counted(files, 'file')}, {lines_in(specs)} of the {whole} lines of specs;"
     yield f"{len(code)} of the code's types, traits and constants, {counted(lines_in(code), 'line')}; {counted(len(kit), 'name')} of the kit."
+    yield from by_marks(specs, order)
+
+
+def by_marks(specs, order):
+    """How many of these lines stand in files of each mark, and the files of machines."""
+    of = {"statement": [], "machine": [], "": []}
+    for it in specs:
+        of[mark_of(it.file)].append(it)
+    states, keeps = lines_in(of["statement"]), lines_in(of["machine"])
+    yield f"Of these lines of specs {states} stand in files that state, and {keeps} in files of machines" + (":" if keeps else ".")
+    for file, those in by_file(of["machine"], order):
+        yield f"  {file}: {counted(lines_in(those), 'line')}, {' '.join(it.name for it in those)}"
+    if of[""]:
+        yield f"{counted(lines_in(of['']), 'line')} stand in files without a mark."
+
+
+def main(words):
+    if words != ["--check"]:
+        print("definitions.py: it takes --check", file=sys.stderr)
+        return 2
+    found = list(unmarked())
+    for file in found:
+        print(f"{file}:1: it begins neither with `-- statement: ..` nor with `-- machine: ..`", file=sys.stderr)
+    return 1 if found else 0
+
+
+if __name__ == "__main__":
+    sys.exit(main(sys.argv[1:]))

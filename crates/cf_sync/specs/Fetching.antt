@@ -1,4 +1,5 @@
--- statement: what a log says of blocks: which were fetched, what is claimed of them, which filters were given and tested, which chain is the best, and the history over its fetched blocks.
+-- statement: what a log says of blocks: which were fetched, what is claimed of them, which filters were given and tested, which chain is
+-- the best, and the history over its fetched blocks.
 use Rattle.std.specs.Prelude.{◌≡◌, ◌≢◌, ◌⊎◌, ℕ, ◌≤◌, ◌<◌, ◌==◌, Bool, true, false, List, [], ◌∷◌, ◌++◌, map, length, reverse, Option, Some, None}
 use Rattle.cf_bytes.specs.declared.hash.Hash32.{Hash32}
 use Rattle.cf_block.specs.declared.header.Header.{Header}
