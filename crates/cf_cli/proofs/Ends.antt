@@ -8,7 +8,7 @@ use Rattle.cf_input.specs.declared.words.Command.{Command}
 use Rattle.cf_input.specs.declared.words.Command.TheVariants.{Replay, Sync, Follow, Scan, Filter, Address, Prove, Check, Serve, Make, Demo}
 use Rattle.cf_answers.specs.declared.status.Status.{Status}
 use Rattle.cf_answers.specs.declared.status.Status.TheVariants.{Done, NoMemory, Usage, BadFile, FileFault, OutFault, NoPeers, Tired, Ended, LinkFault, NoNonce, NoHeight, NotThere, NotAddress}
-use Rattle.cf_place.specs.Places.{EndsTell}
+use Rattle.cf_place.specs.Standing.{EndsTell}
 use Rattle.cf_loading.specs.Verdicts.{IsOfFile}
 use Rattle.cf_cli.proofs.Plays.{no_run}
 use Rattle.cf_cli.proofs.Stays.{not_over}

@@ -9,7 +9,7 @@ use Rattle.cf_bytes.specs.Outside.{HasRisen}
 use Rattle.cf_run.specs.declared.outcome.End.{End}
 use Rattle.cf_run.specs.declared.outcome.End.TheVariants.{Synced as IsSynced, NoPeers as HasNoPeers, Tired as IsTired, Ended as HasEnded}
 use Rattle.cf_place.specs.declared.place.PeerEnd.{PeerEnd}
-use Rattle.cf_place.specs.Places.{Words}
+use Rattle.cf_place.specs.Standing.{Words}
 use Rattle.cf_run.specs.Versions.{IsOfWords, HasWords}
 use Rattle.cf_run.specs.Run.{NobodyLeft, HasDialled, HasFailed, names_of}
 use Rattle.cf_wires.specs.declared.event.Dial.{Dial}

@@ -11,7 +11,7 @@ use Rattle.cf_run.specs.declared.outcome.End.{End}
 use Rattle.cf_run.specs.declared.outcome.End.TheVariants.{Synced as IsSynced, NoPeers as HasNoPeers, Tired as IsTired, Ended as HasEnded}
 use Rattle.cf_run.specs.declared.trace.TraceLine.{TraceLine}
 use Rattle.cf_place.specs.declared.place.PeerEnd.{PeerEnd}
-use Rattle.cf_place.specs.Places.{EndsTell}
+use Rattle.cf_place.specs.Standing.{EndsTell}
 use Rattle.cf_run.specs.Run.{Followed, IsEnd}
 use Rattle.cf_peer.specs.Asking.{is_open}
 use Rattle.cf_wires.specs.Log.{Log}

@@ -18,7 +18,7 @@ use Rattle.cf_run.specs.Texts.{HasBegun, HasPut, HasPutBut, HasPutSo, HasPutSome
 use Rattle.cf_run.specs.declared.texts.TextFail.{TextFail}
 use Rattle.cf_run.specs.declared.texts.TextFail.TheVariants.{Failed as HasFailed, NoMemory as LacksMemory}
 use Rattle.cf_place.specs.declared.place.PeerEnd.{PeerEnd}
-use Rattle.cf_place.specs.Places.{EndsTell}
+use Rattle.cf_place.specs.Standing.{EndsTell}
 use Rattle.cf_peer.specs.declared.mode.Mode.TheVariants.{Following}
 use Rattle.cf_peer.specs.Trail.{trail}
 use Rattle.cf_sync.specs.Fetching.{AreBytes, IsConnected, IsQuiet, RightlyIn, following}

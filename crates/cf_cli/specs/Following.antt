@@ -10,7 +10,7 @@ use Rattle.cf_headers.specs.Chain.{NoHashClash}
 use Rattle.cf_run.specs.declared.outcome.End.{End}
 use Rattle.cf_place.specs.declared.place.PeerEnd.{PeerEnd}
 use Rattle.cf_run.specs.declared.trace.TraceLine.{TraceLine}
-use Rattle.cf_place.specs.Places.{EndsTell}
+use Rattle.cf_place.specs.Standing.{EndsTell}
 use Rattle.cf_run.specs.Run.{Followed, IsTraceOf}
 use Rattle.cf_run.specs.Texts.{HasBegun, HasPutSome, IsOver, joined}
 use Rattle.cf_sync.specs.Fetching.{AreBytes, IsQuiet, RightlyIn, following}

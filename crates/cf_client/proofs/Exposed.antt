@@ -38,7 +38,8 @@ use Rattle.cf_sync.specs.Kept.{OpensAt, claims_kept}
 use Rattle.cf_sync.proofs.KeptAims.{trials_same}
 use Rattle.cf_place.specs.declared.place.Place.{Place}
 use Rattle.cf_place.specs.declared.place.Place.TheVariants.{Here, Lost}
-use Rattle.cf_place.specs.Places.{Allowed, Fits, IsReplied, IsRepliedFirst, Keeps, PlacesStand, after, entry_of, is_calm, is_here, nobody, place_at}
+use Rattle.cf_place.specs.Places.{Allowed, Fits, Keeps, PlacesStand, after, entry_of, is_calm, is_here, nobody, place_at}
+use Rattle.cf_place.specs.Standing.{IsReplied, IsRepliedFirst}
 use Rattle.cf_client.specs.Shutting.{Shuts, shut_act, shut_place}
 use Rattle.cf_client.specs.Order.{AreTold}
 use Rattle.cf_client.specs.Settled.{AreEntered, AreRight, IsRightAt}

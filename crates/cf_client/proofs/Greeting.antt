@@ -23,7 +23,8 @@ use Rattle.cf_sync.specs.Fetching.{Rule}
 use Rattle.cf_client.specs.declared.client.Client.{Client}
 use Rattle.cf_place.specs.declared.place.Place.{Place}
 use Rattle.cf_place.specs.declared.place.Place.TheVariants.{Here, Lost as LostPlace}
-use Rattle.cf_place.specs.Places.{Fits, CutFor, Words, TellsWords, ActTells, Allowed, place_at}
+use Rattle.cf_place.specs.Places.{Fits, CutFor, ActTells, Allowed, place_at}
+use Rattle.cf_place.specs.Standing.{Words, TellsWords}
 use Rattle.cf_client.specs.Stands.{Reflects}
 use Rattle.cf_client.proofs.Taking.{heard_says}
 

@@ -15,7 +15,8 @@ use Rattle.cf_peer.specs.Peer.{Holds, aged, age_in, calm}
 use Rattle.cf_client.specs.declared.client.Client.{Client}
 use Rattle.cf_place.specs.declared.place.Place.{Place}
 use Rattle.cf_place.specs.declared.place.Place.TheVariants.{Here, Lost as LostPlace}
-use Rattle.cf_place.specs.Places.{IsAnswered, Fits, place_at, is_settled, is_calm, is_wanting}
+use Rattle.cf_place.specs.Places.{Fits, place_at, is_settled, is_calm, is_wanting}
+use Rattle.cf_place.specs.Standing.{IsAnswered}
 use Rattle.cf_client.specs.Stands.{Reflects, IsInnocent, AreAnswered}
 use Rattle.cf_client.proofs.Losing.{none_failed}
 

@@ -9,7 +9,7 @@ use Rattle.cf_peer.specs.Asking.{Deserves}
 use Rattle.cf_sync.specs.Honesty.{was_called}
 use Rattle.cf_place.specs.declared.place.Loss.{Loss}
 use Rattle.cf_place.specs.declared.place.Loss.TheVariants.{NotDialled, Gone, Closed as ClosedFor}
-use Rattle.cf_place.specs.Places.{FirstLost, IsGoing, IsShutFor, LostBy, IsLost}
+use Rattle.cf_place.specs.Standing.{FirstLost, IsGoing, IsShutFor, LostBy, IsLost}
 
 -- no send to a connected peer has failed
 pub none_failed : (t : Trail) → connected t ≡ true → failed t ≡ false

@@ -39,7 +39,8 @@ use Rattle.cf_place.specs.declared.place.PeerEnd.{PeerEnd}
 use Rattle.cf_place.specs.declared.place.PeerEnd.TheVariants.{Ready, Waiting, NotDialled as EndsNotDialled, Closed as EndsClosed}
 use Rattle.cf_place.specs.declared.place.Place.{Place}
 use Rattle.cf_place.specs.declared.place.Place.TheVariants.{Here, Lost}
-use Rattle.cf_place.specs.Places.{IsLost, Fits, nobody, PlacesStand, EndTells, EndsTell, end_by, end_of, is_idle, is_settled}
+use Rattle.cf_place.specs.Places.{Fits, nobody, PlacesStand, end_by, end_of, is_idle, is_settled}
+use Rattle.cf_place.specs.Standing.{IsLost, EndTells, EndsTell}
 use Rattle.cf_client.specs.Stands.{IsBestTip, IsReportOf}
 use Rattle.cf_client.specs.Settled.{AreSettled, IsAskedThrough, IsThrough, IsTriedThrough, chain_at}
 use Rattle.cf_client.proofs.Best.{on_kept, here_of, best_is}

@@ -21,7 +21,8 @@ use Rattle.cf_sync.proofs.Grows.{fetched_stays}
 use Rattle.cf_sync.proofs.KeptAims.{trials_stay}
 use Rattle.cf_place.specs.declared.place.Place.{Place}
 use Rattle.cf_place.specs.declared.place.Loss.TheVariants.{Closed as ClosedFor}
-use Rattle.cf_place.specs.Places.{Allowed, IsLost, IsReplied, IsRepliedFirst, IsRepliedIn, after, is_here, place_at}
+use Rattle.cf_place.specs.Places.{Allowed, after, is_here, place_at}
+use Rattle.cf_place.specs.Standing.{IsLost, IsReplied, IsRepliedFirst, IsRepliedIn}
 use Rattle.cf_client.specs.Shutting.{IsClaimant, ShutsBelow, ShutsOne, shut_act, shut_place}
 use Rattle.cf_client.specs.Steps.{Desk}
 use Rattle.cf_client.proofs.Losing.{none_failed}

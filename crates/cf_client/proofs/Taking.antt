@@ -46,7 +46,8 @@ use Rattle.cf_place.specs.declared.place.Place.{Place}
 use Rattle.cf_place.specs.declared.place.Place.TheVariants.{Here, Lost}
 use Rattle.cf_place.specs.declared.place.Loss.{Loss}
 use Rattle.cf_place.specs.declared.place.Loss.TheVariants.{Gone as HasGone, Closed as ClosedFor}
-use Rattle.cf_place.specs.Places.{IsGreetedBy, IsAnswered, IsLost, IsNamed, Keeps, Fits, nobody, PlacesStand, after, Allowed, Goes, CutFor, AreCalm, is_calm, is_here}
+use Rattle.cf_place.specs.Places.{Keeps, Fits, nobody, PlacesStand, after, Allowed, Goes, CutFor, AreCalm, is_calm, is_here}
+use Rattle.cf_place.specs.Standing.{IsGreetedBy, IsAnswered, IsLost, IsNamed}
 use Rattle.cf_client.specs.Order.{AreTold}
 use Rattle.cf_client.specs.Steps.{Desk, Stands, IsInOrder, Taking, CutOff, Same, Moves}
 use Rattle.cf_client.proofs.Standing.{greeted_more, after-append, allowed-append, set_is, stand_at, stand_same, here_on, goes_start, sent_others, sent_here, closed_others, closed_here, number_within, named_set, omitted_acts, omitted_set, right_before, unomitted_close}

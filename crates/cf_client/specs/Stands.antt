@@ -21,7 +21,8 @@ use Rattle.cf_sync.specs.Blame.{AreBlamed}
 use Rattle.cf_sync.specs.Fetching.{AreBytes, IsBest, IsConnected, IsAskedOutIn, IsOmitting, IsQuiet, RightlyIn, Rule}
 use Rattle.cf_sync.specs.Sync.{IsHashed, IsToldOf}
 use Rattle.cf_client.specs.declared.client.Client.{Client}
-use Rattle.cf_place.specs.Places.{Words, IsAnswered, PlacesStand, after, Allowed}
+use Rattle.cf_place.specs.Places.{PlacesStand, after, Allowed}
+use Rattle.cf_place.specs.Standing.{Words, IsAnswered}
 use Rattle.cf_tracker.specs.Tracker.{watch_of}
 use Rattle.cf_hear.specs.Judging.{Judging, judging_of}
 use Rattle.cf_hear.specs.Exposing.{IsUnexposed}

@@ -2,7 +2,8 @@
 ghost use Rattle.std.specs.Prelude.{◌≡◌, ℕ, ◌<◌, ◌≤◌, ◌+◌, ◌∷◌, [], OnOk, IfOk, OnErr, IsErr, None, true, false, length, vec_len, map, drop};
 ghost use Rattle.std.specs.List.{list_any, All, count_by};
 ghost use Rattle.cf_peer.specs.Acts.{IsDoable};
-ghost use Rattle.cf_place.specs.Places.{state_of, is_busy, is_here, IsGreeting, TellsWords, end_of};
+ghost use Rattle.cf_place.specs.Places.{state_of, is_busy, is_here, IsGreeting, end_of};
+ghost use Rattle.cf_place.specs.Standing.{TellsWords};
 ghost use Rattle.cf_client.specs.Settled.{AreSettled, AreRight};
 ghost use Rattle.cf_hear.specs.Seen.{seen_of};
 ghost use Rattle.cf_hear.specs.Judging.{AreJudgedBy, IsUnjudged};
@@ -134,7 +135,8 @@ impl<H: HeaderStore, M: Matcher> Client<H, M> {
     ghost use Rattle.cf_wires.specs.declared.event.Event.TheVariants.{Took, Dialled, NotDialled};
     ghost use Rattle.cf_peer.specs.declared.act.Act.TheVariants.{Close};
     ghost use Rattle.cf_peer.specs.declared.peer.Cause.TheVariants.{SendFailed};
-    ghost use Rattle.cf_place.specs.Places.{after as done, ActTells, CutFor, Greets, IsState, EndsTell};
+    ghost use Rattle.cf_place.specs.Places.{after as done, ActTells, CutFor, Greets};
+    ghost use Rattle.cf_place.specs.Standing.{IsState, EndsTell};
     ghost use Rattle.cf_client.specs.Order.{AreInOrder};
     ghost use Rattle.cf_client.specs.Steps.{Extends};
     ghost use Rattle.cf_client.specs.Holding.{Counts, HoldsNoMore};

@@ -14,7 +14,7 @@ use Rattle.cf_run.specs.declared.outcome.End.{End}
 use Rattle.cf_run.specs.declared.outcome.End.TheVariants.{Synced, NoPeers, Tired, Ended}
 use Rattle.cf_run.specs.declared.outcome.Outcome.{Outcome}
 use Rattle.cf_place.specs.declared.place.PeerEnd.{PeerEnd}
-use Rattle.cf_place.specs.Places.{EndsTell}
+use Rattle.cf_place.specs.Standing.{EndsTell}
 use Rattle.cf_run.specs.Names.{names_in}
 use Rattle.cf_run.specs.Run.{Followed, IsEnd}
 use Rattle.cf_headers.specs.Chain.{NoHashClash}

@@ -8,7 +8,7 @@ use Rattle.cf_wires.specs.declared.event.Event.TheVariants.{Dialled, NotDialled,
 use Rattle.cf_wires.specs.Log.{Log}
 use Rattle.cf_peer.specs.Trail.{Trail, Called, Said, Refused, Asked, Passed, Lost, trail, connected, greeted, is_version, IsClientVersion}
 use Rattle.cf_sync.specs.Honesty.{asked}
-use Rattle.cf_place.specs.Places.{IsGreetedBy}
+use Rattle.cf_place.specs.Standing.{IsGreetedBy}
 use Rattle.cf_run.specs.Run.{WasOrderly}
 
 -- whenever a delivery was taken each connected peer had been sent a version

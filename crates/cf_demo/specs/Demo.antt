@@ -9,7 +9,7 @@ use Rattle.cf_bytes.specs.declared.hash.Hash32.{Hash32}
 use Rattle.cf_chain.specs.Good.{IsGoodChain, headers_of}
 use Rattle.cf_run.specs.declared.outcome.End.{End}
 use Rattle.cf_run.specs.declared.outcome.End.TheVariants.{Synced, NoPeers, Tired, Ended}
-use Rattle.cf_place.specs.Places.{EndsTell}
+use Rattle.cf_place.specs.Standing.{EndsTell}
 use Rattle.cf_run.specs.declared.outcome.Outcome.{Outcome}
 use Rattle.cf_run.specs.Run.{Followed, IsEnd, names_of}
 use Rattle.cf_run.specs.declared.trace.TraceLine.{TraceLine}

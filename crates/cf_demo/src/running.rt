@@ -1,7 +1,7 @@
 //! A run of the client over peers in memory.
 ghost use Rattle.std.specs.Prelude.{◌≡◌, ◌≤◌, ◌<◌, ℕ, suc, None, Some, true, false, [], map, length, slice_get, IfOk, OnOk};
 ghost use Rattle.cf_run.specs.Names.{names_in};
-ghost use Rattle.cf_place.specs.Places.{EndsTell};
+ghost use Rattle.cf_place.specs.Standing.{EndsTell};
 ghost use Rattle.cf_run.specs.Run.{Followed};
 ghost use Rattle.cf_run.specs.Versions.{IsOfWords};
 ghost use Rattle.cf_demo.specs.Playing.{Accounts};

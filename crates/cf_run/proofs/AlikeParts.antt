@@ -16,7 +16,8 @@ use Rattle.cf_sync.proofs.KeptOpens.{opens_closed}
 use Rattle.cf_seek.specs.Opens.{Opens}
 use Rattle.cf_place.specs.declared.place.Place.{Place}
 use Rattle.cf_place.specs.declared.place.Place.TheVariants.{Here, Lost as LostPlace}
-use Rattle.cf_place.specs.Places.{IsReplied, IsRepliedFirst, IsRepliedIn, Fits}
+use Rattle.cf_place.specs.Places.{Fits}
+use Rattle.cf_place.specs.Standing.{IsReplied, IsRepliedFirst, IsRepliedIn}
 use Rattle.cf_client.proofs.Losing.{lost_failed}
 
 pub deserved : (t u : Part) (cause : Cause) → Alike t u → Deserves t.trail cause → Deserves u.trail cause

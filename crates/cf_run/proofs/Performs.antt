@@ -44,7 +44,8 @@ use Rattle.cf_run.specs.declared.progress.SendState.{SendState}
 use Rattle.cf_run.specs.declared.progress.SendState.TheVariants.{Fine, Pending, Known}
 use Rattle.cf_run.specs.declared.trace.TraceLine.{TraceLine}
 use Rattle.cf_run.specs.declared.trace.TraceLine.TheVariants.{Sent as SentLine, Closed as ClosedLine}
-use Rattle.cf_place.specs.Places.{entry_of, IsNamed, IsRepliedIn, MayAct, CutFor}
+use Rattle.cf_place.specs.Places.{entry_of, MayAct, CutFor}
+use Rattle.cf_place.specs.Standing.{IsNamed, IsRepliedIn}
 use Rattle.cf_client.specs.Stands.{Reflects, count_of, rule_by}
 use Rattle.cf_run.specs.Run.{Doing, ActsLeft, HoldsOver, IsTicked, closes, state_at, is_pending, is_fine, IsTraceOf}
 use Rattle.cf_sync.proofs.SameFetched.{same_wanted, same_holds}

@@ -13,7 +13,7 @@ use Rattle.cf_peer.specs.declared.mode.Mode.TheVariants.{Following}
 use Rattle.cf_peer.specs.Trail.{trail, connected}
 use Rattle.cf_peer.specs.Asking.{is_open}
 use Rattle.cf_place.specs.declared.state.State.TheVariants.{Working, Synced, NoPeers}
-use Rattle.cf_place.specs.Places.{IsState}
+use Rattle.cf_place.specs.Standing.{IsState}
 use Rattle.cf_scan.specs.declared.history.Entry.{Entry}
 use Rattle.cf_scan.specs.HistoryText.{history_text}
 use Rattle.cf_wires.specs.Log.{Log, Told, Tells}

@@ -49,7 +49,7 @@ use Rattle.cf_client.proofs.Innocent.{innocent, answered}
 use Rattle.cf_client.proofs.Blaming.{blameless, has_blamed}
 use Rattle.cf_place.specs.declared.state.State.{State}
 use Rattle.cf_place.specs.declared.state.State.TheVariants.{Working, Synced as IsSynced, NoPeers as HasNoPeers}
-use Rattle.cf_place.specs.Places.{IsState}
+use Rattle.cf_place.specs.Standing.{IsState}
 use Rattle.cf_run.proofs.Ticked.{ticked_ended, ticked_first, ticked_missed}
 use Rattle.cf_run.proofs.Performs.{tells_more, lost_off, sent_connected, untold_failing_here, untold_failing_others, untold_closed_others}
 

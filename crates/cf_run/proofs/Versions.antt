@@ -11,7 +11,8 @@ use Rattle.cf_wires.specs.declared.event.Event.{Event}
 use Rattle.cf_wires.specs.declared.event.Event.TheVariants.{Sent}
 use Rattle.cf_peer.specs.Acts.{bytes_of, IsSendable}
 use Rattle.cf_wires.specs.Log.{Log, Told, Tells, tell, longer}
-use Rattle.cf_place.specs.Places.{Words, TellsWords, ActTells, Greets}
+use Rattle.cf_place.specs.Places.{ActTells, Greets}
+use Rattle.cf_place.specs.Standing.{Words, TellsWords}
 use Rattle.cf_run.specs.Versions.{EntryTells, IsOfWords, HasWords, KeepsWords}
 use Rattle.cf_client.proofs.Spelled.{spelled_bytes}
 

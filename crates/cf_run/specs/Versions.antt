@@ -5,7 +5,7 @@ use Rattle.cf_wires.specs.declared.event.Event.{Event}
 use Rattle.cf_wires.specs.declared.event.Event.TheVariants.{Dialled, NotDialled, Sent, SendFailed, Closed, Took}
 use Rattle.cf_wires.specs.Log.{Log, Told}
 use Rattle.cf_peer.specs.Trail.{spelled}
-use Rattle.cf_place.specs.Places.{Words, TellsWords}
+use Rattle.cf_place.specs.Standing.{Words, TellsWords}
 
 -- what was sent tells these words, where it is a version
 abbrev pub EntryTells : Words → Event → Type 0

@@ -4,7 +4,7 @@ ghost use Rattle.cf_bytes.specs.Outside.{HasRisen};
 ghost use Rattle.cf_client.specs.Holding.{HoldsNoMore};
 ghost use Rattle.cf_client.specs.Stands.{Reflects, count_of, rule_by, watch_by, words_by};
 ghost use Rattle.cf_peer.specs.declared.mode.Mode.TheVariants.{Following};
-ghost use Rattle.cf_place.specs.Places.{EndsTell};
+ghost use Rattle.cf_place.specs.Standing.{EndsTell};
 ghost use Rattle.cf_run.specs.Names.{names_in};
 ghost use Rattle.cf_run.specs.Passing.{EndsWithin, Passes};
 ghost use Rattle.cf_run.specs.Run.{Course, Followed, HasDialled, HasFailed, HoldsOver, IsEnd, IsInStep, IsNoMore, NobodyLeft, Runs, Stopped, Turned, Turns, moment};

@@ -5,7 +5,7 @@ use Rattle.std.specs.Int.{w64}
 use Rattle.std.specs.Prelude.{IfSome}
 use Rattle.cf_client.specs.Holding.{HoldsNoMore}
 use Rattle.cf_run.specs.Names.{names_in}
-use Rattle.cf_place.specs.Places.{EndsTell}
+use Rattle.cf_place.specs.Standing.{EndsTell}
 use Rattle.cf_run.specs.Run.{Followed}
 use Rattle.cf_client.specs.Stands.{rule_by, words_by}
 use Rattle.cf_sync.specs.Fetching.{Rule}

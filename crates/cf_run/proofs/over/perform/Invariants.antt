@@ -1,7 +1,8 @@
 use Rattle.std.proofs.Common.{List, ℕ, drop}
 use Rattle.cf_wires.specs.Log.{Log}
 use Rattle.std.specs.List.{All}
-use Rattle.cf_place.specs.Places.{Allowed, after, Words, ActTells}
+use Rattle.cf_place.specs.Places.{Allowed, after, ActTells}
+use Rattle.cf_place.specs.Standing.{Words}
 use Rattle.cf_sync.specs.Fetching.{Rule}
 use Rattle.cf_run.specs.Versions.{KeepsWords}
 use Rattle.cf_run.specs.Run.{Doing, ActsLeft, moment, Performs}

@@ -1,7 +1,8 @@
 use Rattle.std.proofs.Common.{List, map, drop, sym, ◌∙◌, ap, subst}
 use Rattle.cf_place.specs.declared.place.PeerEnd.{PeerEnd}
 use Rattle.cf_place.specs.declared.place.Place.{Place}
-use Rattle.cf_place.specs.Places.{EndsTell, end_of}
+use Rattle.cf_place.specs.Places.{end_of}
+use Rattle.cf_place.specs.Standing.{EndsTell}
 use Rattle.cf_client.proofs.Reporting.{ends_tell}
 use Rattle.cf_client.proofs.client.Client.ends.Goals as goal
 

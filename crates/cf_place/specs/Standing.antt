@@ -1,0 +1,117 @@
+-- statement: how a peer stands by its part of the log: what it was sent, how it was lost, and what is told of it at the end of a run.
+use Rattle.std.specs.Prelude.{◌++◌, ◌≡◌, ◌⊎◌, ℕ, ℤ, ◌+◌, true, false, List, [], ◌∷◌, length, slice_index_or}
+use Rattle.std.specs.List.{list_any}
+use Rattle.cf_msg.specs.declared.msg.Msg.{Msg}
+use Rattle.cf_msg.specs.declared.msg.Msg.TheVariants.{Version}
+use Rattle.cf_peer.specs.declared.mode.Mode.TheVariants.{Following}
+use Rattle.cf_peer.specs.declared.peer.Cause.{Cause}
+use Rattle.cf_peer.specs.declared.peer.Cause.TheVariants.{SendFailed, Omits}
+use Rattle.cf_wires.specs.Log.{Log, tally_of}
+use Rattle.cf_peer.specs.Trail.{Why, Went, Failing, Shutting, Trail, Called, Said, Refused, Asked, Passed, Lost as LostItem, trail, connected, ready, failed, owed, replied, is_version, IsClientVersion}
+use Rattle.cf_peer.specs.Asking.{Deserves, claims, counted, given}
+use Rattle.cf_sync.specs.Blame.{HasOmitted}
+use Rattle.cf_sync.specs.Fetching.{IsBusy, IsQuiet, IsConnected, IsOmitting, RightlyIn}
+use Rattle.cf_sync.specs.Honesty.{asked, was_called}
+use Rattle.cf_place.specs.declared.place.Loss.{Loss}
+use Rattle.cf_place.specs.declared.place.Loss.TheVariants.{NotDialled, Gone, Closed as ClosedFor}
+use Rattle.cf_place.specs.declared.place.PeerEnd.{PeerEnd}
+use Rattle.cf_place.specs.declared.place.PeerEnd.TheVariants.{Ready, Waiting, NotDialled as EndsNotDialled, Gone as EndsGone, Closed as EndsClosed}
+use Rattle.cf_place.specs.declared.state.State.{State}
+use Rattle.cf_place.specs.declared.state.State.TheVariants.{Working, Synced, NoPeers}
+
+-- the first of the messages is the client's version, and no other is a version
+abbrev pub IsGreetedBy : List Msg → Type 0
+IsGreetedBy [] = ⊥
+IsGreetedBy (m ∷ more) = IsClientVersion m × (list_any is_version more ≡ false)
+
+-- A peer was sent the client's version before all else, and no other version; and what is owed to its messages: a verack, and a pong for
+-- each ping after its version, in order.
+pub record IsAnswered (t : Trail) : Type 0 where
+  pub greeted : IsGreetedBy (asked t)
+  pub replies : replied t ≡ owed t
+
+-- the first loss since a peer was dialled, by how it was lost and what had passed before
+abbrev pub FirstLost : (Why → Trail → Type 0) → Trail → Type 0
+FirstLost P [] = ⊥
+FirstLost P (Called ∷ t) = ⊥
+FirstLost P (Said m ∷ t) = FirstLost P t
+FirstLost P (Refused c ∷ t) = FirstLost P t
+FirstLost P (Asked m ∷ t) = FirstLost P t
+FirstLost P (Passed s ∷ t) = FirstLost P t
+FirstLost P (LostItem why ∷ t) = ((connected t ≡ true) × P why t) ⊎ ((connected t ≡ false) × FirstLost P t)
+
+-- it went; it was closed, and deserved this cause then (whether it omitted something its own part doesn't tell)
+abbrev pub IsGoing : Why → Trail → Type 0
+IsGoing Went t = Unit {0}
+IsGoing Failing t = ⊥
+IsGoing Shutting t = ⊥
+
+abbrev pub IsShutFor : Cause → Why → Trail → Type 0
+IsShutFor cause Went t = ⊥
+IsShutFor cause Failing t = ⊥
+IsShutFor cause Shutting t = (cause ≡ Omits) ⊎ Deserves t cause
+
+-- how a peer was lost: it was never called; a send to it failed; or none did, and before all else it went or was closed
+abbrev pub LostBy : Loss → Trail → Type 0
+LostBy NotDialled t = (was_called t ≡ false) × (failed t ≡ false)
+LostBy Gone t = (failed t ≡ false) × FirstLost IsGoing t
+LostBy (ClosedFor cause) t = ((cause ≡ SendFailed) × (failed t ≡ true)) ⊎ ((failed t ≡ false) × FirstLost (IsShutFor cause) t)
+
+-- a peer isn't connected, and was lost so
+pub record IsLost (loss : Loss) (t : Trail) : Type 0 where
+  pub off : connected t ≡ false
+  pub by : LostBy loss t
+
+-- unless a send to it has failed, each reply that is owed to what counts of its words was sent
+abbrev pub IsReplied : Trail → Type 0
+IsReplied t = failed t ≡ false → replied t ≡ owed (counted t)
+
+-- a peer's part up to a moment after which it gave no filter and claimed nothing
+pub record IsUpToLast (t so_far : Trail) : Type 0 where
+  pub later : Trail
+  pub joined : t ≡ later ++ so_far
+  pub gave : given (counted t) ≡ given (counted so_far)
+  pub claimed : claims (counted t) ≡ claims (counted so_far)
+
+-- unless a send to it has failed, each reply that is owed to what counts of its words up to such a moment was sent
+abbrev pub IsRepliedFirst : Trail → Type 0
+IsRepliedFirst t = failed t ≡ false → (so_far : Trail) × IsUpToLast t so_far × (replied t ≡ owed (counted so_far))
+
+-- who is closed was answered; who omits something, up to the words that exposed it
+abbrev pub IsRepliedIn : Log → ℕ → Type 0
+IsRepliedIn log p = IsReplied (trail log p) ⊎ (IsOmitting log p × IsRepliedFirst (trail log p))
+
+-- who omits something is closed for that
+abbrev pub IsNamed : Log → ℕ → Cause → Type 0
+IsNamed log p cause = RightlyIn Following log → IsOmitting log p → cause ≡ Omits
+
+-- what the client says of its state
+abbrev pub IsState : State → Log → Type 0
+IsState Working log = IsBusy log
+IsState Synced log = IsQuiet log × ((p : ℕ) × IsConnected log p)
+IsState NoPeers log = (p : ℕ) → connected (trail log p) ≡ false
+
+-- what a version tells of the client: its moment and its number
+pub record Words : Type 0 where
+  pub moment : ℤ
+  pub number : ℕ
+
+abbrev pub TellsWords : Words → Msg → Type 0
+TellsWords words (Version version services time to from nonce agent height relay) = (time ≡ words.moment) × (nonce ≡ words.number)
+TellsWords words m = Unit {0}
+
+-- what an end says of a peer's trail: connected with its handshake over, connected with its handshake open, or how it was lost
+abbrev pub EndTells : PeerEnd → Trail → Type 0
+EndTells Ready t = (connected t ≡ true) × (ready t ≡ true)
+EndTells Waiting t = (connected t ≡ true) × (ready t ≡ false)
+EndTells EndsNotDialled t = IsLost NotDialled t
+EndTells EndsGone t = IsLost Gone t
+EndTells (EndsClosed cause) t = IsLost (ClosedFor cause) t
+
+-- there is an end for each peer that was dialled, in the order of their numbers, and each tells how its peer stands; who was closed for an omission omitted
+-- something then, and who was closed while it omitted something ends so
+pub record EndsTell (ends : List PeerEnd) (log : Log) : Type 0 where
+  pub omitted : (i : ℕ) → slice_index_or ends i EndsNotDialled ≡ EndsClosed Omits → HasOmitted log (i + 1)
+  pub named : RightlyIn Following log → (i : ℕ) → HasOmitted log (i + 1) → slice_index_or ends i EndsNotDialled ≡ EndsClosed Omits
+  pub count : length ends ≡ (tally_of log).dials
+  pub each : (i : ℕ) → EndTells (slice_index_or ends i EndsNotDialled) (trail log (i + 1))
