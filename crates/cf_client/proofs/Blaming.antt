@@ -10,7 +10,8 @@ use Rattle.cf_sync.specs.Blame.{AreBlamed}
 use Rattle.cf_sync.specs.Sync.{IsHashed}
 use Rattle.cf_sync.proofs.Quieted.{are_blamed}
 use Rattle.cf_client.specs.declared.client.Client.{Client}
-use Rattle.cf_client.specs.Stands.{HasBlamed, IsBlameless, Reflects, seen_by}
+use Rattle.cf_client.specs.Stands.{Reflects, seen_by}
+use Rattle.cf_client.specs.Blameless.{HasBlamed, IsBlameless}
 use Rattle.cf_client.proofs.Best.{best_back}
 use Rattle.cf_client.proofs.Naming.{blameless_seen}
 use Rattle.cf_client.proofs.Reporting.{tested_of}

@@ -17,7 +17,8 @@ use Rattle.cf_place.specs.declared.place.Place.{Place}
 use Rattle.cf_place.specs.declared.place.Place.TheVariants.{Here, Lost as LostPlace}
 use Rattle.cf_place.specs.Places.{Fits, place_at, is_settled, is_calm, is_wanting}
 use Rattle.cf_place.specs.Standing.{IsAnswered}
-use Rattle.cf_client.specs.Stands.{Reflects, IsInnocent, AreAnswered}
+use Rattle.cf_client.specs.Stands.{Reflects}
+use Rattle.cf_client.specs.Blameless.{IsInnocent, AreAnswered}
 use Rattle.cf_client.proofs.Losing.{none_failed}
 
 -- what is open has the age that is kept with it

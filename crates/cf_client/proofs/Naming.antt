@@ -13,7 +13,7 @@ use Rattle.cf_sync.proofs.KeptTests.{holds_all}
 use Rattle.cf_hear.specs.Seen.{Seen}
 use Rattle.cf_hear.specs.Exposing.{IsUnexposed}
 use Rattle.cf_hear.specs.Tracks.{Tracks}
-use Rattle.cf_client.specs.Stands.{IsBlameless}
+use Rattle.cf_client.specs.Blameless.{IsBlameless}
 
 claim_of : (o : Option Claim) (hash : Hash32) → option_map (λ (c : Claim). c.hash) o ≡ Some hash → (claim : Claim)
     × (o ≡ Some claim) × (claim.hash ≡ hash)

@@ -1,7 +1,7 @@
 -- machine: what a client holds of a log.
-use Rattle.std.specs.Prelude.{◌≡◌, ◌⊎◌, ℕ, zero, suc, ◌+◌, Bool, true, not, ◌&&◌, false, if◌then◌else◌, List, [], length}
+use Rattle.std.specs.Prelude.{◌≡◌, ◌⊎◌, ℕ, zero, suc, ◌+◌, Bool, true, not, ◌&&◌, false, if◌then◌else◌, List, length}
 use Rattle.cf_bytes.specs.declared.hash.Hash32.{Hash32}
-use Rattle.cf_headers.specs.Chain.{Chain, NoHashClash, tip_hash}
+use Rattle.cf_headers.specs.Chain.{Chain, tip_hash}
 use Rattle.cf_headers.specs.declared.store.HeaderStore.{Ghosts}
 use Rattle.cf_match.specs.declared.matcher.Matcher.{Ghosts as Judges}
 use Rattle.std.specs.List.{All}
@@ -9,20 +9,18 @@ use Rattle.cf_peer.specs.declared.act.Act.{Act}
 use Rattle.cf_peer.specs.declared.act.Act.TheVariants.{Send, Close}
 use Rattle.cf_wires.specs.Log.{Log, tally_of}
 use Rattle.cf_peer.specs.Trail.{trail}
-use Rattle.cf_peer.specs.Asking.{is_open, is_ping, is_request, pings, Deserves}
+use Rattle.cf_peer.specs.Asking.{is_open, is_ping, is_request, pings}
 use Rattle.cf_peer.specs.declared.mode.Mode.{Mode}
 use Rattle.cf_peer.specs.declared.mode.Mode.TheVariants.{Once, Following}
 use Rattle.cf_wires.specs.declared.event.Delivery.{Delivery}
 use Rattle.cf_wires.specs.declared.event.Delivery.TheVariants.{Got, Gone, Tick, Ended}
-use Rattle.cf_peer.specs.declared.peer.Cause.{Cause}
 use Rattle.cf_scan.specs.declared.history.Entry.{Entry}
 use Rattle.cf_scan.specs.Watching.{IsWatch}
-use Rattle.cf_sync.specs.Blame.{AreBlamed}
-use Rattle.cf_sync.specs.Fetching.{AreBytes, IsBest, IsConnected, IsAskedOutIn, IsOmitting, IsQuiet, RightlyIn, Rule}
-use Rattle.cf_sync.specs.Sync.{IsHashed, IsToldOf}
+use Rattle.cf_sync.specs.Fetching.{IsBest, IsConnected, IsAskedOutIn, Rule}
+use Rattle.cf_sync.specs.Sync.{IsToldOf}
 use Rattle.cf_client.specs.declared.client.Client.{Client}
 use Rattle.cf_place.specs.Places.{PlacesStand, after, Allowed}
-use Rattle.cf_place.specs.Standing.{Words, IsAnswered}
+use Rattle.cf_place.specs.Standing.{Words}
 use Rattle.cf_tracker.specs.Tracker.{watch_of}
 use Rattle.cf_hear.specs.Judging.{Judging, judging_of}
 use Rattle.cf_hear.specs.Exposing.{IsUnexposed}
@@ -56,23 +54,6 @@ pub record Answers {H M : Type 0} {g : Ghosts H} {j : Judges M} (c : Client H M 
 -- it found no memory once, and answers so from then on
 abbrev pub is_dead : {H M : Type 0} → {g : Ghosts H} {j : Judges M} → Client H M g j → Bool
 is_dead c = c.dead
-
--- no connected peer deserves to be closed
-abbrev pub IsInnocent : Log → Type 0
-IsInnocent log = (p : ℕ) → IsConnected log p → (cause : Cause) → Deserves (trail log p) cause → ⊥
-
--- no connected peer claims a filter that was tested and omits an output's script
-abbrev pub IsBlameless : Log → Type 0
-IsBlameless log = (p : ℕ) → IsOmitting log p → ⊥
-
--- With nothing open, where no strings clash: what each claims of the best chain's fetched blocks on which they differ was tested, and nobody is left whose filter
--- omits something.
-abbrev pub HasBlamed : Log → Type 0
-HasBlamed log = AreBytes log → RightlyIn Following log → NoHashClash (IsHashed log []) → IsQuiet log → (chain : Chain) → IsBest log chain → AreBlamed log chain
-
--- each connected peer was sent the client's version, and what is owed to its messages
-abbrev pub AreAnswered : Log → Type 0
-AreAnswered log = (p : ℕ) → IsConnected log p → IsAnswered (trail log p)
 
 -- how many numbers below this pass a test
 abbrev pub count_below : (ℕ → Bool) → ℕ → ℕ

@@ -140,7 +140,8 @@ impl<H: HeaderStore, M: Matcher> Client<H, M> {
     ghost use Rattle.cf_client.specs.Order.{AreInOrder};
     ghost use Rattle.cf_client.specs.Steps.{Extends};
     ghost use Rattle.cf_client.specs.Holding.{Counts, HoldsNoMore};
-    ghost use Rattle.cf_client.specs.Stands.{Reflects, Answers, ArePinged, AreTicked, IsBestTip, IsReportOf, HasBlamed, IsHistoryTold, IsBlameless, IsInnocent, AreAnswered, is_dead, open_count, count_of, rule_by, seen_by, watch_by, words_by, matcher_by, judging_by};
+    ghost use Rattle.cf_client.specs.Stands.{Reflects, Answers, ArePinged, AreTicked, IsBestTip, IsReportOf, IsHistoryTold, is_dead, open_count, count_of, rule_by, seen_by, watch_by, words_by, matcher_by, judging_by};
+    ghost use Rattle.cf_client.specs.Blameless.{HasBlamed, IsBlameless, IsInnocent, AreAnswered};
 
     /// A client that knows of no peer yet, over a store in which no peer is entered. It watches these scripts, and matches filters with them
     /// by this matcher. Its `version` tells this moment, in seconds since 1970, and this number.

@@ -42,7 +42,8 @@ use Rattle.cf_run.specs.declared.trace.TraceLine.{TraceLine}
 use Rattle.cf_run.specs.declared.trace.TraceLine.TheVariants.{Sent as SentLine, Closed as ClosedLine}
 use Rattle.cf_place.specs.Places.{after, Allowed}
 use Rattle.cf_place.specs.Standing.{IsNamed, IsRepliedIn, IsState}
-use Rattle.cf_client.specs.Stands.{Reflects, IsBlameless, IsInnocent, AreAnswered, rule_by}
+use Rattle.cf_client.specs.Stands.{Reflects, rule_by}
+use Rattle.cf_client.specs.Blameless.{IsBlameless, IsInnocent, AreAnswered}
 use Rattle.cf_run.specs.Texts.{PutBefore, PutBy}
 
 -- how the sends to a peer have gone
