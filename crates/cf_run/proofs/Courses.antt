@@ -14,7 +14,8 @@ use Rattle.cf_wires.specs.declared.event.Event.TheVariants.{Dialled, NotDialled,
 use Rattle.cf_run.specs.declared.progress.Progress.{Progress}
 use Rattle.cf_wires.specs.Log.{Log, Told, Tells, tell, longer, dials}
 use Rattle.cf_wires.specs.Wires.{Made}
-use Rattle.cf_run.specs.Run.{Course, SameCounts, NoFailure, HasFailed, is_failure, trouble, HasNames, names_of, Moment, moment, Runs, Performs, IsOneMore, IsNoMore, Dials, Turns, IsInStep}
+use Rattle.cf_run.specs.Run.{Course, NoFailure, HasFailed, is_failure, HasNames, names_of}
+use Rattle.cf_run.specs.Moments.{SameCounts, trouble, Moment, moment, Runs, Performs, IsOneMore, IsNoMore, Dials, Turns, IsInStep}
 use Rattle.cf_run.specs.Texts.{PutBefore, PutBy}
 use Rattle.cf_sync.specs.Putting.{WerePut, ArePut}
 

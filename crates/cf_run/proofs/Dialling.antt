@@ -10,7 +10,8 @@ use Rattle.cf_sync.specs.Sync.{SyncTheorem}
 use Rattle.cf_sync.proofs.Settles.{sync_theorem_of}
 use Rattle.cf_run.specs.declared.outcome.Outcome.{Outcome}
 use Rattle.cf_run.specs.Names.{names_in}
-use Rattle.cf_run.specs.Run.{Followed, HasNames, HasDialled, IsOneMore, IsNoMore, Dials, Moment, names_of}
+use Rattle.cf_run.specs.Run.{Followed, HasNames, HasDialled, names_of}
+use Rattle.cf_run.specs.Moments.{IsOneMore, IsNoMore, Dials, Moment}
 use Rattle.cf_run.proofs.Turns.{names_more}
 
 -- over new wires none was dialled

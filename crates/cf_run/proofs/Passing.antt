@@ -7,7 +7,8 @@ use Rattle.cf_wires.specs.Log.{Told, Tally, Tells, tell}
 use Rattle.cf_wires.specs.Wires.{Made}
 use Rattle.cf_run.specs.Passing.{Passes}
 use Rattle.cf_place.specs.Standing.{Words}
-use Rattle.cf_run.specs.Run.{Moment, Runs, Performs, Dials, HasDialled, IsNoMore, IsInStep}
+use Rattle.cf_run.specs.Run.{HasDialled}
+use Rattle.cf_run.specs.Moments.{Moment, Runs, Performs, Dials, IsNoMore, IsInStep}
 use Rattle.cf_run.specs.Versions.{KeepsWords}
 use Rattle.cf_run.proofs.Courses.{told_runs, failed_runs, dialled_one, missed_one, dials_then, dials_alone, runs_then}
 use Rattle.cf_run.proofs.Dialling.{none_dialled, dialled_on}

@@ -47,7 +47,8 @@ use Rattle.cf_run.specs.declared.trace.TraceLine.TheVariants.{Sent as SentLine, 
 use Rattle.cf_place.specs.Places.{entry_of, MayAct, CutFor}
 use Rattle.cf_place.specs.Standing.{IsNamed, IsRepliedIn}
 use Rattle.cf_client.specs.Stands.{Reflects, count_of, rule_by}
-use Rattle.cf_run.specs.Run.{Doing, ActsLeft, HoldsOver, IsTicked, closes, state_at, is_pending, is_fine, IsTraceOf}
+use Rattle.cf_run.specs.Run.{IsTicked, IsTraceOf}
+use Rattle.cf_run.specs.Moments.{Doing, ActsLeft, HoldsOver, closes, state_at, is_pending, is_fine}
 use Rattle.cf_sync.proofs.SameFetched.{same_wanted, same_holds}
 use Rattle.cf_client.proofs.Spelled.{spelled_bytes}
 use Rattle.cf_sync.proofs.Blamed.{tested_stays}

@@ -27,7 +27,8 @@ use Rattle.cf_run.specs.declared.outcome.Outcome.{Outcome}
 use Rattle.cf_run.specs.declared.progress.Progress.{Progress}
 use Rattle.cf_run.specs.declared.texts.TextFail.{TextFail}
 use Rattle.cf_run.specs.declared.texts.TextFail.TheVariants.{NoMemory, Failed}
-use Rattle.cf_run.specs.Run.{Followed, HoldsOver}
+use Rattle.cf_run.specs.Run.{Followed}
+use Rattle.cf_run.specs.Moments.{HoldsOver}
 use Rattle.cf_run.specs.Texts.{AllPut, ButPut, HasBegun, HasPut, HasPutBut, HasPutSo, HavePut, IsLast, PutBefore, PutBy, PutsBegun, PutsNext, PutsOne, PutsSome, SoPut, SomePut, joined}
 use Rattle.cf_run.proofs.Turns.{told_so}
 

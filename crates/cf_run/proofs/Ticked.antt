@@ -24,7 +24,8 @@ use Rattle.cf_client.specs.Stands.{ArePinged}
 use Rattle.cf_client.proofs.Pinging.{after_tick}
 use Rattle.cf_client.proofs.Spelled.{spelled_bytes}
 use Rattle.cf_run.specs.declared.progress.Progress.{Progress}
-use Rattle.cf_run.specs.Run.{Doing, IsTicked}
+use Rattle.cf_run.specs.Run.{IsTicked}
+use Rattle.cf_run.specs.Moments.{Doing}
 use Rattle.cf_run.proofs.Performs.{connected_same, sent_here, sent_others}
 
 -- something is open by this trail, or all numbers of pings were used

@@ -39,7 +39,8 @@ use Rattle.cf_run.specs.declared.trace.TraceLine.{TraceLine}
 use Rattle.cf_run.specs.Names.{names_in}
 use Rattle.cf_hear.proofs.Tracking.{tracks_ended}
 use Rattle.cf_client.specs.Stands.{Reflects, IsReportOf, seen_by, rule_by, words_by}
-use Rattle.cf_run.specs.Run.{IsOrderly, WasOrderly, AreNumbered, IsUntaken, Notes, Doing, HoldsOver, IsTicked, WerePinged, Stopped, Finished, AreBytesOf, IsEnd, IsEndTold, IsTraceOf, names_of, is_lost, NobodyLeft, state_at, is_pending, is_fine}
+use Rattle.cf_run.specs.Run.{IsOrderly, WasOrderly, AreNumbered, IsUntaken, IsTicked, WerePinged, Finished, AreBytesOf, IsEnd, IsTraceOf, names_of, is_lost, NobodyLeft}
+use Rattle.cf_run.specs.Moments.{Notes, Doing, HoldsOver, Stopped, IsEndTold, state_at, is_pending, is_fine}
 use Rattle.cf_peer.specs.declared.act.Act.{Act}
 use Rattle.cf_sync.specs.Planned.{is_untold, ArePlanned}
 use Rattle.cf_sync.proofs.Planning.{own_plan}

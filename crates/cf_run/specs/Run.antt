@@ -1,15 +1,11 @@
 -- statement: a run of a client over wires.
-use Rattle.std.specs.Prelude.{◌≡◌, ◌⊎◌, ℕ, ◌+◌, ◌≤◌, ◌<◌, ◌==◌, ◌||◌, Bool, true, false, List, [], ◌∷◌, ◌++◌, length, map, take, reverse, slice_index_or, Option, Some, None, IfSome, IsSome}
-use Rattle.std.specs.List.{sum_by, list_any}
+use Rattle.std.specs.Prelude.{◌≡◌, ◌⊎◌, ℕ, ◌+◌, ◌≤◌, Bool, true, false, List, [], ◌∷◌, length, map, take, reverse, Option, Some, IfSome, IsSome}
+use Rattle.std.specs.List.{list_any}
 use Rattle.cf_bytes.specs.Outside.{HasRisen}
 use Rattle.cf_bytes.specs.declared.hash.Hash32.{Hash32}
 use Rattle.cf_bytes.specs.declared.peer.PeerNo.{PeerNo}
-use Rattle.cf_headers.specs.declared.store.HeaderStore.{Ghosts}
-use Rattle.cf_match.specs.declared.matcher.Matcher.{Ghosts as Judges}
 use Rattle.cf_msg.specs.declared.msg.Msg.{Msg}
 use Rattle.cf_msg.specs.Message.{command_of}
-use Rattle.cf_peer.specs.declared.act.Act.{Act}
-use Rattle.cf_peer.specs.declared.act.Act.TheVariants.{Send, Close}
 use Rattle.cf_peer.specs.declared.mode.Mode.TheVariants.{Once, Following}
 use Rattle.cf_wires.specs.declared.event.Delivery.{Delivery}
 use Rattle.cf_wires.specs.declared.event.Delivery.TheVariants.{Got, Gone, Tick, Ended}
@@ -21,56 +17,23 @@ use Rattle.cf_wires.specs.declared.event.Mark.{Mark}
 use Rattle.cf_wires.specs.declared.event.Mark.TheVariants.{NotYet, Called, Missed, Left, Shut, Broken}
 use Rattle.cf_wires.specs.Log.{Log, Told, Tally, Tells, tally_of, mark_of, dials}
 use Rattle.cf_wires.specs.Wires.{Made}
-use Rattle.cf_peer.specs.Trail.{trail, spelled, connected, failed}
+use Rattle.cf_peer.specs.Trail.{trail, spelled}
 use Rattle.cf_peer.specs.declared.mode.Mode.{Mode}
-use Rattle.cf_peer.specs.Asking.{given, is_open, pings}
+use Rattle.cf_peer.specs.Asking.{is_open, pings}
 use Rattle.cf_scan.specs.declared.history.Entry.{Entry}
 use Rattle.cf_headers.specs.Chain.{NoHashClash}
-use Rattle.cf_sync.specs.Blame.{AreBlamed, HasOmitted}
-use Rattle.cf_sync.specs.Fetching.{IsBusy, IsQuiet, IsConnected, IsSameFetched, Rule, RightlyIn, is_after_tick, AreBytes, counted_part, DeservesIn}
-use Rattle.cf_sync.specs.Planned.{is_untold, IsPlanned, ArePlanned}
+use Rattle.cf_sync.specs.Blame.{AreBlamed}
+use Rattle.cf_sync.specs.Fetching.{IsBusy, IsQuiet, IsConnected, Rule, is_after_tick, DeservesIn}
+use Rattle.cf_sync.specs.Planned.{is_untold, ArePlanned}
 use Rattle.cf_sync.specs.Sync.{HasAskedIn, IsHashed}
 use Rattle.cf_sync.specs.Sync as sync
-use Rattle.cf_client.specs.declared.client.Client.{Client}
 use Rattle.cf_run.specs.declared.outcome.End.{End}
 use Rattle.cf_run.specs.declared.outcome.End.TheVariants.{Synced, NoPeers, Tired, Ended as EndedFirst}
-use Rattle.cf_run.specs.declared.progress.Progress.{Progress}
-use Rattle.cf_run.specs.declared.progress.SendState.{SendState}
-use Rattle.cf_run.specs.declared.progress.SendState.TheVariants.{Fine, Pending, Known}
 use Rattle.cf_place.specs.declared.state.State.TheVariants.{Synced as IsSynced, NoPeers as HasNoPeers}
 use Rattle.cf_run.specs.declared.trace.TraceLine.{TraceLine}
 use Rattle.cf_run.specs.declared.trace.TraceLine.TheVariants.{Sent as SentLine, Closed as ClosedLine}
-use Rattle.cf_place.specs.Places.{after, Allowed}
 use Rattle.cf_place.specs.Standing.{IsNamed, IsRepliedIn, IsState}
-use Rattle.cf_client.specs.Stands.{Reflects, rule_by}
 use Rattle.cf_client.specs.Blameless.{IsBlameless, IsInnocent, AreAnswered}
-use Rattle.cf_run.specs.Texts.{PutBefore, PutBy}
-
--- how the sends to a peer have gone
-abbrev pub state_at : List SendState → ℕ → SendState
-state_at sends p = slice_index_or sends p Fine
-
--- a send to the peer has failed, and the client isn't told of it yet
-abbrev pub is_pending : SendState → Bool
-is_pending Fine = false
-is_pending Pending = true
-is_pending Known = false
-
--- no send to the peer has failed
-abbrev pub is_fine : SendState → Bool
-is_fine Fine = true
-is_fine Pending = false
-is_fine Known = false
-
--- how much may still come of it: a failure, and its telling
-abbrev pub weight : SendState → ℕ
-weight Fine = 2
-weight Pending = 1
-weight Known = 0
-
--- how much may still come of failed sends, over all peers
-abbrev pub trouble : Progress → ℕ
-trouble progress = sum_by weight progress.sends
 
 -- what was delivered are bytes
 abbrev pub AreBytesOf : Delivery → Type 0
@@ -168,82 +131,6 @@ WerePinged mode (SendFailed p ∷ log) = WerePinged mode log
 WerePinged mode (Closed p ∷ log) = WerePinged mode log
 WerePinged mode (Took d ∷ log) = IsTicked mode log × WerePinged mode log
 
--- what the run's own notes say of the log as it is
-pub record Notes (rule : Rule) (progress : Progress) (called : List (List ℕ)) (actual : Log) (t : Told) : Type 0 where
-  pub tells : Tells actual t
-  pub bytes : AreBytes actual
-  pub rightly : RightlyIn rule.mode actual
-  pub planned : ArePlanned rule actual
-  pub order : WasOrderly actual
-  pub pinged : WerePinged rule.mode actual
-  pub numbered : AreNumbered actual
-  pub first : AreDialledFirst actual
-  pub traced : IsTraceOf actual (reverse progress.trace.items)
-  pub named : names_of actual ≡ called
-  pub off : (q : ℕ) → is_fine (state_at progress.sends q) ≡ false → connected (trail actual q) ≡ false
-  pub shut : (q : ℕ) → slice_index_or progress.closed q false ≡ true → (connected (trail actual q) ≡ false) × (is_untold actual q ≡ false)
-  pub new : (q : ℕ) → (tally_of actual).dials < q → (is_fine (state_at progress.sends q) ≡ true) × (slice_index_or progress.closed q false ≡ false)
-  pub few : (tally_of actual).dials ≤ 8
-
--- the run's note of who was closed is the tally's
-abbrev pub IsInStep : Told → Progress → Type 0
-IsInStep t progress = t.tally.closed ≡ progress.closed
-
--- an act closes this peer
-abbrev pub closes : ℕ → Act → Bool
-closes q (Send p m) = false
-closes q (Close p cause) = p.0 == q
-
--- a failed send that isn't told is pending, or the peer's close is among the acts that are left
-abbrev pub is_due : Progress → List Act → ℕ → Bool
-is_due progress acts q = is_pending (state_at progress.sends q) || list_any (closes q) acts
-
--- of each peer the same filters came
-abbrev pub IsSameCome : Log → Log → Type 0
-IsSameCome a b = (p : ℕ) → given (counted_part a p) ≡ given (counted_part b p)
-
--- cut off by a send that failed
-abbrev pub IsBroken : Log → ℕ → Type 0
-IsBroken log q = (connected (trail log q) ≡ false) × (failed (trail log q) ≡ true)
-
--- with these acts left to be done, some log that the wires tell is the planned one, but for the peers whose failed sends aren't told
-pub record Doing (rule : Rule) (acts : List Act) (progress : Progress) (called : List (List ℕ)) (planned : Log) (t : Told) : Type 0 where
-  pub actual : Log
-  pub notes : Notes rule progress called actual t
-  pub plan : IsPlanned planned actual
-  pub brought : IsSameFetched planned actual
-  pub came : IsSameCome planned actual
-  pub omitted : (q : ℕ) → is_untold actual q ≡ false → HasOmitted planned q → HasOmitted actual q
-  pub unomitted : (q : ℕ) → is_untold actual q ≡ false → HasOmitted actual q → HasOmitted planned q
-  pub rightly : RightlyIn Following planned
-  pub pending : (q : ℕ) → is_pending (state_at progress.sends q) ≡ true → is_untold actual q ≡ true
-  pub due : (q : ℕ) → is_untold actual q ≡ true → is_due progress acts q ≡ true
-  pub broken : (q : ℕ) → is_untold actual q ≡ true → IsBroken actual q
-  pub known : (q : ℕ) → is_untold actual q ≡ true → is_pending (state_at progress.sends q) ≡ false → IsBroken planned q
-
--- the client reflects the log that the wires tell, and every failure is told
-pub record HoldsOver {H M : Type 0} {g : Ghosts H} {j : Judges M} (c : Client H M g j) (progress : Progress) (called : List (List ℕ)) (t : Told) : Type 0 where
-  pub actual : Log
-  pub notes : Notes (rule_by c) progress called actual t
-  pub reflects : Reflects c actual
-  pub ticked : IsTicked (rule_by c).mode actual
-  pub told_all : (q : ℕ) → is_untold actual q ≡ false
-  pub none : (q : ℕ) → is_pending (state_at progress.sends q) ≡ false
-
--- what is left of the acts leads from here to where all of them lead
-pub record ActsLeft (rule : Rule) (acts : List Act) (end : Log) (progress : Progress) (called : List (List ℕ)) (t : Told) : Type 0 where
-  pub planned : Log
-  pub allowed : Allowed rule acts planned
-  pub leads : after acts planned ≡ end
-  pub doing : Doing rule acts progress called planned t
-
--- the client reflects a planned log, that goes on from a first one, and waits to be told of pending failures
-pub record Waits {H M : Type 0} {g : Ghosts H} {j : Judges M} (c : Client H M g j) (progress : Progress) (called : List (List ℕ)) (first : Log) (t : Told) : Type 0 where
-  pub planned : Log
-  pub reflects : Reflects c planned
-  pub ticked : IsTicked (rule_by c).mode first → IsTicked (rule_by c).mode planned
-  pub doing : Doing (rule_by c) [] progress called planned t
-
 -- a dial or a send has failed
 abbrev pub is_failure : Event → Bool
 is_failure (Dialled p name) = false
@@ -268,65 +155,6 @@ pub record Course (t u : Told) (f g : ℕ) (s r : Option Made) : Type 0 where
   pub blamed : NoFailure t → NoFailure u ⊎ HasRisen f g
   pub logged : IsSome t.log → IsSome u.log
   pub script : r ≡ s
-
--- no count changes, nobody is dialled, and no delivery is taken
-pub record SameCounts (t u : Told) : Type 0 where
-  pub dials : u.tally.dials ≡ t.tally.dials
-  pub taken : u.tally.taken ≡ t.tally.taken
-  pub ended : u.tally.ended ≡ t.tally.ended
-  pub named : (called : List (List ℕ)) → HasNames called t → HasNames called u
-  pub puts : (watch texts : List (List ℕ)) → PutBefore watch texts t → PutBefore watch texts u
-
--- the run at a moment: what its wires told, how often what is outside has failed, their script, whether they keep their log, and the run's own notes
-pub record Moment : Type 0 where
-  pub told : Told
-  pub faults : ℕ
-  pub script : Option Made
-  pub keeps : Bool
-  pub progress : Progress
-
--- the moment at which wires and run are so
-abbrev pub moment : Told → ℕ → Option Made → Bool → Progress → Moment
-moment told faults script keeps progress = record { told = told; faults = faults; script = script; keeps = keeps; progress = progress }
-
--- from one moment to a later one, whatever was answered
-pub record Runs (a b : Moment) : Type 0 where
-  pub course : Course a.told b.told a.faults b.faults a.script b.script
-  pub keeps : b.keeps ≡ a.keeps
-  pub finished : b.told.finished ≡ a.told.finished
-  pub step : IsInStep b.told b.progress
-
--- acts were done: no count changed, and no more failures are to be told than before
-pub record Performs (a b : Moment) : Type 0 where
-  pub runs : Runs a b
-  pub counts : SameCounts a.told b.told
-  pub fewer : trouble b.progress ≤ trouble a.progress
-
--- one more was dialled, by this name; none was
-pub record IsOneMore (name : List ℕ) (t u : Told) : Type 0 where
-  pub dials : u.tally.dials ≡ t.tally.dials + 1
-  pub named : (called : List (List ℕ)) → HasNames called t → HasNames (called ++ name ∷ []) u
-  pub puts : (watch texts : List (List ℕ)) → PutBefore watch texts t → PutBefore watch texts u
-
-pub record IsNoMore (t u : Told) : Type 0 where
-  pub dials : u.tally.dials ≡ t.tally.dials
-  pub named : (called : List (List ℕ)) → HasNames called t → HasNames called u
-
--- a name was dialled, or no memory was found before it
-pub record Dials (name : List ℕ) (a b : Moment) : Type 0 where
-  pub runs : Runs a b
-  pub taken : b.told.tally.taken ≡ a.told.tally.taken
-  pub ended : b.told.tally.ended ≡ a.told.tally.ended
-  pub most : IsOneMore name a.told b.told ⊎ IsNoMore a.told b.told
-  pub puts : (watch texts : List (List ℕ)) → PutBefore watch texts a.told → PutBefore watch texts b.told
-
--- a turn was begun: at most one delivery was taken, or the end told, and nobody was dialled
-pub record Turns (a b : Moment) : Type 0 where
-  pub runs : Runs a b
-  pub same : IsNoMore a.told b.told
-  pub taken : b.told.tally.taken ≤ a.told.tally.taken + 1
-  pub ended : b.told.tally.ended ≤ a.told.tally.ended + 1
-  pub puts : (watch texts : List (List ℕ)) → PutBy watch texts a.told → PutBefore watch texts b.told ⊎ PutBy watch texts b.told
 
 -- so many of the names were dialled, the first of them in order
 pub record HasDialled (names : List (List ℕ)) (t : Told) : Type 0 where
@@ -364,16 +192,6 @@ pub record Finished (rule : Rule) (end : End) (height : ℕ) (hash : Hash32) (en
   pub followed : Followed rule end height hash entries lines called actual
   pub few : (tally_of actual).dials ≤ 8
 
--- a run stops for this reason
-pub record Stopped {H M : Type 0} {g : Ghosts H} {j : Judges M} (end : End) (c : Client H M g j) (progress : Progress) (called : List (List ℕ)) (t : Told) : Type 0 where
-  pub holds : HoldsOver c progress called t
-  pub why : IsEnd end holds.actual
-
--- a turn: the run goes on, or it ends
-abbrev pub Turned : {H M : Type 0} → {g : Ghosts H} {j : Judges M} → Option End → Client H M g j → Progress → List (List ℕ) → Told → Type 0
-Turned None c progress called t = HoldsOver c progress called t
-Turned (Some end) c progress called t = Stopped end c progress called t
-
 -- not dialled, gone or closed
 abbrev pub is_lost : Mark → Bool
 is_lost NotYet = false
@@ -386,11 +204,3 @@ is_lost Broken = false
 -- each peer that was dialled could not be dialled, has gone or was closed
 abbrev pub NobodyLeft : Tally → Type 0
 NobodyLeft tally = (p : ℕ) → 1 ≤ p → p ≤ tally.dials → is_lost (mark_of tally p) ≡ true
-
--- a turn tells the end once where the run ends for it, and else not at all
-abbrev pub IsEndTold : Option End → Tally → Tally → Type 0
-IsEndTold None before after = after.ended ≡ before.ended
-IsEndTold (Some Synced) before after = after.ended ≡ before.ended
-IsEndTold (Some NoPeers) before after = after.ended ≡ before.ended
-IsEndTold (Some Tired) before after = after.ended ≡ before.ended
-IsEndTold (Some EndedFirst) before after = after.ended ≡ before.ended + 1

@@ -1,6 +1,6 @@
 //! What a run notes beside the client: how the sends have gone, who was closed, and the trace.
 ghost use Rattle.std.specs.Prelude.{◌≡◌, ℕ, ◌<◌, ◌≤◌, IfSome, IfNone, true, false, [], length, replicate, slice_set, slice_index_or};
-ghost use Rattle.cf_run.specs.Run.{state_at, is_pending as pending_at, is_fine, trouble};
+ghost use Rattle.cf_run.specs.Moments.{state_at, is_pending as pending_at, is_fine, trouble};
 
 use crate::trace::TraceLine;
 use cf_bytes::PeerNo;

@@ -3,7 +3,7 @@ use Rattle.std.proofs.lemmas.Result.{err_from_is_err_and}
 use Rattle.cf_sync.specs.Fetching.{Rule}
 use Rattle.cf_client.specs.Stands.{words_by}
 use Rattle.cf_run.specs.declared.outcome.End.{End}
-use Rattle.cf_run.specs.Run.{Turned}
+use Rattle.cf_run.specs.Moments.{Turned}
 use Rattle.cf_run.proofs.Courses.{runs_self, runs_then, no_more_self, no_more_then}
 use Rattle.cf_run.proofs.Turns.{holds_same, rule_same, stops}
 use Rattle.cf_run.proofs.Versions.{keeps_then}

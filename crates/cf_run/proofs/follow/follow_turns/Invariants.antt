@@ -1,7 +1,7 @@
 use Rattle.std.proofs.Common.{◌≡◌, List, [], ℕ}
 use Rattle.cf_peer.specs.declared.mode.Mode.TheVariants.{Following}
 use Rattle.cf_client.specs.Stands.{rule_by, watch_by, words_by}
-use Rattle.cf_run.specs.Run.{HoldsOver, moment, Runs, IsNoMore}
+use Rattle.cf_run.specs.Moments.{HoldsOver, moment, Runs, IsNoMore}
 use Rattle.cf_run.specs.Texts.{HavePut, PutBefore}
 use Rattle.cf_run.specs.Versions.{KeepsWords}
 use Rattle.cf_run.proofs.follow.follow_turns.Given as goal

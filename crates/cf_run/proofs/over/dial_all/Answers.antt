@@ -1,6 +1,6 @@
 use Rattle.std.proofs.Common.{ℕ, ◌+◌, List, take, sym, ◌∙◌, ap, subst, arith}
 use Rattle.cf_run.specs.Names.{names_in}
-use Rattle.cf_run.specs.Run.{HoldsOver}
+use Rattle.cf_run.specs.Moments.{HoldsOver}
 use Rattle.cf_run.proofs.Courses.{runs_then}
 use Rattle.cf_run.proofs.Dialling.{names_more_as, one_dialled, most_dialled}
 use Rattle.cf_client.specs.Stands.{words_by}

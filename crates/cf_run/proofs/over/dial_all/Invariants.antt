@@ -3,7 +3,8 @@ use Rattle.cf_run.specs.Names.{names_in}
 use Rattle.cf_client.specs.Stands.{count_of, rule_by, words_by}
 use Rattle.cf_run.specs.Texts.{PutBefore}
 use Rattle.cf_run.specs.Versions.{KeepsWords}
-use Rattle.cf_run.specs.Run.{HoldsOver, HasNames, moment, Runs}
+use Rattle.cf_run.specs.Run.{HasNames}
+use Rattle.cf_run.specs.Moments.{HoldsOver, moment, Runs}
 use Rattle.cf_run.proofs.over.dial_all.Given as goal
 
 abbrev pub invariant-loop-name : goal.invariant-loop-name

@@ -5,7 +5,7 @@ use Rattle.cf_place.specs.Places.{Allowed, after, ActTells}
 use Rattle.cf_place.specs.Standing.{Words}
 use Rattle.cf_sync.specs.Fetching.{Rule}
 use Rattle.cf_run.specs.Versions.{KeepsWords}
-use Rattle.cf_run.specs.Run.{Doing, ActsLeft, moment, Performs}
+use Rattle.cf_run.specs.Moments.{Doing, ActsLeft, moment, Performs}
 use Rattle.cf_run.proofs.over.perform.Given as goal
 
 abbrev pub invariant-loop-act : goal.invariant-loop-act

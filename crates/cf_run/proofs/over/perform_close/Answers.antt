@@ -1,5 +1,5 @@
 use Rattle.std.proofs.Common.{◌≡◌, true, false, get_or, sym, ◌∙◌}
-use Rattle.cf_run.specs.Run.{is_pending, state_at}
+use Rattle.cf_run.specs.Moments.{is_pending, state_at}
 use Rattle.cf_run.proofs.Performs.{skipped_close, closed_again, closed_on}
 use Rattle.cf_wires.specs.declared.event.Event.TheVariants.{Closed}
 use Rattle.cf_run.proofs.Versions.{entry_keeps}

@@ -1,5 +1,5 @@
 use Rattle.std.proofs.Common.{◌≡◌, ◌<◌, length, Err, true, false, sym, ◌∙◌, ap, arith}
-use Rattle.cf_run.specs.Run.{is_pending, state_at}
+use Rattle.cf_run.specs.Moments.{is_pending, state_at}
 use Rattle.cf_run.proofs.Performs.{skipped_send, sent_on, failed_on, may_send}
 use Rattle.cf_wires.specs.declared.event.Event.TheVariants.{SendFailed}
 use Rattle.cf_run.proofs.Versions.{sent_keeps, entry_keeps, same_keeps}

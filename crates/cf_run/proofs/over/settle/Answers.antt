@@ -5,7 +5,8 @@ use Rattle.cf_peer.specs.declared.peer.Cause.TheVariants.{SendFailed as SendFaul
 use Rattle.cf_run.specs.declared.progress.Progress.{Progress}
 use Rattle.cf_run.specs.declared.progress.SendState.TheVariants.{Known}
 use Rattle.cf_place.specs.Places.{Allowed, after}
-use Rattle.cf_run.specs.Run.{Doing, IsTicked}
+use Rattle.cf_run.specs.Run.{IsTicked}
+use Rattle.cf_run.specs.Moments.{Doing}
 use Rattle.cf_sync.specs.Fetching.{Rule}
 use Rattle.cf_run.proofs.Courses.{noted_performs, performs_self, performs_then}
 use Rattle.cf_run.proofs.Ticked.{ticked_then, ticked_told}

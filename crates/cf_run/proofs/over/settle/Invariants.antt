@@ -2,7 +2,7 @@ use Rattle.std.proofs.Common.{◌≡◌, List, [], ℕ}
 use Rattle.cf_wires.specs.Log.{Log}
 use Rattle.cf_client.specs.Stands.{Reflects, count_of, rule_by, words_by}
 use Rattle.cf_run.specs.Versions.{KeepsWords}
-use Rattle.cf_run.specs.Run.{Doing, Waits, trouble, moment, Performs}
+use Rattle.cf_run.specs.Moments.{Doing, Waits, trouble, moment, Performs}
 use Rattle.cf_run.proofs.over.settle.Given as goal
 
 abbrev pub invariant-loop-p : goal.invariant-loop-p

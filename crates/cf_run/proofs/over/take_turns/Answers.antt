@@ -1,7 +1,7 @@
 use Rattle.std.proofs.Common.{◌≡◌, ℕ, ◌+◌, Option, ◌∙◌, ap, subst}
 use Rattle.std.specs.Prelude.{IfNone}
 use Rattle.cf_run.specs.declared.outcome.End.{End}
-use Rattle.cf_run.specs.Run.{Turned}
+use Rattle.cf_run.specs.Moments.{Turned}
 use Rattle.cf_run.proofs.Courses.{runs_then, no_more_then}
 use Rattle.cf_run.proofs.Turns.{stops, told_unended}
 use Rattle.cf_client.specs.Stands.{words_by}

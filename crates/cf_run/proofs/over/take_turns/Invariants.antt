@@ -1,5 +1,5 @@
 use Rattle.std.proofs.Common.{◌≡◌, List, ℕ}
-use Rattle.cf_run.specs.Run.{HoldsOver, moment, Runs, IsNoMore}
+use Rattle.cf_run.specs.Moments.{HoldsOver, moment, Runs, IsNoMore}
 use Rattle.cf_client.specs.Stands.{rule_by, words_by}
 use Rattle.cf_run.specs.Versions.{KeepsWords}
 use Rattle.cf_run.proofs.over.take_turns.Given as goal
