@@ -73,6 +73,11 @@ HasBlamed log = AreBytes log → RightlyIn Following log → NoHashClash (IsHash
 abbrev pub AreAnswered : Log → Type 0
 AreAnswered log = (p : ℕ) → IsConnected log p → IsAnswered (trail log p)
 
+-- each connected peer with nothing open was asked all that the rule asks of it, by the best chain
+abbrev pub AreAskedOut : Rule → Log → Type 0
+AreAskedOut rule log = (chain : Chain) → IsBest log chain → (p : ℕ) → IsConnected log p
+    → is_open (trail log p) ≡ false → IsAskedOutIn rule.mode rule.watch log chain p
+
 -- how many numbers below this pass a test
 abbrev pub count_below : (ℕ → Bool) → ℕ → ℕ
 count_below test zero = 0

@@ -41,7 +41,7 @@ use Rattle.cf_place.specs.declared.state.State.TheVariants.{Synced as IsSynced, 
 use Rattle.cf_run.specs.declared.trace.TraceLine.{TraceLine}
 use Rattle.cf_run.specs.declared.trace.TraceLine.TheVariants.{Sent as SentLine, Closed as ClosedLine}
 use Rattle.cf_place.specs.Places.{after, Allowed, IsNamed, IsRepliedIn, IsState}
-use Rattle.cf_client.specs.Stands.{Reflects, IsBlameless, IsInnocent, AreAnswered, rule_by}
+use Rattle.cf_client.specs.Stands.{Reflects, IsBlameless, IsInnocent, AreAnswered, AreAskedOut, rule_by}
 use Rattle.cf_run.specs.Texts.{PutBefore, PutBy}
 
 -- how the sends to a peer have gone
@@ -166,6 +166,16 @@ WerePinged mode (SendFailed p ∷ log) = WerePinged mode log
 WerePinged mode (Closed p ∷ log) = WerePinged mode log
 WerePinged mode (Took d ∷ log) = IsTicked mode log × WerePinged mode log
 
+-- whenever a delivery was taken, each connected peer with nothing open had been asked all that the rule asks of it
+abbrev pub WereAskedOut : Rule → Log → Type 0
+WereAskedOut rule [] = Unit {0}
+WereAskedOut rule (Dialled p name ∷ log) = WereAskedOut rule log
+WereAskedOut rule (NotDialled p name ∷ log) = WereAskedOut rule log
+WereAskedOut rule (Sent p bytes ∷ log) = WereAskedOut rule log
+WereAskedOut rule (SendFailed p ∷ log) = WereAskedOut rule log
+WereAskedOut rule (Closed p ∷ log) = WereAskedOut rule log
+WereAskedOut rule (Took d ∷ log) = AreAskedOut rule log × WereAskedOut rule log
+
 -- what the run's own notes say of the log as it is
 pub record Notes (rule : Rule) (progress : Progress) (called : List (List ℕ)) (actual : Log) (t : Told) : Type 0 where
   pub tells : Tells actual t
@@ -174,6 +184,7 @@ pub record Notes (rule : Rule) (progress : Progress) (called : List (List ℕ)) 
   pub planned : ArePlanned rule actual
   pub order : WasOrderly actual
   pub pinged : WerePinged rule.mode actual
+  pub in_time : WereAskedOut rule actual
   pub numbered : AreNumbered actual
   pub first : AreDialledFirst actual
   pub traced : IsTraceOf actual (reverse progress.trace.items)
@@ -354,6 +365,8 @@ pub record Followed (rule : Rule) (end : End) (height : ℕ) (hash : Hash32) (en
   pub named : names_of log ≡ called
   pub why : IsEnd end log
   pub pinged : WerePinged rule.mode log
+  pub ticked : IsTicked rule.mode log
+  pub in_time : WereAskedOut rule log
 
 -- the same of some log that the wires tell, or their tally alone
 pub record Finished (rule : Rule) (end : End) (height : ℕ) (hash : Hash32) (entries : List Entry) (lines : List TraceLine) (called : List (List ℕ)) (t : Told) : Type 0 where
