@@ -1,13 +1,13 @@
--- statement: of whom nothing is left to be blamed, and who was answered.
-use Rattle.std.specs.Prelude.{ℕ, []}
+-- statement: of whom nothing is left to be blamed, who was answered, and who was asked all that is asked.
+use Rattle.std.specs.Prelude.{◌≡◌, ℕ, [], false}
 use Rattle.cf_headers.specs.Chain.{Chain, NoHashClash}
 use Rattle.cf_wires.specs.Log.{Log}
 use Rattle.cf_peer.specs.Trail.{trail}
-use Rattle.cf_peer.specs.Asking.{Deserves}
+use Rattle.cf_peer.specs.Asking.{Deserves, is_open}
 use Rattle.cf_peer.specs.declared.mode.Mode.TheVariants.{Following}
 use Rattle.cf_peer.specs.declared.peer.Cause.{Cause}
 use Rattle.cf_sync.specs.Blame.{AreBlamed}
-use Rattle.cf_sync.specs.Fetching.{AreBytes, IsBest, IsConnected, IsOmitting, IsQuiet, RightlyIn}
+use Rattle.cf_sync.specs.Fetching.{AreBytes, IsAskedOutIn, IsBest, IsConnected, IsOmitting, IsQuiet, RightlyIn, Rule}
 use Rattle.cf_sync.specs.Sync.{IsHashed}
 use Rattle.cf_place.specs.Standing.{IsAnswered}
 
@@ -27,3 +27,8 @@ HasBlamed log = AreBytes log → RightlyIn Following log → NoHashClash (IsHash
 -- each connected peer was sent the client's version, and what is owed to its messages
 abbrev pub AreAnswered : Log → Type 0
 AreAnswered log = (p : ℕ) → IsConnected log p → IsAnswered (trail log p)
+
+-- each connected peer with nothing open was asked all that the rule asks of it, by the best chain
+abbrev pub AreAskedOut : Rule → Log → Type 0
+AreAskedOut rule log = (chain : Chain) → IsBest log chain → (p : ℕ) → IsConnected log p
+    → is_open (trail log p) ≡ false → IsAskedOutIn rule.mode rule.watch log chain p

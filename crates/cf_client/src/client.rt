@@ -141,7 +141,7 @@ impl<H: HeaderStore, M: Matcher> Client<H, M> {
     ghost use Rattle.cf_client.specs.Steps.{Extends};
     ghost use Rattle.cf_client.specs.Holding.{Counts, HoldsNoMore};
     ghost use Rattle.cf_client.specs.Stands.{Reflects, Answers, ArePinged, AreTicked, IsBestTip, IsReportOf, IsHistoryTold, is_dead, open_count, count_of, rule_by, seen_by, watch_by, words_by, matcher_by, judging_by};
-    ghost use Rattle.cf_client.specs.Blameless.{HasBlamed, IsBlameless, IsInnocent, AreAnswered};
+    ghost use Rattle.cf_client.specs.Blameless.{AreAskedOut, HasBlamed, IsBlameless, IsInnocent, AreAnswered};
 
     /// A client that knows of no peer yet, over a store in which no peer is entered. It watches these scripts, and matches filters with them
     /// by this matcher. Its `version` tells this moment, in seconds since 1970, and this number.
@@ -323,14 +323,16 @@ impl<H: HeaderStore, M: Matcher> Client<H, M> {
     }
 
     /// The state: `Working` where something is open, else `Synced` where a peer is connected, else `NoPeers`. Between two calls no
-    /// connected peer deserves to be closed, nor claims a filter that was tested and omits an output's script, and each was sent
-    /// the client's version and what is owed to its messages. It takes no memory.
+    /// connected peer deserves to be closed, nor claims a filter that was tested and omits an output's script, each was sent
+    /// the client's version and what is owed to its messages, and each with nothing open was asked all that is asked of it.
+    /// It takes no memory.
     pub fn state(&self) -> State
         ensures state { (log : Log) → Reflects self.now log → IsState result log }
         ensures nobody { (log : Log) → Reflects self.now log → IsInnocent log }
         ensures blameless { (log : Log) → Reflects self.now log → RightlyIn Following log → IsBlameless log }
         ensures answered { (log : Log) → Reflects self.now log → AreAnswered log }
         ensures blamed { (log : Log) → Reflects self.now log → HasBlamed log }
+        ensures asked_out { (log : Log) → Reflects self.now log → AreAskedOut (rule_by self.now) log }
     {
         state_of_places(self.places.as_slice())
     }

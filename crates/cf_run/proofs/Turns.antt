@@ -39,15 +39,16 @@ use Rattle.cf_run.specs.declared.trace.TraceLine.{TraceLine}
 use Rattle.cf_run.specs.Names.{names_in}
 use Rattle.cf_hear.proofs.Tracking.{tracks_ended}
 use Rattle.cf_client.specs.Stands.{Reflects, IsReportOf, seen_by, rule_by, words_by}
-use Rattle.cf_run.specs.Run.{IsOrderly, WasOrderly, AreNumbered, IsUntaken, IsTicked, WerePinged, Finished, AreBytesOf, IsEnd, IsTraceOf, names_of, is_lost, NobodyLeft}
+use Rattle.cf_run.specs.Run.{IsOrderly, WasOrderly, AreNumbered, IsUntaken, IsTicked, WereAskedOut, WerePinged, Finished, AreBytesOf, IsEnd, IsTraceOf, names_of, is_lost, NobodyLeft}
 use Rattle.cf_run.specs.Moments.{Notes, Doing, HoldsOver, Stopped, IsEndTold, state_at, is_pending, is_fine}
+use Rattle.cf_client.specs.Blameless.{AreAskedOut}
 use Rattle.cf_peer.specs.declared.act.Act.{Act}
 use Rattle.cf_sync.specs.Planned.{is_untold, ArePlanned}
 use Rattle.cf_sync.proofs.Planning.{own_plan}
 use Rattle.cf_sync.proofs.Modes.{rightly_following}
 use Rattle.cf_sync.proofs.Settles.{followed_in}
 use Rattle.cf_client.proofs.Innocent.{innocent, answered}
-use Rattle.cf_client.proofs.Blaming.{blameless, has_blamed}
+use Rattle.cf_client.proofs.Blaming.{asked_out_now, blameless, has_blamed}
 use Rattle.cf_place.specs.declared.state.State.{State}
 use Rattle.cf_place.specs.declared.state.State.TheVariants.{Working, Synced as IsSynced, NoPeers as HasNoPeers}
 use Rattle.cf_place.specs.Standing.{IsState}
@@ -132,6 +133,7 @@ dial_doing c acts progress called t p name holds is room untaken unended =
       planned = holds.notes.planned;
       order = holds.notes.order;
       pinged = holds.notes.pinged;
+      in_time = holds.notes.in_time;
       numbered = (is ∙ ap (λ (n : ℕ). n + 1) count, holds.notes.numbered);
       first = (untaken_so holds.actual t holds.notes.tells untaken unended, holds.notes.first);
       traced = holds.notes.traced;
@@ -161,6 +163,7 @@ not_dialled_holds c d progress called t p name holds is room untaken unended sam
         planned = subst (λ (r : Rule). ArePlanned r holds.actual) (sym same) holds.notes.planned;
         order = holds.notes.order;
         pinged = subst (λ (r : Rule). WerePinged r.mode holds.actual) (sym same) holds.notes.pinged;
+        in_time = subst (λ (r : Rule). WereAskedOut r holds.actual) (sym same) holds.notes.in_time;
         numbered = (is ∙ ap (λ (n : ℕ). n + 1) count, holds.notes.numbered);
         first = (untaken_so holds.actual t holds.notes.tells untaken unended, holds.notes.first);
         traced = holds.notes.traced;
@@ -198,14 +201,15 @@ took_numbered : (d : Delivery) (log : Log) → AreNumbered log → AreNumbered (
 took_numbered d log h = h
 
 took_notes : {rule : Rule} (progress : Progress) (called : List (List ℕ)) (log : Log) (t : Told) (d : Delivery) → AreBytesOf d → Notes rule progress called log t → MayTake rule.mode log → IsOrderly log → IsTicked rule.mode log
-    → Notes rule progress called (Took d ∷ log) (tell (Took d) t)
-took_notes progress called log t d is notes may in_order ticked = record {
+    → AreAskedOut rule log → Notes rule progress called (Took d ∷ log) (tell (Took d) t)
+took_notes progress called log t d is notes may in_order ticked asked_out = record {
   tells = tells_more log t (Took d) notes.tells;
   bytes = took_bytes d log is notes.bytes;
   rightly = (may, notes.rightly);
   planned = notes.planned;
   order = (in_order, notes.order);
   pinged = (ticked, notes.pinged);
+  in_time = (asked_out, notes.in_time);
   numbered = notes.numbered;
   first = notes.first;
   traced = notes.traced;
@@ -233,7 +237,7 @@ may_take Following log busy = (busy.0, open_on (trail log busy.0) busy.1)
 pub took_doing : {H M : Type 0} {g : Ghosts H} {j : Judges M} (c : Client H M g j) (acts : List Act) (progress : Progress) (called : List (List ℕ)) (t : Told) (d : Delivery) → AreBytesOf d → (holds : HoldsOver c progress called t) → MayTake (rule_by c).mode holds.actual
     → Doing (rule_by c) acts progress called (Took d ∷ holds.actual) (tell (Took d) t)
 took_doing c acts progress called t d is holds may =
-    same_doing c acts progress called called t (tell (Took d) t) holds (Took d) (took_notes progress called holds.actual t d is holds.notes may (orderly c progress called t holds) holds.ticked) (λ q. refl)
+    same_doing c acts progress called called t (tell (Took d) t) holds (Took d) (took_notes progress called holds.actual t d is holds.notes may (orderly c progress called t holds) holds.ticked (asked_out_now c holds.actual holds.reflects)) (λ q. refl)
 
 -- a client that follows may take a delivery while a peer is connected
 there_so : (s : State) (log : Log) → IsState s log → (s ≡ HasNoPeers → ⊥) → MayTake Following log
@@ -280,7 +284,7 @@ pub ended_stops : {H M : Type 0} {g : Ghosts H} {j : Judges M} (end : End) (c : 
 ended_stops end c progress called t holds may why = record {
   holds = record {
     actual = Took Ended ∷ holds.actual;
-    notes = took_notes progress called holds.actual t Ended tt holds.notes may (orderly c progress called t holds) holds.ticked;
+    notes = took_notes progress called holds.actual t Ended tt holds.notes may (orderly c progress called t holds) holds.ticked (asked_out_now c holds.actual holds.reflects);
     reflects = reflects_ended c holds.actual holds.reflects;
     ticked = ticked_ended (rule_by c).mode holds.actual;
     told_all = λ q. refl;
@@ -295,7 +299,7 @@ pub ended_holds : {H M : Type 0} {g : Ghosts H} {j : Judges M} {c d : Client H M
 ended_holds {c = c} {d = d} {progress = progress} {next = next} {called = called} {t = t} {u = u} same noted told holds may =
     let now : HoldsOver c progress called (tell (Took Ended) t) = record {
       actual = Took Ended ∷ holds.actual;
-      notes = took_notes progress called holds.actual t Ended tt holds.notes may (orderly c progress called t holds) holds.ticked;
+      notes = took_notes progress called holds.actual t Ended tt holds.notes may (orderly c progress called t holds) holds.ticked (asked_out_now c holds.actual holds.reflects);
       reflects = reflects_ended c holds.actual holds.reflects;
       ticked = ticked_ended (rule_by c).mode holds.actual;
       told_all = λ q. refl;
@@ -458,6 +462,8 @@ finishes end c progress called t height hash entries stopped told =
         named = holds.notes.named;
         why = stopped.why;
         pinged = holds.notes.pinged;
+        ticked = holds.ticked;
+        in_time = holds.notes.in_time;
       };
       few = holds.notes.few;
     }
@@ -617,6 +623,7 @@ starts c progress t reflects sends closed trace tells =
         planned = tt;
         order = tt;
         pinged = tt;
+        in_time = tt;
         numbered = tt;
         first = tt;
         traced = subst (λ (xs : List TraceLine). IsTraceOf [] (reverse xs)) (sym trace) tt;

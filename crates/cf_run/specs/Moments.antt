@@ -22,7 +22,7 @@ use Rattle.cf_run.specs.declared.progress.SendState.TheVariants.{Fine, Pending, 
 use Rattle.cf_place.specs.Places.{after, Allowed}
 use Rattle.cf_client.specs.Stands.{Reflects, rule_by}
 use Rattle.cf_run.specs.Texts.{PutBefore, PutBy}
-use Rattle.cf_run.specs.Run.{WasOrderly, AreNumbered, AreDialledFirst, IsTraceOf, names_of, HasNames, IsTicked, WerePinged, Course, IsEnd}
+use Rattle.cf_run.specs.Run.{WasOrderly, AreNumbered, AreDialledFirst, IsTraceOf, names_of, HasNames, IsTicked, WereAskedOut, WerePinged, Course, IsEnd}
 
 -- how the sends to a peer have gone
 abbrev pub state_at : List SendState → ℕ → SendState
@@ -58,6 +58,7 @@ pub record Notes (rule : Rule) (progress : Progress) (called : List (List ℕ)) 
   pub planned : ArePlanned rule actual
   pub order : WasOrderly actual
   pub pinged : WerePinged rule.mode actual
+  pub in_time : WereAskedOut rule actual
   pub numbered : AreNumbered actual
   pub first : AreDialledFirst actual
   pub traced : IsTraceOf actual (reverse progress.trace.items)

@@ -33,7 +33,7 @@ use Rattle.cf_place.specs.declared.state.State.TheVariants.{Synced as IsSynced, 
 use Rattle.cf_run.specs.declared.trace.TraceLine.{TraceLine}
 use Rattle.cf_run.specs.declared.trace.TraceLine.TheVariants.{Sent as SentLine, Closed as ClosedLine}
 use Rattle.cf_place.specs.Standing.{IsNamed, IsRepliedIn, IsState}
-use Rattle.cf_client.specs.Blameless.{IsBlameless, IsInnocent, AreAnswered}
+use Rattle.cf_client.specs.Blameless.{AreAskedOut, IsBlameless, IsInnocent, AreAnswered}
 
 -- what was delivered are bytes
 abbrev pub AreBytesOf : Delivery → Type 0
@@ -131,6 +131,16 @@ WerePinged mode (SendFailed p ∷ log) = WerePinged mode log
 WerePinged mode (Closed p ∷ log) = WerePinged mode log
 WerePinged mode (Took d ∷ log) = IsTicked mode log × WerePinged mode log
 
+-- whenever a delivery was taken, each connected peer with nothing open had been asked all that the rule asks of it
+abbrev pub WereAskedOut : Rule → Log → Type 0
+WereAskedOut rule [] = Unit {0}
+WereAskedOut rule (Dialled p name ∷ log) = WereAskedOut rule log
+WereAskedOut rule (NotDialled p name ∷ log) = WereAskedOut rule log
+WereAskedOut rule (Sent p bytes ∷ log) = WereAskedOut rule log
+WereAskedOut rule (SendFailed p ∷ log) = WereAskedOut rule log
+WereAskedOut rule (Closed p ∷ log) = WereAskedOut rule log
+WereAskedOut rule (Took d ∷ log) = AreAskedOut rule log × WereAskedOut rule log
+
 -- a dial or a send has failed
 abbrev pub is_failure : Event → Bool
 is_failure (Dialled p name) = false
@@ -184,6 +194,8 @@ pub record Followed (rule : Rule) (end : End) (height : ℕ) (hash : Hash32) (en
   pub named : names_of log ≡ called
   pub why : IsEnd end log
   pub pinged : WerePinged rule.mode log
+  pub ticked : IsTicked rule.mode log
+  pub in_time : WereAskedOut rule log
 
 -- the same of some log that the wires tell, or their tally alone
 pub record Finished (rule : Rule) (end : End) (height : ℕ) (hash : Hash32) (entries : List Entry) (lines : List TraceLine) (called : List (List ℕ)) (t : Told) : Type 0 where

@@ -1,4 +1,4 @@
-use Rattle.cf_client.proofs.Blaming.{blameless, blames_now}
+use Rattle.cf_client.proofs.Blaming.{asked_out_now, blameless, blames_now}
 use Rattle.cf_client.proofs.Innocent.{innocent, answered}
 use Rattle.cf_client.proofs.Standing.{state_is}
 use Rattle.cf_client.proofs.client.Client.state.Goals as goal
@@ -17,3 +17,6 @@ returns-clause-answered g c = λ log reflects. answered c.args.self.now log refl
 
 pub returns-clause-blamed : goal.returns-clause-blamed
 returns-clause-blamed g c = λ log reflects. blames_now c.args.self.now log reflects
+
+pub returns-clause-asked_out : goal.returns-clause-asked_out
+returns-clause-asked_out g c = λ log reflects. asked_out_now c.args.self.now log reflects
