@@ -1,7 +1,8 @@
 -- The run of a peer whose chain grows, moment by moment: all that the follow theorem asks for is met, at both quiet
--- moments.
+-- moments, and their texts are put.
 use Rattle.std.proofs.Common.{if◌then◌else◌, ◌≡◌, ◌≢◌, inl, inr, ℕ, pos, ◌<◌, ◌≤◌, List, [], ◌∷◌, ◌++◌, length, Some, None, Bool, true, false, not, ◌==◌, refl, sym, ◌∙◌, ap, subst, arith}
-use Rattle.std.specs.Prelude.{option_map}
+use Rattle.std.specs.Fmt.{digits}
+use Rattle.std.specs.Prelude.{bytes_eq, option_map}
 use Rattle.std.proofs.lemmas.Bool.{cases_Bool, false≢true, eqb-true}
 use Rattle.sha2.specs.Sha256.{compress, digest_bytes, first_words, hash_after, rounds, schedule, sha256}
 use Rattle.cf_bytes.specs.Compact.{compact}
@@ -31,12 +32,14 @@ use Rattle.cf_peer.specs.Acts.{bytes_of, IsSendable}
 use Rattle.cf_wires.specs.Log.{Log}
 use Rattle.cf_peer.specs.Trail.{Trail, Part, Called, Said, Asked, Passed, called_part, with_item, heard_part, spelled, asks, part_of, trail, connected, own, heard_in, first}
 use Rattle.cf_peer.specs.Asking.{NothingOpen, ClaimsOpen, FiltersOpen, is_idle, is_spare, is_open, age, request, request_after, claims, claims_after, claims_asked, filters_asked, claims_fault, filter_fault, fault_of, verdict, counted, given, given_by, filter_of, hash_claimed, hashes_of, HasSaid, IsFree, block_entry, MayAskIn}
+use Rattle.cf_scan.specs.HistoryText.{history_text}
 use Rattle.cf_scan.specs.Watching.{IsWatch}
 use Rattle.cf_sync.specs.Example.{only_header, only_hash, chain_of_one, honest_peer, our_version, its_version, question, its_headers, false_headers, ask_claims, its_claims, ask_filter, its_filter, genesis_hash, no_stop, only_filter, only_filter_hash, genesis_filter_header, other_watch, log_1, log_2}
 use Rattle.cf_sync.specs.Growth.{ping_one, pong_one, news, grow_3, grow_4, grow_5, grow_6, first_quiet, grow_8, grow_9, grow_10, grow_11, grow_12, grow_13, grow_14, grow_15, grow_16, growing_run}
 use Rattle.cf_sync.specs.Fetching.{counted_part, IsQuiet, IsFetched, IsCleared, RightlyIn, MayTake, AreBytes, IsConnected}
 use Rattle.cf_sync.specs.Honesty.{was_called}
 use Rattle.cf_sync.specs.Growing.{Turn, Reaches, IsGrowingOver, IsGrowing, IsTold, OthersShowNone}
+use Rattle.cf_sync.specs.Putting.{ArePut, PutsAt, WerePut, put}
 use Rattle.cf_sync.specs.Sync.{strings_of, IsHashed, HasAskedIn}
 use Rattle.cf_sync.proofs.Alone.{IsNoneFetching, none_filters}
 use Rattle.cf_sync.proofs.Answered.{came_given}
@@ -445,17 +448,29 @@ says_17 m bytes (inr (inr (inr (inr (inr (inr (inr (inl e)))))))) i =
     absurd (subst (λ (x : Msg). IsIn bytes (strings_of x)) e i)
 says_17 m bytes (inr (inr (inr (inr (inr (inr (inr (inr none)))))))) i = absurd none
 
-run_known : (bytes : List ℕ) → IsHashed growing_run chain_of_one bytes → IsKnown bytes
-run_known bytes (inl e) = inl e
-run_known bytes (inr (inl received)) = at_one SaysKnown growing_run v_17 received.0 p_17 one_17 says_17
-    (λ m b none i. absurd none) received.1.0 bytes received.1.1 received.1.2
-run_known bytes (inr (inr of_blocks)) = chain_known bytes of_blocks
+-- where each peer said known strings alone, all that is hashed is known
+known_in : (log : Log) → ((p : ℕ) → SaysKnown (trail log p)) → (bytes : List ℕ) → IsHashed log chain_of_one bytes
+    → IsKnown bytes
+known_in log says bytes (inl e) = inl e
+known_in log says bytes (inr (inl received)) = says received.0 received.1.0 bytes received.1.1 received.1.2
+known_in log says bytes (inr (inr of_blocks)) = chain_known bytes of_blocks
+
+apart_in : (log : Log) → ((p : ℕ) → SaysKnown (trail log p)) → NoHashClash (IsHashed log chain_of_one)
+apart_in log says = record {
+  apart = λ a b i j e. no_clash.apart a b (known_in log says a i) (known_in log says b j) e;
+  real = λ a i e. no_clash.real a (known_in log says a i) e;
+}
 
 pub growing_apart : NoHashClash (IsHashed growing_run chain_of_one)
-growing_apart = record {
-  apart = λ a b i j e. no_clash.apart a b (run_known a i) (run_known b j) e;
-  real = λ a i e. no_clash.real a (run_known a i) e;
-}
+growing_apart = apart_in growing_run
+    (λ p. at_one SaysKnown growing_run v_17 p p_17 one_17 says_17 (λ m b none i. absurd none))
+
+says_7 : SaysKnown v_7
+says_7 m bytes said i = says_17 m bytes (inr (inr (inr (inr (inr said))))) i
+
+pub first_apart : NoHashClash (IsHashed first_quiet chain_of_one)
+first_apart = apart_in first_quiet
+    (λ p. at_one SaysKnown first_quiet v_7 p p_7 one_7 says_7 (λ m b none i. absurd none))
 
 -- ---- what was asked might be asked
 
@@ -843,3 +858,98 @@ growing_asked = record {
 
   ticks_share : SharesIt (Passed 5 ∷ [])
   ticks_share h one le = absurd (omega (arith, one, le))
+
+-- ---- the texts
+
+-- of genesis alone, and with the block
+abbrev first_text : List ℕ
+first_text = history_text [] 0 genesis_hash.0
+
+abbrev last_text : List ℕ
+last_text = history_text [] 1 only_hash.0
+
+heights_differ : (tip below : List ℕ) → bytes_eq (history_text [] 1 tip) (history_text [] 0 below) ≡ false
+unfolding digits
+heights_differ tip below = refl
+
+-- while something is open to the peer nothing is put
+still_put : (log : Log) (t : Trail) (texts : List (List ℕ)) → part_of log 1 ≡ at_rest t → is_open t ≡ true
+    → PutsAt other_watch log texts texts
+still_put log t texts is busy = record {
+  at_rest = λ rests. absurd (false≢true (sym (rests.quiet 1)
+      ∙ of_part (λ u. is_open u ≡ true) (part_of log 1) t is busy));
+  elsewhere = λ never. refl;
+}
+
+-- at rest a text is put that is not the last one
+text_put : (log : Log) (t : Trail) (height : ℕ) (hash : Hash32) (before now : List (List ℕ))
+    → part_of log 1 ≡ at_rest t → connected t ≡ true → IsQuiet log
+    → HasAskedIn Following other_watch height hash [] log → now ≡ put (history_text [] height hash.0) before
+    → PutsAt other_watch log before now
+text_put log t height hash before now is on quiet asked new = record {
+  at_rest = λ rests. (height, (hash, ([], (asked, new))));
+  elsewhere = λ never. absurd (never (record {
+    quiet = quiet;
+    who = 1;
+    there = of_part (λ u. connected u ≡ true) (part_of log 1) t is on;
+  }));
+}
+
+put_3 : WerePut other_watch grow_3 []
+put_3 = ([], (refl, still_put log_2 v_2 [] p_2 refl))
+
+put_5 : WerePut other_watch grow_5 []
+put_5 = ([], (put_3, still_put grow_4 v_4 [] p_4 refl))
+
+put_7 : WerePut other_watch first_quiet []
+put_7 = ([], (put_5, still_put grow_6 v_6 [] p_6 refl))
+
+put_8 : WerePut other_watch grow_8 (first_text ∷ [])
+put_8 = (
+  [],
+  (
+    put_7,
+    text_put first_quiet v_7 0 genesis_hash [] (first_text ∷ []) p_7 refl first_is_quiet first_asked refl,
+  ),
+)
+
+put_10 : WerePut other_watch grow_10 (first_text ∷ [])
+put_10 = (first_text ∷ [], (put_8, still_put grow_9 v_9 (first_text ∷ []) p_9 refl))
+
+put_11 : WerePut other_watch grow_11 (first_text ∷ [])
+put_11 = (first_text ∷ [], (put_10, still_put grow_10 v_10 (first_text ∷ []) p_10 refl))
+
+put_13 : WerePut other_watch grow_13 (first_text ∷ [])
+put_13 = (first_text ∷ [], (put_11, still_put grow_12 v_12 (first_text ∷ []) p_12 refl))
+
+put_15 : WerePut other_watch grow_15 (first_text ∷ [])
+put_15 = (
+  first_text ∷ [],
+  (
+    put_13,
+    still_put grow_14 v_14 (first_text ∷ []) p_14 (ap (λ r. not (is_idle r)) request_14),
+  ),
+)
+
+put_17 : WerePut other_watch growing_run (first_text ∷ [])
+put_17 = (
+  first_text ∷ [],
+  (
+    put_15,
+    still_put grow_16 v_16 (first_text ∷ []) p_16 (ap (λ r. not (is_idle r)) request_16),
+  ),
+)
+
+new_text : (last_text ∷ first_text ∷ []) ≡ put last_text (first_text ∷ [])
+new_text = sym (ap (λ (same_text : Bool). if same_text then first_text ∷ [] else last_text ∷ first_text ∷ [])
+    (heights_differ only_hash.0 genesis_hash.0))
+
+pub both_put : ArePut other_watch growing_run (last_text ∷ first_text ∷ [])
+both_put = (
+  first_text ∷ [],
+  (
+    put_17,
+    text_put growing_run v_17 1 only_hash (first_text ∷ []) (last_text ∷ first_text ∷ []) p_17 refl growing_quiet
+        growing_asked new_text,
+  ),
+)
