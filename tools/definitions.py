@@ -124,10 +124,11 @@ def binder(tokens):
     return set(names) if all(re.fullmatch(r"\w+", name) for name in names) else set()
 
 
-def read_as_code(text, kind):
-    """What an item of code says, without its remarks and the names of its variants, which name no types."""
-    text = re.sub(r"//.*", "", text)
-    return re.sub(r"(?m)^    [A-Z]\w*", "", text) if kind == "enum" else text
+def undeclared(kind, text):
+    """The text of an item of code without its comments, its strings and what it declares itself: its fields' names, or an enum's variants."""
+    text = re.sub(r'"[^"]*"|//.*', "", text)
+    text = re.sub(r"(?m)^ +(?:pub(?:\(\w+\))? )?\w+(?=:(?!:))", "", text)
+    return re.sub(r"(?m)^    \w+", "", text) if kind == "enum" else text
 
 
 class Repository:
@@ -181,7 +182,7 @@ class Repository:
     def of_code(self, crate, source, item):
         key = item.file, item.line
         if key not in self.modules:
-            text = read_as_code("\n".join(text_of(item.file).split("\n")[item.line - 1 : item.last]), item.kind)
+            text = undeclared(item.kind, "\n".join(text_of(item.file).split("\n")[item.line - 1 : item.last]))
             scope = self.scope_of(crate, source)
             for block in source.blocks:
                 if (block.trait, block.type) in (("Model", item.name), (item.name, "")):
@@ -310,6 +311,37 @@ def reach_of(repository, named):
             seen[found.file, found.first] = found
             waiting += repository.reached(found.scope, found.text)
     return [seen[key] for key in sorted(seen)], kit
+
+
+def chain_to(repository, named, name):
+    """A shortest chain from one of these to what has a name, which may have its crate before it: each names the next. It is empty where they don't reach it."""
+    crate, _, last = name.rpartition("::")
+    seen, chains = set(), [[it] for it in named]
+    for chain in chains:
+        it = chain[-1]
+        is_kit = isinstance(it, str)
+        key = it if is_kit else (it.file, it.first)
+        if key in seen:
+            continue
+        seen.add(key)
+        if (it.rpartition(".")[2] if is_kit else it.name) == last and crate in ("", it.split(".")[0] if is_kit else it.scope.crate):
+            return chain
+        chains += [] if is_kit else [[*chain, found] for found in repository.reached(it.scope, it.text)]
+    return []
+
+
+def report_chain(name, goal):
+    """The lines of a shortest chain of names from a public function's contract, or from a definition, to what has another name."""
+    repository = Repository()
+    told, named = named_once(repository, name)
+    chain = chain_to(repository, named, goal)
+    if not chain:
+        raise NotFound(f"{name} reaches nothing that is named {goal}")
+    yield told
+    for it in chain:
+        line = f"{it}, of the kit" if isinstance(it, str) else f"{it.name}, {it.file}:{it.first}"
+        if line != told:
+            yield f"  {line}"
 
 
 def lines_of_specs():
