@@ -206,6 +206,7 @@ impl<H: HeaderStore, M: Matcher> Client<H, M> {
         ensures dead { is_dead self.old ≡ true → IsErr result }
         ensures err { OnErr result (is_dead self.new ≡ true) }
     {
+        // Contracts alone look at `name`.
         if self.dead {
             return Err(NoMemory);
         }
@@ -230,6 +231,7 @@ impl<H: HeaderStore, M: Matcher> Client<H, M> {
         ensures dead { is_dead self.old ≡ true → IsErr result }
         ensures err { OnErr result (is_dead self.new ≡ true) }
     {
+        // Contracts alone look at `p` and `name`.
         if self.dead {
             return Err(NoMemory);
         }
