@@ -55,6 +55,7 @@ fn joined(word: u32, n: u32, number: u32, k: u32) -> u32
     ensures bits { bits_of (n + k) result ≡ bits_of n word ++ bits_of k number }
     ensures fits { result < 2 ^ (n + k) }
 {
+    // Contracts alone look at `n`.
     word * (1 << k) + number
 }
 
@@ -87,6 +88,7 @@ fn upper(word: u32, n: u32, k: u32) -> u8
     ensures value { result ≡ word / 2 ^ n }
     ensures small { result < 2 ^ k }
 {
+    // Contracts alone look at `k`.
     (word >> n) as u8
 }
 

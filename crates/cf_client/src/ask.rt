@@ -125,6 +125,7 @@ pub(crate) fn ping_all<H: HeaderStore>(
     ensures same { OnOk result ((p : ℕ) → is_idle (place_at places.new p) ≡ true → place_at places.new p ≡ place_at places.old p) }
     ensures pings { OnOk result (AddsPings acts.old.items acts.new.items) }
 {
+    // Contracts alone look at `tracker`.
     for i in 0..places.len() {
         ping_if_idle(places, acts, i)?;
     }

@@ -209,6 +209,7 @@ impl<H: HeaderStore, M: Matcher> Client<H, M> {
         ensures dead { is_dead self.old ≡ true → IsErr result }
         ensures err { OnErr result (is_dead self.new ≡ true) }
     {
+        // Contracts alone look at `name`.
         if self.dead {
             return Err(NoMemory);
         }
@@ -233,6 +234,7 @@ impl<H: HeaderStore, M: Matcher> Client<H, M> {
         ensures dead { is_dead self.old ≡ true → IsErr result }
         ensures err { OnErr result (is_dead self.new ≡ true) }
     {
+        // Contracts alone look at `p` and `name`.
         if self.dead {
             return Err(NoMemory);
         }

@@ -53,10 +53,12 @@ pub fn sync_played<H: HeaderStore + Drop, M: Matcher + Drop>(
     ensures finished { finished_of played.new ≡ true }
     ensures keeps { keeps_of played.new ≡ keeps_of played.old }
 {
+    // The peers' chains are good.
     played.same_peers();
     let outcome = sync_over(
         alloc, played, names, watch, store, matcher, moment, nonce, turns,
     );
+    // What was delivered and what waits is what each peer answers, and the peers are those that were there before.
     played.accounts();
     played.same_peers();
     outcome

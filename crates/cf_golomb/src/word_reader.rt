@@ -135,5 +135,6 @@ fn push_byte(word: u64, n: u32, b: u8) -> u64
     ensures bits { bits_of (n + 8) result ≡ bits_of n word ++ bits_of 8 b }
     ensures fits { result < 2 ^ (n + 8) }
 {
+    // Contracts alone look at `n`.
     word * 256 + u64::from(b)
 }

@@ -93,6 +93,7 @@ fn joined(word: u64, n: u32, value: u64, k: u32) -> u64
     ensures bits { bits_of (n + k) result ≡ bits_of n word ++ bits_of k value }
     ensures fits { result < 2 ^ (n + k) }
 {
+    // Contracts alone look at `n`.
     word * (1 << k) + value
 }
 
@@ -129,6 +130,7 @@ fn put_codes(writer: &mut Writer, values: &[u64], limit: u64) -> Result<(), NoMe
     requires { IsSet 0 limit values.now }
     ensures { OnOk result (writer.new ≡ writer.old ++ codes 0 values.now) }
 {
+    // Contracts alone look at `limit`.
     let mut before = 0;
     for v in values {
         put_code(writer, *v - before)?;

@@ -144,6 +144,7 @@ fn hold_reply(alloc: Global, index: &Index, served: &Served, reply: Reply) -> Re
     requires { IsReplyOf index.now reply }
     ensures { IfOk result (λ part. text_in part ≡ spelling (frame_of (message_of served.now index.now reply))) }
 {
+    // An index has a good chain, whose blocks can be sent.
     let _tip = index.tip();
     if let Reply::BlockAt(height) = reply {
         return hold_block(index, height);

@@ -38,6 +38,7 @@ fn read_spelled(alloc: Global, frame: &Frame) -> Result<Msg, Refused<Malformed>>
     ensures exact { Answers (message_in frame.now) result }
     ensures spelled { IfOk result HasSpelling }
 {
+    // The payload is bytes, so that what is read of it has a spelling.
     are_bytes(frame.payload.as_slice());
     read(alloc, frame)
 }

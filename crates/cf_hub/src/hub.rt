@@ -241,6 +241,7 @@ impl<D: Dialer, P: Pulse, R: Wait + Threads + Copy + Drop> Hub<D, P, R> {
         ensures sources { All (Shows D.Read.left D.Read.faults D.Read.ended (take self.now.book.taken (given_of (view self.now.queue.seat).got))) self.now.done.items }
         ensures ticks { ForSome self.now.rested (ShowsTicks P.answers (take self.now.book.taken (given_of (view self.now.queue.seat).got))) }
     {
+        // What was joined says what was sent of it; the rest stands in the hub's own invariants.
         each_reads(&self.done);
         it_ticks(&self.rested);
     }

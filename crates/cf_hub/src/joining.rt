@@ -43,6 +43,7 @@ impl<S: Source + Drop, R: Wait + Drop> Joined<S, R> {
     fn reads(&self)
         ensures { Reads S.left S.faults S.ended self.now.before self.now.sent self.now.after }
     {
+        // To look at a field opens the invariant, which says so.
         let _ = &self.number;
     }
 }
@@ -81,6 +82,7 @@ impl<P: Pulse, R: Wait + Drop> Rested<P, R> {
     fn ticks(&self)
         ensures { Ticked P.answers self.now.before self.now.sent self.now.after }
     {
+        // To look at a field opens the invariant, which says so.
         let _ = &self.pulse;
     }
 }
@@ -123,6 +125,7 @@ pub(crate) fn join_readers<S: Source + Drop, R: Wait + Drop, T: Threads + Wait>(
             seat,
         });
     }
+    // What was received of each is a beginning of what it sent.
     queue.account();
 }
 
@@ -146,6 +149,7 @@ pub(crate) fn join_ticker<P: Pulse, R: Wait + Drop, T: Threads + Wait>(
     let Stopped { pulse, sender, .. } = busy.wait(rt);
     let seat = Snapshot::of(&sender);
     queue.take(sender);
+    // What was received of it is a beginning of what it sent.
     queue.account();
     Some(Rested { of, pulse, seat })
 }

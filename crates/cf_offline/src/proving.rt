@@ -55,6 +55,7 @@ fn text_at(alloc: Global, block: &Block, place: u32) -> Result<String, NoMemory>
 {
     let tx = bytes_of_tx(alloc, &block.txs.as_slice()[place as usize])?;
     let proof = make_proof(alloc, block, place)?;
+    // Both are bytes, as `IsTextAt` has it.
     are_bytes(&tx);
     are_bytes(&proof);
     text_of_proof(alloc, &tx, &proof)

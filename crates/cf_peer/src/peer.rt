@@ -288,6 +288,7 @@ impl Peer {
         ensures waits { self.new.framer ≡ self.old.framer }
         ensures calm { calm self.new ≡ true }
     {
+        // Contracts alone look at `hash`.
         self.request = Request::Nothing;
     }
 

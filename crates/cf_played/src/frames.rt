@@ -26,6 +26,7 @@ pub(crate) fn message_frame(alloc: Global, message: &Msg) -> Result<Vec<u8>, NoM
 fn see_number(number: u64)
     ensures { number < 2 ^ 64 }
 {
+    // Its type says so.
     let _ = number;
 }
 
@@ -56,6 +57,7 @@ pub(crate) fn own_frame(
     ensures exact { IfOk result (λ bytes. bytes.items ≡ spelling (frame_of (message_of (machine seen) index.now reply))) }
     ensures alike { IfOk result (λ bytes. IsFrameAlike (message_of (machine seen) index.now reply) bytes.items) }
 {
+    // An index has a good chain, and a number has 64 bits, so that the message can be sent.
     let _tip = index.tip();
     see_range(reply);
     let served = Served {

@@ -248,6 +248,7 @@ fn other_message(
     requires { IsReplyOf index.now reply }
     ensures { IfOk result (λ message. IfSome message (λ m. IsOther m × ((seen : Bool) → is_filtering (message_of (machine seen) index.now reply) ≡ true))) }
 {
+    // An index has a good chain, so that the message can be sent.
     let _tip = index.tip();
     match reply {
         Reply::CfilterAt(height) => match filters.get(height as usize) {

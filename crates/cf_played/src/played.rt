@@ -89,6 +89,7 @@ fn see_good(players: &[Player])
     ensures { AreGood (map shown players.now) }
 {
     for player in players {
+        // An index has a good chain.
         let _height = player.index.tip();
     }
 }
@@ -228,6 +229,7 @@ impl Played {
         ensures good { AreGood (peers_of self.now) }
         ensures same { (peers : List Peer) → AreGood peers → made_of peers ≡ made_of (peers_of self.now) → map still peers ≡ map still (peers_of self.now) }
     {
+        // The peers' chains are good.
         see_good(&self.players);
     }
 }

@@ -318,6 +318,7 @@ pub(crate) fn take_next<W: Wires, H: HeaderStore, M: Matcher>(
     if let Delivery::Ended = &d {
         return Ok(false);
     }
+    // What is delivered are bytes, as the log has it.
     note_bytes(&d);
     let acts = client.step(&d)?;
     carry_out(alloc, wires, client, &acts, progress)?;

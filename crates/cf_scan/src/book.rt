@@ -66,6 +66,7 @@ impl Book {
             → Stands self.new (record { height = height; extract = extract.now } ∷ blocks)) }
         ensures err { OnErr result ((blocks : List Placed) → Stands self.old blocks → Stands self.new blocks) }
     {
+        // There stay fewer than 2^32 pages.
         let _room = u32::try_from(self.pages.len() + 1).map_err(|_| NoMemory)?;
         let page = Page {
             entries: self.entries.len(),

@@ -82,6 +82,7 @@ impl MarkedCoins {
         ensures after { coins_in self.new ≡ insert (coins_in self.old) p.now value }
         ensures known { (q : OutPoint) → knows self.old q ≡ true → knows self.new q ≡ true }
     {
+        // The number of entries, below 2^63, bounds the sum.
         let _count = self.map.len();
         let old = self.get(p).unwrap_or(0);
         if let Some(slot) = self.map.get_mut(p) {
