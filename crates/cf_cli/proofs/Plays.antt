@@ -1,6 +1,6 @@
 -- How a session is played, and what is said where no run is made.
 use Rattle.std.proofs.Common.{◌≡◌, inl, inr, ℕ, ℤ, zero, suc, ◌<◌, ◌≤◌, Bool, true, false, List, [], ◌∷◌, map, length, take, Option, Some, None, Result, Ok, Err, refl, sym, ◌∙◌, ap, subst, arith}
-use Rattle.std.specs.Prelude.{◌↔◌, IfSome, vec_len}
+use Rattle.std.specs.Prelude.{◌↔◌, IfSome, IsSomeAnd, vec_len}
 use Rattle.std.specs.FinMap as finite
 use Rattle.std.proofs.lemmas.Bool.{false≢true}
 use Rattle.std.proofs.lemmas.List.{take_all, length-map}
@@ -27,8 +27,8 @@ use Rattle.cf_input.specs.SessionFile.{session_of}
 use Rattle.cf_input.specs.WatchFile.{watch_of}
 use Rattle.cf_answers.specs.Statuses.{has_run}
 use Rattle.cf_cli.specs.Statuses.{may_dial, may_play, verdict_of}
-use Rattle.cf_loading.specs.Verdicts.{IsJudged, and_then, IsOfFile, watch_verdict, session_verdict}
-use Rattle.cf_cli.specs.Theorem.{AnswersTo, AreLeft, IsWhole, IsWithin, Kept, KeptOver, IsOfRun, IsReplayed, Plays, PlaysSession, Tallied, has_somebody}
+use Rattle.cf_loading.specs.Verdicts.{IsJudged, Missing, Good, and_then, IsOfFile, watch_verdict, session_verdict}
+use Rattle.cf_cli.specs.Theorem.{AnswersTo, AreLeft, IsWhole, IsWithin, IsWatchFile, Kept, KeptOver, IsOfRun, IsReplayed, Plays, PlaysSession, Tallied, has_somebody}
 
 -- no run is made where a file is answered for
 pub no_run : (status : Status) → IsOfFile status → has_run status ≡ false
@@ -180,14 +180,23 @@ early_told t status recorded trace files watch names b is fresh = told_over t.lo
   told_over None none = tt
   told_over (Some log) none = early_over status recorded trace files watch names b log is none
 
+-- what was judged good is there
+pub watch_there : (files : Option Named) (watch : List ℕ) (scripts : List (List ℕ)) → IfSome files (λ m. watch_verdict (finite.get m watch) ≡ Good)
+    → IfSome files (λ m. IfSome (finite.get m watch) (λ bytes. watch_of bytes ≡ Ok scripts)) → IsWatchFile files watch scripts
+watch_there None watch scripts good read = tt
+watch_there (Some m) watch scripts good read = held_there (finite.get m watch) good read where
+  held_there : (held : Option (List ℕ)) → watch_verdict held ≡ Good → IfSome held (λ bytes. watch_of bytes ≡ Ok scripts) → IsSomeAnd held (λ bytes. watch_of bytes ≡ Ok scripts)
+  held_there None good read = let none : Missing ≡ Good = good in cc
+  held_there (Some bytes) good read = read
+
 -- with the scripts of the watch file
 pub over_watch : (status : Status) (recorded trace : Bool) (files : Option Named) (watch : List ℕ) (scripts names : List (List ℕ)) (before after : Option (List ℕ)) (log : Log)
-    → IfSome files (λ m. IfSome (finite.get m watch) (λ bytes. watch_of bytes ≡ Ok scripts)) → Kept status recorded trace scripts names before after log
+    → IsWatchFile files watch scripts → Kept status recorded trace scripts names before after log
     → KeptOver status recorded trace files watch names before after log
 over_watch status recorded trace files watch scripts names before after log read kept = record { scripts = scripts; watched = λ made. read; unrecorded = λ fault. inr read; kept = kept }
 
 pub told_over_watch : (o : Option Log) (status : Status) (recorded trace : Bool) (files : Option Named) (watch : List ℕ) (scripts names : List (List ℕ)) (before after : Option (List ℕ))
-    → IfSome files (λ m. IfSome (finite.get m watch) (λ bytes. watch_of bytes ≡ Ok scripts)) → IfSome o (λ log. Kept status recorded trace scripts names before after log)
+    → IsWatchFile files watch scripts → IfSome o (λ log. Kept status recorded trace scripts names before after log)
     → IfSome o (λ log. KeptOver status recorded trace files watch names before after log)
 told_over_watch None status recorded trace files watch scripts names before after read kept = tt
 told_over_watch (Some log) status recorded trace files watch scripts names before after read kept = over_watch status recorded trace files watch scripts names before after log read kept

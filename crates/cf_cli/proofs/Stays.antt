@@ -1,7 +1,6 @@
 -- What a run that follows has written, and how it ended.
 use Rattle.std.proofs.Common.{◌≡◌, ◌≢◌, inl, inr, ℕ, ◌+◌, ◌<◌, ◌≤◌, Bool, true, false, List, [], ◌∷◌, ◌++◌, length, take, Option, Some, None, refl, sym, ◌∙◌, ap, subst, arith, append_assoc, length-append}
-use Rattle.std.specs.Prelude.{◌↔◌, IfSome, Ok}
-use Rattle.std.specs.FinMap as finite
+use Rattle.std.specs.Prelude.{◌↔◌, ◌⊎◌, IfSome}
 use Rattle.std.proofs.lemmas.Bool.{both_ways, false≢true}
 use Rattle.std.proofs.lemmas.List.{append-nil}
 use Rattle.std.proofs.Math.Seq.{take-length, take-append-add}
@@ -30,14 +29,13 @@ use Rattle.cf_wires.specs.Log.{Log, Told, Tells}
 use Rattle.cf_scan.specs.declared.history.Entry.{Entry}
 use Rattle.cf_scan.specs.HistoryText.{history_text}
 use Rattle.cf_scan.specs.Scan.{scan_of}
-use Rattle.cf_input.specs.WatchFile.{watch_of}
 use Rattle.cf_answers.specs.declared.status.Status.{Status}
 use Rattle.cf_answers.specs.declared.status.Status.TheVariants.{Done, NoMemory, Usage, BadFile, FileFault, OutFault, NoPeers, Tired, Ended, LinkFault, NoNonce, NoHeight, NotThere, NotAddress}
 use Rattle.cf_answers.specs.Texts.{trace_text}
 use Rattle.cf_loading.specs.Verdicts.{IsOfFile}
-use Rattle.cf_cli.specs.Following.{BegunTexts, EndsBy, Grows, IsReplayedIn, IsReplayedOn, KeptLive, KeptOn, KeptOnOver, Stayed, TalliedOn, with_trace}
+use Rattle.cf_cli.specs.Following.{BegunTexts, CutShort, EndsBy, GivenUp, Grows, IsReplayedIn, IsReplayedOn, KeptLive, KeptOn, KeptOnOver, KeptOnTape, Stayed, TalliedOn, with_trace}
 use Rattle.cf_answers.specs.Statuses.{has_run, is_over, was_refused, was_unbegun}
-use Rattle.cf_cli.specs.Theorem.{AnswersTo, IsComplete, IsOfRun, IsWhole, IsWithin}
+use Rattle.cf_cli.specs.Theorem.{AnswersTo, IsComplete, IsOfRun, IsWatchFile, IsWhole, IsWithin}
 use Rattle.cf_cli.proofs.Plays.{early_replayed, early_tallied, no_run, not_run, run_tallied, spent_tallied, tallied_early, unwritten_tallied}
 use Rattle.cf_cli.proofs.Runs.{somebody_left}
 
@@ -161,6 +159,13 @@ pub new_put_told : (o : Option Log) (scripts : List (List ℕ)) (before : Option
 new_put_told None scripts before none = tt
 new_put_told (Some log) scripts before none = new_put scripts log before none
 
+new_all : (scripts : List (List ℕ)) (log : Log) (before : Option (List ℕ)) → log ≡ [] → HasPut scripts log before before
+new_all scripts log before none = record {
+  texts = [];
+  puts = subst (λ (l : Log). ArePut scripts l []) (sym none) ([], (refl, record { at_rest = λ rest. absurd (false≢true rest.there); elsewhere = λ busy. refl }));
+  taken = sym (with_nothing before);
+}
+
 -- a text that was begun behind others
 with_both : (before : Option (List ℕ)) (a b : List ℕ) → with_more (with_more before a) b ≡ with_more before (a ++ b)
 with_both None a b = refl
@@ -239,6 +244,17 @@ stayed_kept status recorded trace scripts names before after log s theorem = rec
   ran = λ over. s;
   begun = λ off. absurd (both_ways (is_over status) off (over_by s.end s.ends status s.answered));
   right = λ ne. (s.followed.asked.bytes, s.followed.asked.rightly);
+  unrecorded = λ is. absurd (false≢true (sym (ap is_over is) ∙ over_by s.end s.ends status s.answered));
+}
+
+-- nothing of it was given up
+pub over_given : (o : Option Log) (status : Status) (scripts : List (List ℕ)) (before after : Option (List ℕ)) → is_over status ≡ true
+    → IfSome o (λ log. GivenUp status scripts before after log)
+over_given None status scripts before after over = tt
+over_given (Some log) status scripts before after over = record {
+  some = λ off. absurd (both_ways (is_over status) off over);
+  tried = λ off enough. absurd (both_ways (is_over status) off over);
+  refused = λ is. absurd (false≢true (sym (ap is_over is) ∙ over));
 }
 
 -- all its texts were written, by what takes them
@@ -277,6 +293,7 @@ unwritten_kept recorded trace scripts end height tip entries lines names texts b
   ran = λ over. absurd (false≢true over);
   begun = λ off. record { lines = lines; traced = inr (inr followed.traced); texts = texts; puts = inr puts; begun = begun };
   right = λ ne. (followed.asked.bytes, followed.asked.rightly);
+  unrecorded = λ is. cc;
 }
 
 pub unwritten_told : (o : Option Log) (scripts : List (List ℕ)) (end : End) (height : ℕ) (tip : Hash32) (entries : List Entry) (lines : List TraceLine) (names : List (List ℕ))
@@ -288,6 +305,25 @@ pub unwritten_told : (o : Option Log) (scripts : List (List ℕ)) (end : End) (h
 unwritten_told None scripts end height tip entries lines names recorded trace first told before after followed theorem put begin = tt
 unwritten_told (Some log) scripts end height tip entries lines names recorded trace first told before after followed theorem put begin =
     unwritten_kept recorded trace scripts end height tip entries lines names put.texts before after log followed theorem put.puts (begin put.texts put.taken)
+
+-- with what was written of it
+pub cut_told : (o : Option Log) (scripts : List (List ℕ)) (end : End) (height : ℕ) (tip : Hash32) (entries : List Entry) (lines : List TraceLine) (names : List (List ℕ))
+    (trace : Bool) (first told before after : Option (List ℕ))
+    → IfSome o (λ log. Followed (following scripts) end height tip entries lines names log) → IfSome o (λ log. HasPut scripts log first told)
+    → ((texts : List (List ℕ)) → told ≡ with_more first (joined texts) → HasBegun (with_trace trace lines (joined texts)) before after)
+    → IfSome o (λ log. CutShort trace scripts names before after log)
+cut_told None scripts end height tip entries lines names trace first told before after followed put begin = tt
+cut_told (Some log) scripts end height tip entries lines names trace first told before after followed put begin = record {
+  end = end;
+  height = height;
+  tip = tip;
+  entries = entries;
+  lines = lines;
+  followed = followed;
+  texts = put.texts;
+  puts = put.puts;
+  begun = begin put.texts put.taken;
+}
 
 -- ---- a run that failed
 
@@ -303,7 +339,13 @@ failed_told (Some log) scripts names recorded before after put right = record {
   ran = λ over. absurd (false≢true over);
   begun = λ off. some_begun scripts before after log put;
   right = λ ne. right;
+  unrecorded = λ is. cc;
 }
+
+pub failed_given : (o : Option Log) (scripts : List (List ℕ)) (before after : Option (List ℕ)) → IfSome o (λ log. HasPutBut scripts log before after)
+    → IfSome o (λ log. GivenUp OutFault scripts before after log)
+failed_given None scripts before after but = tt
+failed_given (Some log) scripts before after but = record { some = λ off. inr but; tried = λ off enough. inr but; refused = λ is. but }
 
 -- memory was wanting
 spent_kept : (recorded trace : Bool) (scripts names : List (List ℕ)) (before after : Option (List ℕ)) (log : Log) → BegunTexts trace scripts before after log
@@ -315,6 +357,7 @@ spent_kept recorded trace scripts names before after log begun = record {
   ran = λ over. absurd (false≢true over);
   begun = λ off. begun;
   right = λ ne. absurd (ne refl);
+  unrecorded = λ is. cc;
 }
 
 -- with what was put until then
@@ -323,6 +366,11 @@ pub spent_told : (o : Option Log) (scripts names : List (List ℕ)) (recorded : 
 spent_told None scripts names recorded before after put = tt
 spent_told (Some log) scripts names recorded before after put =
     spent_kept recorded false scripts names before after log (some_begun scripts before after log put)
+
+pub spent_given : (o : Option Log) (scripts : List (List ℕ)) (before after : Option (List ℕ)) → IfSome o (λ log. HasPutSome scripts log before after)
+    → IfSome o (λ log. GivenUp NoMemory scripts before after log)
+spent_given None scripts before after put = tt
+spent_given (Some log) scripts before after put = record { some = λ off. put; tried = λ off enough. absurd (enough refl); refused = λ is. cc }
 
 -- before anything was written
 pub silent_told : (o : Option Log) (scripts names : List (List ℕ)) (recorded trace : Bool) (first told before : Option (List ℕ))
@@ -358,27 +406,74 @@ kept_begun status recorded trace scripts names before after log kept = by (is_ov
 
 -- and what was put of them, whatever becomes of the record
 pub kept_some : (o : Option Log) (status : Status) (recorded : Bool) (scripts names : List (List ℕ)) (before after : Option (List ℕ))
-    → ((b : Bool) → IfSome o (λ log. KeptOn status b false scripts names before after log)) → (is_over status ≡ false → IfSome o (λ log. HasPutSome scripts log before after))
+    → ((b : Bool) → IfSome o (λ log. KeptOn status b false scripts names before after log)) → IfSome o (λ log. GivenUp status scripts before after log)
     → IfSome o (λ log. HasPutSome scripts log before after)
-kept_some None status recorded scripts names before after kept some = tt
-kept_some (Some log) status recorded scripts names before after kept some = by (is_over status) refl where
+kept_some None status recorded scripts names before after kept given = tt
+kept_some (Some log) status recorded scripts names before after kept given = by (is_over status) refl where
   by : (b : Bool) → is_over status ≡ b → HasPutSome scripts log before after
   by true over =
       let s = (kept recorded).ran over in
       inl (record { texts = s.texts; puts = inr s.puts; taken = s.written })
-  by false off = some off
+  by false off = given.some off
+
+-- where memory was found it came to its end, or a text of it could not be put
+refused_by : (status : Status) → IsOfRun status → was_refused status ≡ false → is_over status ≡ false → status ≢ NoMemory → status ≡ OutFault
+refused_by Done is begun off enough = absurd (false≢true (sym off))
+refused_by NoMemory is begun off enough = absurd (enough refl)
+refused_by Usage is begun off enough = absurd is
+refused_by (BadFile which place cause) is begun off enough = absurd (false≢true (sym begun))
+refused_by FileFault is begun off enough = absurd (false≢true (sym begun))
+refused_by OutFault is begun off enough = refl
+refused_by (NoPeers ends) is begun off enough = absurd (false≢true (sym off))
+refused_by Tired is begun off enough = absurd (false≢true (sym off))
+refused_by Ended is begun off enough = absurd (false≢true (sym off))
+refused_by LinkFault is begun off enough = absurd is
+refused_by (NoNonce height) is begun off enough = absurd is
+refused_by (NoHeight tip) is begun off enough = absurd is
+refused_by (NotThere txid) is begun off enough = absurd is
+refused_by (NotAddress cause) is begun off enough = absurd is
+
+stayed_or_refused : (status : Status) (recorded : Bool) (scripts names : List (List ℕ)) (before after : Option (List ℕ)) (log : Log)
+    → IsOfRun status → was_refused status ≡ false → status ≢ NoMemory → KeptOn status recorded false scripts names before after log
+    → GivenUp status scripts before after log
+    → ((ended : Status) × Stayed ended false scripts names before after log) ⊎ HasPutBut scripts log before after
+stayed_or_refused status recorded scripts names before after log is begun enough kept given = by (is_over status) refl where
+  by : (b : Bool) → is_over status ≡ b → ((ended : Status) × Stayed ended false scripts names before after log) ⊎ HasPutBut scripts log before after
+  by true over = inl (status, kept.ran over)
+  by false off = inr (given.refused (refused_by status is begun off enough))
+
+-- what was put of them then
+given_by : (scripts names : List (List ℕ)) (before after : Option (List ℕ)) (log : Log)
+    → ((ended : Status) × Stayed ended false scripts names before after log) ⊎ HasPutBut scripts log before after
+    → GivenUp FileFault scripts before after log
+given_by scripts names before after log (inl stayed) =
+    let s = stayed.1 in
+    let put : HasPut scripts log before after = record { texts = s.texts; puts = s.puts; taken = s.written } in
+    record { some = λ off. some_put scripts log before after put; tried = λ off enough. inl put; refused = λ is. cc }
+given_by scripts names before after log (inr but) = record { some = λ off. inr but; tried = λ off enough. inr but; refused = λ is. cc }
+
+pub unrecorded_given : (o : Option Log) (status : Status) (recorded : Bool) (scripts names : List (List ℕ)) (before after : Option (List ℕ))
+    → IsOfRun status → was_refused status ≡ false → status ≢ NoMemory
+    → ((b : Bool) → IfSome o (λ log. KeptOn status b false scripts names before after log)) → IfSome o (λ log. GivenUp status scripts before after log)
+    → IfSome o (λ log. GivenUp FileFault scripts before after log)
+unrecorded_given None status recorded scripts names before after is begun enough kept given = tt
+unrecorded_given (Some log) status recorded scripts names before after is begun enough kept given =
+    given_by scripts names before after log (stayed_or_refused status recorded scripts names before after log is begun enough (kept recorded) given)
 
 -- the record could not be written
-pub unrecorded_on : (o : Option Log) (status : Status) (recorded : Bool) (scripts names : List (List ℕ)) (before after : Option (List ℕ)) → status ≢ NoMemory → recorded ≡ true
-    → ((b : Bool) → IfSome o (λ log. KeptOn status b false scripts names before after log)) → IfSome o (λ log. KeptOn FileFault recorded false scripts names before after log)
-unrecorded_on None status recorded scripts names before after enough on kept = tt
-unrecorded_on (Some log) status recorded scripts names before after enough on kept = record {
+pub unrecorded_on : (o : Option Log) (status : Status) (recorded : Bool) (scripts names : List (List ℕ)) (before after : Option (List ℕ))
+    → IsOfRun status → was_refused status ≡ false → status ≢ NoMemory → recorded ≡ true
+    → ((b : Bool) → IfSome o (λ log. KeptOn status b false scripts names before after log)) → IfSome o (λ log. GivenUp status scripts before after log)
+    → IfSome o (λ log. KeptOn FileFault recorded false scripts names before after log)
+unrecorded_on None status recorded scripts names before after is begun enough on kept given = tt
+unrecorded_on (Some log) status recorded scripts names before after is begun enough on kept given = record {
   last = λ p blocks first top grows told none quiet over. absurd (false≢true over);
   complete = λ p blocks first grows. on;
   never = λ p blocks first grows ne. (kept recorded).never p blocks first grows enough;
   ran = λ over. absurd (false≢true over);
   begun = λ off. kept_begun status recorded false scripts names before after log (kept recorded);
   right = λ ne. (kept recorded).right enough;
+  unrecorded = λ fault. inr (stayed_or_refused status recorded scripts names before after log is begun enough (kept recorded) given);
 }
 
 -- or no memory was found for it
@@ -399,6 +494,7 @@ early_kept_on status recorded trace scripts names b log off none = subst (λ (l 
   ran = λ over. absurd (both_ways (is_over status) (not_over status off) over);
   begun = λ is. record { lines = []; traced = inr (inl refl); texts = []; puts = inl refl; begun = nothing_begun (with_trace trace [] []) b };
   right = λ ne. (tt, tt);
+  unrecorded = λ fault. inl refl;
 })
 
 pub early_over_on : (status : Status) (recorded trace : Bool) (files : Option Named) (watch : List ℕ) (names : List (List ℕ)) (b : Option (List ℕ)) (log : Log) → IsOfFile status → log ≡ []
@@ -410,27 +506,38 @@ early_over_on status recorded trace files watch names b log is none = record {
   kept = early_kept_on status recorded trace [] names b log (no_run status is) none;
 }
 
+-- nor is anything given up
+early_given : (status : Status) (scripts : List (List ℕ)) (b : Option (List ℕ)) (log : Log) → IsOfFile status → log ≡ [] → GivenUp status scripts b b log
+early_given status scripts b log file none = record {
+  some = λ off. new_put scripts log b none;
+  tried = λ off enough. inl (new_all scripts log b none);
+  refused = λ is. absurd (not_run status OutFault (no_run status file) refl is);
+}
+
 -- the same of what `follow` puts, for wires that are new, which may tell no log
 pub early_told_on : (t : Told) (status : Status) (recorded : Bool) (files : Option Named) (watch : List ℕ) (names : List (List ℕ)) (b : Option (List ℕ)) → IsOfFile status → Tells [] t
     → IfSome t.log (λ log. KeptLive status recorded files watch names b b log)
 early_told_on t status recorded files watch names b is fresh = told_over t.log fresh.content where
   told_over : (o : Option Log) → IfSome o (λ l. l ≡ []) → IfSome o (λ log. KeptLive status recorded files watch names b b log)
   told_over None none = tt
-  told_over (Some log) none = record { over = early_over_on status recorded false files watch names b log is none; some = λ off. new_put _ log b none }
+  told_over (Some log) none = record { over = early_over_on status recorded false files watch names b log is none; given_up = early_given status _ b log is none }
 
 -- with the scripts of the watch file
-pub over_watch_on : (status : Status) (recorded trace : Bool) (files : Option Named) (watch : List ℕ) (scripts names : List (List ℕ)) (before after : Option (List ℕ)) (log : Log)
-    → IfSome files (λ m. IfSome (finite.get m watch) (λ bytes. watch_of bytes ≡ Ok scripts)) → KeptOn status recorded trace scripts names before after log
-    → KeptOnOver status recorded trace files watch names before after log
-over_watch_on status recorded trace files watch scripts names before after log read kept = record { scripts = scripts; watched = λ made. read; unwatched = inr read; kept = kept }
+pub tape_watch_on : (status : Status) (trace : Bool) (files : Option Named) (watch : List ℕ) (scripts names : List (List ℕ)) (before after : Option (List ℕ)) (log : Log)
+    → IsWatchFile files watch scripts → KeptOn status false trace scripts names before after log → (status ≡ OutFault → CutShort trace scripts names before after log)
+    → KeptOnTape status trace files watch names before after log
+tape_watch_on status trace files watch scripts names before after log read kept refused = record {
+  over = record { scripts = scripts; watched = λ made. read; unwatched = inr read; kept = kept };
+  refused = refused;
+}
 
 pub told_over_watch_on : (o : Option Log) (status : Status) (recorded : Bool) (files : Option Named) (watch : List ℕ) (scripts names : List (List ℕ)) (before after : Option (List ℕ))
-    → IfSome files (λ m. IfSome (finite.get m watch) (λ bytes. watch_of bytes ≡ Ok scripts)) → IfSome o (λ log. KeptOn status recorded false scripts names before after log)
-    → (is_over status ≡ false → IfSome o (λ log. HasPutSome scripts log before after)) → IfSome o (λ log. KeptLive status recorded files watch names before after log)
-told_over_watch_on None status recorded files watch scripts names before after read kept some = tt
-told_over_watch_on (Some log) status recorded files watch scripts names before after read kept some = record {
+    → IsWatchFile files watch scripts → IfSome o (λ log. KeptOn status recorded false scripts names before after log)
+    → IfSome o (λ log. GivenUp status scripts before after log) → IfSome o (λ log. KeptLive status recorded files watch names before after log)
+told_over_watch_on None status recorded files watch scripts names before after read kept given = tt
+told_over_watch_on (Some log) status recorded files watch scripts names before after read kept given = record {
   over = record { scripts = scripts; watched = λ made. read; unwatched = inr read; kept = kept };
-  some = some;
+  given_up = given;
 }
 
 -- ---- what is promised over any wires
@@ -489,11 +596,18 @@ run_tallied_on end ends status turns names was now is within whole nobody over t
   done = λ same. over (done_by end ends status is same);
 }
 
+early_on_tape : (status : Status) (trace : Bool) (files : Option Named) (watch : List ℕ) (names : List (List ℕ)) (b : Option (List ℕ)) (log : Log) → IsOfFile status → log ≡ []
+    → KeptOnTape status trace files watch names b b log
+early_on_tape status trace files watch names b log file none = record {
+  over = early_over_on status false trace files watch names b log file none;
+  refused = λ is. absurd (not_run status OutFault (no_run status file) refl is);
+}
+
 -- what is promised of `replay --follow` where the tape wasn't used
 pub early_replayed_on : (status : Status) (turns : ℕ) (trace : Bool) (files : Option Named) (watch : List ℕ) (b : Option (List ℕ)) (t : Told) (log : Log)
     → IsOfFile status → Tells [] t → log ≡ [] → IsReplayedOn status turns trace files watch b b t t log
 early_replayed_on status turns trace files watch b t log is fresh none =
-    ([], early_over_on status false trace files watch [] b log is none, early_tallied_on status turns 0 t is fresh)
+    ([], early_on_tape status trace files watch [] b log is none, early_tallied_on status turns 0 t is fresh)
 
 -- the same in either mode
 pub early_replayed_in : (follow : Bool) (status : Status) (turns : ℕ) (trace : Bool) (files : Option Named) (watch : List ℕ) (b : Option (List ℕ)) (t : Told) (log : Log)

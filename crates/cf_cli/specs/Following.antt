@@ -1,6 +1,5 @@
 -- statement: what is promised of `follow`, and of `replay --follow`.
-use Rattle.std.specs.Prelude.{◌≡◌, ◌≢◌, ◌⊎◌, ℕ, Bool, true, false, List, [], ◌++◌, length, reverse, take, Option, IfSome, Ok}
-use Rattle.std.specs.FinMap as finite
+use Rattle.std.specs.Prelude.{◌≡◌, ◌≢◌, ◌⊎◌, ℕ, Bool, true, false, List, [], ◌++◌, length, reverse, take, Option}
 use Rattle.cf_bytes.specs.Files.{Named}
 use Rattle.cf_bytes.specs.Outside.{with_more}
 use Rattle.cf_bytes.specs.declared.hash.Hash32.{Hash32}
@@ -12,7 +11,7 @@ use Rattle.cf_place.specs.declared.place.PeerEnd.{PeerEnd}
 use Rattle.cf_run.specs.declared.trace.TraceLine.{TraceLine}
 use Rattle.cf_place.specs.Standing.{EndsTell}
 use Rattle.cf_run.specs.Run.{Followed, IsTraceOf}
-use Rattle.cf_run.specs.Texts.{HasBegun, HasPutSome, IsOver, joined}
+use Rattle.cf_run.specs.Texts.{HasBegun, HasPut, HasPutBut, HasPutSome, IsOver, joined}
 use Rattle.cf_sync.specs.Fetching.{AreBytes, IsQuiet, RightlyIn, following}
 use Rattle.cf_sync.specs.Growing.{IsGrowing, IsTold, OthersShowNone}
 use Rattle.cf_sync.specs.Honesty.{IsNeverClosed}
@@ -24,12 +23,11 @@ use Rattle.cf_wires.specs.Log.{Log, Told}
 use Rattle.cf_scan.specs.declared.history.Entry.{Entry}
 use Rattle.cf_scan.specs.HistoryText.{history_text}
 use Rattle.cf_scan.specs.Scan.{scan_of}
-use Rattle.cf_input.specs.WatchFile.{watch_of}
 use Rattle.cf_answers.specs.declared.status.Status.{Status}
-use Rattle.cf_answers.specs.declared.status.Status.TheVariants.{Done, NoMemory}
+use Rattle.cf_answers.specs.declared.status.Status.TheVariants.{Done, NoMemory, FileFault, OutFault}
 use Rattle.cf_answers.specs.Texts.{trace_text}
 use Rattle.cf_answers.specs.Statuses.{has_run, is_over}
-use Rattle.cf_cli.specs.Theorem.{AnswersTo, IsComplete, IsReplayed, Tallied}
+use Rattle.cf_cli.specs.Theorem.{AnswersTo, IsComplete, IsReplayed, IsWatchFile, Tallied}
 
 -- the trace before other bytes, where it is asked for
 abbrev pub with_trace : Bool → List TraceLine → List ℕ → List ℕ
@@ -51,6 +49,18 @@ pub record Stayed (status : Status) (trace : Bool) (scripts names : List (List �
   pub puts : ArePut scripts log texts
   pub written : after ≡ with_more before (with_trace trace lines (joined texts))
 
+-- the same where the sink has failed at the end: a beginning of those texts was written, behind the trace where it is asked for
+pub record CutShort (trace : Bool) (scripts names : List (List ℕ)) (before after : Option (List ℕ)) (log : Log) : Type 0 where
+  pub end : End
+  pub height : ℕ
+  pub tip : Hash32
+  pub entries : List Entry
+  pub lines : List TraceLine
+  pub followed : Followed (following scripts) end height tip entries lines names log
+  pub texts : List (List ℕ)
+  pub puts : ArePut scripts log texts
+  pub begun : HasBegun (with_trace trace lines (joined texts)) before after
+
 -- where it failed: a beginning of the trace, where it is asked for, and of the texts of the quiet moments was written
 pub record BegunTexts (trace : Bool) (scripts : List (List ℕ)) (before after : Option (List ℕ)) (log : Log) : Type 0 where
   pub lines : List TraceLine
@@ -58,6 +68,13 @@ pub record BegunTexts (trace : Bool) (scripts : List (List ℕ)) (before after :
   pub texts : List (List ℕ)
   pub puts : WerePut scripts log texts ⊎ ArePut scripts log texts
   pub begun : HasBegun (with_trace trace lines (joined texts)) before after
+
+-- What was put of a run that was given up, by its answer. All that was due before the last delivery was put whole, and at most a beginning of what is due
+-- now. Unless memory was wanting, all was put whole, the text of the last moment too, or that text could not be put; and with OutFault it could not.
+pub record GivenUp (status : Status) (scripts : List (List ℕ)) (before after : Option (List ℕ)) (log : Log) : Type 0 where
+  pub some : is_over status ≡ false → HasPutSome scripts log before after
+  pub tried : is_over status ≡ false → status ≢ NoMemory → HasPut scripts log before after ⊎ HasPutBut scripts log before after
+  pub refused : status ≡ OutFault → HasPutBut scripts log before after
 
 -- a peer whose chain grows up to these blocks, over a log whose strings, with those of the blocks and of their filters, don't clash
 pub record Grows (log : Log) (p : ℕ) (blocks : List Block) (first : ℕ) : Type 0 where
@@ -75,7 +92,8 @@ pub record EndsBy (trace : Bool) (scripts : List (List ℕ)) (text : List ℕ) (
 -- The follow theorem for the program. Whatever peers send: where the chain of one of them grows as it answers, no other connected peer has shown another
 -- chain as long as the one that it told of last, and nothing is open when the run is over, then what was written last is exactly the history that a plain
 -- scan of every block of that chain gives for the watched scripts, with its tip; no answer comes but for the end of the deliveries, a sink that fails, want of
--- memory, or a record that can't be written; and that peer is never closed.
+-- memory, or a record that can't be written; and that peer is never closed, of which only the answer NoMemory says nothing. Where a file has failed, either
+-- nothing has passed, or a run came to its end, by the log, with all its texts written, or a text could not be put.
 pub record KeptOn (status : Status) (recorded trace : Bool) (scripts names : List (List ℕ)) (before after : Option (List ℕ)) (log : Log) : Type 0 where
   pub last : (p : ℕ) (blocks : List Block) (first top : ℕ) → Grows log p blocks first → IsTold blocks first (trail log p) top
       → OthersShowNone log p (take top blocks) → IsQuiet log → is_over status ≡ true
@@ -85,19 +103,26 @@ pub record KeptOn (status : Status) (recorded trace : Bool) (scripts names : Lis
   pub ran : is_over status ≡ true → Stayed status trace scripts names before after log
   pub begun : is_over status ≡ false → BegunTexts trace scripts before after log
   pub right : status ≢ NoMemory → AreBytes log × RightlyIn Following log
+  pub unrecorded : status ≡ FileFault → (log ≡ [])
+      ⊎ (((ended : Status) × Stayed ended trace scripts names before after log) ⊎ HasPutBut scripts log before after)
 
--- the same with the scripts of the watch file, which was read before anything passed
+-- the same with the scripts of the watch file, which was there, and was read before anything passed
 pub record KeptOnOver (status : Status) (recorded trace : Bool) (files : Option Named) (watch : List ℕ) (names : List (List ℕ)) (before after : Option (List ℕ)) (log : Log) : Type 0 where
   pub scripts : List (List ℕ)
-  pub watched : has_run status ≡ true → IfSome files (λ m. IfSome (finite.get m watch) (λ bytes. watch_of bytes ≡ Ok scripts))
-  pub unwatched : (log ≡ []) ⊎ IfSome files (λ m. IfSome (finite.get m watch) (λ bytes. watch_of bytes ≡ Ok scripts))
+  pub watched : has_run status ≡ true → IsWatchFile files watch scripts
+  pub unwatched : (log ≡ []) ⊎ IsWatchFile files watch scripts
   pub kept : KeptOn status recorded trace scripts names before after log
 
--- the same of `follow`, which puts each text at once, and no trace: where it failed all that was due before the last delivery was put whole, and at most
--- a beginning of what is due now
+-- the same of `follow`, which puts each text at once, and no trace, with what was put where the run was given up
 pub record KeptLive (status : Status) (recorded : Bool) (files : Option Named) (watch : List ℕ) (names : List (List ℕ)) (before after : Option (List ℕ)) (log : Log) : Type 0 where
   pub over : KeptOnOver status recorded false files watch names before after log
-  pub some : is_over status ≡ false → HasPutSome over.scripts log before after
+  pub given_up : GivenUp status over.scripts before after log
+
+-- the same of `replay --follow`, which writes its texts once the run is over: where the sink fails, the run came to its end
+pub record KeptOnTape (status : Status) (trace : Bool) (files : Option Named) (watch : List ℕ) (names : List (List ℕ))
+    (before after : Option (List ℕ)) (log : Log) : Type 0 where
+  pub over : KeptOnOver status false trace files watch names before after log
+  pub refused : status ≡ OutFault → CutShort trace over.scripts names before after log
 
 -- what is promised over any wires: the same as of `sync`, and Done only where the turns are taken, or the wires have no more to give
 pub record TalliedOn (status : Status) (turns names : ℕ) (was now : Told) : Type 0 where
@@ -107,7 +132,7 @@ pub record TalliedOn (status : Status) (turns names : ℕ) (was now : Told) : Ty
 -- what is promised of `replay --follow` over a tape: the same, of a log whose names aren't told
 abbrev pub IsReplayedOn : Status → ℕ → Bool → Option Named → List ℕ → Option (List ℕ) → Option (List ℕ) → Told → Told → Log → Type 0
 IsReplayedOn status turns trace files watch before after was now log =
-    (names : List (List ℕ)) × KeptOnOver status false trace files watch names before after log × TalliedOn status turns (length names) was now
+    (names : List (List ℕ)) × KeptOnTape status trace files watch names before after log × TalliedOn status turns (length names) was now
 
 -- what is promised of `replay`, with `--follow` or without
 abbrev pub IsReplayedIn : Bool → Status → ℕ → Bool → Option Named → List ℕ → Option (List ℕ) → Option (List ℕ) → Told → Told → Log → Type 0

@@ -29,8 +29,8 @@ abbrev pub KeepsOthers : Option (List ℕ) → Option Named → Option Named →
 KeepsOthers None before after = after ≡ before
 KeepsOthers (Some name) before after = SameElsewhere name before after
 
--- The files after `sync` or `follow`, by its answer. Once a run has ended, or a text of it could not be put, its record is written: by `sync` before any
--- text, by `follow` behind them; no other answer changes a file, but that of a file that fails, which may be the record.
+-- The files after `sync` or `follow`, by its answer. Where a run has ended, or a text of it could not be put, its record stands; no other answer changes a
+-- file, but that of a file that fails, which may be the record.
 abbrev pub Records : Status → Option (List ℕ) → Option Log → Option Named → Option Named → Type 0
 Records Done file log before after = HasRecord file log before after
 Records OutFault file log before after = HasRecord file log before after

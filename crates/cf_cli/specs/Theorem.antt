@@ -1,5 +1,5 @@
 -- statement: what is promised of a run of the program.
-use Rattle.std.specs.Prelude.{◌≡◌, ◌≢◌, ◌⊎◌, ◌<◌, ◌≤◌, ℕ, Bool, true, false, List, [], length, take, Option, IfSome, Vec, Result, Ok, Err}
+use Rattle.std.specs.Prelude.{◌≡◌, ◌≢◌, ◌⊎◌, ◌<◌, ◌≤◌, ℕ, Bool, true, false, List, [], length, take, Option, IfSome, IsSomeAnd, Vec, Result, Ok, Err}
 use Rattle.std.specs.FinMap as finite
 use Rattle.std.specs.Global.{Global}
 use Rattle.cf_bytes.specs.Files.{Named}
@@ -63,6 +63,10 @@ pub record WasFollowed (scripts names : List (List ℕ)) (log : Log) : Type 0 wh
   pub lines : List TraceLine
   pub followed : Followed (once scripts) end height tip entries lines names log
 
+-- where the files tell: the watch file is there, and these are its scripts
+abbrev pub IsWatchFile : Option Named → List ℕ → List (List ℕ) → Type 0
+IsWatchFile files watch scripts = IfSome files (λ m. IsSomeAnd (finite.get m watch) (λ bytes. watch_of bytes ≡ Ok scripts))
+
 -- Done, or the answer of a sink that fails, of want of memory, or of a record that can't be written
 abbrev pub Settles : Status → Bool → Type 0
 Settles Done recorded = Unit {0}
@@ -89,7 +93,7 @@ pub record Serves (log : Log) (p : ℕ) (blocks : List Block) : Type 0 where
 -- The sync theorem for the program. Whatever peers send: where one of them answers as the serving machine of a chain of blocks does, and no
 -- connected peer has shown another chain as long, a run that answers Done has written exactly the history that a plain scan of every block of
 -- that chain gives for the watched scripts, with its tip; it answers Done as soon as no request is open, unless the sink fails, memory is
--- wanting, or the record that was asked for can't be written; and it never closes that peer.
+-- wanting, or the record that was asked for can't be written; and it never closes that peer, of which only the answer NoMemory says nothing.
 pub record Kept (status : Status) (recorded trace : Bool) (scripts names : List (List ℕ)) (before after : Option (List ℕ)) (log : Log) : Type 0 where
   pub writes : (p : ℕ) (blocks : List Block) → Serves log p blocks → ShowsNoOther log blocks → status ≡ Done → trace ≡ false
       → after ≡ with_more before (history_text (scan_of blocks scripts) (length blocks) (tip_hash (headers_of blocks)))
@@ -99,11 +103,11 @@ pub record Kept (status : Status) (recorded trace : Bool) (scripts names : List 
   pub ran : has_run status ≡ true → Ran status trace scripts names before after log
   pub unrecorded : status ≡ FileFault → (log ≡ []) ⊎ WasFollowed scripts names log
 
--- the same with the scripts of the watch file
+-- the same with the scripts of the watch file: it was there, wherever a run was made or anything has passed before a file failed
 pub record KeptOver (status : Status) (recorded trace : Bool) (files : Option Named) (watch : List ℕ) (names : List (List ℕ)) (before after : Option (List ℕ)) (log : Log) : Type 0 where
   pub scripts : List (List ℕ)
-  pub watched : has_run status ≡ true → IfSome files (λ m. IfSome (finite.get m watch) (λ bytes. watch_of bytes ≡ Ok scripts))
-  pub unrecorded : status ≡ FileFault → (log ≡ []) ⊎ IfSome files (λ m. IfSome (finite.get m watch) (λ bytes. watch_of bytes ≡ Ok scripts))
+  pub watched : has_run status ≡ true → IsWatchFile files watch scripts
+  pub unrecorded : status ≡ FileFault → (log ≡ []) ⊎ IsWatchFile files watch scripts
   pub kept : Kept status recorded trace scripts names before after log
 
 -- an answer that comes only where a peer is connected

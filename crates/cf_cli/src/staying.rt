@@ -4,13 +4,12 @@ ghost use Rattle.cf_bytes.specs.Files.{IsAtMostWritten};
 ghost use Rattle.cf_bytes.specs.Outside.{HasRisen};
 ghost use Rattle.cf_run.specs.Names.{names_in};
 ghost use Rattle.cf_run.specs.Run.{HasDialled, HasFailed};
-ghost use Rattle.cf_run.specs.Texts.{HasPutSome};
 ghost use Rattle.cf_run.specs.Versions.{HasWords};
 ghost use Rattle.cf_wires.specs.Log.{Tells};
 ghost use Rattle.cf_cli.specs.Ends.{AreEndsAfter, AreEndsOver};
-ghost use Rattle.cf_cli.specs.Following.{KeptOn, TalliedOn, with_trace};
+ghost use Rattle.cf_cli.specs.Following.{CutShort, GivenUp, KeptOn, TalliedOn, with_trace};
 ghost use Rattle.cf_cli.specs.Recording.{Records};
-ghost use Rattle.cf_answers.specs.Statuses.{has_run, is_over, was_refused, was_unbegun};
+ghost use Rattle.cf_answers.specs.Statuses.{has_run, was_refused, was_unbegun};
 
 use crate::following::status_of;
 use crate::recording::{keep_where, write_record};
@@ -44,7 +43,7 @@ fn stay_live<W: Wires, H: HeaderStore + Drop, M: Matcher + Drop, O: Sink>(
     requires few { length names.now ≤ 8 }
     requires empty { (q : ℕ) → H.chain store q ≡ None }
     ensures kept { (recorded : Bool) → IfSome (W.told wires.new).log (λ log. KeptOn result recorded false watch (names_in names.now) (O.written out.old) (O.written out.new) log) }
-    ensures some { is_over result ≡ false → IfSome (W.told wires.new).log (λ log. HasPutSome watch log (O.written out.old) (O.written out.new)) }
+    ensures given_up { IfSome (W.told wires.new).log (λ log. GivenUp result watch (O.written out.old) (O.written out.new) log) }
     ensures tallied { TalliedOn result turns (length (names_in names.now)) (W.told wires.old) (W.told wires.new) }
     ensures versions { HasWords (record { moment = moment; number = nonce }) (W.told wires.new) }
     ensures dialled { HasDialled (names_in names.now) (W.told wires.new) }
@@ -94,7 +93,7 @@ pub(crate) fn stay<F: Files, W: Wires, M: Matcher + Drop, O: Sink>(
     requires open { (W.told wires.old).finished ≡ false }
     requires few { length names.now ≤ 8 }
     ensures kept { IfSome (W.told wires.new).log (λ log. KeptOn result (is_some log_file.now) false watch (names_in names.now) (O.written out.old) (O.written out.new) log) }
-    ensures some { is_over result ≡ false → IfSome (W.told wires.new).log (λ log. HasPutSome watch log (O.written out.old) (O.written out.new)) }
+    ensures given_up { IfSome (W.told wires.new).log (λ log. GivenUp result watch (O.written out.old) (O.written out.new) log) }
     ensures tallied { TalliedOn result turns (length (names_in names.now)) (W.told wires.old) (W.told wires.new) }
     ensures versions { HasWords (record { moment = moment; number = nonce }) (W.told wires.new) }
     ensures dialled { HasDialled (names_in names.now) (W.told wires.new) }
@@ -158,6 +157,7 @@ pub(crate) fn stay_on_tape<W: Wires, M: Matcher + Drop, O: Sink>(
     requires open { (W.told wires.old).finished ≡ false }
     requires few { length names.now ≤ 8 }
     ensures kept { IfSome (W.told wires.new).log (λ log. KeptOn result false trace watch (names_in names.now) (O.written out.old) (O.written out.new) log) }
+    ensures refused { result ≡ Status.OutFault → IfSome (W.told wires.new).log (λ log. CutShort trace watch (names_in names.now) (O.written out.old) (O.written out.new) log) }
     ensures tallied { TalliedOn result turns (length (names_in names.now)) (W.told wires.old) (W.told wires.new) }
     ensures versions { HasWords (record { moment = moment; number = nonce }) (W.told wires.new) }
     ensures dialled { HasDialled (names_in names.now) (W.told wires.new) }

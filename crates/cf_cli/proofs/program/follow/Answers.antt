@@ -5,7 +5,7 @@ use Rattle.std.specs.Prelude.{is_some}
 use Rattle.cf_answers.specs.declared.status.Status.TheVariants.{NoMemory}
 use Rattle.cf_run.specs.Names.{names_in}
 use Rattle.cf_run.proofs.Versions.{new_words}
-use Rattle.cf_cli.proofs.Plays.{versions_so, new_dialled, new_unfailed}
+use Rattle.cf_cli.proofs.Plays.{versions_so, new_dialled, new_unfailed, watch_there}
 use Rattle.cf_cli.proofs.Asking.{unwritten}
 use Rattle.cf_cli.proofs.Ends.{over_early, over_stay}
 use Rattle.cf_cli.proofs.Records.{early_records, judged_once_begun, records_from}
@@ -28,8 +28,8 @@ returns-in_default-clause-tallied g c = early_tallied_on NoMemory _ _ _ tt c.req
 pub returns-clause-kept : goal.returns-clause-kept
 returns-clause-kept g c =
     told_over_watch_on (g.W.Wires.told c.stay.new.wires).log c.stay.result (is_some c.args.log_file.now) (g.F.Files.files c.args.files.now) c.args.watch.now c.in-Ok.scripts (names_in c.args.peers.now)
-    (g.O.Sink.written c.args.out.now) (g.O.Sink.written c.stay.new.out) c.in-Ok.ensures.scripts c.stay.ensures.kept
-    c.stay.ensures.some
+    (g.O.Sink.written c.args.out.now) (g.O.Sink.written c.stay.new.out)
+    (watch_there (g.F.Files.files c.args.files.now) c.args.watch.now c.in-Ok.scripts c.in-Ok.ensures.answer c.in-Ok.ensures.scripts) c.stay.ensures.kept c.stay.ensures.given_up
 
 pub returns-in-Err-clause-records : goal.returns-in-Err-clause-records
 returns-in-Err-clause-records g c =

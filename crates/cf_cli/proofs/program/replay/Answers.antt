@@ -5,8 +5,8 @@ use Rattle.cf_run.specs.Names.{names_in}
 use Rattle.cf_wires.specs.Log.{Told}
 use Rattle.cf_wires.specs.Memory.{log_of, failing_of, told_of}
 use Rattle.cf_wires.specs.Wires.{Script}
-use Rattle.cf_cli.proofs.Plays.{versions_so, unplayed_words, made, plays_of, told_so, told_plays, early_plays, new_tape, same_told, over_watch}
-use Rattle.cf_cli.proofs.Stays.{early_replayed_in, over_watch_on}
+use Rattle.cf_cli.proofs.Plays.{versions_so, unplayed_words, made, plays_of, told_so, told_plays, early_plays, new_tape, same_told, over_watch, watch_there}
+use Rattle.cf_cli.proofs.Stays.{early_replayed_in, tape_watch_on}
 use Rattle.cf_cli.specs.Following.{TalliedOn}
 use Rattle.cf_cli.specs.Theorem.{Tallied}
 use Rattle.cf_cli.proofs.Ends.{ends_early}
@@ -24,8 +24,9 @@ returns-in-Err-load_session-clause-replayed g c =
 pub returns-then-follow-clause-replayed : goal.returns-then-follow-clause-replayed
 returns-then-follow-clause-replayed g c = rw c.if-follow.true (
   names_in c.as_slice-names.result.now,
-  over_watch_on c.stay_on_tape.result false c.args.trace (g.F.Files.files c.args.files.now) c.args.watch.now c.in-Ok.scripts (names_in c.as_slice-names.result.now) (g.O.Sink.written c.args.out.now)
-      (g.O.Sink.written c.stay_on_tape.new.out) (log_of c.stay_on_tape.new.wires) c.in-Ok.ensures.scripts c.stay_on_tape.ensures.kept,
+  tape_watch_on c.stay_on_tape.result c.args.trace (g.F.Files.files c.args.files.now) c.args.watch.now c.in-Ok.scripts (names_in c.as_slice-names.result.now) (g.O.Sink.written c.args.out.now)
+      (g.O.Sink.written c.stay_on_tape.new.out) (log_of c.stay_on_tape.new.wires)
+      (watch_there (g.F.Files.files c.args.files.now) c.args.watch.now c.in-Ok.scripts c.in-Ok.ensures.answer c.in-Ok.ensures.scripts) c.stay_on_tape.ensures.kept c.stay_on_tape.ensures.refused,
   subst (λ (t : Told). TalliedOn c.stay_on_tape.result 10000000 (length (names_in c.as_slice-names.result.now)) t (told_of c.stay_on_tape.new.wires))
       (same_told c.load.new.self c.args.tape.now c.load.ensures.log c.load.ensures.finished) c.stay_on_tape.ensures.tallied,
 )
@@ -34,7 +35,8 @@ pub returns-clause-replayed : goal.returns-clause-replayed
 returns-clause-replayed g c = rw c.if-follow.false (
   names_in c.as_slice-names.result.now,
   over_watch c.run_once.result false c.args.trace (g.F.Files.files c.args.files.now) c.args.watch.now c.in-Ok.scripts (names_in c.as_slice-names.result.now) (g.O.Sink.written c.args.out.now)
-      (g.O.Sink.written c.run_once.new.out) (log_of c.run_once.new.wires) c.in-Ok.ensures.scripts c.run_once.ensures.kept,
+      (g.O.Sink.written c.run_once.new.out) (log_of c.run_once.new.wires)
+      (watch_there (g.F.Files.files c.args.files.now) c.args.watch.now c.in-Ok.scripts c.in-Ok.ensures.answer c.in-Ok.ensures.scripts) c.run_once.ensures.kept,
   subst (λ (t : Told). Tallied c.run_once.result 10000000 (length (names_in c.as_slice-names.result.now)) t (told_of c.run_once.new.wires))
       (same_told c.load.new.self c.args.tape.now c.load.ensures.log c.load.ensures.finished) c.run_once.ensures.tallied,
 )

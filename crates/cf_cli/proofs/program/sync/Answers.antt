@@ -4,7 +4,7 @@ use Rattle.std.specs.Int.{w64}
 use Rattle.std.specs.Prelude.{is_some}
 use Rattle.cf_run.specs.Names.{names_in}
 use Rattle.cf_run.proofs.Versions.{new_words}
-use Rattle.cf_cli.proofs.Plays.{versions_so, early_told, early_tallied, new_dialled, new_unfailed, told_over_watch}
+use Rattle.cf_cli.proofs.Plays.{versions_so, early_told, early_tallied, new_dialled, new_unfailed, told_over_watch, watch_there}
 use Rattle.cf_cli.proofs.Asking.{unwritten}
 use Rattle.cf_cli.proofs.Ends.{ends_early, ends_stay}
 use Rattle.cf_cli.proofs.Records.{early_records, judged_once_begun, records_from}
@@ -18,7 +18,8 @@ returns-in-Err-clause-kept g c =
 pub returns-clause-kept : goal.returns-clause-kept
 returns-clause-kept g c =
     told_over_watch (g.W.Wires.told c.run_once.new.wires).log c.run_once.result (is_some c.args.log_file.now) false (g.F.Files.files c.args.files.now) c.args.watch.now c.in-Ok.scripts (names_in c.args.peers.now)
-    (g.O.Sink.written c.args.out.now) (g.O.Sink.written c.run_once.new.out) c.in-Ok.ensures.scripts c.run_once.ensures.kept
+    (g.O.Sink.written c.args.out.now) (g.O.Sink.written c.run_once.new.out)
+    (watch_there (g.F.Files.files c.args.files.now) c.args.watch.now c.in-Ok.scripts c.in-Ok.ensures.answer c.in-Ok.ensures.scripts) c.run_once.ensures.kept
 
 pub returns-in-Err-clause-records : goal.returns-in-Err-clause-records
 returns-in-Err-clause-records g c =

@@ -10,7 +10,7 @@ use Rattle.cf_answers.specs.Statuses.{was_refused}
 use Rattle.cf_cli.proofs.Ends.{over_failed, over_recorded, over_stay}
 use Rattle.cf_cli.proofs.Plays.{new_dialled, new_unfailed, versions_so}
 use Rattle.cf_cli.proofs.Records.{begun_records}
-use Rattle.cf_cli.proofs.Stays.{begun_by, early_tallied_on, failed_tallied_on, fresh_told, kept_some, new_put_told, spent_on, tallied_from, unrecorded_on}
+use Rattle.cf_cli.proofs.Stays.{begun_by, early_tallied_on, failed_tallied_on, fresh_told, kept_some, new_put_told, spent_given, spent_on, tallied_from, unrecorded_given, unrecorded_on}
 use Rattle.cf_cli.proofs.staying.stay.Goals as goal
 
 -- ---- no memory is found before the run
@@ -19,8 +19,10 @@ pub returns-in_default-clause-kept : goal.returns-in_default-clause-kept
 returns-in_default-clause-kept g c =
     fresh_told (g.W.Wires.told c.args.wires.now).log c.args.watch (names_in c.args.names.now) (is_some c.args.log_file.now) false (g.O.Sink.written c.args.out.now) c.requires.fresh.content
 
-pub returns-in_default-clause-some : goal.returns-in_default-clause-some
-returns-in_default-clause-some g c = λ off. new_put_told (g.W.Wires.told c.args.wires.now).log c.args.watch (g.O.Sink.written c.args.out.now) c.requires.fresh.content
+pub returns-in_default-clause-given_up : goal.returns-in_default-clause-given_up
+returns-in_default-clause-given_up g c =
+    spent_given (g.W.Wires.told c.args.wires.now).log c.args.watch _ _
+    (new_put_told (g.W.Wires.told c.args.wires.now).log c.args.watch (g.O.Sink.written c.args.out.now) c.requires.fresh.content)
 
 pub returns-in_default-clause-tallied : goal.returns-in_default-clause-tallied
 returns-in_default-clause-tallied g c = early_tallied_on NoMemory _ _ _ tt c.requires.fresh
@@ -44,10 +46,11 @@ returns-in-NoMemory-clause-kept g c =
     spent_on (g.W.Wires.told c.stay_live-status.new.wires).log c.stay_live-status.result (is_some c.args.log_file.now) c.args.watch (names_in c.args.names.now) (g.O.Sink.written c.args.out.now)
     (g.O.Sink.written c.stay_live-status.new.out) c.stay_live-status.ensures.kept
 
-pub returns-in-NoMemory-clause-some : goal.returns-in-NoMemory-clause-some
-returns-in-NoMemory-clause-some g c = λ off.
-    kept_some (g.W.Wires.told c.stay_live-status.new.wires).log c.stay_live-status.result (is_some c.args.log_file.now) c.args.watch (names_in c.args.names.now) _ _
-    c.stay_live-status.ensures.kept c.stay_live-status.ensures.some
+pub returns-in-NoMemory-clause-given_up : goal.returns-in-NoMemory-clause-given_up
+returns-in-NoMemory-clause-given_up g c =
+    spent_given (g.W.Wires.told c.stay_live-status.new.wires).log c.args.watch _ _
+    (kept_some (g.W.Wires.told c.stay_live-status.new.wires).log c.stay_live-status.result (is_some c.args.log_file.now) c.args.watch (names_in c.args.names.now) _ _
+    c.stay_live-status.ensures.kept c.stay_live-status.ensures.given_up)
 
 pub returns-in-NoMemory-clause-tallied : goal.returns-in-NoMemory-clause-tallied
 returns-in-NoMemory-clause-tallied g c = failed_tallied_on c.stay_live-status.result NoMemory _ _ _ _ _ refl tt c.stay_live-status.ensures.finished c.stay_live-status.ensures.tallied
@@ -67,10 +70,11 @@ returns-in-Err-NoMemory-clause-kept g c =
     spent_on (g.W.Wires.told c.stay_live-status.new.wires).log c.stay_live-status.result (is_some c.args.log_file.now) c.args.watch (names_in c.args.names.now) (g.O.Sink.written c.args.out.now)
     (g.O.Sink.written c.stay_live-status.new.out) c.stay_live-status.ensures.kept
 
-pub returns-in-Err-NoMemory-clause-some : goal.returns-in-Err-NoMemory-clause-some
-returns-in-Err-NoMemory-clause-some g c = λ off.
-    kept_some (g.W.Wires.told c.stay_live-status.new.wires).log c.stay_live-status.result (is_some c.args.log_file.now) c.args.watch (names_in c.args.names.now) _ _
-    c.stay_live-status.ensures.kept c.stay_live-status.ensures.some
+pub returns-in-Err-NoMemory-clause-given_up : goal.returns-in-Err-NoMemory-clause-given_up
+returns-in-Err-NoMemory-clause-given_up g c =
+    spent_given (g.W.Wires.told c.stay_live-status.new.wires).log c.args.watch _ _
+    (kept_some (g.W.Wires.told c.stay_live-status.new.wires).log c.stay_live-status.result (is_some c.args.log_file.now) c.args.watch (names_in c.args.names.now) _ _
+    c.stay_live-status.ensures.kept c.stay_live-status.ensures.given_up)
 
 pub returns-in-Err-NoMemory-clause-tallied : goal.returns-in-Err-NoMemory-clause-tallied
 returns-in-Err-NoMemory-clause-tallied g c = failed_tallied_on c.stay_live-status.result NoMemory _ _ _ _ _ refl tt c.stay_live-status.ensures.finished c.stay_live-status.ensures.tallied
@@ -89,12 +93,13 @@ pub returns-clause-kept : goal.returns-clause-kept
 returns-clause-kept g c =
     let files = rw c.in-Err-No.field-0-is at c.in-Err-No.ensures.files in
     unrecorded_on (g.W.Wires.told c.stay_live-status.new.wires).log c.stay_live-status.result (is_some c.args.log_file.now) c.args.watch (names_in c.args.names.now) (g.O.Sink.written c.args.out.now)
-    (g.O.Sink.written c.stay_live-status.new.out) (search rules) files.0 c.stay_live-status.ensures.kept
+    (g.O.Sink.written c.stay_live-status.new.out) c.stay_live-status.ensures.tallied.tallied.answers c.stay_live-status.ensures.unrefused (search rules) files.0
+    c.stay_live-status.ensures.kept c.stay_live-status.ensures.given_up
 
-pub returns-clause-some : goal.returns-clause-some
-returns-clause-some g c = λ off.
-    kept_some (g.W.Wires.told c.stay_live-status.new.wires).log c.stay_live-status.result (is_some c.args.log_file.now) c.args.watch (names_in c.args.names.now) _ _
-    c.stay_live-status.ensures.kept c.stay_live-status.ensures.some
+pub returns-clause-given_up : goal.returns-clause-given_up
+returns-clause-given_up g c =
+    unrecorded_given (g.W.Wires.told c.stay_live-status.new.wires).log c.stay_live-status.result (is_some c.args.log_file.now) c.args.watch (names_in c.args.names.now) _ _
+    c.stay_live-status.ensures.tallied.tallied.answers c.stay_live-status.ensures.unrefused (search rules) c.stay_live-status.ensures.kept c.stay_live-status.ensures.given_up
 
 pub returns-clause-tallied : goal.returns-clause-tallied
 returns-clause-tallied g c = failed_tallied_on c.stay_live-status.result FileFault _ _ _ _ _ refl tt c.stay_live-status.ensures.finished c.stay_live-status.ensures.tallied
@@ -119,8 +124,8 @@ returns-clause-ends g c =
 pub returns-in-Ok-write_record-clause-kept : goal.returns-in-Ok-write_record-clause-kept
 returns-in-Ok-write_record-clause-kept g c = c.stay_live-status.ensures.kept (is_some c.args.log_file.now)
 
-pub returns-in-Ok-write_record-clause-some : goal.returns-in-Ok-write_record-clause-some
-returns-in-Ok-write_record-clause-some g c = c.stay_live-status.ensures.some
+pub returns-in-Ok-write_record-clause-given_up : goal.returns-in-Ok-write_record-clause-given_up
+returns-in-Ok-write_record-clause-given_up g c = c.stay_live-status.ensures.given_up
 
 pub returns-in-Ok-write_record-clause-tallied : goal.returns-in-Ok-write_record-clause-tallied
 returns-in-Ok-write_record-clause-tallied g c = tallied_from c.stay_live-status.result _ _ _ _ _ c.stay_live-status.ensures.finished c.stay_live-status.ensures.tallied

@@ -1,14 +1,12 @@
 use Rattle.std.proofs.Common.{◌≡◌, Err, false, refl, rules, sym, ◌∙◌, ap}
 use Rattle.std.proofs.Math.Facts.{to_z-of_z}
-use Rattle.std.proofs.lemmas.Bool.{both_ways}
 use Rattle.std.proofs.lemmas.List.{length-map}
 use Rattle.std.specs.Int.{w64}
 use Rattle.std.specs.Prelude.{string_bytes}
 use Rattle.cf_run.specs.Names.{names_in}
-use Rattle.cf_answers.specs.Statuses.{is_over}
 use Rattle.cf_cli.proofs.Ends.{copied, over_put, over_stay}
 use Rattle.cf_cli.proofs.Plays.{versions_so}
-use Rattle.cf_cli.proofs.Stays.{begun_by, failed_told, over_by, run_tallied_on, some_but_told, some_put_told, some_so_told, spent_tallied_on, spent_told, stayed_told, unwritten_tallied_on}
+use Rattle.cf_cli.proofs.Stays.{begun_by, failed_given, failed_told, over_by, over_given, run_tallied_on, some_but_told, some_put_told, some_so_told, spent_given, spent_tallied_on, spent_told, stayed_told, unwritten_tallied_on}
 use Rattle.cf_cli.proofs.staying.stay_live.Goals as goal
 
 pub returns-in-Ok-to_vec-clause-kept : goal.returns-in-Ok-to_vec-clause-kept
@@ -37,24 +35,28 @@ returns-in-Err-NoMemory-clause-kept g c = λ recorded.
     spent_told (g.W.Wires.told c.follow_over.new.wires).log c.args.watch (names_in c.args.names.now) recorded _ _
     (some_so_told (g.W.Wires.told c.follow_over.new.wires).log c.args.watch _ _ (rw (c.new-texts.ensures.same, same) at c.in-Err-NoMemory.ensures.put_so (ap Err c.in-Err-NoMemory.field-0-is)))
 
-pub returns-in-Ok-to_vec-clause-some : goal.returns-in-Ok-to_vec-clause-some
-returns-in-Ok-to_vec-clause-some g c = λ off.
-    absurd (both_ways (is_over c.status_of.result) off (over_by c.in-Ok.outcome.end c.in-Ok.outcome.ends.items c.status_of.result c.status_of.ensures.answer))
+pub returns-in-Ok-to_vec-clause-given_up : goal.returns-in-Ok-to_vec-clause-given_up
+returns-in-Ok-to_vec-clause-given_up g c =
+    over_given (g.W.Wires.told c.follow_over.new.wires).log c.status_of.result c.args.watch _ _
+    (over_by c.in-Ok.outcome.end c.in-Ok.outcome.ends.items c.status_of.result c.status_of.ensures.answer)
 
-pub returns-in_default-clause-some : goal.returns-in_default-clause-some
-returns-in_default-clause-some g c = λ off.
+pub returns-in_default-clause-given_up : goal.returns-in_default-clause-given_up
+returns-in_default-clause-given_up g c =
     let same : c.follow_over.new.texts.sink.now ≡ c.out-1.given.0 = search rules in
-    some_put_told (g.W.Wires.told c.follow_over.new.wires).log c.args.watch _ _ (rw (c.new-texts.ensures.same, same) at c.in-Ok.ensures.put)
+    spent_given (g.W.Wires.told c.follow_over.new.wires).log c.args.watch _ _
+    (some_put_told (g.W.Wires.told c.follow_over.new.wires).log c.args.watch _ _ (rw (c.new-texts.ensures.same, same) at c.in-Ok.ensures.put))
 
-pub returns-in-Err-Failed-clause-some : goal.returns-in-Err-Failed-clause-some
-returns-in-Err-Failed-clause-some g c = λ off.
+pub returns-in-Err-Failed-clause-given_up : goal.returns-in-Err-Failed-clause-given_up
+returns-in-Err-Failed-clause-given_up g c =
     let same : c.follow_over.new.texts.sink.now ≡ c.out-1.given.0 = search rules in
-    some_but_told (g.W.Wires.told c.follow_over.new.wires).log c.args.watch _ _ (rw (c.new-texts.ensures.same, same) at c.in-Err-Failed.ensures.put_but (ap Err c.in-Err-Failed.field-0-is))
+    failed_given (g.W.Wires.told c.follow_over.new.wires).log c.args.watch _ _
+    (rw (c.new-texts.ensures.same, same) at c.in-Err-Failed.ensures.put_but (ap Err c.in-Err-Failed.field-0-is))
 
-pub returns-in-Err-NoMemory-clause-some : goal.returns-in-Err-NoMemory-clause-some
-returns-in-Err-NoMemory-clause-some g c = λ off.
+pub returns-in-Err-NoMemory-clause-given_up : goal.returns-in-Err-NoMemory-clause-given_up
+returns-in-Err-NoMemory-clause-given_up g c =
     let same : c.follow_over.new.texts.sink.now ≡ c.out-1.given.0 = search rules in
-    some_so_told (g.W.Wires.told c.follow_over.new.wires).log c.args.watch _ _ (rw (c.new-texts.ensures.same, same) at c.in-Err-NoMemory.ensures.put_so (ap Err c.in-Err-NoMemory.field-0-is))
+    spent_given (g.W.Wires.told c.follow_over.new.wires).log c.args.watch _ _
+    (some_so_told (g.W.Wires.told c.follow_over.new.wires).log c.args.watch _ _ (rw (c.new-texts.ensures.same, same) at c.in-Err-NoMemory.ensures.put_so (ap Err c.in-Err-NoMemory.field-0-is)))
 
 pub returns-in-Ok-to_vec-clause-tallied : goal.returns-in-Ok-to_vec-clause-tallied
 returns-in-Ok-to_vec-clause-tallied g c =

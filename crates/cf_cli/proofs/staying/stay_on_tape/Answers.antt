@@ -1,14 +1,16 @@
 use Rattle.std.proofs.Common.{Err, Some, false, refl, rules, sym, ◌∙◌, ap}
 use Rattle.std.proofs.Math.Facts.{to_z-of_z}
+use Rattle.std.proofs.lemmas.Bool.{false≢true}
 use Rattle.std.proofs.lemmas.List.{length-map}
 use Rattle.std.specs.Int.{w64}
 use Rattle.std.specs.Prelude.{string_bytes}
 use Rattle.cf_run.specs.Names.{names_in}
 use Rattle.cf_run.proofs.Versions.{new_words}
 use Rattle.cf_answers.specs.declared.status.Status.TheVariants.{NoMemory, OutFault}
+use Rattle.cf_answers.specs.Statuses.{is_over}
 use Rattle.cf_cli.proofs.Ends.{copied, ends_put, ends_stay, run_begun}
 use Rattle.cf_cli.proofs.Plays.{new_dialled, versions_so}
-use Rattle.cf_cli.proofs.Stays.{early_tallied_on, fresh_told, run_tallied_on, silent_told, some_by_told, some_put_told, spent_tallied_on, stayed_told, tape_begun, tape_written, unwritten_tallied_on, unwritten_told}
+use Rattle.cf_cli.proofs.Stays.{cut_told, early_tallied_on, fresh_told, over_by, run_tallied_on, silent_told, some_by_told, some_put_told, spent_tallied_on, stayed_told, tape_begun, tape_written, unwritten_tallied_on, unwritten_told}
 use Rattle.cf_cli.proofs.staying.stay_on_tape.Goals as goal
 
 -- ---- no memory is found
@@ -107,6 +109,22 @@ returns-clause-kept g c =
     unwritten_told (g.W.Wires.told c.follow_over.new.wires).log c.args.watch o.end o.height o.tip o.history o.trace.items (names_in c.args.names.now) false c.args.trace
     (Some c.new-texts.result.bytes.items) (Some c.follow_over.new.texts.bytes.items) before after
     c.in-Ok-follow_over.ensures.followed c.in-Ok-follow_over.ensures.theorem c.in-Ok-follow_over.ensures.put
+    (tape_begun c.args.trace o.trace.items c.new-texts.result.bytes.items c.follow_over.new.texts.bytes.items c.bytes.result.now c.deref.result.now before after
+    c.new-texts.ensures c.bytes.ensures (c.deref.ensures.value ∙ c.in-Ok-behind_trace.ensures) c.in-Err-put_all.ensures.err.0 c.in-Err-put_all.ensures.err.1 c.in-Err-put_all.ensures.err.2)
+
+pub returns-in-Ok-put_all-clause-refused : goal.returns-in-Ok-put_all-clause-refused
+returns-in-Ok-put_all-clause-refused g c = λ is.
+    let over = over_by c.in-Ok-follow_over.outcome.end c.in-Ok-follow_over.outcome.ends.items c.status_of.result c.status_of.ensures.answer in
+    absurd (false≢true (sym (ap is_over is) ∙ over))
+
+pub returns-clause-refused : goal.returns-clause-refused
+returns-clause-refused g c = λ is.
+    let o = c.in-Ok-follow_over.outcome in
+    let before = g.O.Sink.written c.args.out.now in
+    let after = g.O.Sink.written c.put_all.new.sink in
+    cut_told (g.W.Wires.told c.follow_over.new.wires).log c.args.watch o.end o.height o.tip o.history o.trace.items (names_in c.args.names.now) c.args.trace
+    (Some c.new-texts.result.bytes.items) (Some c.follow_over.new.texts.bytes.items) before after
+    c.in-Ok-follow_over.ensures.followed c.in-Ok-follow_over.ensures.put
     (tape_begun c.args.trace o.trace.items c.new-texts.result.bytes.items c.follow_over.new.texts.bytes.items c.bytes.result.now c.deref.result.now before after
     c.new-texts.ensures c.bytes.ensures (c.deref.ensures.value ∙ c.in-Ok-behind_trace.ensures) c.in-Err-put_all.ensures.err.0 c.in-Err-put_all.ensures.err.1 c.in-Err-put_all.ensures.err.2)
 
