@@ -95,7 +95,7 @@ pub enum Status {
         place: u32,
         cause: FileCause,
     },
-    /// A file could not be read.
+    /// A file could not be read; or one could not be written: that of `make`, or the record of a run.
     #[error("a file could not be read")]
     FileFault,
     /// The text could not be written. What was written is the beginning of it.
