@@ -458,7 +458,7 @@ def heard(stream, said, number):
     """What comes up to the answer to a `ping` that is said behind this."""
     stream.sendall(said + frame("ping", bytes(8 * [number])))
     data, last = b"", frame("pong", bytes(8 * [number]))
-    while not data.endswith(last):
+    while last not in data:
         piece = stream.recv(1 << 18)
         wanted(piece, "the connection is closed behind", data[-200:])
         data += piece
@@ -472,6 +472,7 @@ def serves_without(around, numbers, chain, file, text):
     comes(lambda: not run.thread.is_alive() or place_of(run), "it listens", run)
     name = place_of(run)
     with connected(name) as stream:
+        stream.settimeout(PATIENCE)
         data = heard(stream, THEIR_VERSION + frame("block", chain.blocks[-1]), 1)
         sync = around.ran(Run([around.program, "sync", around.watch["paid"], name])).join()
         data += heard(stream, b"", 2)
