@@ -10,6 +10,8 @@ PROGRAM is `.build/cf` unless it is named, and all cases run unless some are.
     silent       one of two servers is stopped for longer than a `ping` may be open, and is closed for it
     slept        the client is stopped for longer than that, and in another run the client and its server
     interrupted  Ctrl-C, while nothing is open, and while the chain is being learned
+    closed       each of standard input, output and error is closed or open as it starts, and so with `sync` and
+                 `serve`: no peer gets what is written there
     idle         what a minute costs in which nothing comes, from one peer and from eight
     cost         what a new block costs at heights of 10,000 and 100,000
     memory       what is held after 10,000 new blocks, beside a `follow` that begins with the same chain
@@ -191,6 +193,24 @@ class Relay(threading.Thread):
             waiting += far.recv(1 << 18)
         self.is_answered_by(far)
         self.tell_client(listed("inv", [entry(tip)]))
+
+
+class Noted(Relay):
+    """A relay that hands on whatever comes, and keeps what the client has said."""
+
+    def __init__(self, name):
+        self.said = bytearray()
+        super().__init__(name)
+
+    def tell_server(self, piece):
+        self.said += piece
+        super().tell_server(piece)
+
+    @staticmethod
+    def hand_on(source, tell):
+        with contextlib.suppress(OSError):
+            while piece := source.recv(1 << 18):
+                tell(piece)
 
 
 class Follower(Run):
@@ -394,6 +414,86 @@ def interrupted(around):
     return f"it ended at once, with a whole text; and while it learned the chain, with {early.size()} bytes"
 
 
+def without(numbers, *words):
+    """A call of these words where these of the first three descriptors are closed."""
+    closing = "".join((" <&-", " >&-", " 2>&-")[number] for number in numbers)
+    return ["sh", "-c", 'exec "$@"' + closing, "sh", *words]
+
+
+def place_of(run):
+    """Where a process listens, as the system tells it, or nothing."""
+    folder = f"/proc/{run.process.pid}"
+    opened = set()
+    for name in os.listdir(f"{folder}/fd"):
+        with contextlib.suppress(FileNotFoundError):
+            opened.add(os.readlink(f"{folder}/fd/{name}"))
+    with open(f"{folder}/net/tcp") as file:
+        for fields in map(str.split, file):
+            if fields[3] == "0A" and f"socket:[{fields[9]}]" in opened:
+                return "127.0.0.1:%d" % int(fields[1].rpartition(":")[2], 16)
+    return None
+
+
+def are_frames(data, *what):
+    frames, size = read_frames(bytes(data))
+    wanted(None not in frames and size == len(data), "a peer gets what is no frame:", data[size:][:200], *what)
+
+
+def asks_without(around, numbers, command, server, text):
+    """A `follow` or a `sync` with these descriptors closed."""
+    relay = Noted(server.name)
+    run = around.ran(Run(without(numbers, around.program, command, around.watch["paid"], relay.name)))
+    if command == "follow" and 1 not in numbers:
+        comes(lambda: run.text() == text, "the text is written", run)
+        sent(signal.SIGINT, run)
+    comes(lambda: not run.thread.is_alive(), "it has ended", run)
+    relay.join(PATIENCE)
+    are_frames(relay.said, command, "without", numbers)
+    status = 5 if 1 in numbers else -signal.SIGINT if command == "follow" else 0
+    wanted(run.join().status == status, command, "without", numbers, "ends with", run.status, run.told())
+    wanted(run.text() == (b"" if 1 in numbers else text), command, "without", numbers, "writes", run.text())
+
+
+def heard(stream, said, number):
+    """What comes up to the answer to a `ping` that is said behind this."""
+    stream.sendall(said + frame("ping", bytes(8 * [number])))
+    data, last = b"", frame("pong", bytes(8 * [number]))
+    while last not in data:
+        piece = stream.recv(1 << 18)
+        wanted(piece, "the connection is closed behind", data[-200:])
+        data += piece
+    return data
+
+
+def serves_without(around, numbers, chain, file, text):
+    """A server with these descriptors closed, to which a block is brought, and which a `sync` asks."""
+    words = [around.program, "serve", "--grow", "--connections", "2", file, "127.0.0.1:0"]
+    run = around.ran(Run(without(numbers, *words)))
+    comes(lambda: not run.thread.is_alive() or place_of(run), "it listens", run)
+    name = place_of(run)
+    with connected(name) as stream:
+        stream.settimeout(PATIENCE)
+        data = heard(stream, THEIR_VERSION + frame("block", chain.blocks[-1]), 1)
+        sync = around.ran(Run([around.program, "sync", around.watch["paid"], name])).join()
+        data += heard(stream, b"", 2)
+    are_frames(data, "serve without", numbers)
+    wanted((sync.status, sync.text()) == (0, text), "sync ends with", sync.status, sync.text(), sync.told())
+    comes(lambda: not run.thread.is_alive(), "it has ended", run)
+    wanted(run.join().status == 0, "serve without", numbers, "ends with", run.status, run.told())
+
+
+def closed(around):
+    chain = Chain((SEED, BELOW + 1))
+    server = Server(around, chain, BELOW)
+    below, text = chain.scans([BELOW, chain.tip])
+    kinds = [[number for number in range(3) if kind >> number & 1] for kind in range(8)]
+    for numbers in kinds:
+        for command in "follow", "sync":
+            asks_without(around, numbers, command, server, below)
+        serves_without(around, numbers, chain, server.file, text)
+    return f"in {len(kinds)} ways nothing but frames came to a peer; without standard output the status is 5"
+
+
 def idle(around):
     chain = Chain((SEED, HIGH))
     server = Server(around, chain, HIGH)
@@ -463,7 +563,7 @@ def memory(around):
     return told
 
 
-CASES = (grows, branches, later, recorded, gone, silent, slept, interrupted, idle, cost, memory)
+CASES = (grows, branches, later, recorded, gone, silent, slept, interrupted, closed, idle, cost, memory)
 
 
 def fails(program, case):

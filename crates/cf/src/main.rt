@@ -4,6 +4,7 @@
 
 ghost use Rattle.std.specs.Prelude.{◌≡◌};
 
+mod descriptors;
 mod faults;
 mod joined;
 mod listener;
@@ -83,6 +84,7 @@ fn run_command<R: Wait + Threads + Sync + Copy + Drop + Send + 'static, K: Spawn
 }
 
 fn main(rt: HostRuntime) -> ExitCode {
+    descriptors::hold(&rt);
     let status = match outside::words(&rt) {
         Ok(words) => match own_text(&words) {
             Some(text) => told(&rt, &words, say(&rt, text), &None),
