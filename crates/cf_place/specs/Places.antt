@@ -62,12 +62,13 @@ FirstLost P (Asked m ∷ t) = FirstLost P t
 FirstLost P (Passed s ∷ t) = FirstLost P t
 FirstLost P (LostItem why ∷ t) = ((connected t ≡ true) × P why t) ⊎ ((connected t ≡ false) × FirstLost P t)
 
--- it went; it was closed, and deserved this cause then (whether it omitted something its own part doesn't tell)
+-- it went, or was never there: it wasn't closed, and no send to it failed
 abbrev pub IsGoing : Why → Trail → Type 0
 IsGoing Went t = Unit {0}
 IsGoing Failing t = ⊥
 IsGoing Shutting t = ⊥
 
+-- it was closed: for an omission, of which its own part doesn't tell, or for a cause that it deserved then
 abbrev pub IsShutFor : Cause → Why → Trail → Type 0
 IsShutFor cause Went t = ⊥
 IsShutFor cause Failing t = ⊥
@@ -89,14 +90,16 @@ abbrev pub Fits : Place → Part → Type 0
 Fits (Here peer) part = Keeps peer part
 Fits (Lost loss) part = IsLost loss part.trail
 
+-- what is held of a peer that was never dialled
 abbrev pub nobody : Place
 nobody = Lost NotDialled
 
+-- what is held of the peer with this number
 abbrev pub place_at : List Place → ℕ → Place
 place_at places p = slice_index_or places p nobody
 
--- the places stand for the log: one for each peer that was dialled, at its number, and nobody's at 0; who was closed for an omission omitted something then,
--- and who was closed while it omitted something is named so
+-- the places stand for the log: one for each peer that was dialled, at its number, and nobody's at 0; who was closed for an omission
+-- omitted something then, and where all in the log was rightly done (`RightlyIn`), who was closed while it omitted something is named so
 pub record PlacesStand (places : List Place) (log : Log) : Type 0 where
   pub count : length places ≡ (tally_of log).dials + 1
   pub omitted : (p : ℕ) → place_at places p ≡ Lost (ClosedFor Omits) → HasOmitted log p
@@ -132,7 +135,8 @@ IsRepliedFirst t = failed t ≡ false → (so_far : Trail) × IsUpToLast t so_fa
 abbrev pub IsRepliedIn : Log → ℕ → Type 0
 IsRepliedIn log p = IsReplied (trail log p) ⊎ (IsOmitting log p × IsRepliedFirst (trail log p))
 
--- who omits something is closed for that
+-- where all in the log was rightly done (`RightlyIn Following`, which the rule of any client gives), who omits something is closed
+-- for that, and for nothing else
 abbrev pub IsNamed : Log → ℕ → Cause → Type 0
 IsNamed log p cause = RightlyIn Following log → IsOmitting log p → cause ≡ Omits
 
@@ -157,6 +161,7 @@ abbrev pub is_calm : Place → Bool
 is_calm (Here peer) = calm peer
 is_calm (Lost loss) = true
 
+-- so it is of each peer
 abbrev pub AreCalm : List Place → Type 0
 AreCalm places = (p : ℕ) → is_calm (place_at places p) ≡ true
 
@@ -210,6 +215,7 @@ abbrev pub is_here : Place → Bool
 is_here (Here peer) = true
 is_here (Lost loss) = false
 
+-- the state, by what is held of the peers
 abbrev pub state_of : List Place → State
 state_of places = if list_any is_busy places then Working else if list_any is_here places then Synced else NoPeers
 
@@ -223,7 +229,7 @@ abbrev pub AsksFor : Hash32 → Msg → Type 0
 AsksFor hash (GetData entries) = entries ≡ block_entry hash ∷ []
 AsksFor hash m = ⊥
 
--- the version that is sent to a peer, the question for headers above a chain, and that for a block
+-- a message that can be sent, and is the client's version
 pub record IsGreeting (m : Msg) : Type 0 where
   pub sendable : IsSendable m
   pub ours : IsClientVersion m
@@ -233,6 +239,7 @@ pub record Words : Type 0 where
   pub moment : ℤ
   pub number : ℕ
 
+-- a version tells these words; of any other message nothing is said
 abbrev pub TellsWords : Words → Msg → Type 0
 TellsWords words (Version version services time to from nonce agent height relay) = (time ≡ words.moment) × (nonce ≡ words.number)
 TellsWords words m = Unit {0}
@@ -249,10 +256,12 @@ pub record Greets (words : Words) (p : PeerNo) (acts : List Act) : Type 0 where
   pub greeting : IsGreeting message
   pub tells : TellsWords words message
 
+-- a message that can be sent and asks for headers above a chain
 pub record IsQuestion (chain : Chain) (m : Msg) : Type 0 where
   pub sendable : IsSendable m
   pub asks : AsksAbove chain m
 
+-- a message that can be sent and asks for a block
 pub record IsFetch (hash : Hash32) (m : Msg) : Type 0 where
   pub sendable : IsSendable m
   pub asks : AsksFor hash m
@@ -276,8 +285,8 @@ EndTells EndsNotDialled t = IsLost NotDialled t
 EndTells EndsGone t = IsLost Gone t
 EndTells (EndsClosed cause) t = IsLost (ClosedFor cause) t
 
--- there is an end for each peer that was dialled, in the order of their numbers, and each tells how its peer stands; who was closed for an omission omitted
--- something then, and who was closed while it omitted something ends so
+-- there is an end for each peer that was dialled, in the order of their numbers, and each tells how its peer stands; who was closed for an
+-- omission omitted something then, and where all in the log was rightly done (`RightlyIn`), who was closed while it omitted something ends so
 pub record EndsTell (ends : List PeerEnd) (log : Log) : Type 0 where
   pub omitted : (i : ℕ) → slice_index_or ends i EndsNotDialled ≡ EndsClosed Omits → HasOmitted log (i + 1)
   pub named : RightlyIn Following log → (i : ℕ) → HasOmitted log (i + 1) → slice_index_or ends i EndsNotDialled ≡ EndsClosed Omits
