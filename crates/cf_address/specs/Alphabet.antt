@@ -15,5 +15,6 @@ letter_of value = slice_index alphabet value
 abbrev pub value_of : ℕ → ℕ
 value_of letter = position_or_len (λ c. c == letter) alphabet
 
+-- a byte is one of the letters
 abbrev pub is_letter : ℕ → Bool
 is_letter byte = nat_lt (value_of byte) 32

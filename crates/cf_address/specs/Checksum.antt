@@ -16,6 +16,7 @@ times_generator b =
 unfoldable pub remainder_with : ℕ → ℕ → ℕ
 remainder_with c v = bit_xor (bit_xor (c % 2 ^ 25 * 32) v) (times_generator (c / 2 ^ 25))
 
+-- what is left once the polynomial has these values more, in order
 abbrev pub remainder_from : ℕ → List ℕ → ℕ
 remainder_from c values = fold remainder_with c values
 

@@ -22,6 +22,7 @@ script_of_values values =
     let bits = all_bits 5 (take (length values - 7) (drop 1 values)) in
     script_of (record { version = slice_index values 0; bytes = bytes_of_bits (length bits / 8) bits })
 
+-- the script of the letters after a prefix; no bytes where a text has none
 abbrev pub script_of_letters : Option (List ℕ) → List ℕ
 script_of_letters None = []
 script_of_letters (Some letters) = script_of_values (map value_of letters)

@@ -11,6 +11,7 @@ use Rattle.cf_peer.specs.declared.peer.Cause.TheVariants.{BadFrame, Malformed, N
 use Rattle.cf_scan.specs.declared.history.Entry.{Entry}
 use Rattle.cf_scan.specs.HistoryText.{history_text}
 
+-- a cause by its name
 abbrev pub cause_name : Cause → List ℕ
 cause_name BadFrame = codes "BadFrame"
 cause_name Malformed = codes "Malformed"
@@ -35,6 +36,7 @@ abbrev pub trace_line : TraceLine → List ℕ
 trace_line (Sent p command) = codes "> " ++ decimal p.0 ++ codes " " ++ command_name command ++ 10 ∷ []
 trace_line (Closed p cause) = codes "x " ++ decimal p.0 ++ codes " " ++ cause_name cause ++ 10 ∷ []
 
+-- the lines of a trace, one after another
 abbrev pub trace_text : List TraceLine → List ℕ
 trace_text lines = flat_map trace_line lines
 

@@ -32,6 +32,7 @@ pub record IsCommitted (b : Block) : Type 0 where
 abbrev pub has_64 : List ℕ → Bool
 has_64 text = length text == 64
 
+-- a block has a transaction, and its header's root is the Merkle root of its transactions' hashes
 abbrev pub has_root : Block → Bool
 has_root b = not (length b.txs == 0) && bytes_eq (merkle_root_of (txids (spelled_txs b))) b.header.root.0
 

@@ -25,9 +25,11 @@ paid_script =
     ∷ 0x12 ∷ 0xde ∷ 0x5c ∷ 0x38 ∷ 0x4d ∷ 0xf7 ∷ 0xba ∷ 0x0b ∷ 0x8d ∷ 0x57 ∷ 0x8a ∷ 0x4c ∷ 0x70 ∷ 0x2b ∷ 0x6b ∷ 0xf1
     ∷ 0x1d ∷ 0x5f ∷ 0xac ∷ []
 
+-- the input of its transaction: it names output 0xffffffff of the hash zero, and its script holds the headline
 unfoldable pub first_input : TxIn
 first_input = record { prev = record { txid = record { 0 = replicate 32 0 }; index = 0xffffffff }; script = signing_script; sequence = 0xffffffff }
 
+-- the output of its transaction: 50 coins to the public key
 unfoldable pub first_output : Output
 first_output = record { value = 5000000000; script = paid_script }
 

@@ -9,6 +9,7 @@ joined_pairs [] = []
 joined_pairs (a ∷ []) = (a ++ a) ∷ []
 joined_pairs (a ∷ b ∷ rest) = (a ++ b) ∷ joined_pairs rest
 
+-- the level above a level: the hashes of its pairs
 abbrev pub next_level : List (List ℕ) → List (List ℕ)
 next_level level = map hash_of (joined_pairs level)
 
@@ -18,6 +19,7 @@ has_twins [] = false
 has_twins (a ∷ []) = false
 has_twins (a ∷ b ∷ rest) = pointwise nat_eq a b || has_twins rest
 
+-- the first hash of a level; no bytes where the level is empty
 abbrev pub first_of : List (List ℕ) → List ℕ
 first_of [] = []
 first_of (a ∷ rest) = a
@@ -49,6 +51,7 @@ unfoldable pub nodes_within : ℕ → List (List ℕ) → List (List ℕ)
 nodes_within zero level = []
 nodes_within (suc n) level = if nat_le (length level) 1 then [] else joined_pairs level ++ nodes_within n (next_level level)
 
+-- all strings that are hashed on the way from hashes up to their root
 abbrev pub nodes : List (List ℕ) → List (List ℕ)
 nodes level = nodes_within (length level) level
 
@@ -60,6 +63,7 @@ txids spelled = map hash_of spelled
 abbrev pub hashed : List (List ℕ) → List (List ℕ)
 hashed spelled = spelled ++ nodes (txids spelled)
 
+-- a string stands in a list
 abbrev pub Among : List (List ℕ) → List ℕ → Type 0
 Among [] s = ⊥
 Among (x ∷ xs) s = (x ≡ s) ⊎ Among xs s
@@ -68,6 +72,7 @@ Among (x ∷ xs) s = (x ≡ s) ⊎ Among xs s
 abbrev pub NoClash : List (List ℕ) → Type 0
 NoClash strings = (a b : List ℕ) → Among strings a → Among strings b → hash_of a ≡ hash_of b → a ≡ b
 
+-- none of these strings has 64 bytes
 abbrev pub None64 : List (List ℕ) → Type 0
 None64 [] = Unit {0}
 None64 (s ∷ rest) = (length s ≢ 64) × None64 rest

@@ -9,6 +9,7 @@ use Rattle.cf_block.specs.declared.tx.OutPoint.{OutPoint}
 use Rattle.cf_block.specs.declared.tx.Tx.{Tx}
 use Rattle.cf_block.specs.Commitment.{is_coinbase_tx}
 
+-- outpoints in order: by their transactions' hashes, byte by byte, and then by their indexes
 abbrev pub outpoint_cmp : OutPoint → OutPoint → Ordering
 outpoint_cmp a b = ordering_then (slice_cmp nat_cmp a.txid.0 b.txid.0) (nat_cmp a.index b.index)
 

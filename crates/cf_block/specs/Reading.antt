@@ -34,18 +34,22 @@ abbrev pub of_cut : {X : Type 0} → Read X CutFault → Read X BlockFaultKind
 of_cut (Ok x) = Ok x
 of_cut (Err e) = Err (kind_of e.0, e.1)
 
+-- a number of four bytes, the low byte first
 abbrev pub u32_at : List ℕ → Read ℕ BlockFaultKind
 u32_at bytes = of_cut (number_at w32 bytes)
 
+-- a script, the count of its bytes before it
 abbrev pub script_at : List ℕ → Read (List ℕ) BlockFaultKind
 script_at bytes = of_cut (counted_bytes_at bytes)
 
+-- an outpoint: a transaction's hash and the index of one of its outputs
 unfoldable pub outpoint_at : List ℕ → Read OutPoint BlockFaultKind
 outpoint_at bytes = do
   txid ← of_cut (hash_at bytes)
   index ← u32_at txid.1
   Ok (record { txid = txid.0; index = index.0 }, index.1)
 
+-- an input: the output that it names, its script and its sequence number
 unfoldable pub input_at : List ℕ → Read TxIn BlockFaultKind
 input_at bytes = do
   prev ← outpoint_at bytes
@@ -57,9 +61,11 @@ input_at bytes = do
 abbrev pub in_range : List ℕ → ℕ × List ℕ → Read ℕ BlockFaultKind
 in_range bytes x = if nat_lt max_value x.0 then Err (Value, bytes) else Ok x
 
+-- an output's value: eight bytes, the low byte first, and no more than 21 million coins
 unfoldable pub value_at : List ℕ → Read ℕ BlockFaultKind
 value_at bytes = of_cut (number_at w64 bytes) >>= in_range bytes
 
+-- an output: its value and its script
 unfoldable pub output_at : List ℕ → Read Output BlockFaultKind
 output_at bytes = do
   value ← value_at bytes
@@ -75,15 +81,19 @@ no_input (b ∷ rest) = if b == 1 then Witness else NoInput
 abbrev pub some_of : BlockFaultKind → List ℕ → ℕ × List ℕ → Read ℕ BlockFaultKind
 some_of none bytes x = if x.0 == 0 then Err (none, bytes) else Ok x
 
+-- a count of inputs that isn't 0; of a count of 0 the byte after it tells which fault that is
 abbrev pub some_inputs : List ℕ → ℕ × List ℕ → Read ℕ BlockFaultKind
 some_inputs bytes x = some_of (no_input x.1) bytes x
 
+-- how many inputs a transaction has: at least one
 unfoldable pub input_count_at : List ℕ → Read ℕ BlockFaultKind
 input_count_at bytes = of_cut (compact_at bytes) >>= some_inputs bytes
 
+-- a count of at least one, refused with this fault where it is 0
 unfoldable pub count_at : BlockFaultKind → List ℕ → Read ℕ BlockFaultKind
 count_at none bytes = of_cut (compact_at bytes) >>= some_of none bytes
 
+-- a transaction without witnesses, field by field (developer reference, "Raw Transaction Format")
 unfoldable pub tx_fields_at : List ℕ → Read Tx BlockFaultKind
 tx_fields_at bytes = do
   version ← of_cut (int_at w32 bytes)
@@ -104,6 +114,7 @@ abbrev pub to_end : {X : Type 0} → X × List ℕ → Read X BlockFaultKind
 to_end (x, []) = Ok (x, [])
 to_end (x, b ∷ rest) = Err (Rest, b ∷ rest)
 
+-- a block: header, transactions, at least one, and no byte more (developer reference, "Serialized Blocks")
 unfoldable pub block_fields_at : List ℕ → Read Block BlockFaultKind
 block_fields_at bytes = do
   header ← of_header (header_at bytes)
@@ -111,6 +122,7 @@ block_fields_at bytes = do
   txs ← list_at tx_fields_at count.0 count.1
   to_end (record { header = header.0; txs = txs.0 }, txs.1)
 
+-- a block, refused as a whole where there are more than 1,000,000 bytes
 unfoldable pub short_block_at : List ℕ → Read Block BlockFaultKind
 short_block_at bytes = if nat_lt max_block (length bytes) then Err (TooLong, bytes) else block_fields_at bytes
 
@@ -118,6 +130,7 @@ short_block_at bytes = if nat_lt max_block (length bytes) then Err (TooLong, byt
 abbrev pub place_of : List ℕ → List ℕ → ℕ
 place_of bytes rest = min (length bytes - length rest) (2 ^ 32 - 1)
 
+-- a fault together with its place in these bytes
 abbrev pub fault_at : List ℕ → BlockFaultKind × List ℕ → BlockFault
 fault_at bytes e = record { kind = e.0; place = place_of bytes e.1 }
 

@@ -78,9 +78,11 @@ begins_marked [] = false
 begins_marked (a ∷ []) = false
 begins_marked (a ∷ b ∷ rest) = a == 0 && b == 1
 
+-- these bytes begin as a transaction in the form with witnesses does
 abbrev pub is_extended : List ℕ → Bool
 is_extended bytes = begins_marked (drop 4 bytes)
 
+-- an input's witness: how many items there are, and of each its length and its bytes
 unfoldable pub stack_at : List ℕ → Read Stack BlockFaultKind
 stack_at bytes = of_cut (compact_at bytes) >>= λ n. list_at script_at n.0 n.1
 

@@ -15,9 +15,11 @@ use Rattle.cf_block.specs.Header.{IsHash, IsHeader, header_spelling}
 abbrev pub max_count : ℕ
 max_count = 33554432
 
+-- the bytes of an input: the output that it names, its script and its sequence number
 unfoldable pub input_spelling : TxIn → List ℕ
 input_spelling i = i.prev.txid.0 ++ (to_le_bytes w32 i.prev.index ++ (counted_bytes i.script ++ to_le_bytes w32 i.sequence))
 
+-- the bytes of an output: its value and its script
 unfoldable pub output_spelling : Output → List ℕ
 output_spelling o = to_le_bytes w64 o.value ++ counted_bytes o.script
 
@@ -37,12 +39,14 @@ txid_of t = hash_of (tx_spelling t)
 
 -- what has a spelling
 
+-- an input that has a spelling: its numbers are in range, and its script isn't too long
 pub record IsInput (i : TxIn) : Type 0 where
   pub txid : IsHash i.prev.txid
   pub index : i.prev.index < 2 ^ 32
   pub script : length i.script ≤ max_count
   pub sequence : i.sequence < 2 ^ 32
 
+-- an output that has a spelling: its value is at most 21 million coins, and its script isn't too long
 pub record IsOutput (o : Output) : Type 0 where
   pub value : o.value ≤ max_value
   pub script : length o.script ≤ max_count

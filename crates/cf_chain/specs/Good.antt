@@ -32,10 +32,12 @@ pub record IsGoodTx (coins : CoinMap) (t : Tx) : Type 0 where
   pub inputs : AllStand coins (spends_of t)
   pub fresh : NoneStands (txid_of t) 0 (without coins (spends_of t)) t.outputs
 
+-- transactions each of which is good after these coins and the ones before it
 abbrev pub AreGoodTxs : CoinMap → List Tx → Type 0
 AreGoodTxs coins [] = Unit {0}
 AreGoodTxs coins (t ∷ ts) = IsGoodTx coins t × AreGoodTxs (after_tx coins t) ts
 
+-- none of these transactions is a coinbase
 abbrev pub NoCoinbases : List Tx → Type 0
 NoCoinbases [] = Unit {0}
 NoCoinbases (t ∷ ts) = (is_coinbase_tx t ≡ false) × NoCoinbases ts
@@ -52,6 +54,7 @@ pub record IsGoodBlock (coins : CoinMap) (b : Block) : Type 0 where
   pub coinbase : HasOneCoinbase b.txs
   pub txs : AreGoodTxs coins b.txs
 
+-- blocks, the lowest first, each of which is good after these coins and the ones below it, its header apart
 abbrev pub AreGoodBlocks : CoinMap → List Block → Type 0
 AreGoodBlocks coins [] = Unit {0}
 AreGoodBlocks coins (b ∷ bs) = IsGoodBlock coins b × AreGoodBlocks (after_block coins b) bs

@@ -19,17 +19,20 @@ top_hash blocks = tip_hash (headers_of blocks)
 abbrev pub announcement : Hash → Msg
 announcement hash = Inv (record { kind = 2; hash = record { 0 = hash } } ∷ [])
 
--- of what an inv tells of, the blocks that aren't in the chain are asked for, in order
+-- an entry names a block that isn't in the chain
 abbrev pub is_unknown : List Block → Entry → Bool
 is_unknown blocks entry = entry.kind == 2 && is_none (block_height entry.hash blocks)
 
+-- an entry, where it names such a block
 abbrev pub unknown_entry : List Block → Entry → List Entry
 unknown_entry blocks entry = if is_unknown blocks entry then entry ∷ [] else []
 
+-- the entries of an `inv` that name blocks that aren't in the chain, in order; none before the asker's version
 abbrev pub wanted : List Block → Bool → Msg → List Entry
 wanted blocks true (Inv entries) = flat_map (unknown_entry blocks) entries
 wanted blocks met m = []
 
+-- one `getdata` for these entries, where there are any
 abbrev pub asked_for : List Entry → List Msg
 asked_for [] = []
 asked_for (entry ∷ more) = GetData (entry ∷ more) ∷ []
@@ -44,10 +47,12 @@ pub data Mark : Type 0 where
   NotMet : Mark
   Told : (height : ℕ) → (hash : Hash) → Mark
 
+-- the asker's version has come
 abbrev pub is_met : Mark → Bool
 is_met NotMet = false
 is_met (Told height hash) = true
 
+-- the mark of an asker that was told of this chain's tip
 abbrev pub mark_at : List Block → Mark
 mark_at blocks = Told (length blocks) (top_hash blocks)
 
@@ -56,6 +61,7 @@ abbrev pub told_first : List Block → Mark → List Msg
 told_first blocks NotMet = []
 told_first blocks (Told height hash) = if nat_lt height (length blocks) then announcement (top_hash blocks) ∷ [] else []
 
+-- the mark after a message: at the tip once a first version has come or a higher tip was told, else as before
 abbrev pub marked : List Block → Mark → Msg → Mark
 marked blocks NotMet m = if is_version m then mark_at blocks else NotMet
 marked blocks (Told height hash) m = if nat_lt height (length blocks) then mark_at blocks else Told height hash
@@ -65,6 +71,7 @@ pub record GrowAnswer : Type 0 where
   pub replies : List Msg
   pub mark : Mark
 
+-- a message is answered: a tip above the mark is told first, and then comes what is answered by this chain
 abbrev pub grow_answer : ℤ → ℕ → List Block → Mark → Msg → GrowAnswer
 grow_answer now nonce blocks mark m = record {
   replies = told_first blocks mark ++ answered now nonce blocks (is_met mark) m;

@@ -12,6 +12,7 @@ use Rattle.cf_headers.specs.Rules.{same}
 abbrev pub all_blocks : List Block → List Block
 all_blocks blocks = first_block ∷ blocks
 
+-- a block has this hash
 abbrev pub has_hash : Hash32 → Block → Bool
 has_hash hash b = same (block_hash_of b.header) hash.0
 

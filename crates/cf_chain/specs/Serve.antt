@@ -15,6 +15,7 @@ use Rattle.cf_chain.specs.Heights.{all_blocks, block_height}
 
 -- ---- headers
 
+-- the first height where there is one, and else the other
 abbrev pub or_next : Option ℕ → ℕ → ℕ
 or_next (Some height) next = height
 or_next None next = next
@@ -58,7 +59,7 @@ data_reply blocks entry = if entry.kind == 2 then map (λ b. BlockMessage b) (bl
 
 -- ---- filters
 
--- the height where a range ends that may be asked for: it begins no later, and is shorter than the limit
+-- the height where a range ends that may be asked for: it begins no later, and has no more heights than the limit
 abbrev pub within : ℕ → ℕ → Option ℕ → Option ℕ
 within limit start None = None
 within limit start (Some stop) = if nat_le start stop && nat_lt (stop - start) limit then Some stop else None
@@ -75,6 +76,7 @@ filters_between start stop blocks = take (suc stop - start) (drop start (filters
 abbrev pub cfilter_of : Filtered → Msg
 cfilter_of f = Cfilter 0 (record { 0 = f.block }) f.filter
 
+-- the answer to `getcfilters`: one `cfilter` for each block of the range; none where it may not be asked for
 abbrev pub cfilters_reply : ℕ → Option ℕ → List Block → List Msg
 cfilters_reply start None blocks = []
 cfilters_reply start (Some stop) blocks = map cfilter_of (filters_between start stop blocks)
@@ -94,6 +96,7 @@ abbrev pub cfheaders_of : ℕ → ℕ → Hash32 → List Block → Msg
 cfheaders_of start stop_height stop blocks =
     Cfheaders 0 stop (header_before start blocks) (map (λ f. record { 0 = filter_hash_of f.filter }) (filters_between start stop_height blocks))
 
+-- the answer to `getcfheaders`: one `cfheaders`; none where the range may not be asked for
 abbrev pub cfheaders_reply : ℕ → Option ℕ → Hash32 → List Block → List Msg
 cfheaders_reply start None stop blocks = []
 cfheaders_reply start (Some stop_height) stop blocks = cfheaders_of start stop_height stop blocks ∷ []
@@ -107,6 +110,7 @@ thousands (suc n) = thousands n ++ (1000 * suc n) ∷ []
 abbrev pub cfcheckpt_of : ℕ → Hash32 → List Block → Msg
 cfcheckpt_of stop_height stop blocks = Cfcheckpt 0 stop (map (λ h. header_or_zeros (filter_at blocks h)) (thousands (stop_height / 1000)))
 
+-- the answer to `getcfcheckpt`: one `cfcheckpt`; none where the block or the kind of filter isn't known
 abbrev pub cfcheckpt_reply : Option ℕ → Hash32 → List Block → List Msg
 cfcheckpt_reply None stop blocks = []
 cfcheckpt_reply (Some stop_height) stop blocks = cfcheckpt_of stop_height stop blocks ∷ []
@@ -123,10 +127,11 @@ reply_to blocks (GetCfheaders filter start stop) = cfheaders_reply start (range_
 reply_to blocks (GetCfcheckpt filter stop) = cfcheckpt_reply (if filter == 0 then block_height stop blocks else None) stop blocks
 reply_to blocks m = []
 
--- the machine's version: protocol 70016, services 65 (bits 0 and 6), no addresses, its agent, its height, no relay
+-- no network address: no services, and zeros for the IP address and the port
 abbrev pub no_address : NetAddress
 no_address = record { services = 0; ip = replicate 16 0; port = 0 }
 
+-- the machine's version: protocol 70016, services 65 (bits 0 and 6), no addresses, its agent, its height, no relay
 abbrev pub version_reply : ℤ → ℕ → List Block → Msg
 version_reply now nonce blocks = Version (pos 70016) 65 now no_address no_address nonce (codes "/cf:1/") (pos (length blocks)) (Some 0)
 

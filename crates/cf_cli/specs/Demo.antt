@@ -76,6 +76,7 @@ IsUntold status seed blocks log = ⊥
 
 -- ---- what is written
 
+-- the text of a demo was written, or a beginning of it, as the answer tells
 abbrev pub WritesDemo : Status → ℕ → ℕ → Option (List ℕ) → Option (List ℕ) → Log → Type 0
 WritesDemo status seed blocks before after log = (text : List ℕ) × IsDemoText seed blocks text log × IsWritten status before after text
 

@@ -20,6 +20,7 @@ use Rattle.cf_coins.specs.declared.fault.CoinFault.TheVariants.{NoCoinbase, Seco
 abbrev pub prevs : List TxIn → List OutPoint
 prevs inputs = map (λ i. i.prev) inputs
 
+-- the scripts of outputs
 abbrev pub scripts_of : List Output → List (List ℕ)
 scripts_of outputs = map (λ o. o.script) outputs
 
@@ -40,9 +41,11 @@ put_all txid index coins (o ∷ os) =
     if is_some (get coins (outpoint txid index)) then Err (Exists (outpoint txid index))
     else put_all txid (suc index) (insert coins (outpoint txid index) o) os
 
+-- the coins after a transaction: what it spends is taken out, and then its outputs are put in
 unfoldable pub spend : CoinMap → Tx → Result CoinMap CoinFault
 spend coins t = take_all coins (spends_of t) >>= λ c. put_all (txid_of t) 0 c t.outputs
 
+-- the coins after transactions, one by one
 unfoldable pub spend_all : CoinMap → List Tx → Result CoinMap CoinFault
 spend_all coins [] = Ok coins
 spend_all coins (t ∷ ts) = spend coins t >>= λ c. spend_all c ts
@@ -55,6 +58,7 @@ coinbase_fault (t ∷ ts) =
     else if list_any is_coinbase_tx ts then Some SecondCoinbase
     else None
 
+-- what was answered, unless there is this fault before it
 abbrev pub unless_fault : Option CoinFault → Result CoinMap CoinFault → Result CoinMap CoinFault
 unless_fault None r = r
 unless_fault (Some fault) r = Err fault

@@ -58,6 +58,7 @@ session_names = codes "peer1" ∷ []
 abbrev pub most_deliveries : ℕ
 most_deliveries = 10000000
 
+-- a peer that answers in this way, on this chain, with nothing waiting
 abbrev pub peer_on : Way → List Block → Peer
 peer_on way blocks = record { blocks = blocks; way = way; waiting = [] }
 
@@ -123,6 +124,7 @@ IsRefusedFor chain NoMemory = Unit {0}
 
 -- ---- counts of a log
 
+-- a message is a `getdata`
 abbrev pub is_getdata : Option Msg → Bool
 is_getdata (Some (GetData entries)) = true
 is_getdata m = false

@@ -34,16 +34,19 @@ header_fault h =
 abbrev pub Front : Type 0
 Front = Result (Option (Frame × List ℕ)) FrameFault
 
+-- behind a good header: the frame, too few bytes as yet, or a payload with another checksum
 abbrev pub payload_front : Header → Read (List ℕ) CutFault → Front
 payload_front h (Err e) = Ok None
 payload_front h (Ok p) =
     if not (bytes_eq h.checksum (checksum p.0)) then Err Checksum
     else Ok (Some (record { command = h.command; payload = p.0 }, p.1))
 
+-- behind a header: its own fault, or else what its payload makes of it
 abbrev pub judged_front : Option FrameFault → Header → List ℕ → Front
 judged_front (Some fault) h rest = Err fault
 judged_front None h rest = payload_front h (bytes_at h.len rest)
 
+-- no whole frame where the header is cut off; else what the header and the bytes after it make
 abbrev pub header_front : Read Header CutFault → Front
 header_front (Err e) = Ok None
 header_front (Ok h) = judged_front (header_fault h.0) h.0 h.1

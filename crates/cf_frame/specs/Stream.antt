@@ -63,9 +63,11 @@ pub record StreamRead : Type 0 where
 abbrev pub with_frame : Frame → StreamRead → StreamRead
 with_frame f read = record read { frames = f ∷ read.frames }
 
+-- a stream that was read, with these frames more before it
 abbrev pub with_frames : List Frame → StreamRead → StreamRead
 with_frames frames read = record read { frames = frames ++ read.frames }
 
+-- a stream without a whole frame: all its bytes wait, and this is their fault, if they have one
 abbrev pub no_frames : List ℕ → Option FrameFault → StreamRead
 no_frames bytes fault = record { frames = []; rest = bytes; fault = fault }
 
@@ -84,6 +86,7 @@ read_within (suc n) bytes = from_front (read_within n) bytes (front_of bytes)
 unfoldable pub read_stream : List ℕ → StreamRead
 read_stream bytes = read_within (length bytes) bytes
 
+-- what reading gives once more bytes have come, by the fault so far: after a fault nothing more is read
 abbrev pub continued : Option FrameFault → StreamRead → List ℕ → StreamRead
 continued None read more = with_frames read.frames (read_stream (read.rest ++ more))
 continued (Some fault) read more = record read { rest = read.rest ++ more }

@@ -14,6 +14,7 @@ hash_cmp a b = slice_cmp nat_cmp a.0 b.0
 abbrev pub hash_code : Coded Hash32
 hash_code = code_by (List ℕ) (coded_list coded_ℕ) (λ h. h.0) (λ e. record { 0 = e }) (λ _. refl)
 
+-- a map from hashes, byte by byte, to values
 abbrev pub ByHash : Type 0 → Type 0
 ByHash V = FinMap hash_cmp V
 

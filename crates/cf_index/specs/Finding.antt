@@ -13,6 +13,7 @@ use Rattle.cf_index.specs.ByHash.{hash_code, ByHash}
 abbrev pub txids_of : List Block → List (List (List ℕ))
 txids_of blocks = map (λ b. map txid_of b.txs) blocks
 
+-- this height and the place there, where there is one; else what was found higher
 abbrev pub at_or_higher : ℕ → Option ℕ → Option (ℕ × ℕ) → Option (ℕ × ℕ)
 at_or_higher height (Some place) higher = Some (height, place)
 at_or_higher height None higher = higher

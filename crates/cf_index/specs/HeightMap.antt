@@ -8,6 +8,7 @@ use Rattle.cf_block.specs.Header.{block_hash_of, genesis_header}
 use Rattle.cf_chain.specs.Heights.{block_height}
 use Rattle.cf_index.specs.ByHash.{hash_code, ByHash}
 
+-- a map from hashes to heights
 abbrev pub HeightMap : Type 0
 HeightMap = ByHash ℕ
 

@@ -24,6 +24,7 @@ regtest = codes "bcrt"
 abbrev pub is_address_text : List ℕ → Bool
 is_address_text text = bytes_eq (take 5 text) (codes "bcrt1") || bytes_eq (take 5 text) (codes "BCRT1")
 
+-- a script, unless there is this fault
 abbrev pub script_unless : Option AddressFault → List ℕ → Result (List ℕ) AddressFault
 script_unless None script = Ok script
 script_unless (Some fault) script = Err fault
@@ -49,6 +50,7 @@ pub record IsAddressText (text line : List ℕ) : Type 0 where
   pub address : IsAddressOf regtest program line
   pub lower : map to_ascii_lowercase line ≡ line
 
+-- a line is the other form of a text: of an address, as the flag tells, its script; else a script's address
 abbrev pub IsFormBy : Bool → List ℕ → List ℕ → Type 0
 IsFormBy true text line = IsScriptText text line
 IsFormBy false text line = IsAddressText text line

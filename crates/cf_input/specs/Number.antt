@@ -16,6 +16,7 @@ is_led_well (b ∷ c ∷ rest) = not (b == 48)
 abbrev pub is_number : List ℕ → Bool
 is_number text = list_all is_digit text && is_led_well text
 
+-- a number with one digit more behind it
 abbrev pub with_digit : ℕ → ℕ → ℕ
 with_digit n b = 10 * n + (b - 48)
 

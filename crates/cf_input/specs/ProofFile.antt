@@ -27,6 +27,7 @@ bytes_after word line = if bytes_eq (take (length word) line) word then bytes_of
 
 -- ---- the transaction
 
+-- the transaction that was read, where no byte is left
 abbrev pub whole_tx : Read Tx BlockFault → Result Tx BlockFaultKind
 whole_tx (Ok x) = if length x.1 == 0 then Ok x.0 else Err Rest
 whole_tx (Err e) = Err e.0.kind
@@ -35,10 +36,12 @@ whole_tx (Err e) = Err e.0.kind
 abbrev pub tx_in : List ℕ → Result Tx BlockFaultKind
 tx_in bytes = whole_tx (tx_at bytes)
 
+-- a transaction, its fault as that of the file
 abbrev pub as_tx : Result Tx BlockFaultKind → Result Tx ProofCause
 as_tx (Ok t) = Ok t
 as_tx (Err kind) = Err (OfTx kind)
 
+-- the transaction by a line's bytes; a line without them is refused
 abbrev pub tx_of : Option (List ℕ) → Result Tx ProofCause
 tx_of None = Err BadLine
 tx_of (Some bytes) = as_tx (tx_in bytes)
@@ -53,10 +56,12 @@ tx_in_line line = tx_of (bytes_after (codes "tx ") line)
 abbrev pub worked : List ℕ → Result Hash32 ProofCause
 worked hash = if is_within_target hash then Ok (record { 0 = hash }) else Err Work
 
+-- the hash of the block of a proof, unless the proof has this fault
 abbrev pub unless_fault : Option ProofFault → Proof → Result Hash32 ProofCause
 unless_fault None p = worked (block_hash_of p.header)
 unless_fault (Some fault) p = Err (OfProof fault)
 
+-- the hash of the block for which this is a proof of a transaction's bytes, or the first fault
 abbrev pub block_by : Result Proof ProofFault → List ℕ → Result Hash32 ProofCause
 block_by (Ok p) tx = unless_fault (parts_fault p tx) p
 block_by (Err fault) tx = Err (OfProof fault)
@@ -65,6 +70,7 @@ block_by (Err fault) tx = Err (OfProof fault)
 unfoldable pub block_of : List ℕ → List ℕ → Result Hash32 ProofCause
 block_of tx bytes = block_by (proof_at bytes) tx
 
+-- the same by a line's bytes; a line without them is refused
 abbrev pub block_told : List ℕ → Option (List ℕ) → Result Hash32 ProofCause
 block_told tx None = Err BadLine
 block_told tx (Some bytes) = block_of tx bytes
@@ -75,9 +81,11 @@ block_in_line tx line = block_told tx (bytes_after (codes "proof ") line)
 
 -- ---- the lines
 
+-- the first line of some bytes
 abbrev pub line_of : List ℕ → List ℕ
 line_of bytes = before_first (λ b. b == 10) bytes
 
+-- the bytes after the first line and its LF
 abbrev pub after_line : List ℕ → List ℕ
 after_line bytes = after_first (λ b. b == 10) bytes
 
@@ -85,10 +93,12 @@ after_line bytes = after_first (λ b. b == 10) bytes
 abbrev pub block_from : List ℕ → List ℕ → Result Hash32 ProofCause
 block_from tx bytes = if length (after_line bytes) == 0 then block_in_line tx (line_of bytes) else Err BadLine
 
+-- what a line tells, its fault with the line's number
 abbrev pub at_line : {X : Type 0} → ℕ → Result X ProofCause → Result X ProofFileFault
 at_line place (Ok x) = Ok x
 at_line place (Err cause) = Err (record { cause = cause; place = place })
 
+-- what a proof proves: this transaction stands in this block
 abbrev pub proven : Tx → Hash32 → Proven
 proven t block = record { block = block; txid = record { 0 = txid_of t } }
 

@@ -23,10 +23,11 @@ max_dials = 8
 abbrev pub most_seconds : ℕ
 most_seconds = 86400
 
--- what stands before the first space of a line, and what stands after it
+-- what stands before the first space of a line
 abbrev pub word_of : List ℕ → List ℕ
 word_of line = before_first (λ b. b == 32) line
 
+-- what stands after the first space of a line
 abbrev pub rest_of : List ℕ → List ℕ
 rest_of line = after_first (λ b. b == 32) line
 
@@ -37,6 +38,7 @@ answer_of word =
     else if bytes_eq word (codes "nodial") then Some false
     else None
 
+-- a dial with a name, where it has the form of one
 abbrev pub named : Option Bool → List ℕ → Option Dial
 named None name = None
 named (Some answered) name = if is_name name then Some (record { name = name; answered = answered }) else None
@@ -45,6 +47,7 @@ named (Some answered) name = if is_name name then Some (record { name = name; an
 abbrev pub dial_of : List ℕ → Option Dial
 dial_of line = named (answer_of (word_of line)) (rest_of line)
 
+-- a peer's number, where there is one
 abbrev pub known : Option ℕ → Result PeerNo SessionCause
 known None = Err NoPeer
 known (Some n) = Ok (record { 0 = n })
@@ -53,6 +56,7 @@ known (Some n) = Ok (record { 0 = n })
 abbrev pub peer_of : ℕ → List ℕ → Result PeerNo SessionCause
 peer_of dials text = if is_number text then known (number_within dials text) else Err BadLine
 
+-- bytes that came from a peer, one at least
 abbrev pub got_bytes : Result PeerNo SessionCause → Option (List ℕ) → Result Delivery SessionCause
 got_bytes peer None = Err BadLine
 got_bytes peer (Some []) = Err BadLine
@@ -66,6 +70,7 @@ got_of dials rest = got_bytes (peer_of dials (word_of rest)) (bytes_of_hex (rest
 abbrev pub gone_of : ℕ → List ℕ → Result Delivery SessionCause
 gone_of dials rest = peer_of dials rest >>= λ p. Ok (Gone p)
 
+-- a tick of so many seconds
 abbrev pub ticked : Option ℕ → Result Delivery SessionCause
 ticked None = Err BadLine
 ticked (Some seconds) = Ok (Tick seconds)
@@ -82,6 +87,7 @@ delivery_of dials line =
     else if bytes_eq (word_of line) (codes "tick") then tick_of (rest_of line)
     else Err BadLine
 
+-- a list is empty
 abbrev pub is_none : {X : Type 0} → List X → Bool
 is_none [] = true
 is_none (x ∷ xs) = false
@@ -100,6 +106,7 @@ taken_by s line None =
 abbrev pub taken : Script → List ℕ → Result Script SessionCause
 taken s line = taken_by s line (dial_of line)
 
+-- what a line gives, its fault with the line's number
 abbrev pub at_place : {X : Type 0} → ℕ → Result X SessionCause → Result X SessionFault
 at_place place (Ok x) = Ok x
 at_place place (Err cause) = Err (record { cause = cause; place = place })

@@ -18,10 +18,12 @@ abbrev pub watched_after : List (List ℕ) → List ℕ → Option WatchKind →
 watched_after before script None = Ok (before ++ script ∷ [])
 watched_after before script (Some kind) = watch_fault before (Script kind)
 
+-- a script by its address, whose fault is the line's
 abbrev pub by_address : Result (List ℕ) AddressFault → Result (List ℕ) WatchCause
 by_address (Ok script) = Ok script
 by_address (Err fault) = Err (Address fault)
 
+-- a script by its hexadecimal digits
 abbrev pub by_digits : Option (List ℕ) → Result (List ℕ) WatchCause
 by_digits (Some script) = Ok script
 by_digits None = Err NotHex
@@ -30,6 +32,7 @@ by_digits None = Err NotHex
 abbrev pub script_in_line : List ℕ → Result (List ℕ) WatchCause
 script_in_line line = if is_address_text line then by_address (script_at line) else by_digits (bytes_of_hex line)
 
+-- the scripts with the one that a line names, or the line's fault
 abbrev pub named_after : List (List ℕ) → Result (List ℕ) WatchCause → Result (List (List ℕ)) WatchFileFault
 named_after before (Ok script) = watched_after before script (watch_kind_of before script)
 named_after before (Err cause) = watch_fault before cause

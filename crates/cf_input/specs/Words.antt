@@ -129,6 +129,7 @@ text_of id met = option_and_then (λ p. first_of id p.1) met
 abbrev pub texts_of : Text → Met → Option (List Text)
 texts_of id met = option_and_then (λ p. all_of id p.1) met
 
+-- a text is there, and is `true`
 abbrev pub is_true : Option Text → Bool
 is_true None = false
 is_true (Some text) = bytes_eq text (codes "true")

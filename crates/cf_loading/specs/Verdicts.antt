@@ -23,16 +23,19 @@ use Rattle.cf_answers.specs.declared.status.Status.TheVariants.{NoMemory, Usage,
 use Rattle.cf_answers.specs.declared.status.Which.{Which}
 use Rattle.cf_answers.specs.declared.status.Which.TheVariants.{Watch, Session, Blocks, Proof}
 
--- the most bytes that a watch file, a session file, a block file and the file of a proof may have
+-- the most bytes that a watch file may have
 abbrev pub most_watch : ℕ
 most_watch = 33554432
 
+-- the most bytes that a session file may have
 abbrev pub most_session : ℕ
 most_session = 1073741824
 
+-- the most bytes that a block file may have
 abbrev pub most_blocks : ℕ
 most_blocks = 1073741824
 
+-- the most bytes that the file of a proof may have
 abbrev pub most_proof : ℕ
 most_proof = 4000000
 
@@ -42,22 +45,27 @@ pub data Verdict : Type 0 where
   Bad : (which : Which) → (place : ℕ) → (cause : FileCause) → Verdict
   Good : Verdict
 
+-- the verdict on a watch file, by what reading it gave
 abbrev pub watch_read : Result (List (List ℕ)) WatchFileFault → Verdict
 watch_read (Ok scripts) = Good
 watch_read (Err fault) = Bad Watch fault.place (OfWatch fault.cause)
 
+-- what a watch file is judged as: missing, too big, refused with its first bad line and cause, or good
 abbrev pub watch_verdict : Option (List ℕ) → Verdict
 watch_verdict None = Missing
 watch_verdict (Some bytes) = if nat_lt most_watch (length bytes) then Bad Watch 0 TooBig else watch_read (watch_of bytes)
 
+-- the verdict on a session file, by what reading it gave
 abbrev pub session_read : Result Script SessionFault → Verdict
 session_read (Ok script) = Good
 session_read (Err fault) = Bad Session fault.place (OfSession fault.cause)
 
+-- what a session file is judged as: missing, too big, refused with its first bad line and cause, or good
 abbrev pub session_verdict : Option (List ℕ) → Verdict
 session_verdict None = Missing
 session_verdict (Some bytes) = if nat_lt most_session (length bytes) then Bad Session 0 TooBig else session_read (session_of bytes)
 
+-- the verdict on a block file, by what reading it gave
 abbrev pub blocks_read : Result (List Block) BadBlock → Verdict
 blocks_read (Ok blocks) = Good
 blocks_read (Err bad) = Bad Blocks bad.number (OfBlocks bad.cause)
@@ -67,10 +75,12 @@ abbrev pub blocks_verdict : Option (List ℕ) → Verdict
 blocks_verdict None = Missing
 blocks_verdict (Some bytes) = if nat_lt most_blocks (length bytes) then Bad Blocks 0 TooBig else blocks_read (blocks_at bytes)
 
+-- the verdict on the file of a proof, by what reading it gave
 abbrev pub proof_read : Result Proven ProofFileFault → Verdict
 proof_read (Ok proven) = Good
 proof_read (Err fault) = Bad Proof fault.place (OfProof fault.cause)
 
+-- what the file of a proof is judged as: missing, too big, refused with its first bad line and cause, or good
 abbrev pub proof_verdict : Option (List ℕ) → Verdict
 proof_verdict None = Missing
 proof_verdict (Some bytes) = if nat_lt most_proof (length bytes) then Bad Proof 0 TooBig else proof_read (proof_file_of bytes)

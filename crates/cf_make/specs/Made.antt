@@ -51,17 +51,20 @@ abbrev pub seconds_of : Option OutPoint → ℕ → List Tx
 seconds_of None turn = []
 seconds_of (Some coin) turn = if turn % 3 == 0 then second_of coin turn ∷ [] else []
 
+-- the transactions of a made block: the coinbase, and the second one where it stands
 abbrev pub made_txs : ℕ → ℕ → Option OutPoint → List Tx
 made_txs seed height coin = coinbase_of seed height ∷ seconds_of coin (seed + height)
 
--- what a block needs of the one below: its hash, and the first output of its coinbase; genesis's can't be spent
+-- the first output of the first of a block's transactions, its coinbase
 abbrev pub first_coin : List Tx → Option OutPoint
 first_coin [] = None
 first_coin (t ∷ ts) = Some (outpoint (txid_of t) 0)
 
+-- what a block needs of this one below it: its hash, and the first output of its coinbase
 abbrev pub tip_of : Block → Tip
 tip_of b = record { hash = record { 0 = block_hash_of b.header }; coin = first_coin b.txs }
 
+-- the same of genesis, whose output can't be spent
 abbrev pub genesis_tip : Tip
 genesis_tip = record { hash = record { 0 = block_hash_of genesis_header }; coin = None }
 

@@ -10,9 +10,11 @@ use Rattle.cf_block.specs.Header.{header_spelling}
 use Rattle.cf_block.specs.Tx.{tx_spelling, block_spelling}
 use Rattle.cf_block.specs.Stored.{Stack, extended_spelling}
 
+-- regtest's magic
 abbrev pub magic : List ℕ
 magic = 0xfa ∷ 0xbf ∷ 0xb5 ∷ 0xda ∷ []
 
+-- a block's record, its coinbase without a witness
 unfoldable pub record_of : Block → List ℕ
 record_of b = magic ++ (to_le_bytes w32 (length (block_spelling b)) ++ block_spelling b)
 

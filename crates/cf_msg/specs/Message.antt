@@ -22,6 +22,7 @@ use Rattle.cf_msg.specs.Command.{version_command, verack_command, ping_command, 
 abbrev pub address_spelling : NetAddress → List ℕ
 address_spelling a = to_le_bytes w64 a.services ++ (a.ip ++ to_be_bytes w16 a.port)
 
+-- an address that has a spelling: services of 64 bits, 16 bytes of IP address, a port of 16 bits
 pub record IsAddress (a : NetAddress) : Type 0 where
   pub services : a.services < 2 ^ 64
   pub ip : length a.ip ≡ 16
@@ -32,10 +33,12 @@ abbrev pub byte_or_none : Option ℕ → List ℕ
 byte_or_none None = []
 byte_or_none (Some b) = b ∷ []
 
+-- a number that is a byte, or nothing
 abbrev pub IsByteOrNone : Option ℕ → Type 0
 IsByteOrNone None = Unit {0}
 IsByteOrNone (Some b) = b < 256
 
+-- a hash's bytes, in the order of the wire
 abbrev pub hash_spelling : Hash32 → List ℕ
 hash_spelling h = h.0
 
@@ -47,6 +50,7 @@ item_spelling h = header_spelling h ++ 0 ∷ []
 abbrev pub entry_spelling : Entry → List ℕ
 entry_spelling e = to_le_bytes w32 e.kind ++ e.hash.0
 
+-- an entry that has a spelling: a kind of 32 bits, and a hash of 32 bytes
 pub record IsEntry (e : Entry) : Type 0 where
   pub kind : e.kind < 2 ^ 32
   pub hash : IsHash e.hash

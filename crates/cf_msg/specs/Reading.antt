@@ -35,6 +35,7 @@ of_cut (Err e) = Err (Cut e.0, e.1)
 abbrev pub port_at : List ℕ → Read ℕ CutFault
 port_at bytes = bytes_at 2 bytes >>= λ x. Ok (from_be_bytes w16 x.0, x.1)
 
+-- a network address: services, IP address and port
 unfoldable pub address_at : List ℕ → Read NetAddress CutFault
 address_at bytes = do
   services ← number_at w64 bytes
@@ -47,6 +48,7 @@ abbrev pub byte_or_none_at : List ℕ → Read (Option ℕ) Cause
 byte_or_none_at [] = Ok (None, [])
 byte_or_none_at (b ∷ bytes) = Ok (Some b, bytes)
 
+-- the payload of `version`; its last byte, relay, may be missing (developer reference, "P2P Network")
 unfoldable pub version_at : List ℕ → Read Msg Cause
 version_at bytes = do
   version ← of_cut (int_at w32 bytes)
@@ -60,9 +62,11 @@ version_at bytes = do
   relay ← byte_or_none_at height.1
   Ok (Version version.0 services.0 time.0 to.0 from.0 nonce.0 agent.0 height.0 relay.0, relay.1)
 
+-- the payload of `ping`: a number
 unfoldable pub ping_at : List ℕ → Read Msg Cause
 ping_at bytes = of_cut (number_at w64 bytes) >>= λ n. Ok (Ping n.0, n.1)
 
+-- the payload of `pong`: a number
 unfoldable pub pong_at : List ℕ → Read Msg Cause
 pong_at bytes = of_cut (number_at w64 bytes) >>= λ n. Ok (Pong n.0, n.1)
 
@@ -70,12 +74,15 @@ pong_at bytes = of_cut (number_at w64 bytes) >>= λ n. Ok (Pong n.0, n.1)
 abbrev pub limited : ℕ → List ℕ → ℕ × List ℕ → Read ℕ Cause
 limited limit bytes x = if nat_lt limit x.0 then Err (TooMany, bytes) else Ok x
 
+-- a count, at most the limit
 abbrev pub count_at : ℕ → List ℕ → Read ℕ Cause
 count_at limit bytes = of_cut (compact_at bytes) >>= limited limit bytes
 
+-- a hash: 32 bytes
 abbrev pub hash_item_at : List ℕ → Read Hash32 Cause
 hash_item_at bytes = of_cut (hash_at bytes)
 
+-- the payload of `getheaders`: a version, at most 101 hashes of a locator, and the hash to stop at
 unfoldable pub getheaders_at : List ℕ → Read Msg Cause
 getheaders_at bytes = do
   version ← of_cut (number_at w32 bytes)
@@ -94,9 +101,11 @@ abbrev pub past_zero : Header × List ℕ → Read Header Cause
 past_zero (h, []) = Err (Cut Short, [])
 past_zero (h, b ∷ bytes) = if b == 0 then Ok (h, bytes) else Err (NotZero, b ∷ bytes)
 
+-- a header in a list: a zero follows it, the count of its transactions
 unfoldable pub header_item_at : List ℕ → Read Header Cause
 header_item_at bytes = of_header (header_at bytes) >>= past_zero
 
+-- the payload of `headers`: at most 2000 headers
 unfoldable pub headers_at : List ℕ → Read Msg Cause
 headers_at bytes = do
   count ← count_at 2000 bytes
@@ -107,18 +116,22 @@ headers_at bytes = do
 abbrev pub counted_list_at : {X : Type 0} → ℕ → (List ℕ → Read X Cause) → List ℕ → Read (List X) Cause
 counted_list_at limit item bytes = count_at limit bytes >>= λ n. list_at item n.0 n.1
 
+-- an entry of an inventory: the kind of the object, and its hash
 unfoldable pub entry_at : List ℕ → Read Entry Cause
 entry_at bytes = do
   kind ← of_cut (number_at w32 bytes)
   hash ← hash_item_at kind.1
   Ok (record { kind = kind.0; hash = hash.0 }, hash.1)
 
+-- entries of an inventory, at most 50,000
 unfoldable pub entries_at : List ℕ → Read (List Entry) Cause
 entries_at bytes = counted_list_at 50000 entry_at bytes
 
+-- the payload of `getdata`: what is asked for
 unfoldable pub getdata_at : List ℕ → Read Msg Cause
 getdata_at bytes = entries_at bytes >>= λ entries. Ok (GetData entries.0, entries.1)
 
+-- the payload of `inv`: what is told of
 unfoldable pub inv_at : List ℕ → Read Msg Cause
 inv_at bytes = entries_at bytes >>= λ entries. Ok (Inv entries.0, entries.1)
 
@@ -127,6 +140,7 @@ abbrev pub of_block : List ℕ → Read Block BlockFault → Read Msg Cause
 of_block bytes (Ok x) = Ok (BlockMessage x.0, x.1)
 of_block bytes (Err e) = Err (OfBlock e.0.kind, drop e.0.place bytes)
 
+-- the payload of `block`: a block, and no byte after it
 unfoldable pub block_message_at : List ℕ → Read Msg Cause
 block_message_at bytes = of_block bytes (block_at bytes)
 
@@ -134,6 +148,7 @@ block_message_at bytes = of_block bytes (block_at bytes)
 unfoldable pub filter_hashes_at : List ℕ → Read (List Hash32) Cause
 filter_hashes_at bytes = counted_list_at 2000 hash_item_at bytes
 
+-- the payload of `getcfilters`: the filters' kind, the first height and the last block's hash (BIP 157)
 unfoldable pub getcfilters_at : List ℕ → Read Msg Cause
 getcfilters_at bytes = do
   filter ← of_cut (byte_at bytes)
@@ -141,6 +156,7 @@ getcfilters_at bytes = do
   stop ← hash_item_at start.1
   Ok (GetCfilters filter.0 start.0 stop.0, stop.1)
 
+-- the payload of `cfilter`: the filter's kind, its block's hash and its bytes (BIP 157)
 unfoldable pub cfilter_at : List ℕ → Read Msg Cause
 cfilter_at bytes = do
   filter ← of_cut (byte_at bytes)
@@ -148,6 +164,7 @@ cfilter_at bytes = do
   text ← of_cut (counted_bytes_at block.1)
   Ok (Cfilter filter.0 block.0 text.0, text.1)
 
+-- the payload of `getcfheaders`: the filters' kind, the first height and the last block's hash (BIP 157)
 unfoldable pub getcfheaders_at : List ℕ → Read Msg Cause
 getcfheaders_at bytes = do
   filter ← of_cut (byte_at bytes)
@@ -155,6 +172,7 @@ getcfheaders_at bytes = do
   stop ← hash_item_at start.1
   Ok (GetCfheaders filter.0 start.0 stop.0, stop.1)
 
+-- the payload of `cfheaders`: kind, last block's hash, filter header before, and filters' hashes (BIP 157)
 unfoldable pub cfheaders_at : List ℕ → Read Msg Cause
 cfheaders_at bytes = do
   filter ← of_cut (byte_at bytes)
@@ -163,12 +181,14 @@ cfheaders_at bytes = do
   hashes ← filter_hashes_at previous.1
   Ok (Cfheaders filter.0 stop.0 previous.0 hashes.0, hashes.1)
 
+-- the payload of `getcfcheckpt`: the filters' kind and the last block's hash (BIP 157)
 unfoldable pub getcfcheckpt_at : List ℕ → Read Msg Cause
 getcfcheckpt_at bytes = do
   filter ← of_cut (byte_at bytes)
   stop ← hash_item_at filter.1
   Ok (GetCfcheckpt filter.0 stop.0, stop.1)
 
+-- the payload of `cfcheckpt`: the filters' kind, the last block's hash and filter headers (BIP 157)
 unfoldable pub cfcheckpt_at : List ℕ → Read Msg Cause
 cfcheckpt_at bytes = do
   filter ← of_cut (byte_at bytes)
@@ -199,9 +219,11 @@ fields_at OtherKind command bytes = Ok (Other command bytes, [])
 abbrev pub to_end : Msg × List ℕ → Read Msg Cause
 to_end x = if length x.1 == 0 then Ok x else Err (Rest, x.1)
 
+-- the message of a command and its payload, all of whose bytes are read
 unfoldable pub whole_at : List ℕ → List ℕ → Read Msg Cause
 whole_at command bytes = fields_at (kind_of command) command bytes >>= to_end
 
+-- the message of a frame; or the frame's command, the place of the field that can't be read, and why
 abbrev pub placed : Frame → Read Msg Cause → Result Msg Malformed
 placed f (Ok x) = Ok x.0
 placed f (Err e) = Err (record { command = f.command; place = length f.payload - length e.1; cause = e.0 })

@@ -56,6 +56,7 @@ abbrev pub TellsFilter : Status → Option (List ℕ) → Option (List ℕ) → 
 TellsFilter status before after (Some f) = IsWritten status before after (filter_text f)
 TellsFilter status before after None = IsUnwritten status before after
 
+-- what `filter` answers of a height in a good file: that it is above the tip, where it is, or the block's lines
 abbrev pub TellsHeight : Status → Option (List ℕ) → Option (List ℕ) → List Block → ℕ → Bool → Type 0
 TellsHeight status before after blocks height true = IsAbove status before after (length blocks)
 TellsHeight status before after blocks height false = TellsFilter status before after (filter_at blocks height)
@@ -72,6 +73,7 @@ IsOfText NoMemory = Unit {0}
 IsOfText OutFault = Unit {0}
 IsOfText status = ⊥
 
+-- the answers to a height, once the file is read
 abbrev pub IsOfHeight : Status → Type 0
 IsOfHeight (NoHeight tip) = Unit {0}
 IsOfHeight status = IsOfText status
@@ -82,6 +84,7 @@ IsOfScan Done before after = Unit {0}
 IsOfScan OutFault before after = Unit {0}
 IsOfScan status before after = IsUnwritten status before after
 
+-- the answers of `filter`, whether its file tells its bytes or not: of a height above the tip nothing is written
 abbrev pub IsOfFilter : Status → Option (List ℕ) → Option (List ℕ) → Type 0
 IsOfFilter (NoHeight tip) before after = after ≡ before
 IsOfFilter status before after = IsOfScan status before after

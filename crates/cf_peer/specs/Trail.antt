@@ -46,13 +46,16 @@ abbrev pub item_of_read : Result Msg Malformed → Item
 item_of_read (Ok m) = Said m
 item_of_read (Err e) = Refused IsMalformed
 
+-- what a frame says: the message that it spells, or that it is refused
 abbrev pub item_of : Frame → Item
 item_of f = item_of_read (message_of f)
 
+-- a trail once these frames have come, one after another
 abbrev pub hears : List Frame → Trail → Trail
 hears [] t = t
 hears (f ∷ fs) t = hears fs (item_of f ∷ t)
 
+-- a trail once the bytes behind the whole frames were judged: where they are bad, that is refused
 abbrev pub hears_fault : Option FrameFault → Trail → Trail
 hears_fault None t = t
 hears_fault (Some fault) t = Refused BadFrame ∷ t
@@ -75,15 +78,18 @@ abbrev pub message_in : Result Msg Malformed → Option Msg
 message_in (Ok m) = Some m
 message_in (Err e) = None
 
+-- a message, where no bytes wait behind it
 abbrev pub alone : List ℕ → Option Msg → Option Msg
 alone [] m = m
 alone (b ∷ rest) m = None
 
+-- the message of one frame, where there is no other and no bytes wait behind it
 abbrev pub one_message : List Frame → List ℕ → Option Msg
 one_message [] rest = None
 one_message (f ∷ []) rest = alone rest (message_in (message_of f))
 one_message (f ∷ g ∷ fs) rest = None
 
+-- the message of a stream that is one frame and nothing more
 abbrev pub message_of_stream : StreamRead → Option Msg
 message_of_stream r = one_message r.frames r.rest
 
@@ -91,10 +97,12 @@ message_of_stream r = one_message r.frames r.rest
 abbrev pub spelled : List ℕ → Option Msg
 spelled bytes = message_of_stream (read_stream bytes)
 
+-- a trail once a message was sent to the peer; bytes that spell none leave it as it is
 abbrev pub asks : Option Msg → Trail → Trail
 asks None t = t
 asks (Some m) t = Asked m ∷ t
 
+-- a part with one item more
 abbrev pub with_item : Item → Part → Part
 with_item i part = record part { trail = i ∷ part.trail }
 
@@ -102,12 +110,14 @@ with_item i part = record part { trail = i ∷ part.trail }
 abbrev pub called_part : Part → Part
 called_part part = record { trail = Called ∷ part.trail; waits = [] }
 
+-- p's part after a delivery: bytes of p are read on, p's going is its loss, and seconds pass for all peers
 abbrev pub took : Delivery → ℕ → Part → Part
 took (Got q piece) p part = if q.0 == p then heard_part piece part else part
 took (Gone q) p part = if q.0 == p then with_item (Lost Went) part else part
 took (Tick s) p part = with_item (Passed s) part
 took Ended p part = part
 
+-- p's part after one entry of the log: a dial, a send, a failed send or a close of p's, or a delivery
 abbrev pub went_on : Event → ℕ → Part → Part
 went_on (Dialled q name) p part = if q.0 == p then called_part part else part
 went_on (NotDialled q name) p part = if q.0 == p then with_item (Lost Went) part else part
@@ -125,11 +135,12 @@ part_of (e ∷ log) p = went_on e p (part_of log p)
 abbrev pub trail : Log → ℕ → Trail
 trail log p = (part_of log p).trail
 
--- kinds of messages
+-- a message is a version
 abbrev pub is_version : Msg → Bool
 is_version (Version version services time to from nonce agent height relay) = true
 is_version m = false
 
+-- a message is a verack
 abbrev pub is_verack : Msg → Bool
 is_verack Verack = true
 is_verack m = false
@@ -178,7 +189,7 @@ ready (Asked m ∷ t) = ready t
 ready (Passed s ∷ t) = ready t
 ready (Lost w ∷ t) = ready t
 
--- its own chain: the longest that its headers after the handshake have made
+-- the chain that headers have made where it is longer, and else the peer's own as it was
 abbrev pub longer_of : Accepted → Chain → Chain
 longer_of (Longer next) own = next
 longer_of NoLonger own = own
@@ -186,6 +197,7 @@ longer_of Unlinked own = own
 longer_of (Invalid place fault) own = own
 longer_of TooHigh own = own
 
+-- a peer's own chain once it has said this: by a list of headers it may be a longer one
 abbrev pub own_after : Msg → Chain → Chain
 own_after (Headers hs) own = longer_of (accept hs own) own
 own_after m own = own
@@ -208,23 +220,26 @@ ends_by Unlinked hs = false
 ends_by (Invalid place fault) hs = false
 ends_by TooHigh hs = false
 
+-- a message is a list of headers by which the peer has no more to tell
 abbrev pub ends_with : Msg → Chain → Bool
 ends_with (Headers hs) own = ends_by (accept hs own) hs
 ends_with m own = false
 
--- it tells of a block that isn't on its own chain
+-- an entry of an `inv` tells of a block that isn't on the peer's own chain
 abbrev pub is_unknown : Chain → Entry → Bool
 is_unknown own entry = (entry.kind == 2) && is_none (back_to entry.hash.0 own)
 
+-- a message is an `inv` that tells of a block that isn't on the peer's own chain
 abbrev pub is_news : Msg → Chain → Bool
 is_news (Inv entries) own = list_any (is_unknown own) entries
 is_news m own = false
 
--- a client that follows hears a peer out again after news
+-- a peer that was heard out still is after this message; a client that follows hears it out again after news
 abbrev pub still_heard : Mode → Msg → Chain → Bool → Bool
 still_heard Once m own heard = heard
 still_heard Following m own heard = if is_news m own then false else heard
 
+-- it was heard out: headers have come by which it has no more to tell (`ends_by`), and in `Following` no news since
 abbrev pub heard_in : Mode → Trail → Bool
 heard_in mode [] = false
 heard_in mode (Called ∷ t) = false
@@ -234,6 +249,7 @@ heard_in mode (Asked m ∷ t) = heard_in mode t
 heard_in mode (Passed s ∷ t) = heard_in mode t
 heard_in mode (Lost w ∷ t) = heard_in mode t
 
+-- the same for a client that ends once nothing is open
 abbrev pub heard : Trail → Bool
 heard t = heard_in Once t
 
@@ -245,16 +261,18 @@ fault_in Unlinked = Some NotLinked
 fault_in (Invalid place fault) = Some InvalidHeader
 fault_in TooHigh = Some AboveLimit
 
+-- the first cause where there is one, and else the later
 abbrev pub first : Option Cause → Option Cause → Option Cause
 first (Some c) later = Some c
 first None later = later
 
--- a send to it has failed
+-- a peer was lost by a send that failed
 abbrev pub is_failing : Why → Bool
 is_failing Went = false
 is_failing Failing = true
 is_failing Shutting = false
 
+-- a send to it has failed since it was dialled
 abbrev pub failed : Trail → Bool
 failed [] = false
 failed (Called ∷ t) = false
@@ -296,11 +314,12 @@ replied (Asked m ∷ t) = replied t ++ as_reply m
 replied (Passed s ∷ t) = replied t
 replied (Lost w ∷ t) = replied t
 
--- the version that the client sends: protocol 70016, no services, no addresses, its agent, height 0, no relay
+-- no network address: no services, and zeros for the IP address and the port
 abbrev pub no_address : NetAddress
 no_address = record { services = 0; ip = replicate 16 0; port = 0 }
 
--- a message is the client's version, whatever moment and number it tells
+-- a message is the client's version, whatever moment and number it tells: protocol 70016, no services, no addresses,
+-- its agent, height 0, no relay
 abbrev pub IsClientVersion : Msg → Type 0
 IsClientVersion (Version version services time to from nonce agent height relay) =
     (version ≡ pos 70016) × (services ≡ 0) × (to ≡ no_address) × (from ≡ no_address) × (agent ≡ codes "/cf:1/") × (height ≡ pos 0) × (relay ≡ Some 0)

@@ -45,14 +45,16 @@ abbrev pub Fits : Place → Part → Type 0
 Fits (Here peer) part = Keeps peer part
 Fits (Lost loss) part = IsLost loss part.trail
 
+-- what is held of a peer that was never dialled
 abbrev pub nobody : Place
 nobody = Lost NotDialled
 
+-- what is held of the peer with this number
 abbrev pub place_at : List Place → ℕ → Place
 place_at places p = slice_index_or places p nobody
 
--- the places stand for the log: one for each peer that was dialled, at its number, and nobody's at 0; who was closed for an omission omitted something then,
--- and who was closed while it omitted something is named so
+-- the places stand for the log: one for each peer that was dialled, at its number, and nobody's at 0; who was closed for an omission
+-- omitted something then, and where all in the log was rightly done (`RightlyIn`), who was closed while it omitted something is named so
 pub record PlacesStand (places : List Place) (log : Log) : Type 0 where
   pub count : length places ≡ (tally_of log).dials + 1
   pub omitted : (p : ℕ) → place_at places p ≡ Lost (ClosedFor Omits) → HasOmitted log p
@@ -90,6 +92,7 @@ abbrev pub is_calm : Place → Bool
 is_calm (Here peer) = calm peer
 is_calm (Lost loss) = true
 
+-- so it is of each peer
 abbrev pub AreCalm : List Place → Type 0
 AreCalm places = (p : ℕ) → is_calm (place_at places p) ≡ true
 
@@ -137,6 +140,7 @@ abbrev pub is_here : Place → Bool
 is_here (Here peer) = true
 is_here (Lost loss) = false
 
+-- the state, by what is held of the peers
 abbrev pub state_of : List Place → State
 state_of places = if list_any is_busy places then Working else if list_any is_here places then Synced else NoPeers
 
@@ -150,7 +154,7 @@ abbrev pub AsksFor : Hash32 → Msg → Type 0
 AsksFor hash (GetData entries) = entries ≡ block_entry hash ∷ []
 AsksFor hash m = ⊥
 
--- the version that is sent to a peer, the question for headers above a chain, and that for a block
+-- a message that can be sent, and is the client's version
 pub record IsGreeting (m : Msg) : Type 0 where
   pub sendable : IsSendable m
   pub ours : IsClientVersion m
@@ -167,10 +171,12 @@ pub record Greets (words : Words) (p : PeerNo) (acts : List Act) : Type 0 where
   pub greeting : IsGreeting message
   pub tells : TellsWords words message
 
+-- a message that can be sent and asks for headers above a chain
 pub record IsQuestion (chain : Chain) (m : Msg) : Type 0 where
   pub sendable : IsSendable m
   pub asks : AsksAbove chain m
 
+-- a message that can be sent and asks for a block
 pub record IsFetch (hash : Hash32) (m : Msg) : Type 0 where
   pub sendable : IsSendable m
   pub asks : AsksFor hash m

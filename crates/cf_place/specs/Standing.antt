@@ -40,12 +40,13 @@ FirstLost P (Asked m ∷ t) = FirstLost P t
 FirstLost P (Passed s ∷ t) = FirstLost P t
 FirstLost P (LostItem why ∷ t) = ((connected t ≡ true) × P why t) ⊎ ((connected t ≡ false) × FirstLost P t)
 
--- it went; it was closed, and deserved this cause then (whether it omitted something its own part doesn't tell)
+-- it went, or was never there: it wasn't closed, and no send to it failed
 abbrev pub IsGoing : Why → Trail → Type 0
 IsGoing Went t = Unit {0}
 IsGoing Failing t = ⊥
 IsGoing Shutting t = ⊥
 
+-- it was closed: for an omission, of which its own part doesn't tell, or for a cause that it deserved then
 abbrev pub IsShutFor : Cause → Why → Trail → Type 0
 IsShutFor cause Went t = ⊥
 IsShutFor cause Failing t = ⊥
@@ -81,7 +82,8 @@ IsRepliedFirst t = failed t ≡ false → (so_far : Trail) × IsUpToLast t so_fa
 abbrev pub IsRepliedIn : Log → ℕ → Type 0
 IsRepliedIn log p = IsReplied (trail log p) ⊎ (IsOmitting log p × IsRepliedFirst (trail log p))
 
--- who omits something is closed for that
+-- where all in the log was rightly done (`RightlyIn Following`, which the rule of any client gives), who omits something is closed
+-- for that, and for nothing else
 abbrev pub IsNamed : Log → ℕ → Cause → Type 0
 IsNamed log p cause = RightlyIn Following log → IsOmitting log p → cause ≡ Omits
 
@@ -96,6 +98,7 @@ pub record Words : Type 0 where
   pub moment : ℤ
   pub number : ℕ
 
+-- a version tells these words; of any other message nothing is said
 abbrev pub TellsWords : Words → Msg → Type 0
 TellsWords words (Version version services time to from nonce agent height relay) = (time ≡ words.moment) × (nonce ≡ words.number)
 TellsWords words m = Unit {0}
@@ -108,8 +111,8 @@ EndTells EndsNotDialled t = IsLost NotDialled t
 EndTells EndsGone t = IsLost Gone t
 EndTells (EndsClosed cause) t = IsLost (ClosedFor cause) t
 
--- there is an end for each peer that was dialled, in the order of their numbers, and each tells how its peer stands; who was closed for an omission omitted
--- something then, and who was closed while it omitted something ends so
+-- there is an end for each peer that was dialled, in the order of their numbers, and each tells how its peer stands; who was closed for an
+-- omission omitted something then, and where all in the log was rightly done (`RightlyIn`), who was closed while it omitted something ends so
 pub record EndsTell (ends : List PeerEnd) (log : Log) : Type 0 where
   pub omitted : (i : ℕ) → slice_index_or ends i EndsNotDialled ≡ EndsClosed Omits → HasOmitted log (i + 1)
   pub named : RightlyIn Following log → (i : ℕ) → HasOmitted log (i + 1) → slice_index_or ends i EndsNotDialled ≡ EndsClosed Omits

@@ -83,13 +83,14 @@ HasAnswered way blocks log p = came log p ≡ answered_to way blocks (told_to lo
 
 -- ---- answers with other filters
 
--- a message is the machine's, or both tell of filters
+-- a message tells of filters
 abbrev pub is_filtering : Msg → Bool
 is_filtering (Cfilter filter block bytes) = true
 is_filtering (Cfheaders filter stop previous hashes) = true
 is_filtering (Cfcheckpt filter stop headers) = true
 is_filtering m = false
 
+-- a message is the other one, or both tell of filters
 abbrev pub IsAlike : Msg → Msg → Type 0
 IsAlike m n = (m ≡ n) ⊎ ((is_filtering m ≡ true) × (is_filtering n ≡ true))
 

@@ -13,9 +13,11 @@ pub record Parts : Type 0 where
   pub bits : List Bool
   pub hashes : List (List ℕ)
 
+-- those from a node with two children on: its bit 1, and then the left child's and the right child's
 abbrev pub joined_parts : Parts → Parts → Parts
 joined_parts a b = record { bits = true ∷ (a.bits ++ b.bits); hashes = a.hashes ++ b.hashes }
 
+-- those from a node with one child on: its bit 1, and then the child's
 abbrev pub one_child : Parts → Parts
 one_child a = record { bits = true ∷ a.bits; hashes = a.hashes }
 
@@ -27,6 +29,7 @@ parts_of leaves leaf (suc n) place =
     if leaf / 2 ^ suc n == place then (if is_there (length leaves) n (2 * place + 1) then joined_parts (parts_of leaves leaf n (2 * place)) (parts_of leaves leaf n (2 * place + 1)) else one_child (parts_of leaves leaf n (2 * place)))
     else record { bits = false ∷ []; hashes = node_at (suc n) place leaves ∷ [] }
 
+-- those of the whole tree over a block's transactions, for the transaction at a place
 abbrev pub all_parts : Block → ℕ → Parts
 all_parts b place = let ids = txids (spelled_txs b) in parts_of ids place (height_of (length ids)) 0
 

@@ -32,13 +32,16 @@ abbrev pub field_at : {X : Type 0} → Read X CutFault → Read X ProofFault
 field_at (Ok x) = Ok x
 field_at (Err e) = Err (of_cut e.0, e.1)
 
+-- a header, whose fault is that it is cut off
 abbrev pub or_short : Read Header BlockFault → Read Header ProofFault
 or_short (Ok x) = Ok x
 or_short (Err e) = Err (Short, e.1)
 
+-- the header of the block
 abbrev pub header_field_at : List ℕ → Read Header ProofFault
 header_field_at bytes = or_short (header_at bytes)
 
+-- one hash of a node
 abbrev pub hash_field_at : List ℕ → Read Hash32 ProofFault
 hash_field_at bytes = field_at (hash_at bytes)
 

@@ -20,7 +20,7 @@ unfoldable pub with_hash : Bool → List Bool → List (List ℕ) → Option Wal
 with_hash matched bits [] = None
 with_hash matched bits (h ∷ hashes) = Some (record { hash = h; matched = if matched then h ∷ [] else []; twins = false; nodes = []; bits = bits; hashes = hashes })
 
--- a node with two children, and one whose right child is the left one again
+-- a node with two children
 unfoldable pub with_both : Walked → Walked → Walked
 with_both left right = record {
   hash = hash_of (left.hash ++ right.hash);
@@ -31,6 +31,7 @@ with_both left right = record {
   hashes = right.hashes;
 }
 
+-- a node whose right child isn't there: the left one stands for it
 unfoldable pub with_left : Walked → Walked
 with_left left = record {
   hash = hash_of (left.hash ++ left.hash);

@@ -84,11 +84,12 @@ AreDialledFirst (SendFailed p ∷ log) = AreDialledFirst log
 AreDialledFirst (Closed p ∷ log) = AreDialledFirst log
 AreDialledFirst (Took d ∷ log) = AreDialledFirst log
 
--- a line of the trace tells what was sent, or why a peer was closed
+-- a line of the trace tells what was sent to the peer
 abbrev pub IsSentLine : PeerNo → List ℕ → TraceLine → Type 0
 IsSentLine p bytes (SentLine q command) = (q ≡ p) × ((m : Msg) × (spelled bytes ≡ Some m) × (command ≡ command_of m))
 IsSentLine p bytes (ClosedLine q cause) = ⊥
 
+-- a line of the trace tells that the peer was closed, for a cause that it deserved and that is right by `IsNamed`
 abbrev pub IsClosedLine : Log → PeerNo → TraceLine → Type 0
 IsClosedLine log p (SentLine q command) = ⊥
 IsClosedLine log p (ClosedLine q cause) = (q ≡ p) × DeservesIn log p.0 cause × IsNamed log p.0 cause

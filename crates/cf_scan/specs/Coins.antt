@@ -6,6 +6,7 @@ use Rattle.std.specs.Map.{values_of}
 use Rattle.cf_block.specs.declared.tx.OutPoint.{OutPoint}
 use Rattle.cf_block.specs.Outpoint.{outpoint_cmp, outpoint_code}
 
+-- watched coins: the value of each outpoint's output
 abbrev pub CoinMap : Type 0
 CoinMap = FinMap outpoint_cmp ℕ
 

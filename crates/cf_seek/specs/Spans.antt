@@ -28,8 +28,9 @@ pub record IsSpan (own : Chain) (start end : ℕ) (span : Span) : Type 0 where
   pub parent : span.parent.0 ≡ tip_hash (lower (pred start) part)
   pub blocks : map (λ (h : Hash32). h.0) span.blocks.items ≡ map block_hash_of (above (pred start) part)
 
--- a question that may be put, by the lowest height: for claims of blocks none of which the peer claims, fewer than 2000; for filters that are to be asked for
--- and aren't open, fewer than 1000; for a block that is to be fetched and isn't open; for a filter that is to be tested, where there is none of these
+-- A whole question that may be put, a `Wish`, about what is sought by `IsSought`, a `Want`, which is a kind and the lowest height of that kind.
+-- For claims: of at most 2000 blocks from there on, none of which the peer claims. For filters: of at most 1000, each of which is to be asked
+-- for and isn't open. For the block at that height. For a filter that is to be tested, or for nothing: only where nothing is sought.
 abbrev pub IsWish : Table → Tables → Verdicts → Opens → ℕ → Chain → ℕ → Wish → Type 0
 IsWish extracts tables verdicts opens p own common Nothing = IsSought extracts tables verdicts opens p own common NothingWanted
 IsWish extracts tables verdicts opens p own common (Claims span) =

@@ -29,20 +29,25 @@ pub data Stop : Type 0 where
   -- as many frames were taken as may be
   IsFull : Stop
 
+-- the messages of some bytes, and what comes after them
 pub record Course : Type 0 where
   pub messages : List Msg
   pub stop : Stop
 
+-- no message, and then this stop
 abbrev pub stops : Stop → Course
 stops stop = record { messages = []; stop = stop }
 
+-- the same with one message before the others
 abbrev pub with_message : Msg → Course → Course
 with_message m course = record course { messages = m ∷ course.messages }
 
+-- a frame's message and the course of the bytes after it; or a stop, where the frame spells none
 abbrev pub course_after : (List ℕ → Course) → List ℕ → Result Msg Malformed → Course
 course_after next more (Err fault) = stops (IsMalformed fault)
 course_after next more (Ok m) = with_message m (next more)
 
+-- by what stands at the front: a frame's course, or a stop
 abbrev pub course_from : (List ℕ → Course) → Front → Course
 course_from next (Err fault) = stops (IsBad fault)
 course_from next (Ok None) = stops Waits
@@ -67,10 +72,11 @@ text_of messages = flat_map (λ m. spelling (frame_of m)) messages
 abbrev pub reply_bytes : ℤ → ℕ → List Block → List Msg → List ℕ
 reply_bytes now nonce blocks messages = text_of (replies now nonce blocks false messages)
 
--- all of a text was written, or a beginning of it
+-- all of a text was written
 abbrev pub Whole : Option (List ℕ) → Option (List ℕ) → List ℕ → Type 0
 Whole before after text = after ≡ with_more before text
 
+-- a beginning of a text was written, all of it perhaps
 abbrev pub Beginning : Option (List ℕ) → Option (List ℕ) → List ℕ → Type 0
 Beginning before after text = (n : ℕ) × (n ≤ length text) × (after ≡ with_more before (take n text))
 

@@ -31,7 +31,8 @@ Puts wish m = ⊥
 -- and given, and by what is open, the question is for the claims from the lowest that it doesn't claim; where it claims all, for the filters from
 -- the lowest that isn't judged and is open to nobody; where there is none of these, for the lowest block that is to be fetched and is open to
 -- nobody; and where there is none of these either, for the filter of the lowest fetched block on which they differ and of which what it claims wasn't
--- tested. It goes as far as it may.
+-- tested. It goes as far as it may. By block and filter, told is whether a filter that was tested lacks what its block pays, as the log has it
+-- (tested); tries says that a question for a filter to be tested is for that of the lowest such block.
 pub record IsInTurn (rule : Rule) (log : Log) (p : ℕ) (m : Msg) : Type 0 where
   pub heard_out : heard_in rule.mode (trail log p) ≡ true
   pub chain : Chain

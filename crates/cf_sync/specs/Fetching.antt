@@ -33,7 +33,8 @@ use Rattle.cf_peer.specs.Asking.{OpenRequest, NothingOpen, HeadersOpen, ClaimsOp
 
 -- ---- peers
 
--- what counts of a peer's part
+-- what counts of a peer's trail: all but refused frames, and the messages that it said while it wasn't connected or from the first
+-- frame on for which it deserves to be closed (`counts`, cf_peer, `specs/Asking.antt`)
 abbrev pub counted_part : Log → ℕ → Trail
 counted_part log p = counted (trail log p)
 
@@ -95,7 +96,8 @@ pub record IsDisputed (log : Log) (block : Hash) : Type 0 where
   pub claims : Claims log one block mine × Claims log other block yours
   pub apart : mine ≢ yours
 
--- a message asks for filters, where this block was fetched; any other leaves it as it was
+-- whether a block's filter is to be tested after a send: a question for filters that p was sent makes it so where the block was
+-- fetched before, and not so where it wasn't; any other send leaves that as it was
 abbrev pub test_after : Bool → Option Msg → Log → Hash → Type 0 → Type 0
 test_after false m log block before = before
 test_after true None log block before = before
@@ -116,13 +118,14 @@ IsTest (Took d ∷ log) p block = IsTest log p block
 abbrev pub IsNoTest : Log → ℕ → Hash → Type 0
 IsNoTest log p block = IsTest log p block → ⊥
 
--- with the newest entry this filter came, the last of a whole answer of the peer or one before it
+-- by the newest entry an answer of p about filters became whole, and this filter is one of those that it brought
 pub record IsNew (e : Event) (log : Log) (p : ℕ) (job : Job) : Type 0 where
   pub news : List Job
   pub joined : given (counted_part (e ∷ log) p) ≡ news ++ given (counted_part log p)
   pub among : IsIn job news
 
--- a filter came in a whole answer, before the first frame by which its peer deserved a cause, to a question that was so when it came
+-- a filter came in a whole answer, by what counts, and way was true of that peer and that block right before the last piece of it:
+-- `IsTest` where the filter was asked for to be tested, `IsNoTest` where it was to be judged
 abbrev pub IsAnswered : (Log → ℕ → Hash → Type 0) → Log → Job → Type 0
 IsAnswered way [] job = ⊥
 IsAnswered way (Took (Got q piece) ∷ log) job =
@@ -136,11 +139,11 @@ IsAnswered way (Sent q bytes ∷ log) job = IsAnswered way log job
 IsAnswered way (SendFailed q ∷ log) job = IsAnswered way log job
 IsAnswered way (Closed q ∷ log) job = IsAnswered way log job
 
--- a filter was given: it came in a whole answer to a question that wasn't asked after its block was fetched
+-- a filter was given: it came in a whole answer to a question that was put while its block wasn't fetched
 abbrev pub IsGiven : Log → Job → Type 0
 IsGiven log job = IsAnswered IsNoTest log job
 
--- a filter was tested: it came in a whole answer to a question that was
+-- a filter was tested: it came in a whole answer to a question that was put once its block was fetched
 abbrev pub IsTested : Log → Job → Type 0
 IsTested log job = IsAnswered IsTest log job
 
@@ -246,7 +249,7 @@ abbrev pub IsWanted : Log → Msg → Type 0
 IsWanted log (GetData entries) = (entry : Wanted) → IsIn entry entries → IsFetchedHash log entry.hash.0 → ⊥
 IsWanted log m = Unit {0}
 
--- the blocks of an open request for filters, those whose filter came before those whose filter is to come; and that of an open request for a block
+-- the blocks of an open request for filters: those whose filter has come, and then those whose filter is to come
 abbrev pub filters_open : OpenRequest → List Hash
 filters_open NothingOpen = []
 filters_open HeadersOpen = []
@@ -255,6 +258,7 @@ filters_open (FiltersOpen left came) = map (λ (j : Job). j.block.0) came ++ lef
 filters_open (BlockOpen block) = []
 filters_open (PingOpen number) = []
 
+-- the block of an open request for a block
 abbrev pub blocks_open : OpenRequest → List Hash
 blocks_open NothingOpen = []
 blocks_open HeadersOpen = []
@@ -263,10 +267,11 @@ blocks_open (FiltersOpen left came) = []
 blocks_open (BlockOpen block) = block ∷ []
 blocks_open (PingOpen number) = []
 
--- a block stands in a request for filters that is open to a connected peer; in one for a block
+-- a block stands in a request for filters that is open to a connected peer
 abbrev pub IsFilterOpen : Log → Hash → Type 0
 IsFilterOpen log block = (q : ℕ) × (IsConnected log q × IsIn block (filters_open (request (trail log q))))
 
+-- a block stands in a request for a block that is open to a connected peer
 abbrev pub IsBlockOpen : Log → Hash → Type 0
 IsBlockOpen log block = (q : ℕ) × (IsConnected log q × IsIn block (blocks_open (request (trail log q))))
 
@@ -283,8 +288,8 @@ is_after_tick (Sent p bytes ∷ log) = is_after_tick log
 is_after_tick (SendFailed p ∷ log) = is_after_tick log
 is_after_tick (Closed p ∷ log) = is_after_tick log
 
--- what is asked of p is open to nobody: no filter of a block that wasn't fetched and whose filter is, and no block that is. (The filter of a
--- fetched block is asked for so that it is tested, of each peer by itself.) A ping is sent with a tick.
+-- What is asked of p is open to nobody: no filter that it is asked for and whose block wasn't fetched, and no block. (The filter of a
+-- fetched block is asked of each peer by itself, so that it is tested.) Of a ping another thing is said: that the last delivery is a tick.
 abbrev pub IsAlone : Log → ℕ → Msg → Type 0
 IsAlone log p (GetCfilters filter start stop) =
     (block : Hash) → IsIn block (blocks_in start (back_to stop.0 (own (trail log p)))) → (IsFetchedHash log block → ⊥) → IsFilterOpen log block → ⊥
@@ -357,6 +362,7 @@ RightlyIn mode (SendFailed p ∷ log) = RightlyIn mode log
 RightlyIn mode (Closed p ∷ log) = ((cause : Cause) × DeservesIn log p.0 cause) × RightlyIn mode log
 RightlyIn mode (Took d ∷ log) = MayTake mode log × RightlyIn mode log
 
+-- the same of a client that ends once nothing is open
 abbrev pub Rightly : Log → Type 0
 Rightly log = RightlyIn Once log
 
@@ -397,6 +403,7 @@ pub record IsAskedOutIn (mode : Mode) (watch : List (List ℕ)) (log : Log) (cha
       → IsSettled watch log (hash_at (own (counted_part log p)) h)
   pub tested : IsTestedThrough log chain p
 
+-- the same of a client that ends once nothing is open
 abbrev pub IsAskedOut : List (List ℕ) → Log → Chain → ℕ → Type 0
 IsAskedOut watch log chain p = IsAskedOutIn Once watch log chain p
 
@@ -408,6 +415,7 @@ StandsFor log h b =
     (IsFetched log b × (block_hash_of b.header ≡ block_hash_of h))
     ⊎ ((IsFetchedHash log (block_hash_of h) → ⊥) × (b ≡ record { header = h; txs = [] }))
 
+-- so blocks stand for headers, one by one
 abbrev pub StandFor : Log → List Header → List Block → Type 0
 StandFor log [] [] = Unit {0}
 StandFor log [] (b ∷ blocks) = ⊥

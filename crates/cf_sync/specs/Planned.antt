@@ -30,7 +30,8 @@ before_failure (Dialled p name ∷ log) q = before_failure log q
 before_failure (NotDialled p name ∷ log) q = before_failure log q
 before_failure (Sent p bytes ∷ log) q = before_failure log q
 
--- what was planned on top: messages to the peer, and its close
+-- what a client may have put on top of a peer's trail while it didn't know of a failed send: messages to the peer, and its loss;
+-- nothing that the peer says, and no seconds that pass
 abbrev pub IsMeant : Trail → Type 0
 IsMeant [] = Unit {0}
 IsMeant (Called ∷ t) = ⊥
@@ -40,7 +41,8 @@ IsMeant (Asked m ∷ t) = IsMeant t
 IsMeant (Passed s ∷ t) = ⊥
 IsMeant (Lost w ∷ t) = IsMeant t
 
--- the same part; or of both a send has failed and cut them off, and the same blocks and filters were brought
+-- two parts of a peer are equal; or in both it was cut off and a send to it has failed, and both hold the same blocks that it brought
+-- and the same filters that it gave
 abbrev pub Alike : Part → Part → Type 0
 Alike t u =
     (t ≡ u)

@@ -51,28 +51,35 @@ pub record IsGoodFile (bytes : List ℕ) (blocks : List Block) : Type 0 where
 
 -- ---- the first bad record
 
+-- all bytes are zeros
 abbrev pub all_zeros : List ℕ → Bool
 all_zeros bytes = list_all (λ b. b == 0) bytes
 
+-- a block, its fault as its record's
 abbrev pub in_block : Read Block BlockFault → Result Block RecordCause
 in_block (Ok x) = Ok x.0
 in_block (Err e) = Err (InBlock e.0.kind)
 
+-- a header's fault, as its record's
 abbrev pub in_header : Option HeaderFault → Option RecordCause
 in_header None = None
 in_header (Some fault) = Some (InHeader fault)
 
+-- the fault of a block that stands above as many as a chain may have
 abbrev pub in_height : ℕ → Option RecordCause
 in_height height = if nat_le max_height height then Some TooHigh else None
 
+-- the fault of a block whose header doesn't stand for its transactions, as its record's
 abbrev pub in_commitment : Option CommitFault → Option RecordCause
 in_commitment None = None
 in_commitment (Some fault) = Some (Commit fault)
 
+-- the fault of what a block spends and makes, as its record's
 abbrev pub in_coins : Result CoinMap CoinFault → Option RecordCause
 in_coins (Ok coins) = None
 in_coins (Err fault) = Some (InCoins fault)
 
+-- the first cause where there is one, and else the later
 abbrev pub or_else : Option RecordCause → Option RecordCause → Option RecordCause
 or_else (Some cause) later = Some cause
 or_else None later = later
@@ -102,6 +109,7 @@ next_at blocks bytes = do
   more ← put_on (cause_on blocks b) blocks b
   Ok (more, text.1)
 
+-- what a record gives, its fault with the record's number
 abbrev pub numbered : {X : Type 0} → ℕ → Taken X → Result (X × List ℕ) BadBlock
 numbered number (Ok x) = Ok x
 numbered number (Err cause) = Err (record { number = number; cause = cause })
@@ -131,6 +139,7 @@ abbrev pub behind_first : Taken Block → Option (List ℕ)
 behind_first (Ok x) = if is_first x.0 then Some x.1 else None
 behind_first (Err cause) = None
 
+-- the bytes after the first record, where that is one of the genesis block
 unfoldable pub after_genesis : List ℕ → Option (List ℕ)
 after_genesis bytes = behind_first (block_here bytes)
 

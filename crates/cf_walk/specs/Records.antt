@@ -53,6 +53,7 @@ pub record HasRecords (bytes : List ℕ) (blocks : List Block) (rest : List ℕ)
 
 -- ---- what reading a record gives: a value and the bytes after it, or why it is none
 
+-- a value and the bytes after it, or why it is none
 abbrev pub Taken : Type 0 → Type 0
 Taken X = Result (X × List ℕ) RecordCause
 
@@ -61,15 +62,19 @@ abbrev pub cut_off : {X : Type 0} → Read X CutFault → Taken X
 cut_off (Ok x) = Ok x
 cut_off (Err e) = Err Cut
 
+-- four bytes, where they are regtest's magic
 abbrev pub is_magic : List ℕ × List ℕ → Taken (List ℕ)
 is_magic x = if bytes_eq x.0 magic then Ok x else Err Magic
 
+-- a length, where it isn't above 4,000,000
 abbrev pub is_short : ℕ × List ℕ → Taken ℕ
 is_short x = if nat_lt max_record x.0 then Err TooLong else Ok x
 
+-- regtest's magic at the front
 unfoldable pub magic_at : List ℕ → Taken (List ℕ)
 magic_at bytes = cut_off (bytes_at 4 bytes) >>= is_magic
 
+-- the length of a record's block, at most 4,000,000
 unfoldable pub length_at : List ℕ → Taken ℕ
 length_at bytes = cut_off (number_at w32 bytes) >>= is_short
 
@@ -77,6 +82,7 @@ length_at bytes = cut_off (number_at w32 bytes) >>= is_short
 unfoldable pub head_at : List ℕ → Taken ℕ
 head_at bytes = if nat_lt (length bytes) 8 then Err Cut else magic_at bytes >>= λ m. length_at m.1
 
+-- so many bytes, which are to be a block's
 abbrev pub text_at : ℕ → List ℕ → Taken (List ℕ)
 text_at size bytes = cut_off (bytes_at size bytes)
 

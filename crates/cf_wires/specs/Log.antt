@@ -21,6 +21,7 @@ pub record Tally : Type 0 where
   pub taken : ℕ
   pub ended : ℕ
 
+-- a tally with this mark for a peer
 abbrev pub marked : Tally → PeerNo → Mark → Tally
 marked t p m = record t { marks = slice_set t.marks p.0 m }
 
@@ -49,6 +50,7 @@ abbrev pub tally_of : Log → Tally
 tally_of [] = nothing_yet
 tally_of (e ∷ log) = noted e (tally_of log)
 
+-- how the peer with this number stands
 abbrev pub mark_of : Tally → ℕ → Mark
 mark_of t p = slice_index_or t.marks p NotYet
 

@@ -31,6 +31,7 @@ gone_line p = codes "gone " ++ (decimal p ++ 10 ∷ [])
 abbrev pub tick_line : ℕ → List ℕ
 tick_line seconds = codes "tick " ++ (decimal seconds ++ 10 ∷ [])
 
+-- the line of a delivery; the end has none
 abbrev pub delivery_line : Delivery → List ℕ
 delivery_line (Got p piece) = got_line p.0 piece
 delivery_line (Gone p) = gone_line p.0
