@@ -55,7 +55,7 @@ pub record IsSynced (status : Status) (turns : ℕ) (file : Option (List ℕ)) (
   pub records : Records status file after.wires.log before.files after.files
 
 -- all that is promised of `replay`, with `--follow` or without: the same over the tape, and that it plays the session
-pub record IsFollowed (follow : Bool) (status : Status) (trace : Bool) (watch session : List ℕ) (before after : Around) : Type 0 where
+pub record IsReplaying (follow : Bool) (status : Status) (trace : Bool) (watch session : List ℕ) (before after : Around) : Type 0 where
   pub replayed : IsReplayedIn follow status most_turns trace before.files watch before.written after.written before.tape after.tape after.taped
   pub plays : IfSome before.files (λ m. IfSome (finite.get m session) (λ bytes. PlaysSession status (session_of bytes) after.taped))
 
@@ -69,7 +69,7 @@ pub record IsFollowing (status : Status) (turns : ℕ) (file : Option (List ℕ)
 
 -- what a command does that is answered so, at this moment and with this random number, by what is around it before and after
 abbrev pub Does : Command → Status → ℤ → ℕ → Around → Around → Type 0
-Does (Replay follow trace watch session) status moment nonce before after = IsFollowed follow status trace watch session before after
+Does (Replay follow trace watch session) status moment nonce before after = IsReplaying follow status trace watch session before after
 Does (Sync turns workers file watch peers) status moment nonce before after = IsSynced status turns file watch peers before after
 Does (Follow turns workers file watch peers) status moment nonce before after = IsFollowing status turns file watch peers before after
 Does (Scan file watch) status moment nonce before after = IsScanned status before.files watch file before.written after.written

@@ -4,10 +4,10 @@
 mod demoing;
 mod following;
 mod laws;
+mod once;
 mod program;
 mod recording;
 mod serving;
-mod staying;
 
 pub use demoing::{demo_text, session};
 pub use laws::laws_of_records;

@@ -26,9 +26,9 @@ ghost use Rattle.cf_input.specs.Words.{command_of, HasFewPeers};
 ghost use Rattle.cf_input.specs.declared.words.Command.{Command};
 
 use crate::demoing::demo;
-use crate::following::run_once;
+use crate::once::run_once;
 use crate::serving::serve;
-use crate::staying::{stay, stay_on_tape};
+use crate::following::{follow_and_record, follow_on_tape};
 use cf_answers::Status;
 use cf_bytes::{Files, Refused, Sink};
 use cf_conn::Duplex;
@@ -88,7 +88,7 @@ fn replay<F: Files, O: Sink>(
     tape.load(session.dials, session.deliveries);
     let names = session.names.as_slice();
     if follow {
-        stay_on_tape(
+        follow_on_tape(
             alloc,
             tape,
             names,
@@ -222,7 +222,7 @@ fn follow<
     let Ok(matcher) = Parallel::new(rt, alloc, spawner, workers) else {
         return Status::NoMemory;
     };
-    stay(
+    follow_and_record(
         alloc, files, wires, log_file, peers, scripts, matcher, moment, nonce, turns, out, ends,
     )
 }

@@ -459,7 +459,7 @@ pub(crate) fn outcome_of<H: HeaderStore, M: Matcher>(
 }
 
 // Dials the peers and takes turns, and puts together what came of it.
-fn follow<W: Wires, H: HeaderStore + Drop, M: Matcher + Drop>(
+fn sync_all<W: Wires, H: HeaderStore + Drop, M: Matcher + Drop>(
     alloc: Global,
     wires: &mut W,
     names: &[String],
@@ -528,7 +528,7 @@ pub fn sync_over<W: Wires, H: HeaderStore + Drop, M: Matcher + Drop>(
     ensures course { Course (W.told wires.old) (W.told wires.new) (W.faults wires.old) (W.faults wires.new) (W.script wires.old) (W.script wires.new) }
     ensures failures { IfSome (W.told wires.new).log (λ log. HasFailed log → HasRisen (W.faults wires.old) (W.faults wires.new)) }
 {
-    let outcome = follow(
+    let outcome = sync_all(
         alloc, wires, names, watch, store, matcher, moment, nonce, turns,
     );
     wires.finish();

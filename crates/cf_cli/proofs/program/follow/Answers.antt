@@ -27,9 +27,9 @@ returns-in_default-clause-tallied g c = early_tallied_on NoMemory _ _ _ tt c.req
 
 pub returns-clause-kept : goal.returns-clause-kept
 returns-clause-kept g c =
-    told_over_watch_on (g.W.Wires.told c.stay.new.wires).log c.stay.result (is_some c.args.log_file.now) (g.F.Files.files c.args.files.now) c.args.watch.now c.in-Ok.scripts (names_in c.args.peers.now)
-    (g.O.Sink.written c.args.out.now) (g.O.Sink.written c.stay.new.out)
-    (watch_there (g.F.Files.files c.args.files.now) c.args.watch.now c.in-Ok.scripts c.in-Ok.ensures.answer c.in-Ok.ensures.scripts) c.stay.ensures.kept c.stay.ensures.given_up
+    told_over_watch_on (g.W.Wires.told c.follow_and_record.new.wires).log c.follow_and_record.result (is_some c.args.log_file.now) (g.F.Files.files c.args.files.now) c.args.watch.now c.in-Ok.scripts (names_in c.args.peers.now)
+    (g.O.Sink.written c.args.out.now) (g.O.Sink.written c.follow_and_record.new.out)
+    (watch_there (g.F.Files.files c.args.files.now) c.args.watch.now c.in-Ok.scripts c.in-Ok.ensures.answer c.in-Ok.ensures.scripts) c.follow_and_record.ensures.kept c.follow_and_record.ensures.given_up
 
 pub returns-in-Err-clause-records : goal.returns-in-Err-clause-records
 returns-in-Err-clause-records g c =
@@ -37,8 +37,8 @@ returns-in-Err-clause-records g c =
 
 pub returns-clause-records : goal.returns-clause-records
 returns-clause-records g c =
-    records_from c.stay.result c.args.log_file.now _ (g.F.Files.files c.args.files.now) (g.F.Files.files c.load_watch.new.files) (g.F.Files.files c.stay.new.files) c.load_watch.ensures.same
-    c.stay.ensures.records
+    records_from c.follow_and_record.result c.args.log_file.now _ (g.F.Files.files c.args.files.now) (g.F.Files.files c.load_watch.new.files) (g.F.Files.files c.follow_and_record.new.files) c.load_watch.ensures.same
+    c.follow_and_record.ensures.records
 
 pub returns-in-Err-clause-tallied : goal.returns-in-Err-clause-tallied
 returns-in-Err-clause-tallied g c = early_tallied_on c.in-Err.status _ _ _ c.in-Err.ensures.only c.requires.fresh
@@ -57,12 +57,12 @@ returns-in-Err-clause-versions g c = new_words _ _ c.requires.fresh
 
 pub returns-clause-versions : goal.returns-clause-versions
 returns-clause-versions g c =
-    versions_so _ c.args.moment c.args.nonce (g.W.Wires.told c.stay.new.wires)
-    (to_z-of_z {w = w64} {z = c.args.moment} (search rules)) c.stay.ensures.versions
+    versions_so _ c.args.moment c.args.nonce (g.W.Wires.told c.follow_and_record.new.wires)
+    (to_z-of_z {w = w64} {z = c.args.moment} (search rules)) c.follow_and_record.ensures.versions
 
 pub returns-clause-judged : goal.returns-clause-judged
 returns-clause-judged g c =
-    judged_once_begun (g.F.Files.files c.args.files.now) c.args.watch.now c.stay.result (is_some c.args.log_file.now) c.in-Ok.ensures.answer c.stay.ensures.begun
+    judged_once_begun (g.F.Files.files c.args.files.now) c.args.watch.now c.follow_and_record.result (is_some c.args.log_file.now) c.in-Ok.ensures.answer c.follow_and_record.ensures.begun
 
 pub returns-in-Err-clause-files : goal.returns-in-Err-clause-files
 returns-in-Err-clause-files g c =
@@ -79,4 +79,4 @@ pub returns-in_default-clause-ends : goal.returns-in_default-clause-ends
 returns-in_default-clause-ends g c = over_stay _ _ _ _ refl
 
 pub returns-clause-ends : goal.returns-clause-ends
-returns-clause-ends g c = c.stay.ensures.ends
+returns-clause-ends g c = c.follow_and_record.ensures.ends

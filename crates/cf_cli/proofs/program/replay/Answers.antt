@@ -24,11 +24,11 @@ returns-in-Err-load_session-clause-replayed g c =
 pub returns-then-follow-clause-replayed : goal.returns-then-follow-clause-replayed
 returns-then-follow-clause-replayed g c = rw c.if-follow.true (
   names_in c.as_slice-names.result.now,
-  tape_watch_on c.stay_on_tape.result c.args.trace (g.F.Files.files c.args.files.now) c.args.watch.now c.in-Ok.scripts (names_in c.as_slice-names.result.now) (g.O.Sink.written c.args.out.now)
-      (g.O.Sink.written c.stay_on_tape.new.out) (log_of c.stay_on_tape.new.wires)
-      (watch_there (g.F.Files.files c.args.files.now) c.args.watch.now c.in-Ok.scripts c.in-Ok.ensures.answer c.in-Ok.ensures.scripts) c.stay_on_tape.ensures.kept c.stay_on_tape.ensures.refused,
-  subst (λ (t : Told). TalliedOn c.stay_on_tape.result 10000000 (length (names_in c.as_slice-names.result.now)) t (told_of c.stay_on_tape.new.wires))
-      (same_told c.load.new.self c.args.tape.now c.load.ensures.log c.load.ensures.finished) c.stay_on_tape.ensures.tallied,
+  tape_watch_on c.follow_on_tape.result c.args.trace (g.F.Files.files c.args.files.now) c.args.watch.now c.in-Ok.scripts (names_in c.as_slice-names.result.now) (g.O.Sink.written c.args.out.now)
+      (g.O.Sink.written c.follow_on_tape.new.out) (log_of c.follow_on_tape.new.wires)
+      (watch_there (g.F.Files.files c.args.files.now) c.args.watch.now c.in-Ok.scripts c.in-Ok.ensures.answer c.in-Ok.ensures.scripts) c.follow_on_tape.ensures.kept c.follow_on_tape.ensures.refused,
+  subst (λ (t : Told). TalliedOn c.follow_on_tape.result 10000000 (length (names_in c.as_slice-names.result.now)) t (told_of c.follow_on_tape.new.wires))
+      (same_told c.load.new.self c.args.tape.now c.load.ensures.log c.load.ensures.finished) c.follow_on_tape.ensures.tallied,
 )
 
 pub returns-clause-replayed : goal.returns-clause-replayed
@@ -52,12 +52,12 @@ pub returns-then-follow-clause-plays : goal.returns-then-follow-clause-plays
 returns-then-follow-clause-plays g c =
     let s = c.in-Ok-load_session.session in
     let script : Script = record { dials = s.dials.items; deliveries = s.deliveries.items } in
-    told_plays (g.F.Files.files c.args.files.now) c.args.session.now c.stay_on_tape.result script (log_of c.stay_on_tape.new.wires)
+    told_plays (g.F.Files.files c.args.files.now) c.args.session.now c.follow_on_tape.result script (log_of c.follow_on_tape.new.wires)
     (told_so (g.F.Files.files c.load_watch.new.files) (g.F.Files.files c.args.files.now) c.args.session.now script c.load_watch.ensures.same c.in-Ok-load_session.ensures.script)
-    (plays_of c.stay_on_tape.result (names_in c.as_slice-names.result.now) script c.stay_on_tape.new.wires
-    (c.stay_on_tape.ensures.same ∙ ap Some (ap (λ (x : Script). made x (failing_of c.load.new.self)) c.load.ensures.script ∙ ap (made script) (c.load.ensures.failing ∙ c.requires.failing)))
+    (plays_of c.follow_on_tape.result (names_in c.as_slice-names.result.now) script c.follow_on_tape.new.wires
+    (c.follow_on_tape.ensures.same ∙ ap Some (ap (λ (x : Script). made x (failing_of c.load.new.self)) c.load.ensures.script ∙ ap (made script) (c.load.ensures.failing ∙ c.requires.failing)))
     (ap names_in c.as_slice-names.ensures.value ∙ c.in-Ok-load_session.ensures.named)
-    c.stay_on_tape.ensures.dialled c.stay_on_tape.ensures.tallied.tallied.whole)
+    c.follow_on_tape.ensures.dialled c.follow_on_tape.ensures.tallied.tallied.whole)
 
 pub returns-clause-plays : goal.returns-clause-plays
 returns-clause-plays g c =
@@ -78,8 +78,8 @@ returns-in-Err-load_session-clause-versions g c = unplayed_words _ _ c.requires.
 
 pub returns-then-follow-clause-versions : goal.returns-then-follow-clause-versions
 returns-then-follow-clause-versions g c =
-    versions_so _ c.args.moment c.args.nonce (told_of c.stay_on_tape.new.wires)
-    (to_z-of_z {w = w64} {z = c.args.moment} (search rules)) c.stay_on_tape.ensures.versions
+    versions_so _ c.args.moment c.args.nonce (told_of c.follow_on_tape.new.wires)
+    (to_z-of_z {w = w64} {z = c.args.moment} (search rules)) c.follow_on_tape.ensures.versions
 
 pub returns-clause-versions : goal.returns-clause-versions
 returns-clause-versions g c =
@@ -93,7 +93,7 @@ pub returns-in-Err-load_session-clause-ends : goal.returns-in-Err-load_session-c
 returns-in-Err-load_session-clause-ends g c = ends_early c.in-Err-load_session.status _ _ _ c.in-Err-load_session.ensures.only
 
 pub returns-then-follow-clause-ends : goal.returns-then-follow-clause-ends
-returns-then-follow-clause-ends g c = c.stay_on_tape.ensures.ends
+returns-then-follow-clause-ends g c = c.follow_on_tape.ensures.ends
 
 pub returns-clause-ends : goal.returns-clause-ends
 returns-clause-ends g c = c.run_once.ensures.ends

@@ -10,7 +10,7 @@ use Rattle.cf_run.proofs.Versions.{new_words}
 use Rattle.cf_cli.proofs.Runs.{answered, kept_told, kept_without, unrecorded_told, stands_told, stands_unsaid}
 use Rattle.cf_cli.proofs.Plays.{versions_so, early_tallied, spent_tallied, unwritten_tallied, run_tallied, new_dialled, new_unfailed}
 use Rattle.cf_cli.proofs.Ends.{copied, ends_put, ends_stay, run_begun}
-use Rattle.cf_cli.proofs.following.run_once.Goals as goal
+use Rattle.cf_cli.proofs.once.run_once.Goals as goal
 
 pub returns-in-Ok-put_all-clause-kept : goal.returns-in-Ok-put_all-clause-kept
 returns-in-Ok-put_all-clause-kept g c =

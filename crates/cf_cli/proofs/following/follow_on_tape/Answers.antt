@@ -11,7 +11,7 @@ use Rattle.cf_answers.specs.Statuses.{is_over}
 use Rattle.cf_cli.proofs.Ends.{copied, ends_put, ends_stay, run_begun}
 use Rattle.cf_cli.proofs.Plays.{new_dialled, versions_so}
 use Rattle.cf_cli.proofs.Stays.{cut_told, early_tallied_on, fresh_told, over_by, run_tallied_on, silent_told, some_by_told, some_put_told, spent_tallied_on, stayed_told, tape_begun, tape_written, unwritten_tallied_on, unwritten_told}
-use Rattle.cf_cli.proofs.staying.stay_on_tape.Goals as goal
+use Rattle.cf_cli.proofs.following.follow_on_tape.Goals as goal
 
 -- ---- no memory is found
 

@@ -12,7 +12,7 @@ use Rattle.cf_run.proofs.Versions.{new_words, has_so, words_then, words_so}
 use Rattle.cf_run.proofs.Turns.{starts, finishes, no_peers, told_so}
 use Rattle.cf_run.proofs.Dialling.{none_named}
 use Rattle.cf_run.proofs.Passing.{passes_none, passes_dials, passes_turns}
-use Rattle.cf_run.proofs.over.follow.Goals as goal
+use Rattle.cf_run.proofs.over.sync_all.Goals as goal
 
 pub returns-clause-followed : goal.returns-clause-followed
 returns-clause-followed g c =

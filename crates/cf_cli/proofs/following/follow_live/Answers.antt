@@ -7,7 +7,7 @@ use Rattle.cf_run.specs.Names.{names_in}
 use Rattle.cf_cli.proofs.Ends.{copied, over_put, over_stay}
 use Rattle.cf_cli.proofs.Plays.{versions_so}
 use Rattle.cf_cli.proofs.Stays.{begun_by, failed_given, failed_told, over_by, over_given, run_tallied_on, some_but_told, some_put_told, some_so_told, spent_given, spent_tallied_on, spent_told, stayed_told, unwritten_tallied_on}
-use Rattle.cf_cli.proofs.staying.stay_live.Goals as goal
+use Rattle.cf_cli.proofs.following.follow_live.Goals as goal
 
 pub returns-in-Ok-to_vec-clause-kept : goal.returns-in-Ok-to_vec-clause-kept
 returns-in-Ok-to_vec-clause-kept g c = λ recorded.

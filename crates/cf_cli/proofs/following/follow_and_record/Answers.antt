@@ -11,7 +11,7 @@ use Rattle.cf_cli.proofs.Ends.{over_failed, over_recorded, over_stay}
 use Rattle.cf_cli.proofs.Plays.{new_dialled, new_unfailed, versions_so}
 use Rattle.cf_cli.proofs.Records.{begun_records}
 use Rattle.cf_cli.proofs.Stays.{begun_by, early_tallied_on, failed_tallied_on, fresh_told, kept_some, new_put_told, spent_given, spent_on, tallied_from, unrecorded_given, unrecorded_on}
-use Rattle.cf_cli.proofs.staying.stay.Goals as goal
+use Rattle.cf_cli.proofs.following.follow_and_record.Goals as goal
 
 -- ---- no memory is found before the run
 
@@ -43,71 +43,71 @@ returns-in_default-clause-ends g c = over_stay _ _ _ _ refl
 
 pub returns-in-NoMemory-clause-kept : goal.returns-in-NoMemory-clause-kept
 returns-in-NoMemory-clause-kept g c =
-    spent_on (g.W.Wires.told c.stay_live-status.new.wires).log c.stay_live-status.result (is_some c.args.log_file.now) c.args.watch (names_in c.args.names.now) (g.O.Sink.written c.args.out.now)
-    (g.O.Sink.written c.stay_live-status.new.out) c.stay_live-status.ensures.kept
+    spent_on (g.W.Wires.told c.follow_live-status.new.wires).log c.follow_live-status.result (is_some c.args.log_file.now) c.args.watch (names_in c.args.names.now) (g.O.Sink.written c.args.out.now)
+    (g.O.Sink.written c.follow_live-status.new.out) c.follow_live-status.ensures.kept
 
 pub returns-in-NoMemory-clause-given_up : goal.returns-in-NoMemory-clause-given_up
 returns-in-NoMemory-clause-given_up g c =
-    spent_given (g.W.Wires.told c.stay_live-status.new.wires).log c.args.watch _ _
-    (kept_some (g.W.Wires.told c.stay_live-status.new.wires).log c.stay_live-status.result (is_some c.args.log_file.now) c.args.watch (names_in c.args.names.now) _ _
-    c.stay_live-status.ensures.kept c.stay_live-status.ensures.given_up)
+    spent_given (g.W.Wires.told c.follow_live-status.new.wires).log c.args.watch _ _
+    (kept_some (g.W.Wires.told c.follow_live-status.new.wires).log c.follow_live-status.result (is_some c.args.log_file.now) c.args.watch (names_in c.args.names.now) _ _
+    c.follow_live-status.ensures.kept c.follow_live-status.ensures.given_up)
 
 pub returns-in-NoMemory-clause-tallied : goal.returns-in-NoMemory-clause-tallied
-returns-in-NoMemory-clause-tallied g c = failed_tallied_on c.stay_live-status.result NoMemory _ _ _ _ _ refl tt c.stay_live-status.ensures.finished c.stay_live-status.ensures.tallied
+returns-in-NoMemory-clause-tallied g c = failed_tallied_on c.follow_live-status.result NoMemory _ _ _ _ _ refl tt c.follow_live-status.ensures.finished c.follow_live-status.ensures.tallied
 
 pub returns-in-NoMemory-clause-versions : goal.returns-in-NoMemory-clause-versions
 returns-in-NoMemory-clause-versions g c =
-    versions_so _ c.args.moment c.args.nonce (g.W.Wires.told c.stay_live-status.new.wires)
-    (to_z-of_z {w = w64} {z = c.args.moment} (search rules)) c.stay_live-status.ensures.versions
+    versions_so _ c.args.moment c.args.nonce (g.W.Wires.told c.follow_live-status.new.wires)
+    (to_z-of_z {w = w64} {z = c.args.moment} (search rules)) c.follow_live-status.ensures.versions
 
 pub returns-in-NoMemory-clause-ends : goal.returns-in-NoMemory-clause-ends
-returns-in-NoMemory-clause-ends g c = over_failed c.stay_live-status.result NoMemory _ _ _ _ refl refl c.stay_live-status.ensures.ends
+returns-in-NoMemory-clause-ends g c = over_failed c.follow_live-status.result NoMemory _ _ _ _ refl refl c.follow_live-status.ensures.ends
 
 -- ---- nor for the record
 
 pub returns-in-Err-NoMemory-clause-kept : goal.returns-in-Err-NoMemory-clause-kept
 returns-in-Err-NoMemory-clause-kept g c =
-    spent_on (g.W.Wires.told c.stay_live-status.new.wires).log c.stay_live-status.result (is_some c.args.log_file.now) c.args.watch (names_in c.args.names.now) (g.O.Sink.written c.args.out.now)
-    (g.O.Sink.written c.stay_live-status.new.out) c.stay_live-status.ensures.kept
+    spent_on (g.W.Wires.told c.follow_live-status.new.wires).log c.follow_live-status.result (is_some c.args.log_file.now) c.args.watch (names_in c.args.names.now) (g.O.Sink.written c.args.out.now)
+    (g.O.Sink.written c.follow_live-status.new.out) c.follow_live-status.ensures.kept
 
 pub returns-in-Err-NoMemory-clause-given_up : goal.returns-in-Err-NoMemory-clause-given_up
 returns-in-Err-NoMemory-clause-given_up g c =
-    spent_given (g.W.Wires.told c.stay_live-status.new.wires).log c.args.watch _ _
-    (kept_some (g.W.Wires.told c.stay_live-status.new.wires).log c.stay_live-status.result (is_some c.args.log_file.now) c.args.watch (names_in c.args.names.now) _ _
-    c.stay_live-status.ensures.kept c.stay_live-status.ensures.given_up)
+    spent_given (g.W.Wires.told c.follow_live-status.new.wires).log c.args.watch _ _
+    (kept_some (g.W.Wires.told c.follow_live-status.new.wires).log c.follow_live-status.result (is_some c.args.log_file.now) c.args.watch (names_in c.args.names.now) _ _
+    c.follow_live-status.ensures.kept c.follow_live-status.ensures.given_up)
 
 pub returns-in-Err-NoMemory-clause-tallied : goal.returns-in-Err-NoMemory-clause-tallied
-returns-in-Err-NoMemory-clause-tallied g c = failed_tallied_on c.stay_live-status.result NoMemory _ _ _ _ _ refl tt c.stay_live-status.ensures.finished c.stay_live-status.ensures.tallied
+returns-in-Err-NoMemory-clause-tallied g c = failed_tallied_on c.follow_live-status.result NoMemory _ _ _ _ _ refl tt c.follow_live-status.ensures.finished c.follow_live-status.ensures.tallied
 
 pub returns-in-Err-NoMemory-clause-versions : goal.returns-in-Err-NoMemory-clause-versions
 returns-in-Err-NoMemory-clause-versions g c =
-    versions_so _ c.args.moment c.args.nonce (g.W.Wires.told c.stay_live-status.new.wires)
-    (to_z-of_z {w = w64} {z = c.args.moment} (search rules)) c.stay_live-status.ensures.versions
+    versions_so _ c.args.moment c.args.nonce (g.W.Wires.told c.follow_live-status.new.wires)
+    (to_z-of_z {w = w64} {z = c.args.moment} (search rules)) c.follow_live-status.ensures.versions
 
 pub returns-in-Err-NoMemory-clause-ends : goal.returns-in-Err-NoMemory-clause-ends
-returns-in-Err-NoMemory-clause-ends g c = over_failed c.stay_live-status.result NoMemory _ _ _ _ refl refl c.stay_live-status.ensures.ends
+returns-in-Err-NoMemory-clause-ends g c = over_failed c.follow_live-status.result NoMemory _ _ _ _ refl refl c.follow_live-status.ensures.ends
 
 -- ---- the record can't be written
 
 pub returns-clause-kept : goal.returns-clause-kept
 returns-clause-kept g c =
     let files = rw c.in-Err-No.field-0-is at c.in-Err-No.ensures.files in
-    unrecorded_on (g.W.Wires.told c.stay_live-status.new.wires).log c.stay_live-status.result (is_some c.args.log_file.now) c.args.watch (names_in c.args.names.now) (g.O.Sink.written c.args.out.now)
-    (g.O.Sink.written c.stay_live-status.new.out) c.stay_live-status.ensures.tallied.tallied.answers c.stay_live-status.ensures.unrefused (search rules) files.0
-    c.stay_live-status.ensures.kept c.stay_live-status.ensures.given_up
+    unrecorded_on (g.W.Wires.told c.follow_live-status.new.wires).log c.follow_live-status.result (is_some c.args.log_file.now) c.args.watch (names_in c.args.names.now) (g.O.Sink.written c.args.out.now)
+    (g.O.Sink.written c.follow_live-status.new.out) c.follow_live-status.ensures.tallied.tallied.answers c.follow_live-status.ensures.unrefused (search rules) files.0
+    c.follow_live-status.ensures.kept c.follow_live-status.ensures.given_up
 
 pub returns-clause-given_up : goal.returns-clause-given_up
 returns-clause-given_up g c =
-    unrecorded_given (g.W.Wires.told c.stay_live-status.new.wires).log c.stay_live-status.result (is_some c.args.log_file.now) c.args.watch (names_in c.args.names.now) _ _
-    c.stay_live-status.ensures.tallied.tallied.answers c.stay_live-status.ensures.unrefused (search rules) c.stay_live-status.ensures.kept c.stay_live-status.ensures.given_up
+    unrecorded_given (g.W.Wires.told c.follow_live-status.new.wires).log c.follow_live-status.result (is_some c.args.log_file.now) c.args.watch (names_in c.args.names.now) _ _
+    c.follow_live-status.ensures.tallied.tallied.answers c.follow_live-status.ensures.unrefused (search rules) c.follow_live-status.ensures.kept c.follow_live-status.ensures.given_up
 
 pub returns-clause-tallied : goal.returns-clause-tallied
-returns-clause-tallied g c = failed_tallied_on c.stay_live-status.result FileFault _ _ _ _ _ refl tt c.stay_live-status.ensures.finished c.stay_live-status.ensures.tallied
+returns-clause-tallied g c = failed_tallied_on c.follow_live-status.result FileFault _ _ _ _ _ refl tt c.follow_live-status.ensures.finished c.follow_live-status.ensures.tallied
 
 pub returns-clause-versions : goal.returns-clause-versions
 returns-clause-versions g c =
-    versions_so _ c.args.moment c.args.nonce (g.W.Wires.told c.stay_live-status.new.wires)
-    (to_z-of_z {w = w64} {z = c.args.moment} (search rules)) c.stay_live-status.ensures.versions
+    versions_so _ c.args.moment c.args.nonce (g.W.Wires.told c.follow_live-status.new.wires)
+    (to_z-of_z {w = w64} {z = c.args.moment} (search rules)) c.follow_live-status.ensures.versions
 
 pub returns-clause-begun : goal.returns-clause-begun
 returns-clause-begun g c =
@@ -117,33 +117,33 @@ returns-clause-begun g c =
 pub returns-clause-ends : goal.returns-clause-ends
 returns-clause-ends g c =
     let files = rw c.in-Err-No.field-0-is at c.in-Err-No.ensures.files in
-    over_failed c.stay_live-status.result FileFault _ _ _ _ refl (ap not files.0) c.stay_live-status.ensures.ends
+    over_failed c.follow_live-status.result FileFault _ _ _ _ refl (ap not files.0) c.follow_live-status.ensures.ends
 
 -- ---- it stands, or none is asked for
 
 pub returns-in-Ok-write_record-clause-kept : goal.returns-in-Ok-write_record-clause-kept
-returns-in-Ok-write_record-clause-kept g c = c.stay_live-status.ensures.kept (is_some c.args.log_file.now)
+returns-in-Ok-write_record-clause-kept g c = c.follow_live-status.ensures.kept (is_some c.args.log_file.now)
 
 pub returns-in-Ok-write_record-clause-given_up : goal.returns-in-Ok-write_record-clause-given_up
-returns-in-Ok-write_record-clause-given_up g c = c.stay_live-status.ensures.given_up
+returns-in-Ok-write_record-clause-given_up g c = c.follow_live-status.ensures.given_up
 
 pub returns-in-Ok-write_record-clause-tallied : goal.returns-in-Ok-write_record-clause-tallied
-returns-in-Ok-write_record-clause-tallied g c = tallied_from c.stay_live-status.result _ _ _ _ _ c.stay_live-status.ensures.finished c.stay_live-status.ensures.tallied
+returns-in-Ok-write_record-clause-tallied g c = tallied_from c.follow_live-status.result _ _ _ _ _ c.follow_live-status.ensures.finished c.follow_live-status.ensures.tallied
 
 pub returns-in-Ok-write_record-clause-versions : goal.returns-in-Ok-write_record-clause-versions
 returns-in-Ok-write_record-clause-versions g c =
-    versions_so _ c.args.moment c.args.nonce (g.W.Wires.told c.stay_live-status.new.wires)
-    (to_z-of_z {w = w64} {z = c.args.moment} (search rules)) c.stay_live-status.ensures.versions
+    versions_so _ c.args.moment c.args.nonce (g.W.Wires.told c.follow_live-status.new.wires)
+    (to_z-of_z {w = w64} {z = c.args.moment} (search rules)) c.follow_live-status.ensures.versions
 
 pub returns-in-Ok-write_record-clause-records : goal.returns-in-Ok-write_record-clause-records
 returns-in-Ok-write_record-clause-records g c =
-    begun_records c.stay_live-status.result c.args.log_file.now _ _ _ c.stay_live-status.ensures.tallied.tallied.answers c.stay_live-status.ensures.unrefused (search rules) c.in-Ok-write_record.ensures.files
+    begun_records c.follow_live-status.result c.args.log_file.now _ _ _ c.follow_live-status.ensures.tallied.tallied.answers c.follow_live-status.ensures.unrefused (search rules) c.in-Ok-write_record.ensures.files
 
 pub returns-in-Ok-write_record-clause-file_fault : goal.returns-in-Ok-write_record-clause-file_fault
-returns-in-Ok-write_record-clause-file_fault g c = λ is. absurd (false≢true (sym c.stay_live-status.ensures.unrefused ∙ ap was_refused is))
+returns-in-Ok-write_record-clause-file_fault g c = λ is. absurd (false≢true (sym c.follow_live-status.ensures.unrefused ∙ ap was_refused is))
 
 pub returns-in-Ok-write_record-clause-begun : goal.returns-in-Ok-write_record-clause-begun
-returns-in-Ok-write_record-clause-begun g c = begun_by c.stay_live-status.result _ c.stay_live-status.ensures.unrefused
+returns-in-Ok-write_record-clause-begun g c = begun_by c.follow_live-status.result _ c.follow_live-status.ensures.unrefused
 
 pub returns-in-Ok-write_record-clause-ends : goal.returns-in-Ok-write_record-clause-ends
-returns-in-Ok-write_record-clause-ends g c = over_recorded c.stay_live-status.result _ _ _ _ (begun_by c.stay_live-status.result _ c.stay_live-status.ensures.unrefused) c.stay_live-status.ensures.ends
+returns-in-Ok-write_record-clause-ends g c = over_recorded c.follow_live-status.result _ _ _ _ (begun_by c.follow_live-status.result _ c.follow_live-status.ensures.unrefused) c.follow_live-status.ensures.ends
