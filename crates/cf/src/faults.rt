@@ -113,7 +113,8 @@ fn tell_omits(rt: &HostRuntime, p: u32, end: &PeerEnd, span: &FilterSpan) -> io:
     }
 }
 
-// Tells how a peer stands, what it was asked for where it was late with that, and the block where it was closed for what its filter omits.
+// Tells how a peer stands, what it was asked for where it was late with that, and the block where it was closed for
+// what its filter omits.
 fn tell_end<R: Wait + Threads + Copy + Drop>(
     rt: &HostRuntime,
     p: u32,
@@ -181,8 +182,8 @@ fn hint(status: &Status, name: &str) -> &'static str {
     }
 }
 
-/// Tells on standard error what went wrong, if anything has. The first word is the program's name; there is none where the
-/// words can't be read. `reason` is why the last call over a file failed.
+/// Tells on standard error what went wrong, if anything has. The first word is the program's name; there is none where
+/// the words can't be read. `reason` is why the last call over a file failed.
 pub fn tell(
     rt: &HostRuntime,
     words: &[String],

@@ -1,7 +1,8 @@
 //! What is told of the chain of `serve --grow`.
 use cf_grow::Joins;
 
-/// Tells on standard error the height of each block that joins the chain. Where standard error can't be written nothing is told.
+/// Tells on standard error the height of each block that joins the chain. Where standard error can't be written nothing
+/// is told.
 #[derive(Clone, Copy)]
 pub struct Joined {
     rt: HostRuntime,

@@ -5,8 +5,9 @@ use cf_bytes::{Failed, Hash32, show};
 use cf_serve::{Link, TcpConn, TcpEnd, TcpLink};
 use std::io;
 
-/// A listener over TCP. It tells on standard error where it listens, which chain is served, and how each connection ended, in the order in which they were
-/// accepted: of one that is over, once the next one comes or none is accepted any more.
+/// A listener over TCP. It tells on standard error where it listens, which chain is served, and how each connection
+/// ended, in the order in which they were accepted: of one that is over, once the next one comes or none is accepted
+/// any more.
 #[derive(Drop)]
 pub struct Listener {
     rt: HostRuntime,

@@ -7,7 +7,8 @@ use std::random::RandomSource;
 use std::time::{SystemTime, UNIX_EPOCH};
 use std::{env, io};
 
-/// The words of the call, the first of which is the program's name. A word that isn't UTF-8 is none that the program knows.
+/// The words of the call, the first of which is the program's name. A word that isn't UTF-8 is none that the program
+/// knows.
 pub fn words(rt: &HostRuntime) -> Result<Vec<String>, Status> {
     let mut words = Vec::new(rt.alloc());
     for word in env::args(rt).map_err(|e| unreadable(&e))? {

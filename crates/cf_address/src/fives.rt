@@ -65,7 +65,8 @@ fn flush(out: &mut Vec<u8>, word: u32, n: u32, to: u32) -> Result<Left, NoMemory
     requires word { word < 2 ^ n }
     requires some { 0 < to }
     requires to { to ≤ 8 }
-    ensures bits { IfOk result (λ l. all_bits to out.old.items ++ bits_of n word ≡ all_bits to out.new.items ++ bits_of l.n l.word) }
+    ensures bits { IfOk result
+        (λ l. all_bits to out.old.items ++ bits_of n word ≡ all_bits to out.new.items ++ bits_of l.n l.word) }
     ensures few { IfOk result (λ l. l.n < to) }
     ensures left { IfOk result (λ l. l.word < 2 ^ l.n) }
     ensures whole { IfOk result (λ _. AreBelow (2 ^ to) out.old.items → AreBelow (2 ^ to) out.new.items) }

@@ -98,7 +98,8 @@ fn is_graphic(text: &[u8]) -> bool
 
 // What stands after the prefix and the last `1`, where the prefix alone stands before it.
 fn data_after<'a>(prefix: &[u8], text: &'a [u8]) -> Option<&'a [u8]>
-    ensures { MatchOption result (letters_after prefix.now text.now ≡ None) (λ d. letters_after prefix.now text.now ≡ Some d.now) }
+    ensures { MatchOption result (letters_after prefix.now text.now ≡ None)
+        (λ d. letters_after prefix.now text.now ≡ Some d.now) }
 {
     let mut rest = text;
     for p in prefix {

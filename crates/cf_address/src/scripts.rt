@@ -21,7 +21,8 @@ pub fn script(alloc: Global, program: &Program) -> Result<Vec<u8>, NoMemory>
 
 /// The program whose script this is, or `None` exactly where there is none.
 pub fn program(alloc: Global, script: &[u8]) -> Result<Option<Program>, NoMemory>
-    ensures { IfOk result (λ o. MatchOption o ((p : WitnessProgram) → IsProgram p → script.now ≡ script_of p → ⊥) (λ p. IsProgram p × (script.now ≡ script_of p))) }
+    ensures { IfOk result (λ o. MatchOption o ((p : WitnessProgram) → IsProgram p → script.now ≡ script_of p → ⊥)
+        (λ p. IsProgram p × (script.now ≡ script_of p))) }
 {
     let [first, length, bytes @ ..] = script else {
         return Ok(None)

@@ -110,9 +110,13 @@ fn asked(words: &[String]) -> &[String]
 
 /// The text that a word behind the program's name asks for: the help, or else the version.
 pub fn own_text(words: &[String]) -> Option<&'static str>
-    ensures help { list_any (λ w. is_help_word (string_bytes w)) (drop 1 words.now) ≡ true → option_map (λ text. text.now) result ≡ Some HELP.now }
-    ensures version { list_any (λ w. is_help_word (string_bytes w)) (drop 1 words.now) ≡ false → list_any (λ w. is_version_word (string_bytes w)) (drop 1 words.now) ≡ true → option_map (λ text. text.now) result ≡ Some VERSION.now }
-    ensures none { list_any (λ w. is_help_word (string_bytes w)) (drop 1 words.now) ≡ false → list_any (λ w. is_version_word (string_bytes w)) (drop 1 words.now) ≡ false → result ≡ None }
+    ensures help { list_any (λ w. is_help_word (string_bytes w)) (drop 1 words.now) ≡ true
+        → option_map (λ text. text.now) result ≡ Some HELP.now }
+    ensures version { list_any (λ w. is_help_word (string_bytes w)) (drop 1 words.now) ≡ false
+        → list_any (λ w. is_version_word (string_bytes w)) (drop 1 words.now) ≡ true
+        → option_map (λ text. text.now) result ≡ Some VERSION.now }
+    ensures none { list_any (λ w. is_help_word (string_bytes w)) (drop 1 words.now) ≡ false
+        → list_any (λ w. is_version_word (string_bytes w)) (drop 1 words.now) ≡ false → result ≡ None }
 {
     let asked = asked(words);
     if is_help(asked) {

@@ -101,7 +101,8 @@ fn put_end(
 
 /// The text of a run: its trace where it is asked for, and then, where it is synced, the history and the tip.
 pub fn text_of(alloc: Global, outcome: &Outcome, trace: bool) -> Result<Vec<u8>, NoMemory>
-    ensures { IfOk result (λ text. text.items ≡ run_text trace outcome.now.trace.items outcome.now.end outcome.now.history outcome.now.height outcome.now.tip) }
+    ensures { IfOk result (λ text. text.items ≡ run_text trace outcome.now.trace.items outcome.now.end
+        outcome.now.history outcome.now.height outcome.now.tip) }
 {
     let mut text = Vec::new(alloc);
     if trace {

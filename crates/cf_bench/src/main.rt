@@ -1,7 +1,9 @@
-//! `cf_bench FILE COUNT [WORKERS]`: builds the basic filters of the chain in a block file, matches COUNT scripts that nothing pays against each of them, and
-//! prints how many match. With WORKERS a matcher of so many threads does it, or the plain one at 0, and two lines more tell the milliseconds that matching
-//! took, and making the index: the filters, their headers and the heights of the blocks' hashes. `cf_bench FILE filters` builds the filters alone, and prints how
-//! many there are and the milliseconds that it took. It is there to be measured (see `bench/`), and is no part of the program.
+//! `cf_bench FILE COUNT [WORKERS]`: builds the basic filters of the chain in a block file, matches COUNT scripts that
+//! nothing pays against each of them, and prints how many match. With WORKERS a matcher of so many threads does it, or
+//! the plain one at 0, and two lines more tell the milliseconds that matching took, and making the index: the filters,
+//! their headers and the heights of the blocks' hashes. `cf_bench FILE filters` builds the filters alone, and prints
+//! how many there are and the milliseconds that it took. It is there to be measured (see `bench/`), and is no part of
+//! the program.
 #![tactic(auto)]
 
 use cf_block::Script;
@@ -100,7 +102,8 @@ fn load(rt: &HostRuntime, name: &str) -> Option<CheckedChain> {
     read_chain(alloc, &bytes).ok()
 }
 
-// What is done with a chain: its filters are built, or its index is made and so many scripts are matched, by as many workers.
+// What is done with a chain: its filters are built, or its index is made and so many scripts are matched, by as many
+// workers.
 #[derive(Clone, Copy)]
 enum Work {
     Build,

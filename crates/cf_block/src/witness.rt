@@ -22,7 +22,8 @@ fn put_stack(item: &[u8], out: &mut Vec<u8>) -> Result<(), NoMemory>
 
 // The version, and what stands in the place of the count of inputs.
 fn put_head(t: &Tx, out: &mut Vec<u8>) -> Result<(), NoMemory>
-    ensures { OnOk result (out.new.items ≡ out.old.items ++ (to_le_bytes w32 (cast_unsigned w32 t.now.version) ++ (0 ∷ 1 ∷ []))) }
+    ensures { OnOk result
+        (out.new.items ≡ out.old.items ++ (to_le_bytes w32 (cast_unsigned w32 t.now.version) ++ (0 ∷ 1 ∷ []))) }
 {
     out.extend_from_slice(&t.version.cast_unsigned().to_le_bytes())?;
     out.extend_from_slice(&[0, 1])?;
@@ -31,8 +32,8 @@ fn put_head(t: &Tx, out: &mut Vec<u8>) -> Result<(), NoMemory>
 
 // The inputs and the outputs.
 fn put_sides(t: &Tx, out: &mut Vec<u8>) -> Result<(), NoMemory>
-    ensures { OnOk result (out.new.items ≡ out.old.items ++ (compact (length t.now.inputs) ++ (flat_map input_spelling t.now.inputs
-        ++ (compact (length t.now.outputs) ++ flat_map output_spelling t.now.outputs)))) }
+    ensures { OnOk result (out.new.items ≡ out.old.items ++ (compact (length t.now.inputs) ++ (flat_map input_spelling
+        t.now.inputs ++ (compact (length t.now.outputs) ++ flat_map output_spelling t.now.outputs)))) }
 {
     put_compact(out, t.inputs.len() as u64)?;
     put_inputs(t.inputs.as_slice(), out)?;
@@ -43,7 +44,8 @@ fn put_sides(t: &Tx, out: &mut Vec<u8>) -> Result<(), NoMemory>
 
 // The only stack and the lock time.
 fn put_tail(t: &Tx, item: &[u8], out: &mut Vec<u8>) -> Result<(), NoMemory>
-    ensures { OnOk result (out.new.items ≡ out.old.items ++ (flat_map stack_spelling ((item.now ∷ []) ∷ []) ++ to_le_bytes w32 t.now.lock_time)) }
+    ensures { OnOk result (out.new.items ≡ out.old.items
+        ++ (flat_map stack_spelling ((item.now ∷ []) ∷ []) ++ to_le_bytes w32 t.now.lock_time)) }
 {
     put_stack(item, out)?;
     out.extend_from_slice(&t.lock_time.to_le_bytes())?;
@@ -60,8 +62,8 @@ fn put_extended(t: &Tx, item: &[u8], out: &mut Vec<u8>) -> Result<(), NoMemory>
     Ok(())
 }
 
-/// Writes the bytes of a transaction of one input at the end, in its form with witnesses (BIP 144, "Serialization"), this
-/// one item being its stack. Where no memory is found nothing is written, so they are first written apart.
+/// Writes the bytes of a transaction of one input at the end, in its form with witnesses (BIP 144, "Serialization"),
+/// this one item being its stack. Where no memory is found nothing is written, so they are first written apart.
 pub fn write_with_witness(t: &Tx, item: &[u8], out: &mut Vec<u8>) -> Result<(), NoMemory>
     ensures ok { OnOk result (out.new.items ≡ out.old.items ++ extended_spelling t.now ((item.now ∷ []) ∷ [])) }
     ensures err { OnErr result (out.new.items ≡ out.old.items) }

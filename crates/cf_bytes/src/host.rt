@@ -145,7 +145,8 @@ impl<R: HostFiles> Files for StdFiles<R> {
         Ok(())
     }
 
-    // Gives nothing where no file was opened. The bytes go by a buffer, since a reader of the system may leave anything behind those that it gives.
+    // Gives nothing where no file was opened. The bytes go by a buffer, since a reader of the system may leave anything
+    // behind those that it gives.
     fn part(&mut self, into: &mut [u8]) -> Result<usize, Failed> {
         let mut buffer = [0u8; 65_536];
         let most = into.len().min(buffer.len());

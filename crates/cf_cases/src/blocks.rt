@@ -66,7 +66,8 @@ fn block_text(alloc: Global, block: &Block, bytes: &[u8]) -> Option<String> {
     checked(alloc, block)
 }
 
-/// What the check of the block of a row comes to, its hash and its transactions' hashes; or the block's fault. `genesis` is the first block.
+/// What the check of the block of a row comes to, its hash and its transactions' hashes; or the block's fault.
+/// `genesis` is the first block.
 pub(crate) fn block(alloc: Global, row: &str) -> Option<String> {
     if row == "genesis" {
         return checked(alloc, &genesis(alloc).ok()?);

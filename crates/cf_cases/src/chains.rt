@@ -1,4 +1,5 @@
-//! Made chains: a chain is told as `SEEDxBLOCKS`, or as `SEEDxBLOCKS/HEIGHT/SEEDxBLOCKS`, where other blocks stand above a height.
+//! Made chains: a chain is told as `SEEDxBLOCKS`, or as `SEEDxBLOCKS/HEIGHT/SEEDxBLOCKS`, where other blocks stand
+//! above a height.
 use crate::fields::digits_of;
 use cf_block::{Header, block_hash, genesis_header};
 use cf_bytes::Hash32;

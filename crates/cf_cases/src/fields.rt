@@ -13,7 +13,8 @@ fn put_part(alloc: Global, part: &str, out: &mut Vec<u8>) -> Option<()> {
     Some(())
 }
 
-/// The bytes that a field spells: parts that are joined by `+`, each in hexadecimal, or `HEX*N` where its bytes come so often. `-` is none.
+/// The bytes that a field spells: parts that are joined by `+`, each in hexadecimal, or `HEX*N` where its bytes come so
+/// often. `-` is none.
 pub(crate) fn bytes_in(alloc: Global, field: &str) -> Option<Vec<u8>> {
     let mut bytes = Vec::new(alloc);
     for part in field.trim_start_matches('-').split('+') {

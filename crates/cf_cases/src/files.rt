@@ -38,8 +38,9 @@ fn told<R: Threads + Sync>(rt: &R, alloc: Global, chain: CheckedChain) -> Option
     Some(text)
 }
 
-/// What a file of blocks is: its tip, its number of blocks above genesis, and of each block from genesis on the height, the hash, the filter, the
-/// filter's hash, the filter header, the bits and the number of transactions; or the first record that is refused, and why.
+/// What a file of blocks is: its tip, its number of blocks above genesis, and of each block from genesis on the height,
+/// the hash, the filter, the filter's hash, the filter header, the bits and the number of transactions; or the first
+/// record that is refused, and why.
 pub(crate) fn answer<R: Threads + Sync>(rt: &R, alloc: Global, row: &str) -> Option<String> {
     match read_chain(alloc, &joined(alloc, row)?) {
         Ok(chain) => told(rt, alloc, chain),
@@ -65,8 +66,8 @@ fn built<R: Threads + Sync>(rt: &R, alloc: Global, chain: &CheckedChain) -> Opti
     Some(text)
 }
 
-/// The filters that are built of a good file's blocks above genesis, before their headers are known: how many there are, and of each the height, the block's hash, the
-/// filter and its hash.
+/// The filters that are built of a good file's blocks above genesis, before their headers are known: how many there
+/// are, and of each the height, the block's hash, the filter and its hash.
 pub(crate) fn bare<R: Threads + Sync>(rt: &R, alloc: Global, row: &str) -> Option<String> {
     match read_chain(alloc, &joined(alloc, row)?) {
         Ok(chain) => built(rt, alloc, &chain),

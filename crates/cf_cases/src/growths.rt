@@ -116,7 +116,8 @@ fn shown(alloc: Global, how: &Option<Ending>, conn: &MemoryConn) -> Option<Strin
     }
 }
 
-/// How two connections end over a chain that grows, and what is written. The first one is served whole, once so many reads of the second have come.
+/// How two connections end over a chain that grows, and what is written. The first one is served whole, once so many
+/// reads of the second have come.
 pub(crate) fn answer<R: Wait + Threads + Sync + Copy + Drop>(
     rt: R,
     alloc: Global,

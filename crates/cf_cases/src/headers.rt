@@ -73,8 +73,8 @@ fn located_in<H: HeaderStore + Drop>(
     }
 }
 
-/// The heights of the locator of the made chain that a row tells, over a store of lists and over a tree: one list of heights
-/// where they are the same, as they have to be.
+/// The heights of the locator of the made chain that a row tells, over a store of lists and over a tree: one list of
+/// heights where they are the same, as they have to be.
 pub(crate) fn locator(alloc: Global, row: &str) -> Option<String> {
     let headers = headers_of(alloc, row)?;
     let lists = located_in(alloc, Lists::new(alloc).ok()?, &headers)?;

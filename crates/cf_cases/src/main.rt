@@ -1,5 +1,6 @@
-//! `cf_cases`: reads rows `KIND REST`, and prints each row and what it comes to. `docs/CONTRIBUTING.md` says how rows and kinds are added.
-//! A row that begins with `#` is a remark, and is printed as it is. A row that can't be read, or for which no memory is found, comes to `?`.
+//! `cf_cases`: reads rows `KIND REST`, and prints each row and what it comes to. `docs/CONTRIBUTING.md` says how rows
+//! and kinds are added. A row that begins with `#` is a remark, and is printed as it is. A row that can't be read, or
+//! for which no memory is found, comes to `?`.
 #![tactic(auto)]
 
 mod addresses;

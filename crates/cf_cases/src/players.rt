@@ -1,4 +1,5 @@
-//! Peers in memory: a peer is told as `honest=CHAIN`, `silent=CHAIN` or `omits:HEX:HEX=CHAIN`, with the scripts that its filters leave out.
+//! Peers in memory: a peer is told as `honest=CHAIN`, `silent=CHAIN` or `omits:HEX:HEX=CHAIN`, with the scripts that
+//! its filters leave out.
 ghost use Rattle.std.specs.Prelude.{◌≡◌, ◌<◌, [], length};
 ghost use Rattle.cf_played.specs.Told.{log_of, peers_of};
 

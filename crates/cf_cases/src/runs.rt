@@ -25,7 +25,8 @@ fn front_of(alloc: Global, chain: &str, count: &str) -> Option<Vec<u8>> {
     Some(bytes)
 }
 
-// The bytes of a file of blocks: in hexadecimal, or `CHAIN<COUNT` for so many of the first bytes of a made chain's records.
+// The bytes of a file of blocks: in hexadecimal, or `CHAIN<COUNT` for so many of the first bytes of a made chain's
+// records.
 fn blocks_in(alloc: Global, field: &str) -> Option<Vec<u8>> {
     match field.split_once('<') {
         Some((chain, count)) => front_of(alloc, chain, count),
@@ -143,8 +144,8 @@ fn answered<R: Wait + Threads + Sync + Copy + Drop + Send + 'static>(
     )
 }
 
-// The answer over the wires of a session, where the first field tells the room, the calls of the wires that fail, and each behind a `/` those of the
-// files and what is done with tasks.
+// The answer over the wires of a session, where the first field tells the room, the calls of the wires that fail, and
+// each behind a `/` those of the files and what is done with tasks.
 fn answered_over<R: Wait + Threads + Sync + Copy + Drop + Send + 'static>(
     rt: R,
     alloc: Global,

@@ -82,7 +82,8 @@ pub(crate) fn no_link(alloc: Global) -> Option<ListLink<MemoryConn>> {
 
 // The connections of a field, each of which has room for so many bytes.
 fn conns_in(alloc: Global, field: &str) -> Option<Vec<MemoryConn>>
-    ensures { IfSome result (λ v. All (λ c. (c.source.ended ≡ false) × (c.source.plan.faults ≡ 0) × (c.sink.plan.faults ≡ 0) × (c.sink.bytes ≡ [])) v.items) }
+    ensures { IfSome result (λ v. All (λ c. (c.source.ended ≡ false) × (c.source.plan.faults ≡ 0)
+        × (c.sink.plan.faults ≡ 0) × (c.sink.bytes ≡ [])) v.items) }
 {
     let mut conns = Vec::new(alloc);
     for asked in field.split(' ') {
@@ -157,8 +158,8 @@ fn files_in(alloc: Global, blocks: &str, failing: &str) -> Option<MapFiles> {
     Some(files)
 }
 
-// The call of a row's fields: what is done with tasks, which calls of the link and behind a `/` of the files fail, the words, the block file, and
-// what the peers send.
+// The call of a row's fields: what is done with tasks, which calls of the link and behind a `/` of the files fail, the
+// words, the block file, and what the peers send.
 fn called<R: Wait + Threads + Sync + Copy + Drop + Send + 'static>(
     rt: R,
     alloc: Global,

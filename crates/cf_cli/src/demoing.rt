@@ -39,7 +39,8 @@ fn put_count(alloc: Global, name: &str, n: u128, out: &mut String) -> Result<(),
 
 // Puts the lines of a history behind a text.
 fn put_history(alloc: Global, demo: &Demo, out: &mut String) -> Result<(), NoMemory>
-    ensures { OnOk result (string_bytes out.new ≡ string_bytes out.old ++ (count_line (codes "entries") demo.now.entries ++ count_line (codes "balance") demo.now.balance)) }
+    ensures { OnOk result (string_bytes out.new ≡ string_bytes out.old
+        ++ (count_line (codes "entries") demo.now.entries ++ count_line (codes "balance") demo.now.balance)) }
 {
     put_count(alloc, "entries", demo.entries as u128, out)?;
     put_count(alloc, "balance", demo.balance, out)
@@ -47,7 +48,8 @@ fn put_history(alloc: Global, demo: &Demo, out: &mut String) -> Result<(), NoMem
 
 // Puts the lines of what passed behind a text.
 fn put_passed(alloc: Global, demo: &Demo, out: &mut String) -> Result<(), NoMemory>
-    ensures { OnOk result (string_bytes out.new ≡ string_bytes out.old ++ (count_line (codes "fetched") demo.now.fetched ++ count_line (codes "closed") demo.now.closed)) }
+    ensures { OnOk result (string_bytes out.new ≡ string_bytes out.old
+        ++ (count_line (codes "fetched") demo.now.fetched ++ count_line (codes "closed") demo.now.closed)) }
 {
     put_count(alloc, "fetched", demo.fetched as u128, out)?;
     put_count(alloc, "closed", demo.closed as u128, out)
@@ -55,7 +57,8 @@ fn put_passed(alloc: Global, demo: &Demo, out: &mut String) -> Result<(), NoMemo
 
 // The seven lines of a demo that is synced.
 fn text_of(alloc: Global, blocks: u32, demo: &Demo) -> Result<String, NoMemory>
-    ensures { IfOk result (λ text. string_bytes text ≡ demo_lines blocks demo.now.entries demo.now.balance demo.now.fetched demo.now.closed demo.now.tip.0) }
+    ensures { IfOk result (λ text. string_bytes text
+        ≡ demo_lines blocks demo.now.entries demo.now.balance demo.now.fetched demo.now.closed demo.now.tip.0) }
 {
     let mut text = String::new(alloc);
     put_count(alloc, "blocks", u128::from(blocks), &mut text)?;
@@ -69,8 +72,10 @@ fn text_of(alloc: Global, blocks: u32, demo: &Demo) -> Result<String, NoMemory>
 
 // The text of a demo that is synced, or how it ended else.
 fn told(alloc: Global, blocks: u32, demo: Demo) -> Result<String, Status>
-    ensures text { IfOk result (λ text. (seed : ℕ) (log : Log) → IsDemo seed blocks demo log → IsDemoText seed blocks (string_bytes text) log) }
-    ensures why { IfErr result (λ status. (seed : ℕ) (log : Log) → IsDemo seed blocks demo log → IsUntold status seed blocks log) }
+    ensures text { IfOk result (λ text. (seed : ℕ) (log : Log) → IsDemo seed blocks demo log
+        → IsDemoText seed blocks (string_bytes text) log) }
+    ensures why { IfErr result
+        (λ status. (seed : ℕ) (log : Log) → IsDemo seed blocks demo log → IsUntold status seed blocks log) }
 {
     match demo.end {
         End::Synced => match text_of(alloc, blocks, &demo) {
@@ -85,7 +90,8 @@ fn told(alloc: Global, blocks: u32, demo: Demo) -> Result<String, Status>
 
 // The answer where nothing was played.
 fn untold(alloc: Global, why: Unplayed) -> Status
-    ensures demo { (seed blocks : ℕ) (log : Log) → IsUnplayed seed blocks why → (why ≢ Unplayed.NoMemory → log ≡ []) → IsUntold result seed blocks log }
+    ensures demo { (seed blocks : ℕ) (log : Log) → IsUnplayed seed blocks why → (why ≢ Unplayed.NoMemory → log ≡ [])
+        → IsUntold result seed blocks log }
     ensures session { (seed blocks : ℕ) → IsUnmade seed blocks why → IsUnrecorded result seed blocks }
 {
     match why {
@@ -97,13 +103,16 @@ fn untold(alloc: Global, why: Unplayed) -> Status
     }
 }
 
-/// The text of the client's run over three played peers, and why there is none else. Peers 1 and 3 serve the made chain of so many blocks, 1 to 499,998, that the seed tells, and peer 2
-/// that of two blocks more that the next seed tells. Two scripts of made chains are watched, those of 0 and 1: peer 1 leaves them out of its filters. Peer 2 shows its chain and answers
-/// nothing else. Peer 3 is honest. Filters are judged in so many threads, 1 to 64.
+/// The text of the client's run over three played peers, and why there is none else. Peers 1 and 3 serve the made chain
+/// of so many blocks, 1 to 499,998, that the seed tells, and peer 2 that of two blocks more that the next seed tells.
+/// Two scripts of made chains are watched, those of 0 and 1: peer 1 leaves them out of its filters. Peer 2 shows its
+/// chain and answers nothing else. Peer 3 is honest. Filters are judged in so many threads, 1 to 64.
 ///
-/// The text is seven lines: the blocks, the peers, how many lines the history has, the last balance in satoshis or 0, how many blocks were fetched, how many peers were closed, and the tip's
-/// hash. A run that isn't synced has none: `Tired` comes once 10,000,000 deliveries were taken, `NoPeers` only where two strings have one hash, and `NoNonce` exactly at the lowest height
-/// where no nonce serves: of peer 3's chain, or of peer 2's where that can be made. `NoMemory` may come in place of any other. The peers are new: none is added and nothing has passed.
+/// The text is seven lines: the blocks, the peers, how many lines the history has, the last balance in satoshis or 0,
+/// how many blocks were fetched, how many peers were closed, and the tip's hash. A run that isn't synced has none:
+/// `Tired` comes once 10,000,000 deliveries were taken, `NoPeers` only where two strings have one hash, and `NoNonce`
+/// exactly at the lowest height where no nonce serves: of peer 3's chain, or of peer 2's where that can be made.
+/// `NoMemory` may come in place of any other. The peers are new: none is added and nothing has passed.
 pub fn demo_text<R: Wait + Threads + Sync + Copy + Drop + Send + 'static, K: Spawner>(
     rt: R,
     alloc: Global,
@@ -132,7 +141,8 @@ pub fn demo_text<R: Wait + Threads + Sync + Copy + Drop + Send + 'static, K: Spa
     }
 }
 
-/// Writes the text of a demo whose filters are judged in four threads. No blocks, and more than 499,998, for which no words ask, are refused as for want of memory.
+/// Writes the text of a demo whose filters are judged in four threads. No blocks, and more than 499,998, for which no
+/// words ask, are refused as for want of memory.
 pub(crate) fn demo<R: Wait + Threads + Sync + Copy + Drop + Send + 'static, K: Spawner, O: Sink>(
     rt: R,
     alloc: Global,
@@ -159,9 +169,11 @@ pub(crate) fn demo<R: Wait + Threads + Sync + Copy + Drop + Send + 'static, K: S
     }
 }
 
-/// The session of the client's run over one honest peer that is played: it serves the made chain of so many blocks, at most 500,000, that the seed tells, and the same two scripts are watched. The lines
-/// are those of the log, which `replay` reads. The run ends where nothing is open, or after 10,000,000 deliveries. `NoNonce` comes exactly at the lowest height where no nonce serves, and
-/// `NoPeers` only where two transactions of the chain have one hash; `NoMemory` may come in place of any other answer. The peers are new, as for `demo_text`.
+/// The session of the client's run over one honest peer that is played: it serves the made chain of so many blocks, at
+/// most 500,000, that the seed tells, and the same two scripts are watched. The lines are those of the log, which
+/// `replay` reads. The run ends where nothing is open, or after 10,000,000 deliveries. `NoNonce` comes exactly at the
+/// lowest height where no nonce serves, and `NoPeers` only where two transactions of the chain have one hash;
+/// `NoMemory` may come in place of any other answer. The peers are new, as for `demo_text`.
 pub fn session(
     rt: &(impl Threads + Sync),
     alloc: Global,

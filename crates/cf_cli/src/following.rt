@@ -42,12 +42,15 @@ fn follow_live<W: Wires, H: HeaderStore + Drop, M: Matcher + Drop, O: Sink>(
     requires open { (W.told wires.old).finished ≡ false }
     requires few { length names.now ≤ 8 }
     requires empty { (q : ℕ) → H.chain store q ≡ None }
-    ensures kept { (recorded : Bool) → IfSome (W.told wires.new).log (λ log. KeptOn result recorded false watch (names_in names.now) (O.written out.old) (O.written out.new) log) }
-    ensures given_up { IfSome (W.told wires.new).log (λ log. GivenUp result watch (O.written out.old) (O.written out.new) log) }
+    ensures kept { (recorded : Bool) → IfSome (W.told wires.new).log
+        (λ log. KeptOn result recorded false watch (names_in names.now) (O.written out.old) (O.written out.new) log) }
+    ensures given_up { IfSome (W.told wires.new).log
+        (λ log. GivenUp result watch (O.written out.old) (O.written out.new) log) }
     ensures tallied { TalliedOn result turns (length (names_in names.now)) (W.told wires.old) (W.told wires.new) }
     ensures versions { HasWords (record { moment = moment; number = nonce }) (W.told wires.new) }
     ensures dialled { HasDialled (names_in names.now) (W.told wires.new) }
-    ensures failures { IfSome (W.told wires.new).log (λ log. HasFailed log → HasRisen (W.faults wires.old) (W.faults wires.new)) }
+    ensures failures { IfSome (W.told wires.new).log
+        (λ log. HasFailed log → HasRisen (W.faults wires.old) (W.faults wires.new)) }
     ensures keeps { W.keeps wires.new ≡ W.keeps wires.old }
     ensures finished { (W.told wires.new).finished ≡ true }
     ensures logged { IsSome (W.told wires.old).log → IsSome (W.told wires.new).log }
@@ -71,9 +74,10 @@ fn follow_live<W: Wires, H: HeaderStore + Drop, M: Matcher + Drop, O: Sink>(
     }
 }
 
-/// Follows the chains that the peers of these names show as they grow, and puts the history of the watched scripts and the tip at each quiet moment,
-/// unless they are those that were put last. The wires are new, and not finished. Where a file is named for the log, its session lines are written
-/// to it at the end, also where a text could not be put. How each peer stands once the run is over is put into `ends`, in the order of their numbers.
+/// Follows the chains that the peers of these names show as they grow, and puts the history of the watched scripts and
+/// the tip at each quiet moment, unless they are those that were put last. The wires are new, and not finished. Where a
+/// file is named for the log, its session lines are written to it at the end, also where a text could not be put. How
+/// each peer stands once the run is over is put into `ends`, in the order of their numbers.
 #[tactic(auto, using(crate::proofs::Asking::unwritten))]
 pub(crate) fn follow_and_record<F: Files, W: Wires, M: Matcher + Drop, O: Sink>(
     alloc: Global,
@@ -92,12 +96,15 @@ pub(crate) fn follow_and_record<F: Files, W: Wires, M: Matcher + Drop, O: Sink>(
     requires fresh { Tells [] (W.told wires.old) }
     requires open { (W.told wires.old).finished ≡ false }
     requires few { length names.now ≤ 8 }
-    ensures kept { IfSome (W.told wires.new).log (λ log. KeptOn result (is_some log_file.now) false watch (names_in names.now) (O.written out.old) (O.written out.new) log) }
-    ensures given_up { IfSome (W.told wires.new).log (λ log. GivenUp result watch (O.written out.old) (O.written out.new) log) }
+    ensures kept { IfSome (W.told wires.new).log (λ log. KeptOn result (is_some log_file.now) false watch
+        (names_in names.now) (O.written out.old) (O.written out.new) log) }
+    ensures given_up { IfSome (W.told wires.new).log
+        (λ log. GivenUp result watch (O.written out.old) (O.written out.new) log) }
     ensures tallied { TalliedOn result turns (length (names_in names.now)) (W.told wires.old) (W.told wires.new) }
     ensures versions { HasWords (record { moment = moment; number = nonce }) (W.told wires.new) }
     ensures dialled { HasDialled (names_in names.now) (W.told wires.new) }
-    ensures failures { IfSome (W.told wires.new).log (λ log. HasFailed log → HasRisen (W.faults wires.old) (W.faults wires.new)) }
+    ensures failures { IfSome (W.told wires.new).log
+        (λ log. HasFailed log → HasRisen (W.faults wires.old) (W.faults wires.new)) }
     ensures records { Records result log_file.now (W.told wires.new).log (F.files files.old) (F.files files.new) }
     ensures file_fault { result ≡ Status.FileFault → HasRisen (F.faults files.old) (F.faults files.new) }
     ensures out_fault { result ≡ Status.OutFault → HasRisen (O.faults out.old) (O.faults out.new) }
@@ -139,7 +146,8 @@ fn behind_trace(
     Ok(text)
 }
 
-/// The same over wires that are a tape: the trace is written where it is asked for, and then the texts of all quiet moments, once the run is over.
+/// The same over wires that are a tape: the trace is written where it is asked for, and then the texts of all quiet
+/// moments, once the run is over.
 pub(crate) fn follow_on_tape<W: Wires, M: Matcher + Drop, O: Sink>(
     alloc: Global,
     wires: &mut W,
@@ -156,8 +164,10 @@ pub(crate) fn follow_on_tape<W: Wires, M: Matcher + Drop, O: Sink>(
     requires fresh { Tells [] (W.told wires.old) }
     requires open { (W.told wires.old).finished ≡ false }
     requires few { length names.now ≤ 8 }
-    ensures kept { IfSome (W.told wires.new).log (λ log. KeptOn result false trace watch (names_in names.now) (O.written out.old) (O.written out.new) log) }
-    ensures refused { result ≡ Status.OutFault → IfSome (W.told wires.new).log (λ log. CutShort trace watch (names_in names.now) (O.written out.old) (O.written out.new) log) }
+    ensures kept { IfSome (W.told wires.new).log
+        (λ log. KeptOn result false trace watch (names_in names.now) (O.written out.old) (O.written out.new) log) }
+    ensures refused { result ≡ Status.OutFault → IfSome (W.told wires.new).log
+        (λ log. CutShort trace watch (names_in names.now) (O.written out.old) (O.written out.new) log) }
     ensures tallied { TalliedOn result turns (length (names_in names.now)) (W.told wires.old) (W.told wires.new) }
     ensures versions { HasWords (record { moment = moment; number = nonce }) (W.told wires.new) }
     ensures dialled { HasDialled (names_in names.now) (W.told wires.new) }

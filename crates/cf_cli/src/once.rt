@@ -38,9 +38,10 @@ pub(crate) fn status_of(end: End, ends: Vec<PeerEnd>) -> Status
     }
 }
 
-/// Follows the chains that the peers of these names show, and writes the trace where it is asked for, and the history of the watched scripts and
-/// the tip once nothing is open. The wires are new, and not finished. Where a file is named for the log, its session lines are written to it before
-/// any text. How each peer stands at the end of the run is put into `ends`, in the order of their numbers.
+/// Follows the chains that the peers of these names show, and writes the trace where it is asked for, and the history
+/// of the watched scripts and the tip once nothing is open. The wires are new, and not finished. Where a file is named
+/// for the log, its session lines are written to it before any text. How each peer stands at the end of the run is put
+/// into `ends`, in the order of their numbers.
 #[tactic(auto, using(crate::proofs::Asking::unwritten))]
 pub(crate) fn run_once<F: Files, W: Wires, M: Matcher + Drop, O: Sink>(
     alloc: Global,
@@ -60,12 +61,14 @@ pub(crate) fn run_once<F: Files, W: Wires, M: Matcher + Drop, O: Sink>(
     requires fresh { Tells [] (W.told wires.old) }
     requires open { (W.told wires.old).finished ≡ false }
     requires few { length names.now ≤ 8 }
-    ensures kept { IfSome (W.told wires.new).log (λ log. Kept result (is_some log_file.now) trace watch (names_in names.now) (O.written out.old) (O.written out.new) log) }
+    ensures kept { IfSome (W.told wires.new).log (λ log. Kept result (is_some log_file.now) trace watch
+        (names_in names.now) (O.written out.old) (O.written out.new) log) }
     ensures tallied { Tallied result turns (length (names_in names.now)) (W.told wires.old) (W.told wires.new) }
     ensures versions { HasWords (record { moment = moment; number = nonce }) (W.told wires.new) }
     ensures dialled { HasDialled (names_in names.now) (W.told wires.new) }
     ensures same { W.script wires.new ≡ W.script wires.old }
-    ensures failures { IfSome (W.told wires.new).log (λ log. HasFailed log → HasRisen (W.faults wires.old) (W.faults wires.new)) }
+    ensures failures { IfSome (W.told wires.new).log
+        (λ log. HasFailed log → HasRisen (W.faults wires.old) (W.faults wires.new)) }
     ensures records { Records result log_file.now (W.told wires.new).log (F.files files.old) (F.files files.new) }
     ensures file_fault { result ≡ Status.FileFault → HasRisen (F.faults files.old) (F.faults files.new) }
     ensures out_fault { result ≡ Status.OutFault → HasRisen (O.faults out.old) (O.faults out.new) }

@@ -36,8 +36,11 @@ fn serve_at<L: Link, S: Service + Send + 'static, K: Spawner>(
 where
     L::Conn: Send + 'static,
     <L::Conn as Duplex>::End: Drop + Send + 'static,
-    ensures serves { MayServe (S.serves server.now) address.now connections (link_now L.addresses L.accepted L.owed L.conns L.given link.old) (link_now L.addresses L.accepted L.owed L.conns L.given link.new) }
-    ensures ok { OnOk result (ServesAt (S.serves server.now) address.now connections (link_now L.addresses L.accepted L.owed L.conns L.given link.old) (link_now L.addresses L.accepted L.owed L.conns L.given link.new)) }
+    ensures serves { MayServe (S.serves server.now) address.now connections
+        (link_now L.addresses L.accepted L.owed L.conns L.given link.old)
+        (link_now L.addresses L.accepted L.owed L.conns L.given link.new) }
+    ensures ok { OnOk result (ServesAt (S.serves server.now) address.now connections (link_now L.addresses L.accepted
+        L.owed L.conns L.given link.old) (link_now L.addresses L.accepted L.owed L.conns L.given link.new)) }
     ensures count { OnOk result (L.accepted link.new ≡ L.accepted link.old + connections) }
     ensures faults { Counts result (L.faults link.old) (L.faults link.new) }
 {
@@ -72,7 +75,9 @@ fn serve_still<L: Link, K: Spawner>(
 where
     L::Conn: Send + 'static,
     <L::Conn as Duplex>::End: Drop + Send + 'static,
-    ensures serves { ServesChain result (served_by false index moment nonce) address.now connections (link_now L.addresses L.accepted L.owed L.conns L.given link.old) (link_now L.addresses L.accepted L.owed L.conns L.given link.new) }
+    ensures serves { ServesChain result (served_by false index moment nonce) address.now connections
+        (link_now L.addresses L.accepted L.owed L.conns L.given link.old)
+        (link_now L.addresses L.accepted L.owed L.conns L.given link.new) }
     ensures fault { result ≡ Status.LinkFault → HasRisen (L.faults link.old) (L.faults link.new) }
 {
     let tip = index.tip();
@@ -113,7 +118,9 @@ fn serve_growing<
 where
     L::Conn: Send + 'static,
     <L::Conn as Duplex>::End: Drop + Send + 'static,
-    ensures serves { ServesChain result (served_by true index moment nonce) address.now connections (link_now L.addresses L.accepted L.owed L.conns L.given link.old) (link_now L.addresses L.accepted L.owed L.conns L.given link.new) }
+    ensures serves { ServesChain result (served_by true index moment nonce) address.now connections
+        (link_now L.addresses L.accepted L.owed L.conns L.given link.old)
+        (link_now L.addresses L.accepted L.owed L.conns L.given link.new) }
     ensures fault { result ≡ Status.LinkFault → HasRisen (L.faults link.old) (L.faults link.new) }
 {
     let tip = index.tip();
@@ -154,7 +161,9 @@ fn serve_chain<
 where
     L::Conn: Send + 'static,
     <L::Conn as Duplex>::End: Drop + Send + 'static,
-    ensures serves { ServesChain result (served_by grow chain moment nonce) address.now connections (link_now L.addresses L.accepted L.owed L.conns L.given link.old) (link_now L.addresses L.accepted L.owed L.conns L.given link.new) }
+    ensures serves { ServesChain result (served_by grow chain moment nonce) address.now connections
+        (link_now L.addresses L.accepted L.owed L.conns L.given link.old)
+        (link_now L.addresses L.accepted L.owed L.conns L.given link.new) }
     ensures fault { result ≡ Status.LinkFault → HasRisen (L.faults link.old) (L.faults link.new) }
 {
     let tip_hash = chain.tip_hash();
@@ -189,8 +198,8 @@ where
     )
 }
 
-/// Serves the chain of a file of blocks to so many connections, once the file is read and judged: the chain that was loaded, or one that grows
-/// from it. The link listens at the address then.
+/// Serves the chain of a file of blocks to so many connections, once the file is read and judged: the chain that was
+/// loaded, or one that grows from it. The link listens at the address then.
 pub(crate) fn serve<
     R: Wait + Threads + Sync + Copy + Drop + Send + 'static,
     J: Joins + Copy + Drop + Send + 'static,
@@ -215,7 +224,9 @@ where
     L::Conn: Send + 'static,
     <L::Conn as Duplex>::End: Drop + Send + 'static,
     ensures judged { IfSome (F.files files.old) (λ m. IsJudged (blocks_verdict (finite.get m file.now)) result) }
-    ensures serving { IsServing grow result moment nonce (F.files files.old) file.now address.now connections (link_now L.addresses L.accepted L.owed L.conns L.given link.old) (link_now L.addresses L.accepted L.owed L.conns L.given link.new) }
+    ensures serving { IsServing grow result moment nonce (F.files files.old) file.now address.now connections
+        (link_now L.addresses L.accepted L.owed L.conns L.given link.old)
+        (link_now L.addresses L.accepted L.owed L.conns L.given link.new) }
     ensures unused { was_refused result ≡ true → link.new ≡ link.old }
     ensures unchanged { F.files files.new ≡ F.files files.old }
     ensures files { IsReadByParts F.opens F.parts file.now files.old files.new }

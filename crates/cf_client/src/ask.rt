@@ -63,7 +63,8 @@ fn close_if_late<H: HeaderStore>(
 ) -> Result<(), NoMemory>
     requires here { i < length places.old }
     requires order { IsInOrder (desk tracker.old places.old acts.old.items) }
-    ensures moves { (mode : Mode) → OnOk result (Moves mode Same (desk tracker.old places.old acts.old.items) (desk tracker.new places.new acts.new.items)) }
+    ensures moves { (mode : Mode) → OnOk result
+        (Moves mode Same (desk tracker.old places.old acts.old.items) (desk tracker.new places.new acts.new.items)) }
     ensures done { OnOk result (is_calm (place_at places.new i) ≡ true) }
     ensures others { OnOk result ((p : ℕ) → p ≢ i → place_at places.new p ≡ place_at places.old p) }
     ensures verdicts { OnOk result (AreSameVerdicts (verdicts_of tracker.new) (verdicts_of tracker.old)) }
@@ -86,7 +87,8 @@ pub(crate) fn close_late<H: HeaderStore>(
     acts: &mut Vec<Act>,
 ) -> Result<(), NoMemory>
     requires { IsInOrder (desk tracker.old places.old acts.old.items) }
-    ensures moves { (mode : Mode) → OnOk result (Moves mode Same (desk tracker.old places.old acts.old.items) (desk tracker.new places.new acts.new.items)) }
+    ensures moves { (mode : Mode) → OnOk result
+        (Moves mode Same (desk tracker.old places.old acts.old.items) (desk tracker.new places.new acts.new.items)) }
     ensures calm { OnOk result (AreCalm places.new) }
     ensures verdicts { OnOk result (AreSameVerdicts (verdicts_of tracker.new) (verdicts_of tracker.old)) }
     ensures closes { OnOk result (ClosesLate acts.old.items acts.new.items) }
@@ -112,17 +114,20 @@ fn ping_if_idle(places: &mut [Place], acts: &mut Vec<Act>, i: usize) -> Result<(
     Ok(())
 }
 
-/// Sends a ping to each connected peer to which nothing is open, the lowest number first: after a tick, in a client that
-/// follows.
+/// Sends a ping to each connected peer to which nothing is open, the lowest number first: after a tick, in a client
+/// that follows.
 pub(crate) fn ping_all<H: HeaderStore>(
     tracker: &Tracker<H>,
     places: &mut [Place],
     acts: &mut Vec<Act>,
 ) -> Result<(), NoMemory>
     requires { IsInOrder (desk tracker.now places.old acts.old.items) }
-    ensures moves { OnOk result (Moves Following Ticked (desk tracker.now places.old acts.old.items) (desk tracker.now places.new acts.new.items)) }
-    ensures pinged { OnOk result ((p : ℕ) → is_idle (place_at places.new p) ≡ true → HasPingedOut (place_at places.new p)) }
-    ensures same { OnOk result ((p : ℕ) → is_idle (place_at places.new p) ≡ true → place_at places.new p ≡ place_at places.old p) }
+    ensures moves { OnOk result (Moves Following Ticked (desk tracker.now places.old acts.old.items)
+        (desk tracker.now places.new acts.new.items)) }
+    ensures pinged { OnOk result ((p : ℕ) → is_idle (place_at places.new p) ≡ true
+        → HasPingedOut (place_at places.new p)) }
+    ensures same { OnOk result ((p : ℕ) → is_idle (place_at places.new p) ≡ true
+        → place_at places.new p ≡ place_at places.old p) }
     ensures pings { OnOk result (AddsPings acts.old.items acts.new.items) }
 {
     // Contracts alone look at `tracker`.
@@ -190,7 +195,9 @@ fn ask_for_claims(
     requires here { i < length places.old }
     requires few { length places.old ≤ 9 }
     requires idle { is_idle (place_at places.old i) ≡ true }
-    ensures { OnOk result (IsSent i (GetCfheaders 0 span.start span.stop) (asked_for_claims (record { stop = span.stop; parent = span.parent; blocks = span.blocks.items })) places.old places.new acts.old.items acts.new.items) }
+    ensures { OnOk result (IsSent i (GetCfheaders 0 span.start span.stop)
+        (asked_for_claims (record { stop = span.stop; parent = span.parent; blocks = span.blocks.items }))
+        places.old places.new acts.old.items acts.new.items) }
 {
     let question = Msg::GetCfheaders {
         filter: 0,
@@ -219,7 +226,8 @@ fn ask_for_filters(
     requires here { i < length places.old }
     requires few { length places.old ≤ 9 }
     requires idle { is_idle (place_at places.old i) ≡ true }
-    ensures { OnOk result (IsSent i (GetCfilters 0 span.start span.stop) (asked_for_filters span.blocks.items) places.old places.new acts.old.items acts.new.items) }
+    ensures { OnOk result (IsSent i (GetCfilters 0 span.start span.stop)
+        (asked_for_filters span.blocks.items) places.old places.new acts.old.items acts.new.items) }
 {
     let question = Msg::GetCfilters {
         filter: 0,
@@ -281,8 +289,9 @@ fn ask_for_block(
     Ok(())
 }
 
-// Asks the peer at this place, to which nothing is open and which was heard out, about the blocks that it shares with the best chain: for the claims that it
-// hasn't made; else for filters that aren't judged yet and are open to nobody; else for a block that is open to nobody; or else for a filter that is to be tested.
+// Asks the peer at this place, to which nothing is open and which was heard out, about the blocks that it shares with
+// the best chain: for the claims that it hasn't made; else for filters that aren't judged yet and are open to nobody;
+// else for a block that is open to nobody; or else for a filter that is to be tested.
 fn ask_about_blocks<H: HeaderStore>(
     alloc: Global,
     tracker: &mut Tracker<H>,
@@ -322,7 +331,8 @@ fn ask_about_blocks<H: HeaderStore>(
     }
 }
 
-// Asks the peer at this place if a client of this mode is to ask it: for headers while it has more to tell, and then about the blocks of its chain.
+// Asks the peer at this place if a client of this mode is to ask it: for headers while it has more to tell, and then
+// about the blocks of its chain.
 fn ask_if_wanted<H: HeaderStore>(
     alloc: Global,
     mode: Mode,
@@ -334,7 +344,8 @@ fn ask_if_wanted<H: HeaderStore>(
     requires here { i < length places.old }
     requires calm { AreCalm places.old }
     requires order { IsInOrder (desk tracker.old places.old acts.old.items) }
-    ensures asks { OnOk result (Asks mode i (desk tracker.old places.old acts.old.items) (desk tracker.new places.new acts.new.items)) }
+    ensures asks { OnOk result
+        (Asks mode i (desk tracker.old places.old acts.old.items) (desk tracker.new places.new acts.new.items)) }
     ensures through { OnOk result (IsAskedThrough (place_at places.new i) (seen_of tracker.new) i) }
 {
     if places[i].wants_headers(mode) {
@@ -358,11 +369,13 @@ fn ask_each<H: HeaderStore>(
 ) -> Result<(), NoMemory>
     requires calm { AreCalm places.old }
     requires order { IsInOrder (desk tracker.old places.old acts.old.items) }
-    ensures moves { OnOk result (Moves mode Same (desk tracker.old places.old acts.old.items) (desk tracker.new places.new acts.new.items)) }
+    ensures moves { OnOk result
+        (Moves mode Same (desk tracker.old places.old acts.old.items) (desk tracker.new places.new acts.new.items)) }
     ensures settled { OnOk result ((p : ℕ) → is_settled mode (place_at places.new p) ≡ true) }
     ensures through { OnOk result (AreAskedThrough places.new (seen_of tracker.new)) }
     ensures verdicts { OnOk result (AreSameVerdicts (verdicts_of tracker.new) (verdicts_of tracker.old)) }
-    ensures busy { OnOk result ((p : ℕ) → is_idle (place_at places.new p) ≡ true → place_at places.new p ≡ place_at places.old p) }
+    ensures busy { OnOk result ((p : ℕ) → is_idle (place_at places.new p) ≡ true
+        → place_at places.new p ≡ place_at places.old p) }
     ensures asked { OnOk result (AddsQuestions places.old acts.old.items acts.new.items) }
 {
     for i in 0..places.len() {
@@ -381,11 +394,13 @@ pub(crate) fn ask_all<H: HeaderStore>(
 ) -> Result<(), NoMemory>
     requires calm { AreCalm places.old }
     requires order { IsInOrder (desk tracker.old places.old acts.old.items) }
-    ensures moves { OnOk result (Moves mode Same (desk tracker.old places.old acts.old.items) (desk tracker.new places.new acts.new.items)) }
+    ensures moves { OnOk result
+        (Moves mode Same (desk tracker.old places.old acts.old.items) (desk tracker.new places.new acts.new.items)) }
     ensures settled { OnOk result ((p : ℕ) → is_settled mode (place_at places.new p) ≡ true) }
     ensures through { OnOk result (AreAskedThrough places.new (seen_of tracker.new)) }
     ensures verdicts { OnOk result (AreSameVerdicts (verdicts_of tracker.new) (verdicts_of tracker.old)) }
-    ensures busy { OnOk result ((p : ℕ) → is_idle (place_at places.new p) ≡ true → place_at places.new p ≡ place_at places.old p) }
+    ensures busy { OnOk result ((p : ℕ) → is_idle (place_at places.new p) ≡ true
+        → place_at places.new p ≡ place_at places.old p) }
     ensures asked { OnOk result (AddsQuestions places.old acts.old.items acts.new.items) }
 {
     ask_each(alloc, mode, tracker, places, acts)?;

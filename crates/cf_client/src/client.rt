@@ -36,7 +36,8 @@ pub struct Client<H: HeaderStore, M: Matcher> {
     dead: bool,
     // What is kept of each peer, by its number; place 0 is nobody's.
     places: Vec<Place>,
-    // The peers' chains and claims, and what is kept of the filters that were judged and of the blocks that were fetched.
+    // The peers' chains and claims, and what is kept of the filters that were judged and of the blocks that were
+    // fetched.
     tracker: Tracker<H>,
     matcher: M,
     ghost few: { vec_len places ≤ 9 },
@@ -140,11 +141,14 @@ impl<H: HeaderStore, M: Matcher> Client<H, M> {
     ghost use Rattle.cf_client.specs.Order.{AreInOrder};
     ghost use Rattle.cf_client.specs.Steps.{Extends};
     ghost use Rattle.cf_client.specs.Holding.{Counts, HoldsNoMore};
-    ghost use Rattle.cf_client.specs.Stands.{Reflects, Answers, ArePinged, AreTicked, IsBestTip, IsReportOf, IsHistoryTold, is_dead, open_count, count_of, rule_by, seen_by, watch_by, words_by, matcher_by, judging_by};
+    ghost use Rattle.cf_client.specs.Stands.{Reflects, Answers, ArePinged, AreTicked, IsBestTip, IsReportOf};
+    ghost use Rattle.cf_client.specs.Stands.{IsHistoryTold, is_dead, open_count, count_of, rule_by, seen_by, watch_by};
+    ghost use Rattle.cf_client.specs.Stands.{words_by, matcher_by, judging_by};
     ghost use Rattle.cf_client.specs.Blameless.{AreAskedOut, HasBlamed, IsBlameless, IsInnocent, AreAnswered};
 
-    /// A client that knows of no peer yet, over a store in which no peer is entered. It watches these scripts, and matches filters with them
-    /// by this matcher. Its `version` tells this moment, in seconds since 1970, and this number.
+    /// A client that knows of no peer yet, over a store in which no peer is entered. It watches these scripts, and
+    /// matches filters with them by this matcher. Its `version` tells this moment, in seconds since 1970, and this
+    /// number.
     pub fn new(
         alloc: Global,
         watch: Watch,
@@ -178,8 +182,9 @@ impl<H: HeaderStore, M: Matcher> Client<H, M> {
         })
     }
 
-    /// The client, before its first dial, as one that goes on once nothing is open: it hears a peer out again that tells of a
-    /// block that isn't on that peer's own chain, and with a tick it sends a `ping` to each peer to which nothing is open.
+    /// The client, before its first dial, as one that goes on once nothing is open: it hears a peer out again that
+    /// tells of a block that isn't on that peer's own chain, and with a tick it sends a `ping` to each peer to which
+    /// nothing is open.
     pub fn following(self) -> Client<H, M>
         requires untouched { Reflects self [] }
         requires alone { count_of self ≡ 1 }
@@ -194,12 +199,13 @@ impl<H: HeaderStore, M: Matcher> Client<H, M> {
         client
     }
 
-    /// A peer was dialled: the next in order, of at most eight. Here and in each call below, a client that has found no memory once
-    /// answers so for good.
+    /// A peer was dialled: the next in order, of at most eight. Here and in each call below, a client that has found no
+    /// memory once answers so for good.
     pub fn dialled(&mut self, p: PeerNo, name: &str) -> Result<Vec<Act>, NoMemory>
         requires room { p.0 ≤ 8 }
         requires next { p.0 ≡ count_of self.old }
-        ensures answers { IfOk result (λ acts. (log : Log) → Reflects self.old log → Answers self.new acts.items (Dialled p name.now ∷ log)) }
+        ensures answers { IfOk result (λ acts. (log : Log) → Reflects self.old log
+            → Answers self.new acts.items (Dialled p name.now ∷ log)) }
         ensures greets { IfOk result (λ acts. Greets (words_by self.old) p acts.items) }
         ensures doable { IfOk result (λ acts. All IsDoable acts.items) }
         ensures count { OnOk result (count_of self.new ≡ count_of self.old + 1) }
@@ -226,7 +232,8 @@ impl<H: HeaderStore, M: Matcher> Client<H, M> {
     pub fn not_dialled(&mut self, p: PeerNo, name: &str) -> Result<(), NoMemory>
         requires room { p.0 ≤ 8 }
         requires next { p.0 ≡ count_of self.old }
-        ensures reflects { OnOk result ((log : Log) → Reflects self.old log → Reflects self.new (NotDialled p name.now ∷ log)) }
+        ensures reflects { OnOk result ((log : Log) → Reflects self.old log
+            → Reflects self.new (NotDialled p name.now ∷ log)) }
         ensures count { OnOk result (count_of self.new ≡ count_of self.old + 1) }
         ensures rule { OnOk result (rule_by self.new ≡ rule_by self.old) }
         ensures words { words_by self.new ≡ words_by self.old }
@@ -252,8 +259,10 @@ impl<H: HeaderStore, M: Matcher> Client<H, M> {
     /// that lacks an output's script, is closed: so that with nothing open all of these were tested, and none that
     /// omits is left.
     pub fn step(&mut self, d: &Delivery) -> Result<Vec<Act>, NoMemory>
-        ensures answers { IfOk result (λ acts. (log : Log) → Reflects self.old log → Answers self.new acts.items (Took d.now ∷ log)) }
-        ensures tells { IfOk result (λ acts. (log : Log) → Reflects self.old log → All (ActTells (words_by self.old)) acts.items) }
+        ensures answers { IfOk result (λ acts. (log : Log) → Reflects self.old log
+            → Answers self.new acts.items (Took d.now ∷ log)) }
+        ensures tells { IfOk result (λ acts. (log : Log) → Reflects self.old log
+            → All (ActTells (words_by self.old)) acts.items) }
         ensures doable { IfOk result (λ acts. All IsDoable acts.items) }
         ensures count { count_of self.new ≡ count_of self.old }
         ensures rule { OnOk result (rule_by self.new ≡ rule_by self.old) }
@@ -293,8 +302,10 @@ impl<H: HeaderStore, M: Matcher> Client<H, M> {
     /// A send to a peer has failed. The first that is to be done is to close it; then others are asked, the lowest
     /// number first.
     pub fn send_failed(&mut self, p: PeerNo) -> Result<Vec<Act>, NoMemory>
-        ensures answers { IfOk result (λ acts. (log cut : Log) → p.0 < count_of self.old → Reflects self.old log → CutFor p log cut → Answers self.new acts.items cut) }
-        ensures tells { IfOk result (λ acts. (log cut : Log) → p.0 < count_of self.old → Reflects self.old log → CutFor p log cut → All (ActTells (words_by self.old)) acts.items) }
+        ensures answers { IfOk result (λ acts. (log cut : Log) → p.0 < count_of self.old → Reflects self.old log
+            → CutFor p log cut → Answers self.new acts.items cut) }
+        ensures tells { IfOk result (λ acts. (log cut : Log) → p.0 < count_of self.old → Reflects self.old log
+            → CutFor p log cut → All (ActTells (words_by self.old)) acts.items) }
         ensures first { IfOk result (λ acts. p.0 < count_of self.old → Extends (Close p SendFailed ∷ []) acts.items) }
         ensures doable { IfOk result (λ acts. All IsDoable acts.items) }
         ensures count { count_of self.new ≡ count_of self.old }
@@ -324,10 +335,10 @@ impl<H: HeaderStore, M: Matcher> Client<H, M> {
         PeerNo(self.places.len() as u32)
     }
 
-    /// The state: `Working` where something is open, else `Synced` where a peer is connected, else `NoPeers`. Between two calls no
-    /// connected peer deserves to be closed, nor claims a filter that was tested and omits an output's script, each was sent
-    /// the client's version and what is owed to its messages, and each with nothing open was asked all that is asked of it.
-    /// It takes no memory.
+    /// The state: `Working` where something is open, else `Synced` where a peer is connected, else `NoPeers`. Between
+    /// two calls no connected peer deserves to be closed, nor claims a filter that was tested and omits an output's
+    /// script, each was sent the client's version and what is owed to its messages, and each with nothing open was
+    /// asked all that is asked of it. It takes no memory.
     pub fn state(&self) -> State
         ensures state { (log : Log) → Reflects self.now log → IsState result log }
         ensures nobody { (log : Log) → Reflects self.now log → IsInnocent log }
@@ -363,7 +374,8 @@ impl<H: HeaderStore, M: Matcher> Client<H, M> {
 
     /// The best chain's tip, and the history of its blocks that were fetched, both of one moment.
     pub fn report(&mut self) -> Result<Report, NoMemory>
-        ensures report { IfOk result (λ r. (log : Log) → Reflects self.old log → IsReportOf (rule_by self.old) r.height r.tip r.history log) }
+        ensures report { IfOk result (λ r. (log : Log) → Reflects self.old log
+            → IsReportOf (rule_by self.old) r.height r.tip r.history log) }
         ensures same { OnOk result (self.new ≡ self.old) }
         ensures dead { is_dead self.old ≡ true → IsErr result }
         ensures err { OnErr result (is_dead self.new ≡ true) }
@@ -384,7 +396,8 @@ impl<H: HeaderStore, M: Matcher> Client<H, M> {
 
     /// The history of the best chain's blocks that were fetched.
     pub fn history(&mut self) -> Result<History, NoMemory>
-        ensures history { IfOk result (λ entries. (log : Log) → Reflects self.old log → IsHistoryTold (rule_by self.old) entries log) }
+        ensures history { IfOk result (λ entries. (log : Log) → Reflects self.old log
+            → IsHistoryTold (rule_by self.old) entries log) }
         ensures same { OnOk result (self.new ≡ self.old) }
         ensures dead { is_dead self.old ≡ true → IsErr result }
         ensures err { OnErr result (is_dead self.new ≡ true) }

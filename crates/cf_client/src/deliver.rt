@@ -24,8 +24,8 @@ use cf_tracker::Tracker;
 use cf_wires::Delivery;
 use std::alloc::Global;
 
-// Takes a piece of a peer's bytes. One of a peer that isn't connected has no effect. Where it exposes a filter, who claims it is
-// closed.
+// Takes a piece of a peer's bytes. One of a peer that isn't connected has no effect. Where it exposes a filter, who
+// claims it is closed.
 fn hear_from<H: HeaderStore, M: Matcher>(
     alloc: Global,
     tracker: &mut Tracker<H>,
@@ -37,7 +37,8 @@ fn hear_from<H: HeaderStore, M: Matcher>(
 ) -> Result<(), NoMemory>
     requires none { acts.old.items ≡ [] }
     requires order { IsInOrder (desk tracker.old places.old acts.old.items) }
-    ensures moves { (mode : Mode) → OnOk result (Moves mode (Taking (Got p piece.now)) (desk tracker.old places.old acts.old.items) (desk tracker.new places.new acts.new.items)) }
+    ensures moves { (mode : Mode) → OnOk result (Moves mode (Taking (Got p piece.now))
+        (desk tracker.old places.old acts.old.items) (desk tracker.new places.new acts.new.items)) }
     ensures judged { OnOk result (AreJudgedBy M.judges (watch_of tracker.old)
         (judging_of tracker.old matcher.old) (judging_of tracker.new matcher.new)) }
     ensures told { OnOk result ((mode : Mode) (log : Log) → Stands mode (desk tracker.old places.old acts.old.items) log
@@ -68,7 +69,8 @@ fn hear_from<H: HeaderStore, M: Matcher>(
 // A peer has gone.
 fn lose<H: HeaderStore>(tracker: &mut Tracker<H>, places: &mut [Place], p: PeerNo)
     requires { IsInOrder (desk tracker.old places.old []) }
-    ensures moves { (mode : Mode) → Moves mode (Taking (Gone p)) (desk tracker.old places.old []) (desk tracker.new places.new []) }
+    ensures moves { (mode : Mode)
+        → Moves mode (Taking (Gone p)) (desk tracker.old places.old []) (desk tracker.new places.new []) }
     ensures verdicts { AreSameVerdicts (verdicts_of tracker.new) (verdicts_of tracker.old) }
 {
     let i = p.0 as usize;
@@ -87,7 +89,8 @@ pub(crate) fn cut_off<H: HeaderStore>(
 ) -> Result<(), NoMemory>
     requires none { acts.old.items ≡ [] }
     requires order { IsInOrder (desk tracker.old places.old acts.old.items) }
-    ensures moves { (mode : Mode) → OnOk result (Moves mode (CutOff p places.old) (desk tracker.old places.old acts.old.items) (desk tracker.new places.new acts.new.items)) }
+    ensures moves { (mode : Mode) → OnOk result (Moves mode (CutOff p places.old)
+        (desk tracker.old places.old acts.old.items) (desk tracker.new places.new acts.new.items)) }
     ensures first { OnOk result (p.0 < length places.old → acts.new.items ≡ Close p SendFailed ∷ []) }
     ensures verdicts { AreSameVerdicts (verdicts_of tracker.new) (verdicts_of tracker.old) }
     ensures told { OnOk result (AreTold acts.new.items) }
@@ -115,7 +118,8 @@ pub(crate) fn deliver<H: HeaderStore, M: Matcher>(
     requires calm { AreCalm places.old }
     requires none { acts.old.items ≡ [] }
     requires order { IsInOrder (desk tracker.old places.old acts.old.items) }
-    ensures moves { OnOk result (Moves mode (Taking d.now) (desk tracker.old places.old acts.old.items) (desk tracker.new places.new acts.new.items)) }
+    ensures moves { OnOk result (Moves mode (Taking d.now) (desk tracker.old places.old acts.old.items)
+        (desk tracker.new places.new acts.new.items)) }
     ensures judged { OnOk result (AreJudgedBy M.judges (watch_of tracker.old)
         (judging_of tracker.old matcher.old) (judging_of tracker.new matcher.new)) }
     ensures told { OnOk result ((log : Log) → Stands mode (desk tracker.old places.old acts.old.items) log

@@ -78,7 +78,8 @@ fn most_bytes(places: &[Place]) -> u64
 pub(crate) fn held_of<H: HeaderStore>(tracker: &Tracker<H>, places: &[Place]) -> Held
     requires { length places.now ≤ 9 }
     ensures counted { Counts (seen_of tracker.now) result }
-    ensures few { (log : Log) → PlacesStand places.now log → Tracks (seen_of tracker.now) log → HoldsNoMore H.counts result log }
+    ensures few { (log : Log) → PlacesStand places.now log → Tracks (seen_of tracker.now) log
+        → HoldsNoMore H.counts result log }
 {
     Held {
         headers: tracker.headers_held(),

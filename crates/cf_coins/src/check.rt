@@ -14,8 +14,8 @@ use cf_block::{Block, OutPoint, Tx, TxIn, TxOut, is_coinbase};
 use cf_bytes::{Hash32, NoMemory, Refused};
 use std::alloc::Global;
 
-/// Whether a block's transactions fit the coins, or the first fault, as `spend_block` finds it. It judges by copies of the
-/// coins that the block touches, and they stay as they are.
+/// Whether a block's transactions fit the coins, or the first fault, as `spend_block` finds it. It judges by copies of
+/// the coins that the block touches, and they stay as they are.
 pub fn check_block(
     alloc: Global,
     coins: &Coins,

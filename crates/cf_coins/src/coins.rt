@@ -50,7 +50,8 @@ impl Coins {
         self.map.remove(&name)
     }
 
-    /// Puts a coin in, and answers whether it took the place of one of this name. Where no memory is found nothing has changed.
+    /// Puts a coin in, and answers whether it took the place of one of this name. Where no memory is found nothing has
+    /// changed.
     pub fn put(&mut self, name: OutPoint, output: TxOut) -> Result<bool, NoMemory>
         ensures stood { IfOk result (λ stood. stood ≡ is_some (get self.old name)) }
         ensures ok { OnOk result (self.new ≡ insert self.old name output) }

@@ -17,9 +17,9 @@ use std::alloc::Global;
 /// The scripts of the outputs that a block's transactions spend, in the order of their inputs.
 pub type Spent = Listed<Script>;
 
-/// Spends a block's inputs and puts its outputs in, transaction by transaction, and answers what was spent; or the first
-/// fault, after which nothing is said of the coins. The first transaction must be a coinbase and no other may be one;
-/// each input must name a coin as they stand when it comes; no output may be put over a standing one.
+/// Spends a block's inputs and puts its outputs in, transaction by transaction, and answers what was spent; or the
+/// first fault, after which nothing is said of the coins. The first transaction must be a coinbase and no other may be
+/// one; each input must name a coin as they stand when it comes; no output may be put over a standing one.
 pub fn spend_block(
     alloc: Global,
     coins: &mut Coins,
@@ -115,7 +115,8 @@ fn spend_tx(
     requires few { length tx.now.outputs < 2 ^ 32 }
     requires hash { txid.0 ≡ txid_of tx.now }
     ensures exact { Gives (spend coins.old tx.now) result coins.new }
-    ensures spent { OnOk result (spent.new.items ≡ spent.old.items ++ scripts_of (spent_of coins.old (spends_of tx.now))) }
+    ensures spent { OnOk result
+        (spent.new.items ≡ spent.old.items ++ scripts_of (spent_of coins.old (spends_of tx.now))) }
 {
     match spend_inputs(coins, tx, spent) {
         Ok(()) => put_outputs(alloc, coins, txid, tx.outputs.as_slice()),
@@ -129,7 +130,8 @@ fn spend_inputs(
     spent: &mut Vec<Script>,
 ) -> Result<(), Refused<CoinFault>>
     ensures exact { Gives (take_all coins.old (spends_of tx.now)) result coins.new }
-    ensures spent { OnOk result (spent.new.items ≡ spent.old.items ++ scripts_of (spent_of coins.old (spends_of tx.now))) }
+    ensures spent { OnOk result
+        (spent.new.items ≡ spent.old.items ++ scripts_of (spent_of coins.old (spends_of tx.now))) }
 {
     if is_coinbase(tx) {
         return Ok(());
@@ -143,7 +145,8 @@ fn take_inputs(
     spent: &mut Vec<Script>,
 ) -> Result<(), Refused<CoinFault>>
     ensures exact { Gives (take_all coins.old (prevs inputs.now)) result coins.new }
-    ensures spent { OnOk result (spent.new.items ≡ spent.old.items ++ scripts_of (spent_of coins.old (prevs inputs.now))) }
+    ensures spent { OnOk result
+        (spent.new.items ≡ spent.old.items ++ scripts_of (spent_of coins.old (prevs inputs.now))) }
 {
     for input in inputs {
         match coins.take(input.prev) {

@@ -20,7 +20,8 @@ pub trait Duplex: Source + Sink {
         ensures some { IfOk result (λ n. n ≤ length into.new) }
         ensures rest { IfOk result (λ n. drop n into.new ≡ drop n into.old) }
         ensures ok { IfOk result (λ n. Self.left self.old ≡ with_front (take n into.new) (Self.left self.new)) }
-        ensures end { IfOk result (λ n. 0 < length into.old → n ≡ 0 → IfSome (Self.left self.old) (λ bytes. bytes ≡ [])) }
+        ensures end { IfOk result (λ n. 0 < length into.old → n ≡ 0
+            → IfSome (Self.left self.old) (λ bytes. bytes ≡ [])) }
         ensures ended { Self.ended self.new ≡ (Self.ended self.old || is_end (length into.old) result) }
         ensures err { OnErr result (Self.left self.new ≡ Self.left self.old) }
         ensures kept { OnOk result (Self.Source.faults self.new ≡ Self.Source.faults self.old) }
@@ -42,5 +43,11 @@ pub trait Duplex: Source + Sink {
 
     /// Closes the connection. The end tells what the connection told until then.
     fn close(self) -> Self::End
-        ensures { tells result ≡ record { left = Self.left self; written = Self.written self; ended = Self.ended self; read_faults = Self.Source.faults self; write_faults = Self.Sink.faults self } };
+        ensures { tells result ≡ record {
+          left = Self.left self;
+          written = Self.written self;
+          ended = Self.ended self;
+          read_faults = Self.Source.faults self;
+          write_faults = Self.Sink.faults self;
+        } };
 }

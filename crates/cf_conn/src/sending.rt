@@ -10,7 +10,8 @@ use cf_bytes::Failed;
 #[tactic(auto, using(cf_bytes::proofs::Sent::sent_more, std::proofs::lemmas::List::take_rest, std::proofs::lemmas::Grind::common_steps))]
 pub fn send_all<C: Duplex>(conn: &mut C, bytes: &[u8]) -> Result<(), Failed>
     ensures ok { OnOk result (C.written conn.new ≡ with_more (C.written conn.old) bytes.now) }
-    ensures err { OnErr result ((n : ℕ) × (n ≤ length bytes.now) × (C.written conn.new ≡ with_more (C.written conn.old) (take n bytes.now))) }
+    ensures err { OnErr result ((n : ℕ) × (n ≤ length bytes.now)
+        × (C.written conn.new ≡ with_more (C.written conn.old) (take n bytes.now))) }
     ensures kept { OnOk result (C.Sink.faults conn.new ≡ C.Sink.faults conn.old) }
     ensures cause { OnErr result (HasRisen (C.Sink.faults conn.old) (C.Sink.faults conn.new)) }
     ensures left { C.left conn.new ≡ C.left conn.old }

@@ -88,8 +88,8 @@ impl Window {
         Ok(k)
     }
 
-    /// Reads on until n bytes are held, or no more come. Nothing is taken. Of what is read, fewer than n + 65,536 bytes are
-    /// held at once.
+    /// Reads on until n bytes are held, or no more come. Nothing is taken. Of what is read, fewer than n + 65,536 bytes
+    /// are held at once.
     #[tactic(auto, using(crate::proofs::Stepping::no_steps, crate::proofs::Stepping::one_step, crate::proofs::Stepping::maybe_step))]
     pub fn want<S: Source>(&mut self, source: &mut S, n: usize) -> Result<(), ReadFail>
         ensures same { with_front self.new.held (S.left source.new) ≡ with_front self.old.held (S.left source.old) }
@@ -107,10 +107,12 @@ impl Window {
         Ok(())
     }
 
-    /// Whether the source gives another byte than those that count, where none of these is still to be read. The byte is lost.
+    /// Whether the source gives another byte than those that count, where none of these is still to be read. The byte
+    /// is lost.
     pub fn has_more<S: Source>(&self, source: &mut S) -> Result<bool, ReadFail>
         requires { IsOver self.now (S.left source.old) }
-        ensures exact { IfOk result (λ more. IfSome (beyond self.now (S.left source.old)) (λ bytes. more ≡ nat_lt 0 (length bytes))) }
+        ensures exact { IfOk result
+            (λ more. IfSome (beyond self.now (S.left source.old)) (λ bytes. more ≡ nat_lt 0 (length bytes))) }
         ensures ended { IfOk result (λ more. more ≡ false → S.ended source.new ≡ true) }
         ensures count { CountsReads result (S.faults source.old) (S.faults source.new) }
         ensures step { S.reads source.old source.new }

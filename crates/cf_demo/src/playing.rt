@@ -137,7 +137,8 @@ fn run<M: Matcher + Drop>(
     requires new { log_of played.old ≡ [] }
     requires open { finished_of played.old ≡ false }
     requires few { length names.now ≤ 8 }
-    ensures ran { IfOk result (λ outcome. HasRunOver watch (peers_of played.old) (names_in names.now) outcome (log_of played.new)) }
+    ensures ran { IfOk result
+        (λ outcome. HasRunOver watch (peers_of played.old) (names_in names.now) outcome (log_of played.new)) }
     ensures peers { map still (peers_of played.new) ≡ map still (peers_of played.old) }
     ensures finished { OnOk result (finished_of played.new ≡ true) }
     ensures keeps { keeps_of played.new ≡ keeps_of played.old }
@@ -222,12 +223,14 @@ fn prepare_session(
     Ok(watch)
 }
 
-/// Plays a demo: the client runs over three peers in memory. Peers 1 and 3 are on the chain of so many blocks that the seed tells, 1 to 499,998, and peer 2 is on that of two blocks
-/// more that the next seed tells. Peer 1 leaves the two scripts that are watched out of its filters, peer 2 is silent, and peer 3 is honest. At most 10,000,000 deliveries are
-/// taken. `played` is new, has no peers yet, and isn't finished.
+/// Plays a demo: the client runs over three peers in memory. Peers 1 and 3 are on the chain of so many blocks that the
+/// seed tells, 1 to 499,998, and peer 2 is on that of two blocks more that the next seed tells. Peer 1 leaves the two
+/// scripts that are watched out of its filters, peer 2 is silent, and peer 3 is honest. At most 10,000,000 deliveries
+/// are taken. `played` is new, has no peers yet, and isn't finished.
 ///
-/// `NoNonce` comes exactly at the lowest height at which no nonce serves: of the first chain, or of the second where the first can be made. `Clash` comes only where two different
-/// transactions of one of the chains have one hash. Where either comes nobody was dialled.
+/// `NoNonce` comes exactly at the lowest height at which no nonce serves: of the first chain, or of the second where
+/// the first can be made. `Clash` comes only where two different transactions of one of the chains have one hash. Where
+/// either comes nobody was dialled.
 pub fn play_demo<M: Matcher + Drop>(
     rt: &(impl Threads + Sync),
     alloc: Global,
@@ -245,7 +248,8 @@ pub fn play_demo<M: Matcher + Drop>(
     ensures peers { OnOk result (ArePlayed seed blocks (peers_of played.new)) }
     ensures finished { OnOk result (finished_of played.new ≡ true) }
     ensures err { IfErr result (λ why. IsUnplayed seed blocks why) }
-    ensures undialled { IfErr result (λ why. why ≢ Unplayed.NoMemory → (log_of played.new ≡ []) × (finished_of played.new ≡ false)) }
+    ensures undialled { IfErr result
+        (λ why. why ≢ Unplayed.NoMemory → (log_of played.new ≡ []) × (finished_of played.new ≡ false)) }
     ensures keeps { keeps_of played.new ≡ keeps_of played.old }
 {
     let watch = prepare_demo(rt, alloc, seed, blocks, played)?;
@@ -254,11 +258,12 @@ pub fn play_demo<M: Matcher + Drop>(
     Ok(tell(alloc, outcome)?)
 }
 
-/// Plays a session: the client runs over one peer in memory, an honest one on the chain of so many blocks that the seed tells, at most 500,000. It watches the scripts of a demo. The
-/// peers keep their log, so that they then give the lines of the session. At most 10,000,000 deliveries are taken. `played` is new, has no peers yet, and isn't finished.
+/// Plays a session: the client runs over one peer in memory, an honest one on the chain of so many blocks that the seed
+/// tells, at most 500,000. It watches the scripts of a demo. The peers keep their log, so that they then give the lines
+/// of the session. At most 10,000,000 deliveries are taken. `played` is new, has no peers yet, and isn't finished.
 ///
-/// `NoNonce` comes exactly at the lowest height at which no nonce serves. `Clash` comes only where two different transactions of the chain have one hash. Where either comes nobody
-/// was dialled.
+/// `NoNonce` comes exactly at the lowest height at which no nonce serves. `Clash` comes only where two different
+/// transactions of the chain have one hash. Where either comes nobody was dialled.
 pub fn play_session<M: Matcher + Drop>(
     rt: &(impl Threads + Sync),
     alloc: Global,
@@ -274,7 +279,8 @@ pub fn play_session<M: Matcher + Drop>(
     ensures ok { OnOk result (IsSession seed blocks (log_of played.new)) }
     ensures finished { OnOk result (finished_of played.new ≡ true) }
     ensures err { IfErr result (λ why. IsUnmade seed blocks why) }
-    ensures undialled { IfErr result (λ why. why ≢ Unplayed.NoMemory → (log_of played.new ≡ []) × (finished_of played.new ≡ false)) }
+    ensures undialled { IfErr result
+        (λ why. why ≢ Unplayed.NoMemory → (log_of played.new ≡ []) × (finished_of played.new ≡ false)) }
     ensures keeps { keeps_of played.new ≡ true }
 {
     played.keep_log();

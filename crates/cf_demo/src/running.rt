@@ -22,8 +22,9 @@ use cf_run::{End, Outcome, sync_over};
 use cf_scan::Watch;
 use std::alloc::Global;
 
-/// Follows the chains that new peers in memory show, as `sync_over` does. Each honest one of them that was dialled is an honest peer of the log, where no two of the strings that
-/// were hashed have one hash. The peers stay those that were added, whatever is answered, and each accounts for what it was told and answered.
+/// Follows the chains that new peers in memory show, as `sync_over` does. Each honest one of them that was dialled is
+/// an honest peer of the log, where no two of the strings that were hashed have one hash. The peers stay those that
+/// were added, whatever is answered, and each accounts for what it was told and answered.
 pub fn sync_played<H: HeaderStore + Drop, M: Matcher + Drop>(
     alloc: Global,
     played: &mut Played,
@@ -39,11 +40,13 @@ pub fn sync_played<H: HeaderStore + Drop, M: Matcher + Drop>(
     requires open { finished_of played.old ≡ false }
     requires few { length names.now ≤ 8 }
     requires empty { (q : ℕ) → H.chain store q ≡ None }
-    ensures followed { IfOk result (λ o. Followed (once watch) o.end o.height o.tip o.history o.trace.items (names_in names.now) (log_of played.new)) }
+    ensures followed { IfOk result (λ o. Followed (once watch) o.end o.height o.tip o.history o.trace.items
+        (names_in names.now) (log_of played.new)) }
     ensures ends { IfOk result (λ o. EndsTell o.ends.items (log_of played.new)) }
     ensures versions { IsOfWords (record { moment = moment; number = nonce }) (log_of played.new) }
     ensures theorem { IfOk result (λ o. SyncTheorem watch o.height o.tip o.history (log_of played.new)) }
-    ensures honest { OnOk result ((i : ℕ) (peer : Peer) → slice_get (peers_of played.old) i ≡ Some peer → peer.way ≡ Honest → i < length names.now
+    ensures honest { OnOk result ((i : ℕ) (peer : Peer)
+        → slice_get (peers_of played.old) i ≡ Some peer → peer.way ≡ Honest → i < length names.now
         → NoHashClash (IsHashed (log_of played.new) peer.blocks) → IsHonest (log_of played.new) (suc i) peer.blocks) }
     ensures accounts { Accounts (log_of played.new) (peers_of played.old) }
     ensures peers { map still (peers_of played.new) ≡ map still (peers_of played.old) }

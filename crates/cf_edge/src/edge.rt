@@ -14,8 +14,8 @@ use cf_wires::MemoryWires;
 use std::sync::Wait;
 use std::thread::Threads;
 
-/// What a call of the program may go over: peers over TCP, which `sync` dials; wires in memory, which a replay loads with its session; and peers in
-/// memory, which a demonstration makes.
+/// What a call of the program may go over: peers over TCP, which `sync` dials; wires in memory, which a replay loads
+/// with its session; and peers in memory, which a demonstration makes.
 #[derive(Drop)]
 pub struct Edge<R: Wait + Threads + Copy + Drop> {
     pub network: Network<R>,
@@ -24,8 +24,8 @@ pub struct Edge<R: Wait + Threads + Copy + Drop> {
 }
 
 impl<R: Wait + Threads + Copy + Drop + Send + 'static> Edge<R> {
-    /// All of it new. For each of so many peers a thread waits, and one for the ticker, or the spawner's count of refusals rose; where there are none no
-    /// thread is started.
+    /// All of it new. For each of so many peers a thread waits, and one for the ticker, or the spawner's count of
+    /// refusals rose; where there are none no thread is started.
     pub fn new<K: Spawner>(
         rt: &HostRuntime,
         handle: R,

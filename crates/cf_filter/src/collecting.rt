@@ -21,7 +21,8 @@ pub(crate) fn is_paid_item(script: &[u8]) -> bool
 
 // Puts copies of the scripts of some outputs at the end, of those that are items.
 fn put_paid(alloc: Global, scripts: &mut Vec<Vec<u8>>, outputs: &[TxOut]) -> Result<(), NoMemory>
-    ensures { OnOk result (texts scripts.new.items ≡ texts scripts.old.items ++ filter pays_item (map (λ o. o.script) outputs.now)) }
+    ensures { OnOk result
+        (texts scripts.new.items ≡ texts scripts.old.items ++ filter pays_item (map (λ o. o.script) outputs.now)) }
 {
     for output in outputs {
         let script = output.script.as_slice();

@@ -146,8 +146,8 @@ impl Framer {
     }
 }
 
-// The bytes before this place were given: the place where those that wait begin then is answered. The given ones are let
-// go once they are at least as many as those that wait, so each byte is moved at most once on average.
+// The bytes before this place were given: the place where those that wait begin then is answered. The given ones are
+// let go once they are at least as many as those that wait, so each byte is moved at most once on average.
 fn let_go(bytes: &mut Vec<u8>, start: usize) -> usize
     requires { start ≤ vec_len bytes.old }
     ensures same { drop result bytes.new.items ≡ drop start bytes.old.items }

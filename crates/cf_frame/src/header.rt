@@ -22,7 +22,9 @@ pub(crate) struct Header {
 #[tactic(auto, unfolding(crate::specs::Reading::header_at))]
 pub(crate) fn read_header(cut: &mut Cut) -> Result<Header, CutFault>
     ensures exact { Reads (λ h. h) (header_at cut.old) result cut.new }
-    ensures found { IfOk result (λ h. (cut.old ≡ h.magic ++ (h.command ++ (to_le_bytes w32 h.len ++ (h.checksum ++ cut.new)))) × (length h.command ≡ 12)) }
+    ensures found { IfOk result
+        (λ h. (cut.old ≡ h.magic ++ (h.command ++ (to_le_bytes w32 h.len ++ (h.checksum ++ cut.new))))
+        × (length h.command ≡ 12)) }
 {
     let magic = cut.array()?;
     let command = cut.array()?;
@@ -41,7 +43,8 @@ impl Header {
     #[tactic(auto, unfolding(crate::specs::Reading::header_fault))]
     pub(crate) fn fault(&self) -> Option<FrameFault>
         ensures exact { result ≡ header_fault self.now }
-        ensures good { IfNone result ((self.now.magic ≡ magic) × (is_command_of self.now.command ≡ true) × (self.now.len ≤ 4000000)) }
+        ensures good { IfNone result ((self.now.magic ≡ magic) × (is_command_of self.now.command ≡ true)
+            × (self.now.len ≤ 4000000)) }
     {
         if self.magic != MAGIC {
             return Some(FrameFault::Magic);

@@ -12,10 +12,14 @@ ghost use Rattle.cf_frame.specs.Stream.{with_frame};
 /// A fault is told exactly where the bytes are bad, and stays. Bytes in which no frame is whole are few.
 pub fn laws_of_frames()
     ensures again { (f : Frame) (more : List ℕ) → IsFrame f → front_of (spelling f ++ more) ≡ Ok (Some (f, more)) }
-    ensures only { (bytes : List ℕ) (f : Frame) (more : List ℕ) → IsBytes bytes → front_of bytes ≡ Ok (Some (f, more)) → Begins bytes f more }
-    ensures bad { (bytes : List ℕ) (fault : FrameFault) → IsBytes bytes → (front_of bytes ≡ Err fault) ↔ IsBad bytes fault }
-    ensures stays { (bytes more : List ℕ) (fault : FrameFault) → front_of bytes ≡ Err fault → front_of (bytes ++ more) ≡ Err fault }
-    ensures alone { (f g : Frame) (more : List ℕ) → IsFrame f → IsFrame g → spelling g ≡ spelling f ++ more → (g ≡ f) × (more ≡ []) }
+    ensures only { (bytes : List ℕ) (f : Frame) (more : List ℕ) → IsBytes bytes
+        → front_of bytes ≡ Ok (Some (f, more)) → Begins bytes f more }
+    ensures bad { (bytes : List ℕ) (fault : FrameFault) → IsBytes bytes
+        → (front_of bytes ≡ Err fault) ↔ IsBad bytes fault }
+    ensures stays { (bytes more : List ℕ) (fault : FrameFault) → front_of bytes ≡ Err fault
+        → front_of (bytes ++ more) ≡ Err fault }
+    ensures alone { (f g : Frame) (more : List ℕ) → IsFrame f → IsFrame g
+        → spelling g ≡ spelling f ++ more → (g ≡ f) × (more ≡ []) }
     ensures few { (bytes : List ℕ) → front_of bytes ≡ Ok None → length bytes < 4000024 }
 {}
 
@@ -23,11 +27,15 @@ pub fn laws_of_frames()
 /// What waits behind them is at fault exactly where it is bad.
 pub fn laws_of_streams()
     ensures step { (bytes : List ℕ) → read_stream bytes ≡ from_front read_stream bytes (front_of bytes) }
-    ensures again { (f : Frame) (more : List ℕ) → IsFrame f → read_stream (spelling f ++ more) ≡ with_frame f (read_stream more) }
+    ensures again { (f : Frame) (more : List ℕ) → IsFrame f
+        → read_stream (spelling f ++ more) ≡ with_frame f (read_stream more) }
     ensures joined { (fed more : List ℕ) → read_stream (fed ++ more) ≡ read_on (read_stream fed) more }
-    ensures whole { (bytes : List ℕ) → IsBytes bytes → IsStreamOf bytes (read_stream bytes).frames (read_stream bytes).rest }
-    ensures only { (bytes : List ℕ) (frames : List Frame) (rest : List ℕ) → IsBytes bytes → IsStreamOf bytes frames rest → ((read_stream bytes).frames ≡ frames) × ((read_stream bytes).rest ≡ rest) }
-    ensures bad { (bytes : List ℕ) (fault : FrameFault) → IsBytes bytes → ((read_stream bytes).fault ≡ Some fault) ↔ IsBad (read_stream bytes).rest fault }
+    ensures whole { (bytes : List ℕ) → IsBytes bytes
+        → IsStreamOf bytes (read_stream bytes).frames (read_stream bytes).rest }
+    ensures only { (bytes : List ℕ) (frames : List Frame) (rest : List ℕ) → IsBytes bytes → IsStreamOf bytes frames rest
+        → ((read_stream bytes).frames ≡ frames) × ((read_stream bytes).rest ≡ rest) }
+    ensures bad { (bytes : List ℕ) (fault : FrameFault) → IsBytes bytes
+        → ((read_stream bytes).fault ≡ Some fault) ↔ IsBad (read_stream bytes).rest fault }
 {}
 
 /// A piece of which bytes are taken up to the end of the frame that is being read. How many are taken is told. None are

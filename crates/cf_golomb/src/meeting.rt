@@ -36,7 +36,8 @@ fn begins_with(queries: &[u64], v: u64) -> bool
 fn any_value<B: BitSource>(source: &mut B, n: u64, queries: &[u64]) -> Result<bool, SetFault>
     requires few { n ≤ 33554432 }
     requires sorted { IsAscending 0 queries.now }
-    ensures { Gives (seen_by (hits queries.now) (values_at (n * 784931) n 0 (B.bits source.old))) result (B.bits source.new) }
+    ensures { Gives (seen_by (hits queries.now) (values_at (n * 784931) n 0 (B.bits source.old)))
+        result (B.bits source.new) }
 {
     let limit = n * 784_931;
     let mut rest = queries;

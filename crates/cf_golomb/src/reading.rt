@@ -13,7 +13,8 @@ use std::alloc::Global;
 
 // Ones at the front, counted up to 2 ^ 27.
 fn unary<B: BitSource>(source: &mut B) -> Option<u64>
-    ensures exact { MatchOption result (unary_from 0 (B.bits source.old) ≡ None) (λ q. unary_from 0 (B.bits source.old) ≡ Some (q, B.bits source.new)) }
+    ensures exact { MatchOption result (unary_from 0 (B.bits source.old) ≡ None)
+        (λ q. unary_from 0 (B.bits source.old) ≡ Some (q, B.bits source.new)) }
     ensures small { MatchOption result (Unit {0}) (λ q. q ≤ 134217728) }
 {
     let mut q = 0u64;

@@ -18,6 +18,7 @@ pub(crate) trait BitSource {
     /// The next k bits as a number.
     fn number(&mut self, k: u32) -> Option<u64>
         requires { k ≤ 32 }
-        ensures exact { MatchOption result (number_at k (bits self.old) ≡ None) (λ v. number_at k (bits self.old) ≡ Some (v, bits self.new)) }
+        ensures exact { MatchOption result (number_at k (bits self.old) ≡ None)
+            (λ v. number_at k (bits self.old) ≡ Some (v, bits self.new)) }
         ensures small { MatchOption result (Unit {0}) (λ v. v < 2 ^ k) };
 }

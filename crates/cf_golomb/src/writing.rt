@@ -101,7 +101,8 @@ fn joined(word: u64, n: u32, value: u64, k: u32) -> u64
 fn flush(out: &mut Vec<u8>, word: u64, n: u32) -> Result<u64, NoMemory>
     requires fits { n ≤ 40 }
     requires word { word < 2 ^ n }
-    ensures bits { IfOk result (λ w. unpack out.old.items ++ bits_of n word ≡ unpack out.new.items ++ bits_of (n % 8) w) }
+    ensures bits { IfOk result
+        (λ w. unpack out.old.items ++ bits_of n word ≡ unpack out.new.items ++ bits_of (n % 8) w) }
     ensures small { IfOk result (λ w. w < 2 ^ (n % 8)) }
 {
     let mut word = word;

@@ -104,14 +104,16 @@ impl Grown {
         Ok(())
     }
 
-    /// One step: the chain as it stands answers the message, and then the block that it brings is put on, where it may stand there.
-    /// It is refused where the chain hasn't the mark's hash at its height, and where no memory is found; after that nothing has changed.
+    /// One step: the chain as it stands answers the message, and then the block that it brings is put on, where it may
+    /// stand there. It is refused where the chain hasn't the mark's hash at its height, and where no memory is found;
+    /// after that nothing has changed.
     #[tactic(auto, using(crate::proofs::Marks::after_version))]
     pub fn take(&mut self, alloc: Global, mark: &mut Mark, msg: Msg) -> Result<Taken, TakeFail>
         requires { HasSpelling msg }
         ensures good { IsGoodChain self.old }
         ensures has { OnOk result (HasMark self.old mark.old) }
-        ensures answer { IfOk result (λ taken. texts_in taken.parts ≡ text_of (answer_at mark.old self.old msg).replies) }
+        ensures answer { IfOk result
+            (λ taken. texts_in taken.parts ≡ text_of (answer_at mark.old self.old msg).replies) }
         ensures mark { OnOk result (mark_of mark.new ≡ (answer_at mark.old self.old msg).mark) }
         ensures grown { OnOk result (self.new ≡ grown fits_on self.old mark.old.served.seen msg) }
         ensures joined { IfOk result (λ taken. taken.joined ≡ joined_in self.old self.new) }
@@ -146,9 +148,10 @@ fn height_above(before: u32, now: u32) -> Option<u32>
     if before < now { Some(now) } else { None }
 }
 
-/// One step under the lock: whatever others have put on the chain, the answer is that of a good chain on which the mark stands, and the height
-/// is told of a block that joins that chain. It is refused only by a good chain that hasn't the mark's hash at its height, with both hashes, and
-/// where no memory is found. The lock is let go with the return, and what is answered needs it no more.
+/// One step under the lock: whatever others have put on the chain, the answer is that of a good chain on which the mark
+/// stands, and the height is told of a block that joins that chain. It is refused only by a good chain that hasn't the
+/// mark's hash at its height, with both hashes, and where no memory is found. The lock is let go with the return, and
+/// what is answered needs it no more.
 pub fn take_locked<R: Wait>(
     rt: &R,
     alloc: Global,

@@ -128,7 +128,8 @@ fn hold_wants(alloc: Global, wants: Entries, out: &mut Parts) -> Result<(), NoMe
 fn hold_block(index: &Index, height: u32) -> Result<Held, NoMemory>
     requires good { IsGoodChain index.now }
     requires there { height ≤ length index.now }
-    ensures { IfOk result (λ part. text_in part ≡ spelling (frame_of (BlockMessage (slice_index_or (all_blocks index.now) height first_block)))) }
+    ensures { IfOk result (λ part. text_in part
+        ≡ spelling (frame_of (BlockMessage (slice_index_or (all_blocks index.now) height first_block)))) }
 {
     match index.shared(height) {
         None => unreachable!(),
@@ -162,7 +163,8 @@ fn hold_replies(
     out: &mut Parts,
 ) -> Result<(), NoMemory>
     requires { AreRepliesOf index.now replies.now }
-    ensures { OnOk result (texts_in out.new ≡ texts_in out.old ++ text_of (messages_of served.now index.now replies.now)) }
+    ensures { OnOk result
+        (texts_in out.new ≡ texts_in out.old ++ text_of (messages_of served.now index.now replies.now)) }
 {
     for reply in replies {
         let part = hold_reply(alloc, index, served, *reply)?;

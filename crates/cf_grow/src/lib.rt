@@ -1,4 +1,5 @@
-//! The serving machine of a chain that grows: it takes the blocks that its connections bring, and tells each of them of the new tip.
+//! The serving machine of a chain that grows: it takes the blocks that its connections bring, and tells each of them of
+//! the new tip.
 #![tactic(auto)]
 
 mod ending;

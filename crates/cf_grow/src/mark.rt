@@ -4,7 +4,8 @@ ghost use Rattle.std.specs.Prelude.{◌≡◌, false};
 use cf_bytes::Hash32;
 use cf_server::Served;
 
-/// What a connection is served by, and the height and the hash of the tip that it was told of last, which count once its `version` has come.
+/// What a connection is served by, and the height and the hash of the tip that it was told of last, which count once
+/// its `version` has come.
 #[derive(Clone, Copy, Debug, PartialEq, Eq)]
 pub struct Mark {
     pub(crate) served: Served,

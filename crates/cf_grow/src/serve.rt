@@ -50,7 +50,8 @@ fn tell<J: Joins>(joins: &J, height: Option<u32>) {
     }
 }
 
-// Reads a frame's message, takes one step under the lock, and writes what the message is answered with once the lock is let go.
+// Reads a frame's message, takes one step under the lock, and writes what the message is answered with once the lock is
+// let go.
 fn answer_frame<R: Wait, J: Joins, C: Duplex>(
     rt: &R,
     alloc: Global,
@@ -61,7 +62,8 @@ fn answer_frame<R: Wait, J: Joins, C: Duplex>(
     frame: &Frame,
 ) -> Result<(), Ending>
     requires { IsFrame frame.now }
-    ensures answers { AnswersFrame result mark.old.served.time mark.old.served.nonce (message_in frame.now) (mark_of mark.old) (mark_of mark.new) (C.written conn.old) (C.written conn.new) }
+    ensures answers { AnswersFrame result mark.old.served.time mark.old.served.nonce (message_in frame.now)
+        (mark_of mark.old) (mark_of mark.new) (C.written conn.old) (C.written conn.new) }
     ensures moment { HasMomentOf mark.old mark.new }
     ensures count { CountsSends result (C.Sink.faults conn.old) (C.Sink.faults conn.new) }
     ensures left { C.left conn.new ≡ C.left conn.old }
@@ -79,7 +81,8 @@ fn answer_frame<R: Wait, J: Joins, C: Duplex>(
     Ok(())
 }
 
-// What is kept of a connection: the bytes that wait for the rest of their frame, what it was told, and how many frames may still come.
+// What is kept of a connection: the bytes that wait for the rest of their frame, what it was told, and how many frames
+// may still come.
 #[derive(Drop)]
 struct Session {
     framer: Framer,
@@ -109,7 +112,9 @@ fn take_frames<R: Wait, J: Joins, C: Duplex>(
     session: &mut Session,
 ) -> Result<(), Ending>
     requires { 1 ≤ session.old.left }
-    ensures takes { TakesFrames result session.old.mark.served.time session.old.mark.served.nonce session.old.left session.new.left session.old.framer session.new.framer (mark_of session.old.mark) (mark_of session.new.mark) (C.written conn.old) (C.written conn.new) }
+    ensures takes { TakesFrames result session.old.mark.served.time session.old.mark.served.nonce session.old.left
+        session.new.left session.old.framer session.new.framer (mark_of session.old.mark) (mark_of session.new.mark)
+        (C.written conn.old) (C.written conn.new) }
     ensures moment { HasMomentOf session.old.mark session.new.mark }
     ensures idles { OnOk result (Idles session.old.left session.new.left session.old.framer session.new.framer) }
     ensures inside { IfErr result EndsInside }
@@ -139,9 +144,12 @@ fn take_piece<R: Wait, J: Joins, C: Duplex>(
     piece: &[u8],
 ) -> Result<(), Ending>
     requires { 1 ≤ session.old.left }
-    ensures takes { TakesFrames result session.old.mark.served.time session.old.mark.served.nonce session.old.left session.new.left (session.old.framer ++ piece.now) session.new.framer (mark_of session.old.mark) (mark_of session.new.mark) (C.written conn.old) (C.written conn.new) }
+    ensures takes { TakesFrames result session.old.mark.served.time session.old.mark.served.nonce session.old.left
+        session.new.left (session.old.framer ++ piece.now) session.new.framer (mark_of session.old.mark)
+        (mark_of session.new.mark) (C.written conn.old) (C.written conn.new) }
     ensures moment { HasMomentOf session.old.mark session.new.mark }
-    ensures idles { OnOk result (Idles session.old.left session.new.left (session.old.framer ++ piece.now) session.new.framer) }
+    ensures idles { OnOk result
+        (Idles session.old.left session.new.left (session.old.framer ++ piece.now) session.new.framer) }
     ensures inside { IfErr result EndsInside }
     ensures count { CountsSends result (C.Sink.faults conn.old) (C.Sink.faults conn.new) }
     ensures left { C.left conn.new ≡ C.left conn.old }
@@ -154,9 +162,10 @@ fn take_piece<R: Wait, J: Joins, C: Duplex>(
     }
 }
 
-/// Serves a connection from a chain that grows: message by message the answer is that of a good chain on which the mark stands that the message
-/// before has left. It ends as from a chain that stands still, or where the chain is another than was told, with the hash told and the one there.
-/// Nothing is written while the lock is held. Each block that joins is told of, once the lock is let go.
+/// Serves a connection from a chain that grows: message by message the answer is that of a good chain on which the mark
+/// stands that the message before has left. It ends as from a chain that stands still, or where the chain is another
+/// than was told, with the hash told and the one there. Nothing is written while the lock is held. Each block that
+/// joins is told of, once the lock is let go.
 pub fn serve_grown<R: Wait, J: Joins, C: Duplex>(
     rt: &R,
     alloc: Global,
@@ -166,9 +175,11 @@ pub fn serve_grown<R: Wait, J: Joins, C: Duplex>(
     now: i64,
     nonce: u64,
 ) -> Ending
-    ensures served { IfSome (C.left conn.old) (λ bytes. IsServedGrowing now nonce result bytes (C.left conn.new) (C.written conn.old) (C.written conn.new)) }
+    ensures served { IfSome (C.left conn.old)
+        (λ bytes. IsServedGrowing now nonce result bytes (C.left conn.new) (C.written conn.old) (C.written conn.new)) }
     ensures ends { EndsOf result (C.ended conn.new) (C.left conn.new) }
-    ensures counts { CountsOf result (C.Source.faults conn.old) (C.Source.faults conn.new) (C.Sink.faults conn.old) (C.Sink.faults conn.new) }
+    ensures counts { CountsOf result (C.Source.faults conn.old) (C.Source.faults conn.new) (C.Sink.faults conn.old)
+        (C.Sink.faults conn.new) }
 {
     let mut session = Session {
         framer: Framer::new(alloc),

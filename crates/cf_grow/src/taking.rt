@@ -130,8 +130,9 @@ fn move_mark(index: &Index, mark: &mut Mark, served: Served)
     mark.served = served;
 }
 
-/// Answers a message by the chain that the index holds, the tip first where the connection wasn't told of it, and moves the mark.
-/// It is refused exactly where the chain hasn't the mark's hash at its height. After a refusal the mark is unchanged.
+/// Answers a message by the chain that the index holds, the tip first where the connection wasn't told of it, and moves
+/// the mark. It is refused exactly where the chain hasn't the mark's hash at its height. After a refusal the mark is
+/// unchanged.
 #[tactic(auto, using(crate::proofs::Marks::answer_is, crate::proofs::Marks::mark_moved))]
 pub(crate) fn take_at(
     alloc: Global,
@@ -140,7 +141,8 @@ pub(crate) fn take_at(
     msg: &Msg,
 ) -> Result<Answer, TakeFail>
     ensures has { OnOk result (HasMark index.now mark.old) }
-    ensures answer { IfOk result (λ a. IsAnswerOf mark.old.served index.now a (answer_at mark.old index.now msg.now).replies) }
+    ensures answer { IfOk result
+        (λ a. IsAnswerOf mark.old.served index.now a (answer_at mark.old index.now msg.now).replies) }
     ensures wants { IfOk result (λ a. a.wants ≡ wanted index.now mark.old.served.seen msg.now) }
     ensures mark { OnOk result (mark_of mark.new ≡ (answer_at mark.old index.now msg.now).mark) }
     ensures moment { HasMomentOf mark.old mark.new }

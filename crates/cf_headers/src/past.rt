@@ -9,8 +9,8 @@ use std::marker::Model;
 /// Of how many headers the times count.
 pub const SPAN: usize = 11;
 
-/// The times of the last 11 headers of a chain, or of all from genesis on where they are fewer, the newest first: those that
-/// count for a header on it. No memory is taken.
+/// The times of the last 11 headers of a chain, or of all from genesis on where they are fewer, the newest first: those
+/// that count for a header on it. No memory is taken.
 #[derive(Drop)]
 pub struct Past {
     times: [u32; SPAN],

@@ -73,8 +73,8 @@ impl Hashing for Standing<'_> {
     }
 }
 
-/// Judges headers, each on the one before it, and the first on one with this hash, where these times count for it. Nodes of
-/// these names may have them: where one does, its header is compared and not hashed.
+/// Judges headers, each on the one before it, and the first on one with this hash, where these times count for it.
+/// Nodes of these names may have them: where one does, its header is compared and not hashed.
 pub(crate) fn check_standing(
     alloc: Global,
     pool: &Pool,

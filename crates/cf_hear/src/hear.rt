@@ -46,14 +46,16 @@ fn hear_headers<H: HeaderStore>(
 ) -> Result<Reply, NoMemory>
     requires entered { IsSome (chains_of tracker.old p.0) }
     requires right { IsRight peer.old.request (claims_of tracker.old p.0) }
-    ensures heard { IfOk result (λ r. (t : Trail) → Holds peer.old t → Follows (seen_of tracker.old) p.0 t → HearsSeen (seen_of tracker.old) (seen_of tracker.new) p peer.new (Headers headers.now) t r) }
+    ensures heard { IfOk result (λ r. (t : Trail) → Holds peer.old t → Follows (seen_of tracker.old) p.0 t
+        → HearsSeen (seen_of tracker.old) (seen_of tracker.new) p peer.new (Headers headers.now) t r) }
     ensures exposes { IfOk result (λ r. (t : Trail) → Holds peer.old t → Follows (seen_of tracker.old) p.0 t
         → IsUnexposed (seen_of tracker.old) → Exposes (seen_of tracker.new) p.0 r) }
     ensures sendable { IfOk result IsReplySendable }
     ensures entered { OnOk result (IsSome (chains_of tracker.new p.0)) }
     ensures right { OnOk result (IsRight peer.new.request (claims_of tracker.new p.0)) }
     ensures others { OnOk result ((q : ℕ) → q ≢ p.0 → chains_of tracker.new q ≡ chains_of tracker.old q) }
-    ensures claims { OnOk result ((q : ℕ) → q ≢ p.0 → (block : List ℕ) → claims_of tracker.new q block ≡ claims_of tracker.old q block) }
+    ensures claims { OnOk result ((q : ℕ) → q ≢ p.0 → (block : List ℕ)
+        → claims_of tracker.new q block ≡ claims_of tracker.old q block) }
     ensures watch { OnOk result (watch_of tracker.new ≡ watch_of tracker.old) }
     ensures verdicts { OnOk result (AreSameVerdicts (verdicts_of tracker.new) (verdicts_of tracker.old)) }
     ensures waits { peer.new.framer ≡ peer.old.framer }
@@ -79,13 +81,15 @@ fn hear_block<H: HeaderStore>(
 ) -> Result<Reply, NoMemory>
     requires entered { IsSome (chains_of tracker.old p.0) }
     requires right { IsRight peer.old.request (claims_of tracker.old p.0) }
-    ensures heard { IfOk result (λ r. (t : Trail) → Holds peer.old t → Follows (seen_of tracker.old) p.0 t → HearsSeen (seen_of tracker.old) (seen_of tracker.new) p peer.new (BlockMessage block.now) t r) }
+    ensures heard { IfOk result (λ r. (t : Trail) → Holds peer.old t → Follows (seen_of tracker.old) p.0 t
+        → HearsSeen (seen_of tracker.old) (seen_of tracker.new) p peer.new (BlockMessage block.now) t r) }
     ensures exposes { IfOk result (λ r. (t : Trail) → Holds peer.old t → Follows (seen_of tracker.old) p.0 t
         → IsUnexposed (seen_of tracker.old) → Exposes (seen_of tracker.new) p.0 r) }
     ensures sendable { IfOk result IsReplySendable }
     ensures right { OnOk result (IsRight peer.new.request (claims_of tracker.new p.0)) }
     ensures chains { OnOk result ((q : ℕ) → chains_of tracker.new q ≡ chains_of tracker.old q) }
-    ensures claims { OnOk result ((q : ℕ) → q ≢ p.0 → (block : List ℕ) → claims_of tracker.new q block ≡ claims_of tracker.old q block) }
+    ensures claims { OnOk result ((q : ℕ) → q ≢ p.0 → (block : List ℕ)
+        → claims_of tracker.new q block ≡ claims_of tracker.old q block) }
     ensures watch { OnOk result (watch_of tracker.new ≡ watch_of tracker.old) }
     ensures verdicts { OnOk result (AreSameVerdicts (verdicts_of tracker.new) (verdicts_of tracker.old)) }
     ensures waits { peer.new.framer ≡ peer.old.framer }
@@ -107,8 +111,8 @@ fn hear_block<H: HeaderStore>(
     Ok(Reply::Nothing)
 }
 
-// The reply to what a peer said of blocks: it is exposed by the first of which it claims a filter that was found to lack
-// what the block pays.
+// The reply to what a peer said of blocks: it is exposed by the first of which it claims a filter that was found to
+// lack what the block pays.
 fn reply_after<H: HeaderStore>(tracker: &Tracker<H>, p: PeerNo, blocks: &[Hash32]) -> Reply
     ensures sendable { IsReplySendable result }
     ensures exposed { ExposesAmong (seen_of tracker.now) p.0 (blocks_of blocks.now) result }
@@ -132,13 +136,16 @@ fn hear_claims<H: HeaderStore>(
     requires low { p.0 ≤ 8 }
     requires entered { IsSome (chains_of tracker.old p.0) }
     requires right { IsRight peer.old.request (claims_of tracker.old p.0) }
-    ensures heard { IfOk result (λ r. (t : Trail) → Holds peer.old t → Follows (seen_of tracker.old) p.0 t → HearsSeen (seen_of tracker.old) (seen_of tracker.new) p peer.new (Cfheaders filter stop.now previous.now hashes.now) t r) }
+    ensures heard { IfOk result (λ r. (t : Trail) → Holds peer.old t → Follows (seen_of tracker.old) p.0 t
+        → HearsSeen (seen_of tracker.old)
+        (seen_of tracker.new) p peer.new (Cfheaders filter stop.now previous.now hashes.now) t r) }
     ensures exposes { IfOk result (λ r. (t : Trail) → Holds peer.old t → Follows (seen_of tracker.old) p.0 t
         → IsUnexposed (seen_of tracker.old) → Exposes (seen_of tracker.new) p.0 r) }
     ensures sendable { IfOk result IsReplySendable }
     ensures right { OnOk result (IsRight peer.new.request (claims_of tracker.new p.0)) }
     ensures chains { OnOk result ((q : ℕ) → chains_of tracker.new q ≡ chains_of tracker.old q) }
-    ensures claims { OnOk result ((q : ℕ) → q ≢ p.0 → (block : List ℕ) → claims_of tracker.new q block ≡ claims_of tracker.old q block) }
+    ensures claims { OnOk result ((q : ℕ) → q ≢ p.0 → (block : List ℕ)
+        → claims_of tracker.new q block ≡ claims_of tracker.old q block) }
     ensures watch { OnOk result (watch_of tracker.new ≡ watch_of tracker.old) }
     ensures verdicts { OnOk result (AreSameVerdicts (verdicts_of tracker.new) (verdicts_of tracker.old)) }
     ensures waits { peer.new.framer ≡ peer.old.framer }
@@ -214,8 +221,8 @@ fn judge_given<H: HeaderStore, M: Matcher>(
     Ok(())
 }
 
-// Takes filters that a peer gave. Where it was asked for them so that they are tested they are only tested; else they are
-// judged, and not tested.
+// Takes filters that a peer gave. Where it was asked for them so that they are tested they are only tested; else they
+// are judged, and not tested.
 fn take_given<H: HeaderStore, M: Matcher>(
     tracker: &mut Tracker<H>,
     matcher: &mut M,
@@ -257,13 +264,15 @@ fn hear_filter<H: HeaderStore, M: Matcher>(
 ) -> Result<Reply, NoMemory>
     requires entered { IsSome (chains_of tracker.old p.0) }
     requires right { IsRight peer.old.request (claims_of tracker.old p.0) }
-    ensures heard { IfOk result (λ r. (t : Trail) → Holds peer.old t → Follows (seen_of tracker.old) p.0 t → HearsSeen (seen_of tracker.old) (seen_of tracker.new) p peer.new (Cfilter filter block.now bytes.now) t r) }
+    ensures heard { IfOk result (λ r. (t : Trail) → Holds peer.old t → Follows (seen_of tracker.old) p.0 t
+        → HearsSeen (seen_of tracker.old) (seen_of tracker.new) p peer.new (Cfilter filter block.now bytes.now) t r) }
     ensures exposes { IfOk result (λ r. (t : Trail) → Holds peer.old t → Follows (seen_of tracker.old) p.0 t
         → IsUnexposed (seen_of tracker.old) → Exposes (seen_of tracker.new) p.0 r) }
     ensures sendable { IfOk result IsReplySendable }
     ensures right { OnOk result (IsRight peer.new.request (claims_of tracker.new p.0)) }
     ensures chains { OnOk result ((q : ℕ) → chains_of tracker.new q ≡ chains_of tracker.old q) }
-    ensures claims { OnOk result ((q : ℕ) → q ≢ p.0 → (block : List ℕ) → claims_of tracker.new q block ≡ claims_of tracker.old q block) }
+    ensures claims { OnOk result ((q : ℕ) → q ≢ p.0 → (block : List ℕ)
+        → claims_of tracker.new q block ≡ claims_of tracker.old q block) }
     ensures watch { OnOk result (watch_of tracker.new ≡ watch_of tracker.old) }
     ensures judged { OnOk result (IsJudgedBy M.judges (watch_of tracker.old)
         (judging_of tracker.old matcher.old) (judging_of tracker.new matcher.new)) }
@@ -320,11 +329,13 @@ fn hear_inv<H: HeaderStore>(
     entries: EntriesView,
 ) -> Reply
     requires { IsSome (chains_of tracker.now p.0) }
-    ensures heard { (t : Trail) → Holds peer.old t → Follows (seen_of tracker.now) p.0 t → HearsSeen (seen_of tracker.now) (seen_of tracker.now) p peer.new (Inv entries.entry) t result }
+    ensures heard { (t : Trail) → Holds peer.old t → Follows (seen_of tracker.now) p.0 t
+        → HearsSeen (seen_of tracker.now) (seen_of tracker.now) p peer.new (Inv entries.entry) t result }
     ensures exposes { (t : Trail) → Holds peer.old t → Follows (seen_of tracker.now) p.0 t
         → IsUnexposed (seen_of tracker.now) → Exposes (seen_of tracker.now) p.0 result }
     ensures sendable { IsReplySendable result }
-    ensures right { IsRight peer.old.request (claims_of tracker.now p.0) → IsRight peer.new.request (claims_of tracker.now p.0) }
+    ensures right { IsRight peer.old.request (claims_of tracker.now p.0)
+        → IsRight peer.new.request (claims_of tracker.now p.0) }
     ensures waits { peer.new.framer ≡ peer.old.framer }
     ensures calm { calm peer.old ≡ true → calm peer.new ≡ true }
 {
@@ -352,7 +363,8 @@ fn hear<H: HeaderStore, M: Matcher>(
     ensures entered { OnOk result (IsSome (chains_of tracker.new p.0)) }
     ensures right { OnOk result (IsRight peer.new.request (claims_of tracker.new p.0)) }
     ensures others { OnOk result ((q : ℕ) → q ≢ p.0 → chains_of tracker.new q ≡ chains_of tracker.old q) }
-    ensures claims { OnOk result ((q : ℕ) → q ≢ p.0 → (block : List ℕ) → claims_of tracker.new q block ≡ claims_of tracker.old q block) }
+    ensures claims { OnOk result ((q : ℕ) → q ≢ p.0 → (block : List ℕ)
+        → claims_of tracker.new q block ≡ claims_of tracker.old q block) }
     ensures watch { OnOk result (watch_of tracker.new ≡ watch_of tracker.old) }
     ensures judged { OnOk result (IsJudgedBy M.judges (watch_of tracker.old)
         (judging_of tracker.old matcher.old) (judging_of tracker.new matcher.new)) }
@@ -447,7 +459,8 @@ fn hear_next<H: HeaderStore, M: Matcher>(
     ensures entered { OnOk result (IsSome (chains_of tracker.new p.0)) }
     ensures right { OnOk result (IsRight peer.new.request (claims_of tracker.new p.0)) }
     ensures others { OnOk result ((q : ℕ) → q ≢ p.0 → chains_of tracker.new q ≡ chains_of tracker.old q) }
-    ensures claims { OnOk result ((q : ℕ) → q ≢ p.0 → (block : List ℕ) → claims_of tracker.new q block ≡ claims_of tracker.old q block) }
+    ensures claims { OnOk result ((q : ℕ) → q ≢ p.0 → (block : List ℕ)
+        → claims_of tracker.new q block ≡ claims_of tracker.old q block) }
     ensures watch { OnOk result (watch_of tracker.new ≡ watch_of tracker.old) }
     ensures judged { OnOk result (IsJudgedBy M.judges (watch_of tracker.old)
         (judging_of tracker.old matcher.old) (judging_of tracker.new matcher.new)) }
@@ -484,12 +497,14 @@ fn hear_frames<H: HeaderStore, M: Matcher>(
         → HeardPiece p (record peer.new { framer = framer.new }) (seen_of tracker.old) (seen_of tracker.new)
         acts.old.items acts.new.items part (heard_part piece.now part) o) }
     ensures exposes { IfOk result (λ o. (part : Part) → Holds peer.old part.trail → framer.old ≡ part.waits
-        → Follows (seen_of tracker.old) p.0 part.trail → IsUnexposed (seen_of tracker.old) → ExposesLast (seen_of tracker.new) p.0 o) }
+        → Follows (seen_of tracker.old) p.0 part.trail → IsUnexposed (seen_of tracker.old)
+        → ExposesLast (seen_of tracker.new) p.0 o) }
     ensures doable { OnOk result (p.0 < 9 → All IsDoable acts.old.items → All IsDoable acts.new.items) }
     ensures entered { OnOk result (IsSome (chains_of tracker.new p.0)) }
     ensures right { OnOk result (IsRight peer.new.request (claims_of tracker.new p.0)) }
     ensures others { OnOk result ((q : ℕ) → q ≢ p.0 → chains_of tracker.new q ≡ chains_of tracker.old q) }
-    ensures claims { OnOk result ((q : ℕ) → q ≢ p.0 → (block : List ℕ) → claims_of tracker.new q block ≡ claims_of tracker.old q block) }
+    ensures claims { OnOk result ((q : ℕ) → q ≢ p.0 → (block : List ℕ)
+        → claims_of tracker.new q block ≡ claims_of tracker.old q block) }
     ensures watch { OnOk result (watch_of tracker.new ≡ watch_of tracker.old) }
     ensures judged { OnOk result (AreJudgedBy M.judges (watch_of tracker.old)
         (judging_of tracker.old matcher.old) (judging_of tracker.new matcher.new)) }
@@ -509,8 +524,8 @@ fn hear_frames<H: HeaderStore, M: Matcher>(
     Ok(None)
 }
 
-/// Takes a piece of a tracked peer's bytes, up to the first frame that deserves a cause or exposes the peer, and adds the
-/// replies that are owed to its messages to the acts. Filters are judged by this matcher alone.
+/// Takes a piece of a tracked peer's bytes, up to the first frame that deserves a cause or exposes the peer, and adds
+/// the replies that are owed to its messages to the acts. Filters are judged by this matcher alone.
 pub fn hear_piece<H: HeaderStore, M: Matcher>(
     alloc: Global,
     tracker: &mut Tracker<H>,
@@ -523,14 +538,18 @@ pub fn hear_piece<H: HeaderStore, M: Matcher>(
     requires low { p.0 ≤ 8 }
     requires entered { IsSome (chains_of tracker.old p.0) }
     requires right { IsRight peer.old.request (claims_of tracker.old p.0) }
-    ensures heard { IfOk result (λ o. (part : Part) → Holds peer.old part.trail → peer.old.framer ≡ part.waits → Follows (seen_of tracker.old) p.0 part.trail → HeardPiece p peer.new (seen_of tracker.old) (seen_of tracker.new) acts.old.items acts.new.items part (heard_part piece.now part) o) }
+    ensures heard { IfOk result (λ o. (part : Part) → Holds peer.old part.trail → peer.old.framer ≡ part.waits
+        → Follows (seen_of tracker.old) p.0 part.trail → HeardPiece p peer.new (seen_of tracker.old)
+        (seen_of tracker.new) acts.old.items acts.new.items part (heard_part piece.now part) o) }
     ensures exposes { IfOk result (λ o. (part : Part) → Holds peer.old part.trail → peer.old.framer ≡ part.waits
-        → Follows (seen_of tracker.old) p.0 part.trail → IsUnexposed (seen_of tracker.old) → ExposesLast (seen_of tracker.new) p.0 o) }
+        → Follows (seen_of tracker.old) p.0 part.trail → IsUnexposed (seen_of tracker.old)
+        → ExposesLast (seen_of tracker.new) p.0 o) }
     ensures doable { OnOk result (p.0 < 9 → All IsDoable acts.old.items → All IsDoable acts.new.items) }
     ensures entered { OnOk result (IsSome (chains_of tracker.new p.0)) }
     ensures right { OnOk result (IsRight peer.new.request (claims_of tracker.new p.0)) }
     ensures others { OnOk result ((q : ℕ) → q ≢ p.0 → chains_of tracker.new q ≡ chains_of tracker.old q) }
-    ensures claims { OnOk result ((q : ℕ) → q ≢ p.0 → (block : List ℕ) → claims_of tracker.new q block ≡ claims_of tracker.old q block) }
+    ensures claims { OnOk result ((q : ℕ) → q ≢ p.0 → (block : List ℕ)
+        → claims_of tracker.new q block ≡ claims_of tracker.old q block) }
     ensures watch { OnOk result (watch_of tracker.new ≡ watch_of tracker.old) }
     ensures judged { OnOk result (AreJudgedBy M.judges (watch_of tracker.old)
         (judging_of tracker.old matcher.old) (judging_of tracker.new matcher.new)) }

@@ -7,6 +7,7 @@ use cf_seek::Exposure;
 pub enum Stop {
     /// A frame deserves this cause.
     Fault(Cause),
-    /// A message exposes the peer: it claims this filter of a block, which was found to be none or to lack an output's script.
+    /// A message exposes the peer: it claims this filter of a block, which was found to be none or to lack an output's
+    /// script.
     Exposed(Exposure),
 }

@@ -11,7 +11,8 @@ use std::alloc::Global;
 /// The most deliveries that one step takes.
 pub(crate) const MOST: u32 = 100_000;
 
-/// Wires with the lines of what passed them: one for each dial, and one for each delivery and each failed send, as a session has them.
+/// Wires with the lines of what passed them: one for each dial, and one for each delivery and each failed send, as a
+/// session has them.
 #[derive(Drop)]
 pub(crate) struct Course<W: Wires + Joins + Drop> {
     alloc: Global,
@@ -159,7 +160,8 @@ impl<W: Wires + Joins + Drop> Course<W> {
         put_bytes(self.alloc, self.guide.dials(), self.lines.as_str(), out)
     }
 
-    /// Puts behind a text of each peer whether its pieces are the first of what its name tells, and how many pieces came.
+    /// Puts behind a text of each peer whether its pieces are the first of what its name tells, and how many pieces
+    /// came.
     pub(crate) fn put_firsts(&self, out: &mut String) -> Option<()> {
         put_firsts(self.alloc, self.dials.as_str(), self.lines.as_str(), out)
     }

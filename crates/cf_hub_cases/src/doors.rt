@@ -67,7 +67,8 @@ pub(crate) fn stands_at(rt: &HostRuntime, count: &Count, wanted: u32) -> bool {
     count.load(Ordering::SeqCst) == wanted
 }
 
-/// Is open once a count is as high as it wants. One that enters counts itself before it waits. Passing it takes no memory.
+/// Is open once a count is as high as it wants. One that enters counts itself before it waits. Passing it takes no
+/// memory.
 #[derive(Drop)]
 pub(crate) struct Door {
     pub(crate) rt: HostRuntime,

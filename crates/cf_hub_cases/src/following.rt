@@ -46,7 +46,8 @@ fn followed<R: Wait + Threads + Sync + Copy + Drop + Send + 'static, K: Spawner>
     shown(alloc, &status, out.bytes())
 }
 
-/// How calls end that dial this port, one after another, and what each writes. They are parted by `;`, and the files that one writes are there for the next.
+/// How calls end that dial this port, one after another, and what each writes. They are parted by `;`, and the files
+/// that one writes are there for the next.
 pub(crate) fn follow<R: Wait + Threads + Sync + Copy + Drop + Send + 'static>(
     rt: HostRuntime,
     handle: R,

@@ -1,4 +1,5 @@
-//! A peer that is heard over a hub whose outside tells all that it gives. What comes of it is proved to be what it gave.
+//! A peer that is heard over a hub whose outside tells all that it gives. What comes of it is proved to be what it
+//! gave.
 ghost use Rattle.std.specs.Prelude.{◌≡◌, ℕ, ◌++◌, ◌∷◌, ◌||◌, List, [], true, false, IfSome, Some, map};
 ghost use Rattle.cf_hub.specs.Book.{told_of};
 ghost use Rattle.cf_hub.specs.Finish.{begun, pulse_in};
@@ -118,10 +119,13 @@ fn take_until<R: Wait + Threads + Copy + Drop>(
 fn begin<R: Wait + Threads + Copy + Drop>(hub: &mut ToldHub<R>, name: &str) -> Option<()>
     requires new { Tells [] (told_of hub.old.book) }
     requires idle { hub.old.reading.items ≡ [] }
-    ensures keeps { IfSome result (λ _. Keeps (told_of hub.new.book) (record { bytes = []; gone = false; ticks = [] })) }
+    ensures keeps { IfSome result
+        (λ _. Keeps (told_of hub.new.book) (record { bytes = []; gone = false; ticks = [] })) }
     ensures finished { IfSome result (λ _. (told_of hub.new.book).finished ≡ (told_of hub.old.book).finished) }
-    ensures reads { IfSome result (λ _. (s : ToldSource) × (map begun hub.new.reading.items ≡ (1, s) ∷ []) × (s.conn.source.rest ≡ hub.old.dialer.peer.bytes.items)) }
-    ensures beats { (p : ToldPulse R) → pulse_in (λ c. c.pulse) hub.old.clock ≡ Some p → IfSome result (λ _. pulse_in (λ t. t.pulse) hub.new.ticking ≡ Some p) }
+    ensures reads { IfSome result (λ _. (s : ToldSource) × (map begun hub.new.reading.items ≡ (1, s) ∷ [])
+        × (s.conn.source.rest ≡ hub.old.dialer.peer.bytes.items)) }
+    ensures beats { (p : ToldPulse R) → pulse_in (λ c. c.pulse) hub.old.clock ≡ Some p
+        → IfSome result (λ _. pulse_in (λ t. t.pulse) hub.new.ticking ≡ Some p) }
     ensures text { IfSome result (λ _. HasText hub.new.writers.items []) }
 {
     hub.keep_log();
@@ -134,7 +138,8 @@ fn begin<R: Wait + Threads + Copy + Drop>(hub: &mut ToldHub<R>, name: &str) -> O
 // Sends the first peer these bytes. `None` where that fails.
 fn say<R: Wait + Threads + Copy + Drop>(hub: &mut ToldHub<R>, bytes: &[u8]) -> Option<()>
     requires { HasText hub.old.writers.items [] }
-    ensures keeps { (c : Coming) → Keeps (told_of hub.old.book) c → IfSome result (λ _. Keeps (told_of hub.new.book) c) }
+    ensures keeps { (c : Coming) → Keeps (told_of hub.old.book) c
+        → IfSome result (λ _. Keeps (told_of hub.new.book) c) }
     ensures finished { IfSome result (λ _. (told_of hub.new.book).finished ≡ (told_of hub.old.book).finished) }
     ensures reading { hub.new.reading ≡ hub.old.reading }
     ensures ticking { hub.new.ticking ≡ hub.old.ticking }
@@ -146,22 +151,25 @@ fn say<R: Wait + Threads + Copy + Drop>(hub: &mut ToldHub<R>, bytes: &[u8]) -> O
     }
 }
 
-// Finishes a hub, and looks at what was joined: what came is the first of what the source held, all of it where the peer has gone, and the
-// first of what the pulse told. What was written to the peer stays.
+// Finishes a hub, and looks at what was joined: what came is the first of what the source held, all of it where the
+// peer has gone, and the first of what the pulse told. What was written to the peer stays.
 fn end<R: Wait + Threads + Copy + Drop>(hub: &mut ToldHub<R>, came: &Came)
     requires running { (told_of hub.old.book).finished ≡ false }
     requires keeps { Keeps (told_of hub.old.book) came.now }
-    ensures first { (s : ToldSource) → map begun hub.old.reading.items ≡ (1, s) ∷ [] → IsStart came.now.bytes s.conn.source.rest }
-    ensures whole { (s : ToldSource) → map begun hub.old.reading.items ≡ (1, s) ∷ [] → came.now.gone ≡ true → came.now.bytes ≡ s.conn.source.rest }
-    ensures ticks { (p : ToldPulse R) → pulse_in (λ t. t.pulse) hub.old.ticking ≡ Some p → p.given ≡ 0 → (n : ℕ) × IsStart came.now.ticks (up_to n) }
+    ensures first { (s : ToldSource) → map begun hub.old.reading.items ≡ (1, s) ∷ []
+        → IsStart came.now.bytes s.conn.source.rest }
+    ensures whole { (s : ToldSource) → map begun hub.old.reading.items ≡ (1, s) ∷ [] → came.now.gone ≡ true
+        → came.now.bytes ≡ s.conn.source.rest }
+    ensures ticks { (p : ToldPulse R) → pulse_in (λ t. t.pulse) hub.old.ticking ≡ Some p → p.given ≡ 0
+        → (n : ℕ) × IsStart came.now.ticks (up_to n) }
     ensures text { (bytes : List ℕ) → HasText hub.old.writers.items bytes → HasText hub.new.writers.items bytes }
 {
     hub.finish();
     hub.account();
 }
 
-// Hears the first peer to its end: so many seconds, then it is sent these bytes, and then what it gives. `None` where it doesn't answer, and
-// for want of memory.
+// Hears the first peer to its end: so many seconds, then it is sent these bytes, and then what it gives. `None` where
+// it doesn't answer, and for want of memory.
 fn hear<R: Wait + Threads + Copy + Drop>(
     hub: &mut ToldHub<R>,
     came: &mut Came,
@@ -174,7 +182,8 @@ fn hear<R: Wait + Threads + Copy + Drop>(
     requires nothing { came.old ≡ record { bytes = []; gone = false; ticks = [] } }
     ensures first { IfSome result (λ _. IsStart came.new.bytes hub.old.dialer.peer.bytes.items) }
     ensures whole { IfSome result (λ _. came.new.gone ≡ true → came.new.bytes ≡ hub.old.dialer.peer.bytes.items) }
-    ensures ticks { (p : ToldPulse R) → pulse_in (λ c. c.pulse) hub.old.clock ≡ Some p → p.given ≡ 0 → IfSome result (λ _. (n : ℕ) × IsStart came.new.ticks (up_to n)) }
+    ensures ticks { (p : ToldPulse R) → pulse_in (λ c. c.pulse) hub.old.clock ≡ Some p → p.given ≡ 0
+        → IfSome result (λ _. (n : ℕ) × IsStart came.new.ticks (up_to n)) }
     ensures said { IfSome result (λ _. HasText hub.new.writers.items said.now) }
 {
     begin(hub, "peer")?;
@@ -185,8 +194,9 @@ fn hear<R: Wait + Threads + Copy + Drop>(
     Some(())
 }
 
-/// What comes over a hub of one peer, to which these bytes are sent once so many seconds have come. It is the first of the peer's bytes, and all of
-/// them where it has gone; the seconds are 1, 2 and so on. `None` where no thread starts, and for want of memory.
+/// What comes over a hub of one peer, to which these bytes are sent once so many seconds have come. It is the first of
+/// the peer's bytes, and all of them where it has gone; the seconds are 1, 2 and so on. `None` where no thread starts,
+/// and for want of memory.
 pub(crate) fn heard<R: Wait + Threads + Copy + Drop + Send + 'static>(
     rt: HostRuntime,
     handle: R,
@@ -251,7 +261,8 @@ fn text_of(alloc: Global, came: &Came, ticks: usize, counts: &ToldCounts) -> Opt
     Some(out)
 }
 
-/// What comes over a hub of the peer of a row: the first so many seconds, its bytes, whether it has gone, and how much was written to it.
+/// What comes over a hub of the peer of a row: the first so many seconds, its bytes, whether it has gone, and how much
+/// was written to it.
 pub(crate) fn answer<R: Wait + Threads + Copy + Drop + Send + 'static>(
     rt: HostRuntime,
     handle: R,

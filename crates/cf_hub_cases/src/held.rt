@@ -28,10 +28,15 @@ impl<R: Wait + Threads + Copy + Drop> Model for Held<R> {
 
     ghost Value = { Standing };
 
-    ghost view = { λ n. record { told = told_of n.hub.book; faults = n.hub.dialer.faults + (n.hub.missed + faults_in (λ w. w.faults) n.hub.writers.items); keeps = keeps_of n.hub.book } };
+    ghost view = { λ n. record {
+      told = told_of n.hub.book;
+      faults = n.hub.dialer.faults + (n.hub.missed + faults_in (λ w. w.faults) n.hub.writers.items);
+      keeps = keeps_of n.hub.book;
+    } };
 }
 
-// A hub that has dialled nobody, with so many threads for readers, of whose threads so many start. Its pulse waits for so many at the gate.
+// A hub that has dialled nobody, with so many threads for readers, of whose threads so many start. Its pulse waits for
+// so many at the gate.
 fn hub_of<R: Wait + Threads + Copy + Drop + Send + 'static>(
     rt: HostRuntime,
     handle: R,
@@ -51,8 +56,8 @@ fn hub_of<R: Wait + Threads + Copy + Drop + Send + 'static>(
 }
 
 impl<R: Wait + Threads + Copy + Drop + Send + 'static> Held<R> {
-    /// A hub that has dialled nobody, with so many threads for readers, of whose threads so many start. Its pulse waits for so many at the
-    /// gate.
+    /// A hub that has dialled nobody, with so many threads for readers, of whose threads so many start. Its pulse waits
+    /// for so many at the gate.
     pub(crate) fn new(
         rt: HostRuntime,
         handle: R,

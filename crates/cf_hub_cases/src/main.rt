@@ -1,6 +1,7 @@
-//! `cf_hub_cases`: reads rows `KIND REST`, and prints each row and what it comes to. `docs/CONTRIBUTING.md` says how rows and kinds are added.
-//! A row of the kind `cf` begins with a call of the program, and is read with its first word. A row that begins with `#` is a remark, and is printed as it
-//! is. A row that can't be read, or for which no memory is found, comes to `?`.
+//! `cf_hub_cases`: reads rows `KIND REST`, and prints each row and what it comes to. `docs/CONTRIBUTING.md` says how
+//! rows and kinds are added. A row of the kind `cf` begins with a call of the program, and is read with its first word.
+//! A row that begins with `#` is a remark, and is printed as it is. A row that can't be read, or for which no memory is
+//! found, comes to `?`.
 #![tactic(auto)]
 
 mod course;

@@ -1,4 +1,5 @@
-//! The outside of a hub in memory: peers of which each is told by the name under which it is dialled, a pulse, and a spawner that refuses.
+//! The outside of a hub in memory: peers of which each is told by the name under which it is dialled, a pulse, and a
+//! spawner that refuses.
 ghost use Rattle.std.specs.Prelude.{◌≡◌, ◌≤◌, ◌<◌, ◌==◌, if◌then◌else◌, None, Some, [], false, IfSome};
 ghost use Rattle.cf_tasks.specs.declared.threads.Choice.TheVariants.{InThread, Refuse};
 
@@ -10,7 +11,8 @@ use cf_tasks::{Choice, Spawner};
 use std::alloc::Global;
 use std::thread::Threads;
 
-/// Gives the bytes of a connection in memory once its door is open, and none where that isn't in time. A read takes no memory.
+/// Gives the bytes of a connection in memory once its door is open, and none where that isn't in time. A read takes no
+/// memory.
 #[derive(Drop)]
 pub(crate) struct PlannedSource {
     conn: MemoryConn,
@@ -258,7 +260,8 @@ impl PlannedDialer {
 
     // Both sides of a peer.
     fn open(&self, name: &str) -> Option<(PlannedSource, PlannedWriter)>
-        ensures { IfSome result (λ c. (c.0.ended ≡ false) × (c.0.conn.source.plan.faults ≡ 0) × (c.1.faults ≡ 0) × (c.1.shut ≡ false) × (c.1.sink.bytes ≡ [])) }
+        ensures { IfSome result (λ c. (c.0.ended ≡ false) × (c.0.conn.source.plan.faults ≡ 0) × (c.1.faults ≡ 0)
+            × (c.1.shut ≡ false) × (c.1.sink.bytes ≡ [])) }
     {
         let plan = plan_in(name)?;
         let own = count(self.alloc)?;

@@ -40,8 +40,8 @@ fn passed<R: Wait>(rt: &R, alloc: Global, count: u32, out: &mut String) -> Optio
     Some(second)
 }
 
-/// What comes out of a queue of 64 places into which two senders put so many entries each, at most 32; and whether one is taken once its
-/// receiver is gone.
+/// What comes out of a queue of 64 places into which two senders put so many entries each, at most 32; and whether one
+/// is taken once its receiver is gone.
 pub(crate) fn answer<R: Wait>(rt: &R, alloc: Global, row: &str) -> Option<String> {
     let count: u32 = row.parse().ok()?;
     if count > 32 {

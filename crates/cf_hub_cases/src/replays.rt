@@ -18,7 +18,8 @@ fn session_in(alloc: Global, lines: &str) -> Option<Session>
     read_session(alloc, lines.as_bytes()).ok()
 }
 
-/// The lines that wires in memory record, which give what these lines say: all are dialled, and all deliveries are taken.
+/// The lines that wires in memory record, which give what these lines say: all are dialled, and all deliveries are
+/// taken.
 pub(crate) fn replayed(alloc: Global, lines: &str) -> Option<String> {
     let Session {
         names,

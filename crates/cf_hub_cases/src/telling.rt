@@ -1,4 +1,5 @@
-//! The outside of a hub in memory that tells all that it gives and gets: the bytes of each peer, what is written to it, and the seconds of a pulse.
+//! The outside of a hub in memory that tells all that it gives and gets: the bytes of each peer, what is written to it,
+//! and the seconds of a pulse.
 ghost use Rattle.std.specs.Prelude.{◌≡◌, ◌≤◌, ◌<◌, Some, [], false, IfOk, IfSome};
 ghost use Rattle.cf_hub_cases.specs.Telling.{up_to};
 
@@ -10,7 +11,8 @@ use cf_outside::{Dialer, Pulse};
 use std::alloc::Global;
 use std::sync::Wait;
 
-/// Gives the bytes of a connection in memory once its door is open, or isn't in time, and tells which are left. It never fails.
+/// Gives the bytes of a connection in memory once its door is open, or isn't in time, and tells which are left. It
+/// never fails.
 #[derive(Drop)]
 pub(crate) struct ToldSource {
     conn: MemoryConn,
@@ -111,7 +113,8 @@ impl ToldDialer {
 
     // What a peer gives, beyond its door.
     fn conn(&self) -> Option<MemoryConn>
-        ensures { IfSome result (λ c. (c.source.rest ≡ self.now.peer.bytes.items) × (c.source.ended ≡ false) × (c.source.plan.failing ≡ []) × (c.source.plan.faults ≡ 0)) }
+        ensures { IfSome result (λ c. (c.source.rest ≡ self.now.peer.bytes.items) × (c.source.ended ≡ false)
+            × (c.source.plan.failing ≡ []) × (c.source.plan.faults ≡ 0)) }
     {
         let bytes = Vec::from_slice(self.alloc, &self.peer.bytes).ok()?;
         let unused = VecSink::new(self.alloc, 1, 0).ok()?;
@@ -120,7 +123,8 @@ impl ToldDialer {
 
     // The source of a peer.
     fn source(&self) -> Option<ToldSource>
-        ensures { IfSome result (λ s. (s.conn.source.rest ≡ self.now.peer.bytes.items) × (s.conn.source.ended ≡ false)) }
+        ensures { IfSome result
+            (λ s. (s.conn.source.rest ≡ self.now.peer.bytes.items) × (s.conn.source.ended ≡ false)) }
     {
         let door = self.door()?;
         let vain = same(&self.counts.vain)?;
@@ -133,7 +137,8 @@ impl ToldDialer {
 
     // Both sides of a peer.
     fn open(&self) -> Option<(ToldSource, PlannedWriter)>
-        ensures source { IfSome result (λ c. (c.0.conn.source.rest ≡ self.now.peer.bytes.items) × (c.0.conn.source.ended ≡ false)) }
+        ensures source { IfSome result
+            (λ c. (c.0.conn.source.rest ≡ self.now.peer.bytes.items) × (c.0.conn.source.ended ≡ false)) }
         ensures writer { IfSome result (λ c. (c.1.faults ≡ 0) × (c.1.shut ≡ false) × (c.1.sink.bytes ≡ [])) }
     {
         let source = self.source()?;
@@ -149,7 +154,8 @@ impl Dialer for ToldDialer {
 
     ghost faults = { λ d. d.faults };
 
-    ghost dials = { λ before _ answer after. IfOk answer (λ c. c.0.conn.source.rest ≡ before.peer.bytes.items) × (after.peer ≡ before.peer) };
+    ghost dials = { λ before _ answer after. IfOk answer (λ c. c.0.conn.source.rest ≡ before.peer.bytes.items)
+        × (after.peer ≡ before.peer) };
 
     fn dial(&mut self, _name: &str) -> Result<(ToldSource, PlannedWriter), Failed> {
         if let Some(both) = self.open() {
@@ -160,7 +166,8 @@ impl Dialer for ToldDialer {
     }
 }
 
-/// Tells the seconds 1, 2 and so on to 86,400, a millisecond apart, and which it has told. After the last of them it waits for good.
+/// Tells the seconds 1, 2 and so on to 86,400, a millisecond apart, and which it has told. After the last of them it
+/// waits for good.
 #[derive(Drop)]
 pub(crate) struct ToldPulse<R> {
     rt: HostRuntime,

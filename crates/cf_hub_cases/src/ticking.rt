@@ -36,7 +36,8 @@ fn is_told_late(
     Some(Duration::from_secs(told) <= passed)
 }
 
-// Whether as many seconds have passed as two ticks tell, since they were waited for: so many seconds after this name was dialled.
+// Whether as many seconds have passed as two ticks tell, since they were waited for: so many seconds after this name
+// was dialled.
 fn two_ticks<R: Wait + Threads + Copy + Drop + Send + 'static>(
     rt: &HostRuntime,
     handle: R,
@@ -64,7 +65,8 @@ fn seconds_in(row: &str) -> Option<u64> {
     row.parse().ok()
 }
 
-/// Whether as many seconds have passed as two ticks tell, where the one peer is silent, and nothing is taken for so many seconds after it was dialled.
+/// Whether as many seconds have passed as two ticks tell, where the one peer is silent, and nothing is taken for so
+/// many seconds after it was dialled.
 pub(crate) fn answer<R: Wait + Threads + Copy + Drop + Send + 'static>(
     rt: HostRuntime,
     handle: R,

@@ -4,7 +4,8 @@ ghost use Rattle.cf_filter.specs.Filter.{filter_hash_of};
 
 use cf_bytes::{Hash32, Listed};
 
-/// A block's hash, its basic filter, the filter's hash, and the filter's header, which stands for all filters up to it (BIP 157, "Filter Headers").
+/// A block's hash, its basic filter, the filter's hash, and the filter's header, which stands for all filters up to it
+/// (BIP 157, "Filter Headers").
 #[derive(Drop, Debug)]
 pub(crate) struct BlockFilter {
     pub block: Hash32,
@@ -14,7 +15,8 @@ pub(crate) struct BlockFilter {
     ghost hashed: { hash.0 ≡ filter_hash_of filter },
 }
 
-/// A block's hash, its basic filter (BIP 158, "Contents") and the filter's hash (BIP 157, "Filter Headers"), before the filter's header is known.
+/// A block's hash, its basic filter (BIP 158, "Contents") and the filter's hash (BIP 157, "Filter Headers"), before the
+/// filter's header is known.
 #[derive(Drop, Debug)]
 pub struct BareFilter {
     /// The block's hash, in wire order.

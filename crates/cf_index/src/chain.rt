@@ -19,8 +19,8 @@ use std::alloc::Global;
 // The blocks of a chain above genesis, the lowest first.
 pub(crate) type Blocks = Listed<Block>;
 
-// A good chain: its blocks, of each the hash, those of its transactions and the scripts that it spends, and what the next one is judged by: the hash of the highest
-// header, the times that count for the next one, and the coins.
+// A good chain: its blocks, of each the hash, those of its transactions and the scripts that it spends, and what the
+// next one is judged by: the hash of the highest header, the times that count for the next one, and the coins.
 #[derive(Drop)]
 pub(crate) struct Chain {
     pub(crate) blocks: Blocks,

@@ -23,8 +23,8 @@ use std::alloc::Global;
 use std::marker::Model;
 use std::thread::Threads;
 
-/// The blocks of a chain that was checked, with what the check has found of each: its hash, those of its transactions, and the scripts that its inputs spend. Contracts see
-/// the list of the blocks above genesis, the lowest first.
+/// The blocks of a chain that was checked, with what the check has found of each: its hash, those of its transactions,
+/// and the scripts that its inputs spend. Contracts see the list of the blocks above genesis, the lowest first.
 #[derive(Drop)]
 pub struct CheckedChain {
     pub(crate) blocks: Blocks,
@@ -139,15 +139,17 @@ impl CheckedChain {
         self.blocks.as_slice()
     }
 
-    /// The basic filters of these blocks (BIP 158, "Contents"), the lowest first, without filter headers and without genesis's filter. As many threads build them as there are
-    /// processors.
+    /// The basic filters of these blocks (BIP 158, "Contents"), the lowest first, without filter headers and without
+    /// genesis's filter. As many threads build them as there are processors.
     pub fn basic_filters(
         &self,
         rt: &(impl Threads + Sync),
         alloc: Global,
     ) -> Result<Listed<BareFilter>, NoMemory>
-        ensures names { IfOk result (λ list. first_filtered.block ∷ map (λ f. f.block.0) list ≡ map (λ f. f.block) (filters_of self.now)) }
-        ensures filters { IfOk result (λ list. first_filtered.filter ∷ map (λ f. f.filter) list ≡ map (λ f. f.filter) (filters_of self.now)) }
+        ensures names { IfOk result
+            (λ list. first_filtered.block ∷ map (λ f. f.block.0) list ≡ map (λ f. f.block) (filters_of self.now)) }
+        ensures filters { IfOk result
+            (λ list. first_filtered.filter ∷ map (λ f. f.filter) list ≡ map (λ f. f.filter) (filters_of self.now)) }
     {
         bare_filters(
             rt,

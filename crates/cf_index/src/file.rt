@@ -58,10 +58,11 @@ fn read_records(alloc: Global, before: u32, bytes: &[u8]) -> Result<CheckedChain
     Ok(CheckedChain::of(chain))
 }
 
-/// The chain of the blocks of a file, each of which is read, hashed and judged once. The file is a run of records, each of regtest's magic
-/// fa bf b5 da (hexadecimal), the block's length in 4 bytes, the low byte first, and the block, whose transactions may
-/// stand with witnesses (BIP 144, "Serialization"), which aren't kept; the genesis block's may stand first, and zeros alone
-/// may stand at the end. A record's block has at most 4,000,000 bytes, and without witnesses at most 1,000,000.
+/// The chain of the blocks of a file, each of which is read, hashed and judged once. The file is a run of records, each
+/// of regtest's magic fa bf b5 da (hexadecimal), the block's length in 4 bytes, the low byte first, and the block,
+/// whose transactions may stand with witnesses (BIP 144, "Serialization"), which aren't kept; the genesis block's may
+/// stand first, and zeros alone may stand at the end. A record's block has at most 4,000,000 bytes, and without
+/// witnesses at most 1,000,000.
 ///
 /// # Errors
 ///

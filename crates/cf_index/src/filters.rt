@@ -45,7 +45,8 @@ pub(crate) fn bare_filter(
 
 // The filter with its header, where this is the filter header before it.
 pub(crate) fn with_header(bare: BareFilter, previous: &Hash32) -> BlockFilter
-    ensures { (scripts : List (List ℕ)) (b : BlockOf) → IsBare scripts b bare → shown result ≡ filtered scripts previous.now.0 b }
+    ensures { (scripts : List (List ℕ)) (b : BlockOf) → IsBare scripts b bare
+        → shown result ≡ filtered scripts previous.now.0 b }
 {
     let BareFilter {
         block,
@@ -112,8 +113,8 @@ fn filters_between(
     all
 }
 
-/// The filters of the blocks of a chain above genesis, the lowest first, before their headers are known. As many threads build them as there are
-/// processors.
+/// The filters of the blocks of a chain above genesis, the lowest first, before their headers are known. As many
+/// threads build them as there are processors.
 pub(crate) fn bare_filters(
     rt: &(impl Threads + Sync),
     alloc: Global,
@@ -122,8 +123,10 @@ pub(crate) fn bare_filters(
     spent: &[Spent],
 ) -> Result<Listed<BareFilter>, NoMemory>
     requires kept { AreKept blocks.now hashes.now spent.now }
-    ensures names { IfOk result (λ list. first_filtered.block ∷ map (λ f. f.block.0) list ≡ map (λ f. f.block) (filters_of blocks.now)) }
-    ensures filters { IfOk result (λ list. first_filtered.filter ∷ map (λ f. f.filter) list ≡ map (λ f. f.filter) (filters_of blocks.now)) }
+    ensures names { IfOk result
+        (λ list. first_filtered.block ∷ map (λ f. f.block.0) list ≡ map (λ f. f.block) (filters_of blocks.now)) }
+    ensures filters { IfOk result
+        (λ list. first_filtered.filter ∷ map (λ f. f.filter) list ≡ map (λ f. f.filter) (filters_of blocks.now)) }
 {
     let all = filters_between(rt, alloc, blocks, hashes, spent, 0, blocks.len())?;
     Ok(Listed::from_vec(all))
@@ -138,7 +141,8 @@ struct Headed {
 
 // These filters and the next ones behind them, whose headers are found one after the other.
 fn with_headers(headed: Headed, bare: Vec<BareFilter>) -> Result<Headed, NoMemory>
-    ensures { IfOk result (λ longer. GoOn headed.filters.items headed.last.0 bare.items longer.filters.items longer.last.0) }
+    ensures { IfOk result
+        (λ longer. GoOn headed.filters.items headed.last.0 bare.items longer.filters.items longer.last.0) }
 {
     let Headed {
         mut filters,
@@ -152,7 +156,8 @@ fn with_headers(headed: Headed, bare: Vec<BareFilter>) -> Result<Headed, NoMemor
     Ok(Headed { filters, last })
 }
 
-// Builds the filters of the blocks from one place up to another, while the headers of those built before them are found.
+// Builds the filters of the blocks from one place up to another, while the headers of those built before them are
+// found.
 fn build_beside<R: Threads + Sync>(
     rt: &R,
     alloc: Global,
@@ -166,24 +171,28 @@ fn build_beside<R: Threads + Sync>(
 ) -> Result<(Headed, Vec<BareFilter>), NoMemory>
     requires kept { AreKept blocks.now hashes.now spent.now }
     requires within { to ≤ length blocks.now }
-    ensures headed { IfOk result (λ both. GoOn headed.filters.items headed.last.0 bare.items both.0.filters.items both.0.last.0) }
+    ensures headed { IfOk result
+        (λ both. GoOn headed.filters.items headed.last.0 bare.items both.0.filters.items both.0.last.0) }
     ensures built { IfOk result (λ both. AllZip (IsBareAt blocks.now spent.now) (nat_range from to) both.1.items) }
 {
     let (longer, built) = join(
         rt,
         move || -> Result<Headed, NoMemory>
-            ensures { IfOk result (λ longer. GoOn headed.filters.items headed.last.0 bare.items longer.filters.items longer.last.0) }
+            ensures { IfOk result
+                (λ longer. GoOn headed.filters.items headed.last.0 bare.items longer.filters.items longer.last.0) }
         { with_headers(headed, bare) },
         move || -> Result<Vec<BareFilter>, NoMemory>
             requires { IsSync R.row × AreKept blocks.now hashes.now spent.now × (to ≤ length blocks.now) }
-            ensures { IfOk result (λ all. AllZip (IsBareAt blocks.entry.now spent.entry.now) (nat_range from to) all.items) }
+            ensures { IfOk result
+                (λ all. AllZip (IsBareAt blocks.entry.now spent.entry.now) (nat_range from to) all.items) }
         { filters_between(rt, alloc, blocks, hashes, spent, from, to) },
     );
     Ok((longer?, built?))
 }
 
-/// The filters of genesis and of each block of a chain, in the order of their heights, from 0. As many threads build them as there are
-/// processors. Each filter's header is found after the one before it, while the filters of the blocks after it are built.
+/// The filters of genesis and of each block of a chain, in the order of their heights, from 0. As many threads build
+/// them as there are processors. Each filter's header is found after the one before it, while the filters of the blocks
+/// after it are built.
 pub(crate) fn all_filters(
     rt: &(impl Threads + Sync),
     alloc: Global,

@@ -62,17 +62,20 @@ impl Heights {
 
 // The height of genesis alone.
 fn first_height(alloc: Global) -> Result<Heights, NoMemory>
-    ensures { IfOk result (λ heights. (hash : Hash32) → get heights hash ≡ position (λ h. same h.0 hash.0) (first_hash ∷ [])) }
+    ensures { IfOk result (λ heights. (hash : Hash32)
+        → get heights hash ≡ position (λ h. same h.0 hash.0) (first_hash ∷ [])) }
 {
     let mut heights = Heights::new(alloc);
     heights.add(block_hash(&genesis_header()), 0)?;
     Ok(heights)
 }
 
-/// The heights of genesis and of the blocks above it, which have these hashes. A hash that stands several times has its lowest.
+/// The heights of genesis and of the blocks above it, which have these hashes. A hash that stands several times has its
+/// lowest.
 pub(crate) fn heights_of(alloc: Global, hashes: &[Hash32]) -> Result<Heights, NoMemory>
     requires { length hashes.now ≤ max_height }
-    ensures { IfOk result (λ heights. (hash : Hash32) → get heights hash ≡ position (λ h. same h.0 hash.0) (first_hash ∷ hashes.now)) }
+    ensures { IfOk result (λ heights. (hash : Hash32)
+        → get heights hash ≡ position (λ h. same h.0 hash.0) (first_hash ∷ hashes.now)) }
 {
     let mut heights = first_height(alloc)?;
     let mut height = 1u32;

@@ -36,7 +36,8 @@ use std::alloc::Global;
 use std::marker::Model;
 use std::thread::{Threads, join};
 
-// The filters of a chain's blocks, and beside them the heights of their hashes. The hashes of its transactions are let go.
+// The filters of a chain's blocks, and beside them the heights of their hashes. The hashes of its transactions are let
+// go.
 fn filters_and_heights<R: Threads + Sync>(
     rt: &R,
     alloc: Global,
@@ -57,7 +58,8 @@ fn filters_and_heights<R: Threads + Sync>(
         { all_filters(rt, alloc, blocks, hashes, spent) },
         move || -> Result<Heights, NoMemory>
             requires { length hashes.now ≤ max_height }
-            ensures { IfOk result (λ heights. (hash : Hash32) → get heights hash ≡ position (λ h. same h.0 hash.0) (first_hash ∷ hashes.entry.now)) }
+            ensures { IfOk result (λ heights. (hash : Hash32)
+                → get heights hash ≡ position (λ h. same h.0 hash.0) (first_hash ∷ hashes.entry.now)) }
         {
             drop(txids);
             heights_of(alloc, hashes)
@@ -106,7 +108,8 @@ fn take_coins(
     }
 }
 
-// Judges what a block spends and makes by the coins of a good chain, which are found where they weren't yet, and stay as they are.
+// Judges what a block spends and makes by the coins of a good chain, which are found where they weren't yet, and stay
+// as they are.
 fn judge_on(
     alloc: Global,
     coins: &mut Option<Coins>,
@@ -139,7 +142,8 @@ fn put_all(
     ensures blocks { OnOk result (blocks.new ≡ blocks.old ++ block ∷ []) }
     ensures filters { OnOk result (filters.new ≡ filters.old ++ filter ∷ []) }
     ensures heights { OnOk result (heights.new ≡ with_first heights.old hash (length blocks.old + 1)) }
-    ensures kept { OnErr result ((blocks.new ≡ blocks.old) × (filters.new ≡ filters.old) × (heights.new ≡ heights.old)) }
+    ensures kept { OnErr result ((blocks.new ≡ blocks.old) × (filters.new ≡ filters.old)
+        × (heights.new ≡ heights.old)) }
 {
     let below = blocks.len();
     let told = filters.len();
@@ -161,7 +165,8 @@ fn put_all(
     }
 }
 
-/// A checked chain with its filters, by height and by hash. Contracts see the list of its blocks above genesis, the lowest first.
+/// A checked chain with its filters, by height and by hash. Contracts see the list of its blocks above genesis, the
+/// lowest first.
 #[derive(Drop)]
 pub struct Index {
     genesis: SharedBlock,
@@ -188,8 +193,8 @@ impl Model for Index {
 }
 
 impl Index {
-    /// The index of a chain that was checked: the filters of its blocks are built, in as many threads as there are processors, and what the
-    /// check has kept for them is let go.
+    /// The index of a chain that was checked: the filters of its blocks are built, in as many threads as there are
+    /// processors, and what the check has kept for them is let go.
     pub fn of(
         rt: &(impl Threads + Sync),
         alloc: Global,
@@ -226,8 +231,9 @@ impl Index {
         })
     }
 
-    /// Puts a block on the chain where the chain with it is good. Otherwise nothing has changed, and the cause is answered. The chain's coins are
-    /// found by the first call that comes to them, and kept, whether it puts its block on or not; want of memory may lose them again.
+    /// Puts a block on the chain where the chain with it is good. Otherwise nothing has changed, and the cause is
+    /// answered. The chain's coins are found by the first call that comes to them, and kept, whether it puts its block
+    /// on or not; want of memory may lose them again.
     #[tactic(auto, using(cf_chain::proofs::Bounds::block_few))]
     pub fn add(&mut self, alloc: Global, block: Block) -> Result<(), Refused<RecordCause>>
         requires block { IsBlock block }
@@ -335,7 +341,8 @@ impl Index {
 
     /// Its hash.
     pub fn hash(&self, height: u32) -> Option<Hash32>
-        ensures block { result ≡ option_map (λ b. record { 0 = block_hash_of b.header }) (slice_get (all_blocks self.now) height) }
+        ensures block { result ≡ option_map
+            (λ b. record { 0 = block_hash_of b.header }) (slice_get (all_blocks self.now) height) }
         ensures filter { option_map (λ h. h.0) result ≡ option_map (λ f. f.block) (filter_at self.now height) }
     {
         self.filter_of(height).map(|filter| filter.block)

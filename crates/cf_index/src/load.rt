@@ -30,17 +30,20 @@ fn index_at(rt: &(impl Threads + Sync), alloc: Global, bytes: Vec<u8>) -> Result
 }
 
 impl Index {
-    /// The index of the chain of blocks that a source gives, which is read to its end first. The bytes are those of a file of blocks (`read_chain`).
+    /// The index of the chain of blocks that a source gives, which is read to its end first. The bytes are those of a
+    /// file of blocks (`read_chain`).
     ///
     /// # Errors
     ///
-    /// `TooBig` where there are more than 1,073,741,824 bytes, else `BadBlock` for the first record that is refused. `ReadFault` where the source fails.
+    /// `TooBig` where there are more than 1,073,741,824 bytes, else `BadBlock` for the first record that is refused.
+    /// `ReadFault` where the source fails.
     pub fn load<S: Source>(
         rt: &(impl Threads + Sync),
         alloc: Global,
         source: &mut S,
     ) -> Result<Index, LoadFault>
-        ensures loads { Loads result (S.left source.old) (S.ended source.new) (S.faults source.old) (S.faults source.new) }
+        ensures loads { Loads result (S.left source.old) (S.ended source.new)
+            (S.faults source.old) (S.faults source.new) }
         ensures good { IfOk result (λ blocks. IsGoodChain blocks) }
     {
         match read_all(alloc, source, MOST_BYTES) {

@@ -10,14 +10,14 @@ use cf_conn::Source;
 use cf_walk::{LoadFault, Walk};
 use std::alloc::Global;
 
-/// The chain of the blocks that a source gives, whose bytes are those of a file of blocks (`read_chain`). Each block is read, hashed and judged
-/// once, as its bytes come: of these fewer than 4,065,544 are held,
-/// those of one record and one piece that is read at once (`Walk`). Of the source the first 1,073,741,824 bytes count.
+/// The chain of the blocks that a source gives, whose bytes are those of a file of blocks (`read_chain`). Each block is
+/// read, hashed and judged once, as its bytes come: of these fewer than 4,065,544 are held, those of one record and one
+/// piece that is read at once (`Walk`). Of the source the first 1,073,741,824 bytes count.
 ///
 /// # Errors
 ///
-/// `BadBlock` for the first record that is refused within the source's first 1,073,741,824 bytes. `TooBig` where none is and
-/// the source gives another byte. `ReadFault` where the source fails.
+/// `BadBlock` for the first record that is refused within the source's first 1,073,741,824 bytes. `TooBig` where none
+/// is and the source gives another byte. `ReadFault` where the source fails.
 #[tactic(auto, using(crate::proofs::Sources::reads_fault, crate::proofs::Sources::spent_so, cf_conn::proofs::Stepping::no_steps, cf_conn::proofs::Stepping::more_steps))]
 pub fn read_source<S: Source>(alloc: Global, source: &mut S) -> Result<CheckedChain, LoadFault>
     ensures reads { (bytes : List ℕ) → S.left source.old ≡ Some bytes → ReadsAs bytes result }

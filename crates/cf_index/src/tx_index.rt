@@ -18,7 +18,8 @@ use std::marker::Model;
 
 /// The height and the place of the first transaction above genesis with each hash. Contracts see a finite map.
 ///
-/// It takes 41 to 90 bytes for each hash: 40 for the hash, the height and the place, in nodes of 15, of which all but the root are filled by 7 or more.
+/// It takes 41 to 90 bytes for each hash: 40 for the hash, the height and the place, in nodes of 15, of which all but
+/// the root are filled by 7 or more.
 #[derive(Drop)]
 pub struct TxIndex {
     map: BTreeMap<Hash32, (u32, u32)>,
@@ -36,7 +37,8 @@ impl Model for TxIndex {
 }
 
 impl TxIndex {
-    /// The index of all transactions above genesis, from the hashes that the check has kept. A hash that stands several times has its lowest height, and there its lowest place.
+    /// The index of all transactions above genesis, from the hashes that the check has kept. A hash that stands several
+    /// times has its lowest height, and there its lowest place.
     pub fn of(alloc: Global, chain: &CheckedChain) -> Result<TxIndex, NoMemory>
         ensures first { IfOk result (λ index. AreFirstPlaces index chain.now) }
         ensures taken { IfOk result (λ index. AreTaken index chain.now) }
@@ -44,8 +46,8 @@ impl TxIndex {
         index_of(alloc, chain.txids.as_slice())
     }
 
-    /// The height of the block and the place there, from 0, of the first transaction with this hash, or `None` exactly where no block has one.
-    /// The time is that of a search in a tree. It takes no memory.
+    /// The height of the block and the place there, from 0, of the first transaction with this hash, or `None` exactly
+    /// where no block has one. The time is that of a search in a tree. It takes no memory.
     pub fn find(&self, txid: &Hash32) -> Option<(u32, u32)>
         ensures { result ≡ get self.now txid.now }
     {
@@ -76,7 +78,8 @@ impl TxIndex {
     // Gives the places in the block at a height to its hashes, each where it has none yet.
     fn add_block(&mut self, height: u32, txids: &[Hash32]) -> Result<(), NoMemory>
         requires { length txids.now < 2 ^ 32 }
-        ensures { OnOk result ((txid : Hash32) → get self.new txid ≡ option_or (get self.old txid) (place_at height txid.0 (bytes_of txids.now))) }
+        ensures { OnOk result ((txid : Hash32)
+            → get self.new txid ≡ option_or (get self.old txid) (place_at height txid.0 (bytes_of txids.now))) }
     {
         let mut place = 0u32;
         for txid in txids {

@@ -53,12 +53,13 @@ impl<M: Drop> Sender<M> {
         self.returned
     }
 
-    /// Sends an entry under its number. It waits where the queue is full. An entry that comes back was not sent, and is counted; it comes back only
-    /// where the queue's own call handed it back.
+    /// Sends an entry under its number. It waits where the queue is full. An entry that comes back was not sent, and is
+    /// counted; it comes back only where the queue's own call handed it back.
     pub fn send<R: Passing>(&mut self, rt: &R, kind: M) -> Result<(), M>
         ensures ring { sends_on self.new.line ≡ sends_on self.old.line }
         ensures number { self.new.number ≡ self.old.number }
-        ensures ok { IfOk result (λ _. view self.new.seat ≡ with_sent (view self.old.seat) (entry self.old.number kind)) }
+        ensures ok { IfOk result
+            (λ _. view self.new.seat ≡ with_sent (view self.old.seat) (entry self.old.number kind)) }
         ensures err { IfErr result (λ k. (k ≡ kind) × (view self.new.seat ≡ view self.old.seat)) }
         ensures kept { OnOk result (self.new.returned ≡ self.old.returned) }
         ensures returned { OnErr result (HasRisen self.old.returned self.new.returned) }
@@ -84,7 +85,8 @@ impl<M: Drop> Sender<M> {
     }
 }
 
-/// The receiver of a queue, which knows what it got. It keeps an end by which entries are sent, so that the queue never closes.
+/// The receiver of a queue, which knows what it got. It keeps an end by which entries are sent, so that the queue never
+/// closes.
 #[derive(Drop)]
 pub struct Queue<M: Drop> {
     /// Where it sends.
@@ -130,7 +132,8 @@ impl<M: Drop> Queue<M> {
         requires { self.old.made < 255 }
         ensures ring { sends_on self.new.line ≡ sends_on self.old.line }
         ensures made { OnOk result (view self.new.seat ≡ with_made (view self.old.seat)) }
-        ensures sender { IfOk result (λ s. (sends_on s.line ≡ sends_on self.old.line) × (view s.seat ≡ sender self.old.made) × (s.number ≡ self.old.made)) }
+        ensures sender { IfOk result (λ s. (sends_on s.line ≡ sends_on self.old.line)
+            × (view s.seat ≡ sender self.old.made) × (s.number ≡ self.old.made)) }
         ensures fresh { IfOk result (λ s. s.returned ≡ 0) }
         ensures err { IfErr result (λ _. view self.new.seat ≡ view self.old.seat) }
     {
@@ -169,7 +172,8 @@ impl<M: Drop> Queue<M> {
         self.line.absorb::<Taken>(&mut self.seat, seat);
     }
 
-    /// Looks at what waits: of each sender that was taken in, what was received and then what waits is what it sent, in order.
+    /// Looks at what waits: of each sender that was taken in, what was received and then what waits is what it sent, in
+    /// order.
     pub fn account(&mut self)
         ensures ring { sends_on self.new.line ≡ sends_on self.old.line }
         ensures same { view self.new.seat ≡ view self.old.seat }
@@ -216,7 +220,8 @@ pub struct Taker<M: Drop> {
 }
 
 impl<M: Drop> Taker<M> {
-    /// The next entry. It waits for one; `None` where the sender is gone and nothing waits, as the queue's own call answers.
+    /// The next entry. It waits for one; `None` where the sender is gone and nothing waits, as the queue's own call
+    /// answers.
     pub fn next<R: Passing>(&mut self, rt: &R) -> Option<Entry<M>>
         ensures ring { receives_on self.new.front ≡ receives_on self.old.front }
         ensures got { IfSome result (λ e. view self.new.seat ≡ with_got (view self.old.seat) e) }

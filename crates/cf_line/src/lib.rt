@@ -1,5 +1,5 @@
-//! Queues between threads under a rule: each sender knows what it sent, and the receiver what it got of each. And threads that
-//! wait for a task each, to which it is handed over such a queue.
+//! Queues between threads under a rule: each sender knows what it sent, and the receiver what it got of each. And
+//! threads that wait for a task each, to which it is handed over such a queue.
 #![tactic(auto)]
 
 mod ends;

@@ -11,7 +11,8 @@ use crate::rule::{Received, Sent};
 use crossbeam_channel::{RecvError, SendError};
 use std::sync::Wait;
 
-/// The calls by which entries pass through queues, by a handle that may wait. That one has failed is known of its answer alone.
+/// The calls by which entries pass through queues, by a handle that may wait. That one has failed is known of its
+/// answer alone.
 pub trait Passing: Wait {
     /// A call to send handed its entry back.
     ghost hands_back: { Self → Type 0 };

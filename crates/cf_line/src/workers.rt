@@ -47,7 +47,8 @@ pub struct Waited<J: Drop, O> {
 impl<J: Task, R: Passing + Drop> Task for Waiter<J, R> {
     type Out = Waited<J, J::Out>;
 
-    ghost gives = { λ w o. (receives_on o.taker.front ≡ receives_on w.taker.front) × HasWaited J.gives (view w.taker.seat) (view o.taker.seat) o.answer × IfNone o.answer (R.gets_none w.rt) };
+    ghost gives = { λ w o. (receives_on o.taker.front ≡ receives_on w.taker.front)
+        × HasWaited J.gives (view w.taker.seat) (view o.taker.seat) o.answer × IfNone o.answer (R.gets_none w.rt) };
 
     fn run(self) -> Waited<J, J::Out> {
         let Waiter { rt, mut taker } = self;
@@ -96,7 +97,8 @@ impl<J: Task, R: Passing + Drop> Model for Busy<J, R> {
 
     ghost view = { λ b. b.of.value };
 
-    ghost invariant = { λ b. (receives_on b.running.taker.front ≡ sends_on b.giver.line) × (knows b.giver.seat ≡ with_sent (sender 0) (entry 0 b.of.value)) };
+    ghost invariant = { λ b. (receives_on b.running.taker.front ≡ sends_on b.giver.line)
+        × (knows b.giver.seat ≡ with_sent (sender 0) (entry 0 b.of.value)) };
 }
 
 impl<J: Task, R: Passing + Drop> Busy<J, R> {
@@ -122,7 +124,8 @@ impl<J: Task, R: Passing + Drop> Busy<J, R> {
     }
 }
 
-/// Threads of which each waits for one task. Contracts see how many wait, and how often a thread's queue handed its task back.
+/// Threads of which each waits for one task. Contracts see how many wait, and how often a thread's queue handed its
+/// task back.
 #[derive(Drop)]
 pub struct Workers<J: Task, R: Passing + Drop> {
     rt: R,
@@ -162,7 +165,8 @@ impl<J: Task + Send + 'static, R: Passing + Drop + Copy + Send + 'static> Worker
 where
     J::Out: Drop + Send + 'static,
 {
-    /// Starts so many threads: so many tasks are put to the spawner. There are fewer only where its count of refusals rose.
+    /// Starts so many threads: so many tasks are put to the spawner. There are fewer only where its count of refusals
+    /// rose.
     pub fn new<K: Spawner>(
         rt: R,
         alloc: Global,
@@ -172,7 +176,8 @@ where
         ensures few { IfOk result (λ w. w.count ≤ count) }
         ensures fresh { IfOk result (λ w. w.returned ≡ 0) }
         ensures put { OnOk result (ArePut K.moves count spawner.old spawner.new) }
-        ensures cause { IfOk result (λ w. ((w.count ≡ count) × (K.refusals spawner.new ≡ K.refusals spawner.old)) ⊎ HasRisen (K.refusals spawner.old) (K.refusals spawner.new)) }
+        ensures cause { IfOk result (λ w. ((w.count ≡ count) × (K.refusals spawner.new ≡ K.refusals spawner.old))
+            ⊎ HasRisen (K.refusals spawner.old) (K.refusals spawner.new)) }
     {
         let mut ready = Vec::with_capacity(alloc, count)?;
         for _ in 0..count {
@@ -189,8 +194,8 @@ where
 }
 
 impl<J: Task, R: Passing + Drop> Workers<J, R> {
-    /// Hands a task over to a thread that waits. It comes back where none waits, or where the thread's queue hands it back, which is
-    /// counted: the queue's own call, and nothing else.
+    /// Hands a task over to a thread that waits. It comes back where none waits, or where the thread's queue hands it
+    /// back, which is counted: the queue's own call, and nothing else.
     pub fn give(&mut self, task: J) -> Result<Busy<J, R>, J>
         ensures ok { IfOk result (λ b. (b ≡ task) × HasGiven self.old self.new) }
         ensures err { IfErr result (λ t. (t ≡ task) × HasFailed self.old self.new) }

@@ -33,7 +33,8 @@ impl Model for Kept {
 #[tactic(auto, using(cf_headers::proofs::EntryLists::longer))]
 fn replace_after(kept: &mut Vec<Entry>, k: usize, entries: &[Entry]) -> Result<(), NoMemory>
     requires { k ≤ vec_len kept.old }
-    ensures ok { OnOk result (headers_of kept.new.items ≡ take k (headers_of kept.old.items) ++ headers_of entries.now) }
+    ensures ok { OnOk result
+        (headers_of kept.new.items ≡ take k (headers_of kept.old.items) ++ headers_of entries.now) }
     ensures err { OnErr result (kept.new.items ≡ kept.old.items) }
 {
     kept.reserve(entries.len())?;
@@ -143,7 +144,8 @@ impl Kept {
     /// Takes headers that the peer sent.
     #[tactic(auto, using(cf_headers::proofs::Accepting::accept_none, cf_headers::proofs::Accepting::accept_unlinked, cf_headers::proofs::Accepting::accept_at_link, cf_headers::proofs::Accepting::link_is, cf_headers::proofs::Accepting::link_low))]
     pub(crate) fn accept(&mut self, alloc: Global, headers: &[Header]) -> Result<Change, NoMemory>
-        ensures answer { IfOk result (λ a. a ≡ change_of (link_height headers.now self.old) (accept headers.now self.old)) }
+        ensures answer { IfOk result
+            (λ a. a ≡ change_of (link_height headers.now self.old) (accept headers.now self.old)) }
         ensures after { OnOk result (self.new ≡ chain_after (accept headers.now self.old) self.old) }
         ensures err { OnErr result (self.new ≡ self.old) }
     {
@@ -161,7 +163,8 @@ impl Kept {
     fn accept_at(&mut self, alloc: Global, k: u32, headers: &[Header]) -> Result<Change, NoMemory>
         requires { k ≤ length self.old }
         ensures answer { IfOk result (λ a. a ≡ change_of k (accept_on (Some (lower k self.old)) headers.now self.old)) }
-        ensures after { OnOk result (self.new ≡ chain_after (accept_on (Some (lower k self.old)) headers.now self.old) self.old) }
+        ensures after { OnOk result
+            (self.new ≡ chain_after (accept_on (Some (lower k self.old)) headers.now self.old) self.old) }
         ensures err { OnErr result (self.new ≡ self.old) }
     {
         match check_all(alloc, &Anew, &self.hash_at(k), self.past_at(k), headers)? {
@@ -178,8 +181,10 @@ impl Kept {
     fn put_at(&mut self, k: u32, entries: &[Entry]) -> Result<Change, NoMemory>
         requires within { k ≤ length self.old }
         requires good { AreGoodAbove self.old k (headers_of entries.now) }
-        ensures answer { IfOk result (λ a. a ≡ change_of k (accept_on (Some (lower k self.old)) (headers_of entries.now) self.old)) }
-        ensures after { OnOk result (self.new ≡ chain_after (accept_on (Some (lower k self.old)) (headers_of entries.now) self.old) self.old) }
+        ensures answer { IfOk result
+            (λ a. a ≡ change_of k (accept_on (Some (lower k self.old)) (headers_of entries.now) self.old)) }
+        ensures after { OnOk result
+            (self.new ≡ chain_after (accept_on (Some (lower k self.old)) (headers_of entries.now) self.old) self.old) }
         ensures err { OnErr result (self.new ≡ self.old) }
     {
         let height = k as usize + entries.len();

@@ -10,8 +10,8 @@ use cf_bytes::{Hash32, NoMemory, PeerNo};
 use cf_headers::{Change, HeaderStore, PLACES};
 use std::alloc::Global;
 
-/// Each peer's chain as a list of its own, and the common heights of each two. To look a hash up goes along the chain; to look
-/// a height or a common height up doesn't.
+/// Each peer's chain as a list of its own, and the common heights of each two. To look a hash up goes along the chain;
+/// to look a height or a common height up doesn't.
 #[derive(Drop)]
 pub struct Lists {
     alloc: Global,
@@ -49,7 +49,8 @@ impl Lists {
     // Gives a place the chain of genesis alone.
     fn reset(&mut self, p: PeerNo, entered: bool)
         requires { p.0 < 9 }
-        ensures { Puts (chains_in self.old.slots.items) (chains_in self.new.slots.items) p (if entered then Some [] else None) }
+        ensures { Puts (chains_in self.old.slots.items)
+            (chains_in self.new.slots.items) p (if entered then Some [] else None) }
     {
         let place = p.0 as usize;
         let chain = Kept::new(self.alloc);

@@ -63,7 +63,8 @@ fn unread(fail: FileFail, which: Which) -> Status
 #[tactic(auto, using(crate::proofs::Asking::is_read))]
 pub fn load_watch<F: Files>(alloc: Global, files: &mut F, name: &str) -> Result<Watch, Status>
     ensures answer { IfSome (F.files files.old) (λ m. IsReadAs (watch_verdict (finite.get m name.now)) result) }
-    ensures scripts { IfOk result (λ w. IfSome (F.files files.old) (λ m. IfSome (finite.get m name.now) (λ bytes. watch_of bytes ≡ Ok w))) }
+    ensures scripts { IfOk result
+        (λ w. IfSome (F.files files.old) (λ m. IfSome (finite.get m name.now) (λ bytes. watch_of bytes ≡ Ok w))) }
     ensures same { F.files files.new ≡ F.files files.old }
     ensures fault { IsErrOf result Status.FileFault → HasRisen (F.faults files.old) (F.faults files.new) }
     ensures count { CountsFile result (F.faults files.old) (F.faults files.new) }
@@ -95,7 +96,8 @@ pub fn load_watch<F: Files>(alloc: Global, files: &mut F, name: &str) -> Result<
 #[tactic(auto, using(crate::proofs::Asking::is_read))]
 pub fn load_session<F: Files>(alloc: Global, files: &mut F, name: &str) -> Result<Session, Status>
     ensures answer { IfSome (F.files files.old) (λ m. IsReadAs (session_verdict (finite.get m name.now)) result) }
-    ensures script { IfOk result (λ s. IfSome (F.files files.old) (λ m. IfSome (finite.get m name.now) (λ bytes. session_of bytes ≡ Ok (script_in s)))) }
+    ensures script { IfOk result (λ s. IfSome (F.files files.old)
+        (λ m. IfSome (finite.get m name.now) (λ bytes. session_of bytes ≡ Ok (script_in s)))) }
     ensures named { IfOk result AreNamed }
     ensures few { IfOk result (λ s. length s.dials.items ≤ 8) }
     ensures real { IfOk result (λ s. list_all is_real s.deliveries.items ≡ true) }
@@ -176,7 +178,8 @@ pub fn load_chain<F: Files>(
     name: &str,
 ) -> Result<CheckedChain, Status>
     ensures answer { IfSome (F.files files.old) (λ m. IsReadAs (blocks_verdict (finite.get m name.now)) result) }
-    ensures blocks { IfOk result (λ b. IfSome (F.files files.old) (λ m. IfSome (finite.get m name.now) (λ bytes. blocks_at bytes ≡ Ok b))) }
+    ensures blocks { IfOk result
+        (λ b. IfSome (F.files files.old) (λ m. IfSome (finite.get m name.now) (λ bytes. blocks_at bytes ≡ Ok b))) }
     ensures good { IfOk result (λ b. IsGoodChain b) }
     ensures same { F.files files.new ≡ F.files files.old }
     ensures fault { IsErrOf result Status.FileFault → HasRisen (F.faults files.old) (F.faults files.new) }
@@ -234,7 +237,8 @@ pub fn scan_file<F: Files>(
     watch: &Watch,
 ) -> Result<String, Status>
     ensures answer { IfSome (F.files files.old) (λ m. IsReadAs (blocks_verdict (finite.get m name.now)) result) }
-    ensures text { IfOk result (λ t. IfSome (F.files files.old) (λ m. IfSome (finite.get m name.now) (λ bytes. IsScanOf bytes watch.now (string_bytes t)))) }
+    ensures text { IfOk result (λ t. IfSome (F.files files.old)
+        (λ m. IfSome (finite.get m name.now) (λ bytes. IsScanOf bytes watch.now (string_bytes t)))) }
     ensures same { F.files files.new ≡ F.files files.old }
     ensures fault { IsErrOf result Status.FileFault → HasRisen (F.faults files.old) (F.faults files.new) }
     ensures count { CountsFile result (F.faults files.old) (F.faults files.new) }
@@ -261,7 +265,8 @@ pub fn scan_file<F: Files>(
 #[tactic(auto, using(crate::proofs::Asking::is_read))]
 pub fn load_proof<F: Files>(alloc: Global, files: &mut F, name: &str) -> Result<Proven, Status>
     ensures answer { IfSome (F.files files.old) (λ m. IsReadAs (proof_verdict (finite.get m name.now)) result) }
-    ensures proven { IfOk result (λ p. IfSome (F.files files.old) (λ m. IfSome (finite.get m name.now) (λ bytes. proof_file_of bytes ≡ Ok p))) }
+    ensures proven { IfOk result
+        (λ p. IfSome (F.files files.old) (λ m. IfSome (finite.get m name.now) (λ bytes. proof_file_of bytes ≡ Ok p))) }
     ensures same { F.files files.new ≡ F.files files.old }
     ensures fault { IsErrOf result Status.FileFault → HasRisen (F.faults files.old) (F.faults files.new) }
     ensures count { CountsFile result (F.faults files.old) (F.faults files.new) }

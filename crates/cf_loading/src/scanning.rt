@@ -33,8 +33,8 @@ fn add_last(
     watch: &Watch,
 ) -> Result<Ledger, NoMemory>
     requires { AreTxids walk.now.judge.txids block.now.txs }
-    ensures { (blocks : List Block) → StandsOn walk.now.judge blocks
-        → IfOk result (λ more. more ≡ after_placed ledger (record { height = length blocks; extract = extract_of block.now watch.now })) }
+    ensures { (blocks : List Block) → StandsOn walk.now.judge blocks → IfOk result (λ more. more
+        ≡ after_placed ledger (record { height = length blocks; extract = extract_of block.now watch.now })) }
 {
     let extract = extract_by(alloc, block, walk.txids(), watch)?;
     ledger.add_block(height_of(walk), &extract)
@@ -53,8 +53,8 @@ fn text_of(
     history.text(alloc, height, tip_hash)
 }
 
-/// The history of the watched scripts in the blocks that a source gives, and the tip. Of the blocks one is held at a time, and
-/// the text is made at the end.
+/// The history of the watched scripts in the blocks that a source gives, and the tip. Of the blocks one is held at a
+/// time, and the text is made at the end.
 #[tactic(auto, using(cf_conn::proofs::Stepping::more_steps))]
 pub(crate) fn scan_source<S: Source>(
     alloc: Global,

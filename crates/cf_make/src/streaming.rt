@@ -131,9 +131,10 @@ fn first_tip() -> Tip
     }
 }
 
-/// The records of the chain of so many blocks that the seed tells, the lowest first: as `records` gives them of `chain`,
-/// or with a witness of 32 zero bytes in each coinbase, as nodes keep them (BIP 141, "Commitment structure"). One block is
-/// held at a time. `NoNonce` comes as for `chain`. Seeds are below 2 ^ 33, and there are at most 500,000 blocks.
+/// The records of the chain of so many blocks that the seed tells, the lowest first: as `records` gives them of
+/// `chain`, or with a witness of 32 zero bytes in each coinbase, as nodes keep them (BIP 141, "Commitment structure").
+/// One block is held at a time. `NoNonce` comes as for `chain`. Seeds are below 2 ^ 33, and there are at most 500,000
+/// blocks.
 pub fn made_records(
     alloc: Global,
     witness: bool,

@@ -13,7 +13,8 @@ pub struct Job {
 /// What a filter says of the watched scripts (BIP 158, "Golomb-Coded Set Multi-Match").
 #[derive(Clone, Copy, Debug, PartialEq, Eq)]
 pub enum Verdict {
-    /// It is a Golomb code, and none of them has a value in it: where it was made of the block's items, none is an item.
+    /// It is a Golomb code, and none of them has a value in it: where it was made of the block's items, none is an
+    /// item.
     Miss,
     /// One of them has a value in it, and so may be an item; or the bytes are no Golomb code.
     Hit,

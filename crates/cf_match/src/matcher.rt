@@ -18,8 +18,8 @@ pub trait Matcher {
     /// that is known than the other clauses say.
     ghost judges: { Self → List Job → List (List ℕ) → Result (Vec Verdict Global) NoMemory → Self → Type 0 };
 
-    /// The verdict on each filter, in the order of the filters: `Miss` exactly where it is a Golomb code that has no watched script's value
-    /// under its block's key, else `Hit`.
+    /// The verdict on each filter, in the order of the filters: `Miss` exactly where it is a Golomb code that has no
+    /// watched script's value under its block's key, else `Hit`.
     fn run(&mut self, jobs: &[Job], watch: &Watch) -> Result<Vec<Verdict>, NoMemory>
         ensures verdicts { IfOk result (λ verdicts. verdicts.items ≡ map (verdict_of watch.now) jobs.now) }
         ensures exact { judges self.old jobs.now watch.now result self.new };

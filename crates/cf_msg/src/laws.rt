@@ -12,9 +12,11 @@ ghost use Rattle.cf_msg.specs.Reading.{message_of};
 /// again. A message that has a spelling of at most 4,000,000 bytes may be written, and has a frame. A frame that
 /// carries none is refused at a place in its payload.
 pub fn laws_of_messages()
-    ensures spelled { (f : Frame) (m : Msg) → IsFrame f → IsBytes f.payload → (message_of f ≡ Ok m) ↔ Spells m f.command f.payload }
+    ensures spelled { (f : Frame) (m : Msg) → IsFrame f → IsBytes f.payload
+        → (message_of f ≡ Ok m) ↔ Spells m f.command f.payload }
     ensures again { (m : Msg) → HasSpelling m → message_of (frame_of m) ≡ Ok m }
     ensures frame { (m : Msg) → HasSpelling m → length (payload_of m) ≤ 4000000 → IsFrame (frame_of m) }
     ensures limits { (m : Msg) → HasSpelling m → IsWithinLimits m }
-    ensures place { (f : Frame) (e : Malformed) → message_of f ≡ Err e → (e.command ≡ f.command) × (e.place ≤ length f.payload) }
+    ensures place { (f : Frame) (e : Malformed) → message_of f ≡ Err e
+        → (e.command ≡ f.command) × (e.place ≤ length f.payload) }
 {}

@@ -157,7 +157,8 @@ fn put_u32(n: u32, out: &mut Vec<u8>) -> Result<(), NoMemory>
 
 // The first fields of `version`, signed ones as their bits.
 fn put_sender(version: u32, services: u64, time: u64, out: &mut Vec<u8>) -> Result<(), NoMemory>
-    ensures { OnOk result (out.new.items ≡ out.old.items ++ (to_le_bytes w32 version ++ (to_le_bytes w64 services ++ to_le_bytes w64 time))) }
+    ensures { OnOk result (out.new.items ≡ out.old.items
+        ++ (to_le_bytes w32 version ++ (to_le_bytes w64 services ++ to_le_bytes w64 time))) }
 {
     put_u32(version, out)?;
     put_u64(services, out)?;
@@ -171,7 +172,8 @@ fn put_addresses(
     nonce: u64,
     out: &mut Vec<u8>,
 ) -> Result<(), NoMemory>
-    ensures { OnOk result (out.new.items ≡ out.old.items ++ (address_spelling to.now ++ (address_spelling from.now ++ to_le_bytes w64 nonce))) }
+    ensures { OnOk result (out.new.items ≡ out.old.items
+        ++ (address_spelling to.now ++ (address_spelling from.now ++ to_le_bytes w64 nonce))) }
 {
     put_address(to, out)?;
     put_address(from, out)?;
@@ -185,7 +187,8 @@ fn put_agent(
     relay: Option<u8>,
     out: &mut Vec<u8>,
 ) -> Result<(), NoMemory>
-    ensures { OnOk result (out.new.items ≡ out.old.items ++ (counted_bytes agent.now ++ (to_le_bytes w32 height ++ byte_or_none relay))) }
+    ensures { OnOk result
+        (out.new.items ≡ out.old.items ++ (counted_bytes agent.now ++ (to_le_bytes w32 height ++ byte_or_none relay))) }
 {
     put_counted(agent, out)?;
     put_u32(height, out)?;
@@ -309,7 +312,8 @@ fn put_typed(filter: u8, hash: &Hash32, out: &mut Vec<u8>) -> Result<(), NoMemor
 // The fields of a request about filters of several blocks.
 #[tactic(auto, using(std::proofs::Common::append_assoc))]
 fn put_range(filter: u8, start: u32, stop: &Hash32, out: &mut Vec<u8>) -> Result<(), NoMemory>
-    ensures { OnOk result (out.new.items ≡ out.old.items ++ filter ∷ (to_le_bytes w32 start ++ hash_spelling stop.now)) }
+    ensures { OnOk result
+        (out.new.items ≡ out.old.items ++ filter ∷ (to_le_bytes w32 start ++ hash_spelling stop.now)) }
 {
     out.push(filter)?;
     put_u32(start, out)?;

@@ -20,10 +20,11 @@ use std::sync::{Arc, Wait};
 use std::thread::Threads;
 use std::time::Clock;
 
-/// Peers of which each has a reader in a thread of its own, and a ticker, as wires. It tells on standard error what passes: each dial that failed,
-/// and why; where that is a terminal, at most once a second how far it has come, if that has changed; where it is asked to, at once each peer that
-/// comes, goes or is closed, and how many are left; and by `tell_stand` how a peer stands. Contracts see what the wires tell and how many threads
-/// wait, and not how they are made.
+/// Peers of which each has a reader in a thread of its own, and a ticker, as wires. It tells on standard error what
+/// passes: each dial that failed, and why; where that is a terminal, at most once a second how far it has come, if that
+/// has changed; where it is asked to, at once each peer that comes, goes or is closed, and how many are left; and by
+/// `tell_stand` how a peer stands. Contracts see what the wires tell and how many threads wait, and not how they are
+/// made.
 #[derive(Drop)]
 pub struct Network<R: Wait + Threads + Copy + Drop> {
     rt: HostRuntime,
@@ -45,7 +46,13 @@ impl<R: Wait + Threads + Copy + Drop> Model for Network<R> {
 
     ghost Value = { Standing };
 
-    ghost view = { λ n. record { told = told_of n.hub.book; faults = n.hub.dialer.tcp.faults + (n.hub.missed + faults_in (λ w. w.faults) n.hub.writers.items); keeps = keeps_of n.hub.book; readers = n.hub.readers.count; tickers = n.hub.tickers.count } };
+    ghost view = { λ n. record {
+      told = told_of n.hub.book;
+      faults = n.hub.dialer.tcp.faults + (n.hub.missed + faults_in (λ w. w.faults) n.hub.writers.items);
+      keeps = keeps_of n.hub.book;
+      readers = n.hub.readers.count;
+      tickers = n.hub.tickers.count;
+    } };
 }
 
 // A hub that has dialled nobody, with threads for so many peers and, where there are any, for its ticker.
@@ -59,7 +66,8 @@ fn hub_of<R: Wait + Threads + Copy + Drop + Send + 'static, K: Spawner>(
     ensures told { IfOk result (λ h. Tells [] (told_of h.book)) }
     ensures finished { IfOk result (λ h. (told_of h.book).finished ≡ false) }
     ensures keeps { IfOk result (λ h. keeps_of h.book ≡ false) }
-    ensures threads { IfOk result (λ h. ((h.readers.count ≡ peers) × (h.tickers.count ≡ min 1 peers)) ⊎ HasRisen (K.refusals spawner.old) (K.refusals spawner.new)) }
+    ensures threads { IfOk result (λ h. ((h.readers.count ≡ peers) × (h.tickers.count ≡ min 1 peers))
+        ⊎ HasRisen (K.refusals spawner.old) (K.refusals spawner.new)) }
 {
     let alloc = rt.alloc();
     let dialer = SystemDialer::new(*rt);
@@ -72,8 +80,8 @@ fn hub_of<R: Wait + Threads + Copy + Drop + Send + 'static, K: Spawner>(
 }
 
 impl<R: Wait + Threads + Copy + Drop + Send + 'static> Network<R> {
-    /// Peers of whom none was dialled. For each of so many a thread waits, and one for the ticker, or the spawner's count of refusals rose; where there are
-    /// none no thread is started.
+    /// Peers of whom none was dialled. For each of so many a thread waits, and one for the ticker, or the spawner's
+    /// count of refusals rose; where there are none no thread is started.
     pub fn new<K: Spawner>(
         rt: &HostRuntime,
         handle: R,
@@ -155,8 +163,8 @@ impl<R: Wait + Threads + Copy + Drop> Network<R> {
         self.passed.waited_for(p)
     }
 
-    /// The filters that were asked for last of the peer whose bytes made that a peer was closed: where it is closed for what a filter omits, that
-    /// is the filter of one block. `None` where that peer was asked for something else since.
+    /// The filters that were asked for last of the peer whose bytes made that a peer was closed: where it is closed for
+    /// what a filter omits, that is the filter of one block. `None` where that peer was asked for something else since.
     pub fn closed_at(&self, p: PeerNo) -> Option<FilterSpan> {
         self.passed.closed_at(p)
     }

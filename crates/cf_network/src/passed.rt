@@ -55,8 +55,8 @@ fn asked_by(frame: &[u8]) -> Option<Asked> {
     None
 }
 
-/// The blocks of which a peer is asked for the filters, by one `getcfilters`: from the first height to the block of the stop hash. Where it is
-/// one block these are that block's.
+/// The blocks of which a peer is asked for the filters, by one `getcfilters`: from the first height to the block of the
+/// stop hash. Where it is one block these are that block's.
 #[derive(Clone, Copy, Debug, PartialEq, Eq)]
 pub struct FilterSpan {
     /// The height of the first one.
@@ -212,8 +212,8 @@ impl Passed {
         }
     }
 
-    /// How far it has come, if that is to be told at this moment, where the clock tells it: not as it was told last, and not too soon after that. Then
-    /// it counts as told.
+    /// How far it has come, if that is to be told at this moment, where the clock tells it: not as it was told last,
+    /// and not too soon after that. Then it counts as told.
     pub(crate) fn news(&mut self, now: Option<Duration>) -> Option<Progress> {
         let progress = Some(self.progress());
         if self.last == progress || !self.is_time(now) {
@@ -247,7 +247,8 @@ impl Passed {
         }
     }
 
-    /// The filters that were asked for last of the peer whose delivery closed this one; `None` where it was asked for something else.
+    /// The filters that were asked for last of the peer whose delivery closed this one; `None` where it was asked for
+    /// something else.
     pub(crate) fn closed_at(&self, p: PeerNo) -> Option<FilterSpan> {
         match self.stand(p) {
             Some(Stand::Closed(span)) => span,

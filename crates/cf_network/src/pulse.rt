@@ -77,8 +77,9 @@ impl Bell {
     }
 }
 
-/// What asks a pulse for seconds. Of those that are asked for and weren't delivered yet there is never more than one: else a run that was busy with
-/// others would find many in its queue, and take them for the age of what it asked for long after.
+/// What asks a pulse for seconds. Of those that are asked for and weren't delivered yet there is never more than one:
+/// else a run that was busy with others would find many in its queue, and take them for the age of what it asked for
+/// long after.
 #[derive(Drop)]
 pub(crate) struct Asker {
     bell: Arc<Bell, Global>,
@@ -113,8 +114,9 @@ impl Asker {
     }
 }
 
-/// A pulse of about a second. It tells no answers. It waits until a second is asked for, and only then begins to count it, so that what nobody
-/// waited for isn't told: dials, work on a delivery, or a time in which the process was stopped. Once its bell is rung it doesn't wait any more.
+/// A pulse of about a second. It tells no answers. It waits until a second is asked for, and only then begins to count
+/// it, so that what nobody waited for isn't told: dials, work on a delivery, or a time in which the process was
+/// stopped. Once its bell is rung it doesn't wait any more.
 #[derive(Drop)]
 pub(crate) struct Naps<R> {
     rt: HostRuntime,

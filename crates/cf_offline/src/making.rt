@@ -10,12 +10,13 @@ use cf_headers::HEIGHT_LIMIT;
 use cf_make::made_records;
 use std::alloc::Global;
 
-/// Makes the chain of so many blocks that a seed tells, and writes its records to a file, their coinbases with a witness or
-/// without. More blocks than a chain may have, 500,000, for which no words ask, are refused as for want of memory.
+/// Makes the chain of so many blocks that a seed tells, and writes its records to a file, their coinbases with a
+/// witness or without. More blocks than a chain may have, 500,000, for which no words ask, are refused as for want of
+/// memory.
 ///
-/// The answer is `Done` where the file was written, and `NoNonce` with the lowest height at which none of the nonces from
-/// 0 to 65,535 serves; `FileFault` comes where the file can't be written, which alone may have changed. But for these
-/// two, `Done` and `FileFault`, nothing has changed.
+/// The answer is `Done` where the file was written, and `NoNonce` with the lowest height at which none of the nonces
+/// from 0 to 65,535 serves; `FileFault` comes where the file can't be written, which alone may have changed. But for
+/// these two, `Done` and `FileFault`, nothing has changed.
 pub fn make<F: Files>(
     alloc: Global,
     files: &mut F,

@@ -157,7 +157,8 @@ fn write_proven<O: Sink>(alloc: Global, proven: &Proven, out: &mut O) -> Status
 fn check_file<F: Files, O: Sink>(alloc: Global, files: &mut F, file: &str, out: &mut O) -> Status
     ensures judged { IfSome (F.files files.old) (λ m. IsJudged (proof_verdict (finite.get m file.now)) result) }
     ensures answers { IsOfScan result (O.written out.old) (O.written out.new) }
-    ensures told { IfSome (F.files files.old) (λ m. IfSome (finite.get m file.now) (λ b. Checks result (proof_file_of b) (O.written out.old) (O.written out.new))) }
+    ensures told { IfSome (F.files files.old) (λ m. IfSome (finite.get m file.now)
+        (λ b. Checks result (proof_file_of b) (O.written out.old) (O.written out.new))) }
     ensures unchanged { F.files files.new ≡ F.files files.old }
     ensures files { IsRead F.reads file.now files.old files.new }
     ensures unwritten { has_run result ≡ false → O.written out.new ≡ O.written out.old }

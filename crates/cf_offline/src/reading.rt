@@ -55,7 +55,8 @@ fn text_of_filter(
     filter: &[u8],
     header: &Hash32,
 ) -> Result<String, NoMemory>
-    ensures { IfOk result (λ text. string_bytes text ≡ filter_text (record { block = block.now.0; filter = filter.now; header = header.now.0 })) }
+    ensures { IfOk result (λ text. string_bytes text
+        ≡ filter_text (record { block = block.now.0; filter = filter.now; header = header.now.0 })) }
 {
     let block = hash_line(alloc, "block", block)?;
     let bytes = bytes_line(alloc, "filter", filter)?;
@@ -108,7 +109,8 @@ pub fn scan<F: Files, O: Sink>(
     watch: &str,
     out: &mut O,
 ) -> Status
-    ensures judged { IfSome (F.files files.old) (λ m. IsJudged (and_then (watch_verdict (finite.get m watch.now)) (blocks_verdict (finite.get m file.now))) result) }
+    ensures judged { IfSome (F.files files.old) (λ m. IsJudged
+        (and_then (watch_verdict (finite.get m watch.now)) (blocks_verdict (finite.get m file.now))) result) }
     ensures scanned { IsScanned result (F.files files.old) watch.now file.now (O.written out.old) (O.written out.new) }
     ensures unchanged { F.files files.new ≡ F.files files.old }
     ensures files { AreRead F.reads F.opens F.parts (Whole watch.now ∷ ByParts file.now ∷ []) files.old files.new }
@@ -126,7 +128,8 @@ pub fn scan<F: Files, O: Sink>(
     }
 }
 
-/// Writes the hash, the filter and the filter header of the block at a height of a file of blocks. Genesis has height 0.
+/// Writes the hash, the filter and the filter header of the block at a height of a file of blocks. Genesis has
+/// height 0.
 ///
 /// The answer is `Done` where the whole text was written, and `NoHeight` with the height of the tip where the height is
 /// above it. `BadFile` and `FileFault` are those of `load_chain`; `OutFault` comes where the sink fails. But for
@@ -161,7 +164,8 @@ fn filter_in<R: Threads + Sync, O: Sink>(
     height: u32,
     out: &mut O,
 ) -> Status
-    ensures told { TellsHeight result (O.written out.old) (O.written out.new) chain height (nat_lt (length chain) height) }
+    ensures told { TellsHeight result (O.written out.old)
+        (O.written out.new) chain height (nat_lt (length chain) height) }
     ensures answers { IsOfFilter result (O.written out.old) (O.written out.new) }
     ensures unwritten { has_run result ≡ false → O.written out.new ≡ O.written out.old }
     ensures fault { result ≡ Status.OutFault → HasRisen (O.faults out.old) (O.faults out.new) }
@@ -175,7 +179,8 @@ fn filter_in<R: Threads + Sync, O: Sink>(
 
 // Writes the lines of the block at a height, or answers that there is none.
 fn write_filter<O: Sink>(alloc: Global, index: &Index, height: u32, out: &mut O) -> Status
-    ensures told { TellsHeight result (O.written out.old) (O.written out.new) index.now height (nat_lt (length index.now) height) }
+    ensures told { TellsHeight result (O.written out.old)
+        (O.written out.new) index.now height (nat_lt (length index.now) height) }
     ensures answers { IsOfFilter result (O.written out.old) (O.written out.new) }
     ensures unwritten { has_run result ≡ false → O.written out.new ≡ O.written out.old }
     ensures fault { result ≡ Status.OutFault → HasRisen (O.faults out.old) (O.faults out.new) }

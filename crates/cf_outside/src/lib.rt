@@ -1,4 +1,5 @@
-//! What runs in the threads of a hub, and what it reaches: readers, tickers, dialers, writers and pulses. Over TCP, too.
+//! What runs in the threads of a hub, and what it reaches: readers, tickers, dialers, writers and pulses. Over TCP,
+//! too.
 #![tactic(auto)]
 
 mod entry;

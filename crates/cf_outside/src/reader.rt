@@ -38,7 +38,9 @@ pub struct Finished<S> {
 fn send_last<R: Wait>(rt: &R, sender: &mut Sender<Kind>) -> bool
     ensures ring { (sends_on sender.new.line ≡ sends_on sender.old.line) × (sender.new.number ≡ sender.old.number) }
     ensures stop { result ≡ false }
-    ensures last { ((view sender.new.seat).sent ≡ (view sender.old.seat).sent ++ entry sender.old.number Last ∷ []) ⊎ (((view sender.new.seat).sent ≡ (view sender.old.seat).sent) × HasRisen sender.old.returned sender.new.returned) }
+    ensures last { ((view sender.new.seat).sent ≡ (view sender.old.seat).sent ++ entry sender.old.number Last ∷ [])
+        ⊎ (((view sender.new.seat).sent ≡ (view sender.old.seat).sent)
+        × HasRisen sender.old.returned sender.new.returned) }
 {
     let _ = sender.send(rt, Kind::Last);
     false
@@ -48,9 +50,9 @@ fn send_last<R: Wait>(rt: &R, sender: &mut Sender<Kind>) -> bool
 fn read_one<S: Source, R: Wait>(rt: &R, source: &mut S, sender: &mut Sender<Kind>) -> bool
     ensures ring { (sends_on sender.new.line ≡ sends_on sender.old.line) × (sender.new.number ≡ sender.old.number) }
     ensures kept { result ≡ true → sender.new.returned ≡ sender.old.returned }
-    ensures step { MatchBool result
-        (Goes S.left S.faults sender.old.number source.old (view sender.old.seat).sent (view sender.new.seat).sent source.new)
-        (Stops S.left S.faults S.ended sender.old.number source.old (view sender.old.seat).sent sender.old.returned (view sender.new.seat).sent sender.new.returned source.new) }
+    ensures step { MatchBool result (Goes S.left S.faults sender.old.number source.old (view sender.old.seat).sent
+        (view sender.new.seat).sent source.new) (Stops S.left S.faults S.ended sender.old.number source.old
+        (view sender.old.seat).sent sender.old.returned (view sender.new.seat).sent sender.new.returned source.new) }
 {
     let mut buf = [0; CHUNK];
     match source.read(&mut buf) {
@@ -68,7 +70,9 @@ fn read_one<S: Source, R: Wait>(rt: &R, source: &mut S, sender: &mut Sender<Kind
 impl<S: Source + Drop, R: Wait + Drop> Task for Reader<S, R> {
     type Out = Finished<S>;
 
-    ghost gives = { λ r o. (sends_on o.sender.line ≡ sends_on r.sender.line) × (o.sender.number ≡ r.sender.number) × Reads S.left S.faults S.ended r.source (view o.sender.seat).sent o.source × HasStopped r.sender.returned (view o.sender.seat).sent o.sender.returned };
+    ghost gives = { λ r o. (sends_on o.sender.line ≡ sends_on r.sender.line) × (o.sender.number ≡ r.sender.number)
+        × Reads S.left S.faults S.ended r.source (view o.sender.seat).sent o.source
+        × HasStopped r.sender.returned (view o.sender.seat).sent o.sender.returned };
 
     fn run(self) -> Finished<S> {
         let Reader {

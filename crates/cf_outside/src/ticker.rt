@@ -48,9 +48,10 @@ fn tick_one<P: Pulse, R: Wait>(
 ) -> bool
     ensures ring { (sends_on sender.new.line ≡ sends_on sender.old.line) × (sender.new.number ≡ sender.old.number) }
     ensures kept { result ≡ true → sender.new.returned ≡ sender.old.returned }
-    ensures step { MatchBool result
-        (TicksOn P.answers sender.old.number pulse.old (view sender.old.seat).sent (view sender.new.seat).sent pulse.new)
-        (TicksOff P.answers sender.old.number pulse.old (view sender.old.seat).sent sender.old.returned (view sender.new.seat).sent sender.new.returned pulse.new stop.new) }
+    ensures step { MatchBool result (TicksOn P.answers sender.old.number pulse.old
+        (view sender.old.seat).sent (view sender.new.seat).sent pulse.new)
+        (TicksOff P.answers sender.old.number pulse.old (view sender.old.seat).sent sender.old.returned
+        (view sender.new.seat).sent sender.new.returned pulse.new stop.new) }
 {
     let seconds = pulse.wait();
     if stop.is_told() {
@@ -63,7 +64,10 @@ fn tick_one<P: Pulse, R: Wait>(
 impl<P: Pulse, R: Wait + Drop> Task for Ticker<P, R> {
     type Out = Stopped<P>;
 
-    ghost gives = { λ t o. (sends_on o.sender.line ≡ sends_on t.sender.line) × (o.sender.number ≡ t.sender.number) × Ticked P.answers t.pulse (view o.sender.seat).sent o.pulse × HasStopped t.sender.returned (view o.sender.seat).sent o.sender.returned × WasTold o.stop t.sender.returned o.sender.returned };
+    ghost gives = { λ t o. (sends_on o.sender.line ≡ sends_on t.sender.line)
+        × (o.sender.number ≡ t.sender.number) × Ticked P.answers t.pulse (view o.sender.seat).sent o.pulse
+        × HasStopped t.sender.returned (view o.sender.seat).sent o.sender.returned
+        × WasTold o.stop t.sender.returned o.sender.returned };
 
     fn run(self) -> Stopped<P> {
         let Ticker {

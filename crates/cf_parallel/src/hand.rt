@@ -86,7 +86,8 @@ impl<G: Gate, R: Wait + Threads + Drop> Hand<G, R> {
         self.owes = self.parts.send(&self.rt, part).is_ok();
     }
 
-    /// The answer to the part that was handed over; `None` where none was, or where it isn't on these filters and scripts.
+    /// The answer to the part that was handed over; `None` where none was, or where it isn't on these filters and
+    /// scripts.
     pub(crate) fn answer(
         &mut self,
         jobs: &[Job],

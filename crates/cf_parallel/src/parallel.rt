@@ -20,9 +20,9 @@ use std::marker::Model;
 use std::sync::{Arc, Wait};
 use std::thread::Threads;
 
-/// A matcher that cuts each batch in so many parts, at most 64. The caller's thread judges the first, while threads that were started with the
-/// matcher judge the others; those for which there is none it judges afterwards. Contracts see the number of parts and that of its threads, which
-/// end with it.
+/// A matcher that cuts each batch in so many parts, at most 64. The caller's thread judges the first, while threads
+/// that were started with the matcher judge the others; those for which there is none it judges afterwards. Contracts
+/// see the number of parts and that of its threads, which end with it.
 #[derive(Drop)]
 pub struct Parallel<G: Gate, R: Wait + Threads + Drop> {
     alloc: Global,
@@ -45,8 +45,8 @@ impl<G: Gate, R: Wait + Threads + Drop> Model for Parallel<G, R> {
 }
 
 impl<R: Wait + Threads + Copy + Drop + Send + 'static> Parallel<Open, R> {
-    /// A matcher over so many threads, the caller's among them: for each other one a task is put to the spawner. There are fewer only where its count of
-    /// refusals rose.
+    /// A matcher over so many threads, the caller's among them: for each other one a task is put to the spawner. There
+    /// are fewer only where its count of refusals rose.
     pub fn new<K: Spawner>(
         rt: R,
         alloc: Global,
@@ -175,14 +175,16 @@ impl<G: Gate, R: Wait + Threads + Drop> Parallel<G, R> {
         self.plain.run(part, watch)
     }
 
-    /// The verdicts on each part of a batch, in order: the parts are as many as there are workers, and their lengths differ by at most one.
+    /// The verdicts on each part of a batch, in order: the parts are as many as there are workers, and their lengths
+    /// differ by at most one.
     pub fn judge_in_parts(
         &mut self,
         jobs: &[Job],
         watch: &Watch,
     ) -> Result<Vec<Vec<Verdict>>, NoMemory>
         ensures same { self.new ≡ self.old }
-        ensures parts { IfOk result (λ parts. map (λ v. v.items) parts.items ≡ map (map (verdict_of watch.now)) (in_parts self.old.parts jobs.now)) }
+        ensures parts { IfOk result (λ parts. map (λ v. v.items) parts.items
+            ≡ map (map (verdict_of watch.now)) (in_parts self.old.parts jobs.now)) }
     {
         let mut parts = Vec::with_capacity(self.alloc, self.workers)?;
         self.hand_over(jobs, watch);

@@ -2,8 +2,8 @@
 ghost use Rattle.std.specs.Prelude.{◌≡◌, ◌<◌, ◌≤◌};
 ghost use Rattle.cf_parallel.specs.Parts.{place_of};
 
-/// Where part k of a batch of n in so many parts begins, the first part being 0: the first n % parts of them have one more than
-/// the others. At k = parts it is where the last one ends.
+/// Where part k of a batch of n in so many parts begins, the first part being 0: the first n % parts of them have one
+/// more than the others. At k = parts it is where the last one ends.
 pub fn place(n: usize, parts: usize, k: usize) -> usize
     requires some { 0 < parts }
     requires most { parts ≤ 64 }

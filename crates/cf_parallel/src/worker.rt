@@ -41,7 +41,8 @@ impl Part {
         jobs: &[Job],
         watch: &Arc<Watch, Global>,
     ) -> Result<Part, NoMemory>
-        ensures { IfOk result (λ p. (p.number ≡ number) × (p.filters ≡ jobs.now) × (arc_value p.watch ≡ arc_value watch.now)) }
+        ensures { IfOk result
+            (λ p. (p.number ≡ number) × (p.filters ≡ jobs.now) × (arc_value p.watch ≡ arc_value watch.now)) }
     {
         let filters = Packed::of(alloc, jobs)?;
         let watch = Arc::try_clone(watch)?;

@@ -31,8 +31,9 @@ pub(crate) fn is_answer(filter: u8, hash: &Hash32, wanted: &Hash32) -> bool
 }
 
 impl Peer {
-    /// The run of blocks whose claims are open to the peer, taken from it, where an answer of this filter type up to this block is one to them: the
-    /// type is 0 (basic) and the hash, in wire order, that of the last block. Claims that don't answer what is open are read over.
+    /// The run of blocks whose claims are open to the peer, taken from it, where an answer of this filter type up to
+    /// this block is one to them: the type is 0 (basic) and the hash, in wire order, that of the last block. Claims
+    /// that don't answer what is open are read over.
     pub fn take_range(&mut self, filter: u8, stop: &Hash32) -> Option<Range>
         ensures took { TookRange self.old self.new filter stop.now result }
         ensures waits { self.new.framer ≡ self.old.framer }
@@ -49,7 +50,8 @@ impl Peer {
 
     // Gives the open run of blocks back.
     fn give_range(&mut self) -> Option<Range>
-        ensures given { (range : Range) (age : ℕ) → self.old.request ≡ Claims range age → (result ≡ Some range) × (self.new ≡ record self.old { request = Nothing }) }
+        ensures given { (range : Range) (age : ℕ) → self.old.request ≡ Claims range age
+            → (result ≡ Some range) × (self.new ≡ record self.old { request = Nothing }) }
         ensures waits { self.new.framer ≡ self.old.framer }
         ensures calm { calm self.old ≡ true → calm self.new ≡ true }
     {
@@ -68,8 +70,8 @@ impl Peer {
         self.request = Request::Claims(range, 0);
     }
 
-    /// Opens a request for the filters of blocks, given by their hashes, the lowest first (BIP 157, "getcfilters"), to a peer to whom nothing is
-    /// open.
+    /// Opens a request for the filters of blocks, given by their hashes, the lowest first (BIP 157, "getcfilters"), to
+    /// a peer to whom nothing is open.
     pub fn ask_filters(&mut self, alloc: Global, blocks: Hashes)
         requires { is_idle_peer self.old ≡ true }
         ensures asked { self.new ≡ asked_for_filters blocks self.old }

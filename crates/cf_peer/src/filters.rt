@@ -72,9 +72,10 @@ impl Batch {
 }
 
 impl Peer {
-    /// Takes a filter that the peer sent: its type, its block's hash in wire order, and its bytes. One that isn't the next of what is open to it is
-    /// read over, and one of another hash than the peer claims has it closed for `OtherFilter`. The last of a batch ends the open request. Where no
-    /// memory is found nothing is open to it, and what came of the batch is lost.
+    /// Takes a filter that the peer sent: its type, its block's hash in wire order, and its bytes. One that isn't the
+    /// next of what is open to it is read over, and one of another hash than the peer claims has it closed for
+    /// `OtherFilter`. The last of a batch ends the open request. Where no memory is found nothing is open to it, and
+    /// what came of the batch is lost.
     pub fn hear_filter(
         &mut self,
         alloc: Global,
@@ -85,7 +86,9 @@ impl Peer {
         bytes: &[u8],
     ) -> Result<Heard, NoMemory>
         requires right { IsRight self.old.request (tables_of claims.now p.0) }
-        ensures heard { IfOk result (λ o. (t : Trail) → Holds self.old t → ((hash : List ℕ) → tables_of claims.now p.0 hash ≡ claims_in t hash) → TakesFilter self.new (Cfilter filter block.now bytes.now) t o) }
+        ensures heard { IfOk result (λ o. (t : Trail) → Holds self.old t
+            → ((hash : List ℕ) → tables_of claims.now p.0 hash ≡ claims_in t hash)
+            → TakesFilter self.new (Cfilter filter block.now bytes.now) t o) }
         ensures right { OnOk result (IsRight self.new.request (tables_of claims.now p.0)) }
         ensures err { OnErr result (self.new ≡ record self.old { request = Nothing }) }
         ensures waits { self.new.framer ≡ self.old.framer }
@@ -107,7 +110,8 @@ impl Peer {
     // Puts the next filter of the open batch, and gives the filters back where it was the last.
     fn put_filter(&mut self, alloc: Global, block: &Hash32, bytes: &[u8]) -> Result<Heard, NoMemory>
         ensures err { OnErr result (self.new ≡ record self.old { request = Nothing }) }
-        ensures put { IfOk result (λ o. (batch : Batch) (age : ℕ) → self.old.request ≡ Filters batch age → IsPut self.old self.new (with_filter batch (filter_of block.now bytes.now)) age o) }
+        ensures put { IfOk result (λ o. (batch : Batch) (age : ℕ) → self.old.request ≡ Filters batch age
+            → IsPut self.old self.new (with_filter batch (filter_of block.now bytes.now)) age o) }
         ensures waits { self.new.framer ≡ self.old.framer }
         ensures calm { calm self.old ≡ true → calm self.new ≡ true }
     {

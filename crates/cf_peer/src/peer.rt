@@ -192,9 +192,11 @@ impl Peer {
         }
     }
 
-    /// Takes what it tells of blocks (`inv`): whether one of them isn't on its own chain. A client that follows hears it out again then.
+    /// Takes what it tells of blocks (`inv`): whether one of them isn't on its own chain. A client that follows hears
+    /// it out again then.
     pub fn hear_news(&mut self, unknown: bool)
-        ensures heard { (t : Trail) (entries : List Entry) → Holds self.old t → unknown ≡ list_any (is_unknown (own t)) entries → Holds self.new (Said (Inv entries) ∷ t) }
+        ensures heard { (t : Trail) (entries : List Entry) → Holds self.old t
+            → unknown ≡ list_any (is_unknown (own t)) entries → Holds self.new (Said (Inv entries) ∷ t) }
         ensures right { (table : Table) → IsRight self.old.request table → IsRight self.new.request table }
         ensures waits { self.new.framer ≡ self.old.framer }
         ensures calm { calm self.old ≡ true → calm self.new ≡ true }
@@ -204,10 +206,12 @@ impl Peer {
         }
     }
 
-    /// Opens a ping, and answers its number: one above that of the last, 1 for the first. `None` where all numbers were used.
+    /// Opens a ping, and answers its number: one above that of the last, 1 for the first. `None` where all numbers were
+    /// used.
     pub fn ask_ping(&mut self) -> Option<u64>
         requires { is_idle_peer self.old ≡ true }
-        ensures asked { IfSome result (λ number. (number ≡ self.old.pings + 1) × (self.new ≡ asked_for_ping number self.old)) }
+        ensures asked { IfSome result
+            (λ number. (number ≡ self.old.pings + 1) × (self.new ≡ asked_for_ping number self.old)) }
         ensures none { IfNone result ((self.old.pings ≡ 18446744073709551615) × (self.new ≡ self.old)) }
     {
         let number = self.pings.checked_add(1)?;
@@ -245,12 +249,14 @@ impl Peer {
         Reply::Send(Msg::Verack)
     }
 
-    /// Takes what so many headers did to the chain of a ready peer: the cause that they give, if they give one. Headers end an
-    /// open `getheaders`; where there were fewer than 2000, or they made no longer chain, the peer has no more to tell.
+    /// Takes what so many headers did to the chain of a ready peer: the cause that they give, if they give one. Headers
+    /// end an open `getheaders`; where there were fewer than 2000, or they made no longer chain, the peer has no more
+    /// to tell.
     #[tactic(auto, using(crate::proofs::Modes::headers_heard))]
     pub fn hear_headers(&mut self, change: &Change, count: usize) -> Option<Cause>
         requires ready { is_ready_peer self.old ≡ true }
-        ensures heard { (t : Trail) (hs : List Header) → Holds self.old t → count ≡ length hs → change.now ≡ change_of (link_height hs (own t)) (accept hs (own t)) → TakesHeaders self.new hs t result }
+        ensures heard { (t : Trail) (hs : List Header) → Holds self.old t → count ≡ length hs
+            → change.now ≡ change_of (link_height hs (own t)) (accept hs (own t)) → TakesHeaders self.new hs t result }
         ensures right { (table : Table) → IsRight self.old.request table → IsRight self.new.request table }
         ensures waits { self.new.framer ≡ self.old.framer }
         ensures calm { calm self.old ≡ true → calm self.new ≡ true }
@@ -282,8 +288,10 @@ impl Peer {
     /// Takes the block that is open to it.
     pub fn take_block(&mut self, hash: &Hash32)
         requires { awaits_block self.old hash.now ≡ true }
-        ensures holds { (t : Trail) (b : Block) → Holds self.old t → block_hash_of b.header ≡ hash.now.0 → commit_fault b ≡ None → Holds self.new (Said (BlockMessage b) ∷ t) }
-        ensures brought { (t : Trail) (b : Block) → Holds self.old t → block_hash_of b.header ≡ hash.now.0 → commit_fault b ≡ None → fetched_by (BlockMessage b) (request t) ≡ b ∷ [] }
+        ensures holds { (t : Trail) (b : Block) → Holds self.old t → block_hash_of b.header ≡ hash.now.0
+            → commit_fault b ≡ None → Holds self.new (Said (BlockMessage b) ∷ t) }
+        ensures brought { (t : Trail) (b : Block) → Holds self.old t → block_hash_of b.header ≡ hash.now.0
+            → commit_fault b ≡ None → fetched_by (BlockMessage b) (request t) ≡ b ∷ [] }
         ensures right { (table : Table) → IsRight self.new.request table }
         ensures waits { self.new.framer ≡ self.old.framer }
         ensures calm { calm self.new ≡ true }

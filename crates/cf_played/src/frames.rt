@@ -54,7 +54,8 @@ pub(crate) fn own_frame(
     reply: Reply,
 ) -> Result<Vec<u8>, NoMemory>
     requires { IsReplyOf index.now reply }
-    ensures exact { IfOk result (λ bytes. bytes.items ≡ spelling (frame_of (message_of (machine seen) index.now reply))) }
+    ensures exact { IfOk result
+        (λ bytes. bytes.items ≡ spelling (frame_of (message_of (machine seen) index.now reply))) }
     ensures alike { IfOk result (λ bytes. IsFrameAlike (message_of (machine seen) index.now reply) bytes.items) }
 {
     // An index has a good chain, and a number has 64 bits, so that the message can be sent.

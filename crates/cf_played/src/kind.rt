@@ -7,7 +7,8 @@ use cf_bytes::Listed;
 pub enum Kind {
     /// As the serving machine of its chain does.
     Honest,
-    /// As an honest one, but its filters, their hashes and their headers are made without these scripts, at every height.
+    /// As an honest one, but its filters, their hashes and their headers are made without these scripts, at every
+    /// height.
     Omits(Listed<Script>),
     /// As an honest one, but to `version` and to `getheaders` alone.
     Silent,

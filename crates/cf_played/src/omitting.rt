@@ -246,7 +246,8 @@ fn other_message(
     reply: Reply,
 ) -> Result<Option<Msg>, NoMemory>
     requires { IsReplyOf index.now reply }
-    ensures { IfOk result (λ message. IfSome message (λ m. IsOther m × ((seen : Bool) → is_filtering (message_of (machine seen) index.now reply) ≡ true))) }
+    ensures { IfOk result (λ message. IfSome message (λ m. IsOther m × ((seen : Bool)
+        → is_filtering (message_of (machine seen) index.now reply) ≡ true))) }
 {
     // An index has a good chain, so that the message can be sent.
     let _tip = index.tip();

@@ -28,8 +28,9 @@ use std::thread::Threads;
 /// The seconds of a tick.
 const TICK: u32 = 60;
 
-/// Peers in memory. The first dial reaches the first that was added, the second the second, whatever the names; a dial behind the last one reaches nobody
-/// who answers. Each answers at once what it is sent, and what it answers waits to be delivered. They always tell their log.
+/// Peers in memory. The first dial reaches the first that was added, the second the second, whatever the names; a dial
+/// behind the last one reaches nobody who answers. Each answers at once what it is sent, and what it answers waits to
+/// be delivered. They always tell their log.
 #[derive(Drop)]
 pub struct Played {
     alloc: Global,
@@ -160,7 +161,8 @@ impl Played {
     ghost use Rattle.cf_chain.specs.Good.{IsGoodChain};
     ghost use Rattle.cf_played.specs.Peers.{Peer, made_of, still};
     ghost use Rattle.cf_played.specs.Told.{HasAdded, IfRefused, log_of, told_of, keeps_of, finished_of, peers_of};
-    ghost use Rattle.cf_played.specs.Answers.{came, told_to, answered_to, is_plain, HasBegun, HasAnswered, HasBegunAlike};
+    ghost use Rattle.cf_played.specs.Answers.{came, told_to, answered_to, is_plain, HasBegun, HasAnswered};
+    ghost use Rattle.cf_played.specs.Answers.{HasBegunAlike};
 
     /// No peers.
     pub fn new(alloc: Global) -> Result<Played, NoMemory>
@@ -181,8 +183,8 @@ impl Played {
         })
     }
 
-    /// Adds a peer that serves a chain, at most eight in all. All are added before the first dial. A chain is refused where it isn't good. Where it is refused, or no memory is
-    /// found, nothing has changed.
+    /// Adds a peer that serves a chain, at most eight in all. All are added before the first dial. A chain is refused
+    /// where it isn't good. Where it is refused, or no memory is found, nothing has changed.
     #[tactic(auto, using(crate::proofs::Accounts::added_so))]
     pub fn add(
         &mut self,
@@ -212,22 +214,32 @@ impl Played {
         self.players.len()
     }
 
-    /// Of a peer whose filters are its chain's, the bytes that were delivered and those that wait are exactly the frames of its answers to the messages
-    /// that the sends to it spell: of an honest one the machine's replies. At every earlier moment those that were delivered were a beginning of them, and
-    /// whenever seconds passed they were all. Of any peer, at every moment those that were delivered were a beginning of the frames of messages that are like
-    /// the machine's replies, one by one: the same, or both of them tell of filters. No dial and no send fails, and nobody goes.
+    /// Of a peer whose filters are its chain's, the bytes that were delivered and those that wait are exactly the
+    /// frames of its answers to the messages that the sends to it spell: of an honest one the machine's replies. At
+    /// every earlier moment those that were delivered were a beginning of them, and whenever seconds passed they were
+    /// all. Of any peer, at every moment those that were delivered were a beginning of the frames of messages that are
+    /// like the machine's replies, one by one: the same, or both of them tell of filters. No dial and no send fails,
+    /// and nobody goes.
     pub fn accounts(&self)
-        ensures now { (i : ℕ) (peer : Peer) → slice_get (peers_of self.now) i ≡ Some peer → is_plain peer.way ≡ true → came (log_of self.now) (suc i) ++ peer.waiting ≡ answered_to peer.way peer.blocks (told_to (log_of self.now) (suc i)) }
-        ensures past { (i k : ℕ) (peer : Peer) → slice_get (peers_of self.now) i ≡ Some peer → is_plain peer.way ≡ true → HasBegun peer.way peer.blocks (drop k (log_of self.now)) (suc i) }
-        ensures ticks { (i k s : ℕ) (older : Log) (peer : Peer) → slice_get (peers_of self.now) i ≡ Some peer → is_plain peer.way ≡ true → drop k (log_of self.now) ≡ Took (Tick s) ∷ older → HasAnswered peer.way peer.blocks older (suc i) }
-        ensures alike { ∥ ((i k : ℕ) (peer : Peer) → slice_get (peers_of self.now) i ≡ Some peer → HasBegunAlike peer.way peer.blocks (drop k (log_of self.now)) (suc i)) ∥₁ }
+        ensures now { (i : ℕ) (peer : Peer) → slice_get (peers_of self.now) i ≡ Some peer → is_plain peer.way ≡ true
+            → came (log_of self.now) (suc i) ++ peer.waiting
+            ≡ answered_to peer.way peer.blocks (told_to (log_of self.now) (suc i)) }
+        ensures past { (i k : ℕ) (peer : Peer) → slice_get (peers_of self.now) i ≡ Some peer → is_plain peer.way ≡ true
+            → HasBegun peer.way peer.blocks (drop k (log_of self.now)) (suc i) }
+        ensures ticks { (i k s : ℕ) (older : Log) (peer : Peer) → slice_get (peers_of self.now) i ≡ Some peer
+            → is_plain peer.way ≡ true → drop k (log_of self.now) ≡ Took (Tick s) ∷ older
+            → HasAnswered peer.way peer.blocks older (suc i) }
+        ensures alike { ∥ ((i k : ℕ) (peer : Peer) → slice_get (peers_of self.now) i ≡ Some peer
+            → HasBegunAlike peer.way peer.blocks (drop k (log_of self.now)) (suc i)) ∥₁ }
         ensures stays { list_all is_staying (log_of self.now) ≡ true }
     {}
 
-    /// What the wires are made to give, which no call of `Wires` changes, tells the peers: how each answers, and its chain. So after any calls they are those that were added.
+    /// What the wires are made to give, which no call of `Wires` changes, tells the peers: how each answers, and its
+    /// chain. So after any calls they are those that were added.
     pub fn same_peers(&self)
         ensures good { AreGood (peers_of self.now) }
-        ensures same { (peers : List Peer) → AreGood peers → made_of peers ≡ made_of (peers_of self.now) → map still peers ≡ map still (peers_of self.now) }
+        ensures same { (peers : List Peer) → AreGood peers → made_of peers ≡ made_of (peers_of self.now)
+            → map still peers ≡ map still (peers_of self.now) }
     {
         // The peers' chains are good.
         see_good(&self.players);
@@ -268,8 +280,10 @@ impl Wires for Played {
     #[tactic(auto, using(crate::proofs::Accounts::kept_so, crate::proofs::Accounts::dialled_so))]
     fn dial(&mut self, name: &str) -> Result<PeerNo, WireFail>
         requires { (told_of self.old).tally.dials < 8 }
-        ensures dialled { IfOk result (λ p. (p.0 ≡ (told_of self.old).tally.dials + 1) × (told_of self.new ≡ tell (Dialled p name.now) (told_of self.old))) }
-        ensures not_dialled { IsErrOf result WireFail.Failed → told_of self.new ≡ tell (NotDialled (record { 0 = (told_of self.old).tally.dials + 1 }) name.now) (told_of self.old) }
+        ensures dialled { IfOk result (λ p. (p.0 ≡ (told_of self.old).tally.dials + 1)
+            × (told_of self.new ≡ tell (Dialled p name.now) (told_of self.old))) }
+        ensures not_dialled { IsErrOf result WireFail.Failed → told_of self.new
+            ≡ tell (NotDialled (record { 0 = (told_of self.old).tally.dials + 1 }) name.now) (told_of self.old) }
         ensures no_memory { IsErrOf result WireFail.NoMemory → told_of self.new ≡ told_of self.old }
         ensures cause { HasCause 0 0 result }
         ensures keeps { self.new.keeps ≡ self.old.keeps }
@@ -284,7 +298,8 @@ impl Wires for Played {
         Ok(p)
     }
 
-    /// It never fails. The peer answers at once, whether it was dialled or not; what it answers is put behind what waits.
+    /// It never fails. The peer answers at once, whether it was dialled or not; what it answers is put behind what
+    /// waits.
     #[tactic(auto, using(crate::proofs::Accounts::kept_so, crate::proofs::Accounts::sent_so))]
     fn send(&mut self, p: PeerNo, bytes: &[u8]) -> Result<(), WireFail>
         ensures sent { OnOk result (told_of self.new ≡ tell (Sent p bytes.now) (told_of self.old)) }
@@ -316,7 +331,8 @@ impl Wires for Played {
         shut(&mut self.log, &mut self.closed, p);
     }
 
-    /// The first 4,096 bytes that wait of the next peer in turn, from the one served last on, or all where there are fewer; 60 seconds pass where none wait of anybody.
+    /// The first 4,096 bytes that wait of the next peer in turn, from the one served last on, or all where there are
+    /// fewer; 60 seconds pass where none wait of anybody.
     #[tactic(auto, using(crate::proofs::Accounts::kept_so, crate::proofs::Accounts::ticked_so, crate::proofs::Accounts::given_so))]
     fn next(&mut self) -> Result<Delivery, NoMemory>
         ensures took { IfOk result (λ d. told_of self.new ≡ tell (Took d) (told_of self.old)) }
@@ -324,7 +340,8 @@ impl Wires for Played {
         ensures later { 0 ≤ 0 }
         ensures keeps { self.new.keeps ≡ self.old.keeps }
         ensures same { made_of (peers_of self.new) ≡ made_of (peers_of self.old) }
-        ensures turn { IfOk result (λ d. IsNext (peers_of self.old) (last_served (log_of self.old)) d (peers_of self.new)) }
+        ensures turn { IfOk result
+            (λ d. IsNext (peers_of self.old) (last_served (log_of self.old)) d (peers_of self.new)) }
         ensures kept { OnErr result (peers_of self.new ≡ peers_of self.old) }
     {
         self.log.reserve(10)?;

@@ -20,7 +20,8 @@ use cf_msg::Msg;
 use cf_server::{Replies, Reply, Served, answer};
 use std::alloc::Global;
 
-// A peer: its chain, how it answers, its own filters where it makes them otherwise, whether a version has come, and the bytes that wait to be delivered.
+// A peer: its chain, how it answers, its own filters where it makes them otherwise, whether a version has come, and the
+// bytes that wait to be delivered.
 #[derive(Drop)]
 pub(crate) struct Player {
     pub(crate) index: Index,
@@ -73,10 +74,13 @@ impl Player {
         }
     }
 
-    // The frames of its answers to a message: of a plain one the machine's replies, and of any one messages that are like them.
+    // The frames of its answers to a message: of a plain one the machine's replies, and of any one messages that are
+    // like them.
     fn answer_text(&self, alloc: Global, msg: &Msg) -> Result<Vec<u8>, NoMemory>
-        ensures plain { IfOk result (λ text. is_plain self.now.way ≡ true → text.items ≡ frames_from self.now.seen self.now.index (msg.now ∷ [])) }
-        ensures alike { IfOk result (λ text. AreFramesAlike (replies_to (pos 0) 0 self.now.index self.now.seen msg.now) text.items) }
+        ensures plain { IfOk result (λ text. is_plain self.now.way ≡ true
+            → text.items ≡ frames_from self.now.seen self.now.index (msg.now ∷ [])) }
+        ensures alike { IfOk result
+            (λ text. AreFramesAlike (replies_to (pos 0) 0 self.now.index self.now.seen msg.now) text.items) }
     {
         let mut served = Served {
             time: 0,

@@ -38,7 +38,8 @@ impl Waiting {
         }
     }
 
-    // Puts a text at the end. Bytes that were delivered are let go only once they are at least as many as those that wait.
+    // Puts a text at the end. Bytes that were delivered are let go only once they are at least as many as those that
+    // wait.
     pub(crate) fn put(&mut self, text: &[u8]) -> Result<(), NoMemory>
         ensures ok { OnOk result (self.new ≡ self.old ++ text.now) }
         ensures err { OnErr result (self.new ≡ self.old) }

@@ -70,7 +70,8 @@ fn walked_fault(proof: &Proof, bits: &[bool], txid: &Hash32) -> Option<ProofFaul
 
 // The first fault of what a walk gave at the root.
 fn root_fault(root: &Hash32, node: &Node) -> Option<ProofFault>
-    ensures { result ≡ fault_at_root root.now.0 node.now.hash.0 node.now.twins node.now.found node.now.bits.now (bytes_of node.now.hashes.now) }
+    ensures { result ≡ fault_at_root root.now.0 node.now.hash.0 node.now.twins node.now.found node.now.bits.now
+        (bytes_of node.now.hashes.now) }
 {
     if node.twins {
         return Some(ProofFault::Same);

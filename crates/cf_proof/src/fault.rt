@@ -6,8 +6,8 @@ ghost use Rattle.cf_proof.specs.Causes.{of_cut};
 use cf_bytes::{CutFault, Refused};
 use thiserror::Error;
 
-/// Why bytes are no proof of a transaction: the first of these that holds, where the first four are told of the first field that
-/// can't be read.
+/// Why bytes are no proof of a transaction: the first of these that holds, where the first four are told of the first
+/// field that can't be read.
 #[derive(Clone, Copy, Debug, PartialEq, Eq, Error)]
 pub enum ProofFault {
     /// Fewer bytes are left than a field has.

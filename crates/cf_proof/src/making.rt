@@ -16,8 +16,8 @@ use cf_block::{Block, txids, write_header};
 use cf_bytes::{Hash32, Listed, NoMemory, put_compact};
 use std::alloc::Global;
 
-/// The bytes of a proof that the transaction at a place of a block stands in it (BIP 37 "merkleblock"). A block has at most
-/// 1,000,000 bytes, and so at most 16,666 transactions.
+/// The bytes of a proof that the transaction at a place of a block stands in it (BIP 37 "merkleblock"). A block has at
+/// most 1,000,000 bytes, and so at most 16,666 transactions.
 pub fn make_proof(alloc: Global, b: &Block, place: u32) -> Result<Vec<u8>, NoMemory>
     requires few { length b.now.txs ≤ 16666 }
     requires there { place < length b.now.txs }
@@ -100,8 +100,10 @@ fn put_parts(
     requires few { length leaves.now ≤ 16666 }
     requires low { height ≤ 15 }
     requires there { place * 2 ^ height < length leaves.now }
-    ensures bits { OnOk result (bits.new.items ≡ bits.old.items ++ (parts_of (bytes_of leaves.now) leaf height place).bits) }
-    ensures hashes { OnOk result (bytes_of hashes.new.items ≡ bytes_of hashes.old.items ++ (parts_of (bytes_of leaves.now) leaf height place).hashes) }
+    ensures bits { OnOk result
+        (bits.new.items ≡ bits.old.items ++ (parts_of (bytes_of leaves.now) leaf height place).bits) }
+    ensures hashes { OnOk result (bytes_of hashes.new.items
+        ≡ bytes_of hashes.old.items ++ (parts_of (bytes_of leaves.now) leaf height place).hashes) }
 {
     if height == 0 {
         bits.push(place == leaf)?;
@@ -147,7 +149,8 @@ struct Part {
 fn put_bit(bytes: &mut Vec<u8>, byte: u8, n: u32, bit: bool) -> Result<Part, NoMemory>
     requires few { n < 8 }
     requires small { byte < 2 ^ n }
-    ensures bits { IfOk result (λ p. flags_of bytes.new.items ++ low_bits p.n p.byte ≡ (flags_of bytes.old.items ++ low_bits n byte) ++ bit ∷ []) }
+    ensures bits { IfOk result (λ p. flags_of bytes.new.items ++ low_bits p.n p.byte
+        ≡ (flags_of bytes.old.items ++ low_bits n byte) ++ bit ∷ []) }
     ensures few { IfOk result (λ p. p.n < 8) }
     ensures small { IfOk result (λ p. p.byte < 2 ^ p.n) }
 {

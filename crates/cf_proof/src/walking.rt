@@ -23,7 +23,8 @@ pub(crate) struct Node<'a> {
     pub(crate) hashes: &'a [Hash32],
 }
 
-// The walk from a node on, in a tree over so many leaves, and whether this hash is matched; none where a bit or a hash is missing.
+// The walk from a node on, in a tree over so many leaves, and whether this hash is matched; none where a bit or a hash
+// is missing.
 #[tactic(auto, unfolding(crate::specs::Walk::walk))]
 pub(crate) fn walk<'a>(
     total: u32,
@@ -36,7 +37,9 @@ pub(crate) fn walk<'a>(
     requires few { total ≤ 16666 }
     requires low { height ≤ 15 }
     requires there { place * 2 ^ height < total }
-    ensures { MatchOption result (walk_from total height place bits.now (bytes_of hashes.now) ≡ None) (λ n. IsNodeOf txid.now.0 (walk_from total height place bits.now (bytes_of hashes.now)) n.hash.0 n.twins n.found n.bits.now (bytes_of n.hashes.now)) }
+    ensures { MatchOption result (walk_from total height place bits.now (bytes_of hashes.now) ≡ None)
+        (λ n. IsNodeOf txid.now.0 (walk_from total height place bits.now (bytes_of hashes.now))
+        n.hash.0 n.twins n.found n.bits.now (bytes_of n.hashes.now)) }
 {
     let [bit, bits @ ..] = bits else { return None };
     if height == 0 {
@@ -82,7 +85,9 @@ fn with_hash<'a>(
     bits: &'a [bool],
     hashes: &'a [Hash32],
 ) -> Option<Node<'a>>
-    ensures { MatchOption result (node_with_hash matched bits.now (bytes_of hashes.now) ≡ None) (λ n. IsNodeOf txid.now.0 (node_with_hash matched bits.now (bytes_of hashes.now)) n.hash.0 n.twins n.found n.bits.now (bytes_of n.hashes.now)) }
+    ensures { MatchOption result (node_with_hash matched bits.now (bytes_of hashes.now) ≡ None)
+        (λ n. IsNodeOf txid.now.0 (node_with_hash matched bits.now (bytes_of hashes.now))
+        n.hash.0 n.twins n.found n.bits.now (bytes_of n.hashes.now)) }
 {
     match hashes {
         [] => None,
@@ -99,7 +104,8 @@ fn with_hash<'a>(
 // A node with two children.
 fn with_both<'a>(left: Node<'a>, right: Node<'a>) -> Node<'a>
     ensures hash { result.hash.0 ≡ hash_of (left.entry.hash.0 ++ right.entry.hash.0) }
-    ensures twins { result.twins ≡ (pointwise nat_eq left.entry.hash.0 right.entry.hash.0 || (left.entry.twins || right.entry.twins)) }
+    ensures twins { result.twins
+        ≡ (pointwise nat_eq left.entry.hash.0 right.entry.hash.0 || (left.entry.twins || right.entry.twins)) }
     ensures found { result.found ≡ (left.entry.found || right.entry.found) }
     ensures bits { result.bits.now ≡ right.entry.bits.now }
     ensures hashes { result.hashes.now ≡ right.entry.hashes.now }

@@ -48,7 +48,8 @@ fn send_message<W: Wires>(
 ) -> Result<[u8; 12], WireFail>
     requires sendable { IsSendable message.now }
     requires open { (W.told wires.old).finished ≡ false }
-    ensures sent { IfOk result (λ command. (command ≡ command_of message.now) × (W.told wires.new ≡ tell (Sent p (bytes_of message.now)) (W.told wires.old))) }
+    ensures sent { IfOk result (λ command. (command ≡ command_of message.now)
+        × (W.told wires.new ≡ tell (Sent p (bytes_of message.now)) (W.told wires.old))) }
     ensures not_sent { IsErrOf result WireFail.Failed → W.told wires.new ≡ tell (SendFailed p) (W.told wires.old) }
     ensures no_memory { IsErrOf result WireFail.NoMemory → W.told wires.new ≡ W.told wires.old }
     ensures cause { HasCause (W.faults wires.old) (W.faults wires.new) result }
@@ -73,9 +74,15 @@ fn perform_send<W: Wires>(
     requires sendable { IsSendable message.now }
     requires step { IsInStep (W.told wires.old) progress.old }
     requires open { (W.told wires.old).finished ≡ false }
-    ensures doing { OnOk result ((rule : Rule) (more : List Act) (called : List (List ℕ)) (planned : Log) → MayAct rule (Send p message.now) planned → Doing rule (Send p message.now ∷ more) progress.old called planned (W.told wires.old) → Doing rule more progress.new called (Sent p (bytes_of message.now) ∷ planned) (W.told wires.new)) }
-    ensures versions { (words : Words) → TellsWords words message.now → KeepsWords words (W.told wires.old) (W.told wires.new) }
-    ensures performs { Performs (moment (W.told wires.old) (W.faults wires.old) (W.script wires.old) (W.keeps wires.old) progress.old) (moment (W.told wires.new) (W.faults wires.new) (W.script wires.new) (W.keeps wires.new) progress.new) }
+    ensures doing { OnOk result ((rule : Rule) (more : List Act) (called : List (List ℕ)) (planned : Log)
+        → MayAct rule (Send p message.now) planned
+        → Doing rule (Send p message.now ∷ more) progress.old called planned (W.told wires.old)
+        → Doing rule more progress.new called (Sent p (bytes_of message.now) ∷ planned) (W.told wires.new)) }
+    ensures versions { (words : Words) → TellsWords words message.now
+        → KeepsWords words (W.told wires.old) (W.told wires.new) }
+    ensures performs { Performs
+        (moment (W.told wires.old) (W.faults wires.old) (W.script wires.old) (W.keeps wires.old) progress.old)
+        (moment (W.told wires.new) (W.faults wires.new) (W.script wires.new) (W.keeps wires.new) progress.new) }
 {
     if progress.is_pending(p) {
         return Ok(());
@@ -103,9 +110,14 @@ fn perform_close<W: Wires>(
     requires number { p.0 < 9 }
     requires step { IsInStep (W.told wires.old) progress.old }
     requires open { (W.told wires.old).finished ≡ false }
-    ensures doing { OnOk result ((rule : Rule) (more : List Act) (called : List (List ℕ)) (planned : Log) → MayAct rule (Close p cause) planned → Doing rule (Close p cause ∷ more) progress.old called planned (W.told wires.old) → Doing rule more progress.new called (Closed p ∷ planned) (W.told wires.new)) }
+    ensures doing { OnOk result ((rule : Rule) (more : List Act) (called : List (List ℕ)) (planned : Log)
+        → MayAct rule (Close p cause) planned
+        → Doing rule (Close p cause ∷ more) progress.old called planned (W.told wires.old)
+        → Doing rule more progress.new called (Closed p ∷ planned) (W.told wires.new)) }
     ensures versions { (words : Words) → KeepsWords words (W.told wires.old) (W.told wires.new) }
-    ensures performs { Performs (moment (W.told wires.old) (W.faults wires.old) (W.script wires.old) (W.keeps wires.old) progress.old) (moment (W.told wires.new) (W.faults wires.new) (W.script wires.new) (W.keeps wires.new) progress.new) }
+    ensures performs { Performs
+        (moment (W.told wires.old) (W.faults wires.old) (W.script wires.old) (W.keeps wires.old) progress.old)
+        (moment (W.told wires.new) (W.faults wires.new) (W.script wires.new) (W.keeps wires.new) progress.new) }
 {
     if progress.is_pending(p) {
         return Ok(());
@@ -129,9 +141,14 @@ fn perform_one<W: Wires>(
     requires doable { IsDoable act.now }
     requires step { IsInStep (W.told wires.old) progress.old }
     requires open { (W.told wires.old).finished ≡ false }
-    ensures doing { OnOk result ((rule : Rule) (more : List Act) (called : List (List ℕ)) (planned : Log) → MayAct rule act.now planned → Doing rule (act.now ∷ more) progress.old called planned (W.told wires.old) → Doing rule more progress.new called (entry_of act.now ∷ planned) (W.told wires.new)) }
-    ensures versions { (words : Words) → ActTells words act.now → KeepsWords words (W.told wires.old) (W.told wires.new) }
-    ensures performs { Performs (moment (W.told wires.old) (W.faults wires.old) (W.script wires.old) (W.keeps wires.old) progress.old) (moment (W.told wires.new) (W.faults wires.new) (W.script wires.new) (W.keeps wires.new) progress.new) }
+    ensures doing { OnOk result ((rule : Rule) (more : List Act) (called : List (List ℕ)) (planned : Log)
+        → MayAct rule act.now planned → Doing rule (act.now ∷ more) progress.old called planned (W.told wires.old)
+        → Doing rule more progress.new called (entry_of act.now ∷ planned) (W.told wires.new)) }
+    ensures versions { (words : Words) → ActTells words act.now
+        → KeepsWords words (W.told wires.old) (W.told wires.new) }
+    ensures performs { Performs
+        (moment (W.told wires.old) (W.faults wires.old) (W.script wires.old) (W.keeps wires.old) progress.old)
+        (moment (W.told wires.new) (W.faults wires.new) (W.script wires.new) (W.keeps wires.new) progress.new) }
 {
     match act {
         Act::Send(p, message) => {
@@ -155,9 +172,14 @@ fn perform<W: Wires>(
     requires doable { All IsDoable acts.now }
     requires step { IsInStep (W.told wires.old) progress.old }
     requires open { (W.told wires.old).finished ≡ false }
-    ensures doing { OnOk result ((rule : Rule) (called : List (List ℕ)) (planned : Log) → Allowed rule acts.now planned → Doing rule acts.now progress.old called planned (W.told wires.old) → Doing rule [] progress.new called (after acts.now planned) (W.told wires.new)) }
-    ensures versions { (words : Words) → All (ActTells words) acts.now → KeepsWords words (W.told wires.old) (W.told wires.new) }
-    ensures performs { Performs (moment (W.told wires.old) (W.faults wires.old) (W.script wires.old) (W.keeps wires.old) progress.old) (moment (W.told wires.new) (W.faults wires.new) (W.script wires.new) (W.keeps wires.new) progress.new) }
+    ensures doing { OnOk result ((rule : Rule) (called : List (List ℕ)) (planned : Log)
+        → Allowed rule acts.now planned → Doing rule acts.now progress.old called planned (W.told wires.old)
+        → Doing rule [] progress.new called (after acts.now planned) (W.told wires.new)) }
+    ensures versions { (words : Words) → All (ActTells words) acts.now
+        → KeepsWords words (W.told wires.old) (W.told wires.new) }
+    ensures performs { Performs
+        (moment (W.told wires.old) (W.faults wires.old) (W.script wires.old) (W.keeps wires.old) progress.old)
+        (moment (W.told wires.new) (W.faults wires.new) (W.script wires.new) (W.keeps wires.new) progress.new) }
 {
     for act in acts {
         perform_one(alloc, wires, act, progress)?;
@@ -165,7 +187,8 @@ fn perform<W: Wires>(
     Ok(())
 }
 
-// Tells the client of each failed send, the lowest number first, and does what it then wants, which begins with the peer's close.
+// Tells the client of each failed send, the lowest number first, and does what it then wants, which begins with the
+// peer's close.
 fn settle<W: Wires, H: HeaderStore, M: Matcher>(
     alloc: Global,
     wires: &mut W,
@@ -178,11 +201,15 @@ fn settle<W: Wires, H: HeaderStore, M: Matcher>(
         → Doing (rule_by client.old) [] progress.old called planned (W.told wires.old)
         → IsTicked (rule_by client.old).mode planned
         → HoldsOver client.new progress.new called (W.told wires.new)) }
-    ensures versions { (called : List (List ℕ)) (planned : Log) → Reflects client.old planned → Doing (rule_by client.old) [] progress.old called planned (W.told wires.old) → KeepsWords (words_by client.old) (W.told wires.old) (W.told wires.new) }
+    ensures versions { (called : List (List ℕ)) (planned : Log)
+        → Reflects client.old planned → Doing (rule_by client.old) [] progress.old called planned (W.told wires.old)
+        → KeepsWords (words_by client.old) (W.told wires.old) (W.told wires.new) }
     ensures count { OnOk result (count_of client.new ≡ count_of client.old) }
     ensures rule { OnOk result (rule_by client.new ≡ rule_by client.old) }
     ensures words { words_by client.new ≡ words_by client.old }
-    ensures performs { Performs (moment (W.told wires.old) (W.faults wires.old) (W.script wires.old) (W.keeps wires.old) progress.old) (moment (W.told wires.new) (W.faults wires.new) (W.script wires.new) (W.keeps wires.new) progress.new) }
+    ensures performs { Performs
+        (moment (W.told wires.old) (W.faults wires.old) (W.script wires.old) (W.keeps wires.old) progress.old)
+        (moment (W.told wires.new) (W.faults wires.new) (W.script wires.new) (W.keeps wires.new) progress.new) }
 {
     while let Some(p) = progress.next_pending() {
         progress.note_told(p);
@@ -207,11 +234,16 @@ fn carry_out<W: Wires, H: HeaderStore, M: Matcher>(
         → Doing (rule_by client.old) acts.now progress.old called log (W.told wires.old)
         → IsTicked (rule_by client.old).mode (after acts.now log)
         → HoldsOver client.new progress.new called (W.told wires.new)) }
-    ensures versions { (called : List (List ℕ)) (log : Log) → Answers client.old acts.now log → Doing (rule_by client.old) acts.now progress.old called log (W.told wires.old) → All (ActTells (words_by client.old)) acts.now → KeepsWords (words_by client.old) (W.told wires.old) (W.told wires.new) }
+    ensures versions { (called : List (List ℕ)) (log : Log) → Answers client.old acts.now log
+        → Doing (rule_by client.old) acts.now progress.old called log (W.told wires.old)
+        → All (ActTells (words_by client.old)) acts.now
+        → KeepsWords (words_by client.old) (W.told wires.old) (W.told wires.new) }
     ensures count { OnOk result (count_of client.new ≡ count_of client.old) }
     ensures rule { OnOk result (rule_by client.new ≡ rule_by client.old) }
     ensures words { words_by client.new ≡ words_by client.old }
-    ensures performs { Performs (moment (W.told wires.old) (W.faults wires.old) (W.script wires.old) (W.keeps wires.old) progress.old) (moment (W.told wires.new) (W.faults wires.new) (W.script wires.new) (W.keeps wires.new) progress.new) }
+    ensures performs { Performs
+        (moment (W.told wires.old) (W.faults wires.old) (W.script wires.old) (W.keeps wires.old) progress.old)
+        (moment (W.told wires.new) (W.faults wires.new) (W.script wires.new) (W.keeps wires.new) progress.new) }
 {
     perform(alloc, wires, acts, progress)?;
     settle(alloc, wires, client, progress)?;
@@ -231,12 +263,11 @@ fn greet<W: Wires, H: HeaderStore, M: Matcher>(
     requires next { p.0 ≡ count_of client.old }
     requires step { IsInStep (W.told wires.old) progress.old }
     requires open { (W.told wires.old).finished ≡ false }
-    ensures holds { OnOk result ((called : List (List ℕ)) (log : Log) → Reflects client.old log
-        → ((acts : List Act) → Doing (rule_by client.old) acts progress.old called (Dialled p name.now ∷ log) (W.told wires.old))
-        → IsTicked (rule_by client.old).mode log
-        → HoldsOver client.new progress.new called (W.told wires.new)) }
-    ensures versions { (called : List (List ℕ)) (log : Log) → Reflects client.old log
-        → ((acts : List Act) → Doing (rule_by client.old) acts progress.old called (Dialled p name.now ∷ log) (W.told wires.old))
+    ensures holds { OnOk result ((called : List (List ℕ)) (log : Log) → Reflects client.old log → ((acts : List Act)
+        → Doing (rule_by client.old) acts progress.old called (Dialled p name.now ∷ log) (W.told wires.old))
+        → IsTicked (rule_by client.old).mode log → HoldsOver client.new progress.new called (W.told wires.new)) }
+    ensures versions { (called : List (List ℕ)) (log : Log) → Reflects client.old log → ((acts : List Act)
+        → Doing (rule_by client.old) acts progress.old called (Dialled p name.now ∷ log) (W.told wires.old))
         → KeepsWords (words_by client.old) (W.told wires.old) (W.told wires.new) }
     ensures counts { OnOk result (CountsOne client.old client.new) }
     ensures performs { Performs
@@ -262,11 +293,15 @@ fn dial_one<W: Wires, H: HeaderStore, M: Matcher>(
     requires next { count_of client.old ≡ (W.told wires.old).tally.dials + 1 }
     requires step { IsInStep (W.told wires.old) progress.old }
     requires open { (W.told wires.old).finished ≡ false }
-    ensures holds { OnOk result ((called : List (List ℕ)) → HoldsOver client.old progress.old called (W.told wires.old) → HoldsOver client.new progress.new (called ++ name.now ∷ []) (W.told wires.new)) }
-    ensures versions { (called : List (List ℕ)) → HoldsOver client.old progress.old called (W.told wires.old) → KeepsWords (words_by client.old) (W.told wires.old) (W.told wires.new) }
+    ensures holds { OnOk result ((called : List (List ℕ)) → HoldsOver client.old progress.old called (W.told wires.old)
+        → HoldsOver client.new progress.new (called ++ name.now ∷ []) (W.told wires.new)) }
+    ensures versions { (called : List (List ℕ)) → HoldsOver client.old progress.old called (W.told wires.old)
+        → KeepsWords (words_by client.old) (W.told wires.old) (W.told wires.new) }
     ensures counts { OnOk result (CountsOne client.old client.new) }
     ensures one { OnOk result (IsOneMore name.now (W.told wires.old) (W.told wires.new)) }
-    ensures dials { Dials name.now (moment (W.told wires.old) (W.faults wires.old) (W.script wires.old) (W.keeps wires.old) progress.old) (moment (W.told wires.new) (W.faults wires.new) (W.script wires.new) (W.keeps wires.new) progress.new) }
+    ensures dials { Dials name.now
+        (moment (W.told wires.old) (W.faults wires.old) (W.script wires.old) (W.keeps wires.old) progress.old)
+        (moment (W.told wires.new) (W.faults wires.new) (W.script wires.new) (W.keeps wires.new) progress.new) }
 {
     match wires.dial(name) {
         Ok(p) => {
@@ -295,7 +330,8 @@ fn note_bytes(d: &Delivery)
     }
 }
 
-// Takes the next delivery, and does what the client then wants. Says whether there was one: the client isn't told of the end.
+// Takes the next delivery, and does what the client then wants. Says whether there was one: the client isn't told of
+// the end.
 pub(crate) fn take_next<W: Wires, H: HeaderStore, M: Matcher>(
     alloc: Global,
     wires: &mut W,
@@ -304,15 +340,26 @@ pub(crate) fn take_next<W: Wires, H: HeaderStore, M: Matcher>(
 ) -> Result<bool, NoMemory>
     requires step { IsInStep (W.told wires.old) progress.old }
     requires open { (W.told wires.old).finished ≡ false }
-    ensures holds { IfOk result (λ more. more ≡ true → (called : List (List ℕ)) (holds : HoldsOver client.old progress.old called (W.told wires.old)) → MayTake (rule_by client.old).mode holds.actual → HoldsOver client.new progress.new called (W.told wires.new)) }
-    ensures over { IfOk result (λ more. more ≡ false → (client.new ≡ client.old) × (progress.new ≡ progress.old) × (W.told wires.new ≡ tell (Took Ended) (W.told wires.old))) }
-    ensures versions { (called : List (List ℕ)) (holds : HoldsOver client.old progress.old called (W.told wires.old)) → MayTake (rule_by client.old).mode holds.actual → KeepsWords (words_by client.old) (W.told wires.old) (W.told wires.new) }
-    ensures puts { OnOk result ((watch texts : List (List ℕ)) → PutBy watch texts (W.told wires.old) → PutBefore watch texts (W.told wires.new)) }
+    ensures holds { IfOk result (λ more. more ≡ true
+        → (called : List (List ℕ)) (holds : HoldsOver client.old progress.old called (W.told wires.old))
+        → MayTake (rule_by client.old).mode holds.actual
+        → HoldsOver client.new progress.new called (W.told wires.new)) }
+    ensures over { IfOk result (λ more. more ≡ false → (client.new ≡ client.old) × (progress.new ≡ progress.old)
+        × (W.told wires.new ≡ tell (Took Ended) (W.told wires.old))) }
+    ensures versions { (called : List (List ℕ)) (holds : HoldsOver client.old progress.old called (W.told wires.old))
+        → MayTake (rule_by client.old).mode holds.actual
+        → KeepsWords (words_by client.old) (W.told wires.old) (W.told wires.new) }
+    ensures puts { OnOk result ((watch texts : List (List ℕ)) → PutBy watch texts (W.told wires.old)
+        → PutBefore watch texts (W.told wires.new)) }
     ensures rule { OnOk result (rule_by client.new ≡ rule_by client.old) }
     ensures words { words_by client.new ≡ words_by client.old }
-    ensures taken { IfOk result (λ more. more ≡ true → (W.told wires.new).tally.taken ≡ (W.told wires.old).tally.taken + 1) }
-    ensures unended { IfOk result (λ more. more ≡ true → (W.told wires.new).tally.ended ≡ (W.told wires.old).tally.ended) }
-    ensures turns { Turns (moment (W.told wires.old) (W.faults wires.old) (W.script wires.old) (W.keeps wires.old) progress.old) (moment (W.told wires.new) (W.faults wires.new) (W.script wires.new) (W.keeps wires.new) progress.new) }
+    ensures taken { IfOk result (λ more. more ≡ true
+        → (W.told wires.new).tally.taken ≡ (W.told wires.old).tally.taken + 1) }
+    ensures unended { IfOk result (λ more. more ≡ true
+        → (W.told wires.new).tally.ended ≡ (W.told wires.old).tally.ended) }
+    ensures turns { Turns
+        (moment (W.told wires.old) (W.faults wires.old) (W.script wires.old) (W.keeps wires.old) progress.old)
+        (moment (W.told wires.new) (W.faults wires.new) (W.script wires.new) (W.keeps wires.new) progress.new) }
 {
     let d = wires.next()?;
     if let Delivery::Ended = &d {
@@ -334,15 +381,22 @@ fn take_turn<W: Wires, H: HeaderStore, M: Matcher>(
 ) -> Result<Option<End>, NoMemory>
     requires step { IsInStep (W.told wires.old) progress.old }
     requires open { (W.told wires.old).finished ≡ false }
-    ensures turned { IfOk result (λ end. (called : List (List ℕ)) → HoldsOver client.old progress.old called (W.told wires.old) → Turned end client.new progress.new called (W.told wires.new)) }
-    ensures versions { (called : List (List ℕ)) → HoldsOver client.old progress.old called (W.told wires.old) → KeepsWords (words_by client.old) (W.told wires.old) (W.told wires.new) }
+    ensures turned { IfOk result (λ end. (called : List (List ℕ))
+        → HoldsOver client.old progress.old called (W.told wires.old)
+        → Turned end client.new progress.new called (W.told wires.new)) }
+    ensures versions { (called : List (List ℕ)) → HoldsOver client.old progress.old called (W.told wires.old)
+        → KeepsWords (words_by client.old) (W.told wires.old) (W.told wires.new) }
     ensures rule { OnOk result (rule_by client.new ≡ rule_by client.old) }
     ensures words { words_by client.new ≡ words_by client.old }
-    ensures taken { IfOk result (λ end. IfNone end ((W.told wires.new).tally.taken ≡ (W.told wires.old).tally.taken + 1)) }
-    ensures untaken { IfOk result (λ end. IfSome end (λ e. (W.told wires.new).tally.taken ≡ (W.told wires.old).tally.taken)) }
+    ensures taken { IfOk result
+        (λ end. IfNone end ((W.told wires.new).tally.taken ≡ (W.told wires.old).tally.taken + 1)) }
+    ensures untaken { IfOk result
+        (λ end. IfSome end (λ e. (W.told wires.new).tally.taken ≡ (W.told wires.old).tally.taken)) }
     ensures untired { IfOk result (λ end. end ≢ Some End.Tired) }
     ensures ended { IfOk result (λ end. IsEndTold end (W.told wires.old).tally (W.told wires.new).tally) }
-    ensures turns { Turns (moment (W.told wires.old) (W.faults wires.old) (W.script wires.old) (W.keeps wires.old) progress.old) (moment (W.told wires.new) (W.faults wires.new) (W.script wires.new) (W.keeps wires.new) progress.new) }
+    ensures turns { Turns
+        (moment (W.told wires.old) (W.faults wires.old) (W.script wires.old) (W.keeps wires.old) progress.old)
+        (moment (W.told wires.new) (W.faults wires.new) (W.script wires.new) (W.keeps wires.new) progress.new) }
 {
     match client.state() {
         State::Synced => return Ok(Some(End::Synced)),
@@ -371,16 +425,21 @@ pub(crate) fn dial_all<W: Wires, H: HeaderStore, M: Matcher>(
     requires next { count_of client.old ≡ 1 }
     requires step { IsInStep (W.told wires.old) progress.old }
     requires open { (W.told wires.old).finished ≡ false }
-    ensures holds { OnOk result (HoldsOver client.old progress.old [] (W.told wires.old) → HoldsOver client.new progress.new (names_in names.now) (W.told wires.new)) }
-    ensures versions { HoldsOver client.old progress.old [] (W.told wires.old) → KeepsWords (words_by client.old) (W.told wires.old) (W.told wires.new) }
+    ensures holds { OnOk result (HoldsOver client.old progress.old [] (W.told wires.old)
+        → HoldsOver client.new progress.new (names_in names.now) (W.told wires.new)) }
+    ensures versions { HoldsOver client.old progress.old [] (W.told wires.old)
+        → KeepsWords (words_by client.old) (W.told wires.old) (W.told wires.new) }
     ensures rule { OnOk result (rule_by client.new ≡ rule_by client.old) }
     ensures words { OnOk result (words_by client.new ≡ words_by client.old) }
     ensures dialled { OnOk result ((W.told wires.new).tally.dials ≡ length names.now) }
     ensures first { HasNames [] (W.told wires.old) → HasDialled (names_in names.now) (W.told wires.new) }
     ensures taken { (W.told wires.new).tally.taken ≡ 0 }
     ensures unended { (W.told wires.new).tally.ended ≡ 0 }
-    ensures puts { (watch texts : List (List ℕ)) → PutBefore watch texts (W.told wires.old) → PutBefore watch texts (W.told wires.new) }
-    ensures runs { Runs (moment (W.told wires.old) (W.faults wires.old) (W.script wires.old) (W.keeps wires.old) progress.old) (moment (W.told wires.new) (W.faults wires.new) (W.script wires.new) (W.keeps wires.new) progress.new) }
+    ensures puts { (watch texts : List (List ℕ)) → PutBefore watch texts (W.told wires.old)
+        → PutBefore watch texts (W.told wires.new) }
+    ensures runs { Runs
+        (moment (W.told wires.old) (W.faults wires.old) (W.script wires.old) (W.keeps wires.old) progress.old)
+        (moment (W.told wires.new) (W.faults wires.new) (W.script wires.new) (W.keeps wires.new) progress.new) }
 {
     for name in names {
         dial_one(alloc, wires, client, progress, name.as_str())?;
@@ -412,8 +471,11 @@ fn take_turns<W: Wires, H: HeaderStore, M: Matcher>(
     requires unended { (W.told wires.old).tally.ended ≡ 0 }
     requires step { IsInStep (W.told wires.old) progress.old }
     requires open { (W.told wires.old).finished ≡ false }
-    ensures stopped { IfOk result (λ end. (called : List (List ℕ)) → HoldsOver client.old progress.old called (W.told wires.old) → Stopped end client.new progress.new called (W.told wires.new)) }
-    ensures versions { (called : List (List ℕ)) → HoldsOver client.old progress.old called (W.told wires.old) → KeepsWords (words_by client.old) (W.told wires.old) (W.told wires.new) }
+    ensures stopped { IfOk result (λ end. (called : List (List ℕ))
+        → HoldsOver client.old progress.old called (W.told wires.old)
+        → Stopped end client.new progress.new called (W.told wires.new)) }
+    ensures versions { (called : List (List ℕ)) → HoldsOver client.old progress.old called (W.told wires.old)
+        → KeepsWords (words_by client.old) (W.told wires.old) (W.told wires.new) }
     ensures rule { OnOk result (rule_by client.new ≡ rule_by client.old) }
     ensures words { words_by client.new ≡ words_by client.old }
     ensures tired { IfOk result (λ end. end ≡ End.Tired → (W.told wires.new).tally.taken ≡ turns) }
@@ -422,7 +484,9 @@ fn take_turns<W: Wires, H: HeaderStore, M: Matcher>(
     ensures most { (W.told wires.new).tally.taken ≤ turns }
     ensures once { (W.told wires.new).tally.ended ≤ 1 }
     ensures same { IsNoMore (W.told wires.old) (W.told wires.new) }
-    ensures runs { Runs (moment (W.told wires.old) (W.faults wires.old) (W.script wires.old) (W.keeps wires.old) progress.old) (moment (W.told wires.new) (W.faults wires.new) (W.script wires.new) (W.keeps wires.new) progress.new) }
+    ensures runs { Runs
+        (moment (W.told wires.old) (W.faults wires.old) (W.script wires.old) (W.keeps wires.old) progress.old)
+        (moment (W.told wires.new) (W.faults wires.new) (W.script wires.new) (W.keeps wires.new) progress.new) }
 {
     for _turn in 0..turns {
         if let Some(end) = take_turn(alloc, wires, client, progress)? {
@@ -440,7 +504,8 @@ pub(crate) fn outcome_of<H: HeaderStore, M: Matcher>(
 ) -> Result<Outcome, NoMemory>
     ensures end { IfOk result (λ o. o.end ≡ end) }
     ensures trace { IfOk result (λ o. o.trace ≡ progress.trace) }
-    ensures report { IfOk result (λ o. (log : Log) → Reflects client.old log → IsReportOf (rule_by client.old) o.height o.tip o.history log) }
+    ensures report { IfOk result (λ o. (log : Log) → Reflects client.old log
+        → IsReportOf (rule_by client.old) o.height o.tip o.history log) }
     ensures ends { IfOk result (λ o. (log : Log) → Reflects client.old log → EndsTell o.ends.items log) }
     ensures held { IfOk result (λ o. (log : Log) → Reflects client.old log → HoldsNoMore H.counts o.held log) }
 {
@@ -474,7 +539,8 @@ fn sync_all<W: Wires, H: HeaderStore + Drop, M: Matcher + Drop>(
     requires open { (W.told wires.old).finished ≡ false }
     requires few { length names.now ≤ 8 }
     requires empty { (q : ℕ) → H.chain store q ≡ None }
-    ensures followed { IfOk result (λ o. IfSome (W.told wires.new).log (λ log. Followed (once watch) o.end o.height o.tip o.history o.trace.items (names_in names.now) log)) }
+    ensures followed { IfOk result (λ o. IfSome (W.told wires.new).log
+        (λ log. Followed (once watch) o.end o.height o.tip o.history o.trace.items (names_in names.now) log)) }
     ensures ends { IfOk result (λ o. IfSome (W.told wires.new).log (λ log. EndsTell o.ends.items log)) }
     ensures held { IfOk result (λ o. IfSome (W.told wires.new).log (λ log. HoldsNoMore H.counts o.held log)) }
     ensures versions { HasWords (record { moment = moment; number = nonce }) (W.told wires.new) }
@@ -491,10 +557,11 @@ fn sync_all<W: Wires, H: HeaderStore + Drop, M: Matcher + Drop>(
     Ok(outcome)
 }
 
-/// Dials the peers in order, at most eight, and follows the best chain that they show, until nothing is open, no peer is left, the stated number
-/// of deliveries was taken, or the wires give no more. Of its blocks those are fetched on whose filters the peers differ, or whose filter the
-/// matcher doesn't answer with a miss (BIP 157, "Client Operation"). The wires are new: nothing has passed them, and they aren't finished. They are
-/// finished once, whatever is answered. In the store no peer is entered.
+/// Dials the peers in order, at most eight, and follows the best chain that they show, until nothing is open, no peer
+/// is left, the stated number of deliveries was taken, or the wires give no more. Of its blocks those are fetched on
+/// whose filters the peers differ, or whose filter the matcher doesn't answer with a miss (BIP 157, "Client
+/// Operation"). The wires are new: nothing has passed them, and they aren't finished. They are finished once, whatever
+/// is answered. In the store no peer is entered.
 pub fn sync_over<W: Wires, H: HeaderStore + Drop, M: Matcher + Drop>(
     alloc: Global,
     wires: &mut W,
@@ -510,11 +577,13 @@ pub fn sync_over<W: Wires, H: HeaderStore + Drop, M: Matcher + Drop>(
     requires open { (W.told wires.old).finished ≡ false }
     requires few { length names.now ≤ 8 }
     requires empty { (q : ℕ) → H.chain store q ≡ None }
-    ensures followed { IfOk result (λ o. IfSome (W.told wires.new).log (λ log. Followed (once watch) o.end o.height o.tip o.history o.trace.items (names_in names.now) log)) }
+    ensures followed { IfOk result (λ o. IfSome (W.told wires.new).log
+        (λ log. Followed (once watch) o.end o.height o.tip o.history o.trace.items (names_in names.now) log)) }
     ensures ends { IfOk result (λ o. IfSome (W.told wires.new).log (λ log. EndsTell o.ends.items log)) }
     ensures held { IfOk result (λ o. IfSome (W.told wires.new).log (λ log. HoldsNoMore H.counts o.held log)) }
     ensures versions { HasWords (record { moment = moment; number = nonce }) (W.told wires.new) }
-    ensures theorem { IfOk result (λ o. IfSome (W.told wires.new).log (λ log. SyncTheorem watch o.height o.tip o.history log)) }
+    ensures theorem { IfOk result
+        (λ o. IfSome (W.told wires.new).log (λ log. SyncTheorem watch o.height o.tip o.history log)) }
     ensures no_peers { IfOk result (λ o. (o.end ≡ End.NoPeers) ↔ NobodyLeft (W.told wires.new).tally) }
     ensures tired { IfOk result (λ o. o.end ≡ End.Tired → (W.told wires.new).tally.taken ≡ turns) }
     ensures ended { IfOk result (λ o. o.end ≡ End.Ended → (W.told wires.new).tally.ended ≡ 1) }
@@ -525,8 +594,10 @@ pub fn sync_over<W: Wires, H: HeaderStore + Drop, M: Matcher + Drop>(
     ensures once { (W.told wires.new).tally.ended ≤ 1 }
     ensures finished { (W.told wires.new).finished ≡ true }
     ensures keeps { W.keeps wires.new ≡ W.keeps wires.old }
-    ensures course { Course (W.told wires.old) (W.told wires.new) (W.faults wires.old) (W.faults wires.new) (W.script wires.old) (W.script wires.new) }
-    ensures failures { IfSome (W.told wires.new).log (λ log. HasFailed log → HasRisen (W.faults wires.old) (W.faults wires.new)) }
+    ensures course { Course (W.told wires.old) (W.told wires.new) (W.faults wires.old) (W.faults wires.new)
+        (W.script wires.old) (W.script wires.new) }
+    ensures failures { IfSome (W.told wires.new).log
+        (λ log. HasFailed log → HasRisen (W.faults wires.old) (W.faults wires.new)) }
 {
     let outcome = sync_all(
         alloc, wires, names, watch, store, matcher, moment, nonce, turns,

@@ -58,7 +58,8 @@ impl Progress {
     // Notes a failed send, of which the client is to be told.
     pub(crate) fn note_failure(&mut self, p: PeerNo)
         requires { p.0 < 9 }
-        ensures noted { is_fine (state_at self.old.sends p.0) ≡ true → self.new ≡ record self.old { sends = slice_set self.old.sends p.0 SendState.Pending } }
+        ensures noted { is_fine (state_at self.old.sends p.0) ≡ true
+            → self.new ≡ record self.old { sends = slice_set self.old.sends p.0 SendState.Pending } }
         ensures fewer { trouble self.new ≤ trouble self.old }
         ensures closed { self.new.closed ≡ self.old.closed }
     {
@@ -80,7 +81,8 @@ impl Progress {
 
     /// The lowest peer whose failed send is still to be told.
     pub(crate) fn next_pending(&self) -> Option<PeerNo>
-        ensures some { IfSome result (λ p. (p.0 < 9) × (pending_at (state_at self.now.sends p.0) ≡ true) × ((q : ℕ) → q < p.0 → pending_at (state_at self.now.sends q) ≡ false)) }
+        ensures some { IfSome result (λ p. (p.0 < 9) × (pending_at (state_at self.now.sends p.0) ≡ true) × ((q : ℕ)
+            → q < p.0 → pending_at (state_at self.now.sends q) ≡ false)) }
         ensures none { IfNone result ((q : ℕ) → pending_at (state_at self.now.sends q) ≡ false) }
     {
         for i in 0..9 {

@@ -50,7 +50,8 @@ pub trait Texts {
         ensures begun { OnErr result (HasBegun text.now (told self.old) (told self.new)) }
         ensures kept { OnOk result (faults self.new ≡ faults self.old) }
         ensures failed { IsErrOf result TextFail.Failed → HasRisen (faults self.old) (faults self.new) }
-        ensures no_memory { IsErrOf result TextFail.NoMemory → (told self.new ≡ told self.old) × (faults self.new ≡ faults self.old) }
+        ensures no_memory { IsErrOf result TextFail.NoMemory
+            → (told self.new ≡ told self.old) × (faults self.new ≡ faults self.old) }
         ensures same_reference { holds self.new ≡ holds self.old };
 }
 

@@ -15,9 +15,9 @@ use cf_block::OutPoint;
 use cf_bytes::{Hash32, NoMemory};
 use std::alloc::Global;
 
-/// The history of a list of blocks, to which blocks are added and from which the newest are taken away again. A block costs
-/// what it holds, times a logarithm of the coins; none is read again. Coins that were spent stay, marked, so that a block is
-/// taken away without memory.
+/// The history of a list of blocks, to which blocks are added and from which the newest are taken away again. A block
+/// costs what it holds, times a logarithm of the coins; none is read again. Coins that were spent stay, marked, so that
+/// a block is taken away without memory.
 #[derive(Drop)]
 pub struct Book {
     alloc: Global,
@@ -59,8 +59,8 @@ impl Book {
         })
     }
 
-    /// Adds a block at a height. It only reads the extract, so that a caller who keeps it need not copy it. Where no memory is
-    /// found the blocks are as before.
+    /// Adds a block at a height. It only reads the extract, so that a caller who keeps it need not copy it. Where no
+    /// memory is found the blocks are as before.
     pub fn push(&mut self, height: u32, extract: &Extract) -> Result<(), NoMemory>
         ensures ok { OnOk result ((blocks : List Placed) → Stands self.old blocks
             → Stands self.new (record { height = height; extract = extract.now } ∷ blocks)) }
@@ -163,7 +163,8 @@ fn take_out(coins: &mut UndoCoins, spends: &[OutPoint]) -> Result<(bool, u128), 
 
 // Puts outputs in, and answers their sum.
 fn put_in(coins: &mut UndoCoins, txid: Hash32, pays: &[Paid]) -> Result<u128, NoMemory>
-    ensures after { OnOk result (coins_of coins.new ≡ fold put_one (coins_of coins.old) (map (coin_of txid.0) pays.now)) }
+    ensures after { OnOk result
+        (coins_of coins.new ≡ fold put_one (coins_of coins.old) (map (coin_of txid.0) pays.now)) }
     ensures sum { IfOk result (λ n. n ≡ sum_by (λ coin. coin.1) (map (coin_of txid.0) pays.now)) }
     ensures goes { Goes (log_of coins.old) (coins_of coins.old) (log_of coins.new) (coins_of coins.new) }
 {

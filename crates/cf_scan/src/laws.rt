@@ -17,8 +17,10 @@ pub fn laws_of_watches()
 /// Leaving out blocks that neither pay a watched script nor spend a watched coin, as the coins
 /// stand when the block comes, changes nothing. The balance is the sum of the watched coins.
 pub fn laws_of_histories()
-    ensures scan { (blocks : List Block) (watch : List (List ℕ)) → history_of (extracts_of blocks watch) ≡ scan_of blocks watch }
+    ensures scan { (blocks : List Block) (watch : List (List ℕ))
+        → history_of (extracts_of blocks watch) ≡ scan_of blocks watch }
     ensures idle { (keep : ℕ → Bool) (blocks : List Block) (watch : List (List ℕ)) → LeavesOutIdle keep blocks watch
         → history_of (filter (λ p. keep p.height) (extracts_of blocks watch)) ≡ scan_of blocks watch }
-    ensures balance { (blocks : List Block) (watch : List (List ℕ)) → balance_of (scan_of blocks watch) ≡ total (watched_coins blocks watch) }
+    ensures balance { (blocks : List Block) (watch : List (List ℕ))
+        → balance_of (scan_of blocks watch) ≡ total (watched_coins blocks watch) }
 {}

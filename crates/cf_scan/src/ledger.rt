@@ -45,7 +45,8 @@ impl Ledger {
     /// The extract of the next block, with its height.
     #[tactic(auto, unfolding(crate::specs::Extracts::after_placed))]
     pub fn add_block(mut self, height: u32, extract: &Extract) -> Result<Ledger, NoMemory>
-        ensures { IfOk result (λ ledger. ledger ≡ after_placed self (record { height = height; extract = extract.now })) }
+        ensures { IfOk result
+            (λ ledger. ledger ≡ after_placed self (record { height = height; extract = extract.now })) }
     {
         for tx in extract.as_slice() {
             self.add_tx(height, tx)?;

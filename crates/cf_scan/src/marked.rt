@@ -10,8 +10,8 @@ use cf_bytes::NoMemory;
 use std::alloc::Global;
 use std::collections::BTreeMap;
 
-/// The values of coins by their outpoints, and their sum. A coin that was taken out stays as an entry without a value, so that
-/// it can be put back without memory.
+/// The values of coins by their outpoints, and their sum. A coin that was taken out stays as an entry without a value,
+/// so that it can be put back without memory.
 #[derive(Drop)]
 pub(crate) struct MarkedCoins {
     map: BTreeMap<OutPoint, Option<u64>>,

@@ -12,8 +12,8 @@ use cf_block::{Block, TxIds};
 use cf_bytes::NoMemory;
 use std::alloc::Global;
 
-/// The history of the watched scripts in these blocks, the first of which is at height 1. The hashes of each block's transactions are given. Each
-/// block is read once, and of it nothing is kept but its entries and its watched coins.
+/// The history of the watched scripts in these blocks, the first of which is at height 1. The hashes of each block's
+/// transactions are given. Each block is read once, and of it nothing is kept but its entries and its watched coins.
 pub fn scan(
     alloc: Global,
     blocks: &[Block],

@@ -10,8 +10,8 @@ use std::marker::Model;
 /// One place for each number from 0, which is nobody's, to 8.
 pub const PLACES: usize = 9;
 
-/// Up to which heights a peer claims its blocks, no filter of them is to be asked for that isn't open, and none of them is to be
-/// fetched that isn't.
+/// Up to which heights a peer claims its blocks, no filter of them is to be asked for that isn't open, and none of them
+/// is to be fetched that isn't.
 #[derive(Clone, Copy, Debug)]
 pub struct Marks {
     pub claimed: u32,

@@ -66,7 +66,8 @@ impl OpenAt {
     fn put_filter(&mut self, block: Hash32) -> Result<(), NoMemory>
         ensures there { OnOk result (filter_at self.new block.0 ≡ true) }
         ensures stays { (hash : List ℕ) → filter_at self.old hash ≡ true → filter_at self.new hash ≡ true }
-        ensures only { (hash : List ℕ) → filter_at self.new hash ≡ true → (hash ≡ block.0) ⊎ (filter_at self.old hash ≡ true) }
+        ensures only { (hash : List ℕ) → filter_at self.new hash ≡ true
+            → (hash ≡ block.0) ⊎ (filter_at self.old hash ≡ true) }
         ensures block { (hash : List ℕ) → block_at self.new hash ≡ block_at self.old hash }
     {
         self.filters.insert(block, ())?;
@@ -75,7 +76,8 @@ impl OpenAt {
 
     /// Opens the filters of blocks. Where no memory is found some of them may be open.
     pub fn put_filters(&mut self, blocks: &[Hash32]) -> Result<(), NoMemory>
-        ensures there { OnOk result ((hash : List ℕ) → IsIn hash (blocks_of blocks.now) → filter_at self.new hash ≡ true) }
+        ensures there { OnOk result ((hash : List ℕ) → IsIn hash (blocks_of blocks.now)
+            → filter_at self.new hash ≡ true) }
         ensures stays { (hash : List ℕ) → filter_at self.old hash ≡ true → filter_at self.new hash ≡ true }
         ensures only { (hash : List ℕ) → filter_at self.new hash ≡ true
             → IsIn hash (blocks_of blocks.now) ⊎ (filter_at self.old hash ≡ true) }

@@ -13,7 +13,8 @@ use std::alloc::Global;
 // A place for each number from 0, which is nobody's, to 8.
 const PLACES: usize = 9;
 
-/// What stands in the requests for filters and for blocks that are open to up to eight peers. Blocks are named by their hashes.
+/// What stands in the requests for filters and for blocks that are open to up to eight peers. Blocks are named by their
+/// hashes.
 #[derive(Drop)]
 pub struct Opens {
     alloc: Global,

@@ -43,8 +43,10 @@ fn is_to_ask(
     first: &First,
     block: &Hash32,
 ) -> bool
-    ensures yes { result ≡ true → IsToAsk (table_in extracts.now) (tables_of claims.now) (verdicts_in judged.now) (opens_in opens.now) block.now.0 }
-    ensures no { result ≡ false → IsToAsk (table_in extracts.now) (tables_of claims.now) (verdicts_in judged.now) (opens_in opens.now) block.now.0 → ⊥ }
+    ensures yes { result ≡ true → IsToAsk (table_in extracts.now) (tables_of claims.now) (verdicts_in judged.now)
+        (opens_in opens.now) block.now.0 }
+    ensures no { result ≡ false → IsToAsk (table_in extracts.now) (tables_of claims.now) (verdicts_in judged.now)
+        (opens_in opens.now) block.now.0 → ⊥ }
 {
     let kind = kind_above(extracts, claims, judged, first, block);
     if !is_unjudged(kind) {
@@ -62,8 +64,10 @@ fn is_to_get(
     first: &First,
     block: &Hash32,
 ) -> bool
-    ensures yes { result ≡ true → IsToGet (table_in extracts.now) (tables_of claims.now) (verdicts_in judged.now) (opens_in opens.now) block.now.0 }
-    ensures no { result ≡ false → IsToGet (table_in extracts.now) (tables_of claims.now) (verdicts_in judged.now) (opens_in opens.now) block.now.0 → ⊥ }
+    ensures yes { result ≡ true → IsToGet (table_in extracts.now) (tables_of claims.now) (verdicts_in judged.now)
+        (opens_in opens.now) block.now.0 }
+    ensures no { result ≡ false → IsToGet (table_in extracts.now) (tables_of claims.now) (verdicts_in judged.now)
+        (opens_in opens.now) block.now.0 → ⊥ }
 {
     let kind = kind_above(extracts, claims, judged, first, block);
     if !is_due(kind) {
@@ -72,7 +76,8 @@ fn is_to_get(
     opens.is_block_free(block)
 }
 
-// How far no filter of a peer's blocks is to be asked for, from a height up to which none is, and no further than asked.
+// How far no filter of a peer's blocks is to be asked for, from a height up to which none is, and no further than
+// asked.
 fn climb_sought<H: HeaderStore>(
     store: &H,
     extracts: &Extracts,
@@ -86,11 +91,14 @@ fn climb_sought<H: HeaderStore>(
 ) -> u32
     requires entered { IsSome (H.chain store.now p.0) }
     requires within { most ≤ length (own_of (H.chain store.now) p) }
-    requires sought { AreSought (table_in extracts.now) (tables_of claims.now) (verdicts_in judged.now) (opens_in opens.now) (own_of (H.chain store.now) p) from }
-    ensures sought { AreSought (table_in extracts.now) (tables_of claims.now) (verdicts_in judged.now) (opens_in opens.now) (own_of (H.chain store.now) p) result }
+    requires sought { AreSought (table_in extracts.now) (tables_of claims.now) (verdicts_in judged.now)
+        (opens_in opens.now) (own_of (H.chain store.now) p) from }
+    ensures sought { AreSought (table_in extracts.now) (tables_of claims.now) (verdicts_in judged.now)
+        (opens_in opens.now) (own_of (H.chain store.now) p) result }
     ensures up { from ≤ result }
     ensures low { result ≤ max from most }
-    ensures next { result < most → IsToAsk (table_in extracts.now) (tables_of claims.now) (verdicts_in judged.now) (opens_in opens.now) (hash_at (own_of (H.chain store.now) p) (result + 1)) }
+    ensures next { result < most → IsToAsk (table_in extracts.now) (tables_of claims.now) (verdicts_in judged.now)
+        (opens_in opens.now) (hash_at (own_of (H.chain store.now) p) (result + 1)) }
 {
     for height in from..most {
         if is_to_ask(
@@ -121,11 +129,14 @@ fn climb_passed<H: HeaderStore>(
 ) -> u32
     requires entered { IsSome (H.chain store.now p.0) }
     requires within { most ≤ length (own_of (H.chain store.now) p) }
-    requires passed { ArePassed (table_in extracts.now) (tables_of claims.now) (verdicts_in judged.now) (opens_in opens.now) (own_of (H.chain store.now) p) from }
-    ensures passed { ArePassed (table_in extracts.now) (tables_of claims.now) (verdicts_in judged.now) (opens_in opens.now) (own_of (H.chain store.now) p) result }
+    requires passed { ArePassed (table_in extracts.now) (tables_of claims.now) (verdicts_in judged.now)
+        (opens_in opens.now) (own_of (H.chain store.now) p) from }
+    ensures passed { ArePassed (table_in extracts.now) (tables_of claims.now) (verdicts_in judged.now)
+        (opens_in opens.now) (own_of (H.chain store.now) p) result }
     ensures up { from ≤ result }
     ensures low { result ≤ max from most }
-    ensures next { result < most → IsToGet (table_in extracts.now) (tables_of claims.now) (verdicts_in judged.now) (opens_in opens.now) (hash_at (own_of (H.chain store.now) p) (result + 1)) }
+    ensures next { result < most → IsToGet (table_in extracts.now) (tables_of claims.now) (verdicts_in judged.now)
+        (opens_in opens.now) (hash_at (own_of (H.chain store.now) p) (result + 1)) }
 {
     for height in from..most {
         if is_to_get(
@@ -157,12 +168,15 @@ pub fn sought_end<H: HeaderStore>(
     requires entered { IsSome (H.chain store.now p.0) }
     requires within { common ≤ length (own_of (H.chain store.now) p) }
     requires low { start ≤ common }
-    requires this { IsToAsk (table_in extracts.now) (tables_of claims.now) (verdicts_in judged.now) (opens_in opens.now) (hash_at (own_of (H.chain store.now) p) start) }
-    ensures all { AreToAsk (table_in extracts.now) (tables_of claims.now) (verdicts_in judged.now) (opens_in opens.now) (own_of (H.chain store.now) p) start result }
+    requires this { IsToAsk (table_in extracts.now) (tables_of claims.now) (verdicts_in judged.now) (opens_in opens.now)
+        (hash_at (own_of (H.chain store.now) p) start) }
+    ensures all { AreToAsk (table_in extracts.now) (tables_of claims.now) (verdicts_in judged.now) (opens_in opens.now)
+        (own_of (H.chain store.now) p) start result }
     ensures up { start ≤ result }
     ensures low { result ≤ common }
     ensures few { result < start + 1000 }
-    ensures last { IsLastToAsk (table_in extracts.now) (tables_of claims.now) (verdicts_in judged.now) (opens_in opens.now) (own_of (H.chain store.now) p) start result common }
+    ensures last { IsLastToAsk (table_in extracts.now) (tables_of claims.now) (verdicts_in judged.now)
+        (opens_in opens.now) (own_of (H.chain store.now) p) start result common }
 {
     let most = start + (common - start).min(999);
     for height in start..most {
@@ -180,8 +194,8 @@ pub fn sought_end<H: HeaderStore>(
     most
 }
 
-/// What a peer is to be asked for next of the blocks up to a height, and where the next call goes on. Nothing is to be asked for of its
-/// blocks up to two other heights, whoever was asked about them.
+/// What a peer is to be asked for next of the blocks up to a height, and where the next call goes on. Nothing is to be
+/// asked for of its blocks up to two other heights, whoever was asked about them.
 pub fn next_sought<H: HeaderStore>(
     store: &H,
     extracts: &Extracts,
@@ -197,16 +211,16 @@ pub fn next_sought<H: HeaderStore>(
 ) -> (Marks, Want)
     requires entered { IsSome (H.chain store.now p.0) }
     requires within { common ≤ length (own_of (H.chain store.now) p) }
-    requires sought { AreSought (table_in extracts.now) (tables_of claims.now) (verdicts_in judged.now) (opens_in opens.now)
-        (own_of (H.chain store.now) p) shared_sought }
-    requires passed { ArePassed (table_in extracts.now) (tables_of claims.now) (verdicts_in judged.now) (opens_in opens.now)
-        (own_of (H.chain store.now) p) shared_passed }
-    requires marks { IsMarked (table_in extracts.now) (tables_of claims.now) (verdicts_in judged.now) (opens_in opens.now) p.0
-        (own_of (H.chain store.now) p) from }
-    ensures marks { IsMarked (table_in extracts.now) (tables_of claims.now) (verdicts_in judged.now) (opens_in opens.now) p.0
-        (own_of (H.chain store.now) p) result.0 }
-    ensures want { IsSought (table_in extracts.now) (tables_of claims.now) (verdicts_in judged.now) (opens_in opens.now) p.0
-        (own_of (H.chain store.now) p) common result.1 }
+    requires sought { AreSought (table_in extracts.now) (tables_of claims.now) (verdicts_in judged.now)
+        (opens_in opens.now) (own_of (H.chain store.now) p) shared_sought }
+    requires passed { ArePassed (table_in extracts.now) (tables_of claims.now) (verdicts_in judged.now)
+        (opens_in opens.now) (own_of (H.chain store.now) p) shared_passed }
+    requires marks { IsMarked (table_in extracts.now) (tables_of claims.now) (verdicts_in judged.now)
+        (opens_in opens.now) p.0 (own_of (H.chain store.now) p) from }
+    ensures marks { IsMarked (table_in extracts.now) (tables_of claims.now) (verdicts_in judged.now)
+        (opens_in opens.now) p.0 (own_of (H.chain store.now) p) result.0 }
+    ensures want { IsSought (table_in extracts.now) (tables_of claims.now) (verdicts_in judged.now)
+        (opens_in opens.now) p.0 (own_of (H.chain store.now) p) common result.1 }
     ensures up { AreRaised from result.0 shared_sought shared_passed }
 {
     let claimed = climb_claimed(store, claims, p, first, from.claimed, common);
@@ -219,7 +233,8 @@ pub fn next_sought<H: HeaderStore>(
     )
 }
 
-// What a peer is to be asked for next of the blocks up to a height, all of which it claims, and where the next call goes on.
+// What a peer is to be asked for next of the blocks up to a height, all of which it claims, and where the next call
+// goes on.
 fn sought_of_claimed<H: HeaderStore>(
     store: &H,
     extracts: &Extracts,
@@ -234,12 +249,12 @@ fn sought_of_claimed<H: HeaderStore>(
     requires entered { IsSome (H.chain store.now p.0) }
     requires within { common ≤ length (own_of (H.chain store.now) p) }
     requires claimed { common ≤ from.claimed }
-    requires marks { IsMarked (table_in extracts.now) (tables_of claims.now) (verdicts_in judged.now) (opens_in opens.now) p.0
-        (own_of (H.chain store.now) p) from }
-    ensures marks { IsMarked (table_in extracts.now) (tables_of claims.now) (verdicts_in judged.now) (opens_in opens.now) p.0
-        (own_of (H.chain store.now) p) result.0 }
-    ensures want { IsSought (table_in extracts.now) (tables_of claims.now) (verdicts_in judged.now) (opens_in opens.now) p.0
-        (own_of (H.chain store.now) p) common result.1 }
+    requires marks { IsMarked (table_in extracts.now) (tables_of claims.now) (verdicts_in judged.now)
+        (opens_in opens.now) p.0 (own_of (H.chain store.now) p) from }
+    ensures marks { IsMarked (table_in extracts.now) (tables_of claims.now) (verdicts_in judged.now)
+        (opens_in opens.now) p.0 (own_of (H.chain store.now) p) result.0 }
+    ensures want { IsSought (table_in extracts.now) (tables_of claims.now) (verdicts_in judged.now)
+        (opens_in opens.now) p.0 (own_of (H.chain store.now) p) common result.1 }
     ensures up { (result.0.claimed ≡ from.claimed) × (from.sought ≤ result.0.sought) × (from.passed ≤ result.0.passed) }
 {
     let Marks {
@@ -357,7 +372,8 @@ pub fn passed_below_hits<H: HeaderStore>(
     passed
 }
 
-/// The mark of each peer's blocks falls to below each block of a batch whose filter hits, by the verdicts on them in their order.
+/// The mark of each peer's blocks falls to below each block of a batch whose filter hits, by the verdicts on them in
+/// their order.
 pub fn fall_below_hits<H: HeaderStore>(
     store: &H,
     cursors: &mut Cursors,
@@ -365,7 +381,8 @@ pub fn fall_below_hits<H: HeaderStore>(
     verdicts: &[Verdict],
 )
     requires { (q : ℕ) → IsWithin (H.chain store.now q) (marks_at cursors.old q) }
-    ensures { (q : ℕ) → IsFallen (H.chain store.now q) (marks_at cursors.old q) (marks_at cursors.new q) jobs.now verdicts.now }
+    ensures { (q : ℕ)
+        → IsFallen (H.chain store.now q) (marks_at cursors.old q) (marks_at cursors.new q) jobs.now verdicts.now }
 {
     for q in 0..cursors.places() {
         fall_at(store, cursors, PeerNo(q), jobs, verdicts);
@@ -381,7 +398,8 @@ fn fall_at<H: HeaderStore>(
     verdicts: &[Verdict],
 )
     requires { IsWithin (H.chain store.now p.0) (marks_at cursors.old p.0) }
-    ensures here { IsFallen (H.chain store.now p.0) (marks_at cursors.old p.0) (marks_at cursors.new p.0) jobs.now verdicts.now }
+    ensures here { IsFallen (H.chain store.now p.0) (marks_at cursors.old p.0)
+        (marks_at cursors.new p.0) jobs.now verdicts.now }
     ensures others { (q : ℕ) → q ≢ p.0 → marks_at cursors.new q ≡ marks_at cursors.old q }
 {
     let marks = cursors.of(p);

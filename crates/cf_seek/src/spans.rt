@@ -37,8 +37,8 @@ pub enum Wish {
     Test(Trial),
 }
 
-/// The blocks of a peer's chain from a height up to another, below which its hash stands at no lower height than the first; where it stands
-/// lower than at that other height, up to there.
+/// The blocks of a peer's chain from a height up to another, below which its hash stands at no lower height than the
+/// first; where it stands lower than at that other height, up to there.
 pub fn span_of<H: HeaderStore>(
     alloc: Global,
     store: &H,
@@ -50,7 +50,8 @@ pub fn span_of<H: HeaderStore>(
     requires up { 1 ≤ start }
     requires low { start ≤ end }
     requires within { end ≤ length (own_of (H.chain store.now) p) }
-    requires apart { (h : ℕ) → h < start → hash_at (own_of (H.chain store.now) p) h ≡ hash_at (own_of (H.chain store.now) p) end → ⊥ }
+    requires apart { (h : ℕ) → h < start
+        → hash_at (own_of (H.chain store.now) p) h ≡ hash_at (own_of (H.chain store.now) p) end → ⊥ }
     ensures { IfOk result (λ s. IsSpan (own_of (H.chain store.now) p) start end s) }
 {
     let stop = store.hash_at(p, end);

@@ -35,7 +35,8 @@ pub struct Exposure {
 /// Whether a peer claims this filter of a block.
 pub fn is_claimed(claims: &Claims, p: PeerNo, exposure: &Exposure) -> bool
     ensures yes { result ≡ true → IsClaimedAs (tables_of claims.now) p.0 exposure.now.block.0 exposure.now.filter.0 }
-    ensures no { result ≡ false → IsClaimedAs (tables_of claims.now) p.0 exposure.now.block.0 exposure.now.filter.0 → ⊥ }
+    ensures no { result ≡ false
+        → IsClaimedAs (tables_of claims.now) p.0 exposure.now.block.0 exposure.now.filter.0 → ⊥ }
 {
     match claims.claim(p, &exposure.block) {
         Some(claim) => claim.hash == exposure.filter,
@@ -47,7 +48,8 @@ pub fn is_claimed(claims: &Claims, p: PeerNo, exposure: &Exposure) -> bool
 fn exposed_at(claims: &Claims, tests: &Tests, p: PeerNo, block: &Hash32) -> Option<Exposure>
     ensures block { IfSome result (λ e. e.block ≡ block.now) }
     ensures is { IfSome result (λ e. IsExposed (tables_of claims.now) (told_in tests.now) p.0 e.block.0 e.filter.0) }
-    ensures none { result ≡ None → (filter : List ℕ) → IsExposed (tables_of claims.now) (told_in tests.now) p.0 block.now.0 filter → ⊥ }
+    ensures none { result ≡ None → (filter : List ℕ)
+        → IsExposed (tables_of claims.now) (told_in tests.now) p.0 block.now.0 filter → ⊥ }
 {
     let Some(claim) = claims.claim(p, block) else {
         return None;
@@ -62,8 +64,8 @@ fn exposed_at(claims: &Claims, tests: &Tests, p: PeerNo, block: &Hash32) -> Opti
     }
 }
 
-/// One of some blocks of which a peer claims a filter that was found to lack what the block pays; nothing exactly where there
-/// is none.
+/// One of some blocks of which a peer claims a filter that was found to lack what the block pays; nothing exactly where
+/// there is none.
 pub fn first_exposed(
     claims: &Claims,
     tests: &Tests,
@@ -91,8 +93,10 @@ fn is_to_test(
     p: PeerNo,
     block: &Hash32,
 ) -> bool
-    ensures yes { result ≡ true → IsToTest (table_in extracts.now) (tables_of claims.now) (told_in tests.now) p.0 block.now.0 }
-    ensures no { result ≡ false → IsToTest (table_in extracts.now) (tables_of claims.now) (told_in tests.now) p.0 block.now.0 → ⊥ }
+    ensures yes { result ≡ true
+        → IsToTest (table_in extracts.now) (tables_of claims.now) (told_in tests.now) p.0 block.now.0 }
+    ensures no { result ≡ false
+        → IsToTest (table_in extracts.now) (tables_of claims.now) (told_in tests.now) p.0 block.now.0 → ⊥ }
 {
     if !extracts.has(block) {
         return false;
@@ -115,8 +119,10 @@ fn is_to_try(
     first: &First,
     block: &Hash32,
 ) -> bool
-    ensures yes { result ≡ true → IsToTry (table_in extracts.now) (tables_of claims.now) (told_in tests.now) p.0 block.now.0 }
-    ensures no { result ≡ false → IsToTry (table_in extracts.now) (tables_of claims.now) (told_in tests.now) p.0 block.now.0 → ⊥ }
+    ensures yes { result ≡ true
+        → IsToTry (table_in extracts.now) (tables_of claims.now) (told_in tests.now) p.0 block.now.0 }
+    ensures no { result ≡ false
+        → IsToTry (table_in extracts.now) (tables_of claims.now) (told_in tests.now) p.0 block.now.0 → ⊥ }
 {
     if !is_to_test(extracts, claims, tests, p, block) {
         return false;
@@ -124,9 +130,9 @@ fn is_to_try(
     !first.is(block)
 }
 
-/// From a height up to which none of an entered peer's blocks is to be tested: the lowest above genesis and up to another height
-/// that was fetched, on whose filter they differ, and of which what the peer claims wasn't tested; nothing exactly where there is
-/// none. And up to where none is then.
+/// From a height up to which none of an entered peer's blocks is to be tested: the lowest above genesis and up to
+/// another height that was fetched, on whose filter they differ, and of which what the peer claims wasn't tested;
+/// nothing exactly where there is none. And up to where none is then.
 pub fn next_trial<H: HeaderStore>(
     store: &H,
     extracts: &Extracts,
@@ -139,11 +145,14 @@ pub fn next_trial<H: HeaderStore>(
 ) -> (u32, Option<Trial>)
     requires entered { IsSome (H.chain store.now p.0) }
     requires within { common ≤ length (own_of (H.chain store.now) p) }
-    requires tried { AreTried (table_in extracts.now) (tables_of claims.now) (told_in tests.now) p.0 (own_of (H.chain store.now) p) from }
-    ensures tried { AreTried (table_in extracts.now) (tables_of claims.now) (told_in tests.now) p.0 (own_of (H.chain store.now) p) result.0 }
+    requires tried { AreTried (table_in extracts.now) (tables_of claims.now)
+        (told_in tests.now) p.0 (own_of (H.chain store.now) p) from }
+    ensures tried { AreTried (table_in extracts.now) (tables_of claims.now)
+        (told_in tests.now) p.0 (own_of (H.chain store.now) p) result.0 }
     ensures up { from ≤ result.0 }
     ensures low { result.0 ≤ max from common }
-    ensures next { IsNextTrial (table_in extracts.now) (tables_of claims.now) (told_in tests.now) p.0 (own_of (H.chain store.now) p) common result.1 }
+    ensures next { IsNextTrial (table_in extracts.now) (tables_of claims.now)
+        (told_in tests.now) p.0 (own_of (H.chain store.now) p) common result.1 }
 {
     for height in from..common {
         let block = store.hash_at(p, height + 1);

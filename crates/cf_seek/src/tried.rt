@@ -16,8 +16,8 @@ use cf_tables::{Extracts, is_differing};
 use std::alloc::Global;
 use std::marker::Model;
 
-/// A mark for each peer's number up to 8: the height up to which none of the blocks of its chain is to be tested. Contracts
-/// see their list.
+/// A mark for each peer's number up to 8: the height up to which none of the blocks of its chain is to be tested.
+/// Contracts see their list.
 #[derive(Drop)]
 pub struct Tried {
     marks: Vec<u32>,
@@ -98,8 +98,8 @@ pub fn fall_below_dispute<H: HeaderStore>(
     block: &Hash32,
 )
     requires { (q : ℕ) → IsOn (H.chain store.now q) (tried_at tried.old q) }
-    ensures { (q : ℕ) → IsTriedBelow (H.chain store.now q) (λ (b : List ℕ). IsAt (tables_of claims.now) b Differ) (block.now.0 ∷ [])
-        (tried_at tried.old q) (tried_at tried.new q) }
+    ensures { (q : ℕ) → IsTriedBelow (H.chain store.now q) (λ (b : List ℕ). IsAt (tables_of claims.now) b Differ)
+        (block.now.0 ∷ []) (tried_at tried.old q) (tried_at tried.new q) }
 {
     if is_differing(claims, block) {
         fall_below(store, tried, block);

@@ -39,7 +39,8 @@ pub fn climb_claimed<H: HeaderStore>(
     ensures up { from ≤ result }
     ensures low { result ≤ max from most }
     ensures above { result < most → IsAbove (hash_at (own_of (H.chain store.now) p) (result + 1)) }
-    ensures next { result < most → tables_of claims.now p.0 (hash_at (own_of (H.chain store.now) p) (result + 1)) ≡ None }
+    ensures next { result < most
+        → tables_of claims.now p.0 (hash_at (own_of (H.chain store.now) p) (result + 1)) ≡ None }
 {
     for height in from..most {
         if is_unclaimed(claims, p, first, &store.hash_at(p, height + 1)) {

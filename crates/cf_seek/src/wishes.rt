@@ -39,15 +39,17 @@ fn wish_to_test<H: HeaderStore>(
 ) -> (u32, Wish)
     requires entered { IsSome (H.chain store.now p.0) }
     requires within { common ≤ length (own_of (H.chain store.now) p) }
-    requires tried { AreTried (table_in extracts.now) (tables_of claims.now) (told_in tests.now) p.0 (own_of (H.chain store.now) p) tried }
-    ensures tried { AreTried (table_in extracts.now) (tables_of claims.now) (told_in tests.now) p.0 (own_of (H.chain store.now) p) result.0 }
+    requires tried { AreTried (table_in extracts.now) (tables_of claims.now)
+        (told_in tests.now) p.0 (own_of (H.chain store.now) p) tried }
+    ensures tried { AreTried (table_in extracts.now) (tables_of claims.now)
+        (told_in tests.now) p.0 (own_of (H.chain store.now) p) result.0 }
     ensures up { tried ≤ result.0 }
     ensures low { result.0 ≤ max tried common }
-    ensures wish { (verdicts : Verdicts) (opens : OpenToAll)
-        → IsSought (table_in extracts.now) (tables_of claims.now) verdicts opens p.0 (own_of (H.chain store.now) p) common NothingWanted
-        → IsWish (table_in extracts.now) (tables_of claims.now) verdicts opens p.0 (own_of (H.chain store.now) p) common result.1 }
-    ensures far { (verdicts : Verdicts) (opens : OpenToAll)
-        → GoesFar (table_in extracts.now) (tables_of claims.now) verdicts opens p.0 (own_of (H.chain store.now) p) common result.1 }
+    ensures wish { (verdicts : Verdicts) (opens : OpenToAll) → IsSought (table_in extracts.now) (tables_of claims.now)
+        verdicts opens p.0 (own_of (H.chain store.now) p) common NothingWanted → IsWish (table_in extracts.now)
+        (tables_of claims.now) verdicts opens p.0 (own_of (H.chain store.now) p) common result.1 }
+    ensures far { (verdicts : Verdicts) (opens : OpenToAll) → GoesFar (table_in extracts.now)
+        (tables_of claims.now) verdicts opens p.0 (own_of (H.chain store.now) p) common result.1 }
     ensures trying { IsTrying (table_in extracts.now) (tables_of claims.now) (told_in tests.now)
         p.0 (own_of (H.chain store.now) p) common result.1 }
 {
@@ -58,9 +60,9 @@ fn wish_to_test<H: HeaderStore>(
     }
 }
 
-/// The question for what is wanted of a peer's blocks up to a height. It is about as many blocks in a row as may be asked about at once.
-/// Where nothing is wanted it is for a filter that is to be tested. None of the peer's blocks up to another height is; and up to
-/// where none is then comes with it.
+/// The question for what is wanted of a peer's blocks up to a height. It is about as many blocks in a row as may be
+/// asked about at once. Where nothing is wanted it is for a filter that is to be tested. None of the peer's blocks up
+/// to another height is; and up to where none is then comes with it.
 pub fn wish_for<H: HeaderStore>(
     alloc: Global,
     store: &H,
@@ -77,9 +79,10 @@ pub fn wish_for<H: HeaderStore>(
 ) -> Result<(u32, Wish), NoMemory>
     requires entered { IsSome (H.chain store.now p.0) }
     requires within { common ≤ length (own_of (H.chain store.now) p) }
-    requires wanted { IsSought (table_in extracts.now) (tables_of claims.now) (verdicts_in judged.now) (opens_in opens.now)
-        p.0 (own_of (H.chain store.now) p) common want }
-    requires tried { AreTried (table_in extracts.now) (tables_of claims.now) (told_in tests.now) p.0 (own_of (H.chain store.now) p) tried }
+    requires wanted { IsSought (table_in extracts.now) (tables_of claims.now) (verdicts_in judged.now)
+        (opens_in opens.now) p.0 (own_of (H.chain store.now) p) common want }
+    requires tried { AreTried (table_in extracts.now) (tables_of claims.now)
+        (told_in tests.now) p.0 (own_of (H.chain store.now) p) tried }
     ensures tried { IfOk result (λ r. AreTried (table_in extracts.now) (tables_of claims.now) (told_in tests.now) p.0
         (own_of (H.chain store.now) p) r.0) }
     ensures up { IfOk result (λ r. tried ≤ r.0) }

@@ -15,8 +15,8 @@ use std::snapshot::Snapshot;
 /// The most bytes of an address.
 const MOST_ADDRESS: usize = 255;
 
-/// Gives connections from a list, and keeps what is given back, with calls that are to fail. It listens once, at an address of at most 255 bytes,
-/// for which it has room from the start.
+/// Gives connections from a list, and keeps what is given back, with calls that are to fail. It listens once, at an
+/// address of at most 255 bytes, for which it has room from the start.
 #[derive(Drop)]
 pub struct ListLink<C: Duplex + Drop>
 where
@@ -30,7 +30,8 @@ where
     total: usize,
     accepted: usize,
     given: Vec<(C::End, u8)>,
-    ghost fresh: { All (λ c. IsFresh (told_now C.left C.written C.ended C.Source.faults C.Sink.faults c)) waiting.items },
+    ghost fresh: { All
+        (λ c. IsFresh (told_now C.left C.written C.ended C.Source.faults C.Sink.faults c)) waiting.items },
     ghost tied: { waiting.items ≡ drop accepted first.value.items },
     ghost counted: { accepted + deque_len waiting ≡ total },
     ghost few: { vec_len given ≤ accepted },
@@ -99,13 +100,15 @@ where
 
     ghost owed = { λ l. l.accepted - vec_len l.given };
 
-    ghost conns = { λ l. Some (map (λ c. told_now C.left C.written C.ended C.Source.faults C.Sink.faults c) (take l.accepted l.first.value.items)) };
+    ghost conns = { λ l. Some (map (λ c. told_now C.left C.written C.ended C.Source.faults C.Sink.faults c)
+        (take l.accepted l.first.value.items)) };
 
     ghost given = { λ l. Some (map (λ g. record { end = C.tells g.0; how = g.1 }) l.given.items) };
 
     /// It fails exactly where that call is to fail, where it listens already, or where the address is too long.
     fn listen(&mut self, address: &str) -> Result<(), Failed>
-        ensures ok { OnOk result ((self.old.listens ≡ false) × (self.new.listens ≡ true) × (self.new.address.items ≡ address.now)) }
+        ensures ok { OnOk result ((self.old.listens ≡ false) × (self.new.listens ≡ true)
+            × (self.new.address.items ≡ address.now)) }
         ensures err { OnErr result ((self.new.listens ≡ self.old.listens) × (self.new.address ≡ self.old.address)) }
         ensures kept { OnOk result (self.new.plan.faults ≡ self.old.plan.faults) }
         ensures cause { OnErr result (HasRisen self.old.plan.faults self.new.plan.faults) }
@@ -127,8 +130,10 @@ where
     /// It fails exactly where that call is to fail, or where no connection is left.
     fn accept(&mut self) -> Result<C, Failed>
         ensures fresh { IfOk result (λ c. IsFresh (told_now C.left C.written C.ended C.Source.faults C.Sink.faults c)) }
-        ensures ok { IfOk result (λ c. map (told_now C.left C.written C.ended C.Source.faults C.Sink.faults) (take self.new.accepted self.new.first.value.items)
-            ≡ map (told_now C.left C.written C.ended C.Source.faults C.Sink.faults) (take self.old.accepted self.old.first.value.items)
+        ensures ok { IfOk result (λ c. map (told_now C.left C.written C.ended C.Source.faults C.Sink.faults)
+            (take self.new.accepted self.new.first.value.items)
+            ≡ map (told_now C.left C.written C.ended C.Source.faults C.Sink.faults)
+            (take self.old.accepted self.old.first.value.items)
             ++ told_now C.left C.written C.ended C.Source.faults C.Sink.faults c ∷ []) }
         ensures count { OnOk result (self.new.accepted ≡ self.old.accepted + 1) }
         ensures err { OnErr result ((self.new.accepted ≡ self.old.accepted) × (self.new.first ≡ self.old.first)) }

@@ -23,7 +23,10 @@ impl<J: Task> Model for Line<J> {
 
     ghost Value = { lines.Line J };
 
-    ghost view = { λ l. record { tasks = map (λ p. p.0) l.queue.items; room = nat_lt (deque_len l.queue) (deque_capacity l.queue) } };
+    ghost view = { λ l. record {
+      tasks = map (λ p. p.0) l.queue.items;
+      room = nat_lt (deque_len l.queue) (deque_capacity l.queue);
+    } };
 }
 
 impl<J: Task> Line<J> {

@@ -36,8 +36,8 @@ pub trait Link {
         ensures conns { conns self.new ≡ conns self.old }
         ensures given { given self.new ≡ given self.old };
 
-    /// Tells whoever watches the link the height and the hash of the last block of the chain that is served from now on. In what the
-    /// link tells nothing changes.
+    /// Tells whoever watches the link the height and the hash of the last block of the chain that is served from now
+    /// on. In what the link tells nothing changes.
     fn announce(&mut self, height: u32, tip: &Hash32)
         ensures faults { faults self.new ≡ faults self.old }
         ensures addresses { addresses self.new ≡ addresses self.old }
@@ -48,10 +48,14 @@ pub trait Link {
 
     /// Waits for the next connection. Nothing has passed it yet.
     fn accept(&mut self) -> Result<Self::Conn, Failed>
-        ensures fresh { IfOk result (λ c. IsFresh (told_now Self.Conn.left Self.Conn.written Self.Conn.ended Self.Conn.Source.faults Self.Conn.Sink.faults c)) }
-        ensures ok { IfOk result (λ c. conns self.new ≡ longer_by (conns self.old) (told_now Self.Conn.left Self.Conn.written Self.Conn.ended Self.Conn.Source.faults Self.Conn.Sink.faults c ∷ [])) }
-        ensures count { OnOk result ((accepted self.new ≡ accepted self.old + 1) × (owed self.new ≡ owed self.old + 1)) }
-        ensures err { OnErr result ((conns self.new ≡ conns self.old) × (accepted self.new ≡ accepted self.old) × (owed self.new ≡ owed self.old)) }
+        ensures fresh { IfOk result (λ c. IsFresh (told_now Self.Conn.left Self.Conn.written Self.Conn.ended
+            Self.Conn.Source.faults Self.Conn.Sink.faults c)) }
+        ensures ok { IfOk result (λ c. conns self.new ≡ longer_by (conns self.old) (told_now Self.Conn.left
+            Self.Conn.written Self.Conn.ended Self.Conn.Source.faults Self.Conn.Sink.faults c ∷ [])) }
+        ensures count { OnOk result ((accepted self.new ≡ accepted self.old + 1)
+            × (owed self.new ≡ owed self.old + 1)) }
+        ensures err { OnErr result ((conns self.new ≡ conns self.old) × (accepted self.new ≡ accepted self.old)
+            × (owed self.new ≡ owed self.old)) }
         ensures kept { OnOk result (faults self.new ≡ faults self.old) }
         ensures cause { OnErr result (HasRisen (faults self.old) (faults self.new)) }
         ensures addresses { addresses self.new ≡ addresses self.old }
@@ -60,7 +64,8 @@ pub trait Link {
     /// Takes back what stays of a connection that was accepted, and the number of the way in which it ended.
     fn give_back(&mut self, end: <Self::Conn as Duplex>::End, how: u8)
         requires { 0 < owed self.old }
-        ensures given { given self.new ≡ longer_by (given self.old) (record { end = Self.Conn.tells end; how = how } ∷ []) }
+        ensures given { given self.new
+            ≡ longer_by (given self.old) (record { end = Self.Conn.tells end; how = how } ∷ []) }
         ensures owed { owed self.new + 1 ≡ owed self.old }
         ensures faults { faults self.new ≡ faults self.old }
         ensures addresses { addresses self.new ≡ addresses self.old }

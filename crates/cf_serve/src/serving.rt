@@ -46,10 +46,13 @@ fn accept_one<L: Link, S: Service + Send + 'static, K: Spawner>(
 where
     L::Conn: Send + 'static,
     <L::Conn as Duplex>::End: Drop + Send + 'static,
-    ensures ok { OnOk result ((t : TaskOf L.Conn S) × (t.service ≡ service.now) × (line.new.tasks ≡ line.old.tasks ++ t ∷ [])
-        × (L.conns link.new ≡ longer_by (L.conns link.old) (told_now L.Conn.left L.Conn.written L.Conn.ended L.Conn.Source.faults L.Conn.Sink.faults t.conn ∷ []))) }
-    ensures count { OnOk result ((L.accepted link.new ≡ L.accepted link.old + 1) × (L.owed link.new ≡ L.owed link.old + 1)) }
-    ensures err { OnErr result ((line.new.tasks ≡ line.old.tasks) × (L.conns link.new ≡ L.conns link.old) × (L.accepted link.new ≡ L.accepted link.old) × (L.owed link.new ≡ L.owed link.old)) }
+    ensures ok { OnOk result ((t : TaskOf L.Conn S) × (t.service ≡ service.now)
+        × (line.new.tasks ≡ line.old.tasks ++ t ∷ []) × (L.conns link.new ≡ longer_by (L.conns link.old)
+        (told_now L.Conn.left L.Conn.written L.Conn.ended L.Conn.Source.faults L.Conn.Sink.faults t.conn ∷ []))) }
+    ensures count { OnOk result ((L.accepted link.new ≡ L.accepted link.old + 1)
+        × (L.owed link.new ≡ L.owed link.old + 1)) }
+    ensures err { OnErr result ((line.new.tasks ≡ line.old.tasks) × (L.conns link.new ≡ L.conns link.old)
+        × (L.accepted link.new ≡ L.accepted link.old) × (L.owed link.new ≡ L.owed link.old)) }
     ensures faults { Counts result (L.faults link.old) (L.faults link.new) }
     ensures addresses { L.addresses link.new ≡ L.addresses link.old }
     ensures given { L.given link.new ≡ L.given link.old }
@@ -68,7 +71,8 @@ where
     Ok(())
 }
 
-// Joins tasks from the front of the line, and gives back what stays of their connections: all, or only as many as are over.
+// Joins tasks from the front of the line, and gives back what stays of their connections: all, or only as many as are
+// over.
 fn give_back<L: Link, S: Service, K: Spawner>(
     link: &mut L,
     spawner: &mut K,
@@ -78,7 +82,9 @@ fn give_back<L: Link, S: Service, K: Spawner>(
 where
     <L::Conn as Duplex>::End: Drop,
     requires { length line.old.tasks ≤ L.owed link.old }
-    ensures given { GivesBack (told_now L.Conn.left L.Conn.written L.Conn.ended L.Conn.Source.faults L.Conn.Sink.faults) S.serves line.old.tasks line.new.tasks (L.given link.old) (L.given link.new) (L.owed link.old) (L.owed link.new) }
+    ensures given { GivesBack (told_now L.Conn.left L.Conn.written L.Conn.ended L.Conn.Source.faults L.Conn.Sink.faults)
+        S.serves line.old.tasks line.new.tasks (L.given link.old) (L.given link.new)
+        (L.owed link.old) (L.owed link.new) }
     ensures all { only_over ≡ false → line.new.tasks ≡ [] }
     ensures faults { L.faults link.new ≡ L.faults link.old }
     ensures addresses { L.addresses link.new ≡ L.addresses link.old }
@@ -105,7 +111,9 @@ where
     L::Conn: Send + 'static,
     <L::Conn as Duplex>::End: Drop + Send + 'static,
     requires { line.old.tasks ≡ [] }
-    ensures halfway { Halfway (told_now L.Conn.left L.Conn.written L.Conn.ended L.Conn.Source.faults L.Conn.Sink.faults) S.serves service.now line.new.tasks (L.conns link.old) (L.conns link.new) (L.given link.old) (L.given link.new) (L.accepted link.old) (L.accepted link.new) (L.owed link.old) (L.owed link.new) }
+    ensures halfway { Halfway (told_now L.Conn.left L.Conn.written L.Conn.ended L.Conn.Source.faults L.Conn.Sink.faults)
+        S.serves service.now line.new.tasks (L.conns link.old) (L.conns link.new) (L.given link.old) (L.given link.new)
+        (L.accepted link.old) (L.accepted link.new) (L.owed link.old) (L.owed link.new) }
     ensures count { OnOk result (L.accepted link.new ≡ L.accepted link.old + n) }
     ensures most { L.accepted link.new ≤ L.accepted link.old + n }
     ensures faults { Counts result (L.faults link.old) (L.faults link.new) }
@@ -118,8 +126,9 @@ where
     Ok(())
 }
 
-/// Accepts n connections, serves each in a task of its own, or in place where its start is refused, and gives each back in the order of
-/// accepting. Where the link fails or no memory is found fewer are accepted, and all that were are given back first.
+/// Accepts n connections, serves each in a task of its own, or in place where its start is refused, and gives each back
+/// in the order of accepting. Where the link fails or no memory is found fewer are accepted, and all that were are
+/// given back first.
 pub fn serve<L: Link, S: Service + Send + 'static, K: Spawner>(
     alloc: Global,
     service: &S,
@@ -130,7 +139,8 @@ pub fn serve<L: Link, S: Service + Send + 'static, K: Spawner>(
 where
     L::Conn: Send + 'static,
     <L::Conn as Duplex>::End: Drop + Send + 'static,
-    ensures serves { Serves (S.serves service.now) (link_now L.addresses L.accepted L.owed L.conns L.given link.old) (link_now L.addresses L.accepted L.owed L.conns L.given link.new) }
+    ensures serves { Serves (S.serves service.now) (link_now L.addresses L.accepted L.owed L.conns L.given link.old)
+        (link_now L.addresses L.accepted L.owed L.conns L.given link.new) }
     ensures count { OnOk result (L.accepted link.new ≡ L.accepted link.old + n) }
     ensures most { L.accepted link.new ≤ L.accepted link.old + n }
     ensures faults { Counts result (L.faults link.old) (L.faults link.new) }

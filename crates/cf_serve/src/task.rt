@@ -21,7 +21,8 @@ pub trait Service: Drop {
 
     /// Serves a connection, and answers the number of the way in which it ended.
     fn serve<C: Duplex>(&self, conn: &mut C) -> u8
-        ensures { serves self.now (told_now C.left C.written C.ended C.Source.faults C.Sink.faults conn.old) result (told_now C.left C.written C.ended C.Source.faults C.Sink.faults conn.new) };
+        ensures { serves self.now (told_now C.left C.written C.ended C.Source.faults C.Sink.faults conn.old) result
+            (told_now C.left C.written C.ended C.Source.faults C.Sink.faults conn.new) };
 }
 
 /// A connection, a share of the service, and a flag that is raised when it was served.
@@ -45,7 +46,8 @@ where
 {
     type Out = Served<C::End>;
 
-    ghost gives = { λ t o. S.serves t.service (told_now C.left C.written C.ended C.Source.faults C.Sink.faults t.conn) o.how (C.tells o.end) };
+    ghost gives = { λ t o. S.serves t.service
+        (told_now C.left C.written C.ended C.Source.faults C.Sink.faults t.conn) o.how (C.tells o.end) };
 
     fn run(self) -> Served<C::End> {
         let ServeTask {

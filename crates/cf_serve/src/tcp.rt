@@ -22,7 +22,8 @@ const TELL_SECONDS: u64 = 60;
 /// How long a peer may be silent, in seconds.
 const READ_SECONDS: u64 = 1200;
 
-/// How often a call that was interrupted is made again: a machine that slept, or a process that was stopped, interrupts it.
+/// How often a call that was interrupted is made again: a machine that slept, or a process that was stopped, interrupts
+/// it.
 const TRIES: u32 = 1000;
 
 /// A connection over TCP.
@@ -109,7 +110,13 @@ impl Sink for TcpConn {
 impl Duplex for TcpConn {
     type End = TcpEnd;
 
-    ghost tells = { λ e. record { left = None; written = None; ended = e.ended; read_faults = e.reads; write_faults = e.writes } };
+    ghost tells = { λ e. record {
+      left = None;
+      written = None;
+      ended = e.ended;
+      read_faults = e.reads;
+      write_faults = e.writes;
+    } };
 
     fn receive(&mut self, into: &mut [u8]) -> Result<usize, Failed> {
         match read_some(&self.stream, into) {
@@ -143,8 +150,8 @@ impl Duplex for TcpConn {
     }
 }
 
-/// A listener over TCP. It tells neither addresses nor bytes. Where the system has no memory or no descriptor for the next connection, it waits, and
-/// tells that on standard error, at most once a minute.
+/// A listener over TCP. It tells neither addresses nor bytes. Where the system has no memory or no descriptor for the
+/// next connection, it waits, and tells that on standard error, at most once a minute.
 #[derive(Drop)]
 pub struct TcpLink<R> {
     rt: R,
@@ -197,21 +204,22 @@ impl<R: Net<Listener = TcpListener, Stream = TcpStream>> TcpLink<R> {
     }
 }
 
-// A peer may be silent for so long, and may leave unread for so long what is written to it; and nothing waits to be sent.
+// A peer may be silent for so long, and may leave unread for so long what is written to it; and nothing waits to be
+// sent.
 fn set_limits(stream: &TcpStream) -> io::Result<()> {
     stream.set_read_timeout(Some(Duration::from_secs(READ_SECONDS)))?;
     stream.set_write_timeout(Some(Duration::from_secs(WRITE_SECONDS)))?;
     stream.set_nodelay(true)
 }
 
-// Whether the system lacked something for a connection that it may have later: memory, or descriptors, of its own or of this process, which
-// connections give back as they end. (ENOMEM, ENFILE, EMFILE, ENOBUFS)
+// Whether the system lacked something for a connection that it may have later: memory, or descriptors, of its own or of
+// this process, which connections give back as they end. (ENOMEM, ENFILE, EMFILE, ENOBUFS)
 fn is_want(e: &io::Error) -> bool {
     matches!(e.raw_os_error(), Some(12 | 23 | 24 | 105))
 }
 
-// Whether a connection was given up, forbidden or cut before it was accepted, or the call was interrupted. The next one may do.
-// (EPERM, EINTR, ENONET, EPROTO, ENOPROTOOPT, ENETDOWN, ENETUNREACH, ECONNABORTED, EHOSTDOWN, EHOSTUNREACH)
+// Whether a connection was given up, forbidden or cut before it was accepted, or the call was interrupted. The next one
+// may do. (EPERM, EINTR, ENONET, EPROTO, ENOPROTOOPT, ENETDOWN, ENETUNREACH, ECONNABORTED, EHOSTDOWN, EHOSTUNREACH)
 fn is_lost(e: &io::Error) -> bool {
     matches!(
         e.raw_os_error(),

@@ -9,7 +9,8 @@ use cf_bytes::NoMemory;
 use cf_index::Index;
 use cf_msg::Msg;
 
-/// What a connection is served by: the time and the nonce of the server's own `version`, and whether the peer's has come.
+/// What a connection is served by: the time and the nonce of the server's own `version`, and whether the peer's has
+/// come.
 #[derive(Clone, Copy, Debug, PartialEq, Eq)]
 pub struct Served {
     pub time: i64,
@@ -37,8 +38,10 @@ pub fn answer(
     msg: &Msg,
     out: &mut Replies,
 ) -> Result<(), NoMemory>
-    ensures ok { OnOk result (Adds served.old index.now out.old out.new (replies_to served.old.time served.old.nonce index.now served.old.seen msg.now)) }
-    ensures err { OnErr result ((n : ℕ) × Adds served.old index.now out.old out.new (take n (replies_to served.old.time served.old.nonce index.now served.old.seen msg.now))) }
+    ensures ok { OnOk result (Adds served.old index.now out.old out.new
+        (replies_to served.old.time served.old.nonce index.now served.old.seen msg.now)) }
+    ensures err { OnErr result ((n : ℕ) × Adds served.old index.now out.old out.new
+        (take n (replies_to served.old.time served.old.nonce index.now served.old.seen msg.now))) }
     ensures seen { OnOk result (served.new ≡ record served.old { seen = version_is msg.now || served.old.seen }) }
     ensures kept { OnErr result (served.new ≡ served.old) }
 {

@@ -90,7 +90,8 @@ pub fn message_bytes(alloc: Global, msg: &Msg) -> Result<Vec<u8>, NoMemory>
 // The server's version, where the chain is so high.
 fn own_version(alloc: Global, served: &Served, tip: u32) -> Result<Vec<u8>, NoMemory>
     requires { tip ≤ max_height }
-    ensures { IfOk result (λ bytes. (blocks : List Block) → tip ≡ length blocks → bytes.items ≡ spelling (frame_of (version_reply served.now.time served.now.nonce blocks))) }
+    ensures { IfOk result (λ bytes. (blocks : List Block) → tip ≡ length blocks
+        → bytes.items ≡ spelling (frame_of (version_reply served.now.time served.now.nonce blocks))) }
 {
     let agent = Vec::from_slice(alloc, b"/cf:1/")?;
     let version = Msg::Version {
@@ -134,7 +135,8 @@ fn headers_bytes(alloc: Global, index: &Index, start: u32, count: u32) -> Result
     requires good { IsGoodChain index.now }
     requires few { count ≤ 2000 }
     requires there { start + count ≤ suc (length index.now) }
-    ensures { IfOk result (λ bytes. bytes.items ≡ spelling (frame_of (HeadersMessage (take count (drop start (map (λ b. b.header) (all_blocks index.now))))))) }
+    ensures { IfOk result (λ bytes. bytes.items
+        ≡ spelling (frame_of (HeadersMessage (take count (drop start (map (λ b. b.header) (all_blocks index.now))))))) }
 {
     let headers = headers_from(alloc, index, start, count)?;
     message_bytes(alloc, &Msg::Headers(headers))
@@ -143,7 +145,8 @@ fn headers_bytes(alloc: Global, index: &Index, start: u32, count: u32) -> Result
 fn block_bytes(alloc: Global, index: &Index, height: u32) -> Result<Vec<u8>, NoMemory>
     requires good { IsGoodChain index.now }
     requires there { height ≤ length index.now }
-    ensures { IfOk result (λ bytes. bytes.items ≡ spelling (frame_of (BlockMessage (slice_index_or (all_blocks index.now) height first_block)))) }
+    ensures { IfOk result (λ bytes. bytes.items
+        ≡ spelling (frame_of (BlockMessage (slice_index_or (all_blocks index.now) height first_block)))) }
 {
     match index.block(height) {
         None => unreachable!(),
@@ -157,7 +160,8 @@ fn block_bytes(alloc: Global, index: &Index, height: u32) -> Result<Vec<u8>, NoM
 fn cfilter_bytes(alloc: Global, index: &Index, height: u32) -> Result<Vec<u8>, NoMemory>
     requires good { IsGoodChain index.now }
     requires there { height ≤ length index.now }
-    ensures { IfOk result (λ bytes. bytes.items ≡ spelling (frame_of (cfilter_of (slice_index_or (filters_of index.now) height first_filtered)))) }
+    ensures { IfOk result (λ bytes. bytes.items
+        ≡ spelling (frame_of (cfilter_of (slice_index_or (filters_of index.now) height first_filtered)))) }
 {
     let (Some(block), Some(filter)) = (index.hash(height), index.filter(height)) else {
         unreachable!()
@@ -200,7 +204,8 @@ fn filter_hashes_from(
 ) -> Result<Hashes, NoMemory>
     requires good { IsGoodChain index.now }
     requires there { start + count ≤ suc (length index.now) }
-    ensures { IfOk result (λ hashes. hashes ≡ map (λ f. record { 0 = filter_hash_of f.filter }) (take count (drop start (filters_of index.now)))) }
+    ensures { IfOk result (λ hashes. hashes ≡ map
+        (λ f. record { 0 = filter_hash_of f.filter }) (take count (drop start (filters_of index.now)))) }
 {
     let mut hashes = Hashes::new(alloc);
     for i in 0..count {
@@ -220,7 +225,8 @@ fn cfheaders_bytes(
     requires order { start ≤ stop_height }
     requires few { stop_height < start + 2000 }
     requires there { block_height stop.now index.now ≡ Some stop_height }
-    ensures { IfOk result (λ bytes. bytes.items ≡ spelling (frame_of (cfheaders_of start stop_height stop.now index.now))) }
+    ensures { IfOk result
+        (λ bytes. bytes.items ≡ spelling (frame_of (cfheaders_of start stop_height stop.now index.now))) }
 {
     let hashes = filter_hashes_from(alloc, index, start, stop_height - start + 1)?;
     message_bytes(

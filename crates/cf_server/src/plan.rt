@@ -185,7 +185,8 @@ fn basic_height(index: &Index, filter: u8, stop: &Hash32) -> Option<u32>
     index.height_of(stop)
 }
 
-// The height where a range of basic filters ends that may be asked for: it begins no later, and has at most so many heights.
+// The height where a range of basic filters ends that may be asked for: it begins no later, and has at most so many
+// heights.
 fn range_end(index: &Index, most: u32, filter: u8, start: u32, stop: &Hash32) -> Option<u32>
     ensures { result ≡ range_end_of most filter start stop.now index.now }
 {
@@ -208,8 +209,10 @@ fn plan_cfilters(
     stop: &Hash32,
     out: &mut Replies,
 ) -> Result<(), NoMemory>
-    ensures ok { OnOk result (out.new ≡ out.old ++ cfilters_plan start (range_end_of 1000 filter start stop.now index.now)) }
-    ensures err { OnErr result (Begun out.old out.new (cfilters_plan start (range_end_of 1000 filter start stop.now index.now))) }
+    ensures ok { OnOk result
+        (out.new ≡ out.old ++ cfilters_plan start (range_end_of 1000 filter start stop.now index.now)) }
+    ensures err { OnErr result
+        (Begun out.old out.new (cfilters_plan start (range_end_of 1000 filter start stop.now index.now))) }
 {
     match range_end(index, MAX_FILTERS, filter, start, stop) {
         None => Ok(()),
@@ -221,7 +224,8 @@ fn plan_cfilters(
 fn plan_each_cfilter(start: u32, last: u32, out: &mut Replies) -> Result<(), NoMemory>
     requires { start ≤ last }
     ensures ok { OnOk result (out.new ≡ out.old ++ map (λ h. CfilterAt h) (range_with_len start (suc last - start))) }
-    ensures err { OnErr result (Begun out.old out.new (map (λ h. CfilterAt h) (range_with_len start (suc last - start)))) }
+    ensures err { OnErr result
+        (Begun out.old out.new (map (λ h. CfilterAt h) (range_with_len start (suc last - start)))) }
 {
     for height in start..=last {
         out.push(Reply::CfilterAt(height))?;
@@ -236,7 +240,8 @@ fn plan_cfheaders(
     stop: &Hash32,
     out: &mut Replies,
 ) -> Result<(), NoMemory>
-    ensures ok { OnOk result (out.new ≡ out.old ++ cfheaders_plan start (range_end_of 2000 filter start stop.now index.now) stop.now) }
+    ensures ok { OnOk result
+        (out.new ≡ out.old ++ cfheaders_plan start (range_end_of 2000 filter start stop.now index.now) stop.now) }
     ensures err { OnErr result (out.new ≡ out.old) }
 {
     match range_end(index, MAX_FILTER_HEADERS, filter, start, stop) {
@@ -255,7 +260,8 @@ fn plan_cfcheckpt(
     stop: &Hash32,
     out: &mut Replies,
 ) -> Result<(), NoMemory>
-    ensures ok { OnOk result (out.new ≡ out.old ++ cfcheckpt_plan (basic_height_of filter stop.now index.now) stop.now) }
+    ensures ok { OnOk result
+        (out.new ≡ out.old ++ cfcheckpt_plan (basic_height_of filter stop.now index.now) stop.now) }
     ensures err { OnErr result (out.new ≡ out.old) }
 {
     match basic_height(index, filter, stop) {

@@ -37,7 +37,8 @@ fn put_reply(
     waiting: &mut Vec<u8>,
 ) -> Result<(), NoMemory>
     requires { IsReplyOf index.now reply }
-    ensures { OnOk result (waiting.new.items ≡ waiting.old.items ++ spelling (frame_of (message_of served.now index.now reply))) }
+    ensures { OnOk result
+        (waiting.new.items ≡ waiting.old.items ++ spelling (frame_of (message_of served.now index.now reply))) }
 {
     let frame = write_reply(alloc, index, served, reply)?;
     waiting.extend_from_slice(&frame)?;
@@ -71,7 +72,8 @@ fn send_replies<C: Duplex>(
     replies: &[Reply],
 ) -> Result<(), Outcome>
     requires { AreRepliesOf index.now replies.now }
-    ensures sends { Sends result (C.written conn.old) (C.written conn.new) (text_of (messages_of served.now index.now replies.now)) }
+    ensures sends { Sends result (C.written conn.old) (C.written conn.new)
+        (text_of (messages_of served.now index.now replies.now)) }
     ensures count { CountsWrites result (C.Sink.faults conn.old) (C.Sink.faults conn.new) }
     ensures left { C.left conn.new ≡ C.left conn.old }
     ensures ended { C.ended conn.new ≡ C.ended conn.old }
@@ -95,7 +97,8 @@ fn answer_frame<C: Duplex>(
     served: &mut Served,
     frame: &Frame,
 ) -> Result<(), Outcome>
-    ensures answers { AnswersFrame result index.now (message_in frame.now) served.old served.new (C.written conn.old) (C.written conn.new) }
+    ensures answers { AnswersFrame result index.now (message_in frame.now) served.old served.new
+        (C.written conn.old) (C.written conn.new) }
     ensures count { CountsWrites result (C.Sink.faults conn.old) (C.Sink.faults conn.new) }
     ensures left { C.left conn.new ≡ C.left conn.old }
     ensures ended { C.ended conn.new ≡ C.ended conn.old }
@@ -111,8 +114,8 @@ fn answer_frame<C: Duplex>(
     send_replies(alloc, index, conn, served, replies.as_slice())
 }
 
-// What is kept of a connection: the bytes that wait for the rest of their frame, what is known of the peer, and how many frames
-// may still come.
+// What is kept of a connection: the bytes that wait for the rest of their frame, what is known of the peer, and how
+// many frames may still come.
 #[derive(Drop)]
 struct Session {
     framer: Framer,
@@ -139,7 +142,8 @@ fn take_frames<C: Duplex>(
     session: &mut Session,
 ) -> Result<(), Outcome>
     requires { 1 ≤ session.old.left }
-    ensures takes { TakesFrames result index.now session.old.left session.new.left session.old.framer session.new.framer session.old.served session.new.served (C.written conn.old) (C.written conn.new) }
+    ensures takes { TakesFrames result index.now session.old.left session.new.left session.old.framer session.new.framer
+        session.old.served session.new.served (C.written conn.old) (C.written conn.new) }
     ensures idles { OnOk result (Idles session.old.left session.new.left session.old.framer session.new.framer) }
     ensures inside { IfErr result ComesInside }
     ensures count { CountsWrites result (C.Sink.faults conn.old) (C.Sink.faults conn.new) }
@@ -166,8 +170,10 @@ fn take_piece<C: Duplex>(
     piece: &[u8],
 ) -> Result<(), Outcome>
     requires { 1 ≤ session.old.left }
-    ensures takes { TakesFrames result index.now session.old.left session.new.left (session.old.framer ++ piece.now) session.new.framer session.old.served session.new.served (C.written conn.old) (C.written conn.new) }
-    ensures idles { OnOk result (Idles session.old.left session.new.left (session.old.framer ++ piece.now) session.new.framer) }
+    ensures takes { TakesFrames result index.now session.old.left session.new.left (session.old.framer ++ piece.now)
+        session.new.framer session.old.served session.new.served (C.written conn.old) (C.written conn.new) }
+    ensures idles { OnOk result
+        (Idles session.old.left session.new.left (session.old.framer ++ piece.now) session.new.framer) }
     ensures inside { IfErr result ComesInside }
     ensures count { CountsWrites result (C.Sink.faults conn.old) (C.Sink.faults conn.new) }
     ensures left { C.left conn.new ≡ C.left conn.old }
@@ -178,9 +184,9 @@ fn take_piece<C: Duplex>(
     take_frames(alloc, index, conn, session)
 }
 
-/// Serves a connection: reads its bytes, and writes the replies to its messages in their order, until the source of bytes ends,
-/// the bytes are at fault, reading or writing fails, or 1,000,000 frames were taken. A last frame that is cut off is passed over. What was read is
-/// answered before more is read.
+/// Serves a connection: reads its bytes, and writes the replies to its messages in their order, until the source of
+/// bytes ends, the bytes are at fault, reading or writing fails, or 1,000,000 frames were taken. A last frame that is
+/// cut off is passed over. What was read is answered before more is read.
 pub fn serve_one<C: Duplex>(
     alloc: Global,
     index: &Index,
@@ -188,10 +194,13 @@ pub fn serve_one<C: Duplex>(
     now: i64,
     nonce: u64,
 ) -> Outcome
-    ensures served { IfSome (C.left conn.old) (λ bytes. IsServed now nonce index.now result bytes (C.left conn.new) (C.written conn.old) (C.written conn.new)) }
-    ensures in_turn { IfSome (C.left conn.old) (λ bytes. AnswersFirst C.left C.written (owed_for now nonce index.now) bytes (C.written conn.old) (C.left conn.new)) }
+    ensures served { IfSome (C.left conn.old) (λ bytes. IsServed now nonce index.now result bytes (C.left conn.new)
+        (C.written conn.old) (C.written conn.new)) }
+    ensures in_turn { IfSome (C.left conn.old) (λ bytes. AnswersFirst C.left C.written
+        (owed_for now nonce index.now) bytes (C.written conn.old) (C.left conn.new)) }
     ensures ends { Ends result (C.ended conn.new) (C.left conn.new) }
-    ensures counts { Counts result (C.Source.faults conn.old) (C.Source.faults conn.new) (C.Sink.faults conn.old) (C.Sink.faults conn.new) }
+    ensures counts { Counts result (C.Source.faults conn.old) (C.Source.faults conn.new) (C.Sink.faults conn.old)
+        (C.Sink.faults conn.new) }
 {
     let mut session = Session {
         framer: Framer::new(alloc),

@@ -11,8 +11,8 @@ use std::alloc::Global;
 use std::marker::Model;
 use std::sync::{Arc, Mutex, Wait};
 
-/// The serving machine over a chain that grows, which all shares lock, and whoever is told of each block that joins it. Contracts see the
-/// time and the nonce of its `version`.
+/// The serving machine over a chain that grows, which all shares lock, and whoever is told of each block that joins it.
+/// Contracts see the time and the nonce of its `version`.
 #[derive(Drop)]
 pub struct GrowingServer<R: Wait + Copy, J: Joins + Copy> {
     rt: R,

@@ -11,7 +11,8 @@ use std::alloc::Global;
 use std::marker::Model;
 use std::sync::Arc;
 
-/// The serving machine over the index of a chain. Contracts see the chain's blocks, and the time and the nonce of its `version`.
+/// The serving machine over the index of a chain. Contracts see the chain's blocks, and the time and the nonce of its
+/// `version`.
 #[derive(Drop)]
 pub struct Server {
     alloc: Global,

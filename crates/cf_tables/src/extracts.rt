@@ -75,8 +75,8 @@ impl Extracts {
         height: u32,
         hash: &Hash32,
     ) -> Result<(), NoMemory>
-        ensures ok { OnOk result ((blocks : List Placed) → Stands book.old blocks
-            → Stands book.new (record { height = height; extract = unwrap_or (table_in self.now hash.now.0) [] } ∷ blocks)) }
+        ensures ok { OnOk result ((blocks : List Placed) → Stands book.old blocks → Stands book.new
+            (record { height = height; extract = unwrap_or (table_in self.now hash.now.0) [] } ∷ blocks)) }
         ensures err { OnErr result ((blocks : List Placed) → Stands book.old blocks → Stands book.new blocks) }
     {
         match self.map.get(hash) {

@@ -58,7 +58,8 @@ impl Judged {
 
     /// Keeps a verdict where none stands. Where no memory is found nothing has changed.
     pub fn put(&mut self, block: &Hash32, filter: &Hash32, verdict: Verdict) -> Result<(), NoMemory>
-        ensures ok { OnOk result (AreSameVerdicts (verdicts_in self.new) (with_one block.now.0 filter.now.0 verdict (verdicts_in self.old))) }
+        ensures ok { OnOk result (AreSameVerdicts (verdicts_in self.new)
+            (with_one block.now.0 filter.now.0 verdict (verdicts_in self.old))) }
         ensures err { OnErr result (AreSameVerdicts (verdicts_in self.new) (verdicts_in self.old)) }
     {
         match self.get(block, filter) {
@@ -70,10 +71,13 @@ impl Judged {
         }
     }
 
-    /// Keeps the verdicts on filters, each where none stands. Where no memory is found some of them may be kept, and no others.
+    /// Keeps the verdicts on filters, each where none stands. Where no memory is found some of them may be kept, and no
+    /// others.
     pub fn put_all(&mut self, jobs: &[Job], verdicts: &[Verdict]) -> Result<(), NoMemory>
-        ensures ok { OnOk result ((watch : List (List ℕ)) → verdicts.now ≡ map (verdict_of watch) jobs.now → AreSameVerdicts (verdicts_in self.new) (with_verdicts watch jobs.now (verdicts_in self.old))) }
-        ensures err { OnErr result ((watch : List (List ℕ)) → verdicts.now ≡ map (verdict_of watch) jobs.now → AreKeptInPart watch jobs.now (verdicts_in self.old) (verdicts_in self.new)) }
+        ensures ok { OnOk result ((watch : List (List ℕ)) → verdicts.now ≡ map (verdict_of watch) jobs.now
+            → AreSameVerdicts (verdicts_in self.new) (with_verdicts watch jobs.now (verdicts_in self.old))) }
+        ensures err { OnErr result ((watch : List (List ℕ)) → verdicts.now ≡ map (verdict_of watch) jobs.now
+            → AreKeptInPart watch jobs.now (verdicts_in self.old) (verdicts_in self.new)) }
         ensures more { MoreVerdicts (verdicts_in self.old) (verdicts_in self.new) }
     {
         for (i, job) in jobs.iter().enumerate() {
@@ -88,7 +92,8 @@ impl Judged {
     // Keeps a verdict, in the place of one that stands.
     #[tactic(auto, unfolding(crate::specs::Judged::verdicts_in))]
     fn insert(&mut self, block: Hash32, filter: Hash32, verdict: Verdict) -> Result<(), NoMemory>
-        ensures ok { OnOk result (AreSameVerdicts (verdicts_in self.new) (put_one block.0 filter.0 verdict (verdicts_in self.old))) }
+        ensures ok { OnOk result
+            (AreSameVerdicts (verdicts_in self.new) (put_one block.0 filter.0 verdict (verdicts_in self.old))) }
         ensures err { OnErr result (AreSameVerdicts (verdicts_in self.new) (verdicts_in self.old)) }
     {
         self.map.insert(Judging { block, filter }, verdict)?;

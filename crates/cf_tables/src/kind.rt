@@ -34,8 +34,10 @@ pub enum Kind {
 
 // What is still to be done about a block, where it has no extract.
 fn kind_unfetched(claims: &Claims, judged: &Judged, block: &Hash32) -> Kind
-    ensures unfetched { (extracts : Table) → extracts block.now.0 ≡ None → IsKind extracts (tables_of claims.now) (verdicts_in judged.now) block.now.0 result }
-    ensures done { result ≡ Done → (extracts : Table) → IsDone extracts (tables_of claims.now) (verdicts_in judged.now) block.now.0 }
+    ensures unfetched { (extracts : Table) → extracts block.now.0 ≡ None
+        → IsKind extracts (tables_of claims.now) (verdicts_in judged.now) block.now.0 result }
+    ensures done { result ≡ Done → (extracts : Table)
+        → IsDone extracts (tables_of claims.now) (verdicts_in judged.now) block.now.0 }
 {
     match claims.at(block) {
         At::Nobody => Kind::Unclaimed,

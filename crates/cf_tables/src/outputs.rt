@@ -25,9 +25,11 @@ impl Outputs {
         }
     }
 
-    /// Keeps the items of a block's outputs under its hash, where none stand. Where no memory is found nothing has changed.
+    /// Keeps the items of a block's outputs under its hash, where none stand. Where no memory is found nothing has
+    /// changed.
     pub fn put(&mut self, hash: Hash32, items: Items) -> Result<(), NoMemory>
-        ensures ok { OnOk result ((at : List ℕ) → outputs_in self.new at ≡ put_outputs hash.0 items (outputs_in self.old) at) }
+        ensures ok { OnOk result ((at : List ℕ)
+            → outputs_in self.new at ≡ put_outputs hash.0 items (outputs_in self.old) at) }
         ensures err { OnErr result ((at : List ℕ) → outputs_in self.new at ≡ outputs_in self.old at) }
     {
         if self.has(&hash) {
@@ -55,7 +57,8 @@ impl Outputs {
     // Keeps items, in the place of those that stand.
     #[tactic(auto, unfolding(crate::specs::Outputs::outputs_in))]
     fn insert(&mut self, hash: Hash32, items: Items) -> Result<(), NoMemory>
-        ensures ok { OnOk result ((at : List ℕ) → outputs_in self.new at ≡ set_outputs hash.0 items (outputs_in self.old) at) }
+        ensures ok { OnOk result ((at : List ℕ)
+            → outputs_in self.new at ≡ set_outputs hash.0 items (outputs_in self.old) at) }
         ensures err { OnErr result ((at : List ℕ) → outputs_in self.new at ≡ outputs_in self.old at) }
     {
         self.map.insert(hash, items)?;

@@ -48,8 +48,8 @@ impl Tests {
         })
     }
 
-    /// Keeps what was found. Of two filters with one hash it is kept that one of them lacks something. Where no memory is
-    /// found nothing has changed.
+    /// Keeps what was found. Of two filters with one hash it is kept that one of them lacks something. Where no memory
+    /// is found nothing has changed.
     pub fn put(&mut self, block: &Hash32, filter: &Hash32, lacks: bool) -> Result<(), NoMemory>
         ensures ok { OnOk result (IsSameTold (told_in self.new)
             (with_test block.now.0 filter.now.0 lacks (told_in self.old))) }

@@ -10,8 +10,8 @@ use std::thread::{Promise, PromisedHandle, SpawnError, Threads};
 /// A flag that two threads share.
 pub type Flag = Arc<AtomicBool, Global>;
 
-/// What the platform answers where a thread is asked for, by a handle. It is known of its answers alone: who says that there was no thread or no
-/// memory has such an answer.
+/// What the platform answers where a thread is asked for, by a handle. It is known of its answers alone: who says that
+/// there was no thread or no memory has such an answer.
 pub trait Platform: Threads {
     /// What a call for a thread answered: whether one was made.
     ghost made: { Self → Bool → Type 0 };

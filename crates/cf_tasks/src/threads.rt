@@ -98,8 +98,8 @@ fn there<J: Task>(of: Snapshot<J>, handle: PromisedHandle<Back<J, J::Out>, Runs<
     }
 }
 
-// Starts the task in a thread, or gives it back: where no thread can be made, what was to run there is called here, with the flag
-// set.
+// Starts the task in a thread, or gives it back: where no thread can be made, what was to run there is called here,
+// with the flag set.
 fn started<J: Task + Send + 'static, R: Platform>(
     rt: &R,
     unrun: Flag,
@@ -184,7 +184,8 @@ pub enum Choice {
     Refuse,
 }
 
-/// What starts tasks, and joins them. An implementation says what is done with the next task, and counts the starts that were refused.
+/// What starts tasks, and joins them. An implementation says what is done with the next task, and counts the starts
+/// that were refused.
 pub trait Spawner: Drop {
     /// The handle by which threads are started.
     type Rt: Platform;
@@ -193,7 +194,8 @@ pub trait Spawner: Drop {
     ghost refusals: { Self → ℕ };
     /// What is to be done with the next task.
     ghost next: { Self → ChoiceOf };
-    /// What a task that is put to it (true), and a failed start that it counts (false), make of it. It is known of those calls alone.
+    /// What a task that is put to it (true), and a failed start that it counts (false), make of it. It is known of
+    /// those calls alone.
     ghost moves: { Self → Bool → Self → Type 0 };
 
     /// The handle.
@@ -212,9 +214,9 @@ pub trait Spawner: Drop {
         ensures risen { HasRisen (refusals self.old) (refusals self.new) }
         ensures moves { moves self.old false self.new };
 
-    /// Starts a task. It comes back, unrun, only where the count of refusals rose in this call; and that only where the spawner is to refuse it, or
-    /// where the platform told that there is no thread for it or no memory. One that is to run in a thread doesn't run before the platform was
-    /// asked for a thread.
+    /// Starts a task. It comes back, unrun, only where the count of refusals rose in this call; and that only where the
+    /// spawner is to refuse it, or where the platform told that there is no thread for it or no memory. One that is to
+    /// run in a thread doesn't run before the platform was asked for a thread.
     final fn start<J: Task + Send + 'static>(
         &mut self,
         alloc: Global,

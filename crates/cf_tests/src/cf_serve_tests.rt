@@ -10,7 +10,8 @@ use std::sync::atomic::{AtomicBool, Ordering};
 use std::test::*;
 use std::thread::Threads;
 
-// What a peer sends: `ping`, `version`, `ping`; and what the server of genesis alone sends back, by bench/conversation.py.
+// What a peer sends: `ping`, `version`, `ping`; and what the server of genesis alone sends back, by
+// bench/conversation.py.
 const ASKED: &str =
     "fabfb5da70696e670000000000000000080000002502fa940102030405060708fabfb5da76657273696f6e00000000005e000000b272cdee8011010000000000000000000500000000000000000000000000000000000000000000000000000000000000000000000000000000000000000000000000000000000000000000000600000000000000092f6f746865723a322f09000000fabfb5da70696e670000000000000000080000002502fa940102030405060708";
 

@@ -1,4 +1,5 @@
-//! Tests that are no rows of cf_cases: a file for each crate that is tested here, in each test one text of rows and one loop.
+//! Tests that are no rows of cf_cases: a file for each crate that is tested here, in each test one text of rows and one
+//! loop.
 #![tactic(auto)]
 
 #[cfg(test)]

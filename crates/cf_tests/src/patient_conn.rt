@@ -1,4 +1,5 @@
-//! A connection in memory that may wait until another one was answered. It stands outside the tests, since its list of connections has a proof.
+//! A connection in memory that may wait until another one was answered. It stands outside the tests, since its list of
+//! connections has a proof.
 ghost use Rattle.std.specs.Prelude.{◌≡◌, All, IfSome, Some, [], false};
 ghost use Rattle.cf_conn.specs.MemoryConn.{Writes};
 
@@ -20,7 +21,8 @@ pub(crate) struct Flags {
     pub(crate) in_vain: Arc<AtomicBool, Global>,
 }
 
-/// Gives nothing before its first flag is raised, where it is to wait; it raises the second one where it has looked in vain. What is written raises the third.
+/// Gives nothing before its first flag is raised, where it is to wait; it raises the second one where it has looked in
+/// vain. What is written raises the third.
 #[derive(Drop)]
 pub(crate) struct PatientConn {
     pub(crate) conn: MemoryConn,
@@ -98,7 +100,8 @@ impl Duplex for PatientConn {
 
 // A connection whose peer sends these bytes.
 fn conn_of(alloc: Global, asked: &[u8], waits: bool, flags: &Flags) -> Option<PatientConn>
-    ensures { IfSome result (λ c. (c.source.ended ≡ false) × (c.source.plan.faults ≡ 0) × (c.sink.plan.faults ≡ 0) × (c.sink.bytes ≡ [])) }
+    ensures { IfSome result
+        (λ c. (c.source.ended ≡ false) × (c.source.plan.faults ≡ 0) × (c.sink.plan.faults ≡ 0) × (c.sink.bytes ≡ [])) }
 {
     let sink = VecSink::new(alloc, 4096, 10_000).ok()?;
     let asked = Vec::from_slice(alloc, asked).ok()?;
@@ -112,7 +115,8 @@ fn conn_of(alloc: Global, asked: &[u8], waits: bool, flags: &Flags) -> Option<Pa
 
 /// Two connections whose peers send these bytes. The first gives nothing until the second was answered.
 pub(crate) fn two_conns(alloc: Global, asked: &[u8], flags: &Flags) -> Option<Vec<PatientConn>>
-    ensures { IfSome result (λ v. All (λ c. (c.source.ended ≡ false) × (c.source.plan.faults ≡ 0) × (c.sink.plan.faults ≡ 0) × (c.sink.bytes ≡ [])) v.items) }
+    ensures { IfSome result (λ v. All (λ c. (c.source.ended ≡ false) × (c.source.plan.faults ≡ 0)
+        × (c.sink.plan.faults ≡ 0) × (c.sink.bytes ≡ [])) v.items) }
 {
     let mut conns = Vec::new(alloc);
     for waits in [true, false] {

@@ -129,7 +129,12 @@ impl<'a> Model for TxFields<'a> {
 
     ghost Value = { Tx };
 
-    ghost view = { λ t. record { version = t.version; inputs = t.inputs; outputs = t.outputs; lock_time = t.lock_time } };
+    ghost view = { λ t. record {
+      version = t.version;
+      inputs = t.inputs;
+      outputs = t.outputs;
+      lock_time = t.lock_time;
+    } };
 }
 
 /// A transaction whose inputs, outputs and bytes are lent. A contract sees it as a transaction.

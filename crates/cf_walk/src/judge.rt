@@ -19,9 +19,9 @@ use cf_coins::{Coins, Spent};
 use cf_headers::Past;
 use std::alloc::Global;
 
-// What a good chain leaves for the next block: the hash of the highest header, the times that count for the next one, the
-// height, and the coins. Beside it, what was found of the highest block: the hashes of its transactions, and the scripts that
-// it spends.
+// What a good chain leaves for the next block: the hash of the highest header, the times that count for the next one,
+// the height, and the coins. Beside it, what was found of the highest block: the hashes of its transactions, and the
+// scripts that it spends.
 #[derive(Drop)]
 pub(crate) struct Judge {
     pub(crate) tip: Hash32,
@@ -56,7 +56,8 @@ fn judge_on(
 ) -> Result<(), Refused<RecordCause>>
     requires block { IsBlock block.now }
     requires hash { hash.now.0 ≡ block_hash_of block.now.header }
-    ensures exact { FindsCause (cause_by judge.old.tip.0 judge.old.past judge.old.height judge.old.coins block.now) result }
+    ensures exact { FindsCause (cause_by judge.old.tip.0 judge.old.past judge.old.height judge.old.coins block.now)
+        result }
     ensures coins { OnOk result (judge.new.coins ≡ after_block judge.old.coins block.now) }
     ensures txids { OnOk result (judge.new.txids ≡ txids_of block.now) }
     ensures spent { OnOk result (judge.new.spent ≡ prevouts judge.old.coins block.now) }
@@ -86,8 +87,8 @@ fn judge_on(
     Ok(())
 }
 
-// Takes the next block of the records that stand here, where zeros alone don't: it may stand on those before it. No block is
-// kept.
+// Takes the next block of the records that stand here, where zeros alone don't: it may stand on those before it. No
+// block is kept.
 #[tactic(auto, using(crate::proofs::WalkSteps::begins, crate::proofs::WalkSteps::stands_with), unfolding(crate::specs::Judging::next_by))]
 pub(crate) fn walk_on(
     alloc: Global,
@@ -96,7 +97,8 @@ pub(crate) fn walk_on(
 ) -> Result<Option<Block>, Refused<RecordCause>>
     ensures exact { Walks (next_by judge.old cut.old) cut.old cut.new result }
     ensures after { IfOk result (λ o. IfSome o (λ b. judge.new ≡ after_by judge.old b)) }
-    ensures stands { (blocks : List Block) → StandsOn judge.old blocks → IfOk result (λ o. IfSome o (λ b. StandsOn judge.new (blocks ++ b ∷ []))) }
+    ensures stands { (blocks : List Block) → StandsOn judge.old blocks
+        → IfOk result (λ o. IfSome o (λ b. StandsOn judge.new (blocks ++ b ∷ []))) }
     ensures found { IfOk result (λ o. IfSome o (λ b. BeginsWith b cut.old cut.new)) }
     ensures fits { IfOk result (λ o. IfSome o (λ b. IsBlock b)) }
 {

@@ -1,5 +1,5 @@
-//! Records of a file of blocks, the checks of a block on the chain below it, and a walk over a source's records that keeps
-//! no block.
+//! Records of a file of blocks, the checks of a block on the chain below it, and a walk over a source's records that
+//! keeps no block.
 #![tactic(auto)]
 
 mod cause;

@@ -59,8 +59,8 @@ fn is_blank(bytes: &[u8]) -> bool
     bytes.len() >= 8 && is_end(bytes)
 }
 
-// How many bytes to want: more than there are, and those of the record that begins here; no more than a record may have,
-// where fewer are there.
+// How many bytes to want: more than there are, and those of the record that begins here; no more than a record may
+// have, where fewer are there.
 fn wanted(bytes: &[u8]) -> usize
     requires { length bytes.now < 2 ^ 63 }
     ensures more { length bytes.now < result }
@@ -103,7 +103,8 @@ fn prepare<S: Source>(window: &mut Window, source: &mut S) -> Result<(), ReadFai
 fn only_zeros<S: Source>(window: &mut Window, source: &mut S) -> Result<bool, ReadFail>
     ensures strips { Strips (seen window.old (S.left source.old)) (seen window.new (S.left source.new)) }
     ensures beyond { beyond window.new (S.left source.new) ≡ beyond window.old (S.left source.old) }
-    ensures no { IfOk result (λ only. only ≡ false → IfSome (seen window.new (S.left source.new)) (λ bytes. all_zeros bytes ≡ false)) }
+    ensures no { IfOk result (λ only. only ≡ false
+        → IfSome (seen window.new (S.left source.new)) (λ bytes. all_zeros bytes ≡ false)) }
     ensures yes { IfOk result (λ only. only ≡ true → (window.new.held ≡ []) × IsOver window.new (S.left source.new)) }
     ensures count { CountsReads result (S.faults source.old) (S.faults source.new) }
     ensures steps { Steps S.reads source.old source.new }
@@ -120,7 +121,8 @@ fn only_zeros<S: Source>(window: &mut Window, source: &mut S) -> Result<bool, Re
     Ok(false)
 }
 
-// The answer where no more comes: none, or a record that is cut off. Only where the source gives no other byte is it so.
+// The answer where no more comes: none, or a record that is cut off. Only where the source gives no other byte is it
+// so.
 #[tactic(auto, using(cf_conn::proofs::Stepping::first_step, cf_conn::proofs::Stepping::no_steps))]
 fn ends<S: Source>(
     window: &Window,
@@ -149,8 +151,8 @@ fn ends<S: Source>(
 fn walk_zeros<S: Source>(window: &mut Window, source: &mut S) -> Result<Option<Block>, Stop>
     requires { IsBlank window.old.held }
     ensures exact { (j : Judge) (bytes others : List ℕ) → seen window.old (S.left source.old) ≡ Some bytes
-        → beyond window.old (S.left source.old) ≡ Some others
-        → WalksOver (next_by j bytes) bytes others (seen window.new (S.left source.new)) (beyond window.new (S.left source.new)) result }
+        → beyond window.old (S.left source.old) ≡ Some others → WalksOver (next_by j bytes) bytes others
+        (seen window.new (S.left source.new)) (beyond window.new (S.left source.new)) result }
     ensures none { IfOk result (λ o. o ≡ None) }
     ensures ended { IfOk result (λ o. S.ended source.new ≡ true) }
     ensures count { CountsStop result (S.faults source.old) (S.faults source.new) }
@@ -175,7 +177,8 @@ fn walk_held(
     ensures kept { IfOk result (λ o. IfNone o (window.new.held ≡ window.old.held)) }
     ensures still { OnErr result (window.new.held ≡ window.old.held) }
     ensures after { IfOk result (λ o. IfSome o (λ b. judge.new ≡ after_by judge.old b)) }
-    ensures stands { (blocks : List Block) → StandsOn judge.old blocks → IfOk result (λ o. IfSome o (λ b. StandsOn judge.new (blocks ++ b ∷ []))) }
+    ensures stands { (blocks : List Block) → StandsOn judge.old blocks
+        → IfOk result (λ o. IfSome o (λ b. StandsOn judge.new (blocks ++ b ∷ []))) }
     ensures found { IfOk result (λ o. IfSome o (λ b. BeginsWith b window.old.held window.new.held)) }
     ensures fits { IfOk result (λ o. IfSome o (λ b. IsBlock b)) }
     ensures few { StaysFew window.old window.new }
@@ -203,12 +206,13 @@ fn walk_ready<S: Source>(
 ) -> Result<Option<Block>, Stop>
     requires { IsWhole window.old.held ⊎ IsOver window.old (S.left source.old) }
     ensures exact { (bytes others : List ℕ) → seen window.old (S.left source.old) ≡ Some bytes
-        → beyond window.old (S.left source.old) ≡ Some others
-        → WalksOver (next_by judge.old bytes) bytes others (seen window.new (S.left source.new)) (beyond window.new (S.left source.new)) result }
+        → beyond window.old (S.left source.old) ≡ Some others → WalksOver (next_by judge.old bytes) bytes others
+        (seen window.new (S.left source.new)) (beyond window.new (S.left source.new)) result }
     ensures after { IfOk result (λ o. IfSome o (λ b. judge.new ≡ after_by judge.old b)) }
-    ensures stands { (blocks : List Block) → StandsOn judge.old blocks → IfOk result (λ o. IfSome o (λ b. StandsOn judge.new (blocks ++ b ∷ []))) }
-    ensures found { (bytes : List ℕ) → seen window.old (S.left source.old) ≡ Some bytes
-        → IfOk result (λ o. IfSome o (λ b. IfSome (seen window.new (S.left source.new)) (λ rest. BeginsWith b bytes rest))) }
+    ensures stands { (blocks : List Block) → StandsOn judge.old blocks
+        → IfOk result (λ o. IfSome o (λ b. StandsOn judge.new (blocks ++ b ∷ []))) }
+    ensures found { (bytes : List ℕ) → seen window.old (S.left source.old) ≡ Some bytes → IfOk result
+        (λ o. IfSome o (λ b. IfSome (seen window.new (S.left source.new)) (λ rest. BeginsWith b bytes rest))) }
     ensures fits { IfOk result (λ o. IfSome o (λ b. IsBlock b)) }
     ensures ended { IfOk result (λ o. IfNone o (S.ended source.new ≡ true)) }
     ensures count { CountsStop result (S.faults source.old) (S.faults source.new) }
@@ -226,8 +230,8 @@ fn walk_ready<S: Source>(
     }
 }
 
-// Takes the next block of the records that are left of the bytes that count, where zeros alone aren't: it may stand on those
-// before it. No block is kept.
+// Takes the next block of the records that are left of the bytes that count, where zeros alone aren't: it may stand on
+// those before it. No block is kept.
 #[tactic(auto, using(cf_conn::proofs::Stepping::more_steps))]
 fn walk_source<S: Source>(
     alloc: Global,
@@ -236,12 +240,13 @@ fn walk_source<S: Source>(
     source: &mut S,
 ) -> Result<Option<Block>, Stop>
     ensures exact { (bytes others : List ℕ) → seen window.old (S.left source.old) ≡ Some bytes
-        → beyond window.old (S.left source.old) ≡ Some others
-        → WalksOver (next_by judge.old bytes) bytes others (seen window.new (S.left source.new)) (beyond window.new (S.left source.new)) result }
+        → beyond window.old (S.left source.old) ≡ Some others → WalksOver (next_by judge.old bytes) bytes others
+        (seen window.new (S.left source.new)) (beyond window.new (S.left source.new)) result }
     ensures after { IfOk result (λ o. IfSome o (λ b. judge.new ≡ after_by judge.old b)) }
-    ensures stands { (blocks : List Block) → StandsOn judge.old blocks → IfOk result (λ o. IfSome o (λ b. StandsOn judge.new (blocks ++ b ∷ []))) }
-    ensures found { (bytes : List ℕ) → seen window.old (S.left source.old) ≡ Some bytes
-        → IfOk result (λ o. IfSome o (λ b. IfSome (seen window.new (S.left source.new)) (λ rest. BeginsWith b bytes rest))) }
+    ensures stands { (blocks : List Block) → StandsOn judge.old blocks
+        → IfOk result (λ o. IfSome o (λ b. StandsOn judge.new (blocks ++ b ∷ []))) }
+    ensures found { (bytes : List ℕ) → seen window.old (S.left source.old) ≡ Some bytes → IfOk result
+        (λ o. IfSome o (λ b. IfSome (seen window.new (S.left source.new)) (λ rest. BeginsWith b bytes rest))) }
     ensures fits { IfOk result (λ o. IfSome o (λ b. IsBlock b)) }
     ensures ended { IfOk result (λ o. IfNone o (S.ended source.new ≡ true)) }
     ensures count { CountsStop result (S.faults source.old) (S.faults source.new) }
@@ -271,10 +276,10 @@ fn first_record(alloc: Global, bytes: &[u8]) -> Result<Option<usize>, NoMemory>
     }
 }
 
-/// A walk over the records of a file of blocks, which gives the blocks above genesis one by one, each judged by those before it,
-/// and keeps none: only what the next one is judged by, the coins above all. It is lent its source at each call, the same one
-/// each time. Of the source the first 1,073,741,824 bytes count. Of its bytes the walk holds fewer than 4,065,544: those of one
-/// record, and those of one piece of 65,536 that is read at once.
+/// A walk over the records of a file of blocks, which gives the blocks above genesis one by one, each judged by those
+/// before it, and keeps none: only what the next one is judged by, the coins above all. It is lent its source at each
+/// call, the same one each time. Of the source the first 1,073,741,824 bytes count. Of its bytes the walk holds fewer
+/// than 4,065,544: those of one record, and those of one piece of 65,536 that is read at once.
 #[derive(Drop)]
 pub struct Walk {
     judge: Judge,
@@ -329,13 +334,13 @@ impl Walk {
         }
     }
 
-    /// The next block above genesis, which may stand on those that were given; None where no more are left. After None, and
-    /// after an error, it is called no more.
+    /// The next block above genesis, which may stand on those that were given; None where no more are left. After None,
+    /// and after an error, it is called no more.
     ///
     /// # Errors
     ///
-    /// `BadBlock` for the first record that is refused within the source's first 1,073,741,824 bytes. `TooBig` where none is and
-    /// the source gives another byte. `ReadFault` where the source fails.
+    /// `BadBlock` for the first record that is refused within the source's first 1,073,741,824 bytes. `TooBig` where
+    /// none is and the source gives another byte. `ReadFault` where the source fails.
     #[tactic(auto, using(cf_conn::proofs::Stepping::more_steps))]
     pub fn next_block<S: Source>(
         &mut self,
@@ -393,8 +398,8 @@ impl Walk {
         ensures txids { result.txids ≡ self.old.judge.txids }
         ensures spent { result.spent ≡ self.old.judge.spent }
         ensures stands { (blocks : List Block) → StandsOn self.old.judge blocks → StandsOn self.new.judge blocks }
-        ensures walks { (bytes : List ℕ) (left : Option (List ℕ)) (blocks : List Block) → IsWalking bytes self.old left blocks
-            → IsWalking bytes self.new left blocks }
+        ensures walks { (bytes : List ℕ) (left : Option (List ℕ)) (blocks : List Block)
+            → IsWalking bytes self.old left blocks → IsWalking bytes self.new left blocks }
         ensures few { HoldsFew self.old → HoldsFew self.new }
     {
         Found {

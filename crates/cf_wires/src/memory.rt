@@ -22,7 +22,8 @@ pub enum Scripted {
     Deliver(Delivery),
 }
 
-/// Wires that give what they were made to give, in order, and keep a log. A dial past the last one that was added fails.
+/// Wires that give what they were made to give, in order, and keep a log. A dial past the last one that was added
+/// fails.
 #[derive(Drop)]
 pub struct MemoryWires {
     alloc: Global,
@@ -53,11 +54,14 @@ pub struct MemoryWires {
     ghost many: { length (dials_of (reverse log.items)) ≡ dials },
     ghost counted: { calls_in (reverse log.items) ≡ calls },
     ghost few: { calls ≤ vec_len log },
-    ghost made: { goes_as_made (record { script = record { dials = dial_script.items; deliveries = script.items }; failing = failing.items }) (reverse log.items) ≡ true },
+    ghost made: { goes_as_made
+        (record { script = record { dials = dial_script.items; deliveries = script.items }; failing = failing.items })
+        (reverse log.items) ≡ true },
 }
 
 impl MemoryWires {
-    ghost use Rattle.cf_wires.specs.Memory.{script_of, log_of, failing_of, calls_of, faults_of, keeps_of, finished_of, may_be_added, with_scripted, with_dial};
+    ghost use Rattle.cf_wires.specs.Memory.{script_of, log_of, failing_of, calls_of, faults_of, keeps_of, finished_of};
+    ghost use Rattle.cf_wires.specs.Memory.{may_be_added, with_scripted, with_dial};
 
     /// Wires that were made to give nothing: each dial fails.
     pub fn new(alloc: Global) -> Result<MemoryWires, NoMemory>
@@ -85,7 +89,8 @@ impl MemoryWires {
         })
     }
 
-    /// Adds what is to be given next: a dial's fate, or a delivery other than the end. All is added before the first dial.
+    /// Adds what is to be given next: a dial's fate, or a delivery other than the end. All is added before the first
+    /// dial.
     pub fn add(&mut self, e: Scripted) -> Result<(), NoMemory>
         requires new { log_of self.old ≡ [] }
         requires real { may_be_added e ≡ true }
@@ -108,7 +113,8 @@ impl MemoryWires {
         }
     }
 
-    /// Takes a whole script in place of what was added: how the dials go, in order, and the deliveries, none of them the end. It takes no memory.
+    /// Takes a whole script in place of what was added: how the dials go, in order, and the deliveries, none of them
+    /// the end. It takes no memory.
     pub fn load(&mut self, dials: Vec<Dial>, deliveries: Vec<Delivery>)
         requires new { log_of self.old ≡ [] }
         requires real { list_all is_real deliveries.items ≡ true }
@@ -128,7 +134,8 @@ impl MemoryWires {
     // Adds a dial's fate.
     fn add_dial(&mut self, name: Name, answered: bool) -> Result<(), NoMemory>
         requires { log_of self.old ≡ [] }
-        ensures script { OnOk result (script_of self.new ≡ with_dial (script_of self.old) (record { name = name; answered = answered })) }
+        ensures script { OnOk result
+            (script_of self.new ≡ with_dial (script_of self.old) (record { name = name; answered = answered })) }
         ensures log { log_of self.new ≡ log_of self.old }
         ensures failing { failing_of self.new ≡ failing_of self.old }
         ensures calls { calls_of self.new ≡ calls_of self.old }
@@ -181,11 +188,18 @@ impl Wires for MemoryWires {
     ghost use Rattle.cf_wires.specs.Wires.{HasCause};
     ghost use Rattle.cf_wires.specs.Memory.{log_of, made_of, told_of};
 
-    ghost told = { λ w. record { log = Some (reverse w.log.items); tally = tally_of (reverse w.log.items); finished = w.finished } };
+    ghost told = { λ w. record {
+      log = Some (reverse w.log.items);
+      tally = tally_of (reverse w.log.items);
+      finished = w.finished;
+    } };
 
     ghost faults = { λ w. w.faults };
 
-    ghost script = { λ w. Some (record { script = record { dials = w.dial_script.items; deliveries = w.script.items }; failing = w.failing.items }) };
+    ghost script = { λ w. Some (record {
+      script = record { dials = w.dial_script.items; deliveries = w.script.items };
+      failing = w.failing.items;
+    }) };
 
     ghost keeps = { λ w. w.keeps };
 
@@ -196,14 +210,17 @@ impl Wires for MemoryWires {
     /// Fails where the call is to fail, and where the script has no answer for it or is used up.
     fn dial(&mut self, name: &str) -> Result<PeerNo, WireFail>
         requires { (told_of self.old).tally.dials < 8 }
-        ensures dialled { IfOk result (λ p. (p.0 ≡ (told_of self.old).tally.dials + 1) × (told_of self.new ≡ tell (Dialled p name.now) (told_of self.old))) }
-        ensures not_dialled { IsErrOf result WireFail.Failed → told_of self.new ≡ tell (NotDialled (record { 0 = (told_of self.old).tally.dials + 1 }) name.now) (told_of self.old) }
+        ensures dialled { IfOk result (λ p. (p.0 ≡ (told_of self.old).tally.dials + 1)
+            × (told_of self.new ≡ tell (Dialled p name.now) (told_of self.old))) }
+        ensures not_dialled { IsErrOf result WireFail.Failed → told_of self.new
+            ≡ tell (NotDialled (record { 0 = (told_of self.old).tally.dials + 1 }) name.now) (told_of self.old) }
         ensures no_memory { IsErrOf result WireFail.NoMemory → told_of self.new ≡ told_of self.old }
         ensures cause { HasCause self.old.faults self.new.faults result }
         ensures keeps { self.new.keeps ≡ self.old.keeps }
         ensures same { Some (made_of self.new) ≡ Some (made_of self.old) }
         ensures answered { OnOk result (answers_after (made_of self.old) (log_of self.old) ≡ true) }
-        ensures unanswered { IsErrOf result WireFail.Failed → answers_after (made_of self.old) (log_of self.old) ≡ false }
+        ensures unanswered { IsErrOf result WireFail.Failed
+            → answers_after (made_of self.old) (log_of self.old) ≡ false }
     {
         let name = Name::from_text(self.alloc, name)?;
         self.log.reserve(10)?;

@@ -10,7 +10,8 @@ use std::alloc::Global;
 
 // Writes the line of a dial at the end of a text.
 fn put_dial(event: &Event, text: &mut String) -> Result<(), NoMemory>
-    ensures { OnOk result (string_bytes text.new ≡ string_bytes text.old ++ flat_map dial_line (dials (event.now ∷ []))) }
+    ensures { OnOk result
+        (string_bytes text.new ≡ string_bytes text.old ++ flat_map dial_line (dials (event.now ∷ []))) }
 {
     match event {
         Event::Dialled(_, name) => {
@@ -30,7 +31,8 @@ fn put_dial(event: &Event, text: &mut String) -> Result<(), NoMemory>
 
 /// Writes the lines of the dials among the events, the oldest first, at the end of a text.
 pub fn put_dials(events: &[Event], text: &mut String) -> Result<(), NoMemory>
-    ensures { OnOk result (string_bytes text.new ≡ string_bytes text.old ++ flat_map dial_line (dials (reverse events.now))) }
+    ensures { OnOk result
+        (string_bytes text.new ≡ string_bytes text.old ++ flat_map dial_line (dials (reverse events.now))) }
 {
     for event in events {
         put_dial(event, text)?;

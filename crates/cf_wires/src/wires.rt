@@ -58,7 +58,8 @@ pub trait Wires {
     /// Whether they were told to keep their log.
     ghost keeps: { Self → Bool };
 
-    /// Makes the wires keep their log, of which `session` gives the lines. It is called before the first dial, and takes no memory.
+    /// Makes the wires keep their log, of which `session` gives the lines. It is called before the first dial, and
+    /// takes no memory.
     fn keep_log(&mut self)
         requires { Tells [] (told self.old) }
         ensures told { Tells [] (told self.new) }
@@ -68,19 +69,22 @@ pub trait Wires {
         ensures later { faults self.old ≤ faults self.new }
         ensures same { script self.new ≡ script self.old };
 
-    /// Dials the next peer. At most eight are dialled, and none once the wires are finished. Where no memory is found nothing was dialled.
+    /// Dials the next peer. At most eight are dialled, and none once the wires are finished. Where no memory is found
+    /// nothing was dialled.
     fn dial(&mut self, name: &str) -> Result<PeerNo, WireFail>
         requires room { (told self.old).tally.dials < 8 }
         requires open { (told self.old).finished ≡ false }
-        ensures dialled { IfOk result (λ p. (p.0 ≡ (told self.old).tally.dials + 1) × (told self.new ≡ tell (Dialled p name.now) (told self.old))) }
-        ensures not_dialled { IsErrOf result WireFail.Failed → told self.new ≡ tell (NotDialled (record { 0 = (told self.old).tally.dials + 1 }) name.now) (told self.old) }
+        ensures dialled { IfOk result (λ p. (p.0 ≡ (told self.old).tally.dials + 1)
+            × (told self.new ≡ tell (Dialled p name.now) (told self.old))) }
+        ensures not_dialled { IsErrOf result WireFail.Failed → told self.new
+            ≡ tell (NotDialled (record { 0 = (told self.old).tally.dials + 1 }) name.now) (told self.old) }
         ensures no_memory { IsErrOf result WireFail.NoMemory → told self.new ≡ told self.old }
         ensures cause { HasCause (faults self.old) (faults self.new) result }
         ensures keeps { keeps self.new ≡ keeps self.old }
         ensures same { script self.new ≡ script self.old };
 
-    /// Sends bytes to a peer that was dialled. Where it fails none of them may be taken as sent, and where no memory is found none was
-    /// sent.
+    /// Sends bytes to a peer that was dialled. Where it fails none of them may be taken as sent, and where no memory is
+    /// found none was sent.
     fn send(&mut self, p: PeerNo, bytes: &[u8]) -> Result<(), WireFail>
         requires { (told self.old).finished ≡ false }
         ensures sent { OnOk result (told self.new ≡ tell (Sent p bytes.now) (told self.old)) }
@@ -108,7 +112,8 @@ pub trait Wires {
         ensures keeps { keeps self.new ≡ keeps self.old }
         ensures same { script self.new ≡ script self.old };
 
-    /// Ends the connections that are left. Nothing that comes after it is a delivery. It is called once, and takes no memory.
+    /// Ends the connections that are left. Nothing that comes after it is a delivery. It is called once, and takes no
+    /// memory.
     fn finish(&mut self)
         requires { (told self.old).finished ≡ false }
         ensures told { told self.new ≡ told_finished (told self.old) }
@@ -116,10 +121,11 @@ pub trait Wires {
         ensures keeps { keeps self.new ≡ keeps self.old }
         ensures same { script self.new ≡ script self.old };
 
-    /// The session lines of the log that is kept, the dial lines first; an empty text where none is kept. Each line ends
-    /// with LF: `dial NAME` or `nodial NAME` for each dial, and then in the log's order `got P HEX`, `gone P` and
+    /// The session lines of the log that is kept, the dial lines first; an empty text where none is kept. Each line
+    /// ends with LF: `dial NAME` or `nodial NAME` for each dial, and then in the log's order `got P HEX`, `gone P` and
     /// `tick SECONDS`. A failed send is told as `gone P`.
     fn session(&self) -> Result<String, NoMemory>
         ensures unkept { IfOk result (λ text. keeps self.now ≡ false → string_bytes text ≡ []) }
-        ensures kept { IfOk result (λ text. keeps self.now ≡ true → IfSome (told self.now).log (λ log. string_bytes text ≡ session_text log)) };
+        ensures kept { IfOk result (λ text. keeps self.now ≡ true
+            → IfSome (told self.now).log (λ log. string_bytes text ≡ session_text log)) };
 }

@@ -56,7 +56,8 @@ fn find<'a>(log: &'a VecDeque<(String, Vec<u8>)>, name: &str) -> Option<&'a Vec<
 impl MapFiles {
     /// No files yet.
     pub fn new(alloc: Global) -> MapFiles
-        ensures { result ≡ record { files = named_of []; left = []; plan = record { calls = 0; failing = []; faults = 0 } } }
+        ensures { result
+            ≡ record { files = named_of []; left = []; plan = record { calls = 0; failing = []; faults = 0 } } }
     {
         MapFiles {
             log: VecDeque::new(alloc),
@@ -82,7 +83,8 @@ impl Files for MapFiles {
 
     ghost faults = { λ f. f.plan.faults };
 
-    ghost reads = { λ before name _ _ after. after ≡ record before { plan = after_call before.plan (has_file before name) } };
+    ghost reads = { λ before name _ _ after. after
+        ≡ record before { plan = after_call before.plan (has_file before name) } };
 
     ghost opens = { λ before name _ result after.
         IfOk result (λ _. IfSome (finite.get before.files name) (λ bytes. after.left ≡ bytes))
@@ -92,8 +94,8 @@ impl Files for MapFiles {
         OnOk result (after ≡ record before { left = drop room before.left; plan = after_call before.plan true })
         × OnErr result (after ≡ record before { plan = after_call before.plan true }) };
 
-    ghost writes = { λ before name bytes result after.
-        OnOk result (after ≡ record before { files = finite.insert before.files name bytes; plan = after_call before.plan true })
+    ghost writes = { λ before name bytes result after. OnOk result
+        (after ≡ record before { files = finite.insert before.files name bytes; plan = after_call before.plan true })
         × OnErr result (after ≡ record before { plan = after_call before.plan true }) };
 
     /// Fails where the call is to fail, and where no file has this name.
@@ -101,7 +103,8 @@ impl Files for MapFiles {
         ensures answer { ReadOf (finite.get self.old.files name.now) most result }
         ensures same { Some self.new.files ≡ Some self.old.files }
         ensures count { Counts result self.old.plan.faults self.new.plan.faults }
-        ensures failed { IsErrOf result FileFail.Failed ↔ IsTrue (is_refused self.old.plan (has_file self.old name.now)) }
+        ensures failed { IsErrOf result FileFail.Failed
+            ↔ IsTrue (is_refused self.old.plan (has_file self.old name.now)) }
         ensures after { self.new ≡ record self.old { plan = after_call self.old.plan (has_file self.old name.now) } }
     {
         let found = find(&self.log, name);
@@ -122,8 +125,10 @@ impl Files for MapFiles {
         ensures answer { OpenOf (finite.get self.old.files name.now) most (Some self.new.left) result }
         ensures same { Some self.new.files ≡ Some self.old.files }
         ensures count { Counts result self.old.plan.faults self.new.plan.faults }
-        ensures failed { IsErrOf result FileFail.Failed ↔ IsTrue (is_refused self.old.plan (has_file self.old name.now)) }
-        ensures after { self.new ≡ record self.old { left = self.new.left; plan = after_call self.old.plan (has_file self.old name.now) } }
+        ensures failed { IsErrOf result FileFail.Failed
+            ↔ IsTrue (is_refused self.old.plan (has_file self.old name.now)) }
+        ensures after { self.new
+            ≡ record self.old { left = self.new.left; plan = after_call self.old.plan (has_file self.old name.now) } }
     {
         let found = find(&self.log, name);
         let is_there = found.is_some();
@@ -146,8 +151,10 @@ impl Files for MapFiles {
     fn part(&mut self, into: &mut [u8]) -> Result<usize, Failed>
         ensures some { IfOk result (λ n. n ≤ length into.new) }
         ensures rest { IfOk result (λ n. drop n into.new ≡ drop n into.old) }
-        ensures given { IfOk result (λ n. (n ≡ min (length into.old) (length self.old.left)) × (take n into.new ≡ take n self.old.left)) }
-        ensures ok { OnOk result (self.new ≡ record self.old { left = drop (length into.old) self.old.left; plan = after_call self.old.plan true }) }
+        ensures given { IfOk result
+            (λ n. (n ≡ min (length into.old) (length self.old.left)) × (take n into.new ≡ take n self.old.left)) }
+        ensures ok { OnOk result (self.new
+            ≡ record self.old { left = drop (length into.old) self.old.left; plan = after_call self.old.plan true }) }
         ensures err { OnErr result (self.new ≡ record self.old { plan = after_call self.old.plan true }) }
         ensures kept { OnOk result (self.new.plan.faults ≡ self.old.plan.faults) }
         ensures cause { OnErr result (HasRisen self.old.plan.faults self.new.plan.faults) }
@@ -162,7 +169,10 @@ impl Files for MapFiles {
 
     /// Fails where the call is to fail, and then changes nothing.
     fn write(&mut self, alloc: Global, name: &str, bytes: &[u8]) -> Result<(), FileFail>
-        ensures ok { OnOk result (self.new ≡ record self.old { files = finite.insert self.old.files name.now bytes.now; plan = after_call self.old.plan true }) }
+        ensures ok { OnOk result (self.new ≡ record self.old {
+          files = finite.insert self.old.files name.now bytes.now;
+          plan = after_call self.old.plan true;
+        }) }
         ensures err { OnErr result (self.new ≡ record self.old { plan = after_call self.old.plan true }) }
         ensures failed { IsErrOf result FileFail.Failed ↔ IsTrue (is_refused self.old.plan true) }
         ensures fits { result ≡ Err FileFail.TooBig → ⊥ }

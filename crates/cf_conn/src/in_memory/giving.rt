@@ -30,7 +30,8 @@ impl Model for Giving {
 impl Giving {
     pub(super) fn new(alloc: Global, most: usize) -> Giving
         requires { 0 < most }
-        ensures { result ≡ record { most = most; ended = false; plan = record { calls = 0; failing = []; faults = 0 } } }
+        ensures { result
+            ≡ record { most = most; ended = false; plan = record { calls = 0; failing = []; faults = 0 } } }
     {
         Giving {
             most,
@@ -65,7 +66,10 @@ impl Giving {
         ensures front { IfOk result (λ n. take n into.new ≡ take n bytes.now) }
         ensures rest { IfOk result (λ n. drop n into.new ≡ drop n into.old) }
         ensures end { IfOk result (λ n. 0 < length into.old → n ≡ 0 → bytes.now ≡ []) }
-        ensures after { self.new ≡ record self.old { ended = self.old.ended || is_end (length into.old) result; plan = after_call self.old.plan true } }
+        ensures after { self.new ≡ record self.old {
+          ended = self.old.ended || is_end (length into.old) result;
+          plan = after_call self.old.plan true;
+        } }
     {
         self.plan.call(true)?;
         let n = bytes.len().min(self.most).min(into.len());

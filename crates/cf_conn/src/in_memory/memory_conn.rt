@@ -38,7 +38,12 @@ impl MemoryConn {
     /// One read gives at most `most` of the bytes.
     pub fn new(alloc: Global, bytes: Vec<u8>, most: usize, sink: VecSink) -> MemoryConn
         requires { 0 < most }
-        ensures source { result.source ≡ record { rest = bytes.items; most = most; ended = false; plan = record { calls = 0; failing = []; faults = 0 } } }
+        ensures source { result.source ≡ record {
+          rest = bytes.items;
+          most = most;
+          ended = false;
+          plan = record { calls = 0; failing = []; faults = 0 };
+        } }
         ensures sink { result.sink ≡ sink }
     {
         MemoryConn {
@@ -51,7 +56,9 @@ impl MemoryConn {
 
     /// From now on these reads fail, counted from 1.
     pub fn failing_reads(&mut self, calls: &[u64]) -> Result<(), NoMemory>
-        ensures ok { OnOk result (self.new ≡ record self.old { source = record self.old.source { plan = record self.old.source.plan { failing = calls.now } } }) }
+        ensures ok { OnOk result (self.new ≡ record self.old {
+          source = record self.old.source { plan = record self.old.source.plan { failing = calls.now } };
+        }) }
         ensures err { OnErr result (self.new ≡ self.old) }
     {
         self.giving.fail_at(calls)
@@ -59,7 +66,9 @@ impl MemoryConn {
 
     /// From now on these writes fail, counted from 1.
     pub fn failing_writes(&mut self, calls: &[u64]) -> Result<(), NoMemory>
-        ensures ok { OnOk result (self.new ≡ record self.old { sink = record self.old.sink { plan = record self.old.sink.plan { failing = calls.now } } }) }
+        ensures ok { OnOk result (self.new ≡ record self.old {
+          sink = record self.old.sink { plan = record self.old.sink.plan { failing = calls.now } };
+        }) }
         ensures err { OnErr result (self.new ≡ self.old) }
     {
         self.sink.failing(calls)
@@ -84,7 +93,8 @@ impl Source for MemoryConn {
     fn read(&mut self, into: &mut [u8]) -> Result<usize, Failed>
         ensures some { IfOk result (λ n. n ≤ length into.new) }
         ensures rest { IfOk result (λ n. drop n into.new ≡ drop n into.old) }
-        ensures ok { IfOk result (λ n. Some self.old.source.rest ≡ with_front (take n into.new) (Some self.new.source.rest)) }
+        ensures ok { IfOk result
+            (λ n. Some self.old.source.rest ≡ with_front (take n into.new) (Some self.new.source.rest)) }
         ensures end { IfOk result (λ n. 0 < length into.old → n ≡ 0 → self.old.source.rest ≡ []) }
         ensures ended { self.new.source.ended ≡ (self.old.source.ended || is_end (length into.old) result) }
         ensures err { OnErr result (Some self.new.source.rest ≡ Some self.old.source.rest) }
@@ -108,7 +118,8 @@ impl Sink for MemoryConn {
 
     fn write(&mut self, from: &[u8]) -> Result<usize, Failed>
         ensures some { IfOk result (λ n. (n ≤ length from.now) × (0 < length from.now → 0 < n)) }
-        ensures ok { IfOk result (λ n. Some self.new.sink.bytes ≡ with_more (Some self.old.sink.bytes) (take n from.now)) }
+        ensures ok { IfOk result
+            (λ n. Some self.new.sink.bytes ≡ with_more (Some self.old.sink.bytes) (take n from.now)) }
         ensures err { OnErr result (Some self.new.sink.bytes ≡ Some self.old.sink.bytes) }
         ensures kept { OnOk result (self.new.sink.plan.faults ≡ self.old.sink.plan.faults) }
         ensures cause { OnErr result (HasRisen self.old.sink.plan.faults self.new.sink.plan.faults) }
@@ -127,7 +138,8 @@ impl Duplex for MemoryConn {
     fn receive(&mut self, into: &mut [u8]) -> Result<usize, Failed>
         ensures some { IfOk result (λ n. n ≤ length into.new) }
         ensures rest { IfOk result (λ n. drop n into.new ≡ drop n into.old) }
-        ensures ok { IfOk result (λ n. Some self.old.source.rest ≡ with_front (take n into.new) (Some self.new.source.rest)) }
+        ensures ok { IfOk result
+            (λ n. Some self.old.source.rest ≡ with_front (take n into.new) (Some self.new.source.rest)) }
         ensures end { IfOk result (λ n. 0 < length into.old → n ≡ 0 → self.old.source.rest ≡ []) }
         ensures ended { self.new.source.ended ≡ (self.old.source.ended || is_end (length into.old) result) }
         ensures err { OnErr result (Some self.new.source.rest ≡ Some self.old.source.rest) }
@@ -141,7 +153,8 @@ impl Duplex for MemoryConn {
 
     fn send(&mut self, from: &[u8]) -> Result<usize, Failed>
         ensures some { IfOk result (λ n. (n ≤ length from.now) × (0 < length from.now → 0 < n)) }
-        ensures ok { IfOk result (λ n. Some self.new.sink.bytes ≡ with_more (Some self.old.sink.bytes) (take n from.now)) }
+        ensures ok { IfOk result
+            (λ n. Some self.new.sink.bytes ≡ with_more (Some self.old.sink.bytes) (take n from.now)) }
         ensures err { OnErr result (Some self.new.sink.bytes ≡ Some self.old.sink.bytes) }
         ensures kept { OnOk result (self.new.sink.plan.faults ≡ self.old.sink.plan.faults) }
         ensures cause { OnErr result (HasRisen self.old.sink.plan.faults self.new.sink.plan.faults) }
@@ -152,7 +165,13 @@ impl Duplex for MemoryConn {
     }
 
     fn close(self) -> MemoryEnd
-        ensures { result ≡ record { left = Some self.source.rest; written = Some self.sink.bytes; ended = self.source.ended; read_faults = self.source.plan.faults; write_faults = self.sink.plan.faults } }
+        ensures { result ≡ record {
+          left = Some self.source.rest;
+          written = Some self.sink.bytes;
+          ended = self.source.ended;
+          read_faults = self.source.plan.faults;
+          write_faults = self.sink.plan.faults;
+        } }
     {
         MemoryEnd {
             ended: self.giving.ended(),
@@ -180,7 +199,13 @@ impl Model for MemoryEnd {
 
     ghost Value = { Told };
 
-    ghost view = { λ e. record { left = Some (drop e.start e.bytes.items); written = Some e.sink.bytes; ended = e.ended; read_faults = e.read_faults; write_faults = e.sink.plan.faults } };
+    ghost view = { λ e. record {
+      left = Some (drop e.start e.bytes.items);
+      written = Some e.sink.bytes;
+      ended = e.ended;
+      read_faults = e.read_faults;
+      write_faults = e.sink.plan.faults;
+    } };
 
     ghost invariant = { λ e. e.start ≤ vec_len e.bytes };
 }

@@ -29,7 +29,12 @@ impl<'a> SliceSource<'a> {
     /// One read gives at most `most` bytes.
     pub fn new(alloc: Global, bytes: &'a [u8], most: usize) -> SliceSource<'a>
         requires { 0 < most }
-        ensures { result ≡ record { rest = bytes.now; most = most; ended = false; plan = record { calls = 0; failing = []; faults = 0 } } }
+        ensures { result ≡ record {
+          rest = bytes.now;
+          most = most;
+          ended = false;
+          plan = record { calls = 0; failing = []; faults = 0 };
+        } }
     {
         SliceSource {
             rest: bytes,
