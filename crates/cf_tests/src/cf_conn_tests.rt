@@ -32,8 +32,12 @@ fn all_of(alloc: Global, text: &str, failing: u64) -> Result<String, Fail> {
 
 #[test]
 fn a_source_is_read_to_its_end(rt: HostRuntime) -> Result<(), Fail> {
-    let rows =
-        "abc|0|Ok([97, 98, 99]) true 0 0 [] []\nabcde|0|Ok([97, 98, 99, 100, 101]) true 0 0 [] []\nabcdefg|0|Err(TooBig) false 0 0 [103] []\nabcde|2|Err(Failed) false 1 0 [99, 100, 101] []\nabc|3|Err(Failed) false 1 0 [] []";
+    let rows = "\
+abc|0|Ok([97, 98, 99]) true 0 0 [] []\n\
+abcde|0|Ok([97, 98, 99, 100, 101]) true 0 0 [] []\n\
+abcdefg|0|Err(TooBig) false 0 0 [103] []\n\
+abcde|2|Err(Failed) false 1 0 [99, 100, 101] []\n\
+abc|3|Err(Failed) false 1 0 [] []";
     for row in rows.lines() {
         let (text, rest) = row.split_once('|').ok_or("no row")?;
         let (failing, wanted) = rest.split_once('|').ok_or("no row")?;
