@@ -26,9 +26,9 @@ ghost use Rattle.cf_input.specs.Words.{command_of, HasFewPeers};
 ghost use Rattle.cf_input.specs.declared.words.Command.{Command};
 
 use crate::demoing::demo;
+use crate::following::{follow_and_record, follow_on_tape};
 use crate::once::run_once;
 use crate::serving::serve;
-use crate::following::{follow_and_record, follow_on_tape};
 use cf_answers::Status;
 use cf_bytes::{Files, Refused, Sink};
 use cf_conn::Duplex;
