@@ -185,10 +185,8 @@ fn add_dial(
     answered: bool,
 ) -> Result<(), NoMemory>
     requires { is_name name.now ≡ true }
-    ensures dials { OnOk result
-        (session.new.dials.items ≡ session.old.dials.items ++ record { name = name.now; answered = answered } ∷ []) }
-    ensures names { OnOk result
-        (map string_bytes session.new.names.items ≡ map string_bytes session.old.names.items ++ name.now ∷ []) }
+    ensures dials { OnOk result (session.new.dials.items ≡ session.old.dials.items ++ record { name = name.now; answered = answered } ∷ []) }
+    ensures names { OnOk result (map string_bytes session.new.names.items ≡ map string_bytes session.old.names.items ++ name.now ∷ []) }
     ensures same { OnOk result (session.new.deliveries.items ≡ session.old.deliveries.items) }
 {
     let text = text_of(alloc, name)?;
@@ -205,8 +203,7 @@ fn take_line(alloc: Global, session: &mut Session, line: &[u8]) -> Result<(), Re
     ensures more { OnOk result (lines_in (script_in session.new) ≡ lines_in (script_in session.old) + 1) }
     ensures few { OnOk result (length session.new.dials.items ≤ max_dials) }
     ensures named { OnOk result (AreNamed session.old → AreNamed session.new) }
-    ensures real { OnOk result (list_all is_real session.old.deliveries.items ≡ true
-        → list_all is_real session.new.deliveries.items ≡ true) }
+    ensures real { OnOk result (list_all is_real session.old.deliveries.items ≡ true → list_all is_real session.new.deliveries.items ≡ true) }
 {
     let dials = session.dials.len() as u32;
     if let Some((name, answered)) = read_dial(line) {
@@ -235,8 +232,7 @@ fn add_line(alloc: Global, session: &mut Session, line: &[u8]) -> Result<(), Ref
     ensures more { OnOk result (lines_in (script_in session.new) ≡ lines_in (script_in session.old) + 1) }
     ensures few { OnOk result (length session.new.dials.items ≤ max_dials) }
     ensures named { OnOk result (AreNamed session.old → AreNamed session.new) }
-    ensures real { OnOk result (list_all is_real session.old.deliveries.items ≡ true
-        → list_all is_real session.new.deliveries.items ≡ true) }
+    ensures real { OnOk result (list_all is_real session.old.deliveries.items ≡ true → list_all is_real session.new.deliveries.items ≡ true) }
 {
     let place = (session.dials.len() + session.deliveries.len()) as u32 + 1;
     match take_line(alloc, session, line) {

@@ -63,8 +63,8 @@ pub enum Command {
         watch: Word,
         session: Word,
     },
-    /// The client over the wires that are handed in, with 1 to 8 peers. It takes at most so many deliveries, judges
-    /// filters in so many threads, and what passed the wires is kept in a file, where one is named.
+    /// The client over the wires that are handed in, with 1 to 8 peers. It takes at most so many deliveries, judges filters
+    /// in so many threads, and what passed the wires is kept in a file, where one is named.
     Sync {
         turns: u32,
         workers: u32,
@@ -103,16 +103,14 @@ pub enum Command {
     Check {
         file: Word,
     },
-    /// The chain of a block file, served to so many connections to an address. It stands still, or grows by the blocks
-    /// that the connections bring.
+    /// The chain of a block file, served to so many connections to an address. It stands still, or grows by the blocks that the connections bring.
     Serve {
         grow: bool,
         connections: u32,
         file: Word,
         address: Word,
     },
-    /// The blocks of a made chain, from height 1 to so many, written to a file, their coinbases with a witness or
-    /// without.
+    /// The blocks of a made chain, from height 1 to so many, written to a file, their coinbases with a witness or without.
     Make {
         witness: bool,
         seed: u32,
@@ -253,8 +251,7 @@ fn with_one_more<'a>(
     sub: clap::Command<'a>,
 ) -> Result<clap::Command<'a>, AllocError>
     requires { ((fields_of command).has_globals ≡ false) × ((fields_of sub).has_globals ≡ false) }
-    ensures { IfOk result
-        (λ c. (app_of c ≡ with_sub (app_of command.entry) (app_of sub.entry)) × ((fields_of c).has_globals ≡ false)) }
+    ensures { IfOk result (λ c. (app_of c ≡ with_sub (app_of command.entry) (app_of sub.entry)) × ((fields_of c).has_globals ≡ false)) }
 {
     command.subcommand(sub)
 }
@@ -290,8 +287,8 @@ fn client_command<'a>(alloc: Global) -> Result<clap::Command<'a>, AllocError>
     add(command, replay_command(alloc))
 }
 
-/// The whole command line: those over a block file come after them, then that over an address, those over proofs, the
-/// server, and those over a made chain.
+/// The whole command line: those over a block file come after them, then that over an address, those over proofs, the server, and
+/// those over a made chain.
 pub(crate) fn cli_command<'a>(alloc: Global) -> Result<clap::Command<'a>, AllocError>
     ensures app { IfOk result (λ c. app_of c ≡ cli_app) }
     ensures globals { IfOk result (λ c. (fields_of c).has_globals ≡ false) }
@@ -322,11 +319,9 @@ fn matches_of_words<'a>(
     alloc: Global,
     words: &'a [String],
 ) -> Result<ArgMatches<'a>, Refused<Usage>>
-    ensures ok { IfOk result
-        (λ m. subcommand_rows_of m ≡ subcommand_of cli_app (map (λ s. string_bytes s) words.entry.now)) }
+    ensures ok { IfOk result (λ m. subcommand_rows_of m ≡ subcommand_of cli_app (map (λ s. string_bytes s) words.entry.now)) }
     ensures passed { IfOk result (λ m. fault_of cli_app (map (λ s. string_bytes s) words.entry.now) ≡ []) }
-    ensures refused { IfErr result
-        (λ e. IfUsage e (is_faultless (fault_of cli_app (map (λ s. string_bytes s) words.entry.now)) ≡ false)) }
+    ensures refused { IfErr result (λ e. IfUsage e (is_faultless (fault_of cli_app (map (λ s. string_bytes s) words.entry.now)) ≡ false)) }
 {
     let command = cli_command(alloc)?;
     match command.try_get_matches_from(words) {

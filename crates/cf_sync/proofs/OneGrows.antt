@@ -412,8 +412,7 @@ is_growing = record {
   good = good_chain;
   low = has_room;
   from = omega arith;
-  dialled =
-      of_part (λ t. was_called t ≡ true) (part_of growing_run 1) v_17 p_17 refl;
+  dialled = of_part (λ t. was_called t ≡ true) (part_of growing_run 1) v_17 p_17 refl;
   growing = grows_17;
 }
 
@@ -422,8 +421,7 @@ was_growing = record {
   good = good_chain;
   low = has_room;
   from = omega arith;
-  dialled =
-      of_part (λ t. was_called t ≡ true) (part_of first_quiet 1) v_7 p_7 refl;
+  dialled = of_part (λ t. was_called t ≡ true) (part_of first_quiet 1) v_7 p_7 refl;
   growing = grows_7;
 }
 
@@ -442,15 +440,12 @@ says_17 m bytes (inr (inr (inl e))) i = headers_known bytes (subst (λ (x : Msg)
 says_17 m bytes (inr (inr (inr (inl e)))) i = absurd (subst (λ (x : Msg). IsIn bytes (strings_of x)) e i)
 says_17 m bytes (inr (inr (inr (inr (inl e))))) i = absurd (subst (λ (x : Msg). IsIn bytes (strings_of x)) e i)
 says_17 m bytes (inr (inr (inr (inr (inr (inl e)))))) i = absurd (subst (λ (x : Msg). IsIn bytes (strings_of x)) e i)
-says_17 m bytes (inr (inr (inr (inr (inr (inr (inl e))))))) i =
-    absurd (subst (λ (x : Msg). IsIn bytes (strings_of x)) e i)
-says_17 m bytes (inr (inr (inr (inr (inr (inr (inr (inl e)))))))) i =
-    absurd (subst (λ (x : Msg). IsIn bytes (strings_of x)) e i)
+says_17 m bytes (inr (inr (inr (inr (inr (inr (inl e))))))) i = absurd (subst (λ (x : Msg). IsIn bytes (strings_of x)) e i)
+says_17 m bytes (inr (inr (inr (inr (inr (inr (inr (inl e)))))))) i = absurd (subst (λ (x : Msg). IsIn bytes (strings_of x)) e i)
 says_17 m bytes (inr (inr (inr (inr (inr (inr (inr (inr none)))))))) i = absurd none
 
 -- where each peer said known strings alone, all that is hashed is known
-known_in : (log : Log) → ((p : ℕ) → SaysKnown (trail log p)) → (bytes : List ℕ) → IsHashed log chain_of_one bytes
-    → IsKnown bytes
+known_in : (log : Log) → ((p : ℕ) → SaysKnown (trail log p)) → (bytes : List ℕ) → IsHashed log chain_of_one bytes → IsKnown bytes
 known_in log says bytes (inl e) = inl e
 known_in log says bytes (inr (inl received)) = says received.0 received.1.0 bytes received.1.1 received.1.2
 known_in log says bytes (inr (inr of_blocks)) = chain_known bytes of_blocks
@@ -462,8 +457,7 @@ apart_in log says = record {
 }
 
 pub growing_apart : NoHashClash (IsHashed growing_run chain_of_one)
-growing_apart = apart_in growing_run
-    (λ p. at_one SaysKnown growing_run v_17 p p_17 one_17 says_17 (λ m b none i. absurd none))
+growing_apart = apart_in growing_run (λ p. at_one SaysKnown growing_run v_17 p p_17 one_17 says_17 (λ m b none i. absurd none))
 
 says_7 : SaysKnown v_7
 says_7 m bytes said i = says_17 m bytes (inr (inr (inr (inr (inr said))))) i
@@ -657,8 +651,7 @@ growing_right = (
 -- ---- both quiet moments
 
 pub growing_quiet : IsQuiet growing_run
-growing_quiet p = at_one (λ t. is_open t ≡ false) growing_run v_17 p p_17 one_17 (ap (λ r. not (is_idle r)) request_17)
-    refl
+growing_quiet p = at_one (λ t. is_open t ≡ false) growing_run v_17 p p_17 one_17 (ap (λ r. not (is_idle r)) request_17) refl
 
 pub first_is_quiet : IsQuiet first_quiet
 first_is_quiet p = at_one (λ t. is_open t ≡ false) first_quiet v_7 p p_7 one_7 refl refl
@@ -710,8 +703,7 @@ none_shared t is h one le =
     omega (arith, one, le, none)
 
 apart_7 : (p : ℕ) → SharesNone (trail first_quiet p)
-apart_7 p = at_one SharesNone first_quiet v_7 p p_7 one_7 (none_shared v_7 (same_use v_7 refl refl).chain)
-    (none_shared [] refl)
+apart_7 p = at_one SharesNone first_quiet v_7 p p_7 one_7 (none_shared v_7 (same_use v_7 refl refl).chain) (none_shared [] refl)
 
 pub first_asked : HasAskedIn Following other_watch 0 genesis_hash [] first_quiet
 first_asked = record {
@@ -749,8 +741,7 @@ heard_13 : heard_in Following v_13 ≡ true
 heard_13 = rw (again_11, accepted) refl
 
 heard_17 : heard_in Following (counted v_17) ≡ true
-heard_17 = (same_use v_17 refl clean_17).hearing Following ∙ still_true (heard_in Following v_15)
-    (still_true (heard_in Following v_13) heard_13)
+heard_17 = (same_use v_17 refl clean_17).hearing Following ∙ still_true (heard_in Following v_15) (still_true (heard_in Following v_13) heard_13)
 
 chain_17 : own (counted v_17) ≡ only_header ∷ []
 chain_17 = (same_use v_17 refl clean_17).chain ∙ own_7
