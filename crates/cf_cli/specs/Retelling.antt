@@ -4,7 +4,7 @@ use Rattle.hex.specs.Hex.{IsBytes}
 use Rattle.cf_wires.specs.declared.event.Delivery.{Delivery}
 use Rattle.cf_wires.specs.declared.event.Delivery.TheVariants.{Got, Gone, Tick, Ended}
 use Rattle.cf_wires.specs.declared.event.Dial.{Dial}
-use Rattle.cf_wires.specs.declared.event.Event.TheVariants.{Dialled, NotDialled, Sent, SendFailed, Closed, Took}
+use Rattle.cf_wires.specs.declared.event.Event.TheVariants.{SendFailed, Took}
 use Rattle.cf_wires.specs.Log.{Log, dials, with_delivery}
 use Rattle.cf_wires.specs.Wires.{Script}
 use Rattle.cf_input.specs.Name.{is_name}
@@ -15,10 +15,7 @@ abbrev pub told_deliveries : Log → List Delivery
 told_deliveries [] = []
 told_deliveries (Took d ∷ log) = with_delivery d (told_deliveries log)
 told_deliveries (SendFailed p ∷ log) = told_deliveries log ++ Gone p ∷ []
-told_deliveries (Dialled p name ∷ log) = told_deliveries log
-told_deliveries (NotDialled p name ∷ log) = told_deliveries log
-told_deliveries (Sent p bytes ∷ log) = told_deliveries log
-told_deliveries (Closed p ∷ log) = told_deliveries log
+told_deliveries (_ ∷ log) = told_deliveries log
 
 -- the dials and the deliveries that they tell
 abbrev pub told_script : Log → Script

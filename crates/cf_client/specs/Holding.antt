@@ -52,10 +52,7 @@ abbrev pub hashes_claimed : Trail → List Hash32
 hashes_claimed [] = []
 hashes_claimed (Called ∷ t) = []
 hashes_claimed (Said m ∷ t) = hashes_told m (request t) ++ hashes_claimed t
-hashes_claimed (Refused c ∷ t) = hashes_claimed t
-hashes_claimed (Asked m ∷ t) = hashes_claimed t
-hashes_claimed (Passed s ∷ t) = hashes_claimed t
-hashes_claimed (Lost w ∷ t) = hashes_claimed t
+hashes_claimed (_ ∷ t) = hashes_claimed t
 
 -- those that count, while the peer is connected
 abbrev pub hashes_kept : Trail → List Hash32

@@ -153,41 +153,29 @@ has_filters services = bit_and services 65 == 65
 abbrev pub connected : Trail → Bool
 connected [] = false
 connected (Called ∷ t) = true
-connected (Said m ∷ t) = connected t
-connected (Refused c ∷ t) = connected t
-connected (Asked m ∷ t) = connected t
-connected (Passed s ∷ t) = connected t
 connected (Lost w ∷ t) = false
+connected (_ ∷ t) = connected t
 
 -- the client has sent its version
 abbrev pub greeted : Trail → Bool
 greeted [] = false
 greeted (Called ∷ t) = false
-greeted (Said m ∷ t) = greeted t
-greeted (Refused c ∷ t) = greeted t
 greeted (Asked m ∷ t) = is_version m || greeted t
-greeted (Passed s ∷ t) = greeted t
-greeted (Lost w ∷ t) = greeted t
+greeted (_ ∷ t) = greeted t
 
 -- its version has come
 abbrev pub met : Trail → Bool
 met [] = false
 met (Called ∷ t) = false
 met (Said m ∷ t) = is_version m || met t
-met (Refused c ∷ t) = met t
-met (Asked m ∷ t) = met t
-met (Passed s ∷ t) = met t
-met (Lost w ∷ t) = met t
+met (_ ∷ t) = met t
 
 -- a verack has come after its version: the handshake is over
 abbrev pub ready : Trail → Bool
 ready [] = false
 ready (Called ∷ t) = false
 ready (Said m ∷ t) = (is_verack m && met t) || ready t
-ready (Refused c ∷ t) = ready t
-ready (Asked m ∷ t) = ready t
-ready (Passed s ∷ t) = ready t
-ready (Lost w ∷ t) = ready t
+ready (_ ∷ t) = ready t
 
 -- the chain that headers have made where it is longer, and else the peer's own as it was
 abbrev pub longer_of : Accepted → Chain → Chain
@@ -207,10 +195,7 @@ abbrev pub own : Trail → Chain
 own [] = []
 own (Called ∷ t) = []
 own (Said m ∷ t) = if ready t then own_after m (own t) else own t
-own (Refused c ∷ t) = own t
-own (Asked m ∷ t) = own t
-own (Passed s ∷ t) = own t
-own (Lost w ∷ t) = own t
+own (_ ∷ t) = own t
 
 -- headers have come that were empty, brought no longer chain or were fewer than 2000: it has no more to tell, until there is news
 abbrev pub ends_by : Accepted → List Header → Bool
@@ -244,10 +229,7 @@ abbrev pub heard_in : Mode → Trail → Bool
 heard_in mode [] = false
 heard_in mode (Called ∷ t) = false
 heard_in mode (Said m ∷ t) = still_heard mode m (own t) (heard_in mode t) || (ready t && ends_with m (own t))
-heard_in mode (Refused c ∷ t) = heard_in mode t
-heard_in mode (Asked m ∷ t) = heard_in mode t
-heard_in mode (Passed s ∷ t) = heard_in mode t
-heard_in mode (Lost w ∷ t) = heard_in mode t
+heard_in mode (_ ∷ t) = heard_in mode t
 
 -- the same for a client that ends once nothing is open
 abbrev pub heard : Trail → Bool
@@ -276,11 +258,8 @@ is_failing Shutting = false
 abbrev pub failed : Trail → Bool
 failed [] = false
 failed (Called ∷ t) = false
-failed (Said m ∷ t) = failed t
-failed (Refused c ∷ t) = failed t
-failed (Asked m ∷ t) = failed t
-failed (Passed s ∷ t) = failed t
 failed (Lost w ∷ t) = is_failing w || failed t
+failed (_ ∷ t) = failed t
 
 -- what is owed to its messages: one verack to its version, and after that one pong to each ping
 abbrev pub reply_to : Msg → Trail → List Msg
@@ -293,10 +272,7 @@ abbrev pub owed : Trail → List Msg
 owed [] = []
 owed (Called ∷ t) = []
 owed (Said m ∷ t) = owed t ++ reply_to m t
-owed (Refused c ∷ t) = owed t
-owed (Asked m ∷ t) = owed t
-owed (Passed s ∷ t) = owed t
-owed (Lost w ∷ t) = owed t
+owed (_ ∷ t) = owed t
 
 -- the replies that it was sent
 abbrev pub as_reply : Msg → List Msg
@@ -308,11 +284,8 @@ as_reply m = []
 abbrev pub replied : Trail → List Msg
 replied [] = []
 replied (Called ∷ t) = []
-replied (Said m ∷ t) = replied t
-replied (Refused c ∷ t) = replied t
 replied (Asked m ∷ t) = replied t ++ as_reply m
-replied (Passed s ∷ t) = replied t
-replied (Lost w ∷ t) = replied t
+replied (_ ∷ t) = replied t
 
 -- no network address: no services, and zeros for the IP address and the port
 abbrev pub no_address : NetAddress
@@ -329,8 +302,5 @@ IsClientVersion m = ⊥
 abbrev pub WasAsked : Trail → Msg → Type 0
 WasAsked [] m = ⊥
 WasAsked (Called ∷ t) m = ⊥
-WasAsked (Said n ∷ t) m = WasAsked t m
-WasAsked (Refused c ∷ t) m = WasAsked t m
 WasAsked (Asked n ∷ t) m = (m ≡ n) ⊎ WasAsked t m
-WasAsked (Passed s ∷ t) m = WasAsked t m
-WasAsked (Lost w ∷ t) m = WasAsked t m
+WasAsked (_ ∷ t) m = WasAsked t m

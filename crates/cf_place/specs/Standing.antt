@@ -34,11 +34,8 @@ pub record IsAnswered (t : Trail) : Type 0 where
 abbrev pub FirstLost : (Why → Trail → Type 0) → Trail → Type 0
 FirstLost P [] = ⊥
 FirstLost P (Called ∷ t) = ⊥
-FirstLost P (Said m ∷ t) = FirstLost P t
-FirstLost P (Refused c ∷ t) = FirstLost P t
-FirstLost P (Asked m ∷ t) = FirstLost P t
-FirstLost P (Passed s ∷ t) = FirstLost P t
 FirstLost P (LostItem why ∷ t) = ((connected t ≡ true) × P why t) ⊎ ((connected t ≡ false) × FirstLost P t)
+FirstLost P (_ ∷ t) = FirstLost P t
 
 -- it went, or was never there: it wasn't closed, and no send to it failed
 abbrev pub IsGoing : Why → Trail → Type 0

@@ -23,22 +23,13 @@ came [] p = []
 came (Took (Got q piece) ∷ log) p = if q.0 == p then came log p ++ piece else came log p
 came (Took (Gone q) ∷ log) p = came log p
 came (Took (Tick s) ∷ log) p = came log p
-came (Took Ended ∷ log) p = came log p
-came (Dialled q name ∷ log) p = came log p
-came (NotDialled q name ∷ log) p = came log p
-came (Sent q bytes ∷ log) p = came log p
-came (SendFailed q ∷ log) p = came log p
-came (Closed q ∷ log) p = came log p
+came (_ ∷ log) p = came log p
 
 -- the messages that the sends to p spell, in order
 abbrev pub told_to : Log → ℕ → List Msg
 told_to [] p = []
 told_to (Sent q bytes ∷ log) p = if q.0 == p then told_to log p ++ option_to_list (spelled bytes) else told_to log p
-told_to (Took d ∷ log) p = told_to log p
-told_to (Dialled q name ∷ log) p = told_to log p
-told_to (NotDialled q name ∷ log) p = told_to log p
-told_to (SendFailed q ∷ log) p = told_to log p
-told_to (Closed q ∷ log) p = told_to log p
+told_to (_ ∷ log) p = told_to log p
 
 -- ---- what is answered
 

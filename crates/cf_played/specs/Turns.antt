@@ -2,7 +2,7 @@
 use Rattle.std.specs.Prelude.{◌≡◌, ◌≢◌, ◌⊎◌, ℕ, suc, ◌≤◌, ◌<◌, List, [], ◌∷◌, length, slice_get, slice_set, Option, Some, None}
 use Rattle.cf_wires.specs.declared.event.Delivery.{Delivery}
 use Rattle.cf_wires.specs.declared.event.Delivery.TheVariants.{Got, Gone, Tick, Ended}
-use Rattle.cf_wires.specs.declared.event.Event.TheVariants.{Dialled, NotDialled, Sent, SendFailed, Closed, Took}
+use Rattle.cf_wires.specs.declared.event.Event.TheVariants.{Took}
 use Rattle.cf_wires.specs.Log.{Log}
 use Rattle.cf_played.specs.Peers.{Peer}
 use Rattle.cf_played.specs.Waiting.{front_of, behind_front}
@@ -34,12 +34,7 @@ last_served [] = 0
 last_served (Took (Got q piece) ∷ log) = q.0
 last_served (Took (Gone q) ∷ log) = last_served log
 last_served (Took (Tick s) ∷ log) = last_served log
-last_served (Took Ended ∷ log) = last_served log
-last_served (Dialled q name ∷ log) = last_served log
-last_served (NotDialled q name ∷ log) = last_served log
-last_served (Sent q bytes ∷ log) = last_served log
-last_served (SendFailed q ∷ log) = last_served log
-last_served (Closed q ∷ log) = last_served log
+last_served (_ ∷ log) = last_served log
 
 -- this piece was taken from the front of what waits of the peer at a place
 pub record HasGiven (old : List Peer) (place : ℕ) (piece : List ℕ) (new : List Peer) : Type 0 where

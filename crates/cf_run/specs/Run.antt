@@ -53,22 +53,17 @@ pub record IsOrderly (log : Log) : Type 0 where
 -- so it was whenever a delivery was taken; a send was tried to a connected peer alone, and who was closed was answered before
 abbrev pub WasOrderly : Log → Type 0
 WasOrderly [] = Unit {0}
-WasOrderly (Dialled p name ∷ log) = WasOrderly log
-WasOrderly (NotDialled p name ∷ log) = WasOrderly log
-WasOrderly (Sent p bytes ∷ log) = WasOrderly log
 WasOrderly (SendFailed p ∷ log) = IsConnected log p.0 × WasOrderly log
 WasOrderly (Closed p ∷ log) = IsRepliedIn log p.0 × WasOrderly log
 WasOrderly (Took d ∷ log) = IsOrderly log × WasOrderly log
+WasOrderly (_ ∷ log) = WasOrderly log
 
 -- the peers are numbered from 1 in the order in which they were dialled
 abbrev pub AreNumbered : Log → Type 0
 AreNumbered [] = Unit {0}
 AreNumbered (Dialled p name ∷ log) = (p.0 ≡ (tally_of log).dials + 1) × AreNumbered log
 AreNumbered (NotDialled p name ∷ log) = (p.0 ≡ (tally_of log).dials + 1) × AreNumbered log
-AreNumbered (Sent p bytes ∷ log) = AreNumbered log
-AreNumbered (SendFailed p ∷ log) = AreNumbered log
-AreNumbered (Closed p ∷ log) = AreNumbered log
-AreNumbered (Took d ∷ log) = AreNumbered log
+AreNumbered (_ ∷ log) = AreNumbered log
 
 -- nothing was taken yet
 abbrev pub IsUntaken : Log → Type 0
@@ -79,10 +74,7 @@ abbrev pub AreDialledFirst : Log → Type 0
 AreDialledFirst [] = Unit {0}
 AreDialledFirst (Dialled p name ∷ log) = IsUntaken log × AreDialledFirst log
 AreDialledFirst (NotDialled p name ∷ log) = IsUntaken log × AreDialledFirst log
-AreDialledFirst (Sent p bytes ∷ log) = AreDialledFirst log
-AreDialledFirst (SendFailed p ∷ log) = AreDialledFirst log
-AreDialledFirst (Closed p ∷ log) = AreDialledFirst log
-AreDialledFirst (Took d ∷ log) = AreDialledFirst log
+AreDialledFirst (_ ∷ log) = AreDialledFirst log
 
 -- a line of the trace tells what was sent to the peer
 abbrev pub IsSentLine : PeerNo → List ℕ → TraceLine → Type 0
@@ -103,10 +95,7 @@ IsTraceOf (Sent p bytes ∷ log) [] = ⊥
 IsTraceOf (Sent p bytes ∷ log) (line ∷ lines) = IsSentLine p bytes line × IsTraceOf log lines
 IsTraceOf (Closed p ∷ log) [] = ⊥
 IsTraceOf (Closed p ∷ log) (line ∷ lines) = IsClosedLine log p line × IsTraceOf log lines
-IsTraceOf (Dialled p name ∷ log) lines = IsTraceOf log lines
-IsTraceOf (NotDialled p name ∷ log) lines = IsTraceOf log lines
-IsTraceOf (SendFailed p ∷ log) lines = IsTraceOf log lines
-IsTraceOf (Took d ∷ log) lines = IsTraceOf log lines
+IsTraceOf (_ ∷ log) lines = IsTraceOf log lines
 
 -- the names that were dialled, in order
 abbrev pub names_of : Log → List (List ℕ)
@@ -125,22 +114,14 @@ IsTicked Following log = is_after_tick log ≡ true → (p : ℕ) → IsConnecte
 -- so it was whenever a delivery was taken
 abbrev pub WerePinged : Mode → Log → Type 0
 WerePinged mode [] = Unit {0}
-WerePinged mode (Dialled p name ∷ log) = WerePinged mode log
-WerePinged mode (NotDialled p name ∷ log) = WerePinged mode log
-WerePinged mode (Sent p bytes ∷ log) = WerePinged mode log
-WerePinged mode (SendFailed p ∷ log) = WerePinged mode log
-WerePinged mode (Closed p ∷ log) = WerePinged mode log
 WerePinged mode (Took d ∷ log) = IsTicked mode log × WerePinged mode log
+WerePinged mode (_ ∷ log) = WerePinged mode log
 
 -- whenever a delivery was taken, each connected peer with nothing open had been asked all that the rule asks of it
 abbrev pub WereAskedOut : Rule → Log → Type 0
 WereAskedOut rule [] = Unit {0}
-WereAskedOut rule (Dialled p name ∷ log) = WereAskedOut rule log
-WereAskedOut rule (NotDialled p name ∷ log) = WereAskedOut rule log
-WereAskedOut rule (Sent p bytes ∷ log) = WereAskedOut rule log
-WereAskedOut rule (SendFailed p ∷ log) = WereAskedOut rule log
-WereAskedOut rule (Closed p ∷ log) = WereAskedOut rule log
 WereAskedOut rule (Took d ∷ log) = AreAskedOut rule log × WereAskedOut rule log
+WereAskedOut rule (_ ∷ log) = WereAskedOut rule log
 
 -- a dial or a send has failed
 abbrev pub is_failure : Event → Bool

@@ -3,7 +3,7 @@ use Rattle.std.specs.Prelude.{◌≡◌, ◌⊎◌, ℕ, Bool, true, false, [], 
 use Rattle.cf_bytes.specs.declared.hash.Hash32.{Hash32}
 use Rattle.cf_headers.specs.Chain.{Hash, Chain, IsIn}
 use Rattle.cf_msg.specs.declared.msg.Msg.{Msg}
-use Rattle.cf_wires.specs.declared.event.Event.TheVariants.{Dialled, NotDialled, Sent, SendFailed, Closed, Took}
+use Rattle.cf_wires.specs.declared.event.Event.TheVariants.{Dialled, Sent, SendFailed, Closed}
 use Rattle.cf_wires.specs.Log.{Log}
 use Rattle.cf_peer.specs.Trail.{Trail, Called, Said, Refused, Asked, Passed, Lost, spelled, own, is_news}
 use Rattle.cf_peer.specs.Asking.{hashes_of}
@@ -17,10 +17,7 @@ WasAskedSince [] p m block = ⊥
 WasAskedSince (Sent q bytes ∷ log) p m block =
     (IsFetchedHash log block × (q.0 ≡ p) × (spelled bytes ≡ Some m)) ⊎ WasAskedSince log p m block
 WasAskedSince (Dialled q name ∷ log) p m block = (q.0 ≡ p → ⊥) × WasAskedSince log p m block
-WasAskedSince (NotDialled q name ∷ log) p m block = WasAskedSince log p m block
-WasAskedSince (SendFailed q ∷ log) p m block = WasAskedSince log p m block
-WasAskedSince (Closed q ∷ log) p m block = WasAskedSince log p m block
-WasAskedSince (Took d ∷ log) p m block = WasAskedSince log p m block
+WasAskedSince (_ ∷ log) p m block = WasAskedSince log p m block
 
 -- with news what was before is gone
 abbrev pub before_news : Bool → Type 0 → Type 0
@@ -32,10 +29,8 @@ abbrev pub WasAskedSinceNews : Trail → Msg → Type 0
 WasAskedSinceNews [] m = ⊥
 WasAskedSinceNews (Called ∷ t) m = ⊥
 WasAskedSinceNews (Said n ∷ t) m = before_news (is_news n (own t)) (WasAskedSinceNews t m)
-WasAskedSinceNews (Refused c ∷ t) m = WasAskedSinceNews t m
 WasAskedSinceNews (Asked n ∷ t) m = (m ≡ n) ⊎ WasAskedSinceNews t m
-WasAskedSinceNews (Passed s ∷ t) m = WasAskedSinceNews t m
-WasAskedSinceNews (Lost w ∷ t) m = WasAskedSinceNews t m
+WasAskedSinceNews (_ ∷ t) m = WasAskedSinceNews t m
 
 -- ---- what follows
 
@@ -55,6 +50,4 @@ HasOmitted [] p = ⊥
 HasOmitted (Closed q ∷ log) p = ((q.0 ≡ p) × IsOmitting log p) ⊎ HasOmitted log p
 HasOmitted (SendFailed q ∷ log) p = (q.0 ≡ p → ⊥) × HasOmitted log p
 HasOmitted (Dialled q name ∷ log) p = (q.0 ≡ p → ⊥) × HasOmitted log p
-HasOmitted (NotDialled q name ∷ log) p = HasOmitted log p
-HasOmitted (Sent q bytes ∷ log) p = HasOmitted log p
-HasOmitted (Took d ∷ log) p = HasOmitted log p
+HasOmitted (_ ∷ log) p = HasOmitted log p

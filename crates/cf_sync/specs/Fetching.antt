@@ -56,12 +56,7 @@ AreBytes [] = Unit {0}
 AreBytes (Took (Got p piece) ∷ log) = IsBytes piece × AreBytes log
 AreBytes (Took (Gone p) ∷ log) = AreBytes log
 AreBytes (Took (Tick s) ∷ log) = AreBytes log
-AreBytes (Took Ended ∷ log) = AreBytes log
-AreBytes (Dialled p name ∷ log) = AreBytes log
-AreBytes (NotDialled p name ∷ log) = AreBytes log
-AreBytes (Sent p bytes ∷ log) = AreBytes log
-AreBytes (SendFailed p ∷ log) = AreBytes log
-AreBytes (Closed p ∷ log) = AreBytes log
+AreBytes (_ ∷ log) = AreBytes log
 
 -- ---- blocks
 
@@ -108,11 +103,7 @@ test_after true (Some m) log block before = before
 abbrev pub IsTest : Log → ℕ → Hash → Type 0
 IsTest [] p block = ⊥
 IsTest (Sent q bytes ∷ log) p block = test_after (q.0 == p) (spelled bytes) log block (IsTest log p block)
-IsTest (Dialled q name ∷ log) p block = IsTest log p block
-IsTest (NotDialled q name ∷ log) p block = IsTest log p block
-IsTest (SendFailed q ∷ log) p block = IsTest log p block
-IsTest (Closed q ∷ log) p block = IsTest log p block
-IsTest (Took d ∷ log) p block = IsTest log p block
+IsTest (_ ∷ log) p block = IsTest log p block
 
 -- they weren't: the filter of the block is to be judged
 abbrev pub IsNoTest : Log → ℕ → Hash → Type 0
@@ -132,12 +123,7 @@ IsAnswered way (Took (Got q piece) ∷ log) job =
     (way log q.0 job.block.0 × IsNew (Took (Got q piece)) log q.0 job) ⊎ IsAnswered way log job
 IsAnswered way (Took (Gone q) ∷ log) job = IsAnswered way log job
 IsAnswered way (Took (Tick s) ∷ log) job = IsAnswered way log job
-IsAnswered way (Took Ended ∷ log) job = IsAnswered way log job
-IsAnswered way (Dialled q name ∷ log) job = IsAnswered way log job
-IsAnswered way (NotDialled q name ∷ log) job = IsAnswered way log job
-IsAnswered way (Sent q bytes ∷ log) job = IsAnswered way log job
-IsAnswered way (SendFailed q ∷ log) job = IsAnswered way log job
-IsAnswered way (Closed q ∷ log) job = IsAnswered way log job
+IsAnswered way (_ ∷ log) job = IsAnswered way log job
 
 -- a filter was given: it came in a whole answer to a question that was put while its block wasn't fetched
 abbrev pub IsGiven : Log → Job → Type 0
@@ -282,11 +268,7 @@ is_after_tick (Took (Got p piece) ∷ log) = false
 is_after_tick (Took (Gone p) ∷ log) = false
 is_after_tick (Took (Tick s) ∷ log) = true
 is_after_tick (Took Ended ∷ log) = false
-is_after_tick (Dialled p name ∷ log) = is_after_tick log
-is_after_tick (NotDialled p name ∷ log) = is_after_tick log
-is_after_tick (Sent p bytes ∷ log) = is_after_tick log
-is_after_tick (SendFailed p ∷ log) = is_after_tick log
-is_after_tick (Closed p ∷ log) = is_after_tick log
+is_after_tick (_ ∷ log) = is_after_tick log
 
 -- What is asked of p is open to nobody: no filter that it is asked for and whose block wasn't fetched, and no block. (The filter of a
 -- fetched block is asked of each peer by itself, so that it is tested.) Of a ping another thing is said: that the last delivery is a tick.
@@ -355,12 +337,10 @@ MayTake Following log = (p : ℕ) × IsConnected log p
 -- was open, or by one that follows while a peer was connected.
 abbrev pub RightlyIn : Mode → Log → Type 0
 RightlyIn mode [] = Unit {0}
-RightlyIn mode (Dialled p name ∷ log) = RightlyIn mode log
-RightlyIn mode (NotDialled p name ∷ log) = RightlyIn mode log
 RightlyIn mode (Sent p bytes ∷ log) = ((m : Msg) × (spelled bytes ≡ Some m) × MaySendIn mode log p.0 m) × RightlyIn mode log
-RightlyIn mode (SendFailed p ∷ log) = RightlyIn mode log
 RightlyIn mode (Closed p ∷ log) = ((cause : Cause) × DeservesIn log p.0 cause) × RightlyIn mode log
 RightlyIn mode (Took d ∷ log) = MayTake mode log × RightlyIn mode log
+RightlyIn mode (_ ∷ log) = RightlyIn mode log
 
 -- the same of a client that ends once nothing is open
 abbrev pub Rightly : Log → Type 0

@@ -111,8 +111,7 @@ Reaches blocks first (Said m ∷ t) s = (before : Turn) × Reaches blocks first 
 Reaches blocks first (Refused c ∷ t) s = ⊥
 Reaches blocks first (Asked m ∷ t) s =
     (before : Turn) × Reaches blocks first t before × (s ≡ record before { asked = before.asked ++ m ∷ [] })
-Reaches blocks first (Passed n ∷ t) s = Reaches blocks first t s
-Reaches blocks first (Lost w ∷ t) s = Reaches blocks first t s
+Reaches blocks first (_ ∷ t) s = Reaches blocks first t s
 
 -- at every moment of the log p has answered so, and in time
 abbrev pub IsGrowingOver : Log → ℕ → List Block → ℕ → Type 0
@@ -146,10 +145,7 @@ abbrev pub last_told : Trail → Option Hash
 last_told [] = None
 last_told (Called ∷ t) = None
 last_told (Said m ∷ t) = told_by m (last_told t)
-last_told (Refused c ∷ t) = last_told t
-last_told (Asked m ∷ t) = last_told t
-last_told (Passed s ∷ t) = last_told t
-last_told (Lost w ∷ t) = last_told t
+last_told (_ ∷ t) = last_told t
 
 -- the chain up to this height is the one with this tip, or the first where there is none
 abbrev pub IsTip : List Block → ℕ → ℕ → Option Hash → Type 0

@@ -1,7 +1,7 @@
 -- statement: the log as a client knew it that wasn't told yet of some failed sends.
 use Rattle.std.specs.Prelude.{◌≡◌, ◌⊎◌, ℕ, ◌==◌, Bool, true, false, not, ◌&&◌, ◌||◌, if◌then◌else◌, [], ◌∷◌, ◌++◌, Some}
 use Rattle.cf_msg.specs.declared.msg.Msg.{Msg}
-use Rattle.cf_wires.specs.declared.event.Event.TheVariants.{Dialled, NotDialled, Sent, SendFailed, Closed, Took}
+use Rattle.cf_wires.specs.declared.event.Event.TheVariants.{Sent, SendFailed, Closed, Took}
 use Rattle.cf_wires.specs.Log.{Log, tally_of}
 use Rattle.cf_peer.specs.Trail.{Trail, Part, Called, Said, Refused, Asked, Passed, Lost, part_of, trail, spelled, connected, failed}
 use Rattle.cf_peer.specs.Asking.{counted, fetched, given}
@@ -16,19 +16,13 @@ is_untold [] q = false
 is_untold (SendFailed p ∷ log) q = (p.0 == q) || is_untold log q
 is_untold (Closed p ∷ log) q = not (p.0 == q) && is_untold log q
 is_untold (Took d ∷ log) q = false
-is_untold (Dialled p name ∷ log) q = is_untold log q
-is_untold (NotDialled p name ∷ log) q = is_untold log q
-is_untold (Sent p bytes ∷ log) q = is_untold log q
+is_untold (_ ∷ log) q = is_untold log q
 
 -- the log just before the newest send to this peer that failed
 abbrev pub before_failure : Log → ℕ → Log
 before_failure [] q = []
 before_failure (SendFailed p ∷ log) q = if p.0 == q then log else before_failure log q
-before_failure (Closed p ∷ log) q = before_failure log q
-before_failure (Took d ∷ log) q = before_failure log q
-before_failure (Dialled p name ∷ log) q = before_failure log q
-before_failure (NotDialled p name ∷ log) q = before_failure log q
-before_failure (Sent p bytes ∷ log) q = before_failure log q
+before_failure (_ ∷ log) q = before_failure log q
 
 -- what a client may have put on top of a peer's trail while it didn't know of a failed send: messages to the peer, and its loss;
 -- nothing that the peer says, and no seconds that pass
@@ -37,9 +31,8 @@ IsMeant [] = Unit {0}
 IsMeant (Called ∷ t) = ⊥
 IsMeant (Said m ∷ t) = ⊥
 IsMeant (Refused c ∷ t) = ⊥
-IsMeant (Asked m ∷ t) = IsMeant t
 IsMeant (Passed s ∷ t) = ⊥
-IsMeant (Lost w ∷ t) = IsMeant t
+IsMeant (_ ∷ t) = IsMeant t
 
 -- two parts of a peer are equal; or in both it was cut off and a send to it has failed, and both hold the same blocks that it brought
 -- and the same filters that it gave
@@ -72,9 +65,5 @@ pub record IsPlanned (planned log : Log) : Type 0 where
 -- what was sent was wanted and called for by a client that knew of no failure that it wasn't told of yet
 abbrev pub ArePlanned : Rule → Log → Type 0
 ArePlanned rule [] = Unit {0}
-ArePlanned rule (Dialled p name ∷ log) = ArePlanned rule log
-ArePlanned rule (NotDialled p name ∷ log) = ArePlanned rule log
 ArePlanned rule (Sent p bytes ∷ log) = ((m : Msg) × (spelled bytes ≡ Some m) × ((planned : Log) × (IsPlanned planned log × (MaySendIn rule.mode planned p.0 m × IsCalledFor rule planned p.0 m)))) × ArePlanned rule log
-ArePlanned rule (SendFailed p ∷ log) = ArePlanned rule log
-ArePlanned rule (Closed p ∷ log) = ArePlanned rule log
-ArePlanned rule (Took d ∷ log) = ArePlanned rule log
+ArePlanned rule (_ ∷ log) = ArePlanned rule log

@@ -1,7 +1,7 @@
 -- statement: the texts that a client which follows puts, one at each quiet moment where it differs from the last.
 use Rattle.std.specs.Prelude.{◌≡◌, ℕ, bytes_eq, if◌then◌else◌, List, [], ◌∷◌}
 use Rattle.cf_bytes.specs.declared.hash.Hash32.{Hash32}
-use Rattle.cf_wires.specs.declared.event.Event.TheVariants.{Dialled, NotDialled, Sent, SendFailed, Closed, Took}
+use Rattle.cf_wires.specs.declared.event.Event.TheVariants.{Took}
 use Rattle.cf_peer.specs.declared.mode.Mode.TheVariants.{Following}
 use Rattle.cf_wires.specs.Log.{Log}
 use Rattle.cf_scan.specs.declared.history.Entry.{Entry}
@@ -33,11 +33,7 @@ abbrev pub WerePut : List (List ℕ) → Log → List (List ℕ) → Type 0
 WerePut watch [] texts = texts ≡ []
 WerePut watch (Took d ∷ log) texts =
     (before : List (List ℕ)) × (WerePut watch log before × PutsAt watch log before texts)
-WerePut watch (Dialled p name ∷ log) texts = WerePut watch log texts
-WerePut watch (NotDialled p name ∷ log) texts = WerePut watch log texts
-WerePut watch (Sent p bytes ∷ log) texts = WerePut watch log texts
-WerePut watch (SendFailed p ∷ log) texts = WerePut watch log texts
-WerePut watch (Closed p ∷ log) texts = WerePut watch log texts
+WerePut watch (_ ∷ log) texts = WerePut watch log texts
 
 -- and by now
 abbrev pub ArePut : List (List ℕ) → Log → List (List ℕ) → Type 0

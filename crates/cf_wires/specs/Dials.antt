@@ -2,7 +2,7 @@
 use Rattle.std.specs.Prelude.{◌≡◌, ℕ, ◌+◌, ◌<◌, ◌==◌, Bool, true, false, not, ◌&&◌, List, [], ◌∷◌, map, length, slice_index_or}
 use Rattle.std.specs.List.{list_any}
 use Rattle.cf_wires.specs.declared.event.Dial.{Dial}
-use Rattle.cf_wires.specs.declared.event.Event.TheVariants.{Dialled, NotDialled, Sent, SendFailed, Closed, Took}
+use Rattle.cf_wires.specs.declared.event.Event.TheVariants.{Dialled, NotDialled, Sent, SendFailed}
 use Rattle.cf_wires.specs.Log.{Log, tally_of}
 use Rattle.cf_wires.specs.Wires.{Made}
 
@@ -21,8 +21,7 @@ calls_in (Dialled p name ∷ log) = calls_in log + 1
 calls_in (NotDialled p name ∷ log) = calls_in log + 1
 calls_in (Sent p bytes ∷ log) = calls_in log + 1
 calls_in (SendFailed p ∷ log) = calls_in log + 1
-calls_in (Closed p ∷ log) = calls_in log
-calls_in (Took d ∷ log) = calls_in log
+calls_in (_ ∷ log) = calls_in log
 
 -- the call with this number, counted from 1, is one of those that are to fail
 abbrev pub is_to_fail : List ℕ → ℕ → Bool
@@ -43,5 +42,4 @@ goes_as_made made (Dialled p name ∷ log) = answers_after made log && goes_as_m
 goes_as_made made (NotDialled p name ∷ log) = not (answers_after made log) && goes_as_made made log
 goes_as_made made (Sent p bytes ∷ log) = not (fails_after made log) && goes_as_made made log
 goes_as_made made (SendFailed p ∷ log) = fails_after made log && goes_as_made made log
-goes_as_made made (Closed p ∷ log) = goes_as_made made log
-goes_as_made made (Took d ∷ log) = goes_as_made made log
+goes_as_made made (_ ∷ log) = goes_as_made made log

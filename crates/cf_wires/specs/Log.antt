@@ -93,21 +93,14 @@ with_delivery Ended ds = ds
 abbrev pub deliveries : Log → List Delivery
 deliveries [] = []
 deliveries (Took d ∷ log) = with_delivery d (deliveries log)
-deliveries (Dialled p name ∷ log) = deliveries log
-deliveries (NotDialled p name ∷ log) = deliveries log
-deliveries (Sent p bytes ∷ log) = deliveries log
-deliveries (SendFailed p ∷ log) = deliveries log
-deliveries (Closed p ∷ log) = deliveries log
+deliveries (_ ∷ log) = deliveries log
 
 -- the dials of a log in order
 abbrev pub dials : Log → List Dial
 dials [] = []
 dials (Dialled p name ∷ log) = dials log ++ record { name = name; answered = true } ∷ []
 dials (NotDialled p name ∷ log) = dials log ++ record { name = name; answered = false } ∷ []
-dials (Took d ∷ log) = dials log
-dials (Sent p bytes ∷ log) = dials log
-dials (SendFailed p ∷ log) = dials log
-dials (Closed p ∷ log) = dials log
+dials (_ ∷ log) = dials log
 
 -- a delivery that is not the end
 abbrev pub is_real : Delivery → Bool
