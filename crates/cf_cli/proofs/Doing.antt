@@ -87,7 +87,7 @@ undone (Sync turns workers file watch peers) moment nonce a wires tape log = rec
   records = refl;
 }
 undone (Follow turns workers file watch peers) moment nonce a wires tape log = record {
-  kept = early_told_on a.wires NoMemory (is_some file) a.files watch peers a.written tt wires;
+  kept = early_told_on a.wires NoMemory (is_some file) a.files watch peers a.written a.faults tt wires;
   tallied = early_tallied_on NoMemory turns (length peers) a.wires tt wires;
   dialled = new_dialled peers a.wires wires;
   records = refl;

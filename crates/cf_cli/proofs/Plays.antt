@@ -168,7 +168,7 @@ pub early_over : (status : Status) (recorded trace : Bool) (files : Option Named
 early_over status recorded trace files watch names b log is none = record {
   scripts = [];
   watched = λ made. absurd (false≢true (sym (no_run status is) ∙ made));
-  unrecorded = λ fault. inl none;
+  unwatched = inl none;
   kept = early_kept status recorded trace [] names b log (no_run status is) none;
 }
 
@@ -193,7 +193,7 @@ watch_there (Some m) watch scripts good read = held_there (finite.get m watch) g
 pub over_watch : (status : Status) (recorded trace : Bool) (files : Option Named) (watch : List ℕ) (scripts names : List (List ℕ)) (before after : Option (List ℕ)) (log : Log)
     → IsWatchFile files watch scripts → Kept status recorded trace scripts names before after log
     → KeptOver status recorded trace files watch names before after log
-over_watch status recorded trace files watch scripts names before after log read kept = record { scripts = scripts; watched = λ made. read; unrecorded = λ fault. inr read; kept = kept }
+over_watch status recorded trace files watch scripts names before after log read kept = record { scripts = scripts; watched = λ made. read; unwatched = inr read; kept = kept }
 
 pub told_over_watch : (o : Option Log) (status : Status) (recorded trace : Bool) (files : Option Named) (watch : List ℕ) (scripts names : List (List ℕ)) (before after : Option (List ℕ))
     → IsWatchFile files watch scripts → IfSome o (λ log. Kept status recorded trace scripts names before after log)

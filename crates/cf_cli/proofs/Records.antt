@@ -11,7 +11,7 @@ use Rattle.cf_answers.specs.declared.status.Status.{Status}
 use Rattle.cf_answers.specs.declared.status.Status.TheVariants.{Done, NoMemory, Usage, BadFile, FileFault, OutFault, NoPeers, Tired, Ended, LinkFault, NoNonce, NoHeight, NotThere, NotAddress}
 use Rattle.cf_loading.specs.Verdicts.{IsJudged, IsOfFile, Verdict, Good, watch_verdict}
 use Rattle.cf_answers.specs.Statuses.{was_refused, was_unbegun}
-use Rattle.cf_cli.specs.Recording.{HasRecord, KeepsOthers, Records, may_write}
+use Rattle.cf_cli.specs.Recording.{HasRecord, KeepsOthers, Records, is_recorded, may_write}
 use Rattle.cf_cli.specs.Theorem.{AnswersTo, IsOfRun}
 use Rattle.cf_run.specs.declared.outcome.End.{End}
 use Rattle.cf_run.specs.declared.outcome.End.TheVariants.{Synced as IsSynced, NoPeers as HasNoPeers, Tired as IsTired, Ended as HasEnded}
@@ -108,6 +108,22 @@ follow_writes c turns workers file watch peers status log before after is h =
 -- the files that a command doesn't change, told of its words
 pub unused_files : (found : Option Command) (c : Command) (before after : Option Named) → found ≡ Some c → (may_write (Some c) ≡ false → after ≡ before) → may_write found ≡ false → after ≡ before
 unused_files found c before after e unused = subst (λ (o : Option Command). may_write o ≡ false → after ≡ before) (sym e) unused
+
+-- wires keep a log no more than before where no record is asked for
+pub sync_keeps : (c : Command) (turns workers : ℕ) (file : Option (List ℕ)) (watch : List ℕ) (peers : List (List ℕ)) (before after : Bool)
+    → c ≡ Sync turns workers file watch peers → (is_some file ≡ false → after ≡ before) → is_recorded (Some c) ≡ false → after ≡ before
+sync_keeps c turns workers file watch peers before after is h =
+    subst (λ (x : Command). is_recorded (Some x) ≡ false → after ≡ before) (sym is) h
+
+pub follow_keeps : (c : Command) (turns workers : ℕ) (file : Option (List ℕ)) (watch : List ℕ) (peers : List (List ℕ)) (before after : Bool)
+    → c ≡ Follow turns workers file watch peers → (is_some file ≡ false → after ≡ before) → is_recorded (Some c) ≡ false → after ≡ before
+follow_keeps c turns workers file watch peers before after is h =
+    subst (λ (x : Command). is_recorded (Some x) ≡ false → after ≡ before) (sym is) h
+
+-- the same, told of its words
+pub unkept_log : (found : Option Command) (c : Command) (before after : Bool) → found ≡ Some c → (is_recorded (Some c) ≡ false → after ≡ before)
+    → is_recorded found ≡ false → after ≡ before
+unkept_log found c before after e unkept = subst (λ (o : Option Command). is_recorded o ≡ false → after ≡ before) (sym e) unkept
 
 -- a run that was begun is an answer to a good file
 good_judged : (status : Status) (recorded : Bool) → was_unbegun status recorded ≡ false → IsJudged Good status

@@ -5,7 +5,7 @@ use Rattle.std.proofs.lemmas.Bool.{both_ways, false≢true}
 use Rattle.std.proofs.lemmas.List.{append-nil}
 use Rattle.std.proofs.Math.Seq.{take-length, take-append-add}
 use Rattle.cf_bytes.specs.Files.{Named}
-use Rattle.cf_bytes.specs.Outside.{with_more}
+use Rattle.cf_bytes.specs.Outside.{HasRisen, with_more}
 use Rattle.cf_bytes.specs.declared.hash.Hash32.{Hash32}
 use Rattle.cf_block.specs.declared.tx.Block.{Block}
 use Rattle.cf_chain.specs.Grow.{top_hash}
@@ -244,17 +244,17 @@ stayed_kept status recorded trace scripts names before after log s theorem = rec
   ran = λ over. s;
   begun = λ off. absurd (both_ways (is_over status) off (over_by s.end s.ends status s.answered));
   right = λ ne. (s.followed.asked.bytes, s.followed.asked.rightly);
-  unrecorded = λ is. absurd (false≢true (sym (ap is_over is) ∙ over_by s.end s.ends status s.answered));
 }
 
 -- nothing of it was given up
-pub over_given : (o : Option Log) (status : Status) (scripts : List (List ℕ)) (before after : Option (List ℕ)) → is_over status ≡ true
-    → IfSome o (λ log. GivenUp status scripts before after log)
-over_given None status scripts before after over = tt
-over_given (Some log) status scripts before after over = record {
+pub over_given : (o : Option Log) (status : Status) (scripts names : List (List ℕ)) (before after : Option (List ℕ)) (old new : ℕ) → is_over status ≡ true
+    → IfSome o (λ log. GivenUp status scripts names before after old new log)
+over_given None status scripts names before after old new over = tt
+over_given (Some log) status scripts names before after old new over = record {
   some = λ off. absurd (both_ways (is_over status) off over);
   tried = λ off enough. absurd (both_ways (is_over status) off over);
   refused = λ is. absurd (false≢true (sym (ap is_over is) ∙ over));
+  unrecorded = λ is. absurd (false≢true (sym (ap is_over is) ∙ over));
 }
 
 -- all its texts were written, by what takes them
@@ -293,7 +293,6 @@ unwritten_kept recorded trace scripts end height tip entries lines names texts b
   ran = λ over. absurd (false≢true over);
   begun = λ off. record { lines = lines; traced = inr (inr followed.traced); texts = texts; puts = inr puts; begun = begun };
   right = λ ne. (followed.asked.bytes, followed.asked.rightly);
-  unrecorded = λ is. cc;
 }
 
 pub unwritten_told : (o : Option Log) (scripts : List (List ℕ)) (end : End) (height : ℕ) (tip : Hash32) (entries : List Entry) (lines : List TraceLine) (names : List (List ℕ))
@@ -339,13 +338,17 @@ failed_told (Some log) scripts names recorded before after put right = record {
   ran = λ over. absurd (false≢true over);
   begun = λ off. some_begun scripts before after log put;
   right = λ ne. right;
-  unrecorded = λ is. cc;
 }
 
-pub failed_given : (o : Option Log) (scripts : List (List ℕ)) (before after : Option (List ℕ)) → IfSome o (λ log. HasPutBut scripts log before after)
-    → IfSome o (λ log. GivenUp OutFault scripts before after log)
-failed_given None scripts before after but = tt
-failed_given (Some log) scripts before after but = record { some = λ off. inr but; tried = λ off enough. inr but; refused = λ is. but }
+pub failed_given : (o : Option Log) (scripts names : List (List ℕ)) (before after : Option (List ℕ)) (old new : ℕ)
+    → IfSome o (λ log. HasPutBut scripts log before after) → HasRisen old new → IfSome o (λ log. GivenUp OutFault scripts names before after old new log)
+failed_given None scripts names before after old new but risen = tt
+failed_given (Some log) scripts names before after old new but risen = record {
+  some = λ off. inr but;
+  tried = λ off enough. inr (but, risen);
+  refused = λ is. (but, risen);
+  unrecorded = λ is. cc;
+}
 
 -- memory was wanting
 spent_kept : (recorded trace : Bool) (scripts names : List (List ℕ)) (before after : Option (List ℕ)) (log : Log) → BegunTexts trace scripts before after log
@@ -357,7 +360,6 @@ spent_kept recorded trace scripts names before after log begun = record {
   ran = λ over. absurd (false≢true over);
   begun = λ off. begun;
   right = λ ne. absurd (ne refl);
-  unrecorded = λ is. cc;
 }
 
 -- with what was put until then
@@ -367,10 +369,15 @@ spent_told None scripts names recorded before after put = tt
 spent_told (Some log) scripts names recorded before after put =
     spent_kept recorded false scripts names before after log (some_begun scripts before after log put)
 
-pub spent_given : (o : Option Log) (scripts : List (List ℕ)) (before after : Option (List ℕ)) → IfSome o (λ log. HasPutSome scripts log before after)
-    → IfSome o (λ log. GivenUp NoMemory scripts before after log)
-spent_given None scripts before after put = tt
-spent_given (Some log) scripts before after put = record { some = λ off. put; tried = λ off enough. absurd (enough refl); refused = λ is. cc }
+pub spent_given : (o : Option Log) (scripts names : List (List ℕ)) (before after : Option (List ℕ)) (old new : ℕ)
+    → IfSome o (λ log. HasPutSome scripts log before after) → IfSome o (λ log. GivenUp NoMemory scripts names before after old new log)
+spent_given None scripts names before after old new put = tt
+spent_given (Some log) scripts names before after old new put = record {
+  some = λ off. put;
+  tried = λ off enough. absurd (enough refl);
+  refused = λ is. cc;
+  unrecorded = λ is. cc;
+}
 
 -- before anything was written
 pub silent_told : (o : Option Log) (scripts names : List (List ℕ)) (recorded trace : Bool) (first told before : Option (List ℕ))
@@ -405,11 +412,11 @@ kept_begun status recorded trace scripts names before after log kept = by (is_ov
   by false off = kept.begun off
 
 -- and what was put of them, whatever becomes of the record
-pub kept_some : (o : Option Log) (status : Status) (recorded : Bool) (scripts names : List (List ℕ)) (before after : Option (List ℕ))
-    → ((b : Bool) → IfSome o (λ log. KeptOn status b false scripts names before after log)) → IfSome o (λ log. GivenUp status scripts before after log)
-    → IfSome o (λ log. HasPutSome scripts log before after)
-kept_some None status recorded scripts names before after kept given = tt
-kept_some (Some log) status recorded scripts names before after kept given = by (is_over status) refl where
+pub kept_some : (o : Option Log) (status : Status) (recorded : Bool) (scripts names : List (List ℕ)) (before after : Option (List ℕ)) (old new : ℕ)
+    → ((b : Bool) → IfSome o (λ log. KeptOn status b false scripts names before after log))
+    → IfSome o (λ log. GivenUp status scripts names before after old new log) → IfSome o (λ log. HasPutSome scripts log before after)
+kept_some None status recorded scripts names before after old new kept given = tt
+kept_some (Some log) status recorded scripts names before after old new kept given = by (is_over status) refl where
   by : (b : Bool) → is_over status ≡ b → HasPutSome scripts log before after
   by true over =
       let s = (kept recorded).ran over in
@@ -433,47 +440,58 @@ refused_by (NoHeight tip) is begun off enough = absurd is
 refused_by (NotThere txid) is begun off enough = absurd is
 refused_by (NotAddress cause) is begun off enough = absurd is
 
-stayed_or_refused : (status : Status) (recorded : Bool) (scripts names : List (List ℕ)) (before after : Option (List ℕ)) (log : Log)
+stayed_or_refused : (status : Status) (recorded : Bool) (scripts names : List (List ℕ)) (before after : Option (List ℕ)) (old new : ℕ) (log : Log)
     → IsOfRun status → was_refused status ≡ false → status ≢ NoMemory → KeptOn status recorded false scripts names before after log
-    → GivenUp status scripts before after log
-    → ((ended : Status) × Stayed ended false scripts names before after log) ⊎ HasPutBut scripts log before after
-stayed_or_refused status recorded scripts names before after log is begun enough kept given = by (is_over status) refl where
-  by : (b : Bool) → is_over status ≡ b → ((ended : Status) × Stayed ended false scripts names before after log) ⊎ HasPutBut scripts log before after
+    → GivenUp status scripts names before after old new log
+    → ((ended : Status) × Stayed ended false scripts names before after log) ⊎ (HasPutBut scripts log before after × HasRisen old new)
+stayed_or_refused status recorded scripts names before after old new log is begun enough kept given = by (is_over status) refl where
+  by : (b : Bool) → is_over status ≡ b
+      → ((ended : Status) × Stayed ended false scripts names before after log) ⊎ (HasPutBut scripts log before after × HasRisen old new)
   by true over = inl (status, kept.ran over)
   by false off = inr (given.refused (refused_by status is begun off enough))
 
 -- what was put of them then
-given_by : (scripts names : List (List ℕ)) (before after : Option (List ℕ)) (log : Log)
-    → ((ended : Status) × Stayed ended false scripts names before after log) ⊎ HasPutBut scripts log before after
-    → GivenUp FileFault scripts before after log
-given_by scripts names before after log (inl stayed) =
+given_by : (scripts names : List (List ℕ)) (before after : Option (List ℕ)) (old new : ℕ) (log : Log)
+    → ((ended : Status) × Stayed ended false scripts names before after log) ⊎ (HasPutBut scripts log before after × HasRisen old new)
+    → GivenUp FileFault scripts names before after old new log
+given_by scripts names before after old new log (inl stayed) =
     let s = stayed.1 in
     let put : HasPut scripts log before after = record { texts = s.texts; puts = s.puts; taken = s.written } in
-    record { some = λ off. some_put scripts log before after put; tried = λ off enough. inl put; refused = λ is. cc }
-given_by scripts names before after log (inr but) = record { some = λ off. inr but; tried = λ off enough. inr but; refused = λ is. cc }
+    record {
+      some = λ off. some_put scripts log before after put;
+      tried = λ off enough. inl put;
+      refused = λ is. cc;
+      unrecorded = λ is. inr (inl stayed);
+    }
+given_by scripts names before after old new log (inr but) = record {
+  some = λ off. inr but.0;
+  tried = λ off enough. inr but;
+  refused = λ is. cc;
+  unrecorded = λ is. inr (inr but);
+}
 
-pub unrecorded_given : (o : Option Log) (status : Status) (recorded : Bool) (scripts names : List (List ℕ)) (before after : Option (List ℕ))
+pub unrecorded_given : (o : Option Log) (status : Status) (recorded : Bool) (scripts names : List (List ℕ)) (before after : Option (List ℕ)) (old new : ℕ)
     → IsOfRun status → was_refused status ≡ false → status ≢ NoMemory
-    → ((b : Bool) → IfSome o (λ log. KeptOn status b false scripts names before after log)) → IfSome o (λ log. GivenUp status scripts before after log)
-    → IfSome o (λ log. GivenUp FileFault scripts before after log)
-unrecorded_given None status recorded scripts names before after is begun enough kept given = tt
-unrecorded_given (Some log) status recorded scripts names before after is begun enough kept given =
-    given_by scripts names before after log (stayed_or_refused status recorded scripts names before after log is begun enough (kept recorded) given)
+    → ((b : Bool) → IfSome o (λ log. KeptOn status b false scripts names before after log))
+    → IfSome o (λ log. GivenUp status scripts names before after old new log)
+    → IfSome o (λ log. GivenUp FileFault scripts names before after old new log)
+unrecorded_given None status recorded scripts names before after old new is begun enough kept given = tt
+unrecorded_given (Some log) status recorded scripts names before after old new is begun enough kept given =
+    given_by scripts names before after old new log
+    (stayed_or_refused status recorded scripts names before after old new log is begun enough (kept recorded) given)
 
 -- the record could not be written
 pub unrecorded_on : (o : Option Log) (status : Status) (recorded : Bool) (scripts names : List (List ℕ)) (before after : Option (List ℕ))
-    → IsOfRun status → was_refused status ≡ false → status ≢ NoMemory → recorded ≡ true
-    → ((b : Bool) → IfSome o (λ log. KeptOn status b false scripts names before after log)) → IfSome o (λ log. GivenUp status scripts before after log)
+    → status ≢ NoMemory → recorded ≡ true → ((b : Bool) → IfSome o (λ log. KeptOn status b false scripts names before after log))
     → IfSome o (λ log. KeptOn FileFault recorded false scripts names before after log)
-unrecorded_on None status recorded scripts names before after is begun enough on kept given = tt
-unrecorded_on (Some log) status recorded scripts names before after is begun enough on kept given = record {
+unrecorded_on None status recorded scripts names before after enough on kept = tt
+unrecorded_on (Some log) status recorded scripts names before after enough on kept = record {
   last = λ p blocks first top grows told none quiet over. absurd (false≢true over);
   complete = λ p blocks first grows. on;
   never = λ p blocks first grows ne. (kept recorded).never p blocks first grows enough;
   ran = λ over. absurd (false≢true over);
   begun = λ off. kept_begun status recorded false scripts names before after log (kept recorded);
   right = λ ne. (kept recorded).right enough;
-  unrecorded = λ fault. inr (stayed_or_refused status recorded scripts names before after log is begun enough (kept recorded) given);
 }
 
 -- or no memory was found for it
@@ -494,7 +512,6 @@ early_kept_on status recorded trace scripts names b log off none = subst (λ (l 
   ran = λ over. absurd (both_ways (is_over status) (not_over status off) over);
   begun = λ is. record { lines = []; traced = inr (inl refl); texts = []; puts = inl refl; begun = nothing_begun (with_trace trace [] []) b };
   right = λ ne. (tt, tt);
-  unrecorded = λ fault. inl refl;
 })
 
 pub early_over_on : (status : Status) (recorded trace : Bool) (files : Option Named) (watch : List ℕ) (names : List (List ℕ)) (b : Option (List ℕ)) (log : Log) → IsOfFile status → log ≡ []
@@ -507,35 +524,43 @@ early_over_on status recorded trace files watch names b log is none = record {
 }
 
 -- nor is anything given up
-early_given : (status : Status) (scripts : List (List ℕ)) (b : Option (List ℕ)) (log : Log) → IsOfFile status → log ≡ [] → GivenUp status scripts b b log
-early_given status scripts b log file none = record {
+early_given : (status : Status) (scripts names : List (List ℕ)) (b : Option (List ℕ)) (n : ℕ) (log : Log) → IsOfFile status → log ≡ []
+    → GivenUp status scripts names b b n n log
+early_given status scripts names b n log file none = record {
   some = λ off. new_put scripts log b none;
   tried = λ off enough. inl (new_all scripts log b none);
   refused = λ is. absurd (not_run status OutFault (no_run status file) refl is);
+  unrecorded = λ is. inl none;
 }
 
 -- the same of what `follow` puts, for wires that are new, which may tell no log
-pub early_told_on : (t : Told) (status : Status) (recorded : Bool) (files : Option Named) (watch : List ℕ) (names : List (List ℕ)) (b : Option (List ℕ)) → IsOfFile status → Tells [] t
-    → IfSome t.log (λ log. KeptLive status recorded files watch names b b log)
-early_told_on t status recorded files watch names b is fresh = told_over t.log fresh.content where
-  told_over : (o : Option Log) → IfSome o (λ l. l ≡ []) → IfSome o (λ log. KeptLive status recorded files watch names b b log)
+pub early_told_on : (t : Told) (status : Status) (recorded : Bool) (files : Option Named) (watch : List ℕ) (names : List (List ℕ)) (b : Option (List ℕ)) (n : ℕ)
+    → IsOfFile status → Tells [] t → IfSome t.log (λ log. KeptLive status recorded files watch names b b n n log)
+early_told_on t status recorded files watch names b n is fresh = told_over t.log fresh.content where
+  told_over : (o : Option Log) → IfSome o (λ l. l ≡ []) → IfSome o (λ log. KeptLive status recorded files watch names b b n n log)
   told_over None none = tt
-  told_over (Some log) none = record { over = early_over_on status recorded false files watch names b log is none; given_up = early_given status _ b log is none }
+  told_over (Some log) none = record {
+    over = early_over_on status recorded false files watch names b log is none;
+    given_up = early_given status _ names b n log is none;
+  }
 
 -- with the scripts of the watch file
 pub tape_watch_on : (status : Status) (trace : Bool) (files : Option Named) (watch : List ℕ) (scripts names : List (List ℕ)) (before after : Option (List ℕ)) (log : Log)
-    → IsWatchFile files watch scripts → KeptOn status false trace scripts names before after log → (status ≡ OutFault → CutShort trace scripts names before after log)
-    → KeptOnTape status trace files watch names before after log
-tape_watch_on status trace files watch scripts names before after log read kept refused = record {
+    → IsWatchFile files watch scripts → was_refused status ≡ false → KeptOn status false trace scripts names before after log
+    → (status ≡ OutFault → CutShort trace scripts names before after log) → KeptOnTape status trace files watch names before after log
+tape_watch_on status trace files watch scripts names before after log read begun kept refused = record {
   over = record { scripts = scripts; watched = λ made. read; unwatched = inr read; kept = kept };
   refused = refused;
+  unrecorded = λ is. absurd (false≢true (sym begun ∙ ap was_refused is));
 }
 
-pub told_over_watch_on : (o : Option Log) (status : Status) (recorded : Bool) (files : Option Named) (watch : List ℕ) (scripts names : List (List ℕ)) (before after : Option (List ℕ))
-    → IsWatchFile files watch scripts → IfSome o (λ log. KeptOn status recorded false scripts names before after log)
-    → IfSome o (λ log. GivenUp status scripts before after log) → IfSome o (λ log. KeptLive status recorded files watch names before after log)
-told_over_watch_on None status recorded files watch scripts names before after read kept given = tt
-told_over_watch_on (Some log) status recorded files watch scripts names before after read kept given = record {
+pub told_over_watch_on : (o : Option Log) (status : Status) (recorded : Bool) (files : Option Named) (watch : List ℕ) (scripts names : List (List ℕ))
+    (before after : Option (List ℕ)) (old new : ℕ) → IsWatchFile files watch scripts
+    → IfSome o (λ log. KeptOn status recorded false scripts names before after log)
+    → IfSome o (λ log. GivenUp status scripts names before after old new log)
+    → IfSome o (λ log. KeptLive status recorded files watch names before after old new log)
+told_over_watch_on None status recorded files watch scripts names before after old new read kept given = tt
+told_over_watch_on (Some log) status recorded files watch scripts names before after old new read kept given = record {
   over = record { scripts = scripts; watched = λ made. read; unwatched = inr read; kept = kept };
   given_up = given;
 }
@@ -601,6 +626,7 @@ early_on_tape : (status : Status) (trace : Bool) (files : Option Named) (watch :
 early_on_tape status trace files watch names b log file none = record {
   over = early_over_on status false trace files watch names b log file none;
   refused = λ is. absurd (not_run status OutFault (no_run status file) refl is);
+  unrecorded = λ is. none;
 }
 
 -- what is promised of `replay --follow` where the tape wasn't used

@@ -23,11 +23,12 @@ use Rattle.cf_cli.specs.Serving.{IsServing}
 use Rattle.cf_cli.specs.Following.{IsReplayedIn, KeptLive, TalliedOn}
 use Rattle.cf_cli.specs.Theorem.{KeptOver, Tallied, PlaysSession}
 
--- all that a run is handed: what stands in the files, what the sink was given, what the wires and the tape tell, the log of the tape, what the link
--- tells, and the log of the played peers
+-- all that a run is handed: what stands in the files, what the sink was given, how often it has failed, what the wires and the tape tell, the log of the
+-- tape, what the link tells, and the log of the played peers
 pub record Around : Type 0 where
   pub files : Option Named
   pub written : Option (List ℕ)
+  pub faults : ℕ
   pub wires : Told
   pub tape : Told
   pub taped : Log
@@ -35,10 +36,11 @@ pub record Around : Type 0 where
   pub played : Log
 
 -- the same, told by what is handed in
-abbrev pub around : Option Named → Option (List ℕ) → Told → MemoryWires → Played → LinkTold → Around
-around files written wires tape players link = record {
+abbrev pub around : Option Named → Option (List ℕ) → ℕ → Told → MemoryWires → Played → LinkTold → Around
+around files written faults wires tape players link = record {
   files = files;
   written = written;
+  faults = faults;
   wires = wires;
   tape = told_of tape;
   taped = log_of tape;
@@ -62,7 +64,8 @@ pub record IsReplaying (follow : Bool) (status : Status) (trace : Bool) (watch s
 -- all that is promised of `follow`: the follow theorem over the log of the wires, where they tell it; what holds over any wires; that the names which
 -- were dialled are the first of those given; and the files
 pub record IsFollowing (status : Status) (turns : ℕ) (file : Option (List ℕ)) (watch : List ℕ) (peers : List (List ℕ)) (before after : Around) : Type 0 where
-  pub kept : IfSome after.wires.log (λ log. KeptLive status (is_some file) before.files watch peers before.written after.written log)
+  pub kept : IfSome after.wires.log
+      (λ log. KeptLive status (is_some file) before.files watch peers before.written after.written before.faults after.faults log)
   pub tallied : TalliedOn status turns (length peers) before.wires after.wires
   pub dialled : HasDialled peers after.wires
   pub records : Records status file after.wires.log before.files after.files

@@ -1,7 +1,7 @@
 -- statement: what is promised of `follow`, and of `replay --follow`.
 use Rattle.std.specs.Prelude.{◌≡◌, ◌≢◌, ◌⊎◌, ℕ, Bool, true, false, List, [], ◌++◌, length, reverse, take, Option}
 use Rattle.cf_bytes.specs.Files.{Named}
-use Rattle.cf_bytes.specs.Outside.{with_more}
+use Rattle.cf_bytes.specs.Outside.{HasRisen, with_more}
 use Rattle.cf_bytes.specs.declared.hash.Hash32.{Hash32}
 use Rattle.cf_block.specs.declared.tx.Block.{Block}
 use Rattle.cf_chain.specs.Grow.{top_hash}
@@ -69,12 +69,17 @@ pub record BegunTexts (trace : Bool) (scripts : List (List ℕ)) (before after :
   pub puts : WerePut scripts log texts ⊎ ArePut scripts log texts
   pub begun : HasBegun (with_trace trace lines (joined texts)) before after
 
--- What was put of a run that was given up, by its answer. All that was due before the last delivery was put whole, and at most a beginning of what is due
--- now. Unless memory was wanting, all was put whole, the text of the last moment too, or that text could not be put; and with OutFault it could not.
-pub record GivenUp (status : Status) (scripts : List (List ℕ)) (before after : Option (List ℕ)) (log : Log) : Type 0 where
+-- What was put of a run that was given up, by its answer, and by how often the sink had failed before it, and has then. All that was due before the last
+-- delivery was put whole, and at most a beginning of what is due now. Unless memory was wanting, all was put whole, the text of the last moment too, or the
+-- sink has failed over that text; and with OutFault it has. Where a file has failed, either nothing has passed, or a run came to its end, by the log, with
+-- all its texts written, or the sink has failed over one of them.
+pub record GivenUp (status : Status) (scripts names : List (List ℕ)) (before after : Option (List ℕ)) (old new : ℕ) (log : Log) : Type 0 where
   pub some : is_over status ≡ false → HasPutSome scripts log before after
-  pub tried : is_over status ≡ false → status ≢ NoMemory → HasPut scripts log before after ⊎ HasPutBut scripts log before after
-  pub refused : status ≡ OutFault → HasPutBut scripts log before after
+  pub tried : is_over status ≡ false → status ≢ NoMemory
+      → HasPut scripts log before after ⊎ (HasPutBut scripts log before after × HasRisen old new)
+  pub refused : status ≡ OutFault → HasPutBut scripts log before after × HasRisen old new
+  pub unrecorded : status ≡ FileFault → (log ≡ [])
+      ⊎ (((ended : Status) × Stayed ended false scripts names before after log) ⊎ (HasPutBut scripts log before after × HasRisen old new))
 
 -- a peer whose chain grows up to these blocks, over a log whose strings, with those of the blocks and of their filters, don't clash
 pub record Grows (log : Log) (p : ℕ) (blocks : List Block) (first : ℕ) : Type 0 where
@@ -92,8 +97,7 @@ pub record EndsBy (trace : Bool) (scripts : List (List ℕ)) (text : List ℕ) (
 -- The follow theorem for the program. Whatever peers send: where the chain of one of them grows as it answers, no other connected peer has shown another
 -- chain as long as the one that it told of last, and nothing is open when the run is over, then what was written last is exactly the history that a plain
 -- scan of every block of that chain gives for the watched scripts, with its tip; no answer comes but for the end of the deliveries, a sink that fails, want of
--- memory, or a record that can't be written; and that peer is never closed, of which only the answer NoMemory says nothing. Where a file has failed, either
--- nothing has passed, or a run came to its end, by the log, with all its texts written, or a text could not be put.
+-- memory, or a record that can't be written; and that peer is never closed, of which only the answer NoMemory says nothing.
 pub record KeptOn (status : Status) (recorded trace : Bool) (scripts names : List (List ℕ)) (before after : Option (List ℕ)) (log : Log) : Type 0 where
   pub last : (p : ℕ) (blocks : List Block) (first top : ℕ) → Grows log p blocks first → IsTold blocks first (trail log p) top
       → OthersShowNone log p (take top blocks) → IsQuiet log → is_over status ≡ true
@@ -103,8 +107,6 @@ pub record KeptOn (status : Status) (recorded trace : Bool) (scripts names : Lis
   pub ran : is_over status ≡ true → Stayed status trace scripts names before after log
   pub begun : is_over status ≡ false → BegunTexts trace scripts before after log
   pub right : status ≢ NoMemory → AreBytes log × RightlyIn Following log
-  pub unrecorded : status ≡ FileFault → (log ≡ [])
-      ⊎ (((ended : Status) × Stayed ended trace scripts names before after log) ⊎ HasPutBut scripts log before after)
 
 -- the same with the scripts of the watch file, which was there, and was read before anything passed
 pub record KeptOnOver (status : Status) (recorded trace : Bool) (files : Option Named) (watch : List ℕ) (names : List (List ℕ)) (before after : Option (List ℕ)) (log : Log) : Type 0 where
@@ -114,15 +116,18 @@ pub record KeptOnOver (status : Status) (recorded trace : Bool) (files : Option 
   pub kept : KeptOn status recorded trace scripts names before after log
 
 -- the same of `follow`, which puts each text at once, and no trace, with what was put where the run was given up
-pub record KeptLive (status : Status) (recorded : Bool) (files : Option Named) (watch : List ℕ) (names : List (List ℕ)) (before after : Option (List ℕ)) (log : Log) : Type 0 where
+pub record KeptLive (status : Status) (recorded : Bool) (files : Option Named) (watch : List ℕ) (names : List (List ℕ))
+    (before after : Option (List ℕ)) (old new : ℕ) (log : Log) : Type 0 where
   pub over : KeptOnOver status recorded false files watch names before after log
-  pub given_up : GivenUp status over.scripts before after log
+  pub given_up : GivenUp status over.scripts names before after old new log
 
--- the same of `replay --follow`, which writes its texts once the run is over: where the sink fails, the run came to its end
+-- the same of `replay --follow`, which writes its texts once the run is over: where the sink fails, the run came to its end, and where a file fails none was
+-- begun
 pub record KeptOnTape (status : Status) (trace : Bool) (files : Option Named) (watch : List ℕ) (names : List (List ℕ))
     (before after : Option (List ℕ)) (log : Log) : Type 0 where
   pub over : KeptOnOver status false trace files watch names before after log
   pub refused : status ≡ OutFault → CutShort trace over.scripts names before after log
+  pub unrecorded : status ≡ FileFault → log ≡ []
 
 -- what is promised over any wires: the same as of `sync`, and Done only where the turns are taken, or the wires have no more to give
 pub record TalliedOn (status : Status) (turns names : ℕ) (was now : Told) : Type 0 where

@@ -8,6 +8,7 @@ use Rattle.cf_bytes.specs.declared.outside.Failed.{Failed}
 use Rattle.cf_wires.specs.Log.{Log}
 use Rattle.cf_wires.specs.Session.{session_text}
 use Rattle.cf_input.specs.declared.words.Command.{Command}
+use Rattle.cf_input.specs.declared.words.Command.TheVariants.{Sync, Follow}
 use Rattle.cf_cli.specs.Asking.{name_written}
 use Rattle.cf_answers.specs.declared.status.Status.{Status}
 use Rattle.cf_answers.specs.declared.status.Status.TheVariants.{Done, FileFault, OutFault, NoPeers, Tired, Ended}
@@ -55,3 +56,9 @@ BlamesFiles answer before after = after ≡ before
 abbrev pub may_write : Option Command → Bool
 may_write (Some command) = is_some (name_written command)
 may_write None = false
+
+-- whether a command asks for a record: `sync` and `follow` may
+abbrev pub is_recorded : Option Command → Bool
+is_recorded (Some (Sync turns workers file watch peers)) = is_some file
+is_recorded (Some (Follow turns workers file watch peers)) = is_some file
+is_recorded command = false

@@ -103,11 +103,11 @@ pub record Kept (status : Status) (recorded trace : Bool) (scripts names : List 
   pub ran : has_run status ≡ true → Ran status trace scripts names before after log
   pub unrecorded : status ≡ FileFault → (log ≡ []) ⊎ WasFollowed scripts names log
 
--- the same with the scripts of the watch file: it was there, wherever a run was made or anything has passed before a file failed
+-- the same with the scripts of the watch file, which was there, and was read before anything passed
 pub record KeptOver (status : Status) (recorded trace : Bool) (files : Option Named) (watch : List ℕ) (names : List (List ℕ)) (before after : Option (List ℕ)) (log : Log) : Type 0 where
   pub scripts : List (List ℕ)
   pub watched : has_run status ≡ true → IsWatchFile files watch scripts
-  pub unrecorded : status ≡ FileFault → (log ≡ []) ⊎ IsWatchFile files watch scripts
+  pub unwatched : (log ≡ []) ⊎ IsWatchFile files watch scripts
   pub kept : Kept status recorded trace scripts names before after log
 
 -- an answer that comes only where a peer is connected

@@ -44,8 +44,8 @@ fn follow_live<W: Wires, H: HeaderStore + Drop, M: Matcher + Drop, O: Sink>(
     requires empty { (q : ℕ) → H.chain store q ≡ None }
     ensures kept { (recorded : Bool) → IfSome (W.told wires.new).log
         (λ log. KeptOn result recorded false watch (names_in names.now) (O.written out.old) (O.written out.new) log) }
-    ensures given_up { IfSome (W.told wires.new).log
-        (λ log. GivenUp result watch (O.written out.old) (O.written out.new) log) }
+    ensures given_up { IfSome (W.told wires.new).log (λ log. GivenUp result watch (names_in names.now)
+        (O.written out.old) (O.written out.new) (O.faults out.old) (O.faults out.new) log) }
     ensures tallied { TalliedOn result turns (length (names_in names.now)) (W.told wires.old) (W.told wires.new) }
     ensures versions { HasWords (record { moment = moment; number = nonce }) (W.told wires.new) }
     ensures dialled { HasDialled (names_in names.now) (W.told wires.new) }
@@ -98,13 +98,14 @@ pub(crate) fn follow_and_record<F: Files, W: Wires, M: Matcher + Drop, O: Sink>(
     requires few { length names.now ≤ 8 }
     ensures kept { IfSome (W.told wires.new).log (λ log. KeptOn result (is_some log_file.now) false watch
         (names_in names.now) (O.written out.old) (O.written out.new) log) }
-    ensures given_up { IfSome (W.told wires.new).log
-        (λ log. GivenUp result watch (O.written out.old) (O.written out.new) log) }
+    ensures given_up { IfSome (W.told wires.new).log (λ log. GivenUp result watch (names_in names.now)
+        (O.written out.old) (O.written out.new) (O.faults out.old) (O.faults out.new) log) }
     ensures tallied { TalliedOn result turns (length (names_in names.now)) (W.told wires.old) (W.told wires.new) }
     ensures versions { HasWords (record { moment = moment; number = nonce }) (W.told wires.new) }
     ensures dialled { HasDialled (names_in names.now) (W.told wires.new) }
     ensures failures { IfSome (W.told wires.new).log
         (λ log. HasFailed log → HasRisen (W.faults wires.old) (W.faults wires.new)) }
+    ensures unkept { is_some log_file.now ≡ false → W.keeps wires.new ≡ W.keeps wires.old }
     ensures records { Records result log_file.now (W.told wires.new).log (F.files files.old) (F.files files.new) }
     ensures file_fault { result ≡ Status.FileFault → HasRisen (F.faults files.old) (F.faults files.new) }
     ensures out_fault { result ≡ Status.OutFault → HasRisen (O.faults out.old) (O.faults out.new) }

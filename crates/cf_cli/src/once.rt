@@ -69,6 +69,7 @@ pub(crate) fn run_once<F: Files, W: Wires, M: Matcher + Drop, O: Sink>(
     ensures same { W.script wires.new ≡ W.script wires.old }
     ensures failures { IfSome (W.told wires.new).log
         (λ log. HasFailed log → HasRisen (W.faults wires.old) (W.faults wires.new)) }
+    ensures unkept { is_some log_file.now ≡ false → W.keeps wires.new ≡ W.keeps wires.old }
     ensures records { Records result log_file.now (W.told wires.new).log (F.files files.old) (F.files files.new) }
     ensures file_fault { result ≡ Status.FileFault → HasRisen (F.faults files.old) (F.faults files.new) }
     ensures out_fault { result ≡ Status.OutFault → HasRisen (O.faults out.old) (O.faults out.new) }

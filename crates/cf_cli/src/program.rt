@@ -11,7 +11,7 @@ ghost use Rattle.cf_played.specs.Told.{log_of as played_log, peers_of, finished_
 ghost use Rattle.cf_input.specs.SessionFile.{session_of};
 ghost use Rattle.cf_cli.specs.Asking.{AsksFor, AreAsked};
 ghost use Rattle.cf_loading.specs.Asking.{Whole};
-ghost use Rattle.cf_cli.specs.Recording.{Records, may_write};
+ghost use Rattle.cf_cli.specs.Recording.{Records, is_recorded, may_write};
 ghost use Rattle.cf_loading.specs.Verdicts.{IsJudged, and_then, watch_verdict, session_verdict};
 ghost use Rattle.cf_answers.specs.Statuses.{has_run, was_refused, was_unbegun};
 ghost use Rattle.cf_cli.specs.Statuses.{may_dial, may_play, may_say, verdict_of};
@@ -149,6 +149,7 @@ fn sync<R: Wait + Threads + Copy + Drop + Send + 'static, F: Files, W: Wires, K:
     ensures dialled { HasDialled (names_in peers.now) (W.told wires.new) }
     ensures versions { HasWords (record { moment = moment; number = nonce }) (W.told wires.new) }
     ensures failures { IfSome (W.told wires.new).log (λ log. HasFailed log → HasRisen (W.faults wires.old) (W.faults wires.new)) }
+    ensures unkept { is_some log_file.now ≡ false → W.keeps wires.new ≡ W.keeps wires.old }
     ensures records { Records result log_file.now (W.told wires.new).log (F.files files.old) (F.files files.new) }
     ensures files { AsksFor F.reads F.opens F.parts F.writes (Whole watch.now ∷ []) log_file.now files.old files.new }
     ensures file_fault { result ≡ Status.FileFault → HasRisen (F.faults files.old) (F.faults files.new) }
@@ -201,11 +202,13 @@ fn follow<
     requires some { 1 ≤ workers }
     requires most { workers ≤ 64 }
     ensures judged { IfSome (F.files files.old) (λ m. IsJudged (watch_verdict (finite.get m watch.now)) result) }
-    ensures kept { IfSome (W.told wires.new).log (λ log. KeptLive result (is_some log_file.now) (F.files files.old) watch.now (names_in peers.now) (O.written out.old) (O.written out.new) log) }
+    ensures kept { IfSome (W.told wires.new).log (λ log. KeptLive result (is_some log_file.now) (F.files files.old) watch.now (names_in peers.now)
+        (O.written out.old) (O.written out.new) (O.faults out.old) (O.faults out.new) log) }
     ensures tallied { TalliedOn result turns (length (names_in peers.now)) (W.told wires.old) (W.told wires.new) }
     ensures dialled { HasDialled (names_in peers.now) (W.told wires.new) }
     ensures versions { HasWords (record { moment = moment; number = nonce }) (W.told wires.new) }
     ensures failures { IfSome (W.told wires.new).log (λ log. HasFailed log → HasRisen (W.faults wires.old) (W.faults wires.new)) }
+    ensures unkept { is_some log_file.now ≡ false → W.keeps wires.new ≡ W.keeps wires.old }
     ensures records { Records result log_file.now (W.told wires.new).log (F.files files.old) (F.files files.new) }
     ensures files { AsksFor F.reads F.opens F.parts F.writes (Whole watch.now ∷ []) log_file.now files.old files.new }
     ensures file_fault { result ≡ Status.FileFault → HasRisen (F.faults files.old) (F.faults files.new) }
@@ -273,9 +276,9 @@ where
     requires few { HasFewPeers command }
     ensures judged { IfSome (F.files files.old) (λ m. IsJudged (verdict_of m command) result) }
     ensures does { Does command result moment nonce
-        (around (F.files files.old) (O.written out.old) (W.told wires.old) tape.old played.old
+        (around (F.files files.old) (O.written out.old) (O.faults out.old) (W.told wires.old) tape.old played.old
         (link_now L.addresses L.accepted L.owed L.conns L.given link.old))
-        (around (F.files files.new) (O.written out.new) (W.told wires.new) tape.new played.new
+        (around (F.files files.new) (O.written out.new) (O.faults out.new) (W.told wires.new) tape.new played.new
         (link_now L.addresses L.accepted L.owed L.conns L.given link.new)) }
     ensures versions { HasWords (record { moment = moment; number = nonce }) (W.told wires.new) }
     ensures tape_versions { IsOfWords (record { moment = moment; number = nonce }) (log_of tape.new) }
@@ -286,6 +289,7 @@ where
     ensures unwritten { may_say (Some command) result ≡ false → O.written out.new ≡ O.written out.old }
     ensures failures { IfSome (W.told wires.new).log (λ log. HasFailed log → HasRisen (W.faults wires.old) (W.faults wires.new)) }
     ensures undialled { may_dial (Some command) result ≡ false → W.told wires.new ≡ W.told wires.old }
+    ensures unkept { is_recorded (Some command) ≡ false → W.keeps wires.new ≡ W.keeps wires.old }
     ensures unplayed { may_play (Some command) result ≡ false → told_of tape.new ≡ told_of tape.old }
     ensures unserved { may_serve (Some command) result ≡ false → link.new ≡ link.old }
     ensures unshown { may_show (Some command) ≡ false → played.new ≡ played.old }
@@ -401,7 +405,7 @@ where
 /// file; and its text is written. `follow` writes the text of each quiet moment at once, and its record at the end; `replay --follow` writes the texts of
 /// all of them after the trace. With `NoMemory`, `Usage`, `BadFile` and `FileFault` no text was written, but by a `follow` whose run was begun. With the last three no wires
 /// were used, but for a `FileFault` that comes where the record can't be written; `sync` and `follow` alone use `wires`, `replay` alone `tape`, `demo` alone `played`, `serve` alone
-/// `link`. `make` puts its records into its file; of the other commands only `sync` and `follow` with a record change a file. Of the files at most those that the
+/// `link`. The log of `wires` is kept only where a record is asked for. `make` puts its records into its file; of the other commands only `sync` and `follow` with a record change a file. Of the files at most those that the
 /// command names are read, the watch file first and each once, a file of blocks by parts, and after that at most the one that it writes is written, once.
 ///
 /// How each peer stands once `sync`, `follow` or `replay` has made its run is put into `ends`, in the order of their numbers. Where no run was begun, and with each
@@ -445,9 +449,9 @@ where
     ensures unasked { command_of (names_in words.now) ≡ None → (result ≡ Status.Usage) ⊎ (result ≡ Status.NoMemory) }
     ensures judged { IfSome (F.files files.old) (λ m. (c : Command) → command_of (names_in words.now) ≡ Some c → IsJudged (verdict_of m c) result) }
     ensures does { (c : Command) → command_of (names_in words.now) ≡ Some c → Does c result moment nonce
-        (around (F.files files.old) (O.written out.old) (W.told wires.old) tape.old played.old
+        (around (F.files files.old) (O.written out.old) (O.faults out.old) (W.told wires.old) tape.old played.old
         (link_now L.addresses L.accepted L.owed L.conns L.given link.old))
-        (around (F.files files.new) (O.written out.new) (W.told wires.new) tape.new played.new
+        (around (F.files files.new) (O.written out.new) (O.faults out.new) (W.told wires.new) tape.new played.new
         (link_now L.addresses L.accepted L.owed L.conns L.given link.new)) }
     ensures versions { HasWords (record { moment = moment; number = nonce }) (W.told wires.new) }
     ensures tape_versions { IsOfWords (record { moment = moment; number = nonce }) (log_of tape.new) }
@@ -458,6 +462,7 @@ where
     ensures unwritten { may_say (command_of (names_in words.now)) result ≡ false → O.written out.new ≡ O.written out.old }
     ensures failures { IfSome (W.told wires.new).log (λ log. HasFailed log → HasRisen (W.faults wires.old) (W.faults wires.new)) }
     ensures undialled { may_dial (command_of (names_in words.now)) result ≡ false → W.told wires.new ≡ W.told wires.old }
+    ensures unkept { is_recorded (command_of (names_in words.now)) ≡ false → W.keeps wires.new ≡ W.keeps wires.old }
     ensures unplayed { may_play (command_of (names_in words.now)) result ≡ false → told_of tape.new ≡ told_of tape.old }
     ensures unserved { may_serve (command_of (names_in words.now)) result ≡ false → link.new ≡ link.old }
     ensures unshown { may_show (command_of (names_in words.now)) ≡ false → played.new ≡ played.old }

@@ -1,5 +1,5 @@
 //! The record of a run: what passed its wires, as a session file.
-ghost use Rattle.std.specs.Prelude.{◌≡◌, ◌≤◌, [], is_some, IsSome, true};
+ghost use Rattle.std.specs.Prelude.{◌≡◌, ◌≤◌, [], is_some, IsSome, false, true};
 ghost use Rattle.cf_bytes.specs.Files.{IsAtMostWritten};
 ghost use Rattle.cf_wires.specs.Log.{Tells};
 ghost use Rattle.cf_cli.specs.Recording.{IsRecording, BlamesFiles};
@@ -9,12 +9,13 @@ use cf_input::Word;
 use cf_wires::Wires;
 use std::alloc::Global;
 
-/// Makes new wires keep their log, where a file is named for it.
+/// Makes new wires keep their log, where a file is named for it; else they go on as they did.
 pub(crate) fn keep_where<W: Wires>(wires: &mut W, log_file: &Option<Word>)
     requires fresh { Tells [] (W.told wires.old) }
     ensures fresh { Tells [] (W.told wires.new) }
     ensures finished { (W.told wires.new).finished ≡ (W.told wires.old).finished }
     ensures keeps { is_some log_file.now ≡ true → W.keeps wires.new ≡ true }
+    ensures unkept { is_some log_file.now ≡ false → W.keeps wires.new ≡ W.keeps wires.old }
     ensures told { is_some log_file.now ≡ true → IsSome (W.told wires.new).log }
     ensures later { W.faults wires.old ≤ W.faults wires.new }
     ensures same { W.script wires.new ≡ W.script wires.old }

@@ -21,7 +21,7 @@ returns-in_default-clause-kept g c =
 
 pub returns-in_default-clause-given_up : goal.returns-in_default-clause-given_up
 returns-in_default-clause-given_up g c =
-    spent_given (g.W.Wires.told c.args.wires.now).log c.args.watch _ _
+    spent_given (g.W.Wires.told c.args.wires.now).log c.args.watch (names_in c.args.names.now) _ _ _ _
     (new_put_told (g.W.Wires.told c.args.wires.now).log c.args.watch (g.O.Sink.written c.args.out.now) c.requires.fresh.content)
 
 pub returns-in_default-clause-tallied : goal.returns-in_default-clause-tallied
@@ -48,8 +48,8 @@ returns-in-NoMemory-clause-kept g c =
 
 pub returns-in-NoMemory-clause-given_up : goal.returns-in-NoMemory-clause-given_up
 returns-in-NoMemory-clause-given_up g c =
-    spent_given (g.W.Wires.told c.follow_live-status.new.wires).log c.args.watch _ _
-    (kept_some (g.W.Wires.told c.follow_live-status.new.wires).log c.follow_live-status.result (is_some c.args.log_file.now) c.args.watch (names_in c.args.names.now) _ _
+    spent_given (g.W.Wires.told c.follow_live-status.new.wires).log c.args.watch (names_in c.args.names.now) _ _ _ _
+    (kept_some (g.W.Wires.told c.follow_live-status.new.wires).log c.follow_live-status.result (is_some c.args.log_file.now) c.args.watch (names_in c.args.names.now) _ _ _ _
     c.follow_live-status.ensures.kept c.follow_live-status.ensures.given_up)
 
 pub returns-in-NoMemory-clause-tallied : goal.returns-in-NoMemory-clause-tallied
@@ -72,8 +72,8 @@ returns-in-Err-NoMemory-clause-kept g c =
 
 pub returns-in-Err-NoMemory-clause-given_up : goal.returns-in-Err-NoMemory-clause-given_up
 returns-in-Err-NoMemory-clause-given_up g c =
-    spent_given (g.W.Wires.told c.follow_live-status.new.wires).log c.args.watch _ _
-    (kept_some (g.W.Wires.told c.follow_live-status.new.wires).log c.follow_live-status.result (is_some c.args.log_file.now) c.args.watch (names_in c.args.names.now) _ _
+    spent_given (g.W.Wires.told c.follow_live-status.new.wires).log c.args.watch (names_in c.args.names.now) _ _ _ _
+    (kept_some (g.W.Wires.told c.follow_live-status.new.wires).log c.follow_live-status.result (is_some c.args.log_file.now) c.args.watch (names_in c.args.names.now) _ _ _ _
     c.follow_live-status.ensures.kept c.follow_live-status.ensures.given_up)
 
 pub returns-in-Err-NoMemory-clause-tallied : goal.returns-in-Err-NoMemory-clause-tallied
@@ -93,12 +93,11 @@ pub returns-clause-kept : goal.returns-clause-kept
 returns-clause-kept g c =
     let files = rw c.in-Err-No.field-0-is at c.in-Err-No.ensures.files in
     unrecorded_on (g.W.Wires.told c.follow_live-status.new.wires).log c.follow_live-status.result (is_some c.args.log_file.now) c.args.watch (names_in c.args.names.now) (g.O.Sink.written c.args.out.now)
-    (g.O.Sink.written c.follow_live-status.new.out) c.follow_live-status.ensures.tallied.tallied.answers c.follow_live-status.ensures.unrefused (search rules) files.0
-    c.follow_live-status.ensures.kept c.follow_live-status.ensures.given_up
+    (g.O.Sink.written c.follow_live-status.new.out) (search rules) files.0 c.follow_live-status.ensures.kept
 
 pub returns-clause-given_up : goal.returns-clause-given_up
 returns-clause-given_up g c =
-    unrecorded_given (g.W.Wires.told c.follow_live-status.new.wires).log c.follow_live-status.result (is_some c.args.log_file.now) c.args.watch (names_in c.args.names.now) _ _
+    unrecorded_given (g.W.Wires.told c.follow_live-status.new.wires).log c.follow_live-status.result (is_some c.args.log_file.now) c.args.watch (names_in c.args.names.now) _ _ _ _
     c.follow_live-status.ensures.tallied.tallied.answers c.follow_live-status.ensures.unrefused (search rules) c.follow_live-status.ensures.kept c.follow_live-status.ensures.given_up
 
 pub returns-clause-tallied : goal.returns-clause-tallied

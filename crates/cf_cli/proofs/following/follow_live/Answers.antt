@@ -37,25 +37,26 @@ returns-in-Err-NoMemory-clause-kept g c = λ recorded.
 
 pub returns-in-Ok-to_vec-clause-given_up : goal.returns-in-Ok-to_vec-clause-given_up
 returns-in-Ok-to_vec-clause-given_up g c =
-    over_given (g.W.Wires.told c.follow_over.new.wires).log c.status_of.result c.args.watch _ _
+    over_given (g.W.Wires.told c.follow_over.new.wires).log c.status_of.result c.args.watch (names_in c.args.names.now) _ _ _ _
     (over_by c.in-Ok.outcome.end c.in-Ok.outcome.ends.items c.status_of.result c.status_of.ensures.answer)
 
 pub returns-in_default-clause-given_up : goal.returns-in_default-clause-given_up
 returns-in_default-clause-given_up g c =
     let same : c.follow_over.new.texts.sink.now ≡ c.out-1.given.0 = search rules in
-    spent_given (g.W.Wires.told c.follow_over.new.wires).log c.args.watch _ _
+    spent_given (g.W.Wires.told c.follow_over.new.wires).log c.args.watch (names_in c.args.names.now) _ _ _ _
     (some_put_told (g.W.Wires.told c.follow_over.new.wires).log c.args.watch _ _ (rw (c.new-texts.ensures.same, same) at c.in-Ok.ensures.put))
 
 pub returns-in-Err-Failed-clause-given_up : goal.returns-in-Err-Failed-clause-given_up
 returns-in-Err-Failed-clause-given_up g c =
     let same : c.follow_over.new.texts.sink.now ≡ c.out-1.given.0 = search rules in
-    failed_given (g.W.Wires.told c.follow_over.new.wires).log c.args.watch _ _
+    failed_given (g.W.Wires.told c.follow_over.new.wires).log c.args.watch (names_in c.args.names.now) _ _ _ _
     (rw (c.new-texts.ensures.same, same) at c.in-Err-Failed.ensures.put_but (ap Err c.in-Err-Failed.field-0-is))
+    (rw (c.new-texts.ensures.same, same) at c.in-Err-Failed.ensures.failed (ap Err c.in-Err-Failed.field-0-is))
 
 pub returns-in-Err-NoMemory-clause-given_up : goal.returns-in-Err-NoMemory-clause-given_up
 returns-in-Err-NoMemory-clause-given_up g c =
     let same : c.follow_over.new.texts.sink.now ≡ c.out-1.given.0 = search rules in
-    spent_given (g.W.Wires.told c.follow_over.new.wires).log c.args.watch _ _
+    spent_given (g.W.Wires.told c.follow_over.new.wires).log c.args.watch (names_in c.args.names.now) _ _ _ _
     (some_so_told (g.W.Wires.told c.follow_over.new.wires).log c.args.watch _ _ (rw (c.new-texts.ensures.same, same) at c.in-Err-NoMemory.ensures.put_so (ap Err c.in-Err-NoMemory.field-0-is)))
 
 pub returns-in-Ok-to_vec-clause-tallied : goal.returns-in-Ok-to_vec-clause-tallied

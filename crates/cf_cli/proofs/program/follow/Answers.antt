@@ -15,12 +15,12 @@ use Rattle.cf_cli.proofs.program.follow.Goals as goal
 pub returns-in-Err-clause-kept : goal.returns-in-Err-clause-kept
 returns-in-Err-clause-kept g c =
     early_told_on (g.W.Wires.told c.args.wires.now) c.in-Err.status (is_some c.args.log_file.now) (g.F.Files.files c.args.files.now) c.args.watch.now (names_in c.args.peers.now) (g.O.Sink.written c.args.out.now)
-    c.in-Err.ensures.only c.requires.fresh
+    (g.O.Sink.faults c.args.out.now) c.in-Err.ensures.only c.requires.fresh
 
 pub returns-in_default-clause-kept : goal.returns-in_default-clause-kept
 returns-in_default-clause-kept g c =
     early_told_on (g.W.Wires.told c.args.wires.now) NoMemory (is_some c.args.log_file.now) (g.F.Files.files c.args.files.now) c.args.watch.now (names_in c.args.peers.now)
-    (g.O.Sink.written c.args.out.now) tt c.requires.fresh
+    (g.O.Sink.written c.args.out.now) (g.O.Sink.faults c.args.out.now) tt c.requires.fresh
 
 pub returns-in_default-clause-tallied : goal.returns-in_default-clause-tallied
 returns-in_default-clause-tallied g c = early_tallied_on NoMemory _ _ _ tt c.requires.fresh
@@ -28,7 +28,7 @@ returns-in_default-clause-tallied g c = early_tallied_on NoMemory _ _ _ tt c.req
 pub returns-clause-kept : goal.returns-clause-kept
 returns-clause-kept g c =
     told_over_watch_on (g.W.Wires.told c.follow_and_record.new.wires).log c.follow_and_record.result (is_some c.args.log_file.now) (g.F.Files.files c.args.files.now) c.args.watch.now c.in-Ok.scripts (names_in c.args.peers.now)
-    (g.O.Sink.written c.args.out.now) (g.O.Sink.written c.follow_and_record.new.out)
+    (g.O.Sink.written c.args.out.now) (g.O.Sink.written c.follow_and_record.new.out) (g.O.Sink.faults c.args.out.now) (g.O.Sink.faults c.follow_and_record.new.out)
     (watch_there (g.F.Files.files c.args.files.now) c.args.watch.now c.in-Ok.scripts c.in-Ok.ensures.answer c.in-Ok.ensures.scripts) c.follow_and_record.ensures.kept c.follow_and_record.ensures.given_up
 
 pub returns-in-Err-clause-records : goal.returns-in-Err-clause-records

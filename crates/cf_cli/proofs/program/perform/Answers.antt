@@ -6,7 +6,7 @@ use Rattle.cf_cli.specs.Serving.{IsServing}
 use Rattle.cf_wires.specs.Memory.{told_of}
 use Rattle.cf_run.proofs.Versions.{new_words}
 use Rattle.cf_cli.proofs.Plays.{versions_so, unplayed_words, judged_replay, judged_sync, judged_follow, new_unfailed}
-use Rattle.cf_cli.proofs.Records.{sync_writes, follow_writes}
+use Rattle.cf_cli.proofs.Records.{sync_keeps, sync_writes, follow_keeps, follow_writes}
 use Rattle.cf_cli.proofs.Demos.{demo_uses}
 use Rattle.cf_cli.proofs.Serves.{serve_uses}
 use Rattle.cf_cli.proofs.program.perform.Goals as goal
@@ -29,6 +29,16 @@ returns-in-Follow-clause-judged g c =
 pub returns-in-Follow-clause-unchanged : goal.returns-in-Follow-clause-unchanged
 returns-in-Follow-clause-unchanged g c =
     follow_writes c.args.command c.in-Follow.turns c.in-Follow.workers c.in-Follow.«record» c.in-Follow.watch c.in-Follow.peers c.follow.result _ _ _ c.in-Follow.is c.follow.ensures.records
+
+pub returns-in-Sync-clause-unkept : goal.returns-in-Sync-clause-unkept
+returns-in-Sync-clause-unkept g c =
+    sync_keeps c.args.command c.in-Sync.turns c.in-Sync.workers c.in-Sync.«record» c.in-Sync.watch c.in-Sync.peers _ _ c.in-Sync.is
+    c.sync.ensures.unkept
+
+pub returns-in-Follow-clause-unkept : goal.returns-in-Follow-clause-unkept
+returns-in-Follow-clause-unkept g c =
+    follow_keeps c.args.command c.in-Follow.turns c.in-Follow.workers c.in-Follow.«record» c.in-Follow.watch c.in-Follow.peers _ _
+    c.in-Follow.is c.follow.ensures.unkept
 
 pub returns-in-Sync-clause-unchanged : goal.returns-in-Sync-clause-unchanged
 returns-in-Sync-clause-unchanged g c =

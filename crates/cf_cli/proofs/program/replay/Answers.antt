@@ -26,7 +26,8 @@ returns-then-follow-clause-replayed g c = rw c.if-follow.true (
   names_in c.as_slice-names.result.now,
   tape_watch_on c.follow_on_tape.result c.args.trace (g.F.Files.files c.args.files.now) c.args.watch.now c.in-Ok.scripts (names_in c.as_slice-names.result.now) (g.O.Sink.written c.args.out.now)
       (g.O.Sink.written c.follow_on_tape.new.out) (log_of c.follow_on_tape.new.wires)
-      (watch_there (g.F.Files.files c.args.files.now) c.args.watch.now c.in-Ok.scripts c.in-Ok.ensures.answer c.in-Ok.ensures.scripts) c.follow_on_tape.ensures.kept c.follow_on_tape.ensures.refused,
+      (watch_there (g.F.Files.files c.args.files.now) c.args.watch.now c.in-Ok.scripts c.in-Ok.ensures.answer c.in-Ok.ensures.scripts) c.follow_on_tape.ensures.unrefused
+      c.follow_on_tape.ensures.kept c.follow_on_tape.ensures.refused,
   subst (λ (t : Told). TalliedOn c.follow_on_tape.result 10000000 (length (names_in c.as_slice-names.result.now)) t (told_of c.follow_on_tape.new.wires))
       (same_told c.load.new.self c.args.tape.now c.load.ensures.log c.load.ensures.finished) c.follow_on_tape.ensures.tallied,
 )

@@ -6,7 +6,7 @@ use Rattle.cf_wires.specs.Memory.{log_of, told_of}
 use Rattle.cf_run.proofs.Versions.{new_words}
 use Rattle.cf_cli.proofs.Plays.{versions_so, unplayed_words, new_tape, new_unfailed, judged_for, unused_wires, unused_tape}
 use Rattle.cf_cli.proofs.Asking.{asked_so, unasked}
-use Rattle.cf_cli.proofs.Records.{unused_files}
+use Rattle.cf_cli.proofs.Records.{unkept_log, unused_files}
 use Rattle.cf_cli.proofs.Demos.{unused_played}
 use Rattle.cf_cli.proofs.Serves.{unused_link}
 use Rattle.cf_cli.proofs.Doing.{does_so, undone}
@@ -32,6 +32,9 @@ returns-in-Err-No-clause-failures g c = new_unfailed _ _ _ c.requires.wires
 
 pub returns-in-Ok-clause-undialled : goal.returns-in-Ok-clause-undialled
 returns-in-Ok-clause-undialled g c = unused_wires _ c.in-Ok.command c.perform.result _ _ c.in-Ok.ensures.exact c.perform.ensures.undialled
+
+pub returns-in-Ok-clause-unkept : goal.returns-in-Ok-clause-unkept
+returns-in-Ok-clause-unkept g c = unkept_log _ c.in-Ok.command _ _ c.in-Ok.ensures.exact c.perform.ensures.unkept
 
 pub returns-in-Ok-clause-unplayed : goal.returns-in-Ok-clause-unplayed
 returns-in-Ok-clause-unplayed g c = unused_tape _ c.in-Ok.command c.perform.result _ _ c.in-Ok.ensures.exact c.perform.ensures.unplayed

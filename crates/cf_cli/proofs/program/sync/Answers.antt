@@ -2,6 +2,7 @@ use Rattle.std.proofs.Common.{false, inr, refl, rules}
 use Rattle.std.proofs.Math.Facts.{to_z-of_z}
 use Rattle.std.specs.Int.{w64}
 use Rattle.std.specs.Prelude.{is_some}
+use Rattle.cf_answers.specs.declared.status.Status.TheVariants.{NoMemory}
 use Rattle.cf_run.specs.Names.{names_in}
 use Rattle.cf_run.proofs.Versions.{new_words}
 use Rattle.cf_cli.proofs.Plays.{versions_so, early_told, early_tallied, new_dialled, new_unfailed, told_over_watch, watch_there}
@@ -14,6 +15,11 @@ pub returns-in-Err-clause-kept : goal.returns-in-Err-clause-kept
 returns-in-Err-clause-kept g c =
     early_told (g.W.Wires.told c.args.wires.now) c.in-Err.status (is_some c.args.log_file.now) false (g.F.Files.files c.args.files.now) c.args.watch.now (names_in c.args.peers.now) (g.O.Sink.written c.args.out.now)
     c.in-Err.ensures.only c.requires.fresh
+
+pub returns-in_default-clause-kept : goal.returns-in_default-clause-kept
+returns-in_default-clause-kept g c =
+    early_told (g.W.Wires.told c.args.wires.now) NoMemory (is_some c.args.log_file.now) false (g.F.Files.files c.args.files.now)
+    c.args.watch.now (names_in c.args.peers.now) (g.O.Sink.written c.args.out.now) tt c.requires.fresh
 
 pub returns-clause-kept : goal.returns-clause-kept
 returns-clause-kept g c =
