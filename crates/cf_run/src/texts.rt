@@ -79,9 +79,7 @@ impl<'a, S: Sink> Texts for Live<'a, S> {
     ghost holds = { λ t. t.sink.ghost_name };
 
     #[tactic(auto, using(crate::proofs::Puts::begun_so))]
-    fn put(&mut self, text: &str) -> Result<(), TextFail>
-        ensures enough { IsErrOf result TextFail.NoMemory → ⊥ }
-    {
+    fn put(&mut self, text: &str) -> Result<(), TextFail> {
         match put_all(self.sink, text.as_bytes()) {
             Ok(()) => Ok(()),
             Err(_) => Err(TextFail::Failed),
