@@ -5,15 +5,25 @@ ghost use Rattle.cf_wires.specs.Log.{Tells};
 use cf_bytes::PeerNo;
 use cf_wires::{Delivery, MemoryWires, WireFail, Wires};
 
-/// Wires that tell whether all that they started was joined.
-pub(crate) trait Joins {
+/// Wires that tell whether all that they started was joined, and what still comes once they are finished.
+pub(crate) trait Joins: Wires {
     /// Whether it was.
     fn is_joined(&self) -> bool;
+
+    /// What comes of wires that are finished. `None` for want of memory, and where that is not told.
+    fn next_finished(&mut self) -> Option<Delivery>
+        ensures dials { (Self.told self.new).tally.dials ≡ (Self.told self.old).tally.dials }
+        ensures closed { (Self.told self.new).tally.closed ≡ (Self.told self.old).tally.closed }
+        ensures finished { (Self.told self.new).finished ≡ (Self.told self.old).finished };
 }
 
 impl Joins for MemoryWires {
     fn is_joined(&self) -> bool {
         true
+    }
+
+    fn next_finished(&mut self) -> Option<Delivery> {
+        None
     }
 }
 
@@ -93,6 +103,9 @@ impl<W: Wires + Joins + Drop> Guide<W> {
 
     /// Takes a delivery. `None` for want of memory.
     pub(crate) fn next(&mut self) -> Option<Delivery> {
+        if self.finished {
+            return self.wires.next_finished();
+        }
         self.wires.next().ok()
     }
 

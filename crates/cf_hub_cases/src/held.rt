@@ -79,6 +79,10 @@ impl<R: Wait + Threads + Copy + Drop> Joins for Held<R> {
     fn is_joined(&self) -> bool {
         self.hub.is_joined()
     }
+
+    fn next_finished(&mut self) -> Option<Delivery> {
+        self.hub.next().ok()
+    }
 }
 
 impl<R: Wait + Threads + Copy + Drop> Wires for Held<R> {

@@ -104,16 +104,16 @@ pub trait Wires {
         ensures keeps { keeps self.new ≡ keeps self.old }
         ensures same { script self.new ≡ script self.old };
 
-    /// Takes the next delivery. Where no memory is found none was taken.
+    /// Takes the next delivery, of wires that are not finished. Where no memory is found none was taken.
     fn next(&mut self) -> Result<Delivery, NoMemory>
+        requires open { (told self.old).finished ≡ false }
         ensures took { IfOk result (λ d. told self.new ≡ tell (Took d) (told self.old)) }
         ensures err { OnErr result (told self.new ≡ told self.old) }
         ensures later { faults self.old ≤ faults self.new }
         ensures keeps { keeps self.new ≡ keeps self.old }
         ensures same { script self.new ≡ script self.old };
 
-    /// Ends the connections that are left. Nothing that comes after it is a delivery. It is called once, and takes no
-    /// memory.
+    /// Ends the connections that are left. Nothing is taken after it. It is called once, and takes no memory.
     fn finish(&mut self)
         requires { (told self.old).finished ≡ false }
         ensures told { told self.new ≡ told_finished (told self.old) }
