@@ -15,8 +15,7 @@ use Rattle.cf_input.specs.declared.words.Command.{Command}
 use Rattle.cf_input.specs.declared.words.Command.TheVariants.{Demo as AsksDemo}
 use Rattle.cf_make.specs.Made.{StopsAt}
 use Rattle.cf_wires.specs.Log.{Log}
-use Rattle.cf_scan.specs.Extracts.{balance_of}
-use Rattle.cf_scan.specs.Scan.{scan_of}
+use Rattle.cf_scan.specs.Scan.{balance_of, scan_of}
 use Rattle.cf_answers.specs.declared.status.Status.{Status}
 use Rattle.cf_answers.specs.declared.status.Status.TheVariants.{Done, NoMemory, OutFault, NoPeers, Tired, NoNonce}
 use Rattle.cf_offline.specs.Reading.{IsWritten, named_line}

@@ -34,7 +34,7 @@ use Rattle.cf_hear.specs.Exposing.{IsExposedIn, IsExposing, IsUnexposed}
 use Rattle.cf_hear.specs.Tracks.{Tracks, chain_kept}
 use Rattle.cf_hear.proofs.Tracking.{IsSameBrought, seen_at, tracks_exposed, tracks_on}
 use Rattle.cf_seek.specs.Testing.{IsClaimedAs}
-use Rattle.cf_sync.specs.Kept.{OpensAt, claims_kept}
+use Rattle.cf_sync.specs.Known.{OpensAt, claims_kept}
 use Rattle.cf_sync.proofs.KeptAims.{trials_same}
 use Rattle.cf_place.specs.declared.place.Place.{Place}
 use Rattle.cf_place.specs.declared.place.Place.TheVariants.{Here, Lost}

@@ -33,7 +33,8 @@ use Rattle.cf_peer.specs.Trail.{Trail, Part, Called, Said, Refused, Asked, Passe
 use Rattle.cf_peer.specs.Asking.{OpenRequest, NothingOpen, HeadersOpen, ClaimsOpen, FiltersOpen, BlockOpen, PingOpen, is_answer_of, is_wanted, blocks_from, claims_asked, filters_asked, filters_left, filter_of, request, request_for, request_after, age, claims, claims_after, verdict, counted, fetched, given, MayAskIn}
 use Rattle.cf_sync.specs.Fetching.{RightlyIn, HoldsFetched}
 use Rattle.cf_sync.specs.Honesty.{was_called}
-use Rattle.cf_sync.specs.Kept.{HoldsClaims, HoldsGiven, HoldsOutputs, claims_kept}
+use Rattle.cf_sync.specs.Kept.{HoldsOutputs}
+use Rattle.cf_sync.specs.Known.{HoldsClaims, HoldsGiven, claims_kept}
 use Rattle.cf_sync.proofs.Answered.{given_wide}
 use Rattle.cf_sync.proofs.Listed.{in_left, in_right}
 use Rattle.cf_sync.proofs.Remembers.{AskedRightlyIn, asked_rightly_in}

@@ -28,7 +28,7 @@ use Rattle.cf_seek.specs.declared.spans.Wish.TheVariants.{Claims, Filters, Block
 use Rattle.cf_seek.specs.declared.testing.Trial.{Trial}
 use Rattle.cf_seek.specs.Aims.{IsAimed}
 use Rattle.cf_dispute.specs.Tables.{blocks_of}
-use Rattle.cf_seek.specs.Opens.{IsSameOpens, OpensBlock, OpensFilters}
+use Rattle.cf_seek.specs.Opening.{IsSameOpens, OpensBlock, OpensFilters}
 use Rattle.cf_seek.specs.Spans.{IsWish}
 use Rattle.cf_hear.specs.Seen.{Seen, IsSameSeen}
 use Rattle.cf_hear.specs.Tracks.{HasOpened, Tracks, IsPut}

@@ -9,7 +9,7 @@ use Rattle.cf_hear.specs.Seen.{Seen}
 use Rattle.cf_match.specs.Verdicts.{Verdicts}
 use Rattle.cf_peer.specs.declared.mode.Mode.{Mode}
 use Rattle.cf_peer.specs.Peer.{IsRight}
-use Rattle.cf_tables.specs.Tables as extracts
+use Rattle.cf_tables.specs.Known as known
 use Rattle.cf_seek.specs.Opens.{Opens}
 use Rattle.cf_seek.specs.Seeking.{ArePassed, AreSought}
 use Rattle.cf_seek.specs.Testing.{IsTrial}
@@ -37,7 +37,7 @@ chain_at s p = unwrap_or (s.chains p) []
 
 -- Of the blocks of a peer's chain up to a height, but for one with genesis's hash: it claims each; and there is none whose filter is to be asked for, or
 -- that is to be fetched, and that is open to nobody.
-pub record IsThrough (extracts : extracts.Table) (tables : Tables) (verdicts : Verdicts) (opens : Opens) (p : ℕ) (own : Chain) (common : ℕ) : Type 0 where
+pub record IsThrough (extracts : known.Table) (tables : Tables) (verdicts : Verdicts) (opens : Opens) (p : ℕ) (own : Chain) (common : ℕ) : Type 0 where
   pub claimed : AreClaimed tables p own common
   pub judged : AreSought extracts tables verdicts opens own common
   pub fetched : ArePassed extracts tables verdicts opens own common

@@ -34,8 +34,7 @@ use Rattle.cf_played.specs.declared.kind.Way.TheVariants.{Honest, Omits, Silent}
 use Rattle.cf_played.specs.Peers.{Peer, still}
 use Rattle.cf_played.specs.Told.{HasAdded}
 use Rattle.cf_scan.specs.declared.history.Entry.{Entry}
-use Rattle.cf_scan.specs.Extracts.{balance_of}
-use Rattle.cf_scan.specs.Scan.{scan_of}
+use Rattle.cf_scan.specs.Scan.{balance_of, scan_of}
 use Rattle.cf_sync.specs.Fetching.{IsConnected, IsQuiet, once}
 use Rattle.cf_sync.specs.Honesty.{IsHonest}
 use Rattle.cf_sync.specs.Sync.{IsHashed, SyncTheorem}

@@ -16,7 +16,8 @@ use Rattle.cf_grow.specs.declared.mark.Mark.{Mark}
 use Rattle.cf_grow.specs.declared.mark.TakeFail.{TakeFail}
 use Rattle.cf_grow.specs.declared.mark.TakeFail.TheVariants.{Shrunk, NoMemory}
 use Rattle.cf_server.specs.declared.reply.Reply.{Reply}
-use Rattle.cf_grow.specs.Growing.{hash_in, told_by, moved, news_in, IsAnswerOf, IsRefusal, IsAfterVersion}
+use Rattle.cf_grow.specs.Growing.{told_by, moved, news_in, IsAnswerOf, IsRefusal, IsAfterVersion}
+use Rattle.cf_grow.specs.Standing.{hash_in}
 use Rattle.cf_server.specs.Replies.{messages_of, AreRepliesOf, Adds}
 
 abbrev hash_of_bytes : List ℕ → Option Hash32

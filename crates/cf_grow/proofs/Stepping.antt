@@ -17,7 +17,8 @@ use Rattle.cf_grow.specs.declared.mark.Mark.{Mark}
 use Rattle.cf_grow.specs.declared.mark.Shrunk.{Shrunk as Hashes}
 use Rattle.cf_grow.specs.declared.mark.TakeFail.{TakeFail}
 use Rattle.cf_grow.specs.declared.mark.TakeFail.TheVariants.{Shrunk as NotThere, NoMemory as OutOfMemory}
-use Rattle.cf_grow.specs.Growing.{hash_in, told_by, mark_of, StandsOn, IsRefused, IsAfterVersion, IsStep}
+use Rattle.cf_grow.specs.Growing.{told_by, mark_of, IsRefused, IsAfterVersion, IsStep}
+use Rattle.cf_grow.specs.Standing.{hash_in, StandsOn}
 use Rattle.cf_grow.specs.Held.{texts_in}
 use Rattle.cf_grow.specs.Serving.{Answers, Answered, AnswersFrame, IsShrunk, ending_of}
 use Rattle.cf_msg.specs.declared.msg.Msg.{Msg}

@@ -1,10 +1,8 @@
 -- machine: what a growing chain tells a connection, by a step.
-use Rattle.std.specs.Prelude.{◌≡◌, ℕ, Bool, true, false, if◌then◌else◌, List, [], ◌∷◌, ◌++◌, length, nat_lt, slice_get, Option, Some, None, is_none, option_map, Result, Ok, Err}
+use Rattle.std.specs.Prelude.{◌≡◌, ℕ, Bool, true, false, if◌then◌else◌, List, ◌∷◌, ◌++◌, length, nat_lt, Option, Some, None, is_none, Result, Ok, Err}
 use Rattle.cf_bytes.specs.declared.hash.Hash32.{Hash32}
 use Rattle.cf_block.specs.declared.tx.Block.{Block}
-use Rattle.cf_block.specs.Header.{block_hash_of}
 use Rattle.cf_chain.specs.Good.{IsGoodChain}
-use Rattle.cf_chain.specs.Heights.{all_blocks}
 use Rattle.cf_chain.specs.Grow.{GrowAnswer, Mark as Told, NotMet, Told as IsTold, mark_at, announcement, asked_for, grown, grow_answer}
 use Rattle.cf_grow.specs.declared.grown.Taken.{Taken}
 use Rattle.cf_grow.specs.declared.mark.Mark.{Mark}
@@ -17,10 +15,7 @@ use Rattle.cf_msg.specs.declared.msg.Msg.{Msg}
 use Rattle.cf_server.specs.declared.answering.Served.{Served}
 use Rattle.cf_server.specs.Replies.{messages_of, AreRepliesOf}
 use Rattle.cf_server.specs.Serving.{text_of}
-
--- the hash at a height
-abbrev pub hash_in : List Block → ℕ → Option Hash32
-hash_in blocks height = option_map (λ b. record { 0 = block_hash_of b.header }) (slice_get (all_blocks blocks) height)
+use Rattle.cf_grow.specs.Standing.{hash_in}
 
 -- what was told, by what is kept of it
 abbrev pub told_by : Bool → ℕ → Hash32 → Told
@@ -37,11 +32,6 @@ answer_at mark blocks m = grow_answer mark.served.time mark.served.nonce blocks 
 -- the mark stands on the chain, once something was told
 abbrev pub HasMark : List Block → Mark → Type 0
 HasMark blocks mark = mark.served.seen ≡ true → hash_in blocks mark.height ≡ Some mark.hash
-
--- the same of what was told
-abbrev pub StandsOn : List Block → Told → Type 0
-StandsOn blocks NotMet = Unit {0}
-StandsOn blocks (IsTold height hash) = hash_in blocks height ≡ Some (record { 0 = hash })
 
 -- where the mark stands then, by whether a version has come by then
 abbrev pub moved : List Block → Told → Bool → Told

@@ -1,3 +1,4 @@
 pub mod Held
 pub mod Growing
 pub mod Serving
+pub mod Standing

@@ -12,7 +12,7 @@ use Rattle.cf_grow.specs.declared.ending.Ending.TheVariants.{Served, Shrunk}
 use Rattle.cf_grow.specs.declared.mark.Shrunk.{Shrunk as Hashes}
 use Rattle.cf_grow.specs.declared.mark.TakeFail.{TakeFail}
 use Rattle.cf_grow.specs.declared.mark.TakeFail.TheVariants.{Shrunk as NotThere, NoMemory as OutOfMemory}
-use Rattle.cf_grow.specs.Growing.{StandsOn, hash_in}
+use Rattle.cf_grow.specs.Standing.{StandsOn, hash_in}
 use Rattle.cf_msg.specs.declared.msg.Msg.{Msg}
 use Rattle.cf_msg.specs.declared.msg.Malformed.{Malformed}
 use Rattle.cf_server.specs.declared.outcome.Outcome.TheVariants.{BadFrame, Malformed as MalformedFrame, WriteFault, NoMemory}

@@ -18,9 +18,10 @@ use Rattle.cf_peer.specs.Asking.{claims, given_by, request, verdict}
 use Rattle.cf_peer.specs.Peer.{Hears}
 use Rattle.cf_peer.specs.Trail.{Trail, Said}
 use Rattle.cf_tables.specs.Outputs.{Paid, lacks_kept}
-use Rattle.cf_tables.specs.Tests.{IsSameTold, Told, found_too}
+use Rattle.cf_tables.specs.Tests.{IsSameTold, found_too}
+use Rattle.cf_tables.specs.Known.{Told}
 use Rattle.cf_tables.specs.Trials.{tested_if}
-use Rattle.cf_tables.specs.Wanting.{IsSameTables}
+use Rattle.cf_tables.specs.Claiming.{IsSameTables}
 use Rattle.cf_sync.proofs.FreshFilters.{one_given}
 use Rattle.cf_hear.specs.Seen.{Seen, Follows}
 use Rattle.cf_hear.specs.Tracks.{IsPut}

@@ -8,7 +8,7 @@ use Rattle.cf_bytes.specs.declared.hash.Hash32.{Hash32}
 use Rattle.cf_bytes.specs.declared.memory.NoMemory.{NoMemory}
 use Rattle.cf_bytes.specs.declared.peer.PeerNo.{PeerNo}
 use Rattle.cf_block.specs.declared.tx.Block.{Block}
-use Rattle.cf_block.specs.Header.{block_hash_of}
+use Rattle.cf_block.specs.Header.{block_hash_of, genesis_header}
 use Rattle.cf_frame.specs.Lending.{HasFrame, IsFilled, after_frame}
 use Rattle.cf_frame.specs.Reading.{front_of}
 use Rattle.cf_frame.specs.Stream.{read_stream}
@@ -38,17 +38,17 @@ use Rattle.cf_peer.proofs.Peers.{other_block, reply_is, same_holds, early_header
 use Rattle.cf_peer.proofs.LentLeads.{done_shorter}
 use Rattle.cf_peer.proofs.Stream.{faulty_said, said_met, waits_says}
 use Rattle.cf_scan.specs.declared.extracts.TxExtract.{TxExtract}
-use Rattle.cf_tables.specs.Tables.{Table, IsSameTable, with_block, with_blocks}
+use Rattle.cf_tables.specs.Tables.{IsSameTable, with_block, with_blocks}
+use Rattle.cf_tables.specs.Known.{Table}
 use Rattle.cf_sync.proofs.Counted.{same_use}
 use Rattle.cf_sync.proofs.Grows.{said_brings}
 use Rattle.cf_sync.proofs.VerdictsGrow.{said_gives}
-use Rattle.cf_tables.specs.Wanting.{IsSameTables}
+use Rattle.cf_tables.specs.Claiming.{IsSameTables}
 use Rattle.cf_match.specs.declared.job.Job.{Job}
 use Rattle.cf_match.specs.Verdicts.{Verdicts, AreSameVerdicts, with_verdict, with_verdicts}
 use Rattle.cf_tables.proofs.Judgings.{same_all}
 use Rattle.std.specs.Prelude.{IfOk, IsSome, is_none, is_some, not, option_map, unwrap_or}
 use Rattle.cf_block.specs.declared.header.Header.{Header}
-use Rattle.cf_block.specs.Header.{genesis_header}
 use Rattle.cf_dispute.specs.declared.claim.Claim.{Claim}
 use Rattle.cf_dispute.specs.declared.claim.ClaimFault.{ClaimFault}
 use Rattle.cf_dispute.specs.Claims.{first_header, with_claims}
@@ -57,8 +57,8 @@ use Rattle.cf_dispute.specs.Claims as dispute
 use Rattle.cf_headers.specs.Rules.{same as same_bytes}
 use Rattle.cf_peer.specs.declared.peer.Request.{Request}
 use Rattle.cf_peer.specs.declared.peer.Request.TheVariants.{Nothing, Handshake, Headers as HeadersAsked, Claims as ClaimsAsked, Filters as FiltersAsked, Block as BlockAsked, Ping as PingAsked}
-use Rattle.cf_seek.specs.Opens.{Closes, IsSameElse, IsSameOpens}
-use Rattle.cf_sync.specs.Kept.{OpensAt}
+use Rattle.cf_seek.specs.Opening.{Closes, IsSameElse, IsSameOpens}
+use Rattle.cf_sync.specs.Known.{OpensAt}
 use Rattle.cf_sync.proofs.KeptOpens.{opens_closed}
 use Rattle.cf_hear.specs.Seen.{Seen, IsSameSeen, Follows}
 use Rattle.cf_hear.specs.Hearing.{Gains, Gives, Retains, HearsSeen, HearsNext, Advances, Reveals, Stops, Brings, Midway, HeardWhole, HeardFault, HeardExposed, HeardPiece}

@@ -20,9 +20,10 @@ use Rattle.cf_peer.specs.Trail.{Trail, Said, Asked, connected, ready, trail}
 use Rattle.cf_peer.specs.Asking.{OpenRequest, NothingOpen, HeadersOpen, ClaimsOpen, FiltersOpen, BlockOpen, PingOpen, age, filter_of, given_by, is_answer_of, is_wanted, request, request_after}
 use Rattle.cf_peer.specs.Peer.{Holds, aged, awaits, is_block_of, is_idle_peer, is_nothing, is_plain}
 use Rattle.cf_peer.proofs.Peers.{awaits_is, idle_request}
-use Rattle.cf_seek.specs.Opens.{Opens, Closes, IsBlockFree, IsFilterFree, IsSameElse, IsSameOpens}
+use Rattle.cf_seek.specs.Opens.{Opens, IsBlockFree, IsFilterFree}
+use Rattle.cf_seek.specs.Opening.{Closes, IsSameElse, IsSameOpens}
 use Rattle.cf_sync.specs.Fetching.{blocks_open, filters_open}
-use Rattle.cf_sync.specs.Kept.{HoldsOpens, OpensAt}
+use Rattle.cf_sync.specs.Known.{HoldsOpens, OpensAt}
 use Rattle.cf_sync.proofs.KeptOpens.{opens_closed, opens_same}
 use Rattle.cf_sync.proofs.Once.{answered, blocks_said, filters_said, moved_back}
 

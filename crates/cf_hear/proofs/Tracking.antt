@@ -19,7 +19,8 @@ use Rattle.cf_wires.specs.Log.{Log}
 use Rattle.cf_peer.specs.Trail.{Trail, Part, Asked, Lost, Went, Shutting, part_of, trail, went_on, asks, spelled, with_item, called_part, heard_part, connected, own}
 use Rattle.cf_peer.specs.Asking.{NothingOpen, claims, counted, request, fetched, given, SameUse}
 use Rattle.cf_sync.specs.Fetching.{HoldsFetched, IsConnected, IsFetched, blocks_open, filters_open}
-use Rattle.cf_sync.specs.Kept.{AimsAt, HoldsClaims, HoldsGiven, HoldsOpens, HoldsTrials, OpensAt, claims_kept}
+use Rattle.cf_sync.specs.Kept.{AimsAt, HoldsTrials}
+use Rattle.cf_sync.specs.Known.{HoldsClaims, HoldsGiven, HoldsOpens, OpensAt, claims_kept}
 use Rattle.cf_sync.specs.Planned.{IsSameGiven}
 use Rattle.cf_sync.proofs.Answered.{none_came_same_given}
 use Rattle.cf_sync.proofs.KeptAims.{IsNoQuestion, aims_other, trials_piece, trials_same, trials_sent, trials_stay}
@@ -29,9 +30,10 @@ use Rattle.cf_sync.proofs.Counted.{same_use}
 use Rattle.cf_sync.proofs.Deaf.{heard_deaf, heard_on}
 use Rattle.cf_sync.proofs.TableGrows.{holds_after_piece}
 use Rattle.cf_sync.proofs.VerdictsGrow.{same_given}
-use Rattle.cf_seek.specs.Opens.{Closes, IsSameOpens}
-use Rattle.cf_tables.specs.Tables.{Table, IsSameTable}
-use Rattle.cf_tables.specs.Wanting.{ForgetsClaims, IsSameTables}
+use Rattle.cf_seek.specs.Opening.{Closes, IsSameOpens}
+use Rattle.cf_tables.specs.Tables.{IsSameTable}
+use Rattle.cf_tables.specs.Known.{Table}
+use Rattle.cf_tables.specs.Claiming.{ForgetsClaims, IsSameTables}
 use Rattle.cf_hear.specs.Hearing.{HeardWhole, HeardFault, HeardExposed}
 use Rattle.cf_hear.specs.Seen.{Seen, IsSameSeen}
 use Rattle.cf_hear.specs.Tracks.{HasOpened, Tracks, IsPut, chain_kept}

@@ -11,7 +11,8 @@ use Rattle.cf_match.specs.declared.job.Job.{Job}
 use Rattle.cf_msg.specs.declared.msg.Msg.{Msg}
 use Rattle.cf_peer.specs.Asking.{OpenRequest, NothingOpen, fetched_by, given_by, request_after}
 use Rattle.cf_tables.specs.Outputs.{Paid, lacks_kept, put_outputs}
-use Rattle.cf_tables.specs.Tests.{IsSameTold, Told, found_too, with_test}
+use Rattle.cf_tables.specs.Tests.{IsSameTold, found_too, with_test}
+use Rattle.cf_tables.specs.Known.{Told}
 use Rattle.cf_tables.specs.Trials.{IsSameTrials, Trials, TrialsGo, tested_if, with_found, with_paid}
 use Rattle.cf_sync.proofs.Idle.{no_block, no_filter, nothing_after}
 use Rattle.cf_sync.proofs.KeptAims.{brings_said}

@@ -21,7 +21,7 @@ use Rattle.cf_tables.specs.Trials.{TrialsGo, judged_if}
 use Rattle.cf_match.specs.declared.job.Job.{Job}
 use Rattle.cf_match.specs.Verdicts.{AreSameVerdicts}
 use Rattle.cf_headers.specs.Chain.{Hash}
-use Rattle.cf_seek.specs.Opens.{IsSameElse}
+use Rattle.cf_seek.specs.Opening.{IsSameElse}
 use Rattle.cf_hear.specs.declared.stop.Stop.{Stop}
 use Rattle.cf_hear.specs.declared.stop.Stop.TheVariants.{Fault, Exposed}
 use Rattle.cf_hear.specs.Exposing.{IsExposedIn, IsUnexposed}

@@ -10,12 +10,12 @@ ghost use Rattle.cf_peer.specs.Peer.{Holds, calm, is_idle_peer, IsReplySendable,
 ghost use Rattle.cf_match.specs.Verdicts.{AreSameVerdicts, with_verdicts};
 ghost use Rattle.cf_headers.specs.Chain.{back_to};
 ghost use Rattle.cf_headers.specs.Store.{Stays, own_of};
-ghost use Rattle.cf_seek.specs.Opens.{Closes, IsSameElse, IsSameOpens};
+ghost use Rattle.cf_seek.specs.Opening.{Closes, IsSameElse, IsSameOpens};
 ghost use Rattle.cf_tables.specs.Tables.{IsSameTable};
 ghost use Rattle.cf_tables.specs.Tests.{IsSameTold};
 ghost use Rattle.cf_tables.specs.Trials.{IsSameTrials, judged_if, tested_if};
 ghost use Rattle.cf_tracker.specs.Tracker.{aims_of, chains_of, claims_of, opens_of, paid_of, table_of, tests_of, trials_of, verdicts_of, watch_of};
-ghost use Rattle.cf_tables.specs.Wanting.{IsSameTables};
+ghost use Rattle.cf_tables.specs.Claiming.{IsSameTables};
 ghost use Rattle.cf_hear.specs.Seen.{Follows, seen_of};
 ghost use Rattle.cf_dispute.specs.Tables.{blocks_of};
 ghost use Rattle.cf_hear.specs.Hearing.{HearsSeen, HearsNext, HeardPiece, goes_on};

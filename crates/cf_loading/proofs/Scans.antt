@@ -7,7 +7,8 @@ use Rattle.cf_headers.specs.Chain.{tip_hash}
 use Rattle.cf_walk.specs.declared.walk.Walk.{Walk}
 use Rattle.cf_walk.specs.Judging.{StandsOn}
 use Rattle.cf_scan.specs.Scan.{Scanned, unscanned}
-use Rattle.cf_scan.specs.Extracts.{after_placed, extract_of, extracts_of, placed_from}
+use Rattle.cf_scan.specs.Extracts.{after_placed, extracts_of, placed_from}
+use Rattle.cf_scan.specs.Extract.{extract_of}
 use Rattle.cf_scan.specs.HistoryText.{history_text}
 use Rattle.cf_scan.proofs.HistoryLaws.{history_is_scan}
 use Rattle.cf_loading.specs.Scanning.{scan_text}

@@ -5,7 +5,8 @@ ghost use Rattle.cf_block.specs.Commitment.{AreTxids};
 ghost use Rattle.cf_conn.specs.Steps.{Steps};
 ghost use Rattle.cf_walk.specs.Judging.{StandsOn};
 ghost use Rattle.cf_walk.specs.Striding.{CountsLoad};
-ghost use Rattle.cf_scan.specs.Extracts.{after_placed, extract_of};
+ghost use Rattle.cf_scan.specs.Extracts.{after_placed};
+ghost use Rattle.cf_scan.specs.Extract.{extract_of};
 ghost use Rattle.cf_scan.specs.HistoryText.{history_text};
 ghost use Rattle.cf_loading.specs.Scanning.{TellsScan};
 

@@ -1,4 +1,4 @@
--- machine: what peers in memory tell.
+-- statement: what peers in memory tell.
 use Rattle.std.specs.Prelude.{◌≡◌, Bool, List, [], ◌∷◌, ◌++◌, map, reverse, Some, Result, Ok, Err}
 use Rattle.cf_block.specs.declared.tx.Block.{Block}
 use Rattle.cf_bytes.specs.declared.memory.Refused.{Refused}

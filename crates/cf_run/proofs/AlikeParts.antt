@@ -8,7 +8,7 @@ use Rattle.cf_peer.specs.Asking.{is_open, Deserves}
 use Rattle.cf_sync.specs.Fetching.{DeservesIn, IsOmitting, IsSameFetched, IsTested}
 use Rattle.cf_match.specs.declared.job.Job.{Job}
 use Rattle.cf_sync.proofs.Plans.{omits_alike, off_omits_nothing}
-use Rattle.cf_sync.specs.Kept.{OpensAt, claims_kept}
+use Rattle.cf_sync.specs.Known.{OpensAt, claims_kept}
 use Rattle.cf_sync.specs.Planned.{Alike}
 use Rattle.cf_hear.specs.Tracks.{chain_kept}
 use Rattle.cf_hear.proofs.Opening.{closes_off}

@@ -2,7 +2,7 @@
 use Rattle.std.proofs.Common.{◌≡◌, ℕ, ◌-◌, zero, List, [], ◌∷◌, length, refl, ◌∙◌, ap, Option, Some, None, arith}
 use Rattle.std.specs.Prelude.{slice_get}
 use Rattle.cf_scan.specs.declared.history.Entry.{Entry}
-use Rattle.cf_scan.specs.Extracts.{balance_of}
+use Rattle.cf_scan.specs.Scan.{balance_of}
 
 abbrev balance_in : Option Entry → ℕ
 balance_in (Some e) = e.balance

@@ -13,7 +13,8 @@ use Rattle.cf_block.specs.Tx.{txid_of}
 use Rattle.cf_scan.specs.Coins.{CoinMap}
 use Rattle.cf_scan.specs.Watching.{is_watched}
 use Rattle.cf_scan.specs.Scan.{Scanned, unscanned, Taking, take_one, take_out, put_one, coins_after, touches, entry_of, after_change, made_from, after_tx, scan_from, scan_of}
-use Rattle.cf_scan.specs.Extracts.{pays_from, tx_extract_of, extract_of, placed_from, extracts_of, coin_of, after_extract, after_placed, history_of}
+use Rattle.cf_scan.specs.Extracts.{placed_from, extracts_of, coin_of, after_extract, after_placed, history_of}
+use Rattle.cf_scan.specs.Extract.{pays_from, tx_extract_of, extract_of}
 use Rattle.cf_scan.specs.Idle.{IsIdleTx, IsIdle, LeavesOutIdle}
 use Rattle.cf_scan.proofs.CoinMaps.{outpoint_total, outpoint_same}
 use Rattle.cf_scan.proofs.Totals.{remove_absent}

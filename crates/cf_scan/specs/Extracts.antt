@@ -1,31 +1,14 @@
 -- machine: what is kept of a block that was fetched, and the history that is told from it.
-use Rattle.std.specs.Prelude.{ℕ, zero, suc, if◌then◌else◌, List, [], ◌∷◌, ◌++◌, fold, map}
+use Rattle.std.specs.Prelude.{ℕ, suc, List, ◌∷◌, fold, map}
 use Rattle.cf_block.specs.declared.tx.OutPoint.{OutPoint}
-use Rattle.cf_block.specs.declared.tx.Tx.{Tx}
 use Rattle.cf_block.specs.declared.tx.Block.{Block}
-use Rattle.cf_block.specs.Output.{Output}
-use Rattle.cf_block.specs.Outpoint.{outpoint, spends_of}
-use Rattle.cf_block.specs.Tx.{txid_of}
+use Rattle.cf_block.specs.Outpoint.{outpoint}
 use Rattle.cf_scan.specs.declared.extracts.Paid.{Paid}
 use Rattle.cf_scan.specs.declared.extracts.TxExtract.{TxExtract}
 use Rattle.cf_scan.specs.declared.extracts.Placed.{Placed}
 use Rattle.cf_scan.specs.declared.history.Entry.{Entry}
-use Rattle.cf_scan.specs.Watching.{is_watched}
 use Rattle.cf_scan.specs.Scan.{Scanned, unscanned, after_change}
-
--- the outputs to watched scripts, the first of these outputs being the one of this number
-abbrev pub pays_from : ℕ → List (List ℕ) → List Output → List Paid
-pays_from i watch [] = []
-pays_from i watch (o ∷ os) =
-    (if is_watched watch o.script then record { index = i; output = o } ∷ [] else []) ++ pays_from (suc i) watch os
-
--- a transaction's hash, every outpoint that it spends, watched or not, and its outputs to watched scripts
-abbrev pub tx_extract_of : List (List ℕ) → Tx → TxExtract
-tx_extract_of watch t = record { txid = record { 0 = txid_of t }; spends = spends_of t; pays = pays_from 0 watch t.outputs }
-
--- of each transaction, in the block's order
-abbrev pub extract_of : Block → List (List ℕ) → List TxExtract
-extract_of b watch = map (tx_extract_of watch) b.txs
+use Rattle.cf_scan.specs.Extract.{extract_of}
 
 -- the extracts of blocks with their heights, the first of them at this one
 abbrev pub placed_from : ℕ → List Block → List (List ℕ) → List Placed
@@ -51,9 +34,3 @@ after_placed s b = fold (after_extract b.height) s b.extract
 -- the entries of these extracts, in this order
 abbrev pub history_of : List Placed → List Entry
 history_of blocks = (fold after_placed unscanned blocks).entries
-
--- the balance after the last entry, or nothing
-abbrev pub balance_of : List Entry → ℕ
-balance_of [] = zero
-balance_of (e ∷ []) = e.balance
-balance_of (e ∷ f ∷ es) = balance_of (f ∷ es)

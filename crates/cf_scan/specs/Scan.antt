@@ -1,5 +1,5 @@
 -- statement: the plain scan: the history that a watcher has who reads every transaction of every block, from height 1 on.
-use Rattle.std.specs.Prelude.{ℕ, suc, Bool, not, ◌||◌, ◌==◌, if◌then◌else◌, List, [], ◌∷◌, ◌++◌, fold, sum, sum_by, length}
+use Rattle.std.specs.Prelude.{ℕ, suc, Bool, not, ◌||◌, ◌==◌, if◌then◌else◌, List, [], ◌∷◌, ◌++◌, fold, sum, sum_by, length, zero}
 use Rattle.std.specs.Option.{option_to_list}
 use Rattle.std.specs.FinMap.{get, insert, remove, empty}
 use Rattle.cf_block.specs.declared.tx.OutPoint.{OutPoint}
@@ -84,3 +84,9 @@ scan_of blocks watch = (scan_from 1 watch unscanned blocks).entries
 -- the watched coins after them
 abbrev pub watched_coins : List Block → List (List ℕ) → CoinMap
 watched_coins blocks watch = (scan_from 1 watch unscanned blocks).coins
+
+-- the balance after the last entry, or nothing
+abbrev pub balance_of : List Entry → ℕ
+balance_of [] = zero
+balance_of (e ∷ []) = e.balance
+balance_of (e ∷ f ∷ es) = balance_of (f ∷ es)

@@ -3,7 +3,7 @@ ghost use Rattle.std.specs.Prelude.{◌≡◌, IfOk, map};
 ghost use Rattle.cf_block.specs.Commitment.{AreTxids};
 ghost use Rattle.cf_block.specs.Outpoint.{spends_of};
 ghost use Rattle.cf_block.specs.Tx.{txid_of};
-ghost use Rattle.cf_scan.specs.Extracts.{pays_from, tx_extract_of, extract_of};
+ghost use Rattle.cf_scan.specs.Extract.{pays_from, tx_extract_of, extract_of};
 
 use crate::watch::Watch;
 use cf_block::{Block, OutPoint, Tx, TxIn, TxOut, is_coinbase, txids};

@@ -1,6 +1,7 @@
 //! The history of watched scripts, and its text.
 ghost use Rattle.std.specs.Prelude.{◌≡◌, [], IfOk, string_bytes};
-ghost use Rattle.cf_scan.specs.Extracts.{history_of, balance_of};
+ghost use Rattle.cf_scan.specs.Extracts.{history_of};
+ghost use Rattle.cf_scan.specs.Scan.{balance_of};
 ghost use Rattle.cf_scan.specs.HistoryText.{entry_line, last_line, history_text};
 
 use crate::extracts::Placed;

@@ -2,8 +2,8 @@
 ghost use Rattle.std.specs.Prelude.{◌≡◌, ◌↔◌, ℕ, Bool, List, filter};
 ghost use Rattle.cf_block.specs.declared.tx.Block.{Block};
 ghost use Rattle.cf_scan.specs.Coins.{total};
-ghost use Rattle.cf_scan.specs.Scan.{scan_of, watched_coins};
-ghost use Rattle.cf_scan.specs.Extracts.{extracts_of, history_of, balance_of};
+ghost use Rattle.cf_scan.specs.Scan.{scan_of, watched_coins, balance_of};
+ghost use Rattle.cf_scan.specs.Extracts.{extracts_of, history_of};
 ghost use Rattle.cf_scan.specs.Idle.{LeavesOutIdle};
 ghost use Rattle.cf_scan.specs.Watching.{IsWatch};
 ghost use Rattle.cf_scan.specs.Watchable.{AreWatchable};

@@ -16,7 +16,8 @@ use Rattle.cf_headers.specs.Store.{Chains, rank, IsBest}
 use Rattle.cf_headers.proofs.Stacks.{lower_reverse}
 use Rattle.cf_scan.specs.Scan.{Scanned}
 use Rattle.cf_scan.specs.Extracts.{after_placed}
-use Rattle.cf_tables.specs.Tables.{Table, placed_one, placed_by}
+use Rattle.cf_tables.specs.Tables.{placed_one, placed_by}
+use Rattle.cf_tables.specs.Known.{Table}
 use Rattle.cf_seek.specs.Tracking.{AreAmong, IsBestChain, best_chain}
 
 -- both chains have the blocks up to the common height

@@ -7,7 +7,7 @@ use Rattle.cf_dispute.specs.declared.claim.Claim.{Claim}
 use Rattle.cf_dispute.specs.Claims.{Tables, IsAt, with_claims}
 use Rattle.cf_dispute.proofs.PutIn.{in_or_out}
 use Rattle.cf_headers.specs.Chain.{Hash, IsIn}
-use Rattle.cf_tables.specs.Wanting.{ForgetsClaims}
+use Rattle.cf_tables.specs.Claiming.{ForgetsClaims}
 use Rattle.cf_seek.proofs.Marked.{differ_before, others_same}
 
 claimed_before : (before after : Tables) (p : ℕ) → ForgetsClaims before after p → (q : ℕ) (block : Hash) (claim : Claim)

@@ -32,11 +32,14 @@ use Rattle.cf_seek.specs.declared.cursors.Marks.{Marks}
 use Rattle.cf_seek.specs.Cursors.{no_marks, marks_at, lowered, fallen, further, unpassed, unsought}
 use Rattle.cf_tables.specs.Extracts.{with_extract}
 use Rattle.cf_tables.specs.Judged.{AreKeptInPart, MoreVerdicts}
-use Rattle.cf_seek.specs.Opens.{Opens, Closes}
+use Rattle.cf_seek.specs.Opens.{Opens}
+use Rattle.cf_seek.specs.Opening.{Closes}
 use Rattle.cf_seek.specs.Seeking.{AreSought, ArePassed, MoreOpens}
-use Rattle.cf_tables.specs.Tables.{Table, IsSameTable}
+use Rattle.cf_tables.specs.Tables.{IsSameTable}
+use Rattle.cf_tables.specs.Known.{Table}
 use Rattle.cf_seek.specs.Tracking.{AreAmong, IsFallen, IsMarked, MarkedAt, AreMarked}
-use Rattle.cf_tables.specs.Wanting.{IsToFetch, IsUnjudged, AddsClaims, AreClaimed, ForgetsClaims}
+use Rattle.cf_tables.specs.Wanting.{IsToFetch, IsUnjudged, AreClaimed}
+use Rattle.cf_tables.specs.Claiming.{AddsClaims, ForgetsClaims}
 use Rattle.cf_seek.proofs.Stays.{claims_more}
 use Rattle.cf_seek.proofs.SoughtStays.{passed_part, sought_extracts, passed_extracts, sought_verdicts, sought_claims, passed_claims, sought_opens, passed_opens, sought_closes, passed_closes, same_below, sought_grown, passed_grown}
 

@@ -13,7 +13,7 @@ use Rattle.cf_match.specs.Verdicts.{Verdicts}
 use Rattle.cf_seek.specs.declared.cursors.Marks.{Marks}
 use Rattle.cf_seek.specs.Cursors.{marks_at}
 use Rattle.cf_seek.specs.Opens.{Opens}
-use Rattle.cf_tables.specs.Tables.{Table}
+use Rattle.cf_tables.specs.Known.{Table}
 use Rattle.cf_seek.specs.Tracking.{IsMarked, IsWithin, MarkedAt, AreMarked}
 use Rattle.cf_seek.proofs.Marked.{put_marked}
 

@@ -12,7 +12,7 @@ use Rattle.cf_bytes.specs.declared.memory.NoMemory.{NoMemory}
 use Rattle.cf_dispute.specs.Tables.{blocks_of}
 use Rattle.cf_headers.specs.Chain.{Hash, IsIn}
 use Rattle.cf_seek.specs.declared.open_at.OpenAt.{OpenAt}
-use Rattle.cf_seek.specs.Opens.{Closes, OpensBlock, OpensFilters, OpensSome}
+use Rattle.cf_seek.specs.Opening.{Closes, OpensBlock, OpensFilters, OpensSome}
 use Rattle.cf_seek.specs.OpensOf.{filter_at, filter_or, block_at, block_or, opens_among}
 use Rattle.cf_seek.specs.Seeking.{MoreOpens}
 use Rattle.cf_headers.specs.Rules.{same}

@@ -17,7 +17,7 @@ use Rattle.cf_seek.specs.declared.cursors.Marks.{Marks}
 use Rattle.cf_seek.specs.Cursors.{raised}
 use Rattle.cf_seek.specs.Opens.{Opens}
 use Rattle.cf_seek.specs.Seeking.{ArePassed, AreSought, IsToAsk, IsToGet}
-use Rattle.cf_tables.specs.Tables.{Table}
+use Rattle.cf_tables.specs.Known.{Table}
 use Rattle.cf_seek.specs.Tracking.{IsMarked}
 use Rattle.cf_tables.specs.Wanting.{AreClaimed}
 

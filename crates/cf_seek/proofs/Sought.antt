@@ -9,7 +9,7 @@ use Rattle.cf_headers.specs.Heights.{hash_at, height_of}
 use Rattle.cf_match.specs.Verdicts.{Verdicts}
 use Rattle.cf_tables.specs.declared.kind.Kind.{Kind}
 use Rattle.cf_tables.specs.declared.kind.Kind.TheVariants.{Unclaimed, Unjudged, ToFetch, Done}
-use Rattle.cf_tables.specs.Tables.{Table}
+use Rattle.cf_tables.specs.Known.{Table}
 use Rattle.cf_tables.specs.Wanting.{IsToFetch, IsKind}
 use Rattle.cf_seek.specs.Opens.{Opens}
 use Rattle.cf_seek.specs.Seeking.{IsToAsk, IsToGet, AreSought, ArePassed, AreToAsk}

@@ -20,9 +20,11 @@ use Rattle.cf_match.specs.declared.job.Verdict.{Verdict}
 use Rattle.cf_match.specs.declared.job.Verdict.TheVariants.{Hit}
 use Rattle.cf_match.specs.Verdicts.{Verdicts, is_of, kept_or, verdict_of, with_verdict, with_verdicts}
 use Rattle.cf_tables.specs.Judged.{MoreVerdicts}
-use Rattle.cf_tables.specs.Tables.{Table}
-use Rattle.cf_tables.specs.Wanting.{IsUnjudged, IsToFetch, AreClaimed, AddsClaims}
-use Rattle.cf_seek.specs.Opens.{Opens, Closes, OpensBlock}
+use Rattle.cf_tables.specs.Known.{Table}
+use Rattle.cf_tables.specs.Wanting.{IsUnjudged, IsToFetch, AreClaimed}
+use Rattle.cf_tables.specs.Claiming.{AddsClaims}
+use Rattle.cf_seek.specs.Opens.{Opens}
+use Rattle.cf_seek.specs.Opening.{Closes, OpensBlock}
 use Rattle.cf_seek.specs.Seeking.{IsToAsk, IsToGet, AreSought, ArePassed, ArePassedHits, MoreOpens}
 use Rattle.cf_seek.proofs.Stays.{claims_more}
 

@@ -4,7 +4,7 @@ use Rattle.std.proofs.lemmas.Bool.{cases_eq}
 use Rattle.cf_bytes.specs.declared.hash.Hash32.{Hash32}
 use Rattle.cf_dispute.specs.Claims.{Tables, Claims}
 use Rattle.cf_headers.specs.Chain.{Hash}
-use Rattle.cf_tables.specs.Wanting.{AddsClaims}
+use Rattle.cf_tables.specs.Claiming.{AddsClaims}
 
 -- who claimed something still does, where claims are added
 pub claims_more : (before after : Tables) (p q : ℕ) (block : Hash) (hash : Hash32) → AddsClaims before after p → Claims before q block hash → Claims after q block hash

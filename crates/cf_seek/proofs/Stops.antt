@@ -1,10 +1,9 @@
 -- A range may be asked for up to the lowest height at which its last hash stands, whatever hashes there are.
 use Rattle.std.proofs.Common.{◌≡◌, inl, inr, ℕ, suc, ◌-◌, ◌<◌, ◌≤◌, List, [], ◌∷◌, ◌++◌, length, Option, Some, None, Bool, true, false, if◌then◌else◌, reverse, take, drop, map, get_or, ◌+◌, zero, subst, refl, sym, ◌∙◌, ap, arith, length-append}
-use Rattle.std.specs.Prelude.{option_map}
+use Rattle.std.specs.Prelude.{option_map, unwrap_or, pred, IsSome}
 use Rattle.std.specs.Option.{option_or}
 use Rattle.std.proofs.lemmas.Bool.{cases_lt}
 use Rattle.std.proofs.Math.Seq.{drop-append_seam}
-use Rattle.std.specs.Prelude.{unwrap_or, pred, IsSome}
 use Rattle.cf_dispute.specs.Claims.{Tables}
 use Rattle.cf_match.specs.Verdicts.{Verdicts}
 use Rattle.cf_seek.specs.declared.spans.Span.{Span}
@@ -12,7 +11,7 @@ use Rattle.cf_seek.specs.declared.spans.Wish.TheVariants.{Claims, Filters}
 use Rattle.cf_seek.specs.declared.want.Want.TheVariants.{Claims as ClaimsFrom, Filters as FiltersFrom}
 use Rattle.cf_seek.specs.Ends.{AreUnclaimed, IsLastUnclaimed}
 use Rattle.cf_seek.specs.Spans.{IsSpan, IsWish, GoesFar}
-use Rattle.cf_tables.specs.Tables.{Table}
+use Rattle.cf_tables.specs.Known.{Table}
 use Rattle.cf_seek.specs.Opens.{Opens}
 use Rattle.cf_seek.specs.Seeking.{AreSought, AreToAsk, IsLastToAsk, IsSought, IsToAsk}
 use Rattle.cf_tables.specs.Wanting.{IsAbove, AreClaimed}

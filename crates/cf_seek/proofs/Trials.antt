@@ -13,8 +13,7 @@ use Rattle.cf_seek.specs.Testing.{IsTrial, IsNextTrial}
 use Rattle.cf_seek.specs.Tried.{AreTried, IsToTry}
 use Rattle.cf_seek.proofs.Sought.{placed_low}
 use Rattle.cf_seek.proofs.Stops.{back_ends, found_low, length_found}
-use Rattle.cf_tables.specs.Tables.{Table}
-use Rattle.cf_tables.specs.Tests.{Told}
+use Rattle.cf_tables.specs.Known.{Table, Told}
 use Rattle.cf_tables.specs.Wanting.{IsAbove}
 
 -- ---- blocks by heights

@@ -9,3 +9,4 @@ pub mod Seeking
 pub mod Testing
 pub mod Tried
 pub mod Aims
+pub mod Opening

@@ -10,7 +10,7 @@ use Rattle.cf_match.specs.Verdicts.{Verdicts}
 use Rattle.cf_seek.specs.declared.want.Want.{Want}
 use Rattle.cf_seek.specs.declared.want.Want.TheVariants.{Nothing, Claims, Filters, Block}
 use Rattle.cf_seek.specs.Opens.{Opens, IsFilterFree, IsBlockFree}
-use Rattle.cf_tables.specs.Tables.{Table}
+use Rattle.cf_tables.specs.Known.{Table}
 use Rattle.cf_tables.specs.Wanting.{IsAbove, IsUnjudged, IsToFetch, AreClaimed}
 
 -- a block that isn't genesis: its filter is to be asked for, and is open to nobody

@@ -12,9 +12,10 @@ use Rattle.cf_seek.specs.declared.spans.Wish.TheVariants.{Nothing, Claims, Filte
 use Rattle.cf_seek.specs.declared.want.Want.TheVariants.{Nothing as NothingWanted, Claims as ClaimsFrom, Filters as FiltersFrom, Block as BlockAt}
 use Rattle.cf_dispute.specs.Tables.{blocks_of}
 use Rattle.cf_seek.specs.Ends.{AreUnclaimed, IsLastUnclaimed}
-use Rattle.cf_seek.specs.Opens.{IsSameOpens, Opens, OpensBlock, OpensFilters, OpensSome}
+use Rattle.cf_seek.specs.Opens.{Opens}
+use Rattle.cf_seek.specs.Opening.{IsSameOpens, OpensBlock, OpensFilters, OpensSome}
 use Rattle.cf_seek.specs.Seeking.{AreToAsk, IsLastToAsk, IsSought}
-use Rattle.cf_tables.specs.Tables.{Table}
+use Rattle.cf_tables.specs.Known.{Table}
 
 -- the blocks of a chain from a height up to a part's tip, the lowest first, with the block below them; the part ends where the stop stands first
 pub record IsSpan (own : Chain) (start end : ℕ) (span : Span) : Type 0 where

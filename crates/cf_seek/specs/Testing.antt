@@ -8,8 +8,7 @@ use Rattle.cf_headers.specs.Heights.{height_of}
 use Rattle.cf_seek.specs.declared.spans.Wish.{Wish}
 use Rattle.cf_seek.specs.declared.spans.Wish.TheVariants.{Nothing, Claims, Filters, Block, Test}
 use Rattle.cf_seek.specs.declared.testing.Trial.{Trial}
-use Rattle.cf_tables.specs.Tables.{Table}
-use Rattle.cf_tables.specs.Tests.{Told}
+use Rattle.cf_tables.specs.Known.{Table, Told}
 
 -- a fetched block on whose filter they differ, where what p claims of it wasn't tested
 pub record IsToTest (extracts : Table) (tables : Tables) (told : Told) (p : ℕ) (block : Hash) : Type 0 where

@@ -14,7 +14,8 @@ use Rattle.cf_scan.specs.declared.history.Entry.{Entry}
 use Rattle.cf_scan.specs.Extracts.{history_of}
 use Rattle.cf_seek.specs.declared.cursors.Marks.{Marks}
 use Rattle.cf_seek.specs.Cursors.{marks_at}
-use Rattle.cf_tables.specs.Tables.{Table, placed_by}
+use Rattle.cf_tables.specs.Tables.{placed_by}
+use Rattle.cf_tables.specs.Known.{Table}
 use Rattle.cf_seek.specs.Opens.{Opens}
 use Rattle.cf_seek.specs.Seeking.{ArePassed, ArePassedHits, AreSought, IsBelowAHit}
 use Rattle.cf_tables.specs.Wanting.{AreClaimed}

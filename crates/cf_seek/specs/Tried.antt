@@ -8,8 +8,7 @@ use Rattle.cf_headers.specs.Heights.{hash_at, height_of}
 use Rattle.cf_headers.specs.Store.{Chains}
 use Rattle.cf_seek.specs.Cursors.{passed_under}
 use Rattle.cf_seek.specs.Testing.{IsToTest}
-use Rattle.cf_tables.specs.Tables.{Table}
-use Rattle.cf_tables.specs.Tests.{Told}
+use Rattle.cf_tables.specs.Known.{Table, Told}
 use Rattle.cf_tables.specs.Wanting.{IsAbove}
 
 -- of a block that hasn't genesis's hash what p claims is to be tested

@@ -11,10 +11,12 @@ ghost use Rattle.cf_match.specs.declared.job.Job.{Job};
 ghost use Rattle.cf_match.specs.declared.job.Verdict.TheVariants.{Hit};
 ghost use Rattle.cf_match.specs.Verdicts.{Verdicts, verdict_of, with_verdicts};
 ghost use Rattle.cf_tables.specs.Judged.{MoreVerdicts};
-ghost use Rattle.cf_seek.specs.Opens.{Closes, Opens};
+ghost use Rattle.cf_seek.specs.Opens.{Opens};
+ghost use Rattle.cf_seek.specs.Opening.{Closes};
 ghost use Rattle.cf_seek.specs.Seeking.{ArePassed, ArePassedHits, AreSought, MoreOpens};
-ghost use Rattle.cf_tables.specs.Tables.{Table};
-ghost use Rattle.cf_tables.specs.Wanting.{AddsClaims, AreClaimed, IsToFetch, IsUnjudged};
+ghost use Rattle.cf_tables.specs.Known.{Table};
+ghost use Rattle.cf_tables.specs.Wanting.{AreClaimed, IsToFetch, IsUnjudged};
+ghost use Rattle.cf_tables.specs.Claiming.{AddsClaims};
 
 /// Up to a height at which nothing of a peer's blocks is to be asked for that isn't open, that stays so: where extracts
 /// come, where verdicts come (blocks that hit now are to be fetched), where other peers claim something (blocks that

@@ -3,7 +3,8 @@ ghost use Rattle.std.specs.Prelude.{◌≡◌, ◌≢◌, ◌≤◌, ℕ, List, 
 ghost use Rattle.cf_dispute.specs.Tables.{blocks_of};
 ghost use Rattle.cf_seek.specs.Seeking.{MoreOpens};
 ghost use Rattle.cf_seek.specs.Spans.{IsAskedFor, IsAskedInPart};
-ghost use Rattle.cf_seek.specs.Opens.{Closes, IsBlockFree, IsFilterFree, OpensBlock, OpensFilters, OpensSome};
+ghost use Rattle.cf_seek.specs.Opens.{IsBlockFree, IsFilterFree};
+ghost use Rattle.cf_seek.specs.Opening.{Closes, OpensBlock, OpensFilters, OpensSome};
 
 use crate::open_at::OpenAt;
 use crate::spans::Wish;

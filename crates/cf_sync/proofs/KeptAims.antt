@@ -26,10 +26,12 @@ use Rattle.cf_peer.specs.Asking.{OpenRequest, NothingOpen, HeadersOpen, ClaimsOp
 use Rattle.cf_filter.specs.Lacking.{output_items_of}
 use Rattle.cf_headers.specs.Rules.{same}
 use Rattle.cf_tables.specs.Outputs.{Paid, lacks_kept}
-use Rattle.cf_tables.specs.Tests.{IsSameTold, Told}
+use Rattle.cf_tables.specs.Tests.{IsSameTold}
+use Rattle.cf_tables.specs.Known.{Told}
 use Rattle.cf_tables.specs.Trials.{Trials, TrialsGo, tested_if, with_paid}
 use Rattle.cf_sync.specs.Fetching.{AreFiltersWanted, IsConnected, IsFetchedHash, IsNoPiece, IsTest, IsTested, IsTestedWith, IsTestOf, IsSameFetched, blocks_in, counted_part, filters_open, test_after}
-use Rattle.cf_sync.specs.Kept.{AimsAt, AreClean, HoldsOutputs, HoldsTests, HoldsTrials, IsNoSend}
+use Rattle.cf_sync.specs.Kept.{AimsAt, AreClean, HoldsOutputs, HoldsTrials, IsNoSend}
+use Rattle.cf_sync.specs.Known.{HoldsTests}
 use Rattle.cf_seek.proofs.Stops.{back_ends}
 use Rattle.cf_sync.proofs.Deaf.{heard_deaf, heard_on}
 use Rattle.cf_sync.proofs.Entries.{at_either}

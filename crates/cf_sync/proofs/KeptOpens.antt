@@ -12,12 +12,13 @@ use Rattle.cf_msg.specs.declared.msg.Msg.TheVariants.{GetData, GetCfilters}
 use Rattle.cf_wires.specs.Log.{Log}
 use Rattle.cf_peer.specs.Trail.{Trail, trail, connected, own}
 use Rattle.cf_peer.specs.Asking.{OpenRequest, NothingOpen, FiltersOpen, BlockOpen, block_entry, request}
-use Rattle.cf_seek.specs.Opens.{Opens, IsFilterFree, IsBlockFree, IsSameElse, Closes, OpensFilters, OpensBlock}
+use Rattle.cf_seek.specs.Opens.{Opens, IsFilterFree, IsBlockFree}
+use Rattle.cf_seek.specs.Opening.{IsSameElse, Closes, OpensFilters, OpensBlock}
 use Rattle.cf_seek.specs.Seeking.{IsToAsk, IsToGet}
-use Rattle.cf_tables.specs.Tables.{Table}
+use Rattle.cf_tables.specs.Known.{Table}
 use Rattle.cf_tables.specs.Wanting.{IsAbove}
 use Rattle.cf_sync.specs.Fetching.{filters_open, blocks_open, IsFilterOpen, IsBlockOpen, IsAlone, IsSettled, HoldsFetched, blocks_in}
-use Rattle.cf_sync.specs.Kept.{HoldsClaims, HoldsGiven, HoldsOpens, OpensAt}
+use Rattle.cf_sync.specs.Known.{HoldsClaims, HoldsGiven, HoldsOpens, OpensAt}
 use Rattle.cf_match.specs.declared.job.Job.{Job}
 use Rattle.cf_sync.proofs.Kept.{done_else, settled_by}
 use Rattle.cf_sync.proofs.Once.{moved, moved_back}

@@ -27,14 +27,15 @@ use Rattle.cf_peer.specs.Asking.{fetched, given}
 use Rattle.cf_peer.specs.Trail.{trail, own}
 use Rattle.cf_scan.specs.declared.extracts.TxExtract.{TxExtract}
 use Rattle.cf_tables.specs.Outputs.{Paid, lacks_kept, put_outputs}
-use Rattle.cf_tables.specs.Tables.{Table}
+use Rattle.cf_tables.specs.Known.{Table, Told}
 use Rattle.cf_seek.specs.Testing.{IsToTest, IsTrial, IsNextTrial}
-use Rattle.cf_tables.specs.Tests.{Told, found_too}
+use Rattle.cf_tables.specs.Tests.{found_too}
 use Rattle.cf_tables.specs.Trials.{with_found}
 use Rattle.cf_seek.proofs.Along.{common_low}
 use Rattle.cf_seek.proofs.Stops.{back_ends, found_low}
 use Rattle.cf_sync.specs.Fetching.{counted_part, IsAbove, IsConnected, IsDisputed, IsFetched, IsFetchedHash, IsNoPiece, IsOmission, IsSameFetched, IsTest, IsTested, IsTestedWith, IsTestOf, IsTestWanted, HoldsFetched, RightlyIn, IsTestedThrough}
-use Rattle.cf_sync.specs.Kept.{AreClean, HoldsClaims, HoldsOutputs, HoldsTests}
+use Rattle.cf_sync.specs.Kept.{AreClean, HoldsOutputs}
+use Rattle.cf_sync.specs.Known.{HoldsClaims, HoldsTests}
 use Rattle.cf_sync.proofs.Answered.{fetched_hash_stays, test_fetched}
 use Rattle.cf_sync.proofs.Blamed.{tested_stays}
 use Rattle.cf_sync.proofs.Grows.{fetched_before, fetched_stays}

@@ -12,7 +12,7 @@ use Rattle.cf_peer.specs.declared.peer.Cause.{Cause}
 use Rattle.cf_wires.specs.Log.{Log}
 use Rattle.cf_peer.specs.Trail.{Trail, Part, Why, Called, Refused, Asked, Passed, Lost, Went, Failing, Shutting, called_part, with_item, heard_part, spelled, asks, part_of, trail}
 use Rattle.cf_peer.specs.Asking.{counted, fetched}
-use Rattle.cf_tables.specs.Tables.{Table}
+use Rattle.cf_tables.specs.Known.{Table}
 use Rattle.cf_sync.specs.Fetching.{IsFetched, IsFetchedHash, IsSameFetched, IsNoPiece, IsWanted, HoldsFetched}
 use Rattle.cf_sync.proofs.Entries.{at_either}
 

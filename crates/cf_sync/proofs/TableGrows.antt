@@ -14,8 +14,9 @@ use Rattle.cf_wires.specs.Log.{Log}
 use Rattle.cf_peer.specs.Trail.{Part}
 use Rattle.cf_peer.specs.Asking.{counted, fetched}
 use Rattle.cf_scan.specs.declared.extracts.TxExtract.{TxExtract}
-use Rattle.cf_scan.specs.Extracts.{extract_of}
-use Rattle.cf_tables.specs.Tables.{Table, with_blocks, IsSameTable}
+use Rattle.cf_scan.specs.Extract.{extract_of}
+use Rattle.cf_tables.specs.Tables.{with_blocks, IsSameTable}
+use Rattle.cf_tables.specs.Known.{Table}
 use Rattle.cf_sync.specs.Fetching.{counted_part, IsFetched, IsNoPiece, HoldsFetched}
 use Rattle.cf_sync.proofs.Listed.{in_left, in_right, in_either}
 use Rattle.cf_sync.proofs.Chains.{cases_same}

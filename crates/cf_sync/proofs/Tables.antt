@@ -11,7 +11,8 @@ use Rattle.cf_scan.specs.declared.extracts.TxExtract.{TxExtract}
 use Rattle.cf_scan.specs.Scan.{Scanned, unscanned, after_tx, scan_from}
 use Rattle.cf_scan.specs.Extracts.{after_placed, history_of}
 use Rattle.cf_scan.proofs.HistoryLaws.{extract_block}
-use Rattle.cf_tables.specs.Tables.{Table, placed_one, placed_by}
+use Rattle.cf_tables.specs.Tables.{placed_one, placed_by}
+use Rattle.cf_tables.specs.Known.{Table}
 use Rattle.cf_sync.specs.Fetching.{StandFor, IsScanOver, HoldsFetched}
 
 -- blocks that stand for headers, and whose scan the extracts give

@@ -13,7 +13,7 @@ use Rattle.cf_wires.specs.declared.event.Event.{Event}
 use Rattle.cf_wires.specs.Log.{Log}
 use Rattle.cf_peer.specs.Trail.{Trail, Said, connected}
 use Rattle.cf_sync.specs.Fetching.{IsGiven, IsNoPiece}
-use Rattle.cf_sync.specs.Kept.{HoldsGiven}
+use Rattle.cf_sync.specs.Known.{HoldsGiven}
 use Rattle.cf_sync.specs.Planned.{IsSameGiven}
 use Rattle.cf_sync.proofs.Answered.{no_piece_same_given}
 use Rattle.cf_dispute.proofs.PutIn.{same_true, same_from}

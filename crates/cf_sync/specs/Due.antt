@@ -10,14 +10,13 @@ use Rattle.cf_peer.specs.Asking.{block_entry}
 use Rattle.cf_wires.specs.Log.{Log}
 use Rattle.cf_peer.specs.Trail.{trail, own, heard_in}
 use Rattle.cf_sync.specs.Fetching.{Rule, IsBest, IsNeeded, HoldsFetched}
-use Rattle.cf_sync.specs.Kept.{HoldsClaims, HoldsGiven, HoldsOpens, HoldsTests}
+use Rattle.cf_sync.specs.Known.{HoldsClaims, HoldsGiven, HoldsOpens, HoldsTests}
 use Rattle.cf_seek.specs.declared.spans.Wish.{Wish}
 use Rattle.cf_seek.specs.declared.spans.Wish.TheVariants.{Claims, Filters, Block, Test}
 use Rattle.cf_seek.specs.Opens.{Opens}
 use Rattle.cf_seek.specs.Spans.{IsWish, GoesFar}
-use Rattle.cf_tables.specs.Tables.{Table}
+use Rattle.cf_tables.specs.Known.{Table, Told}
 use Rattle.cf_seek.specs.Testing.{IsTrying}
-use Rattle.cf_tables.specs.Tests.{Told}
 
 -- a message puts a question
 abbrev pub Puts : Wish → Msg → Type 0

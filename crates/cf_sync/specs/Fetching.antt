@@ -25,9 +25,9 @@ use Rattle.cf_wires.specs.Log.{Log}
 use Rattle.cf_peer.specs.Trail.{Trail, trail, spelled, connected, own, heard_in}
 use Rattle.cf_scan.specs.declared.extracts.TxExtract.{TxExtract}
 use Rattle.cf_scan.specs.declared.history.Entry.{Entry}
-use Rattle.cf_scan.specs.Extracts.{extract_of}
+use Rattle.cf_scan.specs.Extract.{extract_of}
 use Rattle.cf_scan.specs.Scan.{scan_of}
-use Rattle.cf_tables.specs.Tables.{Table}
+use Rattle.cf_tables.specs.Known.{Table}
 use Rattle.cf_filter.specs.Lacking.{output_items_of, lacks}
 use Rattle.cf_peer.specs.Asking.{OpenRequest, NothingOpen, HeadersOpen, ClaimsOpen, FiltersOpen, BlockOpen, PingOpen, request, is_open, counted, claims, hash_claimed, HasHeader, fetched, given, blocks_from, Deserves, MayAskIn}
 

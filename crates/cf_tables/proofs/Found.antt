@@ -4,7 +4,8 @@ use Rattle.std.proofs.lemmas.Bool.{and_parts}
 use Rattle.cf_dispute.proofs.PutIn.{same_true}
 use Rattle.cf_headers.specs.Chain.{Hash}
 use Rattle.cf_headers.specs.Rules.{same}
-use Rattle.cf_tables.specs.Tests.{Told, found_too, set_test, with_test}
+use Rattle.cf_tables.specs.Tests.{found_too, set_test, with_test}
+use Rattle.cf_tables.specs.Known.{Told}
 
 -- at the same hashes the same was found before
 set_joined : (told : Told) (at of : Hash) (lacks : Bool) (block filter : Hash)

@@ -6,7 +6,7 @@ use Rattle.cf_headers.specs.Rules.{same}
 use Rattle.cf_scan.specs.declared.extracts.TxExtract.{TxExtract}
 use Rattle.cf_tables.specs.Extracts.{put_extract, with_extract}
 use Rattle.cf_tables.specs.Outputs.{Paid, put_outputs, set_outputs}
-use Rattle.cf_tables.specs.Tables.{Table}
+use Rattle.cf_tables.specs.Known.{Table}
 use Rattle.cf_dispute.proofs.PutIn.{same_true}
 
 none_or : {A : Type 0} (o : Option A) (x : A) → is_some o ≡ false → unwrap_or o x ≡ x

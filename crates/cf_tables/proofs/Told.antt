@@ -11,7 +11,7 @@ use Rattle.cf_headers.specs.Heights.{hash_at}
 use Rattle.cf_match.specs.Verdicts.{Verdicts}
 use Rattle.cf_tables.specs.declared.kind.Kind.{Kind}
 use Rattle.cf_tables.specs.declared.kind.Kind.TheVariants.{Unclaimed, Unjudged, ToFetch, Done}
-use Rattle.cf_tables.specs.Tables.{Table}
+use Rattle.cf_tables.specs.Known.{Table}
 use Rattle.cf_tables.specs.Wanting.{IsAbove, IsUnjudged, IsKind, IsKindAbove, AreClaimed}
 
 -- of one block two hashes alone are one, and none differ

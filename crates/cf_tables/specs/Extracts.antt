@@ -7,7 +7,7 @@ use Rattle.cf_headers.specs.Chain.{Hash}
 use Rattle.cf_headers.specs.Rules.{same}
 use Rattle.cf_scan.specs.declared.extracts.TxExtract.{TxExtract}
 use Rattle.cf_tables.specs.declared.extracts.Extracts.{Extracts}
-use Rattle.cf_tables.specs.Tables.{Table}
+use Rattle.cf_tables.specs.Known.{Table}
 
 -- the extract that is kept under a block's hash
 unfoldable pub table_in : Extracts → Table

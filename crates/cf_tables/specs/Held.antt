@@ -4,7 +4,7 @@ use Rattle.cf_headers.specs.Chain.{Hash, IsIn}
 use Rattle.cf_headers.specs.Counts.{AreApart}
 use Rattle.cf_match.specs.Verdicts.{Verdicts}
 use Rattle.cf_tables.specs.Outputs.{Paid}
-use Rattle.cf_tables.specs.Tables.{Table}
+use Rattle.cf_tables.specs.Known.{Table}
 
 -- so many blocks have an extract
 pub record CountsBlocks (table : Table) (n : ℕ) : Type 0 where

@@ -6,3 +6,5 @@ pub mod Held
 pub mod Tests
 pub mod Outputs
 pub mod Trials
+pub mod Known
+pub mod Claiming

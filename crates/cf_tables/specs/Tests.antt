@@ -6,10 +6,7 @@ use Rattle.std.specs.Map.{lookup}
 use Rattle.cf_headers.specs.Chain.{Hash}
 use Rattle.cf_headers.specs.Rules.{same}
 use Rattle.cf_tables.specs.declared.tests.Tests.{Tests}
-
--- what tests told: of a block and a filter's hash, whether the filter lacks what the block pays
-abbrev pub Told : Type 0
-Told = Hash → Hash → Option Bool
+use Rattle.cf_tables.specs.Known.{Told}
 
 -- what is kept of tests
 unfoldable pub told_in : Tests → Told

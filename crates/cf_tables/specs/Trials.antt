@@ -8,7 +8,8 @@ use Rattle.cf_headers.specs.Chain.{Hash}
 use Rattle.cf_match.specs.declared.job.Job.{Job}
 use Rattle.cf_match.specs.Verdicts.{Verdicts, with_verdicts}
 use Rattle.cf_tables.specs.Outputs.{Paid, lacks_kept, put_outputs}
-use Rattle.cf_tables.specs.Tests.{IsSameTold, Told, with_test}
+use Rattle.cf_tables.specs.Tests.{IsSameTold, with_test}
+use Rattle.cf_tables.specs.Known.{Told}
 
 -- what fetched blocks pay, what was found of filters that were tested, and of each peer whether the filters that it was asked for last are to be tested
 pub record Trials : Type 0 where

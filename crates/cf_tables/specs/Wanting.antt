@@ -1,9 +1,8 @@
--- machine: what is still to be done about a block.
+-- statement: what is still to be done about a block.
 use Rattle.std.specs.Prelude.{◌≡◌, ◌≢◌, ◌⊎◌, ℕ, ◌≤◌, Some, None, IsSome}
 use Rattle.cf_bytes.specs.declared.hash.Hash32.{Hash32}
 use Rattle.cf_block.specs.Header.{block_hash_of, genesis_header}
 use Rattle.cf_dispute.specs.declared.claim.At.TheVariants.{Nobody, One, Differ}
-use Rattle.cf_dispute.specs.declared.claim.Claim.{Claim}
 use Rattle.cf_dispute.specs.Claims.{Tables, IsAt}
 use Rattle.cf_headers.specs.Chain.{Hash, Chain}
 use Rattle.cf_headers.specs.Heights.{hash_at}
@@ -11,7 +10,7 @@ use Rattle.cf_match.specs.declared.job.Verdict.TheVariants.{Miss, Hit}
 use Rattle.cf_match.specs.Verdicts.{Verdicts}
 use Rattle.cf_tables.specs.declared.kind.Kind.{Kind}
 use Rattle.cf_tables.specs.declared.kind.Kind.TheVariants.{Unclaimed, Unjudged, ToFetch, Done}
-use Rattle.cf_tables.specs.Tables.{Table}
+use Rattle.cf_tables.specs.Known.{Table}
 
 -- a block's hash isn't genesis's
 abbrev pub IsAbove : Hash → Type 0
@@ -45,17 +44,3 @@ abbrev pub AreClaimed : Tables → ℕ → Chain → ℕ → Type 0
 AreClaimed tables p own most = (h : ℕ) → 1 ≤ h → h ≤ most → IsAbove (hash_at own h) → IsSome (tables p (hash_at own h))
 
 -- ---- claims that come and go
-
--- p claims more than before, and nobody else
-pub record AddsClaims (before after : Tables) (p : ℕ) : Type 0 where
-  pub mine : (block : Hash) (claim : Claim) → before p block ≡ Some claim → after p block ≡ Some claim
-  pub others : (q : ℕ) → q ≢ p → (block : Hash) → after q block ≡ before q block
-
--- the same claims
-abbrev pub IsSameTables : Tables → Tables → Type 0
-IsSameTables before after = (p : ℕ) (block : Hash) → after p block ≡ before p block
-
--- q's claims are gone, and nobody else's
-pub record ForgetsClaims (before after : Tables) (q : ℕ) : Type 0 where
-  pub gone : (block : Hash) → after q block ≡ None
-  pub others : (p : ℕ) → p ≢ q → (block : Hash) → after p block ≡ before p block

@@ -9,7 +9,7 @@ ghost use Rattle.cf_dispute.specs.declared.claim.At.TheVariants.{Differ};
 ghost use Rattle.cf_headers.specs.Chain.{IsIn};
 ghost use Rattle.cf_tables.specs.Extracts.{table_in};
 ghost use Rattle.cf_tables.specs.Judged.{verdicts_in};
-ghost use Rattle.cf_tables.specs.Tables.{Table};
+ghost use Rattle.cf_tables.specs.Known.{Table};
 ghost use Rattle.cf_tables.specs.Wanting.{IsAbove, IsDone, IsKind, IsKindAbove};
 
 use crate::extracts::Extracts;

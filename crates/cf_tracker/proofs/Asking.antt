@@ -6,7 +6,8 @@ use Rattle.cf_headers.specs.Chain.{Hash}
 use Rattle.cf_dispute.specs.Tables.{blocks_of}
 use Rattle.cf_seek.specs.declared.spans.Wish.{Wish}
 use Rattle.cf_seek.specs.declared.spans.Wish.TheVariants.{Nothing, Claims, Filters, Block, Test}
-use Rattle.cf_seek.specs.Opens.{IsSameOpens, Opens, OpensSome}
+use Rattle.cf_seek.specs.Opens.{Opens}
+use Rattle.cf_seek.specs.Opening.{IsSameOpens, OpensSome}
 use Rattle.cf_seek.specs.Spans.{IsAskedInPart}
 
 -- what is said of a failure

@@ -17,11 +17,13 @@ use Rattle.cf_headers.specs.Store.{Chains, Puts}
 use Rattle.cf_match.specs.Verdicts.{Verdicts}
 use Rattle.cf_seek.specs.declared.cursors.Marks.{Marks}
 use Rattle.cf_seek.specs.Cursors.{marks_at, no_marks, settled}
-use Rattle.cf_seek.specs.Opens.{Closes, IsBlockFree, IsFilterFree, Opens}
+use Rattle.cf_seek.specs.Opens.{IsBlockFree, IsFilterFree, Opens}
+use Rattle.cf_seek.specs.Opening.{Closes}
 use Rattle.cf_seek.specs.Tracking.{AreMarked, MarkedAt}
 use Rattle.cf_seek.proofs.SoughtStays.{same_true}
-use Rattle.cf_tables.specs.Tables.{Table}
-use Rattle.cf_tables.specs.Wanting.{ForgetsClaims, IsToFetch, IsUnjudged}
+use Rattle.cf_tables.specs.Known.{Table}
+use Rattle.cf_tables.specs.Wanting.{IsToFetch, IsUnjudged}
+use Rattle.cf_tables.specs.Claiming.{ForgetsClaims}
 use Rattle.cf_tracker.proofs.Tried.{claimed_before, disputed_before}
 
 -- ---- one block

@@ -8,7 +8,7 @@ use Rattle.cf_match.specs.Verdicts.{Verdicts}
 use Rattle.cf_tracker.specs.declared.account.Written.{Written}
 use Rattle.cf_tables.specs.declared.kind.Kind.{Kind}
 use Rattle.cf_tables.specs.declared.kind.Kind.TheVariants.{Unclaimed, Unjudged, ToFetch, Done}
-use Rattle.cf_tables.specs.Tables.{Table}
+use Rattle.cf_tables.specs.Known.{Table}
 use Rattle.cf_tables.specs.Wanting.{IsDone, IsKind, IsKindAbove}
 use Rattle.cf_tracker.specs.Writing.{AreDone, IsDoneAbove, WritesOver, WritesPart}
 use Rattle.cf_tracker.specs.Written.{IsWrittenTo, IsWrittenTop, IsWrittenWhole}

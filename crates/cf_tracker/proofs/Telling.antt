@@ -21,7 +21,8 @@ use Rattle.cf_tracker.specs.declared.account.Account.{Account}
 use Rattle.cf_tracker.specs.declared.account.Written.{Written}
 use Rattle.cf_tracker.specs.Account.{IsTold, IsToldBy}
 use Rattle.cf_tables.specs.Extracts.{with_extract}
-use Rattle.cf_tables.specs.Tables.{IsSameTable, Table, placed_by, placed_one}
+use Rattle.cf_tables.specs.Tables.{IsSameTable, placed_by, placed_one}
+use Rattle.cf_tables.specs.Known.{Table}
 use Rattle.cf_tracker.specs.Written.{IsWrittenAs, KeepsExtracts, extract_told, placed_written, written_as, written_at}
 
 -- ---- extracts that are kept

@@ -27,9 +27,10 @@ use Rattle.cf_seek.specs.Tried.{AreTried, AreTriedTo, IsOn, IsToTry, IsTriedBelo
 use Rattle.cf_seek.proofs.Marked.{differ_before, others_same}
 use Rattle.cf_seek.proofs.SoughtStays.{same_below, same_true}
 use Rattle.cf_tables.specs.Extracts.{with_extract}
-use Rattle.cf_tables.specs.Tables.{IsSameTable, Table}
-use Rattle.cf_tables.specs.Tests.{IsSameTold, Told, found_too, with_test}
-use Rattle.cf_tables.specs.Wanting.{ForgetsClaims}
+use Rattle.cf_tables.specs.Tables.{IsSameTable}
+use Rattle.cf_tables.specs.Known.{Table, Told}
+use Rattle.cf_tables.specs.Tests.{IsSameTold, found_too, with_test}
+use Rattle.cf_tables.specs.Claiming.{ForgetsClaims}
 
 -- ---- one peer
 

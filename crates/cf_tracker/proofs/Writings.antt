@@ -17,7 +17,8 @@ use Rattle.cf_headers.proofs.Accepting.{grown_is}
 use Rattle.cf_scan.specs.declared.extracts.TxExtract.{TxExtract}
 use Rattle.cf_tracker.specs.declared.account.Written.{Written}
 use Rattle.cf_tables.specs.Extracts.{with_extract}
-use Rattle.cf_tables.specs.Tables.{IsSameTable, Table}
+use Rattle.cf_tables.specs.Tables.{IsSameTable}
+use Rattle.cf_tables.specs.Known.{Table}
 use Rattle.cf_tracker.specs.Writing.{IsUpTo, stands_after}
 use Rattle.cf_tracker.specs.Written.{IsWrittenAs, IsWrittenHere, IsWrittenTo, IsWrittenTop, IsWrittenWhole, written_as, written_at}
 use Rattle.cf_seek.proofs.Along.{common_low, hash_of_next}

@@ -4,7 +4,7 @@ use Rattle.cf_scan.specs.declared.book.Book.{Book}
 use Rattle.cf_scan.specs.Book.{Stands}
 use Rattle.cf_tracker.specs.declared.account.Account.{Account}
 use Rattle.cf_tracker.specs.declared.account.Written.{Written}
-use Rattle.cf_tables.specs.Tables.{Table}
+use Rattle.cf_tables.specs.Known.{Table}
 use Rattle.cf_tracker.specs.Written.{KeepsExtracts, placed_written}
 
 -- the blocks that are written, the lowest first

@@ -9,7 +9,7 @@ use Rattle.cf_headers.specs.Heights.{hash_at}
 use Rattle.cf_headers.specs.Store.{Chains, IsBest, own_of}
 use Rattle.cf_match.specs.Verdicts.{Verdicts}
 use Rattle.cf_tracker.specs.declared.account.Written.{Written}
-use Rattle.cf_tables.specs.Tables.{Table}
+use Rattle.cf_tables.specs.Known.{Table}
 use Rattle.cf_tables.specs.Wanting.{IsAbove, IsDone}
 use Rattle.cf_tracker.specs.Written.{IsWrittenTo, IsWrittenTop, IsWrittenWhole}
 

@@ -5,7 +5,7 @@ use Rattle.cf_headers.specs.Heights.{hash_at}
 use Rattle.cf_scan.specs.declared.extracts.Placed.{Placed}
 use Rattle.cf_scan.specs.declared.extracts.TxExtract.{TxExtract}
 use Rattle.cf_tracker.specs.declared.account.Written.{Written}
-use Rattle.cf_tables.specs.Tables.{Table}
+use Rattle.cf_tables.specs.Known.{Table}
 
 -- a block that is told exactly where it has an extract
 abbrev pub written_as : Table → Hash → Written

@@ -3,7 +3,7 @@ ghost use Rattle.std.specs.Prelude.{◌≡◌, ◌∷◌, ◌++◌, [], ◌+◌,
 ghost use Rattle.cf_scan.specs.Extracts.{history_of};
 ghost use Rattle.cf_tracker.specs.Account.{IsTold, written_in};
 ghost use Rattle.cf_tables.specs.Extracts.{table_in};
-ghost use Rattle.cf_tables.specs.Tables.{Table};
+ghost use Rattle.cf_tables.specs.Known.{Table};
 ghost use Rattle.cf_tracker.specs.Written.{IsWrittenHere, placed_written, written_as};
 ghost use Rattle.cf_tracker.specs.declared.account.Written.{Written};
 

@@ -1,4 +1,4 @@
--- machine: what wires in memory hold.
+-- statement: what wires in memory hold.
 use Rattle.std.specs.Prelude.{ℕ, Bool, true, false, List, [], ◌∷◌, ◌++◌, reverse, Some}
 use Rattle.cf_wires.specs.declared.event.Dial.{Dial}
 use Rattle.cf_wires.specs.declared.memory.MemoryWires.{MemoryWires}

@@ -1,5 +1,5 @@
 use Rattle.std.proofs.Common.{◌≡◌, map, take}
-use Rattle.cf_scan.specs.Extracts.{tx_extract_of}
+use Rattle.cf_scan.specs.Extract.{tx_extract_of}
 use Rattle.cf_scan.proofs.extracts.extract_txs.Given as goal
 
 abbrev pub invariant-loop-i : goal.invariant-loop-i

@@ -1,5 +1,5 @@
 use Rattle.std.proofs.Common.{◌≡◌, ◌++◌, drop}
-use Rattle.cf_scan.specs.Extracts.{pays_from}
+use Rattle.cf_scan.specs.Extract.{pays_from}
 use Rattle.cf_scan.proofs.extracts.watched_outputs.Given as goal
 
 abbrev pub invariant-loop-place : goal.invariant-loop-place

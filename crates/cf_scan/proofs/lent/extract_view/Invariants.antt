@@ -1,5 +1,5 @@
 use Rattle.std.proofs.Common.{◌≡◌, ◌++◌, map, length}
-use Rattle.cf_scan.specs.Extracts.{tx_extract_of}
+use Rattle.cf_scan.specs.Extract.{tx_extract_of}
 use Rattle.cf_scan.proofs.lent.extract_view.Given as goal
 
 abbrev pub invariant-loop-tx : goal.invariant-loop-tx

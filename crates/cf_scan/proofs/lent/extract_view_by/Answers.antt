@@ -4,7 +4,7 @@ use Rattle.cf_bytes.specs.declared.hash.Hash32.{Hash32}
 use Rattle.cf_block.specs.declared.tx.Tx.{Tx}
 use Rattle.cf_block.specs.Tx.{txid_of}
 use Rattle.cf_block.specs.Views.{bytes_of}
-use Rattle.cf_scan.specs.Extracts.{tx_extract_of}
+use Rattle.cf_scan.specs.Extract.{tx_extract_of}
 use Rattle.cf_scan.proofs.LentLemmas.{none_mapped}
 use Rattle.cf_scan.proofs.lent.extract_view_by.Goals as goal
 

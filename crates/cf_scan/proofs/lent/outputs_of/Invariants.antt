@@ -1,5 +1,5 @@
 use Rattle.std.proofs.Common.{◌≡◌, ◌++◌, length}
-use Rattle.cf_scan.specs.Extracts.{pays_from}
+use Rattle.cf_scan.specs.Extract.{pays_from}
 use Rattle.cf_scan.proofs.lent.outputs_of.Given as goal
 
 abbrev pub invariant-loop-output : goal.invariant-loop-output

@@ -1,6 +1,6 @@
 use Rattle.std.proofs.Common.{◌≡◌, ◌+◌, length, take}
 use Rattle.cf_tracker.specs.Account.{IsTold, written_in}
-use Rattle.cf_tables.specs.Tables.{Table}
+use Rattle.cf_tables.specs.Known.{Table}
 use Rattle.cf_tracker.proofs.account.Account.pop_to.Given as goal
 
 abbrev pub invariant-loop : goal.invariant-loop
