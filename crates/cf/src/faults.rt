@@ -5,13 +5,11 @@ use cf_input::{Command, mistake_text, read_words};
 use cf_network::{FilterSpan, Network};
 use cf_peer::Cause;
 use cf_place::PeerEnd;
+use cf_wires::MOST_PEERS;
 use std::fs;
 use std::io::{self, Read};
 use std::sync::Wait;
 use std::thread::Threads;
-
-// The most peers of a run.
-const MOST_PEERS: u32 = 8;
 
 // Why a file can't be read, as the system says now, or nothing where it can.
 fn reason(rt: &HostRuntime, name: &str) -> Option<io::Error> {
@@ -156,7 +154,7 @@ pub fn tell_stands<R: Wait + Threads + Copy + Drop>(
         return tell_ends(rt, ends, network);
     }
     let mut ends = ends.iter();
-    for p in 1..=MOST_PEERS {
+    for p in 1..=MOST_PEERS as u32 {
         match ends.next() {
             Some(end) if network.is_closed(PeerNo(p)) => tell_end(rt, p, end, network)?,
             _ => network.tell_stand(PeerNo(p))?,

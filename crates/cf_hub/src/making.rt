@@ -10,12 +10,10 @@ use crate::book::Book;
 use cf_bytes::NoMemory;
 use cf_line::{Queue, Sender};
 use cf_outside::{Kind, Stop};
+use cf_wires::MOST_PEERS;
 use std::alloc::{AllocError, Global};
 use std::sync::Arc;
 use std::sync::atomic::AtomicBool;
-
-/// The most peers that are dialled.
-pub const PEERS: usize = 8;
 
 // A sender for each peer, that of the first last.
 fn peer_senders(alloc: Global, queue: &mut Queue<Kind>) -> Result<Vec<Sender<Kind>>, AllocError>
@@ -76,9 +74,9 @@ pub(crate) struct Lists<W, B, J> {
 }
 
 fn lists_in<W: Drop, B: Drop, J: Drop>(alloc: Global) -> Result<Lists<W, B, J>, AllocError> {
-    let mut writers = Vec::with_capacity(alloc, PEERS + 1)?;
-    let reading = Vec::with_capacity(alloc, PEERS)?;
-    let done = Vec::with_capacity(alloc, PEERS)?;
+    let mut writers = Vec::with_capacity(alloc, MOST_PEERS + 1)?;
+    let reading = Vec::with_capacity(alloc, MOST_PEERS)?;
+    let done = Vec::with_capacity(alloc, MOST_PEERS)?;
     writers.push_reserved(None);
     Ok(Lists {
         writers,

@@ -7,11 +7,9 @@ use cf_cli::run;
 use cf_edge::Edge;
 use cf_grow::Nobody;
 use cf_tasks::{InThreads, Spawner};
+use cf_wires::MOST_PEERS;
 use std::sync::Wait;
 use std::thread::Threads;
-
-// The most peers that a call names.
-const PEERS: usize = 8;
 
 // How a call ends that goes over TCP, and what it writes.
 fn followed<R: Wait + Threads + Sync + Copy + Drop + Send + 'static, K: Spawner>(
@@ -24,7 +22,7 @@ fn followed<R: Wait + Threads + Sync + Copy + Drop + Send + 'static, K: Spawner>
     let alloc = rt.alloc();
     let mut link = ToldLink::new(rt, port(alloc)?);
     let mut out = VecSink::new(alloc, 7, 1000).ok()?;
-    let Ok(mut edge) = Edge::new(&rt, handle, spawner, PEERS) else {
+    let Ok(mut edge) = Edge::new(&rt, handle, spawner, MOST_PEERS) else {
         return None;
     };
     let status = run(

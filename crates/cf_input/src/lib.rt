@@ -16,7 +16,7 @@ pub use addresses::{AddressCause, other_form};
 pub use laws::{laws_of_lines, laws_of_numbers};
 pub use mistakes::mistake_text;
 pub use proof_file::{ProofCause, ProofFileFault, Proven, read_proof_file};
-pub use session::{MAX_DIALS, MOST_SECONDS, Session, SessionCause, SessionFault, read_session};
+pub use session::{MOST_SECONDS, Session, SessionCause, SessionFault, read_session};
 pub use text::{PeerNames, Word, is_name};
 pub use watch_file::{WatchCause, WatchFileFault, read_watch};
 pub use words::{

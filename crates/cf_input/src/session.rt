@@ -11,12 +11,9 @@ use crate::lines::{cut_at, read_hex};
 use crate::number::{is_number, number_within};
 use crate::text::is_name;
 use cf_bytes::{NoMemory, PeerNo, Refused};
-use cf_wires::{Delivery, Dial, Name, Piece};
+use cf_wires::{Delivery, Dial, MOST_PEERS, Name, Piece};
 use std::alloc::Global;
 use thiserror::Error;
-
-/// How many peers a run may have: dial lines of a session file, or names in the words of `sync`.
-pub const MAX_DIALS: u32 = 8;
 
 /// The greatest number of seconds in a tick.
 pub const MOST_SECONDS: u32 = 86_400;
@@ -210,7 +207,7 @@ fn take_line(alloc: Global, session: &mut Session, line: &[u8]) -> Result<(), Re
         if !session.deliveries.is_empty() {
             return Err(Refused::No(SessionCause::Late));
         }
-        if dials >= MAX_DIALS {
+        if dials >= MOST_PEERS as u32 {
             return Err(Refused::No(SessionCause::ManyDials));
         }
         add_dial(alloc, session, name, answered)?;

@@ -4,8 +4,8 @@ ghost use Rattle.std.specs.List.{list_all};
 ghost use Rattle.cf_input.specs.Name.{is_printable, is_name};
 ghost use Rattle.cf_input.specs.Words.{are_names};
 
-use crate::session::MAX_DIALS;
 use cf_bytes::NoMemory;
+use cf_wires::MOST_PEERS;
 use std::alloc::Global;
 use std::marker::Model;
 
@@ -109,5 +109,5 @@ pub fn are_names(texts: &[&str]) -> bool
 {
     let named = is_all_names(texts);
     let n = texts.len();
-    named && n > 0 && n <= MAX_DIALS as usize
+    named && n > 0 && n <= MOST_PEERS
 }

@@ -3,10 +3,8 @@ ghost use Rattle.std.specs.Prelude.{◌≡◌, ◌≢◌, ◌≤◌, ℕ, false,
 
 use crate::spans::Wish;
 use cf_bytes::{NoMemory, PeerNo};
+use cf_headers::PLACES;
 use std::alloc::Global;
-
-// A place for each number from 0, which is nobody's, to 8.
-const PLACES: usize = 9;
 
 /// Of up to eight peers, whether the filters that a peer was asked for last are to be tested.
 #[derive(Drop)]

@@ -3,12 +3,9 @@ ghost use Rattle.std.specs.Prelude.{◌≡◌, ◌≤◌, ℕ, true, false, repl
 ghost use Rattle.cf_seek.specs.Cursors.{fallen, further, lowered, marks_at, no_marks, raised, settled, unpassed, unsought};
 
 use cf_bytes::{NoMemory, PeerNo};
-use cf_headers::Change;
+use cf_headers::{Change, PLACES};
 use std::alloc::Global;
 use std::marker::Model;
-
-/// One place for each number from 0, which is nobody's, to 8.
-pub const PLACES: usize = 9;
 
 /// Up to which heights a peer claims its blocks, no filter of them is to be asked for that isn't open, and none of them
 /// is to be fetched that isn't.

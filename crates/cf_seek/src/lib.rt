@@ -15,7 +15,7 @@ mod want;
 mod wishes;
 
 pub use aims::Aims;
-pub use cursors::{Cursors, PLACES};
+pub use cursors::Cursors;
 pub use laws::what_is_passed_stays_so;
 pub use opens::Opens;
 pub use seek::{fall_below_hits, is_any_left, next_sought, passed_below};

@@ -9,10 +9,8 @@ ghost use Rattle.cf_seek.specs.Opening.{Closes, OpensBlock, OpensFilters, OpensS
 use crate::open_at::OpenAt;
 use crate::spans::Wish;
 use cf_bytes::{Hash32, NoMemory, PeerNo};
+use cf_headers::PLACES;
 use std::alloc::Global;
-
-// A place for each number from 0, which is nobody's, to 8.
-const PLACES: usize = 9;
 
 /// What stands in the requests for filters and for blocks that are open to up to eight peers. Blocks are named by their
 /// hashes.

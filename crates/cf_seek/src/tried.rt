@@ -7,11 +7,10 @@ ghost use Rattle.cf_dispute.specs.Tables.{blocks_of};
 ghost use Rattle.cf_seek.specs.Tried.{IsOn, IsTriedBelow, tried_after, tried_at, tried_under};
 ghost use Rattle.cf_tables.specs.Extracts.{table_in};
 
-use crate::cursors::PLACES;
 use crate::seek::passed_below;
 use cf_bytes::{Hash32, NoMemory, PeerNo};
 use cf_dispute::Claims;
-use cf_headers::{Change, HeaderStore};
+use cf_headers::{Change, HeaderStore, PLACES};
 use cf_tables::{Extracts, is_differing};
 use std::alloc::Global;
 use std::marker::Model;
