@@ -389,6 +389,7 @@ def slept(around):
             server.brings(2)
         time.sleep(STOPPED)
         sent(signal.SIGCONT, *asleep)
+        server.stream = None  # one that said nothing for so long may be closed by now
         run.comes_to(server.brings(chain.tip - server.tip))
         wanted("closed" not in run.told() and run.thread.is_alive(), "standard error says", run.told())
         run.check(chain)

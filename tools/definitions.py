@@ -125,8 +125,10 @@ def binder(tokens):
 
 
 def undeclared(kind, text):
-    """The text of an item of code without its comments, its strings and what it declares itself: its fields' names, or an enum's variants."""
+    """The text of an item of code without its comments, its strings and what it declares itself: its fields' names, or an enum's variants. What all values
+    of a type keep is left out: the checker holds it of each value that is made, so it is nothing that a reader of a contract must believe."""
     text = re.sub(r'"[^"]*"|//.*', "", text)
+    text = re.sub(r"(?ms)^    ghost \w+: \{.*?\},$", "", text) if kind == "struct" else text
     text = re.sub(r"(?m)^ +(?:pub(?:\(\w+\))? )?\w+(?=:(?!:))", "", text)
     return re.sub(r"(?m)^    \w+", "", text) if kind == "enum" else text
 
@@ -186,7 +188,7 @@ class Repository:
             scope = self.scope_of(crate, source)
             for block in source.blocks:
                 if (block.trait, block.type) in (("Model", item.name), (item.name, "")):
-                    text = "\n".join(block.ghosts.values())
+                    text = "\n".join(said for name, said in block.ghosts.items() if name != "invariant")
                     scope.imports.update({name: (path, inner) for name, path, inner in block.imports})
             self.modules[key] = Definition(item.name, item.file, item.line, item.last, text, scope, item.kind)
         return self.modules[key]
