@@ -1,5 +1,5 @@
 -- statement: what of a block its history needs.
-use Rattle.std.specs.Prelude.{ℕ, suc, if◌then◌else◌, List, ◌∷◌, ◌++◌, map}
+use Rattle.std.specs.Prelude.{ℕ, suc, if◌then◌else◌, List, [], ◌∷◌, ◌++◌, map}
 use Rattle.cf_block.specs.declared.tx.Tx.{Tx}
 use Rattle.cf_block.specs.declared.tx.Block.{Block}
 use Rattle.cf_block.specs.Output.{Output}

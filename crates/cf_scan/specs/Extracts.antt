@@ -1,5 +1,5 @@
 -- machine: what is kept of a block that was fetched, and the history that is told from it.
-use Rattle.std.specs.Prelude.{ℕ, suc, List, ◌∷◌, fold, map}
+use Rattle.std.specs.Prelude.{ℕ, suc, List, [], ◌∷◌, fold, map}
 use Rattle.cf_block.specs.declared.tx.OutPoint.{OutPoint}
 use Rattle.cf_block.specs.declared.tx.Block.{Block}
 use Rattle.cf_block.specs.Outpoint.{outpoint}
