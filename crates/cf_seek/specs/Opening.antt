@@ -1,6 +1,7 @@
 -- machine: requests that are opened and closed.
 use Rattle.std.specs.Prelude.{◌≡◌, ◌≢◌, ◌⊎◌, ℕ, true, false, List}
 use Rattle.cf_headers.specs.Chain.{Hash, IsIn}
+use Rattle.cf_seek.specs.Opens.{Opens}
 
 -- what is open to others stays
 pub record IsSameElse (before after : Opens) (p : ℕ) : Type 0 where
