@@ -1,11 +1,12 @@
 //! Connections over TCP. They tell no bytes.
-ghost use Rattle.std.specs.Prelude.{◌≡◌, ◌≤◌, ◌-◌, None, false, length, drop, IfOk};
+ghost use Rattle.std.specs.Prelude.{◌≡◌, ◌≤◌, ◌-◌, None};
 ghost use Rattle.cf_bytes.specs.Outside.{HasRisen};
 
 use crate::link::Link;
 use cf_bytes::{Failed, Hash32, Sink};
 use cf_conn::{Duplex, Source};
-use std::io::{Eprint, ErrorKind, Read, Write};
+use cf_tasks::{read_some, write_some};
+use std::io::{Eprint, ErrorKind};
 use std::net::{Net, SocketAddr, TcpListener, TcpStream};
 use std::time::{Clock, Duration};
 use std::{io, thread};
@@ -22,10 +23,6 @@ const TELL_SECONDS: u64 = 60;
 /// How long a peer may be silent, in seconds.
 const READ_SECONDS: u64 = 1200;
 
-/// How often a call that was interrupted is made again: a machine that slept, or a process that was stopped, interrupts
-/// it.
-const TRIES: u32 = 1000;
-
 /// A connection over TCP.
 #[derive(Drop)]
 pub struct TcpConn {
@@ -41,46 +38,6 @@ pub struct TcpEnd {
     ended: bool,
     reads: u64,
     writes: u64,
-}
-
-// Reads some bytes. A call that was interrupted is made again.
-fn read_again(stream: &TcpStream, into: &mut [u8]) -> io::Result<usize>
-    ensures { IfOk result (λ n. n ≤ length into.new) }
-{
-    let mut stream = stream;
-    for _ in 0..TRIES {
-        match stream.read(into) {
-            Err(e) if e.kind() == ErrorKind::Interrupted => {}
-            answer => return answer,
-        }
-    }
-    Err(io::Error::from(ErrorKind::Interrupted))
-}
-
-// Writes some of the bytes. A call that was interrupted is made again.
-fn write_again(stream: &TcpStream, from: &[u8]) -> io::Result<usize>
-    ensures { IfOk result (λ n. n ≤ length from.now) }
-{
-    let mut stream = stream;
-    for _ in 0..TRIES {
-        match stream.write(from) {
-            Err(e) if e.kind() == ErrorKind::Interrupted => {}
-            answer => return answer,
-        }
-    }
-    Err(io::Error::from(ErrorKind::Interrupted))
-}
-
-// Reads some bytes; at most a buffer's.
-fn read_some(stream: &TcpStream, into: &mut [u8]) -> io::Result<usize>
-    ensures some { IfOk result (λ n. n ≤ length into.new) }
-    ensures rest { IfOk result (λ n. drop n into.new ≡ drop n into.old) }
-{
-    let mut buf = [0u8; 4096];
-    let room = into.len().min(buf.len());
-    let n = read_again(stream, &mut buf[..room])?;
-    into[..n].copy_from_slice(&buf[..n]);
-    Ok(n)
 }
 
 impl Source for TcpConn {
@@ -132,9 +89,9 @@ impl Duplex for TcpConn {
     }
 
     fn send(&mut self, from: &[u8]) -> Result<usize, Failed> {
-        match write_again(&self.stream, from) {
-            Ok(n) if n > 0 || from.is_empty() => Ok(n),
-            _ => {
+        match write_some(&self.stream, from) {
+            Ok(n) => Ok(n),
+            Err(_) => {
                 self.writes = self.writes.saturating_add(1);
                 Err(Failed)
             }
