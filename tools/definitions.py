@@ -1,7 +1,8 @@
 #!/usr/bin/env python3
 """What the contract of a function reaches: definitions of crates/*/specs, and the types and constants that the code declares, transitively.
 
-    tools/definitions.py --check    status 1, and each file of specs that has definitions and doesn't begin with its mark, where there is one
+    tools/definitions.py --check    status 1, and each file of specs that has definitions and doesn't begin with its mark, and each definition of a machine
+                                    that the contract of `run` reaches, where there is one
 
 A file of specs begins with its mark: `-- statement:` where its definitions are those that a promise is made of, and `-- machine:` where they say what a
 machine keeps between two calls, or speak of its fields. `./dev believe` shows both.
@@ -253,6 +254,14 @@ def unmarked():
                 yield file
 
 
+def machines_that_run_reaches():
+    """The definitions in files of machines that the contract of `run` reaches: there should be none."""
+    repository = Repository()
+    _, named = named_once(repository, "cf_cli::run")
+    found, _ = reach_of(repository, named)
+    return [it for it in found if it.kind == "definition" and mark_of(it.file) == "machine"]
+
+
 def definitions_named(repository, name):
     """The definitions of that name, which may have its crate before it."""
     wanted, found = name.split("::"), []
@@ -424,10 +433,11 @@ def main(words):
     if words != ["--check"]:
         print("definitions.py: it takes --check", file=sys.stderr)
         return 2
-    found = list(unmarked())
-    for file in found:
-        print(f"{file}:1: it begins neither with `-- statement: ..` nor with `-- machine: ..`", file=sys.stderr)
-    return 1 if found else 0
+    faults = [f"{file}:1: it begins neither with `-- statement: ..` nor with `-- machine: ..`" for file in unmarked()]
+    faults += [f"{it.file}:{it.first}: {it.name} is a machine's, and the contract of `run` reaches it" for it in machines_that_run_reaches()]
+    for fault in faults:
+        print(fault, file=sys.stderr)
+    return 1 if faults else 0
 
 
 if __name__ == "__main__":
