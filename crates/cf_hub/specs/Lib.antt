@@ -7,3 +7,4 @@ pub mod Writers
 pub mod Finish
 pub mod Shown
 pub mod Threads
+pub mod Stays

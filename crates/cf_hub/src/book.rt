@@ -255,7 +255,8 @@ impl Book {
     /// The session lines of the log, where it is kept, and else an empty text.
     pub fn session(&self, alloc: Global) -> Result<String, NoMemory>
         ensures unkept { IfOk result (λ text. keeps_of self.now ≡ false → string_bytes text ≡ []) }
-        ensures kept { IfOk result (λ text. keeps_of self.now ≡ true → IfSome (told_of self.now).log (λ log. string_bytes text ≡ session_text log)) }
+        ensures kept { IfOk result (λ text. keeps_of self.now ≡ true
+            → IfSome (told_of self.now).log (λ log. string_bytes text ≡ session_text log)) }
     {
         let mut text = String::new(alloc);
         if self.keeps {

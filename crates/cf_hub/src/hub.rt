@@ -110,10 +110,13 @@ fn hand_over<P: Pulse, R: Wait + Drop + Copy>(
 ) -> bool
     requires { ForSome clock.old (λ c. (view c.sender.seat).sent ≡ []) }
     ensures tickers { HandsOver result clock.old clock.new tickers.old tickers.new }
-    ensures pulse { Moves (pulse_in (λ c. c.pulse) clock.old) (pulse_in (λ c. c.pulse) clock.new) (pulse_in (λ t. t.pulse) ticking.old) (pulse_in (λ t. t.pulse) ticking.new) }
+    ensures pulse { Moves (pulse_in (λ c. c.pulse) clock.old) (pulse_in (λ c. c.pulse) clock.new)
+        (pulse_in (λ t. t.pulse) ticking.old) (pulse_in (λ t. t.pulse) ticking.new) }
     ensures runs { (clock.old ≡ None → IsSome ticking.old) → clock.new ≡ None → IsSome ticking.new }
-    ensures waiting { (q : Ring) → ForSome clock.old (λ c. Waits q c.sender) → ForSome clock.new (λ c. Waits q c.sender) }
-    ensures ticks { (q : Ring) → ForSome clock.old (λ c. Waits q c.sender) → ForSome ticking.old (λ b. IsTickers q b.sender) → ForSome ticking.new (λ b. IsTickers q b.sender) }
+    ensures waiting { (q : Ring) → ForSome clock.old (λ c. Waits q c.sender)
+        → ForSome clock.new (λ c. Waits q c.sender) }
+    ensures ticks { (q : Ring) → ForSome clock.old (λ c. Waits q c.sender)
+        → ForSome ticking.old (λ b. IsTickers q b.sender) → ForSome ticking.new (λ b. IsTickers q b.sender) }
 {
     let Some(
         Clock {
@@ -155,6 +158,8 @@ fn hand_over<P: Pulse, R: Wait + Drop + Copy>(
 }
 
 impl<D: Dialer, P: Pulse, R: Wait + Threads + Copy + Drop> Hub<D, P, R> {
+    ghost use Rattle.cf_hub.specs.Stays.{KeepsOwn, KeepsThreads, KeepsEnds, missed_of};
+
     /// A hub that has dialled nobody. `readers` and `tickers` are the threads that wait for its tasks.
     pub fn new(
         rt: R,
@@ -230,16 +235,21 @@ impl<D: Dialer, P: Pulse, R: Wait + Threads + Copy + Drop> Hub<D, P, R> {
     }
 
     /// Looks at all that was joined. What `next` gave is the first of what was received, as many as were taken: all of
-    /// it until the hub is finished. Once it is, each peer whose dial went well has its place here, and a last entry
-    /// of it was received, and where a ticker was started so has the pulse. What was given shows of each of them what its source held, and of the
-    /// pulse what it answered from then on.
+    /// it until the hub is finished. Once it is, each peer whose dial went well has its place here, and a last entry of
+    /// it was received, and where a ticker was started so has the pulse. What was given shows of each of them what its
+    /// source held, and of the pulse what it answered from then on.
     pub fn account(&self)
-        ensures log { ForSome (told_of self.now.book).log (λ log. deliveries log ≡ take self.now.book.taken (given_of (view self.now.queue.seat).got)) }
-        ensures peers { self.now.joined ≡ true → read_numbers self.now.done.items ≡ numbers_from 0 (connected self.now.writers.items) }
+        ensures log { ForSome (told_of self.now.book).log
+            (λ log. deliveries log ≡ take self.now.book.taken (given_of (view self.now.queue.seat).got)) }
+        ensures peers { self.now.joined ≡ true
+            → read_numbers self.now.done.items ≡ numbers_from 0 (connected self.now.writers.items) }
         ensures ticker { self.now.joined ≡ true → self.now.clock ≡ None → IsSome self.now.rested }
-        ensures ended { self.now.joined ≡ true → HaveEnded (connected self.now.writers.items) (view self.now.queue.seat).got }
-        ensures sources { All (Shows D.Read.left D.Read.faults D.Read.ended (take self.now.book.taken (given_of (view self.now.queue.seat).got))) self.now.done.items }
-        ensures ticks { ForSome self.now.rested (ShowsTicks P.answers (take self.now.book.taken (given_of (view self.now.queue.seat).got))) }
+        ensures ended { self.now.joined ≡ true
+            → HaveEnded (connected self.now.writers.items) (view self.now.queue.seat).got }
+        ensures sources { All (Shows D.Read.left D.Read.faults D.Read.ended
+            (take self.now.book.taken (given_of (view self.now.queue.seat).got))) self.now.done.items }
+        ensures ticks { ForSome self.now.rested
+            (ShowsTicks P.answers (take self.now.book.taken (given_of (view self.now.queue.seat).got))) }
     {
         // What was joined says what was sent of it; the rest stands in the hub's own invariants.
         each_reads(&self.done);
@@ -251,16 +261,14 @@ impl<D: Dialer, P: Pulse, R: Wait + Threads + Copy + Drop> Hub<D, P, R> {
         requires { self.old.joined ≡ false }
         ensures book { self.new.book ≡ self.old.book }
         ensures seat { view self.new.queue.seat ≡ view self.old.queue.seat }
-        ensures dialer { self.new.dialer ≡ self.old.dialer }
-        ensures missed { self.new.missed ≡ self.old.missed }
+        ensures own { KeepsOwn self.old self.new }
         ensures reading { self.new.reading ≡ self.old.reading }
-        ensures done { self.new.done ≡ self.old.done }
-        ensures rested { self.new.rested ≡ self.old.rested }
-        ensures joined { self.new.joined ≡ self.old.joined }
+        ensures ends { KeepsEnds self.old self.new }
         ensures writers { self.new.writers ≡ self.old.writers }
         ensures readers { self.new.readers ≡ self.old.readers }
         ensures tickers { HandsOver result self.old.clock self.new.clock self.old.tickers self.new.tickers }
-        ensures pulse { Moves (pulse_in (λ c. c.pulse) self.old.clock) (pulse_in (λ c. c.pulse) self.new.clock) (pulse_in (λ t. t.pulse) self.old.ticking) (pulse_in (λ t. t.pulse) self.new.ticking) }
+        ensures pulse { Moves (pulse_in (λ c. c.pulse) self.old.clock) (pulse_in (λ c. c.pulse) self.new.clock)
+            (pulse_in (λ t. t.pulse) self.old.ticking) (pulse_in (λ t. t.pulse) self.new.ticking) }
     {
         hand_over(
             self.rt,
@@ -276,12 +284,10 @@ impl<D: Dialer, P: Pulse, R: Wait + Threads + Copy + Drop> Hub<D, P, R> {
         ensures keeps { keeps_of self.new.book ≡ keeps_of self.old.book }
         ensures ready { OnOk result (IsReady self.new.book) }
         ensures seat { view self.new.queue.seat ≡ view self.old.queue.seat }
-        ensures dialer { self.new.dialer ≡ self.old.dialer }
-        ensures missed { self.new.missed ≡ self.old.missed }
-        ensures reading { self.new.reading ≡ self.old.reading }
+        ensures own { KeepsOwn self.old self.new }
         ensures joined { self.new.joined ≡ self.old.joined }
         ensures writers { self.new.writers ≡ self.old.writers }
-        ensures threads { (self.new.readers ≡ self.old.readers) × (self.new.tickers ≡ self.old.tickers) × (self.new.clock ≡ self.old.clock) × (self.new.ticking ≡ self.old.ticking) }
+        ensures threads { KeepsThreads self.old self.new }
     {
         self.book.make_room()
     }
@@ -298,11 +304,11 @@ impl<D: Dialer, P: Pulse, R: Wait + Threads + Copy + Drop> Hub<D, P, R> {
     fn open(&mut self, name: &str) -> Result<(D::Read, D::Write), Failed>
         ensures book { self.new.book ≡ self.old.book }
         ensures missed { self.new.missed ≡ self.old.missed }
-        ensures reading { self.new.reading ≡ self.old.reading }
         ensures joined { self.new.joined ≡ self.old.joined }
         ensures writers { self.new.writers ≡ self.old.writers }
-        ensures threads { (self.new.readers ≡ self.old.readers) × (self.new.tickers ≡ self.old.tickers) × (self.new.clock ≡ self.old.clock) × (self.new.ticking ≡ self.old.ticking) }
-        ensures new { IfOk result (λ c. (D.Read.ended c.0 ≡ false) × (D.Read.faults c.0 ≡ 0) × (D.Write.faults c.1 ≡ 0) × (D.Write.was_shut c.1 ≡ false)) }
+        ensures threads { KeepsThreads self.old self.new }
+        ensures new { IfOk result (λ c. (D.Read.ended c.0 ≡ false) × (D.Read.faults c.0 ≡ 0) × (D.Write.faults c.1 ≡ 0)
+            × (D.Write.was_shut c.1 ≡ false)) }
         ensures kept { OnOk result (D.faults self.new.dialer ≡ D.faults self.old.dialer) }
         ensures exact { D.dials self.old.dialer name.now result self.new.dialer }
         ensures clean { IfOk result (λ c. IfSome (D.Write.written c.1) (λ bytes. bytes ≡ [])) }
@@ -317,12 +323,9 @@ impl<D: Dialer, P: Pulse, R: Wait + Threads + Copy + Drop> Hub<D, P, R> {
         ensures book { self.new.book ≡ self.old.book }
         ensures seat { view self.new.queue.seat ≡ view self.old.queue.seat }
         ensures dialer { self.new.dialer ≡ self.old.dialer }
-        ensures reading { self.new.reading ≡ self.old.reading }
-        ensures done { self.new.done ≡ self.old.done }
-        ensures rested { self.new.rested ≡ self.old.rested }
-        ensures joined { self.new.joined ≡ self.old.joined }
+        ensures ends { KeepsEnds self.old self.new }
         ensures writers { self.new.writers ≡ self.old.writers }
-        ensures threads { (self.new.readers ≡ self.old.readers) × (self.new.tickers ≡ self.old.tickers) × (self.new.clock ≡ self.old.clock) × (self.new.ticking ≡ self.old.ticking) }
+        ensures threads { KeepsThreads self.old self.new }
         ensures missed { HasRisen self.old.missed self.new.missed }
         ensures later { self.old.missed ≤ self.new.missed }
     {
@@ -337,10 +340,8 @@ impl<D: Dialer, P: Pulse, R: Wait + Threads + Copy + Drop> Hub<D, P, R> {
         ensures told { told_of self.new.book ≡ tell (NotDialled p name) (told_of self.old.book) }
         ensures keeps { keeps_of self.new.book ≡ keeps_of self.old.book }
         ensures writers { self.new.writers.items ≡ self.old.writers.items ++ None ∷ [] }
-        ensures dialer { self.new.dialer ≡ self.old.dialer }
-        ensures reading { self.new.reading ≡ self.old.reading }
-        ensures missed { self.new.missed ≡ self.old.missed }
-        ensures threads { (self.new.readers ≡ self.old.readers) × (self.new.tickers ≡ self.old.tickers) × (self.new.clock ≡ self.old.clock) × (self.new.ticking ≡ self.old.ticking) }
+        ensures own { KeepsOwn self.old self.new }
+        ensures threads { KeepsThreads self.old self.new }
     {
         let sender = self.spare.pop().unwrap();
         self.queue.take(sender);
@@ -357,8 +358,7 @@ impl<D: Dialer, P: Pulse, R: Wait + Threads + Copy + Drop> Hub<D, P, R> {
         ensures keeps { keeps_of self.new.book ≡ keeps_of self.old.book }
         ensures writers { self.new.writers.items ≡ self.old.writers.items ++ None ∷ [] }
         ensures dialer { self.new.dialer ≡ self.old.dialer }
-        ensures reading { self.new.reading ≡ self.old.reading }
-        ensures threads { (self.new.readers ≡ self.old.readers) × (self.new.tickers ≡ self.old.tickers) × (self.new.clock ≡ self.old.clock) × (self.new.ticking ≡ self.old.ticking) }
+        ensures threads { KeepsThreads self.old self.new }
         ensures missed { HasRisen self.old.missed self.new.missed }
         ensures later { self.old.missed ≤ self.new.missed }
     {
@@ -379,15 +379,22 @@ impl<D: Dialer, P: Pulse, R: Wait + Threads + Copy + Drop> Hub<D, P, R> {
         requires next { p.0 ≡ self.old.book.dials + 1 }
         requires begins { self.old.joined ≡ false }
         requires new { D.Write.was_shut writer ≡ false }
-        ensures dialled { IfOk result (λ q. (q ≡ p) × (told_of self.new.book ≡ tell (Dialled p name) (told_of self.old.book))) }
+        ensures dialled { IfOk result
+            (λ q. (q ≡ p) × (told_of self.new.book ≡ tell (Dialled p name) (told_of self.old.book))) }
         ensures not_dialled { OnErr result (told_of self.new.book ≡ tell (NotDialled p name) (told_of self.old.book)) }
         ensures keeps { keeps_of self.new.book ≡ keeps_of self.old.book }
-        ensures task { OnOk result (map begun self.new.reading.items ≡ map begun self.old.reading.items ++ (p.0, source) ∷ []) }
+        ensures task { OnOk result
+            (map begun self.new.reading.items ≡ map begun self.old.reading.items ++ (p.0, source) ∷ []) }
         ensures no_task { OnErr result (self.new.reading ≡ self.old.reading) }
-        ensures ok { OnOk result ((self.new.missed ≡ self.old.missed) × (self.new.writers.items ≡ self.old.writers.items ++ Some writer ∷ []) × HasGiven self.old.readers self.new.readers) }
-        ensures err { OnErr result (HasRisen self.old.missed self.new.missed × (self.old.missed ≤ self.new.missed) × (self.new.writers.items ≡ self.old.writers.items ++ None ∷ []) × HasFailed self.old.readers self.new.readers) }
+        ensures ok { OnOk result ((self.new.missed ≡ self.old.missed)
+            × (self.new.writers.items ≡ self.old.writers.items ++ Some writer ∷ [])
+            × HasGiven self.old.readers self.new.readers) }
+        ensures err { OnErr result (HasRisen self.old.missed self.new.missed
+            × (self.old.missed ≤ self.new.missed) × (self.new.writers.items ≡ self.old.writers.items ++ None ∷ [])
+            × HasFailed self.old.readers self.new.readers) }
         ensures dialer { self.new.dialer ≡ self.old.dialer }
-        ensures tickers { (self.new.tickers ≡ self.old.tickers) × (self.new.clock ≡ self.old.clock) × (self.new.ticking ≡ self.old.ticking) }
+        ensures tickers { (self.new.tickers ≡ self.old.tickers) × (self.new.clock ≡ self.old.clock)
+            × (self.new.ticking ≡ self.old.ticking) }
     {
         let sender = self.spare.pop().unwrap();
         let reader = Reader {
@@ -418,13 +425,17 @@ impl<D: Dialer, P: Pulse, R: Wait + Threads + Copy + Drop> Hub<D, P, R> {
         ensures dialer { self.new.dialer ≡ self.old.dialer }
         ensures joined { self.new.joined ≡ self.old.joined }
         ensures seat { view self.new.queue.seat ≡ view self.old.queue.seat }
-        ensures threads { (self.new.readers ≡ self.old.readers) × (self.new.tickers ≡ self.old.tickers) × (self.new.clock ≡ self.old.clock) × (self.new.ticking ≡ self.old.ticking) }
-        ensures reading { self.new.reading ≡ self.old.reading }
-        ensures missed { slice_index_or (connected self.old.writers.items) p.0 false ≡ true → self.new.missed ≡ self.old.missed }
-        ensures ok { OnOk result ((self.new.missed ≡ self.old.missed) × Adds D.Write.written D.Write.was_shut p.0 bytes.now self.old.writers.items self.new.writers.items) }
-        ensures err { OnErr result ((self.new.writers.items ≡ self.old.writers.items) ⊎ ((n : ℕ) × (n ≤ length bytes.now) × Adds D.Write.written D.Write.was_shut p.0 (take n bytes.now) self.old.writers.items self.new.writers.items)) }
-        ensures later { self.old.missed + faults_in D.Write.faults self.old.writers.items ≤ self.new.missed + faults_in D.Write.faults self.new.writers.items }
-        ensures cause { OnErr result (HasRisen (self.old.missed + faults_in D.Write.faults self.old.writers.items) (self.new.missed + faults_in D.Write.faults self.new.writers.items)) }
+        ensures threads { KeepsThreads self.old self.new }
+        ensures missed { slice_index_or (connected self.old.writers.items) p.0 false ≡ true
+            → self.new.missed ≡ self.old.missed }
+        ensures ok { OnOk result ((self.new.missed ≡ self.old.missed)
+            × Adds D.Write.written D.Write.was_shut p.0 bytes.now self.old.writers.items self.new.writers.items) }
+        ensures err { OnErr result ((self.new.writers.items ≡ self.old.writers.items)
+            ⊎ ((n : ℕ) × (n ≤ length bytes.now) × Adds D.Write.written D.Write.was_shut p.0
+            (take n bytes.now) self.old.writers.items self.new.writers.items)) }
+        ensures later { missed_of D.Write.faults self.old ≤ missed_of D.Write.faults self.new }
+        ensures cause { OnErr result
+            (HasRisen (missed_of D.Write.faults self.old) (missed_of D.Write.faults self.new)) }
     {
         if let Some(answer) = put_to(&mut self.writers, p, bytes) {
             return answer;
@@ -437,17 +448,14 @@ impl<D: Dialer, P: Pulse, R: Wait + Threads + Copy + Drop> Hub<D, P, R> {
     fn shut(&mut self, p: PeerNo)
         requires { self.old.book.finished ≡ false → slice_index_or self.old.book.closed p.0 false ≡ true }
         ensures book { self.new.book ≡ self.old.book }
-        ensures dialer { self.new.dialer ≡ self.old.dialer }
-        ensures missed { self.new.missed ≡ self.old.missed }
-        ensures reading { self.new.reading ≡ self.old.reading }
-        ensures done { self.new.done ≡ self.old.done }
-        ensures rested { self.new.rested ≡ self.old.rested }
-        ensures joined { self.new.joined ≡ self.old.joined }
+        ensures own { KeepsOwn self.old self.new }
+        ensures ends { KeepsEnds self.old self.new }
         ensures seat { view self.new.queue.seat ≡ view self.old.queue.seat }
         ensures shut { Shuts D.Write.written D.Write.was_shut p.0 self.old.writers.items self.new.writers.items }
-        ensures threads { (self.new.readers ≡ self.old.readers) × (self.new.tickers ≡ self.old.tickers) × (self.new.clock ≡ self.old.clock) × (self.new.ticking ≡ self.old.ticking) }
+        ensures threads { KeepsThreads self.old self.new }
         ensures written { texts D.Write.written self.new.writers.items ≡ texts D.Write.written self.old.writers.items }
-        ensures faults { faults_in D.Write.faults self.new.writers.items ≡ faults_in D.Write.faults self.old.writers.items }
+        ensures faults { faults_in D.Write.faults self.new.writers.items
+            ≡ faults_in D.Write.faults self.old.writers.items }
     {
         shut_at(&mut self.writers, p);
     }
@@ -458,14 +466,12 @@ impl<D: Dialer, P: Pulse, R: Wait + Threads + Copy + Drop> Hub<D, P, R> {
         ensures shut { AreShut D.Write.was_shut self.new.writers.items }
         ensures written { texts D.Write.written self.new.writers.items ≡ texts D.Write.written self.old.writers.items }
         ensures book { self.new.book ≡ self.old.book }
-        ensures dialer { self.new.dialer ≡ self.old.dialer }
-        ensures missed { self.new.missed ≡ self.old.missed }
+        ensures own { KeepsOwn self.old self.new }
         ensures reading { self.new.reading ≡ self.old.reading }
-        ensures done { self.new.done ≡ self.old.done }
-        ensures rested { self.new.rested ≡ self.old.rested }
-        ensures joined { self.new.joined ≡ self.old.joined }
+        ensures ends { KeepsEnds self.old self.new }
         ensures ticking { self.new.ticking ≡ self.old.ticking }
-        ensures faults { faults_in D.Write.faults self.new.writers.items ≡ faults_in D.Write.faults self.old.writers.items }
+        ensures faults { faults_in D.Write.faults self.new.writers.items
+            ≡ faults_in D.Write.faults self.old.writers.items }
     {
         for p in 0..9u32 {
             self.shut(PeerNo(p));
@@ -477,14 +483,10 @@ impl<D: Dialer, P: Pulse, R: Wait + Threads + Copy + Drop> Hub<D, P, R> {
         requires finished { self.old.book.finished ≡ true }
         requires joined { self.old.joined ≡ false }
         ensures book { self.new.book ≡ self.old.book }
-        ensures dialer { self.new.dialer ≡ self.old.dialer }
-        ensures missed { self.new.missed ≡ self.old.missed }
-        ensures reading { self.new.reading ≡ self.old.reading }
-        ensures done { self.new.done ≡ self.old.done }
-        ensures rested { self.new.rested ≡ self.old.rested }
-        ensures joined { self.new.joined ≡ self.old.joined }
+        ensures own { KeepsOwn self.old self.new }
+        ensures ends { KeepsEnds self.old self.new }
         ensures writers { self.new.writers ≡ self.old.writers }
-        ensures threads { (self.new.readers ≡ self.old.readers) × (self.new.tickers ≡ self.old.tickers) × (self.new.clock ≡ self.old.clock) × (self.new.ticking ≡ self.old.ticking) }
+        ensures threads { KeepsThreads self.old self.new }
     {
         let _passed = receive(&self.rt, &mut self.queue, &mut self.gone);
     }
@@ -507,14 +509,10 @@ impl<D: Dialer, P: Pulse, R: Wait + Threads + Copy + Drop> Hub<D, P, R> {
     fn drain(&mut self)
         requires finished { self.old.book.finished ≡ true }
         ensures book { self.new.book ≡ self.old.book }
-        ensures dialer { self.new.dialer ≡ self.old.dialer }
-        ensures missed { self.new.missed ≡ self.old.missed }
-        ensures reading { self.new.reading ≡ self.old.reading }
-        ensures done { self.new.done ≡ self.old.done }
-        ensures rested { self.new.rested ≡ self.old.rested }
-        ensures joined { self.new.joined ≡ self.old.joined }
+        ensures own { KeepsOwn self.old self.new }
+        ensures ends { KeepsEnds self.old self.new }
         ensures writers { self.new.writers ≡ self.old.writers }
-        ensures threads { (self.new.readers ≡ self.old.readers) × (self.new.tickers ≡ self.old.tickers) × (self.new.clock ≡ self.old.clock) × (self.new.ticking ≡ self.old.ticking) }
+        ensures threads { KeepsThreads self.old self.new }
         ensures ended { HaveEnded (connected self.new.writers.items) (view self.new.queue.seat).got }
     {
         if self.joined {
@@ -536,8 +534,7 @@ impl<D: Dialer, P: Pulse, R: Wait + Threads + Copy + Drop> Hub<D, P, R> {
         requires joined { self.old.joined ≡ false }
         requires ended { HaveEnded (connected self.old.writers.items) (view self.old.queue.seat).got }
         ensures book { self.new.book ≡ self.old.book }
-        ensures dialer { self.new.dialer ≡ self.old.dialer }
-        ensures missed { self.new.missed ≡ self.old.missed }
+        ensures own { KeepsOwn self.old self.new }
         ensures writers { self.new.writers ≡ self.old.writers }
         ensures joined { self.new.joined ≡ true }
         ensures whose { map whose self.new.done.items ≡ map begun self.old.reading.items }
@@ -557,13 +554,13 @@ impl<D: Dialer, P: Pulse, R: Wait + Threads + Copy + Drop> Hub<D, P, R> {
     fn take_one(&mut self) -> Result<Option<Delivery>, NoMemory>
         requires ready { IsReady self.old.book }
         requires running { self.old.book.finished ≡ false }
-        ensures dialer { self.new.dialer ≡ self.old.dialer }
-        ensures missed { self.new.missed ≡ self.old.missed }
+        ensures own { KeepsOwn self.old self.new }
         ensures writers { self.new.writers ≡ self.old.writers }
-        ensures threads { (self.new.readers ≡ self.old.readers) × (self.new.tickers ≡ self.old.tickers) × (self.new.clock ≡ self.old.clock) × (self.new.ticking ≡ self.old.ticking) }
-        ensures reading { self.new.reading ≡ self.old.reading }
-        ensures some { IfOk result (λ o. IfSome o (λ d. (told_of self.new.book ≡ tell (Took d) (told_of self.old.book)) × (given_of (view self.new.queue.seat).got ≡ given_of (view self.old.queue.seat).got ++ d ∷ []))) }
-        ensures none { IfOk result (λ o. IfNone o ((self.new.book ≡ self.old.book) × (given_of (view self.new.queue.seat).got ≡ given_of (view self.old.queue.seat).got))) }
+        ensures threads { KeepsThreads self.old self.new }
+        ensures some { IfOk result (λ o. IfSome o (λ d. (told_of self.new.book ≡ tell (Took d) (told_of self.old.book))
+            × (given_of (view self.new.queue.seat).got ≡ given_of (view self.old.queue.seat).got ++ d ∷ []))) }
+        ensures none { IfOk result (λ o. IfNone o ((self.new.book ≡ self.old.book)
+            × (given_of (view self.new.queue.seat).got ≡ given_of (view self.old.queue.seat).got))) }
         ensures err { OnErr result (self.new.book ≡ self.old.book) }
         ensures keeps { keeps_of self.new.book ≡ keeps_of self.old.book }
         ensures real { IfOk result (λ o. IfSome o (λ d. d ≢ Delivery.Ended)) }
@@ -587,11 +584,9 @@ impl<D: Dialer, P: Pulse, R: Wait + Threads + Copy + Drop> Hub<D, P, R> {
         ensures told { told_of self.new.book ≡ tell (Took Ended) (told_of self.old.book) }
         ensures keeps { keeps_of self.new.book ≡ keeps_of self.old.book }
         ensures seat { view self.new.queue.seat ≡ view self.old.queue.seat }
-        ensures dialer { self.new.dialer ≡ self.old.dialer }
-        ensures missed { self.new.missed ≡ self.old.missed }
+        ensures own { KeepsOwn self.old self.new }
         ensures writers { self.new.writers ≡ self.old.writers }
-        ensures threads { (self.new.readers ≡ self.old.readers) × (self.new.tickers ≡ self.old.tickers) × (self.new.clock ≡ self.old.clock) × (self.new.ticking ≡ self.old.ticking) }
-        ensures reading { self.new.reading ≡ self.old.reading }
+        ensures threads { KeepsThreads self.old self.new }
     {
         self.book.note_end();
     }
@@ -608,7 +603,8 @@ fn reader_threads<
     spawner: &mut K,
     count: usize,
 ) -> Result<Workers<Reader<S, R>, R>, AllocError>
-    ensures cause { IfOk result (λ w. ((w.count ≡ count) × (K.refusals spawner.new ≡ K.refusals spawner.old)) ⊎ HasRisen (K.refusals spawner.old) (K.refusals spawner.new)) }
+    ensures cause { IfOk result (λ w. ((w.count ≡ count) × (K.refusals spawner.new ≡ K.refusals spawner.old))
+        ⊎ HasRisen (K.refusals spawner.old) (K.refusals spawner.new)) }
     ensures fresh { IfOk result (λ w. w.returned ≡ 0) }
 {
     Workers::new(rt, alloc, spawner, count)
@@ -620,7 +616,8 @@ fn ticker_thread<P: Pulse + Send + 'static, R: Wait + Drop + Copy + Send + 'stat
     alloc: Global,
     spawner: &mut K,
 ) -> Result<Workers<Ticker<P, R>, R>, AllocError>
-    ensures cause { IfOk result (λ w. ((w.count ≡ 1) × (K.refusals spawner.new ≡ K.refusals spawner.old)) ⊎ HasRisen (K.refusals spawner.old) (K.refusals spawner.new)) }
+    ensures cause { IfOk result (λ w. ((w.count ≡ 1) × (K.refusals spawner.new ≡ K.refusals spawner.old))
+        ⊎ HasRisen (K.refusals spawner.old) (K.refusals spawner.new)) }
     ensures fresh { IfOk result (λ w. w.returned ≡ 0) }
 {
     Workers::new(rt, alloc, spawner, 1)
@@ -634,8 +631,8 @@ impl<D: Dialer, P: Pulse + Send + 'static, R: Wait + Threads + Copy + Drop + Sen
 where
     D::Read: Send + 'static,
 {
-    /// A hub that has dialled nobody, with threads for so many peers and for its ticker. Where a start is refused, a dial will
-    /// fail.
+    /// A hub that has dialled nobody, with threads for so many peers and for its ticker. Where a start is refused, a
+    /// dial will fail.
     pub fn started<K: Spawner>(
         rt: R,
         alloc: Global,
@@ -649,7 +646,8 @@ where
         ensures keeps { IfOk result (λ h. keeps_of h.book ≡ false) }
         ensures dialer { IfOk result (λ h. h.dialer ≡ dialer) }
         ensures missed { IfOk result (λ h. h.missed ≡ 0) }
-        ensures threads { IfOk result (λ h. ((h.readers.count ≡ peers) × (h.tickers.count ≡ 1)) ⊎ HasRisen (K.refusals spawner.old) (K.refusals spawner.new)) }
+        ensures threads { IfOk result (λ h. ((h.readers.count ≡ peers) × (h.tickers.count ≡ 1))
+            ⊎ HasRisen (K.refusals spawner.old) (K.refusals spawner.new)) }
         ensures fresh { IfOk result (λ h. (h.readers.returned ≡ 0) × (h.tickers.returned ≡ 0)) }
         ensures pulse { IfOk result (λ h. pulse_in (λ c. c.pulse) h.clock ≡ Some pulse) }
         ensures idle { IfOk result (λ h. h.reading.items ≡ []) }
@@ -661,9 +659,11 @@ where
 }
 
 impl<D: Dialer, P: Pulse, R: Wait + Threads + Copy + Drop> Wires for Hub<D, P, R> {
+    ghost use Rattle.cf_hub.specs.Stays.{KeepsOwn, KeepsThreads, faults_of};
+
     ghost told = { λ h. told_of h.book };
 
-    ghost faults = { λ h. D.faults h.dialer + (h.missed + faults_in D.Write.faults h.writers.items) };
+    ghost faults = { λ h. faults_of D.faults D.Write.faults h };
 
     ghost script = { λ h. no_script };
 
@@ -675,31 +675,37 @@ impl<D: Dialer, P: Pulse, R: Wait + Threads + Copy + Drop> Wires for Hub<D, P, R
         ensures log { IsSome (told_of self.new.book).log }
         ensures finished { (told_of self.new.book).finished ≡ (told_of self.old.book).finished }
         ensures keeps { keeps_of self.new.book ≡ true }
-        ensures later { D.faults self.old.dialer + (self.old.missed + faults_in D.Write.faults self.old.writers.items) ≤ D.faults self.new.dialer + (self.new.missed + faults_in D.Write.faults self.new.writers.items) }
+        ensures later { faults_of D.faults D.Write.faults self.old ≤ faults_of D.faults D.Write.faults self.new }
         ensures same { no_script ≡ no_script }
         ensures writers { self.new.writers ≡ self.old.writers }
-        ensures own { (self.new.missed ≡ self.old.missed) × (self.new.dialer ≡ self.old.dialer) }
-        ensures threads { (self.new.readers ≡ self.old.readers) × (self.new.tickers ≡ self.old.tickers) × (self.new.clock ≡ self.old.clock) × (self.new.ticking ≡ self.old.ticking) }
-        ensures reading { self.new.reading ≡ self.old.reading }
+        ensures own { KeepsOwn self.old self.new }
+        ensures threads { KeepsThreads self.old self.new }
     {
         self.book.keep();
     }
 
     fn dial(&mut self, name: &str) -> Result<PeerNo, WireFail>
         requires { (told_of self.old.book).tally.dials < 8 }
-        ensures dialled { IfOk result (λ p. (p.0 ≡ (told_of self.old.book).tally.dials + 1) × (told_of self.new.book ≡ tell (Dialled p name.now) (told_of self.old.book))) }
-        ensures not_dialled { IsErrOf result WireFail.Failed → told_of self.new.book ≡ tell (NotDialled (record { 0 = (told_of self.old.book).tally.dials + 1 }) name.now) (told_of self.old.book) }
+        ensures dialled { IfOk result (λ p. (p.0 ≡ (told_of self.old.book).tally.dials + 1)
+            × (told_of self.new.book ≡ tell (Dialled p name.now) (told_of self.old.book))) }
+        ensures not_dialled { IsErrOf result WireFail.Failed → told_of self.new.book ≡ tell
+            (NotDialled (record { 0 = (told_of self.old.book).tally.dials + 1 }) name.now) (told_of self.old.book) }
         ensures no_memory { IsErrOf result WireFail.NoMemory → told_of self.new.book ≡ told_of self.old.book }
-        ensures cause { HasCause (D.faults self.old.dialer + (self.old.missed + faults_in D.Write.faults self.old.writers.items)) (D.faults self.new.dialer + (self.new.missed + faults_in D.Write.faults self.new.writers.items)) result }
+        ensures cause { HasCause (faults_of D.faults D.Write.faults self.old)
+            (faults_of D.faults D.Write.faults self.new) result }
         ensures keeps { keeps_of self.new.book ≡ keeps_of self.old.book }
         ensures same { no_script ≡ no_script }
         ensures writers { Opens D.Write.was_shut result self.old.writers.items self.new.writers.items }
-        ensures missed { (self.new.missed ≡ self.old.missed) ⊎ MayMiss self.old.book.finished self.old.readers self.new.readers self.new.clock self.old.tickers self.new.tickers }
+        ensures missed { (self.new.missed ≡ self.old.missed) ⊎ MayMiss self.old.book.finished self.old.readers
+            self.new.readers self.new.clock self.old.tickers self.new.tickers }
         ensures readers { Takes result self.old.readers self.new.readers }
         ensures tickers { MayHandOver self.old.clock self.new.clock self.old.tickers self.new.tickers }
         ensures runs { OnOk result (self.new.clock ≡ None) }
-        ensures pulse { Moves (pulse_in (λ c. c.pulse) self.old.clock) (pulse_in (λ c. c.pulse) self.new.clock) (pulse_in (λ t. t.pulse) self.old.ticking) (pulse_in (λ t. t.pulse) self.new.ticking) }
-        ensures opened { HasOpened D.dials D.Write.written result name.now self.old.dialer self.new.dialer (map begun self.old.reading.items) (map begun self.new.reading.items) self.old.writers.items self.new.writers.items }
+        ensures pulse { Moves (pulse_in (λ c. c.pulse) self.old.clock) (pulse_in (λ c. c.pulse) self.new.clock)
+            (pulse_in (λ t. t.pulse) self.old.ticking) (pulse_in (λ t. t.pulse) self.new.ticking) }
+        ensures opened { HasOpened D.dials D.Write.written result name.now self.old.dialer self.new.dialer
+            (map begun self.old.reading.items)
+            (map begun self.new.reading.items) self.old.writers.items self.new.writers.items }
     {
         let kept = Name::from_text(self.alloc, name)?;
         self.make_room()?;
@@ -726,16 +732,19 @@ impl<D: Dialer, P: Pulse, R: Wait + Threads + Copy + Drop> Wires for Hub<D, P, R
 
     fn send(&mut self, p: PeerNo, bytes: &[u8]) -> Result<(), WireFail>
         ensures sent { OnOk result (told_of self.new.book ≡ tell (Sent p bytes.now) (told_of self.old.book)) }
-        ensures not_sent { IsErrOf result WireFail.Failed → told_of self.new.book ≡ tell (SendFailed p) (told_of self.old.book) }
+        ensures not_sent { IsErrOf result WireFail.Failed
+            → told_of self.new.book ≡ tell (SendFailed p) (told_of self.old.book) }
         ensures no_memory { IsErrOf result WireFail.NoMemory → told_of self.new.book ≡ told_of self.old.book }
-        ensures cause { HasCause (D.faults self.old.dialer + (self.old.missed + faults_in D.Write.faults self.old.writers.items)) (D.faults self.new.dialer + (self.new.missed + faults_in D.Write.faults self.new.writers.items)) result }
+        ensures cause { HasCause (faults_of D.faults D.Write.faults self.old)
+            (faults_of D.faults D.Write.faults self.new) result }
         ensures keeps { keeps_of self.new.book ≡ keeps_of self.old.book }
         ensures same { no_script ≡ no_script }
-        ensures writes { Sends D.Write.written D.Write.was_shut result p.0 bytes.now self.old.writers.items self.new.writers.items }
-        ensures missed { slice_index_or (connected self.old.writers.items) p.0 false ≡ true → self.new.missed ≡ self.old.missed }
+        ensures writes { Sends D.Write.written D.Write.was_shut result p.0 bytes.now
+            self.old.writers.items self.new.writers.items }
+        ensures missed { slice_index_or (connected self.old.writers.items) p.0 false ≡ true
+            → self.new.missed ≡ self.old.missed }
         ensures dialer { self.new.dialer ≡ self.old.dialer }
-        ensures threads { (self.new.readers ≡ self.old.readers) × (self.new.tickers ≡ self.old.tickers) × (self.new.clock ≡ self.old.clock) × (self.new.ticking ≡ self.old.ticking) }
-        ensures reading { self.new.reading ≡ self.old.reading }
+        ensures threads { KeepsThreads self.old self.new }
     {
         self.make_room()?;
         let room = self.copy_room(bytes.len())?;
@@ -755,13 +764,12 @@ impl<D: Dialer, P: Pulse, R: Wait + Threads + Copy + Drop> Wires for Hub<D, P, R
         requires dialled { p.0 ≤ 8 }
         requires once { was_closed (told_of self.old.book).tally p.0 ≡ false }
         ensures closed { told_of self.new.book ≡ tell (Closed p) (told_of self.old.book) }
-        ensures later { D.faults self.old.dialer + (self.old.missed + faults_in D.Write.faults self.old.writers.items) ≤ D.faults self.new.dialer + (self.new.missed + faults_in D.Write.faults self.new.writers.items) }
+        ensures later { faults_of D.faults D.Write.faults self.old ≤ faults_of D.faults D.Write.faults self.new }
         ensures keeps { keeps_of self.new.book ≡ keeps_of self.old.book }
         ensures same { no_script ≡ no_script }
         ensures shuts { Shuts D.Write.written D.Write.was_shut p.0 self.old.writers.items self.new.writers.items }
-        ensures own { (self.new.missed ≡ self.old.missed) × (self.new.dialer ≡ self.old.dialer) }
-        ensures threads { (self.new.readers ≡ self.old.readers) × (self.new.tickers ≡ self.old.tickers) × (self.new.clock ≡ self.old.clock) × (self.new.ticking ≡ self.old.ticking) }
-        ensures reading { self.new.reading ≡ self.old.reading }
+        ensures own { KeepsOwn self.old self.new }
+        ensures threads { KeepsThreads self.old self.new }
     {
         self.book.note_closed(p);
         self.shut(p);
@@ -770,17 +778,18 @@ impl<D: Dialer, P: Pulse, R: Wait + Threads + Copy + Drop> Wires for Hub<D, P, R
     fn next(&mut self) -> Result<Delivery, NoMemory>
         ensures took { IfOk result (λ d. told_of self.new.book ≡ tell (Took d) (told_of self.old.book)) }
         ensures err { OnErr result (told_of self.new.book ≡ told_of self.old.book) }
-        ensures later { D.faults self.old.dialer + (self.old.missed + faults_in D.Write.faults self.old.writers.items) ≤ D.faults self.new.dialer + (self.new.missed + faults_in D.Write.faults self.new.writers.items) }
+        ensures later { faults_of D.faults D.Write.faults self.old ≤ faults_of D.faults D.Write.faults self.new }
         ensures keeps { keeps_of self.new.book ≡ keeps_of self.old.book }
         ensures same { no_script ≡ no_script }
         ensures ended { (told_of self.old.book).finished ≡ true → IfOk result (λ d. d ≡ Delivery.Ended) }
-        ensures last { IfOk result (λ d. d ≡ Delivery.Ended → HaveEnded (connected self.new.writers.items) (view self.new.queue.seat).got) }
+        ensures last { IfOk result (λ d. d ≡ Delivery.Ended
+            → HaveEnded (connected self.new.writers.items) (view self.new.queue.seat).got) }
         ensures writers { self.new.writers ≡ self.old.writers }
         ensures proper { IfOk result (λ d. IsProper d) }
-        ensures gave { IfOk result (λ d. d ≢ Delivery.Ended → given_of (view self.new.queue.seat).got ≡ given_of (view self.old.queue.seat).got ++ d ∷ []) }
-        ensures own { (self.new.missed ≡ self.old.missed) × (self.new.dialer ≡ self.old.dialer) }
-        ensures threads { (self.new.readers ≡ self.old.readers) × (self.new.tickers ≡ self.old.tickers) × (self.new.clock ≡ self.old.clock) × (self.new.ticking ≡ self.old.ticking) }
-        ensures reading { self.new.reading ≡ self.old.reading }
+        ensures gave { IfOk result (λ d. d ≢ Delivery.Ended
+            → given_of (view self.new.queue.seat).got ≡ given_of (view self.old.queue.seat).got ++ d ∷ []) }
+        ensures own { KeepsOwn self.old self.new }
+        ensures threads { KeepsThreads self.old self.new }
     {
         self.make_room()?;
         if self.book.is_finished() {
@@ -804,7 +813,7 @@ impl<D: Dialer, P: Pulse, R: Wait + Threads + Copy + Drop> Wires for Hub<D, P, R
     fn finish(&mut self)
         requires { (told_of self.old.book).finished ≡ false }
         ensures told { told_of self.new.book ≡ told_finished (told_of self.old.book) }
-        ensures later { D.faults self.old.dialer + (self.old.missed + faults_in D.Write.faults self.old.writers.items) ≤ D.faults self.new.dialer + (self.new.missed + faults_in D.Write.faults self.new.writers.items) }
+        ensures later { faults_of D.faults D.Write.faults self.old ≤ faults_of D.faults D.Write.faults self.new }
         ensures keeps { keeps_of self.new.book ≡ keeps_of self.old.book }
         ensures same { no_script ≡ no_script }
         ensures joined { self.new.joined ≡ true }
@@ -812,7 +821,7 @@ impl<D: Dialer, P: Pulse, R: Wait + Threads + Copy + Drop> Wires for Hub<D, P, R
         ensures rests { pulse_in (λ b. b.before) self.new.rested ≡ pulse_in (λ t. t.pulse) self.old.ticking }
         ensures shut { AreShut D.Write.was_shut self.new.writers.items }
         ensures written { texts D.Write.written self.new.writers.items ≡ texts D.Write.written self.old.writers.items }
-        ensures own { (self.new.missed ≡ self.old.missed) × (self.new.dialer ≡ self.old.dialer) }
+        ensures own { KeepsOwn self.old self.new }
     {
         self.stop.store(true, Ordering::SeqCst);
         self.book.note_finished();

@@ -33,7 +33,12 @@ impl<S: Source + Drop, R: Wait + Drop> Model for Joined<S, R> {
 
     ghost Value = { Read S };
 
-    ghost view = { λ j. record { number = j.number; before = j.of.value.source; sent = (knows j.seat.value.seat).sent; after = j.source } };
+    ghost view = { λ j. record {
+      number = j.number;
+      before = j.of.value.source;
+      sent = (knows j.seat.value.seat).sent;
+      after = j.source;
+    } };
 
     ghost invariant = { λ j. Reads S.left S.faults S.ended j.of.value.source (knows j.seat.value.seat).sent j.source };
 }
@@ -97,7 +102,8 @@ pub(crate) fn it_ticks<P: Pulse, R: Wait + Drop>(rested: &Option<Rested<P, R>>)
     }
 }
 
-/// Waits for each reader, and takes its sender in. What was received of each is a beginning of what it sent, and that is what its source gave.
+/// Waits for each reader, and takes its sender in. What was received of each is a beginning of what it sent, and that
+/// is what its source gave.
 pub(crate) fn join_readers<S: Source + Drop, R: Wait + Drop, T: Threads + Wait>(
     rt: &T,
     queue: &mut Queue<Kind>,

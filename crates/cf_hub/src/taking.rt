@@ -43,9 +43,11 @@ pub(crate) fn take_entry<R: Wait>(
     requires copy { keeps_of book.old ≡ true → 4096 ≤ vec_capacity room }
     ensures ring { sends_on queue.new.line ≡ sends_on queue.old.line }
     ensures heard { Heard gone.old (view queue.old.seat).got → Heard gone.new (view queue.new.seat).got }
-    ensures some { IfSome result (λ d. (told_of book.new ≡ tell (Took d) (told_of book.old)) × (given_of (view queue.new.seat).got ≡ given_of (view queue.old.seat).got ++ d ∷ [])) }
+    ensures some { IfSome result (λ d. (told_of book.new ≡ tell (Took d) (told_of book.old))
+        × (given_of (view queue.new.seat).got ≡ given_of (view queue.old.seat).got ++ d ∷ [])) }
     ensures real { IfSome result (λ d. d ≢ Delivery.Ended) }
-    ensures none { IfNone result ((book.new ≡ book.old) × (given_of (view queue.new.seat).got ≡ given_of (view queue.old.seat).got)) }
+    ensures none { IfNone result ((book.new ≡ book.old)
+        × (given_of (view queue.new.seat).got ≡ given_of (view queue.old.seat).got)) }
     ensures keeps { keeps_of book.new ≡ keeps_of book.old }
     ensures proper { IfSome result (λ d. IsProper d) }
 {
@@ -112,7 +114,8 @@ fn is_noted(gone: &[bool; 9], p: usize) -> bool
 
 // Whether a peer has a writer, and its last entry was not noted.
 pub(crate) fn is_left<W>(writers: &[Option<W>], gone: &[bool; 9], p: usize) -> bool
-    ensures { result ≡ false → slice_index_or (connected writers.now) p false ≡ true → slice_index_or gone.now p false ≡ true }
+    ensures { result ≡ false → slice_index_or (connected writers.now) p false ≡ true
+        → slice_index_or gone.now p false ≡ true }
 {
     is_connected(writers, p) && !is_noted(gone, p)
 }
