@@ -1,4 +1,4 @@
-//! Tasks that are run once, what runs them in threads of their own, and how the threads read and write streams.
+//! Tasks that are run once, what runs them in threads of their own, and how threads read and write streams.
 #![tactic(auto)]
 
 mod platform;

@@ -37,8 +37,8 @@ fn write_again(stream: &TcpStream, from: &[u8]) -> io::Result<usize>
     Err(io::Error::from(ErrorKind::Interrupted))
 }
 
-/// Reads some bytes, at most 4,096, and leaves what stands behind them as it was. It reads none where the peer has ended
-/// its side, and where there is no room. A call that was interrupted is made again.
+/// Reads some bytes, at most 4,096, and leaves what stands behind them as it was. None are read where the peer has
+/// ended its side, and where there is no room. A call that was interrupted is made again.
 pub fn read_some(stream: &TcpStream, into: &mut [u8]) -> io::Result<usize>
     ensures some { IfOk result (λ n. n ≤ length into.new) }
     ensures rest { IfOk result (λ n. drop n into.new ≡ drop n into.old) }
