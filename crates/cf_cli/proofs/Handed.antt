@@ -8,7 +8,7 @@ use Rattle.cf_wires.specs.declared.memory.MemoryWires.{MemoryWires}
 use Rattle.cf_played.specs.declared.played.Played.{Played}
 use Rattle.cf_input.specs.declared.words.Command.{Command}
 use Rattle.cf_answers.specs.declared.status.Status.{Status}
-use Rattle.cf_answers.specs.declared.status.Status.TheVariants.{FileFault, LinkFault, OutFault}
+use Rattle.cf_answers.specs.declared.status.Status.TheVariants.{FileFault}
 use Rattle.cf_cli.specs.Handed.{AreNewWires, IsNewTape, UsesFiles, UsesWires, UsesTape, UsesPlayed, UsesLink, UsesOut}
 use Rattle.cf_cli.proofs.Asking.{unasked}
 use Rattle.cf_cli.proofs.Plays.{new_unfailed, unplayed_words}
@@ -49,15 +49,6 @@ tape_stays {moment} {nonce} {command} {status} {tape} new = record {
   versions = unplayed_words (record { moment = moment; number = nonce }) _ new.log;
   unplayed = λ off. refl;
 }
-
--- a link that is left alone
-pub link_stays : {L : Type 0} {faults : L → ℕ} {command : Option Command} {status : Status} {link : L} → status ≢ LinkFault → UsesLink faults command status link link
-link_stays well = record { unserved = λ off. refl; fault = λ is. absurd (well is) }
-
--- a sink to which nothing is written
-pub out_stays : {O : Type 0} {written : O → Option (List ℕ)} {faults : O → ℕ} {command : Option Command} {status : Status} {out : O} → status ≢ OutFault
-    → UsesOut written faults command status out out
-out_stays well = record { unwritten = λ off. refl; fault = λ is. absurd (well is) }
 
 -- ---- told of the words, at the same moment
 
