@@ -1,5 +1,5 @@
 -- What was asked of the files.
-use Rattle.std.proofs.Common.{◌≡◌, inl, inr, ℕ, List, [], ◌∷◌, Option, Some, None, refl, sym, subst}
+use Rattle.std.proofs.Common.{inl, inr, ℕ, List, [], ◌∷◌, Option, Some, None, refl}
 use Rattle.cf_bytes.specs.Files.{Reads, Opens, Parts, Writes, IsRead, IsAtMostWritten}
 use Rattle.cf_input.specs.declared.words.Command.{Command}
 use Rattle.cf_loading.specs.Asking.{FileRead, Whole, AreRead}
@@ -24,8 +24,3 @@ unread reads opens parts (file ∷ asked) files = inl refl
 pub unasked : {F : Type 0} (reads : Reads F) (opens : Opens F) (parts : Parts F) (writes : Writes F) (found : Option Command) (files : F) → AreAsked reads opens parts writes found files files
 unasked reads opens parts writes None files = refl
 unasked reads opens parts writes (Some command) files = (files, unread reads opens parts (files_read command) files, unwritten writes _ files)
-
--- what a command asks, told of its words
-pub asked_so : {F : Type 0} (reads : Reads F) (opens : Opens F) (parts : Parts F) (writes : Writes F) (found : Option Command) (command : Command) (before after : F) → found ≡ Some command
-    → AreAsked reads opens parts writes (Some command) before after → AreAsked reads opens parts writes found before after
-asked_so reads opens parts writes found command before after is = subst (λ (o : Option Command). AreAsked reads opens parts writes o before after) (sym is)

@@ -1,15 +1,12 @@
 -- What a demo says of its text and of the answer.
-use Rattle.std.proofs.Common.{◌≡◌, inl, ℕ, false, List, Option, Some, refl, sym, ◌∙◌, subst}
-use Rattle.std.proofs.lemmas.Bool.{false≢true}
+use Rattle.std.proofs.Common.{◌≡◌, inl, ℕ, List, Option, refl, ◌∙◌, subst}
 use Rattle.cf_run.specs.declared.outcome.End.TheVariants.{Synced as IsSynced, NoPeers as HasNoPeers, Tired as IsTired}
 use Rattle.cf_demo.specs.declared.demo.Demo.{Demo}
 use Rattle.cf_demo.specs.Demo.{IsDemo}
-use Rattle.cf_input.specs.declared.words.Command.{Command}
-use Rattle.cf_input.specs.declared.words.Command.TheVariants.{Demo as AsksDemo}
 use Rattle.cf_wires.specs.Log.{Log}
 use Rattle.cf_answers.specs.declared.status.Status.{Status}
 use Rattle.cf_answers.specs.declared.status.Status.TheVariants.{Done, NoMemory, Usage, BadFile, FileFault, OutFault, NoPeers, Tired, Ended, LinkFault, NoNonce, NoHeight, NotThere, NotAddress}
-use Rattle.cf_cli.specs.Demo.{IsDemoText, IsDemoed, IsUntold, demo_lines, lines_over, may_show}
+use Rattle.cf_cli.specs.Demo.{IsDemoText, IsDemoed, IsUntold, demo_lines, lines_over}
 use Rattle.cf_offline.specs.Reading.{IsOfText, IsWritten}
 
 -- ---- the text
@@ -58,13 +55,3 @@ written_demoed (NoNonce height) seed blocks text bytes before after log of same 
 written_demoed (NoHeight tip) seed blocks text bytes before after log of same told written = absurd of
 written_demoed (NotThere txid) seed blocks text bytes before after log of same told written = absurd of
 written_demoed (NotAddress cause) seed blocks text bytes before after log of same told written = absurd of
-
--- ---- the command
-
--- the peers that a command doesn't use, told of its words
-pub unused_played : {X : Type 0} (found : Option Command) (c : Command) (before after : X) → found ≡ Some c → (may_show (Some c) ≡ false → after ≡ before) → may_show found ≡ false → after ≡ before
-unused_played found c before after e unused = subst (λ (o : Option Command). may_show o ≡ false → after ≡ before) (sym e) unused
-
--- `demo` may use them
-pub demo_uses : {Q : Type 0} (c : Command) (seed blocks : ℕ) → c ≡ AsksDemo seed blocks → may_show (Some c) ≡ false → Q
-demo_uses c seed blocks is off = absurd (false≢true (sym off ∙ (λ i. may_show (Some (is i)))))

@@ -8,3 +8,4 @@ pub mod Demos
 pub mod Doing
 pub mod Stays
 pub mod Ends
+pub mod Handed

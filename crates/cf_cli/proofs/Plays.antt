@@ -26,7 +26,7 @@ use Rattle.cf_input.specs.declared.words.Command.TheVariants.{Replay, Sync, Foll
 use Rattle.cf_input.specs.SessionFile.{session_of}
 use Rattle.cf_input.specs.WatchFile.{watch_of}
 use Rattle.cf_answers.specs.Statuses.{has_run}
-use Rattle.cf_cli.specs.Statuses.{may_dial, may_play, verdict_of}
+use Rattle.cf_cli.specs.Statuses.{verdict_of}
 use Rattle.cf_loading.specs.Verdicts.{IsJudged, Missing, Good, and_then, IsOfFile, watch_verdict, session_verdict}
 use Rattle.cf_cli.specs.Theorem.{AnswersTo, AreLeft, IsWhole, IsWithin, IsWatchFile, Kept, KeptOver, IsOfRun, IsReplayed, Plays, PlaysSession, Tallied, has_somebody}
 
@@ -380,15 +380,6 @@ pub judged_follow : (o : Option Named) (c : Command) (turns workers : ℕ) (file
 judged_follow o c turns workers file watch peers watch_name status a is judged =
     let one = subst (λ (w : List ℕ). IfSome o (λ m. IsJudged (watch_verdict (finite.get m w)) status)) a judged in
     subst (λ (x : Command). IfSome o (λ m. IsJudged (verdict_of m x) status)) (sym is) one
-
--- the wires and the tape that a command doesn't use, told of its words
-pub unused_wires : (found : Option Command) (c : Command) (status : Status) (before after : Told) → found ≡ Some c → (may_dial (Some c) status ≡ false → after ≡ before)
-    → may_dial found status ≡ false → after ≡ before
-unused_wires found c status before after e unused = subst (λ (o : Option Command). may_dial o status ≡ false → after ≡ before) (sym e) unused
-
-pub unused_tape : (found : Option Command) (c : Command) (status : Status) (before after : Told) → found ≡ Some c → (may_play (Some c) status ≡ false → after ≡ before)
-    → may_play found status ≡ false → after ≡ before
-unused_tape found c status before after e unused = subst (λ (o : Option Command). may_play o status ≡ false → after ≡ before) (sym e) unused
 
 -- no version was sent over an empty log
 pub unplayed_words : (words : Words) (log : Log) → log ≡ [] → IsOfWords words log

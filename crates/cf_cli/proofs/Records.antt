@@ -5,13 +5,11 @@ use Rattle.std.specs.FinMap as finite
 use Rattle.std.proofs.lemmas.Bool.{false≢true}
 use Rattle.cf_bytes.specs.Files.{Named, SameElsewhere}
 use Rattle.cf_wires.specs.Log.{Log}
-use Rattle.cf_input.specs.declared.words.Command.{Command}
-use Rattle.cf_input.specs.declared.words.Command.TheVariants.{Sync, Follow}
 use Rattle.cf_answers.specs.declared.status.Status.{Status}
 use Rattle.cf_answers.specs.declared.status.Status.TheVariants.{Done, NoMemory, Usage, BadFile, FileFault, OutFault, NoPeers, Tired, Ended, LinkFault, NoNonce, NoHeight, NotThere, NotAddress}
 use Rattle.cf_loading.specs.Verdicts.{IsJudged, IsOfFile, Verdict, Good, watch_verdict}
 use Rattle.cf_answers.specs.Statuses.{was_refused, was_unbegun}
-use Rattle.cf_cli.specs.Recording.{HasRecord, KeepsOthers, Records, is_recorded, may_write}
+use Rattle.cf_cli.specs.Recording.{HasRecord, KeepsOthers, Records}
 use Rattle.cf_cli.specs.Theorem.{AnswersTo, IsOfRun}
 use Rattle.cf_run.specs.declared.outcome.End.{End}
 use Rattle.cf_run.specs.declared.outcome.End.TheVariants.{Synced as IsSynced, NoPeers as HasNoPeers, Tired as IsTired, Ended as HasEnded}
@@ -91,39 +89,10 @@ unrecorded (NoHeight tip) log before after h = h
 unrecorded (NotThere txid) log before after h = h
 unrecorded (NotAddress cause) log before after h = h
 
-unrecorded_by : (file : Option (List ℕ)) (status : Status) (log : Option Log) (before after : Option Named) → Records status file log before after → is_some file ≡ false → after ≡ before
+-- the same of the name that is asked for
+pub unrecorded_by : (file : Option (List ℕ)) (status : Status) (log : Option Log) (before after : Option Named) → Records status file log before after → is_some file ≡ false → after ≡ before
 unrecorded_by None status log before after h off = unrecorded status log before after h
 unrecorded_by (Some name) status log before after h off = absurd (false≢true (sym off))
-
-pub sync_writes : (c : Command) (turns workers : ℕ) (file : Option (List ℕ)) (watch : List ℕ) (peers : List (List ℕ)) (status : Status) (log : Option Log) (before after : Option Named)
-    → c ≡ Sync turns workers file watch peers → Records status file log before after → may_write (Some c) ≡ false → after ≡ before
-sync_writes c turns workers file watch peers status log before after is h =
-    subst (λ (x : Command). may_write (Some x) ≡ false → after ≡ before) (sym is) (unrecorded_by file status log before after h)
-
-pub follow_writes : (c : Command) (turns workers : ℕ) (file : Option (List ℕ)) (watch : List ℕ) (peers : List (List ℕ)) (status : Status) (log : Option Log) (before after : Option Named)
-    → c ≡ Follow turns workers file watch peers → Records status file log before after → may_write (Some c) ≡ false → after ≡ before
-follow_writes c turns workers file watch peers status log before after is h =
-    subst (λ (x : Command). may_write (Some x) ≡ false → after ≡ before) (sym is) (unrecorded_by file status log before after h)
-
--- the files that a command doesn't change, told of its words
-pub unused_files : (found : Option Command) (c : Command) (before after : Option Named) → found ≡ Some c → (may_write (Some c) ≡ false → after ≡ before) → may_write found ≡ false → after ≡ before
-unused_files found c before after e unused = subst (λ (o : Option Command). may_write o ≡ false → after ≡ before) (sym e) unused
-
--- wires keep a log no more than before where no record is asked for
-pub sync_keeps : (c : Command) (turns workers : ℕ) (file : Option (List ℕ)) (watch : List ℕ) (peers : List (List ℕ)) (before after : Bool)
-    → c ≡ Sync turns workers file watch peers → (is_some file ≡ false → after ≡ before) → is_recorded (Some c) ≡ false → after ≡ before
-sync_keeps c turns workers file watch peers before after is h =
-    subst (λ (x : Command). is_recorded (Some x) ≡ false → after ≡ before) (sym is) h
-
-pub follow_keeps : (c : Command) (turns workers : ℕ) (file : Option (List ℕ)) (watch : List ℕ) (peers : List (List ℕ)) (before after : Bool)
-    → c ≡ Follow turns workers file watch peers → (is_some file ≡ false → after ≡ before) → is_recorded (Some c) ≡ false → after ≡ before
-follow_keeps c turns workers file watch peers before after is h =
-    subst (λ (x : Command). is_recorded (Some x) ≡ false → after ≡ before) (sym is) h
-
--- the same, told of its words
-pub unkept_log : (found : Option Command) (c : Command) (before after : Bool) → found ≡ Some c → (is_recorded (Some c) ≡ false → after ≡ before)
-    → is_recorded found ≡ false → after ≡ before
-unkept_log found c before after e unkept = subst (λ (o : Option Command). is_recorded o ≡ false → after ≡ before) (sym e) unkept
 
 -- a run that was begun is an answer to a good file
 good_judged : (status : Status) (recorded : Bool) → was_unbegun status recorded ≡ false → IsJudged Good status

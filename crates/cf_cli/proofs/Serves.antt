@@ -1,6 +1,6 @@
 -- What serving says of the answer and of the link.
-use Rattle.std.proofs.Common.{◌≡◌, ℕ, ℤ, ◌+◌, ◌≤◌, Bool, true, false, List, Option, Some, Result, Ok, Err, inr, refl, sym, subst}
-use Rattle.std.specs.Prelude.{IfSome, OnOk, not}
+use Rattle.std.proofs.Common.{◌≡◌, ℕ, ℤ, ◌+◌, ◌≤◌, Bool, List, Option, Result, Ok, Err, inr, sym, subst}
+use Rattle.std.specs.Prelude.{IfSome, OnOk}
 use Rattle.std.specs.FinMap as finite
 use Rattle.cf_bytes.specs.Files.{Named}
 use Rattle.cf_block.specs.declared.tx.Block.{Block}
@@ -13,28 +13,7 @@ use Rattle.cf_serve.specs.declared.fail.ServeFail.TheVariants.{Failed, NoMemory 
 use Rattle.cf_conn.specs.Told.{Told}
 use Rattle.cf_answers.specs.declared.status.Status.{Status}
 use Rattle.cf_answers.specs.declared.status.Status.TheVariants.{Done, NoMemory, Usage, BadFile, FileFault, OutFault, NoPeers, Tired, Ended, LinkFault, NoNonce, NoHeight, NotThere, NotAddress}
-use Rattle.cf_answers.specs.Statuses.{was_refused}
-use Rattle.cf_cli.specs.Serving.{listening, ServesAt, MayServe, ServesChain, IsServing, answer_of, may_serve, served_by}
-use Rattle.cf_input.specs.declared.words.Command.{Command}
-use Rattle.cf_input.specs.declared.words.Command.TheVariants.{Serve}
-
--- an answer of which something is known that isn't so of a link's fault
-pub no_link : (P : Status → Type 0) (status : Status) → P status → (P LinkFault → ⊥) → {Q : Type 0} → status ≡ LinkFault → Q
-no_link P status known none is = absurd (none (subst P is known))
-
-pub unused_link : {X : Type 0} (found : Option Command) (c : Command) (status : Status) (before after : X) → found ≡ Some c → (may_serve (Some c) status ≡ false → after ≡ before)
-    → may_serve found status ≡ false → after ≡ before
-unused_link found c status before after e unused = subst (λ (o : Option Command). may_serve o status ≡ false → after ≡ before) (sym e) unused
-
-refused_by : (b : Bool) → not b ≡ false → b ≡ true
-refused_by true is = refl
-refused_by false is = cc
-
--- a link that stays where nothing was begun may have been used by a command that serves
-pub serve_uses : {X : Type 0} (c : Command) (grow : Bool) (count : ℕ) (file address : List ℕ) (status : Status) (before after : X) → c ≡ Serve grow count file address → (was_refused status ≡ true → after ≡ before)
-    → may_serve (Some c) status ≡ false → after ≡ before
-serve_uses c grow count file address status before after is kept =
-    subst (λ (x : Command). may_serve (Some x) status ≡ false → after ≡ before) (sym is) (λ off. kept (refused_by (was_refused status) off))
+use Rattle.cf_cli.specs.Serving.{listening, ServesAt, MayServe, ServesChain, IsServing, answer_of, served_by}
 
 -- two links tell the same
 pub same_told : (a b : LinkTold) → a.addresses ≡ b.addresses → a.accepted ≡ b.accepted → a.owed ≡ b.owed → a.conns ≡ b.conns → a.given ≡ b.given → a ≡ b

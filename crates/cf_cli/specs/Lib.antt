@@ -8,3 +8,4 @@ pub mod Demo
 pub mod Doing
 pub mod Ends
 pub mod Following
+pub mod Handed

@@ -7,19 +7,17 @@ ghost use Rattle.cf_run.specs.Run.{HasDialled, HasFailed};
 ghost use Rattle.cf_run.specs.Versions.{HasWords, IsOfWords};
 ghost use Rattle.cf_wires.specs.Log.{Tells};
 ghost use Rattle.cf_wires.specs.Memory.{log_of, failing_of, finished_of, told_of};
-ghost use Rattle.cf_played.specs.Told.{log_of as played_log, peers_of, finished_of as has_finished};
 ghost use Rattle.cf_input.specs.SessionFile.{session_of};
-ghost use Rattle.cf_cli.specs.Asking.{AsksFor, AreAsked};
+ghost use Rattle.cf_cli.specs.Asking.{AsksFor};
 ghost use Rattle.cf_loading.specs.Asking.{Whole};
-ghost use Rattle.cf_cli.specs.Recording.{Records, is_recorded, may_write};
+ghost use Rattle.cf_cli.specs.Recording.{Records};
 ghost use Rattle.cf_loading.specs.Verdicts.{IsJudged, and_then, watch_verdict, session_verdict};
 ghost use Rattle.cf_answers.specs.Statuses.{has_run, was_refused, was_unbegun};
-ghost use Rattle.cf_cli.specs.Statuses.{may_dial, may_play, may_say, verdict_of};
+ghost use Rattle.cf_cli.specs.Statuses.{verdict_of};
 ghost use Rattle.cf_serve.specs.Links.{link_now};
-ghost use Rattle.cf_cli.specs.Serving.{may_serve};
 ghost use Rattle.cf_cli.specs.Doing.{Does, around};
 ghost use Rattle.cf_cli.specs.Ends.{AreEnds, AreEndsAfter, AreEndsOver};
-ghost use Rattle.cf_cli.specs.Demo.{may_show};
+ghost use Rattle.cf_cli.specs.Handed.{AreNewWires, IsNewPlayed, IsNewTape, UsesFiles, UsesLink, UsesOut, UsesPlayed, UsesTape, UsesWires};
 ghost use Rattle.cf_cli.specs.Following.{IsReplayedIn, KeptLive, TalliedOn};
 ghost use Rattle.cf_cli.specs.Theorem.{KeptOver, Tallied, PlaysSession};
 ghost use Rattle.cf_input.specs.Words.{command_of, HasFewPeers};
@@ -64,12 +62,16 @@ fn replay<F: Files, O: Sink>(
     requires log { log_of tape.old ≡ [] }
     requires failing { failing_of tape.old ≡ [] }
     requires open { finished_of tape.old ≡ false }
-    ensures judged { IfSome (F.files files.old) (λ m. IsJudged (and_then (watch_verdict (finite.get m watch.now)) (session_verdict (finite.get m session.now))) result) }
-    ensures replayed { IsReplayedIn follow result MOST_TURNS trace (F.files files.old) watch.now (O.written out.old) (O.written out.new) (told_of tape.old) (told_of tape.new) (log_of tape.new) }
-    ensures plays { IfSome (F.files files.old) (λ m. IfSome (finite.get m session.now) (λ bytes. PlaysSession result (session_of bytes) (log_of tape.new))) }
+    ensures judged { IfSome (F.files files.old) (λ m. IsJudged (and_then (watch_verdict (finite.get m watch.now))
+        (session_verdict (finite.get m session.now))) result) }
+    ensures replayed { IsReplayedIn follow result MOST_TURNS trace (F.files files.old) watch.now
+        (O.written out.old) (O.written out.new) (told_of tape.old) (told_of tape.new) (log_of tape.new) }
+    ensures plays { IfSome (F.files files.old) (λ m. IfSome (finite.get m session.now)
+        (λ bytes. PlaysSession result (session_of bytes) (log_of tape.new))) }
     ensures versions { IsOfWords (record { moment = moment; number = nonce }) (log_of tape.new) }
     ensures unchanged { F.files files.new ≡ F.files files.old }
-    ensures files { AsksFor F.reads F.opens F.parts F.writes (Whole watch.now ∷ Whole session.now ∷ []) None files.old files.new }
+    ensures files { AsksFor F.reads F.opens F.parts F.writes (Whole watch.now ∷ Whole session.now ∷ []) None
+        files.old files.new }
     ensures file_fault { result ≡ Status.FileFault → HasRisen (F.faults files.old) (F.faults files.new) }
     ensures out_fault { result ≡ Status.OutFault → HasRisen (O.faults out.old) (O.faults out.new) }
     ensures unwritten { has_run result ≡ false → O.written out.new ≡ O.written out.old }
@@ -120,8 +122,8 @@ fn replay<F: Files, O: Sink>(
     }
 }
 
-// Follows the peers of these names, of one to eight, over the wires that are handed in, and records what passes them where a file is named for it.
-// Filters are judged by so many threads.
+// Follows the peers of these names, of one to eight, over the wires that are handed in, and records what passes them
+// where a file is named for it. Filters are judged by so many threads.
 fn sync<R: Wait + Threads + Copy + Drop + Send + 'static, F: Files, W: Wires, K: Spawner, O: Sink>(
     rt: R,
     alloc: Global,
@@ -144,11 +146,13 @@ fn sync<R: Wait + Threads + Copy + Drop + Send + 'static, F: Files, W: Wires, K:
     requires some { 1 ≤ workers }
     requires most { workers ≤ 64 }
     ensures judged { IfSome (F.files files.old) (λ m. IsJudged (watch_verdict (finite.get m watch.now)) result) }
-    ensures kept { IfSome (W.told wires.new).log (λ log. KeptOver result (is_some log_file.now) false (F.files files.old) watch.now (names_in peers.now) (O.written out.old) (O.written out.new) log) }
+    ensures kept { IfSome (W.told wires.new).log (λ log. KeptOver result (is_some log_file.now) false
+        (F.files files.old) watch.now (names_in peers.now) (O.written out.old) (O.written out.new) log) }
     ensures tallied { Tallied result turns (length (names_in peers.now)) (W.told wires.old) (W.told wires.new) }
     ensures dialled { HasDialled (names_in peers.now) (W.told wires.new) }
     ensures versions { HasWords (record { moment = moment; number = nonce }) (W.told wires.new) }
-    ensures failures { IfSome (W.told wires.new).log (λ log. HasFailed log → HasRisen (W.faults wires.old) (W.faults wires.new)) }
+    ensures failures { IfSome (W.told wires.new).log
+        (λ log. HasFailed log → HasRisen (W.faults wires.old) (W.faults wires.new)) }
     ensures unkept { is_some log_file.now ≡ false → W.keeps wires.new ≡ W.keeps wires.old }
     ensures records { Records result log_file.now (W.told wires.new).log (F.files files.old) (F.files files.new) }
     ensures files { AsksFor F.reads F.opens F.parts F.writes (Whole watch.now ∷ []) log_file.now files.old files.new }
@@ -172,8 +176,8 @@ fn sync<R: Wait + Threads + Copy + Drop + Send + 'static, F: Files, W: Wires, K:
     )
 }
 
-// Follows the peers of these names, of one to eight, as their chains grow, over the wires that are handed in, and records what passes them where a file
-// is named for it. Filters are judged by so many threads.
+// Follows the peers of these names, of one to eight, as their chains grow, over the wires that are handed in, and
+// records what passes them where a file is named for it. Filters are judged by so many threads.
 fn follow<
     R: Wait + Threads + Copy + Drop + Send + 'static,
     F: Files,
@@ -202,12 +206,14 @@ fn follow<
     requires some { 1 ≤ workers }
     requires most { workers ≤ 64 }
     ensures judged { IfSome (F.files files.old) (λ m. IsJudged (watch_verdict (finite.get m watch.now)) result) }
-    ensures kept { IfSome (W.told wires.new).log (λ log. KeptLive result (is_some log_file.now) (F.files files.old) watch.now (names_in peers.now)
+    ensures kept { IfSome (W.told wires.new).log (λ log. KeptLive result (is_some log_file.now)
+        (F.files files.old) watch.now (names_in peers.now)
         (O.written out.old) (O.written out.new) (O.faults out.old) (O.faults out.new) log) }
     ensures tallied { TalliedOn result turns (length (names_in peers.now)) (W.told wires.old) (W.told wires.new) }
     ensures dialled { HasDialled (names_in peers.now) (W.told wires.new) }
     ensures versions { HasWords (record { moment = moment; number = nonce }) (W.told wires.new) }
-    ensures failures { IfSome (W.told wires.new).log (λ log. HasFailed log → HasRisen (W.faults wires.old) (W.faults wires.new)) }
+    ensures failures { IfSome (W.told wires.new).log
+        (λ log. HasFailed log → HasRisen (W.faults wires.old) (W.faults wires.new)) }
     ensures unkept { is_some log_file.now ≡ false → W.keeps wires.new ≡ W.keeps wires.old }
     ensures records { Records result log_file.now (W.told wires.new).log (F.files files.old) (F.files files.new) }
     ensures files { AsksFor F.reads F.opens F.parts F.writes (Whole watch.now ∷ []) log_file.now files.old files.new }
@@ -265,14 +271,9 @@ fn perform<
 where
     L::Conn: Send + 'static,
     <L::Conn as Duplex>::End: Drop + Send + 'static,
-    requires wires { Tells [] (W.told wires.old) }
-    requires unfinished { (W.told wires.old).finished ≡ false }
-    requires log { log_of tape.old ≡ [] }
-    requires failing { failing_of tape.old ≡ [] }
-    requires open { finished_of tape.old ≡ false }
-    requires fresh { played_log played.old ≡ [] }
-    requires none { peers_of played.old ≡ [] }
-    requires unended { has_finished played.old ≡ false }
+    requires wires { AreNewWires (W.told wires.old) }
+    requires tape { IsNewTape tape.old }
+    requires played { IsNewPlayed played.old }
     requires few { HasFewPeers command }
     ensures judged { IfSome (F.files files.old) (λ m. IsJudged (verdict_of m command) result) }
     ensures does { Does command result moment nonce
@@ -280,22 +281,17 @@ where
         (link_now L.addresses L.accepted L.owed L.conns L.given link.old))
         (around (F.files files.new) (O.written out.new) (O.faults out.new) (W.told wires.new) tape.new played.new
         (link_now L.addresses L.accepted L.owed L.conns L.given link.new)) }
-    ensures versions { HasWords (record { moment = moment; number = nonce }) (W.told wires.new) }
-    ensures tape_versions { IsOfWords (record { moment = moment; number = nonce }) (log_of tape.new) }
-    ensures unchanged { may_write (Some command) ≡ false → F.files files.new ≡ F.files files.old }
-    ensures files { AreAsked F.reads F.opens F.parts F.writes (Some command) files.old files.new }
-    ensures file_fault { result ≡ Status.FileFault → HasRisen (F.faults files.old) (F.faults files.new) }
-    ensures out_fault { result ≡ Status.OutFault → HasRisen (O.faults out.old) (O.faults out.new) }
-    ensures unwritten { may_say (Some command) result ≡ false → O.written out.new ≡ O.written out.old }
-    ensures failures { IfSome (W.told wires.new).log (λ log. HasFailed log → HasRisen (W.faults wires.old) (W.faults wires.new)) }
-    ensures undialled { may_dial (Some command) result ≡ false → W.told wires.new ≡ W.told wires.old }
-    ensures unkept { is_recorded (Some command) ≡ false → W.keeps wires.new ≡ W.keeps wires.old }
-    ensures unplayed { may_play (Some command) result ≡ false → told_of tape.new ≡ told_of tape.old }
-    ensures unserved { may_serve (Some command) result ≡ false → link.new ≡ link.old }
-    ensures unshown { may_show (Some command) ≡ false → played.new ≡ played.old }
-    ensures link_fault { result ≡ Status.LinkFault → HasRisen (L.faults link.old) (L.faults link.new) }
+    ensures files { UsesFiles F.files F.faults F.reads F.opens F.parts F.writes (Some command) result
+        files.old files.new }
+    ensures wires { UsesWires W.told W.keeps W.faults moment nonce (Some command) result
+        wires.old wires.new }
+    ensures tape { UsesTape moment nonce (Some command) result tape.old tape.new }
+    ensures played { UsesPlayed (Some command) played.old played.new }
+    ensures link { UsesLink L.faults (Some command) result link.old link.new }
+    ensures out { UsesOut O.written O.faults (Some command) result out.old out.new }
     ensures asked { result ≢ Status.Usage }
-    ensures ends { AreEnds (Some command) result (W.told wires.new).log (log_of tape.new) ends.old.items ends.new.items }
+    ensures ends { AreEnds (Some command) result (W.told wires.new).log (log_of tape.new)
+        ends.old.items ends.new.items }
 {
     match command {
         Command::Replay {
@@ -394,22 +390,27 @@ where
     }
 }
 
-/// All that the program does. The first word is the program's name; `moment` is the time in seconds since 1970 and `nonce` a random number, which
-/// the client's `version` tells. `sync` and `follow` go over `wires`, `replay` over `tape`, and `demo` over the peers that it adds to `played`; all three are new,
-/// nothing has passed them, they aren't finished, no call of `tape` is to fail, and `played` has no peers. `serve` goes over `link`, and starts its
-/// connections by `spawner`, and so do `sync`, `follow` and `demo` the threads that judge filters. With `--grow` it tells `joins` of each block that joins its
-/// chain. The text goes to `out`.
+/// All that the program does. The first word is the program's name; `moment` is the time in seconds since 1970 and
+/// `nonce` a random number, which the client's `version` tells. `sync` and `follow` go over `wires`, `replay` over
+/// `tape`, and `demo` over the peers that it adds to `played`; all three are new, nothing has passed them, they aren't
+/// finished, no call of `tape` is to fail, and `played` has no peers. `serve` goes over `link`, and starts its
+/// connections by `spawner`, and so do `sync`, `follow` and `demo` the threads that judge filters. With `--grow` it
+/// tells `joins` of each block that joins its chain. The text goes to `out`.
 ///
-/// `NoMemory` may come in place of any other answer. `Usage` comes where the words ask for nothing. The watch file is judged first, then the session
-/// file: what is missing, refused or good is answered so. After that the run is made; a record of it, where `sync` is asked for one, is put into its
-/// file; and its text is written. `follow` writes the text of each quiet moment at once, and its record at the end; `replay --follow` writes the texts of
-/// all of them after the trace. With `NoMemory`, `Usage`, `BadFile` and `FileFault` no text was written, but by a `follow` whose run was begun. With the last three no wires
-/// were used, but for a `FileFault` that comes where the record can't be written; `sync` and `follow` alone use `wires`, `replay` alone `tape`, `demo` alone `played`, `serve` alone
-/// `link`. The log of `wires` is kept only where a record is asked for. `make` puts its records into its file; of the other commands only `sync` and `follow` with a record change a file. Of the files at most those that the
-/// command names are read, the watch file first and each once, a file of blocks by parts, and after that at most the one that it writes is written, once.
+/// `NoMemory` may come in place of any other answer. `Usage` comes where the words ask for nothing. The watch file is
+/// judged first, then the session file: what is missing, refused or good is answered so. After that the run is made; a
+/// record of it, where `sync` is asked for one, is put into its file; and its text is written. `follow` writes the text
+/// of each quiet moment at once, and its record at the end; `replay --follow` writes the texts of all of them after the
+/// trace. With `NoMemory`, `Usage`, `BadFile` and `FileFault` no text was written, but by a `follow` whose run was
+/// begun. With the last three no wires were used, but for a `FileFault` that comes where the record can't be written;
+/// `sync` and `follow` alone use `wires`, `replay` alone `tape`, `demo` alone `played`, `serve` alone `link`. The log
+/// of `wires` is kept only where a record is asked for. `make` puts its records into its file; of the other commands
+/// only `sync` and `follow` with a record change a file. Of the files at most those that the command names are read,
+/// the watch file first and each once, a file of blocks by parts, and after that at most the one that it writes is
+/// written, once.
 ///
-/// How each peer stands once `sync`, `follow` or `replay` has made its run is put into `ends`, in the order of their numbers. Where no run was begun, and with each
-/// other command, `ends` stays as it is handed in.
+/// How each peer stands once `sync`, `follow` or `replay` has made its run is put into `ends`, in the order of their
+/// numbers. Where no run was begun, and with each other command, `ends` stays as it is handed in.
 pub fn run<
     R: Wait + Threads + Sync + Copy + Drop + Send + 'static,
     J: Joins + Copy + Drop + Send + 'static,
@@ -437,37 +438,28 @@ pub fn run<
 where
     L::Conn: Send + 'static,
     <L::Conn as Duplex>::End: Drop + Send + 'static,
-    requires wires { Tells [] (W.told wires.old) }
-    requires unfinished { (W.told wires.old).finished ≡ false }
-    requires log { log_of tape.old ≡ [] }
-    requires failing { failing_of tape.old ≡ [] }
-    requires open { finished_of tape.old ≡ false }
-    requires fresh { played_log played.old ≡ [] }
-    requires none { peers_of played.old ≡ [] }
-    requires unended { has_finished played.old ≡ false }
+    requires wires { AreNewWires (W.told wires.old) }
+    requires tape { IsNewTape tape.old }
+    requires played { IsNewPlayed played.old }
     ensures usage { result ≡ Status.Usage → command_of (names_in words.now) ≡ None }
     ensures unasked { command_of (names_in words.now) ≡ None → (result ≡ Status.Usage) ⊎ (result ≡ Status.NoMemory) }
-    ensures judged { IfSome (F.files files.old) (λ m. (c : Command) → command_of (names_in words.now) ≡ Some c → IsJudged (verdict_of m c) result) }
+    ensures judged { IfSome (F.files files.old) (λ m. (c : Command) → command_of (names_in words.now) ≡ Some c
+        → IsJudged (verdict_of m c) result) }
     ensures does { (c : Command) → command_of (names_in words.now) ≡ Some c → Does c result moment nonce
         (around (F.files files.old) (O.written out.old) (O.faults out.old) (W.told wires.old) tape.old played.old
         (link_now L.addresses L.accepted L.owed L.conns L.given link.old))
         (around (F.files files.new) (O.written out.new) (O.faults out.new) (W.told wires.new) tape.new played.new
         (link_now L.addresses L.accepted L.owed L.conns L.given link.new)) }
-    ensures versions { HasWords (record { moment = moment; number = nonce }) (W.told wires.new) }
-    ensures tape_versions { IsOfWords (record { moment = moment; number = nonce }) (log_of tape.new) }
-    ensures unchanged { may_write (command_of (names_in words.now)) ≡ false → F.files files.new ≡ F.files files.old }
-    ensures files { AreAsked F.reads F.opens F.parts F.writes (command_of (names_in words.now)) files.old files.new }
-    ensures file_fault { result ≡ Status.FileFault → HasRisen (F.faults files.old) (F.faults files.new) }
-    ensures out_fault { result ≡ Status.OutFault → HasRisen (O.faults out.old) (O.faults out.new) }
-    ensures unwritten { may_say (command_of (names_in words.now)) result ≡ false → O.written out.new ≡ O.written out.old }
-    ensures failures { IfSome (W.told wires.new).log (λ log. HasFailed log → HasRisen (W.faults wires.old) (W.faults wires.new)) }
-    ensures undialled { may_dial (command_of (names_in words.now)) result ≡ false → W.told wires.new ≡ W.told wires.old }
-    ensures unkept { is_recorded (command_of (names_in words.now)) ≡ false → W.keeps wires.new ≡ W.keeps wires.old }
-    ensures unplayed { may_play (command_of (names_in words.now)) result ≡ false → told_of tape.new ≡ told_of tape.old }
-    ensures unserved { may_serve (command_of (names_in words.now)) result ≡ false → link.new ≡ link.old }
-    ensures unshown { may_show (command_of (names_in words.now)) ≡ false → played.new ≡ played.old }
-    ensures link_fault { result ≡ Status.LinkFault → HasRisen (L.faults link.old) (L.faults link.new) }
-    ensures ends { AreEnds (command_of (names_in words.now)) result (W.told wires.new).log (log_of tape.new) ends.old.items ends.new.items }
+    ensures files { UsesFiles F.files F.faults F.reads F.opens F.parts F.writes (command_of (names_in words.now)) result
+        files.old files.new }
+    ensures wires { UsesWires W.told W.keeps W.faults moment nonce (command_of (names_in words.now)) result
+        wires.old wires.new }
+    ensures tape { UsesTape moment nonce (command_of (names_in words.now)) result tape.old tape.new }
+    ensures played { UsesPlayed (command_of (names_in words.now)) played.old played.new }
+    ensures link { UsesLink L.faults (command_of (names_in words.now)) result link.old link.new }
+    ensures out { UsesOut O.written O.faults (command_of (names_in words.now)) result out.old out.new }
+    ensures ends { AreEnds (command_of (names_in words.now)) result (W.told wires.new).log (log_of tape.new)
+        ends.old.items ends.new.items }
 {
     match read_words(alloc, words) {
         Ok(command) => perform(

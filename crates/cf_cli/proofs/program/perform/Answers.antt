@@ -3,12 +3,15 @@ use Rattle.std.proofs.Math.Facts.{to_z-of_z}
 use Rattle.std.specs.Int.{w64}
 use Rattle.cf_serve.specs.Links.{LinkTold, link_now}
 use Rattle.cf_cli.specs.Serving.{IsServing}
+use Rattle.cf_answers.specs.declared.status.Status.{Status}
+use Rattle.cf_answers.specs.declared.status.Status.TheVariants.{FileFault}
+use Rattle.cf_offline.specs.Reading.{IsAddressed}
+use Rattle.cf_cli.specs.Demo.{IsDemoed}
+use Rattle.cf_played.specs.Told.{log_of as played_log}
 use Rattle.cf_wires.specs.Memory.{told_of}
-use Rattle.cf_run.proofs.Versions.{new_words}
-use Rattle.cf_cli.proofs.Plays.{versions_so, unplayed_words, judged_replay, judged_sync, judged_follow, new_unfailed}
-use Rattle.cf_cli.proofs.Records.{sync_keeps, sync_writes, follow_keeps, follow_writes}
-use Rattle.cf_cli.proofs.Demos.{demo_uses}
-use Rattle.cf_cli.proofs.Serves.{serve_uses}
+use Rattle.cf_cli.proofs.Plays.{versions_so, judged_replay, judged_sync, judged_follow}
+use Rattle.cf_cli.proofs.Records.{unrecorded_by}
+use Rattle.cf_cli.proofs.Handed.{is_on, is_not, files_stay, wires_stay, tape_stays}
 use Rattle.cf_cli.proofs.program.perform.Goals as goal
 
 pub returns-in-Replay-clause-judged : goal.returns-in-Replay-clause-judged
@@ -25,129 +28,6 @@ pub returns-in-Follow-clause-judged : goal.returns-in-Follow-clause-judged
 returns-in-Follow-clause-judged g c =
     judged_follow (g.F.Files.files c.args.files.now) c.args.command c.in-Follow.turns c.in-Follow.workers c.in-Follow.«record» c.in-Follow.watch c.in-Follow.peers c.as_str-in-Follow.result.now c.follow.result
     c.as_str-in-Follow.ensures c.in-Follow.is c.follow.ensures.judged
-
-pub returns-in-Follow-clause-unchanged : goal.returns-in-Follow-clause-unchanged
-returns-in-Follow-clause-unchanged g c =
-    follow_writes c.args.command c.in-Follow.turns c.in-Follow.workers c.in-Follow.«record» c.in-Follow.watch c.in-Follow.peers c.follow.result _ _ _ c.in-Follow.is c.follow.ensures.records
-
-pub returns-in-Sync-clause-unkept : goal.returns-in-Sync-clause-unkept
-returns-in-Sync-clause-unkept g c =
-    sync_keeps c.args.command c.in-Sync.turns c.in-Sync.workers c.in-Sync.«record» c.in-Sync.watch c.in-Sync.peers _ _ c.in-Sync.is
-    c.sync.ensures.unkept
-
-pub returns-in-Follow-clause-unkept : goal.returns-in-Follow-clause-unkept
-returns-in-Follow-clause-unkept g c =
-    follow_keeps c.args.command c.in-Follow.turns c.in-Follow.workers c.in-Follow.«record» c.in-Follow.watch c.in-Follow.peers _ _
-    c.in-Follow.is c.follow.ensures.unkept
-
-pub returns-in-Sync-clause-unchanged : goal.returns-in-Sync-clause-unchanged
-returns-in-Sync-clause-unchanged g c =
-    sync_writes c.args.command c.in-Sync.turns c.in-Sync.workers c.in-Sync.«record» c.in-Sync.watch c.in-Sync.peers c.sync.result _ _ _ c.in-Sync.is c.sync.ensures.records
-
-pub returns-in-Replay-clause-failures : goal.returns-in-Replay-clause-failures
-returns-in-Replay-clause-failures g c = new_unfailed _ _ _ c.requires.wires
-
-pub returns-in-Scan-clause-failures : goal.returns-in-Scan-clause-failures
-returns-in-Scan-clause-failures g c = new_unfailed _ _ _ c.requires.wires
-
-pub returns-in-Filter-clause-failures : goal.returns-in-Filter-clause-failures
-returns-in-Filter-clause-failures g c = new_unfailed _ _ _ c.requires.wires
-
-pub returns-in-Address-clause-failures : goal.returns-in-Address-clause-failures
-returns-in-Address-clause-failures g c = new_unfailed _ _ _ c.requires.wires
-
-pub returns-in-Prove-clause-failures : goal.returns-in-Prove-clause-failures
-returns-in-Prove-clause-failures g c = new_unfailed _ _ _ c.requires.wires
-
-pub returns-in-Check-clause-failures : goal.returns-in-Check-clause-failures
-returns-in-Check-clause-failures g c = new_unfailed _ _ _ c.requires.wires
-
-pub returns-in-Serve-clause-failures : goal.returns-in-Serve-clause-failures
-returns-in-Serve-clause-failures g c = new_unfailed _ _ _ c.requires.wires
-
-pub returns-in-Serve-clause-unserved : goal.returns-in-Serve-clause-unserved
-returns-in-Serve-clause-unserved g c = serve_uses c.args.command c.in-Serve.grow c.in-Serve.connections c.in-Serve.file c.in-Serve.address c.serve.result _ _ c.in-Serve.is c.serve.ensures.unused
-
-pub returns-in-Replay-clause-versions : goal.returns-in-Replay-clause-versions
-returns-in-Replay-clause-versions g c = new_words _ _ c.requires.wires
-
-pub returns-in-Scan-clause-versions : goal.returns-in-Scan-clause-versions
-returns-in-Scan-clause-versions g c = new_words _ _ c.requires.wires
-
-pub returns-in-Filter-clause-versions : goal.returns-in-Filter-clause-versions
-returns-in-Filter-clause-versions g c = new_words _ _ c.requires.wires
-
-pub returns-in-Address-clause-versions : goal.returns-in-Address-clause-versions
-returns-in-Address-clause-versions g c = new_words _ _ c.requires.wires
-
-pub returns-in-Sync-clause-tape_versions : goal.returns-in-Sync-clause-tape_versions
-returns-in-Sync-clause-tape_versions g c = unplayed_words _ _ c.requires.log
-
-pub returns-in-Follow-clause-tape_versions : goal.returns-in-Follow-clause-tape_versions
-returns-in-Follow-clause-tape_versions g c = unplayed_words _ _ c.requires.log
-
-pub returns-in-Follow-clause-versions : goal.returns-in-Follow-clause-versions
-returns-in-Follow-clause-versions g c =
-    versions_so _ c.args.moment c.args.nonce (g.W.Wires.told c.follow.new.wires)
-    (to_z-of_z {w = w64} {z = c.args.moment} (search rules)) c.follow.ensures.versions
-
-pub returns-in-Scan-clause-tape_versions : goal.returns-in-Scan-clause-tape_versions
-returns-in-Scan-clause-tape_versions g c = unplayed_words _ _ c.requires.log
-
-pub returns-in-Filter-clause-tape_versions : goal.returns-in-Filter-clause-tape_versions
-returns-in-Filter-clause-tape_versions g c = unplayed_words _ _ c.requires.log
-
-pub returns-in-Address-clause-tape_versions : goal.returns-in-Address-clause-tape_versions
-returns-in-Address-clause-tape_versions g c = unplayed_words _ _ c.requires.log
-
-pub returns-in-Sync-clause-versions : goal.returns-in-Sync-clause-versions
-returns-in-Sync-clause-versions g c =
-    versions_so _ c.args.moment c.args.nonce (g.W.Wires.told c.sync.new.wires)
-    (to_z-of_z {w = w64} {z = c.args.moment} (search rules)) c.sync.ensures.versions
-
-pub returns-in-Replay-clause-tape_versions : goal.returns-in-Replay-clause-tape_versions
-returns-in-Replay-clause-tape_versions g c =
-    versions_so _ c.args.moment c.args.nonce (told_of c.replay.new.tape)
-    (to_z-of_z {w = w64} {z = c.args.moment} (search rules)) c.replay.ensures.versions
-
-pub returns-in-Prove-clause-versions : goal.returns-in-Prove-clause-versions
-returns-in-Prove-clause-versions g c = new_words _ _ c.requires.wires
-
-pub returns-in-Check-clause-versions : goal.returns-in-Check-clause-versions
-returns-in-Check-clause-versions g c = new_words _ _ c.requires.wires
-
-pub returns-in-Prove-clause-tape_versions : goal.returns-in-Prove-clause-tape_versions
-returns-in-Prove-clause-tape_versions g c = unplayed_words _ _ c.requires.log
-
-pub returns-in-Check-clause-tape_versions : goal.returns-in-Check-clause-tape_versions
-returns-in-Check-clause-tape_versions g c = unplayed_words _ _ c.requires.log
-
-pub returns-in-Serve-clause-versions : goal.returns-in-Serve-clause-versions
-returns-in-Serve-clause-versions g c = new_words _ _ c.requires.wires
-
-pub returns-in-Serve-clause-tape_versions : goal.returns-in-Serve-clause-tape_versions
-returns-in-Serve-clause-tape_versions g c = unplayed_words _ _ c.requires.log
-
-pub returns-in-Make-clause-failures : goal.returns-in-Make-clause-failures
-returns-in-Make-clause-failures g c = new_unfailed _ _ _ c.requires.wires
-
-pub returns-in-Make-clause-versions : goal.returns-in-Make-clause-versions
-returns-in-Make-clause-versions g c = new_words _ _ c.requires.wires
-
-pub returns-in-Make-clause-tape_versions : goal.returns-in-Make-clause-tape_versions
-returns-in-Make-clause-tape_versions g c = unplayed_words _ _ c.requires.log
-
-pub returns-in-Demo-clause-failures : goal.returns-in-Demo-clause-failures
-returns-in-Demo-clause-failures g c = new_unfailed _ _ _ c.requires.wires
-
-pub returns-in-Demo-clause-versions : goal.returns-in-Demo-clause-versions
-returns-in-Demo-clause-versions g c = new_words _ _ c.requires.wires
-
-pub returns-in-Demo-clause-tape_versions : goal.returns-in-Demo-clause-tape_versions
-returns-in-Demo-clause-tape_versions g c = unplayed_words _ _ c.requires.log
-
-pub returns-in-Demo-clause-unshown : goal.returns-in-Demo-clause-unshown
-returns-in-Demo-clause-unshown g c = demo_uses c.args.command c.in-Demo.seed c.in-Demo.blocks c.in-Demo.is
 
 pub returns-in-Replay-clause-does : goal.returns-in-Replay-clause-does
 returns-in-Replay-clause-does g c = rw c.in-Replay.is (record {
@@ -200,37 +80,165 @@ pub returns-in-Demo-clause-does : goal.returns-in-Demo-clause-does
 returns-in-Demo-clause-does g c = rw c.in-Demo.is c.demo.ensures.demoed
 
 pub returns-in-Replay-clause-files : goal.returns-in-Replay-clause-files
-returns-in-Replay-clause-files g c = rw c.in-Replay.is (rw (c.as_str.ensures, c.as_str-in-Replay.ensures) at c.replay.ensures.files)
+returns-in-Replay-clause-files g c = rw c.in-Replay.is (record {
+  unchanged = λ off. c.replay.ensures.unchanged;
+  asked = rw (c.as_str.ensures, c.as_str-in-Replay.ensures) at c.replay.ensures.files;
+  fault = c.replay.ensures.file_fault;
+})
 
 pub returns-in-Sync-clause-files : goal.returns-in-Sync-clause-files
-returns-in-Sync-clause-files g c = rw c.in-Sync.is (rw c.as_str-in-Sync.ensures at c.sync.ensures.files)
+returns-in-Sync-clause-files g c = rw c.in-Sync.is (record {
+  unchanged = unrecorded_by c.in-Sync.«record» c.sync.result _ _ _ c.sync.ensures.records;
+  asked = rw c.as_str-in-Sync.ensures at c.sync.ensures.files;
+  fault = c.sync.ensures.file_fault;
+})
 
 pub returns-in-Follow-clause-files : goal.returns-in-Follow-clause-files
-returns-in-Follow-clause-files g c = rw c.in-Follow.is (rw c.as_str-in-Follow.ensures at c.follow.ensures.files)
+returns-in-Follow-clause-files g c = rw c.in-Follow.is (record {
+  unchanged = unrecorded_by c.in-Follow.«record» c.follow.result _ _ _ c.follow.ensures.records;
+  asked = rw c.as_str-in-Follow.ensures at c.follow.ensures.files;
+  fault = c.follow.ensures.file_fault;
+})
 
 pub returns-in-Scan-clause-files : goal.returns-in-Scan-clause-files
-returns-in-Scan-clause-files g c = rw c.in-Scan.is (c.scan.new.files, rw (c.as_str-in-Scan.ensures, c.as_str-in-Scan-2.ensures) at c.scan.ensures.files, refl)
+returns-in-Scan-clause-files g c = rw c.in-Scan.is (record {
+  unchanged = λ off. c.scan.ensures.unchanged;
+  asked = (c.scan.new.files, rw (c.as_str-in-Scan.ensures, c.as_str-in-Scan-2.ensures) at c.scan.ensures.files, refl);
+  fault = c.scan.ensures.file_fault;
+})
 
 pub returns-in-Filter-clause-files : goal.returns-in-Filter-clause-files
-returns-in-Filter-clause-files g c = rw c.in-Filter.is (c.filter.new.files, inr (c.filter.new.files, rw c.as_str-in-Filter.ensures at c.filter.ensures.files, refl), refl)
+returns-in-Filter-clause-files g c = rw c.in-Filter.is (record {
+  unchanged = λ off. c.filter.ensures.unchanged;
+  asked = (c.filter.new.files, inr (c.filter.new.files, rw c.as_str-in-Filter.ensures at c.filter.ensures.files, refl), refl);
+  fault = c.filter.ensures.file_fault;
+})
 
 pub returns-in-Address-clause-files : goal.returns-in-Address-clause-files
-returns-in-Address-clause-files g c = rw c.in-Address.is (c.args.files.now, refl, refl)
+returns-in-Address-clause-files g c =
+    files_stay (is_not (λ (s : Status). IsAddressed s c.as_str-in-Address.result.now (g.O.Sink.written c.args.out.now) (g.O.Sink.written c.address.new.out))
+    c.address.result FileFault c.address.ensures.addressed (λ is. is))
 
 pub returns-in-Prove-clause-files : goal.returns-in-Prove-clause-files
-returns-in-Prove-clause-files g c = rw c.in-Prove.is (c.prove.new.files, inr (c.prove.new.files, rw c.as_str-in-Prove.ensures at c.prove.ensures.files, refl), refl)
+returns-in-Prove-clause-files g c = rw c.in-Prove.is (record {
+  unchanged = λ off. c.prove.ensures.unchanged;
+  asked = (c.prove.new.files, inr (c.prove.new.files, rw c.as_str-in-Prove.ensures at c.prove.ensures.files, refl), refl);
+  fault = c.prove.ensures.file_fault;
+})
 
 pub returns-in-Check-clause-files : goal.returns-in-Check-clause-files
-returns-in-Check-clause-files g c = rw c.in-Check.is (c.check.new.files, inr (c.check.new.files, rw c.as_str-in-Check.ensures at c.check.ensures.files, refl), refl)
+returns-in-Check-clause-files g c = rw c.in-Check.is (record {
+  unchanged = λ off. c.check.ensures.unchanged;
+  asked = (c.check.new.files, inr (c.check.new.files, rw c.as_str-in-Check.ensures at c.check.ensures.files, refl), refl);
+  fault = c.check.ensures.file_fault;
+})
 
 pub returns-in-Serve-clause-files : goal.returns-in-Serve-clause-files
-returns-in-Serve-clause-files g c = rw c.in-Serve.is (c.serve.new.files, inr (c.serve.new.files, rw c.as_str-in-Serve.ensures at c.serve.ensures.files, refl), refl)
+returns-in-Serve-clause-files g c = rw c.in-Serve.is (record {
+  unchanged = λ off. c.serve.ensures.unchanged;
+  asked = (c.serve.new.files, inr (c.serve.new.files, rw c.as_str-in-Serve.ensures at c.serve.ensures.files, refl), refl);
+  fault = c.serve.ensures.file_fault;
+})
 
 pub returns-in-Make-clause-files : goal.returns-in-Make-clause-files
-returns-in-Make-clause-files g c = rw c.in-Make.is (c.args.files.now, refl, rw c.as_str-in-Make.ensures at c.make.ensures.files)
+returns-in-Make-clause-files g c = rw c.in-Make.is (record {
+  unchanged = λ off. cc;
+  asked = (c.args.files.now, refl, rw c.as_str-in-Make.ensures at c.make.ensures.files);
+  fault = c.make.ensures.file_fault;
+})
 
 pub returns-in-Demo-clause-files : goal.returns-in-Demo-clause-files
-returns-in-Demo-clause-files g c = rw c.in-Demo.is (c.args.files.now, refl, refl)
+returns-in-Demo-clause-files g c =
+    files_stay (is_not (λ (s : Status). IsDemoed s c.in-Demo.seed c.in-Demo.blocks (g.O.Sink.written c.args.out.now) (g.O.Sink.written c.demo.new.out) (played_log c.demo.new.played))
+    c.demo.result FileFault c.demo.ensures.demoed (λ is. is))
+
+pub returns-in-Sync-clause-wires : goal.returns-in-Sync-clause-wires
+returns-in-Sync-clause-wires g c = rw c.in-Sync.is (record {
+  versions = versions_so _ c.args.moment c.args.nonce (g.W.Wires.told c.sync.new.wires) (to_z-of_z {w = w64} {z = c.args.moment} (search rules)) c.sync.ensures.versions;
+  failures = c.sync.ensures.failures;
+  undialled = λ off. c.sync.ensures.undialled (is_on _ off);
+  unkept = c.sync.ensures.unkept;
+})
+
+pub returns-in-Follow-clause-wires : goal.returns-in-Follow-clause-wires
+returns-in-Follow-clause-wires g c = rw c.in-Follow.is (record {
+  versions = versions_so _ c.args.moment c.args.nonce (g.W.Wires.told c.follow.new.wires) (to_z-of_z {w = w64} {z = c.args.moment} (search rules)) c.follow.ensures.versions;
+  failures = c.follow.ensures.failures;
+  undialled = λ off. c.follow.ensures.undialled (is_on _ off);
+  unkept = c.follow.ensures.unkept;
+})
+
+pub returns-in-Replay-clause-wires : goal.returns-in-Replay-clause-wires
+returns-in-Replay-clause-wires g c = wires_stay c.requires.wires
+
+pub returns-in-Scan-clause-wires : goal.returns-in-Scan-clause-wires
+returns-in-Scan-clause-wires g c = wires_stay c.requires.wires
+
+pub returns-in-Filter-clause-wires : goal.returns-in-Filter-clause-wires
+returns-in-Filter-clause-wires g c = wires_stay c.requires.wires
+
+pub returns-in-Address-clause-wires : goal.returns-in-Address-clause-wires
+returns-in-Address-clause-wires g c = wires_stay c.requires.wires
+
+pub returns-in-Prove-clause-wires : goal.returns-in-Prove-clause-wires
+returns-in-Prove-clause-wires g c = wires_stay c.requires.wires
+
+pub returns-in-Check-clause-wires : goal.returns-in-Check-clause-wires
+returns-in-Check-clause-wires g c = wires_stay c.requires.wires
+
+pub returns-in-Serve-clause-wires : goal.returns-in-Serve-clause-wires
+returns-in-Serve-clause-wires g c = wires_stay c.requires.wires
+
+pub returns-in-Make-clause-wires : goal.returns-in-Make-clause-wires
+returns-in-Make-clause-wires g c = wires_stay c.requires.wires
+
+pub returns-in-Demo-clause-wires : goal.returns-in-Demo-clause-wires
+returns-in-Demo-clause-wires g c = wires_stay c.requires.wires
+
+pub returns-in-Replay-clause-tape : goal.returns-in-Replay-clause-tape
+returns-in-Replay-clause-tape g c = rw c.in-Replay.is (record {
+  versions = versions_so _ c.args.moment c.args.nonce (told_of c.replay.new.tape) (to_z-of_z {w = w64} {z = c.args.moment} (search rules)) c.replay.ensures.versions;
+  unplayed = λ off. c.replay.ensures.unplayed (is_on _ off);
+})
+
+pub returns-in-Sync-clause-tape : goal.returns-in-Sync-clause-tape
+returns-in-Sync-clause-tape g c = tape_stays c.requires.tape
+
+pub returns-in-Follow-clause-tape : goal.returns-in-Follow-clause-tape
+returns-in-Follow-clause-tape g c = tape_stays c.requires.tape
+
+pub returns-in-Scan-clause-tape : goal.returns-in-Scan-clause-tape
+returns-in-Scan-clause-tape g c = tape_stays c.requires.tape
+
+pub returns-in-Filter-clause-tape : goal.returns-in-Filter-clause-tape
+returns-in-Filter-clause-tape g c = tape_stays c.requires.tape
+
+pub returns-in-Address-clause-tape : goal.returns-in-Address-clause-tape
+returns-in-Address-clause-tape g c = tape_stays c.requires.tape
+
+pub returns-in-Prove-clause-tape : goal.returns-in-Prove-clause-tape
+returns-in-Prove-clause-tape g c = tape_stays c.requires.tape
+
+pub returns-in-Check-clause-tape : goal.returns-in-Check-clause-tape
+returns-in-Check-clause-tape g c = tape_stays c.requires.tape
+
+pub returns-in-Serve-clause-tape : goal.returns-in-Serve-clause-tape
+returns-in-Serve-clause-tape g c = tape_stays c.requires.tape
+
+pub returns-in-Make-clause-tape : goal.returns-in-Make-clause-tape
+returns-in-Make-clause-tape g c = tape_stays c.requires.tape
+
+pub returns-in-Demo-clause-tape : goal.returns-in-Demo-clause-tape
+returns-in-Demo-clause-tape g c = tape_stays c.requires.tape
+
+pub returns-in-Demo-clause-played : goal.returns-in-Demo-clause-played
+returns-in-Demo-clause-played g c = rw c.in-Demo.is (record { unshown = λ off. cc })
+
+pub returns-in-Serve-clause-link : goal.returns-in-Serve-clause-link
+returns-in-Serve-clause-link g c = rw c.in-Serve.is (record {
+  unserved = λ off. c.serve.ensures.unused (is_on _ off);
+  fault = c.serve.ensures.link_fault;
+})
 
 pub returns-in-Replay-clause-ends : goal.returns-in-Replay-clause-ends
 returns-in-Replay-clause-ends g c = rw c.in-Replay.is c.replay.ensures.ends

@@ -1,0 +1,82 @@
+-- What is promised of each thing that a run is handed: where it stays, and told of the words that ask for the command.
+use Rattle.std.proofs.Common.{◌≡◌, ◌≢◌, ℕ, ℤ, Bool, true, false, List, Option, Some, refl, sym, subst}
+use Rattle.std.specs.Prelude.{not}
+use Rattle.cf_bytes.specs.Files.{Named, Reads, Opens, Parts, Writes}
+use Rattle.cf_run.proofs.Versions.{new_words}
+use Rattle.cf_wires.specs.Log.{Told}
+use Rattle.cf_wires.specs.declared.memory.MemoryWires.{MemoryWires}
+use Rattle.cf_played.specs.declared.played.Played.{Played}
+use Rattle.cf_input.specs.declared.words.Command.{Command}
+use Rattle.cf_answers.specs.declared.status.Status.{Status}
+use Rattle.cf_answers.specs.declared.status.Status.TheVariants.{FileFault}
+use Rattle.cf_cli.specs.Handed.{AreNewWires, IsNewTape, UsesFiles, UsesWires, UsesTape, UsesPlayed, UsesLink, UsesOut}
+use Rattle.cf_cli.proofs.Asking.{unasked}
+use Rattle.cf_cli.proofs.Plays.{new_unfailed, unplayed_words}
+
+-- what isn't off is on
+pub is_on : (b : Bool) → not b ≡ false → b ≡ true
+is_on true on = refl
+is_on false on = cc
+
+-- an answer of which something is known that isn't so of another
+pub is_not : (P : Status → Type 0) (status other : Status) → P status → (P other → ⊥) → status ≢ other
+is_not P status other known none = λ is. none (subst P is known)
+
+-- ---- it stays
+
+-- files of which nothing is asked
+pub files_stay : {F : Type 0} {files : F → Option Named} {faults : F → ℕ} {reads : Reads F} {opens : Opens F} {parts : Parts F} {writes : Writes F}
+    {command : Option Command} {status : Status} {f : F} → status ≢ FileFault → UsesFiles files faults reads opens parts writes command status f f
+files_stay {F} {files} {faults} {reads} {opens} {parts} {writes} {command} {status} {f} well = record {
+  unchanged = λ off. refl;
+  asked = unasked reads opens parts writes command f;
+  fault = λ is. absurd (well is);
+}
+
+-- new wires, which nothing passes
+pub wires_stay : {W : Type 0} {told : W → Told} {keeps : W → Bool} {faults : W → ℕ} {moment : ℤ} {nonce : ℕ} {command : Option Command} {status : Status} {w : W}
+    → AreNewWires (told w) → UsesWires told keeps faults moment nonce command status w w
+wires_stay {W} {told} {keeps} {faults} {moment} {nonce} {command} {status} {w} new = record {
+  versions = new_words (record { moment = moment; number = nonce }) (told w) new.log;
+  failures = new_unfailed (told w) (faults w) (faults w) new.log;
+  undialled = λ off. refl;
+  unkept = λ off. refl;
+}
+
+-- a new tape, which nothing passes
+pub tape_stays : {moment : ℤ} {nonce : ℕ} {command : Option Command} {status : Status} {tape : MemoryWires} → IsNewTape tape → UsesTape moment nonce command status tape tape
+tape_stays {moment} {nonce} {command} {status} {tape} new = record {
+  versions = unplayed_words (record { moment = moment; number = nonce }) _ new.log;
+  unplayed = λ off. refl;
+}
+
+-- ---- told of the words, at the same moment
+
+pub files_so : {F : Type 0} {files : F → Option Named} {faults : F → ℕ} {reads : Reads F} {opens : Opens F} {parts : Parts F} {writes : Writes F}
+    {found : Option Command} {command : Command} {status : Status} {before after : F} → found ≡ Some command
+    → UsesFiles files faults reads opens parts writes (Some command) status before after → UsesFiles files faults reads opens parts writes found status before after
+files_so {F} {files} {faults} {reads} {opens} {parts} {writes} {found} {command} {status} {before} {after} is =
+    subst (λ (o : Option Command). UsesFiles files faults reads opens parts writes o status before after) (sym is)
+
+pub wires_so : {W : Type 0} {told : W → Told} {keeps : W → Bool} {faults : W → ℕ} {z y : ℤ} {nonce : ℕ} {found : Option Command} {command : Command} {status : Status} {before after : W}
+    → found ≡ Some command → z ≡ y → UsesWires told keeps faults z nonce (Some command) status before after → UsesWires told keeps faults y nonce found status before after
+wires_so {W} {told} {keeps} {faults} {z} {y} {nonce} {found} {command} {status} {before} {after} is same uses =
+    subst (λ (o : Option Command). UsesWires told keeps faults y nonce o status before after) (sym is)
+    (subst (λ (moment : ℤ). UsesWires told keeps faults moment nonce (Some command) status before after) same uses)
+
+pub tape_so : {z y : ℤ} {nonce : ℕ} {found : Option Command} {command : Command} {status : Status} {before after : MemoryWires}
+    → found ≡ Some command → z ≡ y → UsesTape z nonce (Some command) status before after → UsesTape y nonce found status before after
+tape_so {z} {y} {nonce} {found} {command} {status} {before} {after} is same uses =
+    subst (λ (o : Option Command). UsesTape y nonce o status before after) (sym is)
+    (subst (λ (moment : ℤ). UsesTape moment nonce (Some command) status before after) same uses)
+
+pub played_so : {found : Option Command} {command : Command} {before after : Played} → found ≡ Some command → UsesPlayed (Some command) before after → UsesPlayed found before after
+played_so {found} {command} {before} {after} is = subst (λ (o : Option Command). UsesPlayed o before after) (sym is)
+
+pub link_so : {L : Type 0} {faults : L → ℕ} {found : Option Command} {command : Command} {status : Status} {before after : L} → found ≡ Some command
+    → UsesLink faults (Some command) status before after → UsesLink faults found status before after
+link_so {L} {faults} {found} {command} {status} {before} {after} is = subst (λ (o : Option Command). UsesLink faults o status before after) (sym is)
+
+pub out_so : {O : Type 0} {written : O → Option (List ℕ)} {faults : O → ℕ} {found : Option Command} {command : Command} {status : Status} {before after : O} → found ≡ Some command
+    → UsesOut written faults (Some command) status before after → UsesOut written faults found status before after
+out_so {O} {written} {faults} {found} {command} {status} {before} {after} is = subst (λ (o : Option Command). UsesOut written faults o status before after) (sym is)

@@ -1,0 +1,76 @@
+-- statement: what is promised of each thing that a run is handed.
+use Rattle.std.specs.Prelude.{◌≡◌, ℕ, ℤ, Bool, false, List, [], Option, IfSome}
+use Rattle.cf_bytes.specs.Files.{Named, Reads, Opens, Parts, Writes}
+use Rattle.cf_bytes.specs.Outside.{HasRisen}
+use Rattle.cf_run.specs.Run.{HasFailed}
+use Rattle.cf_run.specs.Versions.{HasWords, IsOfWords}
+use Rattle.cf_wires.specs.Log.{Told, Tells}
+use Rattle.cf_wires.specs.Memory.{log_of, failing_of, finished_of, told_of}
+use Rattle.cf_wires.specs.declared.memory.MemoryWires.{MemoryWires}
+use Rattle.cf_played.specs.Told.{log_of as played_log, peers_of, finished_of as has_finished}
+use Rattle.cf_played.specs.declared.played.Played.{Played}
+use Rattle.cf_input.specs.declared.words.Command.{Command}
+use Rattle.cf_answers.specs.declared.status.Status.{Status}
+use Rattle.cf_answers.specs.declared.status.Status.TheVariants.{FileFault, OutFault, LinkFault}
+use Rattle.cf_cli.specs.Asking.{AreAsked}
+use Rattle.cf_cli.specs.Demo.{may_show}
+use Rattle.cf_cli.specs.Recording.{is_recorded, may_write}
+use Rattle.cf_cli.specs.Serving.{may_serve}
+use Rattle.cf_cli.specs.Statuses.{may_dial, may_play, may_say}
+
+-- ---- what is handed in: the wires, the tape and the played peers are new
+
+-- nothing has passed the wires, and they aren't finished
+pub record AreNewWires (told : Told) : Type 0 where
+  pub log : Tells [] told
+  pub finished : told.finished ≡ false
+
+-- nothing has passed the tape, no call of it is to fail, and it isn't finished
+pub record IsNewTape (tape : MemoryWires) : Type 0 where
+  pub log : log_of tape ≡ []
+  pub failing : failing_of tape ≡ []
+  pub finished : finished_of tape ≡ false
+
+-- nothing has passed the played peers, there are none yet, and they aren't finished
+pub record IsNewPlayed (played : Played) : Type 0 where
+  pub log : played_log played ≡ []
+  pub peers : peers_of played ≡ []
+  pub finished : has_finished played ≡ false
+
+-- ---- what becomes of it, by the command that the words ask for, and its answer
+
+-- The files: a command that writes none changes none, what is asked of them is what the command asks, and where they are to blame their count of faults has
+-- risen.
+pub record UsesFiles {F : Type 0} (files : F → Option Named) (faults : F → ℕ) (reads : Reads F) (opens : Opens F) (parts : Parts F) (writes : Writes F)
+    (command : Option Command) (status : Status) (before after : F) : Type 0 where
+  pub unchanged : may_write command ≡ false → files after ≡ files before
+  pub asked : AreAsked reads opens parts writes command before after
+  pub fault : status ≡ FileFault → HasRisen (faults before) (faults after)
+
+-- The wires: each version that was sent tells the moment and the random number, where a call has failed their count of faults has risen, what they tell
+-- stays unless the command may dial, and they keep their log no more than before unless it asks for a record.
+pub record UsesWires {W : Type 0} (told : W → Told) (keeps : W → Bool) (faults : W → ℕ) (moment : ℤ) (nonce : ℕ)
+    (command : Option Command) (status : Status) (before after : W) : Type 0 where
+  pub versions : HasWords (record { moment = moment; number = nonce }) (told after)
+  pub failures : IfSome (told after).log (λ log. HasFailed log → HasRisen (faults before) (faults after))
+  pub undialled : may_dial command status ≡ false → told after ≡ told before
+  pub unkept : is_recorded command ≡ false → keeps after ≡ keeps before
+
+-- the tape: each version that was sent tells the moment and the random number, and what it tells stays unless the command may play it
+pub record UsesTape (moment : ℤ) (nonce : ℕ) (command : Option Command) (status : Status) (before after : MemoryWires) : Type 0 where
+  pub versions : IsOfWords (record { moment = moment; number = nonce }) (log_of after)
+  pub unplayed : may_play command status ≡ false → told_of after ≡ told_of before
+
+-- the played peers: they stay unless the command may show them
+pub record UsesPlayed (command : Option Command) (before after : Played) : Type 0 where
+  pub unshown : may_show command ≡ false → after ≡ before
+
+-- the link: it stays unless the command may serve, and where it is to blame its count of faults has risen
+pub record UsesLink {L : Type 0} (faults : L → ℕ) (command : Option Command) (status : Status) (before after : L) : Type 0 where
+  pub unserved : may_serve command status ≡ false → after ≡ before
+  pub fault : status ≡ LinkFault → HasRisen (faults before) (faults after)
+
+-- the sink: nothing is written to it unless the command may say something, and where it is to blame its count of faults has risen
+pub record UsesOut {O : Type 0} (written : O → Option (List ℕ)) (faults : O → ℕ) (command : Option Command) (status : Status) (before after : O) : Type 0 where
+  pub unwritten : may_say command status ≡ false → written after ≡ written before
+  pub fault : status ≡ OutFault → HasRisen (faults before) (faults after)
