@@ -4,7 +4,7 @@ use Rattle.std.specs.FinMap as finite
 use Rattle.hex.specs.Hex.{encode_lower}
 use Rattle.cf_bytes.specs.Files.{Named}
 use Rattle.cf_bytes.specs.Hash.{shown}
-use Rattle.cf_bytes.specs.Outside.{HasRisen, with_more}
+use Rattle.cf_bytes.specs.Outside.{with_more}
 use Rattle.cf_block.specs.declared.tx.Block.{Block}
 use Rattle.cf_chain.specs.Filters.{Filtered, filter_at}
 use Rattle.cf_walk.specs.declared.cause.BadBlock.{BadBlock}
@@ -23,14 +23,6 @@ named_line name value = name ++ (32 ∷ (value ++ 10 ∷ []))
 -- a line each for a block's hash, its filter and its filter header
 abbrev pub filter_text : Filtered → List ℕ
 filter_text f = named_line (codes "block") (shown f.block) ++ (named_line (codes "filter") (encode_lower f.filter) ++ named_line (codes "header") (shown f.header))
-
--- With `OutFault` the sink has failed, and with other answers it hasn't; of want of memory nothing is said, and of a file's fault neither, which may come
--- after a text that the sink has refused.
-abbrev pub CountsOut : Status → ℕ → ℕ → Type 0
-CountsOut OutFault before after = HasRisen before after
-CountsOut FileFault before after = Unit {0}
-CountsOut NoMemory before after = Unit {0}
-CountsOut _ before after = after ≡ before
 
 -- a command that has this text to write and no other answer: all of it was written, or the sink failed and a beginning of it was, or nothing
 abbrev pub IsWritten : Status → Option (List ℕ) → Option (List ℕ) → List ℕ → Type 0
