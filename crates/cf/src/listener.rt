@@ -2,7 +2,7 @@
 ghost use Rattle.std.specs.Prelude.{◌≡◌, ◌-◌, None};
 
 use cf_bytes::{Failed, Hash32, show};
-use cf_serve::{Link, TcpConn, TcpEnd, TcpLink};
+use cf_link::{Link, TcpConn, TcpEnd, TcpLink};
 use std::io;
 
 /// A listener over TCP. It tells on standard error where it listens, which chain is served, and how each connection

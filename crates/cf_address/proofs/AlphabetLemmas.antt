@@ -164,3 +164,6 @@ letters_of_values [] h = refl
 letters_of_values (c ∷ cs) h =
     let parts = both (is_letter c) (list_all is_letter cs) h in
     λ i. letter-value c parts.0 i ∷ letters_of_values cs parts.1 i
+
+-- where a letter stands
+pub ruleset positions = (place_is, no_place, length_alphabet)

@@ -27,7 +27,7 @@ fn place_of(letter: u8) -> Option<usize>
 }
 
 // The value of a letter.
-#[tactic(auto, using(crate::proofs::AlphabetLemmas::place_is, crate::proofs::AlphabetLemmas::no_place, crate::proofs::AlphabetLemmas::length_alphabet))]
+#[tactic(auto, using(crate::proofs::AlphabetLemmas::positions))]
 pub(crate) fn value_of(letter: u8) -> Option<u8>
     ensures exact { MatchOption result (value_at letter ≡ 32) (λ v. v ≡ value_at letter) }
     ensures small { MatchOption result (Unit {0}) (λ v. v < 32) }

@@ -14,7 +14,7 @@ use Rattle.cf_block.specs.Merkle.{merkle_root_of, mutated, txids, hashed, NoClas
 use Rattle.cf_block.specs.declared.commitment.CommitFault.{CommitFault}
 use Rattle.cf_block.specs.declared.commitment.CommitFault.TheVariants.{Root, Mutated, Tx64}
 use Rattle.cf_block.specs.Views.{bytes_of}
-use Rattle.cf_block.specs.Commitment.{AreTxids, spelled_txs, IsCommitted, has_root, has_64, commit_fault}
+use Rattle.cf_block.specs.Commitment.{AreTxids, spelled_txs, IsCommitted, has_root, has_64, first_fault, commit_fault}
 use Rattle.cf_block.proofs.Roots.{one_list_below}
 use Rattle.cf_block.proofs.Again.{txs_one}
 use Rattle.cf_block.proofs.CommitLemmas.{ids_are, ids_length}
@@ -33,11 +33,7 @@ committed_one a b fa fb ca cb apart e =
     let txs : a.txs ≡ b.txs = txs_one a.txs b.txs fa.txs fb.txs texts in
     λ i. record { header = e i; txs = txs i }
 
--- the check's first fault, by what holds
-abbrev pub fault : Bool → Bool → Bool → Option CommitFault
-fault r m t = if not r then Some Root else if m then Some Mutated else if t then Some Tx64 else None
-
-no_fault : (r m t : Bool) → fault r m t ≡ None → (r ≡ true) × (m ≡ false) × (t ≡ false)
+no_fault : (r m t : Bool) → first_fault r m t ≡ None → (r ≡ true) × (m ≡ false) × (t ≡ false)
 no_fault true false false h = (refl, refl, refl)
 no_fault true false true h = cc
 no_fault true true t h = cc
@@ -96,8 +92,8 @@ passes b e =
       none64 = none_64 (spelled_txs b) all.2;
     }
 
-good_by : (r m t : Bool) → r ≡ true → m ≡ false → t ≡ false → fault r m t ≡ None
-good_by r m t er em et = (λ i. fault (er i) (em i) (et i))
+good_by : (r m t : Bool) → r ≡ true → m ≡ false → t ≡ false → first_fault r m t ≡ None
+good_by r m t er em et = (λ i. first_fault (er i) (em i) (et i))
 
 pub is_good : (b : Block) → IsCommitted b → commit_fault b ≡ None
 unfolding commit_fault
@@ -111,7 +107,7 @@ is_good b c =
 
 pub fault_is : (b : Block) (ids : List Hash32) (root : List ℕ) (doubled : Bool) → AreTxids ids b.txs → (length ids == 0) ≡ false
     → root ≡ merkle_root_of (bytes_of ids) → doubled ≡ mutated (bytes_of ids)
-    → commit_fault b ≡ fault (bytes_eq root b.header.root.0) doubled (list_any has_64 (spelled_txs b))
+    → commit_fault b ≡ first_fault (bytes_eq root b.header.root.0) doubled (list_any has_64 (spelled_txs b))
 unfolding commit_fault
 fault_is b ids root doubled are some is twins =
     let theirs : bytes_of ids ≡ txids (spelled_txs b) = ids_are ids b.txs are in
@@ -119,22 +115,10 @@ fault_is b ids root doubled are some is twins =
     let has : has_root b ≡ bytes_eq root b.header.root.0 =
     (λ i. any i && bytes_eq (merkle_root_of (sym theirs i)) b.header.root.0) ∙ ap (λ (r : List ℕ). bytes_eq r b.header.root.0) (sym is) in
     let same : mutated (txids (spelled_txs b)) ≡ doubled = ap mutated (sym theirs) ∙ sym twins in
-    λ i. fault (has i) (same i) (list_any has_64 (spelled_txs b))
+    λ i. first_fault (has i) (same i) (list_any has_64 (spelled_txs b))
 
 pub empty_fault : (b : Block) (ids : List Hash32) → AreTxids ids b.txs → (length ids == 0) ≡ true → commit_fault b ≡ Some Root
 unfolding commit_fault
 empty_fault b ids are none =
     let any : not (length b.txs == 0) ≡ false = ap (λ (n : ℕ). not (n == 0)) (sym (ids_length ids b.txs are)) ∙ ap not none in
-    λ i. fault (any i && bytes_eq (merkle_root_of (txids (spelled_txs b))) b.header.root.0) (mutated (txids (spelled_txs b))) (list_any has_64 (spelled_txs b))
-
-pub root_fault : (r m t : Bool) → not r ≡ true → fault r m t ≡ Some Root
-root_fault r m t e = ap (λ (b : Bool). if b then Some Root else if m then Some Mutated else if t then Some Tx64 else None) e
-
-pub twin_fault : (r m t : Bool) → not r ≡ false → m ≡ true → fault r m t ≡ Some Mutated
-twin_fault r m t e d = λ i. if e i then Some Root else if d i then Some Mutated else if t then Some Tx64 else None
-
-pub long_fault : (r m t : Bool) → not r ≡ false → m ≡ false → t ≡ true → fault r m t ≡ Some Tx64
-long_fault r m t e d f = λ i. if e i then Some Root else if d i then Some Mutated else if f i then Some Tx64 else None
-
-pub sound : (r m t : Bool) → not r ≡ false → m ≡ false → t ≡ false → fault r m t ≡ None
-sound r m t e d f = λ i. if e i then Some Root else if d i then Some Mutated else if f i then Some Tx64 else None
+    λ i. first_fault (any i && bytes_eq (merkle_root_of (txids (spelled_txs b))) b.header.root.0) (mutated (txids (spelled_txs b))) (list_any has_64 (spelled_txs b))

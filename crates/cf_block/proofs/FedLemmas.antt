@@ -1,9 +1,6 @@
 -- Texts fed to a hasher or written, one after another.
-use Rattle.std.proofs.Common.{◌≡◌, ℕ, ◌+◌, ◌<◌, ◌≤◌, ◌^◌, List, [], ◌∷◌, ◌++◌, length, take, get_or, refl, sym, ap, ◌∙◌, subst, append_assoc, arith, lt-ltb, le-ltb}
-use Rattle.std.proofs.lemmas.List.{append-nil, take_more}
-use Rattle.std.proofs.lemmas.Grind.{flat_map-append}
+use Rattle.std.proofs.Common.{◌≡◌, ℕ, ◌+◌, ◌<◌, ◌≤◌, ◌^◌, List, [], ◌∷◌, ◌++◌, refl, subst, append_assoc, arith, lt-ltb, le-ltb}
 use Rattle.std.specs.Int.{w16, w32, w64, to_le_bytes}
-use Rattle.std.specs.List.{flat_map}
 use Rattle.sha2.specs.declared.Sha256.{Sha256}
 use Rattle.sha2.specs.Hashers.{Holds256}
 use Rattle.cf_bytes.specs.Compact.{compact}
@@ -12,19 +9,8 @@ use Rattle.cf_block.specs.Fed.{Fed}
 pub fed_then : (a b c : Sha256) (x y : List ℕ) → Fed a b x → Fed b c y → Fed a c (x ++ y)
 fed_then a b c x y f g = record { more = λ m h. subst (Holds256 c) (append_assoc m x y) (g.more (m ++ x) (f.more m h)) }
 
-pub fed_none : (a : Sha256) → Fed a a []
-fed_none a = record { more = λ m h. subst (Holds256 a) (sym (append-nil m)) h }
-
 pub fed_same : (a b : Sha256) (x y : List ℕ) → x ≡ y → Fed a b x → Fed a b y
 fed_same a b x y e f = subst (Fed a b) e f
-
-pub flat_more : {X : Type 0} (spell : X → List ℕ) (xs : List X) (i : ℕ) (x : X) → i < length xs → x ≡ get_or xs i x → flat_map spell (take i xs) ++ spell x ≡ flat_map spell (take (i + 1) xs)
-flat_more {X} spell xs i x lt is =
-    let one : spell x ≡ flat_map spell (x ∷ []) = sym (append-nil (spell x)) in
-    ap (λ (t : List ℕ). flat_map spell (take i xs) ++ t) one
-    ∙ sym (flat_map-append spell (take i xs) (x ∷ []))
-    ∙ ap (λ (y : X). flat_map spell (take i xs ++ y ∷ [])) is
-    ∙ ap (λ (ys : List X). flat_map spell ys) (sym (take_more xs i x lt))
 
 pub compact_1 : (v : ℕ) → v < 253 → v ∷ [] ≡ compact v
 unfolding compact

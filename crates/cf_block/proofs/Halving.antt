@@ -1,5 +1,6 @@
 -- Halving a level in place.
 use Rattle.std.proofs.Common.{◌≡◌, ℕ, Bool, suc, ◌+◌, ◌*◌, ◌-◌, ◌/◌, ◌%◌, ◌<◌, ◌≤◌, true, false, List, [], ◌∷◌, ◌++◌, length, take, drop, get_or, refl, sym, ◌∙◌, ap, arith, append_assoc, append-nil}
+use Rattle.std.proofs.Math.Bool.{or_assoc}
 use Rattle.std.proofs.Math.ListN.{set}
 use Rattle.std.specs.Prelude.{◌||◌, ◌≢◌}
 use Rattle.cf_block.proofs.Roots.{root_up, root_ends, mutated_up, mutated_ends}
@@ -81,10 +82,6 @@ pub root_alone : (level : List Hash32) (n : ℕ) (z : Hash32) → n ≡ 1 → n 
 root_alone [] n z one len = absurd (omega arith)
 root_alone (a ∷ level) n z one len = sym (ap (λ k. merkle_root_of (bytes_of (take k (a ∷ level)))) one ∙ root_ends (bytes_of (a ∷ [])) (omega arith))
 
-or_assoc : (a b c : Bool) → (a || (b || c)) ≡ ((a || b) || c)
-or_assoc true b c = refl
-or_assoc false b c = refl
-
 or_false : (b : Bool) → (b || false) ≡ b
 or_false true = refl
 or_false false = refl
@@ -99,7 +96,7 @@ doubled_more old level new n n' noted twins two len next is above so_far =
     mutated_up (bytes_of (take n level)) (omega (arith, size))
     ∙ (λ i. (sym is) i || mutated ((sym above) i))
     ∙ ap (λ k. twins || mutated (bytes_of (take k new))) (sym next) in
-    so_far ∙ ap (λ b. noted || b) here ∙ or_assoc noted twins (mutated (bytes_of (take n' new)))
+    so_far ∙ ap (λ b. noted || b) here ∙ sym (or_assoc noted twins (mutated (bytes_of (take n' new))))
 
 pub doubled_end : (old level : List Hash32) (n : ℕ) (noted : Bool) → n ≤ 1 → n ≤ length level → mutated (bytes_of old) ≡ (noted || mutated (bytes_of (take n level)))
     → noted ≡ mutated (bytes_of old)

@@ -36,13 +36,15 @@ has_64 text = length text == 64
 abbrev pub has_root : Block → Bool
 has_root b = not (length b.txs == 0) && bytes_eq (merkle_root_of (txids (spelled_txs b))) b.header.root.0
 
+-- the first of the three that is broken: whether the root is theirs, whether the list is doubled, and whether one has 64
+-- bytes
+abbrev pub first_fault : Bool → Bool → Bool → Option CommitFault
+first_fault root doubled long =
+    if not root then Some Root else if doubled then Some Mutated else if long then Some Tx64 else None
+
 -- the first of the three that a block breaks
 unfoldable pub commit_fault : Block → Option CommitFault
-commit_fault b =
-    if not (has_root b) then Some Root
-    else if mutated (txids (spelled_txs b)) then Some Mutated
-    else if list_any has_64 (spelled_txs b) then Some Tx64
-    else None
+commit_fault b = first_fault (has_root b) (mutated (txids (spelled_txs b))) (list_any has_64 (spelled_txs b))
 
 -- an answer tells this fault: it is Ok where there is none; want of memory may come in place of either
 abbrev pub FindsFault : Option CommitFault → Result (Unit {0}) (Refused CommitFault) → Type 0

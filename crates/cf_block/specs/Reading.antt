@@ -1,5 +1,5 @@
 -- statement: what reading transactions and blocks gives: a value and the bytes after it, or the first fault and the bytes from the refused field on.
-use Rattle.std.specs.Prelude.{◌≡◌, ℕ, ◌<◌, ◌-◌, ◌^◌, min, get_or, ◌==◌, nat_lt, if◌then◌else◌, List, [], ◌∷◌, length, Result, Ok, Err}
+use Rattle.std.specs.Prelude.{◌≡◌, ℕ, ◌-◌, ◌^◌, min, ◌==◌, nat_lt, if◌then◌else◌, List, [], ◌∷◌, length, Result, Ok, Err}
 use Rattle.std.specs.Int.{w32, w64}
 use Rattle.cf_bytes.specs.Cut.{Read, number_at, int_at, ◌>>=◌}
 use Rattle.cf_bytes.specs.Compact.{compact_at}
@@ -18,10 +18,6 @@ use Rattle.cf_block.specs.declared.tx.Block.{Block}
 use Rattle.cf_block.specs.Output.{Output, max_value}
 use Rattle.cf_block.specs.Header.{header_at, hash_at}
 use Rattle.cf_block.specs.Tx.{max_block}
-
--- numbers that are bytes
-abbrev pub IsBytes : List ℕ → Type 0
-IsBytes bytes = (i : ℕ) → get_or bytes i 0 < 256
 
 -- the fault of a field, as a block tells it
 abbrev pub kind_of : CutFault → BlockFaultKind

@@ -3,7 +3,7 @@ ghost use Rattle.std.specs.Prelude.{◌≡◌, map, IfOk};
 ghost use Rattle.std.specs.List.{list_any};
 ghost use Rattle.cf_block.specs.declared.tx.Block.{Block};
 ghost use Rattle.cf_block.specs.Tx.{tx_spelling};
-ghost use Rattle.cf_block.specs.Commitment.{AreTxids, has_64 as is_64, commit_fault, FindsFault, is_coinbase_tx};
+ghost use Rattle.cf_block.specs.Commitment.{AreTxids, has_64 as is_64, first_fault, commit_fault, FindsFault, is_coinbase_tx};
 
 use crate::feeding::txid;
 use crate::merkle::tree_over;
@@ -70,10 +70,17 @@ pub fn fault_by(root: &Hash32, is_long: bool, level: &mut [Hash32]) -> Option<Co
         return Some(CommitFault::Root);
     }
     let found = tree_over(level);
-    if found.root != *root {
+    first_fault(found.root == *root, found.is_doubled, is_long)
+}
+
+// The first of the three rules that is broken, by what holds.
+fn first_fault(has_root: bool, is_doubled: bool, is_long: bool) -> Option<CommitFault>
+    ensures { result ≡ first_fault has_root is_doubled is_long }
+{
+    if !has_root {
         return Some(CommitFault::Root);
     }
-    if found.is_doubled {
+    if is_doubled {
         return Some(CommitFault::Mutated);
     }
     if is_long {

@@ -107,7 +107,6 @@ pub fn write_header(h: &Header, out: &mut Vec<u8>) -> Result<(), NoMemory>
 }
 
 /// The hash of the header's 80 bytes.
-#[tactic(auto, unfolding(crate::specs::Header::block_hash_of, crate::specs::Header::header_spelling, cf_bytes::specs::Hash::hash_of))]
 pub fn block_hash(h: &Header) -> Hash32
     ensures { result.0 ≡ block_hash_of h.now }
 {

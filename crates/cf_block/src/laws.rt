@@ -6,7 +6,8 @@ ghost use Rattle.cf_block.specs.declared.tx.Block.{Block};
 ghost use Rattle.cf_block.specs.Header.{IsHeader, header_spelling, header_at, block_hash_of, genesis_header};
 ghost use Rattle.cf_block.specs.Genesis.{first_tx, first_block, first_tx_bytes, genesis_hash};
 ghost use Rattle.cf_block.specs.Tx.{IsTx, IsBlock, tx_spelling, block_spelling};
-ghost use Rattle.cf_block.specs.Reading.{IsBytes, tx_at, block_at};
+ghost use Rattle.cf_bytes.specs.Cut.{IsBytes};
+ghost use Rattle.cf_block.specs.Reading.{tx_at, block_at};
 ghost use Rattle.cf_block.specs.Stored.{IsStored, stored_block_at};
 ghost use Rattle.cf_block.specs.Merkle.{hashed, NoClash};
 ghost use Rattle.cf_block.specs.Commitment.{spelled_txs, IsCommitted, commit_fault};
@@ -15,7 +16,8 @@ ghost use Rattle.cf_block.specs.Commitment.{spelled_txs, IsCommitted, commit_fau
 /// is known by its bytes.
 pub fn laws_of_headers()
     ensures again { (h : Header) (more : List ℕ) → IsHeader h → header_at (header_spelling h ++ more) ≡ Ok (h, more) }
-    ensures taken { (bytes : List ℕ) (h : Header) (rest : List ℕ) → IsBytes bytes → header_at bytes ≡ Ok (h, rest) → (bytes ≡ header_spelling h ++ rest) × IsHeader h }
+    ensures taken { (bytes : List ℕ) (h : Header) (rest : List ℕ) → IsBytes bytes → header_at bytes ≡ Ok (h, rest)
+        → (bytes ≡ header_spelling h ++ rest) × IsHeader h }
     ensures one { (a : Header) (b : Header) → IsHeader a → IsHeader b → header_spelling a ≡ header_spelling b → a ≡ b }
 {}
 
@@ -23,7 +25,8 @@ pub fn laws_of_headers()
 /// so. A transaction is known by its bytes.
 pub fn laws_of_transactions()
     ensures again { (t : Tx) (more : List ℕ) → IsTx t → tx_at (tx_spelling t ++ more) ≡ Ok (t, more) }
-    ensures taken { (bytes : List ℕ) (t : Tx) (rest : List ℕ) → IsBytes bytes → tx_at bytes ≡ Ok (t, rest) → (bytes ≡ tx_spelling t ++ rest) × IsTx t }
+    ensures taken { (bytes : List ℕ) (t : Tx) (rest : List ℕ) → IsBytes bytes → tx_at bytes ≡ Ok (t, rest)
+        → (bytes ≡ tx_spelling t ++ rest) × IsTx t }
     ensures one { (a b : Tx) → IsTx a → IsTx b → tx_spelling a ≡ tx_spelling b → a ≡ b }
 {}
 
@@ -32,10 +35,12 @@ pub fn laws_of_transactions()
 /// where their headers are equal, and no two of the strings that are hashed below the root have one hash.
 pub fn laws_of_blocks()
     ensures again { (b : Block) → IsBlock b → block_at (block_spelling b) ≡ Ok (b, []) }
-    ensures taken { (bytes : List ℕ) (b : Block) (rest : List ℕ) → IsBytes bytes → block_at bytes ≡ Ok (b, rest) → (bytes ≡ block_spelling b) × (rest ≡ []) × IsBlock b }
+    ensures taken { (bytes : List ℕ) (b : Block) (rest : List ℕ) → IsBytes bytes → block_at bytes ≡ Ok (b, rest)
+        → (bytes ≡ block_spelling b) × (rest ≡ []) × IsBlock b }
     ensures passes { (b : Block) → commit_fault b ≡ None → IsCommitted b }
     ensures good { (b : Block) → IsCommitted b → commit_fault b ≡ None }
-    ensures one { (a b : Block) → IsBlock a → IsBlock b → IsCommitted a → IsCommitted b → NoClash (hashed (spelled_txs a) ++ hashed (spelled_txs b)) → a.header ≡ b.header → a ≡ b }
+    ensures one { (a b : Block) → IsBlock a → IsBlock b → IsCommitted a → IsCommitted b
+        → NoClash (hashed (spelled_txs a) ++ hashed (spelled_txs b)) → a.header ≡ b.header → a ≡ b }
 {}
 
 /// A block that is stored is read again, whichever of its transactions stand there with witnesses, and what is read was
@@ -43,7 +48,8 @@ pub fn laws_of_blocks()
 pub fn laws_of_stored_blocks()
     ensures plain { (b : Block) → IsBlock b → IsStored (block_spelling b) b }
     ensures again { (bytes : List ℕ) (b : Block) → IsStored bytes b → stored_block_at bytes ≡ Ok (b, []) }
-    ensures taken { (bytes : List ℕ) (b : Block) (rest : List ℕ) → IsBytes bytes → stored_block_at bytes ≡ Ok (b, rest) → IsStored bytes b × (rest ≡ []) }
+    ensures taken { (bytes : List ℕ) (b : Block) (rest : List ℕ) → IsBytes bytes → stored_block_at bytes ≡ Ok (b, rest)
+        → IsStored bytes b × (rest ≡ []) }
     ensures one { (bytes : List ℕ) (a b : Block) → IsStored bytes a → IsStored bytes b → a ≡ b }
 {}
 

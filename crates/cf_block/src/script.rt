@@ -27,13 +27,6 @@ impl Script {
         Script { bytes }
     }
 
-    /// The script's bytes, given back. It takes no memory.
-    pub fn into_vec(self) -> Vec<u8>
-        ensures { result.items ≡ self }
-    {
-        self.bytes
-    }
-
     pub fn as_slice(&self) -> &[u8]
         ensures { result.now ≡ self.now }
     {

@@ -15,7 +15,7 @@ use crate::parse::{
 };
 use crate::size::block_size;
 use crate::tx::{Block, Tx, Txs};
-use cf_bytes::{Cut, Listed, Refused};
+use cf_bytes::{Cut, Refused, read_list};
 use std::alloc::Global;
 
 // Whether the transaction that stands here is in the form with witnesses.
@@ -29,7 +29,7 @@ fn has_marker(bytes: &[u8]) -> bool
 }
 
 // Passes over a stack's items.
-#[tactic(auto, using(crate::proofs::Passing::pass_on, crate::proofs::Passing::pass_refused, crate::proofs::Passing::pass_end))]
+#[tactic(auto, using(crate::proofs::Passing::passes))]
 fn pass_items(count: u64, cut: &mut Cut) -> Result<(), BlockFaultKind>
     ensures { Reads (λ x. x) (passed (list_at script_at count cut.old)) result cut.new }
 {
@@ -56,7 +56,7 @@ fn pass_stack(cut: &mut Cut) -> Result<bool, BlockFaultKind>
 }
 
 // Passes over so many stacks, and tells whether one has an item.
-#[tactic(auto, using(crate::proofs::Passing::see_on, crate::proofs::Passing::see_refused, crate::proofs::Passing::see_end))]
+#[tactic(auto, using(crate::proofs::Passing::sees))]
 fn pass_stacks(count: u64, cut: &mut Cut) -> Result<bool, BlockFaultKind>
     ensures { Reads (λ some. some) (seen_item false (list_at stack_at count cut.old)) result cut.new }
 {
@@ -68,7 +68,7 @@ fn pass_stacks(count: u64, cut: &mut Cut) -> Result<bool, BlockFaultKind>
 }
 
 // Passes over the stacks of so many inputs, which may not all be empty.
-#[tactic(auto, using(crate::proofs::Passing::witness_passed, crate::proofs::Passing::witness_empty, crate::proofs::Passing::witness_refused))]
+#[tactic(auto, using(crate::proofs::Passing::witnesses))]
 fn pass_witness(count: u64, cut: &mut Cut) -> Result<(), BlockFaultKind>
     ensures { Reads (λ x. x) (passed (witness_at count cut.old)) result cut.new }
 {
@@ -122,16 +122,13 @@ fn read_stored_tx(alloc: Global, cut: &mut Cut) -> Result<Tx, Refused<BlockFault
     }
 }
 
+#[tactic(auto, using(cf_bytes::proofs::ListLoops::all_of))]
 fn read_stored_txs(alloc: Global, count: u64, cut: &mut Cut) -> Result<Txs, Refused<BlockFaultKind>>
     ensures exact { Gives (λ x. x) (list_at stored_tx_at count cut.old) result cut.new }
     ensures fits { IfOk result (λ xs. AllByRecursion IsTx xs × (length xs ≡ count)) }
 {
-    let mut items = Vec::with_capacity(alloc, room(count, cut.rest(), LEAST_TX))?;
-    for _ in 0..count {
-        let item = read_stored_tx(alloc, cut)?;
-        items.push(item)?;
-    }
-    Ok(Listed::from_vec(items))
+    let room = room(count, cut.rest(), LEAST_TX);
+    read_list(alloc, room, count, cut, |cut| read_stored_tx(alloc, cut))
 }
 
 // Takes the bytes before the field that is refused.

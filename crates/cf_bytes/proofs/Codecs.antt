@@ -2,7 +2,7 @@
 use Rattle.std.proofs.Common.{◌≡◌, ℕ, ℤ, FitsSigned, zero, suc, ◌+◌, ◌<◌, ◌≤◌, ◌^◌, List, [], ◌∷◌, ◌++◌, length, take, drop, Result, Ok, Err, refl, sym, ap, ◌∙◌, append_assoc, arith, inl, inr, lt-ltb, le-ltb, length-take, length-append, subst}
 use Rattle.std.proofs.lemmas.List.{places, take_at, drop_at, take-append-drop}
 use Rattle.std.proofs.lemmas.Bool.{cases_lt, le-leb, lt-leb}
-use Rattle.std.proofs.lemmas.Nat.{from_le_bytes-to_le_bytes_2, from_le_bytes-to_le_bytes_4, from_le_bytes-to_le_bytes_8, le_bytes_2, le_bytes_4, le_bytes_8}
+use Rattle.std.proofs.lemmas.Nat.{from_le_bytes-to_le_bytes_4, from_le_bytes-to_le_bytes_8, le_bytes_2, le_bytes_4, le_bytes_8}
 use Rattle.std.proofs.Math.Facts.{Fits-of_z, Fits-lt-pow}
 use Rattle.std.proofs.lemmas.Int.{to_z-of_z}
 use Rattle.std.specs.Int.{Width, w16, w32, w64, byte_len, to_le_bytes, from_le_bytes, cast_signed, cast_unsigned}
@@ -94,9 +94,6 @@ int_number w bytes = elim (cases_lt (length bytes) (byte_len w)) [
   | inr whole ↦ rw (le-ltb (length bytes) (byte_len w) whole) refl
 ]
 
-pub u16_again : (n : ℕ) (more : List ℕ) → n < 2 ^ 16 → number_at w16 (to_le_bytes w16 n ++ more) ≡ Ok (n, more)
-u16_again n more small = grind (arith, from_le_bytes-to_le_bytes_2)
-
 pub u32_again : (n : ℕ) (more : List ℕ) → n < 2 ^ 32 → number_at w32 (to_le_bytes w32 n ++ more) ≡ Ok (n, more)
 u32_again n more small = grind (arith, from_le_bytes-to_le_bytes_4)
 
@@ -159,9 +156,6 @@ u32_taken bytes n rest fits h = number_taken w32 (2 ^ 32) (record { again = le_b
 
 pub u64_taken : (bytes : List ℕ) (n : ℕ) (rest : List ℕ) → IsBytes bytes → number_at w64 bytes ≡ Ok (n, rest) → Takes bytes (to_le_bytes w64 n) rest × (n < 2 ^ 64)
 u64_taken bytes n rest fits h = number_taken w64 (2 ^ 64) (record { again = le_bytes_8; small = u64_small }) bytes n rest fits h
-
-pub u16_codec : Codec (number_at w16) (to_le_bytes w16) (λ n. n < 2 ^ 16)
-u16_codec = record { again = λ n more h. u16_again n more h; taken = λ bytes n rest fits h. u16_taken bytes n rest fits h }
 
 pub u32_codec : Codec (number_at w32) (to_le_bytes w32) (λ n. n < 2 ^ 32)
 u32_codec = record { again = λ n more h. u32_again n more h; taken = λ bytes n rest fits h. u32_taken bytes n rest fits h }

@@ -2,7 +2,7 @@
 ghost use Rattle.std.specs.Prelude.{◌≡◌, Some};
 ghost use Rattle.cf_conn.specs.MemoryConn.{Writes};
 
-use crate::conversations::{conn_in, index_in, shown as bytes_shown};
+use crate::conversations::{MOMENT, NONCE, conn_in, index_in, shown as bytes_shown};
 use cf_bytes::{Failed, Sink};
 use cf_conn::{Duplex, MemoryConn, MemoryEnd, Source};
 use cf_grow::{Ending, Grown, Nobody, serve_grown};
@@ -10,11 +10,6 @@ use std::alloc::Global;
 use std::marker::Model;
 use std::sync::{Arc, Mutex, Wait};
 use std::thread::Threads;
-
-// What the server's `version` tells.
-const MOMENT: i64 = 1_700_000_000;
-
-const NONCE: u64 = 0x1122_3344_5566_7788;
 
 // The most bytes that are written to a connection.
 const ROOM: usize = 4_000_000;

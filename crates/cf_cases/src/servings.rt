@@ -3,15 +3,15 @@ ghost use Rattle.std.specs.Prelude.{◌≡◌, ◌≢◌, All, Some, [], IfSome,
 ghost use Rattle.cf_wires.specs.Memory.{finished_of, log_of};
 ghost use Rattle.cf_tasks.specs.declared.threads.Choice.TheVariants.{Refuse};
 
-use crate::conversations::conn_in;
+use crate::conversations::{MOMENT, NONCE, conn_in};
 use crate::fields::{bytes_in, digits_of, numbers_in, texts_in};
 use crate::runs::told;
 use cf_bytes::{Files, MapFiles, VecSink};
 use cf_cli::run;
 use cf_conn::{MemoryConn, MemoryEnd};
 use cf_grow::Nobody;
+use cf_link::ListLink;
 use cf_played::Played;
-use cf_serve::ListLink;
 use cf_tasks::{Choice, Spawner};
 use cf_wires::MemoryWires;
 use std::alloc::Global;
@@ -129,8 +129,8 @@ fn served<R: Wait + Threads + Sync + Copy + Drop + Send + 'static>(
         alloc,
         Nobody,
         words,
-        1_700_000_000,
-        0x1122_3344_5566_7788,
+        MOMENT,
+        NONCE,
         &mut files,
         &mut wires,
         &mut tape,

@@ -4,7 +4,7 @@ use Rattle.std.specs.Prelude.{◌≡◌, ℕ, ℤ, ◌==◌, ◌&&◌, ◌||◌,
 use Rattle.std.specs.List.{flat_map}
 use Rattle.cf_block.specs.declared.tx.Block.{Block}
 use Rattle.cf_headers.specs.Chain.{Hash, tip_hash}
-use Rattle.cf_msg.specs.declared.msg.Entry.{Entry}
+use Rattle.cf_msg.specs.declared.msg.Inventory.{Inventory}
 use Rattle.cf_msg.specs.declared.msg.Msg.{Msg}
 use Rattle.cf_msg.specs.declared.msg.Msg.TheVariants.{GetData, Inv, Block as BlockMessage}
 use Rattle.cf_chain.specs.Good.{headers_of}
@@ -20,20 +20,20 @@ abbrev pub announcement : Hash → Msg
 announcement hash = Inv (record { kind = 2; hash = record { 0 = hash } } ∷ [])
 
 -- an entry names a block that isn't in the chain
-abbrev pub is_unknown : List Block → Entry → Bool
+abbrev pub is_unknown : List Block → Inventory → Bool
 is_unknown blocks entry = entry.kind == 2 && is_none (block_height entry.hash blocks)
 
 -- an entry, where it names such a block
-abbrev pub unknown_entry : List Block → Entry → List Entry
+abbrev pub unknown_entry : List Block → Inventory → List Inventory
 unknown_entry blocks entry = if is_unknown blocks entry then entry ∷ [] else []
 
 -- the entries of an `inv` that name blocks that aren't in the chain, in order; none before the asker's version
-abbrev pub wanted : List Block → Bool → Msg → List Entry
+abbrev pub wanted : List Block → Bool → Msg → List Inventory
 wanted blocks true (Inv entries) = flat_map (unknown_entry blocks) entries
 wanted blocks met m = []
 
 -- one `getdata` for these entries, where there are any
-abbrev pub asked_for : List Entry → List Msg
+abbrev pub asked_for : List Inventory → List Msg
 asked_for [] = []
 asked_for (entry ∷ more) = GetData (entry ∷ more) ∷ []
 

@@ -6,7 +6,7 @@ use Rattle.cf_bytes.specs.declared.hash.Hash32.{Hash32}
 use Rattle.cf_block.specs.declared.header.Header.{Header}
 use Rattle.cf_block.specs.declared.tx.Block.{Block}
 use Rattle.cf_filter.specs.Filter.{filter_hash_of}
-use Rattle.cf_msg.specs.declared.msg.Entry.{Entry}
+use Rattle.cf_msg.specs.declared.msg.Inventory.{Inventory}
 use Rattle.cf_msg.specs.declared.msg.Msg.{Msg}
 use Rattle.cf_msg.specs.declared.msg.Msg.TheVariants.{Version, Verack, Ping, Pong, GetHeaders, Headers, GetData, Block as BlockMessage, GetCfilters, Cfilter, GetCfheaders, Cfheaders, GetCfcheckpt, Cfcheckpt}
 use Rattle.cf_msg.specs.declared.msg.NetAddress.{NetAddress}
@@ -54,7 +54,7 @@ headers_reply (hash ∷ more) stop blocks = Headers (next_headers (hash ∷ more
 -- ---- blocks
 
 -- an entry of kind 2 asks for a block in the form without witnesses
-abbrev pub data_reply : List Block → Entry → List Msg
+abbrev pub data_reply : List Block → Inventory → List Msg
 data_reply blocks entry = if entry.kind == 2 then map (λ b. BlockMessage b) (block_with entry.hash blocks) else []
 
 -- ---- filters

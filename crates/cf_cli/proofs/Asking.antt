@@ -1,14 +1,9 @@
 -- What was asked of the files.
-use Rattle.std.proofs.Common.{inl, inr, ℕ, List, [], ◌∷◌, Option, Some, None, refl}
-use Rattle.cf_bytes.specs.Files.{Reads, Opens, Parts, Writes, IsRead, IsAtMostWritten}
+use Rattle.std.proofs.Common.{inl, ℕ, List, [], ◌∷◌, Option, Some, None, refl}
+use Rattle.cf_bytes.specs.Files.{Reads, Opens, Parts, Writes, IsAtMostWritten}
 use Rattle.cf_input.specs.declared.words.Command.{Command}
-use Rattle.cf_loading.specs.Asking.{FileRead, Whole, AreRead}
+use Rattle.cf_loading.specs.Asking.{FileRead, AreRead}
 use Rattle.cf_cli.specs.Asking.{AreAsked, files_read}
-
--- two files were read whole
-pub read_both : {F : Type 0} (reads : Reads F) (opens : Opens F) (parts : Parts F) (name other : List ℕ) (before between after : F) → IsRead reads name before between → IsRead reads other between after
-    → AreRead reads opens parts (Whole name ∷ Whole other ∷ []) before after
-read_both reads opens parts name other before between after one two = inr (between, one, inr (after, two, refl))
 
 -- no file was written
 pub unwritten : {F : Type 0} (writes : Writes F) (file : Option (List ℕ)) (files : F) → IsAtMostWritten writes file files files

@@ -1,8 +1,12 @@
 -- What is told of how each peer stands.
-use Rattle.std.proofs.Common.{◌≡◌, Bool, true, false, List, Option, Some, None, inl, inr, refl, sym, subst}
+use Rattle.std.proofs.Common.{◌≡◌, ℕ, Bool, true, false, List, Option, Some, None, inl, inr, refl, sym, subst}
 use Rattle.std.specs.Prelude.{IfSome}
 use Rattle.std.proofs.lemmas.Bool.{both_ways}
+use Rattle.cf_headers.specs.Store.{Chains}
 use Rattle.cf_place.specs.declared.place.PeerEnd.{PeerEnd}
+use Rattle.cf_run.specs.declared.outcome.Outcome.{Outcome}
+use Rattle.cf_run.specs.Whole.{IsOutcome}
+use Rattle.cf_sync.specs.Fetching.{Rule}
 use Rattle.cf_wires.specs.Log.{Log}
 use Rattle.cf_input.specs.declared.words.Command.{Command}
 use Rattle.cf_input.specs.declared.words.Command.TheVariants.{Replay, Sync, Follow, Scan, Filter, Address, Prove, Check, Serve, Make, Demo}
@@ -36,8 +40,10 @@ pub ends_early : (status : Status) (recorded : Bool) (log : Option Log) (ends : 
 ends_early status recorded log ends is = ends_stay status recorded log ends (no_run status is)
 
 -- a copy of them
-pub copied : (log : Option Log) (put ends : List PeerEnd) → put ≡ ends → IfSome log (λ l. EndsTell ends l) → AreEndsOf log put
-copied log put ends e are = subst (λ (xs : List PeerEnd). AreEndsOf log xs) (sym e) are
+pub copied : (log : Option Log) (counts : Chains → ℕ → Type 0) (rule : Rule) (names : List (List ℕ)) (o : Outcome) (put : List PeerEnd) → put ≡ o.ends.items
+    → IfSome log (IsOutcome counts rule names o) → AreEndsOf log put
+copied None counts rule names o put e is = tt
+copied (Some l) counts rule names o put e is = subst (λ (xs : List PeerEnd). EndsTell xs l) (sym e) is.ends
 
 -- what was carried out was begun
 pub run_begun : (status : Status) (recorded : Bool) → has_run status ≡ true → was_unbegun status recorded ≡ false

@@ -1,17 +1,29 @@
 -- What is promised of each thing that a run is handed: where it stays, and told of the words that ask for the command.
-use Rattle.std.proofs.Common.{◌≡◌, ◌≢◌, ℕ, ℤ, Bool, true, false, List, Option, Some, refl, sym, subst}
-use Rattle.std.specs.Prelude.{not}
-use Rattle.cf_bytes.specs.Files.{Named, Reads, Opens, Parts, Writes}
+use Rattle.std.proofs.Common.{◌≡◌, ◌≢◌, inr, ℕ, ℤ, Bool, true, false, List, Option, Some, refl, sym, ◌∙◌, subst}
+use Rattle.std.specs.Prelude.{not, is_some, IfSome}
+use Rattle.std.specs.FinMap as finite
+use Rattle.std.proofs.lemmas.Bool.{both_ways}
+use Rattle.cf_bytes.specs.Files.{Named, Reads, Opens, Parts, Writes, IsRead, IsAtMostWritten}
+use Rattle.cf_bytes.specs.Outside.{HasRisen}
+use Rattle.cf_place.specs.Standing.{Greeting}
+use Rattle.cf_run.specs.Run.{HasDialled, HasFailed}
+use Rattle.cf_run.specs.Versions.{HasGreeting}
+use Rattle.cf_run.specs.Whole.{AreNewWires}
 use Rattle.cf_run.proofs.Versions.{new_words}
-use Rattle.cf_wires.specs.Log.{Told}
+use Rattle.cf_wires.specs.Log.{Log, Told}
 use Rattle.cf_wires.specs.declared.memory.MemoryWires.{MemoryWires}
 use Rattle.cf_played.specs.declared.played.Played.{Played}
 use Rattle.cf_input.specs.declared.words.Command.{Command}
 use Rattle.cf_answers.specs.declared.status.Status.{Status}
 use Rattle.cf_answers.specs.declared.status.Status.TheVariants.{FileFault}
-use Rattle.cf_cli.specs.Handed.{AreNewWires, IsNewTape, UsesFiles, UsesWires, UsesTape, UsesPlayed, UsesLink, UsesOut}
-use Rattle.cf_cli.proofs.Asking.{unasked}
-use Rattle.cf_cli.proofs.Plays.{new_unfailed, unplayed_words}
+use Rattle.cf_answers.specs.Statuses.{was_unbegun}
+use Rattle.cf_loading.specs.Verdicts.{IsJudged, IsOfFile, Good, watch_verdict}
+use Rattle.cf_cli.specs.Handed.{IsNewTape, RunsFiles, RunsWires, UsesFiles, UsesWires, UsesTape, UsesPlayed, UsesLink, UsesOut}
+use Rattle.cf_cli.specs.Recording.{Records, is_recorded}
+use Rattle.cf_cli.specs.Statuses.{may_dial}
+use Rattle.cf_cli.proofs.Asking.{unasked, unwritten}
+use Rattle.cf_cli.proofs.Plays.{new_dialled, new_unfailed, unplayed_words, versions_so}
+use Rattle.cf_cli.proofs.Records.{early_records, judged_once_begun, records_from}
 
 -- what isn't off is on
 pub is_on : (b : Bool) → not b ≡ false → b ≡ true
@@ -48,6 +60,69 @@ pub tape_stays : {moment : ℤ} {nonce : ℕ} {command : Option Command} {status
 tape_stays {moment} {nonce} {command} {status} {tape} new = record {
   versions = unplayed_words (record { moment = moment; number = nonce }) _ new.log;
   unplayed = λ off. refl;
+}
+
+-- ---- `sync` and `follow`
+
+-- files of a run that wasn't begun, since the watch file is answered for or memory is wanting
+pub unrun_files : {F : Type 0} {files : F → Option Named} {faults : F → ℕ} {reads : Reads F} {opens : Opens F} {parts : Parts F} {writes : Writes F}
+    {watch : List ℕ} {file : Option (List ℕ)} {log : Option Log} {status : Status} {before after : F}
+    → IfSome (files before) (λ m. IsJudged (watch_verdict (finite.get m watch)) status) → IsOfFile status → files after ≡ files before
+    → (status ≡ FileFault → HasRisen (faults before) (faults after)) → IsRead reads watch before after
+    → RunsFiles files faults reads opens parts writes watch file log status before after
+unrun_files {F} {files} {faults} {reads} {opens} {parts} {writes} {watch} {file} {log} {status} {before} {after} judged is same fault read = record {
+  judged = judged;
+  asked = (after, inr (after, read, refl), unwritten writes file after);
+  records = early_records status file log (files before) (files after) is same;
+  fault = fault;
+}
+
+-- files of a run over a good watch file
+pub run_files : {F : Type 0} {files : F → Option Named} {faults : F → ℕ} {reads : Reads F} {opens : Opens F} {parts : Parts F} {writes : Writes F}
+    {watch : List ℕ} {file : Option (List ℕ)} {log : Option Log} {status : Status} {before after : F} (between : F)
+    → IfSome (files before) (λ m. watch_verdict (finite.get m watch) ≡ Good) → files between ≡ files before → faults between ≡ faults before → IsRead reads watch before between
+    → was_unbegun status (is_some file) ≡ false → IsAtMostWritten writes file between after → Records status file log (files between) (files after)
+    → (status ≡ FileFault → HasRisen (faults between) (faults after)) → RunsFiles files faults reads opens parts writes watch file log status before after
+run_files {F} {files} {faults} {reads} {opens} {parts} {writes} {watch} {file} {log} {status} {before} {after} between good same kept read begun written records fault = record {
+  judged = judged_once_begun (files before) watch status (is_some file) good begun;
+  asked = (between, inr (between, read, refl), written);
+  records = records_from status file log (files before) (files between) (files after) same records;
+  fault = λ is. subst (λ (n : ℕ). HasRisen n (faults after)) kept (fault is);
+}
+
+-- new wires, which no run passes
+pub unrun_wires : {W : Type 0} {told : W → Told} {keeps : W → Bool} {faults : W → ℕ} {words : Greeting} {names : List (List ℕ)} {recorded : Bool} {status : Status} {w : W}
+    → AreNewWires (told w) → RunsWires told keeps faults words names recorded status w w
+unrun_wires {W} {told} {keeps} {faults} {words} {names} {recorded} {status} {w} new = record {
+  dialled = new_dialled names (told w) new.log;
+  versions = new_words words (told w) new.log;
+  failures = new_unfailed (told w) (faults w) (faults w) new.log;
+  unkept = λ off. refl;
+  undialled = λ is. refl;
+}
+
+-- wires of a run
+pub run_wires : {W : Type 0} {told : W → Told} {keeps : W → Bool} {faults : W → ℕ} {z y : ℤ} {nonce : ℕ} {names : List (List ℕ)} {recorded : Bool} {status : Status} {before after : W}
+    → z ≡ y → HasDialled names (told after) → HasGreeting (record { moment = z; number = nonce }) (told after)
+    → IfSome (told after).log (λ log. HasFailed log → HasRisen (faults before) (faults after)) → (recorded ≡ false → keeps after ≡ keeps before)
+    → was_unbegun status recorded ≡ false → RunsWires told keeps faults (record { moment = y; number = nonce }) names recorded status before after
+run_wires {W} {told} {keeps} {faults} {z} {y} {nonce} {names} {recorded} {status} {before} {after} same dialled versions failures unkept begun = record {
+  dialled = dialled;
+  versions = versions_so z y nonce (told after) same versions;
+  failures = failures;
+  unkept = unkept;
+  undialled = λ is. absurd (both_ways (was_unbegun status recorded) begun is);
+}
+
+-- wires of a command that may dial and record as the run did
+pub dialled_wires : {W : Type 0} {told : W → Told} {keeps : W → Bool} {faults : W → ℕ} {z y : ℤ} {nonce : ℕ} {names : List (List ℕ)} {recorded : Bool} {command : Option Command} {status : Status} {before after : W}
+    → may_dial command status ≡ not (was_unbegun status recorded) → is_recorded command ≡ recorded → z ≡ y
+    → RunsWires told keeps faults (record { moment = z; number = nonce }) names recorded status before after → UsesWires told keeps faults y nonce command status before after
+dialled_wires {W} {told} {keeps} {faults} {z} {y} {nonce} {names} {recorded} {command} {status} {before} {after} dials records same runs = record {
+  versions = versions_so z y nonce (told after) same runs.versions;
+  failures = runs.failures;
+  undialled = λ off. runs.undialled (is_on (was_unbegun status recorded) (sym dials ∙ off));
+  unkept = λ off. runs.unkept (sym records ∙ off);
 }
 
 -- ---- told of the words, at the same moment

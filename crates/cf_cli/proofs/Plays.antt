@@ -1,17 +1,20 @@
 -- How a session is played, and what is said where no run is made.
 use Rattle.std.proofs.Common.{◌≡◌, inl, inr, ℕ, ℤ, zero, suc, ◌<◌, ◌≤◌, Bool, true, false, List, [], ◌∷◌, map, length, take, Option, Some, None, Result, Ok, Err, refl, sym, ◌∙◌, ap, subst, arith}
-use Rattle.std.specs.Prelude.{◌↔◌, IfSome, IsSomeAnd, vec_len}
+use Rattle.std.specs.Prelude.{IfSome, IsSomeAnd, String, string_bytes, vec_len}
+use Rattle.std.specs.Global.{Global}
 use Rattle.std.specs.FinMap as finite
-use Rattle.std.proofs.lemmas.Bool.{false≢true}
+use Rattle.std.proofs.lemmas.Bool.{both_ways, false≢true}
 use Rattle.std.proofs.lemmas.List.{take_all, length-map}
 use Rattle.cf_bytes.specs.Files.{Named}
 use Rattle.cf_bytes.specs.Outside.{HasRisen}
 use Rattle.cf_run.specs.declared.outcome.End.{End}
 use Rattle.cf_run.specs.declared.outcome.End.TheVariants.{Synced as IsSynced, NoPeers as HasNoPeers, Tired as IsTired, Ended as HasEnded}
 use Rattle.cf_place.specs.declared.place.PeerEnd.{PeerEnd}
-use Rattle.cf_place.specs.Standing.{Words}
-use Rattle.cf_run.specs.Versions.{IsOfWords, HasWords}
-use Rattle.cf_run.specs.Run.{NobodyLeft, HasDialled, HasFailed, names_of}
+use Rattle.cf_place.specs.Standing.{Greeting}
+use Rattle.cf_run.specs.Versions.{IsOfGreeting, HasGreeting}
+use Rattle.cf_run.specs.Names.{names_in}
+use Rattle.cf_run.specs.Run.{HasDialled, HasFailed, names_of}
+use Rattle.cf_run.specs.Whole.{EndsWithin, LeavesWires}
 use Rattle.cf_wires.specs.declared.event.Dial.{Dial}
 use Rattle.cf_wires.specs.declared.memory.MemoryWires.{MemoryWires}
 use Rattle.cf_wires.specs.Dials.{answered_at, goes_as_made}
@@ -28,24 +31,31 @@ use Rattle.cf_input.specs.WatchFile.{watch_of}
 use Rattle.cf_answers.specs.Statuses.{has_run}
 use Rattle.cf_cli.specs.Statuses.{verdict_of}
 use Rattle.cf_loading.specs.Verdicts.{IsJudged, Missing, Good, and_then, IsOfFile, watch_verdict, session_verdict}
-use Rattle.cf_cli.specs.Theorem.{AnswersTo, AreLeft, IsWhole, IsWithin, IsWatchFile, Kept, KeptOver, IsOfRun, IsReplayed, Plays, PlaysSession, Tallied, has_somebody}
+use Rattle.cf_cli.specs.Theorem.{AnswersTo, AreLeft, IsWhole, IsWithin, IsWatchFile, KeptOnce, KeptOver, IsOfRun, IsReplayed, Plays, PlaysSession, Tallied, has_somebody}
 
--- no run is made where a file is answered for
+-- an answer to a file: no run is made, and it is among those of `sync` and `replay`
+record IsEarly (status : Status) : Type 0 where
+  off : has_run status ≡ false
+  answers : IsOfRun status
+
+of_file : (status : Status) → IsOfFile status → IsEarly status
+of_file NoMemory is = record { off = refl; answers = tt }
+of_file FileFault is = record { off = refl; answers = tt }
+of_file (BadFile which place cause) is = record { off = refl; answers = tt }
+of_file Done is = absurd is
+of_file Usage is = absurd is
+of_file OutFault is = absurd is
+of_file (NoPeers ends) is = absurd is
+of_file Tired is = absurd is
+of_file Ended is = absurd is
+of_file LinkFault is = absurd is
+of_file (NoNonce height) is = absurd is
+of_file (NoHeight tip) is = absurd is
+of_file (NotThere txid) is = absurd is
+of_file (NotAddress cause) is = absurd is
+
 pub no_run : (status : Status) → IsOfFile status → has_run status ≡ false
-no_run NoMemory is = refl
-no_run FileFault is = refl
-no_run (BadFile which place cause) is = refl
-no_run Done is = absurd is
-no_run Usage is = absurd is
-no_run OutFault is = absurd is
-no_run (NoPeers ends) is = absurd is
-no_run Tired is = absurd is
-no_run Ended is = absurd is
-no_run LinkFault is = absurd is
-no_run (NoNonce height) is = absurd is
-no_run (NoHeight tip) is = absurd is
-no_run (NotThere txid) is = absurd is
-no_run (NotAddress cause) is = absurd is
+no_run status is = (of_file status is).off
 
 dial_same : (x y : Dial) → x.name ≡ y.name → x.answered ≡ y.answered → x ≡ y
 dial_same x y name answered = λ i. record { name = name i; answered = answered i }
@@ -135,26 +145,9 @@ told_plays (Some m) name status script log read plays = held_plays (finite.get m
   held_plays None h = tt
   held_plays (Some bytes) h = plays_by status (session_of bytes) script log h plays
 
--- the answers to files are among those of `sync` and `replay`
-file_answers : (status : Status) → IsOfFile status → IsOfRun status
-file_answers NoMemory is = tt
-file_answers FileFault is = tt
-file_answers (BadFile which place cause) is = tt
-file_answers Done is = absurd is
-file_answers Usage is = absurd is
-file_answers OutFault is = absurd is
-file_answers (NoPeers ends) is = absurd is
-file_answers Tired is = absurd is
-file_answers Ended is = absurd is
-file_answers LinkFault is = absurd is
-file_answers (NoNonce height) is = absurd is
-file_answers (NoHeight tip) is = absurd is
-file_answers (NotThere txid) is = absurd is
-file_answers (NotAddress cause) is = absurd is
-
 -- where no run is made nothing has passed, and nobody is honest
-early_kept : (status : Status) (recorded trace : Bool) (scripts names : List (List ℕ)) (b : Option (List ℕ)) (log : Log) → has_run status ≡ false → log ≡ [] → Kept status recorded trace scripts names b b log
-early_kept status recorded trace scripts names b log off none = subst (λ (l : Log). Kept status recorded trace scripts names b b l) (sym none) (record {
+early_kept : (status : Status) (recorded trace : Bool) (scripts names : List (List ℕ)) (b : Option (List ℕ)) (log : Log) → has_run status ≡ false → log ≡ [] → KeptOnce status recorded trace scripts names b b log
+early_kept status recorded trace scripts names b log off none = subst (λ (l : Log). KeptOnce status recorded trace scripts names b b l) (sym none) (record {
   writes = λ p blocks serves other is untraced. absurd (false≢true serves.honest.dialled);
   answers = λ p blocks serves quiet. absurd (false≢true serves.honest.dialled);
   complete = λ p blocks serves. absurd (false≢true serves.honest.dialled);
@@ -191,12 +184,12 @@ watch_there (Some m) watch scripts good read = held_there (finite.get m watch) g
 
 -- with the scripts of the watch file
 pub over_watch : (status : Status) (recorded trace : Bool) (files : Option Named) (watch : List ℕ) (scripts names : List (List ℕ)) (before after : Option (List ℕ)) (log : Log)
-    → IsWatchFile files watch scripts → Kept status recorded trace scripts names before after log
+    → IsWatchFile files watch scripts → KeptOnce status recorded trace scripts names before after log
     → KeptOver status recorded trace files watch names before after log
 over_watch status recorded trace files watch scripts names before after log read kept = record { scripts = scripts; watched = λ made. read; unwatched = inr read; kept = kept }
 
 pub told_over_watch : (o : Option Log) (status : Status) (recorded trace : Bool) (files : Option Named) (watch : List ℕ) (scripts names : List (List ℕ)) (before after : Option (List ℕ))
-    → IsWatchFile files watch scripts → IfSome o (λ log. Kept status recorded trace scripts names before after log)
+    → IsWatchFile files watch scripts → IfSome o (λ log. KeptOnce status recorded trace scripts names before after log)
     → IfSome o (λ log. KeptOver status recorded trace files watch names before after log)
 told_over_watch None status recorded trace files watch scripts names before after read kept = tt
 told_over_watch (Some log) status recorded trace files watch scripts names before after read kept = over_watch status recorded trace files watch scripts names before after log read kept
@@ -241,23 +234,28 @@ tallied_early status turns names was now off answers within left = record {
 
 -- the wires weren't used
 pub early_tallied : (status : Status) (turns names : ℕ) (t : Told) → IsOfFile status → Tells [] t → Tallied status turns names t t
-early_tallied status turns names t is fresh = tallied_early status turns names t t (no_run status is) (file_answers status is) (new_within turns names t fresh) (inl refl)
+early_tallied status turns names t is fresh = tallied_early status turns names t t (no_run status is) (of_file status is).answers (new_within turns names t fresh) (inl refl)
 
--- memory was wanting once they were used
-pub spent_tallied : (turns names : ℕ) (was now : Told) → IsWithin turns names now.tally → now.finished ≡ true → Tallied NoMemory turns names was now
-spent_tallied turns names was now within finished = tallied_early NoMemory turns names was now refl tt within (inr finished)
+-- a run over them took and dialled no more than it may
+left_within : {W : Type 0} {told : W → Told} {faults : W → ℕ} {script : W → Option Made} {keeps : W → Bool} {words : Greeting} {names : List (List ℕ)} {turns : ℕ} {before after : W}
+    → LeavesWires told faults script keeps words names turns before after → IsWithin turns (length names) (told after).tally
+left_within wires = record { taken = wires.most; dialled = wires.dialled.most; ended = wires.once }
 
--- the record could not be written
-pub unrecorded_tallied : (turns names : ℕ) (was now : Told) → IsWithin turns names now.tally → now.finished ≡ true → Tallied FileFault turns names was now
-unrecorded_tallied turns names was now within finished = tallied_early FileFault turns names was now refl tt within (inr finished)
+-- once they were used memory was wanting, or the record could not be written
+pub spent_tallied : {W : Type 0} {told : W → Told} {faults : W → ℕ} {script : W → Option Made} {keeps : W → Bool} {words : Greeting} {names : List (List ℕ)} {turns : ℕ} {before after : W}
+    → (status : Status) (was : Told) → has_run status ≡ false → IsOfRun status → LeavesWires told faults script keeps words names turns before after
+    → Tallied status turns (length names) was (told after)
+spent_tallied status was off answers wires = tallied_early status _ _ was _ off answers (left_within wires) (inr wires.finished)
 
--- the sink has failed
-pub unwritten_tallied : (turns names : ℕ) (was now : Told) → IsWithin turns names now.tally → IsWhole names now → Tallied OutFault turns names was now
-unwritten_tallied turns names was now within whole = record {
+-- the sink has failed, once all were dialled
+pub unwritten_tallied : {W : Type 0} {told : W → Told} {faults : W → ℕ} {script : W → Option Made} {keeps : W → Bool} {words : Greeting} {names : List (List ℕ)} {turns : ℕ} {before after : W}
+    → (was : Told) → LeavesWires told faults script keeps words names turns before after → (told after).tally.dials ≡ length names
+    → Tallied OutFault turns (length names) was (told after)
+unwritten_tallied was wires all = record {
   answers = tt;
-  within = within;
-  whole = λ is. whole;
-  left = inr whole.finished;
+  within = left_within wires;
+  whole = λ is. record { dialled = all; finished = wires.finished };
+  left = inr wires.finished;
   no_peers = λ ends same. cc;
   somebody = λ here. absurd (false≢true here);
   tired = λ same. cc;
@@ -265,54 +263,48 @@ unwritten_tallied turns names was now within whole = record {
   early = λ same. cc;
 }
 
+-- the end that an answer tells of
+abbrev end_of : Status → Option End
+end_of Done = Some IsSynced
+end_of (NoPeers ends) = Some HasNoPeers
+end_of Tired = Some IsTired
+end_of Ended = Some HasEnded
+end_of status = None
+
+ended_by : (end : End) (ends : List PeerEnd) (status : Status) → AnswersTo end ends status → end_of status ≡ Some end
+ended_by IsSynced ends status is = ap end_of is
+ended_by HasNoPeers ends status is = ap end_of is.1
+ended_by IsTired ends status is = ap end_of is
+ended_by HasEnded ends status is = ap end_of is
+
+-- where this is answered, it ended so
+pub ended_as : (end other : End) (ends : List PeerEnd) (status like : Status) → AnswersTo end ends status → end_of like ≡ Some other → status ≡ like → end ≡ other
+ended_as end other ends status like is tells same = let told = ended_by end ends status is in let alike : end_of status ≡ end_of like = ap end_of same in cc
+
+-- an answer that comes only where a peer is connected is none of a run that has none
+nobody_off : (end : End) (ends : List PeerEnd) (status : Status) → AnswersTo end ends status → end ≡ HasNoPeers → has_somebody status ≡ false
+nobody_off end ends status is none = let told : AnswersTo HasNoPeers ends status = subst (λ (e : End). AnswersTo e ends status) none is in ap has_somebody told.1
+
+-- a run that ended so has dialled all names
+pub all_dialled : (names : List (String Global)) {end : End} {turns : ℕ} {tally : Tally} → EndsWithin end (length names) turns tally → tally.dials ≡ length (names_in names)
+all_dialled names within = within.dialled ∙ sym (length-map names string_bytes)
+
 -- the run was made, and ended so
-pub run_tallied : (end : End) (ends : List PeerEnd) (status : Status) (turns names : ℕ) (was now : Told) → AnswersTo end ends status → IsWithin turns names now.tally → IsWhole names now
-    → (end ≡ HasNoPeers) ↔ NobodyLeft now.tally → (end ≡ IsTired → now.tally.taken ≡ turns) → (end ≡ HasEnded → now.tally.ended ≡ 1) → (end ≡ HasEnded → now.tally.taken < turns)
-    → Tallied status turns names was now
-run_tallied IsSynced ends status turns names was now is within whole nobody tired ended early = subst (λ (s : Status). Tallied s turns names was now) (sym is) (record {
-  answers = tt;
-  within = within;
-  whole = λ made. whole;
-  left = inr whole.finished;
-  no_peers = λ told same. cc;
-  somebody = λ here left. absurd (let e : IsSynced ≡ HasNoPeers = nobody.1 left in cc);
-  tired = λ same. cc;
-  ended = λ same. cc;
-  early = λ same. cc;
-})
-run_tallied HasNoPeers ends status turns names was now is within whole nobody tired ended early = subst (λ (s : Status). Tallied s turns names was now) (sym is.1) (record {
-  answers = tt;
-  within = within;
-  whole = λ made. whole;
-  left = inr whole.finished;
-  no_peers = λ told same. nobody.0 refl;
-  somebody = λ here. absurd (false≢true here);
-  tired = λ same. cc;
-  ended = λ same. cc;
-  early = λ same. cc;
-})
-run_tallied IsTired ends status turns names was now is within whole nobody tired ended early = subst (λ (s : Status). Tallied s turns names was now) (sym is) (record {
-  answers = tt;
-  within = within;
-  whole = λ made. whole;
-  left = inr whole.finished;
-  no_peers = λ told same. cc;
-  somebody = λ here left. absurd (let e : IsTired ≡ HasNoPeers = nobody.1 left in cc);
-  tired = λ same. tired refl;
-  ended = λ same. cc;
-  early = λ same. cc;
-})
-run_tallied HasEnded ends status turns names was now is within whole nobody tired ended early = subst (λ (s : Status). Tallied s turns names was now) (sym is) (record {
-  answers = tt;
-  within = within;
-  whole = λ made. whole;
-  left = inr whole.finished;
-  no_peers = λ told same. cc;
-  somebody = λ here left. absurd (let e : HasEnded ≡ HasNoPeers = nobody.1 left in cc);
-  tired = λ same. cc;
-  ended = λ same. ended refl;
-  early = λ same. early refl;
-})
+pub run_tallied : {W : Type 0} {told : W → Told} {faults : W → ℕ} {script : W → Option Made} {keeps : W → Bool} {words : Greeting} {turns : ℕ} {before after : W}
+    → (names : List (String Global)) (end : End) (ends : List PeerEnd) (status : Status) (was : Told) → AnswersTo end ends status → IsOfRun status
+    → LeavesWires told faults script keeps words (names_in names) turns before after → EndsWithin end (length names) turns (told after).tally
+    → Tallied status turns (length (names_in names)) was (told after)
+run_tallied names end ends status was is answers wires within = record {
+  answers = answers;
+  within = left_within wires;
+  whole = λ made. record { dialled = all_dialled names within; finished = wires.finished };
+  left = inr wires.finished;
+  no_peers = λ told same. within.no_peers.0 (ended_as end HasNoPeers ends status (NoPeers told) is refl same);
+  somebody = λ here nobody. both_ways (has_somebody status) (nobody_off end ends status is (within.no_peers.1 nobody)) here;
+  tired = λ same. within.tired (ended_as end IsTired ends status Tired is refl same);
+  ended = λ same. within.ended (ended_as end HasEnded ends status Ended is refl same);
+  early = λ same. within.early (ended_as end HasEnded ends status Ended is refl same);
+}
 
 -- what is promised of `replay` where the tape wasn't used
 pub early_replayed : (status : Status) (turns : ℕ) (trace : Bool) (files : Option Named) (watch : List ℕ) (b : Option (List ℕ)) (t : Told) (log : Log)
@@ -382,9 +374,23 @@ judged_follow o c turns workers file watch peers watch_name status a is judged =
     subst (λ (x : Command). IfSome o (λ m. IsJudged (verdict_of m x) status)) (sym is) one
 
 -- no version was sent over an empty log
-pub unplayed_words : (words : Words) (log : Log) → log ≡ [] → IsOfWords words log
-unplayed_words words log none = subst (IsOfWords words) (sym none) tt
+pub unplayed_words : (words : Greeting) (log : Log) → log ≡ [] → IsOfGreeting words log
+unplayed_words words log none = subst (IsOfGreeting words) (sym none) tt
 
 -- the same moment
-pub versions_so : (z y : ℤ) (n : ℕ) (t : Told) → z ≡ y → HasWords (record { moment = z; number = n }) t → HasWords (record { moment = y; number = n }) t
-versions_so z y n t same has = subst (λ (x : ℤ). HasWords (record { moment = x; number = n }) t) same has
+pub versions_so : (z y : ℤ) (n : ℕ) (t : Told) → z ≡ y → HasGreeting (record { moment = z; number = n }) t → HasGreeting (record { moment = y; number = n }) t
+versions_so z y n t same has = subst (λ (x : ℤ). HasGreeting (record { moment = x; number = n }) t) same has
+
+pub leaves_so : {W : Type 0} {told : W → Told} {faults : W → ℕ} {script : W → Option Made} {keeps : W → Bool} {names : List (List ℕ)} {turns : ℕ} {before after : W}
+    → (z y : ℤ) (n : ℕ) → z ≡ y → LeavesWires told faults script keeps (record { moment = z; number = n }) names turns before after
+    → LeavesWires told faults script keeps (record { moment = y; number = n }) names turns before after
+leaves_so {told = told} {after = after} z y n same wires = record {
+  versions = versions_so z y n (told after) same wires.versions;
+  dialled = wires.dialled;
+  most = wires.most;
+  once = wires.once;
+  finished = wires.finished;
+  kept = wires.kept;
+  course = wires.course;
+  failures = wires.failures;
+}

@@ -10,10 +10,7 @@ use Rattle.cf_answers.specs.declared.status.Status.TheVariants.{Done, NoMemory, 
 use Rattle.cf_loading.specs.Verdicts.{IsJudged, IsOfFile, Verdict, Good, watch_verdict}
 use Rattle.cf_answers.specs.Statuses.{was_refused, was_unbegun}
 use Rattle.cf_cli.specs.Recording.{HasRecord, KeepsOthers, Records}
-use Rattle.cf_cli.specs.Theorem.{AnswersTo, IsOfRun}
-use Rattle.cf_run.specs.declared.outcome.End.{End}
-use Rattle.cf_run.specs.declared.outcome.End.TheVariants.{Synced as IsSynced, NoPeers as HasNoPeers, Tired as IsTired, Ended as HasEnded}
-use Rattle.cf_place.specs.declared.place.PeerEnd.{PeerEnd}
+use Rattle.cf_cli.specs.Theorem.{IsOfRun}
 
 same_elsewhere : (name : List ℕ) (files : Option Named) → SameElsewhere name files files
 same_elsewhere name None = tt
@@ -40,14 +37,6 @@ early_records (NoNonce height) file log before after is same = absurd is
 early_records (NoHeight tip) file log before after is same = absurd is
 early_records (NotThere txid) file log before after is same = absurd is
 early_records (NotAddress cause) file log before after is same = absurd is
-
--- the record of a run that ended so
-pub end_records : (end : End) (ends : List PeerEnd) (status : Status) (file : Option (List ℕ)) (log : Option Log) (before after : Option Named) → AnswersTo end ends status
-    → HasRecord file log before after → Records status file log before after
-end_records IsSynced ends status file log before after is kept = subst (λ (s : Status). Records s file log before after) (sym is) kept
-end_records HasNoPeers ends status file log before after is kept = subst (λ (s : Status). Records s file log before after) (sym is.1) kept
-end_records IsTired ends status file log before after is kept = subst (λ (s : Status). Records s file log before after) (sym is) kept
-end_records HasEnded ends status file log before after is kept = subst (λ (s : Status). Records s file log before after) (sym is) kept
 
 -- the record of a run that was begun, where memory was not wanting
 pub begun_records : (status : Status) (file : Option (List ℕ)) (log : Option Log) (before after : Option Named) → IsOfRun status → was_refused status ≡ false → status ≢ NoMemory

@@ -6,13 +6,16 @@ use Rattle.cf_block.specs.declared.tx.Block.{Block}
 use Rattle.cf_bytes.specs.Outside.{with_more}
 use Rattle.cf_bytes.specs.declared.hash.Hash32.{Hash32}
 use Rattle.cf_headers.specs.Chain.{tip_hash}
+use Rattle.cf_headers.specs.Store.{Chains}
 use Rattle.cf_chain.specs.Good.{headers_of}
 use Rattle.cf_run.specs.declared.outcome.End.{End}
 use Rattle.cf_run.specs.declared.outcome.End.TheVariants.{Synced as IsSynced, NoPeers as HasNoPeers, Tired as IsTired, Ended as HasEnded}
 use Rattle.cf_run.specs.declared.trace.TraceLine.{TraceLine}
 use Rattle.cf_place.specs.declared.place.PeerEnd.{PeerEnd}
 use Rattle.cf_place.specs.Standing.{EndsTell}
-use Rattle.cf_run.specs.Run.{Followed, IsEnd}
+use Rattle.cf_run.specs.declared.outcome.Outcome.{Outcome}
+use Rattle.cf_run.specs.Run.{IsEnd}
+use Rattle.cf_run.specs.Whole.{IsOutcome}
 use Rattle.cf_peer.specs.Asking.{is_open}
 use Rattle.cf_wires.specs.Log.{Log}
 use Rattle.cf_peer.specs.Trail.{trail, connected}
@@ -24,7 +27,7 @@ use Rattle.cf_sync.specs.Sync.{SyncTheorem, IsHistoryOf}
 use Rattle.cf_answers.specs.declared.status.Status.{Status}
 use Rattle.cf_answers.specs.declared.status.Status.TheVariants.{Done, NoMemory, Usage, BadFile, FileFault, OutFault, NoPeers, Tired, Ended, LinkFault, NoNonce, NoHeight, NotThere, NotAddress}
 use Rattle.cf_answers.specs.Texts.{run_text}
-use Rattle.cf_cli.specs.Theorem.{IsAnswerOf, Settles, IsComplete, Kept, TellsEnds, AnswersTo}
+use Rattle.cf_cli.specs.Theorem.{IsAnswerOf, Settles, IsComplete, KeptOnce, TellsEnds, AnswersTo}
 
 -- the answer, where the text was written
 pub answered : (end : End) (ends : List PeerEnd) (status : Status) (before after : Option (List ℕ)) (text : List ℕ) → AnswersTo end ends status → after ≡ with_more before text → IsAnswerOf end status before after text
@@ -94,28 +97,40 @@ history_written watch blocks end height tip entries lines trace before after tol
 quiet_once_synced : (end : End) (log : Log) → IsEnd end log → end ≡ IsSynced → IsQuiet log
 quiet_once_synced end log why is = let synced : IsEnd IsSynced log = subst (λ (e : End). IsEnd e log) is why in synced.0
 
-pub kept_of : (watch : List (List ℕ)) (end : End) (height : ℕ) (tip : Hash32) (entries : List Entry) (lines : List TraceLine) (names : List (List ℕ)) (status : Status) (recorded trace : Bool)
-    (before after : Option (List ℕ)) (log : Log)
-    → Followed (once watch) end height tip entries lines names log → SyncTheorem watch height tip entries log → IsAnswerOf end status before after (run_text trace lines end entries height tip)
-    → TellsEnds status log → Kept status recorded trace watch names before after log
-kept_of watch end height tip entries lines names status recorded trace before after log followed theorem answer stands = record {
-  writes = λ p blocks serves none is off.
-      let done = done_text status end before after (run_text trace lines end entries height tip) answer is in
-      let told = theorem.exact p blocks serves.apart serves.honest none (quiet_once_synced end log followed.why done.0) in
-      history_written watch blocks end height tip entries lines trace before after told off done.0 done.1;
-  answers = λ p blocks serves quiet.
-      let somebody = somebody_left end log p followed.why (theorem.somebody p blocks serves.apart serves.honest) in
-      settles end status recorded before after (run_text trace lines end entries height tip) log answer followed.why somebody quiet;
-  complete = λ p blocks serves.
-      let somebody = somebody_left end log p followed.why (theorem.somebody p blocks serves.apart serves.honest) in
-      completes end status recorded before after (run_text trace lines end entries height tip) answer somebody;
-  never = λ p blocks serves ne. theorem.never p blocks serves.apart serves.honest;
-  ran = λ is. record { end = end; height = height; tip = tip; entries = entries; lines = lines; followed = followed; answered = answer; stands = stands };
-  unrecorded = λ is. absurd (subst (λ (s : Status). IsAnswerOf end s before after (run_text trace lines end entries height tip)) is answer);
-}
+kept_of : (counts : Chains → ℕ → Type 0) (watch names : List (List ℕ)) (o : Outcome) (status : Status) (recorded trace : Bool) (before after : Option (List ℕ)) (log : Log)
+    → IsOutcome counts (once watch) names o log → SyncTheorem watch o.height o.tip o.history log
+    → IsAnswerOf o.end status before after (run_text trace o.trace.items o.end o.history o.height o.tip)
+    → TellsEnds status log → KeptOnce status recorded trace watch names before after log
+kept_of counts watch names o status recorded trace before after log is theorem answer stands =
+    let text : List ℕ = run_text trace o.trace.items o.end o.history o.height o.tip in
+    let why : IsEnd o.end log = is.followed.why in
+    record {
+      writes = λ p blocks serves none same off.
+          let done = done_text status o.end before after text answer same in
+          let told = theorem.exact p blocks serves.apart serves.honest none (quiet_once_synced o.end log why done.0) in
+          history_written watch blocks o.end o.height o.tip o.history o.trace.items trace before after told off done.0 done.1;
+      answers = λ p blocks serves quiet.
+          let somebody = somebody_left o.end log p why (theorem.somebody p blocks serves.apart serves.honest) in
+          settles o.end status recorded before after text log answer why somebody quiet;
+      complete = λ p blocks serves.
+          let somebody = somebody_left o.end log p why (theorem.somebody p blocks serves.apart serves.honest) in
+          completes o.end status recorded before after text answer somebody;
+      never = λ p blocks serves ne. theorem.never p blocks serves.apart serves.honest;
+      ran = λ made. record {
+        end = o.end;
+        height = o.height;
+        tip = o.tip;
+        entries = o.history;
+        lines = o.trace.items;
+        followed = is.followed;
+        answered = answer;
+        stands = stands;
+      };
+      unrecorded = λ same. absurd (subst (λ (s : Status). IsAnswerOf o.end s before after text) same answer);
+    }
 
 -- where no memory is found nothing is said
-pub kept_without : (o : Option Log) (watch names : List (List ℕ)) (recorded trace : Bool) (before after : Option (List ℕ)) → IfSome o (λ log. Kept NoMemory recorded trace watch names before after log)
+pub kept_without : (o : Option Log) (watch names : List (List ℕ)) (recorded trace : Bool) (before after : Option (List ℕ)) → IfSome o (λ log. KeptOnce NoMemory recorded trace watch names before after log)
 kept_without None watch names recorded trace before after = tt
 kept_without (Some log) watch names recorded trace before after = record {
   writes = λ p blocks serves none is off. cc;
@@ -127,46 +142,43 @@ kept_without (Some log) watch names recorded trace before after = record {
 }
 
 -- where the record can't be written: the run followed the rules, and an honest peer was not closed
-kept_unrecorded : (watch names : List (List ℕ)) (end : End) (height : ℕ) (tip : Hash32) (entries : List Entry) (lines : List TraceLine) (recorded trace : Bool)
-    (before after : Option (List ℕ)) (log : Log) → recorded ≡ true
-    → Followed (once watch) end height tip entries lines names log → SyncTheorem watch height tip entries log → Kept FileFault recorded trace watch names before after log
-kept_unrecorded watch names end height tip entries lines recorded trace before after log on followed theorem = record {
-  writes = λ p blocks serves none is off. cc;
+pub unrecorded_told : (log : Option Log) (counts : Chains → ℕ → Type 0) (watch names : List (List ℕ)) (o : Outcome) (recorded trace : Bool) (before after : Option (List ℕ)) → recorded ≡ true
+    → IfSome log (IsOutcome counts (once watch) names o) → IfSome log (λ l. SyncTheorem watch o.height o.tip o.history l)
+    → IfSome log (λ l. KeptOnce FileFault recorded trace watch names before after l)
+unrecorded_told None counts watch names o recorded trace before after on is theorem = tt
+unrecorded_told (Some log) counts watch names o recorded trace before after on is theorem = record {
+  writes = λ p blocks serves none same off. cc;
   answers = λ p blocks serves quiet. on;
   complete = λ p blocks serves. on;
   never = λ p blocks serves ne. theorem.never p blocks serves.apart serves.honest;
-  ran = λ is. cc;
-  unrecorded = λ is. inr (record { end = end; height = height; tip = tip; entries = entries; lines = lines; followed = followed });
+  ran = λ made. cc;
+  unrecorded = λ same. inr (record {
+    end = o.end;
+    height = o.height;
+    tip = o.tip;
+    entries = o.history;
+    lines = o.trace.items;
+    followed = is.followed;
+  });
 }
 
-pub unrecorded_told : (o : Option Log) (watch names : List (List ℕ)) (end : End) (height : ℕ) (tip : Hash32) (entries : List Entry) (lines : List TraceLine) (recorded trace : Bool)
-    (before after : Option (List ℕ)) → recorded ≡ true
-    → IfSome o (λ log. Followed (once watch) end height tip entries lines names log) → IfSome o (λ log. SyncTheorem watch height tip entries log)
-    → IfSome o (λ log. Kept FileFault recorded trace watch names before after log)
-unrecorded_told None watch names end height tip entries lines recorded trace before after on followed theorem = tt
-unrecorded_told (Some log) watch names end height tip entries lines recorded trace before after on followed theorem =
-    kept_unrecorded watch names end height tip entries lines recorded trace before after log on followed theorem
-
-pub kept_told : (o : Option Log) (watch : List (List ℕ)) (end : End) (height : ℕ) (tip : Hash32) (entries : List Entry) (lines : List TraceLine) (names : List (List ℕ)) (status : Status) (recorded trace : Bool)
-    (before after : Option (List ℕ))
-    → IfSome o (λ log. Followed (once watch) end height tip entries lines names log) → IfSome o (λ log. SyncTheorem watch height tip entries log)
-    → IsAnswerOf end status before after (run_text trace lines end entries height tip) → IfSome o (TellsEnds status)
-    → IfSome o (λ log. Kept status recorded trace watch names before after log)
-kept_told None watch end height tip entries lines names status recorded trace before after followed theorem answer stands = tt
-kept_told (Some log) watch end height tip entries lines names status recorded trace before after followed theorem answer stands =
-    kept_of watch end height tip entries lines names status recorded trace before after log followed theorem answer stands
-
 -- how the peers stand that the answer tells of
-stands_by : (end : End) (ends : List PeerEnd) (status : Status) (log : Log) → AnswersTo end ends status → EndsTell ends log → TellsEnds status log
+pub stands_by : (end : End) (ends : List PeerEnd) (status : Status) (log : Log) → AnswersTo end ends status → EndsTell ends log → TellsEnds status log
 stands_by IsSynced ends status log is tell = λ told no. cc
 stands_by HasNoPeers ends status log is tell = λ told no. let same : told.items ≡ ends = cc in subst (λ (xs : List PeerEnd). EndsTell xs log) (sym same) tell
 stands_by IsTired ends status log is tell = λ told no. cc
 stands_by HasEnded ends status log is tell = λ told no. cc
 
-pub stands_told : (o : Option Log) (end : End) (ends : List PeerEnd) (status : Status) → AnswersTo end ends status → IfSome o (EndsTell ends) → IfSome o (TellsEnds status)
-stands_told None end ends status is tell = tt
-stands_told (Some log) end ends status is tell = stands_by end ends status log is tell
+-- where it tells of none
+pub stands_unsaid : (log : Log) → TellsEnds OutFault log
+stands_unsaid log = λ told no. cc
 
-pub stands_unsaid : (o : Option Log) → IfSome o (TellsEnds OutFault)
-stands_unsaid None = tt
-stands_unsaid (Some log) = λ told no. cc
+-- the run came to its end, and its text was written, or the sink has failed
+pub kept_told : (log : Option Log) (counts : Chains → ℕ → Type 0) (watch names : List (List ℕ)) (o : Outcome) (status : Status) (recorded trace : Bool) (before after : Option (List ℕ))
+    → IfSome log (IsOutcome counts (once watch) names o) → IfSome log (λ l. SyncTheorem watch o.height o.tip o.history l)
+    → IsAnswerOf o.end status before after (run_text trace o.trace.items o.end o.history o.height o.tip)
+    → ((l : Log) → EndsTell o.ends.items l → TellsEnds status l)
+    → IfSome log (λ l. KeptOnce status recorded trace watch names before after l)
+kept_told None counts watch names o status recorded trace before after is theorem answer stands = tt
+kept_told (Some log) counts watch names o status recorded trace before after is theorem answer stands =
+    kept_of counts watch names o status recorded trace before after log is theorem answer (stands log is.ends)

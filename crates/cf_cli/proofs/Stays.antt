@@ -1,23 +1,27 @@
 -- What a run that follows has written, and how it ended.
-use Rattle.std.proofs.Common.{◌≡◌, ◌≢◌, inl, inr, ℕ, ◌+◌, ◌<◌, ◌≤◌, Bool, true, false, List, [], ◌∷◌, ◌++◌, length, take, Option, Some, None, refl, sym, ◌∙◌, ap, subst, arith, append_assoc, length-append}
-use Rattle.std.specs.Prelude.{◌↔◌, ◌⊎◌, IfSome}
+use Rattle.std.proofs.Common.{◌≡◌, ◌≢◌, inl, inr, ℕ, ◌+◌, ◌≤◌, Bool, true, false, List, [], ◌∷◌, ◌++◌, length, take, Option, Some, None, refl, sym, ◌∙◌, ap, subst, arith, append_assoc, length-append}
+use Rattle.std.specs.Global.{Global}
+use Rattle.std.specs.Prelude.{◌⊎◌, IfSome, String}
 use Rattle.std.proofs.lemmas.Bool.{both_ways, false≢true}
 use Rattle.std.proofs.lemmas.List.{append-nil}
 use Rattle.std.proofs.Math.Seq.{take-length, take-append-add}
 use Rattle.cf_bytes.specs.Files.{Named}
 use Rattle.cf_bytes.specs.Outside.{HasRisen, with_more}
-use Rattle.cf_bytes.specs.declared.hash.Hash32.{Hash32}
 use Rattle.cf_block.specs.declared.tx.Block.{Block}
 use Rattle.cf_chain.specs.Grow.{top_hash}
+use Rattle.cf_headers.specs.Store.{Chains}
 use Rattle.cf_run.specs.declared.outcome.End.{End}
 use Rattle.cf_run.specs.declared.outcome.End.TheVariants.{Synced as IsSynced, NoPeers as HasNoPeers, Tired as IsTired, Ended as HasEnded}
 use Rattle.cf_run.specs.declared.trace.TraceLine.{TraceLine}
-use Rattle.cf_run.specs.Run.{Followed, NobodyLeft}
+use Rattle.cf_run.specs.declared.outcome.Outcome.{Outcome}
+use Rattle.cf_run.specs.Names.{names_in}
+use Rattle.cf_run.specs.Run.{WasRun}
+use Rattle.cf_run.specs.Whole.{EndsWithin, GivesUp, IsOutcome, LeavesWires}
 use Rattle.cf_run.specs.Texts.{HasBegun, HasPut, HasPutBut, HasPutSo, HasPutSome, IsOver, joined}
 use Rattle.cf_run.specs.declared.texts.TextFail.{TextFail}
 use Rattle.cf_run.specs.declared.texts.TextFail.TheVariants.{Failed as HasFailed, NoMemory as LacksMemory}
 use Rattle.cf_place.specs.declared.place.PeerEnd.{PeerEnd}
-use Rattle.cf_place.specs.Standing.{EndsTell}
+use Rattle.cf_place.specs.Standing.{Greeting}
 use Rattle.cf_peer.specs.declared.mode.Mode.TheVariants.{Following}
 use Rattle.cf_peer.specs.Trail.{trail}
 use Rattle.cf_sync.specs.Fetching.{AreBytes, IsConnected, IsQuiet, RightlyIn, following}
@@ -26,16 +30,17 @@ use Rattle.cf_sync.specs.Putting.{ArePut, WerePut}
 use Rattle.cf_sync.proofs.Follows.{growing_never}
 use Rattle.cf_sync.proofs.LastText.{last_text}
 use Rattle.cf_wires.specs.Log.{Log, Told, Tells}
-use Rattle.cf_scan.specs.declared.history.Entry.{Entry}
+use Rattle.cf_wires.specs.Wires.{Made}
 use Rattle.cf_scan.specs.HistoryText.{history_text}
 use Rattle.cf_scan.specs.Scan.{scan_of}
 use Rattle.cf_answers.specs.declared.status.Status.{Status}
 use Rattle.cf_answers.specs.declared.status.Status.TheVariants.{Done, NoMemory, Usage, BadFile, FileFault, OutFault, NoPeers, Tired, Ended, LinkFault, NoNonce, NoHeight, NotThere, NotAddress}
 use Rattle.cf_loading.specs.Verdicts.{IsOfFile}
+use Rattle.cf_offline.specs.Reading.{CountsOut}
 use Rattle.cf_cli.specs.Following.{BegunTexts, CutShort, EndsBy, GivenUp, Grows, IsReplayedIn, IsReplayedOn, KeptLive, KeptOn, KeptOnOver, KeptOnTape, Stayed, TalliedOn, with_trace}
 use Rattle.cf_answers.specs.Statuses.{has_run, is_over, was_refused, was_unbegun}
-use Rattle.cf_cli.specs.Theorem.{AnswersTo, IsComplete, IsOfRun, IsWatchFile, IsWhole, IsWithin}
-use Rattle.cf_cli.proofs.Plays.{early_replayed, early_tallied, no_run, not_run, run_tallied, spent_tallied, tallied_early, unwritten_tallied}
+use Rattle.cf_cli.specs.Theorem.{AnswersTo, IsComplete, IsOfRun, IsWatchFile}
+use Rattle.cf_cli.proofs.Plays.{early_replayed, early_tallied, ended_as, no_run, not_run, run_tallied, spent_tallied, unwritten_tallied}
 use Rattle.cf_cli.proofs.Runs.{somebody_left}
 
 -- ---- its answers
@@ -46,6 +51,19 @@ over_by IsSynced ends status is = ap is_over is
 over_by HasNoPeers ends status is = ap is_over is.1
 over_by IsTired ends status is = ap is_over is
 over_by HasEnded ends status is = ap is_over is
+
+-- so its sink hasn't failed, or where it has it is to blame; where nothing is answered of it, it may have
+pub counts_fine : (status : Status) (old new : ℕ) → is_over status ≡ true → new ≡ old → CountsOut status old new
+counts_fine status old new over same = record { fault = λ is. absurd (false≢true (sym (ap is_over is) ∙ over)); fine = λ a b d. same }
+
+pub counts_risen : (old new : ℕ) → HasRisen old new → CountsOut OutFault old new
+counts_risen old new risen = record { fault = λ is. risen; fine = λ ne a b. absurd (ne refl) }
+
+pub counts_spent : (old new : ℕ) → CountsOut NoMemory old new
+counts_spent old new = record { fault = λ is. cc; fine = λ a b ne. absurd (ne refl) }
+
+pub counts_unrecorded : (old new : ℕ) → CountsOut FileFault old new
+counts_unrecorded old new = record { fault = λ is. cc; fine = λ a ne b. absurd (ne refl) }
 
 -- where somebody is left it is complete
 complete_by : (end : End) (ends : List PeerEnd) (status : Status) (recorded : Bool) → AnswersTo end ends status → end ≢ HasNoPeers → IsComplete status recorded
@@ -140,11 +158,10 @@ some_but_told None scripts before after but = tt
 some_but_told (Some log) scripts before after but = inr but
 
 -- whichever it was
-pub some_by_told : (fail : TextFail) (o : Option Log) (scripts : List (List ℕ)) (before after : Option (List ℕ))
-    → (fail ≡ LacksMemory → IfSome o (λ log. HasPutSo scripts log before after)) → (fail ≡ HasFailed → IfSome o (λ log. HasPutBut scripts log before after))
-    → IfSome o (λ log. HasPutSome scripts log before after)
-some_by_told LacksMemory o scripts before after so but = some_so_told o scripts before after (so refl)
-some_by_told HasFailed o scripts before after so but = some_but_told o scripts before after (but refl)
+pub some_by_told : {T : Type 0} (fail : TextFail) (told : T → Option (List ℕ)) (faults : T → ℕ) (scripts names : List (List ℕ)) (t : Told) (before after : T)
+    → GivesUp fail told faults scripts names t before after → IfSome t.log (λ log. HasPutSome scripts log (told before) (told after))
+some_by_told LacksMemory told faults scripts names t before after so = some_so_told t.log scripts (told before) (told after) so
+some_by_told HasFailed told faults scripts names t before after cut = some_but_told t.log scripts (told before) (told after) cut.put
 
 -- nothing was put over new wires
 new_put : (scripts : List (List ℕ)) (log : Log) (before : Option (List ℕ)) → log ≡ [] → HasPutSome scripts log before before
@@ -243,6 +260,7 @@ stayed_kept status recorded trace scripts names before after log s theorem = rec
   ran = λ over. s;
   begun = λ off. absurd (both_ways (is_over status) off (over_by s.end s.ends status s.answered));
   right = λ ne. (s.followed.asked.bytes, s.followed.asked.rightly);
+  run = λ ne. inr s.followed.run;
 }
 
 -- nothing of it was given up
@@ -257,86 +275,82 @@ over_given (Some log) status scripts names before after old new over = record {
 }
 
 -- all its texts were written, by what takes them
-pub stayed_told : (o : Option Log) (scripts : List (List ℕ)) (end : End) (height : ℕ) (tip : Hash32) (entries : List Entry) (lines : List TraceLine) (names : List (List ℕ))
-    (ends : List PeerEnd) (status : Status) (recorded trace : Bool) (first told before after : Option (List ℕ))
-    → IfSome o (λ log. Followed (following scripts) end height tip entries lines names log) → IfSome o (λ log. FollowTheorem scripts height tip entries log)
-    → IfSome o (λ log. EndsTell ends log) → AnswersTo end ends status → IfSome o (λ log. HasPut scripts log first told)
-    → ((texts : List (List ℕ)) → told ≡ with_more first (joined texts) → after ≡ with_more before (with_trace trace lines (joined texts)))
-    → IfSome o (λ log. KeptOn status recorded trace scripts names before after log)
-stayed_told None scripts end height tip entries lines names ends status recorded trace first told before after followed theorem stands answered put write = tt
-stayed_told (Some log) scripts end height tip entries lines names ends status recorded trace first told before after followed theorem stands answered put write =
+pub stayed_told : (log : Option Log) (counts : Chains → ℕ → Type 0) (scripts names : List (List ℕ)) (o : Outcome) (status : Status) (recorded trace : Bool) (first told before after : Option (List ℕ))
+    → IfSome log (IsOutcome counts (following scripts) names o) → IfSome log (λ l. FollowTheorem scripts o.height o.tip o.history l)
+    → AnswersTo o.end o.ends.items status → IfSome log (λ l. HasPut scripts l first told)
+    → ((texts : List (List ℕ)) → told ≡ with_more first (joined texts) → after ≡ with_more before (with_trace trace o.trace.items (joined texts)))
+    → IfSome log (λ l. KeptOn status recorded trace scripts names before after l)
+stayed_told None counts scripts names o status recorded trace first told before after is theorem answered put write = tt
+stayed_told (Some log) counts scripts names o status recorded trace first told before after is theorem answered put write =
     stayed_kept status recorded trace scripts names before after log (record {
-      end = end;
-      height = height;
-      tip = tip;
-      entries = entries;
-      lines = lines;
-      followed = followed;
-      ends = ends;
-      stands = stands;
+      end = o.end;
+      height = o.height;
+      tip = o.tip;
+      entries = o.history;
+      lines = o.trace.items;
+      followed = is.followed;
+      ends = o.ends.items;
+      stands = is.ends;
       answered = answered;
       texts = put.texts;
       puts = put.puts;
       written = write put.texts put.taken;
     }) theorem
 
--- it is over, but the sink has failed
-unwritten_kept : (recorded trace : Bool) (scripts : List (List ℕ)) (end : End) (height : ℕ) (tip : Hash32) (entries : List Entry) (lines : List TraceLine)
-    (names texts : List (List ℕ)) (before after : Option (List ℕ)) (log : Log)
-    → Followed (following scripts) end height tip entries lines names log → FollowTheorem scripts height tip entries log → ArePut scripts log texts
-    → HasBegun (with_trace trace lines (joined texts)) before after → KeptOn OutFault recorded trace scripts names before after log
-unwritten_kept recorded trace scripts end height tip entries lines names texts before after log followed theorem puts begun = record {
+-- it is over, but the sink has failed: what was written of it
+pub cut_told : (log : Option Log) (counts : Chains → ℕ → Type 0) (scripts names : List (List ℕ)) (o : Outcome) (trace : Bool) (first told before after : Option (List ℕ))
+    → IfSome log (IsOutcome counts (following scripts) names o) → IfSome log (λ l. HasPut scripts l first told)
+    → ((texts : List (List ℕ)) → told ≡ with_more first (joined texts) → HasBegun (with_trace trace o.trace.items (joined texts)) before after)
+    → IfSome log (λ l. CutShort trace scripts names before after l)
+cut_told None counts scripts names o trace first told before after is put begin = tt
+cut_told (Some log) counts scripts names o trace first told before after is put begin = record {
+  end = o.end;
+  height = o.height;
+  tip = o.tip;
+  entries = o.history;
+  lines = o.trace.items;
+  followed = is.followed;
+  texts = put.texts;
+  puts = put.puts;
+  begun = begin put.texts put.taken;
+}
+
+-- and what holds of it
+pub unwritten_told : (log : Option Log) (scripts names : List (List ℕ)) (o : Outcome) (recorded trace : Bool) (before after : Option (List ℕ))
+    → IfSome log (λ l. CutShort trace scripts names before after l) → IfSome log (λ l. FollowTheorem scripts o.height o.tip o.history l)
+    → IfSome log (λ l. KeptOn OutFault recorded trace scripts names before after l)
+unwritten_told None scripts names o recorded trace before after short theorem = tt
+unwritten_told (Some log) scripts names o recorded trace before after short theorem = record {
   last = λ p blocks first top grows told none quiet over. absurd (false≢true over);
   complete = λ p blocks first grows. tt;
   never = λ p blocks first grows ne. theorem.never p blocks first grows.apart grows.growing;
   ran = λ over. absurd (false≢true over);
-  begun = λ off. record { lines = lines; traced = inr (inr followed.traced); texts = texts; puts = inr puts; begun = begun };
-  right = λ ne. (followed.asked.bytes, followed.asked.rightly);
-}
-
-pub unwritten_told : (o : Option Log) (scripts : List (List ℕ)) (end : End) (height : ℕ) (tip : Hash32) (entries : List Entry) (lines : List TraceLine) (names : List (List ℕ))
-    (recorded trace : Bool) (first told before after : Option (List ℕ))
-    → IfSome o (λ log. Followed (following scripts) end height tip entries lines names log) → IfSome o (λ log. FollowTheorem scripts height tip entries log)
-    → IfSome o (λ log. HasPut scripts log first told)
-    → ((texts : List (List ℕ)) → told ≡ with_more first (joined texts) → HasBegun (with_trace trace lines (joined texts)) before after)
-    → IfSome o (λ log. KeptOn OutFault recorded trace scripts names before after log)
-unwritten_told None scripts end height tip entries lines names recorded trace first told before after followed theorem put begin = tt
-unwritten_told (Some log) scripts end height tip entries lines names recorded trace first told before after followed theorem put begin =
-    unwritten_kept recorded trace scripts end height tip entries lines names put.texts before after log followed theorem put.puts (begin put.texts put.taken)
-
--- with what was written of it
-pub cut_told : (o : Option Log) (scripts : List (List ℕ)) (end : End) (height : ℕ) (tip : Hash32) (entries : List Entry) (lines : List TraceLine) (names : List (List ℕ))
-    (trace : Bool) (first told before after : Option (List ℕ))
-    → IfSome o (λ log. Followed (following scripts) end height tip entries lines names log) → IfSome o (λ log. HasPut scripts log first told)
-    → ((texts : List (List ℕ)) → told ≡ with_more first (joined texts) → HasBegun (with_trace trace lines (joined texts)) before after)
-    → IfSome o (λ log. CutShort trace scripts names before after log)
-cut_told None scripts end height tip entries lines names trace first told before after followed put begin = tt
-cut_told (Some log) scripts end height tip entries lines names trace first told before after followed put begin = record {
-  end = end;
-  height = height;
-  tip = tip;
-  entries = entries;
-  lines = lines;
-  followed = followed;
-  texts = put.texts;
-  puts = put.puts;
-  begun = begin put.texts put.taken;
+  begun = λ off. record {
+    lines = short.lines;
+    traced = inr (inr short.followed.traced);
+    texts = short.texts;
+    puts = inr short.puts;
+    begun = short.begun;
+  };
+  right = λ ne. (short.followed.asked.bytes, short.followed.asked.rightly);
+  run = λ ne. inr short.followed.run;
 }
 
 -- ---- a run that failed
 
 -- a text could not be put
 pub failed_told : (o : Option Log) (scripts names : List (List ℕ)) (recorded : Bool) (before after : Option (List ℕ))
-    → IfSome o (λ log. HasPutSome scripts log before after) → IfSome o (λ log. AreBytes log × RightlyIn Following log)
+    → IfSome o (λ log. HasPutBut scripts log before after) → IfSome o (λ log. AreBytes log × RightlyIn Following log) → IfSome o (WasRun (following scripts) names)
     → IfSome o (λ log. KeptOn OutFault recorded false scripts names before after log)
-failed_told None scripts names recorded before after put right = tt
-failed_told (Some log) scripts names recorded before after put right = record {
+failed_told None scripts names recorded before after but right run = tt
+failed_told (Some log) scripts names recorded before after but right run = record {
   last = λ p blocks first top grows told none quiet over. absurd (false≢true over);
   complete = λ p blocks first grows. tt;
   never = λ p blocks first grows ne. growing_never log p blocks first right.0 right.1 grows.apart grows.growing;
   ran = λ over. absurd (false≢true over);
-  begun = λ off. some_begun scripts before after log put;
+  begun = λ off. some_begun scripts before after log (inr but);
   right = λ ne. right;
+  run = λ ne. inr run;
 }
 
 pub failed_given : (o : Option Log) (scripts names : List (List ℕ)) (before after : Option (List ℕ)) (old new : ℕ)
@@ -359,6 +373,7 @@ spent_kept recorded trace scripts names before after log begun = record {
   ran = λ over. absurd (false≢true over);
   begun = λ off. begun;
   right = λ ne. absurd (ne refl);
+  run = λ ne. absurd (ne refl);
 }
 
 -- with what was put until then
@@ -491,6 +506,7 @@ unrecorded_on (Some log) status recorded scripts names before after enough on ke
   ran = λ over. absurd (false≢true over);
   begun = λ off. kept_begun status recorded false scripts names before after log (kept recorded);
   right = λ ne. (kept recorded).right enough;
+  run = λ ne. (kept recorded).run enough;
 }
 
 -- or no memory was found for it
@@ -511,6 +527,7 @@ early_kept_on status recorded trace scripts names b log off none = subst (λ (l 
   ran = λ over. absurd (both_ways (is_over status) (not_over status off) over);
   begun = λ is. record { lines = []; traced = inr (inl refl); texts = []; puts = inl refl; begun = nothing_begun (with_trace trace [] []) b };
   right = λ ne. (tt, tt);
+  run = λ ne. inl refl;
 })
 
 pub early_over_on : (status : Status) (recorded trace : Bool) (files : Option Named) (watch : List ℕ) (names : List (List ℕ)) (b : Option (List ℕ)) (log : Log) → IsOfFile status → log ≡ []
@@ -572,13 +589,20 @@ early_tallied_on status turns names t is fresh = record {
   done = λ same. absurd (not_run status Done (no_run status is) refl same);
 }
 
--- memory was wanting once they were used
-pub spent_tallied_on : (turns names : ℕ) (was now : Told) → IsWithin turns names now.tally → now.finished ≡ true → TalliedOn NoMemory turns names was now
-spent_tallied_on turns names was now within finished = record { tallied = spent_tallied turns names was now within finished; done = λ same. cc }
+-- once they were used memory was wanting, or the record could not be written
+pub spent_tallied_on : {W : Type 0} {told : W → Told} {faults : W → ℕ} {script : W → Option Made} {keeps : W → Bool} {words : Greeting} {names : List (List ℕ)} {turns : ℕ} {before after : W}
+    → (status : Status) (was : Told) → has_run status ≡ false → IsOfRun status → LeavesWires told faults script keeps words names turns before after
+    → TalliedOn status turns (length names) was (told after)
+spent_tallied_on status was off answers wires = record {
+  tallied = spent_tallied status was off answers wires;
+  done = λ same. absurd (not_run status Done off refl same);
+}
 
 -- a text could not be put
-pub unwritten_tallied_on : (turns names : ℕ) (was now : Told) → IsWithin turns names now.tally → IsWhole names now → TalliedOn OutFault turns names was now
-unwritten_tallied_on turns names was now within whole = record { tallied = unwritten_tallied turns names was now within whole; done = λ same. cc }
+pub unwritten_tallied_on : {W : Type 0} {told : W → Told} {faults : W → ℕ} {script : W → Option Made} {keeps : W → Bool} {words : Greeting} {names : List (List ℕ)} {turns : ℕ} {before after : W}
+    → (was : Told) → LeavesWires told faults script keeps words names turns before after → (told after).tally.dials ≡ length names
+    → TalliedOn OutFault turns (length names) was (told after)
+unwritten_tallied_on was wires all = record { tallied = unwritten_tallied was wires all; done = λ same. cc }
 
 -- the run was made over wires that keep a log since then
 pub tallied_from : (status : Status) (turns names : ℕ) (was first now : Told) → now.finished ≡ true → TalliedOn status turns names first now → TalliedOn status turns names was now
@@ -597,27 +621,14 @@ tallied_from status turns names was first now finished so = record {
   done = so.done;
 }
 
--- and failed after it ended so
-pub failed_tallied_on : (status other : Status) (turns names : ℕ) (was first now : Told) → has_run other ≡ false → IsOfRun other → now.finished ≡ true → TalliedOn status turns names first now
-    → TalliedOn other turns names was now
-failed_tallied_on status other turns names was first now off answers finished so = record {
-  tallied = tallied_early other turns names was now off answers so.tallied.within (inr finished);
-  done = λ same. absurd (not_run other Done off refl same);
-}
-
-done_by : (end : End) (ends : List PeerEnd) (status : Status) → AnswersTo end ends status → status ≡ Done → end ≡ IsSynced
-done_by IsSynced ends status is done = refl
-done_by HasNoPeers ends status is done = let other : status ≡ NoPeers is.0 = is.1 in cc
-done_by IsTired ends status is done = cc
-done_by HasEnded ends status is done = cc
-
 -- the run was made, and ended so
-pub run_tallied_on : (end : End) (ends : List PeerEnd) (status : Status) (turns names : ℕ) (was now : Told) → AnswersTo end ends status → IsWithin turns names now.tally → IsWhole names now
-    → (end ≡ HasNoPeers) ↔ NobodyLeft now.tally → (end ≡ IsSynced → IsOver turns now.tally) → (end ≡ IsTired → now.tally.taken ≡ turns) → (end ≡ HasEnded → now.tally.ended ≡ 1)
-    → (end ≡ HasEnded → now.tally.taken < turns) → TalliedOn status turns names was now
-run_tallied_on end ends status turns names was now is within whole nobody over tired ended early = record {
-  tallied = run_tallied end ends status turns names was now is within whole nobody tired ended early;
-  done = λ same. over (done_by end ends status is same);
+pub run_tallied_on : {W : Type 0} {told : W → Told} {faults : W → ℕ} {script : W → Option Made} {keeps : W → Bool} {words : Greeting} {turns : ℕ} {before after : W}
+    → (names : List (String Global)) (end : End) (ends : List PeerEnd) (status : Status) (was : Told) → AnswersTo end ends status → IsOfRun status
+    → LeavesWires told faults script keeps words (names_in names) turns before after → EndsWithin end (length names) turns (told after).tally
+    → (end ≡ IsSynced → IsOver turns (told after).tally) → TalliedOn status turns (length (names_in names)) was (told after)
+run_tallied_on names end ends status was is answers wires within over = record {
+  tallied = run_tallied names end ends status was is answers wires within;
+  done = λ same. over (ended_as end IsSynced ends status Done is refl same);
 }
 
 early_on_tape : (status : Status) (trace : Bool) (files : Option Named) (watch : List ℕ) (names : List (List ℕ)) (b : Option (List ℕ)) (log : Log) → IsOfFile status → log ≡ []

@@ -8,7 +8,7 @@ use Rattle.cf_wires.specs.Memory.{log_of, told_of}
 use Rattle.cf_wires.specs.declared.memory.MemoryWires.{MemoryWires}
 use Rattle.cf_played.specs.Told.{log_of as played_log}
 use Rattle.cf_played.specs.declared.played.Played.{Played}
-use Rattle.cf_serve.specs.Links.{LinkTold}
+use Rattle.cf_link.specs.Links.{LinkTold}
 use Rattle.cf_input.specs.declared.words.Command.{Command}
 use Rattle.cf_input.specs.declared.words.Command.TheVariants.{Replay, Sync, Follow, Scan, Filter, Address, Prove, Check, Serve, Make, Demo}
 use Rattle.cf_input.specs.SessionFile.{session_of}

@@ -10,7 +10,7 @@ use Rattle.cf_run.specs.declared.outcome.End.{End}
 use Rattle.cf_place.specs.declared.place.PeerEnd.{PeerEnd}
 use Rattle.cf_run.specs.declared.trace.TraceLine.{TraceLine}
 use Rattle.cf_place.specs.Standing.{EndsTell}
-use Rattle.cf_run.specs.Run.{Followed, IsTraceOf}
+use Rattle.cf_run.specs.Run.{RanTo, IsTraceOf, WasRun}
 use Rattle.cf_run.specs.Texts.{HasBegun, HasPut, HasPutBut, HasPutSome, IsOver, joined}
 use Rattle.cf_sync.specs.Fetching.{AreBytes, IsQuiet, RightlyIn, following}
 use Rattle.cf_sync.specs.Growing.{IsGrowing, IsTold, OthersShowNone}
@@ -41,7 +41,7 @@ pub record Stayed (status : Status) (trace : Bool) (scripts names : List (List �
   pub tip : Hash32
   pub entries : List Entry
   pub lines : List TraceLine
-  pub followed : Followed (following scripts) end height tip entries lines names log
+  pub followed : RanTo (following scripts) end height tip entries lines names log
   pub ends : List PeerEnd
   pub stands : EndsTell ends log
   pub answered : AnswersTo end ends status
@@ -56,7 +56,7 @@ pub record CutShort (trace : Bool) (scripts names : List (List ℕ)) (before aft
   pub tip : Hash32
   pub entries : List Entry
   pub lines : List TraceLine
-  pub followed : Followed (following scripts) end height tip entries lines names log
+  pub followed : RanTo (following scripts) end height tip entries lines names log
   pub texts : List (List ℕ)
   pub puts : ArePut scripts log texts
   pub begun : HasBegun (with_trace trace lines (joined texts)) before after
@@ -97,7 +97,8 @@ pub record EndsBy (trace : Bool) (scripts : List (List ℕ)) (text : List ℕ) (
 -- The follow theorem for the program. Whatever peers send: where the chain of one of them grows as it answers, no other connected peer has shown another
 -- chain as long as the one that it told of last, and nothing is open when the run is over, then what was written last is exactly the history that a plain
 -- scan of every block of that chain gives for the watched scripts, with its tip; no answer comes but for the end of the deliveries, a sink that fails, want of
--- memory, or a record that can't be written; and that peer is never closed, of which only the answer NoMemory says nothing.
+-- memory, or a record that can't be written; and that peer is never closed, of which only the answer NoMemory says nothing. Of whatever is answered else the
+-- run went by the rules as far as it came.
 pub record KeptOn (status : Status) (recorded trace : Bool) (scripts names : List (List ℕ)) (before after : Option (List ℕ)) (log : Log) : Type 0 where
   pub last : (p : ℕ) (blocks : List Block) (first top : ℕ) → Grows log p blocks first → IsTold blocks first (trail log p) top
       → OthersShowNone log p (take top blocks) → IsQuiet log → is_over status ≡ true
@@ -107,6 +108,7 @@ pub record KeptOn (status : Status) (recorded trace : Bool) (scripts names : Lis
   pub ran : is_over status ≡ true → Stayed status trace scripts names before after log
   pub begun : is_over status ≡ false → BegunTexts trace scripts before after log
   pub right : status ≢ NoMemory → AreBytes log × RightlyIn Following log
+  pub run : status ≢ NoMemory → (log ≡ []) ⊎ WasRun (following scripts) names log
 
 -- the same with the scripts of the watch file, which was there, and was read before anything passed
 pub record KeptOnOver (status : Status) (recorded trace : Bool) (files : Option Named) (watch : List ℕ) (names : List (List ℕ)) (before after : Option (List ℕ)) (log : Log) : Type 0 where

@@ -1,29 +1,30 @@
 -- statement: what is promised of each thing that a run is handed.
-use Rattle.std.specs.Prelude.{◌≡◌, ℕ, ℤ, Bool, false, List, [], Option, IfSome}
+use Rattle.std.specs.Prelude.{◌≡◌, ℕ, ℤ, Bool, true, false, List, [], ◌∷◌, Option, IfSome}
+use Rattle.std.specs.FinMap as finite
 use Rattle.cf_bytes.specs.Files.{Named, Reads, Opens, Parts, Writes}
 use Rattle.cf_bytes.specs.Outside.{HasRisen}
-use Rattle.cf_run.specs.Run.{HasFailed}
-use Rattle.cf_run.specs.Versions.{HasWords, IsOfWords}
-use Rattle.cf_wires.specs.Log.{Told, Tells}
+use Rattle.cf_place.specs.Standing.{Greeting}
+use Rattle.cf_run.specs.Run.{HasDialled, HasFailed}
+use Rattle.cf_run.specs.Versions.{HasGreeting, IsOfGreeting}
+use Rattle.cf_wires.specs.Log.{Log, Told}
 use Rattle.cf_wires.specs.Memory.{log_of, failing_of, finished_of, told_of}
 use Rattle.cf_wires.specs.declared.memory.MemoryWires.{MemoryWires}
 use Rattle.cf_played.specs.Told.{log_of as played_log, peers_of, finished_of as has_finished}
 use Rattle.cf_played.specs.declared.played.Played.{Played}
 use Rattle.cf_input.specs.declared.words.Command.{Command}
 use Rattle.cf_answers.specs.declared.status.Status.{Status}
-use Rattle.cf_answers.specs.declared.status.Status.TheVariants.{FileFault, OutFault, LinkFault}
-use Rattle.cf_cli.specs.Asking.{AreAsked}
+use Rattle.cf_answers.specs.declared.status.Status.TheVariants.{FileFault, LinkFault}
+use Rattle.cf_answers.specs.Statuses.{was_unbegun}
+use Rattle.cf_loading.specs.Asking.{Whole}
+use Rattle.cf_loading.specs.Verdicts.{IsJudged, watch_verdict}
+use Rattle.cf_offline.specs.Reading.{CountsOut}
+use Rattle.cf_cli.specs.Asking.{AreAsked, AsksFor}
 use Rattle.cf_cli.specs.Demo.{may_show}
-use Rattle.cf_cli.specs.Recording.{is_recorded, may_write}
+use Rattle.cf_cli.specs.Recording.{Records, is_recorded, may_write}
 use Rattle.cf_cli.specs.Serving.{may_serve}
 use Rattle.cf_cli.specs.Statuses.{may_dial, may_play, may_say}
 
 -- ---- what is handed in: the wires, the tape and the played peers are new
-
--- nothing has passed the wires, and they aren't finished
-pub record AreNewWires (told : Told) : Type 0 where
-  pub log : Tells [] told
-  pub finished : told.finished ≡ false
 
 -- nothing has passed the tape, no call of it is to fail, and it isn't finished
 pub record IsNewTape (tape : MemoryWires) : Type 0 where
@@ -36,6 +37,27 @@ pub record IsNewPlayed (played : Played) : Type 0 where
   pub log : played_log played ≡ []
   pub peers : peers_of played ≡ []
   pub finished : has_finished played ≡ false
+
+-- ---- what becomes of the files and the wires of `sync` and of `follow`
+
+-- The files: the watch file is judged first, it alone is read, what becomes of them goes by the answer and by the log, and where they are to blame their count
+-- of faults has risen.
+pub record RunsFiles {F : Type 0} (files : F → Option Named) (faults : F → ℕ) (reads : Reads F) (opens : Opens F) (parts : Parts F) (writes : Writes F)
+    (watch : List ℕ) (file : Option (List ℕ)) (log : Option Log) (status : Status) (before after : F) : Type 0 where
+  pub judged : IfSome (files before) (λ m. IsJudged (watch_verdict (finite.get m watch)) status)
+  pub asked : AsksFor reads opens parts writes (Whole watch ∷ []) file before after
+  pub records : Records status file log (files before) (files after)
+  pub fault : status ≡ FileFault → HasRisen (faults before) (faults after)
+
+-- The wires: the names were dialled in order, each version that was sent tells these words, where a call has failed their count of faults has risen, they keep
+-- their log no more than before unless it is to be recorded, and what they tell stays where no run was begun.
+pub record RunsWires {W : Type 0} (told : W → Told) (keeps : W → Bool) (faults : W → ℕ) (words : Greeting) (names : List (List ℕ)) (recorded : Bool)
+    (status : Status) (before after : W) : Type 0 where
+  pub dialled : HasDialled names (told after)
+  pub versions : HasGreeting words (told after)
+  pub failures : IfSome (told after).log (λ log. HasFailed log → HasRisen (faults before) (faults after))
+  pub unkept : recorded ≡ false → keeps after ≡ keeps before
+  pub undialled : was_unbegun status recorded ≡ true → told after ≡ told before
 
 -- ---- what becomes of it, by the command that the words ask for, and its answer
 
@@ -51,14 +73,14 @@ pub record UsesFiles {F : Type 0} (files : F → Option Named) (faults : F → �
 -- stays unless the command may dial, and they keep their log no more than before unless it asks for a record.
 pub record UsesWires {W : Type 0} (told : W → Told) (keeps : W → Bool) (faults : W → ℕ) (moment : ℤ) (nonce : ℕ)
     (command : Option Command) (status : Status) (before after : W) : Type 0 where
-  pub versions : HasWords (record { moment = moment; number = nonce }) (told after)
+  pub versions : HasGreeting (record { moment = moment; number = nonce }) (told after)
   pub failures : IfSome (told after).log (λ log. HasFailed log → HasRisen (faults before) (faults after))
   pub undialled : may_dial command status ≡ false → told after ≡ told before
   pub unkept : is_recorded command ≡ false → keeps after ≡ keeps before
 
 -- the tape: each version that was sent tells the moment and the random number, and what it tells stays unless the command may play it
 pub record UsesTape (moment : ℤ) (nonce : ℕ) (command : Option Command) (status : Status) (before after : MemoryWires) : Type 0 where
-  pub versions : IsOfWords (record { moment = moment; number = nonce }) (log_of after)
+  pub versions : IsOfGreeting (record { moment = moment; number = nonce }) (log_of after)
   pub unplayed : may_play command status ≡ false → told_of after ≡ told_of before
 
 -- the played peers: they stay unless the command may show them
@@ -70,7 +92,7 @@ pub record UsesLink {L : Type 0} (faults : L → ℕ) (command : Option Command)
   pub unserved : may_serve command status ≡ false → after ≡ before
   pub fault : status ≡ LinkFault → HasRisen (faults before) (faults after)
 
--- the sink: nothing is written to it unless the command may say something, and where it is to blame its count of faults has risen
+-- the sink: nothing is written to it unless the command may say something, and how often it has failed is told by the answer
 pub record UsesOut {O : Type 0} (written : O → Option (List ℕ)) (faults : O → ℕ) (command : Option Command) (status : Status) (before after : O) : Type 0 where
   pub unwritten : may_say command status ≡ false → written after ≡ written before
-  pub fault : status ≡ OutFault → HasRisen (faults before) (faults after)
+  pub counts : CountsOut status (faults before) (faults after)

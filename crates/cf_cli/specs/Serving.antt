@@ -2,18 +2,18 @@
 use Rattle.std.specs.Prelude.{◌≡◌, ℕ, ℤ, ◌+◌, ◌≤◌, ◌⊎◌, Bool, true, false, not, List, [], ◌∷◌, Option, Some, IfSome, Result, Ok, Err}
 use Rattle.std.specs.FinMap as finite
 use Rattle.cf_bytes.specs.Files.{Named}
-use Rattle.cf_conn.specs.Told.{Told}
+use Rattle.cf_conn.specs.Told.{ConnTold}
 use Rattle.cf_block.specs.declared.tx.Block.{Block}
 use Rattle.cf_chain.specs.Good.{IsGoodChain}
 use Rattle.cf_walk.specs.Files.{blocks_at}
 use Rattle.cf_input.specs.declared.words.Command.{Command}
 use Rattle.cf_input.specs.declared.words.Command.TheVariants.{Serve}
-use Rattle.cf_serve.specs.Links.{LinkTold, longer_by}
-use Rattle.cf_serve.specs.Serving.{Serves}
-use Rattle.cf_serve.specs.declared.fail.ServeFail.{ServeFail}
-use Rattle.cf_serve.specs.declared.fail.ServeFail.TheVariants.{Failed, NoMemory as OutOfMemory}
-use Rattle.cf_service.specs.Machine.{IsServedBy}
-use Rattle.cf_service.specs.Growing.{IsServedWhileGrowing}
+use Rattle.cf_link.specs.Links.{LinkTold, longer_by}
+use Rattle.cf_link.specs.Serving.{Serves}
+use Rattle.cf_link.specs.declared.fail.ServeFail.{ServeFail}
+use Rattle.cf_link.specs.declared.fail.ServeFail.TheVariants.{Failed, NoMemory as OutOfMemory}
+use Rattle.cf_grow.specs.Service.{IsServedBy}
+use Rattle.cf_grow.specs.GrowingService.{IsServedWhileGrowing}
 use Rattle.cf_answers.specs.declared.status.Status.{Status}
 use Rattle.cf_answers.specs.declared.status.Status.TheVariants.{Done, NoMemory, BadFile, FileFault, LinkFault}
 use Rattle.cf_answers.specs.Statuses.{was_refused}
@@ -23,20 +23,20 @@ abbrev pub listening : LinkTold → List ℕ → LinkTold
 listening was address = record was { addresses = longer_by was.addresses (address ∷ []) }
 
 -- how a server serves each connection: by the chain that was loaded, or by one that grows
-abbrev pub served_by : Bool → List Block → ℤ → ℕ → Told → ℕ → Told → Type 0
+abbrev pub served_by : Bool → List Block → ℤ → ℕ → ConnTold → ℕ → ConnTold → Type 0
 served_by false blocks moment nonce = IsServedBy (record { blocks = blocks; moment = moment; nonce = nonce })
 served_by true blocks moment nonce = IsServedWhileGrowing (record { moment = moment; nonce = nonce })
 
 -- It listened at the address. Then connections were accepted, at most so many, and each was given back, in the order of accepting, served so.
-abbrev pub ServesAt : (Told → ℕ → Told → Type 0) → List ℕ → ℕ → LinkTold → LinkTold → Type 0
+abbrev pub ServesAt : (ConnTold → ℕ → ConnTold → Type 0) → List ℕ → ℕ → LinkTold → LinkTold → Type 0
 ServesAt served address most was now = Serves served (listening was address) now × (now.accepted ≤ was.accepted + most)
 
 -- the same, or nothing was done with the link
-abbrev pub MayServe : (Told → ℕ → Told → Type 0) → List ℕ → ℕ → LinkTold → LinkTold → Type 0
+abbrev pub MayServe : (ConnTold → ℕ → ConnTold → Type 0) → List ℕ → ℕ → LinkTold → LinkTold → Type 0
 MayServe served address most was now = (now ≡ was) ⊎ ServesAt served address most was now
 
 -- what is done to the link once the chain is loaded; Done comes once as many connections were served as were asked for
-abbrev pub ServesChain : Status → (Told → ℕ → Told → Type 0) → List ℕ → ℕ → LinkTold → LinkTold → Type 0
+abbrev pub ServesChain : Status → (ConnTold → ℕ → ConnTold → Type 0) → List ℕ → ℕ → LinkTold → LinkTold → Type 0
 ServesChain Done served address count was now = ServesAt served address count was now × (now.accepted ≡ was.accepted + count)
 ServesChain LinkFault served address count was now = MayServe served address count was now
 ServesChain NoMemory served address count was now = MayServe served address count was now

@@ -13,7 +13,7 @@ use Rattle.cf_run.specs.declared.outcome.End.TheVariants.{Synced as IsSynced, No
 use Rattle.cf_place.specs.declared.place.PeerEnd.{PeerEnd}
 use Rattle.cf_run.specs.declared.trace.TraceLine.{TraceLine}
 use Rattle.cf_place.specs.Standing.{EndsTell}
-use Rattle.cf_run.specs.Run.{Followed, NobodyLeft}
+use Rattle.cf_run.specs.Run.{RanTo, NobodyLeft}
 use Rattle.cf_sync.specs.Fetching.{IsQuiet, once}
 use Rattle.cf_sync.specs.Honesty.{IsHonest, ShowsNoOther, IsNeverClosed}
 use Rattle.cf_sync.specs.Sync.{IsHashed}
@@ -50,7 +50,7 @@ pub record Ran (status : Status) (trace : Bool) (scripts names : List (List ℕ)
   pub tip : Hash32
   pub entries : List Entry
   pub lines : List TraceLine
-  pub followed : Followed (once scripts) end height tip entries lines names log
+  pub followed : RanTo (once scripts) end height tip entries lines names log
   pub answered : IsAnswerOf end status before after (run_text trace lines end entries height tip)
   pub stands : TellsEnds status log
 
@@ -61,7 +61,7 @@ pub record WasFollowed (scripts names : List (List ℕ)) (log : Log) : Type 0 wh
   pub tip : Hash32
   pub entries : List Entry
   pub lines : List TraceLine
-  pub followed : Followed (once scripts) end height tip entries lines names log
+  pub followed : RanTo (once scripts) end height tip entries lines names log
 
 -- where the files tell: the watch file is there, and these are its scripts
 abbrev pub IsWatchFile : Option Named → List ℕ → List (List ℕ) → Type 0
@@ -94,7 +94,7 @@ pub record Serves (log : Log) (p : ℕ) (blocks : List Block) : Type 0 where
 -- connected peer has shown another chain as long, a run that answers Done has written exactly the history that a plain scan of every block of
 -- that chain gives for the watched scripts, with its tip; it answers Done as soon as no request is open, unless the sink fails, memory is
 -- wanting, or the record that was asked for can't be written; and it never closes that peer, of which only the answer NoMemory says nothing.
-pub record Kept (status : Status) (recorded trace : Bool) (scripts names : List (List ℕ)) (before after : Option (List ℕ)) (log : Log) : Type 0 where
+pub record KeptOnce (status : Status) (recorded trace : Bool) (scripts names : List (List ℕ)) (before after : Option (List ℕ)) (log : Log) : Type 0 where
   pub writes : (p : ℕ) (blocks : List Block) → Serves log p blocks → ShowsNoOther log blocks → status ≡ Done → trace ≡ false
       → after ≡ with_more before (history_text (scan_of blocks scripts) (length blocks) (tip_hash (headers_of blocks)))
   pub answers : (p : ℕ) (blocks : List Block) → Serves log p blocks → IsQuiet log → Settles status recorded
@@ -108,7 +108,7 @@ pub record KeptOver (status : Status) (recorded trace : Bool) (files : Option Na
   pub scripts : List (List ℕ)
   pub watched : has_run status ≡ true → IsWatchFile files watch scripts
   pub unwatched : (log ≡ []) ⊎ IsWatchFile files watch scripts
-  pub kept : Kept status recorded trace scripts names before after log
+  pub kept : KeptOnce status recorded trace scripts names before after log
 
 -- an answer that comes only where a peer is connected
 abbrev pub has_somebody : Status → Bool

@@ -1,6 +1,6 @@
 //! The client over played peers.
+ghost use Rattle.cf_offline.specs.Reading.{CountsOut};
 ghost use Rattle.std.specs.Prelude.{◌≡◌, ◌≢◌, ◌≤◌, ◌++◌, ℕ, [], false, IfErr, IfOk, OnOk, codes, string_bytes};
-ghost use Rattle.cf_bytes.specs.Outside.{HasRisen};
 ghost use Rattle.cf_chain.specs.Good.{max_height};
 ghost use Rattle.cf_demo.specs.Demo.{IsDemo, IsSession, IsUnmade, IsUnplayed};
 ghost use Rattle.cf_wires.specs.Log.{Log};
@@ -158,7 +158,7 @@ pub(crate) fn demo<R: Wait + Threads + Sync + Copy + Drop + Send + 'static, K: S
     ensures demoed { IsDemoed result seed blocks (O.written out.old) (O.written out.new) (log_of played.new) }
     ensures judged { IsJudged no_file result }
     ensures unwritten { has_run result ≡ false → O.written out.new ≡ O.written out.old }
-    ensures out_fault { result ≡ Status.OutFault → HasRisen (O.faults out.old) (O.faults out.new) }
+    ensures counts { CountsOut result (O.faults out.old) (O.faults out.new) }
 {
     if blocks == 0 || blocks > MOST_PLAYED {
         return Status::NoMemory;

@@ -4,14 +4,16 @@ ghost use Rattle.cf_bytes.specs.Files.{IsAtMostWritten};
 ghost use Rattle.cf_bytes.specs.Outside.{HasRisen};
 ghost use Rattle.cf_run.specs.Names.{names_in};
 ghost use Rattle.cf_run.specs.Run.{HasDialled, HasFailed};
-ghost use Rattle.cf_run.specs.Versions.{HasWords};
+ghost use Rattle.cf_run.specs.Versions.{HasGreeting};
+ghost use Rattle.cf_run.specs.Whole.{LeavesWires};
+ghost use Rattle.cf_offline.specs.Reading.{CountsOut};
 ghost use Rattle.cf_wires.specs.Log.{Tells};
 ghost use Rattle.cf_cli.specs.Ends.{AreEndsAfter, AreEndsOver};
 ghost use Rattle.cf_cli.specs.Following.{CutShort, GivenUp, KeptOn, TalliedOn, with_trace};
 ghost use Rattle.cf_cli.specs.Recording.{Records};
 ghost use Rattle.cf_answers.specs.Statuses.{has_run, was_refused, was_unbegun};
 
-use crate::once::status_of;
+use crate::once::{ends_of, status_of};
 use crate::recording::{keep_where, write_record};
 use cf_answers::{Status, put_trace};
 use cf_bytes::{Files, NoMemory, Refused, Sink, put_all};
@@ -19,7 +21,7 @@ use cf_headers::{HeaderStore, Tree};
 use cf_input::Word;
 use cf_match::Matcher;
 use cf_place::PeerEnd;
-use cf_run::{Kept, Live, Outcome, TextFail, follow_over};
+use cf_run::{KeptTexts, Live, Outcome, TextFail, follow_over};
 use cf_scan::Watch;
 use cf_wires::Wires;
 use std::alloc::Global;
@@ -47,14 +49,9 @@ fn follow_live<W: Wires, H: HeaderStore + Drop, M: Matcher + Drop, O: Sink>(
     ensures given_up { IfSome (W.told wires.new).log (λ log. GivenUp result watch (names_in names.now)
         (O.written out.old) (O.written out.new) (O.faults out.old) (O.faults out.new) log) }
     ensures tallied { TalliedOn result turns (length (names_in names.now)) (W.told wires.old) (W.told wires.new) }
-    ensures versions { HasWords (record { moment = moment; number = nonce }) (W.told wires.new) }
-    ensures dialled { HasDialled (names_in names.now) (W.told wires.new) }
-    ensures failures { IfSome (W.told wires.new).log
-        (λ log. HasFailed log → HasRisen (W.faults wires.old) (W.faults wires.new)) }
-    ensures keeps { W.keeps wires.new ≡ W.keeps wires.old }
-    ensures finished { (W.told wires.new).finished ≡ true }
-    ensures logged { IsSome (W.told wires.old).log → IsSome (W.told wires.new).log }
-    ensures out_fault { result ≡ Status.OutFault → HasRisen (O.faults out.old) (O.faults out.new) }
+    ensures wires { LeavesWires W.told W.faults W.script W.keeps (record { moment = moment; number = nonce })
+        (names_in names.now) turns wires.old wires.new }
+    ensures counts { CountsOut result (O.faults out.old) (O.faults out.new) }
     ensures unrefused { was_refused result ≡ false }
     ensures ends { AreEndsOver result false (W.told wires.new).log ends.old.items ends.new.items }
 {
@@ -63,7 +60,7 @@ fn follow_live<W: Wires, H: HeaderStore + Drop, M: Matcher + Drop, O: Sink>(
         alloc, wires, names, watch, store, matcher, moment, nonce, turns, &mut texts,
     ) {
         Ok(outcome) => {
-            let Ok(stands) = outcome.ends.as_slice().to_vec(alloc) else {
+            let Ok(stands) = ends_of(alloc, &outcome) else {
                 return Status::NoMemory;
             };
             *ends = stands;
@@ -101,14 +98,14 @@ pub(crate) fn follow_and_record<F: Files, W: Wires, M: Matcher + Drop, O: Sink>(
     ensures given_up { IfSome (W.told wires.new).log (λ log. GivenUp result watch (names_in names.now)
         (O.written out.old) (O.written out.new) (O.faults out.old) (O.faults out.new) log) }
     ensures tallied { TalliedOn result turns (length (names_in names.now)) (W.told wires.old) (W.told wires.new) }
-    ensures versions { HasWords (record { moment = moment; number = nonce }) (W.told wires.new) }
+    ensures versions { HasGreeting (record { moment = moment; number = nonce }) (W.told wires.new) }
     ensures dialled { HasDialled (names_in names.now) (W.told wires.new) }
     ensures failures { IfSome (W.told wires.new).log
         (λ log. HasFailed log → HasRisen (W.faults wires.old) (W.faults wires.new)) }
     ensures unkept { is_some log_file.now ≡ false → W.keeps wires.new ≡ W.keeps wires.old }
     ensures records { Records result log_file.now (W.told wires.new).log (F.files files.old) (F.files files.new) }
     ensures file_fault { result ≡ Status.FileFault → HasRisen (F.faults files.old) (F.faults files.new) }
-    ensures out_fault { result ≡ Status.OutFault → HasRisen (O.faults out.old) (O.faults out.new) }
+    ensures counts { CountsOut result (O.faults out.old) (O.faults out.new) }
     ensures begun { was_unbegun result (is_some log_file.now) ≡ false }
     ensures written { IsAtMostWritten F.writes log_file.now files.old files.new }
     ensures ends { AreEndsOver result (is_some log_file.now) (W.told wires.new).log ends.old.items ends.new.items }
@@ -170,10 +167,10 @@ pub(crate) fn follow_on_tape<W: Wires, M: Matcher + Drop, O: Sink>(
     ensures refused { result ≡ Status.OutFault → IfSome (W.told wires.new).log
         (λ log. CutShort trace watch (names_in names.now) (O.written out.old) (O.written out.new) log) }
     ensures tallied { TalliedOn result turns (length (names_in names.now)) (W.told wires.old) (W.told wires.new) }
-    ensures versions { HasWords (record { moment = moment; number = nonce }) (W.told wires.new) }
+    ensures versions { HasGreeting (record { moment = moment; number = nonce }) (W.told wires.new) }
     ensures dialled { HasDialled (names_in names.now) (W.told wires.new) }
     ensures same { W.script wires.new ≡ W.script wires.old }
-    ensures out_fault { result ≡ Status.OutFault → HasRisen (O.faults out.old) (O.faults out.new) }
+    ensures counts { CountsOut result (O.faults out.old) (O.faults out.new) }
     ensures unwritten { has_run result ≡ false → O.written out.new ≡ O.written out.old }
     ensures unrefused { was_refused result ≡ false }
     ensures ends { AreEndsAfter result false (W.told wires.new).log ends.old.items ends.new.items }
@@ -181,14 +178,14 @@ pub(crate) fn follow_on_tape<W: Wires, M: Matcher + Drop, O: Sink>(
     let Ok(store) = Tree::new(alloc) else {
         return Status::NoMemory;
     };
-    let mut texts = Kept::new(alloc);
+    let mut texts = KeptTexts::new(alloc);
     let outcome = match follow_over(
         alloc, wires, names, watch, store, matcher, moment, nonce, turns, &mut texts,
     ) {
         Ok(outcome) => outcome,
         Err(_) => return Status::NoMemory,
     };
-    let Ok(stands) = outcome.ends.as_slice().to_vec(alloc) else {
+    let Ok(stands) = ends_of(alloc, &outcome) else {
         return Status::NoMemory;
     };
     *ends = stands;

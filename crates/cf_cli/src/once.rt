@@ -1,24 +1,25 @@
 //! A run of the client over any wires that ends once nothing is open, and what is written of it.
-ghost use Rattle.std.specs.Prelude.{◌≡◌, ◌≤◌, [], length, IfSome, is_some, true, false};
+ghost use Rattle.std.specs.Prelude.{◌≡◌, ◌≤◌, [], length, IfOk, IfSome, is_some, true, false};
 ghost use Rattle.cf_bytes.specs.Files.{IsAtMostWritten};
 ghost use Rattle.cf_bytes.specs.Outside.{HasRisen};
 ghost use Rattle.cf_run.specs.Names.{names_in};
-ghost use Rattle.cf_run.specs.Run.{Course, HasDialled, HasFailed};
-ghost use Rattle.cf_run.specs.Versions.{HasWords};
+ghost use Rattle.cf_run.specs.Run.{HasDialled, HasFailed};
+ghost use Rattle.cf_run.specs.Versions.{HasGreeting};
+ghost use Rattle.cf_offline.specs.Reading.{CountsOut};
 ghost use Rattle.cf_wires.specs.Log.{Tells};
 ghost use Rattle.cf_cli.specs.Ends.{AreEndsAfter};
 ghost use Rattle.cf_cli.specs.Recording.{Records};
 ghost use Rattle.cf_answers.specs.Statuses.{has_run, was_refused, was_unbegun};
-ghost use Rattle.cf_cli.specs.Theorem.{Kept, Tallied, AnswersTo, IsOfRun};
+ghost use Rattle.cf_cli.specs.Theorem.{KeptOnce, Tallied, AnswersTo, IsOfRun};
 
 use crate::recording::{keep_where, write_record};
 use cf_answers::{Status, text_of};
-use cf_bytes::{Files, Refused, Sink, put_all};
+use cf_bytes::{Files, NoMemory, Refused, Sink, put_all};
 use cf_headers::Tree;
 use cf_input::Word;
 use cf_match::Matcher;
 use cf_place::PeerEnd;
-use cf_run::{End, sync_over};
+use cf_run::{End, Outcome, sync_over};
 use cf_scan::Watch;
 use cf_wires::Wires;
 use std::alloc::Global;
@@ -36,6 +37,13 @@ pub(crate) fn status_of(end: End, ends: Vec<PeerEnd>) -> Status
         End::Tired => Status::Tired,
         End::Ended => Status::Ended,
     }
+}
+
+/// A copy of how each peer stands at the end of a run.
+pub(crate) fn ends_of(alloc: Global, outcome: &Outcome) -> Result<Vec<PeerEnd>, NoMemory>
+    ensures { IfOk result (λ ends. ends.items ≡ outcome.now.ends.items) }
+{
+    Ok(outcome.ends.as_slice().to_vec(alloc)?)
 }
 
 /// Follows the chains that the peers of these names show, and writes the trace where it is asked for, and the history
@@ -61,10 +69,10 @@ pub(crate) fn run_once<F: Files, W: Wires, M: Matcher + Drop, O: Sink>(
     requires fresh { Tells [] (W.told wires.old) }
     requires open { (W.told wires.old).finished ≡ false }
     requires few { length names.now ≤ 8 }
-    ensures kept { IfSome (W.told wires.new).log (λ log. Kept result (is_some log_file.now) trace watch
+    ensures kept { IfSome (W.told wires.new).log (λ log. KeptOnce result (is_some log_file.now) trace watch
         (names_in names.now) (O.written out.old) (O.written out.new) log) }
     ensures tallied { Tallied result turns (length (names_in names.now)) (W.told wires.old) (W.told wires.new) }
-    ensures versions { HasWords (record { moment = moment; number = nonce }) (W.told wires.new) }
+    ensures versions { HasGreeting (record { moment = moment; number = nonce }) (W.told wires.new) }
     ensures dialled { HasDialled (names_in names.now) (W.told wires.new) }
     ensures same { W.script wires.new ≡ W.script wires.old }
     ensures failures { IfSome (W.told wires.new).log
@@ -72,7 +80,7 @@ pub(crate) fn run_once<F: Files, W: Wires, M: Matcher + Drop, O: Sink>(
     ensures unkept { is_some log_file.now ≡ false → W.keeps wires.new ≡ W.keeps wires.old }
     ensures records { Records result log_file.now (W.told wires.new).log (F.files files.old) (F.files files.new) }
     ensures file_fault { result ≡ Status.FileFault → HasRisen (F.faults files.old) (F.faults files.new) }
-    ensures out_fault { result ≡ Status.OutFault → HasRisen (O.faults out.old) (O.faults out.new) }
+    ensures counts { CountsOut result (O.faults out.old) (O.faults out.new) }
     ensures unwritten { has_run result ≡ false → O.written out.new ≡ O.written out.old }
     ensures begun { was_unbegun result (is_some log_file.now) ≡ false }
     ensures written { IsAtMostWritten F.writes log_file.now files.old files.new }
@@ -87,7 +95,7 @@ pub(crate) fn run_once<F: Files, W: Wires, M: Matcher + Drop, O: Sink>(
     ) else {
         return Status::NoMemory;
     };
-    let Ok(stands) = outcome.ends.as_slice().to_vec(alloc) else {
+    let Ok(stands) = ends_of(alloc, &outcome) else {
         return Status::NoMemory;
     };
     *ends = stands;

@@ -1,23 +1,24 @@
 //! All that the program does.
-ghost use Rattle.std.specs.Prelude.{◌≡◌, ◌≢◌, ◌≤◌, ◌⊎◌, true, false, [], ◌∷◌, length, IfSome, is_some, Some, None};
+ghost use Rattle.std.specs.Prelude.{◌≡◌, ◌≢◌, ◌≤◌, ◌⊎◌, true, false, [], ◌∷◌, length, IfSome, is_some, Some, None, Ok, IfErr, IfOk, IsErrOf, OnOk};
 ghost use Rattle.std.specs.FinMap as finite;
+ghost use Rattle.cf_bytes.specs.Files.{IsRead};
 ghost use Rattle.cf_bytes.specs.Outside.{HasRisen};
+ghost use Rattle.cf_run.specs.Whole.{AreNewWires};
 ghost use Rattle.cf_run.specs.Names.{names_in};
-ghost use Rattle.cf_run.specs.Run.{HasDialled, HasFailed};
-ghost use Rattle.cf_run.specs.Versions.{HasWords, IsOfWords};
-ghost use Rattle.cf_wires.specs.Log.{Tells};
+ghost use Rattle.cf_run.specs.Versions.{IsOfGreeting};
 ghost use Rattle.cf_wires.specs.Memory.{log_of, failing_of, finished_of, told_of};
 ghost use Rattle.cf_input.specs.SessionFile.{session_of};
+ghost use Rattle.cf_input.specs.WatchFile.{watch_of};
 ghost use Rattle.cf_cli.specs.Asking.{AsksFor};
 ghost use Rattle.cf_loading.specs.Asking.{Whole};
-ghost use Rattle.cf_cli.specs.Recording.{Records};
-ghost use Rattle.cf_loading.specs.Verdicts.{IsJudged, and_then, watch_verdict, session_verdict};
+ghost use Rattle.cf_loading.specs.Verdicts.{IsJudged, IsOfFile, Good, and_then, watch_verdict, session_verdict};
+ghost use Rattle.cf_offline.specs.Reading.{CountsOut};
 ghost use Rattle.cf_answers.specs.Statuses.{has_run, was_refused, was_unbegun};
 ghost use Rattle.cf_cli.specs.Statuses.{verdict_of};
-ghost use Rattle.cf_serve.specs.Links.{link_now};
+ghost use Rattle.cf_link.specs.Links.{link_now};
 ghost use Rattle.cf_cli.specs.Doing.{Does, around};
 ghost use Rattle.cf_cli.specs.Ends.{AreEnds, AreEndsAfter, AreEndsOver};
-ghost use Rattle.cf_cli.specs.Handed.{AreNewWires, IsNewPlayed, IsNewTape, UsesFiles, UsesLink, UsesOut, UsesPlayed, UsesTape, UsesWires};
+ghost use Rattle.cf_cli.specs.Handed.{IsNewPlayed, IsNewTape, RunsFiles, RunsWires, UsesFiles, UsesLink, UsesOut, UsesPlayed, UsesTape, UsesWires};
 ghost use Rattle.cf_cli.specs.Following.{IsReplayedIn, KeptLive, TalliedOn};
 ghost use Rattle.cf_cli.specs.Theorem.{KeptOver, Tallied, PlaysSession};
 ghost use Rattle.cf_input.specs.Words.{command_of, HasFewPeers};
@@ -28,17 +29,18 @@ use crate::following::{follow_and_record, follow_on_tape};
 use crate::once::run_once;
 use crate::serving::serve;
 use cf_answers::Status;
-use cf_bytes::{Files, Refused, Sink};
+use cf_bytes::{Files, NoMemory, Refused, Sink};
 use cf_conn::Duplex;
 use cf_grow::Joins;
 use cf_input::{Command, MOST_TURNS, Word, read_words};
+use cf_link::Link;
 use cf_loading::{load_session, load_watch};
 use cf_match::Plain;
 use cf_offline::{address, check, filter, make, prove, scan};
-use cf_parallel::Parallel;
+use cf_parallel::{Open, Parallel};
 use cf_place::PeerEnd;
 use cf_played::Played;
-use cf_serve::Link;
+use cf_scan::Watch;
 use cf_tasks::Spawner;
 use cf_wires::{MemoryWires, Wires};
 use std::alloc::Global;
@@ -68,12 +70,12 @@ fn replay<F: Files, O: Sink>(
         (O.written out.old) (O.written out.new) (told_of tape.old) (told_of tape.new) (log_of tape.new) }
     ensures plays { IfSome (F.files files.old) (λ m. IfSome (finite.get m session.now)
         (λ bytes. PlaysSession result (session_of bytes) (log_of tape.new))) }
-    ensures versions { IsOfWords (record { moment = moment; number = nonce }) (log_of tape.new) }
+    ensures versions { IsOfGreeting (record { moment = moment; number = nonce }) (log_of tape.new) }
     ensures unchanged { F.files files.new ≡ F.files files.old }
     ensures files { AsksFor F.reads F.opens F.parts F.writes (Whole watch.now ∷ Whole session.now ∷ []) None
         files.old files.new }
     ensures file_fault { result ≡ Status.FileFault → HasRisen (F.faults files.old) (F.faults files.new) }
-    ensures out_fault { result ≡ Status.OutFault → HasRisen (O.faults out.old) (O.faults out.new) }
+    ensures counts { CountsOut result (O.faults out.old) (O.faults out.new) }
     ensures unwritten { has_run result ≡ false → O.written out.new ≡ O.written out.old }
     ensures unplayed { was_refused result ≡ true → told_of tape.new ≡ told_of tape.old }
     ensures asked { result ≢ Status.Usage }
@@ -122,6 +124,35 @@ fn replay<F: Files, O: Sink>(
     }
 }
 
+// The scripts of the watch file, and a matcher that judges filters in so many threads.
+fn set_up<R: Wait + Threads + Copy + Drop + Send + 'static, F: Files, K: Spawner>(
+    rt: R,
+    alloc: Global,
+    files: &mut F,
+    watch: &str,
+    workers: u32,
+    spawner: &mut K,
+) -> Result<(Watch, Parallel<Open, R>), Status>
+    requires some { 1 ≤ workers }
+    requires most { workers ≤ 64 }
+    ensures judged { IfErr result
+        (λ status. IfSome (F.files files.old) (λ m. IsJudged (watch_verdict (finite.get m watch.now)) status)) }
+    ensures good { OnOk result (IfSome (F.files files.old) (λ m. watch_verdict (finite.get m watch.now) ≡ Good)) }
+    ensures scripts { IfOk result (λ both. IfSome (F.files files.old)
+        (λ m. IfSome (finite.get m watch.now) (λ bytes. watch_of bytes ≡ Ok both.0))) }
+    ensures same { F.files files.new ≡ F.files files.old }
+    ensures fault { IsErrOf result Status.FileFault → HasRisen (F.faults files.old) (F.faults files.new) }
+    ensures kept { OnOk result (F.faults files.new ≡ F.faults files.old) }
+    ensures only { IfErr result IsOfFile }
+    ensures files { IsRead F.reads watch.now files.old files.new }
+{
+    let scripts = load_watch(alloc, files, watch)?;
+    match Parallel::new(rt, alloc, spawner, workers) {
+        Ok(matcher) => Ok((scripts, matcher)),
+        Err(NoMemory) => Err(Status::NoMemory),
+    }
+}
+
 // Follows the peers of these names, of one to eight, over the wires that are handed in, and records what passes them
 // where a file is named for it. Filters are judged by so many threads.
 fn sync<R: Wait + Threads + Copy + Drop + Send + 'static, F: Files, W: Wires, K: Spawner, O: Sink>(
@@ -140,40 +171,29 @@ fn sync<R: Wait + Threads + Copy + Drop + Send + 'static, F: Files, W: Wires, K:
     out: &mut O,
     ends: &mut Vec<PeerEnd>,
 ) -> Status
-    requires fresh { Tells [] (W.told wires.old) }
-    requires open { (W.told wires.old).finished ≡ false }
+    requires wires { AreNewWires (W.told wires.old) }
     requires few { length peers.now ≤ 8 }
     requires some { 1 ≤ workers }
     requires most { workers ≤ 64 }
-    ensures judged { IfSome (F.files files.old) (λ m. IsJudged (watch_verdict (finite.get m watch.now)) result) }
     ensures kept { IfSome (W.told wires.new).log (λ log. KeptOver result (is_some log_file.now) false
         (F.files files.old) watch.now (names_in peers.now) (O.written out.old) (O.written out.new) log) }
     ensures tallied { Tallied result turns (length (names_in peers.now)) (W.told wires.old) (W.told wires.new) }
-    ensures dialled { HasDialled (names_in peers.now) (W.told wires.new) }
-    ensures versions { HasWords (record { moment = moment; number = nonce }) (W.told wires.new) }
-    ensures failures { IfSome (W.told wires.new).log
-        (λ log. HasFailed log → HasRisen (W.faults wires.old) (W.faults wires.new)) }
-    ensures unkept { is_some log_file.now ≡ false → W.keeps wires.new ≡ W.keeps wires.old }
-    ensures records { Records result log_file.now (W.told wires.new).log (F.files files.old) (F.files files.new) }
-    ensures files { AsksFor F.reads F.opens F.parts F.writes (Whole watch.now ∷ []) log_file.now files.old files.new }
-    ensures file_fault { result ≡ Status.FileFault → HasRisen (F.faults files.old) (F.faults files.new) }
-    ensures out_fault { result ≡ Status.OutFault → HasRisen (O.faults out.old) (O.faults out.new) }
+    ensures files { RunsFiles F.files F.faults F.reads F.opens F.parts F.writes watch.now log_file.now
+        (W.told wires.new).log result files.old files.new }
+    ensures wires { RunsWires W.told W.keeps W.faults (record { moment = moment; number = nonce })
+        (names_in peers.now) (is_some log_file.now) result wires.old wires.new }
+    ensures counts { CountsOut result (O.faults out.old) (O.faults out.new) }
     ensures unwritten { has_run result ≡ false → O.written out.new ≡ O.written out.old }
-    ensures undialled { was_unbegun result (is_some log_file.now) ≡ true → W.told wires.new ≡ W.told wires.old }
     ensures asked { result ≢ Status.Usage }
     ensures ends { AreEndsAfter result (is_some log_file.now) (W.told wires.new).log ends.old.items ends.new.items }
 {
-    let scripts = match load_watch(alloc, files, watch) {
-        Ok(scripts) => scripts,
-        Err(status) => return status,
-    };
-    let Ok(matcher) = Parallel::new(rt, alloc, spawner, workers) else {
-        return Status::NoMemory;
-    };
-    run_once(
-        alloc, files, wires, log_file, peers, scripts, matcher, moment, nonce, turns, false, out,
-        ends,
-    )
+    match set_up(rt, alloc, files, watch, workers, spawner) {
+        Ok((scripts, matcher)) => run_once(
+            alloc, files, wires, log_file, peers, scripts, matcher, moment, nonce, turns, false,
+            out, ends,
+        ),
+        Err(status) => status,
+    }
 }
 
 // Follows the peers of these names, of one to eight, as their chains grow, over the wires that are handed in, and
@@ -200,40 +220,29 @@ fn follow<
     out: &mut O,
     ends: &mut Vec<PeerEnd>,
 ) -> Status
-    requires fresh { Tells [] (W.told wires.old) }
-    requires open { (W.told wires.old).finished ≡ false }
+    requires wires { AreNewWires (W.told wires.old) }
     requires few { length peers.now ≤ 8 }
     requires some { 1 ≤ workers }
     requires most { workers ≤ 64 }
-    ensures judged { IfSome (F.files files.old) (λ m. IsJudged (watch_verdict (finite.get m watch.now)) result) }
     ensures kept { IfSome (W.told wires.new).log (λ log. KeptLive result (is_some log_file.now)
         (F.files files.old) watch.now (names_in peers.now)
         (O.written out.old) (O.written out.new) (O.faults out.old) (O.faults out.new) log) }
     ensures tallied { TalliedOn result turns (length (names_in peers.now)) (W.told wires.old) (W.told wires.new) }
-    ensures dialled { HasDialled (names_in peers.now) (W.told wires.new) }
-    ensures versions { HasWords (record { moment = moment; number = nonce }) (W.told wires.new) }
-    ensures failures { IfSome (W.told wires.new).log
-        (λ log. HasFailed log → HasRisen (W.faults wires.old) (W.faults wires.new)) }
-    ensures unkept { is_some log_file.now ≡ false → W.keeps wires.new ≡ W.keeps wires.old }
-    ensures records { Records result log_file.now (W.told wires.new).log (F.files files.old) (F.files files.new) }
-    ensures files { AsksFor F.reads F.opens F.parts F.writes (Whole watch.now ∷ []) log_file.now files.old files.new }
-    ensures file_fault { result ≡ Status.FileFault → HasRisen (F.faults files.old) (F.faults files.new) }
-    ensures out_fault { result ≡ Status.OutFault → HasRisen (O.faults out.old) (O.faults out.new) }
+    ensures files { RunsFiles F.files F.faults F.reads F.opens F.parts F.writes watch.now log_file.now
+        (W.told wires.new).log result files.old files.new }
+    ensures wires { RunsWires W.told W.keeps W.faults (record { moment = moment; number = nonce })
+        (names_in peers.now) (is_some log_file.now) result wires.old wires.new }
+    ensures counts { CountsOut result (O.faults out.old) (O.faults out.new) }
     ensures unwritten { was_unbegun result (is_some log_file.now) ≡ true → O.written out.new ≡ O.written out.old }
-    ensures undialled { was_unbegun result (is_some log_file.now) ≡ true → W.told wires.new ≡ W.told wires.old }
     ensures asked { result ≢ Status.Usage }
     ensures ends { AreEndsOver result (is_some log_file.now) (W.told wires.new).log ends.old.items ends.new.items }
 {
-    let scripts = match load_watch(alloc, files, watch) {
-        Ok(scripts) => scripts,
-        Err(status) => return status,
-    };
-    let Ok(matcher) = Parallel::new(rt, alloc, spawner, workers) else {
-        return Status::NoMemory;
-    };
-    follow_and_record(
-        alloc, files, wires, log_file, peers, scripts, matcher, moment, nonce, turns, out, ends,
-    )
+    match set_up(rt, alloc, files, watch, workers, spawner) {
+        Ok((scripts, matcher)) => follow_and_record(
+            alloc, files, wires, log_file, peers, scripts, matcher, moment, nonce, turns, out, ends,
+        ),
+        Err(status) => status,
+    }
 }
 
 // So many threads, as far as a matcher may have them. The words ask for no others.

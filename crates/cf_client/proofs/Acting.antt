@@ -10,7 +10,7 @@ use Rattle.cf_block.specs.Header.{block_hash_of}
 use Rattle.cf_headers.specs.Chain.{Hash, Chain, back_to, tip_hash}
 use Rattle.cf_headers.specs.Store.{Chains, Stays}
 use Rattle.cf_match.specs.Verdicts.{Verdicts, AreSameVerdicts}
-use Rattle.cf_msg.specs.declared.msg.Entry.{Entry}
+use Rattle.cf_msg.specs.declared.msg.Inventory.{Inventory}
 use Rattle.cf_msg.specs.declared.msg.Msg.{Msg}
 use Rattle.cf_msg.specs.declared.msg.Msg.TheVariants.{Version, GetHeaders, GetData, GetCfheaders, GetCfilters}
 use Rattle.cf_peer.specs.declared.act.Act.TheVariants.{Send, Close}
@@ -38,7 +38,7 @@ use Rattle.cf_seek.specs.Aims.{IsAimed}
 use Rattle.cf_tables.specs.Outputs.{Paid}
 use Rattle.std.proofs.lemmas.Bool.{cases_eq}
 use Rattle.cf_tables.specs.Tests.{IsSameTold}
-use Rattle.cf_tables.specs.Known.{Told, Table}
+use Rattle.cf_tables.specs.Known.{TestResults, ExtractTable}
 use Rattle.cf_seek.specs.Testing.{IsTrying}
 use Rattle.cf_tables.specs.Trials.{IsSameTrials, Trials}
 use Rattle.cf_seek.proofs.Stops.{back_ends}
@@ -101,7 +101,7 @@ seen_but before after i same =
     ∙ ap (λ c. seen before.watch before.chains c after.table after.verdicts) (fun_ext (λ p. fun_ext (same.claims p)))
     ∙ ap (λ t. seen before.watch before.chains before.claims t after.verdicts) (fun_ext same.table)
     ∙ ap (λ v. seen before.watch before.chains before.claims before.table v) (fun_ext (λ block. fun_ext (same.verdicts block))) where
-      seen : List (List ℕ) → Chains → Tables → Table → Verdicts → Seen
+      seen : List (List ℕ) → Chains → Tables → ExtractTable → Verdicts → Seen
       seen watch chains claims table verdicts = record { watch = watch; chains = chains; claims = claims; table = table; verdicts = verdicts; opens = after.opens; trials = after.trials }
 
 abbrev opens_with : (ℕ → Hash → Bool) → (ℕ → Hash → Bool) → Opens
@@ -112,13 +112,13 @@ opens_is a b same =
     ap (λ (f : ℕ → Hash → Bool). opens_with f b.blocks) (fun_ext (λ q. fun_ext (λ block. same.filters q block)))
     ∙ ap (λ (f : ℕ → Hash → Bool). opens_with a.filters f) (fun_ext (λ q. fun_ext (λ block. same.blocks q block)))
 
-abbrev trials_with : Paid → Told → (ℕ → Bool) → Trials
+abbrev trials_with : Paid → TestResults → (ℕ → Bool) → Trials
 trials_with paid told aims = record { paid = paid; told = told; aims = aims }
 
 trials_is : (a b : Trials) → IsSameTrials a b → b ≡ a
 trials_is a b same =
     ap (λ (p : Paid). trials_with p b.told b.aims) (fun_ext same.paid)
-    ∙ ap (λ (t : Told). trials_with a.paid t b.aims) (fun_ext (λ block. fun_ext (same.told block)))
+    ∙ ap (λ (t : TestResults). trials_with a.paid t b.aims) (fun_ext (λ block. fun_ext (same.told block)))
     ∙ ap (λ (f : ℕ → Bool). trials_with a.paid a.told f) (fun_ext same.aims)
 
 -- what was seen is what it was
@@ -272,7 +272,7 @@ block_tracks places acts log s after i peer hash (GetData entries) goes here idl
     let t = trail l i in
     sent_tracks s after acts log (record { 0 = i }) (GetData entries) sendable opened
     (opens_block s.opens after.opens i t (Asked (GetData entries) ∷ t) hash.0 (tracks.opened i) (idle_at places acts log i peer goes here idle) opens
-    (keeps_at places acts log i peer goes here).holds.on (ap (λ (es : List Entry). request (Asked (GetData es) ∷ t)) asked))
+    (keeps_at places acts log i peer goes here).holds.on (ap (λ (es : List Inventory). request (Asked (GetData es) ∷ t)) asked))
     (aim_kept s after l (record { 0 = i }) (GetData entries) sendable (λ filter start stop e. cc) aimed.here tracks) tracks
 block_tracks places acts log s after i peer hash m goes here idle sendable asked opened opens aimed tracks = absurd asked
 
@@ -329,12 +329,12 @@ block_goes mode places acts log s i peer common hash (GetData entries) lt goes h
     let is : chain_at s i ≡ own (trail (done acts log) i) = own_tracked s (done acts log) i tracks keeps.holds.on in
     let may = block_send mode s (done acts log) i common hash (chain_at s i) tracks is low (idle_free peer (part_of (done acts log) i) keeps idle) wish in
     send_goes places acts log i (asked_for_block hash peer) (GetData entries) lt goes sendable
-    (subst (λ (es : List Entry). MaySendIn mode (done acts log) i (GetData es)) (sym asks) may.0) (
-      subst (λ (es : List Entry). IsNeeded s.watch (done acts log) i (GetData es)) (sym asks) may.1,
+    (subst (λ (es : List Inventory). MaySendIn mode (done acts log) i (GetData es)) (sym asks) may.0) (
+      subst (λ (es : List Inventory). IsNeeded s.watch (done acts log) i (GetData es)) (sym asks) may.1,
       in_turn mode places (done acts log) s i common (Block hash) (GetData entries) goes.stand tracks is (sym (keeps.holds.hearing mode) ∙ ended) far tries wish asks,
     )
     (asked_keeps (asked_for_block hash peer) peer (part_of (done acts log) i) (GetData entries) keeps
-    (subst (λ (es : List Entry). Holds (asked_for_block hash peer) (Asked (GetData es) ∷ trail (done acts log) i)) (sym asks) (asked_block_holds peer (trail (done acts log) i) hash keeps.holds idle)) refl refl refl)
+    (subst (λ (es : List Inventory). Holds (asked_for_block hash peer) (Asked (GetData es) ∷ trail (done acts log) i)) (sym asks) (asked_block_holds peer (trail (done acts log) i) hash keeps.holds idle)) refl refl refl)
 block_goes mode places acts log s i peer common hash m lt goes here idle ended far tries tracks low wish sendable asks = absurd asks
 
 -- for a filter that is to be tested

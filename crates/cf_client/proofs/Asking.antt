@@ -11,7 +11,7 @@ use Rattle.cf_block.specs.declared.header.Header.{Header}
 use Rattle.cf_block.specs.Header.{block_hash_of, genesis_header, header_spelling, IsHash}
 use Rattle.cf_headers.specs.Chain.{Chain, no_hash, locator_from, locator_of, IsWithinLimit}
 use Rattle.cf_headers.proofs.Locators.{locator_fits}
-use Rattle.cf_msg.specs.declared.msg.Entry.{Entry}
+use Rattle.cf_msg.specs.declared.msg.Inventory.{Inventory}
 use Rattle.cf_msg.specs.declared.msg.Msg.TheVariants.{Version, Ping, GetHeaders, GetData, GetCfilters, GetCfheaders}
 use Rattle.cf_msg.specs.Message.{payload_of, IsEntry}
 use Rattle.cf_msg.proofs.Sizes.{version_size, getheaders_size, entries_size, range_size}
@@ -58,10 +58,10 @@ question_is chain hashes stop low is zeros =
       asks = (refl, is, zeros);
     }
 
-one_entry : (entries : List Entry) (hash : Hash32) → entries ≡ block_entry hash ∷ [] → length hash.0 ≡ 32 → AllByRecursion IsEntry entries
+one_entry : (entries : List Inventory) (hash : Hash32) → entries ≡ block_entry hash ∷ [] → length hash.0 ≡ 32 → AllByRecursion IsEntry entries
 one_entry entries hash is long = subst (AllByRecursion IsEntry) (sym is) (record { kind = lit< tt; hash = long }, tt)
 
-pub fetch_is : (hash : Hash32) (entries : List Entry) → entries ≡ block_entry hash ∷ [] → length hash.0 ≡ 32 → IsFetch hash (GetData entries)
+pub fetch_is : (hash : Hash32) (entries : List Inventory) → entries ≡ block_entry hash ∷ [] → length hash.0 ≡ 32 → IsFetch hash (GetData entries)
 unfolding payload_of
 fetch_is hash entries is long =
     let all : AllByRecursion IsEntry entries = one_entry entries hash is long in

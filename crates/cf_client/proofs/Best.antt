@@ -11,7 +11,7 @@ use Rattle.cf_msg.specs.declared.msg.Msg.{Msg}
 use Rattle.cf_peer.specs.declared.mode.Mode.{Mode}
 use Rattle.cf_peer.specs.declared.peer.Peer.{Peer}
 use Rattle.cf_wires.specs.Log.{Log}
-use Rattle.cf_peer.specs.Trail.{Trail, Part, part_of, trail, connected, own, heard_in}
+use Rattle.cf_peer.specs.Trail.{Trail, Part, part_of, trail, connected, own, is_heard_out_in}
 use Rattle.cf_peer.specs.Asking.{SameUse}
 use Rattle.cf_sync.specs.Fetching.{AreShorterBefore, IsConnected, IsBest, Rule, counted_part}
 use Rattle.cf_sync.specs.Due.{IsInTurn, Puts}
@@ -134,7 +134,7 @@ some_chain None low = absurd (omega (arith, low))
 some_chain (Some own) low = refl
 
 -- what a tracker wishes of a peer that was heard out it is its turn to be asked
-pub in_turn : (mode : Mode) (places : List Place) (log : Log) (s : Seen) (i common : ℕ) (wish : Wish) (m : Msg) → PlacesStand places log → Tracks s log → chain_at s i ≡ own (trail log i) → heard_in mode (trail log i) ≡ true
+pub in_turn : (mode : Mode) (places : List Place) (log : Log) (s : Seen) (i common : ℕ) (wish : Wish) (m : Msg) → PlacesStand places log → Tracks s log → chain_at s i ≡ own (trail log i) → is_heard_out_in mode (trail log i) ≡ true
     → Furthest s i common wish → Tries s i common wish → IsWish s.table s.claims s.verdicts s.opens i (chain_at s i) common wish → Puts wish m → IsInTurn (rule_in mode s) log i m
 in_turn mode places log s i common wish m stand tracks mine ended far tries wished puts =
     let chain : Chain = chain_at s far.best.0 in

@@ -17,7 +17,7 @@ use Rattle.cf_peer.specs.declared.peer.Peer.{Peer}
 use Rattle.cf_peer.specs.Acts.{IsDoable}
 use Rattle.cf_peer.specs.Peer.{calm}
 use Rattle.cf_peer.specs.Asking.{SameUse, NothingOpen, claims, counted, fetched, given, hash_claimed, request}
-use Rattle.cf_peer.specs.Trail.{Part, Trail, Asked, connected, heard_part, hears, hears_fault, item_of, item_of_read, met, owed, own, part_after, part_of, replied, trail, with_item}
+use Rattle.cf_peer.specs.Trail.{Part, Trail, Asked, connected, heard_part, hears, hears_fault, item_of, item_of_read, has_version, replies_owed, own, part_after, part_of, replied, trail, with_item}
 use Rattle.cf_peer.proofs.Stream.{said_met}
 use Rattle.cf_msg.specs.Reading.{message_of}
 use Rattle.cf_frame.specs.declared.frame.Frame.{Frame}
@@ -69,14 +69,14 @@ answered_at (Here peer) part fits is = kept_replied peer part fits
 answered_at (Lost loss) part fits is = absurd (false≢true is)
 
 -- who has sent its version has sent it
-met_hears : (fs : List Frame) (t : Trail) → met t ≡ true → met (hears fs t) ≡ true
+met_hears : (fs : List Frame) (t : Trail) → has_version t ≡ true → has_version (hears fs t) ≡ true
 met_hears [] t over = over
 met_hears (f ∷ fs) t over = met_hears fs (item_of f ∷ t) (elim (message_of f) as
-    (λ r. met (item_of_read r ∷ t) ≡ true) [ Ok m ↦ said_met m t over | Err e ↦ over ])
+    (λ r. has_version (item_of_read r ∷ t) ≡ true) [ Ok m ↦ said_met m t over | Err e ↦ over ])
 
-met_stays : (r : StreamRead) (t : Trail) → met t ≡ true → met (part_after r t).trail ≡ true
+met_stays : (r : StreamRead) (t : Trail) → has_version t ≡ true → has_version (part_after r t).trail ≡ true
 met_stays r t over = by r.fault where
-  by : (o : Option FrameFault) → met (hears_fault o (hears r.frames t)) ≡ true
+  by : (o : Option FrameFault) → has_version (hears_fault o (hears r.frames t)) ≡ true
   by None = met_hears r.frames t over
   by (Some fault) = met_hears r.frames t over
 
@@ -161,17 +161,17 @@ module _ (d : Desk) (p : PeerNo) (piece : List ℕ) (old : Peer) (mid : Desk) (b
   brings = rest_brings_nothing (read_stream x.later) x.so_far idle
 
   rest : (claims (counted (part_after (read_stream x.later) x.so_far).trail) ≡ claims (counted x.so_far))
-      × ((later : List Msg) × (owed (counted (part_after (read_stream x.later) x.so_far).trail) ≡ owed
+      × ((later : List Msg) × (replies_owed (counted (part_after (read_stream x.later) x.so_far).trail) ≡ replies_owed
       (counted x.so_far) ++ later))
   rest = rest_claims_nothing (read_stream x.later) x.so_far idle
 
   abbrev more : List Msg
   more = rest.1.0
 
-  owes : owed (counted end.trail) ≡ owed (part_of log p.0).trail ++ (rs ++ more)
-  owes = ap (λ (y : Part). owed (counted y.trail)) (sym x.leads) ∙ rest.1.1
+  owes : replies_owed (counted end.trail) ≡ replies_owed (part_of log p.0).trail ++ (rs ++ more)
+  owes = ap (λ (y : Part). replies_owed (counted y.trail)) (sym x.leads) ∙ rest.1.1
       ∙ ap (λ (ms : List Msg). ms ++ more) (use_so_far.owing ∙ x.owes)
-      ∙ append_assoc (owed (part_of log p.0).trail) rs more
+      ∙ append_assoc (replies_owed (part_of log p.0).trail) rs more
 
   at_next : part_of next p.0 ≡ end
   at_next = heard_log p piece log
@@ -179,11 +179,11 @@ module _ (d : Desk) (p : PeerNo) (piece : List ℕ) (old : Peer) (mid : Desk) (b
   up : connected (trail next p.0) ≡ true
   up = ap (λ (y : Part). connected y.trail) at_next ∙ heard_connected piece (part_of log p.0) ∙ keeps.holds.on
 
-  sent_before : replied end.trail ≡ owed (part_of log p.0).trail
+  sent_before : replied end.trail ≡ replies_owed (part_of log p.0).trail
   sent_before = (heard_says piece (part_of log p.0)).replies ∙ keeps.answered.replies
 
-  due : owed (counted (trail next p.0)) ≡ replied (trail next p.0) ++ (rs ++ more)
-  due = ap (λ (y : Part). owed (counted y.trail)) at_next ∙ owes
+  due : replies_owed (counted (trail next p.0)) ≡ replied (trail next p.0) ++ (rs ++ more)
+  due = ap (λ (y : Part). replies_owed (counted y.trail)) at_next ∙ owes
       ∙ ap (λ (ms : List Msg). ms ++ (rs ++ more)) (sym sent_before)
       ∙ sym (ap (λ (y : Part). replied y.trail ++ (rs ++ more)) at_next)
 
@@ -191,9 +191,9 @@ module _ (d : Desk) (p : PeerNo) (piece : List ℕ) (old : Peer) (mid : Desk) (b
   done = replies_done p rs more next (number_within d.places log p.0 stand lt) x.are.each
       (sendable_by p rs (subst (All IsDoable) x.acts doable)) up
       (met_late rs x.are.after_version) due where
-        met_late : (ms : List Msg) → (ms ≡ []) ⊎ (met x.so_far ≡ true) → (ms ≡ []) ⊎ (met (trail next p.0) ≡ true)
+        met_late : (ms : List Msg) → (ms ≡ []) ⊎ (has_version x.so_far ≡ true) → (ms ≡ []) ⊎ (has_version (trail next p.0) ≡ true)
         met_late ms (inl empty) = inl empty
-        met_late ms (inr over) = inr (ap (λ (y : Part). met y.trail) (at_next ∙ sym x.leads)
+        met_late ms (inr over) = inr (ap (λ (y : Part). has_version y.trail) (at_next ∙ sym x.leads)
             ∙ met_stays (read_stream x.later) x.so_far over)
 
   abbrev sent : Log

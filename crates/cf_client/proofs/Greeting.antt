@@ -24,7 +24,7 @@ use Rattle.cf_client.specs.declared.client.Client.{Client}
 use Rattle.cf_place.specs.declared.place.Place.{Place}
 use Rattle.cf_place.specs.declared.place.Place.TheVariants.{Here, Lost as LostPlace}
 use Rattle.cf_place.specs.Places.{Fits, CutFor, ActTells, Allowed, place_at}
-use Rattle.cf_place.specs.Standing.{Words, TellsWords}
+use Rattle.cf_place.specs.Standing.{Greeting, TellsGreeting}
 use Rattle.cf_client.specs.Stands.{Reflects}
 use Rattle.cf_client.proofs.Taking.{heard_says}
 
@@ -83,12 +83,12 @@ reflects_cut c p log cut is reflects = λ q. elim (cases_eq q p.0) [
 ]
 
 -- who was greeted is sent no version again
-asked_tells : (mode : Mode) (words : Words) (t : Trail) (m : Msg) → IsGreetedOn t → MayAskIn mode t m → TellsWords words m
+asked_tells : (mode : Mode) (words : Greeting) (t : Trail) (m : Msg) → IsGreetedOn t → MayAskIn mode t m → TellsGreeting words m
 asked_tells mode words t (Version version services time to from nonce agent height relay) is may = absurd (both_ways (greeted t) may.1 (is may.0))
 asked_tells mode words t m is may = tt
 
 -- where each connected peer was greeted, no act that is allowed sends a version
-pub acts_tell : (rule : Rule) (words : Words) (acts : List Act) (log : Log) → AreGreeted log → Allowed rule acts log → All (ActTells words) acts
+pub acts_tell : (rule : Rule) (words : Greeting) (acts : List Act) (log : Log) → AreGreeted log → Allowed rule acts log → All (ActTells words) acts
 acts_tell rule words [] log all allowed = All-nil (ActTells words)
 acts_tell rule words (Send p m ∷ acts) log all allowed =
     All-cons (ActTells words) (Send p m) acts (asked_tells rule.mode words (trail log p.0) m (all p.0) allowed.0.2.of_its_part)

@@ -9,7 +9,7 @@ use Rattle.cf_bytes.specs.declared.peer.PeerNo.{PeerNo}
 use Rattle.cf_headers.specs.Chain.{Hash, IsIn}
 use Rattle.cf_peer.specs.declared.act.Act.{Act}
 use Rattle.cf_peer.specs.declared.peer.Cause.TheVariants.{Omits}
-use Rattle.cf_peer.specs.Asking.{claims, counted, fetched, given, hash_claimed}
+use Rattle.cf_peer.specs.Asking.{claims, counted, fetched, hash_claimed}
 use Rattle.cf_peer.specs.Trail.{Part, Trail, Lost as LostItem, Shutting as IsShutting, connected, part_of, with_item}
 use Rattle.cf_wires.specs.declared.event.Event.TheVariants.{Closed}
 use Rattle.cf_wires.specs.Log.{Log, tally_of}
@@ -304,8 +304,3 @@ unomitted_shuts (n ∷ qs) log q out is =
 -- how one that was connected is lost then
 pub shut_lost : (t : Trail) → connected t ≡ true → IsLost (ClosedFor Omits) (LostItem IsShutting ∷ t)
 shut_lost t on = record { off = refl; by = inr (none_failed t on, inl (on, inl refl)) }
-
--- no block and no filter is brought by it
-pub shut_brings : (t : Trail) → (fetched (counted (LostItem IsShutting ∷ t)) ≡ fetched (counted t))
-    × (given (counted (LostItem IsShutting ∷ t)) ≡ given (counted t))
-shut_brings t = (refl, refl)

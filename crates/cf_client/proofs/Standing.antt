@@ -21,7 +21,7 @@ use Rattle.cf_peer.specs.declared.peer.Cause.TheVariants.{Omits, Overdue}
 use Rattle.cf_peer.specs.declared.peer.Peer.{Peer}
 use Rattle.cf_peer.specs.Acts.{bytes_of, IsSendable}
 use Rattle.cf_wires.specs.Log.{Log, tally_of, noted}
-use Rattle.cf_peer.specs.Trail.{owed, Trail, Part, Called, Asked, Lost as LostItem, Went, Shutting, part_of, trail, went_on, asks, spelled, with_item, called_part, connected, own, replied, as_reply, is_version, IsClientVersion}
+use Rattle.cf_peer.specs.Trail.{replies_owed, Trail, Part, Called, Asked, Lost as LostItem, Went, Shutting, part_of, trail, went_on, asks, spelled, with_item, called_part, connected, own, replied, as_reply, is_version, IsClientVersion}
 use Rattle.cf_peer.specs.Asking.{counted, age, is_open, MayAskIn, IsFree}
 use Rattle.cf_peer.specs.Peer.{Holds, heard_out, wants, is_idle_peer, called_peer, asked_for_headers}
 use Rattle.cf_sync.specs.Blame.{HasOmitted}
@@ -179,7 +179,7 @@ late_open (Here peer) part keeps is = late_is peer part.trail is keeps.holds
 late_open (Lost end) part off is = absurd (false≢true (sym is))
 
 -- a connected peer was answered; and of a place whose request is late one is connected
-pub all_replied : (peer : Peer) (part : Part) → Keeps peer part → replied part.trail ≡ owed (counted part.trail)
+pub all_replied : (peer : Peer) (part : Part) → Keeps peer part → replied part.trail ≡ replies_owed (counted part.trail)
 all_replied peer part keeps = keeps.answered.replies ∙ sym (same_use part.trail keeps.holds.on keeps.holds.clean).owing
 
 pub kept_replied : (peer : Peer) (part : Part) → Keeps peer part → IsReplied part.trail

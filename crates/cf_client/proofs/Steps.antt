@@ -41,12 +41,12 @@ use Rattle.cf_place.specs.declared.place.Place.TheVariants.{Here, Lost}
 use Rattle.cf_place.specs.declared.place.Loss.{Loss}
 use Rattle.cf_place.specs.declared.place.Loss.TheVariants.{Closed as ClosedFor}
 use Rattle.cf_place.specs.Places.{Goes, PlacesStand, after as done, nobody, is_calm, is_here, is_idle, is_settled, IsQuestion}
-use Rattle.cf_client.specs.Settled.{AreEntered, AreRight, AreSettled, IsAskedThrough, IsRightAt, chain_at}
+use Rattle.cf_client.specs.Settled.{AreEntered, AreRight, AreSettled, IsRightAt, chain_at}
 use Rattle.cf_client.specs.Steps.{Desk, Stands, IsInOrder, IsSent, IsSentFor, Way, Same, Ticked, Taking, Extends, Moves, Asks}
 use Rattle.cf_client.proofs.Ordering.{is_question, above_asks, block_asked}
 use Rattle.cf_client.proofs.Standing.{set_is, late_goes, goes_start}
 use Rattle.cf_client.proofs.Naming.{blameless_seen}
-use Rattle.cf_client.proofs.Settled.{set_each, set_other, settled_off, heard_by, asked_busy}
+use Rattle.cf_client.proofs.Settled.{set_each, set_other, settled_off, heard_by}
 use Rattle.cf_client.proofs.Rights.{right_of, right_set, claims_right, filters_right}
 use Rattle.cf_client.proofs.Best.{Furthest, Tries, rule_in}
 use Rattle.cf_client.proofs.Acting.{range_in, closed_tracks, headers_goes, claims_goes, filters_goes, block_goes, headers_tracks, claims_tracks, filters_tracks, block_tracks, test_goes, test_tracks, seen_same}
@@ -322,9 +322,3 @@ quiet_asked mode d after i order settled same =
     subst (λ (s : Seen). Asks mode i d (record { places = d.places; seen = s; acts = d.acts })) (sym (seen_same d.seen after same)) (none_asked mode d i order settled)
 
 -- ---- and then it has nothing left to be asked, or something is open to it
-
-pub sent_busy : (i : ℕ) (m : Msg) (change : Peer → Peer) (places now : List Place) (acts more : List Act) (s : Seen) → i < length places → (sent : IsSent i m change places now acts more)
-    → is_idle_peer (change sent.peer) ≡ false → IsAskedThrough (get_or now i nobody) s i
-sent_busy i m change places now acts more s lt sent busy =
-    asked_busy (get_or now i nobody) s i
-    (ap (λ (ps : List Place). is_idle (get_or ps i nobody)) sent.kept ∙ ap is_idle (set_is places i (Here (change sent.peer)) lt) ∙ busy)

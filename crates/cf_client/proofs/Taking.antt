@@ -24,7 +24,7 @@ use Rattle.cf_peer.specs.declared.peer.Cause.TheVariants.{SendFailed, Omits}
 use Rattle.cf_peer.specs.declared.peer.Peer.{Peer}
 use Rattle.cf_peer.specs.Acts.{bytes_of, IsSendable, IsDoable}
 use Rattle.cf_wires.specs.Log.{Log, tally_of}
-use Rattle.cf_peer.specs.Trail.{Trail, Part, Asked, Lost as LostItem, Went, item_of, item_of_read, hears, hears_fault, heard_part, part_of, trail, went_on, with_item, connected, failed, greeted, met, own, heard, owed, replied, as_reply, is_version}
+use Rattle.cf_peer.specs.Trail.{Trail, Part, Asked, Lost as LostItem, Went, item_of, item_of_read, hears, hears_fault, heard_part, part_of, trail, went_on, with_item, connected, failed, greeted, has_version, own, is_heard_out, replies_owed, replied, as_reply, is_version}
 use Rattle.cf_peer.specs.Asking.{claims, request, verdict, counted, IsNextReply}
 use Rattle.cf_peer.specs.Peer.{Holds, calm}
 use Rattle.cf_peer.specs.Hearing.{IsReply}
@@ -165,35 +165,35 @@ as_itself r is = by_reply (λ (m : Msg). as_reply m ≡ m ∷ []) refl (λ numbe
 
 -- what is owed to the words that count is what was sent, and then these; and more besides
 abbrev AreDue : List Msg → Trail → Type 0
-AreDue rs t = owed (counted t) ≡ replied t ++ rs
+AreDue rs t = replies_owed (counted t) ≡ replied t ++ rs
 
 abbrev pub AreDueFirst : List Msg → List Msg → Trail → Type 0
-AreDueFirst rs more t = owed (counted t) ≡ replied t ++ (rs ++ more)
+AreDueFirst rs more t = replies_owed (counted t) ≡ replied t ++ (rs ++ more)
 
 due_all : (rs : List Msg) (t : Trail) → AreDue rs t → AreDueFirst rs [] t
 due_all rs t due = due ∙ ap (λ (xs : List Msg). replied t ++ xs) (sym (append-nil rs))
 
-reply_sent : (mode : Mode) (r : Msg) (log : Log) (p : ℕ) → IsReply r → connected (trail log p) ≡ true → met (trail log p) ≡ true → IsNextReply (trail log p) r → MaySendIn mode log p r
+reply_sent : (mode : Mode) (r : Msg) (log : Log) (p : ℕ) → IsReply r → connected (trail log p) ≡ true → has_version (trail log p) ≡ true → IsNextReply (trail log p) r → MaySendIn mode log p r
 reply_sent mode r log p is on over =
     by_reply (λ (m : Msg). IsNextReply (trail log p) m → MaySendIn mode log p m) (λ next. record { of_its_part = (on, over, next); wanted = tt; alone = tt }) (λ number next. record { of_its_part = (on, over, next); wanted = tt; alone = tt }) r is
 
 -- once the first of them is sent
 due_next : (r : Msg) (rs more : List Msg) (before after : Part) → IsReply r → after ≡ with_item (Asked r) before → AreDueFirst (r ∷ rs) more before.trail → AreDueFirst rs more after.trail
 due_next r rs more before after is here due =
-    ap (λ (x : Part). owed (counted x.trail)) here ∙ due ∙ sym (append_assoc (replied before.trail) (r ∷ []) (rs ++ more))
+    ap (λ (x : Part). replies_owed (counted x.trail)) here ∙ due ∙ sym (append_assoc (replied before.trail) (r ∷ []) (rs ++ more))
     ∙ ap (λ (xs : List Msg). (replied before.trail ++ xs) ++ (rs ++ more)) (sym (as_itself r is)) ∙ sym (ap (λ (x : Part). replied x.trail ++ (rs ++ more)) here)
 
 reply_needed : (rule : Rule) (r : Msg) (log : Log) (p : ℕ) → IsReply r → IsCalledFor rule log p r
 reply_needed rule r log p is = by_reply (IsCalledFor rule log p) tt (λ number. tt) r is
 
 pub replies_done : {rule : Rule} (p : PeerNo) (rs more : List Msg) (log : Log) → p.0 ≤ (tally_of log).dials → AllByRecursion IsReply rs → AreSendable rs
-    → connected (trail log p.0) ≡ true → (rs ≡ []) ⊎ (met (trail log p.0) ≡ true) → AreDueFirst rs more (trail log p.0) → RepliesDone rule p rs log
+    → connected (trail log p.0) ≡ true → (rs ≡ []) ⊎ (has_version (trail log p.0) ≡ true) → AreDueFirst rs more (trail log p.0) → RepliesDone rule p rs log
 replies_done p [] more log number are sendable on over due = record { allowed = tt; here = refl; others = λ q ne. refl; count = refl }
 replies_done p (r ∷ rs) more log number are sendable on (inl none) due = absurd (let e : r ∷ rs ≡ [] = none in cc)
 replies_done {rule = rule} p (r ∷ rs) more log number are sendable on (inr over) due =
     let next = Sent p (bytes_of r) ∷ log in
     let here : part_of next p.0 ≡ with_item (Asked r) (part_of log p.0) = sent_here p r (part_of log p.0) sendable.0 in
-    let rest = replies_done {rule = rule} p rs more next number are.1 sendable.1 (ap (λ (x : Part). connected x.trail) here ∙ on) (inr (ap (λ (x : Part). met x.trail) here ∙ over))
+    let rest = replies_done {rule = rule} p rs more next number are.1 sendable.1 (ap (λ (x : Part). connected x.trail) here ∙ on) (inr (ap (λ (x : Part). has_version x.trail) here ∙ over))
     (due_next r rs more (part_of log p.0) (part_of next p.0) are.0 here due) in
     record {
       allowed = ((number, sendable.0, reply_sent rule.mode r log p.0 are.0 on over (rs ++ more, due), reply_needed rule r log p.0 are.0), rest.allowed);
@@ -207,7 +207,7 @@ pub record Unchanged (rs : List Msg) (part : Part) : Type 0 where
   pub waits : (asked_all rs part).waits ≡ part.waits
   pub on : connected (asked_all rs part).trail ≡ connected part.trail
   pub first : verdict (asked_all rs part).trail ≡ verdict part.trail
-  pub owes : owed (asked_all rs part).trail ≡ owed part.trail
+  pub owes : replies_owed (asked_all rs part).trail ≡ replies_owed part.trail
   pub replies : replied (asked_all rs part).trail ≡ replied part.trail ++ rs
   pub greets : IsGreetedBy (asked part.trail) → IsGreetedBy (asked (asked_all rs part).trail)
   pub holds : (peer : Peer) → Holds peer part.trail → Holds peer (asked_all rs part).trail
@@ -238,7 +238,7 @@ pub asked_replied : (rs : List Msg) (part : Part) → AllByRecursion IsReply rs 
 asked_replied rs part are = (unchanged rs part are).replies
 
 -- what is sent changes nothing of what counts of its words
-pub asked_owes : (rs : List Msg) (part : Part) → owed (counted part.trail) ≡ owed (counted (asked_all rs part).trail)
+pub asked_owes : (rs : List Msg) (part : Part) → replies_owed (counted part.trail) ≡ replies_owed (counted (asked_all rs part).trail)
 asked_owes [] part = refl
 asked_owes (r ∷ rs) part = asked_owes rs (with_item (Asked r) part)
 
@@ -246,14 +246,14 @@ asked_owes (r ∷ rs) part = asked_owes rs (with_item (Asked r) part)
 pub heard_log : (p : PeerNo) (piece : List ℕ) (log : Log) → part_of (Took (Got p piece) ∷ log) p.0 ≡ heard_part piece (part_of log p.0)
 heard_log p piece log = got_here p piece (part_of log p.0)
 
-pub met_by : (p : PeerNo) (rs : List Msg) (part end : Part) → part ≡ end → (rs ≡ []) ⊎ (met end.trail ≡ true) → (rs ≡ []) ⊎ (met part.trail ≡ true)
+pub met_by : (p : PeerNo) (rs : List Msg) (part end : Part) → part ≡ end → (rs ≡ []) ⊎ (has_version end.trail ≡ true) → (rs ≡ []) ⊎ (has_version part.trail ≡ true)
 met_by p rs part end e (inl none) = inl none
-met_by p rs part end e (inr over) = inr (ap (λ (x : Part). met x.trail) e ∙ over)
+met_by p rs part end e (inr over) = inr (ap (λ (x : Part). has_version x.trail) e ∙ over)
 
 -- the replies to a piece, by what is owed to it
-due_by : (piece : List ℕ) (rs : List Msg) (start part : Part) → part ≡ heard_part piece start → IsAnswered start.trail → owed (counted (heard_part piece start).trail) ≡ owed start.trail ++ rs → AreDue rs part.trail
+due_by : (piece : List ℕ) (rs : List Msg) (start part : Part) → part ≡ heard_part piece start → IsAnswered start.trail → replies_owed (counted (heard_part piece start).trail) ≡ replies_owed start.trail ++ rs → AreDue rs part.trail
 due_by piece rs start part here answered owes =
-    ap (λ (x : Part). owed (counted x.trail)) here ∙ owes ∙ ap (λ (xs : List Msg). xs ++ rs) (sym answered.replies ∙ sym (heard_says piece start).replies)
+    ap (λ (x : Part). replies_owed (counted x.trail)) here ∙ owes ∙ ap (λ (xs : List Msg). xs ++ rs) (sym answered.replies ∙ sym (heard_says piece start).replies)
     ∙ sym (ap (λ (x : Part). replied x.trail ++ rs) here)
 
 pub sendable_by : (p : PeerNo) (rs : List Msg) → All IsDoable (sends p rs) → AreSendable rs
@@ -344,18 +344,18 @@ HearsExposed p piece old seen now before acts block filter =
 whole_of : (places : List Place) (log : Log) (p : PeerNo) (piece : List ℕ) (old peer : Peer) (seen now : Seen) (before acts : List Act)
     → before ≡ [] → get_or places p.0 nobody ≡ Here old → PlacesStand places log → Tracks seen log
     → HearsWhole p piece old peer seen now before acts → HeardWhole p peer seen now [] acts (part_of log p.0) (heard_part piece (part_of log p.0))
-whole_of places log p piece old peer seen now before acts none here stand tracks heard =
+whole_of places log p piece old peer seen now before acts none here stand tracks is_heard_out =
     let keeps = place_keeps places log p old here stand in
     subst (λ (xs : List Act). HeardWhole p peer seen now xs acts (part_of log p.0) (heard_part piece (part_of log p.0))) none
-    (heard (part_of log p.0) keeps.holds keeps.waits (follows_is seen log p.0 tracks keeps.holds.on keeps.holds.clean))
+    (is_heard_out (part_of log p.0) keeps.holds keeps.waits (follows_is seen log p.0 tracks keeps.holds.on keeps.holds.clean))
 
 heard_goes : {rule : Rule} (places : List Place) (log : Log) (p : PeerNo) (piece : List ℕ) (old peer : Peer) (seen now : Seen) (before acts : List Act)
     → p.0 < length places → before ≡ [] → get_or places p.0 nobody ≡ Here old → PlacesStand places log → Tracks seen log
     → HearsWhole p piece old peer seen now before acts → All IsDoable acts
     → Goes rule (set places p.0 (Here peer)) acts (Took (Got p piece) ∷ log)
-heard_goes places log p piece old peer seen now before acts lt none here stand tracks heard doable =
+heard_goes places log p piece old peer seen now before acts lt none here stand tracks is_heard_out doable =
     let keeps = place_keeps places log p old here stand in
-    let whole = whole_of places log p piece old peer seen now before acts none here stand tracks heard in
+    let whole = whole_of places log p piece old peer seen now before acts none here stand tracks is_heard_out in
     whole_at places log p piece peer seen now acts lt stand keeps.holds.on keeps.answered whole (sendable_by p whole.replies (subst (All IsDoable) whole.acts doable))
 
 -- a reply asks for nothing
@@ -380,8 +380,8 @@ sends_track p (r ∷ rs) s log are sendable tracks =
 whole_tracks : (places : List Place) (log : Log) (p : PeerNo) (piece : List ℕ) (old peer : Peer) (seen now : Seen) (before acts : List Act)
     → before ≡ [] → get_or places p.0 nobody ≡ Here old → PlacesStand places log → Tracks seen log
     → HearsWhole p piece old peer seen now before acts → All IsDoable acts → Tracks now (after acts (Took (Got p piece) ∷ log))
-whole_tracks places log p piece old peer seen now before acts none here stand tracks heard doable =
-    let whole = whole_of places log p piece old peer seen now before acts none here stand tracks heard in
+whole_tracks places log p piece old peer seen now before acts none here stand tracks is_heard_out doable =
+    let whole = whole_of places log p piece old peer seen now before acts none here stand tracks is_heard_out in
     let sendable = sendable_by p whole.replies (subst (All IsDoable) whole.acts doable) in
     let next = Took (Got p piece) ∷ log in
     subst (λ (xs : List Act). Tracks now (after xs next)) (sym whole.acts) (sends_track p whole.replies now next whole.are.each sendable (tracks_heard p peer seen now [] acts piece log whole tracks))
@@ -409,8 +409,8 @@ fault_at {rule = rule} places log p piece cause seen now acts lt stand on answer
     let up : connected (trail later p.0) ≡ true = ap (λ (x : Part). connected x.trail) at_end ∙ same.on ∙ heard_connected piece (part_of log p.0) ∙ on in
     let guilty : verdict (trail later p.0) ≡ Some cause = ap (λ (x : Part). verdict x.trail) at_end ∙ same.first ∙ fault.first in
     let due = due_by piece rs (part_of log p.0) (part_of next p.0) here answered fault.owes in
-    let replied_all : replied (trail later p.0) ≡ owed (counted (trail later p.0)) =
-    ap (λ (x : Part). replied x.trail) done.here ∙ asked_replied rs (part_of next p.0) fault.are.each ∙ sym due ∙ asked_owes rs (part_of next p.0) ∙ sym (ap (λ (x : Part). owed (counted x.trail)) done.here) in
+    let replied_all : replied (trail later p.0) ≡ replies_owed (counted (trail later p.0)) =
+    ap (λ (x : Part). replied x.trail) done.here ∙ asked_replied rs (part_of next p.0) fault.are.each ∙ sym due ∙ asked_owes rs (part_of next p.0) ∙ sym (ap (λ (x : Part). replies_owed (counted x.trail)) done.here) in
     let end = ClosedFor cause in
     let mine : IsLost end (part_of (Closed p ∷ later) p.0).trail =
     subst (λ (x : Part). IsLost end x.trail) (sym (closed_here p (part_of later p.0))) (shut_now (trail later p.0) cause up (inl (up, guilty))) in
@@ -441,10 +441,10 @@ fault_at {rule = rule} places log p piece cause seen now acts lt stand on answer
 fault_of : (places : List Place) (log : Log) (p : PeerNo) (piece : List ℕ) (old : Peer) (cause : Cause) (seen now : Seen) (before acts : List Act)
     → before ≡ [] → get_or places p.0 nobody ≡ Here old → PlacesStand places log → Tracks seen log
     → HearsFault p piece old seen now before acts cause → HeardFault p seen now [] acts (part_of log p.0) (heard_part piece (part_of log p.0)) cause
-fault_of places log p piece old cause seen now before acts none here stand tracks heard =
+fault_of places log p piece old cause seen now before acts none here stand tracks is_heard_out =
     let keeps = place_keeps places log p old here stand in
     subst (λ (xs : List Act). HeardFault p seen now xs acts (part_of log p.0) (heard_part piece (part_of log p.0)) cause) none
-    (heard (part_of log p.0) keeps.holds keeps.waits (follows_is seen log p.0 tracks keeps.holds.on keeps.holds.clean))
+    (is_heard_out (part_of log p.0) keeps.holds keeps.waits (follows_is seen log p.0 tracks keeps.holds.on keeps.holds.clean))
 
 -- its claims are no omissions: none of them that counts was found to lack anything
 fault_named : (log : Log) (p : PeerNo) (piece : List ℕ) (cause : Cause) (seen now last : Seen) (acts : List Act)
@@ -473,9 +473,9 @@ faulty_goes : {rule : Rule} (places : List Place) (log : Log) (p : PeerNo) (piec
     → p.0 < length places → before ≡ [] → get_or places p.0 nobody ≡ Here old → PlacesStand places log → Tracks seen log
     → HearsFault p piece old seen now before acts cause → All IsDoable acts → IsPut now last p.0 None no_claims → IsUnexposed seen
     → Goes rule (set places p.0 (Lost (ClosedFor cause))) (acts ++ Close p cause ∷ []) (Took (Got p piece) ∷ log)
-faulty_goes places log p piece old cause seen now last before acts lt none here stand tracks heard doable put unexposed =
+faulty_goes places log p piece old cause seen now last before acts lt none here stand tracks is_heard_out doable put unexposed =
     let keeps = place_keeps places log p old here stand in
-    let fault = fault_of places log p piece old cause seen now before acts none here stand tracks heard in
+    let fault = fault_of places log p piece old cause seen now before acts none here stand tracks is_heard_out in
     let sendable = sendable_by p fault.replies (subst (All IsDoable) fault.acts doable) in
     fault_at places log p piece cause seen now acts lt stand keeps.holds.on keeps.answered fault sendable
     (fault_named log p piece cause seen now last acts fault sendable put tracks unexposed)
@@ -484,8 +484,8 @@ faulty_goes places log p piece old cause seen now last before acts lt none here 
 faulty_tracks : (places : List Place) (log : Log) (p : PeerNo) (piece : List ℕ) (old : Peer) (cause : Cause) (seen now last : Seen) (before acts : List Act)
     → before ≡ [] → get_or places p.0 nobody ≡ Here old → PlacesStand places log → Tracks seen log
     → HearsFault p piece old seen now before acts cause → All IsDoable acts → IsPut now last p.0 None no_claims → Tracks last (after (acts ++ Close p cause ∷ []) (Took (Got p piece) ∷ log))
-faulty_tracks places log p piece old cause seen now last before acts none here stand tracks heard doable put =
-    let fault = fault_of places log p piece old cause seen now before acts none here stand tracks heard in
+faulty_tracks places log p piece old cause seen now last before acts none here stand tracks is_heard_out doable put =
+    let fault = fault_of places log p piece old cause seen now before acts none here stand tracks is_heard_out in
     let next = Took (Got p piece) ∷ log in
     let rs = fault.replies in
     let sendable = sendable_by p rs (subst (All IsDoable) fault.acts doable) in
@@ -524,11 +524,11 @@ pub heard_moves : (mode : Mode) (d : Desk) (p : PeerNo) (piece : List ℕ) (old 
     → p.0 < length d.places → d.acts ≡ [] → IsInOrder d → get_or d.places p.0 nobody ≡ Here old → HearsWhole p piece old peer d.seen now d.acts acts
     → HearsUnexposed p old d.seen (IsUnexposed now) → IsChanged d.seen now p.0 (Here peer) → All IsDoable acts → (calm old ≡ true → calm peer ≡ true)
     → Moves mode (Taking (Got p piece)) d (record { places = set d.places p.0 (Here peer); seen = now; acts = acts })
-heard_moves mode d p piece old peer now acts lt none order here heard unexposes changed doable calms =
+heard_moves mode d p piece old peer now acts lt none order here is_heard_out unexposes changed doable calms =
     set_moves p.0 (Here peer) lt order changed (extends_none d.acts acts none) (λ all. doable) (λ was. calms (subst (λ (y : Place). is_calm y ≡ true) here was))
     (taken (λ log stood. record {
-      goes = goes_watch changed.watch (heard_goes d.places log p piece old peer d.seen now d.acts acts lt none here (start_places d log none stood) (start_tracks d log none stood) heard doable);
-      tracks = whole_tracks d.places log p piece old peer d.seen now d.acts acts none here (start_places d log none stood) (start_tracks d log none stood) heard doable;
+      goes = goes_watch changed.watch (heard_goes d.places log p piece old peer d.seen now d.acts acts lt none here (start_places d log none stood) (start_tracks d log none stood) is_heard_out doable);
+      tracks = whole_tracks d.places log p piece old peer d.seen now d.acts acts none here (start_places d log none stood) (start_tracks d log none stood) is_heard_out doable;
       unexposed = unexposed_after d.places log p old d.seen (IsUnexposed now) here (start_places d log none stood) (start_tracks d log none stood) unexposes stood.unexposed;
     }))
 
@@ -538,7 +538,7 @@ pub faulty_moves : (mode : Mode) (d : Desk) (p : PeerNo) (piece : List ℕ) (old
     → ((q : ℕ) → q ≢ p.0 → now.chains q ≡ d.seen.chains q) → ((q : ℕ) → q ≢ p.0 → (block : Hash) → now.claims q block ≡ d.seen.claims q block) → now.watch ≡ d.seen.watch → All IsDoable acts
     → IsPut now last p.0 None no_claims
     → Moves mode (Taking (Got p piece)) d (record { places = set d.places p.0 (Lost (ClosedFor cause)); seen = last; acts = acts ++ Close p cause ∷ [] })
-faulty_moves mode d p piece old cause now last acts lt none order here heard unexposes others claims watch doable put =
+faulty_moves mode d p piece old cause now last acts lt none order here is_heard_out unexposes others claims watch doable put =
     set_moves p.0 (Lost (ClosedFor cause)) lt order (record {
       watch = put.watch ∙ watch;
       others = λ q other. put.others q other ∙ others q other;
@@ -548,8 +548,8 @@ faulty_moves mode d p piece old cause now last acts lt none order here heard une
     }) (extends_none d.acts (acts ++ Close p cause ∷ []) none)
     (λ all. All-push IsDoable acts (Close p cause) doable (omega (arith, lt, order.few))) (λ was. refl)
     (taken (λ log stood. record {
-      goes = goes_watch (put.watch ∙ watch) (faulty_goes d.places log p piece old cause d.seen now last d.acts acts lt none here (start_places d log none stood) (start_tracks d log none stood) heard doable put stood.unexposed);
-      tracks = faulty_tracks d.places log p piece old cause d.seen now last d.acts acts none here (start_places d log none stood) (start_tracks d log none stood) heard doable put;
+      goes = goes_watch (put.watch ∙ watch) (faulty_goes d.places log p piece old cause d.seen now last d.acts acts lt none here (start_places d log none stood) (start_tracks d log none stood) is_heard_out doable put stood.unexposed);
+      tracks = faulty_tracks d.places log p piece old cause d.seen now last d.acts acts none here (start_places d log none stood) (start_tracks d log none stood) is_heard_out doable put;
       unexposed = unexposed_put now last p.0 put
           (unexposed_after d.places log p old d.seen (IsUnexposed now) here (start_places d log none stood) (start_tracks d log none stood) unexposes stood.unexposed);
     }))
@@ -558,17 +558,17 @@ faulty_moves mode d p piece old cause now last acts lt none order here heard une
 pub whole_told : (mode : Mode) (d : Desk) (p : PeerNo) (piece : List ℕ) (old peer : Peer) (now : Seen) (acts : List Act) (log : Log)
     → d.acts ≡ [] → get_or d.places p.0 nobody ≡ Here old → HearsWhole p piece old peer d.seen now d.acts acts
     → Stands mode d log → AreTold acts
-whole_told mode d p piece old peer now acts log none here heard stood =
+whole_told mode d p piece old peer now acts log none here is_heard_out stood =
     let whole = whole_of d.places log p piece old peer d.seen now d.acts acts none here
-    (start_places d log none stood) (start_tracks d log none stood) heard in
+    (start_places d log none stood) (start_tracks d log none stood) is_heard_out in
     told_replies p whole.replies acts whole.are.each whole.acts
 
 pub fault_told : (mode : Mode) (d : Desk) (p : PeerNo) (piece : List ℕ) (old : Peer) (cause : Cause) (now : Seen) (acts : List Act)
     (log : Log) → d.acts ≡ [] → get_or d.places p.0 nobody ≡ Here old
     → HearsFault p piece old d.seen now d.acts acts cause → Stands mode d log → AreTold (acts ++ Close p cause ∷ [])
-fault_told mode d p piece old cause now acts log none here heard stood =
+fault_told mode d p piece old cause now acts log none here is_heard_out stood =
     let fault = fault_of d.places log p piece old cause d.seen now d.acts acts none here
-    (start_places d log none stood) (start_tracks d log none stood) heard in
+    (start_places d log none stood) (start_tracks d log none stood) is_heard_out in
     told_fault p cause fault.replies acts fault.are.each fault.acts
 
 -- a peer has gone: one that is connected, or another

@@ -37,7 +37,7 @@ chain_at s p = unwrap_or (s.chains p) []
 
 -- Of the blocks of a peer's chain up to a height, but for one with genesis's hash: it claims each; and there is none whose filter is to be asked for, or
 -- that is to be fetched, and that is open to nobody.
-pub record IsThrough (extracts : known.Table) (tables : Tables) (verdicts : Verdicts) (opens : Opens) (p : ℕ) (own : Chain) (common : ℕ) : Type 0 where
+pub record IsThrough (extracts : known.ExtractTable) (tables : Tables) (verdicts : Verdicts) (opens : Opens) (p : ℕ) (own : Chain) (common : ℕ) : Type 0 where
   pub claimed : AreClaimed tables p own common
   pub judged : AreSought extracts tables verdicts opens own common
   pub fetched : ArePassed extracts tables verdicts opens own common

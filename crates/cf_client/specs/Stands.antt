@@ -20,7 +20,7 @@ use Rattle.cf_sync.specs.Fetching.{IsBest, IsConnected, IsAskedOutIn, Rule}
 use Rattle.cf_sync.specs.Sync.{IsToldOf}
 use Rattle.cf_client.specs.declared.client.Client.{Client}
 use Rattle.cf_place.specs.Places.{PlacesStand, after, Allowed}
-use Rattle.cf_place.specs.Standing.{Words}
+use Rattle.cf_place.specs.Standing.{Greeting}
 use Rattle.cf_tracker.specs.Tracker.{watch_of}
 use Rattle.cf_hear.specs.Judging.{Judging, judging_of}
 use Rattle.cf_hear.specs.Exposing.{IsUnexposed}
@@ -69,8 +69,8 @@ abbrev pub count_of : {H M : Type 0} → {g : Ghosts H} {j : Judges M} → Clien
 count_of c = length c.places.items
 
 -- what its version tells
-abbrev pub words_by : {H M : Type 0} → {g : Ghosts H} {j : Judges M} → Client H M g j → Words
-words_by c = record { moment = c.moment; number = c.nonce }
+abbrev pub greeting_by : {H M : Type 0} → {g : Ghosts H} {j : Judges M} → Client H M g j → Greeting
+greeting_by c = record { moment = c.moment; number = c.nonce }
 
 -- the matcher that it was handed
 abbrev pub matcher_by : {H M : Type 0} → {g : Ghosts H} {j : Judges M} → Client H M g j → M

@@ -21,7 +21,7 @@ ghost use Rattle.cf_peer.specs.declared.mode.Mode.TheVariants.{Following};
 
 use cf_bytes::{Hash32, NoMemory, PeerNo};
 use cf_headers::HeaderStore;
-use cf_msg::{Entries, Entry, Hashes, Msg};
+use cf_msg::{Entries, Hashes, Inventory, Msg};
 use cf_peer::{Act, Cause, Mode, Range};
 use cf_place::{Loss, Place};
 use cf_seek::{Span, Trial, Wish};
@@ -159,7 +159,7 @@ fn fetch(alloc: Global, hash: Hash32) -> Result<Msg, NoMemory>
     ensures { IfOk result (IsFetch hash) }
 {
     let mut entries = Entries::new(alloc);
-    entries.push(Entry { kind: 2, hash })?;
+    entries.push(Inventory { kind: 2, hash })?;
     Ok(Msg::GetData(entries))
 }
 

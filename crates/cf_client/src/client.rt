@@ -3,7 +3,7 @@ ghost use Rattle.std.specs.Prelude.{◌≡◌, ℕ, ◌<◌, ◌≤◌, ◌+◌,
 ghost use Rattle.std.specs.List.{list_any, All, count_by};
 ghost use Rattle.cf_peer.specs.Acts.{IsDoable};
 ghost use Rattle.cf_place.specs.Places.{state_of, is_busy, is_here, IsGreeting, end_of};
-ghost use Rattle.cf_place.specs.Standing.{TellsWords};
+ghost use Rattle.cf_place.specs.Standing.{TellsGreeting};
 ghost use Rattle.cf_client.specs.Settled.{AreSettled, AreRight};
 ghost use Rattle.cf_hear.specs.Seen.{seen_of};
 ghost use Rattle.cf_hear.specs.Judging.{AreJudgedBy, IsUnjudged};
@@ -83,12 +83,6 @@ const NO_ADDRESS: NetAddress = NetAddress {
     port: 0,
 };
 
-// The filter header of regtest's first block (BIP 157, "Filter Headers"), in wire order.
-const FIRST_FILTER_HEADER: Hash32 = Hash32([
-    0x2b, 0x5a, 0xdc, 0x66, 0x02, 0x1d, 0x5c, 0x77, 0x5f, 0x63, 0x0e, 0xfd, 0x91, 0x51, 0x8c, 0xf6,
-    0xce, 0x3e, 0x9f, 0x52, 0x5b, 0xbf, 0x54, 0xd9, 0xf0, 0xd7, 0x09, 0x45, 0x1e, 0x30, 0x5e, 0x48,
-]);
-
 // How the peers at these places stand.
 fn ends_of(alloc: Global, places: &[Place]) -> Result<Vec<PeerEnd>, NoMemory>
     ensures { IfOk result (λ ends. ends.items ≡ map end_of places.now) }
@@ -113,7 +107,7 @@ fn ends_of_peers(alloc: Global, places: &[Place]) -> Result<Vec<PeerEnd>, NoMemo
 // The version that a client sends.
 fn greeting(alloc: Global, moment: i64, nonce: u64) -> Result<Msg, NoMemory>
     ensures greeting { IfOk result IsGreeting }
-    ensures tells { IfOk result (TellsWords (record { moment = moment; number = nonce })) }
+    ensures tells { IfOk result (TellsGreeting (record { moment = moment; number = nonce })) }
 {
     let agent = Vec::from_slice(alloc, b"/cf:1/")?;
     Ok(Msg::Version {
@@ -143,7 +137,7 @@ impl<H: HeaderStore, M: Matcher> Client<H, M> {
     ghost use Rattle.cf_client.specs.Holding.{Counts, HoldsNoMore};
     ghost use Rattle.cf_client.specs.Stands.{Reflects, Answers, ArePinged, AreTicked, IsBestTip, IsReportOf};
     ghost use Rattle.cf_client.specs.Stands.{IsHistoryTold, is_dead, open_count, count_of, rule_by, seen_by, watch_by};
-    ghost use Rattle.cf_client.specs.Stands.{words_by, matcher_by, judging_by};
+    ghost use Rattle.cf_client.specs.Stands.{greeting_by, matcher_by, judging_by};
     ghost use Rattle.cf_client.specs.Blameless.{AreAskedOut, HasBlamed, IsBlameless, IsInnocent, AreAnswered};
 
     /// A client that knows of no peer yet, over a store in which no peer is entered. It watches these scripts, and
@@ -163,13 +157,13 @@ impl<H: HeaderStore, M: Matcher> Client<H, M> {
         requires { (q : ℕ) → H.chain store q ≡ None }
         ensures reflects { IfOk result (λ c. Reflects c []) }
         ensures rule { IfOk result (λ c. rule_by c ≡ once watch) }
-        ensures words { IfOk result (λ c. words_by c ≡ record { moment = moment; number = nonce }) }
+        ensures words { IfOk result (λ c. greeting_by c ≡ record { moment = moment; number = nonce }) }
         ensures count { IfOk result (λ c. count_of c ≡ 1) }
         ensures matcher { IfOk result (λ c. matcher_by c ≡ matcher) }
     {
         let mut places = Vec::new(alloc);
         places.push(Place::Lost(Loss::NotDialled))?;
-        let tracker = Tracker::new(alloc, watch, store, &FIRST_FILTER_HEADER)?;
+        let tracker = Tracker::new(alloc, watch, store)?;
         Ok(Client {
             alloc,
             moment,
@@ -190,7 +184,7 @@ impl<H: HeaderStore, M: Matcher> Client<H, M> {
         requires alone { count_of self ≡ 1 }
         ensures reflects { Reflects result [] }
         ensures rule { rule_by result ≡ record { watch = watch_by self; mode = Following } }
-        ensures words { words_by result ≡ words_by self }
+        ensures words { greeting_by result ≡ greeting_by self }
         ensures count { count_of result ≡ 1 }
         ensures matcher { matcher_by result ≡ matcher_by self }
     {
@@ -206,11 +200,11 @@ impl<H: HeaderStore, M: Matcher> Client<H, M> {
         requires next { p.0 ≡ count_of self.old }
         ensures answers { IfOk result (λ acts. (log : Log) → Reflects self.old log
             → Answers self.new acts.items (Dialled p name.now ∷ log)) }
-        ensures greets { IfOk result (λ acts. Greets (words_by self.old) p acts.items) }
+        ensures greets { IfOk result (λ acts. Greets (greeting_by self.old) p acts.items) }
         ensures doable { IfOk result (λ acts. All IsDoable acts.items) }
         ensures count { OnOk result (count_of self.new ≡ count_of self.old + 1) }
         ensures rule { OnOk result (rule_by self.new ≡ rule_by self.old) }
-        ensures words { words_by self.new ≡ words_by self.old }
+        ensures words { greeting_by self.new ≡ greeting_by self.old }
         ensures judged { OnOk result (IsUnjudged (judging_by self.old) (judging_by self.new)) }
         ensures dead { is_dead self.old ≡ true → IsErr result }
         ensures err { OnErr result (is_dead self.new ≡ true) }
@@ -236,7 +230,7 @@ impl<H: HeaderStore, M: Matcher> Client<H, M> {
             → Reflects self.new (NotDialled p name.now ∷ log)) }
         ensures count { OnOk result (count_of self.new ≡ count_of self.old + 1) }
         ensures rule { OnOk result (rule_by self.new ≡ rule_by self.old) }
-        ensures words { words_by self.new ≡ words_by self.old }
+        ensures words { greeting_by self.new ≡ greeting_by self.old }
         ensures judged { OnOk result (IsUnjudged (judging_by self.old) (judging_by self.new)) }
         ensures dead { is_dead self.old ≡ true → IsErr result }
         ensures err { OnErr result (is_dead self.new ≡ true) }
@@ -262,11 +256,11 @@ impl<H: HeaderStore, M: Matcher> Client<H, M> {
         ensures answers { IfOk result (λ acts. (log : Log) → Reflects self.old log
             → Answers self.new acts.items (Took d.now ∷ log)) }
         ensures tells { IfOk result (λ acts. (log : Log) → Reflects self.old log
-            → All (ActTells (words_by self.old)) acts.items) }
+            → All (ActTells (greeting_by self.old)) acts.items) }
         ensures doable { IfOk result (λ acts. All IsDoable acts.items) }
         ensures count { count_of self.new ≡ count_of self.old }
         ensures rule { OnOk result (rule_by self.new ≡ rule_by self.old) }
-        ensures words { words_by self.new ≡ words_by self.old }
+        ensures words { greeting_by self.new ≡ greeting_by self.old }
         ensures judged { OnOk result (AreJudgedBy M.judges (watch_by self.old)
             (judging_by self.old) (judging_by self.new)) }
         ensures in_order { IfOk result (λ acts. (log : Log) → Reflects self.old log → AreInOrder acts.items) }
@@ -305,12 +299,12 @@ impl<H: HeaderStore, M: Matcher> Client<H, M> {
         ensures answers { IfOk result (λ acts. (log cut : Log) → p.0 < count_of self.old → Reflects self.old log
             → CutFor p log cut → Answers self.new acts.items cut) }
         ensures tells { IfOk result (λ acts. (log cut : Log) → p.0 < count_of self.old → Reflects self.old log
-            → CutFor p log cut → All (ActTells (words_by self.old)) acts.items) }
+            → CutFor p log cut → All (ActTells (greeting_by self.old)) acts.items) }
         ensures first { IfOk result (λ acts. p.0 < count_of self.old → Extends (Close p SendFailed ∷ []) acts.items) }
         ensures doable { IfOk result (λ acts. All IsDoable acts.items) }
         ensures count { count_of self.new ≡ count_of self.old }
         ensures rule { OnOk result (rule_by self.new ≡ rule_by self.old) }
-        ensures words { words_by self.new ≡ words_by self.old }
+        ensures words { greeting_by self.new ≡ greeting_by self.old }
         ensures judged { OnOk result (IsUnjudged (judging_by self.old) (judging_by self.new)) }
         ensures in_order { IfOk result (λ acts. AreInOrder acts.items) }
         ensures dead { is_dead self.old ≡ true → IsErr result }

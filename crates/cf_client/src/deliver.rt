@@ -16,7 +16,7 @@ use crate::ask::{close_late, pass_all, ping_all};
 use crate::blame::close_claimants;
 use cf_bytes::{NoMemory, PeerNo};
 use cf_headers::HeaderStore;
-use cf_hear::{Stop, hear_piece};
+use cf_hear::{HearStop, hear_piece};
 use cf_match::Matcher;
 use cf_peer::{Act, Cause, Mode};
 use cf_place::{Loss, Place};
@@ -52,13 +52,13 @@ fn hear_from<H: HeaderStore, M: Matcher>(
         Place::Lost(_) => Ok(()),
         Place::Here(peer) => match hear_piece(alloc, tracker, matcher, peer, p, piece, acts)? {
             None => Ok(()),
-            Some(Stop::Fault(cause)) => {
+            Some(HearStop::Fault(cause)) => {
                 acts.push(Act::Close(p, cause))?;
                 tracker.forget(p);
                 places[i] = Place::Lost(Loss::Closed(cause));
                 Ok(())
             }
-            Some(Stop::Exposed(exposure)) => {
+            Some(HearStop::Exposed(exposure)) => {
                 close_claimants(tracker, places, acts, &exposure)?;
                 Ok(())
             }

@@ -1,6 +1,6 @@
 -- The check of transactions, a step at a time, and what it says.
 use Rattle.std.proofs.Common.{◌≡◌, ℕ, suc, ◌+◌, ◌<◌, true, false, List, [], ◌∷◌, ◌++◌, length, get_or, drop, refl, sym, ◌∙◌, ap, subst, arith, add-one, Option, Some, None, Result, Ok, Err}
-use Rattle.std.specs.Prelude.{fold, is_some, IsTrue, not, ◌||◌, if◌then◌else◌, option_to_list}
+use Rattle.std.specs.Prelude.{fold, is_some, IsTrue, not, ◌||◌, if◌then◌else◌}
 use Rattle.std.specs.List.{list_any}
 use Rattle.std.proofs.Math.Seq.{drop-cons}
 use Rattle.std.proofs.lemmas.List.{append_assoc, map-append}
@@ -9,7 +9,6 @@ use Rattle.cf_bytes.specs.Cut.{◌>>=◌}
 use Rattle.cf_bytes.specs.declared.memory.Refused.{Refused}
 use Rattle.cf_bytes.specs.declared.memory.Refused.TheVariants.{No, NoMemory}
 use Rattle.cf_block.specs.declared.tx.OutPoint.{OutPoint}
-use Rattle.cf_block.specs.declared.tx.TxIn.{TxIn}
 use Rattle.cf_block.specs.declared.tx.Tx.{Tx}
 use Rattle.cf_block.specs.Output.{Output}
 use Rattle.cf_block.specs.Outpoint.{outpoint, spends_of}
@@ -19,16 +18,7 @@ use Rattle.cf_chain.specs.Coins.{CoinMap, without, with_outputs, after_tx, spent
 use Rattle.cf_chain.specs.Good.{AllStand, NoneStands, IsGoodTx, AreGoodTxs, NoCoinbases, HasOneCoinbase}
 use Rattle.cf_coins.specs.declared.fault.CoinFault.{CoinFault}
 use Rattle.cf_coins.specs.declared.fault.CoinFault.TheVariants.{NoCoinbase, SecondCoinbase, Exists}
-use Rattle.cf_coins.specs.Spending.{prevs, scripts_of, found, take_all, put_all, spend, spend_all, coinbase_fault, unless_fault, spend_txs, Refuses}
-
-pub inputs_more : (coins : CoinMap) (ins : List TxIn) (i : ℕ) (d : TxIn) → i < length ins
-    → take_all coins (prevs (drop i ins)) ≡ (found (get_or ins i d).prev (get coins (get_or ins i d).prev) (remove coins (get_or ins i d).prev) >>= λ c. take_all c (prevs (drop (i + 1) ins)))
-inputs_more coins ins i d lt = rw (add-one, drop-cons ins i d) refl
-
-pub outputs_more : (txid : List ℕ) (j : ℕ) (coins : CoinMap) (os : List Output) (i : ℕ) (d : Output) → i < length os
-    → put_all txid j coins (drop i os)
-    ≡ (if is_some (get coins (outpoint txid j)) then Err (Exists (outpoint txid j)) else put_all txid (suc j) (insert coins (outpoint txid j) (get_or os i d)) (drop (i + 1) os))
-outputs_more txid j coins os i d lt = rw (add-one, drop-cons os i d) refl
+use Rattle.cf_coins.specs.Spending.{scripts_of, found, take_all, put_all, spend, spend_all, coinbase_fault, unless_fault, spend_txs, Refuses}
 
 pub txs_more : (coins : CoinMap) (ts : List Tx) (i : ℕ) (d : Tx) → i < length ts
     → spend_all coins (drop i ts) ≡ (spend coins (get_or ts i d) >>= λ c. spend_all c (drop (i + 1) ts))
@@ -118,7 +108,7 @@ spend_gave coins new t h =
       | Err f ↦ λ e h. cc
     ] refl h
 
-spent_all : (coins new : CoinMap) (ts : List Tx) → spend_all coins ts ≡ Ok new → AreGoodTxs coins ts × (new ≡ fold after_tx coins ts)
+pub spent_all : (coins new : CoinMap) (ts : List Tx) → spend_all coins ts ≡ Ok new → AreGoodTxs coins ts × (new ≡ fold after_tx coins ts)
 unfolding spend_all
 spent_all coins new [] h = (tt, cc)
 spent_all coins new (t ∷ ts) h =
@@ -167,16 +157,6 @@ unfolding spend
 spend_is coins c t h = ap (λ r. r >>= λ c. put_all (txid_of t) 0 c t.outputs) h
 
 -- ---- what was spent
-
-pub inputs_spent : (front all : List (List ℕ)) (coins : CoinMap) (ins : List TxIn) (i : ℕ) (d : TxIn) (o : Output) → i < length ins → get coins (get_or ins i d).prev ≡ Some o
-    → front ++ scripts_of (spent_of coins (prevs (drop i ins))) ≡ all
-    → (front ++ o.script ∷ []) ++ scripts_of (spent_of (remove coins (get_or ins i d).prev) (prevs (drop (i + 1) ins))) ≡ all
-inputs_spent front all coins ins i d o lt is so_far =
-    let p : OutPoint = (get_or ins i d).prev in
-    let rest : List Output = spent_of (remove coins p) (prevs (drop (i + 1) ins)) in
-    let step : spent_of coins (prevs (drop i ins)) ≡ option_to_list (get coins p) ++ rest = rw (add-one, drop-cons ins i d) refl in
-    let one : option_to_list (get coins p) ++ rest ≡ o ∷ rest = ap (λ x. option_to_list x ++ rest) is in
-    append_assoc front (o.script ∷ []) (scripts_of rest) ∙ ap (λ l. front ++ scripts_of l) (sym (step ∙ one)) ∙ so_far
 
 pub txs_spent : (front more all : List (List ℕ)) (coins new : CoinMap) (t d : Tx) (ts : List Tx) (i : ℕ) → i < length ts → t ≡ get_or ts i d → spend coins t ≡ Ok new
     → more ≡ front ++ scripts_of (spent_of coins (spends_of t))

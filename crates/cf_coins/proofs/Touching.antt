@@ -10,7 +10,6 @@ use Rattle.cf_bytes.specs.Cut.{◌>>=◌}
 use Rattle.cf_bytes.specs.declared.memory.Refused.{Refused}
 use Rattle.cf_bytes.specs.declared.memory.Refused.TheVariants.{No, NoMemory}
 use Rattle.cf_block.specs.declared.tx.OutPoint.{OutPoint}
-use Rattle.cf_block.specs.declared.tx.TxIn.{TxIn}
 use Rattle.cf_block.specs.declared.tx.Tx.{Tx}
 use Rattle.cf_block.specs.Output.{Output}
 use Rattle.cf_block.specs.Outpoint.{outpoint, outpoint_cmp, spends_of}
@@ -19,7 +18,7 @@ use Rattle.cf_chain.specs.Coins.{CoinMap}
 use Rattle.cf_chain.proofs.Outpoints.{outpoint_total, same_name}
 use Rattle.cf_coins.specs.declared.fault.CoinFault.{CoinFault}
 use Rattle.cf_coins.specs.declared.fault.CoinFault.TheVariants.{Exists}
-use Rattle.cf_coins.specs.Spending.{prevs, found, take_all, put_all, spend, spend_all, coinbase_fault, unless_fault, spend_txs, Refuses}
+use Rattle.cf_coins.specs.Spending.{found, take_all, put_all, spend, spend_all, coinbase_fault, unless_fault, spend_txs, Refuses}
 use Rattle.cf_coins.specs.Touching.{places, names_of, touched, with_found, with_named}
 
 -- ---- the same under names
@@ -189,10 +188,6 @@ judged_bad coins few ts (No f) is bad = fault_judged (spend_txs few ts) (spend_t
 judged_bad coins few ts NoMemory is bad = tt
 
 -- ---- the copying, a step at a time
-
-pub inputs_named : (coins few : CoinMap) (ins : List TxIn) (i : ℕ) (d : TxIn) → i < length ins
-    → with_named coins few (prevs (drop i ins)) ≡ with_named coins (with_found few (get_or ins i d).prev (get coins (get_or ins i d).prev)) (prevs (drop (i + 1) ins))
-inputs_named coins few ins i d lt = rw (add-one, drop-cons ins i d) refl
 
 pub places_named : (coins few : CoinMap) (txid : List ℕ) (os : List Output) (i : ℕ) (d : Output) → i < length os
     → with_named coins few (places txid i (drop i os))

@@ -20,6 +20,7 @@ pub type Spent = Listed<Script>;
 /// Spends a block's inputs and puts its outputs in, transaction by transaction, and answers what was spent; or the
 /// first fault, after which nothing is said of the coins. The first transaction must be a coinbase and no other may be
 /// one; each input must name a coin as they stand when it comes; no output may be put over a standing one.
+#[tactic(auto, unfolding(crate::specs::Spending::spend_txs))]
 pub fn spend_block(
     alloc: Global,
     coins: &mut Coins,
@@ -32,32 +33,16 @@ pub fn spend_block(
     ensures after { OnOk result (coins.new ≡ after_block coins.old block.now) }
     ensures spent { IfOk result (λ scripts. scripts ≡ prevouts coins.old block.now) }
 {
+    if let Some(fault) = find_coinbase_fault(block.txs.as_slice()) {
+        return Err(Refused::No(fault));
+    }
     let mut spent = Vec::new(alloc);
-    match check_txs(alloc, coins, block.txs.as_slice(), txids, &mut spent) {
+    match spend_each(alloc, coins, block.txs.as_slice(), txids, &mut spent) {
         Ok(()) => {
             spent.shrink_to_fit();
             Ok(Listed::from_vec(spent))
         }
         Err(e) => Err(e),
-    }
-}
-
-#[tactic(auto, unfolding(crate::specs::Spending::spend_txs))]
-fn check_txs(
-    alloc: Global,
-    coins: &mut Coins,
-    txs: &[Tx],
-    txids: &[Hash32],
-    spent: &mut Vec<Script>,
-) -> Result<(), Refused<CoinFault>>
-    requires few { All (λ t. length t.outputs < 2 ^ 32) txs.now }
-    requires hashes { AreTxids txids.now txs.now }
-    ensures exact { Gives (spend_txs coins.old txs.now) result coins.new }
-    ensures spent { OnOk result (spent.new.items ≡ spent.old.items ++ scripts_of (spent_by coins.old txs.now)) }
-{
-    match find_coinbase_fault(txs) {
-        Some(fault) => Err(Refused::No(fault)),
-        None => spend_each(alloc, coins, txs, txids, spent),
     }
 }
 

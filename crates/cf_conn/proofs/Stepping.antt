@@ -49,3 +49,6 @@ mapped {S} {F} step other at each a b steps = record { count = steps.count; each
     mapped_in : (n : ℕ) (a : S) → StepsIn step n a b → StepsIn other n (at a) (at b)
     mapped_in zero a same = ap at same
     mapped_in (suc n) a more = (at more.0, each a more.0 more.1, mapped_in n more.0 more.2)
+
+-- no step, one more, or perhaps one more
+pub ruleset steps = (no_steps, one_step, maybe_step)

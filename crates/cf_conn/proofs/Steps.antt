@@ -1,6 +1,6 @@
 -- One read more.
 use Rattle.std.proofs.Common.{◌≡◌, ℕ, ◌+◌, List, ◌++◌, take, drop, Option, Some, None, refl, append_assoc}
-use Rattle.std.proofs.lemmas.List.{drop-drop, take-append-drop}
+use Rattle.std.proofs.lemmas.List.{drop-drop, take-append-drop, take_rest}
 use Rattle.cf_conn.specs.Source.{with_front}
 
 -- bytes from a place on are a piece and the bytes after it
@@ -13,3 +13,6 @@ pub read_more : (front more : List ℕ) (told : Option (List ℕ))
     → with_front front (with_front more told) ≡ with_front (front ++ more) told
 read_more front more None = refl
 read_more front more (Some bytes) = rw (append_assoc front more bytes) refl
+
+-- one piece more, and the last
+pub ruleset pieces = (one_piece_more, take_rest)

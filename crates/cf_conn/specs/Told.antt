@@ -2,7 +2,7 @@
 use Rattle.std.specs.Prelude.{ℕ, Bool, List, Option}
 
 -- the bytes left and the bytes written, where they are told, whether its end was read, and how often it has failed
-pub record Told : Type 0 where
+pub record ConnTold : Type 0 where
   pub left : Option (List ℕ)
   pub written : Option (List ℕ)
   pub ended : Bool

@@ -2,7 +2,7 @@
 ghost use Rattle.std.specs.Prelude.{◌≡◌, ℕ, ◌≤◌, ◌<◌, ◌||◌, [], length, take, drop, IfOk, IfSome, OnOk, OnErr};
 ghost use Rattle.cf_bytes.specs.Outside.{HasRisen, with_more};
 ghost use Rattle.cf_conn.specs.Source.{with_front, is_end};
-ghost use Rattle.cf_conn.specs.Told.{Told};
+ghost use Rattle.cf_conn.specs.Told.{ConnTold};
 
 use crate::source::Source;
 use cf_bytes::{Failed, Sink};
@@ -13,7 +13,7 @@ pub trait Duplex: Source + Sink {
     type End;
 
     /// What such an end tells.
-    ghost tells: { Self.End → Told };
+    ghost tells: { Self.End → ConnTold };
 
     /// Reads as `read` does. What the connection tells of its writes stays as it is.
     fn receive(&mut self, into: &mut [u8]) -> Result<usize, Failed>

@@ -7,7 +7,7 @@ use cf_bytes::Failed;
 
 /// Sends all the bytes by calls of `send`, each of which gets all that is left. It fails at the first call
 /// that fails; the connection has then got the first of the bytes.
-#[tactic(auto, using(cf_bytes::proofs::Sent::sent_more, std::proofs::lemmas::List::take_rest, std::proofs::lemmas::Grind::common_steps))]
+#[tactic(auto, using(cf_bytes::proofs::Sent::sends, std::proofs::lemmas::Grind::common_steps))]
 pub fn send_all<C: Duplex>(conn: &mut C, bytes: &[u8]) -> Result<(), Failed>
     ensures ok { OnOk result (C.written conn.new ≡ with_more (C.written conn.old) bytes.now) }
     ensures err { OnErr result ((n : ℕ) × (n ≤ length bytes.now)

@@ -90,7 +90,7 @@ impl Window {
 
     /// Reads on until n bytes are held, or no more come. Nothing is taken. Of what is read, fewer than n + 65,536 bytes
     /// are held at once.
-    #[tactic(auto, using(crate::proofs::Stepping::no_steps, crate::proofs::Stepping::one_step, crate::proofs::Stepping::maybe_step))]
+    #[tactic(auto, using(crate::proofs::Stepping::steps))]
     pub fn want<S: Source>(&mut self, source: &mut S, n: usize) -> Result<(), ReadFail>
         ensures same { with_front self.new.held (S.left source.new) ≡ with_front self.old.held (S.left source.old) }
         ensures bound { length self.new.held + self.new.room ≡ length self.old.held + self.old.room }

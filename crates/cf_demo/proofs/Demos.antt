@@ -16,8 +16,11 @@ use Rattle.cf_run.specs.declared.outcome.Outcome.{Outcome}
 use Rattle.cf_place.specs.declared.place.PeerEnd.{PeerEnd}
 use Rattle.cf_place.specs.Standing.{EndsTell}
 use Rattle.cf_run.specs.Names.{names_in}
-use Rattle.cf_run.specs.Run.{Followed, IsEnd}
+use Rattle.cf_run.specs.Run.{RanTo, IsEnd}
+use Rattle.cf_run.specs.Whole.{EndsWithin, IsOutcome}
+use Rattle.cf_run.specs.declared.trace.TraceLine.{TraceLine}
 use Rattle.cf_headers.specs.Chain.{NoHashClash}
+use Rattle.cf_headers.specs.Store.{Chains}
 use Rattle.cf_make.proofs.MadeLaws.{extension_one}
 use Rattle.cf_wires.specs.declared.event.Delivery.TheVariants.{Ended as EndedFirst}
 use Rattle.cf_wires.specs.declared.event.Event.TheVariants.{Took}
@@ -74,26 +77,28 @@ quiet_so NoPeers log why is = cc
 quiet_so Tired log why is = cc
 quiet_so Ended log why is = cc
 
-run_of : (watch : List (List ℕ)) (peers : List Peer) (names : List (List ℕ)) (o : Outcome) (log : Log) → HasRunOver watch peers names o log → IsRun log
-run_of watch peers names o log ran = record { bytes = ran.followed.asked.bytes; rightly = ran.followed.asked.rightly; numbered = ran.followed.numbered; orderly = ran.followed.was_orderly }
+-- the log of a run is one of a run
+pub run_in : {watch : List (List ℕ)} {end : End} {height : ℕ} {hash : Hash32} {entries : List Entry} {lines : List TraceLine} {called : List (List ℕ)} {log : Log}
+    → RanTo (once watch) end height hash entries lines called log → IsRun log
+run_in f = record { bytes = f.asked.bytes; rightly = f.asked.rightly; numbered = f.run.numbered; orderly = f.run.was_orderly }
 
 -- what is said of a run that was answered
-pub has_run : (r : Result Outcome NoMemory) (watch : List (List ℕ)) (peers : List Peer) (names : List (String Global)) (log : Log)
-    → IfOk r (λ o. Followed (once watch) o.end o.height o.tip o.history o.trace.items (names_in names) log) → IfOk r (λ o. EndsTell o.ends.items log) → IfOk r (λ o. SyncTheorem watch o.height o.tip o.history log)
+pub has_run : (r : Result Outcome NoMemory) (counts : Chains → ℕ → Type 0) (watch : List (List ℕ)) (peers : List Peer) (names : List (String Global)) (log : Log)
+    → IfOk r (λ o. IsOutcome counts (once watch) (names_in names) o log) → IfOk r (λ o. SyncTheorem watch o.height o.tip o.history log)
     → OnOk r ((i : ℕ) (peer : Peer) → slice_get peers i ≡ Some peer → peer.way ≡ Honest → i < length names → NoHashClash (IsHashed log peer.blocks) → IsHonest log (suc i) peer.blocks)
-    → Accounts log peers → IfOk r (λ o. o.end ≡ Tired → (tally_of log).taken ≡ most_deliveries) → OnOk r ((tally_of log).dials ≡ length names) → IfOk r (λ o. HasRunOver watch peers (names_in names) o log)
-has_run (Ok o) watch peers names log followed stand theorem honest accounts tired dials =
+    → Accounts log peers → IfOk r (λ o. EndsWithin o.end (length names) most_deliveries (tally_of log)) → IfOk r (λ o. HasRunOver watch peers (names_in names) o log)
+has_run (Ok o) counts watch peers names log is theorem honest accounts within =
     let count : length (names_in names) ≡ length names = length-map names string_bytes in
     record {
-      followed = followed;
-      stand = stand;
+      followed = is.followed;
+      stand = is.ends;
       theorem = theorem;
       honest = λ i peer at way few clash. honest i peer at way (omega (arith, few, count)) clash;
       accounts = accounts;
-      tired = tired;
-      dials = dials ∙ sym count;
+      tired = within.tired;
+      dials = within.dialled ∙ sym count;
     }
-has_run (Err e) watch peers names log followed stand theorem honest accounts tired dials = tt
+has_run (Err e) counts watch peers names log is theorem honest accounts within = tt
 
 -- ---- the three of a demo
 
@@ -148,7 +153,7 @@ demo_on seed blocks peers o demo log small low h ran told =
       made = h.made;
       made_longer = h.made_longer;
       dials = ran.dials;
-      names = ran.followed.named;
+      names = ran.followed.run.named;
       three = three;
       stand = subst (λ (es : List PeerEnd). EndsTell es log) (sym told.ends) ran.stand;
       fetched = told.fetched ∙ fetches_are o.trace.items log ran.followed.asked.rightly ran.followed.traced;
@@ -158,7 +163,7 @@ demo_on seed blocks peers o demo log small low h ran told =
           let end : o.end ≡ Synced = sym told.end ∙ is in
           let chains = two_made seed blocks h.chain h.longer log small low h.made h.made_longer apart in
           history_told h.chain o.height o demo told
-          (run_tells demo_watch o.height o.tip o.history log h.chain h.longer (run_of demo_watch peers demo_names o log ran) chains (three chains.good chains.good_longer) ran.theorem
+          (run_tells demo_watch o.height o.tip o.history log h.chain h.longer (run_in ran.followed) chains (three chains.good chains.good_longer) ran.theorem
           (ran.followed.settled end) (quiet_so o.end log ran.followed.why end));
       somebody = λ is clash.
           let good = made_good seed blocks h.chain log (omega (arith, small)) (omega (arith, low)) h.made clash in

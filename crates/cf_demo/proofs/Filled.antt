@@ -9,7 +9,7 @@ use Rattle.cf_frame.specs.Stream.{StreamRead, read_stream}
 use Rattle.cf_headers.specs.Chain.{Hash, Chain, above, back_to}
 use Rattle.cf_match.specs.declared.job.Job.{Job}
 use Rattle.cf_msg.specs.declared.msg.Malformed.{Malformed}
-use Rattle.cf_msg.specs.declared.msg.Entry.{Entry}
+use Rattle.cf_msg.specs.declared.msg.Inventory.{Inventory}
 use Rattle.cf_msg.specs.declared.msg.Msg.{Msg}
 use Rattle.cf_msg.specs.declared.msg.Msg.TheVariants.{Ping, Pong, GetHeaders, Headers, GetData, Block as BlockMessage, GetCfheaders, Cfheaders, GetCfilters, Cfilter}
 use Rattle.cf_msg.specs.Reading.{message_of}
@@ -87,7 +87,7 @@ claims_filled : (o : Option Chain) (start : ℕ) (stop : Hash) → IsFilled (cla
 claims_filled None start stop = tt
 claims_filled (Some part) start stop = tt
 
-block_filled : (entries : List Entry) (r : OpenRequest) → IsFilled r → IsFilled (block_asked entries r)
+block_filled : (entries : List Inventory) (r : OpenRequest) → IsFilled r → IsFilled (block_asked entries r)
 block_filled [] r h = h
 block_filled (entry ∷ more) r h = tt
 

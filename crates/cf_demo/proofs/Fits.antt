@@ -16,7 +16,7 @@ use Rattle.cf_chain.specs.Good.{IsGoodChain, AreGoodBlocks}
 use Rattle.cf_chain.specs.Heights.{all_blocks, block_height}
 use Rattle.cf_chain.specs.Filters.{Filtered, first_filtered, filters_of}
 use Rattle.cf_chain.specs.Serve.{fork_height, most_headers, next_headers, block_in, block_with, headers_reply, data_reply, within, range_end, filters_between, cfilter_of, cfilters_reply, header_before, cfheaders_reply, reply_to, replies_to, replies, version_reply, is_version}
-use Rattle.cf_msg.specs.declared.msg.Entry.{Entry}
+use Rattle.cf_msg.specs.declared.msg.Inventory.{Inventory}
 use Rattle.cf_msg.specs.declared.msg.Msg.{Msg}
 use Rattle.cf_msg.specs.declared.msg.Msg.TheVariants.{Version, Verack, Ping, GetHeaders, Headers, GetData, Block as BlockMessage, GetCfilters, GetCfheaders, Cfheaders, GetCfcheckpt}
 use Rattle.cf_peer.specs.Acts.{IsSendable}
@@ -122,7 +122,7 @@ headers_good blocks good (hash ∷ more) stop =
       tt,
     )
 
-data_good : (blocks : List Block) → IsGoodChain blocks → (entry : Entry) → AreReplies (data_reply blocks entry)
+data_good : (blocks : List Block) → IsGoodChain blocks → (entry : Inventory) → AreReplies (data_reply blocks entry)
 data_good blocks good entry = by_kind (entry.kind == 2) where
   by_kind : (b : Bool) → AreReplies (if b then map (λ (x : Block). BlockMessage x) (block_with entry.hash blocks) else [])
   by_kind true = all-map IsBlock IsReply (λ x. BlockMessage x) (block_with entry.hash blocks) (λ x is. block_replies x is) (in_good blocks (block_height entry.hash blocks) good)

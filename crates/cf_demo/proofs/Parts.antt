@@ -18,7 +18,7 @@ use Rattle.cf_wires.specs.Log.{Log, tally_of}
 use Rattle.cf_peer.specs.Trail.{Why, Trail, Part, Lost, Went, Failing, Shutting, called_part, with_item, item_of, item_of_read, hears, hears_fault, part_after, heard_part, spelled, asks, part_of, trail, connected}
 use Rattle.cf_peer.specs.Asking.{MayAsk}
 use Rattle.cf_sync.specs.Fetching.{Rightly}
-use Rattle.cf_sync.specs.Honesty.{asked, said, IsSpelled}
+use Rattle.cf_sync.specs.Honesty.{asked, messages_said, IsSpelled}
 use Rattle.cf_sync.proofs.Entries.{at_either}
 use Rattle.cf_played.specs.Answers.{came, told_to}
 use Rattle.cf_run.specs.Run.{AreNumbered}
@@ -26,16 +26,16 @@ use Rattle.cf_demo.proofs.Beginnings.{word_of, words, words_append, AreMessages,
 
 -- ---- to hear frames
 
-said_item : (r : Result Msg Malformed) (t : Trail) → said (item_of_read r ∷ t) ≡ said t ++ word_of r
+said_item : (r : Result Msg Malformed) (t : Trail) → messages_said (item_of_read r ∷ t) ≡ messages_said t ++ word_of r
 said_item (Ok m) t = refl
-said_item (Err e) t = sym (append-nil (said t))
+said_item (Err e) t = sym (append-nil (messages_said t))
 
-pub said_hears : (fs : List Frame) (t : Trail) → said (hears fs t) ≡ said t ++ words fs
-said_hears [] t = sym (append-nil (said t))
+pub said_hears : (fs : List Frame) (t : Trail) → messages_said (hears fs t) ≡ messages_said t ++ words fs
+said_hears [] t = sym (append-nil (messages_said t))
 said_hears (f ∷ fs) t =
     said_hears fs (item_of f ∷ t)
     ∙ ap (λ ms. ms ++ words fs) (said_item (message_of f) t)
-    ∙ append_assoc (said t) (word_of (message_of f)) (words fs)
+    ∙ append_assoc (messages_said t) (word_of (message_of f)) (words fs)
 
 asked_item : (r : Result Msg Malformed) (t : Trail) → asked (item_of_read r ∷ t) ≡ asked t
 asked_item (Ok m) t = refl
@@ -62,7 +62,7 @@ pub record IsClean (bytes : List ℕ) : Type 0 where
 -- a part holds what is read of these bytes, and these messages were asked
 pub record Agrees (part : Part) (bytes : List ℕ) (told : List Msg) : Type 0 where
   pub waits : part.waits ≡ (read_stream bytes).rest
-  pub says : said part.trail ≡ words (read_stream bytes).frames
+  pub says : messages_said part.trail ≡ words (read_stream bytes).frames
   pub asks_these : asked part.trail ≡ told
   pub spells : IsSpelled part.trail
 
@@ -72,10 +72,10 @@ piece_reads : (bytes piece : List ℕ) → (read_stream bytes).fault ≡ None
 piece_reads bytes piece e = stream_joined bytes piece ∙ ap (λ (o : Option FrameFault). continued o (read_stream bytes) piece) e
 
 -- a stream without a fault is heard
-heard_on : (r s : StreamRead) (t : Trail) (told : List Msg) (fs : List Frame) → s.fault ≡ None → said t ≡ words fs → asked t ≡ told → IsSpelled t → AreMessages s.frames
-    → r ≡ with_frames fs s → (said (part_after s t).trail ≡ words r.frames) × (asked (part_after s t).trail ≡ told) × IsSpelled (part_after s t).trail
+heard_on : (r s : StreamRead) (t : Trail) (told : List Msg) (fs : List Frame) → s.fault ≡ None → messages_said t ≡ words fs → asked t ≡ told → IsSpelled t → AreMessages s.frames
+    → r ≡ with_frames fs s → (messages_said (part_after s t).trail ≡ words r.frames) × (asked (part_after s t).trail ≡ told) × IsSpelled (part_after s t).trail
 heard_on r s t told fs clean says ask spells all is =
-    let P : Option FrameFault → Type 0 = λ o. (said (hears_fault o (hears s.frames t)) ≡ words r.frames) × (asked (hears_fault o (hears s.frames t)) ≡ told) × IsSpelled (hears_fault o (hears s.frames t)) in
+    let P : Option FrameFault → Type 0 = λ o. (messages_said (hears_fault o (hears s.frames t)) ≡ words r.frames) × (asked (hears_fault o (hears s.frames t)) ≡ told) × IsSpelled (hears_fault o (hears s.frames t)) in
     subst P (sym clean) (
       said_hears s.frames t ∙ ap (λ ms. ms ++ words s.frames) says ∙ sym (words_append fs s.frames) ∙ ap (λ (x : StreamRead). words x.frames) (sym is),
       asked_hears s.frames t ∙ ask,

@@ -20,12 +20,12 @@ use Rattle.cf_frame.specs.Stream.{StreamRead, read_stream}
 use Rattle.cf_msg.specs.declared.msg.Malformed.{Malformed}
 use Rattle.cf_msg.specs.Reading.{message_of}
 use Rattle.cf_match.specs.declared.job.Job.{Job}
-use Rattle.cf_peer.specs.Trail.{Trail, Part, Lost, Shutting, trail, part_of, called_part, with_item, item_of, item_of_read, hears, hears_fault, part_after, heard_part, asks, spelled, connected, greeted, met, ready}
+use Rattle.cf_peer.specs.Trail.{Trail, Part, Lost, Shutting, trail, part_of, called_part, with_item, item_of, item_of_read, hears, hears_fault, part_after, heard_part, asks, spelled, connected, greeted, has_version, ready}
 use Rattle.cf_peer.specs.Asking.{OpenRequest, NothingOpen, HeadersOpen, ClaimsOpen, FiltersOpen, BlockOpen, PingOpen, claims, request, is_idle, is_open, HasSaid}
 use Rattle.cf_server.specs.Serving.{text_of}
 use Rattle.cf_server.proofs.Texts.{text-nil}
 use Rattle.cf_sync.specs.Fetching.{AreBytes, Rightly}
-use Rattle.cf_sync.specs.Honesty.{said, with_message, plain, Leaves, IsPrefixOf, answers, AnswersAs, InTime, Stays, IsHonestOver, IsHonest, was_called}
+use Rattle.cf_sync.specs.Honesty.{messages_said, with_message, plain, Leaves, IsPrefixOf, answers, AnswersAs, InTime, Stays, IsHonestOver, IsHonest, was_called}
 use Rattle.cf_sync.specs.Sync.{IsHashed}
 use Rattle.cf_sync.proofs.Chains.{Setting, headers_length}
 use Rattle.cf_sync.proofs.Entries.{at_either}
@@ -103,7 +103,7 @@ pub record SaysFirst (t : Trail) (ms : List Msg) : Type 0 where
   pub first : List Msg
   pub left : List Msg
   pub joined : first ++ left ≡ ms
-  pub says : said t ≡ first
+  pub says : messages_said t ≡ first
 
 pub says_first : (ms : List Msg) (log : Log) (p : ℕ) → AreSendable ms → take (length (came log p)) (text_of ms) ≡ came log p → Agrees (part_of log p) (came log p) (told_to log p) → SaysFirst (trail log p) ms
 says_first ms log p all begun a =
@@ -151,7 +151,7 @@ answers_as blocks good log p right numbered begun =
     let b = says_first ms log p (sendable_of ms all) (begun 0) a in
     record {
       spelled = a.spells;
-      follows = subst (λ (told : List Msg). IsPrefixOf (plain (said (trail log p))) (all_answers blocks told)) (sym a.asks_these)
+      follows = subst (λ (told : List Msg). IsPrefixOf (plain (messages_said (trail log p))) (all_answers blocks told)) (sym a.asks_these)
           (subst (λ (xs : List Msg). IsPrefixOf (plain xs) ms) (sym b.says) (follows_so ms b.first b.left b.joined all));
     }
 
@@ -218,15 +218,15 @@ quiet blocks s good log p never right numbered begun honest greets whole = elim 
       let a = agrees log p right numbered (all_fine blocks good log p right begun) in
       let ms : List Msg = all_answers blocks (told_to log p) in
       let all = answers_good blocks good log p right in
-      let says : said t ≡ ms = a.says ∙ whole_words ms (came log p) (sendable_of ms all) whole in
+      let says : messages_said t ≡ ms = a.says ∙ whole_words ms (came log p) (sendable_of ms all) whole in
       let theirs : answers blocks t ≡ ms = ap (all_answers blocks) a.asks_these in
       let k = (honest_good blocks s log p never right honest).keeps in
       let left : Leaves ms ms k.owed =
       subst (λ (ns : List Msg). Leaves ms ns k.owed) theirs
       (subst (λ (xs : List Msg). Leaves xs (answers blocks t) k.owed) (ap plain says ∙ plain_replies ms all) k.leaves) in
       let none : k.owed ≡ [] = leaves_one ms k.owed left in
-      all_done blocks (claims t) k.serves.stays.height (request t) (ready t) (met t) (greeted t) (connected t) (greets on) (filled log p right)
-      (subst (λ (ns : List Msg). Owes blocks (claims t) (ready t) (met t) (greeted t) k.serves.stays.height (request t) ns) none k.serves.owes))
+      all_done blocks (claims t) k.serves.stays.height (request t) (ready t) (has_version t) (greeted t) (connected t) (greets on) (filled log p right)
+      (subst (λ (ns : List Msg). Owes blocks (claims t) (ready t) (has_version t) (greeted t) k.serves.stays.height (request t) ns) none k.serves.owes))
   | inr off ↦ ap (λ (c : Bool). c && (not (ready (trail log p)) || not (is_idle (request (trail log p))))) off
 ]
 

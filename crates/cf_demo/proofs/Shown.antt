@@ -18,7 +18,7 @@ use Rattle.cf_sync.specs.Sync.{IsHashed}
 use Rattle.cf_headers.specs.Chain.{NoHashClash, IsPart, Chain, tip_hash, IsValidChain, IsIn}
 use Rattle.cf_headers.specs.Shown.{Shows}
 use Rattle.cf_headers.proofs.Longest.{same_chain}
-use Rattle.cf_msg.specs.declared.msg.Entry.{Entry}
+use Rattle.cf_msg.specs.declared.msg.Inventory.{Inventory}
 use Rattle.cf_msg.specs.declared.msg.Malformed.{Malformed}
 use Rattle.cf_msg.specs.declared.msg.Msg.{Msg}
 use Rattle.cf_msg.specs.declared.msg.Msg.TheVariants.{Version, Ping, GetHeaders, Headers, GetData, Block as BlockMessage, GetCfilters, GetCfheaders, GetCfcheckpt}
@@ -34,7 +34,7 @@ use Rattle.cf_played.specs.Answers.{told_to, heard_of, IsAlike, AreAlike, HasBeg
 use Rattle.cf_run.specs.Run.{AreNumbered}
 use Rattle.cf_server.proofs.Lists.{all-append, all-flat_map}
 use Rattle.cf_sync.specs.Fetching.{Rightly, counted_part}
-use Rattle.cf_sync.specs.Honesty.{said}
+use Rattle.cf_sync.specs.Honesty.{messages_said}
 use Rattle.cf_sync.proofs.Chains.{heads, up_to, up_part, up_more, up_valid, in_heads, Setting, first_located}
 use Rattle.cf_sync.proofs.Counted.{counted_said, shown_said}
 use Rattle.cf_sync.proofs.Entries.{at_either}
@@ -76,16 +76,16 @@ fault_told : (o : Option FrameFault) (t : Trail) (m : Msg) → HasSaid (hears_fa
 fault_told None t m h = h
 fault_told (Some fault) t m h = h
 
-fault_says : (o : Option FrameFault) (t : Trail) → said (hears_fault o t) ≡ said t
+fault_says : (o : Option FrameFault) (t : Trail) → messages_said (hears_fault o t) ≡ messages_said t
 fault_says None t = refl
 fault_says (Some fault) t = refl
 
-read_all : (P : Msg → Type 0) (r : StreamRead) (t : Trail) → AllByRecursion P (said (part_after r t).trail) → ((m : Msg) → HasSaid t m → P m) → (m : Msg) → HasSaid (part_after r t).trail m → P m
+read_all : (P : Msg → Type 0) (r : StreamRead) (t : Trail) → AllByRecursion P (messages_said (part_after r t).trail) → ((m : Msg) → HasSaid t m → P m) → (m : Msg) → HasSaid (part_after r t).trail m → P m
 read_all P r t all before m h =
-    let e : said (part_after r t).trail ≡ said t ++ words r.frames = fault_says r.fault (hears r.frames t) ∙ said_hears r.frames t in
+    let e : messages_said (part_after r t).trail ≡ messages_said t ++ words r.frames = fault_says r.fault (hears r.frames t) ∙ said_hears r.frames t in
     elim (said_among r.frames t m (fault_told r.fault (hears r.frames t) m h)) [
       | inl old ↦ before m old
-      | inr new ↦ all_in P (said t ++ words r.frames) m (subst (AllByRecursion P) e all) (in_right m (said t) (words r.frames) new)
+      | inr new ↦ all_in P (messages_said t ++ words r.frames) m (subst (AllByRecursion P) e all) (in_right m (messages_said t) (words r.frames) new)
     ]
 
 asks_told : (o : Option Msg) (t : Trail) (m : Msg) → HasSaid (asks o t) m → HasSaid t m
@@ -96,10 +96,10 @@ abbrev Tells : (Msg → Type 0) → Part → Type 0
 Tells P part = (m : Msg) → HasSaid part.trail m → P m
 
 abbrev TellsWhere : (Msg → Type 0) → Part → Type 0
-TellsWhere P part = AllByRecursion P (said part.trail) → Tells P part
+TellsWhere P part = AllByRecursion P (messages_said part.trail) → Tells P part
 
 -- what holds at every moment of all that it said since it was dialled holds of all that it has ever said
-pub told_all : (P : Msg → Type 0) (log : Log) (p : ℕ) → ((k : ℕ) → AllByRecursion P (said (trail (drop k log) p))) → (m : Msg) → HasSaid (trail log p) m → P m
+pub told_all : (P : Msg → Type 0) (log : Log) (p : ℕ) → ((k : ℕ) → AllByRecursion P (messages_said (trail (drop k log) p))) → (m : Msg) → HasSaid (trail log p) m → P m
 told_all P [] p all = λ m h. absurd h
 told_all P (Dialled q name ∷ log) p all =
     let before = told_all P log p (λ k. all (suc k)) in
@@ -157,7 +157,7 @@ all_mapped : {X : Type 0} (P : Msg → Type 0) (f : X → Msg) (xs : List X) →
 all_mapped P f [] each = tt
 all_mapped P f (x ∷ xs) each = (each x, all_mapped P f xs each)
 
-data_ours : (blocks : List Block) (entry : Entry) → AreOurs blocks (data_reply blocks entry)
+data_ours : (blocks : List Block) (entry : Inventory) → AreOurs blocks (data_reply blocks entry)
 data_ours blocks entry = by_kind (entry.kind == 2) where
   by_kind : (b : Bool) → AreOurs blocks (if b then map (λ (x : Block). BlockMessage x) (block_with entry.hash blocks) else [])
   by_kind true = all_mapped (IsOurs blocks) (λ (x : Block). BlockMessage x) (block_with entry.hash blocks) (λ x. tt)
@@ -262,7 +262,7 @@ front_ours : (blocks : List Block) (xs ys : List Msg) → AreOurs blocks (xs ++ 
 front_ours blocks [] ys all = tt
 front_ours blocks (m ∷ xs) ys all = (all.0, front_ours blocks xs ys all.1)
 
-says_ours : (way : Way) (blocks : List Block) (log : Log) (p : ℕ) → Rightly log → AreNumbered log → PlaysAlike way blocks log p → AreOurs blocks (said (trail log p))
+says_ours : (way : Way) (blocks : List Block) (log : Log) (p : ℕ) → Rightly log → AreNumbered log → PlaysAlike way blocks log p → AreOurs blocks (messages_said (trail log p))
 says_ours way blocks log p right numbered h =
     let now = h.past 0 in
     let a = agrees log p right numbered (λ k. alike_fine way blocks (drop k log) p (h.past k)) in
@@ -271,7 +271,7 @@ says_ours way blocks log p right numbered h =
     let mine : AreOurs blocks now.messages = are_ours blocks now.messages (replies (pos 0) 0 blocks false (heard_of way (told_to log p))) now.alike theirs in
     subst (AreOurs blocks) (sym b.says) (front_ours blocks b.first b.left (subst (AreOurs blocks) (sym b.joined) mine))
 
-always_ours : (way : Way) (blocks : List Block) (log : Log) (p : ℕ) → Rightly log → AreNumbered log → PlaysAlike way blocks log p → (k : ℕ) → AreOurs blocks (said (trail (drop k log) p))
+always_ours : (way : Way) (blocks : List Block) (log : Log) (p : ℕ) → Rightly log → AreNumbered log → PlaysAlike way blocks log p → (k : ℕ) → AreOurs blocks (messages_said (trail (drop k log) p))
 always_ours way blocks log p right numbered h zero = says_ours way blocks log p right numbered h
 always_ours way blocks [] p right numbered h (suc k) = says_ours way blocks [] p right numbered h
 always_ours way blocks (e ∷ log) p right numbered h (suc k) = always_ours way blocks log p (rightly_before e log right) (numbered_before e log numbered) (record { past = λ j. h.past (suc j) }) k

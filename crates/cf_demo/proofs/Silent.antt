@@ -14,7 +14,7 @@ use Rattle.cf_frame.specs.declared.frame.FrameFault.{FrameFault}
 use Rattle.cf_frame.specs.Stream.{StreamRead, read_stream}
 use Rattle.cf_headers.specs.Rules.{same}
 use Rattle.cf_headers.specs.Chain.{Hash, Chain, tip_hash, NoHashClash, IsIn, back_to}
-use Rattle.cf_msg.specs.declared.msg.Entry.{Entry}
+use Rattle.cf_msg.specs.declared.msg.Inventory.{Inventory}
 use Rattle.cf_msg.specs.declared.msg.Malformed.{Malformed}
 use Rattle.cf_msg.specs.declared.msg.Msg.{Msg}
 use Rattle.cf_msg.specs.declared.msg.Msg.TheVariants.{Version, Verack, Ping, Pong, GetHeaders, Headers, GetData, GetCfilters, GetCfheaders, GetCfcheckpt}
@@ -25,7 +25,7 @@ use Rattle.cf_wires.specs.declared.event.Event.TheVariants.{Dialled, NotDialled,
 use Rattle.cf_peer.specs.declared.mode.Mode.TheVariants.{Once}
 use Rattle.cf_scan.specs.declared.history.Entry.{Entry as HistoryEntry}
 use Rattle.cf_wires.specs.Log.{Log, tally_of}
-use Rattle.cf_peer.specs.Trail.{Trail, Part, Asked, Lost, Went, Failing, Shutting, called_part, with_item, item_of, item_of_read, hears, hears_fault, part_after, heard_part, spelled, asks, part_of, trail, connected, ready, own, heard}
+use Rattle.cf_peer.specs.Trail.{Trail, Part, Asked, Lost, Went, Failing, Shutting, called_part, with_item, item_of, item_of_read, hears, hears_fault, part_after, heard_part, spelled, asks, part_of, trail, connected, ready, own, is_heard_out}
 use Rattle.cf_peer.specs.Asking.{HasHeader, OpenRequest, NothingOpen, HeadersOpen, ClaimsOpen, FiltersOpen, BlockOpen, claims_asked, filters_asked, block_asked, claims, claims_after, request, request_after, is_idle, is_open, hashes_of, MayAsk, PingOpen}
 use Rattle.cf_played.specs.declared.kind.Way.TheVariants.{Silent}
 use Rattle.cf_played.specs.Answers.{came, told_to, is_answered, HasBegun}
@@ -33,7 +33,7 @@ use Rattle.cf_run.specs.Run.{AreNumbered}
 use Rattle.cf_server.specs.Serving.{text_of}
 use Rattle.cf_server.proofs.Lists.{all-append}
 use Rattle.cf_sync.specs.Fetching.{AreBytes, Rightly, IsConnected, counted_part}
-use Rattle.cf_sync.specs.Honesty.{asked, said, IsHonest}
+use Rattle.cf_sync.specs.Honesty.{asked, messages_said, IsHonest}
 use Rattle.cf_sync.specs.Sync.{IsHashed}
 use Rattle.cf_sync.specs.Sync as sync
 use Rattle.cf_sync.proofs.Asks.{claim_there}
@@ -134,7 +134,7 @@ back_soft : (xs ys : List Msg) → AreSoft (xs ++ ys) → AreSoft ys
 back_soft [] ys all = all
 back_soft (m ∷ xs) ys all = back_soft xs ys all.1
 
-says_soft : (blocks : List Block) → IsGoodChain blocks → (log : Log) (p : ℕ) → Rightly log → AreNumbered log → ((k : ℕ) → BeganFew blocks (drop k log) p) → AreSoft (said (trail log p))
+says_soft : (blocks : List Block) → IsGoodChain blocks → (log : Log) (p : ℕ) → Rightly log → AreNumbered log → ((k : ℕ) → BeganFew blocks (drop k log) p) → AreSoft (messages_said (trail log p))
 says_soft blocks good log p right numbered begun =
     let ms : List Msg = few_answers blocks (told_to log p) in
     let a = agrees log p right numbered (few_fine blocks good log p right begun) in
@@ -185,14 +185,14 @@ fault_stuck : (o : Option FrameFault) (t : Trail) → IsStuck t → IsStuck (hea
 fault_stuck None t h = h
 fault_stuck (Some fault) t h = record { opens = h.opens; none = h.none }
 
-fault_said : (o : Option FrameFault) (t : Trail) → said (hears_fault o t) ≡ said t
+fault_said : (o : Option FrameFault) (t : Trail) → messages_said (hears_fault o t) ≡ messages_said t
 fault_said None t = refl
 fault_said (Some fault) t = refl
 
-read_stuck : (r : StreamRead) (t : Trail) → AreSoft (said (part_after r t).trail) → IsStuck t → IsStuck (part_after r t).trail
+read_stuck : (r : StreamRead) (t : Trail) → AreSoft (messages_said (part_after r t).trail) → IsStuck t → IsStuck (part_after r t).trail
 read_stuck r t soft h =
-    let e : said (part_after r t).trail ≡ said t ++ words r.frames = fault_said r.fault (hears r.frames t) ∙ said_hears r.frames t in
-    fault_stuck r.fault (hears r.frames t) (hears_stuck r.frames t (back_soft (said t) (words r.frames) (subst AreSoft e soft)) h)
+    let e : messages_said (part_after r t).trail ≡ messages_said t ++ words r.frames = fault_said r.fault (hears r.frames t) ∙ said_hears r.frames t in
+    fault_stuck r.fault (hears r.frames t) (hears_stuck r.frames t (back_soft (messages_said t) (words r.frames) (subst AreSoft e soft)) h)
 
 -- ---- to be asked
 
@@ -227,7 +227,7 @@ asked_stuck t (GetHeaders version locator stop) may h =
       opens = λ hard. absurd (both_ways (is_stuck (request t)) (ap is_stuck may.0.idle) (h.opens (hard_last (asked t) (GetHeaders version locator stop) hard refl)));
       none = h.none;
     }
-asked_stuck t (GetData entries) may h = record { opens = λ hard. subst (λ (es : List Entry). is_stuck (block_asked es (request t)) ≡ true) (sym may.1.1) refl; none = h.none }
+asked_stuck t (GetData entries) may h = record { opens = λ hard. subst (λ (es : List Inventory). is_stuck (block_asked es (request t)) ≡ true) (sym may.1.1) refl; none = h.none }
 asked_stuck t (GetCfheaders filter' start stop) may h = record { opens = λ hard. claims_open (back_to stop.0 (own t)) start stop.0 may.1.0.part may.1.0.tip; none = h.none }
 asked_stuck t (GetCfilters filter' start stop) may h = record { opens = λ hard. filters_open (back_to stop.0 (own t)) start may.1.0.part may.1.0.tip; none = h.none }
 asked_stuck t m may h = absurd may
@@ -238,12 +238,9 @@ abbrev IsStuckPart : Part → Type 0
 IsStuckPart part = IsStuck part.trail
 
 abbrev IsStuckWhereSoft : Part → Type 0
-IsStuckWhereSoft part = AreSoft (said part.trail) → IsStuck part.trail
+IsStuckWhereSoft part = AreSoft (messages_said part.trail) → IsStuck part.trail
 
-same_stuck : (t u : Trail) → asked u ≡ asked t → request u ≡ request t → claims u ≡ claims t → IsStuck t → IsStuck u
-same_stuck t u a r c h = record { opens = λ hard. ap is_stuck r ∙ h.opens (ap has_hard (sym a) ∙ hard); none = c ∙ h.none }
-
-stuck : (log : Log) (p : ℕ) → Rightly log → ((k : ℕ) → AreSoft (said (trail (drop k log) p))) → IsStuck (trail log p)
+stuck : (log : Log) (p : ℕ) → Rightly log → ((k : ℕ) → AreSoft (messages_said (trail (drop k log) p))) → IsStuck (trail log p)
 stuck [] p right soft = record { opens = λ hard. absurd (false≢true hard); none = refl }
 stuck (Dialled q name ∷ log) p right soft =
     let before = stuck log p right (λ k. soft (suc k)) in
@@ -273,7 +270,7 @@ stuck (Took (Gone q) ∷ log) p right soft =
 stuck (Took (Tick s) ∷ log) p right soft = let before = stuck log p right.1 (λ k. soft (suc k)) in record { opens = before.opens; none = before.none }
 stuck (Took Ended ∷ log) p right soft = stuck log p right.1 (λ k. soft (suc k))
 
-all_soft : (blocks : List Block) → IsGoodChain blocks → (log : Log) (p : ℕ) → Rightly log → AreNumbered log → ((k : ℕ) → BeganFew blocks (drop k log) p) → (k : ℕ) → AreSoft (said (trail (drop k log) p))
+all_soft : (blocks : List Block) → IsGoodChain blocks → (log : Log) (p : ℕ) → Rightly log → AreNumbered log → ((k : ℕ) → BeganFew blocks (drop k log) p) → (k : ℕ) → AreSoft (messages_said (trail (drop k log) p))
 all_soft blocks good log p right numbered begun zero = says_soft blocks good log p right numbered begun
 all_soft blocks good [] p right numbered begun (suc k) = says_soft blocks good [] p right numbered begun
 all_soft blocks good (e ∷ log) p right numbered begun (suc k) = all_soft blocks good log p (rightly_before e log right) (numbered_before e log numbered) (λ j. begun (suc j)) k
@@ -342,7 +339,7 @@ pub record IsIdle (blocks : List Block) (log : Log) (p : ℕ) : Type 0 where
   pub honest : IsHonest log p blocks
   pub none : claims (counted_part log p) ≡ no_claims
   pub same_own : own (counted_part log p) ≡ own (trail log p)
-  pub same_heard : heard (counted_part log p) ≡ heard (trail log p)
+  pub same_heard : is_heard_out (counted_part log p) ≡ is_heard_out (trail log p)
 
 pub silent_idle : (log : Log) (p : ℕ) (blocks : List Block) → AreBytes log → IsGoodChain blocks → NoHashClash (IsHashed log blocks) → Rightly log → AreNumbered log → WereGreeted log
     → 1 ≤ p → p ≤ (tally_of log).dials → PlaysSilent blocks log p → IsConnected log p → is_open (trail log p) ≡ false → IsIdle blocks log p

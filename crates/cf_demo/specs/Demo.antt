@@ -11,7 +11,7 @@ use Rattle.cf_run.specs.declared.outcome.End.{End}
 use Rattle.cf_run.specs.declared.outcome.End.TheVariants.{Synced, NoPeers, Tired, Ended}
 use Rattle.cf_place.specs.Standing.{EndsTell}
 use Rattle.cf_run.specs.declared.outcome.Outcome.{Outcome}
-use Rattle.cf_run.specs.Run.{Followed, IsEnd, names_of}
+use Rattle.cf_run.specs.Run.{RanTo, IsEnd, names_of}
 use Rattle.cf_run.specs.declared.trace.TraceLine.{TraceLine}
 use Rattle.cf_run.specs.declared.trace.TraceLine.TheVariants.{Sent as SentLine, Closed as ClosedLine}
 use Rattle.cf_demo.specs.declared.demo.Demo.{Demo}
@@ -170,7 +170,7 @@ pub record IsDemoOf (chain : List Block) (demo : Demo) : Type 0 where
 
 -- a run over these peers, new to it, has come to this
 pub record HasRunOver (watch : List (List ℕ)) (peers : List Peer) (names : List (List ℕ)) (outcome : Outcome) (log : Log) : Type 0 where
-  pub followed : Followed (once watch) outcome.end outcome.height outcome.tip outcome.history outcome.trace.items names log
+  pub followed : RanTo (once watch) outcome.end outcome.height outcome.tip outcome.history outcome.trace.items names log
   pub stand : EndsTell outcome.ends.items log
   pub theorem : SyncTheorem watch outcome.height outcome.tip outcome.history log
   pub honest : (i : ℕ) (peer : Peer) → slice_get peers i ≡ Some peer → peer.way ≡ Honest → i < length names → NoHashClash (IsHashed log peer.blocks) → IsHonest log (suc i) peer.blocks
@@ -213,7 +213,7 @@ pub record HasRun (watch : List (List ℕ)) (names : List (List ℕ)) (log : Log
   pub tip : Hash32
   pub entries : List Entry
   pub lines : List TraceLine
-  pub followed : Followed (once watch) end height tip entries lines names log
+  pub followed : RanTo (once watch) end height tip entries lines names log
 
 -- A run over one honest peer on a made chain, until nothing is open or so many deliveries were taken.
 pub record IsSession (seed blocks : ℕ) (log : Log) : Type 0 where

@@ -1,9 +1,8 @@
 //! A run of the client over peers in memory.
 ghost use Rattle.std.specs.Prelude.{◌≡◌, ◌≤◌, ◌<◌, ℕ, suc, None, Some, true, false, [], map, length, slice_get, IfOk, OnOk};
 ghost use Rattle.cf_run.specs.Names.{names_in};
-ghost use Rattle.cf_place.specs.Standing.{EndsTell};
-ghost use Rattle.cf_run.specs.Run.{Followed};
-ghost use Rattle.cf_run.specs.Versions.{IsOfWords};
+ghost use Rattle.cf_run.specs.Versions.{IsOfGreeting};
+ghost use Rattle.cf_run.specs.Whole.{EndsWithin, IsOutcome};
 ghost use Rattle.cf_demo.specs.Playing.{Accounts};
 ghost use Rattle.cf_headers.specs.Chain.{NoHashClash};
 ghost use Rattle.cf_wires.specs.Log.{tally_of};
@@ -18,7 +17,7 @@ use cf_bytes::NoMemory;
 use cf_headers::HeaderStore;
 use cf_match::Matcher;
 use cf_played::Played;
-use cf_run::{End, Outcome, sync_over};
+use cf_run::{Outcome, sync_over};
 use cf_scan::Watch;
 use std::alloc::Global;
 
@@ -40,18 +39,16 @@ pub fn sync_played<H: HeaderStore + Drop, M: Matcher + Drop>(
     requires open { finished_of played.old ≡ false }
     requires few { length names.now ≤ 8 }
     requires empty { (q : ℕ) → H.chain store q ≡ None }
-    ensures followed { IfOk result (λ o. Followed (once watch) o.end o.height o.tip o.history o.trace.items
-        (names_in names.now) (log_of played.new)) }
-    ensures ends { IfOk result (λ o. EndsTell o.ends.items (log_of played.new)) }
-    ensures versions { IsOfWords (record { moment = moment; number = nonce }) (log_of played.new) }
+    ensures outcome { IfOk result
+        (λ o. IsOutcome H.counts (once watch) (names_in names.now) o (log_of played.new)) }
+    ensures versions { IsOfGreeting (record { moment = moment; number = nonce }) (log_of played.new) }
     ensures theorem { IfOk result (λ o. SyncTheorem watch o.height o.tip o.history (log_of played.new)) }
     ensures honest { OnOk result ((i : ℕ) (peer : Peer)
         → slice_get (peers_of played.old) i ≡ Some peer → peer.way ≡ Honest → i < length names.now
         → NoHashClash (IsHashed (log_of played.new) peer.blocks) → IsHonest (log_of played.new) (suc i) peer.blocks) }
     ensures accounts { Accounts (log_of played.new) (peers_of played.old) }
     ensures peers { map still (peers_of played.new) ≡ map still (peers_of played.old) }
-    ensures tired { IfOk result (λ o. o.end ≡ End.Tired → (tally_of (log_of played.new)).taken ≡ turns) }
-    ensures dialled { OnOk result ((tally_of (log_of played.new)).dials ≡ length names.now) }
+    ensures within { IfOk result (λ o. EndsWithin o.end (length names.now) turns (tally_of (log_of played.new))) }
     ensures most { (tally_of (log_of played.new)).taken ≤ turns }
     ensures finished { finished_of played.new ≡ true }
     ensures keeps { keeps_of played.new ≡ keeps_of played.old }

@@ -8,7 +8,7 @@ use Rattle.cf_headers.specs.Counts.{AreApart}
 use Rattle.cf_headers.specs.Rules.{same}
 use Rattle.cf_dispute.specs.declared.claim.At.TheVariants.{Differ}
 use Rattle.cf_dispute.specs.Claims.{Tables, IsAt}
-use Rattle.cf_dispute.specs.Agree.{AgreeAt, DifferAt, ClaimsNone}
+use Rattle.cf_dispute.specs.Agree.{AgreeAt, ClaimsNone}
 use Rattle.cf_dispute.specs.Tables.{blocks_of}
 use Rattle.cf_dispute.proofs.PutIn.{same_true, at_in, in_first, names_at}
 use Rattle.cf_dispute.proofs.RowLaws.{block_same, off_same}
@@ -19,13 +19,6 @@ pub record Went (blocks : List Hash32) (i p : ℕ) (start now : Tables) (differ 
   pub left : AreApart blocks → ClaimsNone (start p) blocks → (b : Hash) → IsIn b (drop i (blocks_of blocks)) → now p b ≡ None
   pub differs : differ ≡ true → AreApart blocks → ClaimsNone (start p) blocks
       → (b : Hash) × (IsIn b (blocks_of blocks) × ((IsIn b (drop i (blocks_of blocks)) → ⊥) × IsAt now b Differ))
-
-pub went_start : (blocks : List Hash32) (p : ℕ) (start : Tables) → Went blocks 0 p start start false
-went_start blocks p start = record {
-  agreed = λ off b is. inr is;
-  left = λ apart free. free;
-  differs = λ on. absurd (cc on);
-}
 
 differ_as : (a b : Tables) (block : Hash) → ((q : ℕ) → b q block ≡ a q block) → IsAt a block Differ → IsAt b block Differ
 differ_as a b block alike d =
@@ -105,7 +98,3 @@ went_agreed blocks i p start now differ w high off = λ b is at. elim (w.agreed 
   | inl none ↦ none at
   | inr later ↦ subst (λ (xs : List Hash). IsIn b xs) (drop_all i (blocks_of blocks) (let e = length-map blocks (λ (x : Hash32). x.0) in omega (arith, e, high))) later
 ]
-
-pub went_differs : (blocks : List Hash32) (i p : ℕ) (start now : Tables) (differ : Bool) → Went blocks i p start now differ → differ ≡ true → AreApart blocks → ClaimsNone (start p) blocks
-    → DifferAt now blocks
-went_differs blocks i p start now differ w on apart free = (let s = w.differs on apart free in (s.0, (s.1.0, s.1.1.1)))

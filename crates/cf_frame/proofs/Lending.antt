@@ -30,9 +30,6 @@ lends bytes new (Ok (Some f)) e =
 lends bytes new (Ok None) e = e
 lends bytes new (Err fault) e = e
 
-pub behind_is : (bytes new : List ℕ) (f : Frame) → front_of bytes ≡ Ok (Some (f, new)) → after_frame bytes ≡ new
-behind_is bytes new f e = ap (behind bytes) e
-
 pub has_frame : (bytes new : List ℕ) (f : Frame) → front_of bytes ≡ Ok (Some (f, new)) → HasFrame bytes
 has_frame bytes new f e = ap is_frame e
 

@@ -1,5 +1,5 @@
 -- statement: a stream of frames.
-use Rattle.std.specs.Prelude.{◌≡◌, ℕ, zero, suc, ◌<◌, ◌≤◌, ◌^◌, false, true, List, [], ◌∷◌, ◌++◌, length, get_or, Option, Some, None, Ok, Err}
+use Rattle.std.specs.Prelude.{◌≡◌, ℕ, zero, suc, ◌<◌, ◌≤◌, ◌^◌, false, true, List, [], ◌∷◌, ◌++◌, length, Option, Some, None, Ok, Err}
 use Rattle.std.specs.Int.{w32, to_le_bytes}
 use Rattle.std.specs.List.{flat_map, AllByRecursion}
 use Rattle.cf_frame.specs.declared.frame.Frame.{Frame}
@@ -8,10 +8,6 @@ use Rattle.cf_frame.specs.declared.frame.FrameFault.TheVariants.{Magic, Command,
 use Rattle.cf_frame.specs.declared.header.Header.{Header}
 use Rattle.cf_frame.specs.Frame.{magic, is_command, checksum, spelling, IsFrame}
 use Rattle.cf_frame.specs.Reading.{Begins, Front, front_of}
-
--- each number is a byte
-abbrev pub IsBytes : List ℕ → Type 0
-IsBytes bytes = (i : ℕ) → get_or bytes i 0 < 256
 
 -- no whole frame stands at the front
 abbrev pub HasNoFrame : List ℕ → Type 0

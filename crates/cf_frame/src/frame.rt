@@ -4,13 +4,10 @@ ghost use Rattle.std.specs.Prelude.{◌≡◌, ◌==◌, ◌≤◌, IfOk, length
 ghost use Rattle.cf_bytes.specs.declared.memory.Refused.TheVariants.{No};
 ghost use Rattle.cf_frame.specs.Frame.{IsFrame, checksum as checksum_of, is_command, spelling};
 
-use cf_bytes::{NoMemory, Refused, double_hash};
+use cf_bytes::{MAGIC, NoMemory, Refused, double_hash};
 use std::alloc::Global;
 use std::marker::Model;
 use thiserror::Error;
-
-/// What begins each frame on regtest.
-pub(crate) const MAGIC: [u8; 4] = [0xfa, 0xbf, 0xb5, 0xda];
 
 /// The most bytes that a payload may have.
 pub(crate) const MAX_PAYLOAD: usize = 4_000_000;
@@ -82,13 +79,6 @@ impl Payload {
         ensures { result ≡ (length self.now == 0) }
     {
         self.bytes.is_empty()
-    }
-
-    /// The bytes, given back.
-    pub fn into_vec(self) -> Vec<u8>
-        ensures { result.items ≡ self }
-    {
-        self.bytes
     }
 }
 

@@ -6,8 +6,8 @@ ghost use Rattle.cf_bytes.specs.Cut.{Reads};
 ghost use Rattle.cf_frame.specs.Frame.{is_command as is_command_of, is_printable as printable_of, magic};
 ghost use Rattle.cf_frame.specs.Reading.{header_at, header_fault};
 
-use crate::frame::{FrameFault, MAGIC, MAX_PAYLOAD};
-use cf_bytes::{Cut, CutFault};
+use crate::frame::{FrameFault, MAX_PAYLOAD};
+use cf_bytes::{Cut, CutFault, MAGIC};
 
 /// The fields of a header as they stand there, not judged yet.
 #[derive(Drop)]

@@ -1,16 +1,13 @@
 -- Looking for sorted queries among values that don't fall.
 use Rattle.std.proofs.Common.{◌≡◌, ℕ, suc, zero, ◌*◌, ◌<◌, ◌≤◌, Bool, true, false, List, [], ◌∷◌, refl, sym, ◌∙◌, ap, subst, arith, inl, inr, Result, Ok, Err, lt-ltb, le-ltb}
 use Rattle.std.specs.Prelude.{◌==◌, ◌||◌, if◌then◌else◌}
+use Rattle.std.proofs.Math.Bool.{or_assoc}
 use Rattle.std.proofs.lemmas.Bool.{cases_lt, eqb-true, eqb-false}
 use Rattle.cf_bytes.specs.Cut.{◌>>=◌}
 use Rattle.cf_golomb.specs.declared.fault.SetFault.{SetFault}
 use Rattle.cf_golomb.specs.Code.{IsSet, value_at, values_at, body_at, end_at}
 use Rattle.cf_golomb.specs.Meets.{IsAscending, has, hits, skip_below, first_is, answer_by, seen_by}
 use Rattle.cf_golomb.proofs.OnlyLemmas.{values_only}
-
-or_assoc : (a b c : Bool) → (a || (b || c)) ≡ ((a || b) || c)
-or_assoc true b c = refl
-or_assoc false b c = refl
 
 or_false : (a : Bool) → (a || false) ≡ a
 or_false true = refl
@@ -78,7 +75,7 @@ skip_ascending v low (q ∷ qs) up = elim (cases_lt q v) [
 -- one value more
 same_hits : (limit v : ℕ) (hit : Bool) (qs vs : List ℕ) → IsAscending 0 qs → IsSet v limit vs → (hit || hits qs (v ∷ vs)) ≡ ((hit || first_is v (skip_below v qs)) || hits (skip_below v qs) vs)
 same_hits limit v hit qs vs up set =
-    or_assoc hit (has qs v) (hits qs vs)
+    sym (or_assoc hit (has qs v) (hits qs vs))
     ∙ (λ i. (hit || has_first v 0 qs up i) || hits_skip v v limit qs vs (omega arith) set i)
 
 seen_more : (limit j v : ℕ) (hit : Bool) (qs : List ℕ) (more : List Bool) (r : Result (List ℕ × List Bool) SetFault) → IsAscending 0 qs → values_at limit j v more ≡ r

@@ -13,12 +13,12 @@ use Rattle.cf_grow.specs.declared.held.Held.TheVariants.{Bytes}
 use Rattle.cf_grow.specs.declared.taking.Answer.{Answer}
 use Rattle.cf_grow.specs.Growing.{IsAnswerOf, messages_in, news_in}
 use Rattle.cf_grow.specs.Held.{text_in, texts_in}
-use Rattle.cf_msg.specs.declared.msg.Entry.{Entry}
+use Rattle.cf_msg.specs.declared.msg.Inventory.{Inventory}
 use Rattle.cf_msg.specs.declared.msg.Msg.{Msg}
 use Rattle.cf_msg.specs.declared.msg.Msg.TheVariants.{GetData, Inv}
 use Rattle.cf_msg.specs.Message.{HasSpelling, IsEntry, frame_of, payload_of}
 use Rattle.cf_msg.proofs.Sizes.{payload_fits}
-use Rattle.cf_server.specs.declared.answering.Served.{Served}
+use Rattle.cf_server.specs.declared.answering.Serving.{Serving}
 use Rattle.cf_server.specs.declared.reply.Reply.{Reply}
 use Rattle.cf_server.specs.Replies.{message_of, messages_of}
 use Rattle.cf_server.specs.Serving.{text_of}
@@ -45,7 +45,7 @@ pub held_none : (old : List Held) → texts_in old ≡ texts_in old ++ text_of [
 held_none old = sym (ap (λ (t : List ℕ). texts_in old ++ t) text-nil ∙ append-nil (texts_in old))
 
 -- the replies, one by one
-pub held_next : (served : Served) (blocks : List Block) (replies : List Reply) (i : ℕ) (d : Reply) (first old new : List Held) (part : Held) → i < length replies
+pub held_next : (served : Serving) (blocks : List Block) (replies : List Reply) (i : ℕ) (d : Reply) (first old new : List Held) (part : Held) → i < length replies
     → texts_in old ≡ texts_in first ++ text_of (messages_of served blocks (take i replies))
     → new ≡ old ++ part ∷ [] → text_in part ≡ spelling (frame_of (message_of served blocks (get_or replies i d)))
     → texts_in new ≡ texts_in first ++ text_of (messages_of served blocks (take (i + 1) replies))
@@ -63,7 +63,7 @@ held_next served blocks replies i d first old new part lt before is told =
     ∙ ap (λ (t : List ℕ). texts_in first ++ t) (sym both)
 
 -- all three parts of an answer
-pub held_all : (served : Served) (blocks : List Block) (a : Answer) (none one two three : List Held) → none ≡ []
+pub held_all : (served : Serving) (blocks : List Block) (a : Answer) (none one two three : List Held) → none ≡ []
     → texts_in one ≡ texts_in none ++ text_of (news_in a.news)
     → texts_in two ≡ texts_in one ++ text_of (asked_for a.wants)
     → texts_in three ≡ texts_in two ++ text_of (messages_of served blocks a.plain)
@@ -79,11 +79,11 @@ held_all served blocks a none one two three e p q r =
 
 -- ---- what is asked for is a part of what was told of
 
-some_entries : (b : Bool) (e : Entry) → length (if b then e ∷ [] else []) ≤ 1
+some_entries : (b : Bool) (e : Inventory) → length (if b then e ∷ [] else []) ≤ 1
 some_entries true e = omega arith
 some_entries false e = omega arith
 
-unknown_few : (blocks : List Block) (entries : List Entry)
+unknown_few : (blocks : List Block) (entries : List Inventory)
     → length (flat_map (unknown_entry blocks) entries) ≤ length entries
 unknown_few blocks [] = omega arith
 unknown_few blocks (e ∷ es) =
@@ -94,26 +94,26 @@ unknown_few blocks (e ∷ es) =
       unknown_few blocks es,
     )
 
-some_fit : (b : Bool) (e : Entry) → IsEntry e → AllByRecursion IsEntry (if b then e ∷ [] else [])
+some_fit : (b : Bool) (e : Inventory) → IsEntry e → AllByRecursion IsEntry (if b then e ∷ [] else [])
 some_fit true e fits = (fits, tt)
 some_fit false e fits = tt
 
-unknown_fit : (blocks : List Block) (entries : List Entry) → AllByRecursion IsEntry entries
+unknown_fit : (blocks : List Block) (entries : List Inventory) → AllByRecursion IsEntry entries
     → AllByRecursion IsEntry (flat_map (unknown_entry blocks) entries)
 unknown_fit blocks [] all = tt
 unknown_fit blocks (e ∷ es) all =
     all-append IsEntry (unknown_entry blocks e) (flat_map (unknown_entry blocks) es) (some_fit (is_unknown blocks e) e all.0) (unknown_fit blocks es all.1)
 
-none_few : (wants : List Entry) → wants ≡ [] → length wants ≤ 50000
+none_few : (wants : List Inventory) → wants ≡ [] → length wants ≤ 50000
 none_few wants e = omega (arith, ap length e)
 
-pub wants_few : (blocks : List Block) (met : Bool) (m : Msg) (wants : List Entry) → HasSpelling m
+pub wants_few : (blocks : List Block) (met : Bool) (m : Msg) (wants : List Inventory) → HasSpelling m
     → wants ≡ wanted blocks met m → length wants ≤ 50000
 wants_few blocks true (Inv entries) wants fits is = omega (arith, ap length is, unknown_few blocks entries, fits.0)
 wants_few blocks true m wants fits is = none_few wants is
 wants_few blocks false m wants fits is = none_few wants is
 
-pub wants_fit : (blocks : List Block) (met : Bool) (m : Msg) (wants : List Entry) → HasSpelling m
+pub wants_fit : (blocks : List Block) (met : Bool) (m : Msg) (wants : List Inventory) → HasSpelling m
     → wants ≡ wanted blocks met m → AllByRecursion IsEntry wants
 wants_fit blocks true (Inv entries) wants fits is = subst (AllByRecursion IsEntry) (sym is) (unknown_fit blocks entries fits.1)
 wants_fit blocks true m wants fits is = subst (AllByRecursion IsEntry) (sym is) tt
@@ -121,38 +121,44 @@ wants_fit blocks false m wants fits is = subst (AllByRecursion IsEntry) (sym is)
 
 -- ---- what fits into a frame
 
-pub wants_payload : (wants : List Entry) → length wants ≤ 50000 → AllByRecursion IsEntry wants
+pub wants_payload : (wants : List Inventory) → length wants ≤ 50000 → AllByRecursion IsEntry wants
     → length (payload_of (GetData wants)) ≤ 4000000
 wants_payload wants few fit = payload_fits (GetData wants) (few, fit) tt
 
-pub announcement_fits : (kind : ℕ) (hash : Hash32) (none entries : List Entry) → kind < 2 ^ 32 → length hash.0 ≡ 32 → none ≡ []
+pub announcement_fits : (kind : ℕ) (hash : Hash32) (none entries : List Inventory) → kind < 2 ^ 32 → length hash.0 ≡ 32 → none ≡ []
     → entries ≡ none ++ (record { kind = kind; hash = hash }) ∷ [] → length (payload_of (Inv entries)) ≤ 4000000
 announcement_fits kind hash none entries low long empty is =
-    subst (λ (es : List Entry). length (payload_of (Inv es)) ≤ 4000000)
-    (sym (is ∙ ap (λ (es : List Entry). es ++ (record { kind = kind; hash = hash }) ∷ []) empty))
+    subst (λ (es : List Inventory). length (payload_of (Inv es)) ≤ 4000000)
+    (sym (is ∙ ap (λ (es : List Inventory). es ++ (record { kind = kind; hash = hash }) ∷ []) empty))
     (payload_fits (Inv ((record { kind = kind; hash = hash }) ∷ [])) (omega arith, (record { kind = low; hash = long }, tt)) tt)
 
-pub held_announcement : (old new : List Held) (hash : Hash32) (none entries : List Entry) → none ≡ [] → entries ≡ none ++ (record { kind = 2; hash = hash }) ∷ []
+pub held_announcement : (old new : List Held) (hash : Hash32) (none entries : List Inventory) → none ≡ [] → entries ≡ none ++ (record { kind = 2; hash = hash }) ∷ []
     → texts_in new ≡ texts_in old ++ text_of (Inv entries ∷ []) → texts_in new ≡ texts_in old ++ text_of (announcement hash.0 ∷ [])
 held_announcement old new hash none entries empty is told =
     told
-    ∙ ap (λ (es : List Entry). texts_in old ++ text_of (Inv es ∷ [])) (is ∙ ap (λ (es : List Entry). es ++ (record { kind = 2; hash = hash }) ∷ []) empty)
+    ∙ ap (λ (es : List Inventory). texts_in old ++ text_of (Inv es ∷ [])) (is ∙ ap (λ (es : List Inventory). es ++ (record { kind = 2; hash = hash }) ∷ []) empty)
 
 -- ---- what is asked for
 
-pub held_asked_none : (old : List Held) (wants : List Entry) → length wants ≡ 0
+pub held_asked_none : (old : List Held) (wants : List Inventory) → length wants ≡ 0
     → texts_in old ≡ texts_in old ++ text_of (asked_for wants)
 held_asked_none old [] none = held_none old
 held_asked_none old (e ∷ es) none = absurd (omega (arith, none))
 
-pub held_asked : (old new : List Held) (wants : List Entry) → (length wants ≡ 0 → ⊥)
+pub held_asked : (old new : List Held) (wants : List Inventory) → (length wants ≡ 0 → ⊥)
     → texts_in new ≡ texts_in old ++ text_of (GetData wants ∷ [])
     → texts_in new ≡ texts_in old ++ text_of (asked_for wants)
 held_asked old new [] some is = absurd (some refl)
 held_asked old new (e ∷ es) some is = is
 
 -- what is held is what is answered
-pub held_told : (served : Served) (blocks : List Block) (a : Answer) (parts : List Held) (messages : List Msg)
+pub held_told : (served : Serving) (blocks : List Block) (a : Answer) (parts : List Held) (messages : List Msg)
     → IsAnswerOf served blocks a messages → texts_in parts ≡ text_of (messages_in served blocks a)
     → texts_in parts ≡ text_of messages
 held_told served blocks a parts messages answer is = is ∙ ap text_of answer.told
+
+-- what is wanted has a spelling, and what is held is what is answered
+pub ruleset told_so = (wants_few, wants_fit, held_told)
+
+-- what is asked for, or nothing
+pub ruleset asked_so = (held_asked, held_asked_none, wants_payload)

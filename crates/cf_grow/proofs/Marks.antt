@@ -10,7 +10,7 @@ use Rattle.cf_chain.specs.Heights.{all_blocks}
 use Rattle.cf_chain.specs.Serve.{is_version, replies_to}
 use Rattle.cf_chain.proofs.Tops.{top_at}
 use Rattle.cf_msg.specs.declared.msg.Msg.{Msg}
-use Rattle.cf_server.specs.declared.answering.Served.{Served}
+use Rattle.cf_server.specs.declared.answering.Serving.{Serving}
 use Rattle.cf_grow.specs.declared.taking.Answer.{Answer}
 use Rattle.cf_grow.specs.declared.mark.Mark.{Mark}
 use Rattle.cf_grow.specs.declared.mark.TakeFail.{TakeFail}
@@ -110,7 +110,7 @@ mark_moved blocks seen now height hash m e = ap (λ (b : Bool). moved blocks (to
     ∙ moved_is blocks (told_by seen height hash) seen m (met_is seen height hash)
 
 -- the answer
-pub answer_is : (served : Served) (blocks : List Block) (height : ℕ) (hash : Hash32) (m : Msg) (a : Answer)
+pub answer_is : (served : Serving) (blocks : List Block) (height : ℕ) (hash : Hash32) (m : Msg) (a : Answer)
     → news_in a.news ≡ told_first blocks (told_by served.seen height hash)
     → a.wants ≡ wanted blocks served.seen m
     → Adds served blocks [] a.plain (replies_to served.time served.nonce blocks served.seen m)
@@ -133,3 +133,6 @@ after_version blocks mark (Shrunk s) refuses = by_seen mark.served.seen refl whe
   by_seen true is = is
   by_seen false is = absurd (refuses.0 (λ on. absurd (false≢true (sym is ∙ on))))
 after_version blocks mark NoMemory refuses = tt
+
+-- where the mark goes
+pub ruleset moves = (moves_first, moves_up, moves_not)

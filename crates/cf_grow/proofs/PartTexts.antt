@@ -4,11 +4,10 @@ use Rattle.std.proofs.lemmas.List.{append-nil, take_more, take-append-drop}
 use Rattle.std.proofs.lemmas.List.Concat.{flat_map-append}
 use Rattle.cf_grow.specs.declared.held.Held.{Held}
 use Rattle.cf_grow.specs.Held.{text_in, texts_in}
-use Rattle.cf_server.specs.declared.outcome.Outcome.{Outcome}
-use Rattle.cf_server.specs.declared.outcome.Outcome.TheVariants.{Closed, BadFrame, Malformed as MalformedFrame, ReadFault, WriteFault, Tired, NoMemory}
+use Rattle.cf_server.specs.declared.outcome.ServeEnd.{ServeEnd}
 use Rattle.cf_server.specs.Serving.{Beginning}
 use Rattle.cf_server.specs.Taking.{Sends}
-use Rattle.cf_server.proofs.Steps.{Waiting}
+use Rattle.cf_server.proofs.Steps.{Waiting, front_sent}
 use Rattle.cf_server.proofs.Texts.{beginning_more, beginning_whole}
 
 texts_on : (parts : List Held) (i : ℕ) (part : Held) → i < length parts → part ≡ get_or parts i part
@@ -43,20 +42,7 @@ parts_kept parts i w o p waiting =
     subst (Beginning o p) (sym (texts_split parts i)) (beginning_more o p front (texts_in (drop i parts)) begins)
 
 -- a front of the parts was sent in part
-pub parts_front : (parts : List Held) (n : ℕ) (outcome : Outcome) (o q : Option (List ℕ))
+pub parts_front : (parts : List Held) (n : ℕ) (outcome : ServeEnd) (o q : Option (List ℕ))
     → Sends (Err outcome) o q (texts_in (take n parts))
     → Sends (Err outcome) o q (texts_in parts)
-parts_front parts n outcome o q sends = in_part outcome sends
-  where
-    begins : Beginning o q (texts_in (take n parts)) → Beginning o q (texts_in parts)
-    begins part = subst (Beginning o q) (sym (texts_split parts n)) (beginning_more o q (texts_in (take n parts)) (texts_in (drop n parts)) part)
-
-    in_part : (outcome : Outcome) → Sends (Err outcome) o q (texts_in (take n parts))
-        → Sends (Err outcome) o q (texts_in parts)
-    in_part WriteFault h = begins h
-    in_part NoMemory h = begins h
-    in_part Closed h = absurd h
-    in_part (BadFrame fault) h = absurd h
-    in_part (MalformedFrame fault) h = absurd h
-    in_part ReadFault h = absurd h
-    in_part Tired h = absurd h
+parts_front parts n outcome o q sends = front_sent outcome o q (texts_in parts) (texts_in (take n parts)) (texts_in (drop n parts)) (texts_split parts n) sends

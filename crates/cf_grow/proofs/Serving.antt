@@ -1,5 +1,6 @@
 -- Messages that are answered one after another, and how serving them goes on and ends.
-use Rattle.std.proofs.Common.{◌≡◌, ℕ, ℤ, zero, suc, ◌+◌, ◌≤◌, Bool, inl, inr, List, [], ◌∷◌, ◌++◌, Option, Some, None, Result, Ok, Err, refl, sym, ap, ◌∙◌, subst, arith, append_assoc}
+use Rattle.std.proofs.Common.{◌≡◌, ℕ, ℤ, zero, suc, ◌+◌, ◌-◌, ◌≤◌, Bool, inl, inr, List, [], ◌∷◌, ◌++◌, Option, Some, None, Result, Ok, Err, refl, sym, ap, ◌∙◌, subst, arith, append_assoc}
+use Rattle.std.specs.Prelude.{IfSome}
 use Rattle.std.proofs.lemmas.List.{append-nil}
 use Rattle.cf_conn.specs.Source.{with_front}
 use Rattle.cf_chain.specs.Grow.{Mark as Told, NotMet}
@@ -13,12 +14,12 @@ use Rattle.cf_grow.specs.Serving.{Answers, AnswersEach, AllWritten, SomeWritten,
 use Rattle.cf_msg.specs.declared.msg.Msg.{Msg}
 use Rattle.cf_msg.specs.declared.msg.Malformed.{Malformed}
 use Rattle.cf_msg.specs.Reading.{message_of}
-use Rattle.cf_server.specs.declared.outcome.Outcome.TheVariants.{Closed, BadFrame, Malformed as MalformedFrame, ReadFault, WriteFault, Tired, NoMemory}
+use Rattle.cf_server.specs.declared.outcome.ServeEnd.TheVariants.{Closed, BadFrame, Malformed as MalformedFrame, ReadFault, WriteFault, Tired, NoMemory}
 use Rattle.cf_server.specs.Serving.{Course, course, most_frames, Whole}
 use Rattle.cf_server.specs.Taking.{with_messages}
-use Rattle.cf_server.proofs.Courses.{course_full, course_waits, course_bad, course_frame, course_frame_alone, messages_joined}
-use Rattle.cf_server.proofs.Steps.{inside_ends as plain_ends}
-use Rattle.cf_server.proofs.Texts.{whole_none, whole_on, beginning_on}
+use Rattle.cf_server.proofs.Courses.{course_full, course_waits, course_bad, course_frame, course_frame_alone}
+use Rattle.cf_server.proofs.Steps.{if_some_on, inside_ends as plain_ends}
+use Rattle.cf_server.proofs.Texts.{whole_none, whole_on, beginning_on, leads_on}
 
 front_joined : (o : Option (List ℕ)) (a b : List ℕ) → with_front a (with_front b o) ≡ with_front (a ++ b) o
 front_joined None a b = refl
@@ -65,12 +66,7 @@ pub moves_on : (now : ℤ) (nonce k l m : ℕ) (u v w piece : List ℕ) (a b c :
     → Moves now nonce k l u v a b o p → Moves now nonce l m (v ++ piece) w b c p q → Moves now nonce k m (u ++ piece) w a c o q
 moves_on now nonce k l m u v w piece a b c o p q first second = record {
   messages = first.messages ++ second.messages;
-  leads = λ more.
-      ap (course k) (append_assoc u piece more)
-      ∙ first.leads (piece ++ more)
-      ∙ ap (λ bytes. with_messages first.messages (course l bytes)) (sym (append_assoc v piece more))
-      ∙ ap (with_messages first.messages) (second.leads more)
-      ∙ messages_joined first.messages second.messages (course m (w ++ more));
+  leads = leads_on k l m u v w piece first.messages second.messages first.leads second.leads;
   text = first.text ++ second.text;
   each = each_joined now nonce a b c first.messages second.messages first.text second.text first.each second.each;
   written = whole_on o p q first.text second.text first.written second.written;
@@ -318,6 +314,16 @@ pub same_moment : (r : Result (Unit {0}) Ending) (time now : ℤ) (number nonce 
 same_moment r time now number nonce read mark next o p one two answers =
     subst (λ (n : ℕ). AnswersFrame r now n read mark next o p) two (subst (λ (t : ℤ). AnswersFrame r t number read mark next o p) one answers)
 
+-- one frame more is taken and answered, at the moment that was told
+pub frame_taken : (now time : ℤ) (nonce number k l : ℕ) (u v w : List ℕ) (f : Frame) (found : Option Frame) (a b c : Told) (o p q : Option (List ℕ)) → 1 ≤ l → found ≡ Some f
+    → FindsFrame (Ok found) v w → Moves now nonce k l u v a b o p → (time ≡ now) × (number ≡ nonce) → AnswersFrame (Ok tt) time number (message_of f) b c p q
+    → Moves now nonce k (l - 1) u w a c o q
+frame_taken now time nonce number k l u v w f found a b c o p q room is finds moves moment answers =
+    let front = subst (λ (x : Option Frame). FindsFrame (Ok x) v w) is finds in
+    let one : l ≡ (l - 1) + 1 = omega (arith, room) in
+    moves_then now nonce k l (l - 1) u v w a b c o p q moves
+    (frame_moves now nonce l (l - 1) v w f b c p q one front (same_moment (Ok tt) time now number nonce (message_of f) b c p q moment.0 moment.1 answers))
+
 -- ---- the connection as a whole
 
 -- before the first byte
@@ -380,3 +386,28 @@ stops_at time now number nonce k v ending a o p one two stops =
 pub at_moment : (z now : ℤ) (nonce : ℕ) (bytes : List ℕ) (left : Option (List ℕ)) (k : ℕ) (v : List ℕ) (a : Told) (o p : Option (List ℕ)) → z ≡ now
     → Midway z nonce bytes left k v a o p → Midway now nonce bytes left k v a o p
 at_moment z now nonce bytes left k v a o p same midway = subst (λ (y : ℤ). Midway y nonce bytes left k v a o p) same midway
+
+-- so serving ends where no more comes
+pub served_ends : (told : Option (List ℕ)) (z now : ℤ) (nonce : ℕ) (piece : List ℕ) (left left_after : Option (List ℕ)) (k : ℕ) (v : List ℕ) (mark : Told) (o p q : Option (List ℕ)) (ending : Ending) → z ≡ now
+    → IfSome told (λ bytes. Midway z nonce bytes left k v mark o p) → left ≡ with_front piece left_after → piece ≡ [] → q ≡ p → 1 ≤ k → ((n : ℕ) → Stops now nonce ending (suc n) v mark p p)
+    → IfSome told (λ bytes. IsServedGrowing now nonce ending bytes left_after o q)
+served_ends told z now nonce piece left left_after k v mark o p q ending same midway read none kept some ends =
+    if_some_on told (λ bytes. Midway z nonce bytes left k v mark o p) (λ bytes. IsServedGrowing now nonce ending bytes left_after o q)
+    (λ bytes is way. served_so_far now nonce bytes piece left left_after k v mark o p q ending (at_moment z now nonce bytes left k v mark o p same way) read none kept some ends) midway
+
+-- and where a piece ends it
+pub served_last : (told : Option (List ℕ)) (z now time : ℤ) (nonce number : ℕ) (piece : List ℕ) (left between left_after : Option (List ℕ)) (k : ℕ) (v : List ℕ) (mark : Told) (o p p_read q : Option (List ℕ)) (ending : Ending) → z ≡ now
+    → IfSome told (λ bytes. Midway z nonce bytes left k v mark o p) → left ≡ with_front piece between → left_after ≡ between → p_read ≡ p → time ≡ z → number ≡ nonce
+    → Stops time number ending k (v ++ piece) mark p_read q → IfSome told (λ bytes. IsServedGrowing now nonce ending bytes left_after o q)
+served_last told z now time nonce number piece left between left_after k v mark o p p_read q ending same midway read kept wrote one two stops =
+    if_some_on told (λ bytes. Midway z nonce bytes left k v mark o p) (λ bytes. IsServedGrowing now nonce ending bytes left_after o q)
+    (λ bytes is way. midway_last now nonce bytes piece left between left_after k v mark o p p_read q ending (at_moment z now nonce bytes left k v mark o p same way) read kept wrote
+    (stops_at time now number nonce k (v ++ piece) ending mark p_read q (one ∙ same) two stops)) midway
+
+-- and where it goes on behind a piece
+pub midway_goes : (told : Option (List ℕ)) (now time : ℤ) (nonce number : ℕ) (piece : List ℕ) (left between left_after : Option (List ℕ)) (k l : ℕ) (v w : List ℕ) (a b : Told) (o p p_read q : Option (List ℕ))
+    → IfSome told (λ bytes. Midway now nonce bytes left k v a o p) → left ≡ with_front piece between → left_after ≡ between → p_read ≡ p → time ≡ now → number ≡ nonce
+    → Moves time number k l (v ++ piece) w a b p_read q → IfSome told (λ bytes. Midway now nonce bytes left_after l w b o q)
+midway_goes told now time nonce number piece left between left_after k l v w a b o p p_read q midway read kept same one two moves =
+    if_some_on told (λ bytes. Midway now nonce bytes left k v a o p) (λ bytes. Midway now nonce bytes left_after l w b o q)
+    (λ bytes is way. midway_turn now nonce bytes piece left between left_after k l v w a b o p p_read q way read kept same (moves_at time now number nonce k l (v ++ piece) w a b p_read q one two moves)) midway

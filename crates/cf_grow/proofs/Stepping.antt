@@ -9,7 +9,7 @@ use Rattle.cf_chain.specs.Good.{IsGoodChain}
 use Rattle.cf_chain.specs.Grow.{Mark as Told, Told as IsTold, is_met}
 use Rattle.cf_frame.specs.declared.frame.Frame.{Frame}
 use Rattle.cf_frame.specs.Frame.{IsFrame}
-use Rattle.cf_frame.specs.Stream.{IsBytes}
+use Rattle.cf_bytes.specs.Cut.{IsBytes}
 use Rattle.cf_grow.specs.declared.grown.Taken.{Taken}
 use Rattle.cf_grow.specs.declared.held.Held.{Held}
 use Rattle.cf_grow.specs.declared.ending.Ending.TheVariants.{Served}
@@ -26,8 +26,8 @@ use Rattle.cf_msg.specs.declared.msg.Malformed.{Malformed}
 use Rattle.cf_msg.specs.Message.{HasSpelling}
 use Rattle.cf_msg.specs.Reading.{message_of, Answers as ReadsAs}
 use Rattle.cf_msg.proofs.Table.{carried}
-use Rattle.cf_server.specs.declared.outcome.Outcome.{Outcome}
-use Rattle.cf_server.specs.declared.outcome.Outcome.TheVariants.{Closed, BadFrame, Malformed as MalformedFrame, ReadFault, WriteFault, Tired, NoMemory}
+use Rattle.cf_server.specs.declared.outcome.ServeEnd.{ServeEnd}
+use Rattle.cf_server.specs.declared.outcome.ServeEnd.TheVariants.{Closed, BadFrame, Malformed as MalformedFrame, ReadFault, WriteFault, Tired, NoMemory}
 use Rattle.cf_server.specs.Serving.{Whole}
 use Rattle.cf_server.specs.Taking.{Sends}
 
@@ -78,7 +78,7 @@ refused_frame (NotThere s) now nonce read m mark next o is met refused = (
 refused_frame OutOfMemory now nonce read m mark next o is met refused = inl refl
 
 -- one whose answer is sent in part
-pub frame_failed : (outcome : Outcome) (now : ℤ) (nonce : ℕ) (read : Result Msg Malformed) (m : Msg) (mark next : Told) (text : List ℕ) (o p : Option (List ℕ)) → read ≡ Ok m
+pub frame_failed : (outcome : ServeEnd) (now : ℤ) (nonce : ℕ) (read : Result Msg Malformed) (m : Msg) (mark next : Told) (text : List ℕ) (o p : Option (List ℕ)) → read ≡ Ok m
     → Answers now nonce mark m next text → Sends (Err outcome) o p text → AnswersFrame (Err (Served outcome)) now nonce read mark next o p
 frame_failed WriteFault now nonce read m mark next text o p is answers sends = inr (record { message = m; is = is; next = next; text = text; answers = answers; begins = sends })
 frame_failed NoMemory now nonce read m mark next text o p is answers sends = inr (record { message = m; is = is; next = next; text = text; answers = answers; begins = sends })

@@ -12,7 +12,7 @@ use Rattle.cf_grow.specs.declared.taking.Answer.{Answer}
 use Rattle.cf_grow.specs.Held.{texts_in}
 use Rattle.cf_walk.specs.Files.{cause_on}
 use Rattle.cf_msg.specs.declared.msg.Msg.{Msg}
-use Rattle.cf_server.specs.declared.answering.Served.{Served}
+use Rattle.cf_server.specs.declared.answering.Serving.{Serving}
 use Rattle.cf_server.specs.Replies.{messages_of, AreRepliesOf}
 use Rattle.cf_server.specs.Serving.{text_of}
 use Rattle.cf_grow.specs.Standing.{hash_in}
@@ -44,10 +44,10 @@ abbrev pub news_in : Option Hash32 → List Msg
 news_in None = []
 news_in (Some hash) = announcement hash.0 ∷ []
 
-abbrev pub messages_in : Served → List Block → Answer → List Msg
+abbrev pub messages_in : Serving → List Block → Answer → List Msg
 messages_in served blocks a = news_in a.news ++ (asked_for a.wants ++ messages_of served blocks a.plain)
 
-pub record IsAnswerOf (served : Served) (blocks : List Block) (a : Answer) (messages : List Msg) : Type 0 where
+pub record IsAnswerOf (served : Serving) (blocks : List Block) (a : Answer) (messages : List Msg) : Type 0 where
   pub told : messages_in served blocks a ≡ messages
   pub each : AreRepliesOf blocks a.plain
 

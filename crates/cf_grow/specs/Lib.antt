@@ -2,3 +2,5 @@ pub mod Held
 pub mod Growing
 pub mod Serving
 pub mod Standing
+pub mod Service
+pub mod GrowingService

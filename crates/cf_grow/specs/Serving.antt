@@ -15,7 +15,7 @@ use Rattle.cf_grow.specs.declared.mark.TakeFail.TheVariants.{Shrunk as NotThere,
 use Rattle.cf_grow.specs.Standing.{StandsOn, hash_in}
 use Rattle.cf_msg.specs.declared.msg.Msg.{Msg}
 use Rattle.cf_msg.specs.declared.msg.Malformed.{Malformed}
-use Rattle.cf_server.specs.declared.outcome.Outcome.TheVariants.{BadFrame, Malformed as MalformedFrame, WriteFault, NoMemory}
+use Rattle.cf_server.specs.declared.outcome.ServeEnd.TheVariants.{BadFrame, Malformed as MalformedFrame, WriteFault, NoMemory}
 use Rattle.cf_server.specs.Outcomes.{number_of}
 use Rattle.cf_server.specs.Serving.{Stop, course, most_frames, text_of, Whole, Beginning, ComesAt, Counts, Ends}
 use Rattle.cf_server.specs.Taking.{with_messages, ComesInside}

@@ -4,13 +4,13 @@ ghost use Rattle.cf_grow.specs.declared.ending.Ending.TheVariants.{Served as Ser
 ghost use Rattle.cf_grow.specs.Serving.{ending_number, ending_of};
 
 use crate::mark::{Shrunk, TakeFail};
-use cf_server::Outcome;
+use cf_server::ServeEnd;
 
 /// How serving a connection ended.
 #[derive(Clone, Copy, Debug, PartialEq, Eq)]
 pub enum Ending {
     /// As from a chain that stands still.
-    Served(Outcome),
+    Served(ServeEnd),
     /// The chain is another than the one that was told.
     Shrunk(Shrunk),
 }
@@ -27,10 +27,10 @@ impl Ending {
     }
 }
 
-impl From<Outcome> for Ending {
+impl From<ServeEnd> for Ending {
     ghost from_gives = { λ outcome e. e ≡ ServedSo outcome };
 
-    fn from(outcome: Outcome) -> Ending {
+    fn from(outcome: ServeEnd) -> Ending {
         Ending::Served(outcome)
     }
 }
@@ -41,7 +41,7 @@ impl From<TakeFail> for Ending {
     fn from(fail: TakeFail) -> Ending {
         match fail {
             TakeFail::Shrunk(shrunk) => Ending::Shrunk(shrunk),
-            TakeFail::NoMemory => Ending::Served(Outcome::NoMemory),
+            TakeFail::NoMemory => Ending::Served(ServeEnd::NoMemory),
         }
     }
 }

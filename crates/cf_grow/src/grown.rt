@@ -28,7 +28,7 @@ pub struct Taken {
 }
 
 // The answer to a message, held. After a refusal the mark is unchanged.
-#[tactic(auto, using(crate::proofs::Holding::wants_few, crate::proofs::Holding::wants_fit, crate::proofs::Holding::held_told))]
+#[tactic(auto, using(crate::proofs::Holding::told_so))]
 fn answer_held(alloc: Global, index: &Index, mark: &mut Mark, msg: &Msg) -> Result<Parts, TakeFail>
     requires { HasSpelling msg.now }
     ensures has { OnOk result (HasMark index.now mark.old) }

@@ -18,13 +18,10 @@ use crate::taking::Answer;
 use cf_bytes::{Hash32, Listed, NoMemory};
 use cf_frame::encode;
 use cf_index::{Index, SharedBlock};
-use cf_msg::{Bytes, Entries, Entry, Msg, frame_block};
-use cf_server::{Reply, Served, message_bytes, write_reply};
+use cf_msg::{BLOCK_KIND, Bytes, Entries, Inventory, Msg, frame_block};
+use cf_server::{Reply, Serving, message_bytes, write_reply};
 use std::alloc::Global;
 use std::marker::Model;
-
-/// The kind of an inventory's entry that tells of a block.
-const BLOCK_KIND: u32 = 2;
 
 /// A block that is to be sent. It is shared with the chain, and keeps to the rules of its bytes.
 #[derive(Drop)]
@@ -91,7 +88,7 @@ fn hold_announcement(alloc: Global, hash: Hash32, out: &mut Parts) -> Result<(),
     ensures { OnOk result (texts_in out.new ≡ texts_in out.old ++ text_of (announcement hash.0 ∷ [])) }
 {
     let mut entries = Entries::new(alloc);
-    entries.push(Entry {
+    entries.push(Inventory {
         kind: BLOCK_KIND,
         hash,
     })?;
@@ -111,7 +108,7 @@ fn hold_news(alloc: Global, news: Option<Hash32>, out: &mut Parts) -> Result<(),
 }
 
 // The request for the blocks that are asked for.
-#[tactic(auto, using(crate::proofs::Holding::held_asked, crate::proofs::Holding::held_asked_none, crate::proofs::Holding::wants_payload))]
+#[tactic(auto, using(crate::proofs::Holding::asked_so))]
 fn hold_wants(alloc: Global, wants: Entries, out: &mut Parts) -> Result<(), NoMemory>
     requires few { length wants ≤ 50000 }
     requires entries { AllByRecursion IsEntry wants }
@@ -141,7 +138,12 @@ fn hold_block(index: &Index, height: u32) -> Result<Held, NoMemory>
 }
 
 // A reply: a block as a share, and all others as bytes.
-fn hold_reply(alloc: Global, index: &Index, served: &Served, reply: Reply) -> Result<Held, NoMemory>
+fn hold_reply(
+    alloc: Global,
+    index: &Index,
+    served: &Serving,
+    reply: Reply,
+) -> Result<Held, NoMemory>
     requires { IsReplyOf index.now reply }
     ensures { IfOk result (λ part. text_in part ≡ spelling (frame_of (message_of served.now index.now reply))) }
 {
@@ -158,7 +160,7 @@ fn hold_reply(alloc: Global, index: &Index, served: &Served, reply: Reply) -> Re
 fn hold_replies(
     alloc: Global,
     index: &Index,
-    served: &Served,
+    served: &Serving,
     replies: &[Reply],
     out: &mut Parts,
 ) -> Result<(), NoMemory>
@@ -178,7 +180,7 @@ fn hold_replies(
 pub(crate) fn hold_answer(
     alloc: Global,
     index: &Index,
-    served: &Served,
+    served: &Serving,
     answer: Answer,
 ) -> Result<Parts, NoMemory>
     requires each { AreRepliesOf index.now answer.plain }

@@ -3,17 +3,21 @@
 #![tactic(auto)]
 
 mod ending;
+mod growing;
 mod grown;
 mod held;
 mod joins;
 mod mark;
 mod sending;
 mod serve;
+mod server;
 mod taking;
 
 pub use ending::Ending;
+pub use growing::GrowingServer;
 pub use grown::{Grown, Taken, take_locked};
 pub use held::{Held, HeldBlock, Parts};
 pub use joins::{Joins, Nobody};
 pub use mark::{Mark, Shrunk, TakeFail};
 pub use serve::serve_grown;
+pub use server::Server;

@@ -2,13 +2,13 @@
 ghost use Rattle.std.specs.Prelude.{◌≡◌, false};
 
 use cf_bytes::Hash32;
-use cf_server::Served;
+use cf_server::Serving;
 
 /// What a connection is served by, and the height and the hash of the tip that it was told of last, which count once
 /// its `version` has come.
 #[derive(Clone, Copy, Debug, PartialEq, Eq)]
 pub struct Mark {
-    pub(crate) served: Served,
+    pub(crate) served: Serving,
     pub(crate) height: u32,
     pub(crate) hash: Hash32,
 }
@@ -19,7 +19,7 @@ impl Mark {
         ensures { result.served ≡ record { time = now; nonce = nonce; seen = false } }
     {
         Mark {
-            served: Served::new(now, nonce),
+            served: Serving::new(now, nonce),
             height: 0,
             hash: Hash32([0; 32]),
         }

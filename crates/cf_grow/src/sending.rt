@@ -6,7 +6,7 @@ ghost use Rattle.cf_server.specs.Taking.{CountsWrites, Sends};
 use crate::held::Held;
 use cf_bytes::NoMemory;
 use cf_conn::Duplex;
-use cf_server::{Outcome, flush};
+use cf_server::{ServeEnd, flush};
 use std::alloc::Global;
 
 /// How many bytes wait at least before they're written. What is left is written after the last part.
@@ -31,7 +31,7 @@ pub(crate) fn send_parts<C: Duplex>(
     alloc: Global,
     conn: &mut C,
     parts: &[Held],
-) -> Result<(), Outcome>
+) -> Result<(), ServeEnd>
     ensures sends { Sends result (C.written conn.old) (C.written conn.new) (texts_in parts.now) }
     ensures count { CountsWrites result (C.Sink.faults conn.old) (C.Sink.faults conn.new) }
     ensures left { C.left conn.new ≡ C.left conn.old }

@@ -1,7 +1,7 @@
 //! Serving a connection from a chain that grows.
 ghost use Rattle.std.specs.Prelude.{◌≡◌, ◌≤◌, ◌++◌, IfSome, IfOk, IfErr, OnOk};
 ghost use Rattle.cf_frame.specs.Frame.{IsFrame};
-ghost use Rattle.cf_frame.specs.Stream.{IsBytes};
+ghost use Rattle.cf_bytes.specs.Cut.{IsBytes};
 ghost use Rattle.cf_grow.specs.Growing.{HasMomentOf, mark_of};
 ghost use Rattle.cf_grow.specs.Serving.{AnswersFrame, CountsOf, CountsSends, EndsInside, EndsOf, FindsFrame, IsServedGrowing, TakesFrames};
 ghost use Rattle.cf_msg.specs.Message.{HasSpelling};
@@ -17,15 +17,9 @@ use cf_bytes::Refused;
 use cf_conn::Duplex;
 use cf_frame::{Frame, Framer};
 use cf_msg::{Malformed, Msg, read};
-use cf_server::Outcome;
+use cf_server::{MOST_FRAMES, PIECE, ServeEnd};
 use std::alloc::Global;
 use std::sync::{Mutex, Wait};
-
-/// The most frames that are taken of one connection.
-const MOST_FRAMES: u32 = 1_000_000;
-
-/// The most bytes of one read.
-const PIECE: usize = 4096;
 
 // What a slice of bytes holds are bytes: its type says so.
 fn are_bytes(bytes: &[u8])
@@ -72,8 +66,8 @@ fn answer_frame<R: Wait, J: Joins, C: Duplex>(
 {
     let msg = match read_spelled(alloc, frame) {
         Ok(msg) => msg,
-        Err(Refused::No(fault)) => return Err(Ending::Served(Outcome::Malformed(fault))),
-        Err(Refused::NoMemory) => return Err(Ending::Served(Outcome::NoMemory)),
+        Err(Refused::No(fault)) => return Err(Ending::Served(ServeEnd::Malformed(fault))),
+        Err(Refused::NoMemory) => return Err(Ending::Served(ServeEnd::NoMemory)),
     };
     let taken = take_locked(rt, alloc, grown, mark, msg)?;
     tell(joins, taken.joined);
@@ -97,8 +91,8 @@ fn next_frame(framer: &mut Framer) -> Result<Option<Frame>, Ending>
 {
     match framer.next() {
         Ok(frame) => Ok(frame),
-        Err(Refused::No(fault)) => Err(Ending::Served(Outcome::BadFrame(fault))),
-        Err(Refused::NoMemory) => Err(Ending::Served(Outcome::NoMemory)),
+        Err(Refused::No(fault)) => Err(Ending::Served(ServeEnd::BadFrame(fault))),
+        Err(Refused::NoMemory) => Err(Ending::Served(ServeEnd::NoMemory)),
     }
 }
 
@@ -127,7 +121,7 @@ fn take_frames<R: Wait, J: Joins, C: Duplex>(
         answer_frame(rt, alloc, grown, joins, conn, &mut session.mark, &frame)?;
         session.left -= 1;
         if session.left == 0 {
-            return Err(Ending::Served(Outcome::Tired));
+            return Err(Ending::Served(ServeEnd::Tired));
         }
     }
     Ok(())
@@ -158,7 +152,7 @@ fn take_piece<R: Wait, J: Joins, C: Duplex>(
 {
     match session.framer.feed(piece) {
         Ok(()) => take_frames(rt, alloc, grown, joins, conn, session),
-        Err(_) => Err(Ending::Served(Outcome::NoMemory)),
+        Err(_) => Err(Ending::Served(ServeEnd::NoMemory)),
     }
 }
 
@@ -189,9 +183,9 @@ pub fn serve_grown<R: Wait, J: Joins, C: Duplex>(
     let mut piece = [0u8; PIECE];
     loop {
         let n = match conn.receive(&mut piece) {
-            Ok(0) => return Ending::Served(Outcome::Closed),
+            Ok(0) => return Ending::Served(ServeEnd::Closed),
             Ok(n) => n,
-            Err(_) => return Ending::Served(Outcome::ReadFault),
+            Err(_) => return Ending::Served(ServeEnd::ReadFault),
         };
         if let Err(ending) = take_piece(rt, alloc, grown, joins, conn, &mut session, &piece[..n]) {
             return ending;

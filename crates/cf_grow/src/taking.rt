@@ -7,12 +7,9 @@ ghost use Rattle.cf_grow.specs.Growing.{HasMark, HasMomentOf, IsAnswerOf, Refuse
 use crate::mark::{Mark, Shrunk, TakeFail};
 use cf_bytes::{Hash32, NoMemory};
 use cf_index::Index;
-use cf_msg::{Entries, Entry, Msg};
-use cf_server::{Replies, Served, answer};
+use cf_msg::{BLOCK_KIND, Entries, Inventory, Msg};
+use cf_server::{Replies, Serving, answer};
 use std::alloc::Global;
-
-/// The kind of an inventory's entry that tells of a block.
-const BLOCK_KIND: u32 = 2;
 
 /// The answer to one message: the tip that is told first, the blocks that are asked for, and the replies, by heights.
 #[derive(Drop)]
@@ -63,13 +60,13 @@ fn news_of(index: &Index, mark: &Mark) -> Option<Hash32>
 }
 
 // Whether an entry tells of a block that isn't in the chain.
-fn is_news(index: &Index, entry: &Entry) -> bool
+fn is_news(index: &Index, entry: &Inventory) -> bool
     ensures { result ≡ is_unknown index.now entry.now }
 {
     entry.kind == BLOCK_KIND && index.height_of(&entry.hash).is_none()
 }
 
-fn put_news(index: &Index, entry: &Entry, out: &mut Entries) -> Result<(), NoMemory>
+fn put_news(index: &Index, entry: &Inventory, out: &mut Entries) -> Result<(), NoMemory>
     ensures { OnOk result (out.new ≡ out.old ++ unknown_entry index.now entry.now) }
 {
     if is_news(index, entry) {
@@ -79,7 +76,7 @@ fn put_news(index: &Index, entry: &Entry, out: &mut Entries) -> Result<(), NoMem
 }
 
 // The blocks that an inventory tells of and that aren't in the chain.
-fn find_news(index: &Index, entries: &[Entry], out: &mut Entries) -> Result<(), NoMemory>
+fn find_news(index: &Index, entries: &[Inventory], out: &mut Entries) -> Result<(), NoMemory>
     ensures { OnOk result (out.new ≡ out.old ++ flat_map (unknown_entry index.now) entries.now) }
 {
     for entry in entries {
@@ -103,8 +100,8 @@ fn wants_of(alloc: Global, index: &Index, seen: bool, msg: &Msg) -> Result<Entri
 }
 
 // Moves the mark to the tip, where the tip was told.
-#[tactic(auto, using(crate::proofs::Marks::moves_first, crate::proofs::Marks::moves_up, crate::proofs::Marks::moves_not))]
-fn move_mark(index: &Index, mark: &mut Mark, served: Served)
+#[tactic(auto, using(crate::proofs::Marks::moves))]
+fn move_mark(index: &Index, mark: &mut Mark, served: Serving)
     requires { mark.old.served.seen ≡ true → served.seen ≡ true }
     ensures mark { mark_of mark.new ≡ moved index.now (mark_of mark.old) served.seen }
     ensures served { mark.new.served ≡ served }

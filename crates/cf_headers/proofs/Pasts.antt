@@ -5,7 +5,7 @@ use Rattle.std.proofs.lemmas.Grind.{reverse_onto, common_steps}
 use Rattle.std.proofs.lemmas.Bool.{cases_lt}
 use Rattle.cf_block.specs.declared.header.Header.{Header}
 use Rattle.cf_block.specs.Header.{genesis_header}
-use Rattle.cf_headers.specs.declared.entry.Entry.{Entry}
+use Rattle.cf_headers.specs.declared.entry.HashedHeader.{HashedHeader}
 use Rattle.cf_headers.specs.Rules.{past_after}
 use Rattle.cf_headers.specs.Chain.{Chain, times_of, past_of, lower}
 use Rattle.cf_headers.specs.Entries.{headers_of, chain_of, past_through}
@@ -89,10 +89,10 @@ take_parts {A} (suc m) n [] = let more : suc m + n ≡ suc (m + n) = omega arith
 take_parts {A} (suc m) n (x ∷ xs) = let more : suc m + n ≡ suc (m + n) = omega arith in ap (λ (i : ℕ). take i (x ∷ xs)) more ∙ ap (λ (ys : List A). x ∷ ys) (take_parts m n xs)
 
 -- the headers of entries from one place on
-part_of : (es : List Entry) (s n : ℕ) → headers_of (take n (drop s es)) ≡ take n (drop s (headers_of es))
-part_of es s n = sym (take-map (λ (e : Entry). e.header) n (drop s es)) ∙ ap (take n) (sym (drop-map (λ (e : Entry). e.header) s es))
+part_of : (es : List HashedHeader) (s n : ℕ) → headers_of (take n (drop s es)) ≡ take n (drop s (headers_of es))
+part_of es s n = sym (take-map (λ (e : HashedHeader). e.header) n (drop s es)) ∙ ap (take n) (sym (drop-map (λ (e : HashedHeader). e.header) s es))
 
-pub past_is : (es : List Entry) (k s : ℕ) → k ≤ length es → s ≡ k - 11 → past_through (headers_of (take (k - s) (drop s es))) (past_of []) ≡ past_of (lower k (chain_of es))
+pub past_is : (es : List HashedHeader) (k s : ℕ) → k ≤ length es → s ≡ k - 11 → past_through (headers_of (take (k - s) (drop s es))) (past_of []) ≡ past_of (lower k (chain_of es))
 past_is es k s le is =
     let hs = headers_of es in
     let split : reverse (take s hs ++ take (k - s) (drop s hs)) ≡ lower k (chain_of es) =
@@ -109,11 +109,11 @@ past_is es k s le is =
     ]
 
 -- one entry further
-pub through_on : (es : List Entry) (i : ℕ) (e : Entry) (past : List ℕ) → i < length es → e ≡ get_or es i e
+pub through_on : (es : List HashedHeader) (i : ℕ) (e : HashedHeader) (past : List ℕ) → i < length es → e ≡ get_or es i e
     → past_through (drop i (headers_of es)) past ≡ past_through (drop (i + 1) (headers_of es)) (past_after e.header.time past)
 unfolding past_through
 through_on [] i e past lt is = absurd (omega (arith, lt))
-through_on (x ∷ es) zero e past lt is = ap (λ (y : Entry). past_through (headers_of es) (past_after y.header.time past)) (sym is)
+through_on (x ∷ es) zero e past lt is = ap (λ (y : HashedHeader). past_through (headers_of es) (past_after y.header.time past)) (sym is)
 through_on (x ∷ es) (suc i) e past lt is = let more : suc i + 1 ≡ suc (i + 1) = omega arith in rw more (through_on es i e past (omega (arith, lt)) is)
 
 -- ---- the same of names
@@ -126,7 +126,7 @@ pub past_along_is : (nodes : Nodes) (names : List ℕ) (k s : ℕ) → k ≤ len
     → past_through (headers_of (entries_along nodes (take (k - s) (drop s names)))) (past_of []) ≡ past_of (lower k (chain_along nodes names))
 past_along_is nodes names k s le is =
     let few : k ≤ length (entries_along nodes names) = omega (arith, le, length-map names (λ (m : ℕ). entry_in (nodes m))) in
-    ap (λ (es : List Entry). past_through (headers_of es) (past_of [])) (along_part nodes names s (k - s)) ∙ past_is (entries_along nodes names) k s few is
+    ap (λ (es : List HashedHeader). past_through (headers_of es) (past_of [])) (along_part nodes names s (k - s)) ∙ past_is (entries_along nodes names) k s few is
 
 pub through_name : (nodes : Nodes) (ns : List ℕ) (i time : ℕ) (past next whole : List ℕ) → i < length ns → time ≡ (entry_in (nodes (get_or ns i 0))).header.time → next ≡ past_after time past
     → past_through (drop i (headers_of (entries_along nodes ns))) past ≡ whole → past_through (drop (i + 1) (headers_of (entries_along nodes ns))) next ≡ whole

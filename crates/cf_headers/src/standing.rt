@@ -4,7 +4,7 @@ ghost use Rattle.std.specs.Prelude.{◌≡◌, IfOk, vec_len};
 ghost use Rattle.cf_headers.specs.Entries.{IsChecked};
 
 use crate::check::{Hashing, check_all};
-use crate::entry::{Checked, Entry};
+use crate::entry::{Checked, HashedHeader};
 use crate::past::Past;
 use crate::pool::Pool;
 use crate::ways::{Way, names_above};
@@ -63,13 +63,13 @@ struct Standing<'a> {
 }
 
 impl Hashing for Standing<'_> {
-    fn entry(&self, i: usize, header: &Header) -> Entry {
+    fn entry(&self, i: usize, header: &Header) -> HashedHeader {
         if i < self.names.len() {
             if let Some(entry) = self.pool.entry_of(self.names[i], header) {
                 return entry;
             }
         }
-        Entry::new(header)
+        HashedHeader::new(header)
     }
 }
 

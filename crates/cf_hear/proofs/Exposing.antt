@@ -12,14 +12,14 @@ use Rattle.cf_match.specs.declared.job.Job.{Job}
 use Rattle.cf_msg.specs.declared.msg.Msg.{Msg}
 use Rattle.cf_msg.specs.declared.msg.Msg.TheVariants.{Cfilter}
 use Rattle.cf_peer.specs.declared.peer.Peer.{Peer}
-use Rattle.cf_peer.specs.declared.peer.Reply.{Reply}
-use Rattle.cf_peer.specs.declared.peer.Reply.TheVariants.{Nothing as NoReply, Send, Close, Expose}
+use Rattle.cf_peer.specs.declared.peer.Reaction.{Reaction}
+use Rattle.cf_peer.specs.declared.peer.Reaction.TheVariants.{Nothing as NoReply, Send, Close, Expose}
 use Rattle.cf_peer.specs.Asking.{claims, given_by, request, verdict}
 use Rattle.cf_peer.specs.Peer.{Hears}
 use Rattle.cf_peer.specs.Trail.{Trail, Said}
 use Rattle.cf_tables.specs.Outputs.{Paid, lacks_kept}
 use Rattle.cf_tables.specs.Tests.{IsSameTold, found_too}
-use Rattle.cf_tables.specs.Known.{Told}
+use Rattle.cf_tables.specs.Known.{TestResults}
 use Rattle.cf_tables.specs.Trials.{tested_if}
 use Rattle.cf_tables.specs.Claiming.{IsSameTables}
 use Rattle.cf_sync.proofs.FreshFilters.{one_given}
@@ -52,7 +52,7 @@ unexposed_put before after p put none q at of e = elim (cases_eq q p) [
 ]
 
 -- a message that has to do with nothing that is kept beside the peer
-pub plain_exposes : (seen : Seen) (p : ℕ) (peer : Peer) (m : Msg) (t : Trail) (r : Reply) → Hears peer m t r
+pub plain_exposes : (seen : Seen) (p : ℕ) (peer : Peer) (m : Msg) (t : Trail) (r : Reaction) → Hears peer m t r
     → IsUnexposed seen → Exposes seen p r
 plain_exposes seen p peer m t NoReply hears none = none
 plain_exposes seen p peer m t (Send reply) hears none = none
@@ -60,7 +60,7 @@ plain_exposes seen p peer m t (Close cause) hears none = none
 plain_exposes seen p peer m t (Expose block filter) hears none = absurd hears
 
 -- by what p said of some blocks: it claims more of these
-pub exposes_claims : (before after : Seen) (p : ℕ) (blocks : List Hash) (r : Reply)
+pub exposes_claims : (before after : Seen) (p : ℕ) (blocks : List Hash) (r : Reaction)
     → ((q : ℕ) → q ≢ p → (block : Hash) → after.claims q block ≡ before.claims q block)
     → ((block : Hash) → (IsIn block blocks → ⊥) → after.claims p block ≡ before.claims p block)
     → IsSameTold after.trials.told before.trials.told → ExposesAmong after p blocks r → IsUnexposed before
@@ -73,7 +73,7 @@ exposes_claims before after p blocks r others mine told among none = by r among 
     | inr other ↦ absurd (none q at of (same_exposed before after q at of (others q other at) (told at of) e))
   ]
 
-  by : (x : Reply) → ExposesAmong after p blocks x → Exposes after p x
+  by : (x : Reaction) → ExposesAmong after p blocks x → Exposes after p x
   by NoReply at_none = λ q at of e. (let here : IsExposedIn after p at of = subst
       (λ (k : ℕ). IsExposedIn after k at of) (apart q at of e) e in
       elim (in_or_out at blocks) [
@@ -87,7 +87,7 @@ exposes_claims before after p blocks r others mine told among none = by r among 
 -- ---- a filter
 
 -- what is told of other filters than one stays
-told_else : (aim : Bool) (paid : Paid) (job : Job) (told : Told) (at of : Hash)
+told_else : (aim : Bool) (paid : Paid) (job : Job) (told : TestResults) (at of : Hash)
     → tested_if aim paid (job ∷ []) told at of ≡ Some true
     → (told at of ≡ Some true) ⊎ ((job.block.0 ≡ at) × (filter_hash_of job.filter ≡ of))
 told_else false paid job told at of e = inl e
@@ -98,7 +98,7 @@ told_else true paid job told at of e = elim (cases_Bool (same job.block.0 at && 
       (paid job.block.0))) else told at of) off) ∙ e)
 ]
 
-told_many : (aim : Bool) (paid : Paid) (jobs : List Job) (told : Told) (at of : Hash)
+told_many : (aim : Bool) (paid : Paid) (jobs : List Job) (told : TestResults) (at of : Hash)
     → tested_if aim paid jobs told at of ≡ Some true
     → (told at of ≡ Some true) ⊎ ((job : Job) × (jobs ≡ job ∷ []) × (job.block.0 ≡ at)
     × (filter_hash_of job.filter ≡ of))
@@ -118,7 +118,7 @@ one_claim o a b x y = (let both : Some a ≡ Some b = sym x ∙ y in cc)
 
 -- by a filter that p gave: what is claimed stays, and what is found anew is of the filter that p claims of its block
 pub exposes_filter : (before after : Seen) (p : ℕ) (filter : ℕ) (block : Hash32) (bytes : List ℕ) (jobs : List Job)
-    (t : Trail) (r : Reply)
+    (t : Trail) (r : Reaction)
     → verdict (Said (Cfilter filter block bytes) ∷ t) ≡ None → given_by (Cfilter filter block bytes)
     (request t) ≡ jobs → Follows before p t
     → IsSameTables before.claims after.claims → IsSameTold after.trials.told
@@ -151,7 +151,7 @@ exposes_filter before after p filter block bytes jobs t r clean gives f claimed 
             )
       ]
 
-  by : (x : Reply) → ExposesAmong after p (block.0 ∷ []) x → Exposes after p x
+  by : (x : Reaction) → ExposesAmong after p (block.0 ∷ []) x → Exposes after p x
   by NoReply at_none = λ q at of e. at_none block.0 (inl refl) of (same_claim q at of e).1
   by (Send m) never = absurd never
   by (Close cause) never = absurd never

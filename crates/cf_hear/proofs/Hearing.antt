@@ -20,17 +20,17 @@ use Rattle.cf_headers.specs.Store.{Puts, own_of}
 use Rattle.cf_lent.specs.declared.views.View.{View}
 use Rattle.cf_lent.specs.declared.views.View.TheVariants as lents
 use Rattle.cf_lent.specs.View.{msg_of}
-use Rattle.cf_msg.specs.declared.msg.Entry.{Entry}
+use Rattle.cf_msg.specs.declared.msg.Inventory.{Inventory}
 use Rattle.cf_msg.specs.declared.msg.Msg.{Msg}
 use Rattle.cf_msg.specs.declared.msg.Msg.TheVariants.{Headers, Inv, Block as BlockMessage, Cfheaders, Cfilter}
 use Rattle.cf_peer.specs.declared.act.Act.{Act}
 use Rattle.cf_peer.specs.declared.act.Act.TheVariants.{Send as SendTo}
 use Rattle.cf_peer.specs.declared.peer.Cause.{Cause}
 use Rattle.cf_peer.specs.declared.peer.Peer.{Peer}
-use Rattle.cf_peer.specs.declared.peer.Reply.{Reply}
-use Rattle.cf_peer.specs.declared.peer.Reply.TheVariants.{Nothing as NoReply, Send, Close, Expose}
+use Rattle.cf_peer.specs.declared.peer.Reaction.{Reaction}
+use Rattle.cf_peer.specs.declared.peer.Reaction.TheVariants.{Nothing as NoReply, Send, Close, Expose}
 use Rattle.cf_peer.specs.Acts.{IsSendable, IsDoable}
-use Rattle.cf_peer.specs.Trail.{Trail, Part, Said, part_after, heard_part, fault_in, first, longer_of, ready, met, connected, own, owed, is_unknown}
+use Rattle.cf_peer.specs.Trail.{Trail, Part, Said, part_after, heard_part, fault_in, first, longer_of, ready, has_version, connected, own, replies_owed, is_unknown}
 use Rattle.cf_peer.specs.Asking.{OpenRequest, NothingOpen, request, claims, claims_after, counted, fault_of, fetched, fetched_by, given, given_by, verdict}
 use Rattle.cf_peer.specs.Hearing.{IsReply, Faulty}
 use Rattle.cf_peer.specs.Peer.{Holds, IsRight, TakesClaims, awaits, cause_of_claims, Hears, is_plain, is_ready_peer}
@@ -39,7 +39,7 @@ use Rattle.cf_peer.proofs.LentLeads.{done_shorter}
 use Rattle.cf_peer.proofs.Stream.{faulty_said, said_met, waits_says}
 use Rattle.cf_scan.specs.declared.extracts.TxExtract.{TxExtract}
 use Rattle.cf_tables.specs.Tables.{IsSameTable, with_block, with_blocks}
-use Rattle.cf_tables.specs.Known.{Table}
+use Rattle.cf_tables.specs.Known.{ExtractTable}
 use Rattle.cf_sync.proofs.Counted.{same_use}
 use Rattle.cf_sync.proofs.Grows.{said_brings}
 use Rattle.cf_sync.proofs.VerdictsGrow.{said_gives}
@@ -61,9 +61,9 @@ use Rattle.cf_seek.specs.Opening.{Closes, IsSameElse, IsSameOpens}
 use Rattle.cf_sync.specs.Known.{OpensAt}
 use Rattle.cf_sync.proofs.KeptOpens.{opens_closed}
 use Rattle.cf_hear.specs.Seen.{Seen, IsSameSeen, Follows}
-use Rattle.cf_hear.specs.Hearing.{Gains, Gives, Retains, HearsSeen, HearsNext, Advances, Reveals, Stops, Brings, Midway, HeardWhole, HeardFault, HeardExposed, HeardPiece}
+use Rattle.cf_hear.specs.Hearing.{Gains, Gives, Retains, HearsSeen, HearsNext, Advances, Reveals, Stops, Brings, Midway, HeardFault, HeardExposed, HeardPiece}
 use Rattle.cf_hear.specs.Exposing.{ExposesAmong, IsUnexposed}
-use Rattle.cf_hear.specs.declared.stop.Stop.{Stop}
+use Rattle.cf_hear.specs.declared.stop.HearStop.{HearStop}
 use Rattle.cf_hear.proofs.Trying.{IsOnce, gives_on, go_none, go_on, go_self, go_then, idle_by, once_by, one_empty, trials_self}
 use Rattle.cf_tables.specs.Trials.{IsSameTrials, TrialsGo, judged_if}
 use Rattle.cf_hear.proofs.Opening.{else_of, else_self, else_then, opens_claims, opens_headers, opens_news, opens_on, opens_other, opens_plain, opens_self}
@@ -92,7 +92,7 @@ gains_none s p t is = record {
 }
 
 -- the extracts of blocks, put in after those of others
-blocks_append : (watch : List (List ℕ)) (more news : List Block) (now before : Table) → IsSameTable now (with_blocks watch news before) → IsSameTable (with_blocks watch more now) (with_blocks watch (more ++ news) before)
+blocks_append : (watch : List (List ℕ)) (more news : List Block) (now before : ExtractTable) → IsSameTable now (with_blocks watch news before) → IsSameTable (with_blocks watch more now) (with_blocks watch (more ++ news) before)
 blocks_append watch [] news now before is = is
 blocks_append watch (b ∷ more) news now before is =
     λ hash. ap (λ (o : Option (List TxExtract)). with_block watch b (λ (h : Hash). o) hash) (blocks_append watch more news now before is hash)
@@ -350,7 +350,7 @@ headers_end before after p old peer hs t cause holds over gives puts f watch cla
 pub plain_lent : (v : View) → ((hs : List Header) → v ≡ lents.Headers hs → ⊥) → ((b : Block) → v ≡ lents.Block b → ⊥)
     → ((filter : ℕ) (block : Hash32) (bytes : List ℕ) → v ≡ lents.Cfilter filter block bytes → ⊥)
     → ((filter : ℕ) (stop previous : Hash32) (hashes : List Hash32) → v ≡ lents.Cfheaders filter stop previous hashes → ⊥)
-    → ((entries : List Entry) → v ≡ lents.Inv entries → ⊥)
+    → ((entries : List Inventory) → v ≡ lents.Inv entries → ⊥)
     → is_plain (msg_of v) ≡ true
 plain_lent (lents.Headers hs) headers block filter claims news = absurd (headers hs refl)
 plain_lent (lents.Block b) headers block filter claims news = absurd (block b refl)
@@ -377,7 +377,7 @@ gains_plain seen p m t plain f =
     (follows_on seen p.0 m t said.0 (λ block. ap (λ (c : dispute.Table). c block) (plain_claims m (request t) (claims t) plain))
     (opens_plain seen.opens p.0 m t plain f.opens) f)))
 
-pub plain_hears : (seen : Seen) (p : PeerNo) (peer : Peer) (m : Msg) (t : Trail) (r : Reply) → is_plain m ≡ true → Hears peer m t r → Follows seen p.0 t
+pub plain_hears : (seen : Seen) (p : PeerNo) (peer : Peer) (m : Msg) (t : Trail) (r : Reaction) → is_plain m ≡ true → Hears peer m t r → Follows seen p.0 t
     → HearsSeen seen seen p peer m t r
 plain_hears seen p peer m t NoReply plain hears f = (hears, gains_plain seen p m t plain f)
 plain_hears seen p peer m t (Send reply) plain hears f = (hears, gains_plain seen p m t plain f)
@@ -385,13 +385,13 @@ plain_hears seen p peer m t (Close cause) plain hears f = (hears, same_seen seen
 plain_hears seen p peer m t (Expose block filter) plain hears f = absurd hears
 
 -- what p tells of blocks changes no chain, and of what is kept beside the peer nothing
-news_own : (entries : List Entry) (t : Trail) → own (Said (Inv entries) ∷ t) ≡ own t
+news_own : (entries : List Inventory) (t : Trail) → own (Said (Inv entries) ∷ t) ≡ own t
 news_own entries t = alike (ready t) (own t) where
   alike : (x : Bool) (chain : Chain) → (if x then chain else chain) ≡ chain
   alike true chain = refl
   alike false chain = refl
 
-pub news_hears : (seen : Seen) (p : PeerNo) (peer : Peer) (entries : List Entry) (t : Trail)
+pub news_hears : (seen : Seen) (p : PeerNo) (peer : Peer) (entries : List Inventory) (t : Trail)
     → Holds peer (Said (Inv entries) ∷ t) → Follows seen p.0 t → HearsSeen seen seen p peer (Inv entries) t NoReply
 news_hears seen p peer entries t h f = (
   (h, refl),
@@ -400,7 +400,7 @@ news_hears seen p peer entries t h f = (
 )
 
 -- what is unknown on the chain that is kept of p is so on its own
-pub unknown_by : (seen : Seen) (p : PeerNo) (entries : List Entry) (t : Trail) (unknown : Bool) → Follows seen p.0 t
+pub unknown_by : (seen : Seen) (p : PeerNo) (entries : List Inventory) (t : Trail) (unknown : Bool) → Follows seen p.0 t
     → unknown ≡ list_any (is_unknown (own_of seen.chains p)) entries → unknown ≡ list_any (is_unknown (own t)) entries
 unknown_by seen p entries t unknown f e =
     e ∙ ap (λ (o : Option Chain). list_any (is_unknown (unwrap_or o [])) entries) f.chain
@@ -416,7 +416,7 @@ is_unplaced place off hash chain e is = by off (back_to hash chain) (sym (ap is_
   by false (Some part) f = refl
 
 -- what a message that was read does to the peer and to what was seen
-pub hears_next : (before after : Seen) (p : PeerNo) (bytes rest : List ℕ) (new : Peer) (m : Msg) (t : Trail) (r : Reply)
+pub hears_next : (before after : Seen) (p : PeerNo) (bytes rest : List ℕ) (new : Peer) (m : Msg) (t : Trail) (r : Reaction)
     → part_after (read_stream bytes) t ≡ part_after (read_stream rest) (Said m ∷ t) → HearsSeen before after p new m t r
     → HearsNext before after p bytes rest new t (Some r)
 hears_next before after p bytes rest new m t NoReply leads h =
@@ -434,7 +434,7 @@ hears_next before after p bytes rest new m t (Expose block filter) leads h = rec
 }
 
 -- a message by which p may be exposed
-pub may_expose : (before after : Seen) (p : PeerNo) (peer : Peer) (m : Msg) (t : Trail) (blocks : List Hash) (r : Reply) → request (Said m ∷ t) ≡ NothingOpen
+pub may_expose : (before after : Seen) (p : PeerNo) (peer : Peer) (m : Msg) (t : Trail) (blocks : List Hash) (r : Reaction) → request (Said m ∷ t) ≡ NothingOpen
     → ExposesAmong after p.0 blocks r → HearsSeen before after p peer m t NoReply → HearsSeen before after p peer m t r
 may_expose before after p peer m t blocks NoReply idle among h = h
 may_expose before after p peer m t blocks (Send reply) idle among h = absurd among
@@ -504,7 +504,7 @@ all_with : (rs : List Msg) (r : Msg) → AllByRecursion IsReply rs → IsReply r
 all_with [] r h is = (is, tt)
 all_with (x ∷ rs) r h is = (h.0, all_with rs r h.1 is)
 
-met_after : (m : Msg) (rs : List Msg) (t : Trail) → (rs ≡ []) ⊎ (met t ≡ true) → (rs ≡ []) ⊎ (met (Said m ∷ t) ≡ true)
+met_after : (m : Msg) (rs : List Msg) (t : Trail) → (rs ≡ []) ⊎ (has_version t ≡ true) → (rs ≡ []) ⊎ (has_version (Said m ∷ t) ≡ true)
 met_after m rs t (inl none) = inl none
 met_after m rs t (inr is) = inr (said_met m t is)
 
@@ -536,7 +536,7 @@ midway_start p peer waits seen acts piece start holds e f = record {
   are = record { each = tt; after_version = inl refl };
   holds = holds;
   leads = ap (λ (w : List ℕ). part_after (read_stream (w ++ piece)) start.trail) e;
-  owes = sym (append-nil (owed start.trail));
+  owes = sym (append-nil (replies_owed start.trail));
   news = [];
   brings = refl;
   jobs = [];
@@ -555,7 +555,7 @@ midway_quiet p old new bytes rest seen now next before acts start end midway mov
   are = record { each = midway.are.each; after_version = met_after moves.message midway.replies midway.so_far midway.are.after_version };
   holds = moves.holds;
   leads = sym moves.leads ∙ midway.leads;
-  owes = ap (λ (rs : List Msg). owed midway.so_far ++ rs) moves.owes ∙ append-nil (owed midway.so_far) ∙ midway.owes;
+  owes = ap (λ (rs : List Msg). replies_owed midway.so_far ++ rs) moves.owes ∙ append-nil (replies_owed midway.so_far) ∙ midway.owes;
   news = fetched_by moves.message (request midway.so_far) ++ midway.news;
   brings = brings_said new moves.message start.trail midway.so_far midway.news moves.holds midway.brings;
   jobs = midway.jobs ++ given_by moves.message (request midway.so_far);
@@ -578,7 +578,7 @@ midway_reply p old new bytes rest seen now next before acts more start end r mid
       are = record { each = all_with midway.replies r midway.are.each is.0; after_version = inr is.1 };
       holds = moves.holds;
       leads = sym moves.leads ∙ midway.leads;
-      owes = ap (λ (rs : List Msg). owed midway.so_far ++ rs) moves.owes ∙ ap (λ (rs : List Msg). rs ++ r ∷ []) midway.owes ∙ append_assoc (owed start.trail) midway.replies (r ∷ []);
+      owes = ap (λ (rs : List Msg). replies_owed midway.so_far ++ rs) moves.owes ∙ ap (λ (rs : List Msg). rs ++ r ∷ []) midway.owes ∙ append_assoc (replies_owed start.trail) midway.replies (r ∷ []);
       news = fetched_by moves.message (request midway.so_far) ++ midway.news;
       brings = brings_said new moves.message start.trail midway.so_far midway.news moves.holds midway.brings;
       jobs = midway.jobs ++ given_by moves.message (request midway.so_far);
@@ -588,45 +588,7 @@ midway_reply p old new bytes rest seen now next before acts more start end r mid
       idle = idle_by moves.message (request midway.so_far) midway.news midway.jobs midway.idle;
     }
 
--- nothing changed in what was gained
-gains_same : (a b c : Seen) (p : PeerNo) (t : Trail) (news : List Block) (jobs : List Job) → Gains a b p t news jobs → IsSameSeen b c → Gains a c p t news jobs
-gains_same a b c p t news jobs x y = record {
-  watch = y.watch ∙ x.watch;
-  follows = record {
-    chain = y.chains p.0 ∙ x.follows.chain;
-    claims = λ block. y.claims p.0 block ∙ x.follows.claims block;
-    opens = opens_on b.opens c.opens p.0 t y.opens x.follows.opens;
-  };
-  others = λ q ne. y.chains q ∙ x.others q ne;
-  claims = λ q ne block. y.claims q block ∙ x.claims q ne block;
-  table = λ hash. y.table hash ∙ x.table hash;
-  verdicts = λ block hash. y.verdicts block hash ∙ x.verdicts block hash;
-  opens = else_then a.opens b.opens c.opens p.0 x.opens (else_of b.opens c.opens p.0 y.opens);
-  trials = go_on a.trials b.trials c.trials p.0 news jobs x.trials y.trials;
-}
-
--- the framer is put back into the peer
-pub midway_whole : (p : PeerNo) (old new : Peer) (bytes waits left : List ℕ) (seen now next : Seen) (before acts : List Act)
-    (start end : Part) (midway : Midway p old bytes seen now before acts start end)
-    → HearsNext now next p bytes (waits ++ left) new midway.so_far None → left ≡ []
-    → HeardWhole p (record new { framer = waits }) seen next before acts start end
-midway_whole p old new bytes waits left seen now next before acts start end midway answer none =
-    let is : record { trail = midway.so_far; waits = waits ++ left } ≡ end = sym answer.1 ∙ midway.leads in
-    subst (λ (e : Part). HeardWhole p (record new { framer = waits }) seen next before acts start e) is (record {
-      replies = midway.replies;
-      acts = midway.acts;
-      are = record { each = midway.are.each; after_version = midway.are.after_version };
-      holds = same_holds new waits midway.so_far answer.0;
-      waits = sym (ap (λ (l : List ℕ). waits ++ l) none ∙ append-nil waits);
-      owes = midway.owes;
-      news = midway.news;
-      brings = midway.brings;
-      jobs = midway.jobs;
-      gives = midway.gives;
-      gains = gains_same seen now next p midway.so_far midway.news midway.jobs midway.gains answer.2;
-    })
-
-met_end : (rs : List Msg) (t end : Trail) → (met t ≡ true → met end ≡ true) → (rs ≡ []) ⊎ (met t ≡ true) → (rs ≡ []) ⊎ (met end ≡ true)
+met_end : (rs : List Msg) (t end : Trail) → (has_version t ≡ true → has_version end ≡ true) → (rs ≡ []) ⊎ (has_version t ≡ true) → (rs ≡ []) ⊎ (has_version end ≡ true)
 met_end rs t end known (inl none) = inl none
 met_end rs t end known (inr is) = inr (known is)
 
@@ -653,7 +615,7 @@ midway_fault p old bytes seen now next before acts start end cause midway stops 
       acts = midway.acts;
       are = record { each = midway.are.each; after_version = met_end midway.replies midway.so_far end.trail faulty.known midway.are.after_version };
       first = faulty.first;
-      owes = ap owed faulty.counts ∙ (same_use midway.so_far midway.holds.on midway.holds.clean).owing ∙ midway.owes;
+      owes = ap replies_owed faulty.counts ∙ (same_use midway.so_far midway.holds.on midway.holds.clean).owing ∙ midway.owes;
       news = midway.news;
       brings = faulty.same ∙ midway.brings;
       jobs = midway.jobs;
@@ -690,7 +652,7 @@ midway_exposed p old new bytes rest seen now next before acts start end block fi
     }
 
 -- the framer is taken out of the peer for a piece, and put back
-pub put_back : (r : Result (Option Stop) NoMemory) (p : PeerNo) (old taken now new : Peer) (fed waits piece : List ℕ)
+pub put_back : (r : Result (Option HearStop) NoMemory) (p : PeerNo) (old taken now new : Peer) (fed waits piece : List ℕ)
     (seen next : Seen) (acts more : List Act)
     → taken ≡ record old { framer = [] } → fed ≡ old.framer → new ≡ record now { framer = waits }
     → IfOk r (λ o. (part : Part) → Holds taken part.trail → fed ≡ part.waits → Follows seen p.0 part.trail
@@ -705,3 +667,6 @@ put_back (Err e) p old taken now new fed waits piece seen next acts more out fro
 -- one act more that can be done
 pub doable_with : (p : PeerNo) (m : Msg) (acts more : List Act) → p.0 < 9 → All IsDoable acts → IsSendable m → more ≡ acts ++ SendTo p m ∷ [] → All IsDoable more
 doable_with p m acts more number all sendable e = subst (All IsDoable) (sym e) (All-append IsDoable acts (SendTo p m ∷ []) all (All-cons IsDoable (SendTo p m) [] (number, sendable) (All-nil IsDoable)))
+
+-- what was taken of a piece, and what is left of it
+pub ruleset taken_so = (taken_within, taken_joined, taken_all)

@@ -10,7 +10,7 @@ use Rattle.cf_dispute.proofs.PutIn.{same_true, same_from}
 use Rattle.cf_headers.specs.Chain.{Hash, IsIn}
 use Rattle.cf_headers.specs.Rules.{same}
 use Rattle.cf_match.specs.declared.job.Job.{Job}
-use Rattle.cf_msg.specs.declared.msg.Entry.{Entry}
+use Rattle.cf_msg.specs.declared.msg.Inventory.{Inventory}
 use Rattle.cf_msg.specs.declared.msg.Msg.{Msg}
 use Rattle.cf_msg.specs.declared.msg.Msg.TheVariants.{Pong, Headers, Inv, Block as BlockMessage, Cfheaders, Cfilter}
 use Rattle.cf_peer.specs.declared.peer.Peer.{Peer}
@@ -42,12 +42,6 @@ pub else_then : (a b c : Opens) (p : ℕ) → IsSameElse a b p → IsSameElse b 
 else_then a b c p one two = record {
   filters = λ q ne block. two.filters q ne block ∙ one.filters q ne block;
   blocks = λ q ne block. two.blocks q ne block ∙ one.blocks q ne block;
-}
-
-pub opens_then : (a b c : Opens) → IsSameOpens a b → IsSameOpens b c → IsSameOpens a c
-opens_then a b c one two = record {
-  filters = λ q block. two.filters q block ∙ one.filters q block;
-  blocks = λ q block. two.blocks q block ∙ one.blocks q block;
 }
 
 -- the same is open to p
@@ -233,7 +227,7 @@ leaves_plain m r plain = leaves_same m r refl
 pub opens_plain : (opens : Opens) (p : ℕ) (m : Msg) (t : Trail) → is_plain m ≡ true → OpensAt opens p t → OpensAt opens p (Said m ∷ t)
 opens_plain opens p m t plain at = opens_said opens p m t (leaves_plain m (request t) plain) at
 
-pub opens_news : (opens : Opens) (p : ℕ) (entries : List Entry) (t : Trail) → OpensAt opens p t
+pub opens_news : (opens : Opens) (p : ℕ) (entries : List Inventory) (t : Trail) → OpensAt opens p t
     → OpensAt opens p (Said (Inv entries) ∷ t)
 opens_news opens p entries t at = opens_said opens p (Inv entries) t (leaves_same (Inv entries) (request t) refl) at
 

@@ -32,21 +32,21 @@ use Rattle.cf_sync.proofs.TableGrows.{holds_after_piece}
 use Rattle.cf_sync.proofs.VerdictsGrow.{same_given}
 use Rattle.cf_seek.specs.Opening.{Closes, IsSameOpens}
 use Rattle.cf_tables.specs.Tables.{IsSameTable}
-use Rattle.cf_tables.specs.Known.{Table}
+use Rattle.cf_tables.specs.Known.{ExtractTable}
 use Rattle.cf_tables.specs.Claiming.{ForgetsClaims, IsSameTables}
 use Rattle.cf_hear.specs.Hearing.{HeardWhole, HeardFault, HeardExposed}
-use Rattle.cf_hear.specs.Seen.{Seen, IsSameSeen}
+use Rattle.cf_hear.specs.Seen.{Seen}
 use Rattle.cf_hear.specs.Tracks.{HasOpened, Tracks, IsPut, chain_kept}
 use Rattle.cf_tables.specs.Trials.{IsSameTrials}
 use Rattle.cf_hear.proofs.Trying.{elsewhere_self, go_on, go_self, trials_self}
-use Rattle.cf_hear.proofs.Opening.{closed_on, closes_off, closes_then, else_by, else_self, holds_by, opens_asked, opens_by, opens_kept, opens_on}
+use Rattle.cf_hear.proofs.Opening.{closed_on, closes_off, closes_then, else_by, else_self, holds_by, opens_asked, opens_by, opens_kept}
 
 -- ---- what is kept of fetched blocks, where two logs tell of the same
 
 pub same_fetched : (log next : Log) → ((p : ℕ) → fetched (counted (trail next p)) ≡ fetched (counted (trail log p))) → (b : Block) → IsFetched log b → IsFetched next b
 same_fetched log next same b got = (got.0, subst (λ (bs : List Block). IsIn b bs) (sym (same got.0)) got.1)
 
-pub holds_on : (watch now : List (List ℕ)) (log next : Log) (table new : Table) → now ≡ watch → IsSameTable new table
+pub holds_on : (watch now : List (List ℕ)) (log next : Log) (table new : ExtractTable) → now ≡ watch → IsSameTable new table
     → ((p : ℕ) → fetched (counted (trail next p)) ≡ fetched (counted (trail log p))) → HoldsFetched watch log table → HoldsFetched now next new
 holds_on watch now log next table new same_watch same_table same h = subst (λ (w : List (List ℕ)). HoldsFetched w next new) (sym same_watch) (record {
   sound = λ hash e is. (let w = h.sound hash e (sym (same_table hash) ∙ is) in (w.0, same_fetched log next same w.0 w.1, w.2, w.3));
@@ -75,12 +75,6 @@ tracks_on before after log next watch table verdicts kept claimed opened same tr
   opened = opened;
   trials = trials;
 }
-
-pub same_tracks : (before after : Seen) (log : Log) → IsSameSeen before after → Tracks before log → Tracks after log
-same_tracks before after log same tracks =
-    tracks_on before after log log same.watch same.table same.verdicts (λ q. same.chains q ∙ tracks.kept q) (λ q block. same.claims q block ∙ tracks.claimed q block)
-    (λ q. opens_on before.opens after.opens q (trail log q) same.opens (tracks.opened q))
-    (record { blocks = λ q. refl; filters = same_gave log }) (trials_same log before.trials after.trials same.trials.paid same.trials.told same.trials.aims tracks.trials) tracks
 
 -- the log goes on, and no chain changes and no claims
 pub tracks_same : (s : Seen) (log next : Log) → ((q : ℕ) → chain_kept (trail next q) ≡ chain_kept (trail log q)) → ((q : ℕ) → claims_kept (trail next q) ≡ claims_kept (trail log q))

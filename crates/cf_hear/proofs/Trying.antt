@@ -12,7 +12,7 @@ use Rattle.cf_msg.specs.declared.msg.Msg.{Msg}
 use Rattle.cf_peer.specs.Asking.{OpenRequest, NothingOpen, fetched_by, given_by, request_after}
 use Rattle.cf_tables.specs.Outputs.{Paid, lacks_kept, put_outputs}
 use Rattle.cf_tables.specs.Tests.{IsSameTold, found_too, with_test}
-use Rattle.cf_tables.specs.Known.{Told}
+use Rattle.cf_tables.specs.Known.{TestResults}
 use Rattle.cf_tables.specs.Trials.{IsSameTrials, Trials, TrialsGo, tested_if, with_found, with_paid}
 use Rattle.cf_sync.proofs.Idle.{no_block, no_filter, nothing_after}
 use Rattle.cf_sync.proofs.KeptAims.{brings_said}
@@ -23,29 +23,22 @@ use Rattle.cf_hear.specs.Tracks.{IsSameElsewhere}
 pub trials_self : (s : Trials) → IsSameTrials s s
 trials_self s = record { paid = λ hash. refl; told = λ block filter. refl; aims = λ p. refl }
 
-pub trials_twice : (a b c : Trials) → IsSameTrials a b → IsSameTrials b c → IsSameTrials a c
-trials_twice a b c x y = record {
-  paid = λ hash. y.paid hash ∙ x.paid hash;
-  told = λ block filter. y.told block filter ∙ x.told block filter;
-  aims = λ p. y.aims p ∙ x.aims p;
-}
-
 pub elsewhere_self : (s : Trials) (p : ℕ) → IsSameElsewhere s s p
 elsewhere_self s p = record { paid = λ hash. refl; told = λ block filter. refl; aims = λ q ne. refl }
 
 -- ---- what tests find
 
-none_tested : (aim : Bool) (paid : Paid) (told : Told) → IsSameTold told (tested_if aim paid [] told)
+none_tested : (aim : Bool) (paid : Paid) (told : TestResults) → IsSameTold told (tested_if aim paid [] told)
 none_tested true paid told block filter = refl
 none_tested false paid told block filter = refl
 
 -- it depends on what is kept alone
-found_alike : (paid now : Paid) (job : Job) (told new : Told) → ((hash : Hash) → now hash ≡ paid hash) → IsSameTold new told → IsSameTold (with_found now job new) (with_found paid job told)
+found_alike : (paid now : Paid) (job : Job) (told new : TestResults) → ((hash : Hash) → now hash ≡ paid hash) → IsSameTold new told → IsSameTold (with_found now job new) (with_found paid job told)
 found_alike paid now job told new p t block filter =
     ap (λ (lacks : Bool). with_test job.block.0 (filter_hash_of job.filter) lacks new block filter) (ap (lacks_kept job.block.0 job.filter) (p job.block.0))
     ∙ ap (λ (o : Option Bool). if same job.block.0 block && same (filter_hash_of job.filter) filter then Some (found_too o (lacks_kept job.block.0 job.filter (paid job.block.0))) else o) (t block filter)
 
-pub tested_alike : (aim other : Bool) (paid now : Paid) (jobs : List Job) (told new : Told) → other ≡ aim → ((hash : Hash) → now hash ≡ paid hash) → IsSameTold new told
+pub tested_alike : (aim other : Bool) (paid now : Paid) (jobs : List Job) (told new : TestResults) → other ≡ aim → ((hash : Hash) → now hash ≡ paid hash) → IsSameTold new told
     → IsSameTold (tested_if other now jobs new) (tested_if aim paid jobs told)
 tested_alike aim other paid now jobs told new e p t =
     subst (λ (x : Bool). IsSameTold (tested_if x now jobs new) (tested_if aim paid jobs told)) (sym e) (by aim jobs) where
@@ -56,12 +49,12 @@ tested_alike aim other paid now jobs told new e p t =
       by true (job ∷ next ∷ js) = t
 
 -- by what the code does
-pub tested_more : (paid : Paid) (jobs : List Job) (told : Told) → length jobs ≢ 1 → IsSameTold told (tested_if true paid jobs told)
+pub tested_more : (paid : Paid) (jobs : List Job) (told : TestResults) → length jobs ≢ 1 → IsSameTold told (tested_if true paid jobs told)
 tested_more paid [] told ne = λ block filter. refl
 tested_more paid (job ∷ []) told ne = absurd (ne refl)
 tested_more paid (job ∷ next ∷ jobs) told ne = λ block filter. refl
 
-pub tested_one : (paid : Paid) (jobs : List Job) (job : Job) (told now : Told) → length jobs ≡ 1 → job ≡ get_or jobs 0 job → IsSameTold now (with_found paid job told)
+pub tested_one : (paid : Paid) (jobs : List Job) (job : Job) (told now : TestResults) → length jobs ≡ 1 → job ≡ get_or jobs 0 job → IsSameTold now (with_found paid job told)
     → IsSameTold now (tested_if true paid jobs told)
 tested_one paid [] job told now one is t = absurd (omega (arith, one))
 tested_one paid (x ∷ []) job told now one is t = subst (λ (j : Job). IsSameTold now (with_found paid j told)) is t

@@ -17,7 +17,7 @@ use Rattle.cf_headers.specs.Heights.{hash_at}
 use Rattle.cf_headers.proofs.Accepting.{at_height}
 use Rattle.cf_headers.proofs.Locators.{hash_in}
 use Rattle.cf_headers.proofs.Stacks.{length_lower}
-use Rattle.cf_msg.specs.declared.msg.Entry.{Entry}
+use Rattle.cf_msg.specs.declared.msg.Inventory.{Inventory}
 use Rattle.cf_msg.specs.declared.msg.Msg.TheVariants.{GetCfheaders, GetCfilters, GetData}
 use Rattle.cf_peer.specs.declared.mode.Mode.{Mode}
 use Rattle.cf_peer.specs.Asking.{HasHeader, IsClaimed, IsFree, MayAskIn, block_entry, blocks_from, claims, counted, hashes_of, verdict}
@@ -122,7 +122,7 @@ pub block_needed : (s : Seen) (log : Log) (p common : ℕ) (hash : Hash32) (chai
 block_needed s log p common hash chain tracks wish entry (inr none) = absurd none
 block_needed s log p common hash chain tracks wish entry (inl e) =
     let w : IsBlockWanted s.watch log hash.0 = subst (IsBlockWanted s.watch log) (sym wish.1.1) (block_by s.watch log s.table s.claims s.verdicts tracks.fetched tracks.claimed tracks.given (hash_at chain wish.0) wish.1.0.5.due) in
-    subst (λ (x : Entry). IsBlockWanted s.watch log x.hash.0) (sym e) w
+    subst (λ (x : Inventory). IsBlockWanted s.watch log x.hash.0) (sym e) w
 
 -- a block of the lower part of a chain stands at one of its heights
 nothing_in : (n k : ℕ) (block : Hash) → IsIn block (map block_hash_of (drop {A = Header} n [])) → ⊥

@@ -1,11 +1,11 @@
 -- machine: whom tests expose: who claims a filter that was found to lack what its block pays.
 use Rattle.std.specs.Prelude.{◌≡◌, ◌⊎◌, ℕ, List, Option, Some, None}
 use Rattle.cf_headers.specs.Chain.{Hash, IsIn}
-use Rattle.cf_peer.specs.declared.peer.Reply.{Reply}
-use Rattle.cf_peer.specs.declared.peer.Reply.TheVariants.{Nothing as NoReply, Send, Close, Expose}
+use Rattle.cf_peer.specs.declared.peer.Reaction.{Reaction}
+use Rattle.cf_peer.specs.declared.peer.Reaction.TheVariants.{Nothing as NoReply, Send, Close, Expose}
 use Rattle.cf_seek.specs.Testing.{AreUnexposed, IsExposed}
-use Rattle.cf_hear.specs.declared.stop.Stop.{Stop}
-use Rattle.cf_hear.specs.declared.stop.Stop.TheVariants.{Fault, Exposed}
+use Rattle.cf_hear.specs.declared.stop.HearStop.{HearStop}
+use Rattle.cf_hear.specs.declared.stop.HearStop.TheVariants.{Fault, Exposed}
 use Rattle.cf_hear.specs.Seen.{Seen}
 
 -- p is exposed by its claim of this block
@@ -22,24 +22,24 @@ pub record IsExposing (s : Seen) (p : ℕ) (block filter : Hash) : Type 0 where
   pub others : (q : ℕ) (at of : Hash) → IsExposedIn s q at of → (q ≡ p) ⊎ ((at ≡ block) × (of ≡ filter))
 
 -- what was seen with a reply, where nobody was exposed before
-abbrev pub Exposes : Seen → ℕ → Reply → Type 0
+abbrev pub Exposes : Seen → ℕ → Reaction → Type 0
 Exposes s p NoReply = IsUnexposed s
 Exposes s p (Send m) = IsUnexposed s
 Exposes s p (Close cause) = IsUnexposed s
 Exposes s p (Expose block filter) = IsExposing s p block.0 filter.0
 
-abbrev pub ExposesNext : Seen → ℕ → Option Reply → Type 0
+abbrev pub ExposesNext : Seen → ℕ → Option Reaction → Type 0
 ExposesNext s p None = IsUnexposed s
 ExposesNext s p (Some reply) = Exposes s p reply
 
 -- what was seen with a piece
-abbrev pub ExposesLast : Seen → ℕ → Option Stop → Type 0
+abbrev pub ExposesLast : Seen → ℕ → Option HearStop → Type 0
 ExposesLast s p None = IsUnexposed s
 ExposesLast s p (Some (Fault cause)) = IsUnexposed s
 ExposesLast s p (Some (Exposed e)) = IsExposing s p e.block.0 e.filter.0
 
 -- the reply exposes p by its claim of one of these blocks, or it isn't exposed by any of them
-abbrev pub ExposesAmong : Seen → ℕ → List Hash → Reply → Type 0
+abbrev pub ExposesAmong : Seen → ℕ → List Hash → Reaction → Type 0
 ExposesAmong s p blocks NoReply = (block : Hash) → IsIn block blocks → (filter : Hash) → IsExposedIn s p block filter
     → ⊥
 ExposesAmong s p blocks (Send m) = ⊥

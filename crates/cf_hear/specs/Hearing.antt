@@ -10,9 +10,9 @@ use Rattle.cf_peer.specs.declared.act.Act.{Act}
 use Rattle.cf_peer.specs.declared.act.Act.TheVariants.{Send as SendTo}
 use Rattle.cf_peer.specs.declared.peer.Cause.{Cause}
 use Rattle.cf_peer.specs.declared.peer.Peer.{Peer}
-use Rattle.cf_peer.specs.declared.peer.Reply.{Reply}
-use Rattle.cf_peer.specs.declared.peer.Reply.TheVariants.{Nothing as NoReply, Send, Close, Expose}
-use Rattle.cf_peer.specs.Trail.{Trail, Part, Said, connected, part_after, met, owed, reply_to}
+use Rattle.cf_peer.specs.declared.peer.Reaction.{Reaction}
+use Rattle.cf_peer.specs.declared.peer.Reaction.TheVariants.{Nothing as NoReply, Send, Close, Expose}
+use Rattle.cf_peer.specs.Trail.{Trail, Part, Said, connected, part_after, has_version, replies_owed, reply_to}
 use Rattle.cf_peer.specs.Asking.{NothingOpen, claims, request, verdict, counted, fetched, fetched_by, given, given_by}
 use Rattle.cf_peer.specs.Hearing.{IsReply, Faulty}
 use Rattle.cf_peer.specs.Peer.{Holds, Hears}
@@ -22,8 +22,8 @@ use Rattle.cf_match.specs.declared.job.Job.{Job}
 use Rattle.cf_match.specs.Verdicts.{AreSameVerdicts}
 use Rattle.cf_headers.specs.Chain.{Hash}
 use Rattle.cf_seek.specs.Opening.{IsSameElse}
-use Rattle.cf_hear.specs.declared.stop.Stop.{Stop}
-use Rattle.cf_hear.specs.declared.stop.Stop.TheVariants.{Fault, Exposed}
+use Rattle.cf_hear.specs.declared.stop.HearStop.{HearStop}
+use Rattle.cf_hear.specs.declared.stop.HearStop.TheVariants.{Fault, Exposed}
 use Rattle.cf_hear.specs.Exposing.{IsExposedIn, IsUnexposed}
 use Rattle.cf_hear.specs.Seen.{Seen, IsSameSeen, Follows}
 
@@ -41,7 +41,7 @@ pub record Gains (before after : Seen) (p : PeerNo) (t : Trail) (news : List Blo
 
 -- what one message does to the peer and to what was seen: the reply that is owed to it, the cause that it gives, or that it exposes the peer, to which nothing is
 -- open then
-abbrev pub HearsSeen : Seen → Seen → PeerNo → Peer → Msg → Trail → Reply → Type 0
+abbrev pub HearsSeen : Seen → Seen → PeerNo → Peer → Msg → Trail → Reaction → Type 0
 HearsSeen before after p peer m t NoReply = Hears peer m t NoReply × Gains before after p (Said m ∷ t) (fetched_by m (request t)) (given_by m (request t))
 HearsSeen before after p peer m t (Send r) = Hears peer m t (Send r) × Gains before after p (Said m ∷ t) (fetched_by m (request t)) (given_by m (request t))
 HearsSeen before after p peer m t (Close cause) = Hears peer m t (Close cause) × IsSameSeen before after
@@ -71,7 +71,7 @@ pub record Stops (before after : Seen) (bytes : List ℕ) (t : Trail) (cause : C
   pub same : IsSameSeen before after
 
 -- what the frame at the front of the bytes does, if one is whole, and what bytes it leaves
-abbrev pub HearsNext : Seen → Seen → PeerNo → List ℕ → List ℕ → Peer → Trail → Option Reply → Type 0
+abbrev pub HearsNext : Seen → Seen → PeerNo → List ℕ → List ℕ → Peer → Trail → Option Reaction → Type 0
 HearsNext before after p bytes rest new t None =
     Holds new t × (part_after (read_stream bytes) t ≡ record { trail = t; waits = rest }) × IsSameSeen before after
 HearsNext before after p bytes rest new t (Some NoReply) = Advances before after p bytes rest new t []
@@ -79,7 +79,7 @@ HearsNext before after p bytes rest new t (Some (Send r)) = Advances before afte
 HearsNext before after p bytes rest new t (Some (Close cause)) = Stops before after bytes t cause
 HearsNext before after p bytes rest new t (Some (Expose block filter)) = Reveals before after p bytes rest new t block.0 filter.0
 
-abbrev pub goes_on : Option Reply → Bool
+abbrev pub goes_on : Option Reaction → Bool
 goes_on None = false
 goes_on (Some NoReply) = true
 goes_on (Some (Send r)) = true
@@ -89,7 +89,7 @@ goes_on (Some (Expose block filter)) = false
 -- replies are veracks and pongs, and none comes before the peer's version
 pub record AreReplies (replies : List Msg) (t : Trail) : Type 0 where
   pub each : AllByRecursion IsReply replies
-  pub after_version : (replies ≡ []) ⊎ (met t ≡ true)
+  pub after_version : (replies ≡ []) ⊎ (has_version t ≡ true)
 
 -- what the blocks were that a trail brought since another
 abbrev pub Brings : Trail → Trail → List Block → Type 0
@@ -106,7 +106,7 @@ pub record HeardWhole (p : PeerNo) (new : Peer) (seen now : Seen) (before after 
   pub are : AreReplies replies end.trail
   pub holds : Holds new end.trail
   pub waits : new.framer ≡ end.waits
-  pub owes : owed end.trail ≡ owed start.trail ++ replies
+  pub owes : replies_owed end.trail ≡ replies_owed start.trail ++ replies
   pub news : List Block
   pub brings : Brings start.trail end.trail news
   pub jobs : List Job
@@ -129,7 +129,7 @@ pub record HeardFault (p : PeerNo) (seen now : Seen) (before after : List Act) (
   pub acts : after ≡ before ++ map (λ (m : Msg). SendTo p m) replies
   pub are : AreReplies replies end.trail
   pub first : verdict end.trail ≡ Some cause
-  pub owes : owed (counted end.trail) ≡ owed start.trail ++ replies
+  pub owes : replies_owed (counted end.trail) ≡ replies_owed start.trail ++ replies
   pub news : List Block
   pub brings : Brings start.trail end.trail news
   pub jobs : List Job
@@ -149,7 +149,7 @@ pub record HeardExposed (p : PeerNo) (seen now : Seen) (before after : List Act)
   pub idle : request so_far ≡ NothingOpen
   pub later : List ℕ
   pub leads : part_after (read_stream later) so_far ≡ end
-  pub owes : owed so_far ≡ owed start.trail ++ replies
+  pub owes : replies_owed so_far ≡ replies_owed start.trail ++ replies
   pub news : List Block
   pub brings : Brings start.trail so_far news
   pub jobs : List Job
@@ -159,7 +159,7 @@ pub record HeardExposed (p : PeerNo) (seen now : Seen) (before after : List Act)
 
 -- what a piece of a peer's bytes does: all of its messages were taken, or those before the first frame that deserves a cause, or those up to the first that exposes
 -- the peer
-abbrev pub HeardPiece : PeerNo → Peer → Seen → Seen → List Act → List Act → Part → Part → Option Stop → Type 0
+abbrev pub HeardPiece : PeerNo → Peer → Seen → Seen → List Act → List Act → Part → Part → Option HearStop → Type 0
 HeardPiece p new seen now before after start end None = HeardWhole p new seen now before after start end
 HeardPiece p new seen now before after start end (Some (Fault cause)) = HeardFault p seen now before after start end cause
 HeardPiece p new seen now before after start end (Some (Exposed e)) = HeardExposed p seen now before after start end e.block.0 e.filter.0
@@ -173,7 +173,7 @@ pub record Midway (p : PeerNo) (peer : Peer) (bytes : List ℕ) (seen now : Seen
   pub are : AreReplies replies so_far
   pub holds : Holds peer so_far
   pub leads : part_after (read_stream bytes) so_far ≡ end
-  pub owes : owed so_far ≡ owed start.trail ++ replies
+  pub owes : replies_owed so_far ≡ replies_owed start.trail ++ replies
   pub news : List Block
   pub brings : Brings start.trail so_far news
   pub jobs : List Job

@@ -23,15 +23,15 @@ ghost use Rattle.cf_hear.specs.Exposing.{Exposes, ExposesAmong, ExposesLast, Exp
 ghost use Rattle.cf_hear.specs.Judging.{HasJudged, IsJudgedBy, AreJudgedBy, judging_of};
 
 use crate::lists::{hashes_in, headers_in};
-use crate::stop::Stop;
+use crate::stop::HearStop;
 use cf_block::{Header, block_hash};
 use cf_bytes::{Cut, Hash32, NoMemory, PeerNo, Refused};
 use cf_frame::Framer;
 use cf_headers::HeaderStore;
 use cf_lent::{EntriesView, View};
 use cf_match::{Job, Matcher};
-use cf_msg::Entry;
-use cf_peer::{Act, Cause, Coming, Heard, Peer, Reply, cause_of, next_coming};
+use cf_msg::Inventory;
+use cf_peer::{Act, Cause, Coming, Heard, Peer, Reaction, cause_of, next_coming};
 use cf_seek::Exposure;
 use cf_tracker::Tracker;
 use cf_view::{BlockView, check_view_by, view_txids};
@@ -43,7 +43,7 @@ fn hear_headers<H: HeaderStore>(
     peer: &mut Peer,
     p: PeerNo,
     headers: &[Header],
-) -> Result<Reply, NoMemory>
+) -> Result<Reaction, NoMemory>
     requires entered { IsSome (chains_of tracker.old p.0) }
     requires right { IsRight peer.old.request (claims_of tracker.old p.0) }
     ensures heard { IfOk result (λ r. (t : Trail) → Holds peer.old t → Follows (seen_of tracker.old) p.0 t
@@ -62,12 +62,12 @@ fn hear_headers<H: HeaderStore>(
     ensures calm { calm peer.old ≡ true → calm peer.new ≡ true }
 {
     if !peer.is_ready() {
-        return Ok(Reply::Nothing);
+        return Ok(Reaction::Nothing);
     }
     let change = tracker.accept(p, headers)?;
     match peer.hear_headers(&change, headers.len()) {
-        None => Ok(Reply::Nothing),
-        Some(cause) => Ok(Reply::Close(cause)),
+        None => Ok(Reaction::Nothing),
+        Some(cause) => Ok(Reaction::Close(cause)),
     }
 }
 
@@ -78,7 +78,7 @@ fn hear_block<H: HeaderStore>(
     peer: &mut Peer,
     p: PeerNo,
     block: &BlockView,
-) -> Result<Reply, NoMemory>
+) -> Result<Reaction, NoMemory>
     requires entered { IsSome (chains_of tracker.old p.0) }
     requires right { IsRight peer.old.request (claims_of tracker.old p.0) }
     ensures heard { IfOk result (λ r. (t : Trail) → Holds peer.old t → Follows (seen_of tracker.old) p.0 t
@@ -97,29 +97,29 @@ fn hear_block<H: HeaderStore>(
 {
     let hash = block_hash(block.header());
     if !peer.awaits(&hash) {
-        return Ok(Reply::Nothing);
+        return Ok(Reaction::Nothing);
     }
     let hashes = view_txids(alloc, block)?;
     match check_view_by(alloc, block, hashes.as_slice()) {
         Ok(()) => {}
-        Err(Refused::No(_)) => return Ok(Reply::Close(Cause::BadBlock)),
+        Err(Refused::No(_)) => return Ok(Reaction::Close(Cause::BadBlock)),
         Err(Refused::NoMemory) => return Err(NoMemory),
     }
     tracker.keep(&hash, block, hashes.as_slice())?;
     peer.take_block(&hash);
     tracker.answered(p);
-    Ok(Reply::Nothing)
+    Ok(Reaction::Nothing)
 }
 
 // The reply to what a peer said of blocks: it is exposed by the first of which it claims a filter that was found to
 // lack what the block pays.
-fn reply_after<H: HeaderStore>(tracker: &Tracker<H>, p: PeerNo, blocks: &[Hash32]) -> Reply
+fn reply_after<H: HeaderStore>(tracker: &Tracker<H>, p: PeerNo, blocks: &[Hash32]) -> Reaction
     ensures sendable { IsReplySendable result }
     ensures exposed { ExposesAmong (seen_of tracker.now) p.0 (blocks_of blocks.now) result }
 {
     match tracker.exposed(p, blocks) {
-        Some(exposure) => Reply::Expose(exposure.block, exposure.filter),
-        None => Reply::Nothing,
+        Some(exposure) => Reaction::Expose(exposure.block, exposure.filter),
+        None => Reaction::Nothing,
     }
 }
 
@@ -132,7 +132,7 @@ fn hear_claims<H: HeaderStore>(
     stop: &Hash32,
     previous: &Hash32,
     hashes: &[Hash32],
-) -> Result<Reply, NoMemory>
+) -> Result<Reaction, NoMemory>
     requires low { p.0 ≤ 8 }
     requires entered { IsSome (chains_of tracker.old p.0) }
     requires right { IsRight peer.old.request (claims_of tracker.old p.0) }
@@ -152,12 +152,12 @@ fn hear_claims<H: HeaderStore>(
     ensures calm { calm peer.old ≡ true → calm peer.new ≡ true }
 {
     let Some(range) = peer.take_range(filter, stop) else {
-        return Ok(Reply::Nothing);
+        return Ok(Reaction::Nothing);
     };
     let blocks = range.blocks.as_slice();
     match tracker.add_claims(p, &range.parent, blocks, previous, hashes) {
         Ok(()) => Ok(reply_after(tracker, p, blocks)),
-        Err(Refused::No(fault)) => Ok(Reply::Close(cause_of(fault))),
+        Err(Refused::No(fault)) => Ok(Reaction::Close(cause_of(fault))),
         Err(Refused::NoMemory) => Err(NoMemory),
     }
 }
@@ -261,7 +261,7 @@ fn hear_filter<H: HeaderStore, M: Matcher>(
     filter: u8,
     block: &Hash32,
     bytes: &[u8],
-) -> Result<Reply, NoMemory>
+) -> Result<Reaction, NoMemory>
     requires entered { IsSome (chains_of tracker.old p.0) }
     requires right { IsRight peer.old.request (claims_of tracker.old p.0) }
     ensures heard { IfOk result (λ r. (t : Trail) → Holds peer.old t → Follows (seen_of tracker.old) p.0 t
@@ -280,8 +280,8 @@ fn hear_filter<H: HeaderStore, M: Matcher>(
     ensures calm { calm peer.old ≡ true → calm peer.new ≡ true }
 {
     match peer.hear_filter(alloc, tracker.claims(), p, filter, block, bytes)? {
-        Heard::Nothing => Ok(Reply::Nothing),
-        Heard::Close(cause) => Ok(Reply::Close(cause)),
+        Heard::Nothing => Ok(Reaction::Nothing),
+        Heard::Close(cause) => Ok(Reaction::Close(cause)),
         Heard::Whole(jobs) => {
             take_given(tracker, matcher, p, jobs.as_slice())?;
             let_go(tracker, peer, p);
@@ -300,7 +300,7 @@ fn is_off_chain<H: HeaderStore>(tracker: &Tracker<H>, p: PeerNo, hash: &Hash32) 
 }
 
 // Whether an entry that a tracked peer tells names a block that isn't on its own chain.
-fn is_news<H: HeaderStore>(tracker: &Tracker<H>, p: PeerNo, entry: &Entry) -> bool
+fn is_news<H: HeaderStore>(tracker: &Tracker<H>, p: PeerNo, entry: &Inventory) -> bool
     requires { IsSome (chains_of tracker.now p.0) }
     ensures { result ≡ is_unknown (own_of (chains_of tracker.now) p) entry.now }
 {
@@ -327,7 +327,7 @@ fn hear_inv<H: HeaderStore>(
     peer: &mut Peer,
     p: PeerNo,
     entries: EntriesView,
-) -> Reply
+) -> Reaction
     requires { IsSome (chains_of tracker.now p.0) }
     ensures heard { (t : Trail) → Holds peer.old t → Follows (seen_of tracker.now) p.0 t
         → HearsSeen (seen_of tracker.now) (seen_of tracker.now) p peer.new (Inv entries.entry) t result }
@@ -340,7 +340,7 @@ fn hear_inv<H: HeaderStore>(
     ensures calm { calm peer.old ≡ true → calm peer.new ≡ true }
 {
     peer.hear_news(are_news(tracker, p, entries));
-    Reply::Nothing
+    Reaction::Nothing
 }
 
 // Takes one message of a tracked peer.
@@ -351,7 +351,7 @@ fn hear<H: HeaderStore, M: Matcher>(
     peer: &mut Peer,
     p: PeerNo,
     message: View,
-) -> Result<Reply, NoMemory>
+) -> Result<Reaction, NoMemory>
     requires low { p.0 ≤ 8 }
     requires entered { IsSome (chains_of tracker.old p.0) }
     requires right { IsRight peer.old.request (claims_of tracker.old p.0) }
@@ -422,7 +422,7 @@ fn hear<H: HeaderStore, M: Matcher>(
 }
 
 // Takes bytes of a piece up to the end of the frame that is being read.
-#[tactic(auto, using(crate::proofs::Hearing::taken_within, crate::proofs::Hearing::taken_joined, crate::proofs::Hearing::taken_all))]
+#[tactic(auto, using(crate::proofs::Hearing::taken_so))]
 fn take_bytes(framer: &mut Framer, piece: &mut Cut) -> Result<(), NoMemory>
     ensures joined { OnOk result (framer.new ++ piece.new ≡ framer.old ++ piece.old) }
     ensures all { OnOk result (front_of framer.new ≡ Ok None → piece.new ≡ []) }
@@ -443,7 +443,7 @@ fn hear_next<H: HeaderStore, M: Matcher>(
     peer: &mut Peer,
     p: PeerNo,
     piece: &mut Cut,
-) -> Result<Option<Reply>, NoMemory>
+) -> Result<Option<Reaction>, NoMemory>
     requires low { p.0 ≤ 8 }
     requires entered { IsSome (chains_of tracker.old p.0) }
     requires right { IsRight peer.old.request (claims_of tracker.old p.0) }
@@ -469,7 +469,7 @@ fn hear_next<H: HeaderStore, M: Matcher>(
     take_bytes(framer, piece)?;
     match next_coming(framer) {
         None => Ok(None),
-        Some(Coming::Fault(cause)) => Ok(Some(Reply::Close(cause))),
+        Some(Coming::Fault(cause)) => Ok(Some(Reaction::Close(cause))),
         Some(Coming::Message(message)) => {
             let reply = hear(alloc, tracker, matcher, peer, p, message)?;
             framer.done();
@@ -488,7 +488,7 @@ fn hear_frames<H: HeaderStore, M: Matcher>(
     p: PeerNo,
     piece: &[u8],
     acts: &mut Vec<Act>,
-) -> Result<Option<Stop>, NoMemory>
+) -> Result<Option<HearStop>, NoMemory>
     requires low { p.0 ≤ 8 }
     requires entered { IsSome (chains_of tracker.old p.0) }
     requires right { IsRight peer.old.request (claims_of tracker.old p.0) }
@@ -513,11 +513,11 @@ fn hear_frames<H: HeaderStore, M: Matcher>(
     let mut rest = Cut::new(piece);
     while let Some(reply) = hear_next(alloc, tracker, matcher, framer, peer, p, &mut rest)? {
         match reply {
-            Reply::Nothing => {}
-            Reply::Send(message) => acts.push(Act::Send(p, message))?,
-            Reply::Close(cause) => return Ok(Some(Stop::Fault(cause))),
-            Reply::Expose(block, filter) => {
-                return Ok(Some(Stop::Exposed(Exposure { block, filter })));
+            Reaction::Nothing => {}
+            Reaction::Send(message) => acts.push(Act::Send(p, message))?,
+            Reaction::Close(cause) => return Ok(Some(HearStop::Fault(cause))),
+            Reaction::Expose(block, filter) => {
+                return Ok(Some(HearStop::Exposed(Exposure { block, filter })));
             }
         }
     }
@@ -534,7 +534,7 @@ pub fn hear_piece<H: HeaderStore, M: Matcher>(
     p: PeerNo,
     piece: &[u8],
     acts: &mut Vec<Act>,
-) -> Result<Option<Stop>, NoMemory>
+) -> Result<Option<HearStop>, NoMemory>
     requires low { p.0 ≤ 8 }
     requires entered { IsSome (chains_of tracker.old p.0) }
     requires right { IsRight peer.old.request (claims_of tracker.old p.0) }

@@ -1,10 +1,9 @@
 mod Begins
 mod Books
-mod Causes
-mod Crossing
 mod Finishes
 mod Gives
 mod Heard
+pub mod Holds
 mod Lines
 mod Opened
 mod Sent

@@ -1,12 +1,14 @@
 -- Lists whose items are known by their places.
-use Rattle.std.proofs.Common.{◌≡◌, ◌<◌, ◌+◌, ℕ, zero, suc, List, [], ◌∷◌, ◌++◌, length, slice_index_or, ◌⊎◌, inl, inr, sym, refl, ap, ◌∙◌, subst, arith}
+use Rattle.std.proofs.Common.{◌≡◌, ◌<◌, ◌+◌, ℕ, zero, suc, List, [], ◌∷◌, ◌++◌, Option, Some, Vec, vec_len, length, slice_index_or, ◌⊎◌, inl, inr, sym, refl, ap, ◌∙◌, subst, arith}
 use Rattle.std.proofs.Common.{All}
+use Rattle.std.specs.Global.{Global}
+use Rattle.std.specs.Option.{option_to_list}
 use Rattle.crossbeam_channel.specs.Ends.{sends_on}
-use Rattle.cf_line.specs.declared.ends.Queue.{Queue}
-use Rattle.cf_line.specs.declared.ends.Sender.{Sender}
+use Rattle.cf_tasks.specs.declared.ends.Queue.{Queue}
+use Rattle.cf_tasks.specs.declared.ends.Sender.{Sender}
 use Rattle.cf_outside.specs.declared.entry.Kind.{Kind}
 use Rattle.cf_outside.specs.declared.reader.Reader.{Reader}
-use Rattle.cf_hub.specs.Lines.{AllAt, IsNew, Down, Up}
+use Rattle.cf_hub.specs.Lines.{AllAt, IsNew, Down}
 
 pub below : (k n : ℕ) → k < n + 1 → (k < n) ⊎ (k ≡ n)
 below zero zero l = inr refl
@@ -55,21 +57,24 @@ module _ {X : Type 0} where
   pub each_at : (P Q : ℕ → X → Type 0) (xs : List X) → ((k : ℕ) (x : X) → P k x → Q k x) → AllAt P xs → AllAt Q xs
   each_at P Q xs f a = λ k d l. f k (slice_index_or xs k d) (a k d l)
 
-pub down_popped : (q : Queue Kind) (was now : List (Sender Kind)) (x : Sender Kind) → was ≡ now ++ x ∷ [] → Down q was → ((x.number + length now ≡ 8) × IsNew q x) × Down q now
-down_popped q was now x e a = popped (λ k s. (s.number + k ≡ 8) × IsNew q s) was now x e a
+-- what is known of the last of the peers' senders, once it is taken from the others
+pub record Popped (q : Queue Kind) (was now : Vec (Sender Kind) Global) (x : Sender Kind) : Type 0 where
+  pub rest : Down q now.items
+  pub line : sends_on x.line ≡ sends_on q.line
+  pub number : x.number + vec_len now ≡ 8
+  pub len : vec_len now + 1 ≡ vec_len was
 
-pub down_pushed : (q : Queue Kind) (was now : List (Sender Kind)) (x : Sender Kind) → now ≡ was ++ x ∷ [] → Down q was → x.number + length was ≡ 8 → IsNew q x → Down q now
-down_pushed q was now x e a n i = pushed (λ k s. (s.number + k ≡ 8) × IsNew q s) was now x e a (n, i)
-
-pub up_popped : (q : Queue Kind) (was now : List (Sender Kind)) (x : Sender Kind) → was ≡ now ++ x ∷ [] → Up q was → ((x.number ≡ length now + 1) × IsNew q x) × Up q now
-up_popped q was now x e a = popped (λ k s. (s.number ≡ k + 1) × IsNew q s) was now x e a
-
--- a sender more, of a queue with the same line
-pub up_pushed : (q q' : Queue Kind) (was now : List (Sender Kind)) (x : Sender Kind) → sends_on q'.line ≡ sends_on q.line → now ≡ was ++ x ∷ [] → Up q was → x.number ≡ length was + 1 → IsNew q x → Up q' now
-up_pushed q q' was now x r e a n i =
-    pushed (λ k s. (s.number ≡ k + 1) × IsNew q' s) was now x e
-    (each_at (λ k s. (s.number ≡ k + 1) × IsNew q s) (λ k s. (s.number ≡ k + 1) × IsNew q' s) was (λ k s h. (h.0, (h.1.0 ∙ sym r, h.1.1))) a)
-    (n, (i.0 ∙ sym r, i.1))
+pub down_popped : (q : Queue Kind) (was now : Vec (Sender Kind) Global) (o : Option (Sender Kind)) (x : Sender Kind) → o ≡ Some x
+    → was.items ≡ now.items ++ option_to_list o → vec_len now + length (option_to_list o) ≡ vec_len was → Down q was.items → Popped q was now x
+down_popped q was now o x is items len a =
+    let more : List (Sender Kind) → List (Sender Kind) = λ l. now.items ++ l in
+    let p = popped (λ k s. (s.number + k ≡ 8) × IsNew q s) was.items now.items x (items ∙ ap more (ap option_to_list is)) a in
+    record {
+      rest = p.1;
+      line = p.0.1.0;
+      number = ap (λ n. x.number + n) now.ok.0 ∙ p.0.0;
+      len = ap (λ l. vec_len now + length l) (sym (ap option_to_list is)) ∙ len;
+    }
 
 -- one reader more, which sends on the queue's line
 pub reading_pushed : {S R : Type 0} (q : Queue Kind) (was now : List (Reader S R)) (x : Reader S R) → now ≡ was ++ x ∷ []

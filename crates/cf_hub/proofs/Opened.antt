@@ -1,10 +1,11 @@
 -- Writers by their places, as one is added or changed.
-use Rattle.std.proofs.Common.{◌≡◌, ◌⊎◌, ◌<◌, ◌≤◌, ◌+◌, ℕ, zero, suc, Bool, true, false, true≢false, List, [], ◌∷◌, ◌++◌, Option, Some, None, length, map, slice_set, slice_index_or, sym, refl, ap, ◌∙◌, subst, inl, inr, arith}
+use Rattle.std.proofs.Common.{◌≡◌, ◌⊎◌, ◌<◌, ◌≤◌, ◌+◌, ℕ, zero, suc, Bool, true, false, true≢false, List, [], ◌∷◌, ◌++◌, Option, Some, None, Vec, vec_len, length, map, get_or, slice_set, slice_index_or, sym, refl, ap, ◌∙◌, subst, inl, inr, arith}
+use Rattle.std.specs.Global.{Global}
 use Rattle.std.specs.List.{slice_get}
 use Rattle.std.proofs.lemmas.List.{map-append}
-use Rattle.std.proofs.lemmas.Option.{get_or_from_slice_get, slice_get_within}
+use Rattle.std.proofs.lemmas.Option.{get_or_from_slice_get, slice_get_read, slice_get_within}
 use Rattle.std.proofs.Math.Seq.{map-set_same}
-use Rattle.cf_line.specs.declared.entry.Entry.{Entry}
+use Rattle.cf_tasks.specs.declared.entry.Item.{Item}
 use Rattle.cf_outside.specs.declared.entry.Kind.{Kind}
 use Rattle.cf_hub.proofs.Lines.{below}
 use Rattle.cf_outside.specs.declared.reader.Reader.{Reader}
@@ -77,8 +78,8 @@ length_map : {X Y : Type 0} (f : X → Y) (xs : List X) → length (map f xs) �
 length_map f [] = refl
 length_map f (x ∷ xs) = ap suc (length_map f xs)
 
-pub ended_same : (bs bs' : List Bool) (got got' : List (Entry Kind)) → bs' ≡ bs → got' ≡ got → HaveEnded bs got → HaveEnded bs' got'
-ended_same bs bs' got got' e g h = let Q : List Bool → Type 0 = λ x. HaveEnded x got' in let R : List (Entry Kind) → Type 0 = HaveEnded bs in subst Q (sym e) (subst R (sym g) h)
+pub ended_same : (bs bs' : List Bool) (got got' : List (Item Kind)) → bs' ≡ bs → got' ≡ got → HaveEnded bs got → HaveEnded bs' got'
+ended_same bs bs' got got' e g h = let Q : List Bool → Type 0 = λ x. HaveEnded x got' in let R : List (Item Kind) → Type 0 = HaveEnded bs in subst Q (sym e) (subst R (sym g) h)
 
 -- a fact of the first numbers, and of one more
 pub one_further : (P : ℕ → Type 0) (n : ℕ) → ((q : ℕ) → q < n → P q) → P n → (q : ℕ) → q < n + 1 → P q
@@ -115,10 +116,10 @@ module _ {W : Type 0} where
   pub numbers_none : (ws ws' : List (Option W)) → ws' ≡ ws ++ None ∷ [] → numbers_from 0 (connected ws') ≡ numbers_from 0 (connected ws)
   numbers_none ws ws' e = ap (λ l. numbers_from 0 (connected l)) e ∙ ap (numbers_from 0) (map-append is_there ws (None ∷ [])) ∙ numbers_unmarked 0 (connected ws)
 
-  pub ended_none : (ws ws' : List (Option W)) (got : List (Entry Kind)) → ws' ≡ ws ++ None ∷ [] → HaveEnded (connected ws) got → HaveEnded (connected ws') got
+  pub ended_none : (ws ws' : List (Option W)) (got : List (Item Kind)) → ws' ≡ ws ++ None ∷ [] → HaveEnded (connected ws) got → HaveEnded (connected ws') got
   ended_none ws ws' got e h = λ p m. h p (no_mark (connected ws) p (sym (ap (λ l. slice_index_or l p false) (ap connected e ∙ map-append is_there ws (None ∷ []))) ∙ m))
 
-  pub have_ended : (ws : List (Option W)) (gone : List Bool) (got : List (Entry Kind)) → AllGone ws gone → Heard gone got → HaveEnded (connected ws) got
+  pub have_ended : (ws : List (Option W)) (gone : List Bool) (got : List (Item Kind)) → AllGone ws gone → Heard gone got → HaveEnded (connected ws) got
   have_ended ws gone got a h = λ p m. h p (a p m)
 
 -- one writer is changed, and not what it tells
@@ -172,6 +173,15 @@ first_of f (x ∷ xs) = ap (λ l. (f x).0 ∷ l) (first_of f xs)
 pub same_numbers : {S R : Type 0} (js : List (Read S)) (ts : List (Reader S R)) → map whose js ≡ map begun ts → read_numbers js ≡ numbers_of ts
 same_numbers js ts e = sym (first_of whose js) ∙ ap (map (λ x. x.0)) e ∙ first_of begun ts
 
+-- the writer that was read at a place stands there
+pub writer_at : {W : Type 0} (ws : Vec (Option W) Global) (p : ℕ) (o : Option W) (w : W) → p < vec_len ws → o ≡ get_or ws.items p o → o ≡ Some w
+    → slice_get ws.items p ≡ Some (Some w)
+writer_at ws p o w l value is = slice_get_read ws.items (vec_len ws) p o ws.ok.0 l value ∙ ap (λ x. Some x) is
+
+pub shut_here : {W : Type 0} (written : W → Option (List ℕ)) (was_shut : W → Bool) (ws : List (Option W)) (p : ℕ) (w w' : W) → slice_get ws p ≡ Some (Some w)
+    → written w' ≡ written w → was_shut w' ≡ true → Shuts written was_shut p ws (slice_set ws p (Some w'))
+shut_here written was_shut ws p w w' at e s = inr (w, w', at, refl, e, s)
+
 -- what a shut does to the other facts
 pub shuts_there : {W : Type 0} (written : W → Option (List ℕ)) (was_shut : W → Bool) (p : ℕ) (ws ws' : List (Option W)) → Shuts written was_shut p ws ws' → connected ws' ≡ connected ws
 shuts_there written was_shut p ws ws' s = elim s [ inl x ↦ ap connected x.1 | inr x ↦ same_there ws ws' p x.0 x.1 x.2 x.3 ]
@@ -185,9 +195,6 @@ shuts_open {W = W} written was_shut closed p ws ws' s m h = elim s [ inl x ↦ (
 -- the writers at the first places are shut
 abbrev pub FirstShut : {W : Type 0} → (W → Bool) → ℕ → List (Option W) → Type 0
 FirstShut {W} was_shut n ws = (q : ℕ) (w : W) → q < n → slice_get ws q ≡ Some (Some w) → was_shut w ≡ true
-
-pub none_shut : {W : Type 0} (was_shut : W → Bool) (ws : List (Option W)) → FirstShut was_shut 0 ws
-none_shut was_shut ws = λ q w l at. absurd (omega (arith, l))
 
 -- the next one was shut
 pub one_shut : {W : Type 0} (written : W → Option (List ℕ)) (was_shut : W → Bool) (p : ℕ) (ws ws' : List (Option W)) → Shuts written was_shut p ws ws' → FirstShut was_shut p ws → FirstShut was_shut (p + 1) ws'

@@ -1,17 +1,11 @@
 -- Counts of the writers, and what is written.
-use Rattle.std.proofs.Common.{◌≡◌, ◌≤◌, ◌+◌, ℕ, List, [], ◌∷◌, ◌++◌, Option, Some, None, slice_set, get_or, Result, Ok, Err, sym, ap, ◌∙◌, arith}
+use Rattle.std.proofs.Common.{◌≡◌, ◌≤◌, ◌+◌, ℕ, List, Option, Some, slice_set, get_or, Result, Ok, Err, sym, ap, ◌∙◌, arith}
 use Rattle.std.specs.Result.{OnOk, OnErr}
 use Rattle.std.specs.List.{slice_get}
 use Rattle.std.proofs.lemmas.Option.{get_or_from_slice_get, slice_get_within}
-use Rattle.std.proofs.lemmas.List.Sums.{sum_by_push, sum_by-set, get_or-le-sum_by}
+use Rattle.std.proofs.lemmas.List.Sums.{sum_by-set, get_or-le-sum_by}
 use Rattle.cf_bytes.specs.Outside.{HasRisen}
 use Rattle.cf_hub.specs.Writers.{fault_in, faults_in}
-
-pub one_writer : {W : Type 0} (faults : W → ℕ) (ws ws' : List (Option W)) (w : W) → ws' ≡ ws ++ Some w ∷ [] → faults w ≡ 0 → faults_in faults ws' ≡ faults_in faults ws
-one_writer faults ws ws' w e z = let s = ap (faults_in faults) e ∙ sum_by_push (fault_in faults) ws (Some w) in omega (arith, s, z)
-
-pub no_writer : {W : Type 0} (faults : W → ℕ) (ws ws' : List (Option W)) → ws' ≡ ws ++ None ∷ [] → faults_in faults ws' ≡ faults_in faults ws
-no_writer faults ws ws' e = let s = ap (faults_in faults) e ∙ sum_by_push (fault_in faults) ws None in omega (arith, s)
 
 -- two facts of a value, or of an error, make a third
 pub on_both : {T E A B C : Type 0} (r : Result T E) → (A → B → C) → OnOk r A → OnOk r B → OnOk r C

@@ -4,7 +4,7 @@ use Rattle.std.specs.Option.{ForSome}
 use Rattle.cf_wires.specs.declared.event.Delivery.{Delivery}
 use Rattle.cf_wires.specs.declared.event.Delivery.TheVariants as gives
 use Rattle.cf_wires.specs.Log.{Told, deliveries}
-use Rattle.cf_line.specs.declared.entry.Entry.{Entry}
+use Rattle.cf_tasks.specs.declared.entry.Item.{Item}
 use Rattle.cf_outside.specs.declared.entry.Kind.{Kind}
 use Rattle.cf_outside.specs.declared.entry.Kind.TheVariants as kinds
 
@@ -18,7 +18,7 @@ delivery_of (suc p) (kinds.Tick s) = []
 delivery_of (suc p) kinds.Last = gives.Gone (record { 0 = suc p }) ∷ []
 
 -- the deliveries among the entries, in order
-abbrev pub given_of : List (Entry Kind) → List Delivery
+abbrev pub given_of : List (Item Kind) → List Delivery
 given_of [] = []
 given_of (e ∷ es) = delivery_of e.from e.kind ++ given_of es
 
@@ -30,7 +30,7 @@ IsProper (gives.Tick s) = (1 ≤ s) × (s ≤ 86400)
 IsProper gives.Ended = Unit {0}
 
 -- a told log's deliveries are the first of those that were received, as many as were taken
-abbrev pub LogGives : Told → List (Entry Kind) → Type 0
+abbrev pub LogGives : Told → List (Item Kind) → Type 0
 LogGives t got = ForSome t.log (λ log. deliveries log ≡ take t.tally.taken (given_of got))
 
 -- the bytes of one delivery, where it is p's

@@ -1,7 +1,7 @@
 -- machine: which peers have come to their end.
 use Rattle.std.specs.Prelude.{◌≡◌, ℕ, ◌+◌, Bool, true, false, List, [], ◌∷◌, Option, Some, None, map, slice_index_or}
-use Rattle.cf_line.specs.declared.entry.Entry.{Entry}
-use Rattle.cf_line.specs.Queue.{of}
+use Rattle.cf_tasks.specs.declared.entry.Item.{Item}
+use Rattle.cf_tasks.specs.Queue.{of}
 use Rattle.cf_outside.specs.declared.entry.Kind.{Kind}
 use Rattle.cf_outside.specs.Pieces.{is_open}
 
@@ -24,9 +24,9 @@ abbrev pub AllGone : {W : Type 0} → List (Option W) → List Bool → Type 0
 AllGone ws gone = (p : ℕ) → slice_index_or (connected ws) p false ≡ true → slice_index_or gone p false ≡ true
 
 -- of each peer that is noted a last entry was received
-abbrev pub Heard : List Bool → List (Entry Kind) → Type 0
+abbrev pub Heard : List Bool → List (Item Kind) → Type 0
 Heard gone got = (p : ℕ) → slice_index_or gone p false ≡ true → is_open (of p got) ≡ false
 
 -- of each peer that has a writer a last entry was received
-abbrev pub HaveEnded : List Bool → List (Entry Kind) → Type 0
+abbrev pub HaveEnded : List Bool → List (Item Kind) → Type 0
 HaveEnded peers got = (p : ℕ) → slice_index_or peers p false ≡ true → is_open (of p got) ≡ false

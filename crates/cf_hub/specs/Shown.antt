@@ -2,7 +2,7 @@
 use Rattle.std.specs.Prelude.{◌≡◌, ◌⊎◌, ℕ, Bool, true, List, ◌++◌, Option, Some}
 use Rattle.cf_bytes.specs.Outside.{HasRisen}
 use Rattle.cf_wires.specs.declared.event.Delivery.{Delivery}
-use Rattle.cf_line.specs.Queue.{IsStart}
+use Rattle.cf_tasks.specs.Queue.{IsStart}
 use Rattle.cf_hub.specs.Gives.{pieces_of, has_gone, ticks_of}
 use Rattle.cf_hub.specs.Finish.{Read, Beat}
 

@@ -2,7 +2,7 @@
 use Rattle.std.specs.Prelude.{◌≡◌, ◌⊎◌, ℕ, Bool, true, false, List, [], ◌∷◌, ◌++◌, Option, Some, None, IfSome, IsSome, Result, Ok, Err}
 use Rattle.cf_bytes.specs.declared.outside.Failed.{Failed}
 use Rattle.cf_bytes.specs.declared.peer.PeerNo.{PeerNo}
-use Rattle.cf_line.specs.Waiting.{Waiting, HasGiven, HasFailed}
+use Rattle.cf_tasks.specs.Waiting.{Waiting, HasGiven, HasFailed}
 use Rattle.cf_wires.specs.declared.wires.WireFail.{WireFail}
 use Rattle.cf_wires.specs.declared.wires.WireFail.TheVariants as fails
 

@@ -13,7 +13,7 @@ use std::alloc::Global;
 
 /// What passed the wires.
 #[derive(Drop)]
-pub struct Book {
+pub struct HubLog {
     keeps: bool,
     log: Vec<Event>,
     marks: [Mark; 9],
@@ -60,16 +60,16 @@ pub(crate) fn filled(room: Vec<u8>, bytes: &[u8]) -> Piece
     Piece::new(copy)
 }
 
-impl Book {
+impl HubLog {
     ghost use Rattle.cf_hub.specs.Book.{told_of, keeps_of, IsReady};
 
     /// Nothing has passed, and the log is not kept.
-    pub fn new(alloc: Global) -> Result<Book, NoMemory>
+    pub fn new(alloc: Global) -> Result<HubLog, NoMemory>
         ensures told { IfOk result (λ b. Tells [] (told_of b)) }
         ensures finished { IfOk result (λ b. (told_of b).finished ≡ false) }
         ensures keeps { IfOk result (λ b. keeps_of b ≡ false) }
     {
-        Ok(Book {
+        Ok(HubLog {
             keeps: false,
             log: Vec::with_capacity(alloc, 9)?,
             marks: [Mark::NotYet; 9],

@@ -5,7 +5,7 @@ ghost use Rattle.crossbeam_channel.specs.Claims.{view};
 ghost use Rattle.crossbeam_channel.specs.Ends.{sends_on};
 ghost use Rattle.cf_bytes.specs.Outside.{HasRisen, with_more};
 ghost use Rattle.cf_hub.specs.Book.{told_of, keeps_of, IsReady};
-ghost use Rattle.cf_line.specs.Queue.{of, entry, receiver, with_got};
+ghost use Rattle.cf_tasks.specs.Queue.{of, entry, receiver, with_got};
 ghost use Rattle.cf_outside.specs.declared.entry.Kind.TheVariants.{Last};
 ghost use Rattle.cf_hub.specs.Over.{AllGone, Heard, HaveEnded, connected, numbers_from};
 ghost use Rattle.cf_wires.specs.declared.event.Delivery.TheVariants.{Ended};
@@ -19,19 +19,18 @@ ghost use Rattle.cf_hub.specs.Lines.{Down, IsTickers, Ring, Up, Waits};
 ghost use Rattle.cf_hub.specs.Writers.{faults_in, texts, Adds, AreOpen, AreShut, Opens, Sends, Shuts};
 ghost use Rattle.cf_hub.specs.Shown.{Shows, ShowsTicks};
 ghost use Rattle.cf_hub.specs.Threads.{HandsOver, HasOpened, MayHandOver, MayMiss, Moves, Takes};
-ghost use Rattle.cf_line.specs.Waiting.{HasGiven, HasFailed};
+ghost use Rattle.cf_tasks.specs.Waiting.{HasGiven, HasFailed};
 ghost use Rattle.cf_outside.specs.Pieces.{is_last, is_open, Reads};
 
-use crate::book::Book;
+use crate::book::HubLog;
 use crate::joining::{Joined, Rested, each_reads, it_ticks, join_readers, join_ticker};
 use crate::making::{Lines, Lists, Parts, parts_in};
 use crate::taking::{are_gone, receive, take_entry};
 use crate::writers::{put_to, shut_at};
 use cf_bytes::{Failed, NoMemory, PeerNo};
 use cf_conn::Source;
-use cf_line::{Busy, Entry, Queue, Sender, Workers};
-use cf_outside::{CHUNK, Dialer, Kind, Pulse, Reader, Stop, Ticker, Writer};
-use cf_tasks::Spawner;
+use cf_outside::{CHUNK, Dialer, Kind, Pulse, Reader, StopFlag, Ticker, Writer};
+use cf_tasks::{Busy, Item, Queue, Sender, Spawner, Workers};
 use cf_wires::{Delivery, Name, WireFail, Wires};
 use std::alloc::{AllocError, Global};
 use std::mem;
@@ -44,7 +43,7 @@ use std::thread::Threads;
 struct Clock<P> {
     pulse: P,
     sender: Sender<Kind>,
-    stop: Stop,
+    stop: StopFlag,
     ghost unasked: { stop ≡ false },
 }
 
@@ -74,7 +73,7 @@ pub struct Hub<D: Dialer, P: Pulse, R: Wait + Threads + Copy + Drop> {
     gone: [bool; 9],
     // How many dials found no thread, or came too late, and how many sends found no writer.
     missed: u64,
-    book: Book,
+    book: HubLog,
     ghost waiting: { ForSome clock (λ c. Waits queue c.sender) },
     ghost ticks: { ForSome ticking (λ b. IsTickers queue b.sender) },
     ghost spares: { Down queue spare.items },

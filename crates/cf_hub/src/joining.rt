@@ -3,15 +3,15 @@ ghost use Rattle.std.specs.Prelude.{◌≡◌, ◌≤◌, ◌<◌, [], map, All,
 ghost use Rattle.std.specs.Option.{ForSome};
 ghost use Rattle.crossbeam_channel.specs.Claims.{view as knows};
 ghost use Rattle.crossbeam_channel.specs.Ends.{sends_on};
-ghost use Rattle.cf_line.specs.Queue.{of};
+ghost use Rattle.cf_tasks.specs.Queue.{of};
 ghost use Rattle.cf_hub.specs.Finish.{whose, begun, Fronts, pulse_in};
 ghost use Rattle.cf_hub.specs.Gives.{IsFront};
 ghost use Rattle.cf_outside.specs.Pieces.{Reads};
 ghost use Rattle.cf_outside.specs.Ticks.{Ticked};
 
 use cf_conn::Source;
-use cf_line::{Busy, Queue, Sender};
 use cf_outside::{Finished, Kind, Pulse, Reader, Stopped, Ticker};
+use cf_tasks::{Busy, Queue, Sender};
 use std::marker::Model;
 use std::snapshot::Snapshot;
 use std::sync::Wait;

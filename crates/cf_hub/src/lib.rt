@@ -8,6 +8,6 @@ mod making;
 mod taking;
 mod writers;
 
-pub use book::Book;
+pub use book::HubLog;
 pub use hub::Hub;
 pub use joining::{Joined, Rested};

@@ -6,10 +6,10 @@ ghost use Rattle.cf_hub.specs.Book.{told_of, keeps_of};
 ghost use Rattle.cf_hub.specs.Lines.{Down, Waits};
 ghost use Rattle.cf_wires.specs.Log.{Tells as IsTold};
 
-use crate::book::Book;
+use crate::book::HubLog;
 use cf_bytes::NoMemory;
-use cf_line::{Queue, Sender};
-use cf_outside::{Kind, Stop};
+use cf_outside::{Kind, StopFlag};
+use cf_tasks::{Queue, Sender};
 use cf_wires::MOST_PEERS;
 use std::alloc::{AllocError, Global};
 use std::sync::Arc;
@@ -91,8 +91,8 @@ pub(crate) struct Parts<W, B, J> {
     pub(crate) lines: Lines,
     pub(crate) lists: Lists<W, B, J>,
     pub(crate) stop: Arc<AtomicBool, Global>,
-    pub(crate) theirs: Stop,
-    pub(crate) book: Book,
+    pub(crate) theirs: StopFlag,
+    pub(crate) book: HubLog,
     pub(crate) ghost unasked: { theirs ≡ false },
 }
 
@@ -102,8 +102,8 @@ pub(crate) fn parts_in<W: Drop, B: Drop, J: Drop>(alloc: Global) -> Result<Parts
     ensures keeps { IfOk result (λ s. keeps_of s.book ≡ false) }
 {
     let stop = Arc::new(alloc, AtomicBool::new(false))?;
-    let theirs = Stop::new(Arc::try_clone(&stop)?);
-    let book = Book::new(alloc)?;
+    let theirs = StopFlag::new(Arc::try_clone(&stop)?);
+    let book = HubLog::new(alloc)?;
     let lists = lists_in(alloc)?;
     let lines = lines_in(alloc)?;
     Ok(Parts {

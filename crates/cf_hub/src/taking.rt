@@ -2,7 +2,7 @@
 ghost use Rattle.std.specs.Prelude.{◌≡◌, ◌≢◌, ◌≤◌, ◌++◌, ◌∷◌, [], true, false, IfSome, IfNone, slice_index_or, slice_set, vec_capacity};
 ghost use Rattle.crossbeam_channel.specs.Claims.{view};
 ghost use Rattle.crossbeam_channel.specs.Ends.{sends_on};
-ghost use Rattle.cf_line.specs.Queue.{entry};
+ghost use Rattle.cf_tasks.specs.Queue.{entry};
 ghost use Rattle.cf_outside.specs.Pieces.{is_last};
 ghost use Rattle.cf_wires.specs.declared.event.Event.TheVariants.{Took};
 ghost use Rattle.cf_wires.specs.Log.{tell};
@@ -10,15 +10,15 @@ ghost use Rattle.cf_hub.specs.Book.{told_of, keeps_of, IsReady};
 ghost use Rattle.cf_hub.specs.Gives.{given_of, IsProper};
 ghost use Rattle.cf_hub.specs.Over.{AllGone, Heard, connected};
 
-use crate::book::{Book, filled};
+use crate::book::{HubLog, filled};
 use cf_bytes::PeerNo;
-use cf_line::{Entry, Queue};
 use cf_outside::Kind;
+use cf_tasks::{Item, Queue};
 use cf_wires::Delivery;
 use std::sync::Wait;
 
 // Takes the next entry, and notes whose last it is.
-pub(crate) fn receive<R: Wait>(rt: &R, queue: &mut Queue<Kind>, gone: &mut [bool; 9]) -> Entry<Kind>
+pub(crate) fn receive<R: Wait>(rt: &R, queue: &mut Queue<Kind>, gone: &mut [bool; 9]) -> Item<Kind>
     ensures ring { sends_on queue.new.line ≡ sends_on queue.old.line }
     ensures got { (view queue.new.seat).got ≡ (view queue.old.seat).got ++ entry result.from result.kind ∷ [] }
     ensures heard { Heard gone.old (view queue.old.seat).got → Heard gone.new (view queue.new.seat).got }
@@ -33,7 +33,7 @@ pub(crate) fn take_entry<R: Wait>(
     rt: &R,
     queue: &mut Queue<Kind>,
     gone: &mut [bool; 9],
-    book: &mut Book,
+    book: &mut HubLog,
     bytes: Vec<u8>,
     room: Vec<u8>,
 ) -> Option<Delivery>
@@ -51,7 +51,7 @@ pub(crate) fn take_entry<R: Wait>(
     ensures keeps { keeps_of book.new ≡ keeps_of book.old }
     ensures proper { IfSome result (λ d. IsProper d) }
 {
-    let Entry { from, kind } = receive(rt, queue, gone);
+    let Item { from, kind } = receive(rt, queue, gone);
     let p = PeerNo(u32::from(from));
     match kind {
         Kind::Got(chunk) => {
@@ -80,7 +80,7 @@ pub(crate) fn take_entry<R: Wait>(
 }
 
 // Notes a last entry.
-fn note_last(gone: &mut [bool; 9], entry: &Entry<Kind>)
+fn note_last(gone: &mut [bool; 9], entry: &Item<Kind>)
     ensures last { is_last entry.now.kind ≡ true → gone.new ≡ slice_set gone.old entry.now.from true }
     ensures other { is_last entry.now.kind ≡ false → gone.new ≡ gone.old }
 {

@@ -1,5 +1,5 @@
 -- What comes over a hub whose outside tells all that it gives.
-use Rattle.std.proofs.Common.{◌≡◌, ◌==◌, add-one, ◌+◌, inl, inr, ℕ, Bool, true, false, not, ◌||◌, true≢false, List, [], ◌∷◌, ◌++◌, Option, Some, None, IsSome, IfSome, All, map, length, sym, refl, ap, ◌∙◌, append_assoc, append-nil, slice_index_or, arith}
+use Rattle.std.proofs.Common.{◌≡◌, ◌==◌, add-one, ◌+◌, inl, inr, ℕ, Bool, true, false, not, ◌||◌, true≢false, List, [], ◌∷◌, ◌++◌, Option, Some, None, All, map, length, sym, refl, ap, ◌∙◌, append_assoc, append-nil, slice_index_or, arith}
 use Rattle.std.proofs.lemmas.Grind.{common_steps}
 use Rattle.std.specs.List.{list_any}
 use Rattle.std.specs.Option.{ForSome}
@@ -8,12 +8,11 @@ use Rattle.std.specs.Prelude.{slice_set, is_some}
 use Rattle.cf_bytes.specs.Outside.{HasRisen, with_more}
 use Rattle.cf_bytes.specs.Plan.{Calls, counted, is_refused}
 use Rattle.cf_conn.specs.SliceSource.{Lent, given, after_read}
-use Rattle.cf_line.specs.Queue.{IsStart}
+use Rattle.cf_tasks.specs.Queue.{IsStart}
 use Rattle.cf_wires.specs.declared.event.Delivery.{Delivery}
 use Rattle.cf_wires.specs.declared.event.Delivery.TheVariants as gives
 use Rattle.cf_wires.specs.declared.event.Event.TheVariants.{Took, Sent}
-use Rattle.cf_wires.specs.declared.event.Event.{Event}
-use Rattle.cf_wires.specs.Log.{Log, Told, Tells, deliveries, with_delivery, tell, longer}
+use Rattle.cf_wires.specs.Log.{Log, Told, deliveries, with_delivery, tell, longer}
 use Rattle.cf_hub.specs.Finish.{Read, Beat, whose, pulse_in}
 use Rattle.cf_hub.specs.Gives.{piece_in, pieces_of, is_gone_of, has_gone, tick_in, ticks_of}
 use Rattle.cf_hub.specs.Shown.{Shows, ShowsTicks}
@@ -87,31 +86,12 @@ keeps_more d t t' c c' e k b g s = (
   ),
 )
 
--- nothing has come once the first peer was dialled
-pub keeps_none : (t t' : Told) (e : Event) → deliveries (e ∷ []) ≡ [] → Tells [] t → IsSome t.log → t' ≡ tell e t → Keeps t' (record { bytes = []; gone = false; ticks = [] })
-keeps_none t t' e d tells some q =
-    let k = inside t.log some tells.content in
-    (e ∷ [], ap (λ (z : Told). z.log) q ∙ ap (longer e) k, (ap (pieces_of 1) (sym d), ap (has_gone 1) (sym d), ap ticks_of (sym d)))
-  where
-    inside : (o : Option Log) → IsSome o → IfSome o (λ l. l ≡ []) → o ≡ Some []
-    inside (Some l) h k = ap (λ x. Some x) k
-    inside None h k = absurd (true≢false (sym h))
-
 -- what is sent is no delivery
 pub keeps_sent : (p : PeerNo) (bytes : List ℕ) (t t' : Told) (c : Coming) → t' ≡ tell (Sent p bytes) t → Keeps t c → Keeps t' c
 keeps_sent p bytes t t' c q k = (Sent p bytes ∷ k.0, ap (λ (z : Told). z.log) q ∙ ap (longer (Sent p bytes)) k.1, k.2)
 
 abbrev written : PlannedWriter → Option (List ℕ)
 written w = Some w.sink.bytes
-
--- the first writer has nothing written to it yet
-pub text_new : (ws ws' : List (Option PlannedWriter)) (w : PlannedWriter) → ws' ≡ ws ++ Some w ∷ [] → length ws ≡ 1 → w.sink.bytes ≡ [] → HasText ws' []
-text_new ws ws' w e n b = ap (λ xs. slice_get (texts written xs) 1) e ∙ second ws w n ∙ ap (λ (x : List ℕ). Some (Some (Some x))) b
-  where
-    second : (ws : List (Option PlannedWriter)) (w : PlannedWriter) → length ws ≡ 1 → slice_get (texts written (ws ++ Some w ∷ [])) 1 ≡ Some (Some (Some w.sink.bytes))
-    second [] w n = absurd (omega (arith, n))
-    second (x ∷ []) w n = refl
-    second (x ∷ y ∷ ws) w n = absurd (omega (arith, n))
 
 abbrev lift : Option (Option PlannedWriter) → Option (Option (Option (List ℕ)))
 lift None = None
@@ -186,3 +166,6 @@ module _ {P : Type 0} (answers : P → Option (List ℕ)) where
       inner : Option P → P
       inner None = p
       inner (Some q) = q
+
+-- what a read leaves of the plan
+pub ruleset after_reads = (no_plan_after, calm_after)

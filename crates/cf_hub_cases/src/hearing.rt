@@ -7,7 +7,7 @@ ghost use Rattle.cf_hub.specs.Gives.{piece_in, is_gone_of, tick_in};
 ghost use Rattle.cf_hub_cases.specs.declared.telling.ToldPulse.{ToldPulse};
 ghost use Rattle.cf_hub_cases.specs.declared.telling.ToldSource.{ToldSource};
 ghost use Rattle.cf_hub_cases.specs.Telling.{up_to, Coming, HasText, Keeps};
-ghost use Rattle.cf_line.specs.Queue.{IsStart};
+ghost use Rattle.cf_tasks.specs.Queue.{IsStart};
 ghost use Rattle.cf_wires.specs.Log.{Tells};
 
 use crate::doors::{amount, is_none};

@@ -3,7 +3,7 @@ ghost use Rattle.std.specs.Prelude.{◌≡◌, ◌-◌, None};
 
 use crate::port::{Port, tell};
 use cf_bytes::{Failed, Hash32};
-use cf_serve::{Link, TcpConn, TcpEnd, TcpLink};
+use cf_link::{Link, TcpConn, TcpEnd, TcpLink};
 
 /// A listener over TCP, which tells its port once it listens.
 #[derive(Drop)]

@@ -1,5 +1,5 @@
 //! The queue between the threads of a hub, in one thread.
-use cf_line::{Queue, Sender};
+use cf_tasks::{Queue, Sender};
 use std::alloc::Global;
 use std::sync::Wait;
 

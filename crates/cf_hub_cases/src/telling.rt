@@ -30,7 +30,7 @@ impl Source for ToldSource {
 
     ghost faults = { λ s. s.conn.source.plan.faults };
 
-    #[tactic(auto, using(crate::proofs::Comes::no_plan_after, crate::proofs::Comes::calm_after, std::proofs::lemmas::Grind::common_steps))]
+    #[tactic(auto, using(crate::proofs::Comes::after_reads, std::proofs::lemmas::Grind::common_steps))]
     fn read(&mut self, into: &mut [u8]) -> Result<usize, Failed> {
         if !self.door.pass() {
             add(&self.vain, 1);

@@ -3,8 +3,8 @@ ghost use Rattle.std.specs.Prelude.{◌≡◌, false};
 
 use crate::link::ToldLink;
 use crate::port::{listening, port, same};
+use cf_link::Link;
 use cf_network::Network;
-use cf_serve::Link;
 use cf_tasks::InThreads;
 use cf_wires::{Delivery, Wires};
 use std::rt::Clock;

@@ -71,3 +71,6 @@ pub stands : (blocks : List Block) (b : Block) (tip past : List ℕ) (height : �
 stands blocks b tip past height coins t p n before laid h =
     cause_is blocks b tip past height None t p n before ∙ sym (ap (λ (m : CoinMap). in_coins (spend_txs m b.txs)) laid)
     ∙ h
+
+-- what comes of one block more
+pub ruleset judged_so = (refused_before, refused_coins, stands)

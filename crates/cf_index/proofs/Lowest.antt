@@ -102,6 +102,20 @@ kept m k v is = sym (ap (λ (b : Bool). if b then m else insert m k v) is)
 pub put : {V : Type 0} (m : ByHash V) (k : Hash32) (v : V) → contains_key m k ≡ false → insert m k v ≡ with_first m k v
 put m k v is = sym (ap (λ (b : Bool). if b then m else insert m k v) is)
 
+-- a hash that has a value keeps it
+pub first_stays : {V : Type 0} (es : List (Hash32 × V)) (seen : ByHash V) (k : Hash32) (v : V) (has : Bool) → from_entries es ≡ seen → has ≡ is_some (lookup (λ x. is_eq (hash_cmp k x)) es) → has ≡ true
+    → seen ≡ with_first seen k v
+first_stays es seen k v has is looked there = rw is at (kept (from_entries es) k v (ap is_some (got_height es k) ∙ sym looked ∙ there))
+
+-- and one that has none gets it
+pub first_put : {V : Type 0} (es fs : List (Hash32 × V)) (seen : ByHash V) (k : Hash32) (v : V) (has : Bool) → from_entries es ≡ seen → has ≡ is_some (lookup (λ x. is_eq (hash_cmp k x)) es) → has ≡ false
+    → ((q : Hash32) → lookup (λ x. is_eq (hash_cmp q x)) fs ≡ cond (is_eq (hash_cmp k q)) (Some v) (lookup (λ x. is_eq (hash_cmp q x)) es))
+    → from_entries fs ≡ with_first seen k v
+first_put {V} es fs seen k v has is looked none updates =
+    inserted_height es fs k v updates
+    ∙ put (from_entries es) k v (ap is_some (got_height es k) ∙ sym looked ∙ none)
+    ∙ ap (λ (m : ByHash V). with_first m k v) is
+
 -- the next block's height is put in
 pub height_more : {X : Type 0} (heights new : HeightMap) (hash : X → Hash32) (xs : List X) (i : ℕ) (x : X) (q : Hash32)
     → i < length xs → x ≡ get_or xs i x → new ≡ with_first heights (hash x) i

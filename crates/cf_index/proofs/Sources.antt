@@ -1,5 +1,5 @@
 -- A chain that is kept as a walk gives its blocks.
-use Rattle.std.proofs.Common.{◌≡◌, refl, ℕ, ◌<◌, ◌-◌, List, [], ◌∷◌, ◌++◌, Option, None, Ok, Err, sym, ◌∙◌, ap, subst, arith, length-append}
+use Rattle.std.proofs.Common.{◌≡◌, refl, ℕ, List, [], ◌∷◌, ◌++◌, Option, None, Ok, Err, sym, ◌∙◌, ap, subst}
 use Rattle.std.specs.FinMap.{empty}
 use Rattle.cf_block.specs.declared.tx.Block.{Block}
 use Rattle.cf_bytes.specs.declared.hash.Hash32.{Hash32}
@@ -10,7 +10,7 @@ use Rattle.cf_headers.specs.Chain.{tip_hash, past_of}
 use Rattle.cf_headers.proofs.Pasts.{past_more}
 use Rattle.cf_chain.specs.Coins.{CoinMap, coins_after}
 use Rattle.cf_chain.specs.Filters.{prevouts}
-use Rattle.cf_chain.specs.Good.{IsGoodChain, headers_of, max_height}
+use Rattle.cf_chain.specs.Good.{IsGoodChain, headers_of}
 use Rattle.cf_walk.specs.declared.judge.Judge.{Judge}
 use Rattle.cf_walk.specs.declared.fault.LoadFault.{LoadFault}
 use Rattle.cf_walk.specs.declared.fault.LoadFault.TheVariants.{BadBlock, TooBig, ReadFault, NoMemory}
@@ -19,6 +19,7 @@ use Rattle.cf_index.specs.Checked.{IsChecked}
 use Rattle.cf_walk.specs.Judging.{StandsOn, after_by}
 use Rattle.cf_walk.specs.Striding.{Gives, ReadsAs}
 use Rattle.cf_walk.proofs.Growing.{headers_more}
+use Rattle.cf_conn.proofs.Stepping.{more_steps, no_steps}
 use Rattle.cf_index.proofs.Walking.{named_more, hashed_more, taken_more}
 
 -- what a walk answers at its end is what reading all the bytes answers
@@ -34,11 +35,6 @@ reads_fault bytes blocks NoMemory w left gives = tt
 -- what was found of a block that is given
 pub spent_so : (blocks : List Block) (b : Block) (old new : Judge) → StandsOn old blocks → new ≡ after_by old b → new.spent ≡ prevouts (coins_after empty blocks) b
 spent_so blocks b old new stands is = ap (λ (j : Judge). j.spent) is ∙ ap (λ (m : CoinMap). prevouts m b) stands.coins
-
--- the walk comes nearer to the greatest height
-pub nearer : (blocks : List Block) (b : Block) (old new : Judge) → StandsOn old blocks → StandsOn new (blocks ++ b ∷ []) → max_height - new.height < max_height - old.height
-nearer blocks b old new before after =
-    omega (arith, before.height, after.height, after.good.height, length-append blocks (b ∷ []))
 
 -- ---- what is kept with one block more
 
@@ -60,3 +56,9 @@ pub past_on : (blocks more : List Block) (b : Block) (past later : List ℕ) →
     → later ≡ past_of (headers_of more)
 past_on blocks more b past later so_far is e =
     is ∙ ap (past_after b.header.time) so_far ∙ sym (ap past_of (ap headers_of e ∙ headers_more blocks b) ∙ past_more b.header (headers_of blocks))
+
+-- one block more that was checked
+pub ruleset one_checked = (checked_more, tip_more, past_on)
+
+-- a source that is read: what it ends with, and its steps
+pub ruleset reading = (reads_fault, spent_so, no_steps, more_steps)

@@ -49,7 +49,7 @@ pub(crate) fn new_chain(alloc: Global) -> Chain
 }
 
 // Judges a block against the chain that it is to stand on, and puts the chain's coins after it.
-#[tactic(auto, using(crate::proofs::Judging::refused_before, crate::proofs::Judging::refused_coins, crate::proofs::Judging::stands))]
+#[tactic(auto, using(crate::proofs::Judging::judged_so))]
 fn judge(
     alloc: Global,
     chain: &mut Chain,

@@ -66,7 +66,7 @@ impl CheckedChain {
     }
 
     // The chain with one block more, which is good, and what was found of that block.
-    #[tactic(auto, using(crate::proofs::Sources::checked_more, crate::proofs::Sources::tip_more, crate::proofs::Sources::past_on))]
+    #[tactic(auto, using(crate::proofs::Sources::one_checked))]
     pub(crate) fn with(
         self,
         block: Block,

@@ -18,7 +18,7 @@ use std::alloc::Global;
 ///
 /// `BadBlock` for the first record that is refused within the source's first 1,073,741,824 bytes. `TooBig` where none
 /// is and the source gives another byte. `ReadFault` where the source fails.
-#[tactic(auto, using(crate::proofs::Sources::reads_fault, crate::proofs::Sources::spent_so, cf_conn::proofs::Stepping::no_steps, cf_conn::proofs::Stepping::more_steps))]
+#[tactic(auto, using(crate::proofs::Sources::reading))]
 pub fn read_source<S: Source>(alloc: Global, source: &mut S) -> Result<CheckedChain, LoadFault>
     ensures reads { (bytes : List ℕ) → S.left source.old ≡ Some bytes → ReadsAs bytes result }
     ensures good { IfOk result (λ blocks. IsGoodChain blocks) }

@@ -52,17 +52,10 @@ pub address_read : (text : List ℕ) (program : WitnessProgram) (bytes : List �
 address_read text program bytes address is =
     ap (λ f. script_unless f (address_script regtest text)) (taken regtest text program known address) ∙ ap Ok (script_is regtest text program known address ∙ sym is)
 
-pub address_refused : (text : List ℕ) (fault : AddressFault) → address_fault regtest text ≡ Some fault → script_at text ≡ Err fault
-address_refused text fault h = ap (λ f. script_unless f (address_script regtest text)) h
-
 -- and the other way
 pub unless_ok : (found : Option AddressFault) (script bytes : List ℕ) → script_unless found script ≡ Ok bytes → (found ≡ None) × (bytes ≡ script)
 unless_ok None script bytes h = (refl, cc)
 unless_ok (Some fault) script bytes h = cc
-
-pub unless_err : (found : Option AddressFault) (script : List ℕ) (fault : AddressFault) → script_unless found script ≡ Err fault → found ≡ Some fault
-unless_err None script fault h = cc
-unless_err (Some other) script fault h = cc
 
 -- the other form of an address
 pub form_of_address : (text line bytes : List ℕ) → is_address_text text ≡ true → script_at text ≡ Ok bytes → line ≡ encode_lower bytes → IsOtherForm text line

@@ -23,17 +23,6 @@ pub enum AddressCause {
     NoProgram,
 }
 
-impl From<AddressCause> for Refused<AddressCause> {
-    ghost use Rattle.std.specs.Prelude.{◌≡◌};
-    ghost use Rattle.cf_bytes.specs.declared.memory.Refused.TheVariants.{No};
-
-    ghost from_gives = { λ cause e. e ≡ No cause };
-
-    fn from(cause: AddressCause) -> Refused<AddressCause> {
-        Refused::No(cause)
-    }
-}
-
 // What the addresses of regtest begin with.
 const REGTEST: &str = "bcrt";
 

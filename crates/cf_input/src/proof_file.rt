@@ -124,13 +124,13 @@ fn read_block_from(alloc: Global, bytes: &[u8], tx: &Tx) -> Result<Hash32, Refus
     read_block_line(alloc, line, tx)
 }
 
-/// The hashes of the transaction and of the block of a file of two lines: `tx HEX` with the transaction's bytes, and `proof HEX` with those
-/// of a proof that it stands in a block (`check_proof`). The digits may be of either case. LF ends a line, which the second may lack.
+/// The hashes of the transaction and of the block of a file of two lines: `tx HEX` with the transaction's bytes, and
+/// `proof HEX` with those of a proof of its block (`check_proof`). Digits are of either case. The last LF may lack.
 ///
 /// # Errors
 ///
-/// The first line that is refused, for the first of these: `BadLine`, `Tx` with the first fault of the transaction, `Proof` with the first
-/// fault of the proof, `Work`. A byte after the second line is its `BadLine`.
+/// The first line that is refused, for the first of these: `BadLine`, `Tx` with the first fault of the transaction,
+/// `Proof` with the first fault of the proof, `Work`. A byte after the second line is its `BadLine`.
 #[tactic(auto, unfolding(crate::specs::ProofFile::proof_file_of))]
 pub fn read_proof_file(alloc: Global, bytes: &[u8]) -> Result<Proven, Refused<ProofFileFault>>
     ensures { GivesRead (λ p. p) (proof_file_of bytes.now) result }

@@ -38,34 +38,12 @@ pub enum SessionCause {
     BadLine,
 }
 
-impl From<SessionCause> for Refused<SessionCause> {
-    ghost use Rattle.std.specs.Prelude.{◌≡◌};
-    ghost use Rattle.cf_bytes.specs.declared.memory.Refused.TheVariants.{No};
-
-    ghost from_gives = { λ cause e. e ≡ No cause };
-
-    fn from(cause: SessionCause) -> Refused<SessionCause> {
-        Refused::No(cause)
-    }
-}
-
 /// The first line that is refused, counted from 1.
 #[derive(Clone, Copy, Debug, PartialEq, Eq, Error)]
 #[error("line {place}: {cause}")]
 pub struct SessionFault {
     pub cause: SessionCause,
     pub place: u32,
-}
-
-impl From<SessionFault> for Refused<SessionFault> {
-    ghost use Rattle.std.specs.Prelude.{◌≡◌};
-    ghost use Rattle.cf_bytes.specs.declared.memory.Refused.TheVariants.{No};
-
-    ghost from_gives = { λ fault e. e ≡ No fault };
-
-    fn from(fault: SessionFault) -> Refused<SessionFault> {
-        Refused::No(fault)
-    }
 }
 
 /// The dials of a run, their names as texts too, and then what is delivered.
@@ -125,7 +103,7 @@ fn read_got(alloc: Global, rest: &[u8], dials: u32) -> Result<Delivery, Refused<
     if bytes.is_empty() {
         return Err(Refused::No(SessionCause::BadLine));
     }
-    let peer = read_peer(peer, dials)?;
+    let peer = read_peer(peer, dials).map_err(Refused::No)?;
     Ok(Delivery::Got(peer, Piece::new(bytes)))
 }
 
@@ -157,10 +135,10 @@ fn read_delivery(alloc: Global, line: &[u8], dials: u32) -> Result<Delivery, Ref
         return read_got(alloc, rest, dials);
     }
     if word == b"gone".as_slice() {
-        return Ok(read_gone(rest, dials)?);
+        return read_gone(rest, dials).map_err(Refused::No);
     }
     if word == b"tick".as_slice() {
-        return Ok(read_tick(rest)?);
+        return read_tick(rest).map_err(Refused::No);
     }
     Err(Refused::No(SessionCause::BadLine))
 }
@@ -182,8 +160,10 @@ fn add_dial(
     answered: bool,
 ) -> Result<(), NoMemory>
     requires { is_name name.now ≡ true }
-    ensures dials { OnOk result (session.new.dials.items ≡ session.old.dials.items ++ record { name = name.now; answered = answered } ∷ []) }
-    ensures names { OnOk result (map string_bytes session.new.names.items ≡ map string_bytes session.old.names.items ++ name.now ∷ []) }
+    ensures dials { OnOk result
+        (session.new.dials.items ≡ session.old.dials.items ++ record { name = name.now; answered = answered } ∷ []) }
+    ensures names { OnOk result
+        (map string_bytes session.new.names.items ≡ map string_bytes session.old.names.items ++ name.now ∷ []) }
     ensures same { OnOk result (session.new.deliveries.items ≡ session.old.deliveries.items) }
 {
     let text = text_of(alloc, name)?;
@@ -200,7 +180,8 @@ fn take_line(alloc: Global, session: &mut Session, line: &[u8]) -> Result<(), Re
     ensures more { OnOk result (lines_in (script_in session.new) ≡ lines_in (script_in session.old) + 1) }
     ensures few { OnOk result (length session.new.dials.items ≤ max_dials) }
     ensures named { OnOk result (AreNamed session.old → AreNamed session.new) }
-    ensures real { OnOk result (list_all is_real session.old.deliveries.items ≡ true → list_all is_real session.new.deliveries.items ≡ true) }
+    ensures real { OnOk result (list_all is_real session.old.deliveries.items ≡ true
+        → list_all is_real session.new.deliveries.items ≡ true) }
 {
     let dials = session.dials.len() as u32;
     if let Some((name, answered)) = read_dial(line) {
@@ -229,7 +210,8 @@ fn add_line(alloc: Global, session: &mut Session, line: &[u8]) -> Result<(), Ref
     ensures more { OnOk result (lines_in (script_in session.new) ≡ lines_in (script_in session.old) + 1) }
     ensures few { OnOk result (length session.new.dials.items ≤ max_dials) }
     ensures named { OnOk result (AreNamed session.old → AreNamed session.new) }
-    ensures real { OnOk result (list_all is_real session.old.deliveries.items ≡ true → list_all is_real session.new.deliveries.items ≡ true) }
+    ensures real { OnOk result (list_all is_real session.old.deliveries.items ≡ true
+        → list_all is_real session.new.deliveries.items ≡ true) }
 {
     let place = (session.dials.len() + session.deliveries.len()) as u32 + 1;
     match take_line(alloc, session, line) {

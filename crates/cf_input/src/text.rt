@@ -38,13 +38,6 @@ impl Word {
     {
         self.text.as_str()
     }
-
-    /// The text, without a copy.
-    pub fn into_string(self) -> String
-        ensures { string_bytes result ≡ self }
-    {
-        self.text
-    }
 }
 
 /// The names of peers, in order, that contracts see as a list of their bytes.

@@ -32,17 +32,6 @@ pub struct WatchFileFault {
     pub place: u32,
 }
 
-impl From<WatchFileFault> for Refused<WatchFileFault> {
-    ghost use Rattle.std.specs.Prelude.{◌≡◌};
-    ghost use Rattle.cf_bytes.specs.declared.memory.Refused.TheVariants.{No};
-
-    ghost from_gives = { λ fault e. e ≡ No fault };
-
-    fn from(fault: WatchFileFault) -> Refused<WatchFileFault> {
-        Refused::No(fault)
-    }
-}
-
 // The script that a line names.
 fn read_script(alloc: Global, line: &[u8]) -> Result<Vec<u8>, Refused<WatchCause>>
     ensures { GivesRead (λ v. v.items) (script_in_line line.now) result }

@@ -1,5 +1,5 @@
 //! The program's words, read by clap.
-ghost use Rattle.std.specs.Prelude.{◌≡◌, ◌==◌, IfOk, IfErr, [], map, false, length, codes, string_bytes, option_map};
+ghost use Rattle.std.specs.Prelude.{◌≡◌, ◌==◌, IfOk, IfErr, [], map, false, codes, string_bytes, option_map};
 ghost use Rattle.std.specs.List.{list_any};
 ghost use Rattle.clap.specs.Words.{App, Rule, app_of, rule_of, new_rule, subcommand_of, subcommand_rows_of, fault_of, with_rule};
 ghost use Rattle.clap.specs.declared.builder.command.Command.TheViews.{out-Command as fields_of};
@@ -63,8 +63,8 @@ pub enum Command {
         watch: Word,
         session: Word,
     },
-    /// The client over the wires that are handed in, with 1 to 8 peers. It takes at most so many deliveries, judges filters
-    /// in so many threads, and what passed the wires is kept in a file, where one is named.
+    /// The client over the wires that are handed in, with 1 to 8 peers. It takes at most so many deliveries, judges
+    /// filters in so many threads, and what passed the wires is kept in a file, where one is named.
     Sync {
         turns: u32,
         workers: u32,
@@ -103,14 +103,14 @@ pub enum Command {
     Check {
         file: Word,
     },
-    /// The chain of a block file, served to so many connections to an address. It stands still, or grows by the blocks that the connections bring.
+    /// The chain of a block file, served to so many connections to an address: as it is, or grown by what they bring.
     Serve {
         grow: bool,
         connections: u32,
         file: Word,
         address: Word,
     },
-    /// The blocks of a made chain, from height 1 to so many, written to a file, their coinbases with a witness or without.
+    /// The blocks of a made chain, from height 1 to so many, in a file; their coinbases have a witness, or none has.
     Make {
         witness: bool,
         seed: u32,
@@ -251,7 +251,8 @@ fn with_one_more<'a>(
     sub: clap::Command<'a>,
 ) -> Result<clap::Command<'a>, AllocError>
     requires { ((fields_of command).has_globals ≡ false) × ((fields_of sub).has_globals ≡ false) }
-    ensures { IfOk result (λ c. (app_of c ≡ with_sub (app_of command.entry) (app_of sub.entry)) × ((fields_of c).has_globals ≡ false)) }
+    ensures { IfOk result
+        (λ c. (app_of c ≡ with_sub (app_of command.entry) (app_of sub.entry)) × ((fields_of c).has_globals ≡ false)) }
 {
     command.subcommand(sub)
 }
@@ -287,8 +288,7 @@ fn client_command<'a>(alloc: Global) -> Result<clap::Command<'a>, AllocError>
     add(command, replay_command(alloc))
 }
 
-/// The whole command line: those over a block file come after them, then that over an address, those over proofs, the server, and
-/// those over a made chain.
+/// The whole command line. After them come those over a block file, an address, proofs, the server and a made chain.
 pub(crate) fn cli_command<'a>(alloc: Global) -> Result<clap::Command<'a>, AllocError>
     ensures app { IfOk result (λ c. app_of c ≡ cli_app) }
     ensures globals { IfOk result (λ c. (fields_of c).has_globals ≡ false) }
@@ -319,9 +319,11 @@ fn matches_of_words<'a>(
     alloc: Global,
     words: &'a [String],
 ) -> Result<ArgMatches<'a>, Refused<Usage>>
-    ensures ok { IfOk result (λ m. subcommand_rows_of m ≡ subcommand_of cli_app (map (λ s. string_bytes s) words.entry.now)) }
+    ensures ok { IfOk result
+        (λ m. subcommand_rows_of m ≡ subcommand_of cli_app (map (λ s. string_bytes s) words.entry.now)) }
     ensures passed { IfOk result (λ m. fault_of cli_app (map (λ s. string_bytes s) words.entry.now) ≡ []) }
-    ensures refused { IfErr result (λ e. IfUsage e (is_faultless (fault_of cli_app (map (λ s. string_bytes s) words.entry.now)) ≡ false)) }
+    ensures refused { IfErr result
+        (λ e. IfUsage e (is_faultless (fault_of cli_app (map (λ s. string_bytes s) words.entry.now)) ≡ false)) }
 {
     let command = cli_command(alloc)?;
     match command.try_get_matches_from(words) {

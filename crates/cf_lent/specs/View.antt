@@ -1,7 +1,5 @@
 -- machine: messages whose lists and bytes are lent, as messages.
-use Rattle.std.specs.Prelude.{◌≡◌, ℕ, ◌-◌, List, Result, Ok, Err}
-use Rattle.cf_bytes.specs.Cut.{Read}
-use Rattle.cf_bytes.specs.Lists.{list_at, with_front}
+use Rattle.std.specs.Prelude.{◌≡◌, Result, Ok, Err}
 use Rattle.cf_msg.specs.declared.msg.Msg.{Msg}
 use Rattle.cf_msg.specs.declared.msg.Msg.TheVariants as msgs
 use Rattle.cf_msg.specs.declared.msg.Malformed.{Malformed}
@@ -32,8 +30,3 @@ msg_of (views.Other command payload) = msgs.Other command payload
 abbrev pub Views : Result Msg Malformed → Result View Malformed → Type 0
 Views answer (Ok v) = answer ≡ Ok (msg_of v)
 Views answer (Err e) = answer ≡ Err e
-
--- Some of the items were read, and the others are to be read from here.
-pub record IsReading {X E : Type 0} (item : List ℕ → Read X E) (count i : ℕ) (bytes rest : List ℕ) : Type 0 where
-  pub front : List X
-  pub exact : with_front front (list_at item (count - i) rest) ≡ list_at item count bytes

@@ -14,10 +14,10 @@ use cf_block::Header;
 use cf_bytes::{Cut, Hash32};
 use cf_frame::Lent;
 use cf_msg::{
-    Cause, Entry, Kind, MAX_ENTRIES, MAX_FILTER_HASHES, MAX_HEADERS, MAX_LOCATOR, Malformed,
+    Cause, Inventory, Kind, MAX_ENTRIES, MAX_FILTER_HASHES, MAX_HEADERS, MAX_LOCATOR, Malformed,
     address_of, byte_or_none, count_of, entry_of, hash_of, header_of, kind_of,
 };
-use cf_view::view_block;
+use cf_view::{Items, view_block};
 use std::marker::Model;
 
 /// Bytes of a payload, lent. A contract sees them as a list.
@@ -46,8 +46,7 @@ impl<'a> Text<'a> {
 /// Hashes that are read from a lent payload one after another. A contract sees those that are left.
 #[derive(Drop)]
 pub struct HashesView<'a> {
-    rest: &'a [u8],
-    left: u64,
+    items: Items<'a>,
 }
 
 impl<'a> Model for HashesView<'a> {
@@ -58,9 +57,9 @@ impl<'a> Model for HashesView<'a> {
 
     ghost Value = { List Hash32 };
 
-    ghost view = { λ v. items_in hash_item_at v.left v.rest.now };
+    ghost view = { λ v. items_in hash_item_at v.items.left v.items.rest.now };
 
-    ghost invariant = { λ v. AreThere hash_item_at v.left v.rest.now };
+    ghost invariant = { λ v. AreThere hash_item_at v.items.left v.items.rest.now };
 }
 
 impl<'a> HashesView<'a> {
@@ -68,34 +67,21 @@ impl<'a> HashesView<'a> {
     pub fn next(&mut self) -> Option<Hash32>
         ensures { GivesFirst self.old result self.new }
     {
-        if self.left == 0 {
-            return None;
-        }
-        let mut cut = Cut::new(self.rest);
-        let Ok(item) = hash_of(&mut cut) else {
-            unreachable!()
-        };
-        self.rest = cut.rest();
-        self.left -= 1;
-        Some(item)
+        self.items.next(|cut| hash_of(cut))
     }
 }
 
 fn view_hashes<'a>(count: u64, cut: &mut Cut<'a>) -> Result<HashesView<'a>, Cause>
     ensures { Reads (λ x. x) (list_at hash_item_at count cut.old) result cut.new }
 {
-    let rest = cut.rest();
-    for _ in 0..count {
-        hash_of(cut)?;
-    }
-    Ok(HashesView { rest, left: count })
+    let items = Items::pass(count, cut, |cut| hash_of(cut))?;
+    Ok(HashesView { items })
 }
 
 /// Headers that are read from a lent payload one after another. A contract sees those that are left.
 #[derive(Drop)]
 pub struct HeadersView<'a> {
-    rest: &'a [u8],
-    left: u64,
+    items: Items<'a>,
 }
 
 impl<'a> Model for HeadersView<'a> {
@@ -106,9 +92,9 @@ impl<'a> Model for HeadersView<'a> {
 
     ghost Value = { List Header };
 
-    ghost view = { λ v. items_in header_item_at v.left v.rest.now };
+    ghost view = { λ v. items_in header_item_at v.items.left v.items.rest.now };
 
-    ghost invariant = { λ v. AreThere header_item_at v.left v.rest.now };
+    ghost invariant = { λ v. AreThere header_item_at v.items.left v.items.rest.now };
 }
 
 impl<'a> HeadersView<'a> {
@@ -116,75 +102,50 @@ impl<'a> HeadersView<'a> {
     pub fn next(&mut self) -> Option<Header>
         ensures { GivesFirst self.old result self.new }
     {
-        if self.left == 0 {
-            return None;
-        }
-        let mut cut = Cut::new(self.rest);
-        let Ok(item) = header_of(&mut cut) else {
-            unreachable!()
-        };
-        self.rest = cut.rest();
-        self.left -= 1;
-        Some(item)
+        self.items.next(|cut| header_of(cut))
     }
 }
 
 fn view_headers<'a>(count: u64, cut: &mut Cut<'a>) -> Result<HeadersView<'a>, Cause>
     ensures { Reads (λ x. x) (list_at header_item_at count cut.old) result cut.new }
 {
-    let rest = cut.rest();
-    for _ in 0..count {
-        header_of(cut)?;
-    }
-    Ok(HeadersView { rest, left: count })
+    let items = Items::pass(count, cut, |cut| header_of(cut))?;
+    Ok(HeadersView { items })
 }
 
 /// Entries that are read from a lent payload one after another. A contract sees those that are left.
 #[derive(Drop)]
 pub struct EntriesView<'a> {
-    rest: &'a [u8],
-    left: u64,
+    items: Items<'a>,
 }
 
 impl<'a> Model for EntriesView<'a> {
     ghost use Rattle.std.specs.Prelude.{List};
-    ghost use Rattle.cf_msg.specs.declared.msg.Entry.{Entry};
+    ghost use Rattle.cf_msg.specs.declared.msg.Inventory.{Inventory};
     ghost use Rattle.cf_view.specs.Lent.{AreThere, items_in};
     ghost use Rattle.cf_msg.specs.Reading.{entry_at};
 
-    ghost Value = { List Entry };
+    ghost Value = { List Inventory };
 
-    ghost view = { λ v. items_in entry_at v.left v.rest.now };
+    ghost view = { λ v. items_in entry_at v.items.left v.items.rest.now };
 
-    ghost invariant = { λ v. AreThere entry_at v.left v.rest.now };
+    ghost invariant = { λ v. AreThere entry_at v.items.left v.items.rest.now };
 }
 
 impl<'a> EntriesView<'a> {
     /// The first that is left, if one is.
-    pub fn next(&mut self) -> Option<Entry>
+    pub fn next(&mut self) -> Option<Inventory>
         ensures { GivesFirst self.old result self.new }
     {
-        if self.left == 0 {
-            return None;
-        }
-        let mut cut = Cut::new(self.rest);
-        let Ok(item) = entry_of(&mut cut) else {
-            unreachable!()
-        };
-        self.rest = cut.rest();
-        self.left -= 1;
-        Some(item)
+        self.items.next(|cut| entry_of(cut))
     }
 }
 
 fn view_entry_list<'a>(count: u64, cut: &mut Cut<'a>) -> Result<EntriesView<'a>, Cause>
     ensures { Reads (λ x. x) (list_at entry_at count cut.old) result cut.new }
 {
-    let rest = cut.rest();
-    for _ in 0..count {
-        entry_of(cut)?;
-    }
-    Ok(EntriesView { rest, left: count })
+    let items = Items::pass(count, cut, |cut| entry_of(cut))?;
+    Ok(EntriesView { items })
 }
 
 /// The message that a lent frame carries, its lists and bytes lent. It is refused as `read` refuses it: at the first

@@ -1,3 +1,4 @@
+pub mod Keeping
 pub mod Slots
 pub mod Tables
 pub mod Totals

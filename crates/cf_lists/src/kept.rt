@@ -8,17 +8,17 @@ ghost use Rattle.cf_headers.specs.Entries.{headers_of, past_through};
 
 use cf_block::{Header, block_hash, genesis_header};
 use cf_bytes::{Hash32, NoMemory};
-use cf_headers::{Anew, Change, Checked, Entry, Past, SPAN, check_all, greatest_height};
+use cf_headers::{Anew, Change, Checked, HashedHeader, Past, SPAN, check_all, greatest_height};
 use std::alloc::Global;
 use std::marker::Model;
 
 /// A valid chain within the height limit.
 #[derive(Drop)]
-pub(crate) struct Kept {
-    entries: Vec<Entry>,
+pub(crate) struct KeptChain {
+    entries: Vec<HashedHeader>,
 }
 
-impl Model for Kept {
+impl Model for KeptChain {
     ghost use Rattle.cf_headers.specs.Chain.{Chain, IsValidChain, IsWithinLimit};
     ghost use Rattle.cf_headers.specs.Entries.{chain_of};
 
@@ -31,7 +31,11 @@ impl Model for Kept {
 
 // Leaves the first k entries and puts these after them.
 #[tactic(auto, using(cf_headers::proofs::EntryLists::longer))]
-fn replace_after(kept: &mut Vec<Entry>, k: usize, entries: &[Entry]) -> Result<(), NoMemory>
+fn replace_after(
+    kept: &mut Vec<HashedHeader>,
+    k: usize,
+    entries: &[HashedHeader],
+) -> Result<(), NoMemory>
     requires { k ≤ vec_len kept.old }
     ensures ok { OnOk result
         (headers_of kept.new.items ≡ take k (headers_of kept.old.items) ++ headers_of entries.now) }
@@ -44,8 +48,8 @@ fn replace_after(kept: &mut Vec<Entry>, k: usize, entries: &[Entry]) -> Result<(
 }
 
 // How many headers two lists have in common at their start, where they have this many at least.
-#[tactic(auto, using(cf_headers::proofs::Commons::prefix_on, cf_headers::proofs::EntryLists::common_no, cf_headers::proofs::EntryLists::common_yes, cf_headers::proofs::EntryLists::common_end))]
-fn count_common(mine: &[Entry], theirs: &[Entry], known: usize) -> usize
+#[tactic(auto, using(crate::proofs::Keeping::counts))]
+fn count_common(mine: &[HashedHeader], theirs: &[HashedHeader], known: usize) -> usize
     requires { known ≤ common_prefix_len is_same_header (headers_of mine.now) (headers_of theirs.now) }
     ensures value { result ≡ common_prefix_len is_same_header (headers_of mine.now) (headers_of theirs.now) }
     ensures low { result ≤ length mine.now }
@@ -61,7 +65,7 @@ fn count_common(mine: &[Entry], theirs: &[Entry], known: usize) -> usize
 
 // The times that count after these entries, where genesis's alone counted before them.
 #[tactic(auto, using(cf_headers::proofs::Pasts::through_on), unfolding(cf_headers::specs::Entries::past_through))]
-fn past_of_entries(entries: &[Entry]) -> Past
+fn past_of_entries(entries: &[HashedHeader]) -> Past
     ensures { result ≡ past_through (headers_of entries.now) (past_of []) }
 {
     let mut past = Past::of_genesis();
@@ -71,12 +75,12 @@ fn past_of_entries(entries: &[Entry]) -> Past
     past
 }
 
-impl Kept {
+impl KeptChain {
     /// The chain of genesis alone.
-    pub(crate) fn new(alloc: Global) -> Kept
+    pub(crate) fn new(alloc: Global) -> KeptChain
         ensures { result ≡ [] }
     {
-        Kept {
+        KeptChain {
             entries: Vec::new(alloc),
         }
     }
@@ -93,7 +97,7 @@ impl Kept {
     }
 
     /// The hash at a height.
-    #[tactic(auto, using(cf_headers::proofs::Stacks::hash_high, cf_headers::proofs::Stacks::height_is, cf_headers::proofs::Stacks::heights_same))]
+    #[tactic(auto, using(crate::proofs::Keeping::hashes))]
     pub(crate) fn hash_at(&self, h: u32) -> Hash32
         requires { h ≤ length self.now }
         ensures { result.0 ≡ hash_at self.now h }
@@ -116,7 +120,7 @@ impl Kept {
     }
 
     /// The height at which a hash stands, the lowest of several.
-    #[tactic(auto, using(cf_headers::proofs::Stacks::entries_fit, cf_headers::proofs::Stacks::heights_same, cf_headers::proofs::Stacks::place_genesis, cf_headers::proofs::Stacks::place_found, cf_headers::proofs::Stacks::place_nowhere, cf_headers::proofs::Stacks::back_on), unfolding(cf_headers::specs::Rules::same))]
+    #[tactic(auto, using(crate::proofs::Keeping::places), unfolding(cf_headers::specs::Rules::same))]
     pub(crate) fn place(&self, hash: &Hash32) -> Option<u32>
         ensures { result ≡ height_of hash.now.0 self.now }
     {
@@ -133,8 +137,8 @@ impl Kept {
 
     /// The height of the last block of both chains, which is known to be at least k. To find it goes along the headers
     /// above k.
-    #[tactic(auto, using(cf_headers::proofs::Stacks::entries_fit, cf_headers::proofs::EntryLists::common_is, cf_headers::proofs::EntryLists::common_known))]
-    pub(crate) fn common_above(&self, other: &Kept, k: u32) -> u32
+    #[tactic(auto, using(crate::proofs::Keeping::commons))]
+    pub(crate) fn common_above(&self, other: &KeptChain, k: u32) -> u32
         requires { k ≤ common_of self.now other.now }
         ensures { result ≡ common_of self.now other.now }
     {
@@ -142,7 +146,7 @@ impl Kept {
     }
 
     /// Takes headers that the peer sent.
-    #[tactic(auto, using(cf_headers::proofs::Accepting::accept_none, cf_headers::proofs::Accepting::accept_unlinked, cf_headers::proofs::Accepting::accept_at_link, cf_headers::proofs::Accepting::link_is, cf_headers::proofs::Accepting::link_low))]
+    #[tactic(auto, using(crate::proofs::Keeping::accepts))]
     pub(crate) fn accept(&mut self, alloc: Global, headers: &[Header]) -> Result<Change, NoMemory>
         ensures answer { IfOk result
             (λ a. a ≡ change_of (link_height headers.now self.old) (accept headers.now self.old)) }
@@ -177,8 +181,8 @@ impl Kept {
     }
 
     // Takes headers that break no rule from height k up.
-    #[tactic(auto, using(cf_headers::proofs::EntryLists::many, cf_headers::proofs::Stacks::height_is, cf_headers::proofs::Stacks::stacked, cf_headers::proofs::Accepting::on_high, cf_headers::proofs::Accepting::on_no_longer, cf_headers::proofs::Accepting::on_longer))]
-    fn put_at(&mut self, k: u32, entries: &[Entry]) -> Result<Change, NoMemory>
+    #[tactic(auto, using(crate::proofs::Keeping::puts))]
+    fn put_at(&mut self, k: u32, entries: &[HashedHeader]) -> Result<Change, NoMemory>
         requires within { k ≤ length self.old }
         requires good { AreGoodAbove self.old k (headers_of entries.now) }
         ensures answer { IfOk result

@@ -2,7 +2,7 @@
 ghost use Rattle.std.specs.Prelude.{◌≡◌, ℕ, ◌<◌, vec_len};
 ghost use Rattle.cf_lists.specs.Lists.{AreCommons};
 
-use crate::kept::Kept;
+use crate::kept::KeptChain;
 use crate::slot::Slot;
 use crate::table::renew;
 use cf_block::Header;
@@ -35,7 +35,7 @@ impl Lists {
         for i in 0..PLACES {
             slots.push(Slot {
                 entered: false,
-                chain: Kept::new(alloc),
+                chain: KeptChain::new(alloc),
             })?;
         }
         let commons = vec![in alloc; 0; PLACES * PLACES]?;
@@ -53,7 +53,7 @@ impl Lists {
             (chains_in self.new.slots.items) p (if entered then Some [] else None) }
     {
         let place = p.0 as usize;
-        let chain = Kept::new(self.alloc);
+        let chain = KeptChain::new(self.alloc);
         self.slots[place] = Slot { entered, chain };
         renew(&mut self.commons, &self.slots, place, 0);
     }
@@ -99,7 +99,7 @@ impl HeaderStore for Lists {
         self.commons[PLACES * p.0 as usize + q.0 as usize]
     }
 
-    #[tactic(auto, using(cf_headers::proofs::Places::best_more, cf_headers::proofs::Places::best_same, cf_headers::proofs::Places::best_end))]
+    #[tactic(auto, using(cf_headers::proofs::Places::bests))]
     fn best(&self) -> Option<PeerNo> {
         let mut best = None;
         let mut most: u32 = 0;

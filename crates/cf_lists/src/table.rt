@@ -3,13 +3,13 @@ ghost use Rattle.std.specs.Prelude.{◌≡◌, ◌≤◌, ◌<◌, length, vec_l
 ghost use Rattle.cf_headers.specs.Heights.{common_of};
 ghost use Rattle.cf_lists.specs.Lists.{IsCommonUpTo, AreCommons, AreCommonsBut, IsRowUpTo};
 
-use crate::kept::Kept;
+use crate::kept::KeptChain;
 use crate::slot::Slot;
 use cf_headers::PLACES;
 
 // The common height of two chains, where it is known up to height k.
 #[tactic(auto, using(cf_headers::proofs::Commons::common_symm))]
-fn common_height(mine: &Kept, theirs: &Kept, known: u32, k: u32) -> u32
+fn common_height(mine: &KeptChain, theirs: &KeptChain, known: u32, k: u32) -> u32
     requires { IsCommonUpTo k known mine.now theirs.now }
     ensures { result ≡ common_of mine.now theirs.now }
 {

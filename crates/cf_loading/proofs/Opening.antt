@@ -106,3 +106,6 @@ pub scan_in_file : (files : Option Named) (name : List ℕ) (left : Option (List
     → ((bytes : List ℕ) → left ≡ Some bytes → IsScanOf bytes watch text) → IfSome files (λ m. IfSome (finite.get m name) (λ bytes. IsScanOf bytes watch text))
 scan_in_file None name left watch text opened told = tt
 scan_in_file (Some m) name left watch text opened told = (scan_of_held (finite.get m name) left watch text opened told).1
+
+-- a file that was opened, and what a scan of it gives
+pub ruleset scanned = (scanned_file, scan_in_file)

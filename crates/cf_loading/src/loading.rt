@@ -229,7 +229,7 @@ fn scan_in<F: Files>(alloc: Global, files: &mut F, watch: &Watch) -> Result<Stri
 /// # Errors
 ///
 /// Those of `load_chain`.
-#[tactic(auto, using(crate::proofs::Opening::scanned_file, crate::proofs::Opening::scan_in_file, crate::proofs::Asking::read_by_parts))]
+#[tactic(auto, using(crate::proofs::Opening::scanned, crate::proofs::Asking::read_by_parts))]
 pub fn scan_file<F: Files>(
     alloc: Global,
     files: &mut F,

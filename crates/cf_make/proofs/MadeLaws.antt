@@ -111,15 +111,9 @@ with_rest P apart coins seed height ts fits all known rest = record {
 }
 
 tip_still : (P : List ℕ → Type 0) (coins : CoinMap) (seed height : ℕ) (c : OutPoint) → CoinStands P coins height c → CoinStands P (with_coinbase coins seed height) height c
-tip_still P coins seed height c tip = record {
-  seed = tip.seed;
-  below = tip.below;
-  range = tip.range;
-  next = tip.next;
-  known = tip.known;
-  is = tip.is;
-  stands = put_keeps coins (coin_of seed height) _ (coin_of tip.seed tip.below) tip.stands;
-}
+tip_still P coins seed height c tip =
+    let stands = put_keeps coins (coin_of seed height) _ (coin_of tip.seed tip.below) tip.stands in
+    record { seed = tip.seed; below = tip.below; range = tip.range; next = tip.next; known = tip.known; is = tip.is; stands = stands }
 
 txs_good : (P : List ℕ → Type 0) → Apart P → (coins : CoinMap) (seed height : ℕ) (o : Option OutPoint) → height < 2 ^ 32 → AllLower P height height coins → TipStands P coins height o
     → AllKnown P (made_txs seed height o) → TxsGood P coins height (made_txs seed height o)

@@ -5,7 +5,7 @@ use Rattle.cf_bytes.specs.Hash.{hash_of}
 use Rattle.cf_block.specs.declared.tx.OutPoint.{OutPoint}
 use Rattle.cf_block.specs.Outpoint.{outpoint}
 use Rattle.cf_block.specs.Tx.{tx_spelling, txid_of}
-use Rattle.cf_chain.specs.Coins.{CoinMap, after_tx}
+use Rattle.cf_chain.specs.Coins.{CoinMap}
 use Rattle.cf_chain.specs.Good.{IsGoodTx}
 use Rattle.cf_make.specs.Made.{paid_to, coinbase_of, second_of}
 use Rattle.cf_make.proofs.CoinMaps.{Stands, put_keeps, put_was, take_was, take_keeps, none_stands}
@@ -39,10 +39,6 @@ no_coinbase_stands P apart coins seed height n fits all known h =
 
 abbrev pub with_coinbase : CoinMap → ℕ → ℕ → CoinMap
 with_coinbase coins seed height = insert coins (coin_of seed height) (paid_to 5000000000 (seed + height))
-
-pub after_coinbase : (coins : CoinMap) (seed height : ℕ) → after_tx coins (coinbase_of seed height) ≡ with_coinbase coins seed height
-unfolding coinbase_of
-after_coinbase coins seed height = refl
 
 pub good_coinbase : (P : List ℕ → Type 0) → Apart P → (coins : CoinMap) (seed height n : ℕ) → height < 2 ^ 32 → AllLower P height n coins → P (tx_spelling (coinbase_of seed height))
     → IsGoodTx coins (coinbase_of seed height)
@@ -83,10 +79,6 @@ abbrev pub with_second : CoinMap → ℕ → ℕ → ℕ → CoinMap
 with_second coins seed below turn =
     let txid : List ℕ = txid_of (second_of (coin_of seed below) turn) in
     insert (insert (remove coins (coin_of seed below)) (outpoint txid 0) (paid_to 2000000000 (turn + 5))) (outpoint txid 1) (paid_to 3000000000 (turn + 11))
-
-pub after_second : (coins : CoinMap) (seed below turn : ℕ) → after_tx coins (second_of (coin_of seed below) turn) ≡ with_second coins seed below turn
-unfolding second_of
-after_second coins seed below turn = refl
 
 index_apart : (txid : List ℕ) → outpoint txid 1 ≡ outpoint txid 0 → ⊥
 index_apart txid e = let n : 1 ≡ 0 = ap (λ (q : OutPoint). q.index) e in absurd (omega (arith, n))

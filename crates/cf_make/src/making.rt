@@ -1,5 +1,5 @@
 //! The making of chains.
-ghost use Rattle.std.specs.Prelude.{◌≡◌, ◌≤◌, ◌<◌, ◌+◌, [], length, take};
+ghost use Rattle.std.specs.Prelude.{◌≡◌, ◌≤◌, ◌<◌, ◌+◌, ◌*◌, [], pos, length, take};
 ghost use Rattle.cf_chain.specs.Good.{max_height};
 ghost use Rattle.cf_make.specs.Made.{seed_limit, tip_of, genesis_tip, tip_after, first_coin, Extends, MakesBlock};
 
@@ -33,7 +33,7 @@ pub(crate) struct Tip {
 pub(crate) const TRIES: u32 = 65_536;
 
 /// The time of genesis, in seconds since 1970.
-pub(crate) const GENESIS_TIME: u32 = 1_296_688_602;
+const GENESIS_TIME: u32 = 1_296_688_602;
 
 /// The chain of so many blocks that the seed tells. `NoNonce` comes exactly at the lowest height at which none of the
 /// nonces from 0 to 65,535 meets the target. Seeds are below 2 ^ 33, and there are at most 500,000 blocks.
@@ -80,6 +80,28 @@ fn make_on(alloc: Global, base: Chain, seed: u64, blocks: u32) -> Result<Chain, 
     Ok(whole)
 }
 
+// The header of a block at a height, before its nonce is sought: 600 seconds a block, from genesis's time on.
+pub(crate) fn unmined(height: u32, previous: Hash32, root: Hash32) -> Header
+    requires { height ≤ max_height }
+    ensures { result ≡ record {
+      version = pos 4;
+      previous = previous;
+      root = root;
+      time = 1296688602 + 600 * height;
+      bits = 0x207fffff;
+      nonce = 0;
+    } }
+{
+    Header {
+        version: 4,
+        previous,
+        root,
+        time: GENESIS_TIME + 600 * height,
+        bits: 0x207fffff,
+        nonce: 0,
+    }
+}
+
 // The block that the seed tells at a height, above the tip.
 fn make_block(alloc: Global, seed: u64, height: u32, tip: Tip) -> Result<Block, Refused<AtHeight>>
     requires seeds { seed < seed_limit }
@@ -88,14 +110,7 @@ fn make_block(alloc: Global, seed: u64, height: u32, tip: Tip) -> Result<Block, 
 {
     let txs = make_txs(alloc, seed, height, tip.coin)?;
     let root = root_of(alloc, txs.as_slice())?;
-    let header = Header {
-        version: 4,
-        previous: tip.hash,
-        root,
-        time: GENESIS_TIME + 600 * height,
-        bits: 0x207fffff,
-        nonce: 0,
-    };
+    let header = unmined(height, tip.hash, root);
     match mine(&header, TRIES) {
         Ok(header) => Ok(Block { header, txs }),
         Err(cause) => Err(Refused::No(AtHeight { height, cause })),

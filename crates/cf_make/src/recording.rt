@@ -4,11 +4,8 @@ ghost use Rattle.cf_make.specs.Records.{record_of, records_of};
 
 use crate::making::Chain;
 use cf_block::{Block, write_block};
-use cf_bytes::NoMemory;
+use cf_bytes::{MAGIC, NoMemory};
 use std::alloc::Global;
-
-/// The bytes that begin a record of regtest.
-pub(crate) const MAGIC: [u8; 4] = [0xfa, 0xbf, 0xb5, 0xda];
 
 /// The records of a chain's blocks, the lowest first: for each the magic bytes, its length as a little-endian u32, and
 /// its bytes. A block of 2 ^ 32 bytes or more, which has no record, is refused as for want of memory.

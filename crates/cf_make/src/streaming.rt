@@ -7,13 +7,12 @@ ghost use Rattle.cf_make.specs.Made.{seed_limit, first_coin, genesis_tip};
 ghost use Rattle.cf_make.specs.Records.{made_record};
 ghost use Rattle.cf_make.specs.Streamed.{MinesHashed, MakesTipped, AreRecordsOf, StopsFor};
 
-use crate::making::{AtHeight, GENESIS_TIME, TRIES, Tip};
+use crate::making::{AtHeight, TRIES, Tip, unmined};
 use crate::mining::NoNonce;
-use crate::recording::MAGIC;
 use crate::spending::make_txs;
 use crate::witnessing::put_text;
 use cf_block::{Block, Header, OutPoint, Tx, block_hash, genesis_header, merkle_root, txids};
-use cf_bytes::{Hash32, NoMemory, Refused};
+use cf_bytes::{Hash32, MAGIC, NoMemory, Refused};
 use cf_headers::meets_target;
 use std::alloc::Global;
 
@@ -78,14 +77,7 @@ fn make_tipped(alloc: Global, seed: u64, height: u32, tip: Tip) -> Result<Tipped
 {
     let txs = make_txs(alloc, seed, height, tip.coin)?;
     let named = name_txs(alloc, txs.as_slice())?;
-    let header = Header {
-        version: 4,
-        previous: tip.hash,
-        root: named.root,
-        time: GENESIS_TIME + 600 * height,
-        bits: 0x207fffff,
-        nonce: 0,
-    };
+    let header = unmined(height, tip.hash, named.root);
     match mine_hashed(&header, TRIES) {
         Ok(mined) => Ok(Tipped {
             block: Block {

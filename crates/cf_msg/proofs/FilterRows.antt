@@ -11,7 +11,7 @@ use Rattle.cf_block.specs.Header.{IsHash}
 use Rattle.cf_block.specs.Tx.{IsBlock, block_spelling}
 use Rattle.cf_block.specs.Reading.{block_at}
 use Rattle.cf_block.proofs.Again.{block_again}
-use Rattle.cf_msg.specs.declared.msg.Entry.{Entry}
+use Rattle.cf_msg.specs.declared.msg.Inventory.{Inventory}
 use Rattle.cf_msg.specs.declared.msg.Cause.{Cause}
 use Rattle.cf_msg.specs.declared.msg.Msg.{Msg}
 use Rattle.cf_msg.specs.declared.msg.Msg.TheVariants.{GetData, Inv, Block as BlockMessage, GetCfilters, Cfilter, GetCfheaders, Cfheaders, GetCfcheckpt, Cfcheckpt}
@@ -28,16 +28,16 @@ use Rattle.cf_msg.proofs.Rows.{IsRead, u32_cause, counted_cause}
 type_codec : Codec (λ bytes. of_cut (byte_at bytes)) (λ b. b ∷ []) (λ b. b < 256)
 type_codec = of_cut_codec byte_at (λ b. b ∷ []) (λ b. b < 256) byte_codec
 
-entry_again : (e : Entry) (more : List ℕ) → IsEntry e → entry_at (entry_spelling e ++ more) ≡ Ok (e, more)
+entry_again : (e : Inventory) (more : List ℕ) → IsEntry e → entry_at (entry_spelling e ++ more) ≡ Ok (e, more)
 unfolding entry_at
 entry_again e more h =
-    let make : ℕ → Hash32 → Entry = λ kind hash. record { kind = kind; hash = hash } in
+    let make : ℕ → Hash32 → Inventory = λ kind hash. record { kind = kind; hash = hash } in
     read_2 u32_cause hash_item_codec make e.kind e.hash more h.kind h.hash
 
-entry_taken : (bytes : List ℕ) (e : Entry) (rest : List ℕ) → IsBytes bytes → entry_at bytes ≡ Ok (e, rest) → Takes bytes (entry_spelling e) rest × IsEntry e
+entry_taken : (bytes : List ℕ) (e : Inventory) (rest : List ℕ) → IsBytes bytes → entry_at bytes ≡ Ok (e, rest) → Takes bytes (entry_spelling e) rest × IsEntry e
 unfolding entry_at
 entry_taken bytes e rest fits h =
-    let make : ℕ → Hash32 → Entry = λ kind hash. record { kind = kind; hash = hash } in
+    let make : ℕ → Hash32 → Inventory = λ kind hash. record { kind = kind; hash = hash } in
     taken_2 u32_cause hash_item_codec make bytes e rest (λ x after. Takes bytes (entry_spelling x) after × IsEntry x) fits h
     (λ kind hash after t k i. (t, record { kind = k; hash = i }))
 
@@ -57,11 +57,11 @@ hashes_codec = counted_codec 2000 hash_item_at hash_spelling IsHash (omega arith
 end_is : {X : Type 0} (read : List ℕ → Read X Cause) (text : List ℕ) (x : X) → read (text ++ []) ≡ Ok (x, []) → read text ≡ Ok (x, [])
 end_is read text x h = ap read (sym (append-nil text)) ∙ h
 
-pub getdata_again : (xs : List Entry) → HasSpelling (GetData xs) → getdata_at (payload_of (GetData xs)) ≡ Ok (GetData xs, [])
+pub getdata_again : (xs : List Inventory) → HasSpelling (GetData xs) → getdata_at (payload_of (GetData xs)) ≡ Ok (GetData xs, [])
 unfolding getdata_at payload_of
 getdata_again xs h = end_is getdata_at (payload_of (GetData xs)) (GetData xs) (read_1 entries_codec (λ xs. GetData xs) xs [] h)
 
-pub inv_again : (xs : List Entry) → HasSpelling (Inv xs) → inv_at (payload_of (Inv xs)) ≡ Ok (Inv xs, [])
+pub inv_again : (xs : List Inventory) → HasSpelling (Inv xs) → inv_at (payload_of (Inv xs)) ≡ Ok (Inv xs, [])
 unfolding inv_at payload_of
 inv_again xs h = end_is inv_at (payload_of (Inv xs)) (Inv xs) (read_1 entries_codec (λ xs. Inv xs) xs [] h)
 

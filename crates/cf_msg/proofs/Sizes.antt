@@ -8,7 +8,7 @@ use Rattle.cf_bytes.specs.Lists.{counted_bytes}
 use Rattle.cf_block.specs.declared.header.Header.{Header}
 use Rattle.cf_block.specs.Header.{IsHash, IsHeader, header_spelling}
 use Rattle.cf_msg.specs.declared.msg.NetAddress.{NetAddress}
-use Rattle.cf_msg.specs.declared.msg.Entry.{Entry}
+use Rattle.cf_msg.specs.declared.msg.Inventory.{Inventory}
 use Rattle.cf_msg.specs.declared.msg.Msg.{Msg}
 use Rattle.cf_msg.specs.declared.msg.Msg.TheVariants.{Version, Verack, Ping, Pong, GetHeaders, Headers, GetData, Inv, Block, GetCfilters, Cfilter, GetCfheaders, Cfheaders, GetCfcheckpt, Cfcheckpt, Other}
 use Rattle.cf_msg.specs.Message.{IsAddress, IsEntry, HasSpelling, address_spelling, byte_or_none, counted_list, entry_spelling, hash_spelling, item_spelling, payload_of}
@@ -108,10 +108,10 @@ headers_size headers fits =
       length-flat_map item_spelling IsHeader 81 length-item headers fits,
     )
 
-length-entry : (e : Entry) → IsEntry e → length (entry_spelling e) ≡ 36
+length-entry : (e : Inventory) → IsEntry e → length (entry_spelling e) ≡ 36
 length-entry e fits = omega (arith, length-append (to_le_bytes w32 e.kind) e.hash.0, fits.hash)
 
-pub entries_size : (entries : List Entry) → AllByRecursion IsEntry entries → length (counted_list entry_spelling entries) ≤ 9 + 36 * length entries
+pub entries_size : (entries : List Inventory) → AllByRecursion IsEntry entries → length (counted_list entry_spelling entries) ≤ 9 + 36 * length entries
 entries_size entries fits =
     omega (
       arith,

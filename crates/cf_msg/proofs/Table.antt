@@ -234,12 +234,6 @@ carried f m frame fits e =
     let r = placed_ok f (whole_at f.command f.payload) m e in
     whole_taken f.command f.payload m r.0 frame.twelve frame.command fits r.1
 
--- what was read may be written
-pub rewritable : (f : Frame) (m : Msg) → IsFrame f → IsBytes f.payload → message_of f ≡ Ok m → IsWithinLimits m × (length (payload_of m) ≤ 4000000)
-rewritable f m frame fits e =
-    let s = carried f m frame fits e in
-    (limits_of m s.fits, omega (arith, frame.payload, ap length s.payload_is))
-
 -- refusals
 err_is : {X E : Type 0} (x y : E) (r : Result X E) → r ≡ Err x → r ≡ Err y → x ≡ y
 err_is x y r a b = cc

@@ -13,7 +13,7 @@ use Rattle.cf_frame.specs.declared.frame.Frame.{Frame}
 use Rattle.cf_frame.specs.Frame.{is_command}
 use Rattle.cf_msg.specs.declared.command.Kind.TheVariants.{Other as OtherKind}
 use Rattle.cf_msg.specs.declared.msg.NetAddress.{NetAddress}
-use Rattle.cf_msg.specs.declared.msg.Entry.{Entry}
+use Rattle.cf_msg.specs.declared.msg.Inventory.{Inventory}
 use Rattle.cf_msg.specs.declared.msg.Msg.{Msg}
 use Rattle.cf_msg.specs.declared.msg.Msg.TheVariants.{Version, Verack, Ping, Pong, GetHeaders, Headers, GetData, Inv, Block, GetCfilters, Cfilter, GetCfheaders, Cfheaders, GetCfcheckpt, Cfcheckpt, Other}
 use Rattle.cf_msg.specs.Command.{version_command, verack_command, ping_command, pong_command, getheaders_command, headers_command, getdata_command, inv_command, block_command, getcfilters_command, cfilter_command, getcfheaders_command, cfheaders_command, getcfcheckpt_command, cfcheckpt_command, kind_of}
@@ -47,11 +47,11 @@ abbrev pub item_spelling : Header → List ℕ
 item_spelling h = header_spelling h ++ 0 ∷ []
 
 -- an entry of an inventory: the kind of the object, and its hash
-abbrev pub entry_spelling : Entry → List ℕ
+abbrev pub entry_spelling : Inventory → List ℕ
 entry_spelling e = to_le_bytes w32 e.kind ++ e.hash.0
 
 -- an entry that has a spelling: a kind of 32 bits, and a hash of 32 bytes
-pub record IsEntry (e : Entry) : Type 0 where
+pub record IsEntry (e : Inventory) : Type 0 where
   pub kind : e.kind < 2 ^ 32
   pub hash : IsHash e.hash
 

@@ -18,7 +18,7 @@ use Rattle.cf_frame.specs.declared.frame.Frame.{Frame}
 use Rattle.cf_msg.specs.declared.command.Kind.{Kind}
 use Rattle.cf_msg.specs.declared.command.Kind.TheVariants.{Version as VersionKind, Verack as VerackKind, Ping as PingKind, Pong as PongKind, GetHeaders as GetHeadersKind, Headers as HeadersKind, GetData as GetDataKind, Inv as InvKind, Block as BlockKind, GetCfilters as GetCfiltersKind, Cfilter as CfilterKind, GetCfheaders as GetCfheadersKind, Cfheaders as CfheadersKind, GetCfcheckpt as GetCfcheckptKind, Cfcheckpt as CfcheckptKind, Other as OtherKind}
 use Rattle.cf_msg.specs.declared.msg.NetAddress.{NetAddress}
-use Rattle.cf_msg.specs.declared.msg.Entry.{Entry}
+use Rattle.cf_msg.specs.declared.msg.Inventory.{Inventory}
 use Rattle.cf_msg.specs.declared.msg.Msg.{Msg}
 use Rattle.cf_msg.specs.declared.msg.Msg.TheVariants.{Version, Verack, Ping, Pong, GetHeaders, Headers, GetData, Inv, Block as BlockMessage, GetCfilters, Cfilter, GetCfheaders, Cfheaders, GetCfcheckpt, Cfcheckpt, Other}
 use Rattle.cf_msg.specs.declared.msg.Cause.{Cause}
@@ -117,14 +117,14 @@ abbrev pub counted_list_at : {X : Type 0} → ℕ → (List ℕ → Read X Cause
 counted_list_at limit item bytes = count_at limit bytes >>= λ n. list_at item n.0 n.1
 
 -- an entry of an inventory: the kind of the object, and its hash
-unfoldable pub entry_at : List ℕ → Read Entry Cause
+unfoldable pub entry_at : List ℕ → Read Inventory Cause
 entry_at bytes = do
   kind ← of_cut (number_at w32 bytes)
   hash ← hash_item_at kind.1
   Ok (record { kind = kind.0; hash = hash.0 }, hash.1)
 
 -- entries of an inventory, at most 50,000
-unfoldable pub entries_at : List ℕ → Read (List Entry) Cause
+unfoldable pub entries_at : List ℕ → Read (List Inventory) Cause
 entries_at bytes = counted_list_at 50000 entry_at bytes
 
 -- the payload of `getdata`: what is asked for

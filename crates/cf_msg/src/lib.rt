@@ -13,7 +13,7 @@ pub use command::{Kind, kind_of};
 pub use laws::laws_of_messages;
 pub use lent::frame_block;
 pub use lists::{Bytes, Entries, Hashes, Headers};
-pub use msg::{Cause, Entry, Malformed, Msg, NetAddress};
+pub use msg::{BLOCK_KIND, Cause, Inventory, Malformed, Msg, NetAddress};
 pub use reader::{
     MAX_ENTRIES, MAX_FILTER_HASHES, MAX_HEADERS, MAX_LOCATOR, address_of, byte_or_none, count_of,
     entry_of, hash_of, header_of, read,

@@ -19,9 +19,12 @@ pub struct NetAddress {
     pub port: u16,
 }
 
+/// The kind of an inventory's entry that tells of a block, or asks for one in the form without witnesses.
+pub const BLOCK_KIND: u32 = 2;
+
 /// An entry of an inventory: 36 bytes.
 #[derive(Clone, Copy, Debug, PartialEq, Eq)]
-pub struct Entry {
+pub struct Inventory {
     /// The kind of the object: 1 a transaction, 2 a block. Any other is kept as it is.
     pub kind: u32,
     /// The hash of the object.

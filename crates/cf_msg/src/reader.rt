@@ -6,9 +6,9 @@ ghost use Rattle.cf_msg.specs.Reading.{Answers, of_cut, port_at, address_at, byt
 
 use crate::command::{Kind, kind_of};
 use crate::lists::{Bytes, Entries, Hashes, Headers};
-use crate::msg::{Cause, Entry, Malformed, Msg, NetAddress};
+use crate::msg::{Cause, Inventory, Malformed, Msg, NetAddress};
 use cf_block::{Header, parse_block, parse_header};
-use cf_bytes::{Cut, CutFault, Hash32, Refused};
+use cf_bytes::{Cut, CutFault, Hash32, Refused, read_list};
 use cf_frame::Frame;
 use std::alloc::Global;
 
@@ -197,12 +197,7 @@ pub fn hash_of(cut: &mut Cut) -> Result<Hash32, Cause>
 fn hashes_of(alloc: Global, count: u64, cut: &mut Cut) -> Result<Hashes, Refused<Cause>>
     ensures { Gives (λ h. h) (list_at hash_item_at count cut.old) result cut.new }
 {
-    let mut items = Vec::new(alloc);
-    for _ in 0..count {
-        let hash = hash_of(cut)?;
-        items.push(hash)?;
-    }
-    Ok(Hashes::from_vec(items))
+    read_list(alloc, 0, count, cut, |cut| Ok(hash_of(cut)?))
 }
 
 #[tactic(auto, unfolding(crate::specs::Reading::getheaders_at))]
@@ -239,12 +234,7 @@ pub fn header_of(cut: &mut Cut) -> Result<Header, Cause>
 fn header_list_of(alloc: Global, count: u64, cut: &mut Cut) -> Result<Headers, Refused<Cause>>
     ensures { Gives (λ h. h) (list_at header_item_at count cut.old) result cut.new }
 {
-    let mut items = Vec::new(alloc);
-    for _ in 0..count {
-        let header = header_of(cut)?;
-        items.push(header)?;
-    }
-    Ok(Headers::from_vec(items))
+    read_list(alloc, 0, count, cut, |cut| Ok(header_of(cut)?))
 }
 
 #[tactic(auto, unfolding(crate::specs::Reading::headers_at))]
@@ -258,23 +248,18 @@ fn headers_of(alloc: Global, cut: &mut Cut) -> Result<Msg, Refused<Cause>>
 
 /// An entry of an inventory: its kind and its hash.
 #[tactic(auto, unfolding(crate::specs::Reading::entry_at))]
-pub fn entry_of(cut: &mut Cut) -> Result<Entry, Cause>
+pub fn entry_of(cut: &mut Cut) -> Result<Inventory, Cause>
     ensures { Reads (λ e. e) (entry_at cut.old) result cut.new }
 {
     let kind = cut.u32()?;
     let hash = hash_of(cut)?;
-    Ok(Entry { kind, hash })
+    Ok(Inventory { kind, hash })
 }
 
 fn entry_list_of(alloc: Global, count: u64, cut: &mut Cut) -> Result<Entries, Refused<Cause>>
     ensures { Gives (λ e. e) (list_at entry_at count cut.old) result cut.new }
 {
-    let mut items = Vec::new(alloc);
-    for _ in 0..count {
-        let entry = entry_of(cut)?;
-        items.push(entry)?;
-    }
-    Ok(Entries::from_vec(items))
+    read_list(alloc, 0, count, cut, |cut| Ok(entry_of(cut)?))
 }
 
 #[tactic(auto, unfolding(crate::specs::Reading::entries_at))]

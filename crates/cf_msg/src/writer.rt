@@ -11,7 +11,7 @@ use crate::command::{
     GETHEADERS, HEADERS, INV, PING, PONG, VERACK, VERSION,
 };
 use crate::lists::{Bytes, Entries, Hashes, Headers};
-use crate::msg::{Entry, Msg, NetAddress};
+use crate::msg::{Inventory, Msg, NetAddress};
 use cf_block::{Header, write_block, write_header};
 use cf_bytes::{Hash32, NoMemory, put_compact};
 use cf_frame::{Frame, Payload};
@@ -276,7 +276,7 @@ fn put_counted_hashes(hashes: &Hashes, out: &mut Vec<u8>) -> Result<(), NoMemory
 }
 
 #[tactic(auto, using(std::proofs::Common::append_assoc))]
-fn put_entry(entry: &Entry, out: &mut Vec<u8>) -> Result<(), NoMemory>
+fn put_entry(entry: &Inventory, out: &mut Vec<u8>) -> Result<(), NoMemory>
     ensures { OnOk result (out.new.items ≡ out.old.items ++ entry_spelling entry.now) }
 {
     put_u32(entry.kind, out)?;

@@ -14,3 +14,6 @@ read_first reads opens parts name (other ∷ files) before after one = inr (afte
 pub read_then : {F : Type 0} (reads : Reads F) (opens : Opens F) (parts : Parts F) (name other : List ℕ) (before between after : F)
     → IsRead reads name before between → IsReadByParts opens parts other between after → AreRead reads opens parts (Whole name ∷ ByParts other ∷ []) before after
 read_then reads opens parts name other before between after one two = inr (between, one, inr (after, two, refl))
+
+-- the files that were read, by how far it came
+pub ruleset asked = (read_first, read_then)

@@ -1,10 +1,10 @@
 -- statement: what is promised of the commands that write a text of a file of blocks, or of an address.
-use Rattle.std.specs.Prelude.{◌≡◌, ℕ, ◌≤◌, nat_lt, Bool, true, false, List, [], ◌∷◌, ◌++◌, length, take, codes, Option, Some, None, IfSome, Result, Ok, Err}
+use Rattle.std.specs.Prelude.{◌≡◌, ◌≢◌, ℕ, ◌≤◌, nat_lt, Bool, true, false, List, [], ◌∷◌, ◌++◌, length, take, codes, Option, Some, None, IfSome, Result, Ok, Err}
 use Rattle.std.specs.FinMap as finite
 use Rattle.hex.specs.Hex.{encode_lower}
 use Rattle.cf_bytes.specs.Files.{Named}
 use Rattle.cf_bytes.specs.Hash.{shown}
-use Rattle.cf_bytes.specs.Outside.{with_more}
+use Rattle.cf_bytes.specs.Outside.{HasRisen, with_more}
 use Rattle.cf_block.specs.declared.tx.Block.{Block}
 use Rattle.cf_chain.specs.Filters.{Filtered, filter_at}
 use Rattle.cf_walk.specs.declared.cause.BadBlock.{BadBlock}
@@ -15,6 +15,12 @@ use Rattle.cf_input.specs.declared.watch_file.WatchFileFault.{WatchFileFault}
 use Rattle.cf_answers.specs.declared.status.Status.{Status}
 use Rattle.cf_answers.specs.declared.status.Status.TheVariants.{Done, NoMemory, BadFile, FileFault, OutFault, NoHeight, NotAddress}
 use Rattle.cf_loading.specs.Scanning.{scan_text}
+
+-- How often the sink has failed, by the answer: more often where the sink is to blame for it, and not once more with any other, but that a run that is given up
+-- for want of memory, or since a file fails, may have lost its sink before.
+pub record CountsOut (status : Status) (before after : ℕ) : Type 0 where
+  pub fault : status ≡ OutFault → HasRisen before after
+  pub fine : status ≢ OutFault → status ≢ FileFault → status ≢ NoMemory → after ≡ before
 
 -- NAME VALUE, ended by LF
 abbrev pub named_line : List ℕ → List ℕ → List ℕ

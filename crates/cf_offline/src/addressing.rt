@@ -1,7 +1,6 @@
 //! Addresses and scripts, told for one another.
 ghost use Rattle.std.specs.Prelude.{◌≡◌, ◌++◌, ◌∷◌, [], IfOk, false, string_bytes};
-ghost use Rattle.cf_bytes.specs.Outside.{HasRisen};
-ghost use Rattle.cf_offline.specs.Reading.{IsAddressed, IsOfText};
+ghost use Rattle.cf_offline.specs.Reading.{CountsOut, IsAddressed, IsOfText};
 ghost use Rattle.cf_loading.specs.Verdicts.{IsJudged, no_file};
 ghost use Rattle.cf_answers.specs.Statuses.{has_run};
 
@@ -26,7 +25,7 @@ pub fn address<O: Sink>(alloc: Global, text: &str, out: &mut O) -> Status
     ensures judged { IsJudged no_file result }
     ensures addressed { IsAddressed result text.now (O.written out.old) (O.written out.new) }
     ensures unwritten { has_run result ≡ false → O.written out.new ≡ O.written out.old }
-    ensures out_fault { result ≡ Status.OutFault → HasRisen (O.faults out.old) (O.faults out.new) }
+    ensures counts { CountsOut result (O.faults out.old) (O.faults out.new) }
 {
     let form = match other_form(alloc, text) {
         Ok(form) => form,

@@ -8,7 +8,7 @@ ghost use Rattle.cf_bytes.specs.Outside.{HasRisen};
 ghost use Rattle.cf_chain.specs.Good.{IsGoodChain};
 ghost use Rattle.cf_conn.specs.Opened.{IsReadByParts};
 ghost use Rattle.cf_offline.specs.Proving.{proof_text, in_text, IsTextAt, GivesProofText, TellsProof, Checks, IsOfFind, IsOfProve, IsProved, IsChecked};
-ghost use Rattle.cf_offline.specs.Reading.{IsWritten, IsOfScan, IsOfText};
+ghost use Rattle.cf_offline.specs.Reading.{CountsOut, IsOfScan, IsOfText, IsWritten};
 ghost use Rattle.cf_index.specs.Finding.{first_place, StandsAt};
 ghost use Rattle.cf_input.specs.ProofFile.{proof_file_of};
 ghost use Rattle.cf_loading.specs.Verdicts.{IsJudged, blocks_verdict, proof_verdict};
@@ -107,7 +107,7 @@ pub fn prove<F: Files, O: Sink>(
     ensures files { IsReadByParts F.opens F.parts file.now files.old files.new }
     ensures unwritten { has_run result ≡ false → O.written out.new ≡ O.written out.old }
     ensures file_fault { result ≡ Status.FileFault → HasRisen (F.faults files.old) (F.faults files.new) }
-    ensures out_fault { result ≡ Status.OutFault → HasRisen (O.faults out.old) (O.faults out.new) }
+    ensures counts { CountsOut result (O.faults out.old) (O.faults out.new) }
 {
     match load_chain(alloc, files, file) {
         Ok(chain) => prove_in(alloc, &chain, txid, out),
@@ -121,7 +121,7 @@ fn prove_in<O: Sink>(alloc: Global, chain: &CheckedChain, txid: &Hash32, out: &m
     ensures told { TellsProof result txid.now chain.now (O.written out.old) (O.written out.new) }
     ensures answers { IsOfProve result (O.written out.old) (O.written out.new) }
     ensures unwritten { has_run result ≡ false → O.written out.new ≡ O.written out.old }
-    ensures fault { result ≡ Status.OutFault → HasRisen (O.faults out.old) (O.faults out.new) }
+    ensures counts { CountsOut result (O.faults out.old) (O.faults out.new) }
     ensures ends { IsOfFind result }
 {
     match text_in(alloc, chain, txid) {
@@ -144,7 +144,7 @@ fn text_of_proven(alloc: Global, proven: &Proven) -> Result<String, NoMemory>
 fn write_proven<O: Sink>(alloc: Global, proven: &Proven, out: &mut O) -> Status
     ensures written { IsWritten result (O.written out.old) (O.written out.new) (in_text proven.now) }
     ensures unwritten { has_run result ≡ false → O.written out.new ≡ O.written out.old }
-    ensures fault { result ≡ Status.OutFault → HasRisen (O.faults out.old) (O.faults out.new) }
+    ensures counts { CountsOut result (O.faults out.old) (O.faults out.new) }
     ensures ends { IsOfText result }
 {
     match text_of_proven(alloc, proven) {
@@ -163,7 +163,7 @@ fn check_file<F: Files, O: Sink>(alloc: Global, files: &mut F, file: &str, out: 
     ensures files { IsRead F.reads file.now files.old files.new }
     ensures unwritten { has_run result ≡ false → O.written out.new ≡ O.written out.old }
     ensures file_fault { result ≡ Status.FileFault → HasRisen (F.faults files.old) (F.faults files.new) }
-    ensures out_fault { result ≡ Status.OutFault → HasRisen (O.faults out.old) (O.faults out.new) }
+    ensures counts { CountsOut result (O.faults out.old) (O.faults out.new) }
 {
     match load_proof(alloc, files, file) {
         Ok(proven) => write_proven(alloc, &proven, out),
@@ -183,7 +183,7 @@ pub fn check<F: Files, O: Sink>(alloc: Global, files: &mut F, file: &str, out: &
     ensures files { IsRead F.reads file.now files.old files.new }
     ensures unwritten { has_run result ≡ false → O.written out.new ≡ O.written out.old }
     ensures file_fault { result ≡ Status.FileFault → HasRisen (F.faults files.old) (F.faults files.new) }
-    ensures out_fault { result ≡ Status.OutFault → HasRisen (O.faults out.old) (O.faults out.new) }
+    ensures counts { CountsOut result (O.faults out.old) (O.faults out.new) }
 {
     check_file(alloc, files, file, out)
 }

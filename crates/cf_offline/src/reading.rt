@@ -7,7 +7,7 @@ ghost use Rattle.cf_bytes.specs.Outside.{HasRisen};
 ghost use Rattle.cf_chain.specs.Filters.{filter_at as filter_in};
 ghost use Rattle.cf_conn.specs.Opened.{IsReadByParts};
 ghost use Rattle.cf_loading.specs.Asking.{AreRead, Whole, ByParts};
-ghost use Rattle.cf_offline.specs.Reading.{named_line, filter_text, IsWritten, IsScanned, IsFiltered, IsOfText, IsOfFilter, IsOfHeight, TellsHeight};
+ghost use Rattle.cf_offline.specs.Reading.{CountsOut, IsFiltered, IsOfFilter, IsOfHeight, IsOfText, IsScanned, IsWritten, TellsHeight, filter_text, named_line};
 ghost use Rattle.cf_loading.specs.Verdicts.{IsJudged, and_then, watch_verdict, blocks_verdict};
 ghost use Rattle.cf_answers.specs.Statuses.{has_run};
 
@@ -88,7 +88,7 @@ fn text_at(alloc: Global, index: &Index, height: u32) -> Result<Option<String>, 
 pub fn write<O: Sink>(text: &[u8], out: &mut O) -> Status
     ensures written { IsWritten result (O.written out.old) (O.written out.new) text.now }
     ensures unwritten { has_run result ≡ false → O.written out.new ≡ O.written out.old }
-    ensures fault { result ≡ Status.OutFault → HasRisen (O.faults out.old) (O.faults out.new) }
+    ensures counts { CountsOut result (O.faults out.old) (O.faults out.new) }
     ensures ends { IsOfText result }
 {
     match put_all(out, text) {
@@ -101,7 +101,7 @@ pub fn write<O: Sink>(text: &[u8], out: &mut O) -> Status
 ///
 /// The answer is `Done` where the whole text was written. `BadFile` and `FileFault` are those of `load_watch` and of
 /// `scan_file`, and nothing is written then; `OutFault` comes where the sink fails.
-#[tactic(auto, using(crate::proofs::Asking::read_first, crate::proofs::Asking::read_then, crate::proofs::Scans::scans_so))]
+#[tactic(auto, using(crate::proofs::Asking::asked, crate::proofs::Scans::scans_so))]
 pub fn scan<F: Files, O: Sink>(
     alloc: Global,
     files: &mut F,
@@ -116,7 +116,7 @@ pub fn scan<F: Files, O: Sink>(
     ensures files { AreRead F.reads F.opens F.parts (Whole watch.now ∷ ByParts file.now ∷ []) files.old files.new }
     ensures unwritten { has_run result ≡ false → O.written out.new ≡ O.written out.old }
     ensures file_fault { result ≡ Status.FileFault → HasRisen (F.faults files.old) (F.faults files.new) }
-    ensures out_fault { result ≡ Status.OutFault → HasRisen (O.faults out.old) (O.faults out.new) }
+    ensures counts { CountsOut result (O.faults out.old) (O.faults out.new) }
 {
     let watch = match load_watch(alloc, files, watch) {
         Ok(watch) => watch,
@@ -148,7 +148,7 @@ pub fn filter<R: Threads + Sync, F: Files, O: Sink>(
     ensures files { IsReadByParts F.opens F.parts file.now files.old files.new }
     ensures unwritten { has_run result ≡ false → O.written out.new ≡ O.written out.old }
     ensures file_fault { result ≡ Status.FileFault → HasRisen (F.faults files.old) (F.faults files.new) }
-    ensures out_fault { result ≡ Status.OutFault → HasRisen (O.faults out.old) (O.faults out.new) }
+    ensures counts { CountsOut result (O.faults out.old) (O.faults out.new) }
 {
     match load_chain(alloc, files, file) {
         Ok(chain) => filter_in(rt, alloc, chain, height, out),
@@ -168,7 +168,7 @@ fn filter_in<R: Threads + Sync, O: Sink>(
         (O.written out.new) chain height (nat_lt (length chain) height) }
     ensures answers { IsOfFilter result (O.written out.old) (O.written out.new) }
     ensures unwritten { has_run result ≡ false → O.written out.new ≡ O.written out.old }
-    ensures fault { result ≡ Status.OutFault → HasRisen (O.faults out.old) (O.faults out.new) }
+    ensures counts { CountsOut result (O.faults out.old) (O.faults out.new) }
     ensures ends { IsOfHeight result }
 {
     match Index::of(rt, alloc, chain) {
@@ -183,7 +183,7 @@ fn write_filter<O: Sink>(alloc: Global, index: &Index, height: u32, out: &mut O)
         (O.written out.new) index.now height (nat_lt (length index.now) height) }
     ensures answers { IsOfFilter result (O.written out.old) (O.written out.new) }
     ensures unwritten { has_run result ≡ false → O.written out.new ≡ O.written out.old }
-    ensures fault { result ≡ Status.OutFault → HasRisen (O.faults out.old) (O.faults out.new) }
+    ensures counts { CountsOut result (O.faults out.old) (O.faults out.new) }
     ensures ends { IsOfHeight result }
 {
     match text_at(alloc, index, height) {

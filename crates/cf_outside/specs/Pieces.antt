@@ -2,8 +2,8 @@
 use Rattle.std.specs.Prelude.{◌≡◌, ◌⊎◌, ℕ, Bool, true, false, not, ◌&&◌, List, [], ◌∷◌, ◌++◌, Option, IfSome}
 use Rattle.cf_bytes.specs.Outside.{HasRisen}
 use Rattle.cf_conn.specs.Source.{with_front}
-use Rattle.cf_line.specs.declared.entry.Entry.{Entry}
-use Rattle.cf_line.specs.Queue.{entry}
+use Rattle.cf_tasks.specs.declared.entry.Item.{Item}
+use Rattle.cf_tasks.specs.Queue.{entry}
 use Rattle.cf_outside.specs.declared.entry.Kind.{Kind}
 use Rattle.cf_outside.specs.declared.entry.Kind.TheVariants.{Got, Tick, Last}
 
@@ -18,12 +18,12 @@ is_last (Tick s) = false
 is_last Last = true
 
 -- the pieces, joined
-abbrev pub joined : List (Entry Kind) → List ℕ
+abbrev pub joined : List (Item Kind) → List ℕ
 joined [] = []
 joined (e ∷ es) = bytes_of e.kind ++ joined es
 
 -- there is no last entry
-abbrev pub is_open : List (Entry Kind) → Bool
+abbrev pub is_open : List (Item Kind) → Bool
 is_open [] = true
 is_open (e ∷ es) = not (is_last e.kind) && is_open es
 
@@ -34,7 +34,7 @@ module _ {S : Type 0} (left : S → Option (List ℕ)) where
 
   module _ (faults : S → ℕ) where
     -- one piece was read and sent
-    abbrev pub Goes : ℕ → S → List (Entry Kind) → List (Entry Kind) → S → Type 0
+    abbrev pub Goes : ℕ → S → List (Item Kind) → List (Item Kind) → S → Type 0
     Goes p before sent sent' after = (bytes : List ℕ) × (sent' ≡ sent ++ entry p (Got bytes) ∷ []) × Gives before bytes after × (faults after ≡ faults before)
 
     module _ (ended : S → Bool) where
@@ -43,21 +43,21 @@ module _ {S : Type 0} (left : S → Option (List ℕ)) where
       Ends before after = ((ended after ≡ true) × IfSome (left after) (λ bytes. bytes ≡ [])) ⊎ HasRisen (faults before) (faults after)
 
       -- the last entry was sent, or one came back, which was counted
-      abbrev pub Stops : ℕ → S → List (Entry Kind) → ℕ → List (Entry Kind) → ℕ → S → Type 0
+      abbrev pub Stops : ℕ → S → List (Item Kind) → ℕ → List (Item Kind) → ℕ → S → Type 0
       Stops p before sent returned sent' returned' after =
           ((sent' ≡ sent ++ entry p Last ∷ []) × Gives before [] after × Ends before after)
           ⊎ ((sent' ≡ sent) × HasRisen returned returned' × ((lost : List ℕ) × Gives before lost after))
 
       -- the pieces are the first bytes that the source gave. A last entry comes only after its end or a fault, with all that it gave, and nothing follows it
-      abbrev pub Reads : S → List (Entry Kind) → S → Type 0
+      abbrev pub Reads : S → List (Item Kind) → S → Type 0
       Reads before sent after =
           (lost : List ℕ) × Gives before (joined sent ++ lost) after
-          × ((is_open sent ≡ true) ⊎ ((es : List (Entry Kind)) × (e : Entry Kind) × (sent ≡ es ++ e ∷ []) × (is_open es ≡ true) × (e.kind ≡ Last) × (lost ≡ []) × Ends before after))
+          × ((is_open sent ≡ true) ⊎ ((es : List (Item Kind)) × (e : Item Kind) × (sent ≡ es ++ e ∷ []) × (is_open es ≡ true) × (e.kind ≡ Last) × (lost ≡ []) × Ends before after))
 
 -- a last entry stands there
-abbrev pub HasLast : List (Entry Kind) → Type 0
+abbrev pub HasLast : List (Item Kind) → Type 0
 HasLast es = is_open es ≡ false
 
 -- a last entry was sent, or the count of entries that came back has risen
-abbrev pub HasStopped : ℕ → List (Entry Kind) → ℕ → Type 0
+abbrev pub HasStopped : ℕ → List (Item Kind) → ℕ → Type 0
 HasStopped returned sent returned' = HasLast sent ⊎ HasRisen returned returned'

@@ -1,8 +1,8 @@
 -- machine: what a ticker sends of its pulse.
 use Rattle.std.specs.Prelude.{◌≡◌, ◌⊎◌, ℕ, Bool, true, List, [], ◌∷◌, ◌++◌, Option}
 use Rattle.cf_bytes.specs.Outside.{HasRisen, with_more}
-use Rattle.cf_line.specs.declared.entry.Entry.{Entry}
-use Rattle.cf_line.specs.Queue.{entry}
+use Rattle.cf_tasks.specs.declared.entry.Item.{Item}
+use Rattle.cf_tasks.specs.Queue.{entry}
 use Rattle.cf_outside.specs.declared.entry.Kind.{Kind}
 use Rattle.cf_outside.specs.declared.entry.Kind.TheVariants.{Got, Tick, Last}
 
@@ -12,21 +12,21 @@ seconds_of (Tick s) = s ∷ []
 seconds_of Last = []
 
 -- the ticks, in order
-abbrev pub ticks : List (Entry Kind) → List ℕ
+abbrev pub ticks : List (Item Kind) → List ℕ
 ticks [] = []
 ticks (e ∷ es) = seconds_of e.kind ++ ticks es
 
 module _ {P : Type 0} (answers : P → Option (List ℕ)) where
   -- an answer came, and was sent
-  abbrev pub TicksOn : ℕ → P → List (Entry Kind) → List (Entry Kind) → P → Type 0
+  abbrev pub TicksOn : ℕ → P → List (Item Kind) → List (Item Kind) → P → Type 0
   TicksOn p before sent sent' after = (s : ℕ) × (sent' ≡ sent ++ entry p (Tick s) ∷ []) × (answers after ≡ with_more (answers before) (s ∷ []))
 
   -- an answer came, and was not sent: the last entry was, since it was told to stop, or one came back, which was counted
-  abbrev pub TicksOff : ℕ → P → List (Entry Kind) → ℕ → List (Entry Kind) → ℕ → P → Bool → Type 0
+  abbrev pub TicksOff : ℕ → P → List (Item Kind) → ℕ → List (Item Kind) → ℕ → P → Bool → Type 0
   TicksOff p before sent returned sent' returned' after told = (((sent' ≡ sent ++ entry p Last ∷ []) × (told ≡ true)) ⊎ ((sent' ≡ sent) × HasRisen returned returned')) × ((s : ℕ) × (answers after ≡ with_more (answers before) (s ∷ [])))
 
   -- what was sent is all of the answers but the last
-  abbrev pub Ticked : P → List (Entry Kind) → P → Type 0
+  abbrev pub Ticked : P → List (Item Kind) → P → Type 0
   Ticked before sent after = (s : ℕ) × (answers after ≡ with_more (answers before) (ticks sent ++ s ∷ []))
 
 -- it was told to stop, or an entry came back, which was counted

@@ -12,6 +12,6 @@ mod ticker;
 pub use entry::{CHUNK, Chunk, Kind, Seconds};
 pub use outside::{Dialer, Pulse, Writer};
 pub use reader::{Finished, Reader};
-pub use stop::Stop;
+pub use stop::StopFlag;
 pub use tcp::{FailedDial, TcpDialer, TcpSource, TcpWriter};
 pub use ticker::{Stopped, Ticker};

@@ -2,15 +2,14 @@
 ghost use Rattle.std.specs.Prelude.{◌≡◌, ◌⊎◌, ◌++◌, ◌∷◌, [], true, false, MatchBool};
 ghost use Rattle.cf_bytes.specs.Outside.{HasRisen};
 ghost use Rattle.cf_outside.specs.declared.entry.Kind.TheVariants.{Last};
-ghost use Rattle.cf_line.specs.Queue.{entry};
+ghost use Rattle.cf_tasks.specs.Queue.{entry};
 ghost use Rattle.crossbeam_channel.specs.Claims.{view};
 ghost use Rattle.crossbeam_channel.specs.Ends.{sends_on};
 ghost use Rattle.cf_outside.specs.Pieces.{Goes, Stops, Reads, HasStopped};
 
 use crate::entry::{CHUNK, Chunk, Kind};
 use cf_conn::Source;
-use cf_line::Sender;
-use cf_tasks::Task;
+use cf_tasks::{Sender, Task};
 use std::sync::Wait;
 
 /// Reads a source to its end, and sends each piece.

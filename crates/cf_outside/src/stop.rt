@@ -8,23 +8,23 @@ use std::sync::atomic::{AtomicBool, Ordering};
 
 /// A flag that another thread may set. Contracts see whether it was seen to be set.
 #[derive(Drop)]
-pub struct Stop {
+pub struct StopFlag {
     flag: Arc<AtomicBool, Global>,
     seen: bool,
 }
 
-impl Model for Stop {
+impl Model for StopFlag {
     ghost Value = { Bool };
 
     ghost view = { λ s. s.seen };
 }
 
-impl Stop {
+impl StopFlag {
     /// A flag that was not looked at yet.
-    pub fn new(flag: Arc<AtomicBool, Global>) -> Stop
+    pub fn new(flag: Arc<AtomicBool, Global>) -> StopFlag
         ensures { result ≡ false }
     {
-        Stop { flag, seen: false }
+        StopFlag { flag, seen: false }
     }
 
     /// Looks whether it is set.

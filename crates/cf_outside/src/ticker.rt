@@ -8,9 +8,8 @@ ghost use Rattle.cf_outside.specs.Ticks.{TicksOn, TicksOff, Ticked, WasTold};
 
 use crate::entry::{Kind, Seconds};
 use crate::outside::Pulse;
-use crate::stop::Stop;
-use cf_line::Sender;
-use cf_tasks::Task;
+use crate::stop::StopFlag;
+use cf_tasks::{Sender, Task};
 use std::sync::Wait;
 
 /// Waits, and sends each answer of the pulse, until it is told to stop.
@@ -23,7 +22,7 @@ pub struct Ticker<P, R> {
     /// Where the ticks go.
     pub sender: Sender<Kind>,
     /// Whether it is to stop.
-    pub stop: Stop,
+    pub stop: StopFlag,
     pub ghost fresh: { (view sender.seat).sent ≡ [] },
     pub ghost unasked: { stop ≡ false },
 }
@@ -36,7 +35,7 @@ pub struct Stopped<P> {
     /// The sender.
     pub sender: Sender<Kind>,
     /// Whether it was told to stop.
-    pub stop: Stop,
+    pub stop: StopFlag,
 }
 
 // Waits once, and sends the tick, or the last entry where it is to stop: then the answer is false.
@@ -44,7 +43,7 @@ fn tick_one<P: Pulse, R: Wait>(
     rt: &R,
     pulse: &mut P,
     sender: &mut Sender<Kind>,
-    stop: &mut Stop,
+    stop: &mut StopFlag,
 ) -> bool
     ensures ring { (sends_on sender.new.line ≡ sends_on sender.old.line) × (sender.new.number ≡ sender.old.number) }
     ensures kept { result ≡ true → sender.new.returned ≡ sender.old.returned }

@@ -6,7 +6,7 @@ use Rattle.cf_frame.specs.declared.frame.FrameFault.{FrameFault}
 use Rattle.cf_frame.specs.Stream.{StreamRead, read_stream}
 use Rattle.cf_block.specs.declared.header.Header.{Header}
 use Rattle.cf_headers.specs.Chain.{Chain, Accepted, Longer, NoLonger, Unlinked, Invalid, TooHigh, accept, back_to}
-use Rattle.cf_msg.specs.declared.msg.Entry.{Entry}
+use Rattle.cf_msg.specs.declared.msg.Inventory.{Inventory}
 use Rattle.cf_msg.specs.declared.msg.Malformed.{Malformed}
 use Rattle.cf_msg.specs.declared.msg.Msg.{Msg}
 use Rattle.cf_msg.specs.declared.msg.Msg.TheVariants.{Version, Verack, Ping, Pong, Headers, Inv}
@@ -164,26 +164,23 @@ greeted (Asked m ∷ t) = is_version m || greeted t
 greeted (_ ∷ t) = greeted t
 
 -- its version has come
-abbrev pub met : Trail → Bool
-met [] = false
-met (Called ∷ t) = false
-met (Said m ∷ t) = is_version m || met t
-met (_ ∷ t) = met t
+abbrev pub has_version : Trail → Bool
+has_version [] = false
+has_version (Called ∷ t) = false
+has_version (Said m ∷ t) = is_version m || has_version t
+has_version (_ ∷ t) = has_version t
 
 -- a verack has come after its version: the handshake is over
 abbrev pub ready : Trail → Bool
 ready [] = false
 ready (Called ∷ t) = false
-ready (Said m ∷ t) = (is_verack m && met t) || ready t
+ready (Said m ∷ t) = (is_verack m && has_version t) || ready t
 ready (_ ∷ t) = ready t
 
 -- the chain that headers have made where it is longer, and else the peer's own as it was
 abbrev pub longer_of : Accepted → Chain → Chain
 longer_of (Longer next) own = next
-longer_of NoLonger own = own
-longer_of Unlinked own = own
-longer_of (Invalid place fault) own = own
-longer_of TooHigh own = own
+longer_of _ own = own
 
 -- a peer's own chain once it has said this: by a list of headers it may be a longer one
 abbrev pub own_after : Msg → Chain → Chain
@@ -201,9 +198,7 @@ own (_ ∷ t) = own t
 abbrev pub ends_by : Accepted → List Header → Bool
 ends_by (Longer next) hs = nat_lt (length hs) 2000
 ends_by NoLonger hs = true
-ends_by Unlinked hs = false
-ends_by (Invalid place fault) hs = false
-ends_by TooHigh hs = false
+ends_by _ hs = false
 
 -- a message is a list of headers by which the peer has no more to tell
 abbrev pub ends_with : Msg → Chain → Bool
@@ -211,7 +206,7 @@ ends_with (Headers hs) own = ends_by (accept hs own) hs
 ends_with m own = false
 
 -- an entry of an `inv` tells of a block that isn't on the peer's own chain
-abbrev pub is_unknown : Chain → Entry → Bool
+abbrev pub is_unknown : Chain → Inventory → Bool
 is_unknown own entry = (entry.kind == 2) && is_none (back_to entry.hash.0 own)
 
 -- a message is an `inv` that tells of a block that isn't on the peer's own chain
@@ -221,19 +216,19 @@ is_news m own = false
 
 -- a peer that was heard out still is after this message; a client that follows hears it out again after news
 abbrev pub still_heard : Mode → Msg → Chain → Bool → Bool
-still_heard Once m own heard = heard
-still_heard Following m own heard = if is_news m own then false else heard
+still_heard Once m own is_heard_out = is_heard_out
+still_heard Following m own is_heard_out = if is_news m own then false else is_heard_out
 
 -- it was heard out: headers have come by which it has no more to tell (`ends_by`), and in `Following` no news since
-abbrev pub heard_in : Mode → Trail → Bool
-heard_in mode [] = false
-heard_in mode (Called ∷ t) = false
-heard_in mode (Said m ∷ t) = still_heard mode m (own t) (heard_in mode t) || (ready t && ends_with m (own t))
-heard_in mode (_ ∷ t) = heard_in mode t
+abbrev pub is_heard_out_in : Mode → Trail → Bool
+is_heard_out_in mode [] = false
+is_heard_out_in mode (Called ∷ t) = false
+is_heard_out_in mode (Said m ∷ t) = still_heard mode m (own t) (is_heard_out_in mode t) || (ready t && ends_with m (own t))
+is_heard_out_in mode (_ ∷ t) = is_heard_out_in mode t
 
 -- the same for a client that ends once nothing is open
-abbrev pub heard : Trail → Bool
-heard t = heard_in Once t
+abbrev pub is_heard_out : Trail → Bool
+is_heard_out t = is_heard_out_in Once t
 
 -- the cause for which headers have a peer closed
 abbrev pub fault_in : Accepted → Option Cause
@@ -263,16 +258,16 @@ failed (_ ∷ t) = failed t
 
 -- what is owed to its messages: one verack to its version, and after that one pong to each ping
 abbrev pub reply_to : Msg → Trail → List Msg
-reply_to (Version version services time to from nonce agent height relay) t = if met t then [] else Verack ∷ []
-reply_to (Ping number) t = if met t then Pong number ∷ [] else []
+reply_to (Version version services time to from nonce agent height relay) t = if has_version t then [] else Verack ∷ []
+reply_to (Ping number) t = if has_version t then Pong number ∷ [] else []
 reply_to m t = []
 
 -- all replies that its messages are owed, in order
-abbrev pub owed : Trail → List Msg
-owed [] = []
-owed (Called ∷ t) = []
-owed (Said m ∷ t) = owed t ++ reply_to m t
-owed (_ ∷ t) = owed t
+abbrev pub replies_owed : Trail → List Msg
+replies_owed [] = []
+replies_owed (Called ∷ t) = []
+replies_owed (Said m ∷ t) = replies_owed t ++ reply_to m t
+replies_owed (_ ∷ t) = replies_owed t
 
 -- the replies that it was sent
 abbrev pub as_reply : Msg → List Msg

@@ -14,4 +14,4 @@ pub use claims::cause_of;
 pub use filters::Heard;
 pub use lent::{Coming, next_coming};
 pub use mode::Mode;
-pub use peer::{Batch, Cause, Peer, Range, Reply, Request};
+pub use peer::{Batch, Cause, Peer, Range, Reaction, Request};

@@ -9,12 +9,12 @@ ghost use Rattle.cf_headers.specs.Chain.{accept};
 ghost use Rattle.cf_headers.specs.Changes.{link_height, change_of};
 ghost use Rattle.cf_msg.specs.declared.msg.Msg.{Msg};
 ghost use Rattle.std.specs.List.{list_any};
-ghost use Rattle.cf_msg.specs.declared.msg.Entry.{Entry};
+ghost use Rattle.cf_msg.specs.declared.msg.Inventory.{Inventory};
 ghost use Rattle.cf_msg.specs.declared.msg.Msg.TheVariants.{Inv, Block as BlockMessage};
 ghost use Rattle.cf_lent.specs.View.{msg_of};
 ghost use Rattle.cf_peer.specs.Trail.{Trail, Said, Passed, is_unknown, own};
 ghost use Rattle.cf_peer.specs.Asking.{request, fetched_by};
-ghost use Rattle.cf_peer.specs.Peer.{Holds, Hears, IsRight, TakesHeaders, calm, called_peer, is_ready_peer, is_idle_peer, is_plain, IsVersionOf, heard_out, heard_up_to, wants, awaits as awaits_block, is_fetching as fetches, pinged, asked_for_headers, asked_for_block, asked_for_ping, IsReplySendable};
+ghost use Rattle.cf_peer.specs.Peer.{Holds, Hears, IsRight, TakesHeaders, calm, called_peer, is_ready_peer, is_idle_peer, is_plain, IsVersionOf, heard_out, heard_up_to, wants, awaits as awaits_block, pinged, asked_for_headers, asked_for_block, asked_for_ping, IsReplySendable};
 
 use crate::mode::Mode;
 use cf_bytes::{Hash32, Listed};
@@ -111,7 +111,7 @@ pub enum Request {
 
 /// What a message has the client do.
 #[derive(Drop, Debug)]
-pub enum Reply {
+pub enum Reaction {
     /// Nothing.
     Nothing,
     /// A message is sent back.
@@ -159,7 +159,7 @@ impl Peer {
 
     /// Takes one message that is neither headers nor claims, a filter, a block or news.
     #[tactic(auto, unfolding(cf_msg::specs::Message::payload_of), using(crate::proofs::Modes::unheard_in))]
-    pub fn hear(&mut self, message: &View) -> Reply
+    pub fn hear(&mut self, message: &View) -> Reaction
         requires plain { is_plain (msg_of message.now) ≡ true }
         ensures sendable { IsReplySendable result }
         ensures heard { (t : Trail) → Holds self.old t → Hears self.new (msg_of message.now) t result }
@@ -173,29 +173,29 @@ impl Peer {
                 if self.met && !self.is_ready() {
                     self.request = Request::Nothing;
                 }
-                Reply::Nothing
+                Reaction::Nothing
             }
             View::Ping(number) => {
                 if self.met {
-                    Reply::Send(Msg::Pong(*number))
+                    Reaction::Send(Msg::Pong(*number))
                 } else {
-                    Reply::Nothing
+                    Reaction::Nothing
                 }
             }
             View::Pong(number) => {
                 if self.is_pinged(*number) {
                     self.request = Request::Nothing;
                 }
-                Reply::Nothing
+                Reaction::Nothing
             }
-            _ => Reply::Nothing,
+            _ => Reaction::Nothing,
         }
     }
 
     /// Takes what it tells of blocks (`inv`): whether one of them isn't on its own chain. A client that follows hears
     /// it out again then.
     pub fn hear_news(&mut self, unknown: bool)
-        ensures heard { (t : Trail) (entries : List Entry) → Holds self.old t
+        ensures heard { (t : Trail) (entries : List Inventory) → Holds self.old t
             → unknown ≡ list_any (is_unknown (own t)) entries → Holds self.new (Said (Inv entries) ∷ t) }
         ensures right { (table : Table) → IsRight self.old.request table → IsRight self.new.request table }
         ensures waits { self.new.framer ≡ self.old.framer }
@@ -232,7 +232,7 @@ impl Peer {
 
     // Takes a version: the first must have service bits 0 and 6, and a later one changes nothing.
     #[tactic(auto, unfolding(cf_msg::specs::Message::payload_of), using(crate::proofs::Modes::unheard_in))]
-    fn hear_version(&mut self, services: u64) -> Reply
+    fn hear_version(&mut self, services: u64) -> Reaction
         ensures sendable { IsReplySendable result }
         ensures heard { (t : Trail) (m : Msg) → Holds self.old t → IsVersionOf services m → Hears self.new m t result }
         ensures right { (table : Table) → IsRight self.old.request table → IsRight self.new.request table }
@@ -240,13 +240,13 @@ impl Peer {
         ensures calm { calm self.old ≡ true → calm self.new ≡ true }
     {
         if self.met {
-            return Reply::Nothing;
+            return Reaction::Nothing;
         }
         if services & 65 != 65 {
-            return Reply::Close(Cause::NoFilters);
+            return Reaction::Close(Cause::NoFilters);
         }
         self.met = true;
-        Reply::Send(Msg::Verack)
+        Reaction::Send(Msg::Verack)
     }
 
     /// Takes what so many headers did to the chain of a ready peer: the cause that they give, if they give one. Headers
@@ -339,13 +339,6 @@ impl Peer {
         ensures { result ≡ is_idle_peer self.now }
     {
         matches!(self.request, Request::Nothing)
-    }
-
-    /// Whether filters or a block are open to it.
-    pub fn is_fetching(&self) -> bool
-        ensures { result ≡ fetches self.now }
-    {
-        matches!(self.request, Request::Filters(_, _) | Request::Block(_, _))
     }
 
     // It has no more to tell, or nothing has changed.

@@ -18,7 +18,7 @@ use Rattle.cf_peer.specs.Acts.{bytes_of, IsSendable}
 use Rattle.cf_wires.specs.Log.{Log, tally_of}
 use Rattle.cf_peer.specs.Trail.{Part, part_of, trail, connected, failed, IsClientVersion}
 use Rattle.cf_peer.specs.Asking.{block_entry, counted, fetched, given}
-use Rattle.cf_peer.specs.Peer.{Holds, calm, busy, wants, is_ready_peer, is_idle_peer, is_fetching}
+use Rattle.cf_peer.specs.Peer.{Holds, calm, busy, wants, is_ready_peer, is_idle_peer}
 use Rattle.cf_sync.specs.Blame.{HasOmitted}
 use Rattle.cf_sync.specs.Fetching.{MaySendIn, DeservesIn, RightlyIn, Rule}
 use Rattle.cf_sync.specs.Due.{IsCalledFor}
@@ -32,7 +32,7 @@ use Rattle.cf_place.specs.declared.place.PeerEnd.{PeerEnd}
 use Rattle.cf_place.specs.declared.place.PeerEnd.TheVariants.{Ready, Waiting, NotDialled as EndsNotDialled, Gone as EndsGone, Closed as EndsClosed}
 use Rattle.cf_place.specs.declared.state.State.{State}
 use Rattle.cf_place.specs.declared.state.State.TheVariants.{Working, Synced, NoPeers}
-use Rattle.cf_place.specs.Standing.{IsAnswered, IsLost, IsRepliedIn, IsNamed, Words, TellsWords}
+use Rattle.cf_place.specs.Standing.{IsAnswered, IsLost, IsRepliedIn, IsNamed, Greeting, TellsGreeting}
 
 -- a connected peer: what is kept of it, the bytes that wait, and all that was owed to it was sent
 pub record Keeps (peer : Peer) (part : Part) : Type 0 where
@@ -101,11 +101,6 @@ abbrev pub is_idle : Place → Bool
 is_idle (Here peer) = is_idle_peer peer
 is_idle (Lost loss) = false
 
--- filters or a block are open to the peer of this place
-abbrev pub is_fetching_at : Place → Bool
-is_fetching_at (Here peer) = is_fetching peer
-is_fetching_at (Lost loss) = false
-
 -- a client of this mode is to ask it for headers
 abbrev pub is_wanting : Mode → Place → Bool
 is_wanting mode (Here peer) = wants mode peer
@@ -160,16 +155,16 @@ pub record IsGreeting (m : Msg) : Type 0 where
   pub ours : IsClientVersion m
 
 -- an act sends no version but one that tells these words
-abbrev pub ActTells : Words → Act → Type 0
-ActTells words (Send p m) = TellsWords words m
+abbrev pub ActTells : Greeting → Act → Type 0
+ActTells words (Send p m) = TellsGreeting words m
 ActTells words (Close p cause) = Unit {0}
 
 -- the one act is to send the client's version, which tells this
-pub record Greets (words : Words) (p : PeerNo) (acts : List Act) : Type 0 where
+pub record Greets (words : Greeting) (p : PeerNo) (acts : List Act) : Type 0 where
   pub message : Msg
   pub alone : acts ≡ Send p message ∷ []
   pub greeting : IsGreeting message
-  pub tells : TellsWords words message
+  pub tells : TellsGreeting words message
 
 -- a message that can be sent and asks for headers above a chain
 pub record IsQuestion (chain : Chain) (m : Msg) : Type 0 where

@@ -7,7 +7,7 @@ use Rattle.cf_peer.specs.declared.mode.Mode.TheVariants.{Following}
 use Rattle.cf_peer.specs.declared.peer.Cause.{Cause}
 use Rattle.cf_peer.specs.declared.peer.Cause.TheVariants.{SendFailed, Omits}
 use Rattle.cf_wires.specs.Log.{Log, tally_of}
-use Rattle.cf_peer.specs.Trail.{Why, Went, Failing, Shutting, Trail, Called, Said, Refused, Asked, Passed, Lost as LostItem, trail, connected, ready, failed, owed, replied, is_version, IsClientVersion}
+use Rattle.cf_peer.specs.Trail.{Why, Went, Failing, Shutting, Trail, Called, Said, Refused, Asked, Passed, Lost as LostItem, trail, connected, ready, failed, replies_owed, replied, is_version, IsClientVersion}
 use Rattle.cf_peer.specs.Asking.{Deserves, claims, counted, given}
 use Rattle.cf_sync.specs.Blame.{HasOmitted}
 use Rattle.cf_sync.specs.Fetching.{IsBusy, IsQuiet, IsConnected, IsOmitting, RightlyIn}
@@ -28,7 +28,7 @@ IsGreetedBy (m ∷ more) = IsClientVersion m × (list_any is_version more ≡ fa
 -- each ping after its version, in order.
 pub record IsAnswered (t : Trail) : Type 0 where
   pub greeted : IsGreetedBy (asked t)
-  pub replies : replied t ≡ owed t
+  pub replies : replied t ≡ replies_owed t
 
 -- the first loss since a peer was dialled, by how it was lost and what had passed before
 abbrev pub FirstLost : (Why → Trail → Type 0) → Trail → Type 0
@@ -62,7 +62,7 @@ pub record IsLost (loss : Loss) (t : Trail) : Type 0 where
 
 -- unless a send to it has failed, each reply that is owed to what counts of its words was sent
 abbrev pub IsReplied : Trail → Type 0
-IsReplied t = failed t ≡ false → replied t ≡ owed (counted t)
+IsReplied t = failed t ≡ false → replied t ≡ replies_owed (counted t)
 
 -- a peer's part up to a moment after which it gave no filter and claimed nothing
 pub record IsUpToLast (t so_far : Trail) : Type 0 where
@@ -73,7 +73,7 @@ pub record IsUpToLast (t so_far : Trail) : Type 0 where
 
 -- unless a send to it has failed, each reply that is owed to what counts of its words up to such a moment was sent
 abbrev pub IsRepliedFirst : Trail → Type 0
-IsRepliedFirst t = failed t ≡ false → (so_far : Trail) × IsUpToLast t so_far × (replied t ≡ owed (counted so_far))
+IsRepliedFirst t = failed t ≡ false → (so_far : Trail) × IsUpToLast t so_far × (replied t ≡ replies_owed (counted so_far))
 
 -- who is closed was answered; who omits something, up to the words that exposed it
 abbrev pub IsRepliedIn : Log → ℕ → Type 0
@@ -91,14 +91,14 @@ IsState Synced log = IsQuiet log × ((p : ℕ) × IsConnected log p)
 IsState NoPeers log = (p : ℕ) → connected (trail log p) ≡ false
 
 -- what a version tells of the client: its moment and its number
-pub record Words : Type 0 where
+pub record Greeting : Type 0 where
   pub moment : ℤ
   pub number : ℕ
 
 -- a version tells these words; of any other message nothing is said
-abbrev pub TellsWords : Words → Msg → Type 0
-TellsWords words (Version version services time to from nonce agent height relay) = (time ≡ words.moment) × (nonce ≡ words.number)
-TellsWords words m = Unit {0}
+abbrev pub TellsGreeting : Greeting → Msg → Type 0
+TellsGreeting words (Version version services time to from nonce agent height relay) = (time ≡ words.moment) × (nonce ≡ words.number)
+TellsGreeting words m = Unit {0}
 
 -- what an end says of a peer's trail: connected with its handshake over, connected with its handshake open, or how it was lost
 abbrev pub EndTells : PeerEnd → Trail → Type 0

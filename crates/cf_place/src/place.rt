@@ -1,6 +1,6 @@
 //! What the client keeps of a peer's number.
 ghost use Rattle.std.specs.Prelude.{◌≡◌, not};
-ghost use Rattle.cf_place.specs.Places.{is_busy as busy_at, is_here as here_at, is_idle as idle_at, is_fetching_at, is_wanting, is_calm, end_by, end_of};
+ghost use Rattle.cf_place.specs.Places.{is_busy as busy_at, is_here as here_at, is_idle as idle_at, is_wanting, is_calm, end_by, end_of};
 
 use cf_peer::{Cause, Mode, Peer};
 use thiserror::Error;
@@ -82,16 +82,6 @@ impl Place {
     {
         match self {
             Place::Here(peer) => peer.is_idle(),
-            Place::Lost(_) => false,
-        }
-    }
-
-    /// Whether filters or a block are open to a connected peer.
-    pub fn is_fetching(&self) -> bool
-        ensures { result ≡ is_fetching_at self.now }
-    {
-        match self {
-            Place::Here(peer) => peer.is_fetching(),
             Place::Lost(_) => false,
         }
     }

@@ -16,7 +16,7 @@ use Rattle.cf_wires.specs.declared.event.Event.{Event}
 use Rattle.cf_wires.specs.declared.event.Event.TheVariants.{Dialled, Sent, Closed, Took}
 use Rattle.cf_wires.specs.Log.{Log}
 use Rattle.cf_peer.specs.Trail.{spelled}
-use Rattle.cf_server.specs.declared.answering.Served.{Served}
+use Rattle.cf_server.specs.declared.answering.Serving.{Serving}
 use Rattle.cf_server.specs.Taking.{served_after, text_on}
 use Rattle.cf_server.proofs.Texts.{text-nil, text_on-append}
 use Rattle.cf_played.specs.declared.kind.Way.{Way}
@@ -33,7 +33,7 @@ use Rattle.cf_played.specs.Players.{AreAccounted, Gives, HasHeard, HearsAt, IsAc
 
 -- ---- messages, joined
 
-abbrev start : Bool → Served
+abbrev start : Bool → Serving
 start seen = record { time = pos 0; nonce = 0; seen = seen }
 
 after_is : (seen : Bool) (ms : List Msg) → served_after (start seen) ms ≡ start (seen_after seen ms)
@@ -41,7 +41,7 @@ after_is seen [] = refl
 after_is seen (m ∷ ms) = after_is (is_version m || seen) ms
 
 frames_append : (seen : Bool) (blocks : List Block) (a b : List Msg) → frames_from seen blocks (a ++ b) ≡ frames_from seen blocks a ++ frames_from (seen_after seen a) blocks b
-frames_append seen blocks a b = text_on-append (start seen) blocks a b ∙ ap (λ (s : Served). text_on (start seen) blocks a ++ text_on s blocks b) (after_is seen a)
+frames_append seen blocks a b = text_on-append (start seen) blocks a b ∙ ap (λ (s : Serving). text_on (start seen) blocks a ++ text_on s blocks b) (after_is seen a)
 
 seen_append : (seen : Bool) (a b : List Msg) → seen_after seen (a ++ b) ≡ seen_after (seen_after seen a) b
 seen_append seen [] b = refl
@@ -404,3 +404,6 @@ pub pushed_so : (b : Bool) (items : List Event) (players later : List Player) (p
     → player.waiting ≡ [] → ∥ AreAccounted (reverse items) players ∥₁ → ∥ AreAccounted (reverse items) later ∥₁
 pushed_so true items players later player is new unseen none all = added_so items players later player is new unseen none all
 pushed_so false items players later player is new unseen none all = subst (λ (ps : List Player). ∥ AreAccounted (reverse items) ps ∥₁) (sym is) all
+
+-- one delivery more, or none
+pub ruleset deliveries_so = (kept_so, ticked_so, given_so)

@@ -1,5 +1,5 @@
 -- Frames of messages that are like the machine's.
-use Rattle.std.proofs.Common.{◌≡◌, ℕ, ◌+◌, ◌<◌, Bool, true, false, List, [], ◌∷◌, ◌++◌, length, take, refl, sym, ◌∙◌, ap, subst, inl, inr, get_or, append_assoc}
+use Rattle.std.proofs.Common.{◌≡◌, ℕ, ◌+◌, ◌<◌, Bool, false, List, [], ◌∷◌, ◌++◌, length, take, refl, sym, ◌∙◌, ap, subst, inl, get_or, append_assoc}
 use Rattle.std.specs.Prelude.{◌||◌, pos}
 use Rattle.std.proofs.lemmas.List.{append-nil, map-append, take_at, take_more}
 use Rattle.cf_block.specs.declared.tx.Block.{Block}
@@ -14,18 +14,14 @@ use Rattle.cf_server.specs.Replies.{message_of, messages_of}
 use Rattle.cf_server.proofs.Lists.{all-append}
 use Rattle.cf_server.proofs.Texts.{text-append, text-cons, text-nil}
 use Rattle.cf_played.specs.declared.kind.Way.{Way}
-use Rattle.cf_played.specs.Answers.{came, told_to, heard_of, seen_after, is_filtering, AreAlike, HasBegunAlike}
-use Rattle.cf_played.specs.Frames.{AreFramesAlike, IsFrameAlike, IsOther, machine}
+use Rattle.cf_played.specs.Answers.{came, told_to, heard_of, seen_after, AreAlike, HasBegunAlike}
+use Rattle.cf_played.specs.Frames.{AreFramesAlike, IsFrameAlike, machine}
 
 -- ---- one frame
 
 -- that of the message itself
 pub own_alike : (m : Msg) (text : List ℕ) → IsSendable m → text ≡ spelling (frame_of m) → IsFrameAlike m text
 own_alike m text fit is = record { message = m; alike = inl refl; fit = fit; text_is = is }
-
--- that of another one, both about filters
-pub other_alike : (n m : Msg) (text : List ℕ) → is_filtering n ≡ true → IsOther m → text ≡ spelling (frame_of m) → IsFrameAlike n text
-other_alike n m text filtering other is = record { message = m; alike = inr (other.filtering, filtering); fit = other.fit; text_is = is }
 
 -- ---- frames, one after another
 

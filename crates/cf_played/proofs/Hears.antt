@@ -70,3 +70,6 @@ pub heard_at : (old new : List Player) (p place : ℕ) (m : Option Msg) (before 
     → HearsAt old p m new
 heard_at old new p place m before after at is number answered =
     record { outcome = inr (record { place = place; number = number; before = before; after = after; at = at; new_is = is; answered = answered }) }
+
+-- who hears it, by its number
+pub ruleset hears = (nobody_low, nobody_high, heard_at)

@@ -99,6 +99,20 @@ hears_more_by old new p m (inr has) =
 pub hears_more : (old new : List Player) (p : ℕ) (m : Option Msg) → HearsAt old p m new → HasMore (map shown old) p (map shown new)
 hears_more old new p m hears = hears_more_by old new p m hears.outcome
 
+-- ---- the same, of the peers that were lent and written back
+
+pub known_given : (lent old new now : List Player) (place : ℕ) (piece : List ℕ) → lent ≡ old → Gives lent place piece new → now ≡ new → made_of (map shown now) ≡ made_of (map shown old)
+known_given lent old new now place piece same gives is =
+    ap (λ (ps : List Player). made_of (map shown ps)) is ∙ gives_known old new place piece (subst (λ (ps : List Player). Gives ps place piece new) same gives)
+
+pub known_heard : (lent old new now : List Player) (p : ℕ) (m : Option Msg) → lent ≡ old → HearsAt lent p m new → now ≡ new → made_of (map shown now) ≡ made_of (map shown old)
+known_heard lent old new now p m same hears is =
+    ap (λ (ps : List Player). made_of (map shown ps)) is ∙ hears_known old new p m (subst (λ (ps : List Player). HearsAt ps p m new) same hears)
+
+pub more_heard : (lent old new now : List Player) (p : ℕ) (m : Option Msg) → lent ≡ old → HearsAt lent p m new → now ≡ new → HasMore (map shown old) p (map shown now)
+more_heard lent old new now p m same hears is =
+    subst (λ (ps : List Player). HasMore (map shown old) p (map shown ps)) (sym is) (hears_more old new p m (subst (λ (ps : List Player). HearsAt ps p m new) same hears))
+
 -- ---- what tells the peers
 
 way_same : (a b : Way) → way_number a ≡ way_number b → a ≡ b
@@ -159,6 +173,3 @@ pub good_more : (n : ℕ) (players : List Player) (player : Player) → AreGood 
 good_more n players player good here is =
     let e : suc n ≡ n + 1 = omega arith in
     subst (λ (k : ℕ). AreGood (map shown (take k players))) e (record { each = λ i peer at. good_more_by n players i peer good player here is at })
-
-pub good_none : (players : List Player) → AreGood (map shown (take 0 players))
-good_none players = record { each = λ i peer at. cc }

@@ -59,7 +59,3 @@ waiting_spells bytes e = ap message_of_stream (stream_waits bytes e)
 
 pub bad_spells : (bytes : List ℕ) (fault : FrameFault) → front_of bytes ≡ Err fault → spelled bytes ≡ None
 bad_spells bytes fault e = ap message_of_stream (stream_bad bytes fault e)
-
--- one frame spells its message
-pub frame_spells : (bytes : List ℕ) (f : Frame) → read_stream bytes ≡ record { frames = f ∷ []; rest = []; fault = None } → spelled bytes ≡ message_in (message_of f)
-frame_spells bytes f e = ap message_of_stream e

@@ -1,5 +1,5 @@
 -- Peers of whom no bytes wait.
-use Rattle.std.proofs.Common.{◌≡◌, ℕ, zero, suc, ◌+◌, ◌<◌, ◌≤◌, List, [], ◌∷◌, length, Some, sym, ◌∙◌, ap, subst, inl, inr, refl, true, false, nat_lt, arith}
+use Rattle.std.proofs.Common.{◌≡◌, ℕ, zero, suc, ◌+◌, ◌<◌, ◌≤◌, List, [], ◌∷◌, Some, sym, ◌∙◌, ap, subst, inl, inr, refl, true, false, nat_lt, arith}
 use Rattle.std.proofs.lemmas.Bool.{ltb-true, ltb-false}
 use Rattle.std.specs.Prelude.{◌⊎◌, ◌≢◌, map, slice_get}
 use Rattle.cf_played.specs.declared.player.Player.{Player}
@@ -31,9 +31,6 @@ rest_more players from below player rest here none = record { each = λ i other 
         let e : slice_get (map shown players) below ≡ Some other = subst (λ (k : ℕ). slice_get (map shown players) k ≡ Some other) same at in
         let f : slice_get (map shown players) below ≡ Some (shown player) = shown_at players below player here in
         let is : shown player ≡ other = cc in ap (λ (p : Peer). p.waiting) (sym is) ∙ none
-
-pub rest_all : (peers : List Peer) (from below : ℕ) → Rest peers from below → length peers ≤ below → Rest peers from (length peers)
-rest_all peers from below rest high = record { each = λ i peer at low within. rest.each i peer at low (omega (arith, high, within)) }
 
 pub first_here : (players : List Player) (from place : ℕ) (player : Player) → slice_get players place ≡ Some player → from ≤ place → player.waiting ≢ [] → Rest (map shown players) from place
     → IsFirst (map shown players) from place

@@ -6,13 +6,13 @@ use Rattle.cf_msg.specs.declared.msg.Msg.{Msg}
 use Rattle.cf_msg.specs.Message.{frame_of}
 use Rattle.cf_peer.specs.Acts.{IsSendable}
 use Rattle.cf_played.specs.Answers.{is_filtering, IsAlike, AreAlike}
-use Rattle.cf_server.specs.declared.answering.Served.{Served}
+use Rattle.cf_server.specs.declared.answering.Serving.{Serving}
 use Rattle.cf_server.specs.declared.reply.Reply.{Reply}
 use Rattle.cf_server.specs.declared.reply.Reply.TheVariants.{OwnVersion, OwnVerack, PongOf, HeadersOf, BlockAt, CfilterAt, CfheadersOf, CfcheckptOf}
 use Rattle.cf_server.specs.Serving.{text_of}
 
 -- the machine that answers: its time is 0 and its number 0; a version has come, or none has
-abbrev pub machine : Bool → Served
+abbrev pub machine : Bool → Serving
 machine seen = record { time = pos 0; nonce = 0; seen = seen }
 
 -- a number that a reply has is one of 64 bits

@@ -10,7 +10,7 @@ use cf_bytes::NoMemory;
 use cf_frame::encode;
 use cf_index::Index;
 use cf_msg::{Msg, write};
-use cf_server::{Reply, Served, write_reply};
+use cf_server::{Reply, Serving, write_reply};
 use std::alloc::Global;
 
 // The frame of a message.
@@ -61,7 +61,7 @@ pub(crate) fn own_frame(
     // An index has a good chain, and a number has 64 bits, so that the message can be sent.
     let _tip = index.tip();
     see_range(reply);
-    let served = Served {
+    let served = Serving {
         time: 0,
         nonce: 0,
         seen,

@@ -119,7 +119,7 @@ fn shut(log: &mut Vec<Event>, closed: &mut [bool; 9], p: PeerNo)
 }
 
 // The peer with this number, if there is one, answers what was sent to it.
-#[tactic(auto, using(crate::proofs::Hears::nobody_low, crate::proofs::Hears::nobody_high, crate::proofs::Hears::heard_at))]
+#[tactic(auto, using(crate::proofs::Hears::hears))]
 fn hear_at(alloc: Global, players: &mut [Player], p: PeerNo, bytes: &[u8]) -> Result<(), NoMemory>
     ensures ok { OnOk result (HearsAt players.old p.0 (spelled bytes.now) players.new) }
     ensures len { length players.new ≡ length players.old }
@@ -333,7 +333,7 @@ impl Wires for Played {
 
     /// The first 4,096 bytes that wait of the next peer in turn, from the one served last on, or all where there are
     /// fewer; 60 seconds pass where none wait of anybody.
-    #[tactic(auto, using(crate::proofs::Accounts::kept_so, crate::proofs::Accounts::ticked_so, crate::proofs::Accounts::given_so))]
+    #[tactic(auto, using(crate::proofs::Accounts::deliveries_so))]
     fn next(&mut self) -> Result<Delivery, NoMemory>
         ensures took { IfOk result (λ d. told_of self.new ≡ tell (Took d) (told_of self.old)) }
         ensures err { OnErr result (told_of self.new ≡ told_of self.old) }

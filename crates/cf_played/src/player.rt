@@ -17,7 +17,7 @@ use crate::waiting::Waiting;
 use cf_bytes::{Listed, NoMemory};
 use cf_index::Index;
 use cf_msg::Msg;
-use cf_server::{Replies, Reply, Served, answer};
+use cf_server::{Replies, Reply, Serving, answer};
 use std::alloc::Global;
 
 // A peer: its chain, how it answers, its own filters where it makes them otherwise, whether a version has come, and the
@@ -82,7 +82,7 @@ impl Player {
         ensures alike { IfOk result
             (λ text. AreFramesAlike (replies_to (pos 0) 0 self.now.index self.now.seen msg.now) text.items) }
     {
-        let mut served = Served {
+        let mut served = Serving {
             time: 0,
             nonce: 0,
             seen: self.seen,

@@ -159,9 +159,6 @@ byte_full old new n b more bit is now bits =
     let eight : n + 1 ≡ 8 = omega arith in
     append-nil (flags_of new) ∙ ap flags_of now ∙ flags_push old more ∙ ap (λ s. flags_of old ++ s) (sym (whole_byte more) ∙ ap (λ k. low_bits k more) (sym eight) ∙ bits) ∙ sym (append_assoc (flags_of old) (low_bits n b) (bit ∷ []))
 
-pub byte_part : (old : List ℕ) (n b more : ℕ) (bit : Bool) → low_bits (n + 1) more ≡ low_bits n b ++ bit ∷ [] → flags_of old ++ low_bits (n + 1) more ≡ (flags_of old ++ low_bits n b) ++ bit ∷ []
-byte_part old n b more bit bits = ap (λ s. flags_of old ++ s) bits ∙ sym (append_assoc (flags_of old) (low_bits n b) (bit ∷ []))
-
 zeros_above : (k n b : ℕ) → b < 2 ^ n → low_bits (n + k) b ≡ low_bits n b ++ replicate k false
 unfolding low_bits
 zeros_above zero n b lt = let none : n + 0 ≡ n = omega arith in ap (λ j. low_bits j b) none ∙ sym (append-nil (low_bits n b))

@@ -2,7 +2,7 @@
 use Rattle.std.proofs.Common.{◌≡◌, ℕ, zero, suc, ◌+◌, ◌-◌, ◌*◌, ◌/◌, ◌^◌, ◌<◌, ◌≤◌, false, ◌∙◌, ap, inl, inr, add-one, arith}
 use Rattle.std.specs.Prelude.{nat_le, if◌then◌else◌}
 use Rattle.std.proofs.Math.Nat.{two-pow-succ}
-use Rattle.std.proofs.lemmas.Nat.{pow_pos, pow_below, mul-le}
+use Rattle.std.proofs.lemmas.Nat.{pow_below}
 use Rattle.std.proofs.lemmas.Bool.{lt-leb, le-leb, cases_lt}
 use Rattle.cf_proof.specs.Tree.{height_within}
 
@@ -24,20 +24,12 @@ height_done (suc most) n h goal le is =
     let none : height_within (suc most) n ≡ 0 = ap (λ b. if b then zero else suc (height_within most ((n + 1) / 2))) (le-leb n 1 le) in
     omega (arith, none)
 
--- a place is below what stands below it
-pub place_below : (p n t : ℕ) → p * 2 ^ n < t → p < t
-place_below p n t lt = omega (arith, mul-le p 1 p (2 ^ n) (omega arith) (pow_pos n))
-
 pow_at_most : (j k : ℕ) → j ≤ k → 2 ^ j ≤ 2 ^ k
 pow_at_most j k le = elim (cases_lt j k) [ inl less ↦ (let lt : 2 ^ j < 2 ^ k = pow_below j k less in omega arith) | inr more ↦ (let same : j ≡ k = omega arith in rw same (omega arith)) ]
 
 -- a height is low where a second place is there
 pub height_low : (h t : ℕ) → 1 * 2 ^ h < t → t ≤ 16666 → h < 15
 height_low h t lt few = elim (cases_lt h 15) [ inl less ↦ less | inr more ↦ absurd (let far : 2 ^ 15 ≤ 2 ^ h = pow_at_most 15 h more in omega arith) ]
-
--- a node's place times the leaves below each
-pub place_fits : (p h : ℕ) → p ≤ 65536 → h ≤ 15 → p * 2 ^ h ≤ 2147483648
-place_fits p h le low = omega (arith, mul-le p (2 ^ h) 65536 (2 ^ 15) le (pow_at_most h 15 low))
 
 -- the children of a node
 pub twice_there : (k h t : ℕ) → 2 * k * 2 ^ h < t → k * 2 ^ (h + 1) < t

@@ -29,25 +29,10 @@ unfolding walk
 no_bit total zero place hashes = refl
 no_bit total (suc n) place hashes = refl
 
-pub at_leaf : (total height place : ℕ) (b : Bool) (bits : List Bool) (hashes : List (List ℕ)) → height ≡ 0 → walk total height place (b ∷ bits) hashes ≡ with_hash b bits hashes
-unfolding walk
-at_leaf total height place b bits hashes is = rw is refl
-
 pub not_above : (total height place : ℕ) (bits : List Bool) (hashes : List (List ℕ)) → walk total height place (false ∷ bits) hashes ≡ with_hash false bits hashes
 unfolding walk
 not_above total zero place bits hashes = refl
 not_above total (suc n) place bits hashes = refl
-
-pub no_left : (total height n place : ℕ) (bits : List Bool) (hashes : List (List ℕ)) → height ≡ suc n → walk total n (2 * place) bits hashes ≡ None → walk total height place (true ∷ bits) hashes ≡ None
-unfolding walk
-no_left total height n place bits hashes is none = rw (is, none) refl
-
-pub no_right : (txid : List ℕ) (total height n place : ℕ) (bits : List Bool) (hashes : List (List ℕ)) (hash : List ℕ) (twins found : Bool) (left_bits : List Bool) (left_hashes : List (List ℕ)) → height ≡ suc n
-    → IsNodeOf txid (walk total n (2 * place) bits hashes) hash twins found left_bits left_hashes → is_there total n (2 * place + 1) ≡ true → walk total n (2 * place + 1) left_bits left_hashes ≡ None → walk total height place (true ∷ bits) hashes ≡ None
-unfolding walk
-no_right txid total height n place bits hashes hash twins found left_bits left_hashes is left there none =
-    let right : walk total n (2 * place + 1) left.walked.bits left.walked.hashes ≡ None = (λ i. walk total n (2 * place + 1) (sym left.bits_are i) (sym left.hashes_are i)) ∙ none in
-    rw (is, left.is, there, right) refl
 
 pub one_child : (txid : List ℕ) (total height n place : ℕ) (bits : List Bool) (hashes : List (List ℕ)) (hash : List ℕ) (twins found : Bool) (left_bits : List Bool) (left_hashes : List (List ℕ)) (hash' : List ℕ) (twins' found' : Bool) (bits' : List Bool) (hashes' : List (List ℕ))
     → height ≡ suc n → IsNodeOf txid (walk total n (2 * place) bits hashes) hash twins found left_bits left_hashes → is_there total n (2 * place + 1) ≡ false

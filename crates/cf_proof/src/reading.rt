@@ -11,7 +11,7 @@ ghost use Rattle.cf_proof.specs.Steps.{GivesProof};
 use crate::fault::ProofFault;
 use crate::proof::Proof;
 use cf_block::{Header, parse_header};
-use cf_bytes::{Cut, Hash32, Listed, Refused};
+use cf_bytes::{Cut, Hash32, Listed, Refused, read_list};
 use std::alloc::Global;
 
 /// The parts of a proof. Memory is taken for the hashes and bits that are there, whatever numbers the bytes claim.
@@ -85,12 +85,7 @@ fn hashes_of(
 ) -> Result<Listed<Hash32>, Refused<ProofFault>>
     ensures { Gives (λ h. h) (list_at hash_field_at count cut.old) result cut.new }
 {
-    let mut items = Vec::new(alloc);
-    for _ in 0..count {
-        let hash = hash_of(cut)?;
-        items.push(hash)?;
-    }
-    Ok(Listed::from_vec(items))
+    read_list(alloc, 0, count, cut, |cut| Ok(hash_of(cut)?))
 }
 
 fn flags_of(alloc: Global, cut: &mut Cut) -> Result<Listed<u8>, Refused<ProofFault>>

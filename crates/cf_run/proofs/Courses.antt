@@ -12,10 +12,12 @@ use Rattle.cf_wires.specs.declared.event.Dial.{Dial}
 use Rattle.cf_wires.specs.declared.event.Event.{Event}
 use Rattle.cf_wires.specs.declared.event.Event.TheVariants.{Dialled, NotDialled, Took}
 use Rattle.cf_run.specs.declared.progress.Progress.{Progress}
-use Rattle.cf_wires.specs.Log.{Log, Told, Tells, tell, longer, dials}
+use Rattle.cf_wires.specs.Log.{Log, Told, Tally, Tells, tell, longer, dials}
 use Rattle.cf_wires.specs.Wires.{Made}
 use Rattle.cf_run.specs.Run.{Course, NoFailure, HasFailed, is_failure, HasNames, names_of}
-use Rattle.cf_run.specs.Moments.{SameCounts, trouble, Moment, moment, Runs, Performs, IsOneMore, IsNoMore, Dials, Turns, IsInStep}
+use Rattle.cf_run.specs.Moments.{SameCounts, trouble, RunState, run_state, Runs, Performs, IsOneMore, IsNoMore, Dials, Turns, IsInStep, EndsTurns, TakesTurns}
+use Rattle.cf_run.specs.declared.outcome.End.{End}
+use Rattle.cf_run.specs.declared.outcome.End.TheVariants.{Tired, Ended as EndedFirst}
 use Rattle.cf_run.specs.Texts.{PutBefore, PutBy}
 use Rattle.cf_sync.specs.Putting.{WerePut, ArePut}
 
@@ -83,7 +85,7 @@ failures_blamed t u f g s r start course = blamed_in u.log f g (course.blamed (c
 
 -- ---- from one moment to a later one
 
-pub runs_self : (a : Moment) → IsInStep a.told a.progress → Runs a a
+pub runs_self : (a : RunState) → IsInStep a.told a.progress → Runs a a
 runs_self a step = record {
   course = record { later = omega arith; blamed = λ clean. inl clean; logged = λ is. is; script = refl };
   keeps = refl;
@@ -91,7 +93,7 @@ runs_self a step = record {
   step = step;
 }
 
-pub runs_then : {a b c : Moment} → Runs a b → Runs b c → Runs a c
+pub runs_then : {a b c : RunState} → Runs a b → Runs b c → Runs a c
 runs_then {a = a} {b = b} {c = c} one two = record {
   course = course_on a.told b.told c.told a.faults b.faults c.faults a.script b.script c.script one.course two.course;
   keeps = two.keeps ∙ one.keeps;
@@ -111,10 +113,10 @@ counts_on t u v one two = record {
   puts = λ watch texts h. two.puts watch texts (one.puts watch texts h);
 }
 
-pub performs_self : (a : Moment) → IsInStep a.told a.progress → Performs a a
+pub performs_self : (a : RunState) → IsInStep a.told a.progress → Performs a a
 performs_self a step = record { runs = runs_self a step; counts = counts_self a.told; fewer = omega arith }
 
-pub performs_then : {a b c : Moment} → Performs a b → Performs b c → Performs a c
+pub performs_then : {a b c : RunState} → Performs a b → Performs b c → Performs a c
 performs_then {a = a} {b = b} {c = c} one two = record {
   runs = runs_then {a = a} {b = b} {c = c} one.runs two.runs;
   counts = counts_on a.told b.told c.told one.counts two.counts;
@@ -123,7 +125,7 @@ performs_then {a = a} {b = b} {c = c} one two = record {
 
 -- the run's notes change alone
 pub noted_performs : (told : Told) (faults : ℕ) (script : Option Made) (keeps : Bool) (before after : Progress) → after.closed ≡ before.closed → trouble after < trouble before → IsInStep told before
-    → Performs (moment told faults script keeps before) (moment told faults script keeps after)
+    → Performs (run_state told faults script keeps before) (run_state told faults script keeps after)
 noted_performs told faults script keeps before after closed fewer step = record {
   runs = record {
     course = record { later = omega arith; blamed = λ clean. inl clean; logged = λ is. is; script = refl };
@@ -136,7 +138,7 @@ noted_performs told faults script keeps before after closed fewer step = record 
 }
 
 -- an entry was made
-pub told_runs : (e : Event) (a b : Moment) → is_failure e ≡ false → b.told ≡ tell e a.told → a.faults ≤ b.faults → b.script ≡ a.script → b.keeps ≡ a.keeps
+pub told_runs : (e : Event) (a b : RunState) → is_failure e ≡ false → b.told ≡ tell e a.told → a.faults ≤ b.faults → b.script ≡ a.script → b.keeps ≡ a.keeps
     → (tell e a.told).tally.closed ≡ a.told.tally.closed → b.progress ≡ a.progress → IsInStep a.told a.progress → Runs a b
 told_runs e a b is told later script keeps closed same step = record {
   course = course_told e a.told b.told a.faults b.faults a.script b.script is told later script;
@@ -146,7 +148,7 @@ told_runs e a b is told later script keeps closed same step = record {
 }
 
 -- a failure was
-pub failed_runs : (e : Event) (a b : Moment) → HasRisen a.faults b.faults → b.told ≡ tell e a.told → a.faults ≤ b.faults → b.script ≡ a.script → b.keeps ≡ a.keeps
+pub failed_runs : (e : Event) (a b : RunState) → HasRisen a.faults b.faults → b.told ≡ tell e a.told → a.faults ≤ b.faults → b.script ≡ a.script → b.keeps ≡ a.keeps
     → (tell e a.told).tally.closed ≡ a.told.tally.closed → b.progress ≡ a.progress → IsInStep a.told a.progress → Runs a b
 failed_runs e a b risen told later script keeps closed same step = record {
   course = course_failed e a.told b.told a.faults b.faults a.script b.script risen told later script;
@@ -156,7 +158,7 @@ failed_runs e a b risen told later script keeps closed same step = record {
 }
 
 -- nothing passed
-pub quiet_runs : (a b : Moment) → b.told ≡ a.told → a.faults ≤ b.faults → b.script ≡ a.script → b.keeps ≡ a.keeps → b.progress ≡ a.progress → IsInStep a.told a.progress → Runs a b
+pub quiet_runs : (a b : RunState) → b.told ≡ a.told → a.faults ≤ b.faults → b.script ≡ a.script → b.keeps ≡ a.keeps → b.progress ≡ a.progress → IsInStep a.told a.progress → Runs a b
 quiet_runs a b told later script keeps same step = record {
   course = record { later = later; blamed = λ clean. inl (subst NoFailure (sym told) clean); logged = λ is. subst (λ (t : Told). IsSome t.log) (sym told) is; script = script };
   keeps = keeps;
@@ -211,9 +213,6 @@ missed_one p name t u told = subst (IsOneMore name t) (sym told) (record {
   more : (log : Log) → names_of (NotDialled p name ∷ log) ≡ names_of log ++ name ∷ []
   more log = map-append (λ (d : Dial). d.name) (dials log) (record { name = name; answered = false } ∷ [])
 
-no_more : (t u : Told) → SameCounts t u → IsNoMore t u
-no_more t u counts = record { dials = counts.dials; named = counts.named }
-
 pub one_more_then : (t u v : Told) (name : List ℕ) → IsOneMore name t u → SameCounts u v → IsOneMore name t v
 one_more_then t u v name more counts = record {
   dials = counts.dials ∙ more.dials;
@@ -222,7 +221,7 @@ one_more_then t u v name more counts = record {
 }
 
 -- after a dial acts are done
-pub dials_then : {a b c : Moment} (name : List ℕ) → Runs a b → IsOneMore name a.told b.told → b.told.tally.taken ≡ a.told.tally.taken → b.told.tally.ended ≡ a.told.tally.ended
+pub dials_then : {a b c : RunState} (name : List ℕ) → Runs a b → IsOneMore name a.told b.told → b.told.tally.taken ≡ a.told.tally.taken → b.told.tally.ended ≡ a.told.tally.ended
     → Performs b c → Dials name a c
 dials_then {a = a} {b = b} {c = c} name runs more taken ended performs = record {
   runs = runs_then {a = a} {b = b} {c = c} runs performs.runs;
@@ -233,11 +232,11 @@ dials_then {a = a} {b = b} {c = c} name runs more taken ended performs = record 
 }
 
 -- a dial was made, and then nothing
-pub dials_alone : (name : List ℕ) (a b : Moment) → Runs a b → IsOneMore name a.told b.told → b.told.tally.taken ≡ a.told.tally.taken → b.told.tally.ended ≡ a.told.tally.ended → Dials name a b
+pub dials_alone : (name : List ℕ) (a b : RunState) → Runs a b → IsOneMore name a.told b.told → b.told.tally.taken ≡ a.told.tally.taken → b.told.tally.ended ≡ a.told.tally.ended → Dials name a b
 dials_alone name a b runs more taken ended = record { runs = runs; taken = taken; ended = ended; most = inl more; puts = more.puts }
 
 -- nothing was dialled
-pub dials_none : (name : List ℕ) (a b : Moment) → Runs a b → b.told ≡ a.told → Dials name a b
+pub dials_none : (name : List ℕ) (a b : RunState) → Runs a b → b.told ≡ a.told → Dials name a b
 dials_none name a b runs same = record {
   runs = runs;
   taken = ap (λ (t : Told). t.tally.taken) same;
@@ -248,7 +247,7 @@ dials_none name a b runs same = record {
 
 -- ---- turns
 
-pub turns_none : (a b : Moment) → Runs a b → b.told ≡ a.told → Turns a b
+pub turns_none : (a b : RunState) → Runs a b → b.told ≡ a.told → Turns a b
 turns_none a b runs same = record {
   runs = runs;
   same = record { dials = ap (λ (t : Told). t.tally.dials) same; named = λ called h. subst (HasNames called) (sym same) h };
@@ -270,7 +269,7 @@ took_most (Tick s) t = (omega arith, omega arith)
 took_most Ended t = (omega arith, omega arith)
 
 -- a delivery was taken, and then nothing
-pub turns_took : (d : Delivery) (a b : Moment) → Runs a b → b.told ≡ tell (Took d) a.told → Turns a b
+pub turns_took : (d : Delivery) (a b : RunState) → Runs a b → b.told ≡ tell (Took d) a.told → Turns a b
 turns_took d a b runs told =
     let n = took_no_more d a.told in
     let m = took_most d a.told in
@@ -283,7 +282,7 @@ turns_took d a b runs told =
     }
 
 -- and then acts were done
-pub turns_then : {b c : Moment} (d : Delivery) (a : Moment) → Runs a b → b.told ≡ tell (Took d) a.told → Performs b c → Turns a c
+pub turns_then : {b c : RunState} (d : Delivery) (a : RunState) → Runs a b → b.told ≡ tell (Took d) a.told → Performs b c → Turns a c
 turns_then {b = b} {c = c} d a runs told performs = let turns = turns_took d a b runs told in record {
   runs = runs_then {a = a} {b = b} {c = c} turns.runs performs.runs;
   same = record { dials = performs.counts.dials ∙ turns.same.dials; named = λ called h. performs.counts.named called (turns.same.named called h) };
@@ -297,3 +296,33 @@ no_more_self t = record { dials = refl; named = λ called h. h }
 
 pub no_more_then : (t u v : Told) → IsNoMore t u → IsNoMore u v → IsNoMore t v
 no_more_then t u v one two = record { dials = two.dials ∙ one.dials; named = λ called h. two.named called (one.named called h) }
+
+-- one turn more, of those that are left
+pub turns_more : {a b c : RunState} (turns i : ℕ) → b.told.tally.taken ≡ i → i < turns → b.told.tally.ended ≡ 0
+    → IsNoMore a.told b.told → Runs a b → Turns b c → TakesTurns turns a c
+turns_more {a = a} {b = b} {c = c} turns i taken lt unended same runs turn = record {
+  most = omega (arith, taken, lt, turn.taken);
+  once = omega (arith, unended, turn.ended);
+  same = no_more_then a.told b.told c.told same turn.same;
+  runs = runs_then {a = a} {b = b} {c = c} runs turn.runs;
+}
+
+-- with which the run ends
+pub turn_ends : (end : End) (turns i : ℕ) (before after : Tally) → (end ≡ Tired → ⊥)
+    → (end ≡ EndedFirst → after.ended ≡ before.ended + 1) → after.taken ≡ before.taken → before.taken ≡ i → i < turns
+    → before.ended ≡ 0
+    → EndsTurns end turns after
+turn_ends end turns i before after untired ended untaken taken lt unended = record {
+  tired = λ is. absurd (untired is);
+  ended = λ is. omega (arith, ended is, unended);
+  early = λ is. omega (arith, untaken, taken, lt);
+}
+
+-- all turns are taken
+pub turns_used : (end : End) (turns : ℕ) (tally : Tally) → (end ≡ EndedFirst → ⊥) → tally.taken ≡ turns
+    → EndsTurns end turns tally
+turns_used end turns tally unended taken = record {
+  tired = λ is. taken;
+  ended = λ is. absurd (unended is);
+  early = λ is. absurd (unended is);
+}

@@ -1,17 +1,12 @@
 -- Which names were dialled, whatever was answered.
-use Rattle.std.proofs.Common.{◌≡◌, inl, inr, ℕ, ◌+◌, ◌<◌, ◌≤◌, List, [], ◌∷◌, ◌++◌, length, take, get_or, String, string_bytes, Option, Some, None, Result, Ok, Err, sym, ◌∙◌, ap, subst, arith}
-use Rattle.std.specs.Prelude.{IfSome, IfOk}
+use Rattle.std.proofs.Common.{◌≡◌, inl, inr, ℕ, ◌+◌, ◌<◌, ◌≤◌, List, [], ◌∷◌, ◌++◌, length, take, get_or, String, string_bytes, Option, Some, None, sym, ◌∙◌, ap, subst, arith}
+use Rattle.std.specs.Prelude.{IfSome}
 use Rattle.std.specs.declared.alloc.Global.{Global}
 use Rattle.std.proofs.lemmas.List.{take-map, length-map}
 use Rattle.cf_wires.specs.Log.{Log, Told, Tally, Tells}
-use Rattle.cf_bytes.specs.declared.memory.NoMemory.{NoMemory}
-use Rattle.cf_sync.specs.Fetching.{once}
-use Rattle.cf_sync.specs.Sync.{SyncTheorem}
-use Rattle.cf_sync.proofs.Settles.{sync_theorem_of}
-use Rattle.cf_run.specs.declared.outcome.Outcome.{Outcome}
 use Rattle.cf_run.specs.Names.{names_in}
-use Rattle.cf_run.specs.Run.{Followed, HasNames, HasDialled, names_of}
-use Rattle.cf_run.specs.Moments.{IsOneMore, IsNoMore, Dials, Moment}
+use Rattle.cf_run.specs.Run.{HasNames, HasDialled, names_of}
+use Rattle.cf_run.specs.Moments.{IsOneMore, IsNoMore, Dials, RunState}
 use Rattle.cf_run.proofs.Turns.{names_more}
 
 -- over new wires none was dialled
@@ -43,7 +38,7 @@ pub one_dialled : (names : List (String Global)) (i : ℕ) (name : String Global
 one_dialled names i name text t u lt is same named more =
     subst (λ (called : List (List ℕ)). HasNames called u) (names_more_as names i name text lt is same) (more.named (names_in (take i names)) named)
 
-pub most_dialled : (names : List (String Global)) (i : ℕ) (name : String Global) (text : List ℕ) (a b : Moment) → i < length names → name ≡ get_or names i name → text ≡ string_bytes name
+pub most_dialled : (names : List (String Global)) (i : ℕ) (name : String Global) (text : List ℕ) (a b : RunState) → i < length names → name ≡ get_or names i name → text ≡ string_bytes name
     → a.told.tally.dials ≡ i → HasNames (names_in (take i names)) a.told → Dials text a b → HasDialled (names_in names) b.told
 most_dialled names i name text a b lt is same dials named done = elim done.most [
   | inl more ↦ has_dialled names (i + 1) b.told (omega (arith, lt)) (more.dials ∙ ap (λ (n : ℕ). n + 1) dials) (one_dialled names i name text a.told b.told lt is same named more)
@@ -55,10 +50,3 @@ dialled_on names t u has none = record {
   most = omega (arith, has.most, none.dials);
   first = subst (λ (k : ℕ). HasNames (take k names) u) (sym none.dials) (none.named (take t.tally.dials names) has.first);
 }
-
--- what was followed, holds the theorem
-pub theorem_in : (watch : List (List ℕ)) (called : List (List ℕ)) (r : Result Outcome NoMemory) (o : Option Log)
-    → IfOk r (λ x. IfSome o (λ log. Followed (once watch) x.end x.height x.tip x.history x.trace.items called log)) → IfOk r (λ x. IfSome o (λ log. SyncTheorem watch x.height x.tip x.history log))
-theorem_in watch called (Ok x) (Some log) f = sync_theorem_of watch x.height x.tip x.history log f.asked
-theorem_in watch called (Ok x) None f = tt
-theorem_in watch called (Err e) o f = tt

@@ -1,75 +1,177 @@
 -- What a dial leaves of the client, and what a whole run leaves of its wires, put together.
-use Rattle.std.proofs.Common.{◌≡◌, inl, ℕ, ◌≤◌, Bool, List, [], Option, refl, ap, subst, arith}
+use Rattle.std.proofs.Common.{◌≡◌, inl, ℕ, ◌≤◌, Bool, List, [], Option, refl, sym, ◌∙◌, ap, subst, arith}
+use Rattle.std.specs.Prelude.{IsSome}
 use Rattle.cf_bytes.specs.Outside.{HasRisen}
 use Rattle.cf_bytes.specs.declared.peer.PeerNo.{PeerNo}
+use Rattle.cf_headers.specs.declared.store.HeaderStore.{Ghosts}
+use Rattle.cf_match.specs.declared.matcher.Matcher.{Ghosts as Judges}
 use Rattle.cf_wires.specs.declared.event.Event.TheVariants.{Dialled, NotDialled}
-use Rattle.cf_wires.specs.Log.{Told, Tally, Tells, tell}
+use Rattle.cf_wires.specs.Log.{Log, Told, Tally, Tells, tell, told_finished}
 use Rattle.cf_wires.specs.Wires.{Made}
+use Rattle.cf_client.specs.declared.client.Client.{Client}
+use Rattle.cf_run.specs.declared.outcome.End.{End}
+use Rattle.cf_run.specs.declared.progress.Progress.{Progress}
 use Rattle.cf_run.specs.Passing.{Passes}
-use Rattle.cf_place.specs.Standing.{Words}
-use Rattle.cf_run.specs.Run.{HasDialled}
-use Rattle.cf_run.specs.Moments.{Moment, Runs, Performs, Dials, IsNoMore, IsInStep}
-use Rattle.cf_run.specs.Versions.{KeepsWords}
-use Rattle.cf_run.proofs.Courses.{told_runs, failed_runs, dialled_one, missed_one, dials_then, dials_alone, runs_then}
-use Rattle.cf_run.proofs.Dialling.{none_dialled, dialled_on}
+use Rattle.cf_place.specs.declared.state.State.{State}
+use Rattle.cf_place.specs.declared.state.State.TheVariants.{NoPeers as HasNoPeers}
+use Rattle.cf_place.specs.Standing.{IsState, Greeting}
+use Rattle.cf_client.specs.Stands.{Reflects, rule_by, greeting_by}
+use Rattle.cf_peer.specs.declared.mode.Mode.TheVariants.{Following}
+use Rattle.cf_sync.specs.Fetching.{MayTake}
+use Rattle.cf_run.specs.Run.{Course, HasDialled, HasNames, NoFailure}
+use Rattle.cf_run.specs.Moments.{HoldsOver, RunState, Runs, Performs, Dials, IsInStep, Stopped, EndsTurns, TakesTurns, run_state}
+use Rattle.cf_run.specs.Versions.{HasGreeting, KeepsGreeting}
+use Rattle.cf_run.specs.Whole.{AreNewWires, EndsWithin, LeavesWires}
+use Rattle.cf_run.proofs.Courses.{course_on, told_runs, failed_runs, failures_blamed, dialled_one, missed_one, dials_then, dials_alone}
+use Rattle.cf_run.proofs.Dialling.{none_dialled, none_named, dialled_on}
+use Rattle.cf_run.proofs.Turns.{holds_same, may_held, no_peers, words_same}
+use Rattle.cf_run.proofs.Versions.{has_so, new_words, words_then}
 
 -- ---- one dial
 
 -- a peer was dialled, and acts were done
-pub dialled_then : {b c : Moment} (p : PeerNo) (name : List ℕ) (a : Moment) → b.told ≡ tell (Dialled p name) a.told → a.faults ≤ b.faults → b.script ≡ a.script
+pub dialled_then : {b c : RunState} (p : PeerNo) (name : List ℕ) (a : RunState) → b.told ≡ tell (Dialled p name) a.told → a.faults ≤ b.faults → b.script ≡ a.script
     → b.keeps ≡ a.keeps → b.progress ≡ a.progress → IsInStep a.told a.progress → Performs b c → Dials name a c
 dialled_then {b = b} {c = c} p name a told later script keeps same step performs =
     dials_then {a = a} {b = b} {c = c} name (told_runs (Dialled p name) a b refl told later script keeps refl same step) (dialled_one p name a.told b.told told)
     (ap (λ (t : Told). t.tally.taken) told) (ap (λ (t : Told). t.tally.ended) told) performs
 
 -- a peer could not be dialled
-pub missed_alone : (p : PeerNo) (name : List ℕ) (a b : Moment) → HasRisen a.faults b.faults → b.told ≡ tell (NotDialled p name) a.told → a.faults ≤ b.faults
+pub missed_alone : (p : PeerNo) (name : List ℕ) (a b : RunState) → HasRisen a.faults b.faults → b.told ≡ tell (NotDialled p name) a.told → a.faults ≤ b.faults
     → b.script ≡ a.script → b.keeps ≡ a.keeps → b.progress ≡ a.progress → IsInStep a.told a.progress → Dials name a b
 missed_alone p name a b risen told later script keeps same step =
     dials_alone name a b (failed_runs (NotDialled p name) a b risen told later script keeps refl same step) (missed_one p name a.told b.told told)
     (ap (λ (t : Told). t.tally.taken) told) (ap (λ (t : Told). t.tally.ended) told)
 
-pub keeps_after : (words : Words) (t u x : Told) → KeepsWords words t u → KeepsWords words u x → KeepsWords words t x
+pub keeps_after : (words : Greeting) (t u x : Told) → KeepsGreeting words t u → KeepsGreeting words u x → KeepsGreeting words t x
 keeps_after words t u x one two = λ has. two (one has)
 
 -- the same words, of another client
-pub keeps_so : (v w : Words) (t u : Told) → v ≡ w → KeepsWords v t u → KeepsWords w t u
-keeps_so v w t u words keeps = subst (λ (x : Words). KeepsWords x t u) words keeps
+pub keeps_so : (v w : Greeting) (t u : Told) → v ≡ w → KeepsGreeting v t u → KeepsGreeting w t u
+keeps_so v w t u words keeps = subst (λ (x : Greeting). KeepsGreeting x t u) words keeps
+
+-- of a client that puts a text at rest, and takes the next delivery
+pub keeps_next : {H M : Type 0} {g : Ghosts H} {j : Judges M} {c d : Client H M g j} {progress : Progress}
+    {called : List (List ℕ)} (t u : Told) (s : State) → d ≡ c
+    → (rule_by c).mode ≡ Following → (s ≡ HasNoPeers → ⊥) → ((log : Log) → Reflects d log → IsState s log)
+    → ((holds : HoldsOver d progress called t) → MayTake (rule_by d).mode holds.actual → KeepsGreeting (greeting_by d) t u)
+    → HoldsOver c progress called t → KeepsGreeting (greeting_by c) t u
+keeps_next {c = c} {d = d} t u s same follows ne state keeps holds =
+    let held = holds_same {c = c} {d = d} same holds in
+    keeps_so (greeting_by d) (greeting_by c) t u (words_same {c = c} {d = d} same)
+    (keeps held (may_held s same held follows ne state))
 
 -- ---- the whole run
 
-pub passes_none : (names : List (List ℕ)) (turns : ℕ) (t : Told) (f : ℕ) (s : Option Made) (k : Bool) → Tells [] t → Passes names turns t t f f s s k k
-passes_none names turns t f s k tells = record {
-  first = none_dialled names t tells;
+-- nothing has passed
+pub passes_none : {W : Type 0} (told : W → Told) (faults : W → ℕ) (script : W → Option Made) (keeps : W → Bool)
+    (words : Greeting) (names : List (List ℕ)) (turns : ℕ) (now : W) → Tells [] (told now)
+    → Passes told faults script keeps words names turns now now
+passes_none told faults script keeps words names turns now tells = record {
+  versions = new_words words (told now) tells;
+  first = none_dialled names (told now) tells;
   most = omega (arith, ap (λ (x : Tally). x.taken) tells.counts);
   once = omega (arith, ap (λ (x : Tally). x.ended) tells.counts);
   finished = refl;
-  keeps = refl;
+  kept = refl;
   course = record { later = omega arith; blamed = λ clean. inl clean; logged = λ is. is; script = refl };
 }
 
 -- the dials were begun
-pub passes_dials : {a b : Moment} (names : List (List ℕ)) (turns : ℕ) → HasDialled names b.told → b.told.tally.taken ≡ 0 → b.told.tally.ended ≡ 0 → Runs a b
-    → Passes names turns a.told b.told a.faults b.faults a.script b.script a.keeps b.keeps
-passes_dials names turns has taken ended runs = record {
-  first = has;
+pub passes_dials : {W H M : Type 0} {g : Ghosts H} {j : Judges M} {told : W → Told} {faults : W → ℕ}
+    {script : W → Option Made} {keeps : W → Bool} {before after : W} {p q : Progress} {names : List (List ℕ)}
+    (c : Client H M g j) → HoldsOver c p [] (told before) → Tells [] (told before)
+    → (HoldsOver c p [] (told before) → KeepsGreeting (greeting_by c) (told before) (told after))
+    → (HasNames [] (told before) → HasDialled names (told after)) → (told after).tally.taken ≡ 0
+    → (told after).tally.ended ≡ 0
+    → Runs (run_state (told before) (faults before) (script before) (keeps before) p)
+    (run_state (told after) (faults after) (script after) (keeps after) q)
+    → Passes told faults script keeps (greeting_by c) names 0 before after
+passes_dials {told = told} {before = before} c start new versions first taken ended runs = record {
+  versions = versions start (new_words (greeting_by c) (told before) new);
+  first = first (none_named (told before) new);
   most = omega (arith, taken);
   once = omega (arith, ended);
   finished = runs.finished;
-  keeps = runs.keeps;
+  kept = runs.keeps;
   course = runs.course;
 }
 
--- and then the turns
-pub passes_turns : {a b c : Moment} (names : List (List ℕ)) (turns : ℕ) → HasDialled names b.told → Runs a b → IsNoMore b.told c.told → c.told.tally.taken ≤ turns
-    → c.told.tally.ended ≤ 1 → Runs b c → Passes names turns a.told c.told a.faults c.faults a.script c.script a.keeps c.keeps
-passes_turns {a = a} {b = b} {c = c} names turns has one none most once two =
-    let runs = runs_then {a = a} {b = b} {c = c} one two in
-    record {
-      first = dialled_on names b.told c.told has none;
-      most = most;
-      once = once;
-      finished = runs.finished;
-      keeps = runs.keeps;
-      course = runs.course;
+-- and no turn was taken
+pub passes_untaken : {W : Type 0} {told : W → Told} {faults : W → ℕ} {script : W → Option Made} {keeps : W → Bool}
+    {names : List (List ℕ)} {before after : W} (v words : Greeting) (turns : ℕ)
+    → v ≡ words → Passes told faults script keeps v names 0 before after
+    → Passes told faults script keeps words names turns before after
+passes_untaken {told = told} {after = after} v words turns same dials = record {
+  versions = has_so v words (told after) same dials.versions;
+  first = dials.first;
+  most = omega (arith, dials.most);
+  once = dials.once;
+  finished = dials.finished;
+  kept = dials.kept;
+  course = dials.course;
+}
+
+-- or turns were
+pub passes_turns : {W : Type 0} {told : W → Told} {faults : W → ℕ} {script : W → Option Made} {keeps : W → Bool}
+    {names : List (List ℕ)} {before now after : W} {p q : Progress} (v w words : Greeting) (turns : ℕ)
+    → v ≡ words → w ≡ v → Passes told faults script keeps v names 0 before now → KeepsGreeting w (told now) (told after)
+    → TakesTurns turns (run_state (told now) (faults now) (script now) (keeps now) p)
+    (run_state (told after) (faults after) (script after) (keeps after) q)
+    → Passes told faults script keeps words names turns before after
+passes_turns {told = told} {faults = faults} {script = script} {names = names} {before = before} {now = now}
+    {after = after} v w words turns first same dials keeps takes = record {
+      versions = words_then v w words (told now) (told after) first same dials.versions keeps;
+      first = dialled_on names (told now) (told after) dials.first takes.same;
+      most = takes.most;
+      once = takes.once;
+      finished = takes.runs.finished ∙ dials.finished;
+      kept = takes.runs.keeps ∙ dials.kept;
+      course = course_on (told before) (told now) (told after) (faults before) (faults now) (faults after) (script before)
+          (script now) (script after) dials.course takes.runs.course;
     }
+
+-- and the wires are finished
+pub leaves_wires : {W : Type 0} {told : W → Told} {faults : W → ℕ} {script : W → Option Made} {keeps : W → Bool}
+    {names : List (List ℕ)} {turns : ℕ} {before now after : W} (v words : Greeting)
+    → v ≡ words → AreNewWires (told before) → Passes told faults script keeps v names turns before now
+    → told after ≡ told_finished (told now) → faults now ≤ faults after → script after ≡ script now
+    → keeps after ≡ keeps now
+    → LeavesWires told faults script keeps words names turns before after
+leaves_wires {told = told} {faults = faults} {script = script} {names = names} {turns = turns} {before = before}
+    {now = now} {after = after} v words same new passes is later scripts kept =
+    let end : Course (told now) (told after) (faults now) (faults after) (script now) (script after) = record {
+      later = later;
+      blamed = λ clean. inl (subst NoFailure (sym is) clean);
+      logged = λ has. subst (λ (t : Told). IsSome t.log) (sym is) has;
+      script = scripts;
+    } in
+    let course = course_on (told before) (told now) (told after) (faults before) (faults now) (faults after)
+    (script before) (script now) (script after) passes.course end in
+    record {
+      versions = subst (HasGreeting words) (sym is) (has_so v words (told now) same passes.versions);
+      dialled = subst (HasDialled names) (sym is) (record { most = passes.first.most; first = passes.first.first });
+      most = subst (λ (t : Told). t.tally.taken ≤ turns) (sym is) passes.most;
+      once = subst (λ (t : Told). t.tally.ended ≤ 1) (sym is) passes.once;
+      finished = ap (λ (t : Told). t.finished) is;
+      kept = kept ∙ passes.kept;
+      course = course;
+      failures = failures_blamed (told before) (told after) (faults before) (faults after) (script before)
+          (script after) new.log course;
+    }
+
+-- how a run ended that stopped so
+pub ends_within : {H M : Type 0} {g : Ghosts H} {j : Judges M} {end : End} {c : Client H M g j} {progress : Progress}
+    {called : List (List ℕ)} {t : Told} {names turns : ℕ} (now : End)
+    → now ≡ end → Stopped end c progress called t → t.tally.dials ≡ names → EndsTurns end turns t.tally
+    → EndsWithin now names turns t.tally
+ends_within {end = end} {c = c} {progress = progress} {called = called} {t = t} {names = names}
+    {turns = turns} now same stopped dials ends =
+    subst (λ (e : End). EndsWithin e names turns t.tally) (sym same)
+    (record {
+      dialled = dials;
+      no_peers = no_peers end c progress called t stopped;
+      tired = ends.tired;
+      ended = ends.ended;
+      early = ends.early;
+    })

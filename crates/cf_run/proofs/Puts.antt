@@ -1,10 +1,11 @@
 -- What is put of the texts of a run that follows, from moment to moment.
-use Rattle.std.proofs.Common.{◌≡◌, ◌⊎◌, inl, inr, ℕ, ◌+◌, ◌≤◌, Bool, true, false, List, [], ◌∷◌, ◌++◌, length, take, String, string_bytes, Option, Some, None, Result, Ok, Err, IfErr, is_err, refl, sym, ◌∙◌, ap, subst, arith, if◌then◌else◌}
-use Rattle.std.specs.Prelude.{IfSome, IfOk, bytes_eq}
+use Rattle.std.proofs.Common.{◌≡◌, ◌⊎◌, inl, inr, ℕ, ◌+◌, ◌≤◌, Bool, List, [], ◌∷◌, ◌++◌, length, take, String, string_bytes, Option, Some, None, refl, sym, ◌∙◌, ap, subst, arith, if◌then◌else◌}
+use Rattle.std.specs.Prelude.{IfSome}
 use Rattle.std.specs.declared.alloc.Global.{Global}
-use Rattle.std.proofs.lemmas.Bool.{both_ways, false≢true}
+use Rattle.std.proofs.lemmas.Bool.{both_ways}
+use Rattle.std.proofs.lemmas.Option.{IfSome_then}
 use Rattle.std.proofs.lemmas.List.{append_assoc, append-nil}
-use Rattle.cf_bytes.specs.Outside.{with_more}
+use Rattle.cf_bytes.specs.Outside.{HasRisen, with_more}
 use Rattle.cf_bytes.specs.declared.hash.Hash32.{Hash32}
 use Rattle.cf_headers.specs.declared.store.HeaderStore.{Ghosts}
 use Rattle.cf_match.specs.declared.matcher.Matcher.{Ghosts as Judges}
@@ -16,21 +17,22 @@ use Rattle.cf_place.specs.declared.state.State.TheVariants.{Working, Synced, NoP
 use Rattle.cf_place.specs.Standing.{IsState}
 use Rattle.cf_scan.specs.declared.history.Entry.{Entry}
 use Rattle.cf_scan.specs.HistoryText.{history_text}
-use Rattle.cf_wires.specs.Log.{Log, Told, Tells}
-use Rattle.cf_sync.specs.Fetching.{AreBytes, IsAskedOutIn, RightlyIn, following}
-use Rattle.cf_sync.specs.Growing.{FollowTheorem}
-use Rattle.cf_sync.specs.Putting.{IsAtRest, PutsAt, WerePut, ArePut, EndsWith, put}
-use Rattle.cf_sync.proofs.Follows.{follow_theorem_of}
+use Rattle.cf_wires.specs.declared.event.Delivery.TheVariants.{Ended}
+use Rattle.cf_wires.specs.declared.event.Event.TheVariants.{Took}
+use Rattle.cf_wires.specs.Log.{Log, Told, Tells, tell, told_finished}
+use Rattle.cf_sync.specs.Fetching.{AreBytes, IsAskedOutIn, MayTake, RightlyIn, Rule, following}
+use Rattle.cf_sync.specs.Putting.{IsAtRest, PutsAt, WerePut, ArePut, put}
 use Rattle.cf_client.specs.declared.client.Client.{Client}
 use Rattle.cf_client.specs.Stands.{Reflects, IsReportOf, rule_by, watch_by}
-use Rattle.cf_run.specs.declared.outcome.Outcome.{Outcome}
 use Rattle.cf_run.specs.declared.progress.Progress.{Progress}
 use Rattle.cf_run.specs.declared.texts.TextFail.{TextFail}
 use Rattle.cf_run.specs.declared.texts.TextFail.TheVariants.{NoMemory, Failed}
-use Rattle.cf_run.specs.Run.{Followed}
+use Rattle.cf_run.specs.Run.{WasRun}
 use Rattle.cf_run.specs.Moments.{HoldsOver}
 use Rattle.cf_run.specs.Texts.{AllPut, ButPut, HasBegun, HasPut, HasPutBut, HasPutSo, HavePut, IsLast, PutBefore, PutBy, PutsBegun, PutsNext, PutsOne, PutsSome, SoPut, SomePut, joined}
-use Rattle.cf_run.proofs.Turns.{told_so}
+use Rattle.cf_run.specs.Whole.{GivesUp}
+use Rattle.cf_run.proofs.Courses.{puts_taken}
+use Rattle.cf_run.proofs.Turns.{ended_holds, mode_same, rule_same, told_so, was_run}
 
 -- ---- what is told, with more after it
 
@@ -55,18 +57,11 @@ begun_so text bytes old new same so_much = subst (λ (x : List ℕ). HasBegun x 
 
 -- ---- one text
 
--- it is the last one, or not
+-- none is the last one
 pub last_none : (text : List ℕ) (before : List (List ℕ)) (last : Option (String Global)) → last ≡ None → IsLast last before → put text before ≡ text ∷ before
 last_none text before last none is = by (subst (λ (o : Option (String Global)). IsLast o before) none is) where
   by : before ≡ [] → put text before ≡ text ∷ before
   by e = subst (λ (b : List (List ℕ)). put text b ≡ text ∷ b) (sym e) refl
-
-pub last_some : (text : List ℕ) (before : List (List ℕ)) (last : Option (String Global)) (s : String Global) (same : Bool) → last ≡ Some s
-    → same ≡ bytes_eq text (string_bytes s) → IsLast last before → put text before ≡ (if same then before else text ∷ before)
-last_some text before last s same some eq is = by (subst (λ (o : Option (String Global)). IsLast o before) some is) where
-  by : EndsWith (string_bytes s) before → put text before ≡ (if same then before else text ∷ before)
-  by e = subst (λ (b : List (List ℕ)). put text b ≡ (if same then b else text ∷ b)) (sym e.1)
-      (subst (λ (x : Bool). put text (string_bytes s ∷ e.0) ≡ (if x then string_bytes s ∷ e.0 else text ∷ string_bytes s ∷ e.0)) (sym eq) refl)
 
 -- it was compared as these bytes
 pub added_by : (text bytes : List ℕ) (before : List (List ℕ)) (last same : Bool) → bytes ≡ text → last ≡ same → put bytes before ≡ (if last then before else bytes ∷ before)
@@ -175,12 +170,28 @@ some_puts Failed c before old new text height hash entries follows state report 
 
 -- ---- over wires
 
+-- the rule of a client that follows
+by_rule : {H M : Type 0} {g : Ghosts H} {j : Judges M} (c : Client H M g j) (watch : List (List ℕ))
+    → (rule_by c).mode ≡ Following → watch_by c ≡ watch → rule_by c ≡ following watch
+by_rule c watch follows same =
+    subst (λ (w : List (List ℕ)). rule_by c ≡ following w) same
+    (subst (λ (m : Mode). rule_by c ≡ record { watch = watch_by c; mode = m }) follows refl)
+
 -- the run's log is one of bytes, and right
-pub right_now : {H M : Type 0} {g : Ghosts H} {j : Judges M} (c : Client H M g j) (progress : Progress) (called : List (List ℕ)) (t : Told) → HoldsOver c progress called t → (rule_by c).mode ≡ Following
+right_now : {H M : Type 0} {g : Ghosts H} {j : Judges M} (c : Client H M g j) (progress : Progress)
+    (called : List (List ℕ)) (t : Told) → HoldsOver c progress called t → (rule_by c).mode ≡ Following
     → IfSome t.log (λ log. AreBytes log × RightlyIn Following log)
 right_now c progress called t holds follows =
     told_so t.log holds.actual (λ log. AreBytes log × RightlyIn Following log) holds.notes.tells.content
     (holds.notes.bytes, subst (λ (m : Mode). RightlyIn m holds.actual) follows holds.notes.rightly)
+
+-- and was run
+run_now : {H M : Type 0} {g : Ghosts H} {j : Judges M} (c : Client H M g j) (progress : Progress)
+    (called : List (List ℕ)) (t : Told) (rule : Rule) → HoldsOver c progress called t → rule_by c ≡ rule
+    → IfSome t.log (WasRun rule called)
+run_now c progress called t rule holds same =
+    told_so t.log holds.actual (WasRun rule called) holds.notes.tells.content
+    (subst (λ (r : Rule). WasRun r called holds.actual) same (was_run c progress called t holds))
 
 -- what is put at a moment
 put_at : {H M : Type 0} {g : Ghosts H} {j : Judges M} (c : Client H M g j) (progress : Progress) (called : List (List ℕ)) (t : Told) (watch before texts : List (List ℕ)) (holds : HoldsOver c progress called t)
@@ -196,56 +207,101 @@ put_at c progress called t watch before texts holds same puts were = by t.log ho
     ),
   )
 
-pub put_by : {H M : Type 0} {g : Ghosts H} {j : Judges M} (c : Client H M g j) (progress : Progress) (called : List (List ℕ)) (t : Told) (watch before texts : List (List ℕ)) → HoldsOver c progress called t
-    → (rule_by c).mode ≡ Following → watch_by c ≡ watch → ((log : Log) → Reflects c log → AreBytes log → RightlyIn Following log → PutsAt (watch_by c) log before texts)
-    → PutBefore watch before t → PutBy watch texts t
-put_by c progress called t watch before texts holds follows same puts were =
-    put_at c progress called t watch before texts holds same
-    (puts holds.actual holds.reflects holds.notes.bytes (subst (λ (m : Mode). RightlyIn m holds.actual) follows holds.notes.rightly)) were
+-- a client that follows, with what was put so far and what is put now
+pub record Putting {H M : Type 0} {g : Ghosts H} {j : Judges M} (c : Client H M g j) (progress : Progress)
+    (called : List (List ℕ)) (t : Told) (watch : List (List ℕ)) (last : Option (String Global))
+    (first now : Option (List ℕ)) : Type 0 where
+  pub holds : HoldsOver c progress called t
+  pub follows : (rule_by c).mode ≡ Following
+  pub watched : watch_by c ≡ watch
+  pub have : HavePut watch last t first now
 
-pub all_by : {H M : Type 0} {g : Ghosts H} {j : Judges M} (c : Client H M g j) (progress : Progress) (called : List (List ℕ)) (t : Told) (watch : List (List ℕ)) (last next : Option (String Global))
-    (first old new : Option (List ℕ)) → HoldsOver c progress called t → (rule_by c).mode ≡ Following → watch_by c ≡ watch → (have : HavePut watch last t first old)
-    → PutsNext c have.texts next old new → AllPut watch t first new
-all_by c progress called t watch last next first old new holds follows same have more = record {
+put_by : {H M : Type 0} {g : Ghosts H} {j : Judges M} {c : Client H M g j} {progress : Progress}
+    {called : List (List ℕ)} {t : Told} {watch : List (List ℕ)} {last next : Option (String Global)}
+    {first old new : Option (List ℕ)} (putting : Putting c progress called t watch last first old)
+    (more : PutsNext c putting.have.texts next old new) → PutBy watch more.texts t
+put_by {c = c} {progress = progress} {called = called} {t = t} {watch = watch} putting more =
+    let holds = putting.holds in
+    put_at c progress called t watch putting.have.texts more.texts holds putting.watched
+    (more.puts holds.actual holds.reflects holds.notes.bytes
+    (subst (λ (m : Mode). RightlyIn m holds.actual) putting.follows holds.notes.rightly)) putting.have.puts
+
+pub all_by : {H M : Type 0} {g : Ghosts H} {j : Judges M} {c : Client H M g j} {progress : Progress}
+    {called : List (List ℕ)} {t : Told} {watch : List (List ℕ)} {last next : Option (String Global)}
+    {first old new : Option (List ℕ)} (putting : Putting c progress called t watch last first old)
+    → PutsNext c putting.have.texts next old new → AllPut watch t first new
+all_by {first = first} putting more = record {
   texts = more.texts;
-  puts = put_by c progress called t watch have.texts more.texts holds follows same more.puts have.puts;
-  taken = more.taken first have.taken;
+  puts = put_by putting more;
+  taken = more.taken first putting.have.taken;
 }
 
-pub some_by : {H M : Type 0} {g : Ghosts H} {j : Judges M} (fail : TextFail) (c : Client H M g j) (progress : Progress) (called : List (List ℕ)) (t : Told) (watch : List (List ℕ)) (last : Option (String Global))
-    (first old new : Option (List ℕ)) → HoldsOver c progress called t → (rule_by c).mode ≡ Following → watch_by c ≡ watch → (have : HavePut watch last t first old)
-    → PutsSome fail c have.texts old new → SomePut fail watch t first new
-some_by NoMemory c progress called t watch last first old new holds follows same have more = record { texts = have.texts; puts = inl have.puts; taken = more ∙ have.taken }
-some_by Failed c progress called t watch last first old new holds follows same have more = record {
-  texts = have.texts;
-  text = more.text;
-  earlier = have.puts;
-  due = told_so t.log holds.actual (λ log. PutsAt watch log have.texts (more.text ∷ have.texts)) holds.notes.tells.content
-      (subst (λ (x : List (List ℕ)). PutsAt x holds.actual have.texts (more.text ∷ have.texts)) same
-      (more.due holds.actual holds.reflects holds.notes.bytes (subst (λ (m : Mode). RightlyIn m holds.actual) follows holds.notes.rightly)));
-  begun = subst (λ (o : Option (List ℕ)). HasBegun more.text o new) have.taken more.begun;
-  right = right_now c progress called t holds follows;
+pub some_by : {H M : Type 0} {g : Ghosts H} {j : Judges M} {c : Client H M g j} {progress : Progress}
+    {called : List (List ℕ)} {t : Told} {watch : List (List ℕ)} {last : Option (String Global)}
+    {first old : Option (List ℕ)} (fail : TextFail) (new : Option (List ℕ))
+    (putting : Putting c progress called t watch last first old) → PutsSome fail c putting.have.texts old new
+    → SomePut fail watch called t first new
+some_by NoMemory new putting more = record {
+  texts = putting.have.texts;
+  puts = inl putting.have.puts;
+  taken = more ∙ putting.have.taken;
 }
+some_by {c = c} {progress = progress} {called = called} {t = t} {watch = watch} Failed new putting more =
+    let holds = putting.holds in
+    let texts = putting.have.texts in
+    record {
+      texts = texts;
+      text = more.text;
+      earlier = putting.have.puts;
+      due = told_so t.log holds.actual (λ log. PutsAt watch log texts (more.text ∷ texts)) holds.notes.tells.content
+          (subst (λ (x : List (List ℕ)). PutsAt x holds.actual texts (more.text ∷ texts)) putting.watched
+          (more.due holds.actual holds.reflects holds.notes.bytes
+          (subst (λ (m : Mode). RightlyIn m holds.actual) putting.follows holds.notes.rightly)));
+      begun = subst (λ (o : Option (List ℕ)). HasBegun more.text o new) putting.have.taken more.begun;
+      right = right_now c progress called t holds putting.follows;
+      run = run_now c progress called t (following watch) holds (by_rule c watch putting.follows putting.watched);
+    }
 
 -- and then a delivery is taken
-pub have_then : {H M : Type 0} {g : Ghosts H} {j : Judges M} (c : Client H M g j) (progress : Progress) (called : List (List ℕ)) (t u : Told) (watch : List (List ℕ)) (last next : Option (String Global))
-    (first old new : Option (List ℕ)) → HoldsOver c progress called t → (rule_by c).mode ≡ Following → watch_by c ≡ watch → (have : HavePut watch last t first old)
-    → PutsNext c have.texts next old new → ((watch texts : List (List ℕ)) → PutBy watch texts t → PutBefore watch texts u) → HavePut watch next u first new
-have_then c progress called t u watch last next first old new holds follows same have more taken = record {
-  texts = more.texts;
-  newest = more.newest;
-  puts = taken watch more.texts (put_by c progress called t watch have.texts more.texts holds follows same more.puts have.puts);
-  taken = more.taken first have.taken;
-}
+pub have_then : {H M : Type 0} {g : Ghosts H} {j : Judges M} {c : Client H M g j} {progress : Progress}
+    {called : List (List ℕ)} {t u : Told} {watch : List (List ℕ)} {last next : Option (String Global)}
+    {first old new : Option (List ℕ)} (putting : Putting c progress called t watch last first old)
+    → PutsNext c putting.have.texts next old new
+    → ((watch texts : List (List ℕ)) → PutBy watch texts t → PutBefore watch texts u) → HavePut watch next u first new
+have_then {watch = watch} {first = first} putting more taken =
+    record {
+      texts = more.texts;
+      newest = more.newest;
+      puts = taken watch more.texts (put_by putting more);
+      taken = more.taken first putting.have.taken;
+    }
 
 -- or no memory was found for it
-pub some_then : {H M : Type 0} {g : Ghosts H} {j : Judges M} (c : Client H M g j) (progress : Progress) (called : List (List ℕ)) (t u : Told) (watch : List (List ℕ)) (last next : Option (String Global))
-    (first old new : Option (List ℕ)) → HoldsOver c progress called t → (rule_by c).mode ≡ Following → watch_by c ≡ watch → (have : HavePut watch last t first old)
-    → PutsNext c have.texts next old new → ((watch texts : List (List ℕ)) → PutBy watch texts t → PutBefore watch texts u ⊎ PutBy watch texts u) → SoPut watch u first new
-some_then c progress called t u watch last next first old new holds follows same have more taken = record {
-  texts = more.texts;
-  puts = taken watch more.texts (put_by c progress called t watch have.texts more.texts holds follows same more.puts have.puts);
-  taken = more.taken first have.taken;
+pub some_then : {H M : Type 0} {g : Ghosts H} {j : Judges M} {c : Client H M g j} {progress : Progress}
+    {called : List (List ℕ)} {t u : Told} {watch : List (List ℕ)} {last next : Option (String Global)}
+    {first old new : Option (List ℕ)} (putting : Putting c progress called t watch last first old)
+    → PutsNext c putting.have.texts next old new
+    → ((watch texts : List (List ℕ)) → PutBy watch texts t → PutBefore watch texts u ⊎ PutBy watch texts u)
+    → SoPut watch u first new
+some_then {watch = watch} {first = first} putting more taken =
+    record {
+      texts = more.texts;
+      puts = taken watch more.texts (put_by putting more);
+      taken = more.taken first putting.have.taken;
+    }
+
+-- or the end is, of which the client isn't told
+pub putting_ended : {H M : Type 0} {g : Ghosts H} {j : Judges M} {c d : Client H M g j} {progress noted : Progress}
+    {called : List (List ℕ)} {t u : Told} {watch : List (List ℕ)} {last next : Option (String Global)}
+    {first old new : Option (List ℕ)} (putting : Putting c progress called t watch last first old)
+    → PutsNext c putting.have.texts next old new
+    → d ≡ c → noted ≡ progress → u ≡ tell (Took Ended) t → MayTake (rule_by c).mode putting.holds.actual
+    → Putting d noted called u watch next first new
+putting_ended {c = c} {d = d} {t = t} {u = u} putting more same notes told may = record {
+  holds = ended_holds {c = c} {d = d} same notes told putting.holds may;
+  follows = mode_same {c = c} {d = d} same putting.follows;
+  watched = ap (λ (r : Rule). r.watch) (rule_same {c = c} {d = d} same) ∙ putting.watched;
+  have = have_then putting more (puts_taken Ended t u told);
 }
 
 -- nothing was put yet
@@ -261,10 +317,8 @@ none_before watch t tells = by t.log tells.content where
 -- ---- of a whole run
 
 pub all_told : (watch : List (List ℕ)) (t : Told) (before now : Option (List ℕ)) → AllPut watch t before now → IfSome t.log (λ log. HasPut watch log before now)
-all_told watch t before now all = by t.log all.puts where
-  by : (o : Option Log) → IfSome o (λ log. ArePut watch log all.texts) → IfSome o (λ log. HasPut watch log before now)
-  by None puts = tt
-  by (Some log) puts = record { texts = all.texts; puts = puts; taken = all.taken }
+all_told watch t before now all = IfSome_then t.log all.puts
+    (λ log puts. record { texts = all.texts; puts = puts; taken = all.taken })
 
 pub all_some : (watch : List (List ℕ)) (t : Told) (before now : Option (List ℕ)) → AllPut watch t before now → SoPut watch t before now
 all_some watch t before now all = record { texts = all.texts; puts = inr all.puts; taken = all.taken }
@@ -273,48 +327,41 @@ pub none_put : (watch : List (List ℕ)) (t : Told) (now : Option (List ℕ)) �
 none_put watch t now were = record { texts = []; puts = inl were; taken = sym (more_none now) }
 
 -- of one that was given up
-so_told : (watch : List (List ℕ)) (t : Told) (before now : Option (List ℕ)) → SoPut watch t before now → IfSome t.log (λ log. HasPutSo watch log before now)
+pub so_told : (watch : List (List ℕ)) (t : Told) (before now : Option (List ℕ)) → SoPut watch t before now
+    → IfSome t.log (λ log. HasPutSo watch log before now)
 so_told watch t before now so = by t.log so.puts where
   by : (o : Option Log) → IfSome o (λ log. WerePut watch log so.texts) ⊎ IfSome o (λ log. ArePut watch log so.texts) → IfSome o (λ log. HasPutSo watch log before now)
   by None puts = tt
   by (Some log) puts = record { texts = so.texts; puts = puts; taken = so.taken }
 
-but_told : (watch : List (List ℕ)) (t : Told) (before now : Option (List ℕ)) → ButPut watch t before now → IfSome t.log (λ log. HasPutBut watch log before now)
-but_told watch t before now but = by t.log but.earlier but.due where
+but_told : (watch called : List (List ℕ)) (t : Told) (before now : Option (List ℕ)) → ButPut watch called t before now
+    → IfSome t.log (λ log. HasPutBut watch log before now)
+but_told watch called t before now but = by t.log but.earlier but.due where
   by : (o : Option Log) → IfSome o (λ log. WerePut watch log but.texts) → IfSome o (λ log. PutsAt watch log but.texts (but.text ∷ but.texts))
       → IfSome o (λ log. HasPutBut watch log before now)
   by None earlier due = tt
   by (Some log) earlier due = record { texts = but.texts; text = but.text; earlier = earlier; due = due; begun = but.begun }
 
--- how it failed
-abbrev is_refused : {T : Type 0} → Result T TextFail → Bool
-is_refused (Ok x) = false
-is_refused (Err NoMemory) = false
-is_refused (Err Failed) = true
+pub gives_up : {T : Type 0} (fail : TextFail) (told : T → Option (List ℕ)) (faults : T → ℕ)
+    (watch called : List (List ℕ)) (t : Told) (before after : T)
+    → SomePut fail watch called t (told before) (told after) → t.tally.dials ≡ length called
+    → (fail ≡ Failed → HasRisen (faults before) (faults after))
+    → GivesUp fail told faults watch called t before after
+gives_up NoMemory told faults watch called t before after some dials risen = so_told watch t (told before)
+    (told after) some
+gives_up Failed told faults watch called t before after but dials risen = record {
+  put = but_told watch called t (told before) (told after) but;
+  right = but.right;
+  run = but.run;
+  dialled = dials;
+  risen = risen refl;
+}
 
-pub so_put : {T : Type 0} (watch : List (List ℕ)) (t : Told) (before now : Option (List ℕ)) (r : Result T TextFail) → IfErr r (λ fail. SomePut fail watch t before now) → r ≡ Err NoMemory
-    → IfSome t.log (λ log. HasPutSo watch log before now)
-so_put watch t before now (Ok x) some is = absurd (false≢true (ap is_err is))
-so_put watch t before now (Err NoMemory) some is = so_told watch t before now some
-so_put watch t before now (Err Failed) some is = absurd (false≢true (sym (ap is_refused is)))
-
-but_so : {T : Type 0} (watch : List (List ℕ)) (t : Told) (before now : Option (List ℕ)) (r : Result T TextFail) → IfErr r (λ fail. SomePut fail watch t before now) → r ≡ Err Failed
-    → ButPut watch t before now
-but_so watch t before now (Ok x) some is = absurd (false≢true (ap is_err is))
-but_so watch t before now (Err NoMemory) some is = absurd (false≢true (ap is_refused is))
-but_so watch t before now (Err Failed) some is = some
-
-pub but_put : {T : Type 0} (watch : List (List ℕ)) (t : Told) (before now : Option (List ℕ)) (r : Result T TextFail) → IfErr r (λ fail. SomePut fail watch t before now) → r ≡ Err Failed
-    → IfSome t.log (λ log. HasPutBut watch log before now)
-but_put watch t before now r some is = but_told watch t before now (but_so watch t before now r some is)
-
-pub right_put : {T : Type 0} (watch : List (List ℕ)) (t : Told) (before now : Option (List ℕ)) (r : Result T TextFail) → IfErr r (λ fail. SomePut fail watch t before now) → r ≡ Err Failed
-    → IfSome t.log (λ log. AreBytes log × RightlyIn Following log)
-right_put watch t before now r some is = (but_so watch t before now r some is).right
-
--- what was followed, holds the theorem
-pub follow_theorem_in : (watch called : List (List ℕ)) (r : Result Outcome TextFail) (o : Option Log)
-    → IfOk r (λ x. IfSome o (λ log. Followed (following watch) x.end x.height x.tip x.history x.trace.items called log)) → IfOk r (λ x. IfSome o (λ log. FollowTheorem watch x.height x.tip x.history log))
-follow_theorem_in watch called (Ok x) (Some log) f = follow_theorem_of watch x.height x.tip x.history log f.asked
-follow_theorem_in watch called (Ok x) None f = tt
-follow_theorem_in watch called (Err e) o f = tt
+-- and its wires are finished
+pub gives_finished : {T : Type 0} (fail : TextFail) (told : T → Option (List ℕ)) (faults : T → ℕ)
+    (watch called : List (List ℕ)) (t : Told) (before after : T)
+    → GivesUp fail told faults watch called t before after → GivesUp fail told faults watch called
+    (told_finished t) before after
+gives_finished NoMemory told faults watch called t before after put = put
+gives_finished Failed told faults watch called t before after cut =
+    record { put = cut.put; right = cut.right; run = cut.run; dialled = cut.dialled; risen = cut.risen }

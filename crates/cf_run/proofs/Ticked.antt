@@ -4,7 +4,7 @@ use Rattle.std.specs.Prelude.{◌==◌}
 use Rattle.std.proofs.lemmas.Bool.{cases_eq, false≢true}
 use Rattle.cf_bytes.specs.declared.peer.PeerNo.{PeerNo}
 use Rattle.cf_headers.specs.Chain.{Chain}
-use Rattle.cf_msg.specs.declared.msg.Entry.{Entry}
+use Rattle.cf_msg.specs.declared.msg.Inventory.{Inventory}
 use Rattle.cf_msg.specs.declared.msg.Msg.{Msg}
 use Rattle.cf_msg.specs.declared.msg.Msg.TheVariants.{Version, Verack, Ping, Pong, GetHeaders, Headers, GetData, Inv, Block, GetCfilters, Cfilter, GetCfheaders, Cfheaders, GetCfcheckpt, Cfcheckpt, Other}
 use Rattle.cf_wires.specs.declared.event.Delivery.{Delivery}
@@ -61,7 +61,7 @@ asked_open t (GetCfilters filter start stop) may h =
     (ap (λ (part : Option Chain). not (is_idle (filters_asked start part))) may.1.0.tip))
 asked_open t (GetData entries) may h =
     inl (open_so (connected t) (ready t) (not (is_idle (request (Asked (GetData entries) ∷ t)))) may.0.on
-    (ap (λ (es : List Entry). not (is_idle (block_asked es (request t)))) may.1.1))
+    (ap (λ (es : List Inventory). not (is_idle (block_asked es (request t)))) may.1.1))
 asked_open t (Headers hs) may h = absurd may
 asked_open t (Inv entries) may h = absurd may
 asked_open t (Block block) may h = absurd may

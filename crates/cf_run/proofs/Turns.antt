@@ -28,7 +28,7 @@ use Rattle.cf_peer.specs.Asking.{is_open, is_idle, request}
 use Rattle.cf_scan.specs.declared.history.Entry.{Entry}
 use Rattle.cf_peer.specs.declared.mode.Mode.{Mode}
 use Rattle.cf_peer.specs.declared.mode.Mode.TheVariants.{Once, Following}
-use Rattle.cf_sync.specs.Fetching.{IsBusy, IsConnected, AreBytes, MayTake, RightlyIn, Rule}
+use Rattle.cf_sync.specs.Fetching.{IsBusy, AreBytes, MayTake, RightlyIn, Rule}
 use Rattle.cf_client.specs.declared.client.Client.{Client}
 use Rattle.cf_run.specs.declared.outcome.End.{End}
 use Rattle.cf_run.specs.declared.outcome.End.TheVariants.{Synced, NoPeers, Tired, Ended as EndedFirst}
@@ -38,12 +38,13 @@ use Rattle.cf_run.specs.declared.progress.SendState.TheVariants.{Fine}
 use Rattle.cf_run.specs.declared.trace.TraceLine.{TraceLine}
 use Rattle.cf_run.specs.Names.{names_in}
 use Rattle.cf_hear.proofs.Tracking.{tracks_ended}
-use Rattle.cf_client.specs.Stands.{Reflects, IsReportOf, seen_by, rule_by, words_by}
-use Rattle.cf_run.specs.Run.{IsOrderly, WasOrderly, AreNumbered, IsUntaken, IsTicked, WereAskedOut, WerePinged, Finished, AreBytesOf, IsEnd, IsTraceOf, names_of, is_lost, NobodyLeft}
+use Rattle.cf_client.specs.Stands.{Reflects, IsReportOf, seen_by, rule_by, greeting_by}
+use Rattle.cf_run.specs.Run.{IsOrderly, WasOrderly, AreNumbered, IsUntaken, IsTicked, WereAskedOut, WerePinged, WasRun, RanTo, AreBytesOf, IsEnd, IsTraceOf, names_of, is_lost, NobodyLeft}
 use Rattle.cf_run.specs.Moments.{Notes, Doing, HoldsOver, Stopped, IsEndTold, state_at, is_pending, is_fine}
 use Rattle.cf_client.specs.Blameless.{AreAskedOut}
 use Rattle.cf_peer.specs.declared.act.Act.{Act}
 use Rattle.cf_sync.specs.Planned.{is_untold, ArePlanned}
+use Rattle.cf_sync.specs.Sync.{HasAskedIn}
 use Rattle.cf_sync.proofs.Planning.{own_plan}
 use Rattle.cf_sync.proofs.Modes.{rightly_following}
 use Rattle.cf_sync.proofs.Settles.{followed_in}
@@ -197,9 +198,6 @@ took_bytes (Gone p) log is h = h
 took_bytes (Tick s) log is h = h
 took_bytes Ended log is h = h
 
-took_numbered : (d : Delivery) (log : Log) → AreNumbered log → AreNumbered (Took d ∷ log)
-took_numbered d log h = h
-
 took_notes : {rule : Rule} (progress : Progress) (called : List (List ℕ)) (log : Log) (t : Told) (d : Delivery) → AreBytesOf d → Notes rule progress called log t → MayTake rule.mode log → IsOrderly log → IsTicked rule.mode log
     → AreAskedOut rule log → Notes rule progress called (Took d ∷ log) (tell (Took d) t)
 took_notes progress called log t d is notes may in_order ticked asked_out = record {
@@ -258,11 +256,28 @@ reflects_same {H = H} {M = M} {g = g} {j = j} {log = log} same reflects = subst 
 pub rule_same : {H M : Type 0} {g : Ghosts H} {j : Judges M} {c d : Client H M g j} → d ≡ c → rule_by d ≡ rule_by c
 rule_same {H = H} {M = M} {g = g} {j = j} same = ap (λ (x : Client H M g j). rule_by x) same
 
-pub words_same : {H M : Type 0} {g : Ghosts H} {j : Judges M} {c d : Client H M g j} → d ≡ c → words_by d ≡ words_by c
-words_same {H = H} {M = M} {g = g} {j = j} same = ap (λ (x : Client H M g j). words_by x) same
+pub words_same : {H M : Type 0} {g : Ghosts H} {j : Judges M} {c d : Client H M g j} → d ≡ c → greeting_by d ≡ greeting_by c
+words_same {H = H} {M = M} {g = g} {j = j} same = ap (λ (x : Client H M g j). greeting_by x) same
 
 pub mode_same : {H M : Type 0} {g : Ghosts H} {j : Judges M} {c d : Client H M g j} {mode : Mode} → d ≡ c → (rule_by c).mode ≡ mode → (rule_by d).mode ≡ mode
 mode_same same is = ap (λ (r : Rule). r.mode) (rule_same same) ∙ is
+
+-- of a client whose state was asked by one that is the same
+pub may_held : {H M : Type 0} {g : Ghosts H} {j : Judges M} {c d : Client H M g j} {progress : Progress}
+    {called : List (List ℕ)} {t : Told} (s : State) → d ≡ c → (holds : HoldsOver d progress called t)
+    → (rule_by c).mode ≡ Following → (s ≡ HasNoPeers → ⊥) → ((log : Log) → Reflects d log → IsState s log)
+    → MayTake (rule_by d).mode holds.actual
+may_held {c = c} {d = d} s same holds follows ne state =
+    may_follow (rule_by d).mode s holds.actual (mode_same {c = c} {d = d} same follows) ne
+    (state holds.actual holds.reflects)
+
+pub may_rest : {H M : Type 0} {g : Ghosts H} {j : Judges M} {c d : Client H M g j} {progress : Progress}
+    {called : List (List ℕ)} {t : Told} (s : State) → d ≡ c → (holds : HoldsOver c progress called t)
+    → (rule_by c).mode ≡ Following → (s ≡ HasNoPeers → ⊥) → ((log : Log) → Reflects d log → IsState s log)
+    → MayTake (rule_by c).mode holds.actual
+may_rest {c = c} {d = d} s same holds follows ne state =
+    may_follow (rule_by c).mode s holds.actual follows ne
+    (state holds.actual (reflects_same {c = d} {d = c} (sym same) holds.reflects))
 
 -- a client that isn't told of the end reflects the log with it
 reflects_ended : {H M : Type 0} {g : Ghosts H} {j : Judges M} (c : Client H M g j) (log : Log) → Reflects c log → Reflects c (Took Ended ∷ log)
@@ -278,35 +293,34 @@ reflects_ended c log reflects = record {
   unexposed = reflects.unexposed;
 }
 
--- the wires have no more to give, and the run ends
-pub ended_stops : {H M : Type 0} {g : Ghosts H} {j : Judges M} (end : End) (c : Client H M g j) (progress : Progress) (called : List (List ℕ)) (t : Told) (holds : HoldsOver c progress called t)
-    → MayTake (rule_by c).mode holds.actual → IsEnd end (Took Ended ∷ holds.actual) → Stopped end c progress called (tell (Took Ended) t)
-ended_stops end c progress called t holds may why = record {
-  holds = record {
-    actual = Took Ended ∷ holds.actual;
-    notes = took_notes progress called holds.actual t Ended tt holds.notes may (orderly c progress called t holds) holds.ticked (asked_out_now c holds.actual holds.reflects);
-    reflects = reflects_ended c holds.actual holds.reflects;
-    ticked = ticked_ended (rule_by c).mode holds.actual;
-    told_all = λ q. refl;
-    none = holds.none;
-  };
-  why = why;
+-- the wires have no more to give, of which the client isn't told
+pub ended_here : {H M : Type 0} {g : Ghosts H} {j : Judges M} (c : Client H M g j) (progress : Progress)
+    (called : List (List ℕ)) (t : Told) (holds : HoldsOver c progress called t)
+    → MayTake (rule_by c).mode holds.actual → HoldsOver c progress called (tell (Took Ended) t)
+ended_here c progress called t holds may = record {
+  actual = Took Ended ∷ holds.actual;
+  notes = took_notes progress called holds.actual t Ended tt holds.notes may
+      (orderly c progress called t holds) holds.ticked (asked_out_now c holds.actual holds.reflects);
+  reflects = reflects_ended c holds.actual holds.reflects;
+  ticked = ticked_ended (rule_by c).mode holds.actual;
+  told_all = λ q. refl;
+  none = holds.none;
 }
 
--- and what its client holds then
+-- and the run ends
+pub ended_stops : {H M : Type 0} {g : Ghosts H} {j : Judges M} (end : End) (c : Client H M g j) (progress : Progress) (called : List (List ℕ)) (t : Told) (holds : HoldsOver c progress called t)
+    → MayTake (rule_by c).mode holds.actual → IsEnd end (Took Ended ∷ holds.actual) → Stopped end c progress called (tell (Took Ended) t)
+unfolding ended_here
+ended_stops end c progress called t holds may why =
+    record { holds = ended_here c progress called t holds may; why = why }
+
+-- the same, of what its client and its notes are then
 pub ended_holds : {H M : Type 0} {g : Ghosts H} {j : Judges M} {c d : Client H M g j} {progress next : Progress} {called : List (List ℕ)} {t u : Told}
     → d ≡ c → next ≡ progress → u ≡ tell (Took Ended) t → (holds : HoldsOver c progress called t) → MayTake (rule_by c).mode holds.actual → HoldsOver d next called u
 ended_holds {c = c} {d = d} {progress = progress} {next = next} {called = called} {t = t} {u = u} same noted told holds may =
-    let now : HoldsOver c progress called (tell (Took Ended) t) = record {
-      actual = Took Ended ∷ holds.actual;
-      notes = took_notes progress called holds.actual t Ended tt holds.notes may (orderly c progress called t holds) holds.ticked (asked_out_now c holds.actual holds.reflects);
-      reflects = reflects_ended c holds.actual holds.reflects;
-      ticked = ticked_ended (rule_by c).mode holds.actual;
-      told_all = λ q. refl;
-      none = holds.none;
-    } in
     holds_same {c = c} {d = d} same
-    (subst (λ (p : Progress). HoldsOver c p called u) (sym noted) (subst (λ (x : Told). HoldsOver c progress called x) (sym told) now))
+    (subst (λ (p : Progress). HoldsOver c p called u) (sym noted)
+    (subst (λ (x : Told). HoldsOver c progress called x) (sym told) (ended_here c progress called t holds may)))
 
 pub took_counts : (d : Delivery) (t : Told) → (d ≡ Ended → ⊥) → (tell (Took d) t).tally.taken ≡ t.tally.taken + 1
 took_counts (Got p piece) t ne = refl
@@ -415,57 +429,51 @@ marks_of : (log : Log) (p : ℕ) → p < 9 → Marks log p
 marks_of [] p lt = record { size = refl; says = ap is_called (fresh_mark 9 p) }
 marks_of (e ∷ log) p lt = mark_step e log p lt (marks_of log p lt)
 
--- why a run ends tells whether somebody is connected
-somebody : (end : End) (log : Log) → IsEnd end log → ((p : ℕ) × IsConnected log p) ⊎ ((p : ℕ) → connected (trail log p) ≡ false)
-somebody Synced log why = inl why.1
-somebody NoPeers log why = inr why
-somebody Tired log why = inl (why.0, open_on (trail log why.0) why.1)
-somebody EndedFirst log why =
-    let busy = why.1.1 in
-    inl (busy.0, subst (λ (l : Log). connected (trail l busy.0) ≡ true) (sym why.1.0) (open_on (trail why.0 busy.0) busy.1))
-
 -- a client that is the same tells the same
 pub report_same : {H M : Type 0} {g : Ghosts H} {j : Judges M} (c d : Client H M g j) (height : ℕ) (hash : Hash32) (entries : List Entry) → d ≡ c → ((log : Log) → Reflects d log → IsReportOf (rule_by d) height hash entries log)
     → (log : Log) → Reflects c log → IsReportOf (rule_by c) height hash entries log
 report_same {H = H} {M = M} {g = g} {j = j} c d height hash entries same told =
     subst (λ (x : Client H M g j). (log : Log) → Reflects x log → IsReportOf (rule_by x) height hash entries log) same told
 
+-- what a run has done whose client holds its log
+pub was_run : {H M : Type 0} {g : Ghosts H} {j : Judges M} (c : Client H M g j) (progress : Progress)
+    (called : List (List ℕ)) (t : Told) (holds : HoldsOver c progress called t)
+    → WasRun (rule_by c) called holds.actual
+was_run c progress called t holds = record {
+  planned = holds.notes.planned;
+  was_orderly = holds.notes.order;
+  orderly = orderly c progress called t holds;
+  numbered = holds.notes.numbered;
+  first = holds.notes.first;
+  named = holds.notes.named;
+  pinged = holds.notes.pinged;
+  ticked = holds.ticked;
+  in_time = holds.notes.in_time;
+}
+
 -- what a run that stopped has done
 pub finishes : {H M : Type 0} {g : Ghosts H} {j : Judges M} (end : End) (c : Client H M g j) (progress : Progress) (called : List (List ℕ)) (t : Told) (height : ℕ) (hash : Hash32) (entries : List Entry)
-    → Stopped end c progress called t → ((log : Log) → Reflects c log → IsReportOf (rule_by c) height hash entries log)
-    → Finished (rule_by c) end height hash entries progress.trace.items called t
-finishes end c progress called t height hash entries stopped told =
+    (stopped : Stopped end c progress called t) → IsReportOf (rule_by c) height hash entries stopped.holds.actual
+    → RanTo (rule_by c) end height hash entries progress.trace.items called stopped.holds.actual
+finishes end c progress called t height hash entries stopped report =
     let holds = stopped.holds in
-    let report = told holds.actual holds.reflects in
+    let asked : HasAskedIn (rule_by c).mode (rule_by c).watch height hash entries holds.actual = record {
+      watchable = report.watchable;
+      bytes = holds.notes.bytes;
+      rightly = holds.notes.rightly;
+      told = report.told;
+      asked_out = report.asked_out;
+    } in
     record {
-      actual = holds.actual;
-      tells = holds.notes.tells;
-      followed = record {
-        asked = record {
-          watchable = report.watchable;
-          bytes = holds.notes.bytes;
-          rightly = holds.notes.rightly;
-          told = report.told;
-          asked_out = report.asked_out;
-        };
-        settled = λ is. followed_in (rule_by c).mode (rule_by c).watch height hash entries holds.actual
-            (record { watchable = report.watchable; bytes = holds.notes.bytes; rightly = holds.notes.rightly; told = report.told; asked_out = report.asked_out })
-            (subst (λ (e : End). IsEnd e holds.actual) is stopped.why).0 (subst (λ (e : End). IsEnd e holds.actual) is stopped.why).1;
-        blames = λ clash quiet. has_blamed c holds.actual report.told.chain holds.reflects holds.notes.bytes (rightly_following (rule_by c).mode holds.actual holds.notes.rightly) clash report.told.best
-            (λ p on. (report.asked_out p on (quiet p)).tested);
-        planned = holds.notes.planned;
-        was_orderly = holds.notes.order;
-        orderly = orderly c progress called t holds;
-        numbered = holds.notes.numbered;
-        first = holds.notes.first;
-        traced = holds.notes.traced;
-        named = holds.notes.named;
-        why = stopped.why;
-        pinged = holds.notes.pinged;
-        ticked = holds.ticked;
-        in_time = holds.notes.in_time;
-      };
-      few = holds.notes.few;
+      asked = asked;
+      settled = λ is. let why = subst (λ (e : End). IsEnd e holds.actual) is stopped.why in
+          followed_in (rule_by c).mode (rule_by c).watch height hash entries holds.actual asked why.0 why.1;
+      blames = λ clash quiet. has_blamed c holds.actual report.told.chain holds.reflects holds.notes.bytes
+          (rightly_following (rule_by c).mode holds.actual holds.notes.rightly) clash report.told.best
+          (λ p on. (report.asked_out p on (quiet p)).tested);
+      run = was_run c progress called t holds;
+      traced = holds.notes.traced;
+      why = stopped.why;
     }
 
 -- a run that ended so, by its client
@@ -584,14 +592,19 @@ ends_so EndedFirst log why off =
     absurd (not_open (trail why.0 busy.0) (subst (λ (l : Log). connected (trail l busy.0) ≡ false) why.1.0 (off busy.0)) busy.1)
 
 -- a run ends for want of peers exactly where the tally has nobody left
-pub no_peers : (rule : Rule) (end : End) (height : ℕ) (hash : Hash32) (entries : List Entry) (lines : List TraceLine) (called : List (List ℕ)) (t : Told) → Finished rule end height hash entries lines called t
+pub no_peers : {H M : Type 0} {g : Ghosts H} {j : Judges M} (end : End) (c : Client H M g j) (progress : Progress)
+    (called : List (List ℕ)) (t : Told) → Stopped end c progress called t
     → (end ≡ NoPeers) ↔ NobodyLeft t.tally
-no_peers rule end height hash entries lines called t f = (
-  (λ is. let off = subst (λ (e : End). IsEnd e f.actual) is f.followed.why in
-      subst NobodyLeft (sym f.tells.counts)
-      (λ p one le. lost_mark f.actual p f.followed.numbered f.followed.was_orderly f.followed.orderly (off p) one le (omega (arith, le, f.few)))),
-  (λ none. ends_so end f.actual f.followed.why (nobody_left f.actual (subst NobodyLeft f.tells.counts none) f.followed.numbered f.few)),
-)
+no_peers end c progress called t stopped =
+    let log = stopped.holds.actual in
+    let notes = stopped.holds.notes in (
+      (λ is. let off = subst (λ (e : End). IsEnd e log) is stopped.why in
+          subst NobodyLeft (sym notes.tells.counts)
+          (λ p one le. lost_mark log p notes.numbered notes.order (orderly c progress called t stopped.holds)
+          (off p) one le (omega (arith, le, notes.few)))),
+      (λ none. ends_so end log stopped.why (nobody_left log
+          (subst NobodyLeft notes.tells.counts none) notes.numbered notes.few)),
+    )
 
 -- what holds of the log, holds of it where it is told
 pub told_so : (o : Option Log) (actual : Log) (P : Log → Type 0) → IfSome o (λ l. l ≡ actual) → P actual → IfSome o P
@@ -646,9 +659,10 @@ names_more names i name lt is =
     let cut : take (i + 1) names ≡ take i names ++ name ∷ [] = take_more names i name lt ∙ ap (λ (x : String Global). take i names ++ x ∷ []) (sym is) in
     sym (ap names_in cut ∙ map-append string_bytes (take i names) (name ∷ []))
 
+-- the end isn't told where the run goes on
+pub told_unended : (o : Option End) (before after : Tally) → o ≡ None → IsEndTold o before after → after.ended ≡ before.ended
+told_unended o before after is told = subst (λ (x : Option End). IsEndTold x before after) is told
+
 -- the end is told once where a turn ends for it, and not where the run goes on
 pub told_end : (o : Option End) (before after : Tally) → o ≡ Some EndedFirst → IsEndTold o before after → after.ended ≡ before.ended + 1
 told_end o before after is told = subst (λ (x : Option End). IsEndTold x before after) is told
-
-pub told_unended : (o : Option End) (before after : Tally) → o ≡ None → IsEndTold o before after → after.ended ≡ before.ended
-told_unended o before after is told = subst (λ (x : Option End). IsEndTold x before after) is told

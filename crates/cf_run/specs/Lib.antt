@@ -4,3 +4,4 @@ pub mod Moments
 pub mod Versions
 pub mod Passing
 pub mod Texts
+pub mod Whole

@@ -136,7 +136,7 @@ pub record SameCounts (t u : Told) : Type 0 where
   pub puts : (watch texts : List (List ℕ)) → PutBefore watch texts t → PutBefore watch texts u
 
 -- the run at a moment: what its wires told, how often what is outside has failed, their script, whether they keep their log, and the run's own notes
-pub record Moment : Type 0 where
+pub record RunState : Type 0 where
   pub told : Told
   pub faults : ℕ
   pub script : Option Made
@@ -144,18 +144,18 @@ pub record Moment : Type 0 where
   pub progress : Progress
 
 -- the moment at which wires and run are so
-abbrev pub moment : Told → ℕ → Option Made → Bool → Progress → Moment
-moment told faults script keeps progress = record { told = told; faults = faults; script = script; keeps = keeps; progress = progress }
+abbrev pub run_state : Told → ℕ → Option Made → Bool → Progress → RunState
+run_state told faults script keeps progress = record { told = told; faults = faults; script = script; keeps = keeps; progress = progress }
 
 -- from one moment to a later one, whatever was answered
-pub record Runs (a b : Moment) : Type 0 where
+pub record Runs (a b : RunState) : Type 0 where
   pub course : Course a.told b.told a.faults b.faults a.script b.script
   pub keeps : b.keeps ≡ a.keeps
   pub finished : b.told.finished ≡ a.told.finished
   pub step : IsInStep b.told b.progress
 
 -- acts were done: no count changed, and no more failures are to be told than before
-pub record Performs (a b : Moment) : Type 0 where
+pub record Performs (a b : RunState) : Type 0 where
   pub runs : Runs a b
   pub counts : SameCounts a.told b.told
   pub fewer : trouble b.progress ≤ trouble a.progress
@@ -171,7 +171,7 @@ pub record IsNoMore (t u : Told) : Type 0 where
   pub named : (called : List (List ℕ)) → HasNames called t → HasNames called u
 
 -- a name was dialled, or no memory was found before it
-pub record Dials (name : List ℕ) (a b : Moment) : Type 0 where
+pub record Dials (name : List ℕ) (a b : RunState) : Type 0 where
   pub runs : Runs a b
   pub taken : b.told.tally.taken ≡ a.told.tally.taken
   pub ended : b.told.tally.ended ≡ a.told.tally.ended
@@ -179,12 +179,25 @@ pub record Dials (name : List ℕ) (a b : Moment) : Type 0 where
   pub puts : (watch texts : List (List ℕ)) → PutBefore watch texts a.told → PutBefore watch texts b.told
 
 -- a turn was begun: at most one delivery was taken, or the end told, and nobody was dialled
-pub record Turns (a b : Moment) : Type 0 where
+pub record Turns (a b : RunState) : Type 0 where
   pub runs : Runs a b
   pub same : IsNoMore a.told b.told
   pub taken : b.told.tally.taken ≤ a.told.tally.taken + 1
   pub ended : b.told.tally.ended ≤ a.told.tally.ended + 1
   pub puts : (watch texts : List (List ℕ)) → PutBy watch texts a.told → PutBefore watch texts b.told ⊎ PutBy watch texts b.told
+
+-- turns were taken, so many at most: the end was told at most once, and nobody was dialled
+pub record TakesTurns (turns : ℕ) (a b : RunState) : Type 0 where
+  pub most : b.told.tally.taken ≤ turns
+  pub once : b.told.tally.ended ≤ 1
+  pub same : IsNoMore a.told b.told
+  pub runs : Runs a b
+
+-- so many turns that ended so: they are used up where the run is tired, and not where the wires had no more to give
+pub record EndsTurns (end : End) (turns : ℕ) (tally : Tally) : Type 0 where
+  pub tired : end ≡ Tired → tally.taken ≡ turns
+  pub ended : end ≡ EndedFirst → tally.ended ≡ 1
+  pub early : end ≡ EndedFirst → tally.taken < turns
 
 -- a run stops for this reason
 pub record Stopped {H M : Type 0} {g : Ghosts H} {j : Judges M} (end : End) (c : Client H M g j) (progress : Progress) (called : List (List ℕ)) (t : Told) : Type 0 where

@@ -9,13 +9,13 @@ use Rattle.cf_msg.specs.Message.{command_of}
 use Rattle.cf_peer.specs.declared.mode.Mode.TheVariants.{Once, Following}
 use Rattle.cf_wires.specs.declared.event.Delivery.{Delivery}
 use Rattle.cf_wires.specs.declared.event.Delivery.TheVariants.{Got, Gone, Tick, Ended}
-use Rattle.cf_frame.specs.Stream.{IsBytes}
+use Rattle.cf_bytes.specs.Cut.{IsBytes}
 use Rattle.cf_wires.specs.declared.event.Dial.{Dial}
 use Rattle.cf_wires.specs.declared.event.Event.{Event}
 use Rattle.cf_wires.specs.declared.event.Event.TheVariants.{Dialled, NotDialled, Sent, SendFailed, Closed, Took}
 use Rattle.cf_wires.specs.declared.event.Mark.{Mark}
 use Rattle.cf_wires.specs.declared.event.Mark.TheVariants.{NotYet, Called, Missed, Left, Shut, Broken}
-use Rattle.cf_wires.specs.Log.{Log, Told, Tally, Tells, tally_of, mark_of, dials}
+use Rattle.cf_wires.specs.Log.{Log, Told, Tally, tally_of, mark_of, dials}
 use Rattle.cf_wires.specs.Wires.{Made}
 use Rattle.cf_peer.specs.Trail.{trail, spelled}
 use Rattle.cf_peer.specs.declared.mode.Mode.{Mode}
@@ -160,31 +160,29 @@ IsEnd NoPeers log = IsState HasNoPeers log
 IsEnd Tired log = IsBusy log
 IsEnd EndedFirst log = (before : Log) × ((log ≡ Took Ended ∷ before) × IsBusy before)
 
--- What a run that ended so has done, by its log. With nothing open each connected peer was heard out, and its filter header is known at each block that its own
--- chain shares with the best one; and each of the best chain's blocks is settled. With nothing open what each claims of the fetched blocks on which they differ was
--- tested, and nobody is left whose filter omits something (where no strings clash).
-pub record Followed (rule : Rule) (end : End) (height : ℕ) (hash : Hash32) (entries : List Entry) (lines : List TraceLine) (called : List (List ℕ)) (log : Log) : Type 0 where
-  pub asked : HasAskedIn rule.mode rule.watch height hash entries log
-  pub settled : end ≡ Synced → sync.FollowedIn rule.mode rule.watch height hash entries log
-  pub blames : NoHashClash (IsHashed log []) → IsQuiet log → AreBlamed log asked.told.chain
+-- What a run has done by a moment between two calls of the client: all went as it was planned, in order and in time, and the names were dialled first, in
+-- order.
+pub record WasRun (rule : Rule) (called : List (List ℕ)) (log : Log) : Type 0 where
   pub planned : ArePlanned rule log
   pub was_orderly : WasOrderly log
   pub orderly : IsOrderly log
   pub numbered : AreNumbered log
   pub first : AreDialledFirst log
-  pub traced : IsTraceOf log (reverse lines)
   pub named : names_of log ≡ called
-  pub why : IsEnd end log
   pub pinged : WerePinged rule.mode log
   pub ticked : IsTicked rule.mode log
   pub in_time : WereAskedOut rule log
 
--- the same of some log that the wires tell, or their tally alone
-pub record Finished (rule : Rule) (end : End) (height : ℕ) (hash : Hash32) (entries : List Entry) (lines : List TraceLine) (called : List (List ℕ)) (t : Told) : Type 0 where
-  pub actual : Log
-  pub tells : Tells actual t
-  pub followed : Followed rule end height hash entries lines called actual
-  pub few : (tally_of actual).dials ≤ 8
+-- What a run that ended so has done, by its log. With nothing open each connected peer was heard out, and its filter header is known at each block that its own
+-- chain shares with the best one; and each of the best chain's blocks is settled. With nothing open what each claims of the fetched blocks on which they differ was
+-- tested, and nobody is left whose filter omits something (where no strings clash).
+pub record RanTo (rule : Rule) (end : End) (height : ℕ) (hash : Hash32) (entries : List Entry) (lines : List TraceLine) (called : List (List ℕ)) (log : Log) : Type 0 where
+  pub asked : HasAskedIn rule.mode rule.watch height hash entries log
+  pub settled : end ≡ Synced → sync.FollowedIn rule.mode rule.watch height hash entries log
+  pub blames : NoHashClash (IsHashed log []) → IsQuiet log → AreBlamed log asked.told.chain
+  pub run : WasRun rule called log
+  pub traced : IsTraceOf log (reverse lines)
+  pub why : IsEnd end log
 
 -- not dialled, gone or closed
 abbrev pub is_lost : Mark → Bool

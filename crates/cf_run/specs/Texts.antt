@@ -6,10 +6,11 @@ use Rattle.cf_headers.specs.declared.store.HeaderStore.{Ghosts}
 use Rattle.cf_match.specs.declared.matcher.Matcher.{Ghosts as Judges}
 use Rattle.cf_peer.specs.declared.mode.Mode.TheVariants.{Following}
 use Rattle.cf_wires.specs.Log.{Log, Tally, Told}
-use Rattle.cf_sync.specs.Fetching.{AreBytes, RightlyIn}
+use Rattle.cf_sync.specs.Fetching.{AreBytes, RightlyIn, following}
 use Rattle.cf_sync.specs.Putting.{WerePut, ArePut, PutsAt, EndsWith, put}
 use Rattle.cf_client.specs.declared.client.Client.{Client}
 use Rattle.cf_client.specs.Stands.{Reflects, watch_by}
+use Rattle.cf_run.specs.Run.{WasRun}
 use Rattle.cf_run.specs.declared.texts.TextFail.{TextFail}
 use Rattle.cf_run.specs.declared.texts.TextFail.TheVariants.{NoMemory, Failed}
 
@@ -112,16 +113,18 @@ pub record SoPut (watch : List (List ℕ)) (t : Told) (before now : Option (List
   pub puts : PutBefore watch texts t ⊎ PutBy watch texts t
   pub taken : now ≡ with_more before (joined texts)
 
--- all texts were put, before the last delivery, and a beginning of the one that is due now; and the log is right so far
-pub record ButPut (watch : List (List ℕ)) (t : Told) (before now : Option (List ℕ)) : Type 0 where
+-- all texts were put, before the last delivery, and a beginning of the one that is due now; and the log is right so far, and that of a run which dialled these
+-- names
+pub record ButPut (watch called : List (List ℕ)) (t : Told) (before now : Option (List ℕ)) : Type 0 where
   pub texts : List (List ℕ)
   pub text : List ℕ
   pub earlier : PutBefore watch texts t
   pub due : IfSome t.log (λ log. PutsAt watch log texts (text ∷ texts))
   pub begun : HasBegun text (with_more before (joined texts)) now
   pub right : IfSome t.log (λ log. AreBytes log × RightlyIn Following log)
+  pub run : IfSome t.log (WasRun (following watch) called)
 
 -- what was put of a run that failed so
-abbrev pub SomePut : TextFail → List (List ℕ) → Told → Option (List ℕ) → Option (List ℕ) → Type 0
-SomePut NoMemory watch t before now = SoPut watch t before now
-SomePut Failed watch t before now = ButPut watch t before now
+abbrev pub SomePut : TextFail → (watch called : List (List ℕ)) → Told → Option (List ℕ) → Option (List ℕ) → Type 0
+SomePut NoMemory watch called t before now = SoPut watch t before now
+SomePut Failed watch called t before now = ButPut watch called t before now

@@ -1,25 +1,24 @@
 //! A run that follows: the dials, the deliveries, and the texts of its quiet moments.
-ghost use Rattle.std.specs.Prelude.{◌≡◌, ◌≢◌, ◌↔◌, ℕ, None, ◌<◌, ◌≤◌, ◌+◌, ◌∷◌, [], List, Option, OnOk, IfOk, IfErr, IfSome, IsErrOf, Some, false, true, length, string_bytes, if◌then◌else◌};
+ghost use Rattle.std.specs.Prelude.{◌≡◌, ◌≢◌, ℕ, None, ◌<◌, ◌≤◌, ◌+◌, ◌∷◌, [], List, Option, OnOk, IfOk, IfErr, IfSome, IsErrOf, Some, false, length, string_bytes, if◌then◌else◌};
 ghost use Rattle.cf_bytes.specs.Outside.{HasRisen};
-ghost use Rattle.cf_client.specs.Holding.{HoldsNoMore};
-ghost use Rattle.cf_client.specs.Stands.{Reflects, count_of, rule_by, watch_by, words_by};
+ghost use Rattle.cf_client.specs.Stands.{Reflects, count_of, rule_by, watch_by, greeting_by};
 ghost use Rattle.cf_peer.specs.declared.mode.Mode.TheVariants.{Following};
-ghost use Rattle.cf_place.specs.Standing.{EndsTell};
 ghost use Rattle.cf_run.specs.Names.{names_in};
-ghost use Rattle.cf_run.specs.Passing.{EndsWithin, Passes};
-ghost use Rattle.cf_run.specs.Run.{Course, Followed, HasDialled, HasFailed, IsEnd, NobodyLeft};
-ghost use Rattle.cf_run.specs.Moments.{HoldsOver, IsInStep, IsNoMore, Runs, Stopped, Turned, Turns, moment};
-ghost use Rattle.cf_run.specs.Texts.{AllPut, HasPut, HasPutBut, HasPutSo, HavePut, IsLast, IsOver, PutBefore, PutsBegun, PutsNext, PutsOne, PutsSome, SomePut};
-ghost use Rattle.cf_run.specs.Versions.{HasWords, KeepsWords};
-ghost use Rattle.cf_sync.specs.Fetching.{AreBytes, RightlyIn, following};
+ghost use Rattle.cf_run.specs.Passing.{Passes};
+ghost use Rattle.cf_run.specs.Run.{IsEnd};
+ghost use Rattle.cf_run.specs.Moments.{EndsTurns, HoldsOver, IsInStep, Stopped, TakesTurns, Turned, Turns, run_state};
+ghost use Rattle.cf_run.specs.Texts.{AllPut, HavePut, IsLast, IsOver, PutBefore, PutsBegun, PutsNext, PutsOne, PutsSome, SomePut};
+ghost use Rattle.cf_run.specs.Versions.{KeepsGreeting};
+ghost use Rattle.cf_run.specs.Whole.{AreNewWires, EndsWithin, GivesUp, IsOutcome, LeavesWires, PutsAll};
+ghost use Rattle.cf_sync.specs.Fetching.{following};
 ghost use Rattle.cf_sync.specs.Growing.{FollowTheorem};
 ghost use Rattle.cf_sync.specs.Putting.{put};
-ghost use Rattle.cf_wires.specs.Log.{Log, Tells};
+ghost use Rattle.cf_wires.specs.Log.{Log};
 ghost use Rattle.cf_wires.specs.declared.event.Delivery.TheVariants.{Ended};
 ghost use Rattle.cf_wires.specs.declared.event.Event.TheVariants.{Took};
 
 use crate::outcome::{End, Outcome};
-use crate::over::{dial_all, last_end, outcome_of, take_next};
+use crate::over::{dial_first, last_end, outcome_of, take_next};
 use crate::progress::Progress;
 use crate::texts::{TextFail, Texts};
 use cf_bytes::NoMemory;
@@ -132,11 +131,11 @@ fn follow_turn<W: Wires, H: HeaderStore, M: Matcher, T: Texts>(
     ensures put_some { IfErr result (λ fail. (watch called : List (List ℕ)) (first : Option (List ℕ))
         → watch_by client.old ≡ watch → HoldsOver client.old progress.old called (W.told wires.old)
         → HavePut watch last.old (W.told wires.old) first (T.told texts.old)
-        → SomePut fail watch (W.told wires.new) first (T.told texts.new)) }
+        → SomePut fail watch called (W.told wires.new) first (T.told texts.new)) }
     ensures versions { (called : List (List ℕ)) → HoldsOver client.old progress.old called (W.told wires.old)
-        → KeepsWords (words_by client.old) (W.told wires.old) (W.told wires.new) }
+        → KeepsGreeting (greeting_by client.old) (W.told wires.old) (W.told wires.new) }
     ensures rule { OnOk result (rule_by client.new ≡ rule_by client.old) }
-    ensures words { OnOk result (words_by client.new ≡ words_by client.old) }
+    ensures words { OnOk result (greeting_by client.new ≡ greeting_by client.old) }
     ensures taken { IfOk result (λ end. end ≡ None
         → (W.told wires.new).tally.taken ≡ (W.told wires.old).tally.taken + 1) }
     ensures untaken { IfOk result (λ end. end ≢ None
@@ -147,8 +146,8 @@ fn follow_turn<W: Wires, H: HeaderStore, M: Matcher, T: Texts>(
     ensures ended { IfOk result (λ end. (e : End) → end ≡ Some e → e ≢ End.NoPeers
         → (W.told wires.new).tally.ended ≡ (W.told wires.old).tally.ended + 1) }
     ensures turns { Turns
-        (moment (W.told wires.old) (W.faults wires.old) (W.script wires.old) (W.keeps wires.old) progress.old)
-        (moment (W.told wires.new) (W.faults wires.new) (W.script wires.new) (W.keeps wires.new) progress.new) }
+        (run_state (W.told wires.old) (W.faults wires.old) (W.script wires.old) (W.keeps wires.old) progress.old)
+        (run_state (W.told wires.new) (W.faults wires.new) (W.script wires.new) (W.keeps wires.new) progress.new) }
     ensures fine { OnOk result (T.faults texts.new ≡ T.faults texts.old) }
     ensures failed { IsErrOf result TextFail.Failed → HasRisen (T.faults texts.old) (T.faults texts.new) }
     ensures same_reference { T.holds texts.new ≡ T.holds texts.old }
@@ -187,20 +186,15 @@ fn follow_turns<W: Wires, H: HeaderStore, M: Matcher, T: Texts>(
         → AllPut watch (W.told wires.new) (T.told texts.old) (T.told texts.new)) }
     ensures put_some { IfErr result (λ fail. (watch called : List (List ℕ)) → watch_by client.old ≡ watch
         → HoldsOver client.old progress.old called (W.told wires.old) → PutBefore watch [] (W.told wires.old)
-        → SomePut fail watch (W.told wires.new) (T.told texts.old) (T.told texts.new)) }
+        → SomePut fail watch called (W.told wires.new) (T.told texts.old) (T.told texts.new)) }
     ensures versions { (called : List (List ℕ)) → HoldsOver client.old progress.old called (W.told wires.old)
-        → KeepsWords (words_by client.old) (W.told wires.old) (W.told wires.new) }
+        → KeepsGreeting (greeting_by client.old) (W.told wires.old) (W.told wires.new) }
     ensures rule { OnOk result (rule_by client.new ≡ rule_by client.old) }
     ensures done { IfOk result (λ end. end ≡ End.Synced → IsOver turns (W.told wires.new).tally) }
-    ensures tired { IfOk result (λ end. end ≡ End.Tired → (W.told wires.new).tally.taken ≡ turns) }
-    ensures ended { IfOk result (λ end. end ≡ End.Ended → (W.told wires.new).tally.ended ≡ 1) }
-    ensures early { IfOk result (λ end. end ≡ End.Ended → (W.told wires.new).tally.taken < turns) }
-    ensures most { (W.told wires.new).tally.taken ≤ turns }
-    ensures once { (W.told wires.new).tally.ended ≤ 1 }
-    ensures same { IsNoMore (W.told wires.old) (W.told wires.new) }
-    ensures runs { Runs
-        (moment (W.told wires.old) (W.faults wires.old) (W.script wires.old) (W.keeps wires.old) progress.old)
-        (moment (W.told wires.new) (W.faults wires.new) (W.script wires.new) (W.keeps wires.new) progress.new) }
+    ensures ends { IfOk result (λ end. EndsTurns end turns (W.told wires.new).tally) }
+    ensures takes { TakesTurns turns
+        (run_state (W.told wires.old) (W.faults wires.old) (W.script wires.old) (W.keeps wires.old) progress.old)
+        (run_state (W.told wires.new) (W.faults wires.new) (W.script wires.new) (W.keeps wires.new) progress.new) }
     ensures fine { OnOk result (T.faults texts.new ≡ T.faults texts.old) }
     ensures failed { IsErrOf result TextFail.Failed → HasRisen (T.faults texts.old) (T.faults texts.new) }
     ensures same_reference { T.holds texts.new ≡ T.holds texts.old }
@@ -227,7 +221,7 @@ fn follower<H: HeaderStore + Drop, M: Matcher + Drop>(
     requires { (q : ℕ) → H.chain store q ≡ None }
     ensures reflects { IfOk result (λ c. Reflects c []) }
     ensures rule { IfOk result (λ c. rule_by c ≡ following watch) }
-    ensures words { IfOk result (λ c. words_by c ≡ record { moment = moment; number = nonce }) }
+    ensures words { IfOk result (λ c. greeting_by c ≡ record { moment = moment; number = nonce }) }
     ensures count { IfOk result (λ c. count_of c ≡ 1) }
 {
     let client = Client::new(alloc, watch, store, matcher, moment, nonce)?;
@@ -247,32 +241,22 @@ fn follow_all<W: Wires, H: HeaderStore + Drop, M: Matcher + Drop, T: Texts>(
     turns: u32,
     texts: &mut T,
 ) -> Result<Outcome, TextFail>
-    requires fresh { Tells [] (W.told wires.old) }
-    requires open { (W.told wires.old).finished ≡ false }
+    requires wires { AreNewWires (W.told wires.old) }
     requires few { length names.now ≤ 8 }
     requires empty { (q : ℕ) → H.chain store q ≡ None }
-    ensures followed { IfOk result (λ o. IfSome (W.told wires.new).log (λ log.
-        Followed (following watch) o.end o.height o.tip o.history o.trace.items (names_in names.now) log)) }
-    ensures put { OnOk result (IfSome (W.told wires.new).log (λ log.
-        HasPut watch log (T.told texts.old) (T.told texts.new))) }
-    ensures put_some { IfErr result (λ fail.
-        SomePut fail watch (W.told wires.new) (T.told texts.old) (T.told texts.new)) }
-    ensures ends { IfOk result (λ o. IfSome (W.told wires.new).log (λ log. EndsTell o.ends.items log)) }
-    ensures held { IfOk result (λ o. IfSome (W.told wires.new).log (λ log. HoldsNoMore H.counts o.held log)) }
-    ensures versions { HasWords (record { moment = moment; number = nonce }) (W.told wires.new) }
-    ensures no_peers { IfOk result (λ o. (o.end ≡ End.NoPeers) ↔ NobodyLeft (W.told wires.new).tally) }
-    ensures done { IfOk result (λ o. o.end ≡ End.Synced → IsOver turns (W.told wires.new).tally) }
+    ensures outcome { IfOk result
+        (λ o. IfSome (W.told wires.new).log (IsOutcome H.counts (following watch) (names_in names.now) o)) }
     ensures within { IfOk result (λ o. EndsWithin o.end (length names.now) turns (W.told wires.new).tally) }
-    ensures dialled { (IsErrOf result TextFail.NoMemory → ⊥) → (W.told wires.new).tally.dials ≡ length names.now }
-    ensures passes { Passes (names_in names.now) turns (W.told wires.old) (W.told wires.new) (W.faults wires.old)
-        (W.faults wires.new) (W.script wires.old) (W.script wires.new) (W.keeps wires.old) (W.keeps wires.new) }
-    ensures fine { OnOk result (T.faults texts.new ≡ T.faults texts.old) }
-    ensures failed { IsErrOf result TextFail.Failed → HasRisen (T.faults texts.old) (T.faults texts.new) }
+    ensures done { IfOk result (λ o. o.end ≡ End.Synced → IsOver turns (W.told wires.new).tally) }
+    ensures passes { Passes W.told W.faults W.script W.keeps (record { moment = moment; number = nonce })
+        (names_in names.now) turns wires.old wires.new }
+    ensures put { OnOk result (PutsAll T.told T.faults watch (W.told wires.new).log texts.old texts.new) }
+    ensures cut { IfErr result (λ fail.
+        GivesUp fail T.told T.faults watch (names_in names.now) (W.told wires.new) texts.old texts.new) }
     ensures same_reference { T.holds texts.new ≡ T.holds texts.old }
 {
     let mut client = follower(alloc, watch, store, matcher, moment, nonce)?;
-    let mut progress = Progress::new(alloc);
-    dial_all(alloc, wires, &mut client, &mut progress, names)?;
+    let mut progress = dial_first(alloc, wires, &mut client, names)?;
     let end = follow_turns(alloc, wires, &mut client, &mut progress, turns, texts)?;
     let outcome = outcome_of(&mut client, progress, end)?;
     Ok(outcome)
@@ -296,42 +280,20 @@ pub fn follow_over<W: Wires, H: HeaderStore + Drop, M: Matcher + Drop, T: Texts>
     turns: u32,
     texts: &mut T,
 ) -> Result<Outcome, TextFail>
-    requires fresh { Tells [] (W.told wires.old) }
-    requires open { (W.told wires.old).finished ≡ false }
+    requires wires { AreNewWires (W.told wires.old) }
     requires few { length names.now ≤ 8 }
     requires empty { (q : ℕ) → H.chain store q ≡ None }
-    ensures followed { IfOk result (λ o. IfSome (W.told wires.new).log (λ log.
-        Followed (following watch) o.end o.height o.tip o.history o.trace.items (names_in names.now) log)) }
-    ensures put { OnOk result (IfSome (W.told wires.new).log (λ log.
-        HasPut watch log (T.told texts.old) (T.told texts.new))) }
-    ensures put_so { IsErrOf result TextFail.NoMemory → IfSome (W.told wires.new).log (λ log.
-        HasPutSo watch log (T.told texts.old) (T.told texts.new)) }
-    ensures put_but { IsErrOf result TextFail.Failed → IfSome (W.told wires.new).log (λ log.
-        HasPutBut watch log (T.told texts.old) (T.told texts.new)) }
+    ensures outcome { IfOk result
+        (λ o. IfSome (W.told wires.new).log (IsOutcome H.counts (following watch) (names_in names.now) o)) }
     ensures theorem { IfOk result (λ o. IfSome (W.told wires.new).log (λ log.
         FollowTheorem watch o.height o.tip o.history log)) }
-    ensures ends { IfOk result (λ o. IfSome (W.told wires.new).log (λ log. EndsTell o.ends.items log)) }
-    ensures held { IfOk result (λ o. IfSome (W.told wires.new).log (λ log. HoldsNoMore H.counts o.held log)) }
-    ensures versions { HasWords (record { moment = moment; number = nonce }) (W.told wires.new) }
-    ensures no_peers { IfOk result (λ o. (o.end ≡ End.NoPeers) ↔ NobodyLeft (W.told wires.new).tally) }
+    ensures within { IfOk result (λ o. EndsWithin o.end (length names.now) turns (W.told wires.new).tally) }
     ensures done { IfOk result (λ o. o.end ≡ End.Synced → IsOver turns (W.told wires.new).tally) }
-    ensures tired { IfOk result (λ o. o.end ≡ End.Tired → (W.told wires.new).tally.taken ≡ turns) }
-    ensures ended { IfOk result (λ o. o.end ≡ End.Ended → (W.told wires.new).tally.ended ≡ 1) }
-    ensures early { IfOk result (λ o. o.end ≡ End.Ended → (W.told wires.new).tally.taken < turns) }
-    ensures dialled { (IsErrOf result TextFail.NoMemory → ⊥) → (W.told wires.new).tally.dials ≡ length names.now }
-    ensures right { IsErrOf result TextFail.Failed → IfSome (W.told wires.new).log (λ log.
-        AreBytes log × RightlyIn Following log) }
-    ensures first { HasDialled (names_in names.now) (W.told wires.new) }
-    ensures most { (W.told wires.new).tally.taken ≤ turns }
-    ensures once { (W.told wires.new).tally.ended ≤ 1 }
-    ensures finished { (W.told wires.new).finished ≡ true }
-    ensures keeps { W.keeps wires.new ≡ W.keeps wires.old }
-    ensures course { Course (W.told wires.old) (W.told wires.new) (W.faults wires.old)
-        (W.faults wires.new) (W.script wires.old) (W.script wires.new) }
-    ensures failures { IfSome (W.told wires.new).log (λ log.
-        HasFailed log → HasRisen (W.faults wires.old) (W.faults wires.new)) }
-    ensures failed { IsErrOf result TextFail.Failed → HasRisen (T.faults texts.old) (T.faults texts.new) }
-    ensures fine { OnOk result (T.faults texts.new ≡ T.faults texts.old) }
+    ensures wires { LeavesWires W.told W.faults W.script W.keeps (record { moment = moment; number = nonce })
+        (names_in names.now) turns wires.old wires.new }
+    ensures put { OnOk result (PutsAll T.told T.faults watch (W.told wires.new).log texts.old texts.new) }
+    ensures cut { IfErr result (λ fail.
+        GivesUp fail T.told T.faults watch (names_in names.now) (W.told wires.new) texts.old texts.new) }
     ensures same_reference { T.holds texts.new ≡ T.holds texts.old }
 {
     let outcome = follow_all(

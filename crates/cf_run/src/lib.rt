@@ -11,5 +11,5 @@ mod trace;
 pub use follow::follow_over;
 pub use outcome::{End, Outcome};
 pub use over::sync_over;
-pub use texts::{Kept, Live, TextFail, Texts};
+pub use texts::{KeptTexts, Live, TextFail, Texts};
 pub use trace::TraceLine;

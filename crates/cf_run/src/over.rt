@@ -1,25 +1,24 @@
 //! The run of a client over any wires: the dials, the turns, and the finish.
-ghost use Rattle.std.specs.Prelude.{◌≡◌, ◌≢◌, ◌↔◌, ℕ, None, ◌<◌, ◌≤◌, ◌+◌, ◌∷◌, ◌++◌, [], List, OnOk, IfOk, IfNone, IfSome, IsErrOf, true, false, length};
-ghost use Rattle.cf_bytes.specs.Outside.{HasRisen};
-ghost use Rattle.cf_client.specs.Holding.{HoldsNoMore};
+ghost use Rattle.std.specs.Prelude.{◌≡◌, ◌≢◌, ℕ, None, ◌<◌, ◌≤◌, ◌+◌, ◌∷◌, ◌++◌, [], List, OnOk, IfOk, IfNone, IfSome, IsErrOf, true, false, length};
 ghost use Rattle.cf_run.specs.Names.{names_in};
 ghost use Rattle.cf_sync.specs.Fetching.{MayTake, Rule, once};
 ghost use Rattle.cf_run.specs.Texts.{PutBefore, PutBy};
 ghost use Rattle.cf_sync.specs.Sync.{SyncTheorem};
 ghost use Rattle.cf_place.specs.Places.{MayAct, Allowed, after, entry_of, ActTells};
-ghost use Rattle.cf_place.specs.Standing.{EndsTell, Words, TellsWords};
-ghost use Rattle.cf_run.specs.Passing.{CountsOne, EndsWithin, Passes};
-ghost use Rattle.cf_run.specs.Run.{Followed, NobodyLeft, HasFailed, Course, AreBytesOf, HasDialled, HasNames, IsEnd, IsTicked};
-ghost use Rattle.cf_run.specs.Moments.{Doing, HoldsOver, moment, Runs, Performs, Dials, Turns, IsOneMore, IsNoMore, Turned, Stopped, IsInStep, IsEndTold};
-ghost use Rattle.cf_client.specs.Stands.{Reflects, Answers, IsReportOf, count_of, rule_by, words_by};
-ghost use Rattle.cf_run.specs.Versions.{KeepsWords, HasWords};
+ghost use Rattle.cf_place.specs.Standing.{Greeting, TellsGreeting};
+ghost use Rattle.cf_run.specs.Passing.{CountsOne, Passes};
+ghost use Rattle.cf_run.specs.Run.{AreBytesOf, HasDialled, HasNames, IsEnd, IsTicked};
+ghost use Rattle.cf_run.specs.Moments.{Doing, HoldsOver, run_state, Runs, Performs, Dials, Turns, IsOneMore, Turned, Stopped, IsInStep, IsEndTold, EndsTurns, TakesTurns};
+ghost use Rattle.cf_client.specs.Stands.{Reflects, Answers, count_of, rule_by, greeting_by};
+ghost use Rattle.cf_run.specs.Versions.{KeepsGreeting};
+ghost use Rattle.cf_run.specs.Whole.{AreNewWires, EndsWithin, IsOutcome, LeavesWires};
 ghost use Rattle.std.specs.List.{All};
-ghost use Rattle.cf_frame.specs.Stream.{IsBytes};
+ghost use Rattle.cf_bytes.specs.Cut.{IsBytes};
 ghost use Rattle.cf_msg.specs.Message.{command_of};
 ghost use Rattle.cf_peer.specs.declared.act.Act.{Act};
 ghost use Rattle.cf_peer.specs.declared.act.Act.TheVariants.{Send, Close};
 ghost use Rattle.cf_peer.specs.Acts.{IsDoable, IsSendable, bytes_of};
-ghost use Rattle.cf_wires.specs.Log.{Log, Tells, tell};
+ghost use Rattle.cf_wires.specs.Log.{Log, Told, tell};
 ghost use Rattle.cf_wires.specs.Wires.{HasCause};
 ghost use Rattle.cf_wires.specs.declared.event.Delivery.TheVariants.{Ended};
 ghost use Rattle.cf_wires.specs.declared.event.Event.TheVariants.{Dialled, Sent, SendFailed, Closed, Took};
@@ -78,11 +77,11 @@ fn perform_send<W: Wires>(
         → MayAct rule (Send p message.now) planned
         → Doing rule (Send p message.now ∷ more) progress.old called planned (W.told wires.old)
         → Doing rule more progress.new called (Sent p (bytes_of message.now) ∷ planned) (W.told wires.new)) }
-    ensures versions { (words : Words) → TellsWords words message.now
-        → KeepsWords words (W.told wires.old) (W.told wires.new) }
+    ensures versions { (words : Greeting) → TellsGreeting words message.now
+        → KeepsGreeting words (W.told wires.old) (W.told wires.new) }
     ensures performs { Performs
-        (moment (W.told wires.old) (W.faults wires.old) (W.script wires.old) (W.keeps wires.old) progress.old)
-        (moment (W.told wires.new) (W.faults wires.new) (W.script wires.new) (W.keeps wires.new) progress.new) }
+        (run_state (W.told wires.old) (W.faults wires.old) (W.script wires.old) (W.keeps wires.old) progress.old)
+        (run_state (W.told wires.new) (W.faults wires.new) (W.script wires.new) (W.keeps wires.new) progress.new) }
 {
     if progress.is_pending(p) {
         return Ok(());
@@ -114,10 +113,10 @@ fn perform_close<W: Wires>(
         → MayAct rule (Close p cause) planned
         → Doing rule (Close p cause ∷ more) progress.old called planned (W.told wires.old)
         → Doing rule more progress.new called (Closed p ∷ planned) (W.told wires.new)) }
-    ensures versions { (words : Words) → KeepsWords words (W.told wires.old) (W.told wires.new) }
+    ensures versions { (words : Greeting) → KeepsGreeting words (W.told wires.old) (W.told wires.new) }
     ensures performs { Performs
-        (moment (W.told wires.old) (W.faults wires.old) (W.script wires.old) (W.keeps wires.old) progress.old)
-        (moment (W.told wires.new) (W.faults wires.new) (W.script wires.new) (W.keeps wires.new) progress.new) }
+        (run_state (W.told wires.old) (W.faults wires.old) (W.script wires.old) (W.keeps wires.old) progress.old)
+        (run_state (W.told wires.new) (W.faults wires.new) (W.script wires.new) (W.keeps wires.new) progress.new) }
 {
     if progress.is_pending(p) {
         return Ok(());
@@ -144,11 +143,11 @@ fn perform_one<W: Wires>(
     ensures doing { OnOk result ((rule : Rule) (more : List Act) (called : List (List ℕ)) (planned : Log)
         → MayAct rule act.now planned → Doing rule (act.now ∷ more) progress.old called planned (W.told wires.old)
         → Doing rule more progress.new called (entry_of act.now ∷ planned) (W.told wires.new)) }
-    ensures versions { (words : Words) → ActTells words act.now
-        → KeepsWords words (W.told wires.old) (W.told wires.new) }
+    ensures versions { (words : Greeting) → ActTells words act.now
+        → KeepsGreeting words (W.told wires.old) (W.told wires.new) }
     ensures performs { Performs
-        (moment (W.told wires.old) (W.faults wires.old) (W.script wires.old) (W.keeps wires.old) progress.old)
-        (moment (W.told wires.new) (W.faults wires.new) (W.script wires.new) (W.keeps wires.new) progress.new) }
+        (run_state (W.told wires.old) (W.faults wires.old) (W.script wires.old) (W.keeps wires.old) progress.old)
+        (run_state (W.told wires.new) (W.faults wires.new) (W.script wires.new) (W.keeps wires.new) progress.new) }
 {
     match act {
         Act::Send(p, message) => {
@@ -175,11 +174,11 @@ fn perform<W: Wires>(
     ensures doing { OnOk result ((rule : Rule) (called : List (List ℕ)) (planned : Log)
         → Allowed rule acts.now planned → Doing rule acts.now progress.old called planned (W.told wires.old)
         → Doing rule [] progress.new called (after acts.now planned) (W.told wires.new)) }
-    ensures versions { (words : Words) → All (ActTells words) acts.now
-        → KeepsWords words (W.told wires.old) (W.told wires.new) }
+    ensures versions { (words : Greeting) → All (ActTells words) acts.now
+        → KeepsGreeting words (W.told wires.old) (W.told wires.new) }
     ensures performs { Performs
-        (moment (W.told wires.old) (W.faults wires.old) (W.script wires.old) (W.keeps wires.old) progress.old)
-        (moment (W.told wires.new) (W.faults wires.new) (W.script wires.new) (W.keeps wires.new) progress.new) }
+        (run_state (W.told wires.old) (W.faults wires.old) (W.script wires.old) (W.keeps wires.old) progress.old)
+        (run_state (W.told wires.new) (W.faults wires.new) (W.script wires.new) (W.keeps wires.new) progress.new) }
 {
     for act in acts {
         perform_one(alloc, wires, act, progress)?;
@@ -203,13 +202,13 @@ fn settle<W: Wires, H: HeaderStore, M: Matcher>(
         → HoldsOver client.new progress.new called (W.told wires.new)) }
     ensures versions { (called : List (List ℕ)) (planned : Log)
         → Reflects client.old planned → Doing (rule_by client.old) [] progress.old called planned (W.told wires.old)
-        → KeepsWords (words_by client.old) (W.told wires.old) (W.told wires.new) }
+        → KeepsGreeting (greeting_by client.old) (W.told wires.old) (W.told wires.new) }
     ensures count { OnOk result (count_of client.new ≡ count_of client.old) }
     ensures rule { OnOk result (rule_by client.new ≡ rule_by client.old) }
-    ensures words { words_by client.new ≡ words_by client.old }
+    ensures words { greeting_by client.new ≡ greeting_by client.old }
     ensures performs { Performs
-        (moment (W.told wires.old) (W.faults wires.old) (W.script wires.old) (W.keeps wires.old) progress.old)
-        (moment (W.told wires.new) (W.faults wires.new) (W.script wires.new) (W.keeps wires.new) progress.new) }
+        (run_state (W.told wires.old) (W.faults wires.old) (W.script wires.old) (W.keeps wires.old) progress.old)
+        (run_state (W.told wires.new) (W.faults wires.new) (W.script wires.new) (W.keeps wires.new) progress.new) }
 {
     while let Some(p) = progress.next_pending() {
         progress.note_told(p);
@@ -236,14 +235,14 @@ fn carry_out<W: Wires, H: HeaderStore, M: Matcher>(
         → HoldsOver client.new progress.new called (W.told wires.new)) }
     ensures versions { (called : List (List ℕ)) (log : Log) → Answers client.old acts.now log
         → Doing (rule_by client.old) acts.now progress.old called log (W.told wires.old)
-        → All (ActTells (words_by client.old)) acts.now
-        → KeepsWords (words_by client.old) (W.told wires.old) (W.told wires.new) }
+        → All (ActTells (greeting_by client.old)) acts.now
+        → KeepsGreeting (greeting_by client.old) (W.told wires.old) (W.told wires.new) }
     ensures count { OnOk result (count_of client.new ≡ count_of client.old) }
     ensures rule { OnOk result (rule_by client.new ≡ rule_by client.old) }
-    ensures words { words_by client.new ≡ words_by client.old }
+    ensures words { greeting_by client.new ≡ greeting_by client.old }
     ensures performs { Performs
-        (moment (W.told wires.old) (W.faults wires.old) (W.script wires.old) (W.keeps wires.old) progress.old)
-        (moment (W.told wires.new) (W.faults wires.new) (W.script wires.new) (W.keeps wires.new) progress.new) }
+        (run_state (W.told wires.old) (W.faults wires.old) (W.script wires.old) (W.keeps wires.old) progress.old)
+        (run_state (W.told wires.new) (W.faults wires.new) (W.script wires.new) (W.keeps wires.new) progress.new) }
 {
     perform(alloc, wires, acts, progress)?;
     settle(alloc, wires, client, progress)?;
@@ -268,11 +267,11 @@ fn greet<W: Wires, H: HeaderStore, M: Matcher>(
         → IsTicked (rule_by client.old).mode log → HoldsOver client.new progress.new called (W.told wires.new)) }
     ensures versions { (called : List (List ℕ)) (log : Log) → Reflects client.old log → ((acts : List Act)
         → Doing (rule_by client.old) acts progress.old called (Dialled p name.now ∷ log) (W.told wires.old))
-        → KeepsWords (words_by client.old) (W.told wires.old) (W.told wires.new) }
+        → KeepsGreeting (greeting_by client.old) (W.told wires.old) (W.told wires.new) }
     ensures counts { OnOk result (CountsOne client.old client.new) }
     ensures performs { Performs
-        (moment (W.told wires.old) (W.faults wires.old) (W.script wires.old) (W.keeps wires.old) progress.old)
-        (moment (W.told wires.new) (W.faults wires.new) (W.script wires.new) (W.keeps wires.new) progress.new) }
+        (run_state (W.told wires.old) (W.faults wires.old) (W.script wires.old) (W.keeps wires.old) progress.old)
+        (run_state (W.told wires.new) (W.faults wires.new) (W.script wires.new) (W.keeps wires.new) progress.new) }
 {
     let acts = client.dialled(p, name)?;
     carry_out(alloc, wires, client, &acts, progress)?;
@@ -296,12 +295,12 @@ fn dial_one<W: Wires, H: HeaderStore, M: Matcher>(
     ensures holds { OnOk result ((called : List (List ℕ)) → HoldsOver client.old progress.old called (W.told wires.old)
         → HoldsOver client.new progress.new (called ++ name.now ∷ []) (W.told wires.new)) }
     ensures versions { (called : List (List ℕ)) → HoldsOver client.old progress.old called (W.told wires.old)
-        → KeepsWords (words_by client.old) (W.told wires.old) (W.told wires.new) }
+        → KeepsGreeting (greeting_by client.old) (W.told wires.old) (W.told wires.new) }
     ensures counts { OnOk result (CountsOne client.old client.new) }
     ensures one { OnOk result (IsOneMore name.now (W.told wires.old) (W.told wires.new)) }
     ensures dials { Dials name.now
-        (moment (W.told wires.old) (W.faults wires.old) (W.script wires.old) (W.keeps wires.old) progress.old)
-        (moment (W.told wires.new) (W.faults wires.new) (W.script wires.new) (W.keeps wires.new) progress.new) }
+        (run_state (W.told wires.old) (W.faults wires.old) (W.script wires.old) (W.keeps wires.old) progress.old)
+        (run_state (W.told wires.new) (W.faults wires.new) (W.script wires.new) (W.keeps wires.new) progress.new) }
 {
     match wires.dial(name) {
         Ok(p) => {
@@ -348,18 +347,18 @@ pub(crate) fn take_next<W: Wires, H: HeaderStore, M: Matcher>(
         × (W.told wires.new ≡ tell (Took Ended) (W.told wires.old))) }
     ensures versions { (called : List (List ℕ)) (holds : HoldsOver client.old progress.old called (W.told wires.old))
         → MayTake (rule_by client.old).mode holds.actual
-        → KeepsWords (words_by client.old) (W.told wires.old) (W.told wires.new) }
+        → KeepsGreeting (greeting_by client.old) (W.told wires.old) (W.told wires.new) }
     ensures puts { OnOk result ((watch texts : List (List ℕ)) → PutBy watch texts (W.told wires.old)
         → PutBefore watch texts (W.told wires.new)) }
     ensures rule { OnOk result (rule_by client.new ≡ rule_by client.old) }
-    ensures words { words_by client.new ≡ words_by client.old }
+    ensures words { greeting_by client.new ≡ greeting_by client.old }
     ensures taken { IfOk result (λ more. more ≡ true
         → (W.told wires.new).tally.taken ≡ (W.told wires.old).tally.taken + 1) }
     ensures unended { IfOk result (λ more. more ≡ true
         → (W.told wires.new).tally.ended ≡ (W.told wires.old).tally.ended) }
     ensures turns { Turns
-        (moment (W.told wires.old) (W.faults wires.old) (W.script wires.old) (W.keeps wires.old) progress.old)
-        (moment (W.told wires.new) (W.faults wires.new) (W.script wires.new) (W.keeps wires.new) progress.new) }
+        (run_state (W.told wires.old) (W.faults wires.old) (W.script wires.old) (W.keeps wires.old) progress.old)
+        (run_state (W.told wires.new) (W.faults wires.new) (W.script wires.new) (W.keeps wires.new) progress.new) }
 {
     let d = wires.next()?;
     if let Delivery::Ended = &d {
@@ -385,9 +384,9 @@ fn take_turn<W: Wires, H: HeaderStore, M: Matcher>(
         → HoldsOver client.old progress.old called (W.told wires.old)
         → Turned end client.new progress.new called (W.told wires.new)) }
     ensures versions { (called : List (List ℕ)) → HoldsOver client.old progress.old called (W.told wires.old)
-        → KeepsWords (words_by client.old) (W.told wires.old) (W.told wires.new) }
+        → KeepsGreeting (greeting_by client.old) (W.told wires.old) (W.told wires.new) }
     ensures rule { OnOk result (rule_by client.new ≡ rule_by client.old) }
-    ensures words { words_by client.new ≡ words_by client.old }
+    ensures words { greeting_by client.new ≡ greeting_by client.old }
     ensures taken { IfOk result
         (λ end. IfNone end ((W.told wires.new).tally.taken ≡ (W.told wires.old).tally.taken + 1)) }
     ensures untaken { IfOk result
@@ -395,8 +394,8 @@ fn take_turn<W: Wires, H: HeaderStore, M: Matcher>(
     ensures untired { IfOk result (λ end. end ≢ Some End.Tired) }
     ensures ended { IfOk result (λ end. IsEndTold end (W.told wires.old).tally (W.told wires.new).tally) }
     ensures turns { Turns
-        (moment (W.told wires.old) (W.faults wires.old) (W.script wires.old) (W.keeps wires.old) progress.old)
-        (moment (W.told wires.new) (W.faults wires.new) (W.script wires.new) (W.keeps wires.new) progress.new) }
+        (run_state (W.told wires.old) (W.faults wires.old) (W.script wires.old) (W.keeps wires.old) progress.old)
+        (run_state (W.told wires.new) (W.faults wires.new) (W.script wires.new) (W.keeps wires.new) progress.new) }
 {
     match client.state() {
         State::Synced => return Ok(Some(End::Synced)),
@@ -411,7 +410,7 @@ fn take_turn<W: Wires, H: HeaderStore, M: Matcher>(
 }
 
 // Dials the names in order.
-pub(crate) fn dial_all<W: Wires, H: HeaderStore, M: Matcher>(
+fn dial_all<W: Wires, H: HeaderStore, M: Matcher>(
     alloc: Global,
     wires: &mut W,
     client: &mut Client<H, M>,
@@ -428,9 +427,9 @@ pub(crate) fn dial_all<W: Wires, H: HeaderStore, M: Matcher>(
     ensures holds { OnOk result (HoldsOver client.old progress.old [] (W.told wires.old)
         → HoldsOver client.new progress.new (names_in names.now) (W.told wires.new)) }
     ensures versions { HoldsOver client.old progress.old [] (W.told wires.old)
-        → KeepsWords (words_by client.old) (W.told wires.old) (W.told wires.new) }
+        → KeepsGreeting (greeting_by client.old) (W.told wires.old) (W.told wires.new) }
     ensures rule { OnOk result (rule_by client.new ≡ rule_by client.old) }
-    ensures words { OnOk result (words_by client.new ≡ words_by client.old) }
+    ensures words { OnOk result (greeting_by client.new ≡ greeting_by client.old) }
     ensures dialled { OnOk result ((W.told wires.new).tally.dials ≡ length names.now) }
     ensures first { HasNames [] (W.told wires.old) → HasDialled (names_in names.now) (W.told wires.new) }
     ensures taken { (W.told wires.new).tally.taken ≡ 0 }
@@ -438,13 +437,42 @@ pub(crate) fn dial_all<W: Wires, H: HeaderStore, M: Matcher>(
     ensures puts { (watch texts : List (List ℕ)) → PutBefore watch texts (W.told wires.old)
         → PutBefore watch texts (W.told wires.new) }
     ensures runs { Runs
-        (moment (W.told wires.old) (W.faults wires.old) (W.script wires.old) (W.keeps wires.old) progress.old)
-        (moment (W.told wires.new) (W.faults wires.new) (W.script wires.new) (W.keeps wires.new) progress.new) }
+        (run_state (W.told wires.old) (W.faults wires.old) (W.script wires.old) (W.keeps wires.old) progress.old)
+        (run_state (W.told wires.new) (W.faults wires.new) (W.script wires.new) (W.keeps wires.new) progress.new) }
 {
     for name in names {
         dial_one(alloc, wires, client, progress, name.as_str())?;
     }
     Ok(())
+}
+
+// Dials the names in order over new wires, for a client that knows of nothing yet.
+pub(crate) fn dial_first<W: Wires, H: HeaderStore, M: Matcher>(
+    alloc: Global,
+    wires: &mut W,
+    client: &mut Client<H, M>,
+    names: &[String],
+) -> Result<Progress, NoMemory>
+    requires wires { AreNewWires (W.told wires.old) }
+    requires few { length names.now ≤ 8 }
+    requires reflects { Reflects client.old [] }
+    requires next { count_of client.old ≡ 1 }
+    ensures holds { IfOk result (λ progress.
+        HoldsOver client.new progress (names_in names.now) (W.told wires.new)) }
+    ensures step { IfOk result (IsInStep (W.told wires.new)) }
+    ensures rule { OnOk result (rule_by client.new ≡ rule_by client.old) }
+    ensures words { OnOk result (greeting_by client.new ≡ greeting_by client.old) }
+    ensures dialled { OnOk result ((W.told wires.new).tally.dials ≡ length names.now) }
+    ensures taken { (W.told wires.new).tally.taken ≡ 0 }
+    ensures unended { (W.told wires.new).tally.ended ≡ 0 }
+    ensures open { (W.told wires.new).finished ≡ false }
+    ensures puts { (watch : List (List ℕ)) → PutBefore watch [] (W.told wires.new) }
+    ensures passes { Passes W.told W.faults W.script W.keeps (greeting_by client.old) (names_in names.now) 0
+        wires.old wires.new }
+{
+    let mut progress = Progress::new(alloc);
+    dial_all(alloc, wires, client, &mut progress, names)?;
+    Ok(progress)
 }
 
 // How a run ends once its turns are used up.
@@ -475,18 +503,13 @@ fn take_turns<W: Wires, H: HeaderStore, M: Matcher>(
         → HoldsOver client.old progress.old called (W.told wires.old)
         → Stopped end client.new progress.new called (W.told wires.new)) }
     ensures versions { (called : List (List ℕ)) → HoldsOver client.old progress.old called (W.told wires.old)
-        → KeepsWords (words_by client.old) (W.told wires.old) (W.told wires.new) }
+        → KeepsGreeting (greeting_by client.old) (W.told wires.old) (W.told wires.new) }
     ensures rule { OnOk result (rule_by client.new ≡ rule_by client.old) }
-    ensures words { words_by client.new ≡ words_by client.old }
-    ensures tired { IfOk result (λ end. end ≡ End.Tired → (W.told wires.new).tally.taken ≡ turns) }
-    ensures ended { IfOk result (λ end. end ≡ End.Ended → (W.told wires.new).tally.ended ≡ 1) }
-    ensures early { IfOk result (λ end. end ≡ End.Ended → (W.told wires.new).tally.taken < turns) }
-    ensures most { (W.told wires.new).tally.taken ≤ turns }
-    ensures once { (W.told wires.new).tally.ended ≤ 1 }
-    ensures same { IsNoMore (W.told wires.old) (W.told wires.new) }
-    ensures runs { Runs
-        (moment (W.told wires.old) (W.faults wires.old) (W.script wires.old) (W.keeps wires.old) progress.old)
-        (moment (W.told wires.new) (W.faults wires.new) (W.script wires.new) (W.keeps wires.new) progress.new) }
+    ensures words { greeting_by client.new ≡ greeting_by client.old }
+    ensures ends { IfOk result (λ end. EndsTurns end turns (W.told wires.new).tally) }
+    ensures takes { TakesTurns turns
+        (run_state (W.told wires.old) (W.faults wires.old) (W.script wires.old) (W.keeps wires.old) progress.old)
+        (run_state (W.told wires.new) (W.faults wires.new) (W.script wires.new) (W.keeps wires.new) progress.new) }
 {
     for _turn in 0..turns {
         if let Some(end) = take_turn(alloc, wires, client, progress)? {
@@ -503,11 +526,9 @@ pub(crate) fn outcome_of<H: HeaderStore, M: Matcher>(
     end: End,
 ) -> Result<Outcome, NoMemory>
     ensures end { IfOk result (λ o. o.end ≡ end) }
-    ensures trace { IfOk result (λ o. o.trace ≡ progress.trace) }
-    ensures report { IfOk result (λ o. (log : Log) → Reflects client.old log
-        → IsReportOf (rule_by client.old) o.height o.tip o.history log) }
-    ensures ends { IfOk result (λ o. (log : Log) → Reflects client.old log → EndsTell o.ends.items log) }
-    ensures held { IfOk result (λ o. (log : Log) → Reflects client.old log → HoldsNoMore H.counts o.held log) }
+    ensures outcome { IfOk result (λ o. (called : List (List ℕ)) (t : Told)
+        → Stopped end client.old progress called t
+        → IfSome t.log (IsOutcome H.counts (rule_by client.old) called o)) }
 {
     let held = client.held();
     let ends = client.ends()?;
@@ -535,26 +556,19 @@ fn sync_all<W: Wires, H: HeaderStore + Drop, M: Matcher + Drop>(
     nonce: u64,
     turns: u32,
 ) -> Result<Outcome, NoMemory>
-    requires fresh { Tells [] (W.told wires.old) }
-    requires open { (W.told wires.old).finished ≡ false }
+    requires wires { AreNewWires (W.told wires.old) }
     requires few { length names.now ≤ 8 }
     requires empty { (q : ℕ) → H.chain store q ≡ None }
-    ensures followed { IfOk result (λ o. IfSome (W.told wires.new).log
-        (λ log. Followed (once watch) o.end o.height o.tip o.history o.trace.items (names_in names.now) log)) }
-    ensures ends { IfOk result (λ o. IfSome (W.told wires.new).log (λ log. EndsTell o.ends.items log)) }
-    ensures held { IfOk result (λ o. IfSome (W.told wires.new).log (λ log. HoldsNoMore H.counts o.held log)) }
-    ensures versions { HasWords (record { moment = moment; number = nonce }) (W.told wires.new) }
-    ensures no_peers { IfOk result (λ o. (o.end ≡ End.NoPeers) ↔ NobodyLeft (W.told wires.new).tally) }
+    ensures outcome { IfOk result
+        (λ o. IfSome (W.told wires.new).log (IsOutcome H.counts (once watch) (names_in names.now) o)) }
     ensures within { IfOk result (λ o. EndsWithin o.end (length names.now) turns (W.told wires.new).tally) }
-    ensures passes { Passes (names_in names.now) turns (W.told wires.old) (W.told wires.new) (W.faults wires.old)
-        (W.faults wires.new) (W.script wires.old) (W.script wires.new) (W.keeps wires.old) (W.keeps wires.new) }
+    ensures passes { Passes W.told W.faults W.script W.keeps (record { moment = moment; number = nonce })
+        (names_in names.now) turns wires.old wires.new }
 {
     let mut client = Client::new(alloc, watch, store, matcher, moment, nonce)?;
-    let mut progress = Progress::new(alloc);
-    dial_all(alloc, wires, &mut client, &mut progress, names)?;
+    let mut progress = dial_first(alloc, wires, &mut client, names)?;
     let end = take_turns(alloc, wires, &mut client, &mut progress, turns)?;
-    let outcome = outcome_of(&mut client, progress, end)?;
-    Ok(outcome)
+    outcome_of(&mut client, progress, end)
 }
 
 /// Dials the peers in order, at most eight, and follows the best chain that they show, until nothing is open, no peer
@@ -573,31 +587,16 @@ pub fn sync_over<W: Wires, H: HeaderStore + Drop, M: Matcher + Drop>(
     nonce: u64,
     turns: u32,
 ) -> Result<Outcome, NoMemory>
-    requires fresh { Tells [] (W.told wires.old) }
-    requires open { (W.told wires.old).finished ≡ false }
+    requires wires { AreNewWires (W.told wires.old) }
     requires few { length names.now ≤ 8 }
     requires empty { (q : ℕ) → H.chain store q ≡ None }
-    ensures followed { IfOk result (λ o. IfSome (W.told wires.new).log
-        (λ log. Followed (once watch) o.end o.height o.tip o.history o.trace.items (names_in names.now) log)) }
-    ensures ends { IfOk result (λ o. IfSome (W.told wires.new).log (λ log. EndsTell o.ends.items log)) }
-    ensures held { IfOk result (λ o. IfSome (W.told wires.new).log (λ log. HoldsNoMore H.counts o.held log)) }
-    ensures versions { HasWords (record { moment = moment; number = nonce }) (W.told wires.new) }
+    ensures outcome { IfOk result
+        (λ o. IfSome (W.told wires.new).log (IsOutcome H.counts (once watch) (names_in names.now) o)) }
     ensures theorem { IfOk result
         (λ o. IfSome (W.told wires.new).log (λ log. SyncTheorem watch o.height o.tip o.history log)) }
-    ensures no_peers { IfOk result (λ o. (o.end ≡ End.NoPeers) ↔ NobodyLeft (W.told wires.new).tally) }
-    ensures tired { IfOk result (λ o. o.end ≡ End.Tired → (W.told wires.new).tally.taken ≡ turns) }
-    ensures ended { IfOk result (λ o. o.end ≡ End.Ended → (W.told wires.new).tally.ended ≡ 1) }
-    ensures early { IfOk result (λ o. o.end ≡ End.Ended → (W.told wires.new).tally.taken < turns) }
-    ensures dialled { OnOk result ((W.told wires.new).tally.dials ≡ length names.now) }
-    ensures first { HasDialled (names_in names.now) (W.told wires.new) }
-    ensures most { (W.told wires.new).tally.taken ≤ turns }
-    ensures once { (W.told wires.new).tally.ended ≤ 1 }
-    ensures finished { (W.told wires.new).finished ≡ true }
-    ensures keeps { W.keeps wires.new ≡ W.keeps wires.old }
-    ensures course { Course (W.told wires.old) (W.told wires.new) (W.faults wires.old) (W.faults wires.new)
-        (W.script wires.old) (W.script wires.new) }
-    ensures failures { IfSome (W.told wires.new).log
-        (λ log. HasFailed log → HasRisen (W.faults wires.old) (W.faults wires.new)) }
+    ensures within { IfOk result (λ o. EndsWithin o.end (length names.now) turns (W.told wires.new).tally) }
+    ensures wires { LeavesWires W.told W.faults W.script W.keeps (record { moment = moment; number = nonce })
+        (names_in names.now) turns wires.old wires.new }
 {
     let outcome = sync_all(
         alloc, wires, names, watch, store, matcher, moment, nonce, turns,

@@ -89,16 +89,16 @@ impl<'a, S: Sink> Texts for Live<'a, S> {
 
 /// Texts that are kept, one behind the other.
 #[derive(Drop)]
-pub struct Kept {
+pub struct KeptTexts {
     bytes: Vec<u8>,
 }
 
-impl Kept {
+impl KeptTexts {
     /// No text yet.
-    pub fn new(alloc: Global) -> Kept
+    pub fn new(alloc: Global) -> KeptTexts
         ensures { result.bytes.items ≡ [] }
     {
-        Kept {
+        KeptTexts {
             bytes: Vec::new(alloc),
         }
     }
@@ -111,7 +111,7 @@ impl Kept {
     }
 }
 
-impl Texts for Kept {
+impl Texts for KeptTexts {
     ghost told = { λ t. Some t.bytes.items };
 
     ghost faults = { λ t. 0 };

@@ -54,11 +54,6 @@ scan_by_extracts watch height s (b ∷ bs) =
     ap (λ n. fold after_placed n (placed_from (suc height) bs watch)) (extract_block watch height s b)
     ∙ scan_by_extracts watch (suc height) (fold (after_tx watch height) s b.txs) bs
 
--- no block is left
-pub scan_done : (s whole : Scanned) (height : ℕ) (rest : List Block) (watch : List (List ℕ)) → length rest ≡ 0 → fold after_placed s (placed_from height rest watch) ≡ whole → s ≡ whole
-scan_done s whole height [] watch none is = is
-scan_done s whole height (b ∷ bs) watch none is = absurd (omega (arith, none))
-
 pub history_is_scan : (blocks : List Block) (watch : List (List ℕ)) → history_of (extracts_of blocks watch) ≡ scan_of blocks watch
 history_is_scan blocks watch = ap (λ s. s.entries) (scan_by_extracts watch 1 unscanned blocks)
 

@@ -1,6 +1,7 @@
 -- Scripts, one at a time.
 use Rattle.std.proofs.Common.{◌≡◌, ℕ, ◌+◌, ◌<◌, List, [], ◌∷◌, ◌++◌, length, get_or, take, drop, refl, add-one, Option, Some, None, ap, ◌∙◌, sym, append_assoc, append-nil, length-append, arith}
 use Rattle.std.proofs.Math.Seq.{drop-cons}
+use Rattle.std.proofs.lemmas.List.{take_more}
 use Rattle.std.proofs.Common.{Bool, true, false}
 use Rattle.std.specs.Prelude.{◌||◌, Vec, nat_eq}
 use Rattle.std.specs.Global.{Global}
@@ -98,3 +99,6 @@ kept_more scripts old new key script put is kind few kept = record {
   few = omega (arith, length-append scripts (script ∷ []));
   watch = faultless_more [] scripts script kept.watch kind;
 }
+
+-- the first fault, by how far it came
+pub ruleset faults = (fault_more, fault_ends, take_more)

@@ -121,7 +121,6 @@ impl Book {
         Ok(())
     }
 
-    #[tactic(auto, unfolding(crate::specs::Extracts::after_extract, crate::specs::Scan::after_change, crate::specs::Scan::touches, crate::specs::Scan::entry_of, crate::specs::Scan::coins_after))]
     fn add_tx(&mut self, height: u32, tx: &TxExtract) -> Result<(), NoMemory>
         ensures ok { OnOk result (scanned_by self.new ≡ after_extract height (scanned_by self.old) tx.now) }
         ensures grows { Grows self.old self.new }

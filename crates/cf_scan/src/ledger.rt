@@ -63,7 +63,6 @@ impl Ledger {
         }
     }
 
-    #[tactic(auto, unfolding(crate::specs::Extracts::after_extract, crate::specs::Scan::after_change, crate::specs::Scan::touches, crate::specs::Scan::entry_of, crate::specs::Scan::coins_after))]
     fn add_tx(&mut self, height: u32, tx: &TxExtract) -> Result<(), NoMemory>
         ensures { OnOk result (self.new ≡ after_extract height self.old tx.now) }
     {

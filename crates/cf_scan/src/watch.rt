@@ -37,28 +37,6 @@ pub struct WatchFault {
     pub place: u32,
 }
 
-impl From<WatchFault> for Refused<WatchFault> {
-    ghost use Rattle.std.specs.Prelude.{◌≡◌};
-    ghost use Rattle.cf_bytes.specs.declared.memory.Refused.TheVariants.{No};
-
-    ghost from_gives = { λ fault e. e ≡ No fault };
-
-    fn from(fault: WatchFault) -> Refused<WatchFault> {
-        Refused::No(fault)
-    }
-}
-
-impl From<WatchKind> for Refused<WatchKind> {
-    ghost use Rattle.std.specs.Prelude.{◌≡◌};
-    ghost use Rattle.cf_bytes.specs.declared.memory.Refused.TheVariants.{No};
-
-    ghost from_gives = { λ kind e. e ≡ No kind };
-
-    fn from(kind: WatchKind) -> Refused<WatchKind> {
-        Refused::No(kind)
-    }
-}
-
 /// At most 1000 scripts, each of 1 to 10,000 bytes, none twice, and none that begins with 0x6a.
 /// Contracts see their list, in the order in which they were given.
 #[derive(Drop)]
@@ -91,7 +69,7 @@ impl Watch {
 
     /// These scripts, or the first that can't be watched, of which the first broken rule is told:
     /// `Many`, `Empty`, `Return`, `Long`, `Twice`.
-    #[tactic(auto, using(crate::proofs::Scripts::fault_more, crate::proofs::Scripts::fault_ends, std::proofs::lemmas::List::take_more, std::proofs::lemmas::Grind::common_steps))]
+    #[tactic(auto, using(crate::proofs::Scripts::faults, std::proofs::lemmas::Grind::common_steps))]
     pub fn new(alloc: Global, scripts: &[Script]) -> Result<Watch, Refused<WatchFault>>
         ensures { GivesWatch result scripts.now }
     {

@@ -17,7 +17,7 @@ use Rattle.cf_headers.proofs.Stacks.{lower_reverse}
 use Rattle.cf_scan.specs.Scan.{Scanned}
 use Rattle.cf_scan.specs.Extracts.{after_placed}
 use Rattle.cf_tables.specs.Tables.{placed_one, placed_by}
-use Rattle.cf_tables.specs.Known.{Table}
+use Rattle.cf_tables.specs.Known.{ExtractTable}
 use Rattle.cf_seek.specs.Tracking.{AreAmong, IsBestChain, best_chain}
 
 -- both chains have the blocks up to the common height
@@ -58,7 +58,7 @@ hash_of_next own i d lt =
     ap tip_hash (low ∙ ap reverse (take_at_read xs i d lt2).1 ∙ reverse-append (take i xs) (x ∷ []))
 
 -- the extracts of the blocks at and above a height, of which the first is told
-pub told_more : (table : Table) (own : Chain) (i : ℕ) (hash : Hash) (d : Header) → i < length own → hash ≡ hash_at own (i + 1)
+pub told_more : (table : ExtractTable) (own : Chain) (i : ℕ) (hash : Hash) (d : Header) → i < length own → hash ≡ hash_at own (i + 1)
     → placed_by table (i + 1) (drop i (reverse own)) ≡ placed_one (i + 1) (table hash) ++ placed_by table (i + 1 + 1) (drop (i + 1) (reverse own))
 told_more table own i hash d lt is =
     let xs = reverse own in
@@ -74,7 +74,7 @@ fold_append f a [] ys = refl
 fold_append f a (x ∷ xs) ys = fold_append f (f a x) xs ys
 
 -- a step of the history
-pub told_step : (table : Table) (own : Chain) (i : ℕ) (hash : Hash) (before next whole : Scanned) (d : Header) → i < length own → hash ≡ hash_at own (i + 1)
+pub told_step : (table : ExtractTable) (own : Chain) (i : ℕ) (hash : Hash) (before next whole : Scanned) (d : Header) → i < length own → hash ≡ hash_at own (i + 1)
     → next ≡ fold after_placed before (placed_one (i + 1) (table hash))
     → fold after_placed before (placed_by table (i + 1) (drop i (reverse own))) ≡ whole
     → fold after_placed next (placed_by table (i + 1 + 1) (drop (i + 1) (reverse own))) ≡ whole
@@ -88,7 +88,7 @@ none_left : {A : Type 0} (xs : List A) → length xs ≡ 0 → xs ≡ []
 none_left [] e = refl
 none_left (x ∷ xs) e = absurd (omega (arith, e))
 
-pub told_all : (table : Table) (own : Chain) (i : ℕ) (s whole : Scanned) → length own ≤ i
+pub told_all : (table : ExtractTable) (own : Chain) (i : ℕ) (s whole : Scanned) → length own ≤ i
     → fold after_placed s (placed_by table (i + 1) (drop i (reverse own))) ≡ whole → s ≡ whole
 told_all table own i s whole past left =
     let none : length (drop i (reverse own)) ≡ 0 = omega (arith, past, length-drop i (reverse own), length-reverse own) in

@@ -1,16 +1,13 @@
 -- On which blocks' filters they differ, as claims come and go.
-use Rattle.std.proofs.Common.{◌≡◌, ◌≢◌, ◌⊎◌, inl, inr, ℕ, List, None, Some, sym, ◌∙◌, ap}
+use Rattle.std.proofs.Common.{◌≡◌, inl, inr, ℕ, None, Some, sym, ◌∙◌, ap}
 use Rattle.std.proofs.lemmas.Bool.{cases_eq}
-use Rattle.cf_bytes.specs.declared.hash.Hash32.{Hash32}
-use Rattle.cf_dispute.specs.declared.claim.At.TheVariants.{Differ}
 use Rattle.cf_dispute.specs.declared.claim.Claim.{Claim}
-use Rattle.cf_dispute.specs.Claims.{Tables, IsAt, with_claims}
-use Rattle.cf_dispute.proofs.PutIn.{in_or_out}
-use Rattle.cf_headers.specs.Chain.{Hash, IsIn}
+use Rattle.cf_dispute.specs.declared.claim.At.TheVariants.{Differ}
+use Rattle.cf_dispute.specs.Claims.{Tables, IsAt}
+use Rattle.cf_headers.specs.Chain.{Hash}
 use Rattle.cf_tables.specs.Claiming.{ForgetsClaims}
-use Rattle.cf_seek.proofs.Marked.{differ_before, others_same}
 
-claimed_before : (before after : Tables) (p : ℕ) → ForgetsClaims before after p → (q : ℕ) (block : Hash) (claim : Claim)
+pub claimed_before : (before after : Tables) (p : ℕ) → ForgetsClaims before after p → (q : ℕ) (block : Hash) (claim : Claim)
     → after q block ≡ Some claim → before q block ≡ Some claim
 claimed_before before after p forgets q block claim e = elim (cases_eq q p) [
   | inl same1 ↦ (
@@ -40,19 +37,3 @@ forgotten_differ before after p forgets block d = (let c = d.1.1.1.1 in (
     ),
   ),
 ))
-
--- the same claims
-pub same_differ : (before after : Tables) → ((q : ℕ) (block : Hash) → after q block ≡ before q block) → (block : Hash)
-    → IsAt after block Differ → IsAt before block Differ
-same_differ before after is block d = differ_before before after block (λ q. is q block) d
-
--- a peer claims more, and on a block that isn't among those they differed before
-pub added_differ : (before after : Tables) (p : ℕ) (previous : Hash32) (blocks : List Hash) (hashes : List Hash32)
-    → ((block : Hash) → after p block ≡ with_claims previous blocks hashes (before p) block)
-    → ((q : ℕ) → q ≢ p → (block : Hash) → after q block ≡ before q block)
-    → (block : Hash) → IsAt after block Differ → IsIn block blocks ⊎ IsAt before block Differ
-added_differ before after p previous blocks hashes is others block d = elim (in_or_out block blocks) [
-  | inl i ↦ inl i
-  | inr out ↦ inr (differ_before before after block
-      (others_same before after p previous blocks hashes is others block out) d)
-]

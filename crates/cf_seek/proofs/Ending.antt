@@ -1,12 +1,12 @@
 -- One block more of a question.
-use Rattle.std.proofs.Common.{◌≡◌, inl, inr, ℕ, ◌+◌, ◌≤◌, None, sym, subst, arith}
+use Rattle.std.proofs.Common.{◌≡◌, inl, inr, ℕ, ◌+◌, ◌≤◌, sym, subst, arith}
 use Rattle.std.specs.Prelude.{IsSome}
 use Rattle.std.proofs.lemmas.Bool.{cases_lt}
 use Rattle.cf_dispute.specs.Claims.{Tables}
 use Rattle.cf_headers.specs.Chain.{Hash, Chain}
 use Rattle.cf_headers.specs.Heights.{hash_at}
 use Rattle.cf_tables.specs.Wanting.{IsAbove}
-use Rattle.cf_seek.specs.Ends.{AreUnclaimed, IsLastUnclaimed}
+use Rattle.cf_seek.specs.Ends.{IsLastUnclaimed}
 
 alone : (own : Chain) (good : Hash → Type 0) (start : ℕ) → good (hash_at own start) → (k : ℕ) → start ≤ k → k ≤ start → good (hash_at own k)
 alone own good start first k up low = (let at : k ≡ start = omega (arith, up, low) in subst (λ (n : ℕ). good (hash_at own n)) (sym at) first)
@@ -16,12 +16,6 @@ more own good start h has next k up low = elim (cases_lt k (h + 1)) [
   | inl lt ↦ has k up (omega (arith, lt))
   | inr ge ↦ (let at : k ≡ h + 1 = omega (arith, ge, low) in subst (λ (n : ℕ). good (hash_at own n)) (sym at) next)
 ]
-
-pub unclaimed_one : (tables : Tables) (p : ℕ) (own : Chain) (start : ℕ) → IsAbove (hash_at own start) → tables p (hash_at own start) ≡ None → AreUnclaimed tables p own start start
-unclaimed_one tables p own start up none = alone own (λ (x : Hash). IsAbove x × (tables p x ≡ None)) start (up, none)
-
-pub unclaimed_more : (tables : Tables) (p : ℕ) (own : Chain) (start h : ℕ) (hash : Hash) → AreUnclaimed tables p own start h → hash ≡ hash_at own (h + 1) → IsAbove hash → tables p hash ≡ None → AreUnclaimed tables p own start (h + 1)
-unclaimed_more tables p own start h hash are is1 up none = more own (λ (x : Hash). IsAbove x × (tables p x ≡ None)) start h are (subst (λ (x : Hash). IsAbove x × (tables p x ≡ None)) is1 (up, none))
 
 -- a question ends below a block that isn't asked about
 pub unclaimed_ends : (tables : Tables) (p : ℕ) (own : Chain) (start h common : ℕ) (hash : Hash) → hash ≡ hash_at own (h + 1) → (IsAbove hash → IsSome (tables p hash)) → IsLastUnclaimed tables p own start h common

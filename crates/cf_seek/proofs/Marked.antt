@@ -36,7 +36,7 @@ use Rattle.cf_seek.specs.Opens.{Opens}
 use Rattle.cf_seek.specs.Opening.{Closes}
 use Rattle.cf_seek.specs.Seeking.{AreSought, ArePassed, MoreOpens}
 use Rattle.cf_tables.specs.Tables.{IsSameTable}
-use Rattle.cf_tables.specs.Known.{Table}
+use Rattle.cf_tables.specs.Known.{ExtractTable}
 use Rattle.cf_seek.specs.Tracking.{AreAmong, IsFallen, IsMarked, MarkedAt, AreMarked}
 use Rattle.cf_tables.specs.Wanting.{IsToFetch, IsUnjudged, AreClaimed}
 use Rattle.cf_tables.specs.Claiming.{AddsClaims, ForgetsClaims}
@@ -54,7 +54,7 @@ none_now None some e = cc some
 none_now (Some x) some e = cc e
 
 -- nothing is marked
-pub nothing_marked : (extracts : Table) (tables : Tables) (verdicts : Verdicts) (opens : Opens) (p : ℕ) (own : Chain) → IsMarked extracts tables verdicts opens p own no_marks
+pub nothing_marked : (extracts : ExtractTable) (tables : Tables) (verdicts : Verdicts) (opens : Opens) (p : ℕ) (own : Chain) → IsMarked extracts tables verdicts opens p own no_marks
 nothing_marked extracts tables verdicts opens p own = record {
   on = omega arith;
   seeks = omega arith;
@@ -65,7 +65,7 @@ nothing_marked extracts tables verdicts opens p own = record {
 }
 
 -- marks on the same chain, none of which is higher than before
-still_marked : (extracts more : Table) (before after : Tables) (verdicts new : Verdicts) (opens now : Opens) (p : ℕ) (own : Chain) (a b : Marks)
+still_marked : (extracts more : ExtractTable) (before after : Tables) (verdicts new : Verdicts) (opens now : Opens) (p : ℕ) (own : Chain) (a b : Marks)
     → IsMarked extracts before verdicts opens p own a → b.claimed ≡ a.claimed → b.sought ≤ a.sought → b.passed ≤ a.passed
     → ((block : Hash) → IsSome (before p block) → IsSome (after p block))
     → (AreClaimed before p own b.sought → AreSought extracts before verdicts opens own b.sought → AreSought more after new now own b.sought)
@@ -85,7 +85,7 @@ still_marked extracts more before after verdicts new opens now p own a b m same1
     }
 
 -- nothing is marked as sought, whatever is kept
-unsought_marked : (extracts : Table) (before after : Tables) (verdicts : Verdicts) (opens now : Opens) (p : ℕ) (own : Chain) (marks : Marks) → IsMarked extracts before verdicts opens p own marks
+unsought_marked : (extracts : ExtractTable) (before after : Tables) (verdicts : Verdicts) (opens now : Opens) (p : ℕ) (own : Chain) (marks : Marks) → IsMarked extracts before verdicts opens p own marks
     → ((block : Hash) → IsSome (before p block) → IsSome (after p block)) → IsMarked extracts after verdicts now p own (unsought marks)
 unsought_marked extracts before after verdicts opens now p own marks m claims =
     still_marked extracts extracts before after verdicts verdicts opens now p own marks (unsought marks) m refl (omega arith) (omega arith) claims
@@ -94,7 +94,7 @@ unsought_marked extracts before after verdicts opens now p own marks m claims =
 -- ---- all peers
 
 -- what holds of nobody's marks holds of lower ones
-at_each : (extracts more : Table) (before after : Tables) (verdicts new : Verdicts) (opens now : Opens) (p : ℕ) (o : Option Chain) (a b : Marks) → ((block : Hash) → before p block ≡ None → after p block ≡ None)
+at_each : (extracts more : ExtractTable) (before after : Tables) (verdicts new : Verdicts) (opens now : Opens) (p : ℕ) (o : Option Chain) (a b : Marks) → ((block : Hash) → before p block ≡ None → after p block ≡ None)
     → b.sought ≤ a.sought → b.passed ≤ a.passed
     → ((own : Chain) → IsMarked extracts before verdicts opens p own a → IsMarked more after new now p own b) → MarkedAt extracts before verdicts opens p o a → MarkedAt more after new now p o b
 at_each extracts more before after verdicts new opens now p None a b none low1 low2 step m =
@@ -108,7 +108,7 @@ set_here : (xs : List Marks) (p : ℕ) (v : Marks) → (marks_at (slice_set xs p
 set_here xs p v = elim (cases_lt p (length xs)) [ inl lt ↦ inl (grind (arith, common_steps)) | inr ge ↦ inr (grind (arith, common_steps)) ]
 
 -- p's marks are put, on a chain that p has now
-pub put_marked : (chains next : Chains) (extracts : Table) (tables : Tables) (verdicts : Verdicts) (opens : Opens) (cursors : List Marks) (p : PeerNo) (own : Chain) (marks : Marks)
+pub put_marked : (chains next : Chains) (extracts : ExtractTable) (tables : Tables) (verdicts : Verdicts) (opens : Opens) (cursors : List Marks) (p : PeerNo) (own : Chain) (marks : Marks)
     → AreMarked chains extracts tables verdicts opens cursors → Puts chains next p (Some own) → IsMarked extracts tables verdicts opens p.0 own marks
     → AreMarked next extracts tables verdicts opens (slice_set cursors p.0 marks)
 put_marked chains next extracts tables verdicts opens cursors p own marks are puts here q = elim (cases_eq q p.0) [
@@ -130,25 +130,25 @@ no_marks_at n q = elim (cases_lt q n) [
   | inr ge ↦ get_or_past (replicate n no_marks) q no_marks (omega (arith, ge, length-replicate n no_marks))
 ]
 
-pub none_marked : (chains : Chains) (extracts : Table) (tables : Tables) (verdicts : Verdicts) (opens : Opens) (cursors : List Marks) (n : ℕ) → ((q : ℕ) → chains q ≡ None) → ((p : ℕ) (block : Hash) → tables p block ≡ None)
+pub none_marked : (chains : Chains) (extracts : ExtractTable) (tables : Tables) (verdicts : Verdicts) (opens : Opens) (cursors : List Marks) (n : ℕ) → ((q : ℕ) → chains q ≡ None) → ((p : ℕ) (block : Hash) → tables p block ≡ None)
     → cursors ≡ replicate n no_marks → ∥ AreMarked chains extracts tables verdicts opens cursors ∥₁
 none_marked chains extracts tables verdicts opens cursors n none claims fresh =
     ∣ (λ q. subst (λ (o : Option Chain). MarkedAt extracts tables verdicts opens q o (marks_at cursors q)) (sym (none q))
     (let e : marks_at cursors q ≡ no_marks = ap (λ (xs : List Marks). marks_at xs q) fresh ∙ no_marks_at n q in
     (claims q, ap (λ (m : Marks). m.sought) e, ap (λ (m : Marks). m.passed) e))) ∣₁
 
-pub stays_marked : (chains next : Chains) (extracts : Table) (tables : Tables) (verdicts : Verdicts) (opens : Opens) (cursors : List Marks) → Stays chains next
+pub stays_marked : (chains next : Chains) (extracts : ExtractTable) (tables : Tables) (verdicts : Verdicts) (opens : Opens) (cursors : List Marks) → Stays chains next
     → ∥ AreMarked chains extracts tables verdicts opens cursors ∥₁ → ∥ AreMarked next extracts tables verdicts opens cursors ∥₁
 stays_marked chains next extracts tables verdicts opens cursors stays t =
     ∥∥₁_map t (λ are q. subst (λ (o : Option Chain). MarkedAt extracts tables verdicts opens q o (marks_at cursors q)) (sym (stays q)) (are q))
 
-pub entered_marked : (chains next : Chains) (extracts : Table) (tables : Tables) (verdicts : Verdicts) (opens : Opens) (cursors : List Marks) (p : PeerNo) → Puts chains next p (Some [])
+pub entered_marked : (chains next : Chains) (extracts : ExtractTable) (tables : Tables) (verdicts : Verdicts) (opens : Opens) (cursors : List Marks) (p : PeerNo) → Puts chains next p (Some [])
     → ∥ AreMarked chains extracts tables verdicts opens cursors ∥₁ → ∥ AreMarked next extracts tables verdicts opens (slice_set cursors p.0 no_marks) ∥₁
 entered_marked chains next extracts tables verdicts opens cursors p puts t =
     ∥∥₁_map t (λ are. put_marked chains next extracts tables verdicts opens cursors p [] no_marks are puts (nothing_marked extracts tables verdicts opens p.0 []))
 
 -- a peer's chain and claims are gone, and what was open to it
-pub forgotten_marked : (chains next : Chains) (extracts : Table) (before after : Tables) (verdicts : Verdicts) (opens open_now : Opens) (cursors now : List Marks) (p : PeerNo) → Puts chains next p None
+pub forgotten_marked : (chains next : Chains) (extracts : ExtractTable) (before after : Tables) (verdicts : Verdicts) (opens open_now : Opens) (cursors now : List Marks) (p : PeerNo) → Puts chains next p None
     → ForgetsClaims before after p.0 → ((q : ℕ) → marks_at now q ≡ unsought (marks_at (slice_set cursors p.0 no_marks) q))
     → ∥ AreMarked chains extracts before verdicts opens cursors ∥₁ → ∥ AreMarked next extracts after verdicts open_now now ∥₁
 forgotten_marked chains next extracts before after verdicts opens open_now cursors now p puts forgets fell t = ∥∥₁_map t (λ are q. elim (cases_eq q p.0) [
@@ -167,7 +167,7 @@ forgotten_marked chains next extracts before after verdicts opens open_now curso
 ])
 
 -- all is sought anew
-pub unsought_all : (chains : Chains) (extracts : Table) (tables : Tables) (verdicts : Verdicts) (opens open_now : Opens) (cursors now : List Marks)
+pub unsought_all : (chains : Chains) (extracts : ExtractTable) (tables : Tables) (verdicts : Verdicts) (opens open_now : Opens) (cursors now : List Marks)
     → ((q : ℕ) → marks_at now q ≡ unsought (marks_at cursors q))
     → ∥ AreMarked chains extracts tables verdicts opens cursors ∥₁ → ∥ AreMarked chains extracts tables verdicts open_now now ∥₁
 unsought_all chains extracts tables verdicts opens open_now cursors now fell t = ∥∥₁_map t (λ are q.
@@ -177,7 +177,7 @@ unsought_all chains extracts tables verdicts opens open_now cursors now fell t =
     (are q)))
 
 -- the same marks, where nothing of them falls
-kept_each : (chains : Chains) (extracts more : Table) (tables : Tables) (verdicts new : Verdicts) (opens now : Opens) (cursors : List Marks)
+kept_each : (chains : Chains) (extracts more : ExtractTable) (tables : Tables) (verdicts new : Verdicts) (opens now : Opens) (cursors : List Marks)
     → ((q : ℕ) (own : Chain) (most : ℕ) → AreSought extracts tables verdicts opens own most → AreSought more tables new now own most)
     → ((q : ℕ) (own : Chain) (most : ℕ) → ArePassed extracts tables verdicts opens own most → ArePassed more tables new now own most)
     → AreMarked chains extracts tables verdicts opens cursors → AreMarked chains more tables new now cursors
@@ -188,13 +188,13 @@ kept_each chains extracts more tables verdicts new opens now cursors seeks passe
     (are q)
 
 -- more is open
-pub opened_marked : (chains : Chains) (extracts : Table) (tables : Tables) (verdicts : Verdicts) (opens now : Opens) (cursors : List Marks) → MoreOpens opens now
+pub opened_marked : (chains : Chains) (extracts : ExtractTable) (tables : Tables) (verdicts : Verdicts) (opens now : Opens) (cursors : List Marks) → MoreOpens opens now
     → ∥ AreMarked chains extracts tables verdicts opens cursors ∥₁ → ∥ AreMarked chains extracts tables verdicts now cursors ∥₁
 opened_marked chains extracts tables verdicts opens now cursors more t = ∥∥₁_map t (kept_each chains extracts extracts tables verdicts verdicts opens now cursors
     (λ q own most. sought_opens extracts tables verdicts opens now own most more) (λ q own most. passed_opens extracts tables verdicts opens now own most more))
 
 -- a peer has answered, and nothing of what was open to it is still to be asked for
-pub answered_marked : (chains : Chains) (extracts : Table) (tables : Tables) (verdicts : Verdicts) (opens now : Opens) (cursors : List Marks) (p : ℕ) → Closes opens now p
+pub answered_marked : (chains : Chains) (extracts : ExtractTable) (tables : Tables) (verdicts : Verdicts) (opens now : Opens) (cursors : List Marks) (p : ℕ) → Closes opens now p
     → ((block : Hash) → opens.filters p block ≡ true → IsUnjudged extracts tables verdicts block → ⊥) → ((block : Hash) → opens.blocks p block ≡ true → IsToFetch extracts tables verdicts block → ⊥)
     → ∥ AreMarked chains extracts tables verdicts opens cursors ∥₁ → ∥ AreMarked chains extracts tables verdicts now cursors ∥₁
 answered_marked chains extracts tables verdicts opens now cursors p closes told got t = ∥∥₁_map t (kept_each chains extracts extracts tables verdicts verdicts opens now cursors
@@ -202,7 +202,7 @@ answered_marked chains extracts tables verdicts opens now cursors p closes told 
 
 -- ---- a chain that grows
 
-pub grown_marked : (extracts : Table) (tables : Tables) (verdicts : Verdicts) (opens : Opens) (p : ℕ) (hs : List Header) (own next : Chain) (marks : Marks) → accept hs own ≡ Longer next
+pub grown_marked : (extracts : ExtractTable) (tables : Tables) (verdicts : Verdicts) (opens : Opens) (p : ℕ) (hs : List Header) (own next : Chain) (marks : Marks) → accept hs own ≡ Longer next
     → IsMarked extracts tables verdicts opens p own marks → IsMarked extracts tables verdicts opens p next (lowered marks (link_height hs own))
 grown_marked extracts tables verdicts opens p hs own next marks e m =
     let k = link_height hs own in
@@ -218,16 +218,16 @@ grown_marked extracts tables verdicts opens p hs own next marks e m =
       passed = passed_grown extracts tables verdicts opens hs own next marks.passed e m.passed;
     }
 
-own_marked : (extracts : Table) (tables : Tables) (verdicts : Verdicts) (opens : Opens) (p : ℕ) (o : Option Chain) (marks : Marks) → IsSome o → MarkedAt extracts tables verdicts opens p o marks → IsMarked extracts tables verdicts opens p (unwrap_or o []) marks
+own_marked : (extracts : ExtractTable) (tables : Tables) (verdicts : Verdicts) (opens : Opens) (p : ℕ) (o : Option Chain) (marks : Marks) → IsSome o → MarkedAt extracts tables verdicts opens p o marks → IsMarked extracts tables verdicts opens p (unwrap_or o []) marks
 own_marked extracts tables verdicts opens p None marks some m = cc some
 own_marked extracts tables verdicts opens p (Some own) marks some m = m
 
-pub at_peer : (chains : Chains) (extracts : Table) (tables : Tables) (verdicts : Verdicts) (opens : Opens) (cursors : List Marks) (p : PeerNo) → AreMarked chains extracts tables verdicts opens cursors → IsSome (chains p.0)
+pub at_peer : (chains : Chains) (extracts : ExtractTable) (tables : Tables) (verdicts : Verdicts) (opens : Opens) (cursors : List Marks) (p : PeerNo) → AreMarked chains extracts tables verdicts opens cursors → IsSome (chains p.0)
     → IsMarked extracts tables verdicts opens p.0 (own_of chains p) (marks_at cursors p.0)
 at_peer chains extracts tables verdicts opens cursors p are some = own_marked extracts tables verdicts opens p.0 (chains p.0) (marks_at cursors p.0) some (are p.0)
 
 -- a chain that stays
-kept_marked : (chains next : Chains) (extracts : Table) (tables : Tables) (verdicts : Verdicts) (opens : Opens) (cursors : List Marks) (p : PeerNo)
+kept_marked : (chains next : Chains) (extracts : ExtractTable) (tables : Tables) (verdicts : Verdicts) (opens : Opens) (cursors : List Marks) (p : PeerNo)
     → AreMarked chains extracts tables verdicts opens cursors → IsSome (chains p.0) → Puts chains next p (Some (own_of chains p)) → AreMarked next extracts tables verdicts opens cursors
 kept_marked chains next extracts tables verdicts opens cursors p are some puts q = elim (cases_eq q p.0) [
   | inl e ↦ subst (λ (k : ℕ). MarkedAt extracts tables verdicts opens k (next k) (marks_at cursors k)) (sym e)
@@ -235,7 +235,7 @@ kept_marked chains next extracts tables verdicts opens cursors p are some puts q
   | inr ne ↦ subst (λ (o : Option Chain). MarkedAt extracts tables verdicts opens q o (marks_at cursors q)) (sym (puts.others q ne)) (are q)
 ]
 
-accepted_by : (chains next : Chains) (extracts : Table) (tables : Tables) (verdicts : Verdicts) (opens : Opens) (cursors : List Marks) (p : PeerNo) (hs : List Header) (a : Accepted)
+accepted_by : (chains next : Chains) (extracts : ExtractTable) (tables : Tables) (verdicts : Verdicts) (opens : Opens) (cursors : List Marks) (p : PeerNo) (hs : List Header) (a : Accepted)
     → AreMarked chains extracts tables verdicts opens cursors → IsSome (chains p.0) → accept hs (own_of chains p) ≡ a → Puts chains next p (Some (chain_after a (own_of chains p)))
     → AreMarked next extracts tables verdicts opens (fallen cursors p.0 (change_of (link_height hs (own_of chains p)) a))
 accepted_by chains next extracts tables verdicts opens cursors p hs (Longer more) are some is puts =
@@ -246,7 +246,7 @@ accepted_by chains next extracts tables verdicts opens cursors p hs Unlinked are
 accepted_by chains next extracts tables verdicts opens cursors p hs (Invalid place fault) are some is puts = kept_marked chains next extracts tables verdicts opens cursors p are some puts
 accepted_by chains next extracts tables verdicts opens cursors p hs TooHigh are some is puts = kept_marked chains next extracts tables verdicts opens cursors p are some puts
 
-pub accepted_marked : (chains next : Chains) (extracts : Table) (tables : Tables) (verdicts : Verdicts) (opens : Opens) (cursors now : List Marks) (p : PeerNo) (hs : List Header) (change : Change)
+pub accepted_marked : (chains next : Chains) (extracts : ExtractTable) (tables : Tables) (verdicts : Verdicts) (opens : Opens) (cursors now : List Marks) (p : PeerNo) (hs : List Header) (change : Change)
     → ∥ AreMarked chains extracts tables verdicts opens cursors ∥₁ → IsSome (chains p.0) → change ≡ change_of (link_height hs (own_of chains p)) (accept hs (own_of chains p))
     → Puts chains next p (Some (chain_after (accept hs (own_of chains p)) (own_of chains p))) → now ≡ fallen cursors p.0 change → ∥ AreMarked next extracts tables verdicts opens now ∥₁
 accepted_marked chains next extracts tables verdicts opens cursors now p hs change t some answer puts is =
@@ -259,13 +259,13 @@ some_if : (b : Bool) (e : List TxExtract) (o : Option (List TxExtract)) → IsSo
 some_if true e o some = refl
 some_if false e o some = some
 
-more_extracts : (chains : Chains) (extracts more : Table) (tables : Tables) (verdicts : Verdicts) (opens : Opens) (cursors : List Marks) → ((hash : Hash) → IsSome (extracts hash) → IsSome (more hash))
+more_extracts : (chains : Chains) (extracts more : ExtractTable) (tables : Tables) (verdicts : Verdicts) (opens : Opens) (cursors : List Marks) → ((hash : Hash) → IsSome (extracts hash) → IsSome (more hash))
     → ∥ AreMarked chains extracts tables verdicts opens cursors ∥₁ → ∥ AreMarked chains more tables verdicts opens cursors ∥₁
 more_extracts chains extracts more tables verdicts opens cursors grows t = ∥∥₁_map t (kept_each chains extracts more tables verdicts verdicts opens opens cursors
     (λ q own most. sought_extracts extracts more tables verdicts opens own most grows) (λ q own most. passed_extracts extracts more tables verdicts opens own most grows))
 
 -- an extract is put, or there is no memory
-pub put_either : (chains : Chains) (extracts more : Table) (tables : Tables) (verdicts : Verdicts) (opens : Opens) (cursors : List Marks) (at : Hash) (e : List TxExtract) (result : Result (Unit {0}) NoMemory)
+pub put_either : (chains : Chains) (extracts more : ExtractTable) (tables : Tables) (verdicts : Verdicts) (opens : Opens) (cursors : List Marks) (at : Hash) (e : List TxExtract) (result : Result (Unit {0}) NoMemory)
     → OnOk result (IsSameTable more (with_extract at e extracts)) → OnErr result (IsSameTable more extracts)
     → ∥ AreMarked chains extracts tables verdicts opens cursors ∥₁ → ∥ AreMarked chains more tables verdicts opens cursors ∥₁
 put_either chains extracts more tables verdicts opens cursors at e (Ok u) ok err t =
@@ -274,7 +274,7 @@ put_either chains extracts more tables verdicts opens cursors at e (Err e2) ok e
     more_extracts chains extracts more tables verdicts opens cursors (λ hash some. subst (λ (o : Option (List TxExtract)). IsSome o) (sym (err hash)) some) t
 
 -- verdicts came, and each mark fell to below the blocks that hit now
-pub judged_marked : (chains : Chains) (extracts : Table) (tables : Tables) (verdicts new : Verdicts) (opens : Opens) (cursors now : List Marks) (watch : List (List ℕ)) (jobs : List Job) → MoreVerdicts verdicts new
+pub judged_marked : (chains : Chains) (extracts : ExtractTable) (tables : Tables) (verdicts new : Verdicts) (opens : Opens) (cursors now : List Marks) (watch : List (List ℕ)) (jobs : List Job) → MoreVerdicts verdicts new
     → ((block filter : Hash) → new block filter ≡ Some Hit → with_verdicts watch jobs verdicts block filter ≡ Some Hit)
     → ((q : ℕ) → IsFallen (chains q) (marks_at cursors q) (marks_at now q) jobs (map (verdict_of watch) jobs))
     → ∥ AreMarked chains extracts tables verdicts opens cursors ∥₁ → ∥ AreMarked chains extracts tables new opens now ∥₁
@@ -351,7 +351,7 @@ none_else chains before after p q block some adds off none = elim (cases_eq q p)
   | inr ne ↦ adds.others q ne block ∙ none
 ]
 
-at_added : (chains : Chains) (extracts : Table) (before after : Tables) (verdicts : Verdicts) (opens : Opens) (p q : ℕ) (a b : Marks) → IsSome (chains p) → AddsClaims before after p
+at_added : (chains : Chains) (extracts : ExtractTable) (before after : Tables) (verdicts : Verdicts) (opens : Opens) (p q : ℕ) (a b : Marks) → IsSome (chains p) → AddsClaims before after p
     → b.sought ≤ a.sought → b.passed ≤ a.passed
     → ((own : Chain) → IsMarked extracts before verdicts opens q own a → IsMarked extracts after verdicts opens q own b)
     → (o : Option Chain) → chains q ≡ o → MarkedAt extracts before verdicts opens q o a → MarkedAt extracts after verdicts opens q o b
@@ -401,7 +401,7 @@ added_along before after p own from most expected previous blocks hashes none is
     let long : length (blocks_of blocks) ≡ length hashes = length-map blocks (λ (x : Hash32). x.0) ∙ same_count expected (length blocks) previous (length hashes) none in
     subst IsSome (sym (is (hash_at own h))) (put_in previous (blocks_of blocks) hashes (before p) (hash_at own h) long (along h lt le))
 
-further_marked : (extracts : Table) (tables : Tables) (verdicts : Verdicts) (opens : Opens) (p : ℕ) (own : Chain) (marks : Marks) (n : ℕ) → IsMarked extracts tables verdicts opens p own marks
+further_marked : (extracts : ExtractTable) (tables : Tables) (verdicts : Verdicts) (opens : Opens) (p : ℕ) (own : Chain) (marks : Marks) (n : ℕ) → IsMarked extracts tables verdicts opens p own marks
     → marks.claimed ≤ n → n ≤ length own → Along tables p own marks.claimed n → IsMarked extracts tables verdicts opens p own (record marks { claimed = n })
 further_marked extracts tables verdicts opens p own marks n m up1 on along = record {
   on = on;
@@ -417,7 +417,7 @@ some_own None some = cc some
 some_own (Some own) some = refl
 
 -- the marks of each peer, changed in one way, where p claims further
-further_each : (chains : Chains) (extracts : Table) (tables : Tables) (verdicts : Verdicts) (opens : Opens) (cursors : List Marks) (p n : ℕ) (u : Marks → Marks) → IsSome (chains p)
+further_each : (chains : Chains) (extracts : ExtractTable) (tables : Tables) (verdicts : Verdicts) (opens : Opens) (cursors : List Marks) (p n : ℕ) (u : Marks → Marks) → IsSome (chains p)
     → ((q : ℕ) → MarkedAt extracts tables verdicts opens q (chains q) (u (marks_at cursors q)))
     → (IsMarked extracts tables verdicts opens p (unwrap_or (chains p) []) (u (marks_at cursors p)) → IsMarked extracts tables verdicts opens p (unwrap_or (chains p) []) (u (record (marks_at cursors p) { claimed = n })))
     → IsMarked extracts tables verdicts opens p (unwrap_or (chains p) []) (u no_marks)
@@ -455,7 +455,7 @@ goes_further chains before after cursors p marks n expected previous blocks hash
     (up1, on, added_along before after p.0 own marks.claimed n expected previous blocks hashes none is along)
 
 -- where no block is in dispute that wasn't, the marks stay
-pub added_marked : (chains : Chains) (extracts : Table) (before after : Tables) (verdicts : Verdicts) (opens : Opens) (cursors : List Marks) (p : ℕ) (n : ℕ) (previous : Hash32) (blocks : List Hash) (hashes : List Hash32)
+pub added_marked : (chains : Chains) (extracts : ExtractTable) (before after : Tables) (verdicts : Verdicts) (opens : Opens) (cursors : List Marks) (p : ℕ) (n : ℕ) (previous : Hash32) (blocks : List Hash) (hashes : List Hash32)
     → IsSome (chains p) → ((block : Hash) → IsIn block blocks → before p block ≡ None)
     → ((block : Hash) → after p block ≡ with_claims previous blocks hashes (before p) block) → ((q : ℕ) → q ≢ p → (block : Hash) → after q block ≡ before q block)
     → ((block : Hash) → IsIn block blocks → extracts block ≡ None → IsAt after block Differ → ⊥)
@@ -478,7 +478,7 @@ added_marked chains extracts before after verdicts opens cursors p n previous bl
     (λ m. further_marked extracts after verdicts opens p (unwrap_or (chains p) []) (marks_at cursors p) n m goes.0 goes.1 goes.2)
     (nothing_marked extracts after verdicts opens p (unwrap_or (chains p) [])))
 
-pub disputed_marked : (chains : Chains) (extracts : Table) (before after : Tables) (verdicts : Verdicts) (opens : Opens) (cursors now : List Marks) (p n : ℕ) (previous : Hash32) (blocks : List Hash) (hashes : List Hash32)
+pub disputed_marked : (chains : Chains) (extracts : ExtractTable) (before after : Tables) (verdicts : Verdicts) (opens : Opens) (cursors now : List Marks) (p n : ℕ) (previous : Hash32) (blocks : List Hash) (hashes : List Hash32)
     → IsSome (chains p) → ((block : Hash) → IsIn block blocks → before p block ≡ None)
     → ((block : Hash) → after p block ≡ with_claims previous blocks hashes (before p) block) → ((q : ℕ) → q ≢ p → (block : Hash) → after q block ≡ before q block)
     → ((q : ℕ) → marks_at now q ≡ unpassed (marks_at (further cursors p n) q)) → GoesFurther chains after cursors p n
@@ -498,7 +498,7 @@ disputed_marked chains extracts before after verdicts opens cursors now p n prev
     k))
 
 -- the same claims
-pub same_claims : (chains : Chains) (extracts : Table) (before after : Tables) (verdicts : Verdicts) (opens : Opens) (cursors : List Marks) → ((p : ℕ) (block : Hash) → after p block ≡ before p block)
+pub same_claims : (chains : Chains) (extracts : ExtractTable) (before after : Tables) (verdicts : Verdicts) (opens : Opens) (cursors : List Marks) → ((p : ℕ) (block : Hash) → after p block ≡ before p block)
     → ∥ AreMarked chains extracts before verdicts opens cursors ∥₁ → ∥ AreMarked chains extracts after verdicts opens cursors ∥₁
 same_claims chains extracts before after verdicts opens cursors is t = ∥∥₁_map t (λ are q.
     let adds : AddsClaims before after q = record { mine = λ block claim mine. is q block ∙ mine; others = λ k ne block. is k block } in

@@ -1,5 +1,5 @@
 -- What is none of one peer's blocks is none of another's, as far as their chains are the same.
-use Rattle.std.proofs.Common.{◌≡◌, inl, inr, ℕ, zero, suc, ◌+◌, ◌≤◌, max, min, Bool, true, false, ◌&&◌, List, [], ◌∷◌, length, take, reverse, refl, sym, ◌∙◌, ap, subst, arith}
+use Rattle.std.proofs.Common.{◌≡◌, inl, inr, ℕ, zero, suc, ◌+◌, ◌≤◌, max, min, Bool, true, false, ◌&&◌, List, [], ◌∷◌, take, reverse, refl, sym, ◌∙◌, ap, subst, arith}
 use Rattle.std.specs.Prelude.{◌==◌, bytes_eq, cond}
 use Rattle.std.specs.Ordering.{int_eq}
 use Rattle.std.specs.List.{common_prefix_len}
@@ -8,18 +8,9 @@ use Rattle.std.proofs.lemmas.Bool.Decides.{Decides-eqb, Decides-int_eq}
 use Rattle.std.proofs.lemmas.Slice.Eq.{bytes_eq-Decides}
 use Rattle.std.proofs.lemmas.List.{reverse-reverse}
 use Rattle.cf_block.specs.declared.header.Header.{Header}
-use Rattle.cf_dispute.specs.Claims.{Tables}
 use Rattle.cf_headers.specs.Chain.{Hash, Chain, lower, tip_hash}
 use Rattle.cf_headers.specs.Heights.{hash_at, common_of, is_same_header}
 use Rattle.cf_headers.proofs.Stacks.{lower_reverse}
-use Rattle.cf_match.specs.Verdicts.{Verdicts}
-use Rattle.cf_seek.specs.declared.cursors.Marks.{Marks}
-use Rattle.cf_seek.specs.Cursors.{raised}
-use Rattle.cf_seek.specs.Opens.{Opens}
-use Rattle.cf_seek.specs.Seeking.{ArePassed, AreSought, IsToAsk, IsToGet}
-use Rattle.cf_tables.specs.Known.{Table}
-use Rattle.cf_seek.specs.Tracking.{IsMarked}
-use Rattle.cf_tables.specs.Wanting.{AreClaimed}
 
 -- ---- chains that share blocks
 
@@ -79,32 +70,3 @@ none_higher P own other from theirs common is first second h up low = elim (case
 ]
 
 -- ---- marks that go up
-
-none_high : (P : ℕ → Type 0) (c d : ℕ) → ((h : ℕ) → 1 ≤ h → h ≤ c → P h → ⊥) → ((h : ℕ) → 1 ≤ h → h ≤ d → P h → ⊥) → (h : ℕ) → 1 ≤ h → h ≤ max c d → P h → ⊥
-none_high P c d first second h up low = elim (cases_lt c h) [
-  | inl lt ↦ second h up (omega (arith, lt, low))
-  | inr ge ↦ first h up ge
-]
-
-raise : (extracts : Table) (tables : Tables) (verdicts : Verdicts) (opens : Opens) (p : ℕ) (own : Chain) (marks : Marks) (claimed sought passed : ℕ) → IsMarked extracts tables verdicts opens p own marks
-    → marks.claimed ≤ claimed → claimed ≤ length own → AreClaimed tables p own claimed → AreSought extracts tables verdicts opens own sought → ArePassed extracts tables verdicts opens own passed
-    → IsMarked extracts tables verdicts opens p own (raised marks claimed sought passed)
-raise extracts tables verdicts opens p own marks claimed sought passed m up1 on mine asks gets =
-    let a = m.seeks in
-    let b = m.passes in
-    record {
-      on = on;
-      seeks = omega (arith, a, up1);
-      passes = omega (arith, b, up1);
-      claimed = mine;
-      sought = none_high (λ h. IsToAsk extracts tables verdicts opens (hash_at own h)) marks.sought (min sought claimed) m.sought (λ h up low. asks h up (omega (arith, low)));
-      passed = none_high (λ h. IsToGet extracts tables verdicts opens (hash_at own h)) marks.passed (min passed claimed) m.passed (λ h up low. gets h up (omega (arith, low)));
-    }
-
--- marks of which the first climbed, no further than asked
-pub raised_marked : (extracts : Table) (tables : Tables) (verdicts : Verdicts) (opens : Opens) (p : ℕ) (own : Chain) (marks now : Marks) (claimed sought passed common : ℕ) → now ≡ raised marks claimed sought passed
-    → IsMarked extracts tables verdicts opens p own marks → marks.claimed ≤ claimed → claimed ≤ max marks.claimed common → common ≤ length own
-    → AreClaimed tables p own claimed → AreSought extracts tables verdicts opens own sought → ArePassed extracts tables verdicts opens own passed → IsMarked extracts tables verdicts opens p own now
-raised_marked extracts tables verdicts opens p own marks now claimed sought passed common is m up1 low within mine asks gets =
-    let a = m.on in
-    subst (IsMarked extracts tables verdicts opens p own) (sym is) (raise extracts tables verdicts opens p own marks claimed sought passed m up1 (omega (arith, a, low, within)) mine asks gets)

@@ -9,17 +9,17 @@ use Rattle.cf_headers.specs.Heights.{hash_at, height_of}
 use Rattle.cf_match.specs.Verdicts.{Verdicts}
 use Rattle.cf_tables.specs.declared.kind.Kind.{Kind}
 use Rattle.cf_tables.specs.declared.kind.Kind.TheVariants.{Unclaimed, Unjudged, ToFetch, Done}
-use Rattle.cf_tables.specs.Known.{Table}
+use Rattle.cf_tables.specs.Known.{ExtractTable}
 use Rattle.cf_tables.specs.Wanting.{IsToFetch, IsKind}
 use Rattle.cf_seek.specs.Opens.{Opens}
-use Rattle.cf_seek.specs.Seeking.{IsToAsk, IsToGet, AreSought, ArePassed, AreToAsk}
+use Rattle.cf_seek.specs.Seeking.{IsToAsk, AreToAsk}
 use Rattle.cf_seek.proofs.Stops.{found_low}
-use Rattle.cf_tables.proofs.Told.{not_unjudged, none_differ}
+use Rattle.cf_tables.proofs.Told.{more, none_differ, not_unjudged}
 
 -- ---- a block's kind
 
 -- a block of another kind isn't to be fetched
-pub not_to_fetch : (extracts : Table) (tables : Tables) (verdicts : Verdicts) (block : Hash) (k : Kind) → IsKind extracts tables verdicts block k → k ≢ ToFetch → IsToFetch extracts tables verdicts block → ⊥
+pub not_to_fetch : (extracts : ExtractTable) (tables : Tables) (verdicts : Verdicts) (block : Hash) (k : Kind) → IsKind extracts tables verdicts block k → k ≢ ToFetch → IsToFetch extracts tables verdicts block → ⊥
 not_to_fetch extracts tables verdicts block Unclaimed is1 off (none, inl differ) = (let no = sym (is1.1 differ.0) ∙ differ.1.1.1.1.0.1 in cc no)
 not_to_fetch extracts tables verdicts block Unclaimed is1 off (none, inr hit) = (let no = sym (is1.1 hit.1.0.0) ∙ hit.1.0.1.1 in cc no)
 not_to_fetch extracts tables verdicts block Unjudged is1 off due = not_unjudged extracts tables verdicts block ToFetch due (λ e. cc e) is1
@@ -33,29 +33,7 @@ not_to_fetch extracts tables verdicts block Done (inr done) off (none, inr hit) 
 
 -- ---- along a chain
 
-more : (own : Chain) (good : Hash → Type 0) (h : ℕ) → ((k : ℕ) → 1 ≤ k → k ≤ h → good (hash_at own k)) → good (hash_at own (h + 1)) → (k : ℕ) → 1 ≤ k → k ≤ h + 1 → good (hash_at own k)
-more own good h has next k up low = elim (cases_lt k (h + 1)) [
-  | inl lt ↦ has k up (omega (arith, lt))
-  | inr ge ↦ (let at : k ≡ h + 1 = omega (arith, ge, low) in subst (λ (n : ℕ). good (hash_at own n)) (sym at) next)
-]
-
-pub sought_more : (extracts : Table) (tables : Tables) (verdicts : Verdicts) (opens : Opens) (own : Chain) (h : ℕ) (hash : Hash) → AreSought extracts tables verdicts opens own h → hash ≡ hash_at own (h + 1)
-    → (IsToAsk extracts tables verdicts opens hash → ⊥) → AreSought extracts tables verdicts opens own (h + 1)
-sought_more extracts tables verdicts opens own h hash are is1 off =
-    more own (λ (x : Hash). IsToAsk extracts tables verdicts opens x → ⊥) h are (subst (λ (x : Hash). IsToAsk extracts tables verdicts opens x → ⊥) is1 off)
-
-pub passed_more : (extracts : Table) (tables : Tables) (verdicts : Verdicts) (opens : Opens) (own : Chain) (h : ℕ) (hash : Hash) → ArePassed extracts tables verdicts opens own h → hash ≡ hash_at own (h + 1)
-    → (IsToGet extracts tables verdicts opens hash → ⊥) → ArePassed extracts tables verdicts opens own (h + 1)
-passed_more extracts tables verdicts opens own h hash are is1 off =
-    more own (λ (x : Hash). IsToGet extracts tables verdicts opens x → ⊥) h are (subst (λ (x : Hash). IsToGet extracts tables verdicts opens x → ⊥) is1 off)
-
-pub low_sought : (extracts : Table) (tables : Tables) (verdicts : Verdicts) (opens : Opens) (own : Chain) (c d : ℕ) → d ≤ c → AreSought extracts tables verdicts opens own c → AreSought extracts tables verdicts opens own d
-low_sought extracts tables verdicts opens own c d le are h up low = are h up (omega (arith, le, low))
-
-pub low_passed : (extracts : Table) (tables : Tables) (verdicts : Verdicts) (opens : Opens) (own : Chain) (c d : ℕ) → d ≤ c → ArePassed extracts tables verdicts opens own c → ArePassed extracts tables verdicts opens own d
-low_passed extracts tables verdicts opens own c d le are h up low = are h up (omega (arith, le, low))
-
-pub to_ask_more : (extracts : Table) (tables : Tables) (verdicts : Verdicts) (opens : Opens) (own : Chain) (start h : ℕ) (hash : Hash) → AreToAsk extracts tables verdicts opens own start h → hash ≡ hash_at own (h + 1)
+pub to_ask_more : (extracts : ExtractTable) (tables : Tables) (verdicts : Verdicts) (opens : Opens) (own : Chain) (start h : ℕ) (hash : Hash) → AreToAsk extracts tables verdicts opens own start h → hash ≡ hash_at own (h + 1)
     → IsToAsk extracts tables verdicts opens hash → AreToAsk extracts tables verdicts opens own start (h + 1)
 to_ask_more extracts tables verdicts opens own start h hash are is1 here k up low = elim (cases_lt k (h + 1)) [
   | inl lt ↦ are k up (omega (arith, lt))

@@ -1,5 +1,5 @@
 -- What is marked stays so as what is kept changes.
-use Rattle.std.proofs.Common.{◌≡◌, ◌⊎◌, inl, inr, ℕ, suc, ◌<◌, ◌≤◌, min, Bool, true, false, if◌then◌else◌, List, [], ◌∷◌, map, length, get_or, Option, Some, None, refl, sym, ◌∙◌, ap, subst, arith}
+use Rattle.std.proofs.Common.{◌≡◌, ◌≢◌, ◌⊎◌, inl, inr, ℕ, suc, ◌<◌, ◌≤◌, min, Bool, true, false, if◌then◌else◌, List, [], ◌∷◌, map, length, get_or, Option, Some, None, refl, sym, ◌∙◌, ap, subst, arith}
 use Rattle.std.proofs.lemmas.List.{length-map}
 use Rattle.std.proofs.lemmas.Slice.Eq.{bytes_eq-Decides}
 use Rattle.cf_filter.specs.Filter.{filter_hash_of}
@@ -20,7 +20,7 @@ use Rattle.cf_match.specs.declared.job.Verdict.{Verdict}
 use Rattle.cf_match.specs.declared.job.Verdict.TheVariants.{Hit}
 use Rattle.cf_match.specs.Verdicts.{Verdicts, is_of, kept_or, verdict_of, with_verdict, with_verdicts}
 use Rattle.cf_tables.specs.Judged.{MoreVerdicts}
-use Rattle.cf_tables.specs.Known.{Table}
+use Rattle.cf_tables.specs.Known.{ExtractTable}
 use Rattle.cf_tables.specs.Wanting.{IsUnjudged, IsToFetch, AreClaimed}
 use Rattle.cf_tables.specs.Claiming.{AddsClaims}
 use Rattle.cf_seek.specs.Opens.{Opens}
@@ -34,17 +34,17 @@ back_none (Some x) b grows e = absurd (let there = subst IsSome e (grows refl) i
 
 -- ---- one block
 
-pub un_extracts : (extracts more : Table) (tables : Tables) (verdicts : Verdicts) (block : Hash) → (IsSome (extracts block) → IsSome (more block)) → IsUnjudged more tables verdicts block → IsUnjudged extracts tables verdicts block
+pub un_extracts : (extracts more : ExtractTable) (tables : Tables) (verdicts : Verdicts) (block : Hash) → (IsSome (extracts block) → IsSome (more block)) → IsUnjudged more tables verdicts block → IsUnjudged extracts tables verdicts block
 un_extracts extracts more tables verdicts block grows un = (back_none (extracts block) (more block) grows un.0, un.1)
 
-pub due_extracts : (extracts more : Table) (tables : Tables) (verdicts : Verdicts) (block : Hash) → (IsSome (extracts block) → IsSome (more block)) → IsToFetch more tables verdicts block → IsToFetch extracts tables verdicts block
+pub due_extracts : (extracts more : ExtractTable) (tables : Tables) (verdicts : Verdicts) (block : Hash) → (IsSome (extracts block) → IsSome (more block)) → IsToFetch more tables verdicts block → IsToFetch extracts tables verdicts block
 due_extracts extracts more tables verdicts block grows due = (back_none (extracts block) (more block) grows due.0, due.1)
 
 less : (old new : Option Verdict) → ((v : Verdict) → old ≡ Some v → new ≡ Some v) → new ≡ None → old ≡ None
 less None new stays e = refl
 less (Some v) new stays e = absurd (let no = sym (stays v refl) ∙ e in cc no)
 
-pub un_verdicts : (extracts : Table) (tables : Tables) (verdicts new : Verdicts) (block : Hash) → MoreVerdicts verdicts new → IsUnjudged extracts tables new block → IsUnjudged extracts tables verdicts block
+pub un_verdicts : (extracts : ExtractTable) (tables : Tables) (verdicts new : Verdicts) (block : Hash) → MoreVerdicts verdicts new → IsUnjudged extracts tables new block → IsUnjudged extracts tables verdicts block
 un_verdicts extracts tables verdicts new block stays un = (un.0, (un.1.0, un.1.1, less (verdicts block un.1.0.0) (new block un.1.0.0) (λ v e. stays block un.1.0.0 v e) un.1.2))
 
 -- one hash was the one before, where the peer q already claimed one
@@ -57,46 +57,46 @@ one_before before after p q block hash adds some at = by (before q block) refl s
     λ k other claim. at.1 k other (claims_more before after p k block other adds claim),
   )
 
-pub un_claims : (extracts : Table) (before after : Tables) (verdicts : Verdicts) (p q : ℕ) (block : Hash) → AddsClaims before after p → IsSome (before q block) → IsUnjudged extracts after verdicts block → IsUnjudged extracts before verdicts block
+pub un_claims : (extracts : ExtractTable) (before after : Tables) (verdicts : Verdicts) (p q : ℕ) (block : Hash) → AddsClaims before after p → IsSome (before q block) → IsUnjudged extracts after verdicts block → IsUnjudged extracts before verdicts block
 un_claims extracts before after verdicts p q block adds some un = (un.0, (un.1.0, one_before before after p q block un.1.0 adds some un.1.1, un.1.2))
 
-pub due_claims : (extracts : Table) (before after : Tables) (verdicts : Verdicts) (p q : ℕ) (block : Hash) → AddsClaims before after p → IsSome (before q block) → (extracts block ≡ None → IsAt after block Differ → IsAt before block Differ)
+pub due_claims : (extracts : ExtractTable) (before after : Tables) (verdicts : Verdicts) (p q : ℕ) (block : Hash) → AddsClaims before after p → IsSome (before q block) → (extracts block ≡ None → IsAt after block Differ → IsAt before block Differ)
     → IsToFetch extracts after verdicts block → IsToFetch extracts before verdicts block
 due_claims extracts before after verdicts p q block adds some quiet (none, inl differ) = (none, inl (quiet none differ))
 due_claims extracts before after verdicts p q block adds some quiet (none, inr hit) = (none, inr (hit.0, one_before before after p q block hit.0 adds some hit.1, hit.2))
 
 -- ---- along a chain
 
-pub sought_by : (extracts more : Table) (before after : Tables) (verdicts new : Verdicts) (opens now : Opens) (own : Chain) (most : ℕ)
+pub sought_by : (extracts more : ExtractTable) (before after : Tables) (verdicts new : Verdicts) (opens now : Opens) (own : Chain) (most : ℕ)
     → ((h : ℕ) → 1 ≤ h → h ≤ most → IsToAsk more after new now (hash_at own h) → IsToAsk extracts before verdicts opens (hash_at own h))
     → AreSought extracts before verdicts opens own most → AreSought more after new now own most
 sought_by extracts more before after verdicts new opens now own most back are h up low is = are h up low (back h up low is)
 
-pub passed_by : (extracts more : Table) (before after : Tables) (verdicts new : Verdicts) (opens now : Opens) (own : Chain) (most : ℕ)
+pub passed_by : (extracts more : ExtractTable) (before after : Tables) (verdicts new : Verdicts) (opens now : Opens) (own : Chain) (most : ℕ)
     → ((h : ℕ) → 1 ≤ h → h ≤ most → IsToGet more after new now (hash_at own h) → IsToGet extracts before verdicts opens (hash_at own h))
     → ArePassed extracts before verdicts opens own most → ArePassed more after new now own most
 passed_by extracts more before after verdicts new opens now own most back are h up low is = are h up low (back h up low is)
 
-pub sought_extracts : (extracts more : Table) (tables : Tables) (verdicts : Verdicts) (opens : Opens) (own : Chain) (most : ℕ) → ((block : Hash) → IsSome (extracts block) → IsSome (more block))
+pub sought_extracts : (extracts more : ExtractTable) (tables : Tables) (verdicts : Verdicts) (opens : Opens) (own : Chain) (most : ℕ) → ((block : Hash) → IsSome (extracts block) → IsSome (more block))
     → AreSought extracts tables verdicts opens own most → AreSought more tables verdicts opens own most
 sought_extracts extracts more tables verdicts opens own most grows =
     sought_by extracts more tables tables verdicts verdicts opens opens own most
     (λ h up low is. record { above = is.above; un = un_extracts extracts more tables verdicts (hash_at own h) (grows (hash_at own h)) is.un; free = is.free })
 
-pub passed_extracts : (extracts more : Table) (tables : Tables) (verdicts : Verdicts) (opens : Opens) (own : Chain) (most : ℕ) → ((block : Hash) → IsSome (extracts block) → IsSome (more block))
+pub passed_extracts : (extracts more : ExtractTable) (tables : Tables) (verdicts : Verdicts) (opens : Opens) (own : Chain) (most : ℕ) → ((block : Hash) → IsSome (extracts block) → IsSome (more block))
     → ArePassed extracts tables verdicts opens own most → ArePassed more tables verdicts opens own most
 passed_extracts extracts more tables verdicts opens own most grows =
     passed_by extracts more tables tables verdicts verdicts opens opens own most
     (λ h up low is. record { above = is.above; due = due_extracts extracts more tables verdicts (hash_at own h) (grows (hash_at own h)) is.due; free = is.free })
 
-pub sought_verdicts : (extracts : Table) (tables : Tables) (verdicts new : Verdicts) (opens : Opens) (own : Chain) (most : ℕ) → MoreVerdicts verdicts new
+pub sought_verdicts : (extracts : ExtractTable) (tables : Tables) (verdicts new : Verdicts) (opens : Opens) (own : Chain) (most : ℕ) → MoreVerdicts verdicts new
     → AreSought extracts tables verdicts opens own most → AreSought extracts tables new opens own most
 sought_verdicts extracts tables verdicts new opens own most stays =
     sought_by extracts extracts tables tables verdicts new opens opens own most
     (λ h up low is. record { above = is.above; un = un_verdicts extracts tables verdicts new (hash_at own h) stays is.un; free = is.free })
 
 -- verdicts came: it stays so up to below the lowest block that hits now and didn't
-pub passed_verdicts : (extracts : Table) (tables : Tables) (verdicts new : Verdicts) (opens : Opens) (own : Chain) (most : ℕ)
+pub passed_verdicts : (extracts : ExtractTable) (tables : Tables) (verdicts new : Verdicts) (opens : Opens) (own : Chain) (most : ℕ)
     → ((h : ℕ) → 1 ≤ h → h ≤ most → (hash : Hash32) → new (hash_at own h) hash.0 ≡ Some Hit → verdicts (hash_at own h) hash.0 ≡ Some Hit)
     → ArePassed extracts tables verdicts opens own most → ArePassed extracts tables new opens own most
 passed_verdicts extracts tables verdicts new opens own most same_hits =
@@ -105,13 +105,13 @@ passed_verdicts extracts tables verdicts new opens own most same_hits =
       by h up low (none, inl differ) = (none, inl differ)
       by h up low (none, inr hit) = (none, inr (hit.0, hit.1, same_hits h up low hit.0 hit.2))
 
-pub sought_claims : (extracts : Table) (before after : Tables) (verdicts : Verdicts) (opens : Opens) (p q : ℕ) (own : Chain) (most : ℕ) → AddsClaims before after p → AreClaimed before q own most
+pub sought_claims : (extracts : ExtractTable) (before after : Tables) (verdicts : Verdicts) (opens : Opens) (p q : ℕ) (own : Chain) (most : ℕ) → AddsClaims before after p → AreClaimed before q own most
     → AreSought extracts before verdicts opens own most → AreSought extracts after verdicts opens own most
 sought_claims extracts before after verdicts opens p q own most adds claimed =
     sought_by extracts extracts before after verdicts verdicts opens opens own most
     (λ h up low is. record { above = is.above; un = un_claims extracts before after verdicts p q (hash_at own h) adds (claimed h up low is.above) is.un; free = is.free })
 
-pub passed_claims : (extracts : Table) (before after : Tables) (verdicts : Verdicts) (opens : Opens) (p q : ℕ) (own : Chain) (most : ℕ) → AddsClaims before after p → AreClaimed before q own most
+pub passed_claims : (extracts : ExtractTable) (before after : Tables) (verdicts : Verdicts) (opens : Opens) (p q : ℕ) (own : Chain) (most : ℕ) → AddsClaims before after p → AreClaimed before q own most
     → ((block : Hash) → extracts block ≡ None → IsAt after block Differ → IsAt before block Differ)
     → ArePassed extracts before verdicts opens own most → ArePassed extracts after verdicts opens own most
 passed_claims extracts before after verdicts opens p q own most adds claimed quiet =
@@ -119,12 +119,12 @@ passed_claims extracts before after verdicts opens p q own most adds claimed qui
     (λ h up low is. record { above = is.above; due = due_claims extracts before after verdicts p q (hash_at own h) adds (claimed h up low is.above) (quiet (hash_at own h)) is.due; free = is.free })
 
 -- more is open
-pub sought_opens : (extracts : Table) (tables : Tables) (verdicts : Verdicts) (opens now : Opens) (own : Chain) (most : ℕ) → MoreOpens opens now
+pub sought_opens : (extracts : ExtractTable) (tables : Tables) (verdicts : Verdicts) (opens now : Opens) (own : Chain) (most : ℕ) → MoreOpens opens now
     → AreSought extracts tables verdicts opens own most → AreSought extracts tables verdicts now own most
 sought_opens extracts tables verdicts opens now own most more =
     sought_by extracts extracts tables tables verdicts verdicts opens now own most (λ h up low is. record { above = is.above; un = is.un; free = λ q. more.filters q (hash_at own h) (is.free q) })
 
-pub passed_opens : (extracts : Table) (tables : Tables) (verdicts : Verdicts) (opens now : Opens) (own : Chain) (most : ℕ) → MoreOpens opens now
+pub passed_opens : (extracts : ExtractTable) (tables : Tables) (verdicts : Verdicts) (opens now : Opens) (own : Chain) (most : ℕ) → MoreOpens opens now
     → ArePassed extracts tables verdicts opens own most → ArePassed extracts tables verdicts now own most
 passed_opens extracts tables verdicts opens now own most more =
     passed_by extracts extracts tables tables verdicts verdicts opens now own most (λ h up low is. record { above = is.above; due = is.due; free = λ q. more.blocks q (hash_at own h) (is.free q) })
@@ -143,47 +143,47 @@ block_more opens now p asked idle o = record {
 }
 
 -- a peer has answered, and nothing of what was open to it is still to be asked for
-free_before : (b : Bool) (P : Type 0) → (b ≡ true → ⊥) → b ≡ false
-free_before b P never = elim (cases_Bool b) [ inl is1 ↦ absurd (never is1) | inr off ↦ off ]
+closed_free : (before after : ℕ → Bool) (p : ℕ) → (before p ≡ true → ⊥) → ((q : ℕ) → q ≢ p → after q ≡ before q)
+    → ((q : ℕ) → after q ≡ false) → (q : ℕ) → before q ≡ false
+closed_free before after p never others free q = elim (cases_eq q p) [
+  | inl e ↦ subst (λ (k : ℕ). before k ≡ false) (sym e) (elim (cases_Bool (before p)) [ inl on ↦ absurd (never on) | inr off ↦ off ])
+  | inr ne ↦ sym (others q ne) ∙ free q
+]
 
-pub sought_closes : (extracts : Table) (tables : Tables) (verdicts : Verdicts) (opens now : Opens) (p : ℕ) (own : Chain) (most : ℕ) → Closes opens now p
+pub sought_closes : (extracts : ExtractTable) (tables : Tables) (verdicts : Verdicts) (opens now : Opens) (p : ℕ) (own : Chain) (most : ℕ) → Closes opens now p
     → ((block : Hash) → opens.filters p block ≡ true → IsUnjudged extracts tables verdicts block → ⊥)
     → AreSought extracts tables verdicts opens own most → AreSought extracts tables verdicts now own most
 sought_closes extracts tables verdicts opens now p own most closes answered =
     sought_by extracts extracts tables tables verdicts verdicts opens now own most
-    (λ h up low is. record {
-      above = is.above;
-      un = is.un;
-      free = λ q. elim (cases_eq q p) [
-        | inl e ↦ subst (λ (k : ℕ). opens.filters k (hash_at own h) ≡ false) (sym e) (free_before (opens.filters p (hash_at own h)) (Unit {0}) (λ there. answered (hash_at own h) there is.un))
-        | inr ne ↦ sym (closes.others.filters q ne (hash_at own h)) ∙ is.free q
-      ];
-    })
+    (λ h up low is. (
+    let block = hash_at own h in
+    let free = closed_free (λ q. opens.filters q block) (λ q. now.filters q block) p (λ on. answered block on is.un)
+    (λ q ne. closes.others.filters q ne block) is.free in
+    record { above = is.above; un = is.un; free = free }
+    ))
 
-pub passed_closes : (extracts : Table) (tables : Tables) (verdicts : Verdicts) (opens now : Opens) (p : ℕ) (own : Chain) (most : ℕ) → Closes opens now p
+pub passed_closes : (extracts : ExtractTable) (tables : Tables) (verdicts : Verdicts) (opens now : Opens) (p : ℕ) (own : Chain) (most : ℕ) → Closes opens now p
     → ((block : Hash) → opens.blocks p block ≡ true → IsToFetch extracts tables verdicts block → ⊥)
     → ArePassed extracts tables verdicts opens own most → ArePassed extracts tables verdicts now own most
 passed_closes extracts tables verdicts opens now p own most closes answered =
     passed_by extracts extracts tables tables verdicts verdicts opens now own most
-    (λ h up low is. record {
-      above = is.above;
-      due = is.due;
-      free = λ q. elim (cases_eq q p) [
-        | inl e ↦ subst (λ (k : ℕ). opens.blocks k (hash_at own h) ≡ false) (sym e) (free_before (opens.blocks p (hash_at own h)) (Unit {0}) (λ there. answered (hash_at own h) there is.due))
-        | inr ne ↦ sym (closes.others.blocks q ne (hash_at own h)) ∙ is.free q
-      ];
-    })
+    (λ h up low is. (
+    let block = hash_at own h in
+    let free = closed_free (λ q. opens.blocks q block) (λ q. now.blocks q block) p (λ on. answered block on is.due)
+    (λ q ne. closes.others.blocks q ne block) is.free in
+    record { above = is.above; due = is.due; free = free }
+    ))
 
 -- a chain became a longer one: it stays so up to the height at which that links
 pub same_below : (hs : List Header) (own next : Chain) (h : ℕ) → accept hs own ≡ Longer next → h ≤ link_height hs own → hash_at own h ≡ hash_at next h
 same_below hs own next h e low = sym (ap tip_hash (stands_below hs own next h e low))
 
-pub sought_grown : (extracts : Table) (tables : Tables) (verdicts : Verdicts) (opens : Opens) (hs : List Header) (own next : Chain) (most : ℕ) → accept hs own ≡ Longer next
+pub sought_grown : (extracts : ExtractTable) (tables : Tables) (verdicts : Verdicts) (opens : Opens) (hs : List Header) (own next : Chain) (most : ℕ) → accept hs own ≡ Longer next
     → AreSought extracts tables verdicts opens own most → AreSought extracts tables verdicts opens next (min most (link_height hs own))
 sought_grown extracts tables verdicts opens hs own next most e are h up low is =
     are h up (omega (arith, low)) (subst (IsToAsk extracts tables verdicts opens) (sym (same_below hs own next h e (omega (arith, low)))) is)
 
-pub passed_grown : (extracts : Table) (tables : Tables) (verdicts : Verdicts) (opens : Opens) (hs : List Header) (own next : Chain) (most : ℕ) → accept hs own ≡ Longer next
+pub passed_grown : (extracts : ExtractTable) (tables : Tables) (verdicts : Verdicts) (opens : Opens) (hs : List Header) (own next : Chain) (most : ℕ) → accept hs own ≡ Longer next
     → ArePassed extracts tables verdicts opens own most → ArePassed extracts tables verdicts opens next (min most (link_height hs own))
 passed_grown extracts tables verdicts opens hs own next most e are h up low is =
     are h up (omega (arith, low)) (subst (IsToGet extracts tables verdicts opens) (sym (same_below hs own next h e (omega (arith, low)))) is)
@@ -210,7 +210,7 @@ new_hit watch (j ∷ js) old block filter e = elim (new_hit watch js (with_verdi
   by true e1 (Some x) eo h = inl (eo ∙ h)
 
 -- some of the verdicts on a batch came: it stays so below the lowest block of the batch that hits
-pub passed_part : (extracts : Table) (tables : Tables) (verdicts new : Verdicts) (opens : Opens) (own : Chain) (most : ℕ) (watch : List (List ℕ)) (jobs : List Job)
+pub passed_part : (extracts : ExtractTable) (tables : Tables) (verdicts new : Verdicts) (opens : Opens) (own : Chain) (most : ℕ) (watch : List (List ℕ)) (jobs : List Job)
     → ((block filter : Hash) → new block filter ≡ Some Hit → with_verdicts watch jobs verdicts block filter ≡ Some Hit)
     → ArePassedHits own most jobs (map (verdict_of watch) jobs) (length jobs)
     → ArePassed extracts tables verdicts opens own most → ArePassed extracts tables new opens own most
@@ -225,7 +225,7 @@ passed_part extracts tables verdicts new opens own most watch jobs hits apart =
           )
     ])
 
-pub passed_hits : (extracts : Table) (tables : Tables) (verdicts : Verdicts) (opens : Opens) (own : Chain) (most : ℕ) (watch : List (List ℕ)) (jobs : List Job) → ArePassedHits own most jobs (map (verdict_of watch) jobs) (length jobs)
+pub passed_hits : (extracts : ExtractTable) (tables : Tables) (verdicts : Verdicts) (opens : Opens) (own : Chain) (most : ℕ) (watch : List (List ℕ)) (jobs : List Job) → ArePassedHits own most jobs (map (verdict_of watch) jobs) (length jobs)
     → ArePassed extracts tables verdicts opens own most → ArePassed extracts tables (with_verdicts watch jobs verdicts) opens own most
 passed_hits extracts tables verdicts opens own most watch jobs =
     passed_part extracts tables verdicts (with_verdicts watch jobs verdicts) opens own most watch jobs (λ block filter e. e)

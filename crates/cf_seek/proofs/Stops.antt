@@ -11,7 +11,7 @@ use Rattle.cf_seek.specs.declared.spans.Wish.TheVariants.{Claims, Filters}
 use Rattle.cf_seek.specs.declared.want.Want.TheVariants.{Claims as ClaimsFrom, Filters as FiltersFrom}
 use Rattle.cf_seek.specs.Ends.{AreUnclaimed, IsLastUnclaimed}
 use Rattle.cf_seek.specs.Spans.{IsSpan, IsWish, GoesFar}
-use Rattle.cf_tables.specs.Known.{Table}
+use Rattle.cf_tables.specs.Known.{ExtractTable}
 use Rattle.cf_seek.specs.Opens.{Opens}
 use Rattle.cf_seek.specs.Seeking.{AreSought, AreToAsk, IsLastToAsk, IsSought, IsToAsk}
 use Rattle.cf_tables.specs.Wanting.{IsAbove, AreClaimed}
@@ -217,14 +217,14 @@ apart_claims tables p own start end claimed up none h lt e = elim (cases_lt h 1)
       )
 ]
 
-pub apart_filters : (extracts : Table) (tables : Tables) (verdicts : Verdicts) (opens : Opens) (own : Chain) (start end : ℕ) → AreSought extracts tables verdicts opens own (start - 1)
+pub apart_filters : (extracts : ExtractTable) (tables : Tables) (verdicts : Verdicts) (opens : Opens) (own : Chain) (start end : ℕ) → AreSought extracts tables verdicts opens own (start - 1)
     → IsToAsk extracts tables verdicts opens (hash_at own end) → (h : ℕ) → h < start → hash_at own h ≡ hash_at own end → ⊥
 apart_filters extracts tables verdicts opens own start end sought ask h lt e = elim (cases_lt h 1) [
   | inl low ↦ (let at : h ≡ 0 = omega (arith, low) in ask.above (sym e ∙ ap (hash_at own) at ∙ first_is own (hash_at own 0) refl))
   | inr high ↦ sought h high (omega (arith, lt)) (subst (IsToAsk extracts tables verdicts opens) (sym e) ask)
 ]
 
-pub wish_claims : (extracts : Table) (tables : Tables) (verdicts : Verdicts) (opens : Opens) (p : ℕ) (own : Chain) (common start end : ℕ) (span : Span) → IsSought extracts tables verdicts opens p own common (ClaimsFrom start)
+pub wish_claims : (extracts : ExtractTable) (tables : Tables) (verdicts : Verdicts) (opens : Opens) (p : ℕ) (own : Chain) (common start end : ℕ) (span : Span) → IsSought extracts tables verdicts opens p own common (ClaimsFrom start)
     → IsSpan own start end span → end ≤ common → end < start + 2000 → AreUnclaimed tables p own start end → IsWish extracts tables verdicts opens p own common (Claims span)
 wish_claims extracts tables verdicts opens p own common start end span want is low few un =
     let e = sym is.first in (
@@ -232,7 +232,7 @@ wish_claims extracts tables verdicts opens p own common start end span want is l
       (end, (subst (λ (n : ℕ). IsSpan own n end span) e is, low, subst (λ (n : ℕ). end < n + 2000) e few, subst (λ (n : ℕ). AreUnclaimed tables p own n end) e un)),
     )
 
-pub wish_filters : (extracts : Table) (tables : Tables) (verdicts : Verdicts) (opens : Opens) (p : ℕ) (own : Chain) (common start end : ℕ) (span : Span) → IsSought extracts tables verdicts opens p own common (FiltersFrom start)
+pub wish_filters : (extracts : ExtractTable) (tables : Tables) (verdicts : Verdicts) (opens : Opens) (p : ℕ) (own : Chain) (common start end : ℕ) (span : Span) → IsSought extracts tables verdicts opens p own common (FiltersFrom start)
     → IsSpan own start end span → end ≤ common → end < start + 1000 → AreToAsk extracts tables verdicts opens own start end → IsWish extracts tables verdicts opens p own common (Filters span)
 wish_filters extracts tables verdicts opens p own common start end span want is low few un =
     let e = sym is.first in (
@@ -241,13 +241,13 @@ wish_filters extracts tables verdicts opens p own common start end span want is 
     )
 
 -- a question goes as far as it may
-pub far_claims : (extracts : Table) (tables : Tables) (verdicts : Verdicts) (opens : Opens) (p : ℕ) (own : Chain) (common start end : ℕ) (span : Span) → IsSpan own start end span
+pub far_claims : (extracts : ExtractTable) (tables : Tables) (verdicts : Verdicts) (opens : Opens) (p : ℕ) (own : Chain) (common start end : ℕ) (span : Span) → IsSpan own start end span
     → AreUnclaimed tables p own start end → IsLastUnclaimed tables p own start end common → GoesFar extracts tables verdicts opens p own common (Claims span)
 far_claims extracts tables verdicts opens p own common start end span is un last =
     let e = sym is.first in
     (end, (is.stop, subst (λ (n : ℕ). AreUnclaimed tables p own n end) e un, subst (λ (n : ℕ). IsLastUnclaimed tables p own n end common) e last))
 
-pub far_filters : (extracts : Table) (tables : Tables) (verdicts : Verdicts) (opens : Opens) (p : ℕ) (own : Chain) (common start end : ℕ) (span : Span) → IsSpan own start end span
+pub far_filters : (extracts : ExtractTable) (tables : Tables) (verdicts : Verdicts) (opens : Opens) (p : ℕ) (own : Chain) (common start end : ℕ) (span : Span) → IsSpan own start end span
     → AreToAsk extracts tables verdicts opens own start end → IsLastToAsk extracts tables verdicts opens own start end common → GoesFar extracts tables verdicts opens p own common (Filters span)
 far_filters extracts tables verdicts opens p own common start end span is un last =
     let e = sym is.first in

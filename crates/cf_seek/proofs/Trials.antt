@@ -13,7 +13,7 @@ use Rattle.cf_seek.specs.Testing.{IsTrial, IsNextTrial}
 use Rattle.cf_seek.specs.Tried.{AreTried, IsToTry}
 use Rattle.cf_seek.proofs.Sought.{placed_low}
 use Rattle.cf_seek.proofs.Stops.{back_ends, found_low, length_found}
-use Rattle.cf_tables.specs.Known.{Table, Told}
+use Rattle.cf_tables.specs.Known.{ExtractTable, TestResults}
 use Rattle.cf_tables.specs.Wanting.{IsAbove}
 
 -- ---- blocks by heights
@@ -54,21 +54,21 @@ stands_above hash own h found up is =
 -- ---- the climb
 
 -- up to where none is to be tested there is no trial
-pub no_trial : (extracts : Table) (tables : Tables) (told : Told) (p : ℕ) (own : Chain) (common most : ℕ)
+pub no_trial : (extracts : ExtractTable) (tables : Tables) (told : TestResults) (p : ℕ) (own : Chain) (common most : ℕ)
     → AreTried extracts tables told p own most
     → (block : Hash) (h : ℕ) → IsTrial extracts tables told p own common block h → h ≤ most → ⊥
 no_trial extracts tables told p own common most are block h t low =
     are h t.above low (subst (λ (x : Hash). IsToTry extracts tables told p x) (sym (stands_at block own h t.stands))
     (record { above = stands_above block own h t.stands t.above; wanted = t.wanted }))
 
-pub next_none : (extracts : Table) (tables : Tables) (told : Told) (p : ℕ) (own : Chain) (common most : ℕ)
+pub next_none : (extracts : ExtractTable) (tables : Tables) (told : TestResults) (p : ℕ) (own : Chain) (common most : ℕ)
     → AreTried extracts tables told p own most
     → common ≤ most → IsNextTrial extracts tables told p own common None
 next_none extracts tables told p own common most are up block h t =
     no_trial extracts tables told p own common most are block h t (let low = t.low in omega (arith, low, up))
 
 -- the first block that is to be tested stands at no lower height
-first_stands : (extracts : Table) (tables : Tables) (told : Told) (p : ℕ) (own : Chain) (h : ℕ) (block : Hash)
+first_stands : (extracts : ExtractTable) (tables : Tables) (told : TestResults) (p : ℕ) (own : Chain) (h : ℕ) (block : Hash)
     → AreTried extracts tables told p own h → h + 1 ≤ length own → block ≡ hash_at own (h + 1)
     → IsToTry extracts tables told p block → height_of block own ≡ Some (h + 1)
 first_stands extracts tables told p own h block are within is to =
@@ -88,7 +88,7 @@ first_stands extracts tables told p own h block are within is to =
     let top : length w.0 ≡ h + 1 = omega (arith, here, w.2) in
     ap (λ (o : Option Chain). option_map (λ (c : Chain). length c) o) w.1 ∙ ap (λ (n : ℕ). Some n) top
 
-pub next_some : (extracts : Table) (tables : Tables) (told : Told) (p : ℕ) (own : Chain) (common h : ℕ) (block : Hash32)
+pub next_some : (extracts : ExtractTable) (tables : Tables) (told : TestResults) (p : ℕ) (own : Chain) (common h : ℕ) (block : Hash32)
     → AreTried extracts tables told p own h → h < common → common ≤ length own → block.0 ≡ hash_at own (h + 1)
     → IsToTry extracts tables told p block.0
     → IsNextTrial extracts tables told p own common (Some (record { height = h + 1; block = block }))

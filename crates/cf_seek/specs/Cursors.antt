@@ -1,7 +1,7 @@
 -- machine: marks, by the peers' numbers.
 use Rattle.std.specs.Prelude.{ℕ, ◌-◌, min, max, List, Option, Some, None, slice_index_or, slice_set}
 use Rattle.cf_headers.specs.declared.change.Change.{Change}
-use Rattle.cf_headers.specs.declared.change.Change.TheVariants.{Longer, NoLonger, Unlinked, Invalid, TooHigh}
+use Rattle.cf_headers.specs.declared.change.Change.TheVariants.{Longer}
 use Rattle.cf_seek.specs.declared.cursors.Marks.{Marks}
 
 -- the marks of a peer of which nothing is known yet: all at genesis
@@ -28,10 +28,7 @@ further cursors p claimed = slice_set cursors p (record (marks_at cursors p) { c
 -- a peer's marks are no higher than its chain stays the same
 abbrev pub fallen : List Marks → ℕ → Change → List Marks
 fallen cursors p (Longer link) = slice_set cursors p (lowered (marks_at cursors p) link)
-fallen cursors p NoLonger = cursors
-fallen cursors p Unlinked = cursors
-fallen cursors p (Invalid place fault) = cursors
-fallen cursors p TooHigh = cursors
+fallen cursors p _ = cursors
 
 -- a mark of what is passed, where a block stands at this height, or at none
 abbrev pub passed_under : Option ℕ → ℕ → ℕ

@@ -10,32 +10,32 @@ use Rattle.cf_match.specs.Verdicts.{Verdicts}
 use Rattle.cf_seek.specs.declared.want.Want.{Want}
 use Rattle.cf_seek.specs.declared.want.Want.TheVariants.{Nothing, Claims, Filters, Block}
 use Rattle.cf_seek.specs.Opens.{Opens, IsFilterFree, IsBlockFree}
-use Rattle.cf_tables.specs.Known.{Table}
+use Rattle.cf_tables.specs.Known.{ExtractTable}
 use Rattle.cf_tables.specs.Wanting.{IsAbove, IsUnjudged, IsToFetch, AreClaimed}
 
 -- a block that isn't genesis: its filter is to be asked for, and is open to nobody
-pub record IsToAsk (extracts : Table) (tables : Tables) (verdicts : Verdicts) (opens : Opens) (block : Hash) : Type 0 where
+pub record IsToAsk (extracts : ExtractTable) (tables : Tables) (verdicts : Verdicts) (opens : Opens) (block : Hash) : Type 0 where
   pub above : IsAbove block
   pub un : IsUnjudged extracts tables verdicts block
   pub free : IsFilterFree opens block
 
 -- a block that isn't genesis is to be fetched, and is open to nobody
-pub record IsToGet (extracts : Table) (tables : Tables) (verdicts : Verdicts) (opens : Opens) (block : Hash) : Type 0 where
+pub record IsToGet (extracts : ExtractTable) (tables : Tables) (verdicts : Verdicts) (opens : Opens) (block : Hash) : Type 0 where
   pub above : IsAbove block
   pub due : IsToFetch extracts tables verdicts block
   pub free : IsBlockFree opens block
 
 -- of a peer's blocks above genesis, up to a height, there is none whose filter is to be asked for and is open to nobody
-abbrev pub AreSought : Table → Tables → Verdicts → Opens → Chain → ℕ → Type 0
+abbrev pub AreSought : ExtractTable → Tables → Verdicts → Opens → Chain → ℕ → Type 0
 AreSought extracts tables verdicts opens own most = (h : ℕ) → 1 ≤ h → h ≤ most → IsToAsk extracts tables verdicts opens (hash_at own h) → ⊥
 
 -- of a peer's blocks above genesis, up to a height, there is none that is to be fetched and is open to nobody
-abbrev pub ArePassed : Table → Tables → Verdicts → Opens → Chain → ℕ → Type 0
+abbrev pub ArePassed : ExtractTable → Tables → Verdicts → Opens → Chain → ℕ → Type 0
 ArePassed extracts tables verdicts opens own most = (h : ℕ) → 1 ≤ h → h ≤ most → IsToGet extracts tables verdicts opens (hash_at own h) → ⊥
 
 -- of the blocks up to a height: the lowest that p doesn't claim; else the lowest whose filter is to be asked for; else the lowest that is to be fetched; and
 -- nothing exactly where there is none of these
-abbrev pub IsSought : Table → Tables → Verdicts → Opens → ℕ → Chain → ℕ → Want → Type 0
+abbrev pub IsSought : ExtractTable → Tables → Verdicts → Opens → ℕ → Chain → ℕ → Want → Type 0
 IsSought extracts tables verdicts opens p own common Nothing =
     AreClaimed tables p own common × AreSought extracts tables verdicts opens own common × ArePassed extracts tables verdicts opens own common
 IsSought extracts tables verdicts opens p own common (Claims h) =
@@ -47,11 +47,11 @@ IsSought extracts tables verdicts opens p own common (Block h) =
     × IsToGet extracts tables verdicts opens (hash_at own h)
 
 -- a question for filters goes from one height to another, each of whose blocks is to be asked about
-abbrev pub AreToAsk : Table → Tables → Verdicts → Opens → Chain → ℕ → ℕ → Type 0
+abbrev pub AreToAsk : ExtractTable → Tables → Verdicts → Opens → Chain → ℕ → ℕ → Type 0
 AreToAsk extracts tables verdicts opens own start end = (h : ℕ) → start ≤ h → h ≤ end → IsToAsk extracts tables verdicts opens (hash_at own h)
 
 -- there the question ends: with the last block, with the 1000th, or below one that isn't to be asked about
-abbrev pub IsLastToAsk : Table → Tables → Verdicts → Opens → Chain → ℕ → ℕ → ℕ → Type 0
+abbrev pub IsLastToAsk : ExtractTable → Tables → Verdicts → Opens → Chain → ℕ → ℕ → ℕ → Type 0
 IsLastToAsk extracts tables verdicts opens own start end common =
     (end ≡ common) ⊎ ((end + 1 ≡ start + 1000) ⊎ (IsToAsk extracts tables verdicts opens (hash_at own (end + 1)) → ⊥))
 

@@ -15,7 +15,7 @@ use Rattle.cf_seek.specs.Ends.{AreUnclaimed, IsLastUnclaimed}
 use Rattle.cf_seek.specs.Opens.{Opens}
 use Rattle.cf_seek.specs.Opening.{IsSameOpens, OpensBlock, OpensFilters, OpensSome}
 use Rattle.cf_seek.specs.Seeking.{AreToAsk, IsLastToAsk, IsSought}
-use Rattle.cf_tables.specs.Known.{Table}
+use Rattle.cf_tables.specs.Known.{ExtractTable}
 
 -- the blocks of a chain from a height up to a part's tip, the lowest first, with the block below them; the part ends where the stop stands first
 pub record IsSpan (own : Chain) (start end : ℕ) (span : Span) : Type 0 where
@@ -32,7 +32,7 @@ pub record IsSpan (own : Chain) (start end : ℕ) (span : Span) : Type 0 where
 -- A whole question that may be put, a `Wish`, about what is sought by `IsSought`, a `Want`, which is a kind and the lowest height of that kind.
 -- For claims: of at most 2000 blocks from there on, none of which the peer claims. For filters: of at most 1000, each of which is to be asked
 -- for and isn't open. For the block at that height. For a filter that is to be tested, or for nothing: only where nothing is sought.
-abbrev pub IsWish : Table → Tables → Verdicts → Opens → ℕ → Chain → ℕ → Wish → Type 0
+abbrev pub IsWish : ExtractTable → Tables → Verdicts → Opens → ℕ → Chain → ℕ → Wish → Type 0
 IsWish extracts tables verdicts opens p own common Nothing = IsSought extracts tables verdicts opens p own common NothingWanted
 IsWish extracts tables verdicts opens p own common (Claims span) =
     IsSought extracts tables verdicts opens p own common (ClaimsFrom span.start)
@@ -45,7 +45,7 @@ IsWish extracts tables verdicts opens p own common (Block hash) =
 IsWish extracts tables verdicts opens p own common (Test trial) = IsSought extracts tables verdicts opens p own common NothingWanted
 
 -- a question goes as far as it may: up to a height at which its last block stands, and from which on the next block isn't asked about
-abbrev pub GoesFar : Table → Tables → Verdicts → Opens → ℕ → Chain → ℕ → Wish → Type 0
+abbrev pub GoesFar : ExtractTable → Tables → Verdicts → Opens → ℕ → Chain → ℕ → Wish → Type 0
 GoesFar extracts tables verdicts opens p own common Nothing = Unit {0}
 GoesFar extracts tables verdicts opens p own common (Claims span) = (end : ℕ) × ((span.stop.0 ≡ hash_at own end) × AreUnclaimed tables p own span.start end × IsLastUnclaimed tables p own span.start end common)
 GoesFar extracts tables verdicts opens p own common (Filters span) =

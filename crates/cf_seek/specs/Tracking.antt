@@ -15,14 +15,14 @@ use Rattle.cf_scan.specs.Extracts.{history_of}
 use Rattle.cf_seek.specs.declared.cursors.Marks.{Marks}
 use Rattle.cf_seek.specs.Cursors.{marks_at}
 use Rattle.cf_tables.specs.Tables.{placed_by}
-use Rattle.cf_tables.specs.Known.{Table}
+use Rattle.cf_tables.specs.Known.{ExtractTable}
 use Rattle.cf_seek.specs.Opens.{Opens}
 use Rattle.cf_seek.specs.Seeking.{ArePassed, ArePassedHits, AreSought, IsBelowAHit}
 use Rattle.cf_tables.specs.Wanting.{AreClaimed}
 
 -- the marks of an entered peer stand on its chain, none higher than what it claims: it claims its blocks up to one; up to another no filter is to be asked
 -- for that isn't open; and up to the third no block
-pub record IsMarked (extracts : Table) (tables : Tables) (verdicts : Verdicts) (opens : Opens) (p : ℕ) (own : Chain) (marks : Marks) : Type 0 where
+pub record IsMarked (extracts : ExtractTable) (tables : Tables) (verdicts : Verdicts) (opens : Opens) (p : ℕ) (own : Chain) (marks : Marks) : Type 0 where
   pub on : marks.claimed ≤ length own
   pub seeks : marks.sought ≤ marks.claimed
   pub passes : marks.passed ≤ marks.claimed
@@ -35,12 +35,12 @@ abbrev pub AreAmong : Chain → ℕ → ℕ → List Hash32 → Type 0
 AreAmong own from height blocks = (h : ℕ) → from < h → h ≤ height → IsIn (hash_at own h) (blocks_of blocks)
 
 -- so it is with each entered peer; another claims nothing, and nothing is marked as sought
-abbrev pub MarkedAt : Table → Tables → Verdicts → Opens → ℕ → Option Chain → Marks → Type 0
+abbrev pub MarkedAt : ExtractTable → Tables → Verdicts → Opens → ℕ → Option Chain → Marks → Type 0
 MarkedAt extracts tables verdicts opens p None marks = ((block : Hash) → tables p block ≡ None) × (marks.sought ≡ 0) × (marks.passed ≡ 0)
 MarkedAt extracts tables verdicts opens p (Some own) marks = IsMarked extracts tables verdicts opens p own marks
 
 -- each peer's marks are so
-abbrev pub AreMarked : Chains → Table → Tables → Verdicts → Opens → List Marks → Type 0
+abbrev pub AreMarked : Chains → ExtractTable → Tables → Verdicts → Opens → List Marks → Type 0
 AreMarked chains extracts tables verdicts opens cursors = (p : ℕ) → MarkedAt extracts tables verdicts opens p (chains p) (marks_at cursors p)
 
 -- a peer of whose blocks something is marked is entered, and the mark stands on its chain
@@ -71,7 +71,7 @@ best_chain chains None = []
 best_chain chains (Some p) = own_of chains p
 
 -- the height and the hash of the best chain's tip, and the history of the extracts of its blocks that are there
-pub record IsReport (chains : Chains) (table : Table) (height : ℕ) (hash : Hash32) (entries : List Entry) : Type 0 where
+pub record IsReport (chains : Chains) (table : ExtractTable) (height : ℕ) (hash : Hash32) (entries : List Entry) : Type 0 where
   pub chain : Chain
   pub best : IsBestChain chains chain
   pub height_is : height ≡ length chain

@@ -41,12 +41,7 @@ impl Opens {
         ensures yes { result ≡ true → IsFilterFree (opens_in self.now) block.now.0 }
         ensures no { result ≡ false → IsFilterFree (opens_in self.now) block.now.0 → ⊥ }
     {
-        for peer in self.peers.iter() {
-            if peer.has_filter(block) {
-                return false;
-            }
-        }
-        true
+        self.peers.iter().all(|peer| !peer.has_filter(block))
     }
 
     /// Whether a block is open to nobody. It takes no memory.
@@ -54,12 +49,7 @@ impl Opens {
         ensures yes { result ≡ true → IsBlockFree (opens_in self.now) block.now.0 }
         ensures no { result ≡ false → IsBlockFree (opens_in self.now) block.now.0 → ⊥ }
     {
-        for peer in self.peers.iter() {
-            if peer.has_block(block) {
-                return false;
-            }
-        }
-        true
+        self.peers.iter().all(|peer| !peer.has_block(block))
     }
 
     /// Whether no block is open to a peer. It takes no memory.

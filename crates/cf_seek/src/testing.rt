@@ -4,7 +4,7 @@ ghost use Rattle.cf_dispute.specs.Of.{tables_of};
 ghost use Rattle.cf_dispute.specs.Tables.{blocks_of};
 ghost use Rattle.cf_headers.specs.Store.{own_of};
 ghost use Rattle.cf_tables.specs.Extracts.{table_in};
-ghost use Rattle.cf_seek.specs.Testing.{IsClaimedAs, IsExposed, IsToTest, IsNextTrial};
+ghost use Rattle.cf_seek.specs.Testing.{IsClaimedAs, IsExposed, IsNextTrial};
 ghost use Rattle.cf_seek.specs.Tried.{AreTried, IsToTry};
 ghost use Rattle.cf_tables.specs.Tests.{told_in};
 ghost use Rattle.cf_headers.specs.Chain.{IsIn};
@@ -85,32 +85,8 @@ pub fn first_exposed(
     None
 }
 
-// Whether a block was fetched, they differ on its filter, and what a peer claims of it wasn't tested.
-fn is_to_test(
-    extracts: &Extracts,
-    claims: &Claims,
-    tests: &Tests,
-    p: PeerNo,
-    block: &Hash32,
-) -> bool
-    ensures yes { result ≡ true
-        → IsToTest (table_in extracts.now) (tables_of claims.now) (told_in tests.now) p.0 block.now.0 }
-    ensures no { result ≡ false
-        → IsToTest (table_in extracts.now) (tables_of claims.now) (told_in tests.now) p.0 block.now.0 → ⊥ }
-{
-    if !extracts.has(block) {
-        return false;
-    }
-    let Some(claim) = claims.claim(p, block) else {
-        return false;
-    };
-    if tests.has(block, &claim.hash) {
-        return false;
-    }
-    is_differing(claims, block)
-}
-
-// Whether a block that hasn't the first block's hash is to be tested.
+// Whether a block that hasn't the first block's hash was fetched, they differ on its filter, and what a peer claims of
+// it wasn't tested.
 fn is_to_try(
     extracts: &Extracts,
     claims: &Claims,
@@ -124,10 +100,16 @@ fn is_to_try(
     ensures no { result ≡ false
         → IsToTry (table_in extracts.now) (tables_of claims.now) (told_in tests.now) p.0 block.now.0 → ⊥ }
 {
-    if !is_to_test(extracts, claims, tests, p, block) {
+    if first.is(block) || !extracts.has(block) {
         return false;
     }
-    !first.is(block)
+    let Some(claim) = claims.claim(p, block) else {
+        return false;
+    };
+    if tests.has(block, &claim.hash) {
+        return false;
+    }
+    is_differing(claims, block)
 }
 
 /// From a height up to which none of an entered peer's blocks is to be tested: the lowest above genesis and up to

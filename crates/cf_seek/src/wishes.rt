@@ -4,9 +4,6 @@ ghost use Rattle.cf_dispute.specs.Of.{tables_of};
 ghost use Rattle.cf_headers.specs.Store.{own_of};
 ghost use Rattle.cf_tables.specs.Extracts.{table_in};
 ghost use Rattle.cf_tables.specs.Judged.{verdicts_in};
-ghost use Rattle.cf_match.specs.Verdicts.{Verdicts};
-ghost use Rattle.cf_seek.specs.declared.want.Want.TheVariants.{Nothing as NothingWanted};
-ghost use Rattle.cf_seek.specs.Opens.{Opens as OpenToAll};
 ghost use Rattle.cf_seek.specs.OpensAll.{opens_in};
 ghost use Rattle.cf_seek.specs.Seeking.{IsSought};
 ghost use Rattle.cf_seek.specs.Spans.{GoesFar, IsWish};
@@ -25,40 +22,6 @@ use cf_dispute::Claims;
 use cf_headers::HeaderStore;
 use cf_tables::{Extracts, First, Judged, Tests};
 use std::alloc::Global;
-
-// The question for a filter that is to be tested, where nothing else is to be asked for.
-fn wish_to_test<H: HeaderStore>(
-    store: &H,
-    extracts: &Extracts,
-    claims: &Claims,
-    tests: &Tests,
-    p: PeerNo,
-    first: &First,
-    tried: u32,
-    common: u32,
-) -> (u32, Wish)
-    requires entered { IsSome (H.chain store.now p.0) }
-    requires within { common ≤ length (own_of (H.chain store.now) p) }
-    requires tried { AreTried (table_in extracts.now) (tables_of claims.now)
-        (told_in tests.now) p.0 (own_of (H.chain store.now) p) tried }
-    ensures tried { AreTried (table_in extracts.now) (tables_of claims.now)
-        (told_in tests.now) p.0 (own_of (H.chain store.now) p) result.0 }
-    ensures up { tried ≤ result.0 }
-    ensures low { result.0 ≤ max tried common }
-    ensures wish { (verdicts : Verdicts) (opens : OpenToAll) → IsSought (table_in extracts.now) (tables_of claims.now)
-        verdicts opens p.0 (own_of (H.chain store.now) p) common NothingWanted → IsWish (table_in extracts.now)
-        (tables_of claims.now) verdicts opens p.0 (own_of (H.chain store.now) p) common result.1 }
-    ensures far { (verdicts : Verdicts) (opens : OpenToAll) → GoesFar (table_in extracts.now)
-        (tables_of claims.now) verdicts opens p.0 (own_of (H.chain store.now) p) common result.1 }
-    ensures trying { IsTrying (table_in extracts.now) (tables_of claims.now) (told_in tests.now)
-        p.0 (own_of (H.chain store.now) p) common result.1 }
-{
-    let (tried, next) = next_trial(store, extracts, claims, tests, p, first, tried, common);
-    match next {
-        Some(trial) => (tried, Wish::Test(trial)),
-        None => (tried, Wish::Nothing),
-    }
-}
 
 /// The question for what is wanted of a peer's blocks up to a height. It is about as many blocks in a row as may be
 /// asked about at once. Where nothing is wanted it is for a filter that is to be tested. None of the peer's blocks up
@@ -95,7 +58,13 @@ pub fn wish_for<H: HeaderStore>(
         p.0 (own_of (H.chain store.now) p) common r.1) }
 {
     match want {
-        Want::Nothing => Ok(wish_to_test(store, extracts, claims, tests, p, first, tried, common)),
+        Want::Nothing => {
+            let (tried, next) = next_trial(store, extracts, claims, tests, p, first, tried, common);
+            match next {
+                Some(trial) => Ok((tried, Wish::Test(trial))),
+                None => Ok((tried, Wish::Nothing)),
+            }
+        }
         Want::Claims(start) => {
             let end = claims_end(store, claims, p, first, start, common);
             let span = span_of(alloc, store, p, start, end)?;

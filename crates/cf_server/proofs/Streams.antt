@@ -7,7 +7,8 @@ use Rattle.cf_frame.specs.declared.frame.Frame.{Frame}
 use Rattle.cf_frame.specs.declared.frame.FrameFault.{FrameFault}
 use Rattle.cf_frame.specs.Frame.{IsFrame, spelling}
 use Rattle.cf_frame.specs.Reading.{Front, front_of}
-use Rattle.cf_frame.specs.Stream.{IsBytes, IsBad, IsStreamOf, HasNoFrame}
+use Rattle.cf_bytes.specs.Cut.{IsBytes}
+use Rattle.cf_frame.specs.Stream.{IsBad, IsStreamOf, HasNoFrame}
 use Rattle.cf_frame.proofs.Again.{again}
 use Rattle.cf_frame.proofs.Relations.{bad_of, begins_of, front_bad}
 use Rattle.cf_msg.specs.declared.msg.Malformed.{Malformed}

@@ -10,14 +10,14 @@ use Rattle.cf_bytes.specs.declared.hash.Hash32.{Hash32}
 use Rattle.cf_block.specs.declared.header.Header.{Header}
 use Rattle.cf_block.specs.declared.tx.Block.{Block}
 use Rattle.cf_block.specs.Genesis.{first_block}
-use Rattle.cf_msg.specs.declared.msg.Entry.{Entry}
+use Rattle.cf_msg.specs.declared.msg.Inventory.{Inventory}
 use Rattle.cf_msg.specs.declared.msg.Msg.{Msg}
 use Rattle.cf_msg.specs.declared.msg.Msg.TheVariants.{Version, Ping, GetHeaders, Headers, GetData, Block as BlockMessage, GetCfilters, GetCfheaders, GetCfcheckpt}
 use Rattle.cf_chain.specs.Filters.{first_filtered, filters_of}
 use Rattle.cf_chain.specs.Heights.{all_blocks, block_height}
 use Rattle.cf_chain.specs.Serve.{fork_height, or_next, most_headers, block_in, block_with, headers_reply, data_reply, within, range_end, cfilter_of, cfilters_reply, cfheaders_reply, cfcheckpt_reply, replies_to, reply_to}
 use Rattle.cf_chain.proofs.Places.{height_within, length-filters_of}
-use Rattle.cf_server.specs.declared.answering.Served.{Served}
+use Rattle.cf_server.specs.declared.answering.Serving.{Serving}
 use Rattle.cf_server.specs.declared.reply.Reply.{Reply}
 use Rattle.cf_server.specs.declared.reply.Reply.TheVariants.{BlockAt, CfilterAt}
 use Rattle.cf_server.specs.Plans.{Begun, alone_plan, above_plan, headers_plan, data_plan, cfilters_plan, cfheaders_plan, cfcheckpt_plan, basic_height, plan_for, greeting_plan, plan_of}
@@ -40,38 +40,38 @@ one_header [] h lt = absurd (omega arith)
 one_header (x ∷ xs) zero lt = refl
 one_header (x ∷ xs) (suc h) lt = one_header xs h (omega arith)
 
-alone_tells : (served : Served) (blocks : List Block) (stop : Hash32) (o : Option ℕ) → block_height stop blocks ≡ o
+alone_tells : (served : Serving) (blocks : List Block) (stop : Hash32) (o : Option ℕ) → block_height stop blocks ≡ o
     → messages_of served blocks (alone_plan o) ≡ map (λ b. Headers (b.header ∷ [])) (block_in blocks o)
 alone_tells served blocks stop None is = refl
 alone_tells served blocks stop (Some h) is = one_header (all_blocks blocks) h (omega (arith, height_within stop blocks h is))
 
-above_tells : (served : Served) (blocks : List Block) (fork : ℕ) (stop : Option ℕ)
+above_tells : (served : Serving) (blocks : List Block) (fork : ℕ) (stop : Option ℕ)
     → messages_of served blocks (above_plan fork stop blocks) ≡ Headers (take (most_headers fork stop) (drop fork (map (λ b. b.header) blocks))) ∷ []
 above_tells served blocks fork stop =
     let above : List Header = drop fork (map (λ b. b.header) blocks) in
     let many : length blocks - fork ≡ length above = sym (length-drop fork (map (λ b. b.header) blocks) ∙ ap (λ n. n - fork) (length-map blocks (λ (b : Block). b.header))) in
     ap (λ (hs : List Header). Headers hs ∷ []) (ap (λ n. take (min (most_headers fork stop) n) above) many ∙ take_min (most_headers fork stop) above)
 
-headers_tell : (served : Served) (blocks : List Block) (locator : List Hash32) (stop : Hash32) → messages_of served blocks (headers_plan locator stop blocks) ≡ headers_reply locator stop blocks
+headers_tell : (served : Serving) (blocks : List Block) (locator : List Hash32) (stop : Hash32) → messages_of served blocks (headers_plan locator stop blocks) ≡ headers_reply locator stop blocks
 headers_tell served blocks [] stop = alone_tells served blocks stop (block_height stop blocks) refl
 headers_tell served blocks (hash ∷ more) stop = above_tells served blocks (fork_height (hash ∷ more) blocks) (block_height stop blocks)
 
 -- ---- blocks
 
-block_tells : (served : Served) (blocks : List Block) (hash : Hash32) (o : Option ℕ) → block_height hash blocks ≡ o
+block_tells : (served : Serving) (blocks : List Block) (hash : Hash32) (o : Option ℕ) → block_height hash blocks ≡ o
     → messages_of served blocks (map (λ h. BlockAt h) (option_to_list o)) ≡ map (λ b. BlockMessage b) (block_in blocks o)
 block_tells served blocks hash None is = refl
 block_tells served blocks hash (Some h) is =
     ap (λ (o : Option Block). map (λ b. BlockMessage b) (option_to_list o)) (sym (slice_get-get_or (all_blocks blocks) h first_block (omega (arith, height_within hash blocks h is))))
 
-entry_tells : (served : Served) (blocks : List Block) (entry : Entry) → messages_of served blocks (data_plan blocks entry) ≡ data_reply blocks entry
+entry_tells : (served : Serving) (blocks : List Block) (entry : Inventory) → messages_of served blocks (data_plan blocks entry) ≡ data_reply blocks entry
 entry_tells served blocks entry = elim (entry.kind == 2)
     as (λ b. messages_of served blocks (if b then map (λ h. BlockAt h) (option_to_list (block_height entry.hash blocks)) else []) ≡ (if b then map (λ b. BlockMessage b) (block_with entry.hash blocks) else [])) [
       | true ↦ block_tells served blocks entry.hash (block_height entry.hash blocks) refl
       | false ↦ refl
     ]
 
-data_tell : (served : Served) (blocks : List Block) (entries : List Entry) → messages_of served blocks (flat_map (data_plan blocks) entries) ≡ flat_map (data_reply blocks) entries
+data_tell : (served : Serving) (blocks : List Block) (entries : List Inventory) → messages_of served blocks (flat_map (data_plan blocks) entries) ≡ flat_map (data_reply blocks) entries
 data_tell served blocks entries =
     map-flat_map (message_of served blocks) (data_plan blocks) entries
     ∙ flat_map-same (λ e. messages_of served blocks (data_plan blocks e)) (data_reply blocks) entries (entry_tells served blocks)
@@ -105,31 +105,31 @@ basic_is filter stop blocks h is = elim (cases_Bool (filter == 0)) [
   | inl on ↦ sym (ap (λ b. if b then block_height stop blocks else None) on) ∙ is
 ]
 
-each_cfilter : (served : Served) (blocks : List Block) (start n : ℕ) → start + n ≤ length (filters_of blocks)
+each_cfilter : (served : Serving) (blocks : List Block) (start n : ℕ) → start + n ≤ length (filters_of blocks)
     → messages_of served blocks (map (λ h. CfilterAt h) (range_with_len start n)) ≡ map cfilter_of (take n (drop start (filters_of blocks)))
 each_cfilter served blocks start zero le = refl
 each_cfilter served blocks start (suc n) le =
     ap (λ (ms : List Msg). cfilter_of (get_or (filters_of blocks) start first_filtered) ∷ ms) (each_cfilter served blocks (start + 1) n (omega arith))
     ∙ ap (map cfilter_of) (sym (take_next (filters_of blocks) start n first_filtered (omega arith)))
 
-cfilters_tell : (served : Served) (blocks : List Block) (start : ℕ) (o : Option ℕ) → ((last : ℕ) → o ≡ Some last → (start ≤ last) × (last ≤ length blocks))
+cfilters_tell : (served : Serving) (blocks : List Block) (start : ℕ) (o : Option ℕ) → ((last : ℕ) → o ≡ Some last → (start ≤ last) × (last ≤ length blocks))
     → messages_of served blocks (cfilters_plan start o) ≡ cfilters_reply start o blocks
 cfilters_tell served blocks start None parts = refl
 cfilters_tell served blocks start (Some last) parts =
     let p = parts last refl in
     each_cfilter served blocks start (suc last - start) (omega (arith, length-filters_of blocks, p.0, p.1))
 
-cfheaders_tell : (served : Served) (blocks : List Block) (start : ℕ) (o : Option ℕ) (stop : Hash32) → messages_of served blocks (cfheaders_plan start o stop) ≡ cfheaders_reply start o stop blocks
+cfheaders_tell : (served : Serving) (blocks : List Block) (start : ℕ) (o : Option ℕ) (stop : Hash32) → messages_of served blocks (cfheaders_plan start o stop) ≡ cfheaders_reply start o stop blocks
 cfheaders_tell served blocks start None stop = refl
 cfheaders_tell served blocks start (Some stop_height) stop = refl
 
-cfcheckpt_tells : (served : Served) (blocks : List Block) (o : Option ℕ) (stop : Hash32) → messages_of served blocks (cfcheckpt_plan o stop) ≡ cfcheckpt_reply o stop blocks
+cfcheckpt_tells : (served : Serving) (blocks : List Block) (o : Option ℕ) (stop : Hash32) → messages_of served blocks (cfcheckpt_plan o stop) ≡ cfcheckpt_reply o stop blocks
 cfcheckpt_tells served blocks None stop = refl
 cfcheckpt_tells served blocks (Some stop_height) stop = refl
 
 -- ---- all of it
 
-for_tells : (served : Served) (blocks : List Block) (m : Msg) → messages_of served blocks (plan_for blocks m) ≡ reply_to blocks m
+for_tells : (served : Serving) (blocks : List Block) (m : Msg) → messages_of served blocks (plan_for blocks m) ≡ reply_to blocks m
 for_tells served blocks (Ping number) = refl
 for_tells served blocks (GetHeaders version locator stop) = headers_tell served blocks locator stop
 for_tells served blocks (GetData entries) = data_tell served blocks entries
@@ -139,11 +139,11 @@ for_tells served blocks (GetCfheaders filter start stop) = cfheaders_tell served
 for_tells served blocks (GetCfcheckpt filter stop) = cfcheckpt_tells served blocks (basic_height filter stop blocks) stop
 for_tells served blocks m = refl
 
-greeting_tells : (served : Served) (blocks : List Block) (m : Msg) → messages_of served blocks (greeting_plan m) ≡ replies_to served.time served.nonce blocks false m
+greeting_tells : (served : Serving) (blocks : List Block) (m : Msg) → messages_of served blocks (greeting_plan m) ≡ replies_to served.time served.nonce blocks false m
 greeting_tells served blocks (Version version services time to from nonce agent height relay) = refl
 greeting_tells served blocks m = refl
 
-pub plan_tells : (served : Served) (blocks : List Block) (seen : Bool) (m : Msg) → messages_of served blocks (plan_of seen blocks m) ≡ replies_to served.time served.nonce blocks seen m
+pub plan_tells : (served : Serving) (blocks : List Block) (seen : Bool) (m : Msg) → messages_of served blocks (plan_of seen blocks m) ≡ replies_to served.time served.nonce blocks seen m
 plan_tells served blocks true m = for_tells served blocks m
 plan_tells served blocks false m = greeting_tells served blocks m
 
@@ -168,7 +168,7 @@ block_are : (blocks : List Block) (hash : Hash32) (o : Option ℕ) → block_hei
 block_are blocks hash None is = tt
 block_are blocks hash (Some h) is = (height_within hash blocks h is, tt)
 
-entry_are : (blocks : List Block) (entry : Entry) → AreRepliesOf blocks (data_plan blocks entry)
+entry_are : (blocks : List Block) (entry : Inventory) → AreRepliesOf blocks (data_plan blocks entry)
 entry_are blocks entry = elim (entry.kind == 2) as (λ b. AreRepliesOf blocks (if b then map (λ h. BlockAt h) (option_to_list (block_height entry.hash blocks)) else [])) [
   | true ↦ block_are blocks entry.hash (block_height entry.hash blocks) refl
   | false ↦ tt
@@ -210,7 +210,7 @@ plan_are blocks true m = for_are blocks m
 plan_are blocks false m = greeting_are blocks m
 
 -- a plan at the end
-pub adds_plan : (served : Served) (blocks : List Block) (m : Msg) (old new : List Reply) → new ≡ old ++ plan_of served.seen blocks m
+pub adds_plan : (served : Serving) (blocks : List Block) (m : Msg) (old new : List Reply) → new ≡ old ++ plan_of served.seen blocks m
     → Adds served blocks old new (replies_to served.time served.nonce blocks served.seen m)
 adds_plan served blocks m old new is = record {
   added = plan_of served.seen blocks m;
@@ -219,7 +219,7 @@ adds_plan served blocks m old new is = record {
   each = plan_are blocks served.seen m;
 }
 
-pub adds_begun : (served : Served) (blocks : List Block) (m : Msg) (old new : List Reply) → Begun old new (plan_of served.seen blocks m)
+pub adds_begun : (served : Serving) (blocks : List Block) (m : Msg) (old new : List Reply) → Begun old new (plan_of served.seen blocks m)
     → (n : ℕ) × Adds served blocks old new (take n (replies_to served.time served.nonce blocks served.seen m))
 adds_begun served blocks m old new begun = (
   begun.0,

@@ -15,9 +15,9 @@ use Rattle.cf_msg.specs.declared.msg.Malformed.{Malformed}
 use Rattle.cf_msg.specs.Message.{frame_of}
 use Rattle.cf_msg.specs.Reading.{message_of}
 use Rattle.cf_chain.specs.Serve.{replies, replies_to, is_version}
-use Rattle.cf_server.specs.declared.answering.Served.{Served}
-use Rattle.cf_server.specs.declared.outcome.Outcome.{Outcome}
-use Rattle.cf_server.specs.declared.outcome.Outcome.TheVariants.{Closed, BadFrame, Malformed as MalformedFrame, ReadFault, WriteFault, Tired, NoMemory}
+use Rattle.cf_server.specs.declared.answering.Serving.{Serving}
+use Rattle.cf_server.specs.declared.outcome.ServeEnd.{ServeEnd}
+use Rattle.cf_server.specs.declared.outcome.ServeEnd.TheVariants.{Closed, BadFrame, Malformed as MalformedFrame, ReadFault, WriteFault, Tired, NoMemory}
 use Rattle.cf_server.specs.Serving.{Course, Stop, Waits, stops, course, most_frames, text_of, Whole, Beginning, ComesAt, Writes, IsServed}
 use Rattle.cf_server.specs.Taking.{AnswersFrame, Answered, Moves, Stops, Midway, served_on, served_after, text_for, text_on, frame_text, with_messages}
 use Rattle.cf_server.proofs.Courses.{course_full, course_waits, course_bad, course_frame, course_frame_alone, messages_joined}
@@ -35,10 +35,6 @@ more_joined (Some bytes) a b = ap Some (append_assoc bytes a b)
 front_joined : (o : Option (List ℕ)) (a b : List ℕ) → with_front a (with_front b o) ≡ with_front (a ++ b) o
 front_joined None a b = refl
 front_joined (Some bytes) a b = ap Some (sym (append_assoc a b bytes))
-
-front_none_told : (o : Option (List ℕ)) → o ≡ with_front [] o
-front_none_told None = refl
-front_none_told (Some bytes) = refl
 
 -- ---- wholes and beginnings
 
@@ -88,17 +84,14 @@ pub text-cons : (m : Msg) (ms : List Msg) → text_of (m ∷ ms) ≡ spelling (f
 unfolding text_of
 text-cons m ms = refl
 
-pub text_on-nil : (served : Served) (blocks : List Block) → text_on served blocks [] ≡ []
-text_on-nil served blocks = text-nil
-
-pub text_on-cons : (served : Served) (blocks : List Block) (m : Msg) (ms : List Msg) → text_on served blocks (m ∷ ms) ≡ text_for served blocks m ++ text_on (served_on served m) blocks ms
+pub text_on-cons : (served : Serving) (blocks : List Block) (m : Msg) (ms : List Msg) → text_on served blocks (m ∷ ms) ≡ text_for served blocks m ++ text_on (served_on served m) blocks ms
 text_on-cons served blocks m ms =
     text-append (replies_to served.time served.nonce blocks served.seen m) (replies served.time served.nonce blocks (is_version m || served.seen) ms)
 
-pub text_on-one : (served : Served) (blocks : List Block) (m : Msg) → text_on served blocks (m ∷ []) ≡ text_for served blocks m
+pub text_on-one : (served : Serving) (blocks : List Block) (m : Msg) → text_on served blocks (m ∷ []) ≡ text_for served blocks m
 text_on-one served blocks m = ap text_of (append-nil (replies_to served.time served.nonce blocks served.seen m))
 
-pub text_on-append : (served : Served) (blocks : List Block) (a b : List Msg) → text_on served blocks (a ++ b) ≡ text_on served blocks a ++ text_on (served_after served a) blocks b
+pub text_on-append : (served : Serving) (blocks : List Block) (a b : List Msg) → text_on served blocks (a ++ b) ≡ text_on served blocks a ++ text_on (served_after served a) blocks b
 text_on-append served blocks [] b = sym (ap (λ t. t ++ text_on served blocks b) text-nil)
 text_on-append served blocks (m ∷ ms) b =
     text_on-cons served blocks m (ms ++ b)
@@ -106,17 +99,17 @@ text_on-append served blocks (m ∷ ms) b =
     ∙ sym (append_assoc (text_for served blocks m) (text_on (served_on served m) blocks ms) (text_on (served_after (served_on served m) ms) blocks b))
     ∙ ap (λ t. t ++ text_on (served_after (served_on served m) ms) blocks b) (sym (text_on-cons served blocks m ms))
 
-served_after-append : (served : Served) (a b : List Msg) → served_after served (a ++ b) ≡ served_after (served_after served a) b
+served_after-append : (served : Serving) (a b : List Msg) → served_after served (a ++ b) ≡ served_after (served_after served a) b
 served_after-append served [] b = refl
 served_after-append served (m ∷ ms) b = served_after-append (served_on served m) ms b
 
 -- ---- moves
 
-pub moves_none : (blocks : List Block) (n : ℕ) (w : List ℕ) (s : Served) (o : Option (List ℕ)) → Moves blocks n n w w s s o o
+pub moves_none : (blocks : List Block) (n : ℕ) (w : List ℕ) (s : Serving) (o : Option (List ℕ)) → Moves blocks n n w w s s o o
 moves_none blocks n w s o = record { messages = []; leads = λ more. refl; served = refl; written = more_none o ∙ ap (with_more o) (sym text-nil) }
 
 -- a frame was taken and answered
-pub moves_frame : (blocks : List Block) (n : ℕ) (w rest : List ℕ) (f : Frame) (s t : Served) (o p : Option (List ℕ)) → front_of w ≡ Ok (Some (f, rest))
+pub moves_frame : (blocks : List Block) (n : ℕ) (w rest : List ℕ) (f : Frame) (s t : Serving) (o p : Option (List ℕ)) → front_of w ≡ Ok (Some (f, rest))
     → Answered blocks (message_of f) s t o p → Moves blocks (suc n) n w rest s t o p
 moves_frame blocks n w rest f s t o p front answered = record {
   messages = answered.message ∷ [];
@@ -125,25 +118,32 @@ moves_frame blocks n w rest f s t o p front answered = record {
   written = answered.written ∙ ap (with_more o) (sym (text_on-one s blocks answered.message));
 }
 
+-- what leads on leads to the same end
+pub leads_on : (k l m : ℕ) (u v w piece : List ℕ) (a b : List Msg)
+    → ((more : List ℕ) → course k (u ++ more) ≡ with_messages a (course l (v ++ more)))
+    → ((more : List ℕ) → course l ((v ++ piece) ++ more) ≡ with_messages b (course m (w ++ more)))
+    → (more : List ℕ) → course k ((u ++ piece) ++ more) ≡ with_messages (a ++ b) (course m (w ++ more))
+leads_on k l m u v w piece a b first second more =
+    ap (course k) (append_assoc u piece more)
+    ∙ first (piece ++ more)
+    ∙ ap (λ bytes. with_messages a (course l bytes)) (sym (append_assoc v piece more))
+    ∙ ap (with_messages a) (second more)
+    ∙ messages_joined a b (course m (w ++ more))
+
 -- one move after another
-pub moves_on : (blocks : List Block) (k l m : ℕ) (u v w piece : List ℕ) (r s t : Served) (o p q : Option (List ℕ))
+pub moves_on : (blocks : List Block) (k l m : ℕ) (u v w piece : List ℕ) (r s t : Serving) (o p q : Option (List ℕ))
     → Moves blocks k l u v r s o p → Moves blocks l m (v ++ piece) w s t p q → Moves blocks k m (u ++ piece) w r t o q
 moves_on blocks k l m u v w piece r s t o p q first second =
     let split : text_on r blocks (first.messages ++ second.messages) ≡ text_on r blocks first.messages ++ text_on s blocks second.messages =
     text_on-append r blocks first.messages second.messages ∙ ap (λ x. text_on r blocks first.messages ++ text_on x blocks second.messages) (sym first.served) in
     record {
       messages = first.messages ++ second.messages;
-      leads = λ more.
-          ap (course k) (append_assoc u piece more)
-          ∙ first.leads (piece ++ more)
-          ∙ ap (λ bytes. with_messages first.messages (course l bytes)) (sym (append_assoc v piece more))
-          ∙ ap (with_messages first.messages) (second.leads more)
-          ∙ messages_joined first.messages second.messages (course m (w ++ more));
+      leads = leads_on k l m u v w piece first.messages second.messages first.leads second.leads;
       served = second.served ∙ ap (λ x. served_after x second.messages) first.served ∙ sym (served_after-append r first.messages second.messages);
       written = whole_on o p q (text_on r blocks first.messages) (text_on s blocks second.messages) first.written second.written ∙ ap (with_more o) (sym split);
     }
 
-pub moves_then : (blocks : List Block) (k l m : ℕ) (u v w : List ℕ) (r s t : Served) (o p q : Option (List ℕ))
+pub moves_then : (blocks : List Block) (k l m : ℕ) (u v w : List ℕ) (r s t : Serving) (o p q : Option (List ℕ))
     → Moves blocks k l u v r s o p → Moves blocks l m v w s t p q → Moves blocks k m u w r t o q
 moves_then blocks k l m u v w r s t o p q first second =
     subst (λ (x : List ℕ). Moves blocks k m x w r t o q) (append-nil u)
@@ -151,7 +151,7 @@ moves_then blocks k l m u v w r s t o p q first second =
 
 -- ---- ends
 
-writes_on : (outcome : Outcome) (o p q : Option (List ℕ)) (a b : List ℕ) → Whole o p a → Writes outcome p q b → Writes outcome o q (a ++ b)
+writes_on : (outcome : ServeEnd) (o p q : Option (List ℕ)) (a b : List ℕ) → Whole o p a → Writes outcome p q b → Writes outcome o q (a ++ b)
 writes_on Closed o p q a b first second = whole_on o p q a b first second
 writes_on (BadFrame fault) o p q a b first second = whole_on o p q a b first second
 writes_on (MalformedFrame fault) o p q a b first second = whole_on o p q a b first second
@@ -161,7 +161,7 @@ writes_on Tired o p q a b first second = whole_on o p q a b first second
 writes_on NoMemory o p q a b first second = beginning_on o p q a b first second
 
 -- an end after a move, where more bytes came
-pub stops_on : (blocks : List Block) (outcome : Outcome) (k l : ℕ) (u v piece : List ℕ) (r s : Served) (o p q : Option (List ℕ))
+pub stops_on : (blocks : List Block) (outcome : ServeEnd) (k l : ℕ) (u v piece : List ℕ) (r s : Serving) (o p q : Option (List ℕ))
     → Moves blocks k l u v r s o p → Stops blocks outcome l (v ++ piece) s p q → Stops blocks outcome k (u ++ piece) r o q
 stops_on blocks outcome k l u v piece r s o p q first second =
     let c = course l (v ++ piece) in
@@ -177,20 +177,20 @@ stops_on blocks outcome k l u v piece r s o p q first second =
       writes = subst Q (sym leads) (subst (Writes outcome o q) (sym split) whole);
     }
 
-pub stops_then : (blocks : List Block) (outcome : Outcome) (k l : ℕ) (u v : List ℕ) (r s : Served) (o p q : Option (List ℕ))
+pub stops_then : (blocks : List Block) (outcome : ServeEnd) (k l : ℕ) (u v : List ℕ) (r s : Serving) (o p q : Option (List ℕ))
     → Moves blocks k l u v r s o p → Stops blocks outcome l v s p q → Stops blocks outcome k u r o q
 stops_then blocks outcome k l u v r s o p q first second =
     subst (λ (x : List ℕ). Stops blocks outcome k x r o q) (append-nil u)
     (stops_on blocks outcome k l u v [] r s o p q first (subst (λ (x : List ℕ). Stops blocks outcome l x s p q) (sym (append-nil v)) second))
 
 -- nothing more is written
-pub stops_bad : (blocks : List Block) (n : ℕ) (w : List ℕ) (fault : FrameFault) (s : Served) (o : Option (List ℕ)) → front_of w ≡ Err fault → Stops blocks (BadFrame fault) (suc n) w s o o
+pub stops_bad : (blocks : List Block) (n : ℕ) (w : List ℕ) (fault : FrameFault) (s : Serving) (o : Option (List ℕ)) → front_of w ≡ Err fault → Stops blocks (BadFrame fault) (suc n) w s o o
 stops_bad blocks n w fault s o e =
     let c = course_bad n w fault e in
     let Q : Course → Type 0 = λ d. Writes (BadFrame fault) o o (text_on s blocks d.messages) in
     record { comes = ap (λ (d : Course). d.stop) c; writes = subst Q (sym c) (more_none o ∙ ap (with_more o) (sym text-nil)) }
 
-pub stops_waits : (blocks : List Block) (n : ℕ) (w : List ℕ) (s : Served) (o : Option (List ℕ)) (outcome : Outcome) → front_of w ≡ Ok None
+pub stops_waits : (blocks : List Block) (n : ℕ) (w : List ℕ) (s : Serving) (o : Option (List ℕ)) (outcome : ServeEnd) → front_of w ≡ Ok None
     → ((stop : Stop) → stop ≡ Waits → ComesAt outcome stop) → ((t : List ℕ) → Whole o o t → Writes outcome o o t) → Stops blocks outcome (suc n) w s o o
 stops_waits blocks n w s o outcome e comes writes =
     let c = course_waits n w e in
@@ -198,18 +198,18 @@ stops_waits blocks n w s o outcome e comes writes =
     record { comes = comes (course (suc n) w).stop (ap (λ (d : Course). d.stop) c); writes = subst Q (sym c) (writes (text_on s blocks []) (more_none o ∙ ap (with_more o) (sym text-nil))) }
 
 -- as many frames were taken as may be
-pub stops_full : (blocks : List Block) (w : List ℕ) (s : Served) (o : Option (List ℕ)) → Stops blocks Tired 0 w s o o
+pub stops_full : (blocks : List Block) (w : List ℕ) (s : Serving) (o : Option (List ℕ)) → Stops blocks Tired 0 w s o o
 stops_full blocks w s o =
     let c = course_full w in
     let Q : Course → Type 0 = λ d. Writes Tired o o (text_on s blocks d.messages) in
     record { comes = ap (λ (d : Course). d.stop) c; writes = subst Q (sym c) (more_none o ∙ ap (with_more o) (sym text-nil)) }
 
 -- want of memory may come anywhere
-pub stops_without_memory : (blocks : List Block) (n : ℕ) (w : List ℕ) (s : Served) (o : Option (List ℕ)) → Stops blocks NoMemory n w s o o
+pub stops_without_memory : (blocks : List Block) (n : ℕ) (w : List ℕ) (s : Serving) (o : Option (List ℕ)) → Stops blocks NoMemory n w s o o
 stops_without_memory blocks n w s o = record { comes = tt; writes = beginning_none o (text_on s blocks (course n w).messages) }
 
 -- a frame that was not answered whole
-frame_begins : (blocks : List Block) (n : ℕ) (w rest : List ℕ) (f : Frame) (read : Result Msg Malformed) (s : Served) (o p : Option (List ℕ)) → front_of w ≡ Ok (Some (f, rest)) → message_of f ≡ read
+frame_begins : (blocks : List Block) (n : ℕ) (w rest : List ℕ) (f : Frame) (read : Result Msg Malformed) (s : Serving) (o p : Option (List ℕ)) → front_of w ≡ Ok (Some (f, rest)) → message_of f ≡ read
     → Beginning o p (frame_text s blocks read) → Beginning o p (text_on s blocks (course (suc n) w).messages)
 frame_begins blocks n w rest f (Ok m) s o p front is begins =
     let c = course_frame_alone n w rest f (Ok m) front is in
@@ -220,7 +220,7 @@ frame_begins blocks n w rest f (Err fault) s o p front is begins =
     let Q : Course → Type 0 = λ d. Beginning o p (text_on s blocks d.messages) in
     subst Q (sym c) (subst (Beginning o p) (sym text-nil) begins)
 
-pub stops_frame : (blocks : List Block) (n : ℕ) (w rest : List ℕ) (f : Frame) (s t : Served) (o p : Option (List ℕ)) (outcome : Outcome) → front_of w ≡ Ok (Some (f, rest))
+pub stops_frame : (blocks : List Block) (n : ℕ) (w rest : List ℕ) (f : Frame) (s t : Serving) (o p : Option (List ℕ)) (outcome : ServeEnd) → front_of w ≡ Ok (Some (f, rest))
     → AnswersFrame (Err outcome) blocks (message_of f) s t o p → Stops blocks outcome (suc n) w s o p
 stops_frame blocks n w rest f s t o p (MalformedFrame fault) front answers =
     let c = course_frame_alone n w rest f (Err fault) front answers.0 in
@@ -235,11 +235,11 @@ stops_frame blocks n w rest f s t o p Tired front answers = absurd answers
 
 -- ---- the connection as a whole
 
-pub midway_start : (blocks : List Block) (s : Served) (bytes : List ℕ) (o : Option (List ℕ)) → Midway blocks s bytes (Some bytes) most_frames [] s o o
+pub midway_start : (blocks : List Block) (s : Serving) (bytes : List ℕ) (o : Option (List ℕ)) → Midway blocks s bytes (Some bytes) most_frames [] s o o
 midway_start blocks s bytes o = record { taken = []; rest = refl; moves = moves_none blocks most_frames [] s o }
 
 -- a piece was read, and its frames were answered
-pub midway_on : (blocks : List Block) (start : Served) (bytes piece : List ℕ) (left left_after : Option (List ℕ)) (k l : ℕ) (v w : List ℕ) (s t : Served) (o p q : Option (List ℕ))
+pub midway_on : (blocks : List Block) (start : Serving) (bytes piece : List ℕ) (left left_after : Option (List ℕ)) (k l : ℕ) (v w : List ℕ) (s t : Serving) (o p q : Option (List ℕ))
     → Midway blocks start bytes left k v s o p → left ≡ with_front piece left_after → Moves blocks k l (v ++ piece) w s t p q → Midway blocks start bytes left_after l w t o q
 midway_on blocks start bytes piece left left_after k l v w s t o p q midway read moves = record {
   taken = midway.taken ++ piece;
@@ -248,7 +248,7 @@ midway_on blocks start bytes piece left left_after k l v w s t o p q midway read
 }
 
 -- or serving ended
-pub midway_stops : (blocks : List Block) (now : ℤ) (nonce : ℕ) (bytes piece : List ℕ) (left left_after : Option (List ℕ)) (k : ℕ) (v : List ℕ) (s : Served) (o p q : Option (List ℕ)) (outcome : Outcome)
+pub midway_stops : (blocks : List Block) (now : ℤ) (nonce : ℕ) (bytes piece : List ℕ) (left left_after : Option (List ℕ)) (k : ℕ) (v : List ℕ) (s : Serving) (o p q : Option (List ℕ)) (outcome : ServeEnd)
     → Midway blocks (record { time = now; nonce = nonce; seen = false }) bytes left k v s o p → left ≡ with_front piece left_after → Stops blocks outcome k (v ++ piece) s p q
     → IsServed now nonce blocks outcome bytes left_after o q
 midway_stops blocks now nonce bytes piece left left_after k v s o p q outcome midway read stops =
@@ -259,10 +259,3 @@ midway_stops blocks now nonce bytes piece left left_after k v s o p q outcome mi
       comes = whole.comes;
       writes = whole.writes;
     }
-
--- or nothing more was read
-pub midway_ends : (blocks : List Block) (now : ℤ) (nonce : ℕ) (bytes : List ℕ) (left : Option (List ℕ)) (k : ℕ) (v : List ℕ) (s : Served) (o p : Option (List ℕ)) (outcome : Outcome)
-    → Midway blocks (record { time = now; nonce = nonce; seen = false }) bytes left k v s o p → Stops blocks outcome k v s p p
-    → IsServed now nonce blocks outcome bytes left o p
-midway_ends blocks now nonce bytes left k v s o p outcome midway stops =
-    midway_stops blocks now nonce bytes [] left left k v s o p p outcome midway (front_none_told left) (subst (λ (x : List ℕ). Stops blocks outcome k x s p p) (sym (append-nil v)) stops)

@@ -5,12 +5,12 @@ use Rattle.std.proofs.lemmas.List.{append_cancel_right}
 use Rattle.cf_block.specs.declared.tx.Block.{Block}
 use Rattle.cf_frame.specs.Reading.{front_of}
 use Rattle.cf_conn.specs.Source.{with_front}
-use Rattle.cf_server.specs.declared.answering.Served.{Served}
-use Rattle.cf_server.specs.declared.outcome.Outcome.TheVariants.{Closed}
-use Rattle.cf_server.specs.Serving.{Whole, IsServed}
+use Rattle.cf_server.specs.declared.answering.Serving.{Serving}
+use Rattle.cf_server.specs.declared.outcome.ServeEnd.TheVariants.{Closed}
+use Rattle.cf_server.specs.Serving.{Whole}
 use Rattle.cf_server.specs.Taking.{Midway}
 use Rattle.cf_server.specs.Turns.{IsInTurn, AnswersFirst, owed_for}
-use Rattle.cf_server.proofs.Steps.{served_so_far, unread}
+use Rattle.cf_server.proofs.Steps.{if_some_on, served_so_far, unread}
 
 -- the bytes of a list that is told
 abbrev list_of : List ℕ → Option (List ℕ) → List ℕ
@@ -37,7 +37,7 @@ if_two None P Q R each p q = tt
 if_two (Some x) P Q R each p q = each x refl p q
 
 -- while no whole frame waits, all that is owed was written
-pub all_written : (blocks : List Block) (now : ℤ) (nonce : ℕ) (bytes : List ℕ) (left : Option (List ℕ)) (k : ℕ) (v : List ℕ) (s : Served) (o p : Option (List ℕ))
+pub all_written : (blocks : List Block) (now : ℤ) (nonce : ℕ) (bytes : List ℕ) (left : Option (List ℕ)) (k : ℕ) (v : List ℕ) (s : Serving) (o p : Option (List ℕ))
     → Midway blocks (record { time = now; nonce = nonce; seen = false }) bytes left k v s o p → 1 ≤ k → front_of v ≡ Ok None
     → (t : List ℕ) → Some bytes ≡ with_front t left → Whole o p (owed_for now nonce blocks t)
 all_written blocks now nonce bytes left k v s o p midway some waits t told =
@@ -67,3 +67,23 @@ module _ {C : Type 0} (left written : C → Option (List ℕ)) (owed : List ℕ 
       → AnswersFirst left written owed bytes before after
   same_turn bytes piece before now after a read none =
       subst (λ (x : Option (List ℕ)). AnswersFirst left written owed bytes before x) (read ∙ ap (λ x. with_front x after) none ∙ sym (unread after after refl)) a
+
+-- a read that gave nothing, at the moment that was handed in
+pub turn_ends : {C : Type 0} (left written : C → Option (List ℕ)) (told : Option (List ℕ)) (z now : ℤ) (nonce : ℕ) (blocks : List Block) (piece : List ℕ) (before at after : Option (List ℕ)) → z ≡ now
+    → IfSome told (λ bytes. AnswersFirst left written (owed_for z nonce blocks) bytes before at) → at ≡ with_front piece after → piece ≡ []
+    → IfSome told (λ bytes. AnswersFirst left written (owed_for now nonce blocks) bytes before after)
+turn_ends left written told z now nonce blocks piece before at after same turns read none =
+    if_some_on told (λ bytes. AnswersFirst left written (owed_for z nonce blocks) bytes before at) (λ bytes. AnswersFirst left written (owed_for now nonce blocks) bytes before after)
+    (λ bytes is turn. subst (λ (y : ℤ). AnswersFirst left written (owed_for y nonce blocks) bytes before after) same
+    (same_turn left written (owed_for z nonce blocks) bytes piece before at after turn read none)) turns
+
+-- a piece that was answered
+pub turn_goes : {C : Type 0} (left written : C → Option (List ℕ)) (told : Option (List ℕ)) (blocks : List Block) (z : ℤ) (nonce : ℕ) (piece : List ℕ) (before between after : Option (List ℕ)) (at : C) (k : ℕ) (v : List ℕ) (s : Serving)
+    → IfSome told (λ bytes. Midway blocks (record { time = z; nonce = nonce; seen = false }) bytes (left at) k v s before (written at)) → 1 ≤ k → front_of v ≡ Ok None
+    → IfSome told (λ bytes. AnswersFirst left written (owed_for z nonce blocks) bytes before (left at)) → left at ≡ with_front piece between → after ≡ between
+    → IfSome told (λ bytes. AnswersFirst left written (owed_for z nonce blocks) bytes before after)
+turn_goes left written told blocks z nonce piece before between after at k v s midway some waits turns read kept =
+    if_two told (λ bytes. Midway blocks (record { time = z; nonce = nonce; seen = false }) bytes (left at) k v s before (written at)) (λ bytes. AnswersFirst left written (owed_for z nonce blocks) bytes before (left at))
+    (λ bytes. AnswersFirst left written (owed_for z nonce blocks) bytes before after)
+    (λ bytes is way turn. next_turn left written (owed_for z nonce blocks) bytes piece before between after at turn (all_written blocks z nonce bytes (left at) k v s before (written at) way some waits) read kept)
+    midway turns

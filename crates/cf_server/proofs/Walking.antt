@@ -1,16 +1,13 @@
 -- Lists that are walked along.
-use Rattle.std.proofs.Common.{◌≡◌, ℕ, zero, suc, ◌+◌, ◌-◌, ◌*◌, ◌<◌, ◌≤◌, List, [], ◌∷◌, ◌++◌, length, map, take, drop, Option, Some, None, Result, Ok, Err, refl, sym, ap, ◌∙◌, arith, slice_get, get_or, add-one, append_assoc}
+use Rattle.std.proofs.Common.{◌≡◌, ℕ, zero, suc, ◌+◌, ◌-◌, ◌≤◌, List, [], ◌∷◌, ◌++◌, length, map, take, drop, Option, Some, None, Result, Ok, Err, refl, sym, ap, ◌∙◌, arith, slice_get, append_assoc}
 use Rattle.std.specs.Prelude.{option_map, OnErr}
 use Rattle.std.specs.List.{flat_map, range_with_len}
 use Rattle.std.specs.Option.{option_to_list}
-use Rattle.std.proofs.lemmas.List.{append-nil, at_drop_more, at_drop_all, take-append-drop, take_at, take_more, map-append, map_push}
+use Rattle.std.proofs.lemmas.List.{take-append-drop, take_at, map-append, map_push}
 use Rattle.std.proofs.lemmas.List.Concat.{flat_map-append}
 use Rattle.std.proofs.lemmas.Option.{slice_get-map}
-use Rattle.cf_bytes.specs.declared.hash.Hash32.{Hash32}
 use Rattle.cf_block.specs.declared.header.Header.{Header}
 use Rattle.cf_block.specs.declared.tx.Block.{Block}
-use Rattle.cf_chain.specs.Heights.{block_height}
-use Rattle.cf_chain.specs.Serve.{fork_height, or_next, thousands}
 
 -- what holds in any case holds of an error
 pub on_err : {X E : Type 0} (P : Type 0) (r : Result X E) → P → OnErr r P
@@ -19,31 +16,7 @@ on_err P (Err e) p = p
 
 -- ---- a locator
 
-pub fork_found : (locator : List Hash32) (blocks : List Block) (i height : ℕ) (hash : Hash32) → i < length locator → hash ≡ get_or locator i hash → block_height hash blocks ≡ Some height
-    → fork_height (drop i locator) blocks ≡ height
-fork_found locator blocks i height hash lt is there =
-    at_drop_more (λ hs. fork_height hs blocks) locator i hash lt
-    ∙ ap (λ h. or_next (block_height h blocks) (fork_height (drop (i + 1) locator) blocks)) (sym is)
-    ∙ ap (λ o. or_next o (fork_height (drop (i + 1) locator) blocks)) there
-
-pub fork_on : (locator : List Hash32) (blocks : List Block) (i : ℕ) (hash : Hash32) → i < length locator → hash ≡ get_or locator i hash → block_height hash blocks ≡ None
-    → fork_height (drop i locator) blocks ≡ fork_height (drop (i + 1) locator) blocks
-fork_on locator blocks i hash lt is none =
-    at_drop_more (λ hs. fork_height hs blocks) locator i hash lt
-    ∙ ap (λ h. or_next (block_height h blocks) (fork_height (drop (i + 1) locator) blocks)) (sym is)
-    ∙ ap (λ o. or_next o (fork_height (drop (i + 1) locator) blocks)) none
-
-pub fork_ends : (locator : List Hash32) (blocks : List Block) (i : ℕ) → length locator ≤ i → fork_height (drop i locator) blocks ≡ 0
-fork_ends locator blocks i le = at_drop_all (λ hs. fork_height hs blocks) locator i le
-
 -- ---- lists that are put at the end
-
-pub flat_on : {X Y : Type 0} (f : X → List Y) (xs : List X) (i : ℕ) (x : X) (old out new : List Y) → i < length xs → x ≡ get_or xs i x → out ≡ old ++ flat_map f (take i xs) → new ≡ out ++ f x
-    → new ≡ old ++ flat_map f (take (i + 1) xs)
-flat_on f xs i x old out new lt is so_far more =
-    let one : flat_map f (take (i + 1) xs) ≡ flat_map f (take i xs) ++ f x =
-    ap (flat_map f) (take_more xs i x lt) ∙ flat_map-append f (take i xs) (get_or xs i x ∷ []) ∙ ap (λ ys. flat_map f (take i xs) ++ ys) (append-nil (f (get_or xs i x)) ∙ ap f (sym is)) in
-    more ∙ ap (λ ys. ys ++ f x) so_far ∙ append_assoc old (flat_map f (take i xs)) (f x) ∙ ap (λ ys. old ++ ys) (sym one)
 
 pub flat_begun : {X Y : Type 0} (f : X → List Y) (xs : List X) (i : ℕ) (old out : List Y) → out ≡ old ++ flat_map f (take i xs) → (n : ℕ) × (out ≡ old ++ take n (flat_map f xs))
 flat_begun f xs i old out so_far =
@@ -112,8 +85,3 @@ taken_header blocks start i o out new is so_far more =
     ∙ sym (one_taken (map (λ b. b.header) blocks) start i)
 
 -- ---- every thousandth
-
-pub thousands_on : {Y : Type 0} (f : ℕ → Y) (i : ℕ) (out new : List Y) → out ≡ map f (thousands i) → new ≡ out ++ f (1000 * (i + 1)) ∷ [] → new ≡ map f (thousands (i + 1))
-thousands_on f i out new so_far more =
-    let next : thousands (i + 1) ≡ thousands i ++ (1000 * (i + 1)) ∷ [] = rw add-one refl in
-    more ∙ ap (λ ys. ys ++ f (1000 * (i + 1)) ∷ []) so_far ∙ sym (map_push f (thousands i) (1000 * (i + 1))) ∙ ap (map f) (sym next)

@@ -1,10 +1,10 @@
 -- statement: how serving ends.
 use Rattle.std.specs.Prelude.{ℕ}
-use Rattle.cf_server.specs.declared.outcome.Outcome.{Outcome}
-use Rattle.cf_server.specs.declared.outcome.Outcome.TheVariants.{Closed, BadFrame, Malformed, ReadFault, WriteFault, Tired, NoMemory}
+use Rattle.cf_server.specs.declared.outcome.ServeEnd.{ServeEnd}
+use Rattle.cf_server.specs.declared.outcome.ServeEnd.TheVariants.{Closed, BadFrame, Malformed, ReadFault, WriteFault, Tired, NoMemory}
 
 -- the number of an outcome, by which a service gives it back
-abbrev pub number_of : Outcome → ℕ
+abbrev pub number_of : ServeEnd → ℕ
 number_of Closed = 0
 number_of (BadFrame fault) = 1
 number_of (Malformed fault) = 2

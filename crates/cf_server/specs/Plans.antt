@@ -3,7 +3,7 @@ use Rattle.std.specs.Prelude.{◌≡◌, ℕ, suc, ◌-◌, ◌==◌, min, Bool,
 use Rattle.std.specs.List.{flat_map, range_with_len}
 use Rattle.cf_bytes.specs.declared.hash.Hash32.{Hash32}
 use Rattle.cf_block.specs.declared.tx.Block.{Block}
-use Rattle.cf_msg.specs.declared.msg.Entry.{Entry}
+use Rattle.cf_msg.specs.declared.msg.Inventory.{Inventory}
 use Rattle.cf_msg.specs.declared.msg.Msg.{Msg}
 use Rattle.cf_msg.specs.declared.msg.Msg.TheVariants.{Version, Ping, GetHeaders, GetData, GetCfilters, GetCfheaders, GetCfcheckpt}
 use Rattle.cf_chain.specs.Heights.{block_height}
@@ -30,7 +30,7 @@ abbrev pub headers_plan : List Hash32 → Hash32 → List Block → List Reply
 headers_plan [] stop blocks = alone_plan (block_height stop blocks)
 headers_plan (hash ∷ more) stop blocks = above_plan (fork_height (hash ∷ more) blocks) (block_height stop blocks) blocks
 
-abbrev pub data_plan : List Block → Entry → List Reply
+abbrev pub data_plan : List Block → Inventory → List Reply
 data_plan blocks entry = if entry.kind == 2 then map (λ h. BlockAt h) (option_to_list (block_height entry.hash blocks)) else []
 
 abbrev pub cfilters_plan : ℕ → Option ℕ → List Reply

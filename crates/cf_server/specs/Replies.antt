@@ -10,10 +10,10 @@ use Rattle.cf_chain.specs.Heights.{all_blocks, block_height}
 use Rattle.cf_chain.specs.Serve.{version_reply, cfilter_of, cfheaders_of, cfcheckpt_of}
 use Rattle.cf_server.specs.declared.reply.Reply.{Reply}
 use Rattle.cf_server.specs.declared.reply.Reply.TheVariants.{OwnVersion, OwnVerack, PongOf, HeadersOf, BlockAt, CfilterAt, CfheadersOf, CfcheckptOf}
-use Rattle.cf_server.specs.declared.answering.Served.{Served}
+use Rattle.cf_server.specs.declared.answering.Serving.{Serving}
 
 -- the message that a reply stands for, of the machine of a chain
-abbrev pub message_of : Served → List Block → Reply → Msg
+abbrev pub message_of : Serving → List Block → Reply → Msg
 message_of served blocks OwnVersion = version_reply served.time served.nonce blocks
 message_of served blocks OwnVerack = Verack
 message_of served blocks (PongOf number) = Pong number
@@ -24,7 +24,7 @@ message_of served blocks (CfheadersOf start stop_height stop) = cfheaders_of sta
 message_of served blocks (CfcheckptOf stop_height stop) = cfcheckpt_of stop_height stop blocks
 
 -- the messages that replies stand for, in order
-abbrev pub messages_of : Served → List Block → List Reply → List Msg
+abbrev pub messages_of : Serving → List Block → List Reply → List Msg
 messages_of served blocks replies = map (message_of served blocks) replies
 
 -- the heights that a reply names are in the chain, its stop hash stands at its stop height, and its ranges are within the limits of the messages
@@ -43,7 +43,7 @@ abbrev pub AreRepliesOf : List Block → List Reply → Type 0
 AreRepliesOf blocks replies = AllByRecursion (IsReplyOf blocks) replies
 
 -- replies that stand for these messages were put at the end
-pub record Adds (served : Served) (blocks : List Block) (old new : List Reply) (messages : List Msg) : Type 0 where
+pub record Adds (served : Serving) (blocks : List Block) (old new : List Reply) (messages : List Msg) : Type 0 where
   pub added : List Reply
   pub joined : new ≡ old ++ added
   pub told : messages_of served blocks added ≡ messages

@@ -13,8 +13,8 @@ use Rattle.cf_msg.specs.declared.msg.Malformed.{Malformed}
 use Rattle.cf_msg.specs.Message.{Spells, frame_of}
 use Rattle.cf_msg.specs.Reading.{message_of}
 use Rattle.cf_chain.specs.Serve.{replies}
-use Rattle.cf_server.specs.declared.outcome.Outcome.{Outcome}
-use Rattle.cf_server.specs.declared.outcome.Outcome.TheVariants.{Closed, BadFrame, Malformed as MalformedFrame, ReadFault, WriteFault, Tired, NoMemory}
+use Rattle.cf_server.specs.declared.outcome.ServeEnd.{ServeEnd}
+use Rattle.cf_server.specs.declared.outcome.ServeEnd.TheVariants.{Closed, BadFrame, Malformed as MalformedFrame, ReadFault, WriteFault, Tired, NoMemory}
 
 -- ---- how bytes are taken
 
@@ -83,7 +83,7 @@ Beginning before after text = (n : ℕ) × (n ≤ length text) × (after ≡ wit
 -- ---- what each outcome tells
 
 -- it comes exactly there
-abbrev pub ComesAt : Outcome → Stop → Type 0
+abbrev pub ComesAt : ServeEnd → Stop → Type 0
 ComesAt Closed stop = stop ≡ Waits
 ComesAt (BadFrame fault) stop = stop ≡ IsBad fault
 ComesAt (MalformedFrame fault) stop = stop ≡ IsMalformed fault
@@ -93,26 +93,26 @@ ComesAt Tired stop = stop ≡ IsFull
 ComesAt NoMemory stop = Unit {0}
 
 -- what is written by then
-abbrev pub Writes : Outcome → Option (List ℕ) → Option (List ℕ) → List ℕ → Type 0
+abbrev pub Writes : ServeEnd → Option (List ℕ) → Option (List ℕ) → List ℕ → Type 0
 Writes WriteFault before after text = Beginning before after text
 Writes NoMemory before after text = Beginning before after text
 Writes outcome before after text = Whole before after text
 
 -- Of a connection whose source told these bytes: those of them that were taken, where the outcome comes, and what was written for them.
-pub record IsServed (now : ℤ) (nonce : ℕ) (blocks : List Block) (outcome : Outcome) (bytes : List ℕ) (left before after : Option (List ℕ)) : Type 0 where
+pub record IsServed (now : ℤ) (nonce : ℕ) (blocks : List Block) (outcome : ServeEnd) (bytes : List ℕ) (left before after : Option (List ℕ)) : Type 0 where
   pub taken : List ℕ
   pub rest : Some bytes ≡ with_front taken left
   pub comes : ComesAt outcome (course most_frames taken).stop
   pub writes : Writes outcome before after (reply_bytes now nonce blocks (course most_frames taken).messages)
 
 -- a fault comes only where its count has risen; the counts of reading and of writing stand still otherwise
-abbrev pub Counts : Outcome → ℕ → ℕ → ℕ → ℕ → Type 0
+abbrev pub Counts : ServeEnd → ℕ → ℕ → ℕ → ℕ → Type 0
 Counts ReadFault reads reads_after writes writes_after = HasRisen reads reads_after × (writes_after ≡ writes)
 Counts WriteFault reads reads_after writes writes_after = (reads_after ≡ reads) × HasRisen writes writes_after
 Counts outcome reads reads_after writes writes_after = (reads_after ≡ reads) × (writes_after ≡ writes)
 
 -- at the source's end nothing is left
-abbrev pub Ends : Outcome → Bool → Option (List ℕ) → Type 0
+abbrev pub Ends : ServeEnd → Bool → Option (List ℕ) → Type 0
 Ends Closed ended left = (ended ≡ true) × IfSome left (λ bytes. bytes ≡ [])
 Ends outcome ended left = Unit {0}
 

@@ -12,18 +12,18 @@ use cf_msg::Msg;
 /// What a connection is served by: the time and the nonce of the server's own `version`, and whether the peer's has
 /// come.
 #[derive(Clone, Copy, Debug, PartialEq, Eq)]
-pub struct Served {
+pub struct Serving {
     pub time: i64,
     pub nonce: u64,
     pub seen: bool,
 }
 
-impl Served {
+impl Serving {
     /// Before the peer's `version`.
-    pub fn new(now: i64, nonce: u64) -> Served
+    pub fn new(now: i64, nonce: u64) -> Serving
         ensures { result ≡ record { time = now; nonce = nonce; seen = false } }
     {
-        Served {
+        Serving {
             time: now,
             nonce,
             seen: false,
@@ -34,7 +34,7 @@ impl Served {
 /// Puts the replies to a message at the end. Where no memory is found a beginning of them may stand there.
 pub fn answer(
     index: &Index,
-    served: &mut Served,
+    served: &mut Serving,
     msg: &Msg,
     out: &mut Replies,
 ) -> Result<(), NoMemory>

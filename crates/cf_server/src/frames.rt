@@ -13,7 +13,7 @@ ghost use Rattle.cf_chain.specs.Serve.{version_reply, cfilter_of, cfheaders_of, 
 ghost use Rattle.cf_filter.specs.Filter.{filter_hash_of};
 ghost use Rattle.cf_server.specs.Replies.{IsReplyOf, message_of};
 
-use crate::answering::Served;
+use crate::answering::Serving;
 use crate::reply::Reply;
 use cf_block::Listed;
 use cf_bytes::{Hash32, NoMemory};
@@ -45,7 +45,7 @@ const NO_HASH: Hash32 = Hash32([0; 32]);
 pub fn write_reply(
     alloc: Global,
     index: &Index,
-    served: &Served,
+    served: &Serving,
     reply: Reply,
 ) -> Result<Vec<u8>, NoMemory>
     requires { IsReplyOf index.now reply }
@@ -88,7 +88,7 @@ pub fn message_bytes(alloc: Global, msg: &Msg) -> Result<Vec<u8>, NoMemory>
 }
 
 // The server's version, where the chain is so high.
-fn own_version(alloc: Global, served: &Served, tip: u32) -> Result<Vec<u8>, NoMemory>
+fn own_version(alloc: Global, served: &Serving, tip: u32) -> Result<Vec<u8>, NoMemory>
     requires { tip ≤ max_height }
     ensures { IfOk result (λ bytes. (blocks : List Block) → tip ≡ length blocks
         → bytes.items ≡ spelling (frame_of (version_reply served.now.time served.now.nonce blocks))) }

@@ -2,7 +2,8 @@
 ghost use Rattle.std.specs.Prelude.{◌≡◌, ◌<◌, ◌++◌, ◌∷◌, ℕ, List, length, Err};
 ghost use Rattle.cf_frame.specs.declared.frame.Frame.{Frame};
 ghost use Rattle.cf_frame.specs.declared.frame.FrameFault.{FrameFault};
-ghost use Rattle.cf_frame.specs.Stream.{IsBytes, IsBad, IsStreamOf};
+ghost use Rattle.cf_bytes.specs.Cut.{IsBytes};
+ghost use Rattle.cf_frame.specs.Stream.{IsBad, IsStreamOf};
 ghost use Rattle.cf_msg.specs.declared.msg.Malformed.{Malformed};
 ghost use Rattle.cf_msg.specs.declared.msg.Msg.{Msg};
 ghost use Rattle.cf_msg.specs.Reading.{message_of};

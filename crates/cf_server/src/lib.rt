@@ -9,9 +9,9 @@ mod plan;
 mod reply;
 mod serve;
 
-pub use answering::{Served, answer};
+pub use answering::{Serving, answer};
 pub use frames::{message_bytes, write_reply};
 pub use laws::laws_of_courses;
-pub use outcome::Outcome;
+pub use outcome::ServeEnd;
 pub use reply::{Replies, Reply};
-pub use serve::{flush, serve_one};
+pub use serve::{MOST_FRAMES, PIECE, flush, serve_one};

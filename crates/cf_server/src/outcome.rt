@@ -1,6 +1,6 @@
 //! How serving a connection ended.
 ghost use Rattle.std.specs.Prelude.{◌≡◌};
-ghost use Rattle.cf_server.specs.declared.outcome.Outcome.TheVariants.{NoMemory as OutOfMemory};
+ghost use Rattle.cf_server.specs.declared.outcome.ServeEnd.TheVariants.{NoMemory as OutOfMemory};
 ghost use Rattle.cf_server.specs.Outcomes.{number_of};
 
 use cf_bytes::NoMemory;
@@ -10,7 +10,7 @@ use thiserror::Error;
 
 /// How serving a connection ended.
 #[derive(Clone, Copy, Debug, PartialEq, Eq, Error)]
-pub enum Outcome {
+pub enum ServeEnd {
     /// The source of bytes ended.
     #[error("the connection ended")]
     Closed,
@@ -34,27 +34,27 @@ pub enum Outcome {
     NoMemory,
 }
 
-impl Outcome {
+impl ServeEnd {
     /// The outcome's number, from 0.
     pub fn number(&self) -> u8
         ensures { result ≡ number_of self.now }
     {
         match self {
-            Outcome::Closed => 0,
-            Outcome::BadFrame(_) => 1,
-            Outcome::Malformed(_) => 2,
-            Outcome::ReadFault => 3,
-            Outcome::WriteFault => 4,
-            Outcome::Tired => 5,
-            Outcome::NoMemory => 6,
+            ServeEnd::Closed => 0,
+            ServeEnd::BadFrame(_) => 1,
+            ServeEnd::Malformed(_) => 2,
+            ServeEnd::ReadFault => 3,
+            ServeEnd::WriteFault => 4,
+            ServeEnd::Tired => 5,
+            ServeEnd::NoMemory => 6,
         }
     }
 }
 
-impl From<NoMemory> for Outcome {
+impl From<NoMemory> for ServeEnd {
     ghost from_gives = { λ _ e. e ≡ OutOfMemory };
 
-    fn from(_e: NoMemory) -> Outcome {
-        Outcome::NoMemory
+    fn from(_e: NoMemory) -> ServeEnd {
+        ServeEnd::NoMemory
     }
 }

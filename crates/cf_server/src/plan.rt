@@ -8,13 +8,10 @@ ghost use Rattle.cf_server.specs.Plans.{Begun, alone_plan, above_plan, headers_p
 use crate::reply::{Replies, Reply};
 use cf_bytes::{Hash32, NoMemory};
 use cf_index::Index;
-use cf_msg::{Entry, Msg};
+use cf_msg::{BLOCK_KIND, Inventory, Msg};
 
 /// The most headers of one message.
 const MAX_HEADERS: u32 = 2000;
-
-/// The kind of an inventory's entry that asks for a block in the form without witnesses.
-const BLOCK_KIND: u32 = 2;
 
 /// The most filters of one range.
 const MAX_FILTERS: u32 = 1000;
@@ -152,7 +149,7 @@ fn plan_headers_above(
     })
 }
 
-fn plan_data(index: &Index, entries: &[Entry], out: &mut Replies) -> Result<(), NoMemory>
+fn plan_data(index: &Index, entries: &[Inventory], out: &mut Replies) -> Result<(), NoMemory>
     ensures ok { OnOk result (out.new ≡ out.old ++ flat_map (data_plan index.now) entries.now) }
     ensures err { OnErr result (Begun out.old out.new (flat_map (data_plan index.now) entries.now)) }
 {
@@ -162,7 +159,7 @@ fn plan_data(index: &Index, entries: &[Entry], out: &mut Replies) -> Result<(), 
     Ok(())
 }
 
-fn plan_entry(index: &Index, entry: &Entry, out: &mut Replies) -> Result<(), NoMemory>
+fn plan_entry(index: &Index, entry: &Inventory, out: &mut Replies) -> Result<(), NoMemory>
     ensures ok { OnOk result (out.new ≡ out.old ++ data_plan index.now entry.now) }
     ensures err { OnErr result (out.new ≡ out.old) }
 {

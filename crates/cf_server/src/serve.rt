@@ -8,9 +8,9 @@ ghost use Rattle.cf_server.specs.Serving.{IsServed, Counts, Ends, text_of};
 ghost use Rattle.cf_server.specs.Turns.{AnswersFirst, owed_for};
 ghost use Rattle.cf_server.specs.Taking.{Sends, CountsWrites, AnswersFrame, FindsFrame, TakesFrames, Idles, ComesInside};
 
-use crate::answering::{Served, answer};
+use crate::answering::{Serving, answer};
 use crate::frames::write_reply;
-use crate::outcome::Outcome;
+use crate::outcome::ServeEnd;
 use crate::reply::{Replies, Reply};
 use cf_bytes::{NoMemory, Refused};
 use cf_conn::{Duplex, send_all};
@@ -20,10 +20,10 @@ use cf_msg::read;
 use std::alloc::Global;
 
 /// The most frames that are taken of one connection.
-const MOST_FRAMES: u32 = 1_000_000;
+pub const MOST_FRAMES: u32 = 1_000_000;
 
 /// The most bytes of one read.
-const PIECE: usize = 4096;
+pub const PIECE: usize = 4096;
 
 /// How many bytes of frames wait at least before they're written. What is left is written after the last reply.
 const TOGETHER: usize = 16_384;
@@ -32,7 +32,7 @@ const TOGETHER: usize = 16_384;
 fn put_reply(
     alloc: Global,
     index: &Index,
-    served: &Served,
+    served: &Serving,
     reply: Reply,
     waiting: &mut Vec<u8>,
 ) -> Result<(), NoMemory>
@@ -46,7 +46,7 @@ fn put_reply(
 }
 
 /// Writes the bytes that wait.
-pub fn flush<C: Duplex>(conn: &mut C, waiting: &mut Vec<u8>) -> Result<(), Outcome>
+pub fn flush<C: Duplex>(conn: &mut C, waiting: &mut Vec<u8>) -> Result<(), ServeEnd>
     ensures sends { Sends result (C.written conn.old) (C.written conn.new) waiting.old.items }
     ensures none { OnOk result (waiting.new.items ≡ []) }
     ensures count { CountsWrites result (C.Sink.faults conn.old) (C.Sink.faults conn.new) }
@@ -59,7 +59,7 @@ pub fn flush<C: Duplex>(conn: &mut C, waiting: &mut Vec<u8>) -> Result<(), Outco
             waiting.clear();
             Ok(())
         }
-        Err(_) => Err(Outcome::WriteFault),
+        Err(_) => Err(ServeEnd::WriteFault),
     }
 }
 
@@ -68,9 +68,9 @@ fn send_replies<C: Duplex>(
     alloc: Global,
     index: &Index,
     conn: &mut C,
-    served: &Served,
+    served: &Serving,
     replies: &[Reply],
-) -> Result<(), Outcome>
+) -> Result<(), ServeEnd>
     requires { AreRepliesOf index.now replies.now }
     ensures sends { Sends result (C.written conn.old) (C.written conn.new)
         (text_of (messages_of served.now index.now replies.now)) }
@@ -94,9 +94,9 @@ fn answer_frame<C: Duplex>(
     alloc: Global,
     index: &Index,
     conn: &mut C,
-    served: &mut Served,
+    served: &mut Serving,
     frame: &Frame,
-) -> Result<(), Outcome>
+) -> Result<(), ServeEnd>
     ensures answers { AnswersFrame result index.now (message_in frame.now) served.old served.new
         (C.written conn.old) (C.written conn.new) }
     ensures count { CountsWrites result (C.Sink.faults conn.old) (C.Sink.faults conn.new) }
@@ -106,8 +106,8 @@ fn answer_frame<C: Duplex>(
 {
     let msg = match read(alloc, frame) {
         Ok(msg) => msg,
-        Err(Refused::No(fault)) => return Err(Outcome::Malformed(fault)),
-        Err(Refused::NoMemory) => return Err(Outcome::NoMemory),
+        Err(Refused::No(fault)) => return Err(ServeEnd::Malformed(fault)),
+        Err(Refused::NoMemory) => return Err(ServeEnd::NoMemory),
     };
     let mut replies = Replies::new(alloc);
     answer(index, served, &msg, &mut replies)?;
@@ -119,18 +119,18 @@ fn answer_frame<C: Duplex>(
 #[derive(Drop)]
 struct Session {
     framer: Framer,
-    served: Served,
+    served: Serving,
     left: u32,
 }
 
 // Takes the next whole frame, if one waits.
-fn next_frame(framer: &mut Framer) -> Result<Option<Frame>, Outcome>
+fn next_frame(framer: &mut Framer) -> Result<Option<Frame>, ServeEnd>
     ensures { FindsFrame result framer.old framer.new }
 {
     match framer.next() {
         Ok(frame) => Ok(frame),
-        Err(Refused::No(fault)) => Err(Outcome::BadFrame(fault)),
-        Err(Refused::NoMemory) => Err(Outcome::NoMemory),
+        Err(Refused::No(fault)) => Err(ServeEnd::BadFrame(fault)),
+        Err(Refused::NoMemory) => Err(ServeEnd::NoMemory),
     }
 }
 
@@ -140,7 +140,7 @@ fn take_frames<C: Duplex>(
     index: &Index,
     conn: &mut C,
     session: &mut Session,
-) -> Result<(), Outcome>
+) -> Result<(), ServeEnd>
     requires { 1 ≤ session.old.left }
     ensures takes { TakesFrames result index.now session.old.left session.new.left session.old.framer session.new.framer
         session.old.served session.new.served (C.written conn.old) (C.written conn.new) }
@@ -155,7 +155,7 @@ fn take_frames<C: Duplex>(
         answer_frame(alloc, index, conn, &mut session.served, &frame)?;
         session.left -= 1;
         if session.left == 0 {
-            return Err(Outcome::Tired);
+            return Err(ServeEnd::Tired);
         }
     }
     Ok(())
@@ -168,7 +168,7 @@ fn take_piece<C: Duplex>(
     conn: &mut C,
     session: &mut Session,
     piece: &[u8],
-) -> Result<(), Outcome>
+) -> Result<(), ServeEnd>
     requires { 1 ≤ session.old.left }
     ensures takes { TakesFrames result index.now session.old.left session.new.left (session.old.framer ++ piece.now)
         session.new.framer session.old.served session.new.served (C.written conn.old) (C.written conn.new) }
@@ -193,7 +193,7 @@ pub fn serve_one<C: Duplex>(
     conn: &mut C,
     now: i64,
     nonce: u64,
-) -> Outcome
+) -> ServeEnd
     ensures served { IfSome (C.left conn.old) (λ bytes. IsServed now nonce index.now result bytes (C.left conn.new)
         (C.written conn.old) (C.written conn.new)) }
     ensures in_turn { IfSome (C.left conn.old) (λ bytes. AnswersFirst C.left C.written
@@ -204,15 +204,15 @@ pub fn serve_one<C: Duplex>(
 {
     let mut session = Session {
         framer: Framer::new(alloc),
-        served: Served::new(now, nonce),
+        served: Serving::new(now, nonce),
         left: MOST_FRAMES,
     };
     let mut piece = [0u8; PIECE];
     loop {
         let n = match conn.receive(&mut piece) {
-            Ok(0) => return Outcome::Closed,
+            Ok(0) => return ServeEnd::Closed,
             Ok(n) => n,
-            Err(_) => return Outcome::ReadFault,
+            Err(_) => return ServeEnd::ReadFault,
         };
         if let Err(outcome) = take_piece(alloc, index, conn, &mut session, &piece[..n]) {
             return outcome;

@@ -3,7 +3,7 @@ use Rattle.std.proofs.Common.{◌≡◌, ℕ, List, true, refl, sym, ◌∙◌, 
 use Rattle.std.proofs.lemmas.Bool.{both_ways}
 use Rattle.cf_bytes.specs.declared.hash.Hash32.{Hash32}
 use Rattle.cf_headers.specs.Chain.{Hash, IsIn, back_to}
-use Rattle.cf_msg.specs.declared.msg.Entry.{Entry}
+use Rattle.cf_msg.specs.declared.msg.Inventory.{Inventory}
 use Rattle.cf_msg.specs.declared.msg.Msg.{Msg}
 use Rattle.cf_msg.specs.declared.msg.Msg.TheVariants.{GetData, GetCfilters, Ping}
 use Rattle.cf_wires.specs.Log.{Log}
@@ -52,5 +52,5 @@ spare_blocks (PingOpen number) b spare i = i
 pub none_filters : (log : Log) (p filter start : ℕ) (stop : Hash32) → IsNoneFetching log → IsAlone log p (GetCfilters filter start stop)
 none_filters log p filter start stop none b i new stands = spare_filters (request (trail log stands.0)) b (none stands.0 stands.1.0) stands.1.1
 
-pub none_block : (log : Log) (p : ℕ) (entries : List Entry) → IsNoneFetching log → IsAlone log p (GetData entries)
+pub none_block : (log : Log) (p : ℕ) (entries : List Inventory) → IsNoneFetching log → IsAlone log p (GetData entries)
 none_block log p entries none entry i stands = spare_blocks (request (trail log stands.0)) entry.hash.0 (none stands.0 stands.1.0) stands.1.1

@@ -99,26 +99,10 @@ given_stays = answered_stays IsNoTest
 pub given_wide : (log : Log) (job : Job) → IsGiven log job → HasCome log job
 given_wide = answered_wide IsNoTest
 
--- with what isn't a piece the same filters are given
-pub no_piece_same_given : (e : Event) (log : Log) → IsNoPiece e → IsSameGiven log (e ∷ log)
-no_piece_same_given e log none job = (given_stays e log job, only_pieces_answer IsNoTest e log job none)
-
 -- so they are with an entry with which no peer gave a filter more
 pub none_came_same_given : (e : Event) (log : Log)
     → ((q : ℕ) → given (counted_part (e ∷ log) q) ≡ given (counted_part log q)) → IsSameGiven log (e ∷ log)
 none_came_same_given e log same1 job = (given_stays e log job, none_came_answers IsNoTest e log same1 job)
-
-pub same_given_back : (a b : Log) → IsSameGiven a b → IsSameGiven b a
-same_given_back a b same job = (let w = same job in (w.1, w.0))
-
-pub same_given_then : (a b c : Log) → IsSameGiven a b → IsSameGiven b c → IsSameGiven a c
-same_given_then a b c one two job = (let w = one job in let x = two job in (λ g. x.0 (w.0 g), λ g. w.1 (x.1 g)))
-
--- two logs that gave the same do so with an entry that isn't a piece
-pub same_given_on : (e : Event) (a b : Log) → IsNoPiece e → IsSameGiven a b → IsSameGiven (e ∷ a) (e ∷ b)
-same_given_on e a b none same1 =
-    same_given_then (e ∷ a) a (e ∷ b) (same_given_back a (e ∷ a) (no_piece_same_given e a none))
-    (same_given_then a b (e ∷ b) same1 (no_piece_same_given e b none))
 
 -- ---- what is to be tested is of a fetched block
 

@@ -12,7 +12,7 @@ use Rattle.cf_headers.specs.Heights.{hash_at}
 use Rattle.cf_peer.specs.Asking.{filter_of, claims, hash_claimed, given, counted, hashes_of}
 use Rattle.cf_wires.specs.Log.{Log}
 use Rattle.cf_peer.specs.declared.mode.Mode.TheVariants.{Once}
-use Rattle.cf_peer.specs.Trail.{Trail, part_of, connected, own, heard}
+use Rattle.cf_peer.specs.Trail.{Trail, part_of, connected, own, is_heard_out}
 use Rattle.cf_scan.specs.Watching.{IsWatch}
 use Rattle.cf_sync.specs.Example.{only_header, only_hash, cleared_run, other_watch, only_filter, only_filter_hash}
 use Rattle.cf_sync.specs.Fetching.{counted_part, IsCleared, IsFetchedHash}
@@ -87,7 +87,7 @@ cleared_asked = record {
     scanned = record { blocks = record { header = only_header; txs = [] } ∷ []; taken = (inr ((λ got. none_fetched got.0 got.1), refl), tt); history = refl };
   };
   asked_out = λ p on idle. record {
-    heard_out = of_cleared (λ t. connected t ≡ true → heard (counted t) ≡ true) p (λ is1. counts_11.heard_out) (λ is1. same_other.hearing Once) (λ is1. absurd (false≢true is1)) on;
+    heard_out = of_cleared (λ t. connected t ≡ true → is_heard_out (counted t) ≡ true) p (λ is1. counts_11.heard_out) (λ is1. same_other.hearing Once) (λ is1. absurd (false≢true is1)) on;
     claimed = of_cleared ClaimsIt p (claims_it t_11 only_claim counts_11.claimed counts_11.chain) other_claims nobody_claims;
     settled = λ h one le above no_filter no_block. inr (cleared_settled (hash_at (own (counted_part cleared_run p)) h) (inl (of_cleared SharesIt p (shares_it t_11 counts_11.chain) other_shares nobody_shares h one le)));
     tested = λ h one le above got disputed hash claims_it. absurd (none_fetched got.0 got.1);

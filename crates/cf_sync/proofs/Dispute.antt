@@ -16,7 +16,7 @@ use Rattle.cf_msg.specs.Message.{payload_of}
 use Rattle.cf_peer.specs.Acts.{bytes_of, IsSendable}
 use Rattle.cf_peer.specs.Asking.{block_entry, is_spare, NothingOpen, ClaimsOpen, FiltersOpen, claims_asked, claims, claims_after, claims_fault, hash_claimed, fault_of, request, request_after, is_idle, is_open, verdict, counted, fetched, hashes_of, HasSaid, MayAsk, SameUse, IsFree, filter_fault, filter_of, filters_asked, given, given_by}
 use Rattle.cf_wires.specs.Log.{Log}
-use Rattle.cf_peer.specs.Trail.{Trail, Said, Asked, part_of, trail, connected, own, heard, longer_of, ends_by, fault_in, first, Lost, Shutting, with_item}
+use Rattle.cf_peer.specs.Trail.{Trail, Said, Asked, part_of, trail, connected, own, is_heard_out, longer_of, ends_by, fault_in, first, Lost, Shutting, with_item}
 use Rattle.cf_scan.specs.Scan.{scan_of}
 use Rattle.cf_scan.specs.Watching.{IsWatch}
 use Rattle.cf_bytes.specs.Hash.{hash_of}
@@ -27,7 +27,7 @@ use Rattle.cf_match.specs.declared.job.Job.{Job}
 use Rattle.cf_peer.specs.declared.peer.Cause.TheVariants.{Omits}
 use Rattle.cf_sync.proofs.Filters.{false_filter_hash_is, nothing_lacks}
 use Rattle.cf_sync.specs.Example.{only_header, only_block, only_hash, chain_of_one, honest_peer, liar, its_version, question, its_headers, ask_claims, its_claims, false_claims, ask_filter, its_filter, fetch, its_block, false_version, genesis_filter_header, only_filter_hash, false_filter_hash, other_watch, log_8, dispute_9, dispute_10, dispute_11, dispute_12, dispute_13, dispute_14, dispute_15, dispute_16, dispute_17, dispute_18, dispute_19, dispute_20, dispute_21, disputed_run, false_answer, dispute_22, dispute_23, dispute_24, dispute_25, dispute_26}
-use Rattle.cf_sync.specs.Fetching.{counted_part, IsQuiet, AreBytes, IsFetched, IsFetchedHash, IsCleared, IsDisputed, IsBlockWanted, Rightly, Claims, IsAlone, IsOmitting, IsTest, IsTested, blocks_in, test_after}
+use Rattle.cf_sync.specs.Fetching.{counted_part, IsQuiet, AreBytes, IsFetched, IsFetchedHash, IsCleared, IsDisputed, IsBlockWanted, Rightly, HasClaimed, IsAlone, IsOmitting, IsTest, IsTested, blocks_in, test_after}
 use Rattle.cf_sync.proofs.Alone.{IsNoneFetching, none_filters, none_block}
 use Rattle.cf_sync.specs.Honesty.{IsHonestOver, IsHonest, was_called, ShowsNoOther}
 use Rattle.cf_sync.specs.Sync.{strings_of, IsHashed, HasAsked}
@@ -307,7 +307,7 @@ chain_7 = ap (λ (a : Accepted). longer_of a []) accepted
 clean_7 : verdict v_7 ≡ None
 clean_7 = ap fault_in accepted
 
-heard_out_7 : heard v_7 ≡ true
+heard_out_7 : is_heard_out v_7 ≡ true
 heard_out_7 = ap (λ (a : Accepted). ends_by a (only_header ∷ [])) accepted
 
 back_only : back_to only_hash.0 (own v_7) ≡ Some (only_header ∷ [])
@@ -611,7 +611,7 @@ disputed_asked watch fits = record {
     scanned = record { blocks = chain_of_one; taken = (inl (is_fetched, refl), tt); history = refl };
   };
   asked_out = λ p on idle. record {
-    heard_out = of_each (λ t. connected t ≡ true → heard (counted t) ≡ true) p (λ is1. counts_15.heard_out) (λ is1. absurd (false≢true is1)) (λ is1. absurd (false≢true is1)) on;
+    heard_out = of_each (λ t. connected t ≡ true → is_heard_out (counted t) ≡ true) p (λ is1. counts_15.heard_out) (λ is1. absurd (false≢true is1)) (λ is1. absurd (false≢true is1)) on;
     claimed = of_each (λ t. connected t ≡ true → ClaimsIt t) p (λ is1. claims_it t_15 only_claim counts_15.claimed counts_15.chain) (λ is1. absurd (false≢true is1)) (λ is1. absurd (false≢true is1)) on;
     settled = λ h one le above no_filter no_block.
         inl (settled (hash_at (own (counted_part disputed_run p)) h)
@@ -622,7 +622,7 @@ disputed_asked watch fits = record {
   -- the first alone is left
   no_dispute : (block : List ℕ) → IsDisputed disputed_run block → ⊥
   no_dispute block d = d.apart (one_hash (alone d.one d.mine d.there.0 d.claims.0) (alone d.other d.yours d.there.1 d.claims.1)) where
-    alone : (q : ℕ) (hash : Hash32) → connected (trail disputed_run q) ≡ true → Claims disputed_run q block hash → hash_claimed (claims (counted t_15)) block ≡ Some hash
+    alone : (q : ℕ) (hash : Hash32) → connected (trail disputed_run q) ≡ true → HasClaimed disputed_run q block hash → hash_claimed (claims (counted t_15)) block ≡ Some hash
     alone q hash on = of_each (λ t. connected t ≡ true → hash_claimed (claims (counted t)) block ≡ Some hash → hash_claimed (claims (counted t_15)) block ≡ Some hash) q
         (λ is1 e. e) (λ is1. absurd (false≢true is1)) (λ is1. absurd (false≢true is1)) on
 

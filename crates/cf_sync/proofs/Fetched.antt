@@ -16,11 +16,11 @@ use Rattle.cf_peer.specs.Acts.{bytes_of}
 use Rattle.cf_peer.specs.Asking.{is_spare, NothingOpen, FiltersOpen, BlockOpen, filters_asked, claims, filter_fault, fault_of, request_after, IsFree, request, is_wanted, is_open, block_fault, verdict, counted, fetched, fetched_by, block_entry, hashes_of, MayAsk, hash_claimed}
 use Rattle.cf_wires.specs.Log.{Log}
 use Rattle.cf_peer.specs.declared.mode.Mode.TheVariants.{Once}
-use Rattle.cf_peer.specs.Trail.{Trail, Said, Asked, part_of, trail, connected, own, heard, first}
+use Rattle.cf_peer.specs.Trail.{Trail, Said, Asked, part_of, trail, connected, own, is_heard_out, first}
 use Rattle.cf_scan.specs.Scan.{scan_of}
 use Rattle.cf_scan.specs.Watching.{IsWatch}
 use Rattle.cf_sync.specs.Example.{only_header, only_block, only_hash, chain_of_one, honest_peer, its_version, its_headers, fetch, its_block, log_18, log_19, run_of_two, only_filter, its_claims, ask_filter, its_filter}
-use Rattle.cf_sync.specs.Fetching.{counted_part, IsQuiet, AreBytes, IsFetched, IsFetchedHash, Rightly, Claims, IsDisputed}
+use Rattle.cf_sync.specs.Fetching.{counted_part, IsQuiet, AreBytes, IsFetched, IsFetchedHash, Rightly, HasClaimed, IsDisputed}
 use Rattle.cf_sync.proofs.Alone.{IsNoneFetching, none_block}
 use Rattle.cf_sync.specs.Honesty.{Leaves, answers, AnswersAs, IsHonest, was_called, ShowsNoOther}
 use Rattle.cf_sync.specs.Sync.{strings_of, IsHashed, HasAsked}
@@ -151,7 +151,7 @@ pub clean_13 : verdict t_13 ≡ None
 clean_13 = ap (λ x. first x (block_fault only_block (BlockOpen only_hash.0))) clean_11 ∙ rw (only_wanted, committed_is only_block committed) refl
 
 pub counts_13 : Counts t_13
-counts_13 = counts_of t_13 refl clean_13 refl (still_true (heard t_11) heard_out_11) refl refl
+counts_13 = counts_of t_13 refl clean_13 refl (still_true (is_heard_out t_11) heard_out_11) refl refl
 
 -- once it was asked for its filter a second time
 pub may_ask_again : MayAsk t_13 ask_filter
@@ -174,7 +174,7 @@ pub request_15 : request t_15 ≡ NothingOpen
 request_15 = ap (λ r. request_after its_filter r) request_14 ∙ rw self_hash refl
 
 pub counts_15 : Counts t_15
-counts_15 = counts_of t_15 refl clean_15 refl (still_true (heard t_13) (still_true (heard t_11) heard_out_11)) refl refl
+counts_15 = counts_of t_15 refl clean_15 refl (still_true (is_heard_out t_13) (still_true (is_heard_out t_11) heard_out_11)) refl refl
 
 pub fetched_13 : IsIn only_block (fetched (counted t_13))
 fetched_13 =
@@ -200,7 +200,7 @@ settled block (inl e) = (only_block, is_fetched, sym e)
 settled block (inr none) = absurd none
 
 -- where one peer alone claims anything nobody differs
-pub claims_alike : (t : Trail) (log : Log) (block : Hash) → ((p : ℕ) (hash : Hash32) → Claims log p block hash → hash_claimed (claims (counted t)) block ≡ Some hash) → IsDisputed log block → ⊥
+pub claims_alike : (t : Trail) (log : Log) (block : Hash) → ((p : ℕ) (hash : Hash32) → HasClaimed log p block hash → hash_claimed (claims (counted t)) block ≡ Some hash) → IsDisputed log block → ⊥
 claims_alike t log block alone d = d.apart (one_hash (hash_claimed (claims (counted t)) block) (alone d.one d.mine d.claims.0) (alone d.other d.yours d.claims.1)) where
   one_hash : (o : Option Hash32) {a b : Hash32} → o ≡ Some a → o ≡ Some b → a ≡ b
   one_hash o {a} {b} x y = (let both : Some a ≡ Some b = sym x ∙ y in cc)
@@ -235,7 +235,7 @@ has_asked watch fits = record {
     scanned = record { blocks = chain_of_one; taken = (inl (is_fetched, refl), tt); history = refl };
   };
   asked_out = λ p on idle. record {
-    heard_out = of_each (λ t. connected t ≡ true → heard (counted t) ≡ true) p (λ is1. counts_13.heard_out) (λ is1. same_other.hearing Once) (λ is1. absurd (false≢true is1)) on;
+    heard_out = of_each (λ t. connected t ≡ true → is_heard_out (counted t) ≡ true) p (λ is1. counts_13.heard_out) (λ is1. same_other.hearing Once) (λ is1. absurd (false≢true is1)) on;
     claimed = of_each ClaimsIt p (claims_it t_13 only_claim counts_13.claimed counts_13.chain) other_claims nobody_claims;
     settled = λ h one le above no_filter no_block. inl (settled (hash_at (own (counted_part run_of_two p)) h) (inl (of_each SharesIt p (shares_it t_13 counts_13.chain) other_shares nobody_shares h one le)));
     tested = λ h one le above got disputed hash claims_it. absurd (no_dispute (hash_at (own (counted_part run_of_two p)) h) disputed);

@@ -20,10 +20,6 @@ pub only_items : items_of only_block [] ≡ (0x51 ∷ []) ∷ []
 unfolding items_of only_tx
 only_items = refl
 
-only_value : sip24_of 0x6241839e08abd6bf 0xe98387081d8e1a7c (0x51 ∷ []) ≡ 15680107898864376621
-unfolding start round absorb finish words_of all_words sip24_of
-only_value = refl
-
 pub only_filter_by_name : basic_filter_of only_name ((0x51 ∷ []) ∷ []) ≡ only_filter
 unfolding start round absorb finish words_of all_words sip24_of value_under basic_filter_of spelling codes code bits_of pack_from compact
 only_filter_by_name = refl

@@ -11,7 +11,7 @@ use Rattle.cf_headers.specs.Rules.{same}
 use Rattle.cf_headers.specs.Chain.{Hash, Chain, back_to, IsIn, NoHashClash}
 use Rattle.cf_headers.specs.Shown.{Shows, AreApart}
 use Rattle.cf_match.specs.declared.job.Job.{Job}
-use Rattle.cf_msg.specs.declared.msg.Entry.{Entry}
+use Rattle.cf_msg.specs.declared.msg.Inventory.{Inventory}
 use Rattle.cf_msg.specs.declared.msg.Msg.{Msg}
 use Rattle.cf_msg.specs.declared.msg.Msg.TheVariants.{Ping, Pong, GetHeaders, Headers, GetData, Block as BlockMessage, GetCfheaders, Cfheaders, GetCfilters, Cfilter}
 use Rattle.cf_peer.specs.declared.peer.Cause.TheVariants.{OtherFilter}
@@ -93,7 +93,7 @@ asked_fresh (GetCfheaders filter start at) t may fresh stop parent blocks e bloc
 asked_fresh (GetCfilters filter start at) t may fresh stop parent blocks e block i claimed =
     absurd (let no : FiltersOpen (blocks_from start may.1.0.part) [] ≡ ClaimsOpen stop parent blocks = sym (ap (λ o. filters_asked start o) may.1.0.tip) ∙ e in cc)
 asked_fresh (GetData entries) t may fresh stop parent blocks e block i claimed =
-    absurd (let no : BlockOpen may.1.0.0 ≡ ClaimsOpen stop parent blocks = sym (ap (λ (es : List Entry). request_for (GetData es) (own t) (request t)) may.1.1) ∙ e in cc)
+    absurd (let no : BlockOpen may.1.0.0 ≡ ClaimsOpen stop parent blocks = sym (ap (λ (es : List Inventory). request_for (GetData es) (own t) (request t)) may.1.1) ∙ e in cc)
 asked_fresh (Ping number) t may fresh stop parent blocks e block i claimed = absurd (let no : PingOpen number ≡ ClaimsOpen stop parent blocks = e in cc)
 asked_fresh m t may fresh stop parent blocks e block i claimed = fresh stop parent blocks e block i claimed
 

@@ -15,7 +15,7 @@ use Rattle.cf_peer.specs.Asking.{claims, counted}
 use Rattle.cf_wires.specs.Log.{Log}
 use Rattle.cf_peer.specs.Trail.{Trail, trail, connected}
 use Rattle.cf_scan.specs.declared.extracts.TxExtract.{TxExtract}
-use Rattle.cf_tables.specs.Known.{Table}
+use Rattle.cf_tables.specs.Known.{ExtractTable}
 use Rattle.cf_sync.specs.Fetching.{counted_part, IsConnected, IsAgreed, IsDisputed, IsJudged, IsSettled, IsFilterWanted, IsBlockWanted, HoldsFetched}
 use Rattle.cf_sync.specs.Fetching as log
 use Rattle.cf_tables.specs.Wanting.{IsDone, IsUnjudged, IsToFetch}
@@ -26,7 +26,7 @@ there_by : (b : Bool) (t : Trail) (block : Hash) (claim : Claim) → (if b then 
 there_by true t block claim e = (refl, e)
 there_by false t block claim e = cc
 
-pub claims_by : (l : Log) (tables : Tables) → HoldsClaims l tables → (p : ℕ) (block : Hash) (hash : Hash32) → Claims tables p block hash → IsConnected l p × log.Claims l p block hash
+pub claims_by : (l : Log) (tables : Tables) → HoldsClaims l tables → (p : ℕ) (block : Hash) (hash : Hash32) → Claims tables p block hash → IsConnected l p × log.HasClaimed l p block hash
 claims_by l tables h p block hash c =
     let w = there_by (connected (trail l p)) (trail l p) block c.0 (sym (h p block) ∙ c.1) in
     (w.0, ap (λ (o : Option Claim). option_map (λ (x : Claim). x.hash) o) w.1 ∙ ap (λ (x : Hash32). Some x) c.2)
@@ -35,7 +35,7 @@ mapped : (o : Option Claim) (hash : Hash32) → option_map (λ (c : Claim). c.ha
 mapped None hash e = cc
 mapped (Some c) hash e = (c, refl, (let one : c.hash ≡ hash = cc in one))
 
-pub by_claims : (l : Log) (tables : Tables) → HoldsClaims l tables → (p : ℕ) (block : Hash) (hash : Hash32) → IsConnected l p → log.Claims l p block hash → Claims tables p block hash
+pub by_claims : (l : Log) (tables : Tables) → HoldsClaims l tables → (p : ℕ) (block : Hash) (hash : Hash32) → IsConnected l p → log.HasClaimed l p block hash → Claims tables p block hash
 by_claims l tables h p block hash on c =
     let w = mapped (claims (counted_part l p) block) hash c in
     (w.0, h p block ∙ ap (λ (b : Bool). (if b then claims (counted_part l p) else no_claims) block) on ∙ w.1, w.2)
@@ -70,7 +70,7 @@ some_is None s = cc s
 some_is (Some e) s = (e, refl)
 
 -- what is done by what is kept is settled by the log
-pub settled_by : (watch : List (List ℕ)) (l : Log) (extracts : Table) (tables : Tables) (verdicts : Verdicts) → HoldsFetched watch l extracts → HoldsClaims l tables → HoldsGiven watch l verdicts
+pub settled_by : (watch : List (List ℕ)) (l : Log) (extracts : ExtractTable) (tables : Tables) (verdicts : Verdicts) → HoldsFetched watch l extracts → HoldsClaims l tables → HoldsGiven watch l verdicts
     → (block : Hash) → IsDone extracts tables verdicts block → IsSettled watch l block
 settled_by watch l extracts tables verdicts f h g block (inl there) = (
     let e = some_is (extracts block) there in
@@ -81,21 +81,21 @@ settled_by watch l extracts tables verdicts f h g block (inr done) =
     inr (judged_by watch l tables verdicts h g block done.0 Miss true (λ job e. miss_where (misses watch job) e) done.1 done.2)
 
 -- what is to be asked for by what is kept is wanted by the log
-pub filter_by : (watch : List (List ℕ)) (l : Log) (extracts : Table) (tables : Tables) (verdicts : Verdicts) → HoldsFetched watch l extracts → HoldsClaims l tables → HoldsGiven watch l verdicts
+pub filter_by : (watch : List (List ℕ)) (l : Log) (extracts : ExtractTable) (tables : Tables) (verdicts : Verdicts) → HoldsFetched watch l extracts → HoldsClaims l tables → HoldsGiven watch l verdicts
     → (p : ℕ) (block : Hash32) (claim : Claim) → IsUnjudged extracts tables verdicts block.0 → tables p block.0 ≡ Some claim → IsFilterWanted l p block.0
 filter_by watch l extracts tables verdicts f h g p block claim is mine =
     let one : claim.hash ≡ is.1.0 = is.1.1.1 p claim.hash (claim, mine, refl) in
     let w = claims_by l tables h p block.0 is.1.0 (claim, mine, one) in
     (f.complete block.0 is.0, (is.1.0, (agreed_by l tables h block.0 is.1.0 is.1.1, w.1, g.complete block is.1.0 is.1.2)))
 
-pub block_by : (watch : List (List ℕ)) (l : Log) (extracts : Table) (tables : Tables) (verdicts : Verdicts) → HoldsFetched watch l extracts → HoldsClaims l tables → HoldsGiven watch l verdicts
+pub block_by : (watch : List (List ℕ)) (l : Log) (extracts : ExtractTable) (tables : Tables) (verdicts : Verdicts) → HoldsFetched watch l extracts → HoldsClaims l tables → HoldsGiven watch l verdicts
     → (block : Hash) → IsToFetch extracts tables verdicts block → IsBlockWanted watch l block
 block_by watch l extracts tables verdicts f h g block (none, inl differ) = (f.complete block none, inl (disputed_by l tables h block differ))
 block_by watch l extracts tables verdicts f h g block (none, inr hit) =
     (f.complete block none, inr (judged_by watch l tables verdicts h g block hit.0 Hit false (λ job e. hit_where (misses watch job) e) hit.1 hit.2))
 
 -- a block that somebody claims, and that is neither to be judged nor to be fetched, is done
-pub done_else : (extracts : Table) (tables : Tables) (verdicts : Verdicts) (block : Hash) (at : At) → IsAt tables block at → at ≢ Nobody
+pub done_else : (extracts : ExtractTable) (tables : Tables) (verdicts : Verdicts) (block : Hash) (at : At) → IsAt tables block at → at ≢ Nobody
     → (IsUnjudged extracts tables verdicts block → ⊥) → (IsToFetch extracts tables verdicts block → ⊥) → IsDone extracts tables verdicts block
 done_else extracts tables verdicts block at is some judged fetched = by_extract (extracts block) refl where
   by_verdict : (hash : Hash32) → IsAt tables block (One hash) → extracts block ≡ None → (o : Option Verdict) → verdicts block hash.0 ≡ o → IsDone extracts tables verdicts block

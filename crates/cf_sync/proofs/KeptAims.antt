@@ -14,7 +14,7 @@ use Rattle.cf_block.specs.Header.{block_hash_of}
 use Rattle.cf_headers.specs.Chain.{Hash, Chain, IsIn, back_to}
 use Rattle.cf_match.specs.declared.job.Job.{Job}
 use Rattle.cf_msg.specs.declared.msg.Msg.{Msg}
-use Rattle.cf_msg.specs.declared.msg.Entry.{Entry}
+use Rattle.cf_msg.specs.declared.msg.Inventory.{Inventory}
 use Rattle.cf_msg.specs.declared.msg.Msg.TheVariants.{GetHeaders, Headers, GetData, Block as BlockMessage, GetCfheaders, Cfheaders, GetCfilters, Cfilter, Ping, Pong}
 use Rattle.cf_msg.specs.Reading.{message_of}
 use Rattle.cf_wires.specs.declared.event.Delivery.TheVariants.{Got, Gone, Tick, Ended}
@@ -27,7 +27,7 @@ use Rattle.cf_filter.specs.Lacking.{output_items_of}
 use Rattle.cf_headers.specs.Rules.{same}
 use Rattle.cf_tables.specs.Outputs.{Paid, lacks_kept}
 use Rattle.cf_tables.specs.Tests.{IsSameTold}
-use Rattle.cf_tables.specs.Known.{Told}
+use Rattle.cf_tables.specs.Known.{TestResults}
 use Rattle.cf_tables.specs.Trials.{Trials, TrialsGo, tested_if, with_paid}
 use Rattle.cf_sync.specs.Fetching.{AreFiltersWanted, IsConnected, IsFetchedHash, IsNoPiece, IsTest, IsTested, IsTestedWith, IsTestOf, IsSameFetched, blocks_in, counted_part, filters_open, test_after}
 use Rattle.cf_sync.specs.Kept.{AimsAt, AreClean, HoldsOutputs, HoldsTrials, IsNoSend}
@@ -328,14 +328,14 @@ outputs_same log before after e h = record {
   complete = λ hash is. h.complete hash (sym (e hash) ∙ is);
 }
 
-tests_same : (log : Log) (before after : Told) → IsSameTold after before → HoldsTests log before → HoldsTests log after
+tests_same : (log : Log) (before after : TestResults) → IsSameTold after before → HoldsTests log before → HoldsTests log after
 tests_same log before after e h = record {
   lacking = λ block hash is. h.lacking block hash (sym (e block hash.0) ∙ is);
   holding = λ block hash is. h.holding block hash (sym (e block hash.0) ∙ is);
   complete = λ block hash is. h.complete block hash (sym (e block hash.0) ∙ is);
 }
 
-clean_same : (log : Log) (paid next : Paid) (before after : Told) → ((hash : Hash) → next hash ≡ paid hash) → IsSameTold after before → AreClean log paid before → AreClean log next after
+clean_same : (log : Log) (paid next : Paid) (before after : TestResults) → ((hash : Hash) → next hash ≡ paid hash) → IsSameTold after before → AreClean log paid before → AreClean log next after
 clean_same log paid next before after p e clean block hash is t = ap (lacks_kept block t.filter.filter) (p block) ∙ clean block hash (sym (e block hash.0) ∙ is) t
 
 pub trials_same : (log : Log) (before after : Trials) → ((hash : Hash) → after.paid hash ≡ before.paid hash) → IsSameTold after.told before.told → ((p : ℕ) → after.aims p ≡ before.aims p)
@@ -362,7 +362,7 @@ paid_go p piece log paid (b ∷ []) few brings others h = outputs_grow p piece l
 paid_go p piece log paid (b ∷ c ∷ more) few brings others h = absurd (omega (arith, few))
 
 -- what is told of tests, and that it is right
-abbrev pub AreTold : Log → Paid → Told → Type 0
+abbrev pub AreTold : Log → Paid → TestResults → Type 0
 AreTold log paid told = HoldsTests log told × AreClean log paid told
 
 -- the block of each of these filters is among theirs
@@ -543,7 +543,7 @@ asked_ends (Some (GetCfheaders filter start stop)) t unasked = inr (by (back_to 
   by (Some part) = refl
 asked_ends (Some (GetCfilters filter start stop)) t unasked = absurd (unasked filter start stop refl)
 asked_ends (Some (GetData entries)) t unasked = by entries where
-  by : (es : List Entry) → OnlyEnds (filters_open (block_asked es (request (counted t)))) (filters_open (request (counted t)))
+  by : (es : List Inventory) → OnlyEnds (filters_open (block_asked es (request (counted t)))) (filters_open (request (counted t)))
   by [] = inl refl
   by (entry ∷ more) = inr refl
 asked_ends (Some (Ping number)) t unasked = inr refl

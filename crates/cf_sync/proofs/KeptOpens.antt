@@ -1,5 +1,5 @@
 -- What is kept of open requests says what may be asked, and what is settled.
-use Rattle.std.proofs.Common.{◌≡◌, ◌≢◌, inl, inr, ℕ, List, [], ◌∷◌, ◌++◌, Bool, true, false, sym, ◌∙◌, subst}
+use Rattle.std.proofs.Common.{◌≡◌, ◌≢◌, inl, inr, ℕ, List, [], ◌∷◌, Bool, true, false, sym, ◌∙◌, subst}
 use Rattle.std.proofs.lemmas.Bool.{cases_Bool, cases_eq, both_ways}
 use Rattle.cf_bytes.specs.declared.hash.Hash32.{Hash32}
 use Rattle.cf_dispute.specs.declared.claim.At.{At}
@@ -7,7 +7,7 @@ use Rattle.cf_dispute.specs.declared.claim.At.TheVariants.{Nobody}
 use Rattle.cf_dispute.specs.Claims.{Tables, IsAt}
 use Rattle.cf_headers.specs.Chain.{Hash, IsIn, back_to}
 use Rattle.cf_match.specs.Verdicts.{Verdicts}
-use Rattle.cf_msg.specs.declared.msg.Entry.{Entry}
+use Rattle.cf_msg.specs.declared.msg.Inventory.{Inventory}
 use Rattle.cf_msg.specs.declared.msg.Msg.TheVariants.{GetData, GetCfilters}
 use Rattle.cf_wires.specs.Log.{Log}
 use Rattle.cf_peer.specs.Trail.{Trail, trail, connected, own}
@@ -15,13 +15,11 @@ use Rattle.cf_peer.specs.Asking.{OpenRequest, NothingOpen, FiltersOpen, BlockOpe
 use Rattle.cf_seek.specs.Opens.{Opens, IsFilterFree, IsBlockFree}
 use Rattle.cf_seek.specs.Opening.{IsSameElse, Closes, OpensFilters, OpensBlock}
 use Rattle.cf_seek.specs.Seeking.{IsToAsk, IsToGet}
-use Rattle.cf_tables.specs.Known.{Table}
+use Rattle.cf_tables.specs.Known.{ExtractTable}
 use Rattle.cf_tables.specs.Wanting.{IsAbove}
 use Rattle.cf_sync.specs.Fetching.{filters_open, blocks_open, IsFilterOpen, IsBlockOpen, IsAlone, IsSettled, HoldsFetched, blocks_in}
 use Rattle.cf_sync.specs.Known.{HoldsClaims, HoldsGiven, HoldsOpens, OpensAt}
-use Rattle.cf_match.specs.declared.job.Job.{Job}
 use Rattle.cf_sync.proofs.Kept.{done_else, settled_by}
-use Rattle.cf_sync.proofs.Once.{moved, moved_back}
 
 pub free_filter : (log : Log) (opens : Opens) (block : Hash) → HoldsOpens log opens → IsFilterFree opens block → IsFilterOpen log block → ⊥
 free_filter log opens block h free stands = both_ways (opens.filters stands.0 block) (free stands.0) ((h stands.0).all_filters block stands.1.0 stands.1.1)
@@ -44,11 +42,11 @@ pub filters_alone : (log : Log) (opens : Opens) (p filter start : ℕ) (stop : H
 filters_alone log opens p filter start stop h free = λ block i none stands. free_filter log opens block h (free block i) stands
 
 pub block_alone : (log : Log) (opens : Opens) (p : ℕ) (hash : Hash32) → HoldsOpens log opens → IsBlockFree opens hash.0 → IsAlone log p (GetData (block_entry hash ∷ []))
-block_alone log opens p hash h free entry (inl e) stands = free_block log opens hash.0 h free (subst (λ (x : Entry). IsBlockOpen log x.hash.0) e stands)
+block_alone log opens p hash h free entry (inl e) stands = free_block log opens hash.0 h free (subst (λ (x : Inventory). IsBlockOpen log x.hash.0) e stands)
 block_alone log opens p hash h free entry (inr none) stands = none
 
 -- a block that somebody claims, that isn't open, and of which nothing is to be asked for that isn't open, is settled
-pub settled_else : (watch : List (List ℕ)) (log : Log) (extracts : Table) (tables : Tables) (verdicts : Verdicts) (opens : Opens) → HoldsFetched watch log extracts → HoldsClaims log tables → HoldsGiven watch log verdicts → HoldsOpens log opens
+pub settled_else : (watch : List (List ℕ)) (log : Log) (extracts : ExtractTable) (tables : Tables) (verdicts : Verdicts) (opens : Opens) → HoldsFetched watch log extracts → HoldsClaims log tables → HoldsGiven watch log verdicts → HoldsOpens log opens
     → (block : Hash) (at : At) → IsAt tables block at → at ≢ Nobody → IsAbove block → (IsToAsk extracts tables verdicts opens block → ⊥) → (IsToGet extracts tables verdicts opens block → ⊥)
     → (IsFilterOpen log block → ⊥) → (IsBlockOpen log block → ⊥) → IsSettled watch log block
 settled_else watch log extracts tables verdicts opens f c g h block at is somebody above asked got no_filter no_block =
@@ -120,8 +118,3 @@ opens_same opens p t u h on back forth back_b forth_b = record {
   blocks = λ b is. let w = h.blocks b is in (on ∙ w.0, forth_b b w.1);
   all_blocks = λ b there i. h.all_blocks b (sym on ∙ there) (back_b b i);
 }
-
--- the filter in the middle of a batch moves over, and the same stands in it
-pub batch_same : (came : List Job) (j : Job) (next : Hash) (left : List Hash) (b : Hash) → j.block.0 ≡ next
-    → (IsIn b (filters_open (FiltersOpen left (came ++ j ∷ []))) → IsIn b (filters_open (FiltersOpen (next ∷ left) came))) × (IsIn b (filters_open (FiltersOpen (next ∷ left) came)) → IsIn b (filters_open (FiltersOpen left (came ++ j ∷ []))))
-batch_same came j next left b e = (moved came j next left b e, moved_back came j next left b e)

@@ -27,7 +27,7 @@ use Rattle.cf_peer.specs.Asking.{fetched, given}
 use Rattle.cf_peer.specs.Trail.{trail, own}
 use Rattle.cf_scan.specs.declared.extracts.TxExtract.{TxExtract}
 use Rattle.cf_tables.specs.Outputs.{Paid, lacks_kept, put_outputs}
-use Rattle.cf_tables.specs.Known.{Table, Told}
+use Rattle.cf_tables.specs.Known.{ExtractTable, TestResults}
 use Rattle.cf_seek.specs.Testing.{IsToTest, IsTrial, IsNextTrial}
 use Rattle.cf_tables.specs.Tests.{found_too}
 use Rattle.cf_tables.specs.Trials.{with_found}
@@ -47,7 +47,7 @@ use Rattle.cf_sync.proofs.SameFetched.{same_fetched}
 -- ---- what is to be tested
 
 -- a filter that is to be tested by what is kept is to be by the log
-test_by : (watch : List (List ℕ)) (l : Log) (extracts : Table) (tables : Tables) (told : Told) → HoldsFetched watch l extracts → HoldsClaims l tables → HoldsTests l told
+test_by : (watch : List (List ℕ)) (l : Log) (extracts : ExtractTable) (tables : Tables) (told : TestResults) → HoldsFetched watch l extracts → HoldsClaims l tables → HoldsTests l told
     → (p : ℕ) (block : Hash) → IsToTest extracts tables told p block → IsTestWanted l p block
 test_by watch l extracts tables told f h k p block is =
     let e = some_is (extracts block) is.fetched in
@@ -60,7 +60,7 @@ test_by watch l extracts tables told f h k p block is =
       untested = k.complete block is.claim.hash is.untested;
     }
 
-pub trial_by : (watch : List (List ℕ)) (l : Log) (extracts : Table) (tables : Tables) (told : Told) → HoldsFetched watch l extracts → HoldsClaims l tables → HoldsTests l told
+pub trial_by : (watch : List (List ℕ)) (l : Log) (extracts : ExtractTable) (tables : Tables) (told : TestResults) → HoldsFetched watch l extracts → HoldsClaims l tables → HoldsTests l told
     → (p common height : ℕ) (block : Hash) → IsTrial extracts tables told p (own (trail l p)) common block height → IsTestOf l p height block
 trial_by watch l extracts tables told f h k p common height block t =
     let a = at_height block (own (trail l p)) height t.stands in
@@ -77,7 +77,7 @@ differ_by : (l : Log) (tables : Tables) → HoldsClaims l tables → (block : Ha
 differ_by l tables h block d =
     (d.one, (d.other, (d.mine, (d.yours, (by_claims l tables h d.one block d.mine d.there.0 d.claims.0, by_claims l tables h d.other block d.yours d.there.1 d.claims.1, d.apart)))))
 
-has_extract : (watch : List (List ℕ)) (l : Log) (extracts : Table) → HoldsFetched watch l extracts → (block : Hash) → IsFetchedHash l block → IsSome (extracts block)
+has_extract : (watch : List (List ℕ)) (l : Log) (extracts : ExtractTable) → HoldsFetched watch l extracts → (block : Hash) → IsFetchedHash l block → IsSome (extracts block)
 has_extract watch l extracts f block got = by (extracts block) refl where
   by : (o : Option (List TxExtract)) → extracts block ≡ o → IsSome (extracts block)
   by None e = absurd (f.complete block e got)
@@ -88,7 +88,7 @@ some_part block [] tip above = absurd (above (sym tip))
 some_part block (h ∷ below) tip above = omega arith
 
 -- where no block is to be tested, what p claims of the disputed ones was
-pub tested_through : (watch : List (List ℕ)) (l : Log) (extracts : Table) (tables : Tables) (told : Told) (chain : Chain) (p : ℕ)
+pub tested_through : (watch : List (List ℕ)) (l : Log) (extracts : ExtractTable) (tables : Tables) (told : TestResults) (chain : Chain) (p : ℕ)
     → HoldsFetched watch l extracts → HoldsClaims l tables → HoldsTests l told → IsConnected l p
     → IsNextTrial extracts tables told p (own (counted_part l p)) (common_of (own (counted_part l p)) chain) None → IsTestedThrough l chain p
 tested_through watch l extracts tables told chain p f h k on none height up low above fetched_one disputed hash claimed = by (told block hash.0) refl where
@@ -149,14 +149,14 @@ with_before : (e : Event) (l : Log) → TestsNone e l → (block : Hash) (hash :
 with_before e l none block hash t = record { filter = t.filter; tested = none t.filter t.tested; of_block = t.of_block; this = t.this }
 
 -- then what is kept stays
-pub tests_stay : (e : Event) (l : Log) (told : Told) → TestsNone e l → HoldsTests l told → HoldsTests (e ∷ l) told
+pub tests_stay : (e : Event) (l : Log) (told : TestResults) → TestsNone e l → HoldsTests l told → HoldsTests (e ∷ l) told
 tests_stay e l told none k = record {
   lacking = λ block hash is. let w = k.lacking block hash is in (with_on e l block hash w.0, omission_on e l block w.0.filter.filter w.1);
   holding = λ block hash is. with_on e l block hash (k.holding block hash is);
   complete = λ block hash is t. k.complete block hash is (with_before e l none block hash t);
 }
 
-pub clean_stays : (e : Event) (l : Log) (paid : Paid) (told : Told) → TestsNone e l → AreClean l paid told → AreClean (e ∷ l) paid told
+pub clean_stays : (e : Event) (l : Log) (paid : Paid) (told : TestResults) → TestsNone e l → AreClean l paid told → AreClean (e ∷ l) paid told
 unfolding with_before
 clean_stays e l paid told none clean block hash is t = clean block hash is (with_before e l none block hash t)
 
@@ -176,7 +176,7 @@ too_false None v e = (inr refl, e)
 too_false (Some true) v e = absurd (false≢true (sym e))
 too_false (Some false) v e = (inl refl, e)
 
-module _ (q : PeerNo) (piece : List ℕ) (l : Log) (told : Told) (paid : Paid) (job : Job) (k : HoldsTests l told) (clean : AreClean l paid told) (outputs : HoldsOutputs l paid)
+module _ (q : PeerNo) (piece : List ℕ) (l : Log) (told : TestResults) (paid : Paid) (job : Job) (k : HoldsTests l told) (clean : AreClean l paid told) (outputs : HoldsOutputs l paid)
     (test : IsTest l q.0 job.block.0) (given_is : given (counted_part (Took (Got q piece) ∷ l) q.0) ≡ job ∷ given (counted_part l q.0)) where
   abbrev e : Event
   e = Took (Got q piece)
@@ -286,7 +286,7 @@ module _ (q : PeerNo) (piece : List ℕ) (l : Log) (told : Told) (paid : Paid) (
   clean_now : AreClean (Took (Got q piece) ∷ l) paid (with_found paid job told)
   clean_now block hash is t = clean_of block hash (hit block hash) refl is t
 
-pub one_tested : (q : PeerNo) (piece : List ℕ) (l : Log) (told : Told) (paid : Paid) (job : Job) → HoldsTests l told → AreClean l paid told → HoldsOutputs l paid → IsTest l q.0 job.block.0
+pub one_tested : (q : PeerNo) (piece : List ℕ) (l : Log) (told : TestResults) (paid : Paid) (job : Job) → HoldsTests l told → AreClean l paid told → HoldsOutputs l paid → IsTest l q.0 job.block.0
     → given (counted_part (Took (Got q piece) ∷ l) q.0) ≡ job ∷ given (counted_part l q.0)
     → HoldsTests (Took (Got q piece) ∷ l) (with_found paid job told) × AreClean (Took (Got q piece) ∷ l) paid (with_found paid job told)
 one_tested q piece l told paid job k clean outputs test given_is =
@@ -342,7 +342,7 @@ tested_then (SendFailed q) l job t = tested_fetched l job t
 tested_then (Closed q) l job t = tested_fetched l job t
 
 -- where the items of fetched blocks stay, what is told stays right
-pub clean_on : (e : Event) (l : Log) (paid kept : Paid) (told : Told) → HoldsOutputs l paid → ((hash : Hash) → IsSome (paid hash) → kept hash ≡ paid hash)
+pub clean_on : (e : Event) (l : Log) (paid kept : Paid) (told : TestResults) → HoldsOutputs l paid → ((hash : Hash) → IsSome (paid hash) → kept hash ≡ paid hash)
     → AreClean (e ∷ l) paid told → AreClean (e ∷ l) kept told
 clean_on e l paid kept told outputs same1 clean block hash is t =
     let got : IsFetchedHash l block = subst (λ (x : Hash). IsFetchedHash l x) t.of_block (tested_then e l t.filter t.tested) in
@@ -357,7 +357,7 @@ lacks_alike : (a b : Hash) (x y : Block) → a ≡ b → x ≡ y → (filter : L
 lacks_alike a b x y e one filter h = (λ k. lacks (e k) (output_items_of (one k)) filter) ∙ h
 
 -- where it is told that it lacks nothing, it is no omission
-pub holds_all : (l : Log) (paid : Paid) (told : Told) → RightlyIn Following l
+pub holds_all : (l : Log) (paid : Paid) (told : TestResults) → RightlyIn Following l
     → HoldsOutputs l paid → AreClean l paid told
     → (block : Hash) (hash : Hash32) → told block hash.0 ≡ Some false → (t : IsTestedWith l block hash) → IsOmission l block t.filter.filter → ⊥
 holds_all l paid told right outputs clean block hash is t o = by (paid block) refl where

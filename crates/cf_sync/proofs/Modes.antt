@@ -9,7 +9,7 @@ use Rattle.cf_wires.specs.declared.event.Event.TheVariants.{Dialled, NotDialled,
 use Rattle.cf_wires.specs.Log.{Log}
 use Rattle.cf_peer.specs.declared.mode.Mode.{Mode}
 use Rattle.cf_peer.specs.declared.mode.Mode.TheVariants.{Once, Following}
-use Rattle.cf_peer.specs.Trail.{Trail, Called, Said, Refused, Asked, Passed, Lost, trail, heard_in, still_heard, is_news, own, connected, ready}
+use Rattle.cf_peer.specs.Trail.{Trail, Called, Said, Refused, Asked, Passed, Lost, trail, is_heard_out_in, still_heard, is_news, own, connected, ready}
 use Rattle.cf_peer.specs.Asking.{MayAskIn, is_open, is_idle, request}
 use Rattle.cf_sync.specs.Fetching.{MaySendIn, MayTake, RightlyIn}
 
@@ -31,12 +31,12 @@ neither : (a b : Bool) → (a || b) ≡ false → (a ≡ false) × (b ≡ false)
 neither true b e = cc
 neither false b e = (refl, e)
 
-pub unheard_following : (t : Trail) → heard_in Once t ≡ false → heard_in Following t ≡ false
+pub unheard_following : (t : Trail) → is_heard_out_in Once t ≡ false → is_heard_out_in Following t ≡ false
 unheard_following [] off = refl
 unheard_following (Called ∷ t) off = refl
 unheard_following (Said m ∷ t) off =
-    let parts = neither (heard_in Once t) _ off in
-    still_unheard m (own t) (heard_in Following t) _ (unheard_following t parts.0) parts.1
+    let parts = neither (is_heard_out_in Once t) _ off in
+    still_unheard m (own t) (is_heard_out_in Following t) _ (unheard_following t parts.0) parts.1
 unheard_following (Refused c ∷ t) off = unheard_following t off
 unheard_following (Asked m ∷ t) off = unheard_following t off
 unheard_following (Passed s ∷ t) off = unheard_following t off

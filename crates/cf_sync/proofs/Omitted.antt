@@ -19,7 +19,7 @@ use Rattle.cf_wires.specs.declared.event.Event.TheVariants.{Dialled, NotDialled,
 use Rattle.cf_wires.specs.Log.{Log}
 use Rattle.cf_peer.specs.declared.peer.Cause.{Cause}
 use Rattle.cf_peer.specs.declared.peer.Cause.TheVariants.{BadFrame, Malformed, NoFilters, WrongCount, WrongPrevious, OtherFilter, BadBlock, Omits}
-use Rattle.cf_peer.specs.Trail.{Trail, Part, Called, Said, Refused, Asked, Passed, Lost, Went, Failing, Shutting, asks, called_part, connected, failed, fault_in, first, has_filters, heard_part, hears, hears_fault, item_of, item_of_read, met, own, part_of, ready, spelled, trail, went_on, with_item}
+use Rattle.cf_peer.specs.Trail.{Trail, Part, Called, Said, Refused, Asked, Passed, Lost, Went, Failing, Shutting, asks, called_part, connected, failed, fault_in, first, has_filters, heard_part, hears, hears_fault, item_of, item_of_read, has_version, own, part_of, ready, spelled, trail, went_on, with_item}
 use Rattle.cf_peer.specs.Asking.{OpenRequest, NothingOpen, HeadersOpen, ClaimsOpen, FiltersOpen, BlockOpen, block_fault, claims, claims_fault, fault_of, filter_fault, hash_claimed, is_answer_of, is_committed, is_this, is_wanted, request, verdict}
 use Rattle.cf_sync.specs.Blame.{HasOmitted}
 use Rattle.cf_sync.proofs.Entries.{at_either}
@@ -71,7 +71,7 @@ block_neither b r = λ is. cc
 
 message_neither : (m : Msg) (t : Trail) → IsNoOmission (fault_of m t)
 message_neither (Version version services time to from nonce agent height relay) t =
-    neither (met t || has_filters services) None (Some NoFilters) (λ is. cc) (λ is. cc)
+    neither (has_version t || has_filters services) None (Some NoFilters) (λ is. cc) (λ is. cc)
 message_neither (Headers hs) t =
     neither (ready t) (fault_in (accept hs (own t))) None (chain_fault (accept hs (own t))) (λ is. cc)
 message_neither (Cfheaders filter stop previous hashes) t =

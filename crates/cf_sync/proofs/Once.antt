@@ -8,7 +8,7 @@ use Rattle.cf_frame.specs.declared.frame.FrameFault.{FrameFault}
 use Rattle.cf_frame.specs.Stream.{StreamRead, read_stream}
 use Rattle.cf_headers.specs.Chain.{Hash, Chain, IsIn, back_to}
 use Rattle.cf_match.specs.declared.job.Job.{Job}
-use Rattle.cf_msg.specs.declared.msg.Entry.{Entry}
+use Rattle.cf_msg.specs.declared.msg.Inventory.{Inventory}
 use Rattle.cf_msg.specs.declared.msg.Msg.{Msg}
 use Rattle.cf_msg.specs.declared.msg.Msg.TheVariants.{GetHeaders, Headers, GetData, Block as BlockMessage, GetCfheaders, Cfheaders, GetCfilters, Cfilter, Ping, Pong}
 use Rattle.cf_msg.specs.Reading.{message_of}
@@ -152,15 +152,15 @@ blocks_asked log p (GetCfilters filter start stop) block may i = absurd (by (bac
 blocks_asked log p (GetData entries) block may i =
     let at : Hash32 = may.of_its_part.1.0 in
     let is : entries ≡ block_entry at ∷ [] = may.of_its_part.1.1 in
-    let j = subst (λ (es : List Entry). IsIn block (blocks_open (request_for (GetData es) (own (trail log p)) (request (trail log p))))) is i in
+    let j = subst (λ (es : List Inventory). IsIn block (blocks_open (request_for (GetData es) (own (trail log p)) (request (trail log p))))) is i in
     elim j [
       | inl e ↦ (
-          let first : IsIn (block_entry at) entries = subst (λ (es : List Entry). IsIn (block_entry at) es) (sym is) (inl refl) in
+          let first : IsIn (block_entry at) entries = subst (λ (es : List Inventory). IsIn (block_entry at) es) (sym is) (inl refl) in
           inr (λ stands. may.alone (block_entry at) first (subst (IsBlockOpen log) e stands), λ got. fresh entries at first may.wanted (subst (IsFetchedHash log) e got))
           )
       | inr none ↦ absurd none
     ] where
-      fresh : (entries : List Entry) (at : Hash32) → IsIn (block_entry at) entries → IsWanted log (GetData entries) → IsFetchedHash log at.0 → ⊥
+      fresh : (entries : List Inventory) (at : Hash32) → IsIn (block_entry at) entries → IsWanted log (GetData entries) → IsFetchedHash log at.0 → ⊥
       fresh entries at first wanted got = wanted (block_entry at) first got
 blocks_asked log p (Ping number) block may i = absurd i
 blocks_asked log p m block may i = inl i
@@ -179,7 +179,7 @@ filters_asked_new log p (GetCfilters filter start stop) block may i = by (back_t
 filters_asked_new log p (GetData entries) block may i =
     let at : Hash32 = may.of_its_part.1.0 in
     let is : entries ≡ block_entry at ∷ [] = may.of_its_part.1.1 in
-    let j = subst (λ (es : List Entry). IsIn block (filters_open (request_for (GetData es) (own (trail log p)) (request (trail log p))))) is i in
+    let j = subst (λ (es : List Inventory). IsIn block (filters_open (request_for (GetData es) (own (trail log p)) (request (trail log p))))) is i in
     absurd j
 filters_asked_new log p (Ping number) block may i = absurd i
 filters_asked_new log p m block may i = inl i

@@ -30,7 +30,7 @@ use Rattle.cf_wires.specs.declared.event.Event.TheVariants.{Dialled, Sent, Took}
 use Rattle.cf_peer.specs.declared.mode.Mode.TheVariants.{Following}
 use Rattle.cf_peer.specs.Acts.{bytes_of, IsSendable}
 use Rattle.cf_wires.specs.Log.{Log}
-use Rattle.cf_peer.specs.Trail.{Trail, Part, Called, Said, Asked, Passed, called_part, with_item, heard_part, spelled, asks, part_of, trail, connected, own, heard_in, first}
+use Rattle.cf_peer.specs.Trail.{Trail, Part, Called, Said, Asked, Passed, called_part, with_item, heard_part, spelled, asks, part_of, trail, connected, own, is_heard_out_in, first}
 use Rattle.cf_peer.specs.Asking.{NothingOpen, ClaimsOpen, FiltersOpen, is_idle, is_spare, is_open, age, request, request_after, claims, claims_after, claims_asked, filters_asked, claims_fault, filter_fault, fault_of, verdict, counted, given, given_by, filter_of, hash_claimed, hashes_of, HasSaid, IsFree, block_entry, MayAskIn}
 use Rattle.cf_scan.specs.HistoryText.{history_text}
 use Rattle.cf_scan.specs.Watching.{IsWatch}
@@ -468,7 +468,7 @@ first_apart = apart_in first_quiet
 
 -- ---- what was asked might be asked
 
-again_11 : heard_in Following v_11 ≡ false
+again_11 : is_heard_out_in Following v_11 ≡ false
 again_11 = rw other_hash refl
 
 request_14 : request v_14 ≡ ClaimsOpen only_hash.0 (block_hash_of genesis_header) (only_hash.0 ∷ [])
@@ -690,7 +690,7 @@ bytes_17 = (
 watch_fits : IsWatch other_watch
 watch_fits = refl
 
-heard_7 : heard_in Following (counted v_7) ≡ true
+heard_7 : is_heard_out_in Following (counted v_7) ≡ true
 heard_7 = (same_use v_7 refl refl).hearing Following
 
 -- it shares no block with genesis alone
@@ -729,7 +729,7 @@ first_asked = record {
     scanned = record { blocks = []; taken = tt; history = refl };
   };
   asked_out = λ p on idle. record {
-    heard_out = at_one (λ t. connected t ≡ true → heard_in Following (counted t) ≡ true) first_quiet v_7 p p_7 one_7
+    heard_out = at_one (λ t. connected t ≡ true → is_heard_out_in Following (counted t) ≡ true) first_quiet v_7 p p_7 one_7
         (λ is1. heard_7) (λ is1. absurd (false≢true is1)) on;
     claimed = λ h one le. absurd (apart_7 p h one le);
     settled = λ h one le above no_filter no_block. absurd (apart_7 p h one le);
@@ -737,11 +737,11 @@ first_asked = record {
   };
 }
 
-heard_13 : heard_in Following v_13 ≡ true
+heard_13 : is_heard_out_in Following v_13 ≡ true
 heard_13 = rw (again_11, accepted) refl
 
-heard_17 : heard_in Following (counted v_17) ≡ true
-heard_17 = (same_use v_17 refl clean_17).hearing Following ∙ still_true (heard_in Following v_15) (still_true (heard_in Following v_13) heard_13)
+heard_17 : is_heard_out_in Following (counted v_17) ≡ true
+heard_17 = (same_use v_17 refl clean_17).hearing Following ∙ still_true (is_heard_out_in Following v_15) (still_true (is_heard_out_in Following v_13) heard_13)
 
 chain_17 : own (counted v_17) ≡ only_header ∷ []
 chain_17 = (same_use v_17 refl clean_17).chain ∙ own_7
@@ -835,7 +835,7 @@ growing_asked = record {
     };
   };
   asked_out = λ p on idle. record {
-    heard_out = at_one (λ t. connected t ≡ true → heard_in Following (counted t) ≡ true) growing_run v_17 p p_17 one_17
+    heard_out = at_one (λ t. connected t ≡ true → is_heard_out_in Following (counted t) ≡ true) growing_run v_17 p p_17 one_17
         (λ is1. heard_17) (λ is1. absurd (false≢true is1)) on;
     claimed = at_one ClaimsIt growing_run v_17 p p_17 one_17 (claims_it v_17 only_claim claimed_17 chain_17)
         ticks_claim;

@@ -2,7 +2,7 @@
 use Rattle.std.proofs.Common.{◌≡◌, ℕ, List, [], ◌∷◌, true, false, if◌then◌else◌, subst, ◌++◌}
 use Rattle.cf_headers.specs.Chain.{Hash}
 use Rattle.cf_match.specs.declared.job.Job.{Job}
-use Rattle.cf_msg.specs.declared.msg.Entry.{Entry}
+use Rattle.cf_msg.specs.declared.msg.Inventory.{Inventory}
 use Rattle.cf_msg.specs.declared.msg.Msg.{Msg}
 use Rattle.cf_msg.specs.declared.msg.Msg.TheVariants.{Ping, Pong, GetHeaders, Headers, GetData, Block as BlockMessage, GetCfheaders, Cfheaders, GetCfilters, Cfilter}
 use Rattle.cf_wires.specs.Log.{Log}
@@ -46,7 +46,7 @@ after_asked (GetHeaders version locator stop) t may is = tt
 after_asked (GetCfheaders filter start stop) t may is = rw may.1.0.tip tt
 after_asked (GetCfilters filter start stop) t may is = rw may.1.0.tip tt
 after_asked (GetData entries) t may is = by_entries entries where
-  by_entries : (entries : List Entry) → IsNoPing (block_asked entries (request t))
+  by_entries : (entries : List Inventory) → IsNoPing (block_asked entries (request t))
   by_entries [] = is
   by_entries (e ∷ more) = tt
 after_asked (Ping number) t may is = absurd may

@@ -15,7 +15,7 @@ use Rattle.cf_peer.specs.Asking.{lists, hashes_of}
 use Rattle.cf_wires.specs.Log.{Log}
 use Rattle.cf_peer.specs.Trail.{trail, connected, own}
 use Rattle.cf_sync.specs.Blame.{AreBlamed}
-use Rattle.cf_sync.specs.Fetching.{counted_part, IsAbove, IsConnected, AreBytes, IsFetchedHash, IsDisputed, Claims, IsTestedWith, IsOmitting, IsBest, IsTestedThrough}
+use Rattle.cf_sync.specs.Fetching.{counted_part, IsAbove, IsConnected, AreBytes, IsFetchedHash, IsDisputed, HasClaimed, IsTestedWith, IsOmitting, IsBest, IsTestedThrough}
 use Rattle.cf_sync.specs.Sync.{IsHashed}
 use Rattle.cf_sync.proofs.Counted.{own_shown}
 use Rattle.cf_sync.proofs.Settles.{shown_hashed, shown_apart}
@@ -102,7 +102,7 @@ are_blamed log chain bytes clash best through none = record {
   clean = λ block in_best p on hash claimed t omits. none p (record { there = on; block = block; hash = hash; claimed = claimed; tested = t; omits = omits });
 } where
   tested_one : (log : Log) (chain : Chain) → AreBytes log → NoHashClash (IsHashed log []) → (block : Hash) (p q : ℕ) → own (counted_part log q) ≡ chain → IsIn block (hashes_of chain)
-      → IsIn block (hashes_of (own (counted_part log p))) → IsFetchedHash log block → IsDisputed log block → (hash : Hash32) → Claims log p block hash → IsTestedThrough log chain p → IsTestedWith log block hash
+      → IsIn block (hashes_of (own (counted_part log p))) → IsFetchedHash log block → IsDisputed log block → (hash : Hash32) → HasClaimed log p block hash → IsTestedThrough log chain p → IsTestedWith log block hash
   tested_one log chain bytes clash block p q is in_best in_own fetched disputed hash claimed through =
       let mine = own (counted_part log p) in
       let a = hash_stands mine block in_own in
@@ -110,4 +110,4 @@ are_blamed log chain bytes clash best through none = record {
       let low : a.0 ≤ common_of mine (own (counted_part log q)) = shared log p q bytes clash a.0 b.0 a.2 b.2 (sym a.3 ∙ b.3) in
       let here : a.0 ≤ common_of mine chain = subst (λ (c : Chain). a.0 ≤ common_of mine c) is low in
       subst (λ (x : Hash). IsTestedWith log x hash) (sym a.3)
-      (through a.0 a.1 here (above_at log p a.0 bytes clash a.1 a.2) (subst (λ (x : Hash). IsFetchedHash log x) a.3 fetched) (subst (λ (x : Hash). IsDisputed log x) a.3 disputed) hash (subst (λ (x : Hash). Claims log p x hash) a.3 claimed))
+      (through a.0 a.1 here (above_at log p a.0 bytes clash a.1 a.2) (subst (λ (x : Hash). IsFetchedHash log x) a.3 fetched) (subst (λ (x : Hash). IsDisputed log x) a.3 disputed) hash (subst (λ (x : Hash). HasClaimed log p x hash) a.3 claimed))

@@ -8,30 +8,14 @@ use Rattle.cf_msg.specs.declared.msg.Msg.TheVariants.{GetData}
 use Rattle.cf_wires.specs.declared.event.Delivery.TheVariants.{Got, Gone, Tick, Ended}
 use Rattle.cf_wires.specs.declared.event.Event.{Event}
 use Rattle.cf_wires.specs.declared.event.Event.TheVariants.{Dialled, NotDialled, Sent, SendFailed, Closed, Took}
-use Rattle.cf_peer.specs.declared.peer.Cause.{Cause}
 use Rattle.cf_wires.specs.Log.{Log}
-use Rattle.cf_peer.specs.Trail.{Trail, Part, Why, Called, Refused, Asked, Passed, Lost, Went, Failing, Shutting, called_part, with_item, heard_part, spelled, asks, part_of, trail}
+use Rattle.cf_peer.specs.Trail.{Trail, Part, Lost, Went, Failing, Shutting, called_part, with_item, heard_part, spelled, asks, part_of, trail}
 use Rattle.cf_peer.specs.Asking.{counted, fetched}
-use Rattle.cf_tables.specs.Known.{Table}
+use Rattle.cf_tables.specs.Known.{ExtractTable}
 use Rattle.cf_sync.specs.Fetching.{IsFetched, IsFetchedHash, IsSameFetched, IsNoPiece, IsWanted, HoldsFetched}
 use Rattle.cf_sync.proofs.Entries.{at_either}
 
 -- ---- what brings nothing to a peer's part
-
-pub asked_brings_none : (m : Msg) (t : Trail) → fetched (counted (Asked m ∷ t)) ≡ fetched (counted t)
-asked_brings_none m t = refl
-
-pub lost_brings_none : (why : Why) (t : Trail) → fetched (counted (Lost why ∷ t)) ≡ fetched (counted t)
-lost_brings_none why t = refl
-
-pub passed_brings_none : (seconds : ℕ) (t : Trail) → fetched (counted (Passed seconds ∷ t)) ≡ fetched (counted t)
-passed_brings_none seconds t = refl
-
-pub called_brings_none : (t : Trail) → fetched (counted (Called ∷ t)) ≡ fetched (counted t)
-called_brings_none t = refl
-
-pub refused_brings_none : (cause : Cause) (t : Trail) → fetched (counted (Refused cause ∷ t)) ≡ fetched (counted t)
-refused_brings_none cause t = refl
 
 pub sent_brings_none : (o : Option Msg) (t : Trail) → fetched (counted (asks o t)) ≡ fetched (counted t)
 sent_brings_none None t = refl
@@ -74,7 +58,7 @@ pub same_wanted : (a b : Log) → IsSameFetched a b → (m : Msg) → IsWanted a
 same_wanted a b same (GetData entries) wanted = λ entry i got. wanted entry i (same_fetched_hash b a (same_fetched_back a b same) entry.hash.0 got)
 same_wanted a b same m wanted = wanted
 
-pub same_holds : (watch : List (List ℕ)) (a b : Log) (table : Table) → IsSameFetched a b → HoldsFetched watch a table → HoldsFetched watch b table
+pub same_holds : (watch : List (List ℕ)) (a b : Log) (table : ExtractTable) → IsSameFetched a b → HoldsFetched watch a table → HoldsFetched watch b table
 same_holds watch a b table same holds = record {
   sound = λ hash e is. let w = holds.sound hash e is in (w.0, same_fetched a b same w.0 w.1, w.2, w.3);
   complete = λ hash is got. holds.complete hash is (same_fetched_hash b a (same_fetched_back a b same) hash got);

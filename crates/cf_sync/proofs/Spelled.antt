@@ -7,7 +7,8 @@ use Rattle.cf_block.specs.Header.{IsHeader}
 use Rattle.cf_frame.specs.declared.frame.Frame.{Frame}
 use Rattle.cf_frame.specs.declared.frame.FrameFault.{FrameFault}
 use Rattle.cf_frame.specs.Frame.{magic, checksum, spelling, IsFrame}
-use Rattle.cf_frame.specs.Stream.{IsBytes, StreamRead, read_stream}
+use Rattle.cf_bytes.specs.Cut.{IsBytes}
+use Rattle.cf_frame.specs.Stream.{StreamRead, read_stream}
 use Rattle.cf_frame.proofs.Relations.{stream_whole}
 use Rattle.cf_headers.specs.Chain.{IsIn}
 use Rattle.cf_msg.specs.declared.msg.Malformed.{Malformed}

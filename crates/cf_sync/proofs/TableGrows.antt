@@ -16,7 +16,7 @@ use Rattle.cf_peer.specs.Asking.{counted, fetched}
 use Rattle.cf_scan.specs.declared.extracts.TxExtract.{TxExtract}
 use Rattle.cf_scan.specs.Extract.{extract_of}
 use Rattle.cf_tables.specs.Tables.{with_blocks, IsSameTable}
-use Rattle.cf_tables.specs.Known.{Table}
+use Rattle.cf_tables.specs.Known.{ExtractTable}
 use Rattle.cf_sync.specs.Fetching.{counted_part, IsFetched, IsNoPiece, HoldsFetched}
 use Rattle.cf_sync.proofs.Listed.{in_left, in_right, in_either}
 use Rattle.cf_sync.proofs.Chains.{cases_same}
@@ -31,12 +31,12 @@ kept_first : (o : Option (List TxExtract)) (x e : List TxExtract) → Some (unwr
 kept_first None x e is = inl (let y : x ≡ e = cc in y)
 kept_first (Some y) x e is = inr is
 
-or_later : (watch : List (List ℕ)) (b : Block) (blocks : List Block) (table : Table) (hash : Hash) (e : List TxExtract) → IsOfOne watch blocks hash e ⊎ (table hash ≡ Some e)
+or_later : (watch : List (List ℕ)) (b : Block) (blocks : List Block) (table : ExtractTable) (hash : Hash) (e : List TxExtract) → IsOfOne watch blocks hash e ⊎ (table hash ≡ Some e)
     → IsOfOne watch (b ∷ blocks) hash e ⊎ (table hash ≡ Some e)
 or_later watch b blocks table hash e (inl w) = inl (w.0, inr w.1, w.2, w.3)
 or_later watch b blocks table hash e (inr old) = inr old
 
-found_in : (watch : List (List ℕ)) (blocks : List Block) (table : Table) (hash : Hash) (e : List TxExtract) → with_blocks watch blocks table hash ≡ Some e
+found_in : (watch : List (List ℕ)) (blocks : List Block) (table : ExtractTable) (hash : Hash) (e : List TxExtract) → with_blocks watch blocks table hash ≡ Some e
     → IsOfOne watch blocks hash e ⊎ (table hash ≡ Some e)
 found_in watch [] table hash e is = inr is
 found_in watch (b ∷ blocks) table hash e is = elim (cases_same (block_hash_of b.header) hash) [
@@ -50,7 +50,7 @@ found_in watch (b ∷ blocks) table hash e is = elim (cases_same (block_hash_of 
   | inr off ↦ (let x = rw off.0 at is in or_later watch b blocks table hash e (found_in watch blocks table hash e x))
 ]
 
-missing_in : (watch : List (List ℕ)) (blocks : List Block) (table : Table) (hash : Hash) → with_blocks watch blocks table hash ≡ None
+missing_in : (watch : List (List ℕ)) (blocks : List Block) (table : ExtractTable) (hash : Hash) → with_blocks watch blocks table hash ≡ None
     → (table hash ≡ None) × ((b : Block) → IsIn b blocks → block_hash_of b.header ≡ hash → ⊥)
 missing_in watch [] table hash is = (is, λ b i e. i)
 missing_in watch (c ∷ blocks) table hash is = elim (cases_same (block_hash_of c.header) hash) [
@@ -63,7 +63,7 @@ missing_in watch (c ∷ blocks) table hash is = elim (cases_same (block_hash_of 
 ]
 
 -- where a later log has these blocks more of one peer, and of the others the same, the table is to get their extracts
-pub grown_holds : (watch : List (List ℕ)) (log later : Log) (p : ℕ) (news : List Block) (before after : Table) → fetched (counted_part later p) ≡ news ++ fetched (counted_part log p)
+pub grown_holds : (watch : List (List ℕ)) (log later : Log) (p : ℕ) (news : List Block) (before after : ExtractTable) → fetched (counted_part later p) ≡ news ++ fetched (counted_part log p)
     → ((q : ℕ) → (p == q) ≡ false → fetched (counted_part later q) ≡ fetched (counted_part log q)) → IsSameTable after (with_blocks watch news before)
     → HoldsFetched watch log before → HoldsFetched watch later after
 grown_holds watch log later p news before after brings others same holds = record {
@@ -97,11 +97,11 @@ grown_holds watch log later p news before after brings others same holds = recor
   ]
 
 -- an entry that is no piece
-pub holds_without : (watch : List (List ℕ)) (e : Event) (log : Log) (table : Table) → IsNoPiece e → HoldsFetched watch log table → HoldsFetched watch (e ∷ log) table
+pub holds_without : (watch : List (List ℕ)) (e : Event) (log : Log) (table : ExtractTable) → IsNoPiece e → HoldsFetched watch log table → HoldsFetched watch (e ∷ log) table
 holds_without watch e log table none holds = same_holds watch log (e ∷ log) table (same_fetched_back (e ∷ log) log (no_piece_brings e log none)) holds
 
 -- a piece
-pub holds_after_piece : (watch : List (List ℕ)) (p : PeerNo) (piece : List ℕ) (log : Log) (news : List Block) (before after : Table)
+pub holds_after_piece : (watch : List (List ℕ)) (p : PeerNo) (piece : List ℕ) (log : Log) (news : List Block) (before after : ExtractTable)
     → fetched (counted_part (Took (Got p piece) ∷ log) p.0) ≡ news ++ fetched (counted_part log p.0) → IsSameTable after (with_blocks watch news before)
     → HoldsFetched watch log before → HoldsFetched watch (Took (Got p piece) ∷ log) after
 holds_after_piece watch p piece log news before after brings same holds =

@@ -12,7 +12,7 @@ use Rattle.cf_scan.specs.Scan.{Scanned, unscanned, after_tx, scan_from}
 use Rattle.cf_scan.specs.Extracts.{after_placed, history_of}
 use Rattle.cf_scan.proofs.HistoryLaws.{extract_block}
 use Rattle.cf_tables.specs.Tables.{placed_one, placed_by}
-use Rattle.cf_tables.specs.Known.{Table}
+use Rattle.cf_tables.specs.Known.{ExtractTable}
 use Rattle.cf_sync.specs.Fetching.{StandFor, IsScanOver, HoldsFetched}
 
 -- blocks that stand for headers, and whose scan the extracts give
@@ -21,7 +21,7 @@ record Scans (watch : List (List ℕ)) (log : Log) (headers : List Header) (heig
   stand : StandFor log headers blocks
   scans : (s : Scanned) → fold after_placed s placed ≡ scan_from height watch s blocks
 
-one_more : (watch : List (List ℕ)) (log : Log) (table : Table) → HoldsFetched watch log table → (h : Header) (headers : List Header) (height : ℕ) (placed : List Placed)
+one_more : (watch : List (List ℕ)) (log : Log) (table : ExtractTable) → HoldsFetched watch log table → (h : Header) (headers : List Header) (height : ℕ) (placed : List Placed)
     → Scans watch log headers (suc height) placed → (o : Option (List TxExtract)) → table (block_hash_of h) ≡ o → Scans watch log (h ∷ headers) height (placed_one height o ++ placed)
 one_more watch log table holds h headers height placed more None e = record {
   blocks = record { header = h; txs = [] } ∷ more.blocks;
@@ -39,12 +39,12 @@ one_more watch log table holds h headers height placed more (Some x) e =
           ∙ more.scans (fold (after_tx watch height) s w.0.txs);
     }
 
-scans_of : (watch : List (List ℕ)) (log : Log) (table : Table) → HoldsFetched watch log table → (headers : List Header) (height : ℕ) → Scans watch log headers height (placed_by table height headers)
+scans_of : (watch : List (List ℕ)) (log : Log) (table : ExtractTable) → HoldsFetched watch log table → (headers : List Header) (height : ℕ) → Scans watch log headers height (placed_by table height headers)
 scans_of watch log table holds [] height = record { blocks = []; stand = tt; scans = λ s. refl }
 scans_of watch log table holds (h ∷ headers) height =
     one_more watch log table holds h headers height (placed_by table (suc height) headers) (scans_of watch log table holds headers (suc height)) (table (block_hash_of h)) refl
 
-pub history_over : (watch : List (List ℕ)) (log : Log) (table : Table) → HoldsFetched watch log table → (chain : Chain) → IsScanOver watch log chain (history_of (placed_by table 1 (reverse chain)))
+pub history_over : (watch : List (List ℕ)) (log : Log) (table : ExtractTable) → HoldsFetched watch log table → (chain : Chain) → IsScanOver watch log chain (history_of (placed_by table 1 (reverse chain)))
 history_over watch log table holds chain =
     let w = scans_of watch log table holds (reverse chain) 1 in
     record { blocks = w.blocks; taken = w.stand; history = ap (λ (s : Scanned). s.entries) (w.scans unscanned) }

@@ -35,7 +35,7 @@ use Rattle.cf_peer.specs.declared.mode.Mode.TheVariants.{Once}
 use Rattle.cf_peer.specs.Acts.{bytes_of}
 use Rattle.cf_peer.specs.Asking.{OpenRequest, is_spare, NothingOpen, ClaimsOpen, FiltersOpen, claims_asked, filters_asked, filter_of, claims, claims_after, claims_fault, filter_fault, fault_of, request_after, is_idle, given, given_by, HasHeader, IsFree, IsRange, request, is_committed, is_open, verdict, counted, lists, fetched, HasSaid, MayAsk, SameUse}
 use Rattle.cf_wires.specs.Log.{Log}
-use Rattle.cf_peer.specs.Trail.{Trail, Part, Called, Said, Asked, called_part, heard_part, spelled, asks, part_of, trail, connected, ready, own, heard, longer_of, ends_by, fault_in, first, Lost, Shutting, with_item}
+use Rattle.cf_peer.specs.Trail.{Trail, Part, Called, Said, Asked, called_part, heard_part, spelled, asks, part_of, trail, connected, ready, own, is_heard_out, longer_of, ends_by, fault_in, first, Lost, Shutting, with_item}
 use Rattle.cf_sync.specs.Example.{only_tx, only_header, only_block, only_hash, chain_of_one, honest_peer, liar, genesis_hash, no_stop, our_version, its_version, false_version, question, its_headers, false_headers, its_block, log_1, log_2, log_3, log_4, log_5, log_6, log_7, log_8, log_9, log_10, log_11, log_12, log_13, log_14, log_15, log_16, log_17, log_18, run_of_two, cleared_run, only_filter, only_filter_hash, genesis_filter_header, ask_claims, its_claims, ask_filter, its_filter}
 use Rattle.cf_sync.specs.Fetching.{IsQuiet, IsBusy, AreBytes, IsFetched, IsConnected, Rightly}
 use Rattle.cf_sync.proofs.Alone.{IsNoneFetching, none_filters}
@@ -716,24 +716,24 @@ cleared_right = (
 
 -- ---- the end
 
-heard_out_7 : heard t_7 ≡ true
+heard_out_7 : is_heard_out t_7 ≡ true
 heard_out_7 = ap (λ (a : Accepted). ends_by a (only_header ∷ [])) accepted
 
 pub still_true : (b : Bool) → b ≡ true → (b || false) ≡ true
 still_true b e = ap (λ (x : Bool). x || false) e
 
-pub heard_out_11 : heard t_11 ≡ true
-heard_out_11 = still_true (heard t_9) (still_true (heard t_7) heard_out_7)
+pub heard_out_11 : is_heard_out t_11 ≡ true
+heard_out_11 = still_true (is_heard_out t_9) (still_true (is_heard_out t_7) heard_out_7)
 
 -- what counts of the honest peer's part, in the run and in the one that is cleared
 pub record Counts (t : Trail) : Type 0 where
   pub same : SameUse t
   pub chain : own (counted t) ≡ only_header ∷ []
-  pub heard_out : heard (counted t) ≡ true
+  pub heard_out : is_heard_out (counted t) ≡ true
   pub showing : lists (counted t) ≡ (only_header ∷ []) ∷ []
   pub claimed : claims (counted t) only_hash.0 ≡ Some only_claim
 
-pub counts_of : (t : Trail) → connected t ≡ true → verdict t ≡ None → own t ≡ own t_7 → heard t ≡ true → lists t ≡ (only_header ∷ []) ∷ [] → claims t ≡ claims t_9 → Counts t
+pub counts_of : (t : Trail) → connected t ≡ true → verdict t ≡ None → own t ≡ own t_7 → is_heard_out t ≡ true → lists t ≡ (only_header ∷ []) ∷ [] → claims t ≡ claims t_9 → Counts t
 counts_of t on clean chain whole shown claimed = let u = same_use t on clean in record {
   same = u;
   chain = u.chain ∙ chain ∙ own_7;

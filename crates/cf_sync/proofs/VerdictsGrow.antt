@@ -9,13 +9,11 @@ use Rattle.cf_match.specs.declared.job.Verdict.{Verdict}
 use Rattle.cf_match.specs.Verdicts.{Verdicts, verdict_of, kept_or, is_of, with_verdict, with_verdicts, AreSameVerdicts}
 use Rattle.cf_msg.specs.declared.msg.Msg.{Msg}
 use Rattle.cf_peer.specs.Asking.{request, fault_of, verdict, counted, given, given_by}
-use Rattle.cf_wires.specs.declared.event.Event.{Event}
 use Rattle.cf_wires.specs.Log.{Log}
 use Rattle.cf_peer.specs.Trail.{Trail, Said, connected}
-use Rattle.cf_sync.specs.Fetching.{IsGiven, IsNoPiece}
+use Rattle.cf_sync.specs.Fetching.{IsGiven}
 use Rattle.cf_sync.specs.Known.{HoldsGiven}
 use Rattle.cf_sync.specs.Planned.{IsSameGiven}
-use Rattle.cf_sync.proofs.Answered.{no_piece_same_given}
 use Rattle.cf_dispute.proofs.PutIn.{same_true, same_from}
 use Rattle.cf_sync.proofs.Counted.{same_use, said_counts, first_none}
 
@@ -96,7 +94,3 @@ same_given watch log later before after same1 alike holds = record {
   sound = λ block hash v e. (let w = holds.sound block hash v (sym (alike block hash) ∙ e) in (w.0, (same1 w.0).0 w.1, w.2, w.3, w.4));
   complete = λ block hash e got. holds.complete block hash (sym (alike block.0 hash.0) ∙ e) (got.0, (same1 got.0).1 got.1, got.2, got.3);
 }
-
--- so it is with what isn't a piece
-pub no_piece_holds_given : (watch : List (List ℕ)) (e : Event) (log : Log) (verdicts : Verdicts) → IsNoPiece e → HoldsGiven watch log verdicts → HoldsGiven watch (e ∷ log) verdicts
-no_piece_holds_given watch e log verdicts none = same_given watch log (e ∷ log) verdicts verdicts (no_piece_same_given e log none) (λ block hash. refl)

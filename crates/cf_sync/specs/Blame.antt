@@ -7,7 +7,7 @@ use Rattle.cf_wires.specs.declared.event.Event.TheVariants.{Dialled, Sent, SendF
 use Rattle.cf_wires.specs.Log.{Log}
 use Rattle.cf_peer.specs.Trail.{Trail, Called, Said, Refused, Asked, Passed, Lost, spelled, own, is_news}
 use Rattle.cf_peer.specs.Asking.{hashes_of}
-use Rattle.cf_sync.specs.Fetching.{counted_part, IsConnected, IsFetchedHash, Claims, IsDisputed, IsTestedWith, IsOmission, IsOmitting}
+use Rattle.cf_sync.specs.Fetching.{counted_part, IsConnected, IsFetchedHash, HasClaimed, IsDisputed, IsTestedWith, IsOmission, IsOmitting}
 
 -- ---- what is asked once
 
@@ -38,8 +38,8 @@ WasAskedSinceNews (_ ∷ t) m = WasAskedSinceNews t m
 -- that filter lacks nothing that the block pays.
 pub record AreBlamed (log : Log) (chain : Chain) : Type 0 where
   pub tested : (block : Hash) → IsIn block (hashes_of chain) → IsFetchedHash log block → IsDisputed log block
-      → (p : ℕ) → IsConnected log p → IsIn block (hashes_of (own (counted_part log p))) → (hash : Hash32) → Claims log p block hash → IsTestedWith log block hash
-  pub clean : (block : Hash) → IsIn block (hashes_of chain) → (p : ℕ) → IsConnected log p → (hash : Hash32) → Claims log p block hash
+      → (p : ℕ) → IsConnected log p → IsIn block (hashes_of (own (counted_part log p))) → (hash : Hash32) → HasClaimed log p block hash → IsTestedWith log block hash
+  pub clean : (block : Hash) → IsIn block (hashes_of chain) → (p : ℕ) → IsConnected log p → (hash : Hash32) → HasClaimed log p block hash
       → (t : IsTestedWith log block hash) → IsOmission log block t.filter.filter → ⊥
 
 -- ---- who was closed for it

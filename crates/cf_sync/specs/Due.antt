@@ -8,14 +8,14 @@ use Rattle.cf_msg.specs.declared.msg.Msg.{Msg}
 use Rattle.cf_msg.specs.declared.msg.Msg.TheVariants.{GetData, GetCfheaders, GetCfilters}
 use Rattle.cf_peer.specs.Asking.{block_entry}
 use Rattle.cf_wires.specs.Log.{Log}
-use Rattle.cf_peer.specs.Trail.{trail, own, heard_in}
+use Rattle.cf_peer.specs.Trail.{trail, own, is_heard_out_in}
 use Rattle.cf_sync.specs.Fetching.{Rule, IsBest, IsNeeded, HoldsFetched}
 use Rattle.cf_sync.specs.Known.{HoldsClaims, HoldsGiven, HoldsOpens, HoldsTests}
 use Rattle.cf_seek.specs.declared.spans.Wish.{Wish}
 use Rattle.cf_seek.specs.declared.spans.Wish.TheVariants.{Claims, Filters, Block, Test}
 use Rattle.cf_seek.specs.Opens.{Opens}
 use Rattle.cf_seek.specs.Spans.{IsWish, GoesFar}
-use Rattle.cf_tables.specs.Known.{Table, Told}
+use Rattle.cf_tables.specs.Known.{ExtractTable, TestResults}
 use Rattle.cf_seek.specs.Testing.{IsTrying}
 
 -- a message puts a question
@@ -33,10 +33,10 @@ Puts wish m = ⊥
 -- tested. It goes as far as it may. By block and filter, told is whether a filter that was tested lacks what its block pays, as the log has it
 -- (tested); tries says that a question for a filter to be tested is for that of the lowest such block.
 pub record IsInTurn (rule : Rule) (log : Log) (p : ℕ) (m : Msg) : Type 0 where
-  pub heard_out : heard_in rule.mode (trail log p) ≡ true
+  pub heard_out : is_heard_out_in rule.mode (trail log p) ≡ true
   pub chain : Chain
   pub best : IsBest log chain
-  pub extracts : Table
+  pub extracts : ExtractTable
   pub tables : Tables
   pub verdicts : Verdicts
   pub fetched : HoldsFetched rule.watch log extracts
@@ -48,7 +48,7 @@ pub record IsInTurn (rule : Rule) (log : Log) (p : ℕ) (m : Msg) : Type 0 where
   pub wished : IsWish extracts tables verdicts opens p (own (trail log p)) (common_of (own (trail log p)) chain) wish
   pub far : GoesFar extracts tables verdicts opens p (own (trail log p)) (common_of (own (trail log p)) chain) wish
   pub puts : Puts wish m
-  pub told : Told
+  pub told : TestResults
   pub tested : HoldsTests log told
   pub tries : IsTrying extracts tables told p (own (trail log p)) (common_of (own (trail log p)) chain) wish
 

@@ -5,13 +5,13 @@ use Rattle.cf_bytes.specs.declared.hash.Hash32.{Hash32}
 use Rattle.cf_block.specs.declared.header.Header.{Header}
 use Rattle.cf_block.specs.declared.tx.Block.{Block}
 use Rattle.cf_block.specs.Header.{block_hash_of, genesis_header}
-use Rattle.cf_frame.specs.Stream.{IsBytes}
+use Rattle.cf_bytes.specs.Cut.{IsBytes}
 use Rattle.cf_filter.specs.Filter.{filter_hash_of}
 use Rattle.cf_headers.specs.Chain.{Hash, Chain, back_to, IsIn}
 use Rattle.cf_headers.specs.Heights.{hash_at, common_of}
 use Rattle.cf_match.specs.declared.job.Job.{Job}
 use Rattle.cf_match.specs.Verdicts.{misses}
-use Rattle.cf_msg.specs.declared.msg.Entry.{Entry as Wanted}
+use Rattle.cf_msg.specs.declared.msg.Inventory.{Inventory as Wanted}
 use Rattle.cf_msg.specs.declared.msg.Msg.{Msg}
 use Rattle.cf_msg.specs.declared.msg.Msg.TheVariants.{GetData, GetCfilters, Ping}
 use Rattle.cf_wires.specs.declared.event.Delivery.TheVariants.{Got, Gone, Tick, Ended}
@@ -22,12 +22,12 @@ use Rattle.cf_peer.specs.declared.mode.Mode.TheVariants.{Once, Following}
 use Rattle.cf_peer.specs.declared.peer.Cause.{Cause}
 use Rattle.cf_peer.specs.declared.peer.Cause.TheVariants.{Omits}
 use Rattle.cf_wires.specs.Log.{Log}
-use Rattle.cf_peer.specs.Trail.{Trail, trail, spelled, connected, own, heard_in}
+use Rattle.cf_peer.specs.Trail.{Trail, trail, spelled, connected, own, is_heard_out_in}
 use Rattle.cf_scan.specs.declared.extracts.TxExtract.{TxExtract}
 use Rattle.cf_scan.specs.declared.history.Entry.{Entry}
 use Rattle.cf_scan.specs.Extract.{extract_of}
 use Rattle.cf_scan.specs.Scan.{scan_of}
-use Rattle.cf_tables.specs.Known.{Table}
+use Rattle.cf_tables.specs.Known.{ExtractTable}
 use Rattle.cf_filter.specs.Lacking.{output_items_of, lacks}
 use Rattle.cf_peer.specs.Asking.{OpenRequest, NothingOpen, HeadersOpen, ClaimsOpen, FiltersOpen, BlockOpen, PingOpen, request, is_open, counted, claims, hash_claimed, HasHeader, fetched, given, blocks_from, Deserves, MayAskIn}
 
@@ -71,15 +71,15 @@ IsFetchedHash log hash = (block : Block) × IsFetched log block × (block_hash_o
 -- ---- claims and filters
 
 -- p claims this filter hash of a block
-abbrev pub Claims : Log → ℕ → Hash → Hash32 → Type 0
-Claims log p block hash = hash_claimed (claims (counted_part log p)) block ≡ Some hash
+abbrev pub HasClaimed : Log → ℕ → Hash → Hash32 → Type 0
+HasClaimed log p block hash = hash_claimed (claims (counted_part log p)) block ≡ Some hash
 
 -- a connected peer claims this of a block, and none claims another thing
 pub record IsAgreed (log : Log) (block : Hash) (hash : Hash32) : Type 0 where
   pub who : ℕ
   pub there : IsConnected log who
-  pub claims : Claims log who block hash
-  pub alone : (p : ℕ) → (other : Hash32) → IsConnected log p → Claims log p block other → other ≡ hash
+  pub claims : HasClaimed log who block hash
+  pub alone : (p : ℕ) → (other : Hash32) → IsConnected log p → HasClaimed log p block other → other ≡ hash
 
 -- two connected peers claim different things of it
 pub record IsDisputed (log : Log) (block : Hash) : Type 0 where
@@ -88,7 +88,7 @@ pub record IsDisputed (log : Log) (block : Hash) : Type 0 where
   pub there : IsConnected log one × IsConnected log other
   pub mine : Hash32
   pub yours : Hash32
-  pub claims : Claims log one block mine × Claims log other block yours
+  pub claims : HasClaimed log one block mine × HasClaimed log other block yours
   pub apart : mine ≢ yours
 
 -- whether a block's filter is to be tested after a send: a question for filters that p was sent makes it so where the block was
@@ -186,7 +186,7 @@ IsSettled watch log hash = IsFetchedHash log hash ⊎ IsCleared watch log hash
 -- the connected peers, p among them, agree on a filter of a block that wasn't fetched, and that filter hasn't come
 abbrev pub IsFilterWanted : Log → ℕ → Hash → Type 0
 IsFilterWanted log p block =
-    (IsFetchedHash log block → ⊥) × ((hash : Hash32) × (IsAgreed log block hash × Claims log p block hash × (IsGivenWith log block hash → ⊥)))
+    (IsFetchedHash log block → ⊥) × ((hash : Hash32) × (IsAgreed log block hash × HasClaimed log p block hash × (IsGivenWith log block hash → ⊥)))
 
 -- a block that wasn't fetched: they differ on its filter, or agree on one that has come and isn't a miss
 abbrev pub IsBlockWanted : List (List ℕ) → Log → Hash → Type 0
@@ -215,7 +215,7 @@ pub record IsOmitting (log : Log) (p : ℕ) : Type 0 where
   pub there : IsConnected log p
   pub block : Hash
   pub hash : Hash32
-  pub claimed : Claims log p block hash
+  pub claimed : HasClaimed log p block hash
   pub tested : IsTestedWith log block hash
   pub omits : IsOmission log block tested.filter.filter
 
@@ -294,7 +294,7 @@ pub record IsTestWanted (log : Log) (p : ℕ) (block : Hash) : Type 0 where
   pub fetched : IsFetchedHash log block
   pub disputed : IsDisputed log block
   pub hash : Hash32
-  pub claimed : Claims log p block hash
+  pub claimed : HasClaimed log p block hash
   pub untested : IsTestedWith log block hash → ⊥
 
 -- the filter of one block is asked for, of the one at the stop
@@ -369,14 +369,14 @@ abbrev pub IsTestedThrough : Log → Chain → ℕ → Type 0
 IsTestedThrough log chain p =
     (h : ℕ) → 1 ≤ h → h ≤ common_of (own (counted_part log p)) chain → IsAbove (hash_at (own (counted_part log p)) h)
     → IsFetchedHash log (hash_at (own (counted_part log p)) h) → IsDisputed log (hash_at (own (counted_part log p)) h)
-    → (hash : Hash32) → Claims log p (hash_at (own (counted_part log p)) h) hash → IsTestedWith log (hash_at (own (counted_part log p)) h) hash
+    → (hash : Hash32) → HasClaimed log p (hash_at (own (counted_part log p)) h) hash → IsTestedWith log (hash_at (own (counted_part log p)) h) hash
 
 -- What the rule of asking leaves true of a connected peer with nothing open to it: it was heard out; of the blocks that its own chain shares
 -- with the best one the filter header is known at each; each of them that stands in no open request for filters or for a block is settled; and where one
 -- was fetched and they differ on its filter, what the peer claims of it was tested.
 -- (A block with genesis's hash would never be asked about. Where no hashes clash there is none.)
 pub record IsAskedOutIn (mode : Mode) (watch : List (List ℕ)) (log : Log) (chain : Chain) (p : ℕ) : Type 0 where
-  pub heard_out : heard_in mode (counted_part log p) ≡ true
+  pub heard_out : is_heard_out_in mode (counted_part log p) ≡ true
   pub claimed : (h : ℕ) → 1 ≤ h → h ≤ common_of (own (counted_part log p)) chain → HasHeader (counted_part log p) (hash_at (own (counted_part log p)) h)
   pub settled : (h : ℕ) → 1 ≤ h → h ≤ common_of (own (counted_part log p)) chain → IsAbove (hash_at (own (counted_part log p)) h)
       → (IsFilterOpen log (hash_at (own (counted_part log p)) h) → ⊥) → (IsBlockOpen log (hash_at (own (counted_part log p)) h) → ⊥)
@@ -411,6 +411,6 @@ pub record IsScanOver (watch : List (List ℕ)) (log : Log) (chain : Chain) (ent
 -- ---- what is kept of fetched blocks
 
 -- the extract of each block that was fetched, and nothing else
-pub record HoldsFetched (watch : List (List ℕ)) (log : Log) (table : Table) : Type 0 where
+pub record HoldsFetched (watch : List (List ℕ)) (log : Log) (table : ExtractTable) : Type 0 where
   pub sound : (hash : Hash) (e : List TxExtract) → table hash ≡ Some e → (b : Block) × IsFetched log b × (block_hash_of b.header ≡ hash) × (e ≡ extract_of b watch)
   pub complete : (hash : Hash) → table hash ≡ None → IsFetchedHash log hash → ⊥

@@ -7,7 +7,7 @@ use Rattle.cf_chain.specs.Grow.{top_hash, announcement, answered}
 use Rattle.cf_chain.specs.Serve.{is_version}
 use Rattle.cf_headers.specs.Chain.{Hash, Chain, IsWithinLimit, NoHashClash}
 use Rattle.cf_headers.specs.Shown.{Shows}
-use Rattle.cf_msg.specs.declared.msg.Entry.{Entry}
+use Rattle.cf_msg.specs.declared.msg.Inventory.{Inventory}
 use Rattle.cf_msg.specs.declared.msg.Msg.{Msg}
 use Rattle.cf_msg.specs.declared.msg.Msg.TheVariants.{Pong, Inv}
 use Rattle.cf_wires.specs.Log.{Log}
@@ -68,7 +68,7 @@ is_small_talk (Pong number) = false
 is_small_talk m = is_chatter m
 
 -- between two answers it announces the chain that it answered at, or a higher one
-pub record Announces (blocks : List Block) (entries : List Entry) (s now : Turn) : Type 0 where
+pub record Announces (blocks : List Block) (entries : List Inventory) (s now : Turn) : Type 0 where
   pub between : s.left ≡ []
   pub height : ℕ
   pub up : s.height ≤ height
@@ -131,7 +131,7 @@ pub record IsGrowing (log : Log) (p : ℕ) (blocks : List Block) (first : ℕ) :
 -- ---- which chain it has told of
 
 -- the hash that the first entry names, or what was there before
-abbrev pub hash_first : List Entry → Option Hash → Option Hash
+abbrev pub hash_first : List Inventory → Option Hash → Option Hash
 hash_first [] before = before
 hash_first (entry ∷ more) before = Some entry.hash.0
 

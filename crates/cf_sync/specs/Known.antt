@@ -13,7 +13,7 @@ use Rattle.cf_wires.specs.Log.{Log}
 use Rattle.cf_peer.specs.Trail.{Trail, trail, connected}
 use Rattle.cf_sync.specs.Fetching.{IsGiven, IsGivenWith, IsOmission, IsTestedWith, blocks_open, filters_open}
 use Rattle.cf_seek.specs.Opens.{Opens}
-use Rattle.cf_tables.specs.Known.{Told}
+use Rattle.cf_tables.specs.Known.{TestResults}
 
 -- what is kept of a peer's claims: what counts of them, while it is connected
 abbrev pub claims_kept : Trail → dispute.Table
@@ -41,7 +41,7 @@ HoldsOpens log opens = (p : ℕ) → OpensAt opens p (trail log p)
 
 -- Of each filter that was tested, by the hashes of its block and of itself, that it was; and of one with these hashes that lacks what a fetched block with
 -- that hash pays, where it is told so.
-pub record HoldsTests (log : Log) (told : Told) : Type 0 where
+pub record HoldsTests (log : Log) (told : TestResults) : Type 0 where
   pub lacking : (block : Hash) (hash : Hash32) → told block hash.0 ≡ Some true → (t : IsTestedWith log block hash) × IsOmission log block t.filter.filter
   pub holding : (block : Hash) (hash : Hash32) → told block hash.0 ≡ Some false → IsTestedWith log block hash
   pub complete : (block : Hash) (hash : Hash32) → told block hash.0 ≡ None → IsTestedWith log block hash → ⊥

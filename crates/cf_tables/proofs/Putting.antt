@@ -6,7 +6,7 @@ use Rattle.cf_headers.specs.Rules.{same}
 use Rattle.cf_scan.specs.declared.extracts.TxExtract.{TxExtract}
 use Rattle.cf_tables.specs.Extracts.{put_extract, with_extract}
 use Rattle.cf_tables.specs.Outputs.{Paid, put_outputs, set_outputs}
-use Rattle.cf_tables.specs.Known.{Table}
+use Rattle.cf_tables.specs.Known.{ExtractTable}
 use Rattle.cf_dispute.proofs.PutIn.{same_true}
 
 none_or : {A : Type 0} (o : Option A) (x : A) → is_some o ≡ false → unwrap_or o x ≡ x
@@ -18,14 +18,14 @@ some_or None x some = cc some
 some_or (Some y) x some = refl
 
 -- where none stands there it is put in; where one stands nothing changes
-pub put_fresh : (table : Table) (at : Hash) (x : List TxExtract) → is_some (table at) ≡ false → (hash : Hash)
+pub put_fresh : (table : ExtractTable) (at : Hash) (x : List TxExtract) → is_some (table at) ≡ false → (hash : Hash)
     → put_extract at x table hash ≡ with_extract at x table hash
 put_fresh table at x none hash = by (same at hash) refl where
   by : (b : Bool) → same at hash ≡ b → (if b then Some x else table hash) ≡ (if b then Some (unwrap_or (table hash) x) else table hash)
   by true e = ap (λ (y : List TxExtract). Some y) (sym (none_or (table hash) x (ap (λ (h : Hash). is_some (table h)) (sym (same_true at hash e)) ∙ none)))
   by false e = refl
 
-pub kept_there : (table : Table) (at : Hash) (x : List TxExtract) → is_some (table at) ≡ true → (hash : Hash)
+pub kept_there : (table : ExtractTable) (at : Hash) (x : List TxExtract) → is_some (table at) ≡ true → (hash : Hash)
     → table hash ≡ with_extract at x table hash
 kept_there table at x some hash = by (same at hash) refl where
   by : (b : Bool) → same at hash ≡ b → table hash ≡ (if b then Some (unwrap_or (table hash) x) else table hash)

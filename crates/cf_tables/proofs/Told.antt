@@ -11,8 +11,8 @@ use Rattle.cf_headers.specs.Heights.{hash_at}
 use Rattle.cf_match.specs.Verdicts.{Verdicts}
 use Rattle.cf_tables.specs.declared.kind.Kind.{Kind}
 use Rattle.cf_tables.specs.declared.kind.Kind.TheVariants.{Unclaimed, Unjudged, ToFetch, Done}
-use Rattle.cf_tables.specs.Known.{Table}
-use Rattle.cf_tables.specs.Wanting.{IsAbove, IsUnjudged, IsKind, IsKindAbove, AreClaimed}
+use Rattle.cf_tables.specs.Known.{ExtractTable}
+use Rattle.cf_tables.specs.Wanting.{IsUnjudged, IsKind}
 
 -- of one block two hashes alone are one, and none differ
 one_alone : (tables : Tables) (block : Hash) (a b : Hash32) → IsAt tables block (One a) → IsAt tables block (One b) → a ≡ b
@@ -21,11 +21,11 @@ one_alone tables block a b at_a at_b = at_b.1 at_a.0.0 a at_a.0.1
 pub none_differ : (tables : Tables) (block : Hash) (a : Hash32) → IsAt tables block (One a) → IsAt tables block Differ → ⊥
 none_differ tables block a at d = d.1.1.1.1.2 (at.1 d.0 d.1.1.0 d.1.1.1.1.0 ∙ sym (at.1 d.1.0 d.1.1.1.0 d.1.1.1.1.1))
 
-pub there_or_none : (extracts : Table) (block : Hash) → extracts block ≡ None → IsSome (extracts block) → ⊥
+pub there_or_none : (extracts : ExtractTable) (block : Hash) → extracts block ≡ None → IsSome (extracts block) → ⊥
 there_or_none extracts block none there = (let no = subst IsSome none there in cc no)
 
 -- a block of another kind isn't unjudged
-pub not_unjudged : (extracts : Table) (tables : Tables) (verdicts : Verdicts) (block : Hash) (k : Kind) → IsKind extracts tables verdicts block k → k ≢ Unjudged → IsUnjudged extracts tables verdicts block → ⊥
+pub not_unjudged : (extracts : ExtractTable) (tables : Tables) (verdicts : Verdicts) (block : Hash) (k : Kind) → IsKind extracts tables verdicts block k → k ≢ Unjudged → IsUnjudged extracts tables verdicts block → ⊥
 not_unjudged extracts tables verdicts block Unclaimed is1 off un = (let no = sym (is1.1 un.1.1.0.0) ∙ un.1.1.0.1.1 in cc no)
 not_unjudged extracts tables verdicts block Unjudged is1 off un = off refl
 not_unjudged extracts tables verdicts block ToFetch (none, inl differ) off un = none_differ tables block un.1.0 un.1.1 differ
@@ -40,17 +40,11 @@ not_unjudged extracts tables verdicts block Done (inr done) off un =
     cc no
 
 -- one block more along a chain
-more : (own : Chain) (good : Hash → Type 0) (h : ℕ) → ((k : ℕ) → 1 ≤ k → k ≤ h → good (hash_at own k)) → good (hash_at own (h + 1)) → (k : ℕ) → 1 ≤ k → k ≤ h + 1 → good (hash_at own k)
+pub more : (own : Chain) (good : Hash → Type 0) (h : ℕ) → ((k : ℕ) → 1 ≤ k → k ≤ h → good (hash_at own k)) → good (hash_at own (h + 1)) → (k : ℕ) → 1 ≤ k → k ≤ h + 1 → good (hash_at own k)
 more own good h has next k up low = elim (cases_lt k (h + 1)) [
   | inl lt ↦ has k up (omega (arith, lt))
   | inr ge ↦ (let at : k ≡ h + 1 = omega (arith, ge, low) in subst (λ (n : ℕ). good (hash_at own n)) (sym at) next)
 ]
-
-pub claimed_more : (tables : Tables) (p : ℕ) (own : Chain) (h : ℕ) (hash : Hash) → AreClaimed tables p own h → hash ≡ hash_at own (h + 1) → (IsAbove hash → IsSome (tables p hash)) → AreClaimed tables p own (h + 1)
-claimed_more tables p own h hash are is1 mine = more own (λ (x : Hash). IsAbove x → IsSome (tables p x)) h are (subst (λ (x : Hash). IsAbove x → IsSome (tables p x)) is1 mine)
-
-pub low_claimed : (tables : Tables) (p : ℕ) (own : Chain) (c d : ℕ) → d ≤ c → AreClaimed tables p own c → AreClaimed tables p own d
-low_claimed tables p own c d le are h up low = are h up (omega (arith, le, low))
 
 -- the lowest hash is genesis's
 drop_all : {A : Type 0} (xs : List A) → drop (length xs) xs ≡ []
@@ -61,7 +55,3 @@ pub first_is : (own : Chain) (hash : Hash) → hash ≡ hash_at own 0 → hash �
 first_is own hash e =
     let n : length own - 0 ≡ length own = omega arith in
     e ∙ ap (λ (k : ℕ). tip_hash (drop k own)) n ∙ ap (λ (c : Chain). tip_hash c) (drop_all own)
-
--- a block that is unjudged is above genesis
-pub above_un : (extracts : Table) (tables : Tables) (verdicts : Verdicts) (block : Hash) (k : Kind) → k ≡ Unjudged → IsKindAbove extracts tables verdicts block k → IsAbove block
-above_un extracts tables verdicts block k is1 kind = kind.1 (λ done. let no : Unjudged ≡ Done = sym is1 ∙ done in cc no)

@@ -1,26 +1,26 @@
 -- machine: how many extracts, verdicts and outputs' items are kept.
-use Rattle.std.specs.Prelude.{◌≡◌, ℕ, List, length, IsSome}
+use Rattle.std.specs.Prelude.{◌≡◌, ℕ, List, length, Option, IsSome}
 use Rattle.cf_headers.specs.Chain.{Hash, IsIn}
 use Rattle.cf_headers.specs.Counts.{AreApart}
 use Rattle.cf_match.specs.Verdicts.{Verdicts}
 use Rattle.cf_tables.specs.Outputs.{Paid}
-use Rattle.cf_tables.specs.Known.{Table}
+use Rattle.cf_tables.specs.Known.{ExtractTable}
+
+-- of so many blocks something is kept: of these, all different, and of no others
+pub record CountsKept {A : Type 0} (kept_of : Hash → Option A) (n : ℕ) : Type 0 where
+  pub blocks : List Hash
+  pub many : length blocks ≡ n
+  pub kept : (hash : Hash) → IsIn hash blocks → IsSome (kept_of hash)
+  pub all : (hash : Hash) → IsSome (kept_of hash) → IsIn hash blocks
+  pub apart : AreApart blocks
 
 -- so many blocks have an extract
-pub record CountsBlocks (table : Table) (n : ℕ) : Type 0 where
-  pub blocks : List Hash
-  pub many : length blocks ≡ n
-  pub kept : (hash : Hash) → IsIn hash blocks → IsSome (table hash)
-  pub all : (hash : Hash) → IsSome (table hash) → IsIn hash blocks
-  pub apart : AreApart blocks
+abbrev pub CountsBlocks : ExtractTable → ℕ → Type 0
+CountsBlocks table n = CountsKept table n
 
 -- of so many blocks the items of the outputs are kept
-pub record CountsOutputs (paid : Paid) (n : ℕ) : Type 0 where
-  pub blocks : List Hash
-  pub many : length blocks ≡ n
-  pub kept : (hash : Hash) → IsIn hash blocks → IsSome (paid hash)
-  pub all : (hash : Hash) → IsSome (paid hash) → IsIn hash blocks
-  pub apart : AreApart blocks
+abbrev pub CountsOutputs : Paid → ℕ → Type 0
+CountsOutputs paid n = CountsKept paid n
 
 -- on so many filters a verdict is kept, each of them by the hashes of its block and of itself
 pub record CountsVerdicts (verdicts : Verdicts) (n : ℕ) : Type 0 where

@@ -4,9 +4,9 @@ use Rattle.cf_headers.specs.Chain.{Hash}
 use Rattle.cf_scan.specs.declared.extracts.TxExtract.{TxExtract}
 
 -- extracts by the hashes of their blocks
-abbrev pub Table : Type 0
-Table = Hash → Option (List TxExtract)
+abbrev pub ExtractTable : Type 0
+ExtractTable = Hash → Option (List TxExtract)
 
 -- what tests told: of a block and a filter's hash, whether the filter lacks what the block pays
-abbrev pub Told : Type 0
-Told = Hash → Hash → Option Bool
+abbrev pub TestResults : Type 0
+TestResults = Hash → Hash → Option Bool

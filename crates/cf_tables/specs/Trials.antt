@@ -9,12 +9,12 @@ use Rattle.cf_match.specs.declared.job.Job.{Job}
 use Rattle.cf_match.specs.Verdicts.{Verdicts, with_verdicts}
 use Rattle.cf_tables.specs.Outputs.{Paid, lacks_kept, put_outputs}
 use Rattle.cf_tables.specs.Tests.{IsSameTold, with_test}
-use Rattle.cf_tables.specs.Known.{Told}
+use Rattle.cf_tables.specs.Known.{TestResults}
 
 -- what fetched blocks pay, what was found of filters that were tested, and of each peer whether the filters that it was asked for last are to be tested
 pub record Trials : Type 0 where
   pub paid : Paid
-  pub told : Told
+  pub told : TestResults
   pub aims : ℕ → Bool
 
 -- the same is kept
@@ -29,11 +29,11 @@ with_paid [] paid = paid
 with_paid (b ∷ blocks) paid = put_outputs (block_hash_of b.header) (output_items_of b) (with_paid blocks paid)
 
 -- with what is found of a filter by what its block pays
-abbrev pub with_found : Paid → Job → Told → Told
+abbrev pub with_found : Paid → Job → TestResults → TestResults
 with_found paid job told = with_test job.block.0 (filter_hash_of job.filter) (lacks_kept job.block.0 job.filter (paid job.block.0)) told
 
 -- of filters that were asked for so that they are tested, which are asked for one by one
-abbrev pub tested_if : Bool → Paid → List Job → Told → Told
+abbrev pub tested_if : Bool → Paid → List Job → TestResults → TestResults
 tested_if true paid (job ∷ []) told = with_found paid job told
 tested_if aim paid jobs told = told
 

@@ -9,7 +9,7 @@ ghost use Rattle.cf_dispute.specs.declared.claim.At.TheVariants.{Differ};
 ghost use Rattle.cf_headers.specs.Chain.{IsIn};
 ghost use Rattle.cf_tables.specs.Extracts.{table_in};
 ghost use Rattle.cf_tables.specs.Judged.{verdicts_in};
-ghost use Rattle.cf_tables.specs.Known.{Table};
+ghost use Rattle.cf_tables.specs.Known.{ExtractTable};
 ghost use Rattle.cf_tables.specs.Wanting.{IsAbove, IsDone, IsKind, IsKindAbove};
 
 use crate::extracts::Extracts;
@@ -34,9 +34,9 @@ pub enum Kind {
 
 // What is still to be done about a block, where it has no extract.
 fn kind_unfetched(claims: &Claims, judged: &Judged, block: &Hash32) -> Kind
-    ensures unfetched { (extracts : Table) → extracts block.now.0 ≡ None
+    ensures unfetched { (extracts : ExtractTable) → extracts block.now.0 ≡ None
         → IsKind extracts (tables_of claims.now) (verdicts_in judged.now) block.now.0 result }
-    ensures done { result ≡ Done → (extracts : Table)
+    ensures done { result ≡ Done → (extracts : ExtractTable)
         → IsDone extracts (tables_of claims.now) (verdicts_in judged.now) block.now.0 }
 {
     match claims.at(block) {

@@ -1,1 +1,5 @@
 pub mod Starting
+mod Counting
+mod Crossing
+pub mod Moves
+mod Tied

@@ -1,1 +1,4 @@
 pub mod Starting
+pub mod Queue
+pub mod Handing
+pub mod Waiting

@@ -1,8 +1,8 @@
 //! Connections that are served beside each other.
 use crate::patient_conn::{Flags, PatientConn, two_conns};
+use cf_grow::Server;
 use cf_index::{Index, read_chain};
-use cf_serve::{ListLink, serve};
-use cf_service::Server;
+use cf_link::{ListLink, serve};
 use cf_tasks::InThreads;
 use std::alloc::Global;
 use std::sync::Arc;

@@ -1,4 +1,5 @@
 //! The server over a connection whose bytes come in pieces of uneven lengths.
+use crate::blocks_file::FILE;
 use crate::cut_conn::CutConn;
 use cf_bytes::VecSink;
 use cf_conn::MemoryConn;
@@ -7,20 +8,6 @@ use cf_server::serve_one;
 use std::alloc::Global;
 use std::test::*;
 use std::thread::Threads;
-
-// The blocks of data/blocks.dat.
-const FILE: &str = "\
-fabfb5da9f0000000400000006226e46111a0b59caaf126043eb5bbf28c34f3a5e332a1fc7b2b73cf188910f47cfced77f22ffc1264e6cd2\
-efab1681a71521bace06f92eddbe010c5434dc5232e8494dffff7f2001000000010100000001000000000000000000000000000000000000\
-0000000000000000000000000000ffffffff0e0401000000080700000000000000ffffffff0100f2052a01000000040108755100000000fa\
-bfb5daec000000040000004e05769e0c86170216c5353794cb46156596069a093b589ea99a5dfe93f6562aa66f54fa3ea8b8cb6c6f562a68\
-ff272246c84bf23c10cdea3823e21cee5419058aea494dffff7f200500000002010000000100000000000000000000000000000000000000\
-00000000000000000000000000ffffffff0e0402000000080700000000000000ffffffff0100f2052a010000000401097551000000000100\
-00000147cfced77f22ffc1264e6cd2efab1681a71521bace06f92eddbe010c5434dc520000000000ffffffff02009435770000000004010e\
-7551005ed0b200000000040104755100000000fabfb5da9f000000040000002a708d903501d2c38c2ae1f23242648074b65879d9f28e002b\
-2f9494719a464062a04566de4cf74cd2335e1452c1339989494fdf89c8da014e6566d9364f5dbbe2ec494dffff7f20010000000101000000\
-010000000000000000000000000000000000000000000000000000000000000000ffffffff0e0403000000080700000000000000ffffffff\
-0100f2052a0100000004010a755100000000";
 
 // What a peer sends, and what is sent back, by bench/conversation.py over that file.
 const ASKED: &str = "\
@@ -109,6 +96,11 @@ d0d4cf53f4f7199469c16cb4250fbbdf6489d6f83766b7bae096b3e0fabfb5da6366636865636b70
 const MALFORMED: &str =
     "Malformed(Malformed { command: [112, 105, 110, 103, 0, 0, 0, 0, 0, 0, 0, 0], place: 0, cause: Cut(Short) })";
 
+// The moment at which it is served, and the nonce that the server tells.
+const MOMENT: i64 = 1_700_000_000;
+
+const NONCE: u64 = 0x1122_3344_5566_7788;
+
 fn index_of(rt: &(impl Threads + Sync), alloc: Global) -> Result<Index, Fail> {
     let file = hex::decode(alloc, FILE).ok().ok_or("no bytes")?;
     let blocks = read_chain(alloc, &file).ok().ok_or("no chain")?;
@@ -124,13 +116,7 @@ fn conn_of(alloc: Global) -> Result<MemoryConn, Fail> {
 // How the conversation ends, and what is written, where this lot draws the pieces.
 fn served(alloc: Global, index: &Index, lot: u64) -> Result<String, Fail> {
     let mut conn = CutConn::new(conn_of(alloc)?, lot);
-    let outcome = serve_one(
-        alloc,
-        index,
-        &mut conn,
-        1_700_000_000,
-        0x1122_3344_5566_7788,
-    );
+    let outcome = serve_one(alloc, index, &mut conn, MOMENT, NONCE);
     let text = hex::encode(alloc, conn.written())?;
     Ok(format!(in alloc; "{outcome:?} {text}")?)
 }

@@ -3,6 +3,8 @@
 #![tactic(auto)]
 
 #[cfg(test)]
+mod blocks_file;
+#[cfg(test)]
 mod cf_bytes_tests;
 #[cfg(test)]
 mod cf_conn_tests;

@@ -21,10 +21,10 @@ use Rattle.cf_seek.specs.Opens.{IsBlockFree, IsFilterFree, Opens}
 use Rattle.cf_seek.specs.Opening.{Closes}
 use Rattle.cf_seek.specs.Tracking.{AreMarked, MarkedAt}
 use Rattle.cf_seek.proofs.SoughtStays.{same_true}
-use Rattle.cf_tables.specs.Known.{Table}
+use Rattle.cf_tables.specs.Known.{ExtractTable}
 use Rattle.cf_tables.specs.Wanting.{IsToFetch, IsUnjudged}
 use Rattle.cf_tables.specs.Claiming.{ForgetsClaims}
-use Rattle.cf_tracker.proofs.Tried.{claimed_before, disputed_before}
+use Rattle.cf_seek.proofs.Disputed.{claimed_before, forgotten_differ}
 
 -- ---- one block
 
@@ -69,16 +69,16 @@ was_at before after p block hash forgets at = by (before p block) refl where
   ]
 
 -- what is to be fetched was to be fetched
-due_before : (extracts : Table) (before after : Tables) (verdicts : Verdicts) (p : ℕ) (block : Hash) → ForgetsClaims before after p
+due_before : (extracts : ExtractTable) (before after : Tables) (verdicts : Verdicts) (p : ℕ) (block : Hash) → ForgetsClaims before after p
     → IsToFetch extracts after verdicts block → IsToFetch extracts before verdicts block
-due_before extracts before after verdicts p block forgets (none, inl differ) = (none, inl (disputed_before before after p block forgets differ))
+due_before extracts before after verdicts p block forgets (none, inl differ) = (none, inl (forgotten_differ before after p forgets block differ))
 due_before extracts before after verdicts p block forgets (none, inr hit) = elim (was_at before after p block hit.0 forgets hit.1) [
   | inl one ↦ (none, inr (hit.0, one, hit.2))
   | inr differ ↦ (none, inl differ)
 ]
 
 -- what is to be asked for was to be asked for, or the block was to be fetched
-un_before : (extracts : Table) (before after : Tables) (verdicts : Verdicts) (p : ℕ) (block : Hash) → ForgetsClaims before after p
+un_before : (extracts : ExtractTable) (before after : Tables) (verdicts : Verdicts) (p : ℕ) (block : Hash) → ForgetsClaims before after p
     → IsUnjudged extracts after verdicts block → IsUnjudged extracts before verdicts block ⊎ IsToFetch extracts before verdicts block
 un_before extracts before after verdicts p block forgets un = elim (was_at before after p block un.1.0 forgets un.1.1) [
   | inl one ↦ inl (un.0, (un.1.0, one, un.1.2))
@@ -117,13 +117,13 @@ cleared xs p = elim (cases_lt p (length xs)) [
 ]
 
 -- nothing that was open to p is still to be asked for, and no block is open to anybody
-pub record IsQuiet (extracts : Table) (tables : Tables) (verdicts : Verdicts) (opens now : Opens) (p : ℕ) : Type 0 where
+pub record IsQuiet (extracts : ExtractTable) (tables : Tables) (verdicts : Verdicts) (opens now : Opens) (p : ℕ) : Type 0 where
   pub closes : Closes opens now p
   pub told : (block : Hash) → opens.filters p block ≡ true → IsUnjudged extracts tables verdicts block → ⊥
   pub got : (block : Hash) → opens.blocks p block ≡ true → IsToFetch extracts tables verdicts block → ⊥
   pub free : (block : Hash) → IsBlockFree now block
 
-other_settled : (extracts : Table) (before after : Tables) (verdicts : Verdicts) (opens now : Opens) (p q : ℕ) (o : Option Chain) (marks : Marks)
+other_settled : (extracts : ExtractTable) (before after : Tables) (verdicts : Verdicts) (opens now : Opens) (p q : ℕ) (o : Option Chain) (marks : Marks)
     → ForgetsClaims before after p → q ≢ p → IsQuiet extracts before verdicts opens now p
     → MarkedAt extracts before verdicts opens q o marks → MarkedAt extracts after verdicts now q o (settled marks)
 other_settled extracts before after verdicts opens now p q None marks forgets ne quiet m =
@@ -148,7 +148,7 @@ other_settled extracts before after verdicts opens now p q (Some own) marks forg
       (record { above = get.above; due = due; free = blocks_before opens now p block quiet.closes (λ is. quiet.got block is due) get.free });
 }
 
-pub settled_marked : (chains next : Chains) (extracts : Table) (before after : Tables) (verdicts : Verdicts) (opens open_now : Opens)
+pub settled_marked : (chains next : Chains) (extracts : ExtractTable) (before after : Tables) (verdicts : Verdicts) (opens open_now : Opens)
     (cursors now : List Marks) (p : PeerNo) → Puts chains next p None → ForgetsClaims before after p.0
     → IsQuiet extracts before verdicts opens open_now p.0 → ((q : ℕ) → marks_at now q ≡ settled (marks_at (slice_set cursors p.0 no_marks) q))
     → ∥ AreMarked chains extracts before verdicts opens cursors ∥₁ → ∥ AreMarked next extracts after verdicts open_now now ∥₁

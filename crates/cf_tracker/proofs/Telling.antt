@@ -22,12 +22,12 @@ use Rattle.cf_tracker.specs.declared.account.Written.{Written}
 use Rattle.cf_tracker.specs.Account.{IsTold, IsToldBy}
 use Rattle.cf_tables.specs.Extracts.{with_extract}
 use Rattle.cf_tables.specs.Tables.{IsSameTable, placed_by, placed_one}
-use Rattle.cf_tables.specs.Known.{Table}
+use Rattle.cf_tables.specs.Known.{ExtractTable}
 use Rattle.cf_tracker.specs.Written.{IsWrittenAs, KeepsExtracts, extract_told, placed_written, written_as, written_at}
 
 -- ---- extracts that are kept
 
-pub keeps_self : (table : Table) → KeepsExtracts table table
+pub keeps_self : (table : ExtractTable) → KeepsExtracts table table
 keeps_self table hash e is = is
 
 kept_if : (b : Bool) (o : Option (List TxExtract)) (x e : List TxExtract) → o ≡ Some e
@@ -36,49 +36,49 @@ kept_if true o x e is = ap (λ (y : Option (List TxExtract)). Some (unwrap_or y 
 kept_if false o x e is = is
 
 -- an extract is put where none stands, or there is no memory
-pub keeps_put : (extracts more : Table) (at : Hash) (x : List TxExtract) (result : Result (Unit {0}) NoMemory)
+pub keeps_put : (extracts more : ExtractTable) (at : Hash) (x : List TxExtract) (result : Result (Unit {0}) NoMemory)
     → OnOk result (IsSameTable more (with_extract at x extracts)) → OnErr result (IsSameTable more extracts)
     → KeepsExtracts extracts more
 keeps_put extracts more at x (Ok u) ok err hash e is = ok hash ∙ kept_if (same at hash) (extracts hash) x e is
 keeps_put extracts more at x (Err n) ok err hash e is = err hash ∙ is
 
 -- what is told stays told
-pub told_later : (before after : Table) (a : Account) → KeepsExtracts before after → ∥ IsTold before a ∥₁
+pub told_later : (before after : ExtractTable) (a : Account) → KeepsExtracts before after → ∥ IsTold before a ∥₁
     → ∥ IsTold after a ∥₁
 told_later before after a keeps t = ∥∥₁_map t (λ told later more. told later (λ hash e is. more hash e (keeps hash e is)))
 
 -- ---- one block more
 
-told_next : (table later : Table) (hash : Hash) → KeepsExtracts table later
+told_next : (table later : ExtractTable) (hash : Hash) → KeepsExtracts table later
     → extract_told (is_some (table hash)) (later hash) ≡ unwrap_or (table hash) []
 told_next table later hash keeps = by (table hash) refl where
   by : (o : Option (List TxExtract)) → table hash ≡ o → extract_told (is_some o) (later hash) ≡ unwrap_or o []
   by None e = refl
   by (Some x) e = ap (extract_told true) (keeps hash x e)
 
-abbrev placed_next : Table → ℕ → Written → Placed
+abbrev placed_next : ExtractTable → ℕ → Written → Placed
 placed_next table height w = record { height = height; extract = extract_told w.told (table w.hash.0) }
 
-placed_more : (table : Table) (height : ℕ) (ws : List Written) (w : Written)
+placed_more : (table : ExtractTable) (height : ℕ) (ws : List Written) (w : Written)
     → placed_written table height (ws ++ w ∷ []) ≡ placed_written table height ws ++ placed_next table (height + length ws) w ∷ []
 placed_more table height [] w = (let n : height ≡ height + 0 = omega arith in ap (λ (k : ℕ). placed_next table k w ∷ []) n)
 placed_more table height (x ∷ ws) w =
     let n : suc height + length ws ≡ height + suc (length ws) = omega arith in
     ap (λ (l : List Placed). placed_next table height x ∷ l) (placed_more table (suc height) ws w ∙ ap (λ (k : ℕ). placed_written table (suc height) ws ++ placed_next table k w ∷ []) n)
 
-newest : (table : Table) (ws : List Written) (w : Written)
+newest : (table : ExtractTable) (ws : List Written) (w : Written)
     → reverse (placed_written table 1 (ws ++ w ∷ [])) ≡ placed_next table (1 + length ws) w ∷ reverse (placed_written table 1 ws)
 newest table ws w = ap reverse (placed_more table 1 ws w) ∙ reverse-append (placed_written table 1 ws) (placed_next table (1 + length ws) w ∷ [])
 
 -- what is written of a block
-pub written_is : (table : Table) (hash : Hash32) (told : Bool) (ws now : List Written) → told ≡ is_some (table hash.0)
+pub written_is : (table : ExtractTable) (hash : Hash32) (told : Bool) (ws now : List Written) → told ≡ is_some (table hash.0)
     → now ≡ ws ++ record { hash = hash; told = told } ∷ [] → now ≡ ws ++ written_as table hash.0 ∷ []
 written_is table hash told ws now has is = is ∙ ap (λ (b : Bool). ws ++ block b ∷ []) has where
   block : Bool → Written
   block b = record { hash = hash; told = b }
 
 -- a block is written
-pub told_more : (table : Table) (before after : Book) (ws now : List Written) (height : ℕ) (hash : Hash)
+pub told_more : (table : ExtractTable) (before after : Book) (ws now : List Written) (height : ℕ) (hash : Hash)
     → height ≡ length ws + 1 → now ≡ ws ++ written_as table hash ∷ []
     → ((blocks : List Placed) → Stands before blocks
     → Stands after (record { height = height; extract = unwrap_or (table hash) [] } ∷ blocks))
@@ -94,14 +94,14 @@ told_more table before after ws now height hash high is pushed told later keeps 
     (pushed (reverse (placed_written later 1 ws)) (told later keeps))))
 
 -- the same blocks, and the same that its book stands for
-pub told_same : (table : Table) (before after : Book) (ws now : List Written) → now ≡ ws
+pub told_same : (table : ExtractTable) (before after : Book) (ws now : List Written) → now ≡ ws
     → ((blocks : List Placed) → Stands before blocks → Stands after blocks) → IsToldBy table before ws → IsToldBy table after now
 told_same table before after ws now is stands told later keeps =
     subst (λ (xs : List Written). Stands after (reverse (placed_written later 1 xs))) (sym is)
     (stands (reverse (placed_written later 1 ws)) (told later keeps))
 
 -- a block is taken away
-pub told_less : (table : Table) (before after : Book) (ws now : List Written) (w : Written) → ws ≡ now ++ w ∷ []
+pub told_less : (table : ExtractTable) (before after : Book) (ws now : List Written) (w : Written) → ws ≡ now ++ w ∷ []
     → ((block : Placed) (blocks : List Placed) → Stands before (block ∷ blocks) → Stands after blocks)
     → IsToldBy table before ws → IsToldBy table after now
 told_less table before after ws now w is popped told later keeps =
@@ -117,7 +117,7 @@ unfolding after_placed
 tells_nothing s height = refl
 
 -- a block that is told as its extract is there
-told_one : (table : Table) (hash : Hash) (w : Written) (height : ℕ) (s : Scanned) (xs ys : List Placed)
+told_one : (table : ExtractTable) (hash : Hash) (w : Written) (height : ℕ) (s : Scanned) (xs ys : List Placed)
     → IsWrittenAs table hash w
     → ((n : Scanned) → fold after_placed n xs ≡ fold after_placed n ys) → (o : Option (List TxExtract)) → table hash ≡ o
     → fold after_placed s (placed_next table height w ∷ xs) ≡ fold after_placed s (placed_one height o ++ ys)
@@ -132,7 +132,7 @@ told_one table hash w height s xs ys here later (Some x) e =
     ap (λ (y : List TxExtract). fold after_placed (after_placed s (record { height = height; extract = y })) xs) some
     ∙ later (after_placed s (record { height = height; extract = x }))
 
-told_along : (table : Table) (headers : List Header) (ws : List Written) (height : ℕ) (s : Scanned)
+told_along : (table : ExtractTable) (headers : List Header) (ws : List Written) (height : ℕ) (s : Scanned)
     → length ws ≡ length headers
     → ((k : ℕ) (d : Header) → k < length headers → IsWrittenAs table (block_hash_of (get_or headers k d)) (written_at ws k))
     → fold after_placed s (placed_written table height ws) ≡ fold after_placed s (placed_by table height headers)
@@ -143,7 +143,7 @@ told_along table (h ∷ headers) (w ∷ ws) height s long each =
     told_one table (block_hash_of h) w height s (placed_written table (suc height) ws) (placed_by table (suc height) headers) (each 0 h (omega arith))
     (λ n. told_along table headers ws (suc height) n (omega (arith, long)) (λ k d lt. each (suc k) d (omega (arith, lt)))) (table (block_hash_of h)) refl
 
-pub history_along : (table : Table) (headers : List Header) (ws : List Written) → length ws ≡ length headers
+pub history_along : (table : ExtractTable) (headers : List Header) (ws : List Written) → length ws ≡ length headers
     → ((k : ℕ) (d : Header) → k < length headers → IsWrittenAs table (block_hash_of (get_or headers k d)) (written_at ws k))
     → history_of (placed_written table 1 ws) ≡ history_of (placed_by table 1 headers)
 history_along table headers ws long each = ap (λ (n : Scanned). n.entries) (told_along table headers ws 1 unscanned long each)
@@ -152,19 +152,19 @@ entries_prop : (a b : List Entry) → IsProp (a ≡ b)
 entries_prop a b = hlevel props
 
 -- the book's history
-pub history_told : (table : Table) (a : Account) (entries : List Entry)
+pub history_told : (table : ExtractTable) (a : Account) (entries : List Entry)
     → ((blocks : List Placed) → Stands a.book blocks → entries ≡ history_of (reverse blocks)) → IsTold table a
     → entries ≡ history_of (placed_written table 1 a.written.items)
 history_told table a entries tells told =
     tells (reverse (placed_written table 1 a.written.items)) (told table (keeps_self table)) ∙ ap history_of (reverse-reverse (placed_written table 1 a.written.items))
 
 -- the same where that the book stands for it isn't told
-pub history_opened : (table : Table) (a : Account) (entries : List Entry)
+pub history_opened : (table : ExtractTable) (a : Account) (entries : List Entry)
     → (IsTold table a → entries ≡ history_of (placed_written table 1 a.written.items)) → ∥ IsTold table a ∥₁
     → entries ≡ history_of (placed_written table 1 a.written.items)
 history_opened table a entries is t = ∥∥₁_elim t (entries_prop entries (history_of (placed_written table 1 a.written.items))) is
 
 -- the book stands for what is written
-pub stands_now : (table : Table) (a : Account) → ∥ IsTold table a ∥₁
+pub stands_now : (table : ExtractTable) (a : Account) → ∥ IsTold table a ∥₁
     → ∥ Stands a.book (reverse (placed_written table 1 a.written.items)) ∥₁
 stands_now table a t = ∥∥₁_map t (λ told. told table (keeps_self table))

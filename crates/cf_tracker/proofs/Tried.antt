@@ -11,7 +11,6 @@ use Rattle.cf_bytes.specs.declared.memory.NoMemory.{NoMemory}
 use Rattle.cf_bytes.specs.declared.peer.PeerNo.{PeerNo}
 use Rattle.cf_block.specs.declared.header.Header.{Header}
 use Rattle.cf_dispute.specs.declared.claim.At.TheVariants.{Differ}
-use Rattle.cf_dispute.specs.declared.claim.Claim.{Claim}
 use Rattle.cf_dispute.specs.Claims.{Tables, IsAt, with_claims}
 use Rattle.cf_dispute.proofs.PutIn.{in_or_out}
 use Rattle.cf_headers.specs.declared.change.Change.{Change}
@@ -24,18 +23,19 @@ use Rattle.cf_headers.proofs.Accepting.{grown_is}
 use Rattle.cf_scan.specs.declared.extracts.TxExtract.{TxExtract}
 use Rattle.cf_seek.specs.Testing.{IsToTest}
 use Rattle.cf_seek.specs.Tried.{AreTried, AreTriedTo, IsOn, IsToTry, IsTriedBelow, IsTriedTo, tried_after, tried_at}
+use Rattle.cf_seek.proofs.Disputed.{claimed_before, forgotten_differ}
 use Rattle.cf_seek.proofs.Marked.{differ_before, others_same}
 use Rattle.cf_seek.proofs.SoughtStays.{same_below, same_true}
 use Rattle.cf_tables.specs.Extracts.{with_extract}
 use Rattle.cf_tables.specs.Tables.{IsSameTable}
-use Rattle.cf_tables.specs.Known.{Table, Told}
+use Rattle.cf_tables.specs.Known.{ExtractTable, TestResults}
 use Rattle.cf_tables.specs.Tests.{IsSameTold, found_too, with_test}
 use Rattle.cf_tables.specs.Claiming.{ForgetsClaims}
 
 -- ---- one peer
 
 -- nothing is marked
-none_marked : (extracts : Table) (tables : Tables) (told : Told) (p : ℕ) (o : Option Chain) (mark : ℕ) → mark ≡ 0
+none_marked : (extracts : ExtractTable) (tables : Tables) (told : TestResults) (p : ℕ) (o : Option Chain) (mark : ℕ) → mark ≡ 0
     → IsTriedTo extracts tables told p o mark
 none_marked extracts tables told p o mark none = record {
   on = λ up. absurd (omega (arith, up, none));
@@ -43,7 +43,7 @@ none_marked extracts tables told p o mark none = record {
 }
 
 -- on the same chain a mark no higher, where each block up to it that is to be tested was to be tested
-still_tried : (extracts more : Table) (before after : Tables) (told now : Told) (p : ℕ) (o : Option Chain) (a b : ℕ) → b ≤ a
+still_tried : (extracts more : ExtractTable) (before after : Tables) (told now : TestResults) (p : ℕ) (o : Option Chain) (a b : ℕ) → b ≤ a
     → ((own : Chain) → o ≡ Some own → (h : ℕ) → 1 ≤ h → h ≤ b → IsToTest more after now p (hash_at own h)
     → IsToTest extracts before told p (hash_at own h))
     → IsTriedTo extracts before told p o a → IsTriedTo more after now p o b
@@ -68,7 +68,7 @@ set_here xs p v = elim (cases_lt p (length xs)) [
 ]
 
 -- p's mark is put, on a chain that p has now, or where it has none
-put_tried : (chains next : Chains) (extracts : Table) (tables : Tables) (told : Told) (marks : List ℕ) (p : PeerNo) (o : Option Chain)
+put_tried : (chains next : Chains) (extracts : ExtractTable) (tables : Tables) (told : TestResults) (marks : List ℕ) (p : PeerNo) (o : Option Chain)
     (mark : ℕ) → Puts chains next p o → IsTriedTo extracts tables told p.0 o mark → AreTriedTo chains extracts tables told marks
     → AreTriedTo next extracts tables told (slice_set marks p.0 mark)
 put_tried chains next extracts tables told marks p o mark puts here are q = elim (cases_eq q p.0) [
@@ -83,7 +83,7 @@ put_tried chains next extracts tables told marks p o mark puts here are q = elim
 ]
 
 -- of each peer, on the same chains
-each_tried : (chains : Chains) (extracts more : Table) (before after : Tables) (told now : Told) (marks fell : List ℕ)
+each_tried : (chains : Chains) (extracts more : ExtractTable) (before after : Tables) (told now : TestResults) (marks fell : List ℕ)
     → ((q : ℕ) → tried_at fell q ≤ tried_at marks q)
     → ((q : ℕ) (own : Chain) → chains q ≡ Some own → (h : ℕ) → 1 ≤ h → h ≤ tried_at fell q → IsToTest more after now q (hash_at own h)
     → IsToTest extracts before told q (hash_at own h))
@@ -105,7 +105,7 @@ on_by (Some own) mark up so = (own, (refl, stable_le mark (length own) (λ no. s
   is_on there e le = (let is : there ≡ own = cc e in subst (λ (c : Chain). mark ≤ length c) is le)
 
 -- each mark stands on the peer's chain
-pub on_each : (chains : Chains) (extracts : Table) (tables : Tables) (told : Told) (marks : List ℕ)
+pub on_each : (chains : Chains) (extracts : ExtractTable) (tables : Tables) (told : TestResults) (marks : List ℕ)
     → ∥ AreTriedTo chains extracts tables told marks ∥₁ → (q : ℕ) → IsOn (chains q) (tried_at marks q)
 on_each chains extracts tables told marks t q up = on_by (chains q) (tried_at marks q) up (λ no. not_there t (λ are. no (are q).on))
 
@@ -114,7 +114,7 @@ some_own None some = cc some
 some_own (Some own) some = refl
 
 -- none of an entered peer's blocks up to its mark is to be tested
-pub tried_to : (chains : Chains) (extracts : Table) (tables : Tables) (told : Told) (marks : List ℕ) (p : PeerNo) (mark : ℕ)
+pub tried_to : (chains : Chains) (extracts : ExtractTable) (tables : Tables) (told : TestResults) (marks : List ℕ) (p : PeerNo) (mark : ℕ)
     → mark ≡ tried_at marks p.0 → IsSome (chains p.0) → ∥ AreTriedTo chains extracts tables told marks ∥₁
     → AreTried extracts tables told p.0 (own_of chains p) mark
 tried_to chains extracts tables told marks p mark is some t h up low try =
@@ -128,19 +128,19 @@ zero_at n q = elim (cases_lt q n) [
   | inr ge ↦ get_or_past (replicate n 0) q 0 (let long = length-replicate {A = ℕ} n 0 in omega (arith, ge, long))
 ]
 
-pub none_tried : (chains : Chains) (extracts : Table) (tables : Tables) (told : Told) (marks : List ℕ) (n : ℕ) → marks ≡ replicate n 0
+pub none_tried : (chains : Chains) (extracts : ExtractTable) (tables : Tables) (told : TestResults) (marks : List ℕ) (n : ℕ) → marks ≡ replicate n 0
     → ∥ AreTriedTo chains extracts tables told marks ∥₁
 none_tried chains extracts tables told marks n fresh =
     ∣ (λ q. none_marked extracts tables told q (chains q) (tried_at marks q) (ap (λ (xs : List ℕ). tried_at xs q) fresh ∙ zero_at n q)) ∣₁
 
 -- no chain changes
-pub stays_tried : (chains next : Chains) (extracts : Table) (tables : Tables) (told : Told) (marks : List ℕ) → Stays chains next
+pub stays_tried : (chains next : Chains) (extracts : ExtractTable) (tables : Tables) (told : TestResults) (marks : List ℕ) → Stays chains next
     → ∥ AreTriedTo chains extracts tables told marks ∥₁ → ∥ AreTriedTo next extracts tables told marks ∥₁
 stays_tried chains next extracts tables told marks stays t =
     ∥∥₁_map t (λ are q. subst (λ (o : Option Chain). IsTriedTo extracts tables told q o (tried_at marks q)) (sym (stays q)) (are q))
 
 -- p's chain is another, or gone, and nothing is marked
-pub cleared_tried : (chains next : Chains) (extracts : Table) (tables : Tables) (told : Told) (marks now : List ℕ) (p : PeerNo)
+pub cleared_tried : (chains next : Chains) (extracts : ExtractTable) (tables : Tables) (told : TestResults) (marks now : List ℕ) (p : PeerNo)
     (o : Option Chain) → Puts chains next p o → now ≡ slice_set marks p.0 0
     → ∥ AreTriedTo chains extracts tables told marks ∥₁ → ∥ AreTriedTo next extracts tables told now ∥₁
 cleared_tried chains next extracts tables told marks now p o puts is t =
@@ -148,7 +148,7 @@ cleared_tried chains next extracts tables told marks now p o puts is t =
     (put_tried chains next extracts tables told marks p o 0 puts (none_marked extracts tables told p.0 o 0 refl) are))
 
 -- p's mark goes up to where nothing of its chain is to be tested
-pub up_tried : (chains : Chains) (extracts : Table) (tables : Tables) (told : Told) (marks now : List ℕ) (p : PeerNo) (mark to common : ℕ)
+pub up_tried : (chains : Chains) (extracts : ExtractTable) (tables : Tables) (told : TestResults) (marks now : List ℕ) (p : PeerNo) (mark to common : ℕ)
     → mark ≡ tried_at marks p.0 → IsSome (chains p.0) → AreTried extracts tables told p.0 (own_of chains p) to → to ≤ max mark common
     → common ≤ length (own_of chains p) → now ≡ slice_set marks p.0 to
     → ∥ AreTriedTo chains extracts tables told marks ∥₁ → ∥ AreTriedTo chains extracts tables told now ∥₁
@@ -175,7 +175,7 @@ up_tried chains extracts tables told marks now p mark to common was some tried l
       ]
 
 -- a chain that grows
-grown_tried : (extracts : Table) (tables : Tables) (told : Told) (p : ℕ) (hs : List Header) (own next : Chain) (o : Option Chain) (mark : ℕ)
+grown_tried : (extracts : ExtractTable) (tables : Tables) (told : TestResults) (p : ℕ) (hs : List Header) (own next : Chain) (o : Option Chain) (mark : ℕ)
     → o ≡ Some own → accept hs own ≡ Longer next → IsTriedTo extracts tables told p o mark
     → IsTriedTo extracts tables told p (Some next) (min mark (link_height hs own))
 grown_tried extracts tables told p hs own next o mark is e t =
@@ -194,7 +194,7 @@ grown_tried extracts tables told p hs own next o mark is e t =
       mine other e2 le = (let same1 : Some other ≡ Some own = sym e2 ∙ is in let same2 : other ≡ own = cc same1 in subst (λ (c : Chain). mark ≤ length c) same2 le)
 
 -- a chain that stays
-kept_tried : (chains next : Chains) (extracts : Table) (tables : Tables) (told : Told) (marks : List ℕ) (p : PeerNo) → IsSome (chains p.0)
+kept_tried : (chains next : Chains) (extracts : ExtractTable) (tables : Tables) (told : TestResults) (marks : List ℕ) (p : PeerNo) → IsSome (chains p.0)
     → Puts chains next p (Some (own_of chains p)) → AreTriedTo chains extracts tables told marks → AreTriedTo next extracts tables told marks
 kept_tried chains next extracts tables told marks p some puts are q = elim (cases_eq q p.0) [
   | inl e ↦ subst (λ (k : ℕ). IsTriedTo extracts tables told k (next k) (tried_at marks k)) (sym e)
@@ -202,7 +202,7 @@ kept_tried chains next extracts tables told marks p some puts are q = elim (case
   | inr ne ↦ subst (λ (o : Option Chain). IsTriedTo extracts tables told q o (tried_at marks q)) (sym (puts.others q ne)) (are q)
 ]
 
-accepted_by : (chains next : Chains) (extracts : Table) (tables : Tables) (told : Told) (marks : List ℕ) (p : PeerNo) (hs : List Header)
+accepted_by : (chains next : Chains) (extracts : ExtractTable) (tables : Tables) (told : TestResults) (marks : List ℕ) (p : PeerNo) (hs : List Header)
     (a : Accepted) → IsSome (chains p.0) → accept hs (own_of chains p) ≡ a → Puts chains next p (Some (chain_after a (own_of chains p)))
     → AreTriedTo chains extracts tables told marks
     → AreTriedTo next extracts tables told (tried_after marks p.0 (change_of (link_height hs (own_of chains p)) a))
@@ -215,7 +215,7 @@ accepted_by chains next extracts tables told marks p hs (Invalid place fault) so
     kept_tried chains next extracts tables told marks p some puts are
 accepted_by chains next extracts tables told marks p hs TooHigh some is puts are = kept_tried chains next extracts tables told marks p some puts are
 
-pub accepted_tried : (chains next : Chains) (extracts : Table) (tables : Tables) (told : Told) (marks now : List ℕ) (p : PeerNo)
+pub accepted_tried : (chains next : Chains) (extracts : ExtractTable) (tables : Tables) (told : TestResults) (marks now : List ℕ) (p : PeerNo)
     (hs : List Header) (change : Change) → IsSome (chains p.0)
     → change ≡ change_of (link_height hs (own_of chains p)) (accept hs (own_of chains p))
     → Puts chains next p (Some (chain_after (accept hs (own_of chains p)) (own_of chains p))) → now ≡ tried_after marks p.0 change
@@ -227,7 +227,7 @@ accepted_tried chains next extracts tables told marks now p hs change some answe
 -- ---- claims
 
 -- the same claims of a block
-claims_back : (extracts : Table) (before after : Tables) (told : Told) (q : ℕ) (block : Hash) → ((k : ℕ) → after k block ≡ before k block)
+claims_back : (extracts : ExtractTable) (before after : Tables) (told : TestResults) (q : ℕ) (block : Hash) → ((k : ℕ) → after k block ≡ before k block)
     → IsToTest extracts after told q block → IsToTest extracts before told q block
 claims_back extracts before after told q block is w = record {
   fetched = w.fetched;
@@ -237,53 +237,24 @@ claims_back extracts before after told q block is w = record {
   untested = w.untested;
 }
 
-pub same_tried : (chains : Chains) (extracts : Table) (before after : Tables) (told : Told) (marks : List ℕ)
+pub same_tried : (chains : Chains) (extracts : ExtractTable) (before after : Tables) (told : TestResults) (marks : List ℕ)
     → ((q : ℕ) (block : Hash) → after q block ≡ before q block)
     → ∥ AreTriedTo chains extracts before told marks ∥₁ → ∥ AreTriedTo chains extracts after told marks ∥₁
 same_tried chains extracts before after told marks is =
     each_tried chains extracts extracts before after told told marks marks (λ q. omega arith)
     (λ q own e h up low. claims_back extracts before after told q (hash_at own h) (λ k. is k (hash_at own h)))
 
--- one peer's claims are gone
-pub claimed_before : (before after : Tables) (p : ℕ) → ForgetsClaims before after p → (q : ℕ) (block : Hash) (claim : Claim)
-    → after q block ≡ Some claim → before q block ≡ Some claim
-claimed_before before after p forgets q block claim e = elim (cases_eq q p) [
-  | inl same1 ↦ (let no : None ≡ Some claim = sym (forgets.gone block) ∙ ap (λ (k : ℕ). after k block) (sym same1) ∙ e in cc)
-  | inr ne ↦ sym (forgets.others q ne block) ∙ e
-]
-
-pub disputed_before : (before after : Tables) (p : ℕ) (block : Hash) → ForgetsClaims before after p → IsAt after block Differ
-    → IsAt before block Differ
-disputed_before before after p block forgets d =
-    let c = d.1.1.1.1 in (
-      d.0,
-      (
-        d.1.0,
-        (
-          d.1.1.0,
-          (
-            d.1.1.1.0,
-            (
-              (c.0.0, claimed_before before after p forgets d.0 block c.0.0 c.0.1, c.0.2),
-              (c.1.0, claimed_before before after p forgets d.1.0 block c.1.0 c.1.1, c.1.2),
-              c.2,
-            ),
-          ),
-        ),
-      ),
-    )
-
-forgotten_back : (extracts : Table) (before after : Tables) (told : Told) (p q : ℕ) (block : Hash) → ForgetsClaims before after p
+forgotten_back : (extracts : ExtractTable) (before after : Tables) (told : TestResults) (p q : ℕ) (block : Hash) → ForgetsClaims before after p
     → IsToTest extracts after told q block → IsToTest extracts before told q block
 forgotten_back extracts before after told p q block forgets w = record {
   fetched = w.fetched;
-  disputed = disputed_before before after p block forgets w.disputed;
+  disputed = forgotten_differ before after p forgets block w.disputed;
   claim = w.claim;
   mine = claimed_before before after p forgets q block w.claim w.mine;
   untested = w.untested;
 }
 
-pub forgotten_tried : (chains next : Chains) (extracts : Table) (before after : Tables) (told : Told) (marks now : List ℕ) (p : PeerNo)
+pub forgotten_tried : (chains next : Chains) (extracts : ExtractTable) (before after : Tables) (told : TestResults) (marks now : List ℕ) (p : PeerNo)
     → Puts chains next p None → ForgetsClaims before after p.0 → now ≡ slice_set marks p.0 0
     → ∥ AreTriedTo chains extracts before told marks ∥₁ → ∥ AreTriedTo next extracts after told now ∥₁
 forgotten_tried chains next extracts before after told marks now p puts forgets is t =
@@ -292,11 +263,11 @@ forgotten_tried chains next extracts before after told marks now p puts forgets 
     (λ q own e h up low. forgotten_back extracts before after told p.0 q (hash_at own h) forgets) t)
 
 -- a fetched block on which they differ
-abbrev pub IsFetchedDispute : Table → Tables → Hash → Type 0
+abbrev pub IsFetchedDispute : ExtractTable → Tables → Hash → Type 0
 IsFetchedDispute extracts tables block = IsSome (extracts block) × IsAt tables block Differ
 
 -- p claims more, and the marks fell to below each of those blocks that was fetched and on which they differ
-pub added_tried : (chains : Chains) (extracts : Table) (before after : Tables) (told : Told) (marks fell : List ℕ) (p : ℕ)
+pub added_tried : (chains : Chains) (extracts : ExtractTable) (before after : Tables) (told : TestResults) (marks fell : List ℕ) (p : ℕ)
     (previous : Hash32) (blocks : List Hash) (hashes : List Hash32)
     → ((block : Hash) → after p block ≡ with_claims previous blocks hashes (before p) block)
     → ((q : ℕ) → q ≢ p → (block : Hash) → after q block ≡ before q block)
@@ -310,7 +281,7 @@ added_tried chains extracts before after told marks fell p previous blocks hashe
     ])
 
 -- where they agree on each of the blocks no mark falls
-pub agreed_below : (chain : Option Chain) (extracts : Table) (tables : Tables) (blocks : List Hash) (mark : ℕ)
+pub agreed_below : (chain : Option Chain) (extracts : ExtractTable) (tables : Tables) (blocks : List Hash) (mark : ℕ)
     → ((block : Hash) → IsIn block blocks → IsAt tables block Differ → ⊥)
     → IsTriedBelow chain (IsFetchedDispute extracts tables) blocks mark mark
 agreed_below chain extracts tables blocks mark agreed = record {
@@ -321,7 +292,7 @@ agreed_below chain extracts tables blocks mark agreed = record {
 
 -- ---- extracts and tests
 
-there_before : (extracts : Table) (at : Hash) (e : List TxExtract) (block : Hash) → IsSome (with_extract at e extracts block)
+there_before : (extracts : ExtractTable) (at : Hash) (e : List TxExtract) (block : Hash) → IsSome (with_extract at e extracts block)
     → (at ≡ block) ⊎ IsSome (extracts block)
 there_before extracts at e block there = by (same at block) refl there where
   by : (b : Bool) → same at block ≡ b → IsSome (if b then Some (unwrap_or (extracts block) e) else extracts block)
@@ -329,7 +300,7 @@ there_before extracts at e block there = by (same at block) refl there where
   by true is there = inl (same_true at block is)
   by false is there = inr there
 
-fetched_before : (extracts more : Table) (at : Hash) (e : List TxExtract) (result : Result (Unit {0}) NoMemory)
+fetched_before : (extracts more : ExtractTable) (at : Hash) (e : List TxExtract) (result : Result (Unit {0}) NoMemory)
     → OnOk result (IsSameTable more (with_extract at e extracts)) → OnErr result (IsSameTable more extracts)
     → (block : Hash) → IsSome (more block) → (at ≡ block) ⊎ IsSome (extracts block)
 fetched_before extracts more at e (Ok u) ok err block there =
@@ -340,7 +311,7 @@ abbrev pub IsDispute : Tables → Hash → Type 0
 IsDispute tables block = IsAt tables block Differ
 
 -- an extract is put in, where the marks fell to below its block if they differ on it
-pub put_in_tried : (chains : Chains) (extracts more : Table) (tables : Tables) (told : Told) (marks fell : List ℕ) (at : Hash)
+pub put_in_tried : (chains : Chains) (extracts more : ExtractTable) (tables : Tables) (told : TestResults) (marks fell : List ℕ) (at : Hash)
     (e : List TxExtract) (result : Result (Unit {0}) NoMemory)
     → OnOk result (IsSameTable more (with_extract at e extracts)) → OnErr result (IsSameTable more extracts)
     → ((q : ℕ) → IsTriedBelow (chains q) (IsDispute tables) (at ∷ []) (tried_at marks q) (tried_at fell q))
@@ -356,7 +327,7 @@ untested_if : (b lacks : Bool) (o : Option Bool) → (if b then Some (found_too 
 untested_if true lacks o e = cc e
 untested_if false lacks o e = e
 
-untested_before : (told now : Told) (at of : Hash) (lacks : Bool) (result : Result (Unit {0}) NoMemory)
+untested_before : (told now : TestResults) (at of : Hash) (lacks : Bool) (result : Result (Unit {0}) NoMemory)
     → OnOk result (IsSameTold now (with_test at of lacks told)) → OnErr result (IsSameTold now told)
     → (block filter : Hash) → now block filter ≡ None → told block filter ≡ None
 untested_before told now at of lacks (Ok u) ok err block filter e =
@@ -364,7 +335,7 @@ untested_before told now at of lacks (Ok u) ok err block filter e =
 untested_before told now at of lacks (Err n) ok err block filter e = sym (err block filter) ∙ e
 
 -- a filter was tested
-pub told_tried : (chains : Chains) (extracts : Table) (tables : Tables) (told now : Told) (marks : List ℕ) (at of : Hash) (lacks : Bool)
+pub told_tried : (chains : Chains) (extracts : ExtractTable) (tables : Tables) (told now : TestResults) (marks : List ℕ) (at of : Hash) (lacks : Bool)
     (result : Result (Unit {0}) NoMemory)
     → OnOk result (IsSameTold now (with_test at of lacks told)) → OnErr result (IsSameTold now told)
     → ∥ AreTriedTo chains extracts tables told marks ∥₁ → ∥ AreTriedTo chains extracts tables now marks ∥₁

@@ -18,7 +18,7 @@ use Rattle.cf_scan.specs.declared.extracts.TxExtract.{TxExtract}
 use Rattle.cf_tracker.specs.declared.account.Written.{Written}
 use Rattle.cf_tables.specs.Extracts.{with_extract}
 use Rattle.cf_tables.specs.Tables.{IsSameTable}
-use Rattle.cf_tables.specs.Known.{Table}
+use Rattle.cf_tables.specs.Known.{ExtractTable}
 use Rattle.cf_tracker.specs.Writing.{IsUpTo, stands_after}
 use Rattle.cf_tracker.specs.Written.{IsWrittenAs, IsWrittenHere, IsWrittenTo, IsWrittenTop, IsWrittenWhole, written_as, written_at}
 use Rattle.cf_seek.proofs.Along.{common_low, hash_of_next}
@@ -27,16 +27,16 @@ use Rattle.cf_seek.proofs.SoughtStays.{same_below, same_true}
 
 -- ---- one chain
 
-pub written_none : (table : Table) (own : Chain) (written : List Written) (height : ℕ) → height ≡ 0
+pub written_none : (table : ExtractTable) (own : Chain) (written : List Written) (height : ℕ) → height ≡ 0
     → IsWrittenTo table own written height
 written_none table own written height none = record { on = omega (arith, none); long = omega (arith, none); each = λ h lt. absurd (omega (arith, lt, none)) }
 
-pub written_low : (table : Table) (own : Chain) (written : List Written) (height low : ℕ) → low ≤ height
+pub written_low : (table : ExtractTable) (own : Chain) (written : List Written) (height low : ℕ) → low ≤ height
     → IsWrittenTo table own written height → IsWrittenTo table own written low
 written_low table own written height low le to =
     record { on = (let a = to.on in omega (arith, le, a)); long = (let a = to.long in omega (arith, le, a)); each = λ h lt. to.each h (omega (arith, lt, le)) }
 
-pub written_next : (table : Table) (own : Chain) (written : List Written) (height : ℕ) (hash : Hash)
+pub written_next : (table : ExtractTable) (own : Chain) (written : List Written) (height : ℕ) (hash : Hash)
     → height < length own → hash ≡ hash_at own (height + 1) → IsWrittenHere table hash written height
     → IsWrittenTo table own written height → IsWrittenTo table own written (height + 1)
 written_next table own written height hash lt is here to = record {
@@ -52,7 +52,7 @@ written_next table own written height hash lt is here to = record {
 }
 
 -- a height at which the chain ends, or above which another block stands, is the greatest
-pub written_top : (table : Table) (own : Chain) (written : List Written) (height most : ℕ) → most ≡ length own
+pub written_top : (table : ExtractTable) (own : Chain) (written : List Written) (height most : ℕ) → most ≡ length own
     → IsWrittenTo table own written height
     → (height < most → IsWrittenHere table (hash_at own (height + 1)) written height → ⊥)
     → IsWrittenTop table own written height
@@ -69,7 +69,7 @@ written_top table own written height most end to next = record {
 }
 
 -- a block is written above it
-pub written_push : (table : Table) (own : Chain) (before after : List Written) (height : ℕ) (hash : Hash)
+pub written_push : (table : ExtractTable) (own : Chain) (before after : List Written) (height : ℕ) (hash : Hash)
     → after ≡ before ++ written_as table hash ∷ [] → length before ≡ height → height < length own
     → hash ≡ hash_at own (height + 1) → IsWrittenTo table own before height → IsWrittenTo table own after (height + 1)
 written_push table own before after height hash is long lt at to = record {
@@ -97,7 +97,7 @@ pub take_long : (before after : List Written) (height : ℕ) → after ≡ take 
 take_long before after height is le = (let n = ap length is ∙ length-take height before in omega (arith, n, le))
 
 -- what is above it is taken away
-pub written_take : (table : Table) (own : Chain) (before after : List Written) (height : ℕ)
+pub written_take : (table : ExtractTable) (own : Chain) (before after : List Written) (height : ℕ)
     → after ≡ take height before → IsWrittenTo table own before height → IsWrittenTo table own after height
 written_take table own before after height is to = record {
   on = to.on;
@@ -105,7 +105,7 @@ written_take table own before after height is to = record {
   each = λ h lt. subst (IsWrittenAs table (hash_at own (h + 1))) (sym (ap (λ (l : List Written). written_at l h) is ∙ get_or-take height before h _ lt)) (to.each h lt);
 }
 
-pub written_whole : (table : Table) (own : Chain) (written : List Written) (height most : ℕ) → most ≡ length own
+pub written_whole : (table : ExtractTable) (own : Chain) (written : List Written) (height most : ℕ) → most ≡ length own
     → most ≤ height → IsWrittenTo table own written height → length written ≡ height → IsWrittenWhole table own written
 written_whole table own written height most end past to long =
     let on = to.on in
@@ -113,7 +113,7 @@ written_whole table own written height most end past to long =
     record { to = subst (IsWrittenTo table own written) is to; long = long ∙ is }
 
 -- along the chain from the lowest block on
-pub whole_along : (table : Table) (own : Chain) (written : List Written) → IsWrittenWhole table own written
+pub whole_along : (table : ExtractTable) (own : Chain) (written : List Written) → IsWrittenWhole table own written
     → (k : ℕ) (d : Header) → k < length (reverse own)
     → IsWrittenAs table (block_hash_of (get_or (reverse own) k d)) (written_at written k)
 whole_along table own written whole k d lt =
@@ -122,7 +122,7 @@ whole_along table own written whole k d lt =
 
 -- ---- another chain
 
-pub written_shared : (table : Table) (own other : Chain) (written : List Written) (height low : ℕ) → low ≤ height
+pub written_shared : (table : ExtractTable) (own other : Chain) (written : List Written) (height low : ℕ) → low ≤ height
     → low ≤ common_of own other → low ≤ length own → IsWrittenTo table other written height
     → IsWrittenTo table own written low
 written_shared table own other written height low le shared on to = record {
@@ -131,7 +131,7 @@ written_shared table own other written height low le shared on to = record {
   each = λ h lt. subst (λ (x : Hash). IsWrittenAs table x (written_at written h)) (sym (hash_shared own other (h + 1) (omega (arith, lt, shared)))) (to.each h (omega (arith, lt, le)));
 }
 
-grown_to : (table : Table) (hs : List Header) (own next : Chain) (written : List Written) (height : ℕ)
+grown_to : (table : ExtractTable) (hs : List Header) (own next : Chain) (written : List Written) (height : ℕ)
     → accept hs own ≡ Longer next → IsWrittenTo table own written height
     → IsWrittenTo table next written (min height (link_height hs own))
 grown_to table hs own next written height e to =
@@ -152,7 +152,7 @@ off_same at hash off = by (same at hash) refl where
   by true e = absurd (off (same_true at hash e))
   by false e = e
 
-put_else : (extracts more : Table) (at : Hash) (x : List TxExtract) (result : Result (Unit {0}) NoMemory)
+put_else : (extracts more : ExtractTable) (at : Hash) (x : List TxExtract) (result : Result (Unit {0}) NoMemory)
     → OnOk result (IsSameTable more (with_extract at x extracts)) → OnErr result (IsSameTable more extracts)
     → (hash : Hash) → (at ≡ hash → ⊥) → more hash ≡ extracts hash
 put_else extracts more at x (Ok u) ok err hash off =
@@ -161,33 +161,28 @@ put_else extracts more at x (Err n) ok err hash off = err hash
 
 -- ---- the bookmark
 
-pub up_to_low : (table : Table) (chain : Option Chain) (written : List Written) (height low : ℕ) → low ≤ height
-    → IsUpTo table chain written height → IsUpTo table chain written low
-up_to_low table chain written height low le up =
-    record { none = λ e. (let z = up.none e in omega (arith, le, z)); some = λ own e. written_low table own written height low le (up.some own e) }
-
-pub up_to_none : (table : Table) (chain : Option Chain) (written : List Written) (height : ℕ) → height ≡ 0
+pub up_to_none : (table : ExtractTable) (chain : Option Chain) (written : List Written) (height : ℕ) → height ≡ 0
     → IsUpTo table chain written height
 up_to_none table chain written height zero = record { none = λ e. zero; some = λ own e. written_none table own written height zero }
 
-pub up_to_own : (table : Table) (chain : Option Chain) (written : List Written) (height : ℕ) → IsSome chain
+pub up_to_own : (table : ExtractTable) (chain : Option Chain) (written : List Written) (height : ℕ) → IsSome chain
     → IsWrittenTo table (unwrap_or chain []) written height → IsUpTo table chain written height
 up_to_own table None written height some to = cc some
 up_to_own table (Some own) written height some to =
     record { none = λ e. cc e; some = λ x e. subst (λ (o : Option Chain). IsWrittenTo table (unwrap_or o []) written height) e to }
 
 -- the chains stay
-pub up_to_stays : (chains next : Chains) (table : Table) (written : List Written) (p height : ℕ) → Stays chains next
+pub up_to_stays : (chains next : Chains) (table : ExtractTable) (written : List Written) (p height : ℕ) → Stays chains next
     → IsUpTo table (chains p) written height → IsUpTo table (next p) written height
 up_to_stays chains next table written p height stays up = subst (λ (o : Option Chain). IsUpTo table o written height) (sym (stays p)) up
 
 -- it is on the same chain
-on_same : (chains : Chains) (table : Table) (written : List Written) (q r : PeerNo) (height : ℕ) → r ≡ q
+on_same : (chains : Chains) (table : ExtractTable) (written : List Written) (q r : PeerNo) (height : ℕ) → r ≡ q
     → IsUpTo table (chains q.0) written height → IsUpTo table (chains r.0) written height
 on_same chains table written q r height is up = subst (λ (k : PeerNo). IsUpTo table (chains k.0) written height) (sym is) up
 
 -- a peer is entered, or given up
-pub up_to_forgot : (chains next : Chains) (own : Option Chain) (table : Table) (written : List Written) (p q r : PeerNo) (height now : ℕ) → Puts chains next p own → r ≡ q
+pub up_to_forgot : (chains next : Chains) (own : Option Chain) (table : ExtractTable) (written : List Written) (p q r : PeerNo) (height now : ℕ) → Puts chains next p own → r ≡ q
     → (q.0 ≡ p.0 → now ≡ 0) → (q.0 ≢ p.0 → now ≡ height) → IsUpTo table (chains q.0) written height
     → IsUpTo table (next r.0) written now
 up_to_forgot chains next own table written p q r height now puts is here others up = on_same next table written q r now is (elim (cases_eq q.0 p.0) [
@@ -200,7 +195,7 @@ own_is None some = cc some
 own_is (Some own) some = refl
 
 -- headers came
-accepted_here : (table : Table) (hs : List Header) (own : Chain) (a : Accepted) (written : List Written) (height : ℕ)
+accepted_here : (table : ExtractTable) (hs : List Header) (own : Chain) (a : Accepted) (written : List Written) (height : ℕ)
     → accept hs own ≡ a → IsWrittenTo table own written height
     → IsWrittenTo table (chain_after a own) written (stands_after (change_of (link_height hs own) a) height)
 accepted_here table hs own (Longer next) written height e to = grown_to table hs own next written height e to
@@ -209,7 +204,7 @@ accepted_here table hs own Unlinked written height e to = to
 accepted_here table hs own (Invalid place fault) written height e to = to
 accepted_here table hs own TooHigh written height e to = to
 
-pub up_to_accepted : (chains next : Chains) (table : Table) (written : List Written) (p q r : PeerNo) (hs : List Header) (change : Change) (height now : ℕ) → IsSome (chains p.0)
+pub up_to_accepted : (chains next : Chains) (table : ExtractTable) (written : List Written) (p q r : PeerNo) (hs : List Header) (change : Change) (height now : ℕ) → IsSome (chains p.0)
     → change ≡ change_of (link_height hs (own_of chains p)) (accept hs (own_of chains p))
     → Puts chains next p (Some (chain_after (accept hs (own_of chains p)) (own_of chains p)))
     → r ≡ q → (q.0 ≡ p.0 → now ≡ stands_after change height) → (q.0 ≢ p.0 → now ≡ height)
@@ -229,7 +224,7 @@ up_to_accepted chains next table written p q r hs change height now some answer 
 ])
 
 -- an extract came, of a block that stands at none of these heights
-pub up_to_put : (extracts more : Table) (chains : Chains) (written : List Written) (q r : PeerNo) (height low : ℕ) (at : Hash) (x : List TxExtract) (result : Result (Unit {0}) NoMemory)
+pub up_to_put : (extracts more : ExtractTable) (chains : Chains) (written : List Written) (q r : PeerNo) (height low : ℕ) (at : Hash) (x : List TxExtract) (result : Result (Unit {0}) NoMemory)
     → OnOk result (IsSameTable more (with_extract at x extracts)) → OnErr result (IsSameTable more extracts) → r ≡ q
     → low ≤ height
     → ((own : Chain) → chains q.0 ≡ Some own → (h : ℕ) → 1 ≤ h → h ≤ low → hash_at own h ≡ at → ⊥)
@@ -249,12 +244,12 @@ up_to_put extracts more chains written q r height low at x result ok err same1 l
 })
 
 -- what is taken from a bookmark
-pub up_to_within : (table : Table) (chain : Option Chain) (written : List Written) (height : ℕ)
+pub up_to_within : (table : ExtractTable) (chain : Option Chain) (written : List Written) (height : ℕ)
     → IsUpTo table chain written height → (own : Chain) → chain ≡ Some own → height ≤ length own
 up_to_within table chain written height up own e = (up.some own e).on
 
 -- the greatest height is sought from one that the chains share
-pub shared_to : (table : Table) (chain : Option Chain) (own : Chain) (written : List Written) (height low : ℕ)
+pub shared_to : (table : ExtractTable) (chain : Option Chain) (own : Chain) (written : List Written) (height low : ℕ)
     → low ≤ height → ((other : Chain) → chain ≡ Some other → low ≤ common_of own other)
     → IsUpTo table chain written height → IsWrittenTo table own written low
 shared_to table None own written height low le shared up = written_none table own written low (let z = up.none refl in omega (arith, le, z))
@@ -263,7 +258,7 @@ shared_to table (Some other) own written height low le shared up =
     let c = common_low own other in
     written_shared table own other written height low le s (omega (arith, s, c)) (up.some other refl)
 
-pub up_to_turned : (chains : Chains) (table : Table) (written : List Written) (p r : PeerNo) (height : ℕ) → r ≡ p
+pub up_to_turned : (chains : Chains) (table : ExtractTable) (written : List Written) (p r : PeerNo) (height : ℕ) → r ≡ p
     → IsSome (chains p.0) → IsWrittenTo table (own_of chains p) written height
     → IsUpTo table (chains r.0) written height
 up_to_turned chains table written p r height is some to = on_same chains table written p r height is (up_to_own table (chains p.0) written height some to)
@@ -291,7 +286,7 @@ pub popped_all : (count : ℕ) (all now : List Written) → take count now ≡ t
 popped_all count all now kept le = sym (take_all count now le) ∙ kept
 
 -- what is written up to a chain's tip is all of it
-pub whole_of : (chains : Chains) (table : Table) (written : List Written) (q p : PeerNo) (height tip : ℕ)
+pub whole_of : (chains : Chains) (table : ExtractTable) (written : List Written) (q p : PeerNo) (height tip : ℕ)
     → IsSome (chains p.0) → q.0 ≡ p.0 → height ≡ tip → tip ≡ length (own_of chains p) → length written ≡ tip
     → IsUpTo table (chains q.0) written height → IsWrittenWhole table (own_of chains p) written
 whole_of chains table written q p height tip some e at end long up = record {

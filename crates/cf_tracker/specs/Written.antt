@@ -5,10 +5,10 @@ use Rattle.cf_headers.specs.Heights.{hash_at}
 use Rattle.cf_scan.specs.declared.extracts.Placed.{Placed}
 use Rattle.cf_scan.specs.declared.extracts.TxExtract.{TxExtract}
 use Rattle.cf_tracker.specs.declared.account.Written.{Written}
-use Rattle.cf_tables.specs.Known.{Table}
+use Rattle.cf_tables.specs.Known.{ExtractTable}
 
 -- a block that is told exactly where it has an extract
-abbrev pub written_as : Table → Hash → Written
+abbrev pub written_as : ExtractTable → Hash → Written
 written_as table hash = record { hash = record { 0 = hash }; told = is_some (table hash) }
 
 -- what a history gets of a block
@@ -17,13 +17,13 @@ extract_told true o = unwrap_or o []
 extract_told false o = []
 
 -- of blocks, the first of them at this height: the extract of each that is told, and an empty one of each other
-abbrev pub placed_written : Table → ℕ → List Written → List Placed
+abbrev pub placed_written : ExtractTable → ℕ → List Written → List Placed
 placed_written table height [] = []
 placed_written table height (w ∷ ws) =
     record { height = height; extract = extract_told w.told (table w.hash.0) } ∷ placed_written table (suc height) ws
 
 -- no extract changes
-abbrev pub KeepsExtracts : Table → Table → Type 0
+abbrev pub KeepsExtracts : ExtractTable → ExtractTable → Type 0
 KeepsExtracts before after =
     (hash : Hash) (extract : List TxExtract) → before hash ≡ Some extract → after hash ≡ Some extract
 
@@ -35,27 +35,27 @@ abbrev pub written_at : List Written → ℕ → Written
 written_at written place = slice_index_or written place no_block
 
 -- it has this hash, and is told exactly where it has an extract
-pub record IsWrittenAs (table : Table) (hash : Hash) (block : Written) : Type 0 where
+pub record IsWrittenAs (table : ExtractTable) (hash : Hash) (block : Written) : Type 0 where
   pub is : block.hash.0 ≡ hash
   pub told : block.told ≡ is_some (table hash)
 
 -- one stands there, and is so
-pub record IsWrittenHere (table : Table) (hash : Hash) (written : List Written) (place : ℕ) : Type 0 where
+pub record IsWrittenHere (table : ExtractTable) (hash : Hash) (written : List Written) (place : ℕ) : Type 0 where
   pub here : place < length written
   pub block : IsWrittenAs table hash (written_at written place)
 
 -- up to a height the blocks that are written are those of a chain above genesis
-pub record IsWrittenTo (table : Table) (own : Chain) (written : List Written) (height : ℕ) : Type 0 where
+pub record IsWrittenTo (table : ExtractTable) (own : Chain) (written : List Written) (height : ℕ) : Type 0 where
   pub on : height ≤ length own
   pub long : height ≤ length written
   pub each : (h : ℕ) → h < height → IsWrittenAs table (hash_at own (h + 1)) (written_at written h)
 
 -- and up to no greater one
-pub record IsWrittenTop (table : Table) (own : Chain) (written : List Written) (height : ℕ) : Type 0 where
+pub record IsWrittenTop (table : ExtractTable) (own : Chain) (written : List Written) (height : ℕ) : Type 0 where
   pub to : IsWrittenTo table own written height
   pub most : (more : ℕ) → IsWrittenTo table own written more → more ≤ height
 
 -- they are a chain's, all of them
-pub record IsWrittenWhole (table : Table) (own : Chain) (written : List Written) : Type 0 where
+pub record IsWrittenWhole (table : ExtractTable) (own : Chain) (written : List Written) : Type 0 where
   pub to : IsWrittenTo table own written (length own)
   pub long : length written ≡ length own

@@ -3,7 +3,7 @@ ghost use Rattle.std.specs.Prelude.{◌≡◌, ◌∷◌, ◌++◌, [], ◌+◌,
 ghost use Rattle.cf_scan.specs.Extracts.{history_of};
 ghost use Rattle.cf_tracker.specs.Account.{IsTold, written_in};
 ghost use Rattle.cf_tables.specs.Extracts.{table_in};
-ghost use Rattle.cf_tables.specs.Known.{Table};
+ghost use Rattle.cf_tables.specs.Known.{ExtractTable};
 ghost use Rattle.cf_tracker.specs.Written.{IsWrittenHere, placed_written, written_as};
 ghost use Rattle.cf_tracker.specs.declared.account.Written.{Written};
 
@@ -32,7 +32,7 @@ impl Account {
     /// No block; it takes no memory.
     pub(crate) fn new(alloc: Global) -> Account
         ensures written { written_in result ≡ [] }
-        ensures told { (table : Table) → IsTold table result }
+        ensures told { (table : ExtractTable) → IsTold table result }
     {
         Account {
             alloc,
@@ -91,7 +91,7 @@ impl Account {
     /// Takes the newest blocks away, until so many are left. It takes no memory.
     pub(crate) fn pop_to(&mut self, count: usize)
         ensures written { written_in self.new ≡ take count (written_in self.old) }
-        ensures told { (table : Table) → IsTold table self.old → IsTold table self.new }
+        ensures told { (table : ExtractTable) → IsTold table self.old → IsTold table self.new }
     {
         for _ in count..self.written.len() {
             self.pop();
@@ -102,7 +102,7 @@ impl Account {
     fn pop(&mut self)
         ensures written { (older : List Written) (block : Written) → written_in self.old ≡ older ++ block ∷ []
             → written_in self.new ≡ older }
-        ensures told { (table : Table) → IsTold table self.old → IsTold table self.new }
+        ensures told { (table : ExtractTable) → IsTold table self.old → IsTold table self.new }
     {
         match self.written.pop() {
             Some(_) => {
@@ -114,7 +114,7 @@ impl Account {
 
     /// The history of the blocks that are written.
     pub(crate) fn history(&self) -> Result<History, NoMemory>
-        ensures { IfOk result (λ h. (table : Table) → IsTold table self.now
+        ensures { IfOk result (λ h. (table : ExtractTable) → IsTold table self.now
             → h ≡ history_of (placed_written table 1 (written_in self.now))) }
     {
         let history = self.book.history()?;

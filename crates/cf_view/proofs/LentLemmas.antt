@@ -3,46 +3,17 @@ use Rattle.std.proofs.Common.{◌≡◌, ℕ, zero, suc, ◌-◌, ◌+◌, ◌<�
 use Rattle.cf_bytes.specs.Cut.{Read, ◌>>=◌}
 use Rattle.cf_bytes.specs.Lists.{list_at, with_front}
 use Rattle.cf_bytes.proofs.Codecs.{value_of}
-use Rattle.cf_bytes.proofs.ListLoops.{goes_on, is_done, one_more, all_more, ends}
-use Rattle.cf_view.specs.Lent.{items_of, is_read, items_in, AreThere, IsReading}
+use Rattle.cf_view.specs.Lent.{items_of, is_read, items_in, AreThere}
 
 with_none : {X E : Type 0} (r : Read (List X) E) → with_front [] r ≡ r
 with_none (Ok x) = refl
 with_none (Err e) = refl
 
 -- nothing was read yet
-pub reading_starts : {X E : Type 0} (item : List ℕ → Read X E) (spell : X → List ℕ) (Fits : X → Type 0) (count : ℕ)
-    (bytes : List ℕ) → IsReading item spell Fits count 0 bytes bytes
-reading_starts item spell Fits count bytes = record {
-  front = [];
-  exact = ap (λ (n : ℕ). with_front [] (list_at item n bytes)) (omega arith) ∙ with_none (list_at item count bytes);
-  found = refl;
-  each = tt;
-  len = refl;
-}
-
-pub reading_more : {X E : Type 0} (item : List ℕ → Read X E) (spell : X → List ℕ) (Fits : X → Type 0) (count i : ℕ)
-    (bytes rest more : List ℕ) (x : X) → i < count → item rest ≡ Ok (x, more) → rest ≡ spell x ++ more → Fits x
-    → IsReading item spell Fits count i bytes rest → IsReading item spell Fits count (i + 1) bytes more
-reading_more item spell Fits count i bytes rest more x less read is fits so = record {
-  front = so.front ++ x ∷ [];
-  exact = goes_on item so.front count i rest x more (list_at item count bytes) less read so.exact;
-  found = one_more spell so.front x rest more bytes so.found is;
-  each = all_more Fits so.front x so.each fits;
-  len = omega (arith, so.len, length-append so.front (x ∷ []));
-}
-
-pub reading_done : {X E : Type 0} (item : List ℕ → Read X E) (spell : X → List ℕ) (Fits : X → Type 0) (count i : ℕ)
-    (bytes rest : List ℕ) → count ≤ i → (so : IsReading item spell Fits count i bytes rest)
-    → list_at item count bytes ≡ Ok (so.front, rest)
-reading_done item spell Fits count i bytes rest le so =
-    is_done item so.front count i rest (list_at item count bytes) le so.exact
-
-pub reading_ends : {X E : Type 0} (item : List ℕ → Read X E) (spell : X → List ℕ) (Fits : X → Type 0) (count i : ℕ)
-    (bytes rest : List ℕ) (e : E × List ℕ) → i < count → item rest ≡ Err e
-    → IsReading item spell Fits count i bytes rest → list_at item count bytes ≡ Err e
-reading_ends item spell Fits count i bytes rest e less refused so =
-    ends item so.front count i rest e (list_at item count bytes) less refused so.exact
+pub starts : {X E : Type 0} (item : List ℕ → Read X E) (count : ℕ) (bytes : List ℕ)
+    → with_front [] (list_at item (count - 0) bytes) ≡ list_at item count bytes
+starts item count bytes =
+    ap (λ (n : ℕ). with_front [] (list_at item n bytes)) (omega arith) ∙ with_none (list_at item count bytes)
 
 -- all were read: they stand there, and are these
 pub there : {X E : Type 0} (item : List ℕ → Read X E) (count : ℕ) (bytes rest : List ℕ) (xs : List X)

@@ -2,7 +2,7 @@
 use Rattle.std.proofs.Common.{◌≡◌, ℕ, ◌==◌, Bool, true, false, List, [], ◌∷◌, ◌++◌, map, length, refl, sym, ap, ◌∙◌, append_assoc}
 use Rattle.std.specs.Prelude.{◌||◌}
 use Rattle.std.specs.List.{list_any}
-use Rattle.std.proofs.lemmas.List.{append-nil, map-append}
+use Rattle.std.proofs.lemmas.List.{map-append}
 use Rattle.cf_bytes.specs.declared.hash.Hash32.{Hash32}
 use Rattle.cf_block.specs.declared.tx.Tx.{Tx}
 use Rattle.cf_block.specs.Tx.{tx_spelling, txid_of}
@@ -44,7 +44,3 @@ walked_more txs left more t ids new long h n first hash put size so = record {
       ∙ sym (any_more has_64 (map tx_spelling so.front) (tx_spelling t))
       ∙ ap (list_any has_64) (sym (map-append tx_spelling so.front (t ∷ [])));
 }
-
-pub walked_all : (txs left : List Tx) (ids : List Hash32) (long : Bool) → left ≡ [] → (so : IsWalked txs left ids long)
-    → txs ≡ so.front
-walked_all txs left ids long none so = so.joined ∙ ap (λ (l : List Tx). so.front ++ l) none ∙ append-nil so.front

@@ -1,8 +1,7 @@
 -- machine: what is read from lent bytes, item after item.
-use Rattle.std.specs.Prelude.{◌≡◌, ℕ, ◌-◌, List, [], ◌∷◌, ◌++◌, length, Bool, true, false, Option, Some, None, Result, Ok, Err}
-use Rattle.std.specs.List.{flat_map, AllByRecursion}
+use Rattle.std.specs.Prelude.{◌≡◌, ℕ, List, [], ◌∷◌, Bool, true, false, Option, Some, None, Result, Ok, Err}
 use Rattle.cf_bytes.specs.Cut.{Read}
-use Rattle.cf_bytes.specs.Lists.{list_at, with_front}
+use Rattle.cf_bytes.specs.Lists.{list_at}
 use Rattle.cf_block.specs.declared.fault.BlockFault.{BlockFault}
 
 -- the items that were read, where none was refused
@@ -20,15 +19,6 @@ items_in item count bytes = items_of (list_at item count bytes)
 -- so many items stand there
 abbrev pub AreThere : {X E : Type 0} → (List ℕ → Read X E) → ℕ → List ℕ → Type 0
 AreThere item count bytes = is_read (list_at item count bytes) ≡ true
-
--- Some of the items were read, and the others are to be read from here: what is kept while they are read over.
-pub record IsReading {X E : Type 0} (item : List ℕ → Read X E) (spell : X → List ℕ) (Fits : X → Type 0) (count i : ℕ)
-    (bytes rest : List ℕ) : Type 0 where
-  pub front : List X
-  pub exact : with_front front (list_at item (count - i) rest) ≡ list_at item count bytes
-  pub found : bytes ≡ flat_map spell front ++ rest
-  pub each : AllByRecursion Fits front
-  pub len : length front ≡ i
 
 -- what a call answered that reads all the bytes and lends them
 abbrev pub Lends : {X Y : Type 0} → (X → Y) → List ℕ → Read Y BlockFault → Result X BlockFault → Type 0

@@ -2,7 +2,9 @@
 #![tactic(auto)]
 
 mod commitment;
+mod items;
 mod view;
 
 pub use commitment::{check_view, check_view_by, view_txids};
+pub use items::Items;
 pub use view::{BlockView, InView, InsView, OutView, OutsView, TxView, TxsView, view_block};

@@ -13,6 +13,7 @@ ghost use Rattle.cf_block.specs.Tx.{tx_spelling, block_spelling, txid_of};
 ghost use Rattle.cf_block.specs.Reading.{input_at, output_at, tx_fields_at, block_fields_at, block_at};
 ghost use Rattle.cf_view.specs.Lent.{GivesFirst, Lends};
 
+use crate::items::Items;
 use cf_block::{
     BlockFault, BlockFaultKind, Header, MAX_BLOCK, OutPoint, Script, TxOut, place, read_count,
     read_counted, read_header, read_input_count, read_outpoint, read_u32, read_value, read_version,
@@ -58,8 +59,7 @@ impl<'a> Model for OutView<'a> {
 /// Inputs that are read from lent bytes one after another. A contract sees those that are left.
 #[derive(Drop)]
 pub struct InsView<'a> {
-    rest: &'a [u8],
-    left: u64,
+    items: Items<'a>,
 }
 
 impl<'a> Model for InsView<'a> {
@@ -70,16 +70,15 @@ impl<'a> Model for InsView<'a> {
 
     ghost Value = { List TxIn };
 
-    ghost view = { λ v. items_in input_at v.left v.rest.now };
+    ghost view = { λ v. items_in input_at v.items.left v.items.rest.now };
 
-    ghost invariant = { λ v. AreThere input_at v.left v.rest.now };
+    ghost invariant = { λ v. AreThere input_at v.items.left v.items.rest.now };
 }
 
 /// Outputs that are read from lent bytes one after another. A contract sees those that are left.
 #[derive(Drop)]
 pub struct OutsView<'a> {
-    rest: &'a [u8],
-    left: u64,
+    items: Items<'a>,
 }
 
 impl<'a> Model for OutsView<'a> {
@@ -90,16 +89,15 @@ impl<'a> Model for OutsView<'a> {
 
     ghost Value = { List Output };
 
-    ghost view = { λ v. items_in output_at v.left v.rest.now };
+    ghost view = { λ v. items_in output_at v.items.left v.items.rest.now };
 
-    ghost invariant = { λ v. AreThere output_at v.left v.rest.now };
+    ghost invariant = { λ v. AreThere output_at v.items.left v.items.rest.now };
 }
 
 /// Transactions that are read from lent bytes one after another. A contract sees those that are left.
 #[derive(Drop)]
 pub struct TxsView<'a> {
-    rest: &'a [u8],
-    left: u64,
+    items: Items<'a>,
 }
 
 impl<'a> Model for TxsView<'a> {
@@ -110,9 +108,9 @@ impl<'a> Model for TxsView<'a> {
 
     ghost Value = { List Tx };
 
-    ghost view = { λ v. items_in tx_fields_at v.left v.rest.now };
+    ghost view = { λ v. items_in tx_fields_at v.items.left v.items.rest.now };
 
-    ghost invariant = { λ v. AreThere tx_fields_at v.left v.rest.now };
+    ghost invariant = { λ v. AreThere tx_fields_at v.items.left v.items.rest.now };
 }
 
 // The fields of a transaction, its inputs and outputs lent.
@@ -203,11 +201,8 @@ fn view_inputs<'a>(count: u64, cut: &mut Cut<'a>) -> Result<InsView<'a>, BlockFa
     ensures found { IfOk result (λ xs. cut.old ≡ flat_map input_spelling xs ++ cut.new) }
     ensures fits { IfOk result (λ xs. AllByRecursion IsInput xs × (length xs ≡ count)) }
 {
-    let rest = cut.rest();
-    for _ in 0..count {
-        view_input(cut)?;
-    }
-    Ok(InsView { rest, left: count })
+    let items = Items::pass(count, cut, view_input)?;
+    Ok(InsView { items })
 }
 
 fn view_outputs<'a>(count: u64, cut: &mut Cut<'a>) -> Result<OutsView<'a>, BlockFaultKind>
@@ -215,11 +210,8 @@ fn view_outputs<'a>(count: u64, cut: &mut Cut<'a>) -> Result<OutsView<'a>, Block
     ensures found { IfOk result (λ xs. cut.old ≡ flat_map output_spelling xs ++ cut.new) }
     ensures fits { IfOk result (λ xs. AllByRecursion IsOutput xs × (length xs ≡ count)) }
 {
-    let rest = cut.rest();
-    for _ in 0..count {
-        view_output(cut)?;
-    }
-    Ok(OutsView { rest, left: count })
+    let items = Items::pass(count, cut, view_output)?;
+    Ok(OutsView { items })
 }
 
 #[tactic(auto, unfolding(cf_block::specs::Reading::tx_fields_at, cf_block::specs::Tx::tx_spelling))]
@@ -267,11 +259,8 @@ fn view_txs<'a>(count: u64, cut: &mut Cut<'a>) -> Result<TxsView<'a>, BlockFault
     ensures found { IfOk result (λ xs. cut.old ≡ flat_map tx_spelling xs ++ cut.new) }
     ensures fits { IfOk result (λ xs. AllByRecursion IsTx xs × (length xs ≡ count)) }
 {
-    let rest = cut.rest();
-    for _ in 0..count {
-        view_tx(cut)?;
-    }
-    Ok(TxsView { rest, left: count })
+    let items = Items::pass(count, cut, view_tx)?;
+    Ok(TxsView { items })
 }
 
 // Takes the bytes before the field that is refused.
@@ -321,16 +310,7 @@ impl<'a> InsView<'a> {
     pub fn next(&mut self) -> Option<InView<'a>>
         ensures { GivesFirst self.old result self.new }
     {
-        if self.left == 0 {
-            return None;
-        }
-        let mut cut = Cut::new(self.rest);
-        let Ok(item) = view_input(&mut cut) else {
-            unreachable!()
-        };
-        self.rest = cut.rest();
-        self.left -= 1;
-        Some(item)
+        self.items.next(view_input)
     }
 }
 
@@ -339,16 +319,7 @@ impl<'a> OutsView<'a> {
     pub fn next(&mut self) -> Option<OutView<'a>>
         ensures { GivesFirst self.old result self.new }
     {
-        if self.left == 0 {
-            return None;
-        }
-        let mut cut = Cut::new(self.rest);
-        let Ok(item) = view_output(&mut cut) else {
-            unreachable!()
-        };
-        self.rest = cut.rest();
-        self.left -= 1;
-        Some(item)
+        self.items.next(view_output)
     }
 }
 
@@ -357,16 +328,7 @@ impl<'a> TxsView<'a> {
     pub fn next(&mut self) -> Option<TxView<'a>>
         ensures { GivesFirst self.old result self.new }
     {
-        if self.left == 0 {
-            return None;
-        }
-        let mut cut = Cut::new(self.rest);
-        let Ok(item) = view_tx(&mut cut) else {
-            unreachable!()
-        };
-        self.rest = cut.rest();
-        self.left -= 1;
-        Some(item)
+        self.items.next(view_tx)
     }
 }
 
@@ -389,8 +351,7 @@ impl<'a> TxView<'a> {
         ensures { result ≡ self.now.inputs }
     {
         InsView {
-            rest: self.fields.inputs.rest,
-            left: self.fields.inputs.left,
+            items: self.fields.inputs.items,
         }
     }
 
@@ -399,8 +360,7 @@ impl<'a> TxView<'a> {
         ensures { result ≡ self.now.outputs }
     {
         OutsView {
-            rest: self.fields.outputs.rest,
-            left: self.fields.outputs.left,
+            items: self.fields.outputs.items,
         }
     }
 
@@ -447,8 +407,7 @@ impl<'a> BlockView<'a> {
         ensures { result ≡ self.now.txs }
     {
         TxsView {
-            rest: self.txs.rest,
-            left: self.txs.left,
+            items: self.txs.items,
         }
     }
 }

@@ -55,10 +55,6 @@ bad_here before blocks (a ∷ tail) cause z is =
 
 -- ---- the next record
 
-pub no_record : (blocks : List Block) (bytes : List ℕ) (cause : RecordCause) → record_at bytes ≡ Err cause → next_at blocks bytes ≡ Err cause
-unfolding next_at
-no_record blocks bytes cause h = ap (λ r. r >>= λ text. in_block (stored_block_at text.0) >>= λ b. put_on (cause_on blocks b) blocks b >>= λ more. Ok (more, text.1)) h
-
 pub no_block : (blocks : List Block) (bytes text rest : List ℕ) (cause : RecordCause) → record_at bytes ≡ Ok (text, rest) → in_block (stored_block_at text) ≡ Err cause → next_at blocks bytes ≡ Err cause
 unfolding next_at
 no_block blocks bytes text rest cause h e =

@@ -2,6 +2,7 @@
 use Rattle.std.proofs.Common.{◌≡◌, ◌⊎◌, inl, inr, ℕ, ◌+◌, ◌<◌, ◌≤◌, List, length, drop, true, sym, subst, arith}
 use Rattle.std.proofs.lemmas.Bool.{cases_lt}
 use Rattle.std.proofs.lemmas.List.{length-drop}
+use Rattle.cf_conn.proofs.Stepping.{more_steps, no_steps}
 use Rattle.cf_conn.specs.Window.{Pane}
 use Rattle.cf_walk.specs.Files.{all_zeros}
 use Rattle.cf_walk.specs.Judging.{IsBlank}
@@ -27,3 +28,6 @@ few_wanted before after n small (inr piece) = λ few. omega (arith, small, piece
 pub few_taken : (before after : Pane) (n : ℕ) → after ≡ record before { held = drop n before.held } → StaysFew before after
 few_taken before after n is few =
     subst (λ (w : Pane). length w.held < most_held) (sym is) (omega (arith, few, length-drop n before.held))
+
+-- what is held before a record is taken, and the steps to there
+pub ruleset prepares = (short_so_far, few_wanted, no_steps, more_steps)

@@ -14,14 +14,9 @@ use Rattle.cf_walk.specs.declared.judge.Judge.{Judge}
 use Rattle.cf_walk.specs.declared.walk.Walk.{Walk}
 use Rattle.cf_walk.specs.Records.{Taken}
 use Rattle.cf_walk.specs.Files.{all_zeros, block_here, is_first, behind_first, after_genesis, blocks_from, blocks_at}
-use Rattle.cf_conn.specs.Window.{CountsReads}
-use Rattle.cf_conn.specs.declared.reading.ReadFail.{ReadFail}
-use Rattle.cf_conn.specs.declared.reading.ReadFail.TheVariants as fails
-use Rattle.cf_walk.specs.declared.fault.LoadFault.{LoadFault}
-use Rattle.cf_walk.specs.declared.walk.Stop.TheVariants as stops
-use Rattle.cf_walk.specs.Judging.{BeginsWith, CountsStop, Firm, IsBlank, IsReady, IsWhole, StandsOn, WalksOver, next_by, after_by}
-use Rattle.cf_walk.specs.Striding.{IsUnread, most_bytes}
-use Rattle.cf_walk.specs.Striding.{CountsLoad, Gives, IsWalking, NoneFails, behind_them, end_of, that_count}
+use Rattle.cf_walk.specs.Judging.{BeginsWith, Firm, IsBlank, IsReady, IsWhole, StandsOn, WalksOver, next_by, after_by}
+use Rattle.cf_walk.specs.Striding.{most_bytes}
+use Rattle.cf_walk.specs.Striding.{Gives, IsWalking, NoneFails, behind_them, end_of, that_count}
 use Rattle.cf_walk.proofs.FileLaws.{both, is_zero, none_at_zero, read_from}
 use Rattle.cf_walk.proofs.FileSteps.{ends}
 use Rattle.cf_walk.proofs.WalkFirm.{here_firm}
@@ -217,19 +212,3 @@ gives_ok bytes old new before later blocks None way begun w found after fits sam
 gives_ok bytes old new before later blocks (Some b) way begun w found after fits same_before same_begun =
     let has : BeginsWith b way.rest w.1 = subst (λ (o : Option (List ℕ)). IfSome o (λ rest. BeginsWith b way.rest rest)) w.3 found in
     gives_block bytes old new before later blocks b w.1 way begun w.0 w.2 w.3 w.4 has fits after same_before same_begun
-
-pub gives_read : (bytes : List ℕ) (blocks : List Block) (fail : ReadFail) (fault : LoadFault) (w : Walk) (left : Option (List ℕ)) (m n : ℕ) → IsUnread fail fault → CountsReads {X = Unit {0}} (Err fail) m n
-    → Gives bytes blocks (Err fault) w left
-gives_read bytes blocks fails.Failed fault w left m n is count = subst (λ (f : LoadFault). Gives bytes blocks (Err f) w left) (sym is) tt
-gives_read bytes blocks fails.TooBig fault w left m n is count = absurd count
-gives_read bytes blocks fails.NoMemory fault w left m n is count = subst (λ (f : LoadFault). Gives bytes blocks (Err f) w left) (sym is) tt
-
-pub counts_read : (fail : ReadFail) (fault : LoadFault) (m n : ℕ) → IsUnread fail fault → CountsReads {X = Unit {0}} (Err fail) m n → CountsLoad {X = Option Block} (Err fault) m n
-counts_read fails.Failed fault m n is count = subst (λ (f : LoadFault). CountsLoad {X = Option Block} (Err f) m n) (sym is) count
-counts_read fails.TooBig fault m n is count = absurd count
-counts_read fails.NoMemory fault m n is count = subst (λ (f : LoadFault). CountsLoad {X = Option Block} (Err f) m n) (sym is) count
-
-pub as_reads : (fail : ReadFail) (m n : ℕ) → CountsStop {X = Option Block} (Err (stops.Read fail)) m n → CountsReads {X = Unit {0}} (Err fail) m n
-as_reads fails.Failed m n count = count
-as_reads fails.TooBig m n count = count
-as_reads fails.NoMemory m n count = count

@@ -1,5 +1,5 @@
 -- A step over a source.
-use Rattle.std.proofs.Common.{◌≡◌, ℕ, zero, suc, ◌≤◌, ◌+◌, ◌⊎◌, inl, inr, Bool, true, false, ◌&&◌, ◌==◌, List, [], ◌∷◌, ◌++◌, length, Option, Some, None, Result, Ok, Err, refl, sym, ◌∙◌, ap, subst, arith, append_assoc, le-ltb, length-append}
+use Rattle.std.proofs.Common.{◌≡◌, ℕ, zero, suc, ◌≤◌, ◌+◌, ◌⊎◌, inl, inr, Bool, true, false, ◌&&◌, ◌==◌, List, [], ◌∷◌, ◌++◌, length, Option, Some, None, Result, Ok, Err, refl, sym, ◌∙◌, ap, subst, arith, le-ltb, length-append}
 use Rattle.std.specs.Prelude.{take, option_map, IfOk, IfSome, if◌then◌else◌, nat_le, nat_lt, drop, ◌-◌}
 use Rattle.cf_chain.specs.Good.{max_height}
 use Rattle.std.proofs.lemmas.List.{append-nil, drop_at, drop_all}
@@ -26,9 +26,9 @@ use Rattle.cf_walk.specs.declared.judge.Judge.{Judge}
 use Rattle.cf_walk.specs.Records.{Taken, cut_off, is_magic, magic_at, length_at, head_at, text_at, record_at}
 use Rattle.cf_coins.specs.Spending.{spend_txs}
 use Rattle.cf_walk.specs.Files.{all_zeros, in_block, in_header, in_height, in_commitment, in_coins, or_else, block_here}
-use Rattle.cf_walk.specs.declared.walk.Stop.{Stop}
-use Rattle.cf_walk.specs.declared.walk.Stop.TheVariants as stops
-use Rattle.cf_walk.specs.Judging.{BeginsWith, EndsWith, IsBlank, IsReady, IsWhole, Firm, Strips, Walks, WalksOver, cause_by, passed, next_by}
+use Rattle.cf_walk.specs.declared.walk.WalkStop.{WalkStop}
+use Rattle.cf_walk.specs.declared.walk.WalkStop.TheVariants as stops
+use Rattle.cf_walk.specs.Judging.{EndsWith, IsBlank, IsReady, IsWhole, Firm, Strips, Walks, WalksOver, cause_by, passed, next_by}
 use Rattle.cf_walk.proofs.FileLaws.{both, is_zero}
 use Rattle.cf_walk.proofs.WalkFirm.{next_firm}
 
@@ -154,19 +154,21 @@ none_left None held e = refl
 none_left (Some l) held e = cc
 
 -- reading on takes nothing
+same_as_before : (see : Pane → Option (List ℕ) → Option (List ℕ)) (part : Pane → List ℕ → List ℕ) → ((w : Pane) → see w None ≡ None) → ((w : Pane) (l : List ℕ) → see w (Some l) ≡ Some (part w l))
+    → ((a b : Pane) (l m : List ℕ) → a.held ++ l ≡ b.held ++ m → length a.held + a.room ≡ length b.held + b.room → part a l ≡ part b m)
+    → (old new : Pane) (before later : Option (List ℕ)) → with_front new.held later ≡ with_front old.held before → length new.held + new.room ≡ length old.held + old.room → see new later ≡ see old before
+same_as_before see part none some each old new None later same bound = ap (see new) (none_left later new.held same) ∙ none new ∙ sym (none old)
+same_as_before see part none some each old new (Some left) later same bound =
+    let t = told_so later new.held (old.held ++ left) same in
+    ap (see new) t.1 ∙ some new t.0 ∙ ap Some (each new old t.0 left t.2 bound) ∙ sym (some old left)
+
 pub seen_same : (old new : Pane) (before later : Option (List ℕ)) → with_front new.held later ≡ with_front old.held before → length new.held + new.room ≡ length old.held + old.room
     → seen new later ≡ seen old before
-seen_same old new None later same bound = ap (seen new) (none_left later new.held same)
-seen_same old new (Some left) later same bound =
-    let t = told_so later new.held (old.held ++ left) same in
-    ap (seen new) t.1 ∙ ap Some (count_same new old t.0 left t.2 bound)
+seen_same = same_as_before seen (λ w l. w.held ++ take w.room l) (λ w. refl) (λ w l. refl) count_same
 
 pub beyond_same : (old new : Pane) (before later : Option (List ℕ)) → with_front new.held later ≡ with_front old.held before → length new.held + new.room ≡ length old.held + old.room
     → beyond new later ≡ beyond old before
-beyond_same old new None later same bound = ap (beyond new) (none_left later new.held same)
-beyond_same old new (Some left) later same bound =
-    let t = told_so later new.held (old.held ++ left) same in
-    ap (beyond new) t.1 ∙ ap Some (behind_same new old t.0 left t.2 bound)
+beyond_same = same_as_before beyond (λ w l. drop w.room l) (λ w. refl) (λ w l. refl) behind_same
 
 pub record Prepared (w : Pane) (left : Option (List ℕ)) (bytes : List ℕ) : Type 0 where
   pub behind : List ℕ
@@ -211,39 +213,23 @@ given_over j old new left bytes others b ready room w is behind =
     let later : beyond new left ≡ Some others = ap (λ (n : ℕ). option_map (λ l. drop n l) left) room ∙ behind in
     (s.0, new.held ++ p.behind, s.1, now, later)
 
--- and its record
-pub begins_over : (b : Block) (old new : Pane) (left : Option (List ℕ)) (bytes : List ℕ) → new.room ≡ old.room → BeginsWith b old.held new.held → seen old left ≡ Some bytes
-    → IfSome (seen new left) (λ rest. BeginsWith b bytes rest)
-begins_over b old new None bytes room has is = tt
-begins_over b old new (Some l) bytes room has is = record {
-  front = has.front;
-  is = has.is;
-  spelled =
-      sym (some_is (old.held ++ take old.room l) bytes is)
-      ∙ (λ i. has.spelled i ++ take (sym room i) l)
-      ∙ append_assoc has.front new.held (take new.room l);
-}
-
 -- no more comes, where what is held isn't whole
 pub over_here : (old new : Pane) (left : Option (List ℕ)) → IsWhole old.held ⊎ IsOver old left → new.room ≡ old.room → (IsWhole old.held → ⊥) → IsOver new left
 over_here old new left (inl whole) room never = absurd (never whole)
 over_here old new left (inr (inl full)) room never = inl (room ∙ full)
 over_here old new left (inr (inr ended)) room never = inr ended
 
-pub zeros_whole : (bytes : List ℕ) → all_zeros bytes ≡ true → IsWhole bytes → ⊥
-zeros_whole bytes z whole = let some = whole.0 in cc
-
 pub cut_whole : (j : Judge) (bytes : List ℕ) → next_by j bytes ≡ Err Cut → IsWhole bytes → ⊥
 cut_whole j bytes e whole = whole.1 (next_cut j bytes e)
 
-ends_none : (read : Taken Block) (bytes others : List ℕ) (new behind : Option (List ℕ)) (r : Result (Option Block) Stop) → all_zeros bytes ≡ true → EndsWith None others r → WalksOver read bytes others new behind r
+ends_none : (read : Taken Block) (bytes others : List ℕ) (new behind : Option (List ℕ)) (r : Result (Option Block) WalkStop) → all_zeros bytes ≡ true → EndsWith None others r → WalksOver read bytes others new behind r
 ends_none read bytes others new behind (Ok None) z e = (z, e)
 ends_none read bytes others new behind (Ok (Some b)) z e = absurd e
 ends_none read bytes others new behind (Err (stops.Cause c)) z e = absurd e
 ends_none read bytes others new behind (Err stops.TooBig) z e = (e, inl z)
 ends_none read bytes others new behind (Err (stops.Read f)) z e = tt
 
-ends_cut : (read : Taken Block) (bytes others : List ℕ) (new behind : Option (List ℕ)) (r : Result (Option Block) Stop) → all_zeros bytes ≡ false → read ≡ Err Cut → EndsWith (Some Cut) others r
+ends_cut : (read : Taken Block) (bytes others : List ℕ) (new behind : Option (List ℕ)) (r : Result (Option Block) WalkStop) → all_zeros bytes ≡ false → read ≡ Err Cut → EndsWith (Some Cut) others r
     → WalksOver read bytes others new behind r
 ends_cut read bytes others new behind (Ok None) z is e = absurd e
 ends_cut read bytes others new behind (Ok (Some b)) z is e = absurd e
@@ -256,7 +242,7 @@ same_room old new left others P room behind is =
     subst (λ (o : Option (List ℕ)). IfSome o P) (ap (λ (n : ℕ). option_map (λ l. drop n l) left) room ∙ behind) is
 
 -- no record is left
-pub none_over : (j : Judge) (old new : Pane) (left s t : Option (List ℕ)) (bytes others : List ℕ) (r : Result (Option Block) Stop) → IsWhole old.held ⊎ IsOver old left → new.room ≡ old.room
+pub none_over : (j : Judge) (old new : Pane) (left s t : Option (List ℕ)) (bytes others : List ℕ) (r : Result (Option Block) WalkStop) → IsWhole old.held ⊎ IsOver old left → new.room ≡ old.room
     → all_zeros old.held ≡ true → IfSome (beyond new left) (λ o. EndsWith None o r) → seen old left ≡ Some bytes → beyond old left ≡ Some others → WalksOver (next_by j bytes) bytes others s t r
 none_over j old new left s t bytes others r ready room z ends is behind =
     let p = prepared old left bytes ready is in
@@ -264,7 +250,7 @@ none_over j old new left s t bytes others r ready room z ends is behind =
     ends_none (next_by j bytes) bytes others s t r all (same_room old new left others (λ o. EndsWith None o r) room behind ends)
 
 -- a record is cut off
-pub cut_over : (j : Judge) (old new : Pane) (left s t : Option (List ℕ)) (bytes others : List ℕ) (r : Result (Option Block) Stop) → IsWhole old.held ⊎ IsOver old left → new.room ≡ old.room
+pub cut_over : (j : Judge) (old new : Pane) (left s t : Option (List ℕ)) (bytes others : List ℕ) (r : Result (Option Block) WalkStop) → IsWhole old.held ⊎ IsOver old left → new.room ≡ old.room
     → Walks (next_by j old.held) old.held new.held (Err (No Cut)) → IfSome (beyond new left) (λ o. EndsWith (Some Cut) o r) → seen old left ≡ Some bytes → beyond old left ≡ Some others
     → WalksOver (next_by j bytes) bytes others s t r
 cut_over j old new left s t bytes others r ready room w ends is behind =
@@ -288,7 +274,7 @@ ready_so w left (inr (inl blank)) never = absurd (never blank)
 ready_so w left (inr (inr over)) never = inr over
 
 -- none is no block
-pub none_then : (r : Result (Option Block) Stop) (P : Block → Type 0) → IfOk r (λ o. o ≡ None) → IfOk r (λ o. IfSome o P)
+pub none_then : (r : Result (Option Block) WalkStop) (P : Block → Type 0) → IfOk r (λ o. o ≡ None) → IfOk r (λ o. IfSome o P)
 none_then (Ok None) P e = tt
 none_then (Ok (Some b)) P e = cc
 none_then (Err s) P e = tt
@@ -358,7 +344,7 @@ nothing_left w (Some l) rest none over is = sym (some_is (w.held ++ take w.room 
     taken (inr ended) = ap (λ (x : List ℕ). take w.room x) ended ∙ take_none w.room
 
 -- zeros alone were left
-pub zeros_end : (j : Judge) (old new : Pane) (left later s t : Option (List ℕ)) (bytes others : List ℕ) (r : Result (Option Block) Stop) → Strips (seen old left) (seen new later) → new.held ≡ []
+pub zeros_end : (j : Judge) (old new : Pane) (left later s t : Option (List ℕ)) (bytes others : List ℕ) (r : Result (Option Block) WalkStop) → Strips (seen old left) (seen new later) → new.held ≡ []
     → IsOver new later → beyond new later ≡ beyond old left → IfSome (beyond new later) (λ o. EndsWith None o r) → seen old left ≡ Some bytes → beyond old left ≡ Some others
     → WalksOver (next_by j bytes) bytes others s t r
 zeros_end j old new left later s t bytes others r strips none over same ends is behind =
@@ -367,10 +353,6 @@ zeros_end j old new left later s t bytes others r strips none over same ends is 
     ends_none (next_by j bytes) bytes others s t r all (subst (λ (o : Option (List ℕ)). IfSome o (λ o. EndsWith None o r)) (same ∙ behind) ends)
 
 -- ---- zeros are dropped
-
-pub strips_none : (o : Option (List ℕ)) → Strips o o
-strips_none None = tt
-strips_none (Some bytes) = (bytes, refl, refl)
 
 strips_step : (w : Pane) (left : Option (List ℕ)) → all_zeros w.held ≡ true → Strips (seen w left) (seen (record { held = []; room = w.room }) left)
 strips_step w None z = tt

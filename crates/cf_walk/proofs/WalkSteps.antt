@@ -159,3 +159,6 @@ pub end_bad : (before number : ℕ) (rest : List ℕ) (j : Judge) (blocks : List
 end_bad before number rest j blocks cause some e is stands =
     let up : suc (before + length blocks) ≡ number = omega (arith, is, stands.height) in
     bad_here before blocks rest cause some (next_added j blocks rest stands ∙ ap (added blocks) e) ∙ (λ i. Err (record { number = up i; cause = cause }))
+
+-- a record that is walked over
+pub ruleset walks = (begins, stands_with)

@@ -21,8 +21,8 @@ use Rattle.cf_conn.specs.declared.reading.ReadFail.TheVariants as fails
 use Rattle.cf_walk.specs.declared.cause.RecordCause.{RecordCause}
 use Rattle.cf_walk.specs.declared.cause.RecordCause.TheVariants.{Cut}
 use Rattle.cf_walk.specs.declared.judge.Judge.{Judge}
-use Rattle.cf_walk.specs.declared.walk.Stop.{Stop}
-use Rattle.cf_walk.specs.declared.walk.Stop.TheVariants as stops
+use Rattle.cf_walk.specs.declared.walk.WalkStop.{WalkStop}
+use Rattle.cf_walk.specs.declared.walk.WalkStop.TheVariants as stops
 use Rattle.cf_walk.specs.Records.{Taken, IsRecordOf, record_at}
 use Rattle.cf_coins.specs.Spending.{spend_txs}
 use Rattle.cf_walk.specs.Files.{all_zeros, in_block, in_header, in_height, in_commitment, in_coins, or_else}
@@ -113,7 +113,7 @@ abbrev pub Strips : Option (List ℕ) → Option (List ℕ) → Type 0
 Strips before after = IfSome before (λ bytes. (rest : List ℕ) × (after ≡ Some rest) × (all_zeros bytes ≡ all_zeros rest))
 
 -- what is answered where no more of the bytes that count comes, by those behind them
-abbrev pub EndsWith : Option RecordCause → List ℕ → Result (Option Block) Stop → Type 0
+abbrev pub EndsWith : Option RecordCause → List ℕ → Result (Option Block) WalkStop → Type 0
 EndsWith None others (Ok None) = others ≡ []
 EndsWith (Some cause) others (Err (stops.Cause told)) = (told ≡ cause) × (others ≡ [])
 EndsWith cause others (Err stops.TooBig) = 0 < length others
@@ -122,7 +122,7 @@ EndsWith cause others result = ⊥
 
 -- What a step over all the bytes that count answers, by those behind them, and what is left then. A record that is cut off is refused
 -- only where no others are behind.
-abbrev pub WalksOver : Taken Block → List ℕ → List ℕ → Option (List ℕ) → Option (List ℕ) → Result (Option Block) Stop → Type 0
+abbrev pub WalksOver : Taken Block → List ℕ → List ℕ → Option (List ℕ) → Option (List ℕ) → Result (Option Block) WalkStop → Type 0
 WalksOver read old others new behind (Ok (Some b)) = (all_zeros old ≡ false) × (rest : List ℕ) × (read ≡ Ok (b, rest)) × (new ≡ Some rest) × (behind ≡ Some others)
 WalksOver read old others new behind (Ok None) = (all_zeros old ≡ true) × (others ≡ [])
 WalksOver read old others new behind (Err (stops.Cause cause)) = (all_zeros old ≡ false) × (read ≡ Err cause) × (cause ≡ Cut → others ≡ [])
@@ -130,7 +130,7 @@ WalksOver read old others new behind (Err stops.TooBig) = (0 < length others) ×
 WalksOver read old others new behind (Err (stops.Read fail)) = Unit {0}
 
 -- what a step does to the source's count of faults
-abbrev pub CountsStop : {X : Type 0} → Result X Stop → ℕ → ℕ → Type 0
+abbrev pub CountsStop : {X : Type 0} → Result X WalkStop → ℕ → ℕ → Type 0
 CountsStop (Ok x) before after = after ≡ before
 CountsStop (Err (stops.Cause cause)) before after = after ≡ before
 CountsStop (Err stops.TooBig) before after = after ≡ before

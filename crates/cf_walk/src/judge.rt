@@ -89,7 +89,7 @@ fn judge_on(
 
 // Takes the next block of the records that stand here, where zeros alone don't: it may stand on those before it. No
 // block is kept.
-#[tactic(auto, using(crate::proofs::WalkSteps::begins, crate::proofs::WalkSteps::stands_with), unfolding(crate::specs::Judging::next_by))]
+#[tactic(auto, using(crate::proofs::WalkSteps::walks), unfolding(crate::specs::Judging::next_by))]
 pub(crate) fn walk_on(
     alloc: Global,
     judge: &mut Judge,

@@ -5,10 +5,7 @@ ghost use Rattle.cf_walk.specs.Records.{magic, record_with, max_record, magic_at
 ghost use Rattle.cf_walk.specs.declared.cause.RecordCause.TheVariants as causes;
 
 use crate::cause::RecordCause;
-use cf_bytes::Cut;
-
-// Regtest's magic.
-const MAGIC: [u8; 4] = [0xfa, 0xbf, 0xb5, 0xda];
+use cf_bytes::{Cut, MAGIC};
 
 // The most bytes of a block in a record, with its witnesses.
 const MAX_RECORD: u32 = 4_000_000;

@@ -29,7 +29,7 @@ use std::mem;
 
 // Why a walk goes no further: a record is refused, there are more bytes than count, or no more was read.
 #[derive(Clone, Copy, Debug)]
-pub(crate) enum Stop {
+pub(crate) enum WalkStop {
     Cause(RecordCause),
     TooBig,
     Read(ReadFail),
@@ -75,7 +75,7 @@ fn wanted(bytes: &[u8]) -> usize
 }
 
 // Reads on until a whole record is held, or zeros that are none, or no more comes.
-#[tactic(auto, using(crate::proofs::Holding::short_so_far, crate::proofs::Holding::few_wanted, cf_conn::proofs::Stepping::no_steps, cf_conn::proofs::Stepping::more_steps))]
+#[tactic(auto, using(crate::proofs::Holding::prepares))]
 fn prepare<S: Source>(window: &mut Window, source: &mut S) -> Result<(), ReadFail>
     ensures same { with_front window.new.held (S.left source.new) ≡ with_front window.old.held (S.left source.old) }
     ensures bound { length window.new.held + window.new.room ≡ length window.old.held + window.old.room }
@@ -128,7 +128,7 @@ fn ends<S: Source>(
     window: &Window,
     source: &mut S,
     cause: Option<RecordCause>,
-) -> Result<Option<Block>, Stop>
+) -> Result<Option<Block>, WalkStop>
     requires { IsOver window.now (S.left source.old) }
     ensures exact { IfSome (beyond window.now (S.left source.old)) (λ others. EndsWith cause others result) }
     ensures none { IfOk result (λ o. o ≡ None) }
@@ -137,18 +137,18 @@ fn ends<S: Source>(
     ensures steps { Steps S.reads source.old source.new }
 {
     match window.has_more(source) {
-        Err(fail) => Err(Stop::Read(fail)),
-        Ok(true) => Err(Stop::TooBig),
+        Err(fail) => Err(WalkStop::Read(fail)),
+        Ok(true) => Err(WalkStop::TooBig),
         Ok(false) => match cause {
             None => Ok(None),
-            Some(cause) => Err(Stop::Cause(cause)),
+            Some(cause) => Err(WalkStop::Cause(cause)),
         },
     }
 }
 
 // The step where zeros are held that are no record's beginning: no block is left, or what follows them is no record.
 #[tactic(auto, using(cf_conn::proofs::Stepping::more_steps))]
-fn walk_zeros<S: Source>(window: &mut Window, source: &mut S) -> Result<Option<Block>, Stop>
+fn walk_zeros<S: Source>(window: &mut Window, source: &mut S) -> Result<Option<Block>, WalkStop>
     requires { IsBlank window.old.held }
     ensures exact { (j : Judge) (bytes others : List ℕ) → seen window.old (S.left source.old) ≡ Some bytes
         → beyond window.old (S.left source.old) ≡ Some others → WalksOver (next_by j bytes) bytes others
@@ -160,8 +160,8 @@ fn walk_zeros<S: Source>(window: &mut Window, source: &mut S) -> Result<Option<B
     ensures few { StaysFew window.old window.new }
 {
     match only_zeros(window, source) {
-        Err(fail) => Err(Stop::Read(fail)),
-        Ok(false) => Err(Stop::Cause(RecordCause::Magic)),
+        Err(fail) => Err(WalkStop::Read(fail)),
+        Ok(false) => Err(WalkStop::Cause(RecordCause::Magic)),
         Ok(true) => ends(window, source, None),
     }
 }
@@ -203,7 +203,7 @@ fn walk_ready<S: Source>(
     judge: &mut Judge,
     window: &mut Window,
     source: &mut S,
-) -> Result<Option<Block>, Stop>
+) -> Result<Option<Block>, WalkStop>
     requires { IsWhole window.old.held ⊎ IsOver window.old (S.left source.old) }
     ensures exact { (bytes others : List ℕ) → seen window.old (S.left source.old) ≡ Some bytes
         → beyond window.old (S.left source.old) ≡ Some others → WalksOver (next_by judge.old bytes) bytes others
@@ -222,10 +222,10 @@ fn walk_ready<S: Source>(
     match walk_held(alloc, judge, window) {
         Ok(Some(block)) => Ok(Some(block)),
         Ok(None) => ends(window, source, None),
-        Err(Refused::NoMemory) => Err(Stop::Read(ReadFail::NoMemory)),
+        Err(Refused::NoMemory) => Err(WalkStop::Read(ReadFail::NoMemory)),
         Err(Refused::No(cause)) => match cause {
             RecordCause::Cut => ends(window, source, Some(RecordCause::Cut)),
-            _ => Err(Stop::Cause(cause)),
+            _ => Err(WalkStop::Cause(cause)),
         },
     }
 }
@@ -238,7 +238,7 @@ fn walk_source<S: Source>(
     judge: &mut Judge,
     window: &mut Window,
     source: &mut S,
-) -> Result<Option<Block>, Stop>
+) -> Result<Option<Block>, WalkStop>
     ensures exact { (bytes others : List ℕ) → seen window.old (S.left source.old) ≡ Some bytes
         → beyond window.old (S.left source.old) ≡ Some others → WalksOver (next_by judge.old bytes) bytes others
         (seen window.new (S.left source.new)) (beyond window.new (S.left source.new)) result }
@@ -255,7 +255,7 @@ fn walk_source<S: Source>(
 {
     match prepare(window, source) {
         Ok(()) => {}
-        Err(fail) => return Err(Stop::Read(fail)),
+        Err(fail) => return Err(WalkStop::Read(fail)),
     }
     if is_blank(window.held()) {
         walk_zeros(window, source)
@@ -366,9 +366,9 @@ impl Walk {
         let number = number_at(self.before, self.judge.height);
         match walk_source(alloc, &mut self.judge, &mut self.window, source) {
             Ok(block) => Ok(block),
-            Err(Stop::Cause(cause)) => Err(LoadFault::BadBlock(BadBlock { number, cause })),
-            Err(Stop::TooBig) => Err(LoadFault::TooBig),
-            Err(Stop::Read(fail)) => Err(fault_of(fail)),
+            Err(WalkStop::Cause(cause)) => Err(LoadFault::BadBlock(BadBlock { number, cause })),
+            Err(WalkStop::TooBig) => Err(LoadFault::TooBig),
+            Err(WalkStop::Read(fail)) => Err(fault_of(fail)),
         }
     }
 

@@ -89,7 +89,7 @@ impl Source for MemoryConn {
 
     ghost faults = { λ c. c.source.plan.faults };
 
-    #[tactic(auto, using(crate::proofs::Steps::one_piece_more, std::proofs::lemmas::List::take_rest, std::proofs::lemmas::Grind::common_steps))]
+    #[tactic(auto, using(crate::proofs::Steps::pieces, std::proofs::lemmas::Grind::common_steps))]
     fn read(&mut self, into: &mut [u8]) -> Result<usize, Failed>
         ensures some { IfOk result (λ n. n ≤ length into.new) }
         ensures rest { IfOk result (λ n. drop n into.new ≡ drop n into.old) }
@@ -195,9 +195,9 @@ pub struct MemoryEnd {
 
 impl Model for MemoryEnd {
     ghost use Rattle.std.specs.Prelude.{◌≤◌, Some, drop, vec_len};
-    ghost use Rattle.cf_conn.specs.Told.{Told};
+    ghost use Rattle.cf_conn.specs.Told.{ConnTold};
 
-    ghost Value = { Told };
+    ghost Value = { ConnTold };
 
     ghost view = { λ e. record {
       left = Some (drop e.start e.bytes.items);

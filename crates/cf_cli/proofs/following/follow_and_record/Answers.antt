@@ -10,7 +10,7 @@ use Rattle.cf_answers.specs.Statuses.{was_refused}
 use Rattle.cf_cli.proofs.Ends.{over_failed, over_recorded, over_stay}
 use Rattle.cf_cli.proofs.Plays.{new_dialled, new_unfailed, versions_so}
 use Rattle.cf_cli.proofs.Records.{begun_records}
-use Rattle.cf_cli.proofs.Stays.{begun_by, early_tallied_on, failed_tallied_on, fresh_told, kept_some, new_put_told, spent_given, spent_on, tallied_from, unrecorded_given, unrecorded_on}
+use Rattle.cf_cli.proofs.Stays.{begun_by, counts_spent, counts_unrecorded, early_tallied_on, fresh_told, kept_some, new_put_told, spent_given, spent_on, spent_tallied_on, tallied_from, unrecorded_given, unrecorded_on}
 use Rattle.cf_cli.proofs.following.follow_and_record.Goals as goal
 
 -- ---- no memory is found before the run
@@ -26,6 +26,9 @@ returns-in_default-clause-given_up g c =
 
 pub returns-in_default-clause-tallied : goal.returns-in_default-clause-tallied
 returns-in_default-clause-tallied g c = early_tallied_on NoMemory _ _ _ tt c.requires.fresh
+
+pub returns-in_default-clause-counts : goal.returns-in_default-clause-counts
+returns-in_default-clause-counts g c = counts_spent _ _
 
 pub returns-in_default-clause-versions : goal.returns-in_default-clause-versions
 returns-in_default-clause-versions g c = new_words _ _ c.requires.fresh
@@ -53,12 +56,15 @@ returns-in-NoMemory-clause-given_up g c =
     c.follow_live-status.ensures.kept c.follow_live-status.ensures.given_up)
 
 pub returns-in-NoMemory-clause-tallied : goal.returns-in-NoMemory-clause-tallied
-returns-in-NoMemory-clause-tallied g c = failed_tallied_on c.follow_live-status.result NoMemory _ _ _ _ _ refl tt c.follow_live-status.ensures.finished c.follow_live-status.ensures.tallied
+returns-in-NoMemory-clause-tallied g c = spent_tallied_on NoMemory _ refl tt c.follow_live-status.ensures.wires
+
+pub returns-in-NoMemory-clause-counts : goal.returns-in-NoMemory-clause-counts
+returns-in-NoMemory-clause-counts g c = counts_spent _ _
 
 pub returns-in-NoMemory-clause-versions : goal.returns-in-NoMemory-clause-versions
 returns-in-NoMemory-clause-versions g c =
     versions_so _ c.args.moment c.args.nonce (g.W.Wires.told c.follow_live-status.new.wires)
-    (to_z-of_z {w = w64} {z = c.args.moment} (search rules)) c.follow_live-status.ensures.versions
+    (to_z-of_z {w = w64} {z = c.args.moment} (search rules)) c.follow_live-status.ensures.wires.versions
 
 pub returns-in-NoMemory-clause-ends : goal.returns-in-NoMemory-clause-ends
 returns-in-NoMemory-clause-ends g c = over_failed c.follow_live-status.result NoMemory _ _ _ _ refl refl c.follow_live-status.ensures.ends
@@ -77,12 +83,15 @@ returns-in-Err-NoMemory-clause-given_up g c =
     c.follow_live-status.ensures.kept c.follow_live-status.ensures.given_up)
 
 pub returns-in-Err-NoMemory-clause-tallied : goal.returns-in-Err-NoMemory-clause-tallied
-returns-in-Err-NoMemory-clause-tallied g c = failed_tallied_on c.follow_live-status.result NoMemory _ _ _ _ _ refl tt c.follow_live-status.ensures.finished c.follow_live-status.ensures.tallied
+returns-in-Err-NoMemory-clause-tallied g c = spent_tallied_on NoMemory _ refl tt c.follow_live-status.ensures.wires
+
+pub returns-in-Err-NoMemory-clause-counts : goal.returns-in-Err-NoMemory-clause-counts
+returns-in-Err-NoMemory-clause-counts g c = counts_spent _ _
 
 pub returns-in-Err-NoMemory-clause-versions : goal.returns-in-Err-NoMemory-clause-versions
 returns-in-Err-NoMemory-clause-versions g c =
     versions_so _ c.args.moment c.args.nonce (g.W.Wires.told c.follow_live-status.new.wires)
-    (to_z-of_z {w = w64} {z = c.args.moment} (search rules)) c.follow_live-status.ensures.versions
+    (to_z-of_z {w = w64} {z = c.args.moment} (search rules)) c.follow_live-status.ensures.wires.versions
 
 pub returns-in-Err-NoMemory-clause-ends : goal.returns-in-Err-NoMemory-clause-ends
 returns-in-Err-NoMemory-clause-ends g c = over_failed c.follow_live-status.result NoMemory _ _ _ _ refl refl c.follow_live-status.ensures.ends
@@ -101,12 +110,15 @@ returns-clause-given_up g c =
     c.follow_live-status.ensures.tallied.tallied.answers c.follow_live-status.ensures.unrefused (search rules) c.follow_live-status.ensures.kept c.follow_live-status.ensures.given_up
 
 pub returns-clause-tallied : goal.returns-clause-tallied
-returns-clause-tallied g c = failed_tallied_on c.follow_live-status.result FileFault _ _ _ _ _ refl tt c.follow_live-status.ensures.finished c.follow_live-status.ensures.tallied
+returns-clause-tallied g c = spent_tallied_on FileFault _ refl tt c.follow_live-status.ensures.wires
+
+pub returns-clause-counts : goal.returns-clause-counts
+returns-clause-counts g c = counts_unrecorded _ _
 
 pub returns-clause-versions : goal.returns-clause-versions
 returns-clause-versions g c =
     versions_so _ c.args.moment c.args.nonce (g.W.Wires.told c.follow_live-status.new.wires)
-    (to_z-of_z {w = w64} {z = c.args.moment} (search rules)) c.follow_live-status.ensures.versions
+    (to_z-of_z {w = w64} {z = c.args.moment} (search rules)) c.follow_live-status.ensures.wires.versions
 
 pub returns-clause-begun : goal.returns-clause-begun
 returns-clause-begun g c =
@@ -127,12 +139,15 @@ pub returns-in-Ok-write_record-clause-given_up : goal.returns-in-Ok-write_record
 returns-in-Ok-write_record-clause-given_up g c = c.follow_live-status.ensures.given_up
 
 pub returns-in-Ok-write_record-clause-tallied : goal.returns-in-Ok-write_record-clause-tallied
-returns-in-Ok-write_record-clause-tallied g c = tallied_from c.follow_live-status.result _ _ _ _ _ c.follow_live-status.ensures.finished c.follow_live-status.ensures.tallied
+returns-in-Ok-write_record-clause-tallied g c = tallied_from c.follow_live-status.result _ _ _ _ _ c.follow_live-status.ensures.wires.finished c.follow_live-status.ensures.tallied
+
+pub returns-in-Ok-write_record-clause-counts : goal.returns-in-Ok-write_record-clause-counts
+returns-in-Ok-write_record-clause-counts g c = c.follow_live-status.ensures.counts
 
 pub returns-in-Ok-write_record-clause-versions : goal.returns-in-Ok-write_record-clause-versions
 returns-in-Ok-write_record-clause-versions g c =
     versions_so _ c.args.moment c.args.nonce (g.W.Wires.told c.follow_live-status.new.wires)
-    (to_z-of_z {w = w64} {z = c.args.moment} (search rules)) c.follow_live-status.ensures.versions
+    (to_z-of_z {w = w64} {z = c.args.moment} (search rules)) c.follow_live-status.ensures.wires.versions
 
 pub returns-in-Ok-write_record-clause-records : goal.returns-in-Ok-write_record-clause-records
 returns-in-Ok-write_record-clause-records g c =

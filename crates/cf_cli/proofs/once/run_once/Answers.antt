@@ -1,43 +1,85 @@
-use Rattle.std.proofs.Common.{List, ℕ, rules, take, refl, sym, ◌∙◌, ap}
+use Rattle.std.proofs.Common.{List, ℕ, rules, take, refl, ◌∙◌, ap}
 use Rattle.std.proofs.Math.Facts.{to_z-of_z}
 use Rattle.std.specs.Int.{w64}
-use Rattle.std.specs.Prelude.{string_bytes, is_some, not}
-use Rattle.std.proofs.lemmas.List.{length-map}
+use Rattle.std.specs.Prelude.{is_some, not}
 use Rattle.cf_bytes.specs.Outside.{with_more}
+use Rattle.cf_headers.specs.Counts.{CountsOnce}
 use Rattle.cf_run.specs.Names.{names_in}
+use Rattle.cf_sync.specs.Fetching.{once}
 use Rattle.cf_answers.specs.declared.status.Status.TheVariants.{NoMemory, FileFault, OutFault}
 use Rattle.cf_run.proofs.Versions.{new_words}
-use Rattle.cf_cli.proofs.Runs.{answered, kept_told, kept_without, unrecorded_told, stands_told, stands_unsaid}
-use Rattle.cf_cli.proofs.Plays.{versions_so, early_tallied, spent_tallied, unwritten_tallied, run_tallied, new_dialled, new_unfailed}
+use Rattle.cf_cli.proofs.Runs.{answered, kept_told, kept_without, unrecorded_told, stands_by, stands_unsaid}
+use Rattle.cf_cli.proofs.Plays.{all_dialled, versions_so, early_tallied, spent_tallied, unwritten_tallied, run_tallied, new_dialled, new_unfailed}
+use Rattle.cf_cli.proofs.Stays.{counts_fine, counts_risen, counts_spent, counts_unrecorded, over_by}
 use Rattle.cf_cli.proofs.Ends.{copied, ends_put, ends_stay, run_begun}
 use Rattle.cf_cli.proofs.once.run_once.Goals as goal
+
+-- ---- what it keeps
 
 pub returns-in-Ok-put_all-clause-kept : goal.returns-in-Ok-put_all-clause-kept
 returns-in-Ok-put_all-clause-kept g c =
     let o = c.in-Ok-sync_over.outcome in
     let before = g.O.Sink.written c.args.out.now in
+    let after = g.O.Sink.written c.put_all.new.sink in
     let text = c.deref.ensures.value ∙ c.in-Ok-text_of.ensures in
-    kept_told (g.W.Wires.told c.sync_over.new.wires).log c.args.watch o.end o.height o.tip o.history o.trace.items (names_in c.args.names.now) c.status_of.result (is_some c.args.log_file.now) c.args.trace before (g.O.Sink.written c.put_all.new.sink)
-    c.in-Ok-sync_over.ensures.followed c.in-Ok-sync_over.ensures.theorem
-    (answered o.end o.ends.items c.status_of.result before (g.O.Sink.written c.put_all.new.sink) _ c.status_of.ensures.answer (c.in-Ok-put_all.ensures.ok ∙ ap (with_more before) text))
-    (stands_told (g.W.Wires.told c.sync_over.new.wires).log o.end o.ends.items c.status_of.result c.status_of.ensures.answer c.in-Ok-sync_over.ensures.ends)
+    kept_told (g.W.Wires.told c.sync_over.new.wires).log CountsOnce c.args.watch (names_in c.args.names.now) o c.status_of.result (is_some c.args.log_file.now) c.args.trace before after
+    c.in-Ok-sync_over.ensures.outcome c.in-Ok-sync_over.ensures.theorem
+    (answered o.end o.ends.items c.status_of.result before after _ c.status_of.ensures.answer (c.in-Ok-put_all.ensures.ok ∙ ap (with_more before) text))
+    (λ log. stands_by o.end o.ends.items c.status_of.result log c.status_of.ensures.answer)
 
 pub returns-in-Err-clause-kept : goal.returns-in-Err-clause-kept
 returns-in-Err-clause-kept g c =
-    let o = c.in-Ok-sync_over.outcome in
     let before = g.O.Sink.written c.args.out.now in
     let text = c.deref.ensures.value ∙ c.in-Ok-text_of.ensures in
-    kept_told (g.W.Wires.told c.sync_over.new.wires).log c.args.watch o.end o.height o.tip o.history o.trace.items (names_in c.args.names.now) OutFault (is_some c.args.log_file.now) c.args.trace before (g.O.Sink.written c.put_all.new.sink)
-    c.in-Ok-sync_over.ensures.followed c.in-Ok-sync_over.ensures.theorem
+    kept_told (g.W.Wires.told c.sync_over.new.wires).log CountsOnce c.args.watch (names_in c.args.names.now) c.in-Ok-sync_over.outcome OutFault (is_some c.args.log_file.now) c.args.trace before (g.O.Sink.written c.put_all.new.sink)
+    c.in-Ok-sync_over.ensures.outcome c.in-Ok-sync_over.ensures.theorem
     (c.in-Err.ensures.err.0, c.in-Err.ensures.err.2 ∙ ap (λ (bytes : List ℕ). with_more before (take c.in-Err.ensures.err.0 bytes)) text)
-    (stands_unsaid (g.W.Wires.told c.sync_over.new.wires).log)
+    (λ log tell. stands_unsaid log)
+
+pub returns-in-Err-No-clause-kept : goal.returns-in-Err-No-clause-kept
+returns-in-Err-No-clause-kept g c =
+    let files = rw c.in-Err-No.field-0-is at c.in-Err-No.ensures.files in
+    unrecorded_told (g.W.Wires.told c.sync_over.new.wires).log CountsOnce c.args.watch (names_in c.args.names.now) c.in-Ok-sync_over.outcome (is_some c.args.log_file.now) c.args.trace
+    (g.O.Sink.written c.args.out.now) (g.O.Sink.written c.args.out.now) files.0
+    c.in-Ok-sync_over.ensures.outcome c.in-Ok-sync_over.ensures.theorem
 
 pub returns-in_default-text_of-clause-kept : goal.returns-in_default-text_of-clause-kept
 returns-in_default-text_of-clause-kept g c =
     kept_without (g.W.Wires.told c.sync_over.new.wires).log c.args.watch (names_in c.args.names.now) (is_some c.args.log_file.now) c.args.trace (g.O.Sink.written c.args.out.now) (g.O.Sink.written c.args.out.now)
 
+pub returns-in_default-ends_of-clause-kept : goal.returns-in_default-ends_of-clause-kept
+returns-in_default-ends_of-clause-kept g c =
+    kept_without (g.W.Wires.told c.sync_over.new.wires).log c.args.watch (names_in c.args.names.now) (is_some c.args.log_file.now) c.args.trace (g.O.Sink.written c.args.out.now) (g.O.Sink.written c.args.out.now)
+
+-- ---- its tally
+
 pub returns-in_default-clause-tallied : goal.returns-in_default-clause-tallied
 returns-in_default-clause-tallied g c = early_tallied NoMemory _ _ _ tt c.requires.fresh
+
+pub returns-in_default-sync_over-clause-tallied : goal.returns-in_default-sync_over-clause-tallied
+returns-in_default-sync_over-clause-tallied g c = spent_tallied NoMemory _ refl tt c.sync_over.ensures.wires
+
+pub returns-in_default-ends_of-clause-tallied : goal.returns-in_default-ends_of-clause-tallied
+returns-in_default-ends_of-clause-tallied g c = spent_tallied NoMemory _ refl tt c.sync_over.ensures.wires
+
+pub returns-in_default-text_of-clause-tallied : goal.returns-in_default-text_of-clause-tallied
+returns-in_default-text_of-clause-tallied g c = spent_tallied NoMemory _ refl tt c.sync_over.ensures.wires
+
+pub returns-in-Err-NoMemory-clause-tallied : goal.returns-in-Err-NoMemory-clause-tallied
+returns-in-Err-NoMemory-clause-tallied g c = spent_tallied NoMemory _ refl tt c.sync_over.ensures.wires
+
+pub returns-in-Err-No-clause-tallied : goal.returns-in-Err-No-clause-tallied
+returns-in-Err-No-clause-tallied g c = spent_tallied FileFault _ refl tt c.sync_over.ensures.wires
+
+pub returns-in-Err-clause-tallied : goal.returns-in-Err-clause-tallied
+returns-in-Err-clause-tallied g c = unwritten_tallied _ c.sync_over.ensures.wires (all_dialled c.args.names.now c.in-Ok-sync_over.ensures.within)
+
+pub returns-in-Ok-put_all-clause-tallied : goal.returns-in-Ok-put_all-clause-tallied
+returns-in-Ok-put_all-clause-tallied g c =
+    let o = c.in-Ok-sync_over.outcome in
+    run_tallied c.args.names.now o.end o.ends.items c.status_of.result _ c.status_of.ensures.answer c.status_of.ensures.answers c.sync_over.ensures.wires c.in-Ok-sync_over.ensures.within
+
+-- ---- what its wires told
 
 pub returns-in_default-clause-dialled : goal.returns-in_default-clause-dialled
 returns-in_default-clause-dialled g c = new_dialled _ _ c.requires.fresh
@@ -45,84 +87,73 @@ returns-in_default-clause-dialled g c = new_dialled _ _ c.requires.fresh
 pub returns-in_default-clause-failures : goal.returns-in_default-clause-failures
 returns-in_default-clause-failures g c = new_unfailed _ _ _ c.requires.fresh
 
-pub returns-in_default-sync_over-clause-tallied : goal.returns-in_default-sync_over-clause-tallied
-returns-in_default-sync_over-clause-tallied g c =
-    let told = c.sync_over.ensures in
-    spent_tallied _ _ _ _ (record { taken = told.most; dialled = told.first.most; ended = told.once }) told.finished
-
-pub returns-in_default-text_of-clause-tallied : goal.returns-in_default-text_of-clause-tallied
-returns-in_default-text_of-clause-tallied g c =
-    let told = c.sync_over.ensures in
-    spent_tallied _ _ _ _ (record { taken = told.most; dialled = told.first.most; ended = told.once }) told.finished
-
-pub returns-in-Err-clause-tallied : goal.returns-in-Err-clause-tallied
-returns-in-Err-clause-tallied g c =
-    let told = c.sync_over.ensures in
-    unwritten_tallied _ _ _ _ (record { taken = told.most; dialled = told.first.most; ended = told.once })
-    (record { dialled = c.in-Ok-sync_over.ensures.dialled ∙ sym (length-map c.args.names.now string_bytes); finished = told.finished })
-
-pub returns-in-Ok-put_all-clause-tallied : goal.returns-in-Ok-put_all-clause-tallied
-returns-in-Ok-put_all-clause-tallied g c =
-    let told = c.sync_over.ensures in
-    let ok = c.in-Ok-sync_over.ensures in
-    run_tallied c.in-Ok-sync_over.outcome.end _ c.status_of.result _ _ _ _ c.status_of.ensures.answer (record { taken = told.most; dialled = told.first.most; ended = told.once })
-    (record { dialled = ok.dialled ∙ sym (length-map c.args.names.now string_bytes); finished = told.finished })
-    ok.no_peers ok.tired ok.ended ok.early
-
 pub returns-in_default-clause-versions : goal.returns-in_default-clause-versions
 returns-in_default-clause-versions g c = new_words _ _ c.requires.fresh
 
 pub returns-in_default-sync_over-clause-versions : goal.returns-in_default-sync_over-clause-versions
 returns-in_default-sync_over-clause-versions g c =
     versions_so _ c.args.moment c.args.nonce (g.W.Wires.told c.sync_over.new.wires)
-    (to_z-of_z {w = w64} {z = c.args.moment} (search rules)) c.sync_over.ensures.versions
+    (to_z-of_z {w = w64} {z = c.args.moment} (search rules)) c.sync_over.ensures.wires.versions
+
+pub returns-in_default-ends_of-clause-versions : goal.returns-in_default-ends_of-clause-versions
+returns-in_default-ends_of-clause-versions g c =
+    versions_so _ c.args.moment c.args.nonce (g.W.Wires.told c.sync_over.new.wires)
+    (to_z-of_z {w = w64} {z = c.args.moment} (search rules)) c.sync_over.ensures.wires.versions
 
 pub returns-in_default-text_of-clause-versions : goal.returns-in_default-text_of-clause-versions
 returns-in_default-text_of-clause-versions g c =
     versions_so _ c.args.moment c.args.nonce (g.W.Wires.told c.sync_over.new.wires)
-    (to_z-of_z {w = w64} {z = c.args.moment} (search rules)) c.sync_over.ensures.versions
-
-pub returns-in-Err-clause-versions : goal.returns-in-Err-clause-versions
-returns-in-Err-clause-versions g c =
-    versions_so _ c.args.moment c.args.nonce (g.W.Wires.told c.sync_over.new.wires)
-    (to_z-of_z {w = w64} {z = c.args.moment} (search rules)) c.sync_over.ensures.versions
-
-pub returns-in-Ok-put_all-clause-versions : goal.returns-in-Ok-put_all-clause-versions
-returns-in-Ok-put_all-clause-versions g c =
-    versions_so _ c.args.moment c.args.nonce (g.W.Wires.told c.sync_over.new.wires)
-    (to_z-of_z {w = w64} {z = c.args.moment} (search rules)) c.sync_over.ensures.versions
-
-pub returns-in-Err-No-clause-kept : goal.returns-in-Err-No-clause-kept
-returns-in-Err-No-clause-kept g c =
-    let o = c.in-Ok-sync_over.outcome in
-    let files = rw c.in-Err-No.field-0-is at c.in-Err-No.ensures.files in
-    unrecorded_told (g.W.Wires.told c.sync_over.new.wires).log c.args.watch (names_in c.args.names.now) o.end o.height o.tip o.history o.trace.items
-    (is_some c.args.log_file.now) c.args.trace (g.O.Sink.written c.args.out.now) (g.O.Sink.written c.args.out.now) files.0
-    c.in-Ok-sync_over.ensures.followed c.in-Ok-sync_over.ensures.theorem
+    (to_z-of_z {w = w64} {z = c.args.moment} (search rules)) c.sync_over.ensures.wires.versions
 
 pub returns-in-Err-NoMemory-clause-versions : goal.returns-in-Err-NoMemory-clause-versions
 returns-in-Err-NoMemory-clause-versions g c =
     versions_so _ c.args.moment c.args.nonce (g.W.Wires.told c.sync_over.new.wires)
-    (to_z-of_z {w = w64} {z = c.args.moment} (search rules)) c.sync_over.ensures.versions
+    (to_z-of_z {w = w64} {z = c.args.moment} (search rules)) c.sync_over.ensures.wires.versions
 
 pub returns-in-Err-No-clause-versions : goal.returns-in-Err-No-clause-versions
 returns-in-Err-No-clause-versions g c =
     versions_so _ c.args.moment c.args.nonce (g.W.Wires.told c.sync_over.new.wires)
-    (to_z-of_z {w = w64} {z = c.args.moment} (search rules)) c.sync_over.ensures.versions
+    (to_z-of_z {w = w64} {z = c.args.moment} (search rules)) c.sync_over.ensures.wires.versions
 
-pub returns-in_default-to_vec-clause-kept : goal.returns-in_default-to_vec-clause-kept
-returns-in_default-to_vec-clause-kept g c =
-    kept_without (g.W.Wires.told c.sync_over.new.wires).log c.args.watch (names_in c.args.names.now) (is_some c.args.log_file.now) c.args.trace (g.O.Sink.written c.args.out.now) (g.O.Sink.written c.args.out.now)
-
-pub returns-in_default-to_vec-clause-tallied : goal.returns-in_default-to_vec-clause-tallied
-returns-in_default-to_vec-clause-tallied g c =
-    let told = c.sync_over.ensures in
-    spent_tallied _ _ _ _ (record { taken = told.most; dialled = told.first.most; ended = told.once }) told.finished
-
-pub returns-in_default-to_vec-clause-versions : goal.returns-in_default-to_vec-clause-versions
-returns-in_default-to_vec-clause-versions g c =
+pub returns-in-Err-clause-versions : goal.returns-in-Err-clause-versions
+returns-in-Err-clause-versions g c =
     versions_so _ c.args.moment c.args.nonce (g.W.Wires.told c.sync_over.new.wires)
-    (to_z-of_z {w = w64} {z = c.args.moment} (search rules)) c.sync_over.ensures.versions
+    (to_z-of_z {w = w64} {z = c.args.moment} (search rules)) c.sync_over.ensures.wires.versions
+
+pub returns-in-Ok-put_all-clause-versions : goal.returns-in-Ok-put_all-clause-versions
+returns-in-Ok-put_all-clause-versions g c =
+    versions_so _ c.args.moment c.args.nonce (g.W.Wires.told c.sync_over.new.wires)
+    (to_z-of_z {w = w64} {z = c.args.moment} (search rules)) c.sync_over.ensures.wires.versions
+
+-- ---- the sink
+
+pub returns-in_default-clause-counts : goal.returns-in_default-clause-counts
+returns-in_default-clause-counts g c = counts_spent _ _
+
+pub returns-in_default-sync_over-clause-counts : goal.returns-in_default-sync_over-clause-counts
+returns-in_default-sync_over-clause-counts g c = counts_spent _ _
+
+pub returns-in_default-ends_of-clause-counts : goal.returns-in_default-ends_of-clause-counts
+returns-in_default-ends_of-clause-counts g c = counts_spent _ _
+
+pub returns-in_default-text_of-clause-counts : goal.returns-in_default-text_of-clause-counts
+returns-in_default-text_of-clause-counts g c = counts_spent _ _
+
+pub returns-in-Err-NoMemory-clause-counts : goal.returns-in-Err-NoMemory-clause-counts
+returns-in-Err-NoMemory-clause-counts g c = counts_spent _ _
+
+pub returns-in-Err-No-clause-counts : goal.returns-in-Err-No-clause-counts
+returns-in-Err-No-clause-counts g c = counts_unrecorded _ _
+
+pub returns-in-Err-clause-counts : goal.returns-in-Err-clause-counts
+returns-in-Err-clause-counts g c = counts_risen _ _ c.in-Err.ensures.cause
+
+pub returns-in-Ok-put_all-clause-counts : goal.returns-in-Ok-put_all-clause-counts
+returns-in-Ok-put_all-clause-counts g c =
+    let o = c.in-Ok-sync_over.outcome in
+    counts_fine c.status_of.result _ _ (over_by o.end o.ends.items c.status_of.result c.status_of.ensures.answer) c.in-Ok-put_all.ensures.kept
+
+-- ---- how its peers stand
 
 pub returns-in_default-clause-ends : goal.returns-in_default-clause-ends
 returns-in_default-clause-ends g c = ends_stay _ _ _ _ refl
@@ -130,31 +161,31 @@ returns-in_default-clause-ends g c = ends_stay _ _ _ _ refl
 pub returns-in_default-sync_over-clause-ends : goal.returns-in_default-sync_over-clause-ends
 returns-in_default-sync_over-clause-ends g c = ends_stay _ _ _ _ refl
 
-pub returns-in_default-to_vec-clause-ends : goal.returns-in_default-to_vec-clause-ends
-returns-in_default-to_vec-clause-ends g c = ends_stay _ _ _ _ refl
+pub returns-in_default-ends_of-clause-ends : goal.returns-in_default-ends_of-clause-ends
+returns-in_default-ends_of-clause-ends g c = ends_stay _ _ _ _ refl
 
 pub returns-in_default-text_of-clause-ends : goal.returns-in_default-text_of-clause-ends
 returns-in_default-text_of-clause-ends g c =
     ends_put NoMemory (is_some c.args.log_file.now) _ _ _ refl
-    (copied (g.W.Wires.told c.sync_over.new.wires).log _ _ (c.in-Ok-to_vec.ensures.items_if_clones_equal (λ x y e. e) ∙ c.as_slice.ensures.value) c.in-Ok-sync_over.ensures.ends)
+    (copied (g.W.Wires.told c.sync_over.new.wires).log CountsOnce (once c.args.watch) (names_in c.args.names.now) c.in-Ok-sync_over.outcome _ c.in-Ok-ends_of.ensures c.in-Ok-sync_over.ensures.outcome)
 
 pub returns-in-Err-NoMemory-clause-ends : goal.returns-in-Err-NoMemory-clause-ends
 returns-in-Err-NoMemory-clause-ends g c =
     ends_put NoMemory (is_some c.args.log_file.now) _ _ _ refl
-    (copied (g.W.Wires.told c.sync_over.new.wires).log _ _ (c.in-Ok-to_vec.ensures.items_if_clones_equal (λ x y e. e) ∙ c.as_slice.ensures.value) c.in-Ok-sync_over.ensures.ends)
+    (copied (g.W.Wires.told c.sync_over.new.wires).log CountsOnce (once c.args.watch) (names_in c.args.names.now) c.in-Ok-sync_over.outcome _ c.in-Ok-ends_of.ensures c.in-Ok-sync_over.ensures.outcome)
+
+pub returns-in-Err-clause-ends : goal.returns-in-Err-clause-ends
+returns-in-Err-clause-ends g c =
+    ends_put OutFault (is_some c.args.log_file.now) _ _ _ refl
+    (copied (g.W.Wires.told c.sync_over.new.wires).log CountsOnce (once c.args.watch) (names_in c.args.names.now) c.in-Ok-sync_over.outcome _ c.in-Ok-ends_of.ensures c.in-Ok-sync_over.ensures.outcome)
 
 pub returns-in-Err-No-clause-ends : goal.returns-in-Err-No-clause-ends
 returns-in-Err-No-clause-ends g c =
     let files = rw c.in-Err-No.field-0-is at c.in-Err-No.ensures.files in
     ends_put FileFault (is_some c.args.log_file.now) _ _ _ (ap not files.0)
-    (copied (g.W.Wires.told c.sync_over.new.wires).log _ _ (c.in-Ok-to_vec.ensures.items_if_clones_equal (λ x y e. e) ∙ c.as_slice.ensures.value) c.in-Ok-sync_over.ensures.ends)
-
-pub returns-in-Err-clause-ends : goal.returns-in-Err-clause-ends
-returns-in-Err-clause-ends g c =
-    ends_put OutFault (is_some c.args.log_file.now) _ _ _ refl
-    (copied (g.W.Wires.told c.sync_over.new.wires).log _ _ (c.in-Ok-to_vec.ensures.items_if_clones_equal (λ x y e. e) ∙ c.as_slice.ensures.value) c.in-Ok-sync_over.ensures.ends)
+    (copied (g.W.Wires.told c.sync_over.new.wires).log CountsOnce (once c.args.watch) (names_in c.args.names.now) c.in-Ok-sync_over.outcome _ c.in-Ok-ends_of.ensures c.in-Ok-sync_over.ensures.outcome)
 
 pub returns-in-Ok-put_all-clause-ends : goal.returns-in-Ok-put_all-clause-ends
 returns-in-Ok-put_all-clause-ends g c =
     ends_put c.status_of.result (is_some c.args.log_file.now) _ _ _ (run_begun c.status_of.result (is_some c.args.log_file.now) c.status_of.ensures.ran)
-    (copied (g.W.Wires.told c.sync_over.new.wires).log _ _ (c.in-Ok-to_vec.ensures.items_if_clones_equal (λ x y e. e) ∙ c.as_slice.ensures.value) c.in-Ok-sync_over.ensures.ends)
+    (copied (g.W.Wires.told c.sync_over.new.wires).log CountsOnce (once c.args.watch) (names_in c.args.names.now) c.in-Ok-sync_over.outcome _ c.in-Ok-ends_of.ensures c.in-Ok-sync_over.ensures.outcome)

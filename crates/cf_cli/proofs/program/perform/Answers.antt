@@ -1,7 +1,7 @@
 use Rattle.std.proofs.Common.{ℤ, inr, rules, refl, subst}
 use Rattle.std.proofs.Math.Facts.{to_z-of_z}
 use Rattle.std.specs.Int.{w64}
-use Rattle.cf_serve.specs.Links.{LinkTold, link_now}
+use Rattle.cf_link.specs.Links.{LinkTold, link_now}
 use Rattle.cf_cli.specs.Serving.{IsServing}
 use Rattle.cf_answers.specs.declared.status.Status.{Status}
 use Rattle.cf_answers.specs.declared.status.Status.TheVariants.{FileFault}
@@ -11,7 +11,7 @@ use Rattle.cf_played.specs.Told.{log_of as played_log}
 use Rattle.cf_wires.specs.Memory.{told_of}
 use Rattle.cf_cli.proofs.Plays.{versions_so, judged_replay, judged_sync, judged_follow}
 use Rattle.cf_cli.proofs.Records.{unrecorded_by}
-use Rattle.cf_cli.proofs.Handed.{is_on, is_not, files_stay, wires_stay, tape_stays}
+use Rattle.cf_cli.proofs.Handed.{is_on, is_not, files_stay, wires_stay, tape_stays, dialled_wires}
 use Rattle.cf_cli.proofs.program.perform.Goals as goal
 
 pub returns-in-Replay-clause-judged : goal.returns-in-Replay-clause-judged
@@ -22,12 +22,12 @@ returns-in-Replay-clause-judged g c =
 pub returns-in-Sync-clause-judged : goal.returns-in-Sync-clause-judged
 returns-in-Sync-clause-judged g c =
     judged_sync (g.F.Files.files c.args.files.now) c.args.command c.in-Sync.turns c.in-Sync.workers c.in-Sync.«record» c.in-Sync.watch c.in-Sync.peers c.as_str-in-Sync.result.now c.sync.result
-    c.as_str-in-Sync.ensures c.in-Sync.is c.sync.ensures.judged
+    c.as_str-in-Sync.ensures c.in-Sync.is c.sync.ensures.files.judged
 
 pub returns-in-Follow-clause-judged : goal.returns-in-Follow-clause-judged
 returns-in-Follow-clause-judged g c =
     judged_follow (g.F.Files.files c.args.files.now) c.args.command c.in-Follow.turns c.in-Follow.workers c.in-Follow.«record» c.in-Follow.watch c.in-Follow.peers c.as_str-in-Follow.result.now c.follow.result
-    c.as_str-in-Follow.ensures c.in-Follow.is c.follow.ensures.judged
+    c.as_str-in-Follow.ensures c.in-Follow.is c.follow.ensures.files.judged
 
 pub returns-in-Replay-clause-does : goal.returns-in-Replay-clause-does
 returns-in-Replay-clause-does g c = rw c.in-Replay.is (record {
@@ -39,16 +39,16 @@ pub returns-in-Sync-clause-does : goal.returns-in-Sync-clause-does
 returns-in-Sync-clause-does g c = rw c.in-Sync.is (record {
   kept = rw (c.as_str-in-Sync.ensures, c.as_slice.ensures) at c.sync.ensures.kept;
   tallied = rw c.as_slice.ensures at c.sync.ensures.tallied;
-  dialled = rw c.as_slice.ensures at c.sync.ensures.dialled;
-  records = c.sync.ensures.records;
+  dialled = rw c.as_slice.ensures at c.sync.ensures.wires.dialled;
+  records = c.sync.ensures.files.records;
 })
 
 pub returns-in-Follow-clause-does : goal.returns-in-Follow-clause-does
 returns-in-Follow-clause-does g c = rw c.in-Follow.is (record {
   kept = rw (c.as_str-in-Follow.ensures, c.as_slice-in-Follow.ensures) at c.follow.ensures.kept;
   tallied = rw c.as_slice-in-Follow.ensures at c.follow.ensures.tallied;
-  dialled = rw c.as_slice-in-Follow.ensures at c.follow.ensures.dialled;
-  records = c.follow.ensures.records;
+  dialled = rw c.as_slice-in-Follow.ensures at c.follow.ensures.wires.dialled;
+  records = c.follow.ensures.files.records;
 })
 
 pub returns-in-Scan-clause-does : goal.returns-in-Scan-clause-does
@@ -88,16 +88,16 @@ returns-in-Replay-clause-files g c = rw c.in-Replay.is (record {
 
 pub returns-in-Sync-clause-files : goal.returns-in-Sync-clause-files
 returns-in-Sync-clause-files g c = rw c.in-Sync.is (record {
-  unchanged = unrecorded_by c.in-Sync.«record» c.sync.result _ _ _ c.sync.ensures.records;
-  asked = rw c.as_str-in-Sync.ensures at c.sync.ensures.files;
-  fault = c.sync.ensures.file_fault;
+  unchanged = unrecorded_by c.in-Sync.«record» c.sync.result _ _ _ c.sync.ensures.files.records;
+  asked = rw c.as_str-in-Sync.ensures at c.sync.ensures.files.asked;
+  fault = c.sync.ensures.files.fault;
 })
 
 pub returns-in-Follow-clause-files : goal.returns-in-Follow-clause-files
 returns-in-Follow-clause-files g c = rw c.in-Follow.is (record {
-  unchanged = unrecorded_by c.in-Follow.«record» c.follow.result _ _ _ c.follow.ensures.records;
-  asked = rw c.as_str-in-Follow.ensures at c.follow.ensures.files;
-  fault = c.follow.ensures.file_fault;
+  unchanged = unrecorded_by c.in-Follow.«record» c.follow.result _ _ _ c.follow.ensures.files.records;
+  asked = rw c.as_str-in-Follow.ensures at c.follow.ensures.files.asked;
+  fault = c.follow.ensures.files.fault;
 })
 
 pub returns-in-Scan-clause-files : goal.returns-in-Scan-clause-files
@@ -153,20 +153,10 @@ returns-in-Demo-clause-files g c =
     c.demo.result FileFault c.demo.ensures.demoed (λ is. is))
 
 pub returns-in-Sync-clause-wires : goal.returns-in-Sync-clause-wires
-returns-in-Sync-clause-wires g c = rw c.in-Sync.is (record {
-  versions = versions_so _ c.args.moment c.args.nonce (g.W.Wires.told c.sync.new.wires) (to_z-of_z {w = w64} {z = c.args.moment} (search rules)) c.sync.ensures.versions;
-  failures = c.sync.ensures.failures;
-  undialled = λ off. c.sync.ensures.undialled (is_on _ off);
-  unkept = c.sync.ensures.unkept;
-})
+returns-in-Sync-clause-wires g c = rw c.in-Sync.is (dialled_wires refl refl (to_z-of_z {w = w64} {z = c.args.moment} (search rules)) c.sync.ensures.wires)
 
 pub returns-in-Follow-clause-wires : goal.returns-in-Follow-clause-wires
-returns-in-Follow-clause-wires g c = rw c.in-Follow.is (record {
-  versions = versions_so _ c.args.moment c.args.nonce (g.W.Wires.told c.follow.new.wires) (to_z-of_z {w = w64} {z = c.args.moment} (search rules)) c.follow.ensures.versions;
-  failures = c.follow.ensures.failures;
-  undialled = λ off. c.follow.ensures.undialled (is_on _ off);
-  unkept = c.follow.ensures.unkept;
-})
+returns-in-Follow-clause-wires g c = rw c.in-Follow.is (dialled_wires refl refl (to_z-of_z {w = w64} {z = c.args.moment} (search rules)) c.follow.ensures.wires)
 
 pub returns-in-Replay-clause-wires : goal.returns-in-Replay-clause-wires
 returns-in-Replay-clause-wires g c = wires_stay c.requires.wires

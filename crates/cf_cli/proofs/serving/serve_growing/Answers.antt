@@ -1,6 +1,6 @@
 use Rattle.std.proofs.Common.{◌∙◌, ap, w64, ℤ}
 use Rattle.std.proofs.Math.Facts.{to_z-of_z}
-use Rattle.cf_service.specs.Growing.{Moment, IsServedWhileGrowing}
+use Rattle.cf_grow.specs.GrowingService.{Moment, IsServedWhileGrowing}
 use Rattle.cf_cli.proofs.Serves.{served_so}
 use Rattle.cf_cli.proofs.serving.serve_growing.Goals as goal
 

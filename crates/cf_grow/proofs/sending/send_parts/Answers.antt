@@ -1,36 +1,29 @@
 use Rattle.std.proofs.Common.{ℕ, ◌+◌, List, take, Option, Err, Result, refl, sym, ◌∙◌, ap, subst}
 use Rattle.std.proofs.lemmas.List.{take_all}
-use Rattle.std.proofs.lemmas.Result.{err_from_is_err_and}
 use Rattle.cf_grow.specs.Held.{texts_in}
-use Rattle.cf_server.specs.declared.outcome.Outcome.{Outcome}
+use Rattle.cf_server.specs.declared.outcome.ServeEnd.{ServeEnd}
 use Rattle.cf_server.specs.Serving.{text_of}
 use Rattle.cf_server.specs.Taking.{Sends}
-use Rattle.cf_server.proofs.Steps.{Waiting, waiting_none, waiting_written, waiting_sent}
+use Rattle.cf_server.proofs.Steps.{by_err, Waiting, waiting_none, waiting_written, waiting_sent}
 use Rattle.cf_grow.proofs.PartTexts.{parts_more, parts_kept, parts_front}
 use Rattle.cf_grow.proofs.sending.send_parts.Goals.{then-len-ge-TOGETHER+in_ok-flush, else-len-ge-TOGETHER}
 use Rattle.cf_grow.proofs.sending.send_parts.Goals as goal
 
 pub loop-part-init : goal.loop-part-init
 unfolding text_of
-loop-part-init g c = record {
-  written = waiting_none (g.C.Sink.written c.args.conn.now) c.new-waiting.result.items c.new-waiting.ensures.items;
-  count = refl;
-  left = refl;
-  ended = refl;
-  read_faults = refl;
-}
+loop-part-init g c =
+    let none = waiting_none (g.C.Sink.written c.args.conn.now) c.new-waiting.result.items c.new-waiting.ensures.items in
+    record { written = none; count = refl; left = refl; ended = refl; read_faults = refl }
 
 pub returns-in_err-put_part-clause-sends : goal.returns-in_err-put_part-clause-sends
 returns-in_err-put_part-clause-sends g c =
-    let out = err_from_is_err_and c.from_residual.result c.from_residual.ensures.1 in
     let before = g.C.Sink.written c.args.conn.now in
     let after = g.C.Sink.written c.loop-part.conn in
-    subst (λ (r : Result (Unit {0}) Outcome). Sends r before after (texts_in c.args.parts.now)) (sym (out.1 ∙ ap Err out.2))
+    by_err (λ (r : Result (Unit {0}) ServeEnd). Sends r before after (texts_in c.args.parts.now)) _ _ c.from_residual.ensures.1
     (parts_kept c.args.parts.now c.loop-part.part-index c.loop-part.waiting.items before after c.loop-part.invariant.written)
 
 pub returns-in_err-flush-clause-sends : goal.returns-in_err-flush-clause-sends
 returns-in_err-flush-clause-sends g c =
-    let out = err_from_is_err_and c.from_residual-in_err-flush.result c.from_residual-in_err-flush.ensures.1 in
     let parts = c.args.parts.now in
     let i = c.loop-part.part-index in
     let waiting = c.put_part.new.waiting.items in
@@ -39,7 +32,7 @@ returns-in_err-flush-clause-sends g c =
     let after = g.C.Sink.written c.flush.new.conn in
     let outcome = c.in_err-flush.field-0.0 in
     let put = parts_more parts i c.part-item.result c.loop-part.waiting.items waiting before between c.loop-part-test.true c.part-item.is c.loop-part.invariant.written c.in_ok-put_part.ensures in
-    subst (λ (r : Result (Unit {0}) Outcome). Sends r before after (texts_in parts)) (sym (out.1 ∙ ap Err out.2))
+    by_err (λ (r : Result (Unit {0}) ServeEnd). Sends r before after (texts_in parts)) _ _ c.from_residual-in_err-flush.ensures.1
     (parts_front parts (i + 1) outcome before after
     (waiting_sent (Err outcome) before between after waiting (texts_in (take (i + 1) parts)) put c.in_err-flush.ensures.sends))
 

@@ -1,6 +1,6 @@
 use Rattle.std.proofs.Common.{ℕ, List, ◌++◌, Option, Some, refl, sym, ◌∙◌, ap, subst}
 use Rattle.std.specs.Prelude.{IfSome}
-use Rattle.cf_peer.specs.declared.peer.Reply.{Reply}
+use Rattle.cf_peer.specs.declared.peer.Reaction.{Reaction}
 use Rattle.cf_peer.specs.Trail.{heard_part}
 use Rattle.cf_peer.specs.Peer.{IsReplySendable}
 use Rattle.cf_tracker.specs.Tracker.{watch_of}
@@ -36,7 +36,7 @@ loop-reply-preserved-in-Nothing g c = record {
   midway = λ part holds waits chain.
       let midway = c.loop-reply.invariant.midway part holds waits chain in
       let answer = c.in_ok-reply.ensures.heard midway.so_far midway.holds midway.gains.follows in
-      let moves = subst (λ (o : Option Reply). HearsNext (seen_of c.loop-reply.tracker) (seen_of c.hear_next.new.tracker) c.args.p
+      let moves = subst (λ (o : Option Reaction). HearsNext (seen_of c.loop-reply.tracker) (seen_of c.hear_next.new.tracker) c.args.p
       (c.loop-reply.framer ++ c.loop-reply.rest) (c.hear_next.new.framer ++ c.hear_next.new.piece) c.hear_next.new.peer midway.so_far o) (c.in-Some.is ∙ ap Some c.in-Nothing.is) answer in
       midway_quiet c.args.p c.loop-reply.peer c.hear_next.new.peer (c.loop-reply.framer ++ c.loop-reply.rest)
       (c.hear_next.new.framer ++ c.hear_next.new.piece) (seen_of c.args.tracker.now) (seen_of c.loop-reply.tracker) (seen_of c.hear_next.new.tracker)
@@ -52,7 +52,7 @@ loop-reply-preserved-in-Nothing g c = record {
       c.loop-reply.invariant.judged c.loop-reply.invariant.watch c.in_ok-reply.ensures.judged;
   unexposed = λ part holds waits f none.
       let midway = c.loop-reply.invariant.midway part holds waits f in
-      subst (λ (o : Option Reply). ExposesNext (seen_of c.hear_next.new.tracker) c.args.p.0 o) (c.in-Some.is ∙ ap Some c.in-Nothing.is)
+      subst (λ (o : Option Reaction). ExposesNext (seen_of c.hear_next.new.tracker) c.args.p.0 o) (c.in-Some.is ∙ ap Some c.in-Nothing.is)
       (c.in_ok-reply.ensures.exposes midway.so_far midway.holds midway.gains.follows (c.loop-reply.invariant.unexposed part holds waits f none));
   quiet = λ is. c.in_ok-reply.ensures.calm (c.loop-reply.invariant.quiet is);
 }
@@ -62,13 +62,13 @@ loop-reply-preserved g c = record {
   midway = λ part holds waits chain.
       let midway = c.loop-reply.invariant.midway part holds waits chain in
       let answer = c.in_ok-reply.ensures.heard midway.so_far midway.holds midway.gains.follows in
-      let moves = subst (λ (o : Option Reply). HearsNext (seen_of c.loop-reply.tracker) (seen_of c.hear_next.new.tracker) c.args.p
+      let moves = subst (λ (o : Option Reaction). HearsNext (seen_of c.loop-reply.tracker) (seen_of c.hear_next.new.tracker) c.args.p
       (c.loop-reply.framer ++ c.loop-reply.rest) (c.hear_next.new.framer ++ c.hear_next.new.piece) c.hear_next.new.peer midway.so_far o) (c.in-Some.is ∙ ap Some c.in-Send.is) answer in
       midway_reply c.args.p c.loop-reply.peer c.hear_next.new.peer (c.loop-reply.framer ++ c.loop-reply.rest)
       (c.hear_next.new.framer ++ c.hear_next.new.piece) (seen_of c.args.tracker.now) (seen_of c.loop-reply.tracker) (seen_of c.hear_next.new.tracker)
       c.args.acts.now.items c.loop-reply.acts.items c.push.new.self.items part (heard_part c.args.piece.now part) c.in-Send.message midway moves c.in_ok-push-in-Send.ensures.items;
   doable = λ number all. doable_with c.args.p c.in-Send.message c.loop-reply.acts.items c.push.new.self.items number (c.loop-reply.invariant.doable number all)
-      (subst (λ (o : Option Reply). IfSome o IsReplySendable) (c.in-Some.is ∙ ap Some c.in-Send.is) c.in_ok-reply.ensures.sendable) c.in_ok-push-in-Send.ensures.items;
+      (subst (λ (o : Option Reaction). IfSome o IsReplySendable) (c.in-Some.is ∙ ap Some c.in-Send.is) c.in_ok-reply.ensures.sendable) c.in_ok-push-in-Send.ensures.items;
   entered = c.in_ok-reply.ensures.entered;
   right = c.in_ok-reply.ensures.right;
   others = λ q ne. c.in_ok-reply.ensures.others q ne ∙ c.loop-reply.invariant.others q ne;
@@ -79,7 +79,7 @@ loop-reply-preserved g c = record {
       c.loop-reply.invariant.judged c.loop-reply.invariant.watch c.in_ok-reply.ensures.judged;
   unexposed = λ part holds waits f none.
       let midway = c.loop-reply.invariant.midway part holds waits f in
-      subst (λ (o : Option Reply). ExposesNext (seen_of c.hear_next.new.tracker) c.args.p.0 o) (c.in-Some.is ∙ ap Some c.in-Send.is)
+      subst (λ (o : Option Reaction). ExposesNext (seen_of c.hear_next.new.tracker) c.args.p.0 o) (c.in-Some.is ∙ ap Some c.in-Send.is)
       (c.in_ok-reply.ensures.exposes midway.so_far midway.holds midway.gains.follows (c.loop-reply.invariant.unexposed part holds waits f none));
   quiet = λ is. c.in_ok-reply.ensures.calm (c.loop-reply.invariant.quiet is);
 }
@@ -88,24 +88,24 @@ pub returns-in-Close-clause-heard : goal.returns-in-Close-clause-heard
 returns-in-Close-clause-heard g c = λ part holds waits f.
     let midway = c.loop-reply.invariant.midway part holds waits f in
     let answer = c.in_ok-reply.ensures.heard midway.so_far midway.holds midway.gains.follows in
-    let stops = subst (λ (o : Option Reply). HearsNext (seen_of c.loop-reply.tracker) (seen_of c.hear_next.new.tracker) c.args.p
+    let stops = subst (λ (o : Option Reaction). HearsNext (seen_of c.loop-reply.tracker) (seen_of c.hear_next.new.tracker) c.args.p
     (c.loop-reply.framer ++ c.loop-reply.rest) (c.hear_next.new.framer ++ c.hear_next.new.piece) c.hear_next.new.peer midway.so_far o) (c.in-Some.is ∙ ap Some c.in-Close.is) answer in
     midway_fault c.args.p c.loop-reply.peer (c.loop-reply.framer ++ c.loop-reply.rest) (seen_of c.args.tracker.now) (seen_of c.loop-reply.tracker) (seen_of c.hear_next.new.tracker)
     c.args.acts.now.items c.loop-reply.acts.items part (heard_part c.args.piece.now part) c.in-Close.cause midway stops
-    (λ none. subst (λ (o : Option Reply). ExposesNext (seen_of c.hear_next.new.tracker) c.args.p.0 o) (c.in-Some.is ∙ ap Some c.in-Close.is)
+    (λ none. subst (λ (o : Option Reaction). ExposesNext (seen_of c.hear_next.new.tracker) c.args.p.0 o) (c.in-Some.is ∙ ap Some c.in-Close.is)
     (c.in_ok-reply.ensures.exposes midway.so_far midway.holds midway.gains.follows (c.loop-reply.invariant.unexposed part holds waits f none)))
 
 pub returns-in-Close-clause-exposes : goal.returns-in-Close-clause-exposes
 returns-in-Close-clause-exposes g c = λ part holds waits f none.
     let midway = c.loop-reply.invariant.midway part holds waits f in
-    subst (λ (o : Option Reply). ExposesNext (seen_of c.hear_next.new.tracker) c.args.p.0 o) (c.in-Some.is ∙ ap Some c.in-Close.is)
+    subst (λ (o : Option Reaction). ExposesNext (seen_of c.hear_next.new.tracker) c.args.p.0 o) (c.in-Some.is ∙ ap Some c.in-Close.is)
     (c.in_ok-reply.ensures.exposes midway.so_far midway.holds midway.gains.follows (c.loop-reply.invariant.unexposed part holds waits f none))
 
 pub returns-in-Expose-clause-heard : goal.returns-in-Expose-clause-heard
 returns-in-Expose-clause-heard g c = λ part holds waits f.
     let midway = c.loop-reply.invariant.midway part holds waits f in
     let answer = c.in_ok-reply.ensures.heard midway.so_far midway.holds midway.gains.follows in
-    let reveals = subst (λ (o : Option Reply). HearsNext (seen_of c.loop-reply.tracker) (seen_of c.hear_next.new.tracker) c.args.p
+    let reveals = subst (λ (o : Option Reaction). HearsNext (seen_of c.loop-reply.tracker) (seen_of c.hear_next.new.tracker) c.args.p
     (c.loop-reply.framer ++ c.loop-reply.rest) (c.hear_next.new.framer ++ c.hear_next.new.piece) c.hear_next.new.peer midway.so_far o) (c.in-Some.is ∙ ap Some c.in-Expose.is) answer in
     midway_exposed c.args.p c.loop-reply.peer c.hear_next.new.peer (c.loop-reply.framer ++ c.loop-reply.rest) (c.hear_next.new.framer ++ c.hear_next.new.piece)
     (seen_of c.args.tracker.now) (seen_of c.loop-reply.tracker) (seen_of c.hear_next.new.tracker)
@@ -114,7 +114,7 @@ returns-in-Expose-clause-heard g c = λ part holds waits f.
 pub returns-in-Expose-clause-exposes : goal.returns-in-Expose-clause-exposes
 returns-in-Expose-clause-exposes g c = λ part holds waits f none.
     let midway = c.loop-reply.invariant.midway part holds waits f in
-    subst (λ (o : Option Reply). ExposesNext (seen_of c.hear_next.new.tracker) c.args.p.0 o) (c.in-Some.is ∙ ap Some c.in-Expose.is)
+    subst (λ (o : Option Reaction). ExposesNext (seen_of c.hear_next.new.tracker) c.args.p.0 o) (c.in-Some.is ∙ ap Some c.in-Expose.is)
     (c.in_ok-reply.ensures.exposes midway.so_far midway.holds midway.gains.follows (c.loop-reply.invariant.unexposed part holds waits f none))
 
 pub returns-in-Expose-clause-judged : goal.returns-in-Expose-clause-judged
@@ -126,7 +126,7 @@ returns-in-Expose-clause-judged g c =
 pub returns-clause-exposes : goal.returns-clause-exposes
 returns-clause-exposes g c = λ part holds waits f none.
     let midway = c.loop-reply.invariant.midway part holds waits f in
-    subst (λ (o : Option Reply). ExposesNext (seen_of c.hear_next.new.tracker) c.args.p.0 o) c.in_default.is
+    subst (λ (o : Option Reaction). ExposesNext (seen_of c.hear_next.new.tracker) c.args.p.0 o) c.in_default.is
     (c.in_ok-reply.ensures.exposes midway.so_far midway.holds midway.gains.follows (c.loop-reply.invariant.unexposed part holds waits f none))
 
 pub returns-in-Close-clause-judged : goal.returns-in-Close-clause-judged

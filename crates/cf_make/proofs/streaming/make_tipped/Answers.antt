@@ -8,7 +8,7 @@ use Rattle.cf_make.proofs.streaming.make_tipped.Goals as goal
 
 pub returns-in-Ok : goal.returns-in-Ok
 returns-in-Ok c =
-    let h = header_is c.args.seed c.args.height c.args.tip c.in_ok-named.named.root c.as_slice.result.now (c.as_slice.ensures ∙ c.in_ok-txs.ensures) c.in_ok-named.ensures.root in
+    let h = c.unmined-header.ensures ∙ header_is c.args.seed c.args.height c.args.tip c.in_ok-named.named.root c.as_slice.result.now (c.as_slice.ensures ∙ c.in_ok-txs.ensures) c.in_ok-named.ensures.root in
     record {
       block = record {
         header = subst (λ (h : Header). IsMined h max_tries c.in-Ok.mined.header) h c.in-Ok.ensures.mined;
@@ -20,5 +20,5 @@ returns-in-Ok c =
 
 pub returns-in-Err : goal.returns-in-Err
 returns-in-Err c =
-    let h = header_is c.args.seed c.args.height c.args.tip c.in_ok-named.named.root c.as_slice.result.now (c.as_slice.ensures ∙ c.in_ok-txs.ensures) c.in_ok-named.ensures.root in
+    let h = c.unmined-header.ensures ∙ header_is c.args.seed c.args.height c.args.tip c.in_ok-named.named.root c.as_slice.result.now (c.as_slice.ensures ∙ c.in_ok-txs.ensures) c.in_ok-named.ensures.root in
     (refl, subst (λ (h : Header). NoneMeets h max_tries) h c.in-Err.ensures)

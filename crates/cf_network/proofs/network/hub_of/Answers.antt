@@ -1,6 +1,6 @@
 use Rattle.std.proofs.Common.{arith, ◌≡◌, inl, ap}
 use Rattle.std.proofs.lemmas.Result.{IfOk-weaker}
-use Rattle.cf_line.specs.Waiting.{Waiting}
+use Rattle.cf_tasks.specs.Waiting.{Waiting}
 use Rattle.cf_network.proofs.network.hub_of.Goals as goal
 
 -- where there are no peers, no thread is started

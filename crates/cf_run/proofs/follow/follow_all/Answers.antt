@@ -1,184 +1,121 @@
-use Rattle.std.proofs.Common.{[], sym, ◌∙◌, ap, subst, rules}
-use Rattle.std.proofs.lemmas.Result.{err_from_is_err_and}
+use Rattle.std.proofs.Common.{sym, ◌∙◌, ap, subst, string_bytes, rules}
 use Rattle.std.proofs.Math.Facts.{to_z-of_z}
+use Rattle.std.proofs.lemmas.List.{length-map}
+use Rattle.std.proofs.lemmas.Result.{err_from_is_err_and}
 use Rattle.std.specs.Int.{w64}
 use Rattle.std.specs.Prelude.{IfSome}
-use Rattle.cf_client.specs.Holding.{HoldsNoMore}
-use Rattle.cf_run.specs.Names.{names_in}
-use Rattle.cf_place.specs.Standing.{EndsTell}
-use Rattle.cf_run.specs.Run.{Followed}
-use Rattle.cf_client.specs.Stands.{rule_by, words_by}
+use Rattle.cf_client.specs.Stands.{greeting_by}
 use Rattle.cf_sync.specs.Fetching.{Rule}
-use Rattle.cf_run.proofs.Versions.{new_words, has_so, words_then, words_so}
-use Rattle.cf_run.proofs.Turns.{starts, finishes, no_peers, told_so}
-use Rattle.cf_run.proofs.Dialling.{none_named}
-use Rattle.cf_run.proofs.Passing.{passes_none, passes_dials, passes_turns}
-use Rattle.cf_run.proofs.Puts.{all_some, all_told, none_before, none_put}
+use Rattle.cf_run.specs.Names.{names_in}
+use Rattle.cf_run.specs.Whole.{IsOutcome}
+use Rattle.cf_run.proofs.Passing.{ends_within, passes_none, passes_turns, passes_untaken}
+use Rattle.cf_run.proofs.Puts.{all_some, all_told, gives_up, none_before, none_put, so_told}
+use Rattle.cf_run.proofs.Versions.{words_so}
 use Rattle.cf_run.proofs.follow.follow_all.Goals as goal
 
-pub returns-clause-followed : goal.returns-clause-followed
-returns-clause-followed g c =
+pub returns-clause-outcome : goal.returns-clause-outcome
+returns-clause-outcome g c =
     let t = g.W.Wires.told c.follow_turns.new.wires in
     let called = names_in c.args.names.now in
-    let start = starts c.in_ok-client.client c.new-progress.result (g.W.Wires.told c.args.wires.now) c.in_ok-client.ensures.reflects c.new-progress.ensures.sends c.new-progress.ensures.closed c.new-progress.ensures.trace c.requires.fresh in
-    let stopped = c.in_ok-end.ensures.stopped called (c.in_ok-dial_all.ensures.holds start) in
-    let o = c.in_ok-outcome.outcome in
-    let end = finishes c.in_ok-end.end c.follow_turns.new.client c.follow_turns.new.progress called t o.height o.tip o.history stopped c.in_ok-outcome.ensures.report in
-    let watched = c.in_ok-end.ensures.rule ∙ c.in_ok-dial_all.ensures.rule ∙ c.in_ok-client.ensures.rule in
-    rw (c.in_ok-outcome.ensures.end, c.in_ok-outcome.ensures.trace) (
-    subst (λ (rule : Rule). IfSome t.log (Followed rule c.in_ok-end.end o.height o.tip o.history c.follow_turns.new.progress.trace.items called)) watched
-    (told_so t.log end.actual (Followed (rule_by c.follow_turns.new.client) c.in_ok-end.end o.height o.tip o.history c.follow_turns.new.progress.trace.items called) end.tells.content end.followed))
-
-pub returns-clause-ends : goal.returns-clause-ends
-returns-clause-ends g c =
-    let t = g.W.Wires.told c.follow_turns.new.wires in
-    let called = names_in c.args.names.now in
-    let start = starts c.in_ok-client.client c.new-progress.result (g.W.Wires.told c.args.wires.now) c.in_ok-client.ensures.reflects c.new-progress.ensures.sends c.new-progress.ensures.closed c.new-progress.ensures.trace c.requires.fresh in
-    let stopped = c.in_ok-end.ensures.stopped called (c.in_ok-dial_all.ensures.holds start) in
-    let holds = stopped.holds in
-    told_so t.log holds.actual (EndsTell c.in_ok-outcome.outcome.ends.items) holds.notes.tells.content (c.in_ok-outcome.ensures.ends holds.actual holds.reflects)
-
-pub returns-clause-held : goal.returns-clause-held
-returns-clause-held g c =
-    let t = g.W.Wires.told c.follow_turns.new.wires in
-    let called = names_in c.args.names.now in
-    let start = starts c.in_ok-client.client c.new-progress.result (g.W.Wires.told c.args.wires.now) c.in_ok-client.ensures.reflects c.new-progress.ensures.sends c.new-progress.ensures.closed c.new-progress.ensures.trace c.requires.fresh in
-    let stopped = c.in_ok-end.ensures.stopped called (c.in_ok-dial_all.ensures.holds start) in
-    let holds = stopped.holds in
-    told_so t.log holds.actual (HoldsNoMore g.H.HeaderStore.counts c.in_ok-outcome.outcome.held) holds.notes.tells.content (c.in_ok-outcome.ensures.held holds.actual holds.reflects)
-
-pub returns-clause-no_peers : goal.returns-clause-no_peers
-returns-clause-no_peers g c =
-    let t = g.W.Wires.told c.follow_turns.new.wires in
-    let called = names_in c.args.names.now in
-    let start = starts c.in_ok-client.client c.new-progress.result (g.W.Wires.told c.args.wires.now) c.in_ok-client.ensures.reflects c.new-progress.ensures.sends c.new-progress.ensures.closed c.new-progress.ensures.trace c.requires.fresh in
-    let stopped = c.in_ok-end.ensures.stopped called (c.in_ok-dial_all.ensures.holds start) in
-    let o = c.in_ok-outcome.outcome in
-    let end = finishes c.in_ok-end.end c.follow_turns.new.client c.follow_turns.new.progress called t o.height o.tip o.history stopped c.in_ok-outcome.ensures.report in
-    rw c.in_ok-outcome.ensures.end (no_peers (rule_by c.follow_turns.new.client) c.in_ok-end.end o.height o.tip o.history c.follow_turns.new.progress.trace.items called t end)
-
-pub returns-in_err-client-clause-versions : goal.returns-in_err-client-clause-versions
-returns-in_err-client-clause-versions g c = new_words _ (g.W.Wires.told c.args.wires.now) c.requires.fresh
-
-pub returns-in_err-dial_all-clause-versions : goal.returns-in_err-dial_all-clause-versions
-returns-in_err-dial_all-clause-versions g c =
-    let words = words_so _ _ c.args.moment c.args.nonce c.in_ok-client.ensures.words (to_z-of_z {w = w64} {z = c.args.moment} (search rules)) in
-    let start = starts c.in_ok-client.client c.new-progress.result (g.W.Wires.told c.args.wires.now) c.in_ok-client.ensures.reflects c.new-progress.ensures.sends c.new-progress.ensures.closed c.new-progress.ensures.trace c.requires.fresh in
-    has_so (words_by c.in_ok-client.client) _ (g.W.Wires.told c.dial_all.new.wires) words (c.in_err-dial_all.ensures.versions start (new_words (words_by c.in_ok-client.client) (g.W.Wires.told c.args.wires.now) c.requires.fresh))
-
-pub returns-in_err-end-clause-versions : goal.returns-in_err-end-clause-versions
-returns-in_err-end-clause-versions g c =
-    let words = words_so _ _ c.args.moment c.args.nonce c.in_ok-client.ensures.words (to_z-of_z {w = w64} {z = c.args.moment} (search rules)) in
-    let start = starts c.in_ok-client.client c.new-progress.result (g.W.Wires.told c.args.wires.now) c.in_ok-client.ensures.reflects c.new-progress.ensures.sends c.new-progress.ensures.closed c.new-progress.ensures.trace c.requires.fresh in
-    let dialled = c.in_ok-dial_all.ensures.versions start (new_words (words_by c.in_ok-client.client) (g.W.Wires.told c.args.wires.now) c.requires.fresh) in
-    words_then (words_by c.in_ok-client.client) (words_by c.dial_all.new.client) _ (g.W.Wires.told c.dial_all.new.wires) (g.W.Wires.told c.follow_turns.new.wires) words c.in_ok-dial_all.ensures.words dialled
-    (c.in_err-end.ensures.versions (names_in c.args.names.now) (c.in_ok-dial_all.ensures.holds start))
-
-pub returns-in_err-outcome-clause-versions : goal.returns-in_err-outcome-clause-versions
-returns-in_err-outcome-clause-versions g c =
-    let words = words_so _ _ c.args.moment c.args.nonce c.in_ok-client.ensures.words (to_z-of_z {w = w64} {z = c.args.moment} (search rules)) in
-    let start = starts c.in_ok-client.client c.new-progress.result (g.W.Wires.told c.args.wires.now) c.in_ok-client.ensures.reflects c.new-progress.ensures.sends c.new-progress.ensures.closed c.new-progress.ensures.trace c.requires.fresh in
-    let dialled = c.in_ok-dial_all.ensures.versions start (new_words (words_by c.in_ok-client.client) (g.W.Wires.told c.args.wires.now) c.requires.fresh) in
-    words_then (words_by c.in_ok-client.client) (words_by c.dial_all.new.client) _ (g.W.Wires.told c.dial_all.new.wires) (g.W.Wires.told c.follow_turns.new.wires) words c.in_ok-dial_all.ensures.words dialled
-    (c.in_ok-end.ensures.versions (names_in c.args.names.now) (c.in_ok-dial_all.ensures.holds start))
-
-pub returns-clause-versions : goal.returns-clause-versions
-returns-clause-versions g c =
-    let words = words_so _ _ c.args.moment c.args.nonce c.in_ok-client.ensures.words (to_z-of_z {w = w64} {z = c.args.moment} (search rules)) in
-    let start = starts c.in_ok-client.client c.new-progress.result (g.W.Wires.told c.args.wires.now) c.in_ok-client.ensures.reflects c.new-progress.ensures.sends c.new-progress.ensures.closed c.new-progress.ensures.trace c.requires.fresh in
-    let dialled = c.in_ok-dial_all.ensures.versions start (new_words (words_by c.in_ok-client.client) (g.W.Wires.told c.args.wires.now) c.requires.fresh) in
-    words_then (words_by c.in_ok-client.client) (words_by c.dial_all.new.client) _ (g.W.Wires.told c.dial_all.new.wires) (g.W.Wires.told c.follow_turns.new.wires) words c.in_ok-dial_all.ensures.words dialled
-    (c.in_ok-end.ensures.versions (names_in c.args.names.now) (c.in_ok-dial_all.ensures.holds start))
+    let rule = c.in_ok-end.ensures.rule ∙ c.in_ok-progress.ensures.rule ∙ c.in_ok-client.ensures.rule in
+    subst (λ (r : Rule). IfSome t.log (IsOutcome g.H.HeaderStore.counts r called c.in_ok-outcome.outcome)) rule
+    (c.in_ok-outcome.ensures.outcome called t (c.in_ok-end.ensures.stopped called c.in_ok-progress.ensures.holds))
 
 pub returns-clause-within : goal.returns-clause-within
 returns-clause-within g c =
     let e = c.in_ok-end.ensures in
-    let end = sym c.in_ok-outcome.ensures.end in
-    record {
-      dialled = e.same.dials ∙ c.in_ok-dial_all.ensures.dialled;
-      tired = λ is. e.tired (end ∙ is);
-      ended = λ is. e.ended (end ∙ is);
-      early = λ is. e.early (end ∙ is);
-    }
+    ends_within _ c.in_ok-outcome.ensures.end (e.stopped (names_in c.args.names.now) c.in_ok-progress.ensures.holds)
+    (e.takes.same.dials ∙ c.in_ok-progress.ensures.dialled) e.ends
 
 pub returns-in_err-client-clause-passes : goal.returns-in_err-client-clause-passes
-returns-in_err-client-clause-passes g c =
-    passes_none (names_in c.args.names.now) c.args.turns (g.W.Wires.told c.args.wires.now) (g.W.Wires.faults c.args.wires.now) (g.W.Wires.script c.args.wires.now) (g.W.Wires.keeps c.args.wires.now) c.requires.fresh
+returns-in_err-client-clause-passes g c = passes_none g.W.Wires.told g.W.Wires.faults g.W.Wires.script g.W.Wires.keeps _
+    (names_in c.args.names.now) c.args.turns c.args.wires.now c.requires.wires.log
 
-pub returns-in_err-dial_all-clause-passes : goal.returns-in_err-dial_all-clause-passes
-returns-in_err-dial_all-clause-passes g c =
-    let d = c.in_err-dial_all.ensures in
-    passes_dials (names_in c.args.names.now) c.args.turns (d.first (none_named (g.W.Wires.told c.args.wires.now) c.requires.fresh)) d.taken d.unended d.runs
+pub returns-in_err-progress-clause-passes : goal.returns-in_err-progress-clause-passes
+returns-in_err-progress-clause-passes g c =
+    let words = words_so _ _ c.args.moment c.args.nonce c.in_ok-client.ensures.words
+    (to_z-of_z {w = w64} {z = c.args.moment} (search rules)) in
+    passes_untaken (greeting_by c.in_ok-client.client) _ c.args.turns words c.in_err-progress.ensures.passes
 
 pub returns-in_err-end-clause-passes : goal.returns-in_err-end-clause-passes
 returns-in_err-end-clause-passes g c =
-    let d = c.in_ok-dial_all.ensures in
+    let words = words_so _ _ c.args.moment c.args.nonce c.in_ok-client.ensures.words
+    (to_z-of_z {w = w64} {z = c.args.moment} (search rules)) in
+    let d = c.in_ok-progress.ensures in
     let e = c.in_err-end.ensures in
-    passes_turns (names_in c.args.names.now) c.args.turns (d.first (none_named (g.W.Wires.told c.args.wires.now) c.requires.fresh)) d.runs e.same e.most e.once e.runs
+    passes_turns (greeting_by c.in_ok-client.client)
+    (greeting_by c.dial_first.new.client) _ c.args.turns words d.words d.passes
+    (e.versions (names_in c.args.names.now) d.holds) e.takes
 
 pub returns-in_err-outcome-clause-passes : goal.returns-in_err-outcome-clause-passes
 returns-in_err-outcome-clause-passes g c =
-    let d = c.in_ok-dial_all.ensures in
+    let words = words_so _ _ c.args.moment c.args.nonce c.in_ok-client.ensures.words
+    (to_z-of_z {w = w64} {z = c.args.moment} (search rules)) in
+    let d = c.in_ok-progress.ensures in
     let e = c.in_ok-end.ensures in
-    passes_turns (names_in c.args.names.now) c.args.turns (d.first (none_named (g.W.Wires.told c.args.wires.now) c.requires.fresh)) d.runs e.same e.most e.once e.runs
+    passes_turns (greeting_by c.in_ok-client.client)
+    (greeting_by c.dial_first.new.client) _ c.args.turns words d.words d.passes
+    (e.versions (names_in c.args.names.now) d.holds) e.takes
 
 pub returns-clause-passes : goal.returns-clause-passes
 returns-clause-passes g c =
-    let d = c.in_ok-dial_all.ensures in
+    let words = words_so _ _ c.args.moment c.args.nonce c.in_ok-client.ensures.words
+    (to_z-of_z {w = w64} {z = c.args.moment} (search rules)) in
+    let d = c.in_ok-progress.ensures in
     let e = c.in_ok-end.ensures in
-    passes_turns (names_in c.args.names.now) c.args.turns (d.first (none_named (g.W.Wires.told c.args.wires.now) c.requires.fresh)) d.runs e.same e.most e.once e.runs
+    passes_turns (greeting_by c.in_ok-client.client)
+    (greeting_by c.dial_first.new.client) _ c.args.turns words d.words d.passes
+    (e.versions (names_in c.args.names.now) d.holds) e.takes
 
 pub returns-clause-put : goal.returns-clause-put
 returns-clause-put g c =
-    let t0 = g.W.Wires.told c.args.wires.now in
-    let start = starts c.in_ok-client.client c.new-progress.result t0 c.in_ok-client.ensures.reflects c.new-progress.ensures.sends c.new-progress.ensures.closed c.new-progress.ensures.trace c.requires.fresh in
-    let called = names_in c.args.names.now in
-    let same = ap (λ (r : Rule). r.watch) (c.in_ok-dial_all.ensures.rule ∙ c.in_ok-client.ensures.rule) in
-    let were = c.in_ok-dial_all.ensures.puts c.args.watch [] (none_before c.args.watch t0 c.requires.fresh) in
-    all_told c.args.watch (g.W.Wires.told c.follow_turns.new.wires) _ _ (c.in_ok-end.ensures.put c.args.watch called same (c.in_ok-dial_all.ensures.holds start) were)
+    let d = c.in_ok-progress.ensures in
+    let e = c.in_ok-end.ensures in
+    let watch = ap (λ (r : Rule). r.watch) (d.rule ∙ c.in_ok-client.ensures.rule) in
+    record {
+      put = all_told c.args.watch (g.W.Wires.told c.follow_turns.new.wires) _ _
+          (e.put c.args.watch (names_in c.args.names.now) watch d.holds (d.puts c.args.watch));
+      fine = e.fine;
+    }
 
-pub returns-in_err-client-clause-put_some : goal.returns-in_err-client-clause-put_some
-returns-in_err-client-clause-put_some g c =
-    (let p = err_from_is_err_and c.from_residual.result c.from_residual.ensures.1 in rw (p.1, p.2)
-    (none_put c.args.watch (g.W.Wires.told c.args.wires.now) _ (none_before c.args.watch (g.W.Wires.told c.args.wires.now) c.requires.fresh)))
+pub returns-in_err-client-clause-cut : goal.returns-in_err-client-clause-cut
+returns-in_err-client-clause-cut g c =
+    (let p = err_from_is_err_and c.from_residual.result c.from_residual.ensures.1 in
+    rw (p.1, p.2) (so_told c.args.watch (g.W.Wires.told c.args.wires.now) _ _
+    (none_put c.args.watch (g.W.Wires.told c.args.wires.now) _
+    (none_before c.args.watch (g.W.Wires.told c.args.wires.now) c.requires.wires.log))))
 
-pub returns-in_err-dial_all-clause-put_some : goal.returns-in_err-dial_all-clause-put_some
-returns-in_err-dial_all-clause-put_some g c =
-    (let p = err_from_is_err_and c.from_residual-in_err-dial_all.result c.from_residual-in_err-dial_all.ensures.1 in
-    let were = c.in_err-dial_all.ensures.puts c.args.watch [] (none_before c.args.watch (g.W.Wires.told c.args.wires.now) c.requires.fresh) in
-    rw (p.1, p.2) (none_put c.args.watch (g.W.Wires.told c.dial_all.new.wires) _ were))
+pub returns-in_err-progress-clause-cut : goal.returns-in_err-progress-clause-cut
+returns-in_err-progress-clause-cut g c =
+    (let p = err_from_is_err_and c.from_residual-in_err-progress.result c.from_residual-in_err-progress.ensures.1 in
+    rw (p.1, p.2) (so_told c.args.watch (g.W.Wires.told c.dial_first.new.wires) _ _
+    (none_put c.args.watch (g.W.Wires.told c.dial_first.new.wires) _ (c.in_err-progress.ensures.puts c.args.watch))))
 
-pub returns-in_err-end-clause-put_some : goal.returns-in_err-end-clause-put_some
-returns-in_err-end-clause-put_some g c =
+pub returns-in_err-end-clause-cut : goal.returns-in_err-end-clause-cut
+returns-in_err-end-clause-cut g c =
     (let p = err_from_is_err_and c.from_residual-in_err-end.result c.from_residual-in_err-end.ensures.1 in
-    let t0 = g.W.Wires.told c.args.wires.now in
-    let start = starts c.in_ok-client.client c.new-progress.result t0 c.in_ok-client.ensures.reflects c.new-progress.ensures.sends c.new-progress.ensures.closed c.new-progress.ensures.trace c.requires.fresh in
+    let d = c.in_ok-progress.ensures in
+    let e = c.in_err-end.ensures in
     let called = names_in c.args.names.now in
-    let same = ap (λ (r : Rule). r.watch) (c.in_ok-dial_all.ensures.rule ∙ c.in_ok-client.ensures.rule) in
-    let were = c.in_ok-dial_all.ensures.puts c.args.watch [] (none_before c.args.watch t0 c.requires.fresh) in
-    rw (p.1, p.2) (c.in_err-end.ensures.put_some c.args.watch called same (c.in_ok-dial_all.ensures.holds start) were))
+    let watch = ap (λ (r : Rule). r.watch) (d.rule ∙ c.in_ok-client.ensures.rule) in
+    rw (p.1, p.2) (gives_up _ g.T.Texts.told g.T.Texts.faults c.args.watch called
+    (g.W.Wires.told c.follow_turns.new.wires) c.args.texts.now c.follow_turns.new.texts
+    (e.put_some c.args.watch called watch d.holds (d.puts c.args.watch))
+    (e.takes.same.dials ∙ d.dialled ∙ sym (length-map c.args.names.now string_bytes)) (λ is. e.failed (cc is))))
 
-pub returns-in_err-outcome-clause-put_some : goal.returns-in_err-outcome-clause-put_some
-returns-in_err-outcome-clause-put_some g c =
+pub returns-in_err-outcome-clause-cut : goal.returns-in_err-outcome-clause-cut
+returns-in_err-outcome-clause-cut g c =
     (let p = err_from_is_err_and c.from_residual-in_err-outcome.result c.from_residual-in_err-outcome.ensures.1 in
-    let t0 = g.W.Wires.told c.args.wires.now in
-    let start = starts c.in_ok-client.client c.new-progress.result t0 c.in_ok-client.ensures.reflects c.new-progress.ensures.sends c.new-progress.ensures.closed c.new-progress.ensures.trace c.requires.fresh in
-    let called = names_in c.args.names.now in
-    let same = ap (λ (r : Rule). r.watch) (c.in_ok-dial_all.ensures.rule ∙ c.in_ok-client.ensures.rule) in
-    let were = c.in_ok-dial_all.ensures.puts c.args.watch [] (none_before c.args.watch t0 c.requires.fresh) in
-    rw (p.1, p.2) (all_some c.args.watch (g.W.Wires.told c.follow_turns.new.wires) _ _ (c.in_ok-end.ensures.put c.args.watch called same (c.in_ok-dial_all.ensures.holds start) were)))
-
-pub returns-clause-dialled : goal.returns-clause-dialled
-returns-clause-dialled g c = λ ne. c.in_ok-end.ensures.same.dials ∙ c.in_ok-dial_all.ensures.dialled
-
-pub returns-in_err-end-clause-dialled : goal.returns-in_err-end-clause-dialled
-returns-in_err-end-clause-dialled g c = λ ne. c.in_err-end.ensures.same.dials ∙ c.in_ok-dial_all.ensures.dialled
-
-pub returns-in_err-outcome-clause-dialled : goal.returns-in_err-outcome-clause-dialled
-returns-in_err-outcome-clause-dialled g c = λ ne. c.in_ok-end.ensures.same.dials ∙ c.in_ok-dial_all.ensures.dialled
+    let d = c.in_ok-progress.ensures in
+    let e = c.in_ok-end.ensures in
+    let watch = ap (λ (r : Rule). r.watch) (d.rule ∙ c.in_ok-client.ensures.rule) in
+    let t = g.W.Wires.told c.follow_turns.new.wires in
+    rw (p.1, p.2) (so_told c.args.watch t _ _ (all_some c.args.watch t _ _
+    (e.put c.args.watch (names_in c.args.names.now) watch d.holds (d.puts c.args.watch)))))
 
 pub returns-clause-done : goal.returns-clause-done
 returns-clause-done g c = λ is. c.in_ok-end.ensures.done (sym c.in_ok-outcome.ensures.end ∙ is)
 
 pub follow_turns-requires-clause-follows : goal.follow_turns-requires-clause-follows
-follow_turns-requires-clause-follows g c = ap (λ (r : Rule). r.mode) (c.in_ok-dial_all.ensures.rule ∙ c.in_ok-client.ensures.rule)
+follow_turns-requires-clause-follows g c = ap (λ (r : Rule). r.mode)
+    (c.in_ok-progress.ensures.rule ∙ c.in_ok-client.ensures.rule)

@@ -1,12 +1,11 @@
-use Rattle.std.proofs.Common.{refl, sym, ◌∙◌, ap}
+use Rattle.std.proofs.Common.{refl, ◌∙◌, ap}
 use Rattle.std.proofs.lemmas.Result.{err_from_is_err_and}
 use Rattle.cf_wires.specs.Log.{Told}
-use Rattle.cf_sync.specs.Fetching.{Rule}
-use Rattle.cf_client.specs.Stands.{rule_by, words_by}
+use Rattle.cf_client.specs.Stands.{rule_by}
 use Rattle.cf_run.proofs.Courses.{runs_self, turns_none}
-use Rattle.cf_run.proofs.Passing.{keeps_so}
-use Rattle.cf_run.proofs.Turns.{ended_holds, ended_stops, holds_same, may_follow, mode_same, reflects_same, rule_same, words_same}
-use Rattle.cf_run.proofs.Puts.{all_by, have_then, some_by, some_then}
+use Rattle.cf_run.proofs.Passing.{keeps_next}
+use Rattle.cf_run.proofs.Turns.{ended_stops, holds_same, may_follow, may_held, may_rest, mode_same, reflects_same, rule_same, words_same}
+use Rattle.cf_run.proofs.Puts.{all_by, have_then, putting_ended, some_by, some_then}
 use Rattle.cf_run.proofs.follow.follow_turn.Goals as goal
 
 pub returns-in-NoPeers-clause-turned : goal.returns-in-NoPeers-clause-turned
@@ -16,73 +15,62 @@ returns-in-NoPeers-clause-turned g c = λ called holds.
 
 pub returns-then-more-clause-turned : goal.returns-then-more-clause-turned
 returns-then-more-clause-turned g c = λ called holds.
-    let held = holds_same {c = c.args.client.now} {d = c.put_at_rest.new.client} c.in_ok-put_at_rest.ensures.same holds in
-    let may = may_follow (rule_by c.put_at_rest.new.client).mode _ held.actual (mode_same c.in_ok-put_at_rest.ensures.same c.requires.follows) c.in_default.not-NoPeers
-    (c.state.ensures.state held.actual held.reflects) in
-    c.in_ok-more.ensures.holds c.if-more.true called held may
+    let same = c.in_ok-put_at_rest.ensures.same in
+    let held = holds_same {c = c.args.client.now} {d = c.put_at_rest.new.client} same holds in
+    c.in_ok-more.ensures.holds c.if-more.true called held
+    (may_held _ same held c.requires.follows c.in_default.not-NoPeers c.state.ensures.state)
 
 pub returns-clause-turned : goal.returns-clause-turned
 returns-clause-turned g c = λ called holds.
+    let rest = c.in_ok-put_at_rest.ensures in
     let last = c.put_at_rest-2.new.client in
     let over = c.in_ok-more.ensures.over c.if-more.false in
     let more = c.in_ok-put_at_rest-2.ensures.same ∙ over.0 in
-    let same = more ∙ c.in_ok-put_at_rest.ensures.same in
-    let held = holds_same {c = c.args.client.now} {d = last} same holds in
+    let held = holds_same {c = c.args.client.now} {d = last} (more ∙ rest.same) holds in
     let state = c.state.ensures.state held.actual (reflects_same {c = c.put_at_rest.new.client} {d = last} more held.reflects) in
-    let may = may_follow (rule_by last).mode _ held.actual (mode_same same c.requires.follows) c.in_default.not-NoPeers state in
+    let may = may_follow (rule_by last).mode _ held.actual
+    (mode_same (more ∙ rest.same) c.requires.follows) c.in_default.not-NoPeers state in
     rw (over.1, over.2)
     (ended_stops c.end_of_wires.result last c.args.progress.now called (g.W.Wires.told c.args.wires.now) held may
     (c.end_of_wires.ensures.end held.actual held.reflects))
 
 pub returns-then-more-clause-puts : goal.returns-then-more-clause-puts
 returns-then-more-clause-puts g c = λ is watch called first same holds have.
-    have_then c.args.client.now c.args.progress.now called (g.W.Wires.told c.args.wires.now) (g.W.Wires.told c.take_next.new.wires) watch c.args.last.now c.put_at_rest.new.last
-    first _ _ holds c.requires.follows same have (c.in_ok-put_at_rest.ensures.put have.texts have.newest) c.in_ok-more.ensures.puts
+    have_then (record { holds = holds; follows = c.requires.follows; watched = same; have = have })
+    (c.in_ok-put_at_rest.ensures.put have.texts have.newest) c.in_ok-more.ensures.puts
 
 pub returns-in-NoPeers-clause-all_put : goal.returns-in-NoPeers-clause-all_put
 returns-in-NoPeers-clause-all_put g c = λ e is watch called first same holds have.
-    all_by c.args.client.now c.args.progress.now called (g.W.Wires.told c.args.wires.now) watch c.args.last.now c.put_at_rest.new.last
-    first _ _ holds c.requires.follows same have (c.in_ok-put_at_rest.ensures.put have.texts have.newest)
+    all_by (record { holds = holds; follows = c.requires.follows; watched = same; have = have })
+    (c.in_ok-put_at_rest.ensures.put have.texts have.newest)
 
 pub returns-clause-all_put : goal.returns-clause-all_put
 returns-clause-all_put g c = λ e is watch called first same holds have.
+    let rest = c.in_ok-put_at_rest.ensures in
     let over = c.in_ok-more.ensures.over c.if-more.false in
-    let same_client = over.0 ∙ c.in_ok-put_at_rest.ensures.same in
-    let state = c.state.ensures.state holds.actual (reflects_same {c = c.put_at_rest.new.client} {d = c.args.client.now} (sym c.in_ok-put_at_rest.ensures.same) holds.reflects) in
-    let may = may_follow (rule_by c.args.client.now).mode _ holds.actual c.requires.follows c.in_default.not-NoPeers state in
-    let now = ended_holds {c = c.args.client.now} {d = c.take_next.new.client} same_client over.1 over.2 holds may in
-    let rule = rule_same same_client in
-    let follows = ap (λ (r : Rule). r.mode) rule ∙ c.requires.follows in
-    let have_more = have_then c.args.client.now c.args.progress.now called (g.W.Wires.told c.args.wires.now) (g.W.Wires.told c.take_next.new.wires) watch c.args.last.now c.put_at_rest.new.last
-    first (g.T.Texts.told c.args.texts.now) (g.T.Texts.told c.put_at_rest.new.texts) holds c.requires.follows same have (c.in_ok-put_at_rest.ensures.put have.texts have.newest) c.in_ok-more.ensures.puts in
-    let same_watch = ap (λ (r : Rule). r.watch) rule ∙ same in
-    all_by c.take_next.new.client c.take_next.new.progress called (g.W.Wires.told c.take_next.new.wires) watch c.put_at_rest.new.last c.put_at_rest-2.new.last
-    first _ _ now follows same_watch have_more (c.in_ok-put_at_rest-2.ensures.put have_more.texts have_more.newest)
+    let may = may_rest _ rest.same holds c.requires.follows c.in_default.not-NoPeers c.state.ensures.state in
+    let now = putting_ended (record { holds = holds; follows = c.requires.follows; watched = same; have = have })
+    (rest.put have.texts have.newest) (over.0 ∙ rest.same) over.1 over.2 may in
+    all_by now (c.in_ok-put_at_rest-2.ensures.put now.have.texts now.have.newest)
 
 pub returns-in_err-put_at_rest-clause-put_some : goal.returns-in_err-put_at_rest-clause-put_some
 returns-in_err-put_at_rest-clause-put_some g c = (let p = err_from_is_err_and c.from_residual.result c.from_residual.ensures.1 in rw (p.1, p.2) (λ watch called first same holds have.
-    some_by _ c.args.client.now c.args.progress.now called (g.W.Wires.told c.args.wires.now) watch c.args.last.now
-    first _ _ holds c.requires.follows same have (c.in_err-put_at_rest.ensures.put_some have.texts have.newest)))
+    some_by _ _ (record { holds = holds; follows = c.requires.follows; watched = same; have = have })
+    (c.in_err-put_at_rest.ensures.put_some have.texts have.newest)))
 
 pub returns-in_err-more-clause-put_some : goal.returns-in_err-more-clause-put_some
 returns-in_err-more-clause-put_some g c = (let p = err_from_is_err_and c.from_residual-in_err-more.result c.from_residual-in_err-more.ensures.1 in rw (p.1, p.2) (λ watch called first same holds have.
-    some_then c.args.client.now c.args.progress.now called (g.W.Wires.told c.args.wires.now) (g.W.Wires.told c.take_next.new.wires) watch c.args.last.now c.put_at_rest.new.last
-    first _ _ holds c.requires.follows same have (c.in_ok-put_at_rest.ensures.put have.texts have.newest) c.in_err-more.ensures.turns.puts))
+    some_then (record { holds = holds; follows = c.requires.follows; watched = same; have = have })
+    (c.in_ok-put_at_rest.ensures.put have.texts have.newest) c.in_err-more.ensures.turns.puts))
 
 pub returns-in_err-put_at_rest-2-clause-put_some : goal.returns-in_err-put_at_rest-2-clause-put_some
 returns-in_err-put_at_rest-2-clause-put_some g c = (let p = err_from_is_err_and c.from_residual-in_err-put_at_rest-2.result c.from_residual-in_err-put_at_rest-2.ensures.1 in rw (p.1, p.2) (λ watch called first same holds have.
+    let rest = c.in_ok-put_at_rest.ensures in
     let over = c.in_ok-more.ensures.over c.if-more.false in
-    let same_client = over.0 ∙ c.in_ok-put_at_rest.ensures.same in
-    let state = c.state.ensures.state holds.actual (reflects_same {c = c.put_at_rest.new.client} {d = c.args.client.now} (sym c.in_ok-put_at_rest.ensures.same) holds.reflects) in
-    let may = may_follow (rule_by c.args.client.now).mode _ holds.actual c.requires.follows c.in_default.not-NoPeers state in
-    let now = ended_holds {c = c.args.client.now} {d = c.take_next.new.client} same_client over.1 over.2 holds may in
-    let rule = rule_same same_client in
-    let follows = ap (λ (r : Rule). r.mode) rule ∙ c.requires.follows in
-    let have_more = have_then c.args.client.now c.args.progress.now called (g.W.Wires.told c.args.wires.now) (g.W.Wires.told c.take_next.new.wires) watch c.args.last.now c.put_at_rest.new.last
-    first (g.T.Texts.told c.args.texts.now) (g.T.Texts.told c.put_at_rest.new.texts) holds c.requires.follows same have (c.in_ok-put_at_rest.ensures.put have.texts have.newest) c.in_ok-more.ensures.puts in
-    let same_watch = ap (λ (r : Rule). r.watch) rule ∙ same in
-    some_by _ c.take_next.new.client c.take_next.new.progress called (g.W.Wires.told c.take_next.new.wires) watch c.put_at_rest.new.last
-    first _ _ now follows same_watch have_more (c.in_err-put_at_rest-2.ensures.put_some have_more.texts have_more.newest)))
+    let may = may_rest _ rest.same holds c.requires.follows c.in_default.not-NoPeers c.state.ensures.state in
+    let now = putting_ended (record { holds = holds; follows = c.requires.follows; watched = same; have = have })
+    (rest.put have.texts have.newest) (over.0 ∙ rest.same) over.1 over.2 may in
+    some_by _ _ now (c.in_err-put_at_rest-2.ensures.put_some now.have.texts now.have.newest)))
 
 pub returns-in_err-put_at_rest-clause-versions : goal.returns-in_err-put_at_rest-clause-versions
 returns-in_err-put_at_rest-clause-versions g c = λ called holds has. has
@@ -91,40 +79,28 @@ pub returns-in-NoPeers-clause-versions : goal.returns-in-NoPeers-clause-versions
 returns-in-NoPeers-clause-versions g c = λ called holds has. has
 
 pub returns-then-more-clause-versions : goal.returns-then-more-clause-versions
-returns-then-more-clause-versions g c = λ called holds.
-    let held = holds_same {c = c.args.client.now} {d = c.put_at_rest.new.client} c.in_ok-put_at_rest.ensures.same holds in
-    let may = may_follow (rule_by c.put_at_rest.new.client).mode _ held.actual (mode_same c.in_ok-put_at_rest.ensures.same c.requires.follows) c.in_default.not-NoPeers
-    (c.state.ensures.state held.actual held.reflects) in
-    keeps_so (words_by c.put_at_rest.new.client) (words_by c.args.client.now) (g.W.Wires.told c.args.wires.now) (g.W.Wires.told c.take_next.new.wires)
-    (words_same c.in_ok-put_at_rest.ensures.same)
-    (c.in_ok-more.ensures.versions called held may)
+returns-then-more-clause-versions g c = λ called.
+    keeps_next (g.W.Wires.told c.args.wires.now)
+    (g.W.Wires.told c.take_next.new.wires) _ c.in_ok-put_at_rest.ensures.same c.requires.follows
+    c.in_default.not-NoPeers c.state.ensures.state (c.in_ok-more.ensures.versions called)
 
 pub returns-clause-versions : goal.returns-clause-versions
-returns-clause-versions g c = λ called holds.
-    let held = holds_same {c = c.args.client.now} {d = c.put_at_rest.new.client} c.in_ok-put_at_rest.ensures.same holds in
-    let may = may_follow (rule_by c.put_at_rest.new.client).mode _ held.actual (mode_same c.in_ok-put_at_rest.ensures.same c.requires.follows) c.in_default.not-NoPeers
-    (c.state.ensures.state held.actual held.reflects) in
-    keeps_so (words_by c.put_at_rest.new.client) (words_by c.args.client.now) (g.W.Wires.told c.args.wires.now) (g.W.Wires.told c.take_next.new.wires)
-    (words_same c.in_ok-put_at_rest.ensures.same)
-    (c.in_ok-more.ensures.versions called held may)
+returns-clause-versions g c = λ called.
+    keeps_next (g.W.Wires.told c.args.wires.now)
+    (g.W.Wires.told c.take_next.new.wires) _ c.in_ok-put_at_rest.ensures.same c.requires.follows
+    c.in_default.not-NoPeers c.state.ensures.state (c.in_ok-more.ensures.versions called)
 
 pub returns-in_err-more-clause-versions : goal.returns-in_err-more-clause-versions
-returns-in_err-more-clause-versions g c = λ called holds.
-    let held = holds_same {c = c.args.client.now} {d = c.put_at_rest.new.client} c.in_ok-put_at_rest.ensures.same holds in
-    let may = may_follow (rule_by c.put_at_rest.new.client).mode _ held.actual (mode_same c.in_ok-put_at_rest.ensures.same c.requires.follows) c.in_default.not-NoPeers
-    (c.state.ensures.state held.actual held.reflects) in
-    keeps_so (words_by c.put_at_rest.new.client) (words_by c.args.client.now) (g.W.Wires.told c.args.wires.now) (g.W.Wires.told c.take_next.new.wires)
-    (words_same c.in_ok-put_at_rest.ensures.same)
-    (c.in_err-more.ensures.versions called held may)
+returns-in_err-more-clause-versions g c = λ called.
+    keeps_next (g.W.Wires.told c.args.wires.now)
+    (g.W.Wires.told c.take_next.new.wires) _ c.in_ok-put_at_rest.ensures.same c.requires.follows
+    c.in_default.not-NoPeers c.state.ensures.state (c.in_err-more.ensures.versions called)
 
 pub returns-in_err-put_at_rest-2-clause-versions : goal.returns-in_err-put_at_rest-2-clause-versions
-returns-in_err-put_at_rest-2-clause-versions g c = λ called holds.
-    let held = holds_same {c = c.args.client.now} {d = c.put_at_rest.new.client} c.in_ok-put_at_rest.ensures.same holds in
-    let may = may_follow (rule_by c.put_at_rest.new.client).mode _ held.actual (mode_same c.in_ok-put_at_rest.ensures.same c.requires.follows) c.in_default.not-NoPeers
-    (c.state.ensures.state held.actual held.reflects) in
-    keeps_so (words_by c.put_at_rest.new.client) (words_by c.args.client.now) (g.W.Wires.told c.args.wires.now) (g.W.Wires.told c.take_next.new.wires)
-    (words_same c.in_ok-put_at_rest.ensures.same)
-    (c.in_ok-more.ensures.versions called held may)
+returns-in_err-put_at_rest-2-clause-versions g c = λ called.
+    keeps_next (g.W.Wires.told c.args.wires.now)
+    (g.W.Wires.told c.take_next.new.wires) _ c.in_ok-put_at_rest.ensures.same c.requires.follows
+    c.in_default.not-NoPeers c.state.ensures.state (c.in_ok-more.ensures.versions called)
 
 pub returns-in-NoPeers-clause-rule : goal.returns-in-NoPeers-clause-rule
 returns-in-NoPeers-clause-rule g c = rule_same c.in_ok-put_at_rest.ensures.same

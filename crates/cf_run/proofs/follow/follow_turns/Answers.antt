@@ -1,10 +1,10 @@
 use Rattle.std.proofs.Common.{inr, ℕ, ◌+◌, Option, Some, refl, ◌∙◌, ap, subst, arith}
 use Rattle.std.proofs.lemmas.Result.{err_from_is_err_and}
 use Rattle.cf_sync.specs.Fetching.{Rule}
-use Rattle.cf_client.specs.Stands.{words_by}
+use Rattle.cf_client.specs.Stands.{greeting_by}
 use Rattle.cf_run.specs.declared.outcome.End.{End}
 use Rattle.cf_run.specs.Moments.{Turned}
-use Rattle.cf_run.proofs.Courses.{runs_self, runs_then, no_more_self, no_more_then}
+use Rattle.cf_run.proofs.Courses.{runs_self, runs_then, no_more_self, no_more_then, turn_ends, turns_more, turns_used}
 use Rattle.cf_run.proofs.Turns.{holds_same, rule_same, stops}
 use Rattle.cf_run.proofs.Versions.{keeps_then}
 use Rattle.cf_run.proofs.Puts.{all_by, none_have, some_by}
@@ -36,7 +36,7 @@ loop-turn-preserved g c = record {
       c.in_ok-end.ensures.puts c.in_default.is watch called (g.T.Texts.told c.args.texts.now) (ap (λ (r : Rule). r.watch) c.loop-turn.invariant.rule ∙ same)
       (c.loop-turn.invariant.holds called holds) (c.loop-turn.invariant.puts watch called same holds were);
   versions = λ called holds.
-      keeps_then (words_by c.loop-turn.client) (words_by c.args.client.now) (g.W.Wires.told c.args.wires.now) (g.W.Wires.told c.loop-turn.wires) (g.W.Wires.told c.follow_turn.new.wires)
+      keeps_then (greeting_by c.loop-turn.client) (greeting_by c.args.client.now) (g.W.Wires.told c.args.wires.now) (g.W.Wires.told c.loop-turn.wires) (g.W.Wires.told c.follow_turn.new.wires)
       c.loop-turn.invariant.words (c.loop-turn.invariant.versions called holds)
       (c.in_ok-end.ensures.versions called (c.loop-turn.invariant.holds called holds));
   rule = c.in_ok-end.ensures.rule ∙ c.loop-turn.invariant.rule;
@@ -66,9 +66,15 @@ returns-in-Some-clause-put g c = λ watch called same holds were.
 
 pub returns-clause-put : goal.returns-clause-put
 returns-clause-put g c = λ watch called same holds were.
-    let have = c.loop-turn.invariant.puts watch called same holds were in
-    all_by c.loop-turn.client c.loop-turn.progress called (g.W.Wires.told c.loop-turn.wires) watch c.loop-turn.last c.put_at_rest.new.last (g.T.Texts.told c.args.texts.now) _ _
-    (c.loop-turn.invariant.holds called holds) c.loop-turn.invariant.follows (ap (λ (r : Rule). r.watch) c.loop-turn.invariant.rule ∙ same) have (c.in_ok-put_at_rest.ensures.put have.texts have.newest)
+    let turn = c.loop-turn.invariant in
+    let have = turn.puts watch called same holds were in
+    all_by (record {
+      holds = turn.holds called holds;
+      follows = turn.follows;
+      watched = ap (λ (r : Rule). r.watch) turn.rule ∙ same;
+      have = have;
+    })
+    (c.in_ok-put_at_rest.ensures.put have.texts have.newest)
 
 pub returns-in_err-end-clause-put_some : goal.returns-in_err-end-clause-put_some
 returns-in_err-end-clause-put_some g c = (let p = err_from_is_err_and c.from_residual.result c.from_residual.ensures.1 in rw (p.1, p.2) (λ watch called same holds were.
@@ -77,18 +83,24 @@ returns-in_err-end-clause-put_some g c = (let p = err_from_is_err_and c.from_res
 
 pub returns-in_err-put_at_rest-clause-put_some : goal.returns-in_err-put_at_rest-clause-put_some
 returns-in_err-put_at_rest-clause-put_some g c = (let p = err_from_is_err_and c.from_residual-in_err-put_at_rest.result c.from_residual-in_err-put_at_rest.ensures.1 in rw (p.1, p.2) (λ watch called same holds were.
-    let have = c.loop-turn.invariant.puts watch called same holds were in
-    some_by _ c.loop-turn.client c.loop-turn.progress called (g.W.Wires.told c.loop-turn.wires) watch c.loop-turn.last (g.T.Texts.told c.args.texts.now) _ _
-    (c.loop-turn.invariant.holds called holds) c.loop-turn.invariant.follows (ap (λ (r : Rule). r.watch) c.loop-turn.invariant.rule ∙ same) have (c.in_err-put_at_rest.ensures.put_some have.texts have.newest)))
+    let turn = c.loop-turn.invariant in
+    let have = turn.puts watch called same holds were in
+    some_by _ _ (record {
+      holds = turn.holds called holds;
+      follows = turn.follows;
+      watched = ap (λ (r : Rule). r.watch) turn.rule ∙ same;
+      have = have;
+    })
+    (c.in_err-put_at_rest.ensures.put_some have.texts have.newest)))
 
 pub returns-in-Some-clause-versions : goal.returns-in-Some-clause-versions
 returns-in-Some-clause-versions g c = λ called holds.
-    keeps_then (words_by c.loop-turn.client) (words_by c.args.client.now) (g.W.Wires.told c.args.wires.now) (g.W.Wires.told c.loop-turn.wires) (g.W.Wires.told c.follow_turn.new.wires) c.loop-turn.invariant.words (c.loop-turn.invariant.versions called holds)
+    keeps_then (greeting_by c.loop-turn.client) (greeting_by c.args.client.now) (g.W.Wires.told c.args.wires.now) (g.W.Wires.told c.loop-turn.wires) (g.W.Wires.told c.follow_turn.new.wires) c.loop-turn.invariant.words (c.loop-turn.invariant.versions called holds)
     (c.in_ok-end.ensures.versions called (c.loop-turn.invariant.holds called holds))
 
 pub returns-in_err-end-clause-versions : goal.returns-in_err-end-clause-versions
 returns-in_err-end-clause-versions g c = λ called holds.
-    keeps_then (words_by c.loop-turn.client) (words_by c.args.client.now) (g.W.Wires.told c.args.wires.now) (g.W.Wires.told c.loop-turn.wires) (g.W.Wires.told c.follow_turn.new.wires) c.loop-turn.invariant.words (c.loop-turn.invariant.versions called holds)
+    keeps_then (greeting_by c.loop-turn.client) (greeting_by c.args.client.now) (g.W.Wires.told c.args.wires.now) (g.W.Wires.told c.loop-turn.wires) (g.W.Wires.told c.follow_turn.new.wires) c.loop-turn.invariant.words (c.loop-turn.invariant.versions called holds)
     (c.in_err-end.ensures.versions called (c.loop-turn.invariant.holds called holds))
 
 pub returns-clause-rule : goal.returns-clause-rule
@@ -100,11 +112,34 @@ returns-in-Some-clause-rule g c = c.in_ok-end.ensures.rule ∙ c.loop-turn.invar
 pub returns-in-Some-clause-done : goal.returns-in-Some-clause-done
 returns-in-Some-clause-done g c = λ is. inr (c.in_ok-end.ensures.ended c.in-Some.end c.in-Some.is (λ no. cc (is, no)) ∙ ap (λ (n : ℕ). n + 1) c.loop-turn.invariant.unended)
 
-pub returns-in-Some-clause-ended : goal.returns-in-Some-clause-ended
-returns-in-Some-clause-ended g c = λ is. c.in_ok-end.ensures.ended c.in-Some.end c.in-Some.is (λ no. cc (is, no)) ∙ ap (λ (n : ℕ). n + 1) c.loop-turn.invariant.unended
+pub returns-in-Some-clause-ends : goal.returns-in-Some-clause-ends
+returns-in-Some-clause-ends g c =
+    let e = c.in_ok-end.ensures in
+    turn_ends c.in-Some.end c.args.turns _ (g.W.Wires.told c.loop-turn.wires).tally
+    (g.W.Wires.told c.follow_turn.new.wires).tally (λ is. e.untired (c.in-Some.is ∙ ap Some is))
+    (λ is. e.ended c.in-Some.end c.in-Some.is (λ no. cc (is, no)))
+    (e.untaken (λ no. cc (c.in-Some.is, no))) c.loop-turn.invariant.taken (omega arith) c.loop-turn.invariant.unended
 
-pub returns-in-Some-clause-tired : goal.returns-in-Some-clause-tired
-returns-in-Some-clause-tired g c = λ is. absurd (c.in_ok-end.ensures.untired (c.in-Some.is ∙ ap Some is))
+pub returns-clause-ends : goal.returns-clause-ends
+returns-clause-ends g c = turns_used c.last_end.result c.args.turns
+    (g.W.Wires.told c.loop-turn.wires).tally c.last_end.ensures.unended (omega (arith, c.loop-turn.invariant.taken))
 
-pub returns-in-Some-clause-early : goal.returns-in-Some-clause-early
-returns-in-Some-clause-early g c = λ is. (let none = c.in_ok-end.ensures.untaken (λ no. cc (c.in-Some.is, no)) in omega (arith, none, c.loop-turn.invariant.taken))
+pub returns-in-Some-clause-takes : goal.returns-in-Some-clause-takes
+returns-in-Some-clause-takes g c =
+    let turn = c.loop-turn.invariant in
+    turns_more c.args.turns _ turn.taken (omega arith) turn.unended turn.same turn.runs c.in_ok-end.ensures.turns
+
+pub returns-in_err-end-clause-takes : goal.returns-in_err-end-clause-takes
+returns-in_err-end-clause-takes g c =
+    let turn = c.loop-turn.invariant in
+    turns_more c.args.turns _ turn.taken (omega arith) turn.unended turn.same turn.runs c.in_err-end.ensures.turns
+
+pub returns-in_err-put_at_rest-clause-takes : goal.returns-in_err-put_at_rest-clause-takes
+returns-in_err-put_at_rest-clause-takes g c =
+    let turn = c.loop-turn.invariant in
+    record { most = omega (arith, turn.taken); once = omega (arith, turn.unended); same = turn.same; runs = turn.runs }
+
+pub returns-clause-takes : goal.returns-clause-takes
+returns-clause-takes g c =
+    let turn = c.loop-turn.invariant in
+    record { most = omega (arith, turn.taken); once = omega (arith, turn.unended); same = turn.same; runs = turn.runs }

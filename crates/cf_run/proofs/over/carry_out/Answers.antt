@@ -1,5 +1,5 @@
 use Rattle.cf_place.specs.Places.{after}
-use Rattle.cf_client.specs.Stands.{rule_by, words_by}
+use Rattle.cf_client.specs.Stands.{rule_by, greeting_by}
 use Rattle.cf_run.proofs.Courses.{performs_then}
 use Rattle.cf_run.proofs.over.carry_out.Goals as goal
 
@@ -13,12 +13,12 @@ returns-clause-performs g c = performs_then c.in_ok-perform.ensures.performs c.i
 pub returns-clause-versions : goal.returns-clause-versions
 returns-clause-versions g c = λ called log answers doing tells has.
     c.in_ok-settle.ensures.versions called (after c.args.acts.now log) answers.stand (c.in_ok-perform.ensures.doing (rule_by c.args.client.now) called log answers.allowed doing)
-    (c.in_ok-perform.ensures.versions (words_by c.args.client.now) tells has)
+    (c.in_ok-perform.ensures.versions (greeting_by c.args.client.now) tells has)
 
 pub returns-in_err-settle-clause-versions : goal.returns-in_err-settle-clause-versions
 returns-in_err-settle-clause-versions g c = λ called log answers doing tells has.
     c.in_err-settle.ensures.versions called (after c.args.acts.now log) answers.stand (c.in_ok-perform.ensures.doing (rule_by c.args.client.now) called log answers.allowed doing)
-    (c.in_ok-perform.ensures.versions (words_by c.args.client.now) tells has)
+    (c.in_ok-perform.ensures.versions (greeting_by c.args.client.now) tells has)
 
 pub returns-in_err-perform-clause-versions : goal.returns-in_err-perform-clause-versions
-returns-in_err-perform-clause-versions g c = λ called log answers doing tells has. c.in_err-perform.ensures.versions (words_by c.args.client.now) tells has
+returns-in_err-perform-clause-versions g c = λ called log answers doing tells has. c.in_err-perform.ensures.versions (greeting_by c.args.client.now) tells has

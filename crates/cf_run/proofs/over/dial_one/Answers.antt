@@ -1,7 +1,7 @@
 use Rattle.std.proofs.Common.{ℕ, ◌+◌, [], ◌∷◌, ◌++◌, Err, refl, ◌∙◌, ap, subst}
 use Rattle.cf_bytes.specs.declared.peer.PeerNo.{PeerNo}
 use Rattle.cf_wires.specs.declared.event.Event.TheVariants.{Dialled, NotDialled}
-use Rattle.cf_client.specs.Stands.{Reflects, words_by}
+use Rattle.cf_client.specs.Stands.{Reflects, greeting_by}
 use Rattle.cf_run.proofs.Courses.{dials_none, quiet_runs, dialled_one, missed_one, one_more_then}
 use Rattle.cf_run.proofs.Passing.{dialled_then, missed_alone, keeps_after}
 use Rattle.cf_run.proofs.Versions.{entry_keeps, same_keeps}
@@ -17,16 +17,16 @@ returns-in_ok-greet-in-Ok-clause-holds g c = λ called holds.
 
 pub returns-in_ok-greet-in-Ok-clause-versions : goal.returns-in_ok-greet-in-Ok-clause-versions
 returns-in_ok-greet-in-Ok-clause-versions g c = λ called holds.
-    keeps_after (words_by c.args.client.now) (g.W.Wires.told c.args.wires.now) (g.W.Wires.told c.dial.new.self) (g.W.Wires.told c.greet.new.wires)
-    (entry_keeps (words_by c.args.client.now) (Dialled c.in-Ok.p c.args.name.now) _ _ c.in-Ok.ensures.dialled.1 tt)
+    keeps_after (greeting_by c.args.client.now) (g.W.Wires.told c.args.wires.now) (g.W.Wires.told c.dial.new.self) (g.W.Wires.told c.greet.new.wires)
+    (entry_keeps (greeting_by c.args.client.now) (Dialled c.in-Ok.p c.args.name.now) _ _ c.in-Ok.ensures.dialled.1 tt)
     (c.in_ok-greet-in-Ok.ensures.versions (called ++ c.args.name.now ∷ []) holds.actual holds.reflects
     (λ acts. rw c.in-Ok.ensures.dialled.1
     (dial_doing c.args.client.now acts c.args.progress.now called (g.W.Wires.told c.args.wires.now) c.in-Ok.p c.args.name.now holds c.in-Ok.ensures.dialled.0 c.requires.room c.requires.untaken c.requires.unended)))
 
 pub returns-in_err-greet-in-Ok-clause-versions : goal.returns-in_err-greet-in-Ok-clause-versions
 returns-in_err-greet-in-Ok-clause-versions g c = λ called holds.
-    keeps_after (words_by c.args.client.now) (g.W.Wires.told c.args.wires.now) (g.W.Wires.told c.dial.new.self) (g.W.Wires.told c.greet.new.wires)
-    (entry_keeps (words_by c.args.client.now) (Dialled c.in-Ok.p c.args.name.now) _ _ c.in-Ok.ensures.dialled.1 tt)
+    keeps_after (greeting_by c.args.client.now) (g.W.Wires.told c.args.wires.now) (g.W.Wires.told c.dial.new.self) (g.W.Wires.told c.greet.new.wires)
+    (entry_keeps (greeting_by c.args.client.now) (Dialled c.in-Ok.p c.args.name.now) _ _ c.in-Ok.ensures.dialled.1 tt)
     (c.in_err-greet-in-Ok.ensures.versions (called ++ c.args.name.now ∷ []) holds.actual holds.reflects
     (λ acts. rw c.in-Ok.ensures.dialled.1
     (dial_doing c.args.client.now acts c.args.progress.now called (g.W.Wires.told c.args.wires.now) c.in-Ok.p c.args.name.now holds c.in-Ok.ensures.dialled.0 c.requires.room c.requires.untaken c.requires.unended)))
@@ -59,7 +59,7 @@ returns-in_ok-not_dialled-in-Err-Failed-clause-holds g c = λ called holds.
 
 pub returns-in_ok-not_dialled-in-Err-Failed-clause-versions : goal.returns-in_ok-not_dialled-in-Err-Failed-clause-versions
 returns-in_ok-not_dialled-in-Err-Failed-clause-versions g c = λ called holds.
-    entry_keeps (words_by c.args.client.now) (NotDialled (record { 0 = (g.W.Wires.told c.args.wires.now).tally.dials + 1 }) c.args.name.now) _ _ (c.in-Err-Failed.ensures.not_dialled (ap Err c.in-Err-Failed.field-0-is)) tt
+    entry_keeps (greeting_by c.args.client.now) (NotDialled (record { 0 = (g.W.Wires.told c.args.wires.now).tally.dials + 1 }) c.args.name.now) _ _ (c.in-Err-Failed.ensures.not_dialled (ap Err c.in-Err-Failed.field-0-is)) tt
 
 pub returns-in_ok-not_dialled-in-Err-Failed-clause-counts : goal.returns-in_ok-not_dialled-in-Err-Failed-clause-counts
 returns-in_ok-not_dialled-in-Err-Failed-clause-counts g c =
@@ -78,7 +78,7 @@ returns-in_ok-not_dialled-in-Err-Failed-clause-dials g c =
 
 pub returns-in_err-not_dialled-in-Err-Failed-clause-versions : goal.returns-in_err-not_dialled-in-Err-Failed-clause-versions
 returns-in_err-not_dialled-in-Err-Failed-clause-versions g c = λ called holds.
-    entry_keeps (words_by c.args.client.now) (NotDialled (record { 0 = (g.W.Wires.told c.args.wires.now).tally.dials + 1 }) c.args.name.now) _ _ (c.in-Err-Failed.ensures.not_dialled (ap Err c.in-Err-Failed.field-0-is)) tt
+    entry_keeps (greeting_by c.args.client.now) (NotDialled (record { 0 = (g.W.Wires.told c.args.wires.now).tally.dials + 1 }) c.args.name.now) _ _ (c.in-Err-Failed.ensures.not_dialled (ap Err c.in-Err-Failed.field-0-is)) tt
 
 pub returns-in_err-not_dialled-in-Err-Failed-clause-dials : goal.returns-in_err-not_dialled-in-Err-Failed-clause-dials
 returns-in_err-not_dialled-in-Err-Failed-clause-dials g c =
@@ -87,7 +87,7 @@ returns-in_err-not_dialled-in-Err-Failed-clause-dials g c =
     missed_alone (record { 0 = (g.W.Wires.told c.args.wires.now).tally.dials + 1 }) c.args.name.now _ _ (e.cause.failed failed) (e.not_dialled failed) e.cause.later e.same e.keeps refl c.requires.step
 
 pub returns-in-Err-NoMemory-clause-versions : goal.returns-in-Err-NoMemory-clause-versions
-returns-in-Err-NoMemory-clause-versions g c = λ called holds. same_keeps (words_by c.args.client.now) _ _ (c.in-Err-NoMemory.ensures.no_memory (ap Err c.in-Err-NoMemory.field-0-is))
+returns-in-Err-NoMemory-clause-versions g c = λ called holds. same_keeps (greeting_by c.args.client.now) _ _ (c.in-Err-NoMemory.ensures.no_memory (ap Err c.in-Err-NoMemory.field-0-is))
 
 pub returns-in-Err-NoMemory-clause-dials : goal.returns-in-Err-NoMemory-clause-dials
 returns-in-Err-NoMemory-clause-dials g c =

@@ -1,7 +1,19 @@
-use Rattle.cf_run.proofs.Turns.{report_same}
+use Rattle.cf_client.specs.Stands.{rule_by}
+use Rattle.cf_run.specs.Whole.{IsOutcome}
+use Rattle.cf_run.proofs.Turns.{finishes, report_same, told_so}
 use Rattle.cf_run.proofs.over.outcome_of.Goals as goal
 
-pub returns-clause-report : goal.returns-clause-report
-returns-clause-report g c =
+pub returns-clause-outcome : goal.returns-clause-outcome
+returns-clause-outcome g c = λ called t stopped.
+    let holds = stopped.holds in
     let r = c.in_ok-report.report in
-    report_same c.args.client.now c.ends.new.self r.height r.tip r.history c.in_ok-ends.ensures.same c.in_ok-report.ensures.report
+    let report = report_same c.args.client.now c.ends.new.self r.height r.tip r.history c.in_ok-ends.ensures.same
+    c.in_ok-report.ensures.report in
+    told_so t.log holds.actual (IsOutcome g.H.HeaderStore.counts
+    (rule_by c.args.client.now) called _) holds.notes.tells.content
+    (record {
+      followed = finishes c.args.end c.args.client.now c.args.progress called t r.height r.tip r.history stopped
+          (report holds.actual holds.reflects);
+      ends = c.in_ok-ends.ensures.tell holds.actual holds.reflects;
+      held = c.held-held.ensures.few holds.actual holds.reflects;
+    })

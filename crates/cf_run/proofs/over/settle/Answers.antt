@@ -13,7 +13,7 @@ use Rattle.cf_run.proofs.Ticked.{ticked_then, ticked_told}
 use Rattle.cf_client.specs.Stands.{rule_by}
 use Rattle.cf_run.proofs.Turns.{doing_rule}
 use Rattle.cf_run.proofs.Performs.{cut_for, told_one, all_told, in_count}
-use Rattle.cf_client.specs.Stands.{words_by}
+use Rattle.cf_client.specs.Stands.{greeting_by}
 use Rattle.cf_run.proofs.Versions.{acts_tell_so}
 use Rattle.cf_run.proofs.over.settle.Goals as goal
 
@@ -55,7 +55,7 @@ loop-p-preserved g c = record {
       let w = c.loop-p.invariant.waits called planned reflects doing in
       let used = in_count c.loop-p.client [] c.loop-p.progress called w.planned (g.W.Wires.told c.loop-p.wires) p.0 c.in-Some.ensures.some.1 w.reflects w.doing in
       let tells = c.in_ok-acts.ensures.tells w.planned (SendFailed p ∷ w.planned) used w.reflects (cut_for p w.planned) in
-      c.in_ok-perform.ensures.versions (words_by c.args.client.now) (acts_tell_so _ _ c.in_ok-acts.acts.items _ c.loop-p.invariant.words c.deref.ensures.value tells)
+      c.in_ok-perform.ensures.versions (greeting_by c.args.client.now) (acts_tell_so _ _ c.in_ok-acts.acts.items _ c.loop-p.invariant.words c.deref.ensures.value tells)
       (c.loop-p.invariant.versions called planned reflects doing has);
   count = c.in_ok-acts.ensures.count ∙ c.loop-p.invariant.count;
   rule = c.in_ok-acts.ensures.rule ∙ c.loop-p.invariant.rule;
@@ -77,5 +77,5 @@ returns-in_err-perform-clause-versions g c = λ called planned reflects doing ha
     let w = c.loop-p.invariant.waits called planned reflects doing in
     let used = in_count c.loop-p.client [] c.loop-p.progress called w.planned (g.W.Wires.told c.loop-p.wires) p.0 c.in-Some.ensures.some.1 w.reflects w.doing in
     let tells = c.in_ok-acts.ensures.tells w.planned (SendFailed p ∷ w.planned) used w.reflects (cut_for p w.planned) in
-    c.in_err-perform.ensures.versions (words_by c.args.client.now) (acts_tell_so _ _ c.in_ok-acts.acts.items _ c.loop-p.invariant.words c.deref.ensures.value tells)
+    c.in_err-perform.ensures.versions (greeting_by c.args.client.now) (acts_tell_so _ _ c.in_ok-acts.acts.items _ c.loop-p.invariant.words c.deref.ensures.value tells)
     (c.loop-p.invariant.versions called planned reflects doing has)

@@ -1,43 +1,28 @@
-use Rattle.std.proofs.Common.{ℤ, rules, subst}
+use Rattle.std.proofs.Common.{refl, rules}
 use Rattle.std.proofs.Math.Facts.{to_z-of_z}
+use Rattle.std.proofs.lemmas.Option.{IfSome_then}
 use Rattle.std.proofs.lemmas.Result.{IfOk-weaker}
 use Rattle.std.specs.Int.{w64}
-use Rattle.cf_run.specs.Names.{names_in}
-use Rattle.cf_run.specs.Versions.{HasWords}
-use Rattle.cf_run.proofs.Dialling.{theorem_in}
+use Rattle.cf_sync.proofs.Settles.{sync_theorem_of}
+use Rattle.cf_run.proofs.Passing.{leaves_wires}
+use Rattle.cf_run.proofs.Versions.{words_so}
 use Rattle.cf_run.proofs.over.sync_over.Goals as goal
 
+pub returns-clause-outcome : goal.returns-clause-outcome
+returns-clause-outcome g c = rw c.finish.ensures.told c.sync_all-outcome.ensures.outcome
+
 pub returns-clause-theorem : goal.returns-clause-theorem
-returns-clause-theorem g c = rw c.finish.ensures.told (theorem_in c.args.watch (names_in c.args.names.now) _ _ c.sync_all-outcome.ensures.followed)
-
-pub returns-clause-no_peers : goal.returns-clause-no_peers
-returns-clause-no_peers g c = rw c.finish.ensures.told c.sync_all-outcome.ensures.no_peers
-
-pub returns-clause-versions : goal.returns-clause-versions
-returns-clause-versions g c =
+returns-clause-theorem g c =
     rw c.finish.ensures.told
-    (subst (λ (z : ℤ). HasWords (record { moment = z; number = c.args.nonce }) (g.W.Wires.told c.sync_all-outcome.new.wires)) (to_z-of_z {w = w64} {z = c.args.moment} (search rules))
-    c.sync_all-outcome.ensures.versions)
+    (IfOk-weaker c.sync_all-outcome.result _ _
+    (λ o is. IfSome_then _ is (λ log came. sync_theorem_of c.args.watch o.height o.tip o.history log
+    came.followed.asked)) c.sync_all-outcome.ensures.outcome)
 
-pub returns-clause-tired : goal.returns-clause-tired
-returns-clause-tired g c = rw c.finish.ensures.told (IfOk-weaker c.sync_all-outcome.result _ _ (λ o e. e.tired) c.sync_all-outcome.ensures.within)
+pub returns-clause-within : goal.returns-clause-within
+returns-clause-within g c = rw c.finish.ensures.told c.sync_all-outcome.ensures.within
 
-pub returns-clause-ended : goal.returns-clause-ended
-returns-clause-ended g c = rw c.finish.ensures.told (IfOk-weaker c.sync_all-outcome.result _ _ (λ o e. e.ended) c.sync_all-outcome.ensures.within)
-
-pub returns-clause-early : goal.returns-clause-early
-returns-clause-early g c = rw c.finish.ensures.told (IfOk-weaker c.sync_all-outcome.result _ _ (λ o e. e.early) c.sync_all-outcome.ensures.within)
-
-pub returns-clause-dialled : goal.returns-clause-dialled
-returns-clause-dialled g c = rw c.finish.ensures.told (IfOk-weaker c.sync_all-outcome.result _ _ (λ o e. e.dialled) c.sync_all-outcome.ensures.within)
-
-pub returns-clause-first : goal.returns-clause-first
-returns-clause-first g c =
-    let first = c.sync_all-outcome.ensures.passes.first in
-    rw c.finish.ensures.told (record { most = first.most; first = first.first })
-
-pub returns-clause-most : goal.returns-clause-most
-returns-clause-most g c = rw c.finish.ensures.told c.sync_all-outcome.ensures.passes.most
-
-pub returns-clause-once : goal.returns-clause-once
-returns-clause-once g c = rw c.finish.ensures.told c.sync_all-outcome.ensures.passes.once
+pub returns-clause-wires : goal.returns-clause-wires
+returns-clause-wires g c =
+    let words = words_so _ _ c.args.moment c.args.nonce refl (to_z-of_z {w = w64} {z = c.args.moment} (search rules)) in
+    let end = c.finish.ensures in
+    leaves_wires _ _ words c.requires.wires c.sync_all-outcome.ensures.passes end.told end.later end.same end.keeps

@@ -3,7 +3,7 @@ use Rattle.cf_peer.specs.declared.act.Act.{Act}
 use Rattle.cf_wires.specs.declared.event.Delivery.{Delivery}
 use Rattle.cf_wires.specs.declared.event.Event.TheVariants.{Took}
 use Rattle.cf_wires.specs.Log.{tell, Told}
-use Rattle.cf_client.specs.Stands.{Answers, words_by}
+use Rattle.cf_client.specs.Stands.{Answers, greeting_by}
 use Rattle.cf_run.proofs.Versions.{entry_keeps, same_keeps, acts_tell_so, keeps_then}
 use Rattle.cf_run.proofs.Ticked.{ticked_taken}
 use Rattle.cf_run.proofs.Turns.{took_doing, doing_rule, took_counts, took_closed}
@@ -51,13 +51,13 @@ returns-in_err-carry_out-clause-turns g c =
     c.in_err-carry_out.ensures.performs
 
 pub returns-in_err-d-clause-versions : goal.returns-in_err-d-clause-versions
-returns-in_err-d-clause-versions g c = λ called holds may. same_keeps (words_by c.args.client.now) _ _ c.in_err-d.ensures.err
+returns-in_err-d-clause-versions g c = λ called holds may. same_keeps (greeting_by c.args.client.now) _ _ c.in_err-d.ensures.err
 
 pub returns-in-Ended-clause-versions : goal.returns-in-Ended-clause-versions
-returns-in-Ended-clause-versions g c = λ called holds may. entry_keeps (words_by c.args.client.now) (Took c.in_ok-d.d) _ _ c.in_ok-d.ensures.took tt
+returns-in-Ended-clause-versions g c = λ called holds may. entry_keeps (greeting_by c.args.client.now) (Took c.in_ok-d.d) _ _ c.in_ok-d.ensures.took tt
 
 pub returns-in_err-acts-clause-versions : goal.returns-in_err-acts-clause-versions
-returns-in_err-acts-clause-versions g c = λ called holds may. entry_keeps (words_by c.args.client.now) (Took c.in_ok-d.d) _ _ c.in_ok-d.ensures.took tt
+returns-in_err-acts-clause-versions g c = λ called holds may. entry_keeps (greeting_by c.args.client.now) (Took c.in_ok-d.d) _ _ c.in_ok-d.ensures.took tt
 
 pub returns-clause-versions : goal.returns-clause-versions
 returns-clause-versions g c = λ called holds may.
@@ -65,8 +65,8 @@ returns-clause-versions g c = λ called holds may.
     let log = Took d ∷ holds.actual in
     let doing = took_doing c.args.client.now c.deref.result.now c.args.progress.now called (g.W.Wires.told c.args.wires.now) d c.note_bytes.ensures holds may in
     let a = c.in_ok-acts.ensures.answers holds.actual holds.reflects in
-    keeps_then _ (words_by c.args.client.now) (g.W.Wires.told c.args.wires.now) (g.W.Wires.told c.next.new.self) (g.W.Wires.told c.carry_out.new.wires) c.in_ok-acts.ensures.words
-    (entry_keeps (words_by c.args.client.now) (Took d) _ _ c.in_ok-d.ensures.took tt)
+    keeps_then _ (greeting_by c.args.client.now) (g.W.Wires.told c.args.wires.now) (g.W.Wires.told c.next.new.self) (g.W.Wires.told c.carry_out.new.wires) c.in_ok-acts.ensures.words
+    (entry_keeps (greeting_by c.args.client.now) (Took d) _ _ c.in_ok-d.ensures.took tt)
     (c.in_ok-carry_out.ensures.versions called log
     (subst (λ (acts : List Act). Answers c.step.new.self acts log) (sym c.deref.ensures.value) a)
     (doing_rule c.in_ok-acts.ensures.rule (rw c.in_ok-d.ensures.took doing))
@@ -78,8 +78,8 @@ returns-in_err-carry_out-clause-versions g c = λ called holds may.
     let log = Took d ∷ holds.actual in
     let doing = took_doing c.args.client.now c.deref.result.now c.args.progress.now called (g.W.Wires.told c.args.wires.now) d c.note_bytes.ensures holds may in
     let a = c.in_ok-acts.ensures.answers holds.actual holds.reflects in
-    keeps_then _ (words_by c.args.client.now) (g.W.Wires.told c.args.wires.now) (g.W.Wires.told c.next.new.self) (g.W.Wires.told c.carry_out.new.wires) c.in_ok-acts.ensures.words
-    (entry_keeps (words_by c.args.client.now) (Took d) _ _ c.in_ok-d.ensures.took tt)
+    keeps_then _ (greeting_by c.args.client.now) (g.W.Wires.told c.args.wires.now) (g.W.Wires.told c.next.new.self) (g.W.Wires.told c.carry_out.new.wires) c.in_ok-acts.ensures.words
+    (entry_keeps (greeting_by c.args.client.now) (Took d) _ _ c.in_ok-d.ensures.took tt)
     (c.in_err-carry_out.ensures.versions called log
     (subst (λ (acts : List Act). Answers c.step.new.self acts log) (sym c.deref.ensures.value) a)
     (doing_rule c.in_ok-acts.ensures.rule (rw c.in_ok-d.ensures.took doing))

@@ -1,10 +1,10 @@
-use Rattle.std.proofs.Common.{◌≡◌, ℕ, ◌+◌, Option, ◌∙◌, ap, subst}
-use Rattle.std.specs.Prelude.{IfNone}
+use Rattle.std.proofs.Common.{◌≡◌, ℕ, ◌+◌, Option, Some, ◌∙◌, ap, subst, arith}
+use Rattle.std.specs.Prelude.{IfNone, IfSome}
 use Rattle.cf_run.specs.declared.outcome.End.{End}
 use Rattle.cf_run.specs.Moments.{Turned}
-use Rattle.cf_run.proofs.Courses.{runs_then, no_more_then}
-use Rattle.cf_run.proofs.Turns.{stops, told_unended}
-use Rattle.cf_client.specs.Stands.{words_by}
+use Rattle.cf_run.proofs.Courses.{runs_then, no_more_then, turn_ends, turns_more, turns_used}
+use Rattle.cf_run.proofs.Turns.{stops, told_end, told_unended}
+use Rattle.cf_client.specs.Stands.{greeting_by}
 use Rattle.cf_run.proofs.Versions.{keeps_then}
 use Rattle.cf_run.proofs.over.take_turns.Goals as goal
 
@@ -19,13 +19,42 @@ returns-clause-stopped g c = λ called holds.
 
 pub returns-in-Some-clause-versions : goal.returns-in-Some-clause-versions
 returns-in-Some-clause-versions g c = λ called holds.
-    keeps_then (words_by c.loop-turn.client) (words_by c.args.client.now) (g.W.Wires.told c.args.wires.now) (g.W.Wires.told c.loop-turn.wires) (g.W.Wires.told c.take_turn.new.wires) c.loop-turn.invariant.words (c.loop-turn.invariant.versions called holds)
+    keeps_then (greeting_by c.loop-turn.client) (greeting_by c.args.client.now) (g.W.Wires.told c.args.wires.now) (g.W.Wires.told c.loop-turn.wires) (g.W.Wires.told c.take_turn.new.wires) c.loop-turn.invariant.words (c.loop-turn.invariant.versions called holds)
     (c.in_ok-end.ensures.versions called (c.loop-turn.invariant.holds called holds))
 
 pub returns-in_err-end-clause-versions : goal.returns-in_err-end-clause-versions
 returns-in_err-end-clause-versions g c = λ called holds.
-    keeps_then (words_by c.loop-turn.client) (words_by c.args.client.now) (g.W.Wires.told c.args.wires.now) (g.W.Wires.told c.loop-turn.wires) (g.W.Wires.told c.take_turn.new.wires) c.loop-turn.invariant.words (c.loop-turn.invariant.versions called holds)
+    keeps_then (greeting_by c.loop-turn.client) (greeting_by c.args.client.now) (g.W.Wires.told c.args.wires.now) (g.W.Wires.told c.loop-turn.wires) (g.W.Wires.told c.take_turn.new.wires) c.loop-turn.invariant.words (c.loop-turn.invariant.versions called holds)
     (c.in_err-end.ensures.versions called (c.loop-turn.invariant.holds called holds))
+
+pub returns-in-Some-clause-ends : goal.returns-in-Some-clause-ends
+returns-in-Some-clause-ends g c =
+    let e = c.in_ok-end.ensures in
+    let before = (g.W.Wires.told c.loop-turn.wires).tally in
+    let after = (g.W.Wires.told c.take_turn.new.wires).tally in
+    turn_ends c.in-Some.end c.args.turns _ before after (λ is. e.untired (c.in-Some.is ∙ ap Some is))
+    (λ is. told_end c.in_ok-end.field-0 before after (c.in-Some.is ∙ ap Some is) e.ended)
+    (subst (λ (o : Option End). IfSome o (λ e. after.taken ≡ before.taken)) c.in-Some.is e.untaken)
+    c.loop-turn.invariant.taken (omega arith) c.loop-turn.invariant.unended
+
+pub returns-clause-ends : goal.returns-clause-ends
+returns-clause-ends g c = turns_used c.last_end.result c.args.turns
+    (g.W.Wires.told c.loop-turn.wires).tally c.last_end.ensures.unended (omega (arith, c.loop-turn.invariant.taken))
+
+pub returns-in-Some-clause-takes : goal.returns-in-Some-clause-takes
+returns-in-Some-clause-takes g c =
+    let turn = c.loop-turn.invariant in
+    turns_more c.args.turns _ turn.taken (omega arith) turn.unended turn.same turn.runs c.in_ok-end.ensures.turns
+
+pub returns-in_err-end-clause-takes : goal.returns-in_err-end-clause-takes
+returns-in_err-end-clause-takes g c =
+    let turn = c.loop-turn.invariant in
+    turns_more c.args.turns _ turn.taken (omega arith) turn.unended turn.same turn.runs c.in_err-end.ensures.turns
+
+pub returns-clause-takes : goal.returns-clause-takes
+returns-clause-takes g c =
+    let turn = c.loop-turn.invariant in
+    record { most = omega (arith, turn.taken); once = omega (arith, turn.unended); same = turn.same; runs = turn.runs }
 
 pub loop-turn-preserved : goal.loop-turn-preserved
 loop-turn-preserved g c = record {
@@ -33,7 +62,7 @@ loop-turn-preserved g c = record {
       subst (λ (o : Option End). Turned o c.take_turn.new.client c.take_turn.new.progress called (g.W.Wires.told c.take_turn.new.wires)) c.in_default.is
       (c.in_ok-end.ensures.turned called (c.loop-turn.invariant.holds called holds));
   versions = λ called holds.
-      keeps_then (words_by c.loop-turn.client) (words_by c.args.client.now) (g.W.Wires.told c.args.wires.now) (g.W.Wires.told c.loop-turn.wires) (g.W.Wires.told c.take_turn.new.wires)
+      keeps_then (greeting_by c.loop-turn.client) (greeting_by c.args.client.now) (g.W.Wires.told c.args.wires.now) (g.W.Wires.told c.loop-turn.wires) (g.W.Wires.told c.take_turn.new.wires)
       c.loop-turn.invariant.words (c.loop-turn.invariant.versions called holds)
       (c.in_ok-end.ensures.versions called (c.loop-turn.invariant.holds called holds));
   rule = c.in_ok-end.ensures.rule ∙ c.loop-turn.invariant.rule;

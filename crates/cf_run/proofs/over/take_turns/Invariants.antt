@@ -1,17 +1,17 @@
 use Rattle.std.proofs.Common.{◌≡◌, List, ℕ}
-use Rattle.cf_run.specs.Moments.{HoldsOver, moment, Runs, IsNoMore}
-use Rattle.cf_client.specs.Stands.{rule_by, words_by}
-use Rattle.cf_run.specs.Versions.{KeepsWords}
+use Rattle.cf_run.specs.Moments.{HoldsOver, run_state, Runs, IsNoMore}
+use Rattle.cf_client.specs.Stands.{rule_by, greeting_by}
+use Rattle.cf_run.specs.Versions.{KeepsGreeting}
 use Rattle.cf_run.proofs.over.take_turns.Given as goal
 
 abbrev pub invariant-loop-turn : goal.invariant-loop-turn
 invariant-loop-turn g l = record {
   holds : (called : List (List ℕ)) → HoldsOver l.fn.client l.fn.progress called (g.W.Wires.told l.fn.wires) → HoldsOver l.client l.progress called (g.W.Wires.told l.wires);
-  versions : (called : List (List ℕ)) → HoldsOver l.fn.client l.fn.progress called (g.W.Wires.told l.fn.wires) → KeepsWords (words_by l.fn.client) (g.W.Wires.told l.fn.wires) (g.W.Wires.told l.wires);
+  versions : (called : List (List ℕ)) → HoldsOver l.fn.client l.fn.progress called (g.W.Wires.told l.fn.wires) → KeepsGreeting (greeting_by l.fn.client) (g.W.Wires.told l.fn.wires) (g.W.Wires.told l.wires);
   rule : rule_by l.client ≡ rule_by l.fn.client;
-  words : words_by l.client ≡ words_by l.fn.client;
+  words : greeting_by l.client ≡ greeting_by l.fn.client;
   taken : (g.W.Wires.told l.wires).tally.taken ≡ l._turn;
   unended : (g.W.Wires.told l.wires).tally.ended ≡ 0;
   same : IsNoMore (g.W.Wires.told l.fn.wires) (g.W.Wires.told l.wires);
-  runs : Runs (moment (g.W.Wires.told l.fn.wires) (g.W.Wires.faults l.fn.wires) (g.W.Wires.script l.fn.wires) (g.W.Wires.keeps l.fn.wires) l.fn.progress) (moment (g.W.Wires.told l.wires) (g.W.Wires.faults l.wires) (g.W.Wires.script l.wires) (g.W.Wires.keeps l.wires) l.progress);
+  runs : Runs (run_state (g.W.Wires.told l.fn.wires) (g.W.Wires.faults l.fn.wires) (g.W.Wires.script l.fn.wires) (g.W.Wires.keeps l.fn.wires) l.fn.progress) (run_state (g.W.Wires.told l.wires) (g.W.Wires.faults l.wires) (g.W.Wires.script l.wires) (g.W.Wires.keeps l.wires) l.progress);
 }

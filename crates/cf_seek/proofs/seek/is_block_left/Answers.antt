@@ -3,7 +3,7 @@ use Rattle.cf_dispute.specs.Of.{tables_of}
 use Rattle.cf_tables.specs.Extracts.{table_in}
 use Rattle.cf_tables.specs.Judged.{verdicts_in}
 use Rattle.cf_seek.specs.OpensOf.{block_at, is_this}
-use Rattle.cf_tables.specs.Wanting.{IsKind, IsToFetch}
+use Rattle.cf_tables.specs.Wanting.{IsToFetch}
 use Rattle.cf_seek.proofs.Sought.{not_to_fetch}
 use Rattle.cf_seek.proofs.SoughtStays.{same_true}
 use Rattle.cf_seek.proofs.Openings.{same_here}
@@ -25,13 +25,6 @@ returns-in-None-clause-no c = λ e block there. absurd (let no : false ≡ true 
 pub returns-in-Some-clause-yes : goal.returns-in-Some-clause-yes
 unfolding block_at
 returns-in-Some-clause-yes c = λ e.
-    let extracts = table_in c.args.extracts.now in
-    let tables = tables_of c.args.claims.now in
-    let verdicts = verdicts_in c.args.judged.now in
-    let block = c.in-Some.block.0 in (
-      block,
-      (
-        ap (is_this block) c.in-Some.is ∙ same_here block,
-        subst (IsKind extracts tables verdicts block) (c.is_due.ensures.yes e) c.kind_of.ensures,
-      ),
-    )
+    let block = c.in-Some.block.0 in
+    let due = rw (c.is_due.ensures.yes e) at c.kind_of.ensures in
+    (block, (ap (is_this block) c.in-Some.is ∙ same_here block, due))

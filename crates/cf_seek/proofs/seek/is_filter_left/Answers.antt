@@ -5,7 +5,7 @@ use Rattle.cf_headers.specs.Chain.{IsIn}
 use Rattle.cf_tables.specs.Extracts.{table_in}
 use Rattle.cf_tables.specs.Judged.{verdicts_in}
 use Rattle.cf_seek.specs.OpensOf.{filter_at}
-use Rattle.cf_tables.specs.Wanting.{IsKind, IsUnjudged}
+use Rattle.cf_tables.specs.Wanting.{IsUnjudged}
 use Rattle.cf_seek.proofs.Openings.{in_keys, key_there}
 use Rattle.cf_tables.proofs.Told.{not_unjudged}
 use Rattle.cf_seek.proofs.seek.is_filter_left.Goals as goal
@@ -33,14 +33,7 @@ loop-block-preserved c = record {
 pub returns-then-is_unjudged-clause-yes : goal.returns-then-is_unjudged-clause-yes
 unfolding filter_at
 returns-then-is_unjudged-clause-yes c = λ e.
-    let extracts = table_in c.args.extracts.now in
-    let tables = tables_of c.args.claims.now in
-    let verdicts = verdicts_in c.args.judged.now in
     let block = c.in-Some.block.now.0 in
-    let i = c.loop-block.invariant.keys block (subst (λ xs. IsIn block (blocks_of xs)) (sym c.in-Some.ensures.steps) (inl refl)) in (
-      block,
-      (
-        key_there block c.args.at.now.filters.entries i,
-        subst (IsKind extracts tables verdicts block) (c.is_unjudged.ensures.yes c.if-is_unjudged.true) c.kind_of.ensures,
-      ),
-    )
+    let left = rw (c.is_unjudged.ensures.yes c.if-is_unjudged.true) at c.kind_of.ensures in
+    let i = c.loop-block.invariant.keys block (subst (λ xs. IsIn block (blocks_of xs)) (sym c.in-Some.ensures.steps) (inl refl)) in
+    (block, (key_there block c.args.at.now.filters.entries i, left))

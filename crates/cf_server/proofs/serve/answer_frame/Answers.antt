@@ -1,21 +1,19 @@
-use Rattle.std.proofs.Common.{List, Result, Err, sym, ◌∙◌, ap, subst}
-use Rattle.std.proofs.lemmas.Result.{err_from_is_err_and}
+use Rattle.std.proofs.Common.{List, Result, subst}
 use Rattle.cf_msg.specs.Reading.{message_of as message_in}
-use Rattle.cf_server.specs.declared.outcome.Outcome.{Outcome}
+use Rattle.cf_server.specs.declared.outcome.ServeEnd.{ServeEnd}
 use Rattle.cf_server.specs.declared.reply.Reply.{Reply}
 use Rattle.cf_server.specs.Replies.{messages_of}
 use Rattle.cf_server.specs.Serving.{text_of}
 use Rattle.cf_server.specs.Taking.{Sends, AnswersFrame, frame_text}
 use Rattle.cf_server.proofs.Texts.{beginning_none}
-use Rattle.cf_server.proofs.Steps.{frame_sent}
+use Rattle.cf_server.proofs.Steps.{by_err, frame_sent}
 use Rattle.cf_server.proofs.serve.answer_frame.Goals as goal
 
 pub returns-in_err-answer-clause-answers : goal.returns-in_err-answer-clause-answers
 returns-in_err-answer-clause-answers g c =
-    let out = err_from_is_err_and c.from_residual.result c.from_residual.ensures.1 in
     let read = message_in c.args.frame.now in
     let before = g.C.Sink.written c.args.conn.now in
-    subst (λ (r : Result (Unit {0}) Outcome). AnswersFrame r c.args.index.now read c.args.served.now c.answer.new.served before before) (sym (out.1 ∙ ap Err out.2))
+    by_err (λ (r : Result (Unit {0}) ServeEnd). AnswersFrame r c.args.index.now read c.args.served.now c.answer.new.served before before) _ _ c.from_residual.ensures.1
     (beginning_none before (frame_text c.args.served.now c.args.index.now read))
 
 pub returns-clause-answers : goal.returns-clause-answers

@@ -1,36 +1,29 @@
 use Rattle.std.proofs.Common.{ℕ, ◌+◌, List, take, Option, Err, Result, refl, sym, ◌∙◌, ap, subst}
 use Rattle.std.proofs.lemmas.List.{take_all}
-use Rattle.std.proofs.lemmas.Result.{err_from_is_err_and}
-use Rattle.cf_server.specs.declared.outcome.Outcome.{Outcome}
+use Rattle.cf_server.specs.declared.outcome.ServeEnd.{ServeEnd}
 use Rattle.cf_server.specs.declared.reply.Reply.{Reply}
 use Rattle.cf_server.specs.declared.reply.Reply.TheVariants.{OwnVersion}
 use Rattle.cf_server.specs.Replies.{messages_of}
 use Rattle.cf_server.specs.Serving.{text_of}
 use Rattle.cf_server.specs.Taking.{Sends}
-use Rattle.cf_server.proofs.Steps.{Waiting, waiting_none, waiting_more, waiting_written, waiting_kept, waiting_sent, front_in_part}
+use Rattle.cf_server.proofs.Steps.{by_err, Waiting, waiting_none, waiting_more, waiting_written, waiting_kept, waiting_sent, front_in_part}
 use Rattle.cf_server.proofs.serve.send_replies.Goals.{then-len-ge-TOGETHER+in_ok-flush, else-len-ge-TOGETHER}
 use Rattle.cf_server.proofs.serve.send_replies.Goals as goal
 
 pub loop-reply-init : goal.loop-reply-init
-loop-reply-init g c = record {
-  written = waiting_none (g.C.Sink.written c.args.conn.now) c.new-waiting.result.items c.new-waiting.ensures.items;
-  count = refl;
-  left = refl;
-  ended = refl;
-  read_faults = refl;
-}
+loop-reply-init g c =
+    let none = waiting_none (g.C.Sink.written c.args.conn.now) c.new-waiting.result.items c.new-waiting.ensures.items in
+    record { written = none; count = refl; left = refl; ended = refl; read_faults = refl }
 
 pub returns-in_err-put_reply-clause-sends : goal.returns-in_err-put_reply-clause-sends
 returns-in_err-put_reply-clause-sends g c =
-    let out = err_from_is_err_and c.from_residual.result c.from_residual.ensures.1 in
     let before = g.C.Sink.written c.args.conn.now in
     let after = g.C.Sink.written c.loop-reply.conn in
-    subst (λ (r : Result (Unit {0}) Outcome). Sends r before after (text_of (messages_of c.args.served.now c.args.index.now c.args.replies.now))) (sym (out.1 ∙ ap Err out.2))
+    by_err (λ (r : Result (Unit {0}) ServeEnd). Sends r before after (text_of (messages_of c.args.served.now c.args.index.now c.args.replies.now))) _ _ c.from_residual.ensures.1
     (waiting_kept c.args.served.now c.args.index.now c.args.replies.now c.loop-reply.reply-index c.loop-reply.waiting.items before after c.loop-reply.invariant.written)
 
 pub returns-in_err-flush-clause-sends : goal.returns-in_err-flush-clause-sends
 returns-in_err-flush-clause-sends g c =
-    let out = err_from_is_err_and c.from_residual-in_err-flush.result c.from_residual-in_err-flush.ensures.1 in
     let served = c.args.served.now in
     let blocks = c.args.index.now in
     let replies = c.args.replies.now in
@@ -41,7 +34,7 @@ returns-in_err-flush-clause-sends g c =
     let after = g.C.Sink.written c.flush.new.conn in
     let outcome = c.in_err-flush.field-0.0 in
     let put = waiting_more served blocks replies i OwnVersion c.loop-reply.waiting.items waiting before between c.loop-reply-test.true c.loop-reply.invariant.written c.in_ok-put_reply.ensures in
-    subst (λ (r : Result (Unit {0}) Outcome). Sends r before after (text_of (messages_of served blocks replies))) (sym (out.1 ∙ ap Err out.2))
+    by_err (λ (r : Result (Unit {0}) ServeEnd). Sends r before after (text_of (messages_of served blocks replies))) _ _ c.from_residual-in_err-flush.ensures.1
     (front_in_part served blocks replies (i + 1) outcome before after
     (waiting_sent (Err outcome) before between after waiting (text_of (messages_of served blocks (take (i + 1) replies))) put c.in_err-flush.ensures.sends))
 

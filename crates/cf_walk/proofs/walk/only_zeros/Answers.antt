@@ -1,4 +1,4 @@
-use Rattle.std.proofs.Common.{◌≡◌, length, true, sym, ◌∙◌, ap, arith}
+use Rattle.std.proofs.Common.{◌≡◌, ℕ, Bool, List, length, true, sym, ◌∙◌, ap, arith}
 use Rattle.cf_conn.specs.Window.{beyond, seen}
 use Rattle.cf_conn.proofs.Stepping.{more_steps}
 use Rattle.cf_walk.specs.Files.{all_zeros}
@@ -6,33 +6,31 @@ use Rattle.cf_walk.proofs.Holding.{few_taken, few_wanted}
 use Rattle.cf_walk.proofs.WalkSource.{strips_more, behind_more}
 use Rattle.cf_walk.proofs.walk.only_zeros.Goals as goal
 
+-- what is held is zeros, where the test on it has said so
+zeros_ended : {held bytes : List ℕ} {r : Bool} → bytes ≡ held → r ≡ all_zeros bytes → r ≡ true → all_zeros held ≡ true
+zeros_ended is ended found = sym (ap all_zeros is) ∙ sym ended ∙ found
+
 pub returns-in_err-want-clause-strips : goal.returns-in_err-want-clause-strips
 returns-in_err-want-clause-strips g c =
-    let z : all_zeros c.loop-window.window.held ≡ true = sym (ap all_zeros c.held.ensures) ∙ sym c.is_end.ensures ∙ c.loop-window-test.true in
-    let e = c.in_err-want.ensures in
     strips_more (seen c.args.window.now (g.S.Source.left c.args.source.now)) c.loop-window.window c.take.new.self c.want.new.self (g.S.Source.left c.loop-window.source) (g.S.Source.left c.want.new.source)
-    (length c.held-n.result.now) c.loop-window.invariant.strips z (ap length c.held-n.ensures) c.take.ensures e.same e.bound
+    (length c.held-n.result.now) c.loop-window.invariant.strips (zeros_ended c.held.ensures c.is_end.ensures c.loop-window-test.true) (ap length c.held-n.ensures) c.take.ensures c.in_err-want.ensures.same c.in_err-want.ensures.bound
 
 pub returns-in_err-want-clause-beyond : goal.returns-in_err-want-clause-beyond
 returns-in_err-want-clause-beyond g c =
-    let e = c.in_err-want.ensures in
     behind_more (beyond c.args.window.now (g.S.Source.left c.args.source.now)) c.loop-window.window c.take.new.self c.want.new.self (g.S.Source.left c.loop-window.source) (g.S.Source.left c.want.new.source)
-    (length c.held-n.result.now) c.loop-window.invariant.beyond c.take.ensures e.same e.bound
+    (length c.held-n.result.now) c.loop-window.invariant.beyond c.take.ensures c.in_err-want.ensures.same c.in_err-want.ensures.bound
 
 pub returns-then-is_empty-clause-strips : goal.returns-then-is_empty-clause-strips
 returns-then-is_empty-clause-strips g c =
-    let z : all_zeros c.loop-window.window.held ≡ true = sym (ap all_zeros c.held.ensures) ∙ sym c.is_end.ensures ∙ c.loop-window-test.true in
-    let e = c.in_ok-want.ensures in
     strips_more (seen c.args.window.now (g.S.Source.left c.args.source.now)) c.loop-window.window c.take.new.self c.want.new.self (g.S.Source.left c.loop-window.source) (g.S.Source.left c.want.new.source)
-    (length c.held-n.result.now) c.loop-window.invariant.strips z (ap length c.held-n.ensures) c.take.ensures e.same e.bound
+    (length c.held-n.result.now) c.loop-window.invariant.strips (zeros_ended c.held.ensures c.is_end.ensures c.loop-window-test.true) (ap length c.held-n.ensures) c.take.ensures c.in_ok-want.ensures.same c.in_ok-want.ensures.bound
 
 pub loop-window-preserved : goal.loop-window-preserved
 loop-window-preserved g c =
-    let z : all_zeros c.loop-window.window.held ≡ true = sym (ap all_zeros c.held.ensures) ∙ sym c.is_end.ensures ∙ c.loop-window-test.true in
     let e = c.in_ok-want.ensures in
     record {
       strips = strips_more (seen c.args.window.now (g.S.Source.left c.args.source.now)) c.loop-window.window c.take.new.self c.want.new.self (g.S.Source.left c.loop-window.source) (g.S.Source.left c.want.new.source)
-          (length c.held-n.result.now) c.loop-window.invariant.strips z (ap length c.held-n.ensures) c.take.ensures e.same e.bound;
+          (length c.held-n.result.now) c.loop-window.invariant.strips (zeros_ended c.held.ensures c.is_end.ensures c.loop-window-test.true) (ap length c.held-n.ensures) c.take.ensures e.same e.bound;
       beyond = behind_more (beyond c.args.window.now (g.S.Source.left c.args.source.now)) c.loop-window.window c.take.new.self c.want.new.self (g.S.Source.left c.loop-window.source) (g.S.Source.left c.want.new.source)
           (length c.held-n.result.now) c.loop-window.invariant.beyond c.take.ensures e.same e.bound;
       count = e.count ∙ c.loop-window.invariant.count;

@@ -1,5 +1,4 @@
 use Rattle.std.proofs.Common.{◌≡◌, List, [], ◌∷◌, ◌++◌, None, Some, true, refl, rules, sym, ◌∙◌, ap, subst}
-use Rattle.cf_dispute.proofs.Genesis.{first_header_is}
 use Rattle.cf_hear.specs.Seen.{seen_of}
 use Rattle.cf_peer.specs.declared.mode.Mode.TheVariants.{Once}
 use Rattle.cf_hear.proofs.Opening.{holds_none}
@@ -13,9 +12,6 @@ use Rattle.cf_sync.specs.Fetching.{once}
 use Rattle.cf_sync.proofs.KeptAims.{trials_start}
 use Rattle.cf_client.proofs.Rights.{right_first}
 use Rattle.cf_client.proofs.client.Client.new.Goals as goal
-
-pub new-requires-clause-first : goal.new-requires-clause-first
-new-requires-clause-first g c = sym first_header_is
 
 pub invariant_of-result-clause-settled : goal.invariant_of-result-clause-settled
 invariant_of-result-clause-settled g c = λ alive.

@@ -7,7 +7,7 @@ use Rattle.cf_sync.specs.Fetching.{Rule}
 use Rattle.cf_place.specs.declared.place.Place.{Place}
 use Rattle.cf_place.specs.Places.{AreCalm, PlacesStand, after, place_at}
 use Rattle.cf_hear.specs.Seen.{seen_of}
-use Rattle.cf_client.specs.Stands.{words_by}
+use Rattle.cf_client.specs.Stands.{greeting_by}
 use Rattle.cf_tracker.specs.Tracker.{claims_of, watch_of}
 use Rattle.cf_client.specs.Settled.{AreSettled, AreRight}
 use Rattle.cf_client.proofs.Ordering.{in_order_by, prepared_none}
@@ -74,7 +74,7 @@ returns-clause-answers g c = λ log cut lt reflects is.
 
 pub returns-clause-tells : goal.returns-clause-tells
 returns-clause-tells g c = λ log cut lt reflects is.
-    acts_tell (record { watch = watch_of c.ask_all.new.tracker; mode = c.args.self.now.mode }) (words_by c.args.self.now) c.ask_all.new.acts.items cut (reflects_cut c.args.self.now c.args.p log cut is reflects) (returns-clause-answers g c log cut lt reflects is).allowed
+    acts_tell (record { watch = watch_of c.ask_all.new.tracker; mode = c.args.self.now.mode }) (greeting_by c.args.self.now) c.ask_all.new.acts.items cut (reflects_cut c.args.self.now c.args.p log cut is reflects) (returns-clause-answers g c log cut lt reflects is).allowed
 
 pub returns-clause-doable : goal.returns-clause-doable
 returns-clause-doable g c =

@@ -7,37 +7,10 @@ use Rattle.cf_dispute.proofs.Looks.{look_out, look_found}
 use Rattle.cf_dispute.proofs.RowLaws.{joined_table, joined_sets, set_tables, set_others, put_elsewhere}
 use Rattle.cf_dispute.proofs.rows.Rows.put_by.Goals as goal
 
-pub returns-in-Some-clause-table : goal.returns-in-Some-clause-table
-returns-in-Some-clause-table c =
-    let found = (look_found (get c.args.self.now.rows) c.args.p c.args.block.now (claim_of c.args.hash.now c.args.before.now) c.args.look (c.in-Some.n, c.in-Some.header) c.requires.look c.in-Some.is).0 in
-    let row : Row = found.0 in
-    let joined = c.join.ensures.joins row found.1.0 in
-    let next : Row = record row { peers = joined.0 } in
-    joined_table (get c.args.self.now.rows) (get c.join.new.self.rows) c.args.self.now.names c.join.new.self.names c.args.p c.in-Some.n c.args.block.now row next c.requires.table found.1.0 found.1.1.0 joined.1.1.0 joined.1.1.1
-    refl refl refl joined.1.0.here joined.1.0.others
-    (look_out (get c.args.self.now.rows) c.args.p c.args.block.now (claim_of c.args.hash.now c.args.before.now) c.args.look c.requires.look c.if-look.false) c.requires.low c.join.ensures.names
-
-pub returns-in-Some-clause-header : goal.returns-in-Some-clause-header
-returns-in-Some-clause-header c =
-    (look_found (get c.args.self.now.rows) c.args.p c.args.block.now (claim_of c.args.hash.now c.args.before.now) c.args.look (c.in-Some.n, c.in-Some.header) c.requires.look c.in-Some.is).1
-
-pub returns-in-Some-clause-ok : goal.returns-in-Some-clause-ok
-returns-in-Some-clause-ok c =
-    let found = (look_found (get c.args.self.now.rows) c.args.p c.args.block.now (claim_of c.args.hash.now c.args.before.now) c.args.look (c.in-Some.n, c.in-Some.header) c.requires.look c.in-Some.is).0 in
-    let row : Row = found.0 in
-    let joined = c.join.ensures.joins row found.1.0 in
-    let next : Row = record row { peers = joined.0 } in
-    let sets : Sets (get c.args.self.now.rows) (get c.join.new.self.rows) c.args.p c.args.block.now (claim_of c.args.hash.now c.args.before.now) =
-    joined_sets (get c.args.self.now.rows) (get c.join.new.self.rows) c.args.p c.in-Some.n c.args.block.now (claim_of c.args.hash.now c.args.before.now) row next found.1.0 found.1.1.0 found.1.1.1 joined.1.1.0
-    refl refl joined.1.0.here joined.1.0.others joined.1.1.1 in
-    let table = joined_table (get c.args.self.now.rows) (get c.join.new.self.rows) c.args.self.now.names c.join.new.self.names c.args.p c.in-Some.n c.args.block.now row next c.requires.table found.1.0 found.1.1.0 joined.1.1.0 joined.1.1.1
-    refl refl refl joined.1.0.here joined.1.0.others
-    (look_out (get c.args.self.now.rows) c.args.p c.args.block.now (claim_of c.args.hash.now c.args.before.now) c.args.look c.requires.look c.if-look.false) c.requires.low c.join.ensures.names in
-    set_tables c.args.self.now.rows.slots c.join.new.self.rows.slots c.join.new.self.names c.args.p c.args.block.now (claim_of c.args.hash.now c.args.before.now) table sets
-
-pub returns-in-Some-clause-rest : goal.returns-in-Some-clause-rest
-returns-in-Some-clause-rest c =
-    let found = (look_found (get c.args.self.now.rows) c.args.p c.args.block.now (claim_of c.args.hash.now c.args.before.now) c.args.look (c.in-Some.n, c.in-Some.header) c.requires.look c.in-Some.is).0 in
+pub returns-in-Some : goal.returns-in-Some
+returns-in-Some c =
+    let look = look_found (get c.args.self.now.rows) c.args.p c.args.block.now (claim_of c.args.hash.now c.args.before.now) c.args.look (c.in-Some.n, c.in-Some.header) c.requires.look c.in-Some.is in
+    let found = look.0 in
     let row : Row = found.0 in
     let joined = c.join.ensures.joins row found.1.0 in
     let next : Row = record row { peers = joined.0 } in
@@ -48,9 +21,14 @@ returns-in-Some-clause-rest c =
     refl refl refl joined.1.0.here joined.1.0.others
     (look_out (get c.args.self.now.rows) c.args.p c.args.block.now (claim_of c.args.hash.now c.args.before.now) c.args.look c.requires.look c.if-look.false) c.requires.low c.join.ensures.names in
     record {
-      elsewhere = put_elsewhere c.args.block.now (claim_of c.args.hash.now c.args.before.now) (tables_by c.args.self.now.rows.slots c.args.p) (tables_by c.join.new.self.rows.slots c.args.p)
-          (set_tables c.args.self.now.rows.slots c.join.new.self.rows.slots c.join.new.self.names c.args.p c.args.block.now (claim_of c.args.hash.now c.args.before.now) table sets);
-      others = set_others c.args.self.now.rows.slots c.join.new.self.rows.slots c.join.new.self.names c.args.p c.args.block.now (claim_of c.args.hash.now c.args.before.now) table sets;
+      table = table;
+      header = look.1;
+      ok = set_tables c.args.self.now.rows.slots c.join.new.self.rows.slots c.join.new.self.names c.args.p c.args.block.now (claim_of c.args.hash.now c.args.before.now) table sets;
+      rest = record {
+        elsewhere = put_elsewhere c.args.block.now (claim_of c.args.hash.now c.args.before.now) (tables_by c.args.self.now.rows.slots c.args.p) (tables_by c.join.new.self.rows.slots c.args.p)
+            (set_tables c.args.self.now.rows.slots c.join.new.self.rows.slots c.join.new.self.names c.args.p c.args.block.now (claim_of c.args.hash.now c.args.before.now) table sets);
+        others = set_others c.args.self.now.rows.slots c.join.new.self.rows.slots c.join.new.self.names c.args.p c.args.block.now (claim_of c.args.hash.now c.args.before.now) table sets;
+      };
     }
 
 pub put_hash-requires-clause-new : goal.put_hash-requires-clause-new

@@ -1,40 +1,9 @@
-use Rattle.std.proofs.Common.{arith, ◌≡◌, ◌≤◌, ◌+◌, ◌∙◌, sym, ap, refl, vec_len}
-use Rattle.crossbeam_channel.specs.Claims.{view}
-use Rattle.cf_wires.specs.Log.{Told}
-use Rattle.cf_hub.specs.Book.{told_of}
-use Rattle.cf_hub.proofs.Takes.{same_log, same_within}
-use Rattle.cf_hub.proofs.Opened.{opens_same}
+use Rattle.std.proofs.Common.{refl}
+use Rattle.cf_hub.proofs.Holds.{all_hold, told_more}
+use Rattle.cf_hub.proofs.Takes.{same_log}
 use Rattle.cf_hub.proofs.hub.Hub.make_room.Goals as goal
 
 pub invariant_of-self : goal.invariant_of-self
 invariant_of-self g c =
-    let dn : c.make_room.new.self.dials ≡ c.args.self.now.book.dials = ap (λ (t : Told). t.tally.dials) c.make_room.ensures.told in
-    let tn : c.make_room.new.self.taken ≡ c.args.self.now.book.taken = ap (λ (t : Told). t.tally.taken) c.make_room.ensures.told in
-    let cl : c.make_room.new.self.closed ≡ c.args.self.now.book.closed = ap (λ (t : Told). t.tally.closed) c.make_room.ensures.told in
-    let fn : c.make_room.new.self.finished ≡ c.args.self.now.book.finished = ap (λ (t : Told). t.finished) c.make_room.ensures.told in
-    record {
-      waiting = c.args.self.now.waiting;
-      ticks = c.args.self.now.ticks;
-      spares = c.args.self.now.spares;
-      numbers = (let h : vec_len c.args.self.now.spare + c.make_room.new.self.dials ≡ 8 = omega (arith, dn, c.args.self.now.numbers) in h);
-      one = c.args.self.now.one;
-      room = c.args.self.now.room;
-      few = (let h : vec_len c.args.self.now.reading ≤ c.make_room.new.self.dials = omega (arith, dn, c.args.self.now.few) in h);
-      places = (let h : vec_len c.args.self.now.writers ≡ c.make_room.new.self.dials + 1 = omega (arith, dn, c.args.self.now.places) in h);
-      holds = c.args.self.now.holds;
-      heard = c.args.self.now.heard;
-      gives = same_log (told_of c.args.self.now.book) (told_of c.make_room.new.self) (view c.args.self.now.queue.seat).got (view c.args.self.now.queue.seat).got c.make_room.ensures.told refl c.args.self.now.gives;
-      within = same_within _ _ (view c.args.self.now.queue.seat).got (view c.args.self.now.queue.seat).got tn refl c.args.self.now.within;
-      counts = λ r. tn ∙ c.args.self.now.counts (sym fn ∙ r);
-      undone = c.args.self.now.undone;
-      unrested = c.args.self.now.unrested;
-      runs = c.args.self.now.runs;
-      owed = c.args.self.now.owed;
-      stopped = λ j. fn ∙ c.args.self.now.stopped j;
-      over = c.args.self.now.over;
-      fronts = c.args.self.now.fronts;
-      beats = c.args.self.now.beats;
-      unshut = λ r. opens_same _ _ _ _ cl (c.args.self.now.unshut (sym fn ∙ r));
-      reading_are = c.args.self.now.reading_are;
-      done_are = c.args.self.now.done_are;
-    }
+    let told = c.make_room.ensures.told in
+    all_hold (told_more c.args.self.now c.make_room.new.self _ told refl refl refl refl (λ got. same_log _ _ got _ told refl))

@@ -7,13 +7,9 @@ loop-p-preserved g c =
     let i = c.loop-p.invariant in
     record {
       book = c.shut.ensures.book ∙ i.book;
-      dialer = c.shut.ensures.own.1 ∙ i.dialer;
-      missed = c.shut.ensures.own.0 ∙ i.missed;
-      reading = c.shut.ensures.threads.4 ∙ i.reading;
-      done = c.shut.ensures.ends.0 ∙ i.done;
-      rested = c.shut.ensures.ends.1 ∙ i.rested;
-      joined = c.shut.ensures.ends.2 ∙ i.joined;
-      ticking = c.shut.ensures.threads.3 ∙ i.ticking;
+      own = (cc, cc);
+      ends = (cc, cc, cc);
+      threads = (cc, cc, cc, cc, cc);
       shut = one_shut g.D.Write.Sink.written g.D.Write.Writer.was_shut c.loop-p.p c.loop-p.self.writers.items c.shut.new.self.writers.items c.shut.ensures.shut i.shut;
       written = c.shut.ensures.written ∙ i.written;
       faults = c.shut.ensures.faults ∙ i.faults;

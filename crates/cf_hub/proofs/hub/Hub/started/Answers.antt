@@ -1,6 +1,6 @@
 use Rattle.std.proofs.Common.{◌≡◌, ◌⊎◌, ◌∙◌, ℕ, Result, Ok, Err, IfOk, inl, inr, ap, arith}
 use Rattle.cf_bytes.specs.Outside.{HasRisen}
-use Rattle.cf_line.specs.Waiting.{Waiting}
+use Rattle.cf_tasks.specs.Waiting.{Waiting}
 use Rattle.cf_hub.proofs.hub.Hub.started.Goals as goal
 
 on_ok : {T E : Type 0} (r : Result T E) (P Q : T → Type 0) → ((t : T) → P t → Q t) → IfOk r P → IfOk r Q

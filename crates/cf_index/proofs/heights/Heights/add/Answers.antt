@@ -1,19 +1,8 @@
-use Rattle.std.proofs.Common.{◌∙◌, sym, ap}
-use Rattle.std.specs.Prelude.{is_some}
-use Rattle.std.specs.FinMap.{from_entries}
-use Rattle.cf_index.specs.ByHash.{with_first}
-use Rattle.cf_index.specs.HeightMap.{HeightMap}
-use Rattle.cf_index.proofs.Lowest.{got_height, inserted_height, kept, put}
+use Rattle.cf_index.proofs.Lowest.{first_stays, first_put}
 use Rattle.cf_index.proofs.heights.Heights.add.Goals as goal
 
 pub returns-then-contains_key-clause-ok : goal.returns-then-contains_key-clause-ok
-returns-then-contains_key-clause-ok c =
-    let es = c.self.inside.map.entries in
-    rw c.self.view_is at (kept (from_entries es) c.args.hash c.args.height (ap is_some (got_height es c.args.hash) ∙ sym c.contains_key.ensures ∙ c.if-contains_key.true))
+returns-then-contains_key-clause-ok c = first_stays c.self.inside.map.entries _ c.args.hash c.args.height _ c.self.view_is c.contains_key.ensures c.if-contains_key.true
 
 pub returns-clause-ok : goal.returns-clause-ok
-returns-clause-ok c =
-    let es = c.self.inside.map.entries in
-    inserted_height es c.insert.new.self.entries c.args.hash c.args.height c.in_ok-insert.ensures.updates.0
-    ∙ put (from_entries es) c.args.hash c.args.height (ap is_some (got_height es c.args.hash) ∙ sym c.contains_key.ensures ∙ c.if-contains_key.false)
-    ∙ ap (λ (m : HeightMap). with_first m c.args.hash c.args.height) c.self.view_is
+returns-clause-ok c = first_put c.self.inside.map.entries c.insert.new.self.entries _ c.args.hash c.args.height _ c.self.view_is c.contains_key.ensures c.if-contains_key.false c.in_ok-insert.ensures.updates.0

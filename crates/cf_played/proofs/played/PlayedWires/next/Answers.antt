@@ -5,11 +5,11 @@ use Rattle.cf_played.proofs.Notes.{stays_kept, stays_on, tally_kept, tally_on, t
 use Rattle.cf_played.specs.declared.player.Player.{Player}
 use Rattle.cf_wires.specs.declared.event.Delivery.TheVariants.{Got}
 use Rattle.cf_wires.specs.declared.event.Event.TheVariants.{Took}
-use Rattle.cf_played.specs.Peers.{made_of, shown}
+use Rattle.cf_played.specs.Peers.{shown}
 use Rattle.cf_played.specs.Players.{AreAccounted, Gives}
 use Rattle.cf_played.specs.Turns.{HasGiven, IsTurn, Rest}
 use Rattle.cf_played.proofs.Accounts.{given_so, kept_so, ticked_so}
-use Rattle.cf_played.proofs.Known.{given_shown, gives_known, written}
+use Rattle.cf_played.proofs.Known.{given_shown, known_given, written}
 use Rattle.cf_played.proofs.played.PlayedWires.next.Goals as goal
 
 pub invariant_of-self-in_default-clause-closed_are : goal.invariant_of-self-in_default-clause-closed_are
@@ -55,12 +55,8 @@ invariant_of-self-2-clause-accounts c =
 
 pub returns-clause-same : goal.returns-clause-same
 returns-clause-same c =
-    let g = c.in_ok-given in
-    let old : List Player = c.args.self.now.players.items in
-    let new : List Player = c.give_at.new.players in
-    let gives : Gives old c.in-Some.place g.given.piece new = subst (λ (ps : List Player). Gives ps c.in-Some.place g.given.piece new) c.deref_mut.ensures.value g.ensures.gives in
-    let is = written c.args.self.now.players.len new old (c.give_at.ensures.len ∙ c.deref_mut.ensures.len) in
-    ap (λ (ps : List Player). made_of (map shown ps)) is ∙ gives_known old new c.in-Some.place g.given.piece gives
+    known_given _ c.args.self.now.players.items c.give_at.new.players _ c.in-Some.place c.in_ok-given.given.piece c.deref_mut.ensures.value c.in_ok-given.ensures.gives
+    (written c.args.self.now.players.len c.give_at.new.players c.args.self.now.players.items (c.give_at.ensures.len ∙ c.deref_mut.ensures.len))
 
 pub returns-clause-turn : goal.returns-clause-turn
 returns-clause-turn c =

@@ -1,13 +1,12 @@
 use Rattle.std.proofs.Common.{refl, sym, ◌∙◌, ap, subst, ℕ, List, [], ◌∷◌, ◌++◌}
-use Rattle.std.specs.Prelude.{map, reverse}
+use Rattle.std.specs.Prelude.{reverse}
 use Rattle.cf_wires.specs.declared.event.Event.TheVariants.{Sent}
 use Rattle.cf_wires.specs.Log.{Tally}
 use Rattle.cf_peer.specs.Trail.{spelled}
 use Rattle.cf_played.specs.declared.player.Player.{Player}
-use Rattle.cf_played.specs.Peers.{HasMore, made_of, shown}
 use Rattle.cf_played.specs.Players.{AreAccounted, HearsAt}
 use Rattle.cf_played.proofs.Accounts.{kept_so, sent_so}
-use Rattle.cf_played.proofs.Known.{hears_known, hears_more, written}
+use Rattle.cf_played.proofs.Known.{known_heard, more_heard, written}
 use Rattle.cf_played.proofs.Notes.{stays_kept, stays_on, tally_kept, tally_on, turn_kept, turn_on}
 use Rattle.cf_played.proofs.played.PlayedWires.send.Goals as goal
 
@@ -22,20 +21,12 @@ invariant_of-self-2-clause-accounts c =
     (kept_so c.reserve.new.self.items c.args.self.now.log.items old c.reserve.ensures.items c.args.self.now.accounts))
 
 pub returns-clause-same : goal.returns-clause-same
-returns-clause-same c =
-    let old : List Player = c.args.self.now.players.items in
-    let new : List Player = c.hear_at.new.players in
-    let heard : HearsAt old c.args.p.0 (spelled c.args.bytes.now) new = subst (λ (ps : List Player). HearsAt ps c.args.p.0 (spelled c.args.bytes.now) new) c.deref_mut.ensures.value c.in_ok-hear_at.ensures.ok in
-    let is = written c.args.self.now.players.len new old (c.hear_at.ensures.len ∙ c.deref_mut.ensures.len) in
-    ap (λ (ps : List Player). made_of (map shown ps)) is ∙ hears_known old new c.args.p.0 (spelled c.args.bytes.now) heard
+returns-clause-same c = known_heard _ c.args.self.now.players.items c.hear_at.new.players _ c.args.p.0 (spelled c.args.bytes.now) c.deref_mut.ensures.value c.in_ok-hear_at.ensures.ok
+    (written c.args.self.now.players.len c.hear_at.new.players c.args.self.now.players.items (c.hear_at.ensures.len ∙ c.deref_mut.ensures.len))
 
 pub returns-clause-more : goal.returns-clause-more
-returns-clause-more c =
-    let old : List Player = c.args.self.now.players.items in
-    let new : List Player = c.hear_at.new.players in
-    let heard : HearsAt old c.args.p.0 (spelled c.args.bytes.now) new = subst (λ (ps : List Player). HearsAt ps c.args.p.0 (spelled c.args.bytes.now) new) c.deref_mut.ensures.value c.in_ok-hear_at.ensures.ok in
-    let is = written c.args.self.now.players.len new old (c.hear_at.ensures.len ∙ c.deref_mut.ensures.len) in
-    subst (λ (ps : List Player). HasMore (map shown old) c.args.p.0 (map shown ps)) (sym is) (hears_more old new c.args.p.0 (spelled c.args.bytes.now) heard)
+returns-clause-more c = more_heard _ c.args.self.now.players.items c.hear_at.new.players _ c.args.p.0 (spelled c.args.bytes.now) c.deref_mut.ensures.value c.in_ok-hear_at.ensures.ok
+    (written c.args.self.now.players.len c.hear_at.new.players c.args.self.now.players.items (c.hear_at.ensures.len ∙ c.deref_mut.ensures.len))
 
 pub invariant_of-self-2-clause-closed_are : goal.invariant_of-self-2-clause-closed_are
 invariant_of-self-2-clause-closed_are c =

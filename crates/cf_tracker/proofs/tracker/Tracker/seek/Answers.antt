@@ -8,8 +8,6 @@ use Rattle.cf_tables.specs.Extracts.{table_in}
 use Rattle.cf_tables.specs.Judged.{verdicts_in}
 use Rattle.cf_seek.specs.OpensAll.{opens_in}
 use Rattle.cf_seek.specs.Tracking.{IsMarked, AreMarked}
-use Rattle.cf_seek.specs.Spans.{GoesFar, IsWish}
-use Rattle.cf_seek.specs.Testing.{IsTrying}
 use Rattle.cf_tables.specs.Tests.{told_in}
 use Rattle.cf_seek.proofs.Along.{common_low}
 use Rattle.cf_seek.proofs.Opening.{opened, up_marked}
@@ -62,25 +60,13 @@ wish_for-requires-clause-within g c =
     low
 
 pub returns-clause-wish : goal.returns-clause-wish
-returns-clause-wish g c =
-    let chains = g.H.HeaderStore.chain c.args.self.now.store in
-    let own = own_of chains c.args.p in
-    subst (λ (n : ℕ). IsWish (table_in c.args.self.now.extracts) (tables_of c.args.self.now.claims) (verdicts_in c.args.self.now.judged) (opens_in c.args.self.now.opens) c.args.p.0 own n c.in_ok-tried.wish) c.common-common.ensures
-    c.in_ok-tried.ensures.wish
+returns-clause-wish g c = rw c.common-common.ensures at c.in_ok-tried.ensures.wish
 
 pub returns-clause-far : goal.returns-clause-far
-returns-clause-far g c =
-    let chains = g.H.HeaderStore.chain c.args.self.now.store in
-    let own = own_of chains c.args.p in
-    subst (λ (n : ℕ). GoesFar (table_in c.args.self.now.extracts) (tables_of c.args.self.now.claims) (verdicts_in c.args.self.now.judged) (opens_in c.args.self.now.opens) c.args.p.0 own n c.in_ok-tried.wish) c.common-common.ensures
-    c.in_ok-tried.ensures.far
+returns-clause-far g c = rw c.common-common.ensures at c.in_ok-tried.ensures.far
 
 pub returns-clause-trying : goal.returns-clause-trying
-returns-clause-trying g c =
-    let now = c.args.self.now in
-    let own = own_of (g.H.HeaderStore.chain now.store) c.args.p in
-    subst (λ (n : ℕ). IsTrying (table_in now.extracts) (tables_of now.claims) (told_in now.tests) c.args.p.0 own n c.in_ok-tried.wish)
-    c.common-common.ensures c.in_ok-tried.ensures.trying
+returns-clause-trying g c = rw c.common-common.ensures at c.in_ok-tried.ensures.trying
 
 pub wish_for-requires-clause-tried : goal.wish_for-requires-clause-tried
 wish_for-requires-clause-tried g c =

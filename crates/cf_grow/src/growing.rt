@@ -1,0 +1,85 @@
+//! What a server has whose chain grows, and each of its connections.
+ghost use Rattle.std.specs.Prelude.{◌≡◌, IfOk};
+ghost use Rattle.cf_grow.specs.GrowingService.{IsServedWhileGrowing};
+
+use crate::{Grown, Joins, serve_grown};
+use cf_bytes::NoMemory;
+use cf_conn::Duplex;
+use cf_index::Index;
+use cf_link::Service;
+use std::alloc::Global;
+use std::marker::Model;
+use std::sync::{Arc, Mutex, Wait};
+
+/// The serving machine over a chain that grows, which all shares lock, and whoever is told of each block that joins it.
+/// Contracts see the time and the nonce of its `version`.
+#[derive(Drop)]
+pub struct GrowingServer<R: Wait + Copy, J: Joins + Copy> {
+    rt: R,
+    alloc: Global,
+    grown: Arc<Mutex<Grown>, Global>,
+    joins: J,
+    moment: i64,
+    nonce: u64,
+}
+
+impl<R: Wait + Copy, J: Joins + Copy> Model for GrowingServer<R, J> {
+    ghost use Rattle.cf_grow.specs.GrowingService.{Moment};
+
+    ghost Value = { Moment };
+
+    ghost view = { λ s. record { moment = s.moment; nonce = s.nonce } };
+}
+
+impl<R: Wait + Copy, J: Joins + Copy> GrowingServer<R, J> {
+    /// A server that begins with this chain. Its `version` tells the time in seconds since 1970 and the nonce.
+    pub fn new(
+        rt: R,
+        alloc: Global,
+        index: Index,
+        joins: J,
+        moment: i64,
+        nonce: u64,
+    ) -> Result<GrowingServer<R, J>, NoMemory>
+        ensures { IfOk result (λ s. s ≡ record { moment = moment; nonce = nonce }) }
+    {
+        let grown = Arc::new(alloc, Mutex::new(Grown::new(index)))?;
+        Ok(GrowingServer {
+            rt,
+            alloc,
+            grown,
+            joins,
+            moment,
+            nonce,
+        })
+    }
+}
+
+impl<R: Wait + Copy, J: Joins + Copy> Service for GrowingServer<R, J> {
+    ghost serves = { λ s before how after. IsServedWhileGrowing s before how after };
+
+    fn share(&self) -> Result<GrowingServer<R, J>, NoMemory> {
+        let grown = Arc::try_clone(&self.grown)?;
+        Ok(GrowingServer {
+            rt: self.rt,
+            alloc: self.alloc,
+            grown,
+            joins: self.joins,
+            moment: self.moment,
+            nonce: self.nonce,
+        })
+    }
+
+    fn serve<C: Duplex>(&self, conn: &mut C) -> u8 {
+        serve_grown(
+            &self.rt,
+            self.alloc,
+            &self.grown,
+            &self.joins,
+            conn,
+            self.moment,
+            self.nonce,
+        )
+        .number()
+    }
+}

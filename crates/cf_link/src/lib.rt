@@ -1,0 +1,17 @@
+//! Serving the connections that a listener accepts, each in a task of its own.
+#![tactic(auto)]
+
+mod fail;
+mod in_memory;
+mod line;
+mod link;
+mod serving;
+mod task;
+mod tcp;
+
+pub use fail::ServeFail;
+pub use in_memory::ListLink;
+pub use link::Link;
+pub use serving::serve;
+pub use task::{ServeTask, ServedEnd, Service};
+pub use tcp::{TcpConn, TcpEnd, TcpLink};

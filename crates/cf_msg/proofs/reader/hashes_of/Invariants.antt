@@ -1,7 +1,0 @@
-use Rattle.std.proofs.Common.{◌≡◌, ◌-◌}
-use Rattle.cf_bytes.specs.Lists.{list_at, with_front}
-use Rattle.cf_msg.specs.Reading.{hash_item_at}
-use Rattle.cf_msg.proofs.reader.hashes_of.Given as goal
-
-abbrev pub invariant-loop : goal.invariant-loop
-invariant-loop l = with_front l.items.items (list_at hash_item_at (l.count - l.counter) l.cut) ≡ list_at hash_item_at l.count l.fn.cut
