@@ -59,7 +59,7 @@ def tx_text(tx):
 
 
 def entries_text(entries):
-    return list_text(f"Entry {{ kind: {e.type}, hash: {hash_text(e.hash)} }}" for e in entries)
+    return list_text(f"Inventory {{ kind: {e.type}, hash: {hash_text(e.hash)} }}" for e in entries)
 
 
 # ---- the messages
@@ -92,7 +92,7 @@ def version():
     made.strSubVer, made.nStartingHeight, made.fRelay = b"/another:0.21.1/", 0x000A0B0C, True
     return made, (
         f"Version {{ version: {made.nVersion}, services: {made.nServices}, time: {made.nTime}, to: {address_text(made.addrTo)}, "
-        f"from: {address_text(made.addrFrom)}, nonce: {made.nNonce}, agent: Bytes {{ bytes: {numbers(made.strSubVer)} }}, "
+        f"from: {address_text(made.addrFrom)}, nonce: {made.nNonce}, agent: Listed {{ items: {numbers(made.strSubVer)} }}, "
         f"height: {made.nStartingHeight}, relay: Some({int(made.fRelay)}) }}"
     )
 
