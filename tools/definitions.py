@@ -20,7 +20,7 @@ from sources import DEFINITION, OPERATOR, Crate, imports_of, text_of  # noqa: E4
 
 TOKEN = re.compile(r"[(){}\[\];,λ]|[^\s(){}\[\];,λ]+")
 OPENING, CLOSED = "({[", ")}]"
-PART = re.compile(r"Rattle\.(\w+)\.specs\.(.+)")
+PART = re.compile(r"Rattle\.(\w+)\.specs(?:\.(.+))?")
 MARK = re.compile(r"-- (statement|machine): \S")
 
 
@@ -159,6 +159,8 @@ class Repository:
         found = PART.match(path)
         if not found or found[1] not in self.names:
             return f"{path.replace('Rattle.', '').replace('.specs.', '.')}.{name}"
+        if not found[2]:
+            return self.passed_on(found[1], name)
         crate, parts = found[1], found[2].split(".")
         if parts[0] == "declared":
             return self.declared(crate, parts[1:], name)
@@ -166,6 +168,14 @@ class Repository:
             scope = self.module(crate, ".".join(parts[:count]))
             if scope:
                 return scope.own.get(parts[count] if count < len(parts) else name)
+        return None
+
+    def passed_on(self, crate, name):
+        """What a crate passes on under this name, by a line of its specs/Lib.antt."""
+        for line in text_of(f"crates/{crate}/specs/Lib.antt").split("\n"):
+            for given, path, inner in imports_of(line.removeprefix("pub ")) if line.startswith("pub use ") else ():
+                if given == name:
+                    return self.at(path, inner)
         return None
 
     def declared(self, crate, parts, name):
