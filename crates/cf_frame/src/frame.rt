@@ -1,10 +1,9 @@
 //! A frame, and its spelling: magic, command, length of the payload (low byte first), the first four bytes of
 //! the payload's double SHA-256, payload (Bitcoin developer reference, "Message headers").
 ghost use Rattle.std.specs.Prelude.{◌≡◌, ◌==◌, ◌≤◌, IfOk, length, true};
-ghost use Rattle.cf_bytes.specs.declared.memory.Refused.TheVariants.{No};
 ghost use Rattle.cf_frame.specs.Frame.{IsFrame, checksum as checksum_of, is_command, spelling};
 
-use cf_bytes::{MAGIC, NoMemory, Refused, double_hash};
+use cf_bytes::{Fault, MAGIC, NoMemory, double_hash};
 use std::alloc::Global;
 use std::marker::Model;
 use thiserror::Error;
@@ -30,13 +29,7 @@ pub enum FrameFault {
     Checksum = 4,
 }
 
-impl From<FrameFault> for Refused<FrameFault> {
-    ghost from_gives = { λ fault e. e ≡ No fault };
-
-    fn from(fault: FrameFault) -> Refused<FrameFault> {
-        Refused::No(fault)
-    }
-}
+impl Fault for FrameFault {}
 
 /// The bytes of a message, at most 4,000,000 where they came in a frame. A contract sees them as a list.
 #[derive(Drop, Debug)]
