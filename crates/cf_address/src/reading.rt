@@ -74,7 +74,19 @@ fn text_fault(text: &[u8]) -> Option<AddressFault>
 fn is_mixed(text: &[u8]) -> bool
     ensures { result ≡ has_both text.now }
 {
-    text.iter().any(|b| b.is_ascii_lowercase()) && text.iter().any(|b| b.is_ascii_uppercase())
+    has_small(text) && has_capital(text)
+}
+
+fn has_small(text: &[u8]) -> bool
+    ensures { result ≡ list_any is_ascii_lowercase text.now }
+{
+    text.iter().any(|b| b.is_ascii_lowercase())
+}
+
+fn has_capital(text: &[u8]) -> bool
+    ensures { result ≡ list_any is_ascii_uppercase text.now }
+{
+    text.iter().any(|b| b.is_ascii_uppercase())
 }
 
 // Whether each byte may stand in an address.
