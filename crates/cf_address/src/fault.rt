@@ -1,8 +1,6 @@
 //! Why a text is no address.
-ghost use Rattle.std.specs.Prelude.{◌≡◌};
-ghost use Rattle.cf_bytes.specs.declared.memory.Refused.TheVariants.{No};
 
-use cf_bytes::Refused;
+use cf_bytes::Fault;
 use thiserror::Error;
 
 /// Why a text is no address: the first of these that holds.
@@ -37,10 +35,4 @@ pub enum AddressFault {
     Length = 9,
 }
 
-impl From<AddressFault> for Refused<AddressFault> {
-    ghost from_gives = { λ fault e. e ≡ No fault };
-
-    fn from(fault: AddressFault) -> Refused<AddressFault> {
-        Refused::No(fault)
-    }
-}
+impl Fault for AddressFault {}

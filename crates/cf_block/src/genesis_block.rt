@@ -80,16 +80,12 @@ fn genesis_output(alloc: Global) -> Result<TxOut, NoMemory>
 fn signing(alloc: Global) -> Result<Script, NoMemory>
     ensures { IfOk result (λ s. s ≡ signing_script) }
 {
-    let mut bytes = Vec::new(alloc);
-    bytes.extend_from_slice(&SIGNING)?;
-    Ok(Script::from_vec(bytes))
+    Ok(Script::from_vec(Vec::from_slice(alloc, &SIGNING)?))
 }
 
 #[tactic(auto, unfolding(crate::specs::Genesis::paid_script))]
 fn paid(alloc: Global) -> Result<Script, NoMemory>
     ensures { IfOk result (λ s. s ≡ paid_script) }
 {
-    let mut bytes = Vec::new(alloc);
-    bytes.extend_from_slice(&PAID)?;
-    Ok(Script::from_vec(bytes))
+    Ok(Script::from_vec(Vec::from_slice(alloc, &PAID)?))
 }

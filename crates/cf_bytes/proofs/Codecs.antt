@@ -25,6 +25,15 @@ pub record Codec {X E : Type 0} (item : List ℕ → Read X E) (spell : X → Li
   pub again : (x : X) (more : List ℕ) → Fits x → item (spell x ++ more) ≡ Ok (x, more)
   pub taken : (bytes : List ℕ) (x : X) (rest : List ℕ) → IsBytes bytes → item bytes ≡ Ok (x, rest) → Takes bytes (spell x) rest × Fits x
 
+-- a codec stays one where its fault is put in other words
+pub reworded_codec : {X E F : Type 0} (reword : Read X E → Read X F) (item : List ℕ → Read X E) (spell : X → List ℕ) (Fits : X → Type 0)
+    → ((x : X × List ℕ) → reword (Ok x) ≡ Ok x) → ((r : Read X E) (x : X × List ℕ) → reword r ≡ Ok x → r ≡ Ok x)
+    → Codec item spell Fits → Codec (λ bytes. reword (item bytes)) spell Fits
+reworded_codec reword item spell Fits keeps was codec = record {
+  again = λ x more h. ap reword (codec.again x more h) ∙ keeps (x, more);
+  taken = λ bytes x rest fits h. codec.taken bytes x rest fits (was (item bytes) (x, rest) h);
+}
+
 -- one field, and then another
 
 pub bind_ok : {A B E : Type 0} (r : Result A E) (f : A → Result B E) (y : B) → (r >>= f) ≡ Ok y → (x : A) × (r ≡ Ok x) × (f x ≡ Ok y)

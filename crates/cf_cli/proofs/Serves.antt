@@ -3,8 +3,9 @@ use Rattle.std.proofs.Common.{◌≡◌, ℕ, ◌+◌, ◌≤◌, List, Result, 
 use Rattle.std.specs.Prelude.{OnOk}
 use Rattle.cf_link.specs.Links.{LinkTold}
 use Rattle.cf_link.specs.Serving.{Serves}
-use Rattle.cf_link.specs.declared.fail.ServeFail.{ServeFail}
-use Rattle.cf_link.specs.declared.fail.ServeFail.TheVariants.{Failed, NoMemory as OutOfMemory}
+use Rattle.cf_bytes.specs.declared.memory.Refused.{Refused}
+use Rattle.cf_bytes.specs.declared.memory.Refused.TheVariants.{No, NoMemory as OutOfMemory}
+use Rattle.cf_bytes.specs.declared.outside.Failed.{Failed}
 use Rattle.cf_conn.specs.Told.{ConnTold}
 use Rattle.cf_answers.specs.declared.status.Status.{Status}
 use Rattle.cf_cli.specs.Serving.{listening, ServesAt, MayServe, ServesChain, answer_of}
@@ -20,14 +21,14 @@ since served address most was mid now is given few =
     let P : LinkTold → Type 0 = λ t. Serves served t now × (now.accepted ≤ t.accepted + most) in subst P is (given, few)
 
 -- by the way in which serving ended
-pub chain_served : (answer : Result (Unit {0}) ServeFail) (served : ConnTold → ℕ → ConnTold → Type 0) (address : List ℕ) (count : ℕ) (was now : LinkTold) → MayServe served address count was now
+pub chain_served : (answer : Result (Unit {0}) (Refused Failed)) (served : ConnTold → ℕ → ConnTold → Type 0) (address : List ℕ) (count : ℕ) (was now : LinkTold) → MayServe served address count was now
     → OnOk answer (ServesAt served address count was now) → OnOk answer (now.accepted ≡ was.accepted + count) → ServesChain (answer_of answer) served address count was now
 chain_served (Ok done) served address count was now may at all = (at, all)
-chain_served (Err Failed) served address count was now may at all = may
+chain_served (Err (No failed)) served address count was now may at all = may
 chain_served (Err OutOfMemory) served address count was now may at all = may
 
 -- the same by a server of which it is known what it is
-pub served_so : {A : Type 0} (answer : Result (Unit {0}) ServeFail) (status : Status) (served : A → ConnTold → ℕ → ConnTold → Type 0) (server told : A) (address : List ℕ) (count : ℕ) (was now : LinkTold)
+pub served_so : {A : Type 0} (answer : Result (Unit {0}) (Refused Failed)) (status : Status) (served : A → ConnTold → ℕ → ConnTold → Type 0) (server told : A) (address : List ℕ) (count : ℕ) (was now : LinkTold)
     → status ≡ answer_of answer → server ≡ told → MayServe (served server) address count was now → OnOk answer (ServesAt (served server) address count was now)
     → OnOk answer (now.accepted ≡ was.accepted + count) → ServesChain status (served told) address count was now
 served_so {A} answer status served server told address count was now is same may at all =

@@ -10,8 +10,9 @@ use Rattle.cf_input.specs.declared.words.Command.{Command}
 use Rattle.cf_input.specs.declared.words.Command.TheVariants.{Serve}
 use Rattle.cf_link.specs.Links.{LinkTold, longer_by}
 use Rattle.cf_link.specs.Serving.{Serves}
-use Rattle.cf_link.specs.declared.fail.ServeFail.{ServeFail}
-use Rattle.cf_link.specs.declared.fail.ServeFail.TheVariants.{Failed, NoMemory as OutOfMemory}
+use Rattle.cf_bytes.specs.declared.memory.Refused.{Refused}
+use Rattle.cf_bytes.specs.declared.memory.Refused.TheVariants.{No, NoMemory as OutOfMemory}
+use Rattle.cf_bytes.specs.declared.outside.Failed.{Failed}
 use Rattle.cf_grow.specs.Service.{IsServedBy}
 use Rattle.cf_grow.specs.GrowingService.{IsServedWhileGrowing}
 use Rattle.cf_answers.specs.declared.status.Status.{Status}
@@ -58,9 +59,9 @@ IsServing grow FileFault moment nonce files file address count was now = now ≡
 IsServing grow status moment nonce files file address count was now = ⊥
 
 -- the answer where serving ended so
-abbrev pub answer_of : Result (Unit {0}) ServeFail → Status
+abbrev pub answer_of : Result (Unit {0}) (Refused Failed) → Status
 answer_of (Ok done) = Done
-answer_of (Err Failed) = LinkFault
+answer_of (Err (No failed)) = LinkFault
 answer_of (Err OutOfMemory) = NoMemory
 
 -- whether a command that was answered so may have used the link that was handed in: `serve` alone does

@@ -10,7 +10,7 @@ ghost use Rattle.cf_loading.specs.Verdicts.{IsJudged, blocks_verdict};
 ghost use Rattle.cf_answers.specs.Statuses.{was_refused};
 
 use cf_answers::Status;
-use cf_bytes::{Files, Hash32, NoMemory};
+use cf_bytes::{Failed, Files, Hash32, NoMemory, Refused};
 use cf_conn::Duplex;
 use cf_grow::{GrowingServer, Joins, Server};
 use cf_index::{CheckedChain, Index};
@@ -54,8 +54,8 @@ fn status_of(answer: Result<(), ServeFail>) -> Status
 {
     match answer {
         Ok(()) => Status::Done,
-        Err(ServeFail::Failed) => Status::LinkFault,
-        Err(ServeFail::NoMemory) => Status::NoMemory,
+        Err(Refused::No(Failed)) => Status::LinkFault,
+        Err(Refused::NoMemory) => Status::NoMemory,
     }
 }
 

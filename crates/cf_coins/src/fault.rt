@@ -1,9 +1,7 @@
 //! Why a block's transactions don't fit the coins.
-ghost use Rattle.std.specs.Prelude.{◌≡◌};
-ghost use Rattle.cf_bytes.specs.declared.memory.Refused.TheVariants.{No};
 
 use cf_block::OutPoint;
-use cf_bytes::Refused;
+use cf_bytes::Fault;
 use std::fmt;
 use thiserror::Error;
 
@@ -38,10 +36,4 @@ pub enum CoinFault {
     Exists(OutPoint),
 }
 
-impl From<CoinFault> for Refused<CoinFault> {
-    ghost from_gives = { λ fault e. e ≡ No fault };
-
-    fn from(fault: CoinFault) -> Refused<CoinFault> {
-        Refused::No(fault)
-    }
-}
+impl Fault for CoinFault {}

@@ -1,12 +1,10 @@
 //! A frame, and its spelling: magic, command, length of the payload (low byte first), the first four bytes of
 //! the payload's double SHA-256, payload (Bitcoin developer reference, "Message headers").
-ghost use Rattle.std.specs.Prelude.{◌≡◌, ◌==◌, ◌≤◌, IfOk, length, true};
-ghost use Rattle.cf_bytes.specs.declared.memory.Refused.TheVariants.{No};
+ghost use Rattle.std.specs.Prelude.{◌≡◌, ◌≤◌, IfOk, length, true};
 ghost use Rattle.cf_frame.specs.Frame.{IsFrame, checksum as checksum_of, is_command, spelling};
 
-use cf_bytes::{MAGIC, NoMemory, Refused, double_hash};
+use cf_bytes::{Fault, Listed, MAGIC, NoMemory, double_hash};
 use std::alloc::Global;
-use std::marker::Model;
 use thiserror::Error;
 
 /// The most bytes that a payload may have.
@@ -30,57 +28,10 @@ pub enum FrameFault {
     Checksum = 4,
 }
 
-impl From<FrameFault> for Refused<FrameFault> {
-    ghost from_gives = { λ fault e. e ≡ No fault };
+impl Fault for FrameFault {}
 
-    fn from(fault: FrameFault) -> Refused<FrameFault> {
-        Refused::No(fault)
-    }
-}
-
-/// The bytes of a message, at most 4,000,000 where they came in a frame. A contract sees them as a list.
-#[derive(Drop, Debug)]
-pub struct Payload {
-    bytes: Vec<u8>,
-}
-
-impl Model for Payload {
-    ghost use Rattle.std.specs.Prelude.{ℕ, List};
-
-    ghost Value = { List ℕ };
-
-    ghost view = { λ p. p.bytes.items };
-}
-
-impl Payload {
-    /// A payload of these bytes.
-    pub fn new(bytes: Vec<u8>) -> Payload
-        ensures { result ≡ bytes.items }
-    {
-        Payload { bytes }
-    }
-
-    /// The bytes, lent.
-    pub fn as_slice(&self) -> &[u8]
-        ensures { result.now ≡ self.now }
-    {
-        &self.bytes
-    }
-
-    /// How many bytes there are.
-    pub fn len(&self) -> usize
-        ensures { result ≡ length self.now }
-    {
-        self.bytes.len()
-    }
-
-    /// Whether there is no byte.
-    pub fn is_empty(&self) -> bool
-        ensures { result ≡ (length self.now == 0) }
-    {
-        self.bytes.is_empty()
-    }
-}
+/// The bytes of a message, at most 4,000,000 where they came in a frame.
+pub type Payload = Listed<u8>;
 
 /// A message of the protocol, as its command and its bytes. The command is printable characters, filled up
 /// with NULs.

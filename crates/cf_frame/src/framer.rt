@@ -139,7 +139,7 @@ impl Framer {
         let Some(lent) = self.next_lent()? else {
             return Ok(None);
         };
-        let payload = Payload::new(Vec::from_slice(self.alloc, lent.payload)?);
+        let payload = Payload::from_vec(Vec::from_slice(self.alloc, lent.payload)?);
         let command = lent.command;
         self.done();
         Ok(Some(Frame { command, payload }))

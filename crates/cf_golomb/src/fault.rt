@@ -1,8 +1,6 @@
 //! Why bytes aren't the code of a list.
-ghost use Rattle.std.specs.Prelude.{◌≡◌};
-ghost use Rattle.cf_bytes.specs.declared.memory.Refused.TheVariants.{No};
 
-use cf_bytes::{CutFault, Refused};
+use cf_bytes::{CutFault, Fault};
 use thiserror::Error;
 
 /// Why bytes aren't the code of a list: the first that comes up in reading.
@@ -25,10 +23,4 @@ pub enum SetFault {
     Excess,
 }
 
-impl From<SetFault> for Refused<SetFault> {
-    ghost from_gives = { λ fault e. e ≡ No fault };
-
-    fn from(fault: SetFault) -> Refused<SetFault> {
-        Refused::No(fault)
-    }
-}
+impl Fault for SetFault {}

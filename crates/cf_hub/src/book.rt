@@ -57,7 +57,7 @@ pub(crate) fn filled(room: Vec<u8>, bytes: &[u8]) -> Piece
 {
     let mut copy = room;
     copy.extend_from_slice(bytes).unwrap();
-    Piece::new(copy)
+    Piece::from_vec(copy)
 }
 
 impl HubLog {

@@ -104,7 +104,7 @@ fn read_got(alloc: Global, rest: &[u8], dials: u32) -> Result<Delivery, Refused<
         return Err(Refused::No(SessionCause::BadLine));
     }
     let peer = read_peer(peer, dials).map_err(Refused::No)?;
-    Ok(Delivery::Got(peer, Piece::new(bytes)))
+    Ok(Delivery::Got(peer, Piece::from_vec(bytes)))
 }
 
 fn read_gone(rest: &[u8], dials: u32) -> Result<Delivery, SessionCause>

@@ -8,7 +8,7 @@ ghost use Rattle.cf_input.specs.Commands.{GivesOrUsage, IfUsage, refusal_of};
 
 use crate::number::{number_at_most, number_within};
 use crate::text::{PeerNames, Word, are_names, is_name};
-use cf_bytes::{Hash32, NoMemory, Refused, read_hash};
+use cf_bytes::{Fault, Hash32, NoMemory, Refused, read_hash};
 use cf_headers::HEIGHT_LIMIT;
 use clap::error::ErrorKind;
 use clap::{Arg, ArgAction, ArgMatches};
@@ -18,16 +18,7 @@ use std::alloc::{AllocError, Global};
 #[derive(Clone, Copy, Debug, PartialEq, Eq)]
 pub struct Usage;
 
-impl From<Usage> for Refused<Usage> {
-    ghost use Rattle.std.specs.Prelude.{◌≡◌};
-    ghost use Rattle.cf_bytes.specs.declared.memory.Refused.TheVariants.{No};
-
-    ghost from_gives = { λ fault e. e ≡ No fault };
-
-    fn from(fault: Usage) -> Refused<Usage> {
-        Refused::No(fault)
-    }
-}
+impl Fault for Usage {}
 
 /// At most this many deliveries are taken from the wires.
 pub const MOST_TURNS: u32 = 10_000_000;

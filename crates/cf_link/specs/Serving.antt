@@ -4,8 +4,9 @@ use Rattle.std.specs.List.{AllZip}
 use Rattle.cf_bytes.specs.Outside.{HasRisen}
 use Rattle.cf_conn.specs.Told.{ConnTold}
 use Rattle.cf_link.specs.Links.{Given, LinkTold, longer_by}
-use Rattle.cf_link.specs.declared.fail.ServeFail.{ServeFail}
-use Rattle.cf_link.specs.declared.fail.ServeFail.TheVariants.{Failed, NoMemory}
+use Rattle.cf_bytes.specs.declared.memory.Refused.{Refused}
+use Rattle.cf_bytes.specs.declared.memory.Refused.TheVariants.{No, NoMemory}
+use Rattle.cf_bytes.specs.declared.outside.Failed.{Failed}
 
 -- Some connections were accepted, and all of them were given back in the same order: of each what it told as it was accepted, and what came of it by then.
 pub record Serves (serves : ConnTold → ℕ → ConnTold → Type 0) (was now : LinkTold) : Type 0 where
@@ -19,7 +20,7 @@ pub record Serves (serves : ConnTold → ℕ → ConnTold → Type 0) (was now :
   pub addresses : now.addresses ≡ was.addresses
 
 -- a link's count of faults rises exactly where the answer is that it has failed
-abbrev pub Counts : Result (Unit {0}) ServeFail → ℕ → ℕ → Type 0
+abbrev pub Counts : Result (Unit {0}) (Refused Failed) → ℕ → ℕ → Type 0
 Counts (Ok done) before after = after ≡ before
-Counts (Err Failed) before after = HasRisen before after
+Counts (Err (No failed)) before after = HasRisen before after
 Counts (Err NoMemory) before after = after ≡ before

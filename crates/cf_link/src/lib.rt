@@ -1,7 +1,6 @@
 //! Serving the connections that a listener accepts, each in a task of its own.
 #![tactic(auto)]
 
-mod fail;
 mod in_memory;
 mod line;
 mod link;
@@ -9,9 +8,8 @@ mod serving;
 mod task;
 mod tcp;
 
-pub use fail::ServeFail;
 pub use in_memory::ListLink;
 pub use link::Link;
-pub use serving::serve;
+pub use serving::{ServeFail, serve};
 pub use task::{ServeTask, ServedEnd, Service};
 pub use tcp::{TcpConn, TcpEnd, TcpLink};

@@ -6,15 +6,18 @@ ghost use Rattle.cf_link.specs.Tasks.{IsTaskOf, GivesBack, Halfway};
 ghost use Rattle.cf_link.specs.Serving.{Serves, Counts};
 ghost use Rattle.cf_link.specs.declared.task.ServeTask.{ServeTask as TaskOf};
 
-use crate::fail::ServeFail;
 use crate::line::Line;
 use crate::link::Link;
 use crate::task::{ServeTask, ServedEnd, Service};
+use cf_bytes::{Failed, Refused};
 use cf_conn::Duplex;
 use cf_tasks::{Spawner, run_here};
 use std::alloc::Global;
 use std::sync::Arc;
 use std::sync::atomic::AtomicBool;
+
+/// Why fewer connections were served than were asked for: the link has failed, or no memory was found.
+pub type ServeFail = Refused<Failed>;
 
 // Starts a task, or runs it in place where its start is refused. It stands at the end of the line then.
 fn start<C: Duplex + Drop + Send + 'static, S: Service + Send + 'static, K: Spawner>(

@@ -8,7 +8,7 @@ use Rattle.std.specs.Int.{w16, w64, to_le_bytes, to_be_bytes, from_be_bytes}
 use Rattle.cf_bytes.specs.declared.cut.CutFault.{CutFault}
 use Rattle.cf_bytes.specs.Cut.{Read, bytes_at, number_at}
 use Rattle.cf_bytes.specs.Compact.{compact, compact_at}
-use Rattle.cf_bytes.proofs.Codecs.{IsBytes, Takes, Codec, bind_ok, bind_is, value_of, bytes_taken, bytes_again, u64_codec, u64_taken, compact_codec}
+use Rattle.cf_bytes.proofs.Codecs.{IsBytes, Takes, Codec, bind_ok, bind_is, reworded_codec, value_of, bytes_taken, bytes_again, u64_codec, u64_taken, compact_codec}
 use Rattle.cf_block.specs.declared.header.Header.{Header}
 use Rattle.cf_block.specs.declared.fault.BlockFault.{BlockFault}
 use Rattle.cf_block.specs.Header.{IsHash, IsHeader, hash_at, header_at, header_spelling}
@@ -30,10 +30,7 @@ of_cut_ok {X} (Ok y) x h = let made : Read X Cause = Ok y in ap Ok (value_of y x
 of_cut_ok (Err e) x h = cc
 
 pub of_cut_codec : {X : Type 0} (item : List ℕ → Read X CutFault) (spell : X → List ℕ) (Fits : X → Type 0) → Codec item spell Fits → Codec (λ bytes. of_cut (item bytes)) spell Fits
-of_cut_codec item spell Fits codec = record {
-  again = λ x more h. ap of_cut (codec.again x more h);
-  taken = λ bytes x rest fits h. codec.taken bytes x rest fits (of_cut_ok (item bytes) (x, rest) h);
-}
+of_cut_codec item spell Fits = reworded_codec of_cut item spell Fits (λ x. refl) of_cut_ok
 
 regroup_3 : (a b c more : List ℕ) → (a ++ (b ++ c)) ++ more ≡ a ++ (b ++ (c ++ more))
 regroup_3 a b c more = simp append_assoc

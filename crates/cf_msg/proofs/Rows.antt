@@ -219,23 +219,26 @@ pub pong_again : (n : ℕ) → n < 2 ^ 64 → pong_at (payload_of (Pong n)) ≡ 
 unfolding pong_at payload_of
 pong_again n small = bind_is (of_cut (number_at w64 (to_le_bytes w64 n))) (n, []) (λ x. Ok (Pong x.0, x.1)) (number_again n small)
 
+number_taken : (make : ℕ → Msg) (bytes : List ℕ) (m : Msg) (rest : List ℕ) → IsBytes bytes
+    → ◌>>=◌ {B = Msg × List ℕ} (of_cut (number_at w64 bytes)) (λ x. Ok (make x.0, x.1)) ≡ Ok (m, rest)
+    → (n : ℕ) × (bytes ≡ to_le_bytes w64 n ++ rest) × (n < 2 ^ 64) × (make n ≡ m)
+number_taken make bytes m rest fits e =
+    let n = bind_ok (of_cut (number_at w64 bytes)) _ _ e in
+    let t = u64_cause.taken bytes n.0.0 n.0.1 fits n.1 in
+    let both = value_of (make n.0.0, n.0.1) (m, rest) _ refl n.2 in
+    (n.0.0, t.0.joined ∙ ap (λ (q : Msg × List ℕ). to_le_bytes w64 n.0.0 ++ q.1) both, t.1, ap (λ (q : Msg × List ℕ). q.0) both)
+
 pub ping_taken : (bytes : List ℕ) (m : Msg) (rest : List ℕ) → IsBytes bytes → ping_at bytes ≡ Ok (m, rest) → IsRead ping_command bytes m rest
 unfolding ping_at payload_of
 ping_taken bytes m rest fits e =
-    let n = bind_ok (of_cut (number_at w64 bytes)) _ _ e in
-    let t = u64_cause.taken bytes n.0.0 n.0.1 fits n.1 in
-    let both = value_of (Ping n.0.0, n.0.1) (m, rest) _ refl n.2 in
-    let P : Msg × List ℕ → Type 0 = λ q. IsRead ping_command bytes q.0 q.1 in
-    subst P both (record { command = refl; joined = t.0.joined; fits = t.1 })
+    let t = number_taken (λ n. Ping n) bytes m rest fits e in
+    subst (λ (x : Msg). IsRead ping_command bytes x rest) t.3 (record { command = refl; joined = t.1; fits = t.2 })
 
 pub pong_taken : (bytes : List ℕ) (m : Msg) (rest : List ℕ) → IsBytes bytes → pong_at bytes ≡ Ok (m, rest) → IsRead pong_command bytes m rest
 unfolding pong_at payload_of
 pong_taken bytes m rest fits e =
-    let n = bind_ok (of_cut (number_at w64 bytes)) _ _ e in
-    let t = u64_cause.taken bytes n.0.0 n.0.1 fits n.1 in
-    let both = value_of (Pong n.0.0, n.0.1) (m, rest) _ refl n.2 in
-    let P : Msg × List ℕ → Type 0 = λ q. IsRead pong_command bytes q.0 q.1 in
-    subst P both (record { command = refl; joined = t.0.joined; fits = t.1 })
+    let t = number_taken (λ n. Pong n) bytes m rest fits e in
+    subst (λ (x : Msg). IsRead pong_command bytes x rest) t.3 (record { command = refl; joined = t.1; fits = t.2 })
 
 -- getheaders
 

@@ -42,6 +42,12 @@ sum_6 : (a b c d e f : List ℕ) → length (a ++ (b ++ (c ++ (d ++ (e ++ f)))))
 sum_6 a b c d e f =
     omega (arith, length-append a (b ++ (c ++ (d ++ (e ++ f)))), length-append b (c ++ (d ++ (e ++ f))), length-append c (d ++ (e ++ f)), length-append d (e ++ f), length-append e f)
 
+-- a list with its count before it, of items that are alike long
+counted_size : {X : Type 0} (spell : X → List ℕ) (Fits : X → Type 0) (k : ℕ) → ((x : X) → Fits x → length (spell x) ≡ k)
+    → (xs : List X) → AllByRecursion Fits xs → length (counted_list spell xs) ≤ 9 + k * length xs
+counted_size spell Fits k each xs all =
+    omega (arith, length-append (compact (length xs)) (flat_map spell xs), length-compact (length xs), length-flat_map spell Fits k each xs all)
+
 length-header : (h : Header) → IsHeader h → length (header_spelling h) ≡ 80
 unfolding header_spelling
 length-header h fits =
@@ -100,34 +106,16 @@ getheaders_size version locator stop hashes fits =
 
 pub headers_size : (headers : List Header) → AllByRecursion IsHeader headers → length (payload_of (Headers headers)) ≤ 9 + 81 * length headers
 unfolding payload_of
-headers_size headers fits =
-    omega (
-      arith,
-      length-append (compact (length headers)) (flat_map item_spelling headers),
-      length-compact (length headers),
-      length-flat_map item_spelling IsHeader 81 length-item headers fits,
-    )
+headers_size headers fits = counted_size item_spelling IsHeader 81 length-item headers fits
 
 length-entry : (e : Inventory) → IsEntry e → length (entry_spelling e) ≡ 36
 length-entry e fits = omega (arith, length-append (to_le_bytes w32 e.kind) e.hash.0, fits.hash)
 
 pub entries_size : (entries : List Inventory) → AllByRecursion IsEntry entries → length (counted_list entry_spelling entries) ≤ 9 + 36 * length entries
-entries_size entries fits =
-    omega (
-      arith,
-      length-append (compact (length entries)) (flat_map entry_spelling entries),
-      length-compact (length entries),
-      length-flat_map entry_spelling IsEntry 36 length-entry entries fits,
-    )
+entries_size entries fits = counted_size entry_spelling IsEntry 36 length-entry entries fits
 
 pub hashes_size : (hashes : List Hash32) → AllByRecursion IsHash hashes → length (counted_list hash_spelling hashes) ≤ 9 + 32 * length hashes
-hashes_size hashes fits =
-    omega (
-      arith,
-      length-append (compact (length hashes)) (flat_map hash_spelling hashes),
-      length-compact (length hashes),
-      length-flat_map hash_spelling IsHash 32 (λ x h. h) hashes fits,
-    )
+hashes_size hashes fits = counted_size hash_spelling IsHash 32 (λ x h. h) hashes fits
 
 pub range_size : (filter start : ℕ) (stop : Hash32) → IsHash stop → length (filter ∷ (to_le_bytes w32 start ++ stop.0)) ≡ 37
 range_size filter start stop fits = omega (arith, length-append (to_le_bytes w32 start) stop.0, fits)

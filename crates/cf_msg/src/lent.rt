@@ -22,6 +22,6 @@ pub fn frame_block(alloc: Global, block: &Block) -> Result<Frame, NoMemory>
     write_block(block, &mut payload)?;
     Ok(Frame {
         command: BLOCK,
-        payload: Payload::new(payload),
+        payload: Payload::from_vec(payload),
     })
 }

@@ -1,11 +1,10 @@
 //! Messages, and why a payload is none.
 ghost use Rattle.std.specs.Prelude.{◌≡◌};
-ghost use Rattle.cf_bytes.specs.declared.memory.Refused.TheVariants.{No};
 ghost use Rattle.cf_msg.specs.declared.msg.Cause.TheVariants.{Cut as OfCut};
 
 use crate::lists::{Bytes, Entries, Hashes, Headers};
 use cf_block::{Block, BlockFaultKind};
-use cf_bytes::{CutFault, Hash32, Refused};
+use cf_bytes::{CutFault, Fault, Hash32};
 use thiserror::Error;
 
 /// A network address as `version` has it: 26 bytes.
@@ -155,13 +154,7 @@ impl From<CutFault> for Cause {
     }
 }
 
-impl From<Cause> for Refused<Cause> {
-    ghost from_gives = { λ cause e. e ≡ No cause };
-
-    fn from(cause: Cause) -> Refused<Cause> {
-        Refused::No(cause)
-    }
-}
+impl Fault for Cause {}
 
 /// The first field of a payload that can't be read.
 #[derive(Clone, Copy, Debug, PartialEq, Eq, Error)]
@@ -174,10 +167,4 @@ pub struct Malformed {
     pub cause: Cause,
 }
 
-impl From<Malformed> for Refused<Malformed> {
-    ghost from_gives = { λ fault e. e ≡ No fault };
-
-    fn from(fault: Malformed) -> Refused<Malformed> {
-        Refused::No(fault)
-    }
-}
+impl Fault for Malformed {}

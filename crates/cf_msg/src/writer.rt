@@ -31,7 +31,7 @@ pub fn write(alloc: Global, msg: &Msg) -> Result<Frame, NoMemory>
     put_payload(msg, &mut payload)?;
     Ok(Frame {
         command: command_of(msg),
-        payload: Payload::new(payload),
+        payload: Payload::from_vec(payload),
     })
 }
 

@@ -1,9 +1,8 @@
 //! Why bytes are no proof of a transaction.
 ghost use Rattle.std.specs.Prelude.{◌≡◌};
-ghost use Rattle.cf_bytes.specs.declared.memory.Refused.TheVariants.{No};
 ghost use Rattle.cf_proof.specs.Causes.{of_cut};
 
-use cf_bytes::{CutFault, Refused};
+use cf_bytes::{CutFault, Fault};
 use thiserror::Error;
 
 /// Why bytes are no proof of a transaction: the first of these that holds, where the first four are told of the first
@@ -51,13 +50,7 @@ pub enum ProofFault {
     Absent = 13,
 }
 
-impl From<ProofFault> for Refused<ProofFault> {
-    ghost from_gives = { λ fault e. e ≡ No fault };
-
-    fn from(fault: ProofFault) -> Refused<ProofFault> {
-        Refused::No(fault)
-    }
-}
+impl Fault for ProofFault {}
 
 impl From<CutFault> for ProofFault {
     ghost from_gives = { λ fault e. e ≡ of_cut fault };

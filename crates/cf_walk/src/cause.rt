@@ -1,9 +1,7 @@
 //! Why a file of blocks is refused.
-ghost use Rattle.std.specs.Prelude.{◌≡◌};
-ghost use Rattle.cf_bytes.specs.declared.memory.Refused.TheVariants.{No};
 
 use cf_block::{BlockFaultKind, CommitFault};
-use cf_bytes::Refused;
+use cf_bytes::Fault;
 use cf_coins::CoinFault;
 use cf_headers::HeaderFault;
 use thiserror::Error;
@@ -37,13 +35,7 @@ pub enum RecordCause {
     Coins(CoinFault),
 }
 
-impl From<RecordCause> for Refused<RecordCause> {
-    ghost from_gives = { λ cause e. e ≡ No cause };
-
-    fn from(cause: RecordCause) -> Refused<RecordCause> {
-        Refused::No(cause)
-    }
-}
+impl Fault for RecordCause {}
 
 /// The first record of a file that is refused, by its number, counted from 1, and why.
 #[derive(Clone, Copy, Debug, PartialEq, Eq, Error)]

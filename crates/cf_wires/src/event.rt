@@ -1,48 +1,12 @@
 //! What passes the wires.
 ghost use Rattle.std.specs.Prelude.{◌≡◌, IfOk};
 
-use cf_bytes::{NoMemory, PeerNo};
+use cf_bytes::{Listed, NoMemory, PeerNo};
 use std::alloc::Global;
 use std::marker::Model;
 
-/// Bytes that came from a peer together, seen as the list of them.
-#[derive(Drop, Debug)]
-pub struct Piece {
-    bytes: Vec<u8>,
-}
-
-impl Model for Piece {
-    ghost use Rattle.std.specs.Prelude.{ℕ, List};
-
-    ghost Value = { List ℕ };
-
-    ghost view = { λ p. p.bytes.items };
-}
-
-impl Piece {
-    /// A piece of these bytes.
-    pub fn new(bytes: Vec<u8>) -> Piece
-        ensures { result ≡ bytes.items }
-    {
-        Piece { bytes }
-    }
-
-    /// A copy of some bytes.
-    pub fn from_slice(alloc: Global, bytes: &[u8]) -> Result<Piece, NoMemory>
-        ensures { IfOk result (λ p. p ≡ bytes.now) }
-    {
-        Ok(Piece {
-            bytes: Vec::from_slice(alloc, bytes)?,
-        })
-    }
-
-    /// Its bytes.
-    pub fn as_slice(&self) -> &[u8]
-        ensures { result.now ≡ self.now }
-    {
-        &self.bytes
-    }
-}
+/// Bytes that came from a peer together.
+pub type Piece = Listed<u8>;
 
 /// The name by which a peer is dialled, seen as the list of its bytes.
 #[derive(Drop, Debug)]
