@@ -9,7 +9,7 @@ use Rattle.cf_block.specs.declared.tx.Tx.{Tx}
 use Rattle.cf_block.specs.Tx.{tx_spelling}
 use Rattle.cf_block.specs.Merkle.{merkle_root_of, txids}
 use Rattle.cf_block.specs.declared.tx.Block.{Block}
-use Rattle.cf_make.specs.declared.making.Tip.{Tip}
+use Rattle.cf_make.specs.declared.tipped.Tip.{Tip}
 use Rattle.cf_make.specs.Mined.{is_met, NoneMeets}
 use Rattle.cf_make.specs.Made.{tip_of, genesis_tip, tip_after, made_header, max_tries, made_txs, IsMadeBlock, AreMade, IsExtension, StopsAt}
 

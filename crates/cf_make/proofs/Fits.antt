@@ -16,7 +16,7 @@ use Rattle.cf_block.specs.Merkle.{merkle_root_of, root_within, mutated, mutated_
 use Rattle.cf_block.specs.Tx.{IsTx, IsBlock, tx_spelling, block_spelling}
 use Rattle.cf_block.specs.Commitment.{IsCommitted}
 use Rattle.cf_chain.specs.Good.{max_height}
-use Rattle.cf_make.specs.declared.making.Tip.{Tip}
+use Rattle.cf_make.specs.declared.tipped.Tip.{Tip}
 use Rattle.cf_make.specs.Mined.{with_nonce}
 use Rattle.cf_make.specs.Made.{coinbase_of, second_of, seconds_of, made_txs, made_header, max_tries}
 use Rattle.cf_make.proofs.Spelled.{coinbase_size, second_size, coinbase_is_tx, second_is_tx, header_size}

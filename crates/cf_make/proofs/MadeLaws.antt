@@ -23,7 +23,7 @@ use Rattle.cf_headers.specs.Chain.{Chain, tip_hash, times_of, past_of, fits, IsV
 use Rattle.cf_headers.proofs.Rising.{AreBelow, below_more, rising_timely}
 use Rattle.cf_chain.specs.Coins.{CoinMap, after_tx, after_block}
 use Rattle.cf_chain.specs.Good.{max_height, AreGoodTxs, NoCoinbases, HasOneCoinbase, IsGoodBlock, AreGoodBlocks, headers_of, IsGoodChain}
-use Rattle.cf_make.specs.declared.making.Tip.{Tip}
+use Rattle.cf_make.specs.declared.tipped.Tip.{Tip}
 use Rattle.cf_make.specs.Mined.{with_nonce, is_met, NoneMeets, IsMined}
 use Rattle.cf_make.specs.Made.{coinbase_of, second_of, made_txs, made_header, max_tries, first_coin, tip_of, genesis_tip, tip_after, IsMadeBlock, AreMade, IsExtension, StopsAt, seed_limit, IsMadeBySome, AreMadeInTurn, IsMadeChain}
 use Rattle.cf_make.specs.Records.{text_of}

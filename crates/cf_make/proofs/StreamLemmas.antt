@@ -10,12 +10,13 @@ use Rattle.cf_block.specs.declared.tx.OutPoint.{OutPoint}
 use Rattle.cf_block.specs.Header.{block_hash_of}
 use Rattle.cf_bytes.specs.declared.memory.Refused.{Refused}
 use Rattle.cf_bytes.specs.declared.memory.Refused.TheVariants.{No, NoMemory}
-use Rattle.cf_make.specs.declared.making.AtHeight.{AtHeight}
-use Rattle.cf_make.specs.declared.making.Tip.{Tip}
+use Rattle.cf_make.specs.declared.tipped.AtHeight.{AtHeight}
+use Rattle.cf_make.specs.declared.tipped.Tip.{Tip}
 use Rattle.cf_make.specs.Made.{IsMadeBlock, StopsAt, first_coin, genesis_tip, made_header, max_tries, tip_of}
 use Rattle.cf_make.specs.Mined.{NoneMeets}
 use Rattle.cf_make.specs.Records.{made_record}
-use Rattle.cf_make.specs.Streamed.{AreRecordsOf, AreRecordsTo, MakesTipped, StopsFor}
+use Rattle.cf_make.specs.Streamed.{AreRecordsOf, AreRecordsTo, StopsFor}
+use Rattle.cf_make.specs.Tipping.{MakesTipped}
 use Rattle.cf_make.proofs.Blocks.{one_more, stops, tip_append}
 
 pub none_yet : (w : Bool) (seed : ℕ) → AreRecordsTo w seed 0 genesis_tip []

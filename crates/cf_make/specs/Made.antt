@@ -13,8 +13,8 @@ use Rattle.cf_block.specs.Output.{Output}
 use Rattle.cf_block.specs.Outpoint.{outpoint}
 use Rattle.cf_block.specs.Tx.{tx_spelling, txid_of}
 use Rattle.cf_make.specs.Mined.{IsMined, NoneMeets}
-use Rattle.cf_make.specs.declared.making.Tip.{Tip}
-use Rattle.cf_make.specs.declared.making.AtHeight.{AtHeight}
+use Rattle.cf_make.specs.declared.tipped.Tip.{Tip}
+use Rattle.cf_make.specs.declared.tipped.AtHeight.{AtHeight}
 
 -- the script that pushes the byte k, drops it and pushes 1, which any input may spend
 unfoldable pub script_of : ℕ → List ℕ
@@ -118,12 +118,6 @@ abbrev pub Extends : List Block → ℕ → ℕ → Result (List Block) (Refused
 Extends base seed n (Ok whole) = IsExtension base seed n whole
 Extends base seed n (Err (No e)) = StopsAt base seed n e.height
 Extends base seed n (Err NoMemory) = Unit {0}
-
--- what a call answered that makes one
-abbrev pub MakesBlock : ℕ → ℕ → Tip → Result Block (Refused AtHeight) → Type 0
-MakesBlock seed height tip (Ok b) = IsMadeBlock seed height tip b
-MakesBlock seed height tip (Err (No e)) = (e.height ≡ height) × NoneMeets (made_header seed height tip) max_tries
-MakesBlock seed height tip (Err NoMemory) = Unit {0}
 
 -- seeds have 33 bits
 abbrev pub seed_limit : ℕ

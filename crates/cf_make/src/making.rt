@@ -1,39 +1,16 @@
 //! The making of chains.
-ghost use Rattle.std.specs.Prelude.{◌≡◌, ◌≤◌, ◌<◌, ◌+◌, ◌*◌, [], pos, length, take};
+ghost use Rattle.std.specs.Prelude.{◌≡◌, ◌≤◌, ◌<◌, ◌+◌, [], length, take};
 ghost use Rattle.cf_chain.specs.Good.{max_height};
-ghost use Rattle.cf_make.specs.Made.{seed_limit, tip_of, genesis_tip, tip_after, first_coin, Extends, MakesBlock};
+ghost use Rattle.cf_make.specs.Made.{seed_limit, tip_of, genesis_tip, tip_after, first_coin, Extends};
 
 use crate::copying::copy_blocks;
-use crate::mining::{NoNonce, mine};
-use crate::spending::{make_txs, root_of};
-use cf_block::{Block, Header, Listed, OutPoint, Tx, block_hash, genesis_header, txid};
-use cf_bytes::{Hash32, NoMemory, Refused};
+use crate::tipped::{AtHeight, Tip, make_tipped};
+use cf_block::{Block, Listed, OutPoint, Tx, block_hash, genesis_header, txid};
+use cf_bytes::Refused;
 use std::alloc::Global;
-use thiserror::Error;
 
 /// The blocks of a chain above genesis, the lowest first.
 pub type Chain = Listed<Block>;
-
-/// The height at which no nonce was found.
-#[derive(Clone, Copy, Debug, PartialEq, Eq, Error)]
-#[error("{cause}, at height {height}")]
-pub struct AtHeight {
-    pub height: u32,
-    pub cause: NoNonce,
-}
-
-// What a block needs of the one below: its hash, and the first output of its coinbase, which genesis has none of.
-#[derive(Clone, Copy)]
-pub(crate) struct Tip {
-    pub(crate) hash: Hash32,
-    pub(crate) coin: Option<OutPoint>,
-}
-
-/// The nonces that are tried for a block.
-pub(crate) const TRIES: u32 = 65_536;
-
-/// The time of genesis, in seconds since 1970.
-const GENESIS_TIME: u32 = 1_296_688_602;
 
 /// The chain of so many blocks that the seed tells. `NoNonce` comes exactly at the lowest height at which none of the
 /// nonces from 0 to 65,535 meets the target. Seeds are below 2 ^ 33, and there are at most 500,000 blocks.
@@ -73,48 +50,11 @@ fn make_on(alloc: Global, base: Chain, seed: u64, blocks: u32) -> Result<Chain, 
     let mut whole = base;
     for _ in 0..blocks {
         height += 1;
-        let block = make_block(alloc, seed, height, tip)?;
-        tip = block_tip(&block);
-        whole.push(block)?;
+        let made = make_tipped(alloc, seed, height, tip)?;
+        tip = made.tip;
+        whole.push(made.block)?;
     }
     Ok(whole)
-}
-
-// The header of a block at a height, before its nonce is sought: 600 seconds a block, from genesis's time on.
-pub(crate) fn unmined(height: u32, previous: Hash32, root: Hash32) -> Header
-    requires { height ≤ max_height }
-    ensures { result ≡ record {
-      version = pos 4;
-      previous = previous;
-      root = root;
-      time = 1296688602 + 600 * height;
-      bits = 0x207fffff;
-      nonce = 0;
-    } }
-{
-    Header {
-        version: 4,
-        previous,
-        root,
-        time: GENESIS_TIME + 600 * height,
-        bits: 0x207fffff,
-        nonce: 0,
-    }
-}
-
-// The block that the seed tells at a height, above the tip.
-fn make_block(alloc: Global, seed: u64, height: u32, tip: Tip) -> Result<Block, Refused<AtHeight>>
-    requires seeds { seed < seed_limit }
-    requires heights { height ≤ max_height }
-    ensures { MakesBlock seed height tip result }
-{
-    let txs = make_txs(alloc, seed, height, tip.coin)?;
-    let root = root_of(alloc, txs.as_slice())?;
-    let header = unmined(height, tip.hash, root);
-    match mine(&header, TRIES) {
-        Ok(header) => Ok(Block { header, txs }),
-        Err(cause) => Err(Refused::No(AtHeight { height, cause })),
-    }
 }
 
 fn find_coin(txs: &[Tx]) -> Option<OutPoint>

@@ -1,12 +1,10 @@
 //! The transactions of made chains.
-ghost use Rattle.std.specs.Prelude.{◌≡◌, ◌≤◌, ◌<◌, ◌+◌, ◌^◌, ◌∷◌, [], map, length, IfOk};
-ghost use Rattle.cf_block.specs.Tx.{tx_spelling};
-ghost use Rattle.cf_block.specs.Merkle.{merkle_root_of, txids as txids_of};
+ghost use Rattle.std.specs.Prelude.{◌≡◌, ◌≤◌, ◌<◌, ◌+◌, ◌^◌, ◌∷◌, [], length, IfOk};
 ghost use Rattle.cf_chain.specs.Good.{max_height};
 ghost use Rattle.cf_make.specs.Made.{seed_limit, mark_of, coinbase_of, second_of, seconds_of, made_txs};
 
 use crate::paying::pay;
-use cf_block::{Listed, OutPoint, Script, Tx, TxIn, TxIns, TxOuts, Txs, merkle_root, txids};
+use cf_block::{Listed, OutPoint, Script, Tx, TxIn, TxIns, TxOuts, Txs};
 use cf_bytes::{Hash32, NoMemory};
 use std::alloc::Global;
 
@@ -103,13 +101,4 @@ pub(crate) fn make_txs(
         }
         None => Ok(txs),
     }
-}
-
-// The root of the tree over the transactions' hashes.
-pub(crate) fn root_of(alloc: Global, txs: &[Tx]) -> Result<Hash32, NoMemory>
-    requires { 0 < length txs.now }
-    ensures { IfOk result (λ r. r.0 ≡ merkle_root_of (txids_of (map tx_spelling txs.now))) }
-{
-    let mut level = txids(alloc, txs)?.into_vec();
-    Ok(merkle_root(level.as_mut_slice()))
 }

@@ -1,97 +1,15 @@
 //! The records of a made chain, made a block at a time.
-ghost use Rattle.std.specs.Prelude.{◌≡◌, ◌≤◌, ◌<◌, ◌++◌, Some, IfOk, IfErr, OnOk, length, map};
-ghost use Rattle.cf_block.specs.Tx.{tx_spelling};
-ghost use Rattle.cf_block.specs.Merkle.{merkle_root_of, txids as txids_of};
+ghost use Rattle.std.specs.Prelude.{◌≡◌, ◌≤◌, ◌<◌, ◌++◌, IfOk, IfErr, OnOk};
 ghost use Rattle.cf_chain.specs.Good.{max_height};
-ghost use Rattle.cf_make.specs.Made.{seed_limit, first_coin, genesis_tip};
+ghost use Rattle.cf_make.specs.Made.{seed_limit, genesis_tip};
 ghost use Rattle.cf_make.specs.Records.{made_record};
-ghost use Rattle.cf_make.specs.Streamed.{MinesHashed, MakesTipped, AreRecordsOf, StopsFor};
+ghost use Rattle.cf_make.specs.Streamed.{AreRecordsOf, StopsFor};
 
-use crate::making::{AtHeight, TRIES, Tip, unmined};
-use crate::mining::NoNonce;
-use crate::spending::make_txs;
+use crate::tipped::{AtHeight, Tip, make_tipped};
 use crate::witnessing::put_text;
-use cf_block::{Block, Header, OutPoint, Tx, block_hash, genesis_header, merkle_root, txids};
-use cf_bytes::{Hash32, MAGIC, NoMemory, Refused};
-use cf_headers::meets_target;
+use cf_block::{Block, block_hash, genesis_header};
+use cf_bytes::{MAGIC, NoMemory, Refused};
 use std::alloc::Global;
-
-// A mined header and its hash.
-#[derive(Clone, Copy)]
-pub(crate) struct Hashed {
-    pub(crate) header: Header,
-    pub(crate) hash: Hash32,
-}
-
-// What a header and the block above need of a block's transactions: their root, and the first output of the first.
-#[derive(Clone, Copy)]
-pub(crate) struct Named {
-    pub(crate) root: Hash32,
-    pub(crate) coin: OutPoint,
-}
-
-// A made block, and what the block above needs of it.
-#[derive(Drop)]
-pub(crate) struct Tipped {
-    pub(crate) block: Block,
-    pub(crate) tip: Tip,
-}
-
-// The header with the least nonce from 0 whose hash meets the target, with that hash.
-fn mine_hashed(header: &Header, tries: u32) -> Result<Hashed, NoNonce>
-    ensures { MinesHashed header.now tries result }
-{
-    for nonce in 0..tries {
-        let mined = Header { nonce, ..*header };
-        let hash = block_hash(&mined);
-        if meets_target(&hash) {
-            return Ok(Hashed {
-                header: mined,
-                hash,
-            });
-        }
-    }
-    Err(NoNonce)
-}
-
-// The transactions' root and their first coin; each is hashed once.
-fn name_txs(alloc: Global, txs: &[Tx]) -> Result<Named, NoMemory>
-    requires { 0 < length txs.now }
-    ensures root { IfOk result (λ n. n.root.0 ≡ merkle_root_of (txids_of (map tx_spelling txs.now))) }
-    ensures coin { IfOk result (λ n. Some n.coin ≡ first_coin txs.now) }
-{
-    let mut ids = txids(alloc, txs)?.into_vec();
-    let txid = ids[0];
-    let root = merkle_root(ids.as_mut_slice());
-    Ok(Named {
-        root,
-        coin: OutPoint { txid, index: 0 },
-    })
-}
-
-// The block that the seed tells at a height, above the tip.
-fn make_tipped(alloc: Global, seed: u64, height: u32, tip: Tip) -> Result<Tipped, Refused<AtHeight>>
-    requires seeds { seed < seed_limit }
-    requires heights { height ≤ max_height }
-    ensures { MakesTipped seed height tip result }
-{
-    let txs = make_txs(alloc, seed, height, tip.coin)?;
-    let named = name_txs(alloc, txs.as_slice())?;
-    let header = unmined(height, tip.hash, named.root);
-    match mine_hashed(&header, TRIES) {
-        Ok(mined) => Ok(Tipped {
-            block: Block {
-                header: mined.header,
-                txs,
-            },
-            tip: Tip {
-                hash: mined.hash,
-                coin: Some(named.coin),
-            },
-        }),
-        Err(cause) => Err(Refused::No(AtHeight { height, cause })),
-    }
-}
 
 // Puts a block's record at the end, with its coinbase's witness or without. The buffer is spent.
 #[tactic(auto, unfolding(crate::specs::Records::made_record))]

@@ -1,5 +1,6 @@
 -- Scripts, one at a time.
 use Rattle.std.proofs.Common.{◌≡◌, ℕ, ◌+◌, ◌<◌, List, [], ◌∷◌, ◌++◌, length, get_or, take, drop, refl, add-one, Option, Some, None, ap, ◌∙◌, sym, append_assoc, append-nil, length-append, arith}
+use Rattle.std.proofs.Math.Bool.{or_assoc, or_comm}
 use Rattle.std.proofs.Math.Seq.{drop-cons}
 use Rattle.std.proofs.lemmas.List.{take_more}
 use Rattle.std.proofs.Common.{Bool, true, false}
@@ -24,16 +25,8 @@ fault_more xs i d lt = rw (add-one, drop-cons xs i d) refl
 pub fault_ends : (before : List (List ℕ)) → first_fault before [] ≡ None
 fault_ends before = refl
 
-or_turns : (a b : Bool) → (a || b) ≡ (b || a)
-or_turns true true = refl
-or_turns true false = refl
-or_turns false true = refl
-or_turns false false = refl
-
 or_joins : (a b c : Bool) → (a || (b || c)) ≡ (b || (a || c))
-or_joins true true c = refl
-or_joins true false c = refl
-or_joins false b c = refl
+or_joins a b c = sym (or_assoc a b c) ∙ ap (λ x. x || c) (or_comm a b) ∙ or_assoc b a c
 
 or_same : (a b : Bool) → (a || b) ≡ (a || (a || b))
 or_same true b = refl
@@ -63,7 +56,7 @@ agree_more watch old new key script put is h q =
     ap (list_any (λ (x : Vec ℕ Global). is_eq (slice_cmp nat_cmp q x.items))) put
     ∙ any-insert_key (λ (x : Vec ℕ Global). x.items) q old.keys key
     ∙ ap (λ b. is_eq (slice_cmp nat_cmp q key.items) || b) (h q)
-    ∙ or_turns (is_eq (slice_cmp nat_cmp q key.items)) (list_any (pointwise nat_eq q) watch)
+    ∙ or_comm (is_eq (slice_cmp nat_cmp q key.items)) (list_any (pointwise nat_eq q) watch)
     ∙ ap (λ s. list_any (pointwise nat_eq q) watch || is_eq (slice_cmp nat_cmp q s)) is
     ∙ ap (λ b. list_any (pointwise nat_eq q) watch || b) (sym (texts_ties q script))
     ∙ at watch
@@ -73,7 +66,7 @@ agree_more watch old new key script put is h q =
     assoc false b c = refl
 
     at : (xs : List (List ℕ)) → (list_any (pointwise nat_eq q) xs || pointwise nat_eq q script) ≡ list_any (pointwise nat_eq q) (xs ++ script ∷ [])
-    at [] = or_turns false (pointwise nat_eq q script)
+    at [] = or_comm false (pointwise nat_eq q script)
     at (x ∷ xs) = assoc (pointwise nat_eq q x) (list_any (pointwise nat_eq q) xs) (pointwise nat_eq q script) ∙ ap (λ b. pointwise nat_eq q x || b) (at xs)
 
 pub none_later : (k : Option WatchKind) (n : ℕ) (later : Option WatchFault) → or_later k n later ≡ None → (k ≡ None) × (later ≡ None)

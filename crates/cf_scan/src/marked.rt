@@ -51,6 +51,7 @@ impl MarkedCoins {
     }
 
     /// Puts a coin in, in the place of one that stands there.
+    #[tactic(auto, using(crate::proofs::Standing::balance_small))]
     pub(crate) fn put(&mut self, p: OutPoint, value: u64) -> Result<(), NoMemory>
         ensures ok { OnOk result (coins_in self.new ≡ insert (coins_in self.old) p value) }
         ensures err { OnErr result (coins_in self.new ≡ coins_in self.old) }
@@ -77,6 +78,7 @@ impl MarkedCoins {
     }
 
     /// Puts a coin back at an outpoint that has an entry. It takes no memory.
+    #[tactic(auto, using(crate::proofs::Standing::balance_small))]
     pub(crate) fn put_back(&mut self, p: &OutPoint, value: u64)
         requires { knows self.old p.now ≡ true }
         ensures after { coins_in self.new ≡ insert (coins_in self.old) p.now value }

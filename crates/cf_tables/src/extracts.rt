@@ -1,4 +1,6 @@
 //! The extracts of the blocks that were fetched.
+#![tactic(auto, unfolding(crate::specs::Extracts::table_in))]
+
 ghost use Rattle.std.specs.Prelude.{◌≡◌, ◌∷◌, [], ℕ, List, None, is_some, unwrap_or, fold, IfOk, OnOk, OnErr};
 ghost use Rattle.cf_scan.specs.Book.{Stands};
 ghost use Rattle.cf_scan.specs.Extracts.{after_placed};
@@ -20,7 +22,6 @@ pub struct Extracts {
 
 impl Extracts {
     /// No extract; it takes no memory.
-    #[tactic(auto, unfolding(crate::specs::Extracts::table_in))]
     pub fn new(alloc: Global) -> Extracts
         ensures { (hash : List ℕ) → table_in result hash ≡ None }
     {
@@ -30,7 +31,6 @@ impl Extracts {
     }
 
     /// Whether the extract of the block with this hash is there.
-    #[tactic(auto, unfolding(crate::specs::Extracts::table_in))]
     pub fn has(&self, hash: &Hash32) -> bool
         ensures { result ≡ is_some (table_in self.now hash.now.0) }
     {
@@ -57,7 +57,6 @@ impl Extracts {
     }
 
     // Keeps an extract, in the place of one that stands.
-    #[tactic(auto, unfolding(crate::specs::Extracts::table_in))]
     fn insert(&mut self, hash: Hash32, extract: Extract) -> Result<(), NoMemory>
         ensures ok { OnOk result (IsSameTable (table_in self.new) (put_extract hash.0 extract (table_in self.old))) }
         ensures err { OnErr result (IsSameTable (table_in self.new) (table_in self.old)) }
@@ -67,7 +66,6 @@ impl Extracts {
     }
 
     /// A block more in a book, with its extract where it is there, and else with none.
-    #[tactic(auto, unfolding(crate::specs::Extracts::table_in))]
     pub fn tell(
         &self,
         alloc: Global,
@@ -86,7 +84,6 @@ impl Extracts {
     }
 
     /// The history with the extract of the block at this height, where it is there.
-    #[tactic(auto, unfolding(crate::specs::Extracts::table_in))]
     pub fn add_to(&self, ledger: Ledger, height: u32, hash: &Hash32) -> Result<Ledger, NoMemory>
         ensures { IfOk result (λ l. l ≡ fold after_placed ledger (placed_one height (table_in self.now hash.now.0))) }
     {

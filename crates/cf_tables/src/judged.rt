@@ -1,4 +1,6 @@
 //! The verdicts on the filters that came.
+#![tactic(auto, unfolding(crate::specs::Judged::verdicts_in))]
+
 ghost use Rattle.std.specs.Prelude.{◌≡◌, ℕ, List, map, None, IfOk, OnOk, OnErr};
 ghost use Rattle.cf_match.specs.Verdicts.{AreSameVerdicts, verdict_of, with_verdicts};
 ghost use Rattle.cf_tables.specs.Held.{CountsVerdicts};
@@ -27,7 +29,6 @@ pub struct Judged {
 
 impl Judged {
     /// No verdict; it takes no memory.
-    #[tactic(auto, unfolding(crate::specs::Judged::verdicts_in))]
     pub fn new(alloc: Global) -> Judged
         ensures { (block filter : List ℕ) → verdicts_in result block filter ≡ None }
     {
@@ -37,7 +38,6 @@ impl Judged {
     }
 
     /// The verdict on a filter.
-    #[tactic(auto, unfolding(crate::specs::Judged::verdicts_in))]
     pub fn get(&self, block: &Hash32, filter: &Hash32) -> Option<Verdict>
         ensures { result ≡ verdicts_in self.now block.now.0 filter.now.0 }
     {
@@ -90,7 +90,6 @@ impl Judged {
     }
 
     // Keeps a verdict, in the place of one that stands.
-    #[tactic(auto, unfolding(crate::specs::Judged::verdicts_in))]
     fn insert(&mut self, block: Hash32, filter: Hash32, verdict: Verdict) -> Result<(), NoMemory>
         ensures ok { OnOk result
             (AreSameVerdicts (verdicts_in self.new) (put_one block.0 filter.0 verdict (verdicts_in self.old))) }

@@ -108,10 +108,7 @@ pub fn is_done(kind: Kind) -> bool
     ensures yes { result ≡ true → kind ≡ Done }
     ensures no { result ≡ false → kind ≢ Done }
 {
-    match kind {
-        Kind::Done => true,
-        _ => false,
-    }
+    matches!(kind, Kind::Done)
 }
 
 /// Whether a filter is to be asked for.
@@ -119,10 +116,7 @@ pub fn is_unjudged(kind: Kind) -> bool
     ensures yes { result ≡ true → kind ≡ Unjudged }
     ensures no { result ≡ false → kind ≢ Unjudged }
 {
-    match kind {
-        Kind::Unjudged => true,
-        _ => false,
-    }
+    matches!(kind, Kind::Unjudged)
 }
 
 /// Whether different things are claimed of a block.

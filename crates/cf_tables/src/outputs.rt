@@ -1,4 +1,6 @@
 //! What the outputs of fetched blocks pay.
+#![tactic(auto, unfolding(crate::specs::Outputs::outputs_in))]
+
 ghost use Rattle.std.specs.Prelude.{◌≡◌, ℕ, List, None, is_some, IfOk, OnOk, OnErr};
 ghost use Rattle.cf_tables.specs.Held.{CountsOutputs};
 ghost use Rattle.cf_tables.specs.Outputs.{lacks_kept, outputs_in, put_outputs, set_outputs};
@@ -16,7 +18,6 @@ pub struct Outputs {
 
 impl Outputs {
     /// Nothing is kept; it takes no memory.
-    #[tactic(auto, unfolding(crate::specs::Outputs::outputs_in))]
     pub fn new(alloc: Global) -> Outputs
         ensures { (hash : List ℕ) → outputs_in result hash ≡ None }
     {
@@ -47,7 +48,6 @@ impl Outputs {
     }
 
     // Whether the items of the block with this hash are there.
-    #[tactic(auto, unfolding(crate::specs::Outputs::outputs_in))]
     fn has(&self, hash: &Hash32) -> bool
         ensures { result ≡ is_some (outputs_in self.now hash.now.0) }
     {
@@ -55,7 +55,6 @@ impl Outputs {
     }
 
     // Keeps items, in the place of those that stand.
-    #[tactic(auto, unfolding(crate::specs::Outputs::outputs_in))]
     fn insert(&mut self, hash: Hash32, items: Items) -> Result<(), NoMemory>
         ensures ok { OnOk result ((at : List ℕ)
             → outputs_in self.new at ≡ set_outputs hash.0 items (outputs_in self.old) at) }
@@ -67,7 +66,6 @@ impl Outputs {
 
     /// Whether bytes are no filter, or one that lacks the value of an item of this block's outputs. Of a block of which
     /// nothing is kept it isn't known, and they lack nothing.
-    #[tactic(auto, unfolding(crate::specs::Outputs::outputs_in))]
     pub fn lacks(&self, alloc: Global, block: &Hash32, filter: &[u8]) -> Result<bool, NoMemory>
         ensures { IfOk result (λ b. b ≡ lacks_kept block.now.0 filter.now (outputs_in self.now block.now.0)) }
     {

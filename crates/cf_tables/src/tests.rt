@@ -1,4 +1,6 @@
 //! What was found of filters that were tested.
+#![tactic(auto, unfolding(crate::specs::Tests::told_in))]
+
 ghost use Rattle.std.specs.Prelude.{◌≡◌, ℕ, List, None, is_some, OnOk, OnErr};
 ghost use Rattle.cf_tables.specs.Tests.{IsSameTold, found_too as is_found_too, set_test, told_in, with_test};
 
@@ -15,7 +17,6 @@ pub struct Tests {
 
 impl Tests {
     /// No test; it takes no memory.
-    #[tactic(auto, unfolding(crate::specs::Tests::told_in))]
     pub fn new(alloc: Global) -> Tests
         ensures { (block filter : List ℕ) → told_in result block filter ≡ None }
     {
@@ -25,7 +26,6 @@ impl Tests {
     }
 
     /// What was found of a filter, if it was tested.
-    #[tactic(auto, unfolding(crate::specs::Tests::told_in))]
     pub fn get(&self, block: &Hash32, filter: &Hash32) -> Option<bool>
         ensures { result ≡ told_in self.now block.now.0 filter.now.0 }
     {
@@ -38,7 +38,6 @@ impl Tests {
     }
 
     /// Whether the filter was tested.
-    #[tactic(auto, unfolding(crate::specs::Tests::told_in))]
     pub fn has(&self, block: &Hash32, filter: &Hash32) -> bool
         ensures { result ≡ is_some (told_in self.now block.now.0 filter.now.0) }
     {
@@ -71,7 +70,6 @@ impl Tests {
     }
 
     // Keeps what was found, in the place of what stands.
-    #[tactic(auto, unfolding(crate::specs::Tests::told_in))]
     fn insert(&mut self, block: Hash32, filter: Hash32, lacks: bool) -> Result<(), NoMemory>
         ensures ok { OnOk result (IsSameTold (told_in self.new) (set_test block.0 filter.0 lacks (told_in self.old))) }
         ensures err { OnErr result (IsSameTold (told_in self.new) (told_in self.old)) }

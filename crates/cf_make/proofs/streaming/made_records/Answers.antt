@@ -1,7 +1,8 @@
 use Rattle.std.proofs.Common.{ℕ, List, ◌+◌, Err, sym, ◌∙◌, ap, subst, arith}
 use Rattle.std.proofs.lemmas.Result.{err_from_is_err_and}
 use Rattle.cf_make.specs.Made.{IsMadeBlock}
-use Rattle.cf_make.specs.Streamed.{AreRecordsTo, MakesTipped}
+use Rattle.cf_make.specs.Streamed.{AreRecordsTo}
+use Rattle.cf_make.specs.Tipping.{MakesTipped}
 use Rattle.cf_make.proofs.StreamLemmas.{record_more, stops_for}
 use Rattle.cf_make.proofs.streaming.made_records.Goals as goal
 

@@ -3,7 +3,7 @@ use Rattle.cf_bytes.specs.declared.hash.Hash32.{Hash32}
 use Rattle.cf_block.specs.Merkle.{merkle_root_of}
 use Rattle.cf_block.specs.Views.{bytes_of}
 use Rattle.cf_block.proofs.CommitLemmas.{ids_are}
-use Rattle.cf_make.proofs.streaming.name_txs.Goals as goal
+use Rattle.cf_make.proofs.tipped.name_txs.Goals as goal
 
 pub returns-clause-root : goal.returns-clause-root
 returns-clause-root c =

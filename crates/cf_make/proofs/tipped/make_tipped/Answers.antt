@@ -4,7 +4,7 @@ use Rattle.cf_make.specs.Mined.{IsMined, NoneMeets}
 use Rattle.cf_make.specs.Made.{first_coin, max_tries}
 use Rattle.cf_make.proofs.Blocks.{header_is}
 use Rattle.cf_make.proofs.StreamLemmas.{tip_is}
-use Rattle.cf_make.proofs.streaming.make_tipped.Goals as goal
+use Rattle.cf_make.proofs.tipped.make_tipped.Goals as goal
 
 pub returns-in-Ok : goal.returns-in-Ok
 returns-in-Ok c =
