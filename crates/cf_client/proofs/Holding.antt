@@ -31,14 +31,14 @@ use Rattle.cf_peer.specs.Held.{count_came}
 use Rattle.cf_peer.specs.Peer.{aged, request_of}
 use Rattle.cf_peer.specs.Trail.{Trail, Part, Called, Said, Refused, Asked, Passed, Lost, part_of, trail, connected, ready, own}
 use Rattle.cf_peer.specs.Asking.{OpenRequest, NothingOpen, HeadersOpen, ClaimsOpen, FiltersOpen, BlockOpen, PingOpen, is_answer_of, is_wanted, blocks_from, claims_asked, filters_asked, filters_left, filter_of, request, request_for, request_after, age, claims, claims_after, verdict, counted, fetched, given, MayAskIn}
-use Rattle.cf_sync.specs.Fetching.{RightlyIn, HoldsFetched}
+use Rattle.cf_sync.specs.Fetching.{RightlyIn, HoldsFetched, IsFetchedHash}
 use Rattle.cf_sync.specs.Honesty.{was_called}
 use Rattle.cf_sync.specs.Kept.{HoldsOutputs}
 use Rattle.cf_sync.specs.Known.{HoldsClaims, HoldsGiven, claims_kept}
 use Rattle.cf_sync.proofs.Answered.{given_wide}
 use Rattle.cf_sync.proofs.Listed.{in_left, in_right}
 use Rattle.cf_sync.proofs.Remembers.{AskedRightlyIn, asked_rightly_in}
-use Rattle.cf_tables.specs.Held.{CountsBlocks, CountsOutputs, CountsVerdicts}
+use Rattle.cf_tables.specs.Held.{CountsBlocks, CountsKept, CountsOutputs, CountsVerdicts}
 use Rattle.cf_wires.specs.Log.{Log, tally_of}
 use Rattle.cf_client.specs.declared.held.Held.{Held}
 use Rattle.cf_place.specs.declared.place.Place.{Place}
@@ -93,68 +93,51 @@ in_all {A} f places log stand none p x i = elim (cases_lt p ((tally_of log).dial
 
 -- ---- of a peer that was never dialled nothing counts
 
-off_uncalled : (t : Trail) → was_called t ≡ false → connected t ≡ false
-off_uncalled [] e = refl
-off_uncalled (Called ∷ t) e = e
-off_uncalled (Said m ∷ t) e = off_uncalled t e
-off_uncalled (Refused c ∷ t) e = off_uncalled t e
-off_uncalled (Asked m ∷ t) e = off_uncalled t e
-off_uncalled (Passed s ∷ t) e = off_uncalled t e
-off_uncalled (Lost w ∷ t) e = refl
+-- it isn't connected, and no block nor filter of it counts
+abbrev HasNothing : Trail → Type 0
+HasNothing t = (connected t ≡ false) × (blocks_fetched t ≡ []) × (filters_given t ≡ [])
 
-not_counted : (m : Msg) (t : Trail) → was_called t ≡ false → counted (Said m ∷ t) ≡ counted t
-not_counted m t e =
-    ap (λ (b : Bool). if b && is_none (verdict (Said m ∷ t)) then Said m ∷ counted t else counted t) (off_uncalled t e)
-
-no_blocks : (t : Trail) → was_called t ≡ false → blocks_fetched t ≡ []
-no_blocks [] e = refl
-no_blocks (Called ∷ t) e = cc e
-no_blocks (Said m ∷ t) e = ap fetched (not_counted m t e) ∙ no_blocks t e
-no_blocks (Refused c ∷ t) e = no_blocks t e
-no_blocks (Asked m ∷ t) e = no_blocks t e
-no_blocks (Passed s ∷ t) e = no_blocks t e
-no_blocks (Lost w ∷ t) e = no_blocks t e
-
-no_filters : (t : Trail) → was_called t ≡ false → filters_given t ≡ []
-no_filters [] e = refl
-no_filters (Called ∷ t) e = cc e
-no_filters (Said m ∷ t) e = ap given (not_counted m t e) ∙ no_filters t e
-no_filters (Refused c ∷ t) e = no_filters t e
-no_filters (Asked m ∷ t) e = no_filters t e
-no_filters (Passed s ∷ t) e = no_filters t e
-no_filters (Lost w ∷ t) e = no_filters t e
+uncalled : (t : Trail) → was_called t ≡ false → HasNothing t
+uncalled [] e = (refl, refl, refl)
+uncalled (Called ∷ t) e = cc e
+uncalled (Said m ∷ t) e =
+    let none = uncalled t e in
+    let same = ap (λ (b : Bool). if b && is_none (verdict (Said m ∷ t)) then Said m ∷ counted t else counted t) none.0 in
+    (none.0, ap fetched same ∙ none.1, ap given same ∙ none.2)
+uncalled (Refused c ∷ t) e = uncalled t e
+uncalled (Asked m ∷ t) e = uncalled t e
+uncalled (Passed s ∷ t) e = uncalled t e
+uncalled (Lost w ∷ t) e = (refl, (uncalled t e).1, (uncalled t e).2)
 
 -- ---- extracts and verdicts
 
 hash_of_block : Block → Hash
 hash_of_block b = block_hash_of b.header
 
-pub few_extracts : (places : List Place) (s : Seen) (log : Log) (n : ℕ) → PlacesStand places log → HoldsFetched s.watch log s.table → CountsBlocks s.table n → n ≤ length (of_all blocks_fetched log)
+-- what is kept of blocks that were fetched
+few_kept : {A : Type 0} (places : List Place) (log : Log) (kept : Hash → Option A) (n : ℕ) → PlacesStand places log
+    → ((hash : Hash) (x : A) → kept hash ≡ Some x → IsFetchedHash log hash) → CountsKept kept n
+    → n ≤ length (of_all blocks_fetched log)
 unfolding hash_of_block
-few_extracts places s log n stand holds c =
+few_kept places log kept n stand from c =
     let blocks = of_all blocks_fetched log in
     let less = fewer c.blocks (map hash_of_block blocks) c.apart (λ hash i.
-    let e = some_is (s.table hash) (c.kept hash i) in
-    let w = holds.sound hash e.0 e.1 in
-    let there : IsIn w.0 blocks = in_all blocks_fetched places log stand no_blocks w.1.0 w.0 w.1.1 in
+    let e = some_is (kept hash) (c.kept hash i) in
+    let w = from hash e.0 e.1 in
+    let there : IsIn w.0 blocks = in_all blocks_fetched places log stand (λ t none. (uncalled t none).1) w.1.0 w.0 w.1.1 in
     subst (λ (h : Hash). IsIn h (map hash_of_block blocks)) w.2 (in_map hash_of_block w.0 blocks there)) in
     let as_many = length-map blocks hash_of_block in
     let many = c.many in
     omega (arith, less, as_many, many)
 
+pub few_extracts : (places : List Place) (s : Seen) (log : Log) (n : ℕ) → PlacesStand places log → HoldsFetched s.watch log s.table → CountsBlocks s.table n → n ≤ length (of_all blocks_fetched log)
+few_extracts places s log n stand holds c =
+    few_kept places log s.table n stand (λ hash x e. let w = holds.sound hash x e in (w.0, w.1, w.2)) c
+
 pub few_outputs : (places : List Place) (s : Seen) (log : Log) (n : ℕ) → PlacesStand places log
     → HoldsOutputs log s.trials.paid → CountsOutputs s.trials.paid n → n ≤ length (of_all blocks_fetched log)
-unfolding hash_of_block
 few_outputs places s log n stand holds c =
-    let blocks = of_all blocks_fetched log in
-    let less = fewer c.blocks (map hash_of_block blocks) c.apart (λ hash i.
-    let e = some_is (s.trials.paid hash) (c.kept hash i) in
-    let w = holds.sound hash e.0 e.1 in
-    let there : IsIn w.0 blocks = in_all blocks_fetched places log stand no_blocks w.1.0 w.0 w.1.1 in
-    subst (λ (h : Hash). IsIn h (map hash_of_block blocks)) w.2 (in_map hash_of_block w.0 blocks there)) in
-    let as_many = length-map blocks hash_of_block in
-    let many = c.many in
-    omega (arith, less, as_many, many)
+    few_kept places log s.trials.paid n stand (λ hash x e. let w = holds.sound hash x e in (w.0, w.1, w.2)) c
 
 abbrev named : Hash → Hash → Hash × Hash
 named block hash = (block, hash)
@@ -169,7 +152,7 @@ few_verdicts places s log n stand holds c =
     let e = some_is (s.verdicts f.0 f.1) (c.kept f i) in
     let w = holds.sound f.0 f.1 e.0 e.1 in
     let whose = given_wide log w.0 w.1 in
-    let there : IsIn w.0 jobs = in_all filters_given places log stand no_filters whose.0 w.0 whose.1 in
+    let there : IsIn w.0 jobs = in_all filters_given places log stand (λ t none. (uncalled t none).2) whose.0 w.0 whose.1 in
     let is : name_of w.0 ≡ f = ap (λ (h : Hash). named h (filter_hash_of w.0.filter)) w.2 ∙ ap (λ (h : Hash). named f.0 h) w.3 in
     subst (λ (x : Hash × Hash). IsIn x (map name_of jobs)) is (in_map name_of w.0 jobs there)) in
     let as_many = length-map jobs name_of in
@@ -297,7 +280,7 @@ rows_short t = by (connected t) where
   by false = omega arith
 
 no_rows : (t : Trail) → was_called t ≡ false → rows_kept t ≡ []
-no_rows t e = ap (λ (b : Bool). rows_if b t) (off_uncalled t e)
+no_rows t e = ap (λ (b : Bool). rows_if b t) (uncalled t e).0
 
 kept_made : (t : Trail) (block : Hash) (claim : Claim) → claims_kept t block ≡ Some claim → IsIn (row block claim) (rows_kept t)
 kept_made t block claim e = by (connected t) e where

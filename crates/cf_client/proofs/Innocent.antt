@@ -12,6 +12,7 @@ use Rattle.cf_wires.specs.Log.{Log}
 use Rattle.cf_peer.specs.Trail.{Trail, Part, part_of, connected, ready, failed}
 use Rattle.cf_peer.specs.Asking.{OpenRequest, NothingOpen, HeadersOpen, ClaimsOpen, FiltersOpen, BlockOpen, PingOpen, request, is_idle as idle_request, is_open, age, Deserves}
 use Rattle.cf_peer.specs.Peer.{Holds, aged, age_in, calm}
+use Rattle.cf_sync.proofs.Omitted.{off_unfailed}
 use Rattle.cf_client.specs.declared.client.Client.{Client}
 use Rattle.cf_place.specs.declared.place.Place.{Place}
 use Rattle.cf_place.specs.declared.place.Place.TheVariants.{Here, Lost as LostPlace}
@@ -19,7 +20,6 @@ use Rattle.cf_place.specs.Places.{Fits, place_at, is_settled, is_calm, is_wantin
 use Rattle.cf_place.specs.Standing.{IsAnswered}
 use Rattle.cf_client.specs.Stands.{Reflects}
 use Rattle.cf_client.specs.Blameless.{IsInnocent, AreAnswered}
-use Rattle.cf_client.proofs.Losing.{none_failed}
 
 -- what is open has the age that is kept with it
 aged_is : (r : OpenRequest) (n : ℕ) → idle_request r ≡ false → age_in (aged r n) ≡ n
@@ -47,7 +47,7 @@ calm_young n is le = absurd (grind (arith, nat_tests, is, le))
 
 peer_innocent : (peer : Peer) (t : Trail) (cause : Cause) → Holds peer t → calm peer ≡ true → Deserves t cause → ⊥
 peer_innocent peer t cause h is (inl words) = (let e : None ≡ Some cause = sym h.clean ∙ words.1 in cc)
-peer_innocent peer t cause h is (inr (inl fault)) = both_ways (failed t) (none_failed t h.on) fault.1
+peer_innocent peer t cause h is (inr (inl fault)) = both_ways (failed t) (off_unfailed t h.on) fault.1
 peer_innocent peer t cause h is (inr (inr late)) = calm_young (age_in peer.request) is (omega (arith, age_kept peer t h late.1, late.2))
 
 pub settled_calm : (mode : Mode) (place : Place) → is_settled mode place ≡ true → is_calm place ≡ true

@@ -1,25 +1,16 @@
 -- How a peer was lost, and what leaves that as it was.
 use Rattle.std.proofs.Common.{◌≡◌, inl, inr, [], ◌∷◌, true, false, ℕ, refl, ◌∙◌}
-use Rattle.std.proofs.lemmas.Bool.{both_ways, false≢true}
+use Rattle.std.proofs.lemmas.Bool.{both_ways}
 use Rattle.cf_msg.specs.declared.msg.Msg.{Msg}
 use Rattle.cf_peer.specs.declared.peer.Cause.{Cause}
 use Rattle.cf_peer.specs.declared.peer.Cause.TheVariants.{SendFailed}
-use Rattle.cf_peer.specs.Trail.{Why, Went, Shutting, Trail, Called, Said, Refused, Asked, Passed, Lost, connected, failed}
+use Rattle.cf_peer.specs.Trail.{Why, Went, Shutting, Trail, Said, Refused, Passed, Lost, connected, failed}
 use Rattle.cf_peer.specs.Asking.{Deserves}
 use Rattle.cf_sync.specs.Honesty.{was_called}
+use Rattle.cf_sync.proofs.Omitted.{off_unfailed}
 use Rattle.cf_place.specs.declared.place.Loss.{Loss}
 use Rattle.cf_place.specs.declared.place.Loss.TheVariants.{NotDialled, Gone, Closed as ClosedFor}
 use Rattle.cf_place.specs.Standing.{FirstLost, IsGoing, IsShutFor, LostBy, IsLost}
-
--- no send to a connected peer has failed
-pub none_failed : (t : Trail) → connected t ≡ true → failed t ≡ false
-none_failed [] on = refl
-none_failed (Called ∷ t) on = refl
-none_failed (Said m ∷ t) on = none_failed t on
-none_failed (Refused c ∷ t) on = none_failed t on
-none_failed (Asked m ∷ t) on = none_failed t on
-none_failed (Passed s ∷ t) on = none_failed t on
-none_failed (Lost w ∷ t) on = absurd (false≢true on)
 
 by_on : (loss : Loss) (t u : Trail) → was_called u ≡ was_called t → failed u ≡ failed t → ((P : Why → Trail → Type 0) → FirstLost P t → FirstLost P u) → LostBy loss t → LostBy loss u
 by_on NotDialled t u called fails first by = (called ∙ by.0, fails ∙ by.1)
@@ -42,10 +33,10 @@ lost_went loss t lost = record { off = refl; by = by_on loss t (Lost Went ∷ t)
 
 -- a connected peer is lost
 pub goes_now : (t : Trail) → connected t ≡ true → IsLost Gone (Lost Went ∷ t)
-goes_now t on = record { off = refl; by = (none_failed t on, inl (on, tt)) }
+goes_now t on = record { off = refl; by = (off_unfailed t on, inl (on, tt)) }
 
 pub shut_now : (t : Trail) (cause : Cause) → connected t ≡ true → Deserves t cause → IsLost (ClosedFor cause) (Lost Shutting ∷ t)
-shut_now t cause on deserves = record { off = refl; by = inr (none_failed t on, inl (on, inr deserves)) }
+shut_now t cause on deserves = record { off = refl; by = inr (off_unfailed t on, inl (on, inr deserves)) }
 
 -- one is closed to which a send has failed
 pub cut_now : (t : Trail) → failed t ≡ true → IsLost (ClosedFor SendFailed) (Lost Shutting ∷ t)

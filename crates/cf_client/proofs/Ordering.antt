@@ -16,7 +16,7 @@ use Rattle.cf_msg.specs.declared.msg.Msg.TheVariants.{Verack, Ping, Pong, GetHea
 use Rattle.cf_peer.specs.declared.act.Act.{Act}
 use Rattle.cf_peer.specs.declared.act.Act.TheVariants.{Send, Close}
 use Rattle.cf_peer.specs.declared.peer.Cause.{Cause}
-use Rattle.cf_peer.specs.declared.peer.Cause.TheVariants.{Overdue}
+use Rattle.cf_peer.specs.declared.peer.Cause.TheVariants.{Overdue, Omits}
 use Rattle.cf_peer.specs.Asking.{is_ping, is_request}
 use Rattle.cf_peer.specs.Hearing.{IsReply}
 use Rattle.cf_place.specs.declared.place.Place.{Place}
@@ -201,28 +201,32 @@ closes_next i before acts now so_far (inr added) =
 pub told_none : (acts : List Act) → acts ≡ [] → AreTold acts
 told_none acts none = subst AreTold (sym none) (record { replies = tt; owed = refl; closed = rising_none })
 
-closed_shut : (ns : List ℕ) → closed_in (map shut ns) ≡ ns
-closed_shut [] = refl
-closed_shut (n ∷ ns) = ap (λ (xs : List ℕ). n ∷ xs) (closed_shut ns)
+-- the close of a peer for a cause, by its number
+abbrev shut_for : Cause → ℕ → Act
+shut_for cause p = Close (record { 0 = p }) cause
 
-no_asking_shut : (ns : List ℕ) → list_any is_asking (map shut ns) ≡ false
-no_asking_shut [] = refl
-no_asking_shut (n ∷ ns) = no_asking_shut ns
+closed_shut : (cause : Cause) (ns : List ℕ) → closed_in (map (shut_for cause) ns) ≡ ns
+closed_shut cause [] = refl
+closed_shut cause (n ∷ ns) = ap (λ (xs : List ℕ). n ∷ xs) (closed_shut cause ns)
 
-all_closing : (ns : List ℕ) → list_all is_closing (map shut ns) ≡ true
-all_closing [] = refl
-all_closing (n ∷ ns) = all_closing ns
+no_asking_shut : (cause : Cause) (ns : List ℕ) → list_any is_asking (map (shut_for cause) ns) ≡ false
+no_asking_shut cause [] = refl
+no_asking_shut cause (n ∷ ns) = no_asking_shut cause ns
 
-no_sends : (ns : List ℕ) → SendsFirst (map shut ns)
-no_sends [] = tt
-no_sends (n ∷ ns) = all_closing ns
+all_closing : (cause : Cause) (ns : List ℕ) → list_all is_closing (map (shut_for cause) ns) ≡ true
+all_closing cause [] = refl
+all_closing cause (n ∷ ns) = all_closing cause ns
+
+no_sends : (cause : Cause) (ns : List ℕ) → SendsFirst (map (shut_for cause) ns)
+no_sends cause [] = tt
+no_sends cause (n ∷ ns) = all_closing cause ns
 
 pub told_closed : (before now : List Act) → before ≡ [] → ClosesLate before now → AreTold now
 told_closed before now none closes =
     subst AreTold (sym (closes.added ∙ ap (λ (xs : List Act). xs ++ map shut closes.closed) none)) (record {
-      replies = no_sends closes.closed;
-      owed = no_asking_shut closes.closed;
-      closed = subst IsStrictlyIncreasing (sym (closed_shut closes.closed)) closes.rising;
+      replies = no_sends Overdue closes.closed;
+      owed = no_asking_shut Overdue closes.closed;
+      closed = subst IsStrictlyIncreasing (sym (closed_shut Overdue closes.closed)) closes.rising;
     })
 
 no_request : (r : Msg) → IsReply r → is_request r ≡ false
@@ -265,30 +269,13 @@ told_fault p cause rs acts are is = subst (λ (xs : List Act). AreTold (xs ++ Cl
   closed = subst IsStrictlyIncreasing (sym (closed_after p rs (Close p cause ∷ []))) (rising_one p.0);
 })
 
--- closes for what is omitted
-no_asking_shuts : (qs : List ℕ) → list_any is_asking (map shut_act qs) ≡ false
-no_asking_shuts [] = refl
-no_asking_shuts (q ∷ qs) = no_asking_shuts qs
-
-closed_shuts : (qs : List ℕ) → closed_in (map shut_act qs) ≡ qs
-closed_shuts [] = refl
-closed_shuts (q ∷ qs) = ap (λ (xs : List ℕ). q ∷ xs) (closed_shuts qs)
-
-all_closing_shuts : (qs : List ℕ) → list_all is_closing (map shut_act qs) ≡ true
-all_closing_shuts [] = refl
-all_closing_shuts (q ∷ qs) = all_closing_shuts qs
-
-no_sends_shuts : (qs : List ℕ) → SendsFirst (map shut_act qs)
-no_sends_shuts [] = tt
-no_sends_shuts (q ∷ qs) = all_closing_shuts qs
-
 -- replies, and then closes for what is omitted
 pub told_shuts : (p : PeerNo) (rs : List Msg) (qs : List ℕ) (acts : List Act) → AllByRecursion IsReply rs → IsStrictlyIncreasing qs
     → acts ≡ map (λ (m : Msg). Send p m) rs ++ map shut_act qs → AreTold acts
 told_shuts p rs qs acts are rising is = subst AreTold (sym is) (record {
-  replies = first_after p rs (map shut_act qs) (no_sends_shuts qs);
-  owed = list_any-append is_asking (sends p rs) (map shut_act qs) ∙ ap (λ (b : Bool). b || list_any is_asking (map shut_act qs)) (no_asking p rs are) ∙ no_asking_shuts qs;
-  closed = subst IsStrictlyIncreasing (sym (closed_after p rs (map shut_act qs) ∙ closed_shuts qs)) rising;
+  replies = first_after p rs (map shut_act qs) (no_sends Omits qs);
+  owed = list_any-append is_asking (sends p rs) (map shut_act qs) ∙ ap (λ (b : Bool). b || list_any is_asking (map shut_act qs)) (no_asking p rs are) ∙ no_asking_shut Omits qs;
+  closed = subst IsStrictlyIncreasing (sym (closed_after p rs (map shut_act qs) ∙ closed_shut Omits qs)) rising;
 })
 
 pub told_close : (p : PeerNo) (cause : Cause) (acts : List Act) → acts ≡ Close p cause ∷ [] → AreTold acts

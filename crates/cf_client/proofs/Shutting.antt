@@ -19,13 +19,13 @@ use Rattle.cf_sync.specs.Kept.{KeepsTrials}
 use Rattle.cf_sync.proofs.Blamed.{tested_stays}
 use Rattle.cf_sync.proofs.Grows.{fetched_stays}
 use Rattle.cf_sync.proofs.KeptAims.{trials_stay}
+use Rattle.cf_sync.proofs.Omitted.{off_unfailed}
 use Rattle.cf_place.specs.declared.place.Place.{Place}
 use Rattle.cf_place.specs.declared.place.Loss.TheVariants.{Closed as ClosedFor}
 use Rattle.cf_place.specs.Places.{Allowed, after, is_here, place_at}
 use Rattle.cf_place.specs.Standing.{IsLost, IsReplied, IsRepliedFirst, IsRepliedIn}
 use Rattle.cf_client.specs.Shutting.{IsClaimant, ShutsBelow, ShutsOne, shut_act, shut_place}
 use Rattle.cf_client.specs.Steps.{Desk}
-use Rattle.cf_client.proofs.Losing.{none_failed}
 use Rattle.cf_client.proofs.Ordering.{below_push, rising_none, rising_push, all_higher}
 use Rattle.cf_client.proofs.Settled.{set_other}
 use Rattle.cf_client.proofs.Standing.{closed_here, closed_others, omitted_acts, set_is}
@@ -215,15 +215,13 @@ omitting_on c log q same o = record {
   claimed = ap (λ (x : Part). hash_claimed (claims (counted x.trail)) o.block) same ∙ o.claimed;
   tested = record {
     filter = o.tested.filter;
-    tested = tested_stays
-        (Closed c) log o.tested.filter o.tested.tested;
+    tested = tested_stays (Closed c) log o.tested.filter o.tested.tested;
     of_block = o.tested.of_block;
     this = o.tested.this;
   };
   omits = record {
     body = o.omits.body;
-    fetched = fetched_stays
-        (Closed c) log o.omits.body o.omits.fetched;
+    fetched = fetched_stays (Closed c) log o.omits.body o.omits.fetched;
     of_block = o.omits.of_block;
     lacking = o.omits.lacking;
   };
@@ -303,4 +301,4 @@ unomitted_shuts (n ∷ qs) log q out is =
 
 -- how one that was connected is lost then
 pub shut_lost : (t : Trail) → connected t ≡ true → IsLost (ClosedFor Omits) (LostItem IsShutting ∷ t)
-shut_lost t on = record { off = refl; by = inr (none_failed t on, inl (on, inl refl)) }
+shut_lost t on = record { off = refl; by = inr (off_unfailed t on, inl (on, inl refl)) }

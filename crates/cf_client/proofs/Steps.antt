@@ -1,13 +1,16 @@
 -- How steps of the client are put together, and what each single act is as a step.
-use Rattle.std.proofs.Common.{◌≡◌, ◌≢◌, inl, inr, ℕ, ◌<◌, ◌≤◌, Bool, List, [], ◌∷◌, ◌++◌, length, get_or, set, None, true, false, refl, sym, ◌∙◌, ap, subst, arith, append_assoc}
+use Rattle.std.proofs.Common.{◌≡◌, ◌≢◌, inl, inr, ℕ, ◌<◌, ◌≤◌, Bool, List, [], ◌∷◌, ◌++◌, length, get_or, set, Some, None, true, false, refl, sym, ◌∙◌, ap, subst, arith, append_assoc}
 use Rattle.std.proofs.lemmas.Bool.{and_parts, both_ways, cases_eq}
 use Rattle.std.proofs.lemmas.List.{append-nil, length-set}
 use Rattle.std.proofs.lemmas.List.Elements.{All-push}
 use Rattle.std.specs.Prelude.{◌&&◌, is_some, not}
 use Rattle.std.specs.List.{All}
-use Rattle.cf_bytes.specs.declared.hash.Hash32.{Hash32}
+use Rattle.cf_bytes.specs.declared.peer.PeerNo.{PeerNo}
 use Rattle.cf_dispute.specs.Claims.{no_claims}
 use Rattle.cf_headers.specs.Chain.{Hash}
+use Rattle.cf_headers.specs.Heights.{common_of}
+use Rattle.cf_headers.specs.Store.{IsBest}
+use Rattle.cf_headers.proofs.Commons.{common_low}
 use Rattle.cf_msg.specs.declared.msg.Msg.{Msg}
 use Rattle.cf_msg.specs.declared.msg.Msg.TheVariants.{GetCfheaders, GetCfilters}
 use Rattle.cf_peer.specs.declared.act.Act.{Act}
@@ -18,38 +21,37 @@ use Rattle.cf_peer.specs.declared.peer.Peer.{Peer}
 use Rattle.cf_wires.specs.declared.event.Delivery.{Delivery}
 use Rattle.cf_wires.specs.declared.event.Delivery.TheVariants.{Tick}
 use Rattle.cf_wires.specs.declared.event.Event.TheVariants.{Took}
-use Rattle.cf_peer.specs.Acts.{IsDoable}
+use Rattle.cf_peer.specs.Acts.{IsDoable, IsSendable}
 use Rattle.cf_wires.specs.Log.{Log}
 use Rattle.cf_peer.specs.Peer.{IsRight, calm, heard_out, wants, is_idle_peer, asked_for_headers, asked_for_claims, asked_for_filters, asked_for_block}
 use Rattle.cf_sync.specs.Fetching.{is_after_tick}
-use Rattle.cf_seek.specs.declared.spans.Span.{Span}
 use Rattle.cf_seek.specs.declared.spans.Wish.{Wish}
-use Rattle.cf_seek.specs.declared.spans.Wish.TheVariants.{Claims, Filters, Block, Test}
-use Rattle.cf_seek.specs.declared.testing.Trial.{Trial}
+use Rattle.cf_seek.specs.declared.spans.Wish.TheVariants.{Nothing, Claims, Filters, Block, Test}
 use Rattle.cf_seek.specs.Aims.{IsAimed}
-use Rattle.cf_dispute.specs.Tables.{blocks_of}
-use Rattle.cf_seek.specs.Opening.{IsSameOpens, OpensBlock, OpensFilters}
-use Rattle.cf_seek.specs.Spans.{IsWish}
+use Rattle.cf_seek.specs.Opens.{Opens}
+use Rattle.cf_seek.specs.Opening.{IsSameElse}
+use Rattle.cf_seek.specs.Spans.{IsAskedFor, IsWish, GoesFar}
 use Rattle.cf_hear.specs.Seen.{Seen, IsSameSeen}
 use Rattle.cf_hear.specs.Tracks.{HasOpened, Tracks, IsPut}
 use Rattle.cf_hear.specs.Exposing.{IsUnexposed}
 use Rattle.cf_hear.proofs.Exposing.{unexposed_on, unexposed_put}
 use Rattle.cf_hear.proofs.Hearing.{right_same}
+use Rattle.cf_hear.proofs.Opening.{else_of}
 use Rattle.cf_hear.proofs.Tracking.{opened_self}
 use Rattle.cf_place.specs.declared.place.Place.{Place}
 use Rattle.cf_place.specs.declared.place.Place.TheVariants.{Here, Lost}
 use Rattle.cf_place.specs.declared.place.Loss.{Loss}
 use Rattle.cf_place.specs.declared.place.Loss.TheVariants.{Closed as ClosedFor}
 use Rattle.cf_place.specs.Places.{Goes, PlacesStand, after as done, nobody, is_calm, is_here, is_idle, is_settled, IsQuestion}
-use Rattle.cf_client.specs.Settled.{AreEntered, AreRight, AreSettled, IsRightAt, chain_at}
-use Rattle.cf_client.specs.Steps.{Desk, Stands, IsInOrder, IsSent, IsSentFor, Way, Same, Ticked, Taking, Extends, Moves, Asks}
+use Rattle.cf_client.specs.Settled.{AreEntered, AreRight, AreSettled, IsAskedThrough, IsRightAt, chain_at}
+use Rattle.cf_client.specs.Steps.{Desk, Stands, IsInOrder, IsSent, IsSentAsWished, Way, Same, Ticked, Taking, Extends, Moves, Asks}
 use Rattle.cf_client.proofs.Ordering.{is_question, above_asks, block_asked}
-use Rattle.cf_client.proofs.Standing.{set_is, late_goes, goes_start}
+use Rattle.cf_client.proofs.Standing.{any_default, set_is, late_goes, goes_start}
 use Rattle.cf_client.proofs.Naming.{blameless_seen}
-use Rattle.cf_client.proofs.Settled.{set_each, set_other, settled_off, heard_by}
+use Rattle.cf_client.proofs.Settled.{asked_busy, set_each, set_other, settled_off, heard_by, through_best, through_wish}
 use Rattle.cf_client.proofs.Rights.{right_of, right_set, claims_right, filters_right}
 use Rattle.cf_client.proofs.Best.{Furthest, Tries, rule_in}
-use Rattle.cf_client.proofs.Acting.{range_in, closed_tracks, headers_goes, claims_goes, filters_goes, block_goes, headers_tracks, claims_tracks, filters_tracks, block_tracks, test_goes, test_tracks, seen_same}
+use Rattle.cf_client.proofs.Acting.{aims_stay, range_in, closed_tracks, headers_goes, claims_goes, filters_goes, block_goes, headers_tracks, claims_tracks, filters_tracks, block_tracks, test_goes, test_tracks, same_is, seen_same}
 
 -- ---- steps, put together
 
@@ -241,6 +243,15 @@ question_asks mode d i peer m lt order here wanted question =
     (λ log stood. headers_goes d.places d.acts log d.seen i peer m lt stood.goes here wanted stood.tracks question)
     (λ log stood. headers_tracks d.places d.acts log d.seen i peer m stood.goes here (and_parts (not (heard_out mode peer)) (is_idle_peer peer) wanted).1 question stood.tracks)
 
+-- so the peer at a place was sent a message
+pub sent_is : {m : Msg} {change : Peer → Peer} {now : List Place} {acts more : List Act} (places : List Place) (i : ℕ)
+    (found : Place) (peer : Peer) → i < length places → get_or places i found ≡ Here peer
+    → is_idle (get_or places i nobody) ≡ true → IsSendable m → now ≡ set places i (Here (change peer))
+    → more ≡ acts ++ Send (record { 0 = i }) m ∷ [] → IsSent i m change places now acts more
+sent_is places i found peer lt is idle sendable kept added =
+    let here = any_default places i nobody found lt ∙ is in
+    record { sendable = sendable; peer = peer; here = here; idle = sym (ap is_idle here) ∙ idle; kept = kept; added = added }
+
 -- a message is asked about the blocks of its chain
 about_asks : (mode : Mode) (d : Desk) (after : Seen) (i : ℕ) (m : Msg) (change : Peer → Peer) (places : List Place) (acts : List Act) → i < length d.places → IsInOrder d → (sent : IsSent i m change d.places places d.acts acts)
     → is_question m ≡ true → is_idle_peer (change sent.peer) ≡ false → calm (change sent.peer) ≡ true → IsRight (change sent.peer).request (d.seen.claims i) → HasOpened d.seen after i
@@ -252,58 +263,45 @@ about_asks mode d after i m change places acts lt order sent question busy young
     (subst (λ (xs : List Act). Asks mode i d (record { places = set d.places i (Here (change sent.peer)); seen = after; acts = xs })) (sym sent.added)
     (sent_asks mode d after i sent.peer (change sent.peer) m lt order sent.here sent.idle (omega (arith, lt, order.few), sent.sendable) question busy young right opened goes tracks))
 
--- by what its tracker wishes of a peer that has nothing open
-abbrev pub WishAt : Desk → ℕ → ℕ → Wish → Type 0
-WishAt d i common wish = IsWish d.seen.table d.seen.claims d.seen.verdicts d.seen.opens i (chain_at d.seen i) common wish
+-- ---- what its tracker wishes of a peer that has nothing open
+
+-- of a peer's question: how much of its chain the best one shares
+abbrev shared_at : Seen → ℕ → PeerNo → ℕ
+shared_at s i best = common_of (chain_at s i) (chain_at s best.0)
+
+-- a tracker wishes for this, and has noted it
+pub record IsNext (before after : Seen) (i : ℕ) (best : PeerNo) (wish : Wish) : Type 0 where
+  pub is : IsBest before.chains (Some best)
+  pub wished : IsWish before.table before.claims before.verdicts before.opens i (chain_at before i) (shared_at before i best) wish
+  pub far : GoesFar before.table before.claims before.verdicts before.opens i (chain_at before i) (shared_at before i best) wish
+  pub tries : Tries before i (shared_at before i best) wish
+  pub opens : IsAskedFor i wish before.opens after.opens
+  pub aims : IsAimed i wish before.trials.aims after.trials.aims
+  pub opened : HasOpened before after i
+
+-- nothing becomes open to others by it
+pub asked_else : (i : ℕ) (wish : Wish) (before after : Opens) → IsAskedFor i wish before after → IsSameElse before after i
+asked_else i Nothing before after same = else_of before after i same
+asked_else i (Claims span) before after same = else_of before after i same
+asked_else i (Filters span) before after opens = opens.others
+asked_else i (Block hash) before after opens = opens.others
+asked_else i (Test trial) before after opens = opens.others
+
+furthest : {before after : Seen} {i : ℕ} {best : PeerNo} {wish : Wish} → IsNext before after i best wish
+    → Furthest before i (shared_at before i best) wish
+furthest {best = best} next = record { best = best; is = next.is; shared = refl; far = next.far }
+
+shared_low : (s : Seen) (i : ℕ) (best : PeerNo) → shared_at s i best ≤ length (chain_at s i)
+shared_low s i best = (common_low (chain_at s i) (chain_at s best.0)).0
+
+next_same : (before after : Seen) (i : ℕ) (best : PeerNo) → IsNext before after i best Nothing → IsSameSeen before after
+next_same before after i best next =
+    let opened = next.opened in
+    same_is before after opened.chains opened.claims (λ hash. sym (opened.table hash)) opened.verdicts opened.watch next.opens
+    (aims_stay before.trials after.trials i opened.trials.paid opened.trials.told next.aims.here next.aims.others)
 
 ended_by : (mode : Mode) (place : Place) (peer : Peer) → place ≡ Here peer → is_idle_peer peer ≡ true → is_settled mode place ≡ true → heard_out mode peer ≡ true
 ended_by mode place peer here idle was = heard_by mode peer idle (settled_off mode (Here peer) (subst (λ (x : Place). is_settled mode x ≡ true) here was))
-
-pub claims_asks : (mode : Mode) (d : Desk) (after : Seen) (i common : ℕ) (span : Span) (places : List Place) (acts : List Act) → i < length d.places → IsInOrder d → is_settled mode (get_or d.places i nobody) ≡ true → common ≤ length (chain_at d.seen i)
-    → WishAt d i common (Claims span) → Furthest d.seen i common (Claims span) → Tries d.seen i common (Claims span) → HasOpened d.seen after i → IsSameOpens d.seen.opens after.opens
-    → IsAimed i (Claims span) d.seen.trials.aims after.trials.aims
-    → IsSent i (GetCfheaders 0 span.start span.stop) (asked_for_claims (range_in span)) d.places places d.acts acts
-    → Asks mode i d (record { places = places; seen = after; acts = acts })
-claims_asks mode d after i common span places acts lt order settled low wish far tries opened opens aimed sent =
-    about_asks mode d after i (GetCfheaders 0 span.start span.stop) (asked_for_claims (range_in span)) places acts lt order sent refl
-    refl refl
-    (let le = wish.1.1.1 in claims_right d.seen.claims i (chain_at d.seen i) wish.1.0 span 0 wish.0.0 (omega (arith, le, low)) wish.1.1.0 wish.0.2 wish.1.1.3) opened
-    (λ log stood. claims_goes mode d.places d.acts log d.seen i sent.peer common span lt stood.goes sent.here sent.idle (ended_by mode (get_or d.places i nobody) sent.peer sent.here sent.idle settled) far tries stood.tracks low wish sent.sendable)
-    (λ log stood. claims_tracks d.places d.acts log d.seen after i common sent.peer span stood.goes sent.here sent.idle sent.sendable opened wish opens aimed stood.tracks)
-
-pub filters_asks : (mode : Mode) (d : Desk) (after : Seen) (i common : ℕ) (span : Span) (places : List Place) (acts : List Act) → i < length d.places → IsInOrder d → is_settled mode (get_or d.places i nobody) ≡ true → common ≤ length (chain_at d.seen i)
-    → WishAt d i common (Filters span) → Furthest d.seen i common (Filters span) → Tries d.seen i common (Filters span) → HasOpened d.seen after i
-    → OpensFilters d.seen.opens after.opens i (blocks_of span.blocks.items) → IsAimed i (Filters span) d.seen.trials.aims after.trials.aims
-    → IsSent i (GetCfilters 0 span.start span.stop) (asked_for_filters span.blocks.items) d.places places d.acts acts
-    → Asks mode i d (record { places = places; seen = after; acts = acts })
-filters_asks mode d after i common span places acts lt order settled low wish far tries opened opens aimed sent =
-    about_asks mode d after i (GetCfilters 0 span.start span.stop) (asked_for_filters span.blocks.items) places acts lt order sent refl
-    refl refl
-    (filters_right (chain_at d.seen i) wish.1.0 span wish.0.1 wish.1.1.0) opened
-    (λ log stood. filters_goes mode d.places d.acts log d.seen i sent.peer common span lt stood.goes sent.here sent.idle (ended_by mode (get_or d.places i nobody) sent.peer sent.here sent.idle settled) far tries stood.tracks low wish sent.sendable)
-    (λ log stood. filters_tracks d.places d.acts log d.seen after i common sent.peer span stood.goes sent.here sent.idle sent.sendable opened wish opens low aimed stood.tracks)
-
-pub block_asks : (mode : Mode) (d : Desk) (after : Seen) (i common : ℕ) (hash : Hash32) (places : List Place) (acts : List Act) → i < length d.places → IsInOrder d → is_settled mode (get_or d.places i nobody) ≡ true → common ≤ length (chain_at d.seen i)
-    → WishAt d i common (Block hash) → Furthest d.seen i common (Block hash) → Tries d.seen i common (Block hash) → HasOpened d.seen after i
-    → OpensBlock d.seen.opens after.opens i hash.0 → IsAimed i (Block hash) d.seen.trials.aims after.trials.aims
-    → IsSentFor i hash d.places places d.acts acts → Asks mode i d (record { places = places; seen = after; acts = acts })
-block_asks mode d after i common hash places acts lt order settled low wish far tries opened opens aimed for =
-    about_asks mode d after i for.message (asked_for_block hash) places acts lt order for.sent (block_asked hash for.message for.asks)
-    refl refl tt opened
-    (λ log stood. block_goes mode d.places d.acts log d.seen i for.sent.peer common hash for.message lt stood.goes for.sent.here for.sent.idle (ended_by mode (get_or d.places i nobody) for.sent.peer for.sent.here for.sent.idle settled) far tries stood.tracks low wish for.sent.sendable for.asks)
-    (λ log stood. block_tracks d.places d.acts log d.seen after i for.sent.peer hash for.message stood.goes for.sent.here for.sent.idle for.sent.sendable for.asks opened opens aimed stood.tracks)
-
-pub test_asks : (mode : Mode) (d : Desk) (after : Seen) (i common : ℕ) (trial : Trial) (places : List Place) (acts : List Act) → i < length d.places → IsInOrder d → is_settled mode (get_or d.places i nobody) ≡ true
-    → WishAt d i common (Test trial) → Furthest d.seen i common (Test trial) → Tries d.seen i common (Test trial) → HasOpened d.seen after i
-    → OpensFilters d.seen.opens after.opens i (trial.block.0 ∷ []) → IsAimed i (Test trial) d.seen.trials.aims after.trials.aims
-    → IsSent i (GetCfilters 0 trial.height trial.block) (asked_for_filters (trial.block ∷ [])) d.places places d.acts acts
-    → Asks mode i d (record { places = places; seen = after; acts = acts })
-test_asks mode d after i common trial places acts lt order settled wish far tries opened opens aimed sent =
-    about_asks mode d after i (GetCfilters 0 trial.height trial.block) (asked_for_filters (trial.block ∷ [])) places acts lt order sent refl
-    refl refl
-    (omega arith) opened
-    (λ log stood. test_goes mode d.places d.acts log d.seen i sent.peer common trial lt stood.goes sent.here sent.idle (ended_by mode (get_or d.places i nobody) sent.peer sent.here sent.idle settled) far tries stood.tracks wish sent.sendable)
-    (λ log stood. test_tracks d.places d.acts log d.seen after i common sent.peer trial stood.goes sent.here sent.idle sent.sendable opened tries opens aimed stood.tracks)
 
 -- nothing is asked of a peer that is settled, and what was seen stays
 pub none_asked : (mode : Mode) (d : Desk) (i : ℕ) → IsInOrder d → is_settled mode (get_or d.places i nobody) ≡ true → Asks mode i d d
@@ -320,5 +318,65 @@ pub quiet_asked : (mode : Mode) (d : Desk) (after : Seen) (i : ℕ) → IsInOrde
     → Asks mode i d (record { places = d.places; seen = after; acts = d.acts })
 quiet_asked mode d after i order settled same =
     subst (λ (s : Seen). Asks mode i d (record { places = d.places; seen = s; acts = d.acts })) (sym (seen_same d.seen after same)) (none_asked mode d i order settled)
+
+pub wished_asks : (mode : Mode) (d : Desk) (after : Seen) (i : ℕ) (best : PeerNo) (wish : Wish) (places : List Place)
+    (acts : List Act) → i < length d.places → IsInOrder d → is_settled mode (get_or d.places i nobody) ≡ true
+    → IsNext d.seen after i best wish → IsSentAsWished i wish d.places places d.acts acts
+    → Asks mode i d (record { places = places; seen = after; acts = acts })
+wished_asks mode d after i best Nothing places acts lt order settled next same =
+    subst (λ (ps : List Place). Asks mode i d (record { places = ps; seen = after; acts = acts })) (sym same.0)
+    (subst (λ (xs : List Act). Asks mode i d (record { places = d.places; seen = after; acts = xs })) (sym same.1)
+    (quiet_asked mode d after i order settled (next_same d.seen after i best next)))
+wished_asks mode d after i best (Claims span) places acts lt order settled next sent =
+    let common = shared_at d.seen i best in
+    let low = shared_low d.seen i best in
+    about_asks mode d after i (GetCfheaders 0 span.start span.stop) (asked_for_claims (range_in span)) places acts lt order sent refl refl refl
+    (let le = next.wished.1.1.1 in claims_right d.seen.claims i (chain_at d.seen i) next.wished.1.0 span 0 next.wished.0.0 (omega (arith, le, low)) next.wished.1.1.0 next.wished.0.2 next.wished.1.1.3) next.opened
+    (λ log stood. claims_goes mode d.places d.acts log d.seen i sent.peer common span lt stood.goes sent.here sent.idle (ended_by mode (get_or d.places i nobody) sent.peer sent.here sent.idle settled) (furthest next) next.tries stood.tracks low next.wished sent.sendable)
+    (λ log stood. claims_tracks d.places d.acts log d.seen after i common sent.peer span stood.goes sent.here sent.idle sent.sendable next.opened next.wished next.opens next.aims stood.tracks)
+wished_asks mode d after i best (Filters span) places acts lt order settled next sent =
+    let common = shared_at d.seen i best in
+    let low = shared_low d.seen i best in
+    about_asks mode d after i (GetCfilters 0 span.start span.stop) (asked_for_filters span.blocks.items) places acts lt order sent refl refl refl
+    (filters_right (chain_at d.seen i) next.wished.1.0 span next.wished.0.1 next.wished.1.1.0) next.opened
+    (λ log stood. filters_goes mode d.places d.acts log d.seen i sent.peer common span lt stood.goes sent.here sent.idle (ended_by mode (get_or d.places i nobody) sent.peer sent.here sent.idle settled) (furthest next) next.tries stood.tracks low next.wished sent.sendable)
+    (λ log stood. filters_tracks d.places d.acts log d.seen after i common sent.peer span stood.goes sent.here sent.idle sent.sendable next.opened next.wished next.opens low next.aims stood.tracks)
+wished_asks mode d after i best (Block hash) places acts lt order settled next for =
+    about_asks mode d after i for.message (asked_for_block hash) places acts lt order for.sent (block_asked hash for.message for.asks)
+    refl refl tt next.opened
+    (λ log stood. block_goes mode d.places d.acts log d.seen i for.sent.peer (shared_at d.seen i best) hash for.message lt stood.goes for.sent.here for.sent.idle (ended_by mode (get_or d.places i nobody) for.sent.peer for.sent.here for.sent.idle settled) (furthest next) next.tries stood.tracks (shared_low d.seen i best) next.wished for.sent.sendable for.asks)
+    (λ log stood. block_tracks d.places d.acts log d.seen after i for.sent.peer hash for.message stood.goes for.sent.here for.sent.idle for.sent.sendable for.asks next.opened next.opens next.aims stood.tracks)
+wished_asks mode d after i best (Test trial) places acts lt order settled next sent =
+    about_asks mode d after i (GetCfilters 0 trial.height trial.block) (asked_for_filters (trial.block ∷ [])) places acts lt order sent refl
+    refl refl
+    (omega arith) next.opened
+    (λ log stood. test_goes mode d.places d.acts log d.seen i sent.peer (shared_at d.seen i best) trial lt stood.goes sent.here sent.idle (ended_by mode (get_or d.places i nobody) sent.peer sent.here sent.idle settled) (furthest next) next.tries stood.tracks next.wished sent.sendable)
+    (λ log stood. test_tracks d.places d.acts log d.seen after i (shared_at d.seen i best) sent.peer trial stood.goes sent.here sent.idle sent.sendable next.opened next.tries next.opens next.aims stood.tracks)
+
+-- something is open to whom a question was sent
+sent_busy : {m : Msg} {change : Peer → Peer} {now : List Place} {acts more : List Act} (places : List Place) (i : ℕ)
+    → i < length places → (sent : IsSent i m change places now acts more) → is_idle_peer (change sent.peer) ≡ false
+    → is_idle (get_or now i nobody) ≡ false
+sent_busy {change = change} places i lt sent busy =
+    ap (λ (ps : List Place). is_idle (get_or ps i nobody)) sent.kept
+    ∙ ap is_idle (set_is places i (Here (change sent.peer)) lt) ∙ busy
+
+-- where nothing is wished for it was asked all that it is to be asked
+pub wished_through : (d : Desk) (after : Seen) (i : ℕ) (best : PeerNo) (wish : Wish) (places : List Place) (acts : List Act)
+    → i < length d.places → IsNext d.seen after i best wish → IsSentAsWished i wish d.places places d.acts acts
+    → IsAskedThrough (get_or places i nobody) after i
+wished_through d after i best Nothing places acts lt next same =
+    let s = d.seen in
+    subst (λ (x : Seen). IsAskedThrough (get_or places i nobody) x i) (sym (seen_same s after (next_same s after i best next)))
+    (through_best (get_or places i nobody) s i best next.is
+    (through_wish s.table s.claims s.verdicts s.opens i (chain_at s i) (shared_at s i best) next.wished) next.tries)
+wished_through d after i best (Claims span) places acts lt next sent =
+    asked_busy (get_or places i nobody) after i (sent_busy d.places i lt sent refl)
+wished_through d after i best (Filters span) places acts lt next sent =
+    asked_busy (get_or places i nobody) after i (sent_busy d.places i lt sent refl)
+wished_through d after i best (Block hash) places acts lt next for =
+    asked_busy (get_or places i nobody) after i (sent_busy d.places i lt for.sent refl)
+wished_through d after i best (Test trial) places acts lt next sent =
+    asked_busy (get_or places i nobody) after i (sent_busy d.places i lt sent refl)
 
 -- ---- and then it has nothing left to be asked, or something is open to it

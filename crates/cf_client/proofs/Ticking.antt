@@ -1,7 +1,9 @@
 -- After a tick a client that follows waits for something of each connected peer.
-use Rattle.std.proofs.Common.{◌≡◌, ◌⊎◌, inl, inr, ℕ, List, [], ◌∷◌, ◌++◌, map, Bool, true, false, refl, sym, ◌∙◌, ap, subst}
-use Rattle.std.proofs.lemmas.Bool.{and_left, and_parts, and_right, both_ways, cases_Bool, cases_eq, false≢true, not_from_true, or_parts}
-use Rattle.std.proofs.lemmas.List.Elements.{All-append, All-cons, All-nil, All-same, All-weaker}
+use Rattle.std.proofs.Common.{◌≡◌, ◌⊎◌, inl, inr, ℕ, List, [], ◌∷◌, ◌++◌, map, get_or, Bool, true, false, refl, sym, ◌∙◌, ap, subst}
+use Rattle.std.proofs.lemmas.Bool.{and_left, and_right, both_ways, cases_Bool, cases_eq, false≢true, false_from_ne_true, not_from_true}
+use Rattle.std.proofs.lemmas.List.Elements.{All-append, All-same, All-weaker}
+use Rattle.std.proofs.lemmas.List.Folds.{list_any_at}
+use Rattle.std.proofs.lemmas.List.Sums.{AllPass-from_list_all}
 use Rattle.std.specs.List.{All, list_all, list_any}
 use Rattle.std.specs.Prelude.{not}
 use Rattle.cf_bytes.specs.declared.peer.PeerNo.{PeerNo}
@@ -103,20 +105,17 @@ owed_asks log (Send p m) is = inl (and_left (is_request m) (not (is_ping m)) is)
 owed_asks log (Close p cause) is = tt
 
 told_asks : (log : Log) (acts : List Act) → list_any is_asking acts ≡ false → All (AsksNone log) acts
-told_asks log [] none = All-nil (AsksNone log)
-told_asks log (a ∷ acts) none =
-    let parts = or_parts (is_asking a) (list_any is_asking acts) none in
-    All-cons (AsksNone log) a acts (owed_asks log a parts.0) (told_asks log acts parts.1)
+told_asks log acts none = λ k d lt.
+    let owed = false_from_ne_true (is_asking (get_or acts k d))
+    (λ asks. both_ways (list_any is_asking acts) none (list_any_at is_asking acts k d lt asks)) in
+    owed_asks log (get_or acts k d) owed
 
 ping_asks : (log : Log) (a : Act) → is_pinging a ≡ true → AsksNone log a
 ping_asks log (Send p m) is = inl (and_right (is_request m) (not (is_ping m)) (not_from_true (is_ping m) is))
 ping_asks log (Close p cause) is = tt
 
 pings_ask : (log : Log) (acts : List Act) → list_all is_pinging acts ≡ true → All (AsksNone log) acts
-pings_ask log [] all = All-nil (AsksNone log)
-pings_ask log (a ∷ acts) all =
-    let parts = and_parts (is_pinging a) (list_all is_pinging acts) all in
-    All-cons (AsksNone log) a acts (ping_asks log a parts.0) (pings_ask log acts parts.1)
+pings_ask log acts all = λ k d lt. ping_asks log (get_or acts k d) (AllPass-from_list_all is_pinging acts all k d lt)
 
 -- who is asked was idle, and so had been sent all pings
 idle_asks : (places : List Place) (log : Log)

@@ -5,7 +5,7 @@ use Rattle.cf_bytes.specs.declared.hash.Hash32.{Hash32}
 use Rattle.cf_bytes.specs.declared.peer.PeerNo.{PeerNo}
 use Rattle.cf_headers.specs.declared.store.HeaderStore.{Ghosts}
 use Rattle.cf_msg.specs.declared.msg.Msg.{Msg}
-use Rattle.cf_msg.specs.declared.msg.Msg.TheVariants.{Ping}
+use Rattle.cf_msg.specs.declared.msg.Msg.TheVariants.{GetCfheaders, GetCfilters, Ping}
 use Rattle.cf_peer.specs.declared.act.Act.{Act}
 use Rattle.cf_peer.specs.declared.act.Act.TheVariants.{Send}
 use Rattle.cf_peer.specs.declared.mode.Mode.{Mode}
@@ -17,9 +17,11 @@ use Rattle.cf_wires.specs.declared.event.Event.TheVariants.{Took}
 use Rattle.cf_peer.specs.Acts.{IsDoable, IsSendable}
 use Rattle.cf_peer.specs.Asking.{pings}
 use Rattle.cf_wires.specs.Log.{Log}
-use Rattle.cf_peer.specs.Peer.{is_idle_peer, asked_for_block, asked_for_ping}
+use Rattle.cf_peer.specs.Peer.{is_idle_peer, asked_for_block, asked_for_claims, asked_for_filters, asked_for_ping}
 use Rattle.cf_peer.specs.Trail.{trail}
 use Rattle.cf_sync.specs.Fetching.{is_after_tick}
+use Rattle.cf_seek.specs.declared.spans.Wish.{Wish}
+use Rattle.cf_seek.specs.declared.spans.Wish.TheVariants.{Nothing, Claims, Filters, Block, Test}
 use Rattle.cf_tracker.specs.declared.tracker.Tracker.{Tracker}
 use Rattle.cf_place.specs.declared.place.Place.{Place}
 use Rattle.cf_place.specs.declared.place.Place.TheVariants.{Here, Lost}
@@ -100,6 +102,19 @@ pub record IsSentFor (i : ℕ) (hash : Hash32) (places now : List Place) (acts m
   pub message : Msg
   pub asks : AsksFor hash message
   pub sent : IsSent i message (asked_for_block hash) places now acts more
+
+-- the peer at this place was sent the question that a tracker wishes for; where it wishes for none nothing changed
+abbrev pub IsSentAsWished : ℕ → Wish → List Place → List Place → List Act → List Act → Type 0
+IsSentAsWished i Nothing places now acts more = (now ≡ places) × (more ≡ acts)
+IsSentAsWished i (Claims span) places now acts more =
+    IsSent i (GetCfheaders 0 span.start span.stop)
+    (asked_for_claims (record { stop = span.stop; parent = span.parent; blocks = span.blocks.items }))
+    places now acts more
+IsSentAsWished i (Filters span) places now acts more =
+    IsSent i (GetCfilters 0 span.start span.stop) (asked_for_filters span.blocks.items) places now acts more
+IsSentAsWished i (Block hash) places now acts more = IsSentFor i hash places now acts more
+IsSentAsWished i (Test trial) places now acts more =
+    IsSent i (GetCfilters 0 trial.height trial.block) (asked_for_filters (trial.block ∷ [])) places now acts more
 
 -- all numbers of pings were used for a connected peer
 abbrev pub HasPingedOut : Place → Type 0

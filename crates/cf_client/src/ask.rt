@@ -16,7 +16,7 @@ ghost use Rattle.cf_place.specs.declared.place.Place.TheVariants.{Lost};
 ghost use Rattle.cf_place.specs.Places.{Fits, PlacesStand, AreCalm, is_calm, is_idle, is_wanting, is_settled, is_here, place_at, IsQuestion, IsFetch};
 ghost use Rattle.cf_client.specs.Settled.{AreRight, IsRightAt, IsAskedThrough, AreAskedThrough};
 ghost use Rattle.cf_client.specs.Order.{AddsPings, AddsQuestions, ClosesOne, ClosesLate};
-ghost use Rattle.cf_client.specs.Steps.{desk, IsInOrder, Same, Ticked, Moves, Asks, HasPingedOut, IsPinged, IsSent, IsSentFor};
+ghost use Rattle.cf_client.specs.Steps.{desk, IsInOrder, Same, Ticked, Moves, Asks, HasPingedOut, IsPinged, IsSent, IsSentFor, IsSentAsWished};
 ghost use Rattle.cf_peer.specs.declared.mode.Mode.TheVariants.{Following};
 
 use cf_bytes::{Hash32, NoMemory, PeerNo};
@@ -289,6 +289,40 @@ fn ask_for_block(
     Ok(())
 }
 
+// Asks the peer at this place, to which nothing is open, for what the tracker wishes of it.
+fn ask_as_wished(
+    alloc: Global,
+    places: &mut [Place],
+    acts: &mut Vec<Act>,
+    i: usize,
+    wish: Wish,
+) -> Result<(), NoMemory>
+    requires here { i < length places.old }
+    requires few { length places.old ≤ 9 }
+    requires idle { is_idle (place_at places.old i) ≡ true }
+    ensures { OnOk result (IsSentAsWished i wish places.old places.new acts.old.items acts.new.items) }
+{
+    match wish {
+        Wish::Nothing => Ok(()),
+        Wish::Claims(span) => {
+            ask_for_claims(places, acts, i, span)?;
+            Ok(())
+        }
+        Wish::Filters(span) => {
+            ask_for_filters(alloc, places, acts, i, span)?;
+            Ok(())
+        }
+        Wish::Block(hash) => {
+            ask_for_block(alloc, places, acts, i, hash)?;
+            Ok(())
+        }
+        Wish::Test(trial) => {
+            ask_for_test(alloc, places, acts, i, trial)?;
+            Ok(())
+        }
+    }
+}
+
 // Asks the peer at this place, to which nothing is open and which was heard out, about the blocks that it shares with
 // the best chain: for the claims that it hasn't made; else for filters that aren't judged yet and are open to nobody;
 // else for a block that is open to nobody; or else for a filter that is to be tested.
@@ -310,25 +344,9 @@ fn ask_about_blocks<H: HeaderStore>(
     let Some(best) = tracker.best() else {
         return Ok(());
     };
-    match tracker.next(p, best)? {
-        Wish::Nothing => Ok(()),
-        Wish::Claims(span) => {
-            ask_for_claims(places, acts, i, span)?;
-            Ok(())
-        }
-        Wish::Filters(span) => {
-            ask_for_filters(alloc, places, acts, i, span)?;
-            Ok(())
-        }
-        Wish::Block(hash) => {
-            ask_for_block(alloc, places, acts, i, hash)?;
-            Ok(())
-        }
-        Wish::Test(trial) => {
-            ask_for_test(alloc, places, acts, i, trial)?;
-            Ok(())
-        }
-    }
+    let wish = tracker.next(p, best)?;
+    ask_as_wished(alloc, places, acts, i, wish)?;
+    Ok(())
 }
 
 // Asks the peer at this place if a client of this mode is to ask it: for headers while it has more to tell, and then
@@ -359,8 +377,8 @@ fn ask_if_wanted<H: HeaderStore>(
     Ok(())
 }
 
-// Asks each peer that is to be asked, the lowest number first.
-fn ask_each<H: HeaderStore>(
+/// Asks each peer that is to be asked, the lowest number first, and writes what is settled of the best chain.
+pub(crate) fn ask_all<H: HeaderStore>(
     alloc: Global,
     mode: Mode,
     tracker: &mut Tracker<H>,
@@ -381,29 +399,6 @@ fn ask_each<H: HeaderStore>(
     for i in 0..places.len() {
         ask_if_wanted(alloc, mode, tracker, places, acts, i)?;
     }
-    Ok(())
-}
-
-/// Asks each peer that is to be asked, the lowest number first, and writes what is settled of the best chain.
-pub(crate) fn ask_all<H: HeaderStore>(
-    alloc: Global,
-    mode: Mode,
-    tracker: &mut Tracker<H>,
-    places: &mut [Place],
-    acts: &mut Vec<Act>,
-) -> Result<(), NoMemory>
-    requires calm { AreCalm places.old }
-    requires order { IsInOrder (desk tracker.old places.old acts.old.items) }
-    ensures moves { OnOk result
-        (Moves mode Same (desk tracker.old places.old acts.old.items) (desk tracker.new places.new acts.new.items)) }
-    ensures settled { OnOk result ((p : ℕ) → is_settled mode (place_at places.new p) ≡ true) }
-    ensures through { OnOk result (AreAskedThrough places.new (seen_of tracker.new)) }
-    ensures verdicts { OnOk result (AreSameVerdicts (verdicts_of tracker.new) (verdicts_of tracker.old)) }
-    ensures busy { OnOk result ((p : ℕ) → is_idle (place_at places.new p) ≡ true
-        → place_at places.new p ≡ place_at places.old p) }
-    ensures asked { OnOk result (AddsQuestions places.old acts.old.items acts.new.items) }
-{
-    ask_each(alloc, mode, tracker, places, acts)?;
     tracker.write_up()?;
     Ok(())
 }

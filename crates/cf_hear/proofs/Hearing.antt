@@ -1,7 +1,7 @@
 -- What is taken of a piece of a peer's bytes, message by message.
 use Rattle.std.proofs.Common.{◌≡◌, ◌≢◌, ◌⊎◌, inl, inr, ℕ, List, [], ◌∷◌, ◌++◌, map, length, take, drop, Option, Some, None, Result, Ok, Err, ◌<◌, ◌≤◌, Bool, true, false, if◌then◌else◌, refl, sym, ◌∙◌, ap, subst, append_assoc, arith}
 use Rattle.std.specs.List.{All, AllByRecursion, list_any}
-use Rattle.std.proofs.lemmas.List.{append-nil, length-append, take-append-drop}
+use Rattle.std.proofs.lemmas.List.{append-nil, length-append, map-append, take-append-drop}
 use Rattle.std.proofs.lemmas.Bool.{cases_eq}
 use Rattle.std.proofs.lemmas.List.Elements.{All-append, All-nil, All-cons}
 use Rattle.cf_bytes.specs.declared.hash.Hash32.{Hash32}
@@ -14,7 +14,7 @@ use Rattle.cf_frame.specs.Reading.{front_of}
 use Rattle.cf_frame.specs.Stream.{read_stream}
 use Rattle.cf_frame.proofs.Lending.{all_taken}
 use Rattle.cf_headers.specs.Chain.{Hash, Chain, Accepted, Longer, NoLonger, Unlinked, Invalid, TooHigh, accept, back_to}
-use Rattle.cf_headers.specs.Changes.{chain_after}
+use Rattle.cf_headers.specs.Changes.{chain_after, change_of, link_height}
 use Rattle.cf_headers.specs.Heights.{height_of}
 use Rattle.cf_headers.specs.Store.{Puts, own_of}
 use Rattle.cf_lent.specs.declared.views.View.{View}
@@ -40,7 +40,7 @@ use Rattle.cf_peer.proofs.Stream.{faulty_said, said_met, waits_says}
 use Rattle.cf_scan.specs.declared.extracts.TxExtract.{TxExtract}
 use Rattle.cf_tables.specs.Tables.{IsSameTable, with_block, with_blocks}
 use Rattle.cf_tables.specs.Known.{ExtractTable}
-use Rattle.cf_sync.proofs.Counted.{same_use}
+use Rattle.cf_sync.proofs.Counted.{same_longer, same_use}
 use Rattle.cf_sync.proofs.Grows.{said_brings}
 use Rattle.cf_sync.proofs.VerdictsGrow.{said_gives}
 use Rattle.cf_tables.specs.Claiming.{IsSameTables}
@@ -61,7 +61,7 @@ use Rattle.cf_seek.specs.Opening.{Closes, IsSameElse, IsSameOpens}
 use Rattle.cf_sync.specs.Known.{OpensAt}
 use Rattle.cf_sync.proofs.KeptOpens.{opens_closed}
 use Rattle.cf_hear.specs.Seen.{Seen, IsSameSeen, Follows}
-use Rattle.cf_hear.specs.Hearing.{Gains, Gives, Retains, HearsSeen, HearsNext, Advances, Reveals, Stops, Brings, Midway, HeardFault, HeardExposed, HeardPiece}
+use Rattle.cf_hear.specs.Hearing.{Gains, Gives, Retains, HearsSeen, HearsNext, Advances, Reveals, Stops, Brings, Midway, HeardFault, HeardExposed, HeardPiece, AreReplies}
 use Rattle.cf_hear.specs.Exposing.{ExposesAmong, IsUnexposed}
 use Rattle.cf_hear.specs.declared.stop.HearStop.{HearStop}
 use Rattle.cf_hear.proofs.Trying.{IsOnce, gives_on, go_none, go_on, go_self, go_then, idle_by, once_by, one_empty, trials_self}
@@ -281,12 +281,10 @@ early_hears seen p peer hs t h early f = (
 )
 
 -- headers that were taken
-longer_is : (a : Accepted) (own : Chain) → chain_after a own ≡ longer_of a own
-longer_is (Longer next) own = refl
-longer_is NoLonger own = refl
-longer_is Unlinked own = refl
-longer_is (Invalid place fault) own = refl
-longer_is TooHigh own = refl
+-- what headers do to the chain that is kept they do to the own chain
+pub change_own : {o : Option Chain} {own : Chain} (hs : List Header) → o ≡ Some own
+    → change_of (link_height hs (unwrap_or o [])) (accept hs (unwrap_or o [])) ≡ change_of (link_height hs own) (accept hs own)
+change_own hs is = ap (λ (o : Option Chain). change_of (link_height hs (unwrap_or o [])) (accept hs (unwrap_or o []))) is
 
 pub headers_hears : (before after : Seen) (p : PeerNo) (peer : Peer) (hs : List Header) (t : Trail) → Holds peer (Said (Headers hs) ∷ t) → ready t ≡ true
     → Puts before.chains after.chains p (Some (chain_after (accept hs (own_of before.chains p)) (own_of before.chains p))) → Follows before p.0 t
@@ -298,7 +296,7 @@ headers_hears before after p peer hs t h over puts f watch claims table verdicts
       record {
         watch = watch;
         follows = record {
-          chain = puts.here ∙ ap (λ (c : Chain). Some (chain_after (accept hs c) c)) mine ∙ ap Some (longer_is (accept hs (own t)) (own t))
+          chain = puts.here ∙ ap (λ (c : Chain). Some (chain_after (accept hs c) c)) mine ∙ ap Some (sym (same_longer (accept hs (own t)) (own t)))
               ∙ ap Some (sym (ap (λ (b : Bool). if b then longer_of (accept hs (own t)) (own t) else own t) over));
           claims = λ block. claims p.0 block ∙ f.claims block;
           opens = opens_on before.opens after.opens p.0 (Said (Headers hs) ∷ t) opens (opens_headers before.opens p.0 hs t f.opens);
@@ -508,10 +506,6 @@ met_after : (m : Msg) (rs : List Msg) (t : Trail) → (rs ≡ []) ⊎ (has_versi
 met_after m rs t (inl none) = inl none
 met_after m rs t (inr is) = inr (said_met m t is)
 
-map_with : (p : PeerNo) (rs : List Msg) (r : Msg) → map (λ (m : Msg). SendTo p m) (rs ++ r ∷ []) ≡ map (λ (m : Msg). SendTo p m) rs ++ SendTo p r ∷ []
-map_with p [] r = refl
-map_with p (x ∷ rs) r = ap (λ (acts : List Act). SendTo p x ∷ acts) (map_with p rs r)
-
 -- the blocks that a message brought, and those before it
 brings_said : (peer : Peer) (m : Msg) (start t : Trail) (news : List Block) → Holds peer (Said m ∷ t) → Brings start t news → Brings start (Said m ∷ t) (fetched_by m (request t) ++ news)
 brings_said peer m start t news h is =
@@ -545,40 +539,25 @@ midway_start p peer waits seen acts piece start holds e f = record {
   idle = inl (refl, refl);
 }
 
-pub midway_quiet : (p : PeerNo) (old new : Peer) (bytes rest : List ℕ) (seen now next : Seen) (before acts : List Act)
-    (start end : Part) (midway : Midway p old bytes seen now before acts start end)
-    → Advances now next p bytes rest new midway.so_far [] → Midway p new rest seen next before acts start end
-midway_quiet p old new bytes rest seen now next before acts start end midway moves = record {
-  so_far = Said moves.message ∷ midway.so_far;
-  replies = midway.replies;
-  acts = midway.acts;
-  are = record { each = midway.are.each; after_version = met_after moves.message midway.replies midway.so_far midway.are.after_version };
-  holds = moves.holds;
-  leads = sym moves.leads ∙ midway.leads;
-  owes = ap (λ (rs : List Msg). replies_owed midway.so_far ++ rs) moves.owes ∙ append-nil (replies_owed midway.so_far) ∙ midway.owes;
-  news = fetched_by moves.message (request midway.so_far) ++ midway.news;
-  brings = brings_said new moves.message start.trail midway.so_far midway.news moves.holds midway.brings;
-  jobs = midway.jobs ++ given_by moves.message (request midway.so_far);
-  gives = gives_said new moves.message start.trail midway.so_far midway.news midway.jobs moves.holds midway.idle midway.gives;
-  gains = gains_then seen now next p midway.so_far (Said moves.message ∷ midway.so_far) midway.news (fetched_by moves.message (request midway.so_far)) midway.jobs (given_by moves.message (request midway.so_far))
-      (once_by moves.message (request midway.so_far) midway.news midway.jobs midway.idle) midway.gains moves.gains;
-  idle = idle_by moves.message (request midway.so_far) midway.news midway.jobs midway.idle;
-}
-
-pub midway_reply : (p : PeerNo) (old new : Peer) (bytes rest : List ℕ) (seen now next : Seen) (before acts more : List Act)
-    (start end : Part) (r : Msg) (midway : Midway p old bytes seen now before acts start end)
-    → Advances now next p bytes rest new midway.so_far (r ∷ []) → more ≡ acts ++ SendTo p r ∷ []
-    → Midway p new rest seen next before more start end
-midway_reply p old new bytes rest seen now next before acts more start end r midway moves e =
-    let is = reply_is moves.message r midway.so_far moves.owes in
+-- one more message was taken, and these replies were added
+midway_on : (p : PeerNo) (old new : Peer) (bytes rest : List ℕ) (seen now next : Seen) (before acts more : List Act)
+    (start end : Part) (added : List Msg) (midway : Midway p old bytes seen now before acts start end)
+    → (moves : Advances now next p bytes rest new midway.so_far added)
+    → AreReplies (midway.replies ++ added) (Said moves.message ∷ midway.so_far)
+    → more ≡ acts ++ map (λ (m : Msg). SendTo p m) added → Midway p new rest seen next before more start end
+midway_on p old new bytes rest seen now next before acts more start end added midway moves are e =
+    let send : Msg → Act = λ m. SendTo p m in
     record {
       so_far = Said moves.message ∷ midway.so_far;
-      replies = midway.replies ++ r ∷ [];
-      acts = e ∙ ap (λ (xs : List Act). xs ++ SendTo p r ∷ []) midway.acts ∙ append_assoc before (map (λ (m : Msg). SendTo p m) midway.replies) (SendTo p r ∷ []) ∙ ap (λ (xs : List Act). before ++ xs) (sym (map_with p midway.replies r));
-      are = record { each = all_with midway.replies r midway.are.each is.0; after_version = inr is.1 };
+      replies = midway.replies ++ added;
+      acts = e ∙ ap (λ (xs : List Act). xs ++ map send added) midway.acts
+          ∙ append_assoc before (map send midway.replies) (map send added)
+          ∙ ap (λ (xs : List Act). before ++ xs) (sym (map-append send midway.replies added));
+      are = are;
       holds = moves.holds;
       leads = sym moves.leads ∙ midway.leads;
-      owes = ap (λ (rs : List Msg). replies_owed midway.so_far ++ rs) moves.owes ∙ ap (λ (rs : List Msg). rs ++ r ∷ []) midway.owes ∙ append_assoc (replies_owed start.trail) midway.replies (r ∷ []);
+      owes = ap (λ (rs : List Msg). replies_owed midway.so_far ++ rs) moves.owes
+          ∙ ap (λ (rs : List Msg). rs ++ added) midway.owes ∙ append_assoc (replies_owed start.trail) midway.replies added;
       news = fetched_by moves.message (request midway.so_far) ++ midway.news;
       brings = brings_said new moves.message start.trail midway.so_far midway.news moves.holds midway.brings;
       jobs = midway.jobs ++ given_by moves.message (request midway.so_far);
@@ -587,6 +566,26 @@ midway_reply p old new bytes rest seen now next before acts more start end r mid
           (once_by moves.message (request midway.so_far) midway.news midway.jobs midway.idle) midway.gains moves.gains;
       idle = idle_by moves.message (request midway.so_far) midway.news midway.jobs midway.idle;
     }
+
+pub midway_quiet : (p : PeerNo) (old new : Peer) (bytes rest : List ℕ) (seen now next : Seen) (before acts : List Act)
+    (start end : Part) (midway : Midway p old bytes seen now before acts start end)
+    → Advances now next p bytes rest new midway.so_far [] → Midway p new rest seen next before acts start end
+midway_quiet p old new bytes rest seen now next before acts start end midway moves =
+    midway_on p old new bytes rest seen now next before acts acts start end [] midway moves
+    (subst (λ (rs : List Msg). AreReplies rs (Said moves.message ∷ midway.so_far)) (sym (append-nil midway.replies)) (record {
+      each = midway.are.each;
+      after_version = met_after moves.message midway.replies midway.so_far midway.are.after_version;
+    }))
+    (sym (append-nil acts))
+
+pub midway_reply : (p : PeerNo) (old new : Peer) (bytes rest : List ℕ) (seen now next : Seen) (before acts more : List Act)
+    (start end : Part) (r : Msg) (midway : Midway p old bytes seen now before acts start end)
+    → Advances now next p bytes rest new midway.so_far (r ∷ []) → more ≡ acts ++ SendTo p r ∷ []
+    → Midway p new rest seen next before more start end
+midway_reply p old new bytes rest seen now next before acts more start end r midway moves e =
+    let is = reply_is moves.message r midway.so_far moves.owes in
+    midway_on p old new bytes rest seen now next before acts more start end (r ∷ []) midway moves
+    (record { each = all_with midway.replies r midway.are.each is.0; after_version = inr is.1 }) e
 
 met_end : (rs : List Msg) (t end : Trail) → (has_version t ≡ true → has_version end ≡ true) → (rs ≡ []) ⊎ (has_version t ≡ true) → (rs ≡ []) ⊎ (has_version end ≡ true)
 met_end rs t end known (inl none) = inl none
@@ -629,7 +628,7 @@ midway_fault p old bytes seen now next before acts start end cause midway stops 
 pub midway_exposed : (p : PeerNo) (old new : Peer) (bytes rest : List ℕ) (seen now next : Seen) (before acts : List Act) (start end : Part) (block filter : Hash)
     (midway : Midway p old bytes seen now before acts start end)
     → Reveals now next p bytes rest new midway.so_far block filter → HeardExposed p seen next before acts start end block filter
-unfolding midway_quiet
+unfolding midway_quiet midway_on
 midway_exposed p old new bytes rest seen now next before acts start end block filter midway reveals =
     let more = midway_quiet p old new bytes rest seen now next before acts start end midway reveals.advances in
     record {

@@ -20,7 +20,7 @@ use Rattle.cf_headers.proofs.Stacks.{length_lower}
 use Rattle.cf_msg.specs.declared.msg.Inventory.{Inventory}
 use Rattle.cf_msg.specs.declared.msg.Msg.TheVariants.{GetCfheaders, GetCfilters, GetData}
 use Rattle.cf_peer.specs.declared.mode.Mode.{Mode}
-use Rattle.cf_peer.specs.Asking.{HasHeader, IsClaimed, IsFree, MayAskIn, block_entry, blocks_from, claims, counted, hashes_of, verdict}
+use Rattle.cf_peer.specs.Asking.{HasHeader, IsClaimed, IsFree, IsRange, MayAskIn, block_entry, blocks_from, claims, counted, hashes_of, verdict}
 use Rattle.cf_wires.specs.Log.{Log}
 use Rattle.cf_peer.specs.Trail.{Trail, trail, connected, own}
 use Rattle.cf_sync.specs.Fetching.{IsFilterWanted, AreFiltersWanted, IsNeeded, IsBlockWanted, IsTestOf, MaySendIn, blocks_in}
@@ -32,7 +32,8 @@ use Rattle.cf_seek.specs.declared.spans.Span.{Span}
 use Rattle.cf_seek.specs.declared.spans.Wish.TheVariants.{Claims, Filters, Block, Test}
 use Rattle.cf_seek.specs.declared.testing.Trial.{Trial}
 use Rattle.cf_seek.specs.Opens.{IsBlockFree, IsFilterFree}
-use Rattle.cf_seek.specs.Spans.{IsWish}
+use Rattle.cf_seek.specs.Seeking.{IsToAsk}
+use Rattle.cf_seek.specs.Spans.{IsSpan, IsWish}
 use Rattle.cf_seek.specs.Testing.{IsTrial, IsTrying}
 use Rattle.cf_tables.specs.Wanting.{IsAbove, IsUnjudged, AreClaimed}
 use Rattle.cf_seek.proofs.Along.{hash_of_next}
@@ -87,34 +88,46 @@ up_from : (n h : ℕ) → pred n < h → n ≤ h
 up_from zero h lt = omega arith
 up_from (suc n) h lt = omega (arith, lt)
 
+-- where the blocks of a run stand that a question is about
+in_run : (chain : Chain) (start end : ℕ) (span : Span) (block : Hash) (sp : IsSpan chain start end span) → end ≤ length chain
+    → IsIn block (map block_hash_of (above (pred start) sp.part))
+    → (h : ℕ) × (start ≤ h) × (h ≤ end) × (block ≡ hash_at chain h)
+in_run chain start end span block sp low i =
+    let high = sp.high in
+    let w = in_span chain sp.part (length sp.part) (pred start) block sp.is (omega (arith, high, low)) i in
+    let most = w.2 in
+    (w.0, up_from start w.0 w.1, omega (arith, most, high), w.3)
+
+-- and each of which the filter is asked for
+filters_at : (s : Seen) (log : Log) (p common : ℕ) (span : Span) (chain : Chain) → chain ≡ own (trail log p) → common ≤ length chain
+    → IsWish s.table s.claims s.verdicts s.opens p chain common (Filters span)
+    → (block : Hash) → IsIn block (blocks_in span.start (back_to span.stop.0 (own (trail log p))))
+    → (h : ℕ) × (1 ≤ h) × (h ≤ common) × (block ≡ hash_at chain h)
+    × IsToAsk s.table s.claims s.verdicts s.opens (hash_at chain h)
+filters_at s log p common span chain is low wish block i =
+    let sp = wish.1.1.0 in
+    let tip : back_to span.stop.0 (own (trail log p)) ≡ Some sp.part = subst (λ (c : Chain). back_to span.stop.0 c ≡ Some sp.part) is sp.tip in
+    let one = wish.0.1 in
+    let le = wish.1.1.1 in
+    let w = in_run chain span.start wish.1.0 span block sp (omega (arith, le, low)) (subst (λ (o : Option Chain). IsIn block (blocks_in span.start o)) tip i) in
+    let from = w.1 in
+    let most = w.2 in
+    (w.0, omega (arith, one, from), omega (arith, most, le), w.3, wish.1.1.3 w.0 from most)
+
 -- filters that are asked for are wanted of p
 pub filters_needed : (s : Seen) (log : Log) (p common : ℕ) (span : Span) (chain : Chain) → Tracks s log → chain ≡ own (trail log p) → common ≤ length chain
     → IsWish s.table s.claims s.verdicts s.opens p chain common (Filters span) → AreFiltersWanted log p span.start span.stop.0
 filters_needed s log p common span chain tracks is low wish block i =
-    let sp = wish.1.1.0 in
-    let tip : back_to span.stop.0 (own (trail log p)) ≡ Some sp.part = subst (λ (c : Chain). back_to span.stop.0 c ≡ Some sp.part) is sp.tip in
-    let high = sp.high in
-    let le = wish.1.1.1 in
-    let w = in_span chain sp.part (length sp.part) (pred span.start) block sp.is (omega (arith, high, le, low)) (subst (λ (o : Option Chain). IsIn block (blocks_in span.start o)) tip i) in
-    let past = w.1 in
-    let most = w.2 in
-    let un = wish.1.1.3 w.0 (up_from span.start w.0 past) (omega (arith, most, high)) in
-    wanted_at s log p common chain w.0 block tracks wish.0.0 (omega (arith, past)) (omega (arith, most, high, le)) un.above un.un w.3
+    let w = filters_at s log p common span chain is low wish block i in
+    wanted_at s log p common chain w.0 block tracks wish.0.0 w.1 w.2 w.4.above w.4.un w.3
 
 -- and are open to nobody
 filters_free : (s : Seen) (log : Log) (p common : ℕ) (span : Span) (chain : Chain) → chain ≡ own (trail log p) → common ≤ length chain
     → IsWish s.table s.claims s.verdicts s.opens p chain common (Filters span)
     → (block : Hash) → IsIn block (blocks_in span.start (back_to span.stop.0 (own (trail log p)))) → IsFilterFree s.opens block
 filters_free s log p common span chain is low wish block i =
-    let sp = wish.1.1.0 in
-    let tip : back_to span.stop.0 (own (trail log p)) ≡ Some sp.part = subst (λ (c : Chain). back_to span.stop.0 c ≡ Some sp.part) is sp.tip in
-    let high = sp.high in
-    let le = wish.1.1.1 in
-    let w = in_span chain sp.part (length sp.part) (pred span.start) block sp.is (omega (arith, high, le, low)) (subst (λ (o : Option Chain). IsIn block (blocks_in span.start o)) tip i) in
-    let past = w.1 in
-    let most = w.2 in
-    let un = wish.1.1.3 w.0 (up_from span.start w.0 past) (omega (arith, most, high)) in
-    subst (λ (b : Hash). IsFilterFree s.opens b) (sym w.3) un.free
+    let w = filters_at s log p common span chain is low wish block i in
+    subst (λ (b : Hash). IsFilterFree s.opens b) (sym w.3) w.4.free
 
 -- a block that is asked for is wanted
 pub block_needed : (s : Seen) (log : Log) (p common : ℕ) (hash : Hash32) (chain : Chain) → Tracks s log
@@ -197,33 +210,42 @@ start_less : (n : ℕ) → 1 ≤ n → pred n + 1 ≡ n
 start_less zero le = absurd (omega (arith, le))
 start_less (suc n) le = omega arith
 
+-- the run of blocks that a question is about
+span_range : (t : Trail) (chain : Chain) (start end most : ℕ) (span : Span) → chain ≡ own t → IsSpan chain start end span
+    → 1 ≤ start → end < start + most → IsRange t 0 start span.stop.0 most
+span_range t chain start end most span is sp one few =
+    let low = sp.low in
+    let high = sp.high in record {
+      basic = refl;
+      part = sp.part;
+      tip = subst (λ (c : Chain). back_to span.stop.0 c ≡ Some sp.part) is sp.tip;
+      low = one;
+      high = low;
+      bound = omega (arith, few, high, low);
+    }
+
 pub claims_may : (mode : Mode) (s : Seen) (log : Log) (p common : ℕ) (span : Span) (chain : Chain) → Tracks s log → chain ≡ own (trail log p) → common ≤ length chain
     → IsFree (trail log p) → verdict (trail log p) ≡ None → IsWish s.table s.claims s.verdicts s.opens p chain common (Claims span) → MayAskIn mode (trail log p) (GetCfheaders 0 span.start span.stop)
+unfolding span_range
 claims_may mode s log p common span chain tracks is low free clean wish =
     let t = trail log p in
     let sp = wish.1.1.0 in
     let le = wish.1.1.1 in
-    let few = wish.1.1.2 in
-    let un = wish.1.1.3 in
     let start = sp.low in
     let high = sp.high in
-    let one = wish.0.0 in
-    let less = start_less span.start one in
-    let cl = claims_are s log p tracks free.on clean in
-    let within : length sp.part ≤ length chain = omega (arith, high, le, low) in
-    let tip : back_to span.stop.0 (own t) ≡ Some sp.part = subst (λ (c : Chain). back_to span.stop.0 c ≡ Some sp.part) is sp.tip in (
+    let less = start_less span.start wish.0.0 in
+    let cl = claims_are s log p tracks free.on clean in (
       free,
       (
-        record { basic = refl; part = sp.part; tip = tip; low = one; high = start; bound = omega (arith, few, high, start) },
+        span_range t chain span.start wish.1.0 2000 span is sp wish.0.0 wish.1.1.2,
         λ block i.
             let w = in_low sp.part (pred span.start) block (omega (arith, less, start)) i in
             let most = w.2 in
-            known_at s t p (span.start - 1) chain sp.part w.0 block cl wish.0.2 sp.is within w.1 (omega (arith, most, less)) (omega (arith, most, less, start)) w.3,
+            known_at s t p (span.start - 1) chain sp.part w.0 block cl wish.0.2 sp.is (omega (arith, high, le, low)) w.1
+            (omega (arith, most, less)) (omega (arith, most, less, start)) w.3,
         λ block i claimed.
-            let w = in_span chain sp.part (length sp.part) (pred span.start) block sp.is within i in
-            let most = w.2 in
-            let u = un w.0 (up_from span.start w.0 w.1) (omega (arith, most, high)) in
-            none_at s t p block (hash_at chain w.0) cl w.3 u.1 claimed,
+            let w = in_run chain span.start wish.1.0 span block sp (omega (arith, le, low)) i in
+            none_at s t p block (hash_at chain w.0) cl w.3 (wish.1.1.3 w.0 w.1 w.2).1 claimed,
       ),
     )
 
@@ -232,26 +254,19 @@ claimed_at s t p block cl mine = (mine.0, sym (cl block) ∙ mine.1)
 
 pub filters_may : (mode : Mode) (s : Seen) (log : Log) (p common : ℕ) (span : Span) (chain : Chain) → Tracks s log → chain ≡ own (trail log p) → common ≤ length chain
     → IsFree (trail log p) → verdict (trail log p) ≡ None → IsWish s.table s.claims s.verdicts s.opens p chain common (Filters span) → MayAskIn mode (trail log p) (GetCfilters 0 span.start span.stop)
+unfolding span_range
 filters_may mode s log p common span chain tracks is low free clean wish =
-    let t = trail log p in
-    let sp = wish.1.1.0 in
-    let le = wish.1.1.1 in
-    let few = wish.1.1.2 in
-    let un = wish.1.1.3 in
-    let start = sp.low in
-    let high = sp.high in
-    let cl = claims_are s log p tracks free.on clean in
-    let within : length sp.part ≤ length chain = omega (arith, high, le, low) in
-    let tip : back_to span.stop.0 (own t) ≡ Some sp.part = subst (λ (c : Chain). back_to span.stop.0 c ≡ Some sp.part) is sp.tip in (
+    let one = wish.0.1 in
+    let le = wish.1.1.1 in (
       free,
       (
-        record { basic = refl; part = sp.part; tip = tip; low = wish.0.1; high = start; bound = omega (arith, few, high, start) },
+        span_range (trail log p) chain span.start wish.1.0 1000 span is wish.1.1.0 one wish.1.1.2,
         λ block i.
-            let w = in_span chain sp.part (length sp.part) (pred span.start) block sp.is within i in
-            let past = w.1 in
+            let w = in_run chain span.start wish.1.0 span block wish.1.1.0 (omega (arith, le, low)) i in
+            let from = w.1 in
             let most = w.2 in
-            let u = un w.0 (up_from span.start w.0 past) (omega (arith, most, high)) in
-            claimed_at s t p block cl (claim_at s p common chain w.0 block wish.0.0 (omega (arith, past)) (omega (arith, most, high, le)) u.above w.3),
+            claimed_at s (trail log p) p block (claims_are s log p tracks free.on clean) (claim_at s p common chain w.0 block wish.0.0
+            (omega (arith, one, from)) (omega (arith, most, le)) (wish.1.1.3 w.0 from most).above w.3),
       ),
     )
 

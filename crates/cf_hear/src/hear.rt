@@ -65,7 +65,7 @@ fn hear_headers<H: HeaderStore>(
         return Ok(Reaction::Nothing);
     }
     let change = tracker.accept(p, headers)?;
-    match peer.hear_headers(&change, headers.len()) {
+    match peer.take_headers(&change, headers.len()) {
         None => Ok(Reaction::Nothing),
         Some(cause) => Ok(Reaction::Close(cause)),
     }
@@ -279,7 +279,7 @@ fn hear_filter<H: HeaderStore, M: Matcher>(
     ensures waits { peer.new.framer ≡ peer.old.framer }
     ensures calm { calm peer.old ≡ true → calm peer.new ≡ true }
 {
-    match peer.hear_filter(alloc, tracker.claims(), p, filter, block, bytes)? {
+    match peer.take_filter(alloc, tracker.claims(), p, filter, block, bytes)? {
         Heard::Nothing => Ok(Reaction::Nothing),
         Heard::Close(cause) => Ok(Reaction::Close(cause)),
         Heard::Whole(jobs) => {

@@ -110,7 +110,7 @@ fn take_coins(
 
 // Judges what a block spends and makes by the coins of a good chain, which are found where they weren't yet, and stay
 // as they are.
-fn judge_on(
+fn judge_by_kept(
     alloc: Global,
     coins: &mut Option<Coins>,
     blocks: &[SharedBlock],
@@ -250,7 +250,7 @@ impl Index {
             Ok(txids) => txids,
             Err(e) => return Err(e),
         };
-        match judge_on(
+        match judge_by_kept(
             alloc,
             &mut self.coins,
             self.blocks.as_slice(),

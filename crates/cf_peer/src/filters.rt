@@ -76,7 +76,7 @@ impl Peer {
     /// next of what is open to it is read over, and one of another hash than the peer claims has it closed for
     /// `OtherFilter`. The last of a batch ends the open request. Where no memory is found nothing is open to it, and
     /// what came of the batch is lost.
-    pub fn hear_filter(
+    pub fn take_filter(
         &mut self,
         alloc: Global,
         claims: &Claims,

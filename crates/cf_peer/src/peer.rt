@@ -253,7 +253,7 @@ impl Peer {
     /// end an open `getheaders`; where there were fewer than 2000, or they made no longer chain, the peer has no more
     /// to tell.
     #[tactic(auto, using(crate::proofs::Modes::headers_heard))]
-    pub fn hear_headers(&mut self, change: &Change, count: usize) -> Option<Cause>
+    pub fn take_headers(&mut self, change: &Change, count: usize) -> Option<Cause>
         requires ready { is_ready_peer self.old ≡ true }
         ensures heard { (t : Trail) (hs : List Header) → Holds self.old t → count ≡ length hs
             → change.now ≡ change_of (link_height hs (own t)) (accept hs (own t)) → TakesHeaders self.new hs t result }

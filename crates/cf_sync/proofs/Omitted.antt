@@ -134,7 +134,7 @@ words_unnamed (e ∷ log) p is = went_unnamed e p (part_of log p) (words_unnamed
 
 -- ---- no send to who has omitted something has failed since
 
-off_unfailed : (t : Trail) → connected t ≡ true → failed t ≡ false
+pub off_unfailed : (t : Trail) → connected t ≡ true → failed t ≡ false
 off_unfailed [] on = refl
 off_unfailed (Called ∷ t) on = refl
 off_unfailed (Said m ∷ t) on = off_unfailed t on

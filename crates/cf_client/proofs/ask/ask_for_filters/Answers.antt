@@ -1,19 +1,10 @@
-use Rattle.std.proofs.Common.{◌≡◌, ◌<◌, ◌^◌, length, rules, sym, ◌∙◌, ap, refl, arith}
-use Rattle.cf_place.specs.Places.{is_idle, nobody}
+use Rattle.std.proofs.Common.{rules, refl, arith}
 use Rattle.cf_client.proofs.Asking.{filters_sendable}
-use Rattle.cf_client.proofs.Standing.{any_default}
+use Rattle.cf_client.proofs.Steps.{sent_is}
 use Rattle.cf_client.proofs.ask.ask_for_filters.Goals as goal
 
 pub returns-in-Here : goal.returns-in-Here
 returns-in-Here c =
-    let here = any_default c.args.places.now c.args.i nobody c.index-places-i.result c.requires.here ∙ c.in-Here.is in
-    let few : c.args.span.start < 2 ^ 32 = omega arith in
-    let long : length c.args.span.stop.0 ≡ 32 = search rules in
-    record {
-      sendable = filters_sendable c.args.span.start c.args.span.stop few long;
-      peer = c.in-Here.peer;
-      here = here;
-      idle = sym (ap is_idle here) ∙ c.requires.idle;
-      kept = rw (c.ask_filters.ensures.asked, c.from_vec.ensures) refl;
-      added = c.in_ok-push.ensures.items;
-    }
+    sent_is c.args.places.now c.args.i c.index-places-i.result c.in-Here.peer c.requires.here c.in-Here.is c.requires.idle
+    (filters_sendable c.args.span.start c.args.span.stop (omega arith) (search rules))
+    (rw (c.ask_filters.ensures.asked, c.from_vec.ensures) refl) c.in_ok-push.ensures.items

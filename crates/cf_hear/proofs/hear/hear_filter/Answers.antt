@@ -16,47 +16,47 @@ use Rattle.cf_hear.proofs.Trying.{go_given, go_self, trials_self}
 use Rattle.cf_hear.proofs.Opening.{else_of, else_self, else_then, opens_filter, opens_on, opens_whole}
 use Rattle.cf_hear.proofs.hear.hear_filter.Goals as goal
 
-pub hear_filter-requires : goal.hear_filter-requires
-hear_filter-requires g c = record { right = subst (λ (tables : Tables). IsRight c.args.peer.now.request (tables c.args.p.0)) (sym c.claims.ensures.claims) c.requires.right }
+pub take_filter-requires : goal.take_filter-requires
+take_filter-requires g c = record { right = subst (λ (tables : Tables). IsRight c.args.peer.now.request (tables c.args.p.0)) (sym c.claims.ensures.claims) c.requires.right }
 
 pub returns-in-Nothing-clause-heard : goal.returns-in-Nothing-clause-heard
 returns-in-Nothing-clause-heard g c = λ t holds f.
     let seen = seen_of c.args.tracker.now in
     let m = Cfilter c.args.filter c.args.block.now c.args.bytes.now in
-    let o = subst (λ (x : Heard). TakesFilter c.hear_filter.new.self m t x) c.in-Nothing.is (c.in_ok-hear_filter.ensures.heard t holds (λ hash. ap (λ (tables : Tables). tables c.args.p.0 hash) c.claims.ensures.claims ∙ f.claims hash)) in
-    filter_hears seen seen c.args.p c.hear_filter.new.self c.args.filter c.args.block.now c.args.bytes.now [] t o.0 o.1 f refl (λ q. refl) (λ q block. refl) (λ hash. refl)
+    let o = subst (λ (x : Heard). TakesFilter c.take_filter.new.self m t x) c.in-Nothing.is (c.in_ok-take_filter.ensures.heard t holds (λ hash. ap (λ (tables : Tables). tables c.args.p.0 hash) c.claims.ensures.claims ∙ f.claims hash)) in
+    filter_hears seen seen c.args.p c.take_filter.new.self c.args.filter c.args.block.now c.args.bytes.now [] t o.0 o.1 f refl (λ q. refl) (λ q block. refl) (λ hash. refl)
     (none_judged (seen.trials.aims c.args.p.0) seen.watch seen.verdicts) (opens_filter seen.opens c.args.p.0 c.args.filter c.args.block.now c.args.bytes.now t o.1 f.opens) (else_self seen.opens c.args.p.0)
     (go_self seen.trials c.args.p.0)
 
 pub returns-in-Nothing-clause-right : goal.returns-in-Nothing-clause-right
-returns-in-Nothing-clause-right g c = subst (λ (tables : Tables). IsRight c.hear_filter.new.self.request (tables c.args.p.0)) c.claims.ensures.claims c.in_ok-hear_filter.ensures.right
+returns-in-Nothing-clause-right g c = subst (λ (tables : Tables). IsRight c.take_filter.new.self.request (tables c.args.p.0)) c.claims.ensures.claims c.in_ok-take_filter.ensures.right
 
 pub returns-in-Close-clause-heard : goal.returns-in-Close-clause-heard
 returns-in-Close-clause-heard g c = λ t holds f.
     let m = Cfilter c.args.filter c.args.block.now c.args.bytes.now in
-    let o = subst (λ (x : Heard). TakesFilter c.hear_filter.new.self m t x) c.in-Close.is (c.in_ok-hear_filter.ensures.heard t holds (λ hash. ap (λ (tables : Tables). tables c.args.p.0 hash) c.claims.ensures.claims ∙ f.claims hash)) in
+    let o = subst (λ (x : Heard). TakesFilter c.take_filter.new.self m t x) c.in-Close.is (c.in_ok-take_filter.ensures.heard t holds (λ hash. ap (λ (tables : Tables). tables c.args.p.0 hash) c.claims.ensures.claims ∙ f.claims hash)) in
     (o, same_seen (seen_of c.args.tracker.now))
 
 pub returns-in-Close-clause-right : goal.returns-in-Close-clause-right
-returns-in-Close-clause-right g c = subst (λ (tables : Tables). IsRight c.hear_filter.new.self.request (tables c.args.p.0)) c.claims.ensures.claims c.in_ok-hear_filter.ensures.right
+returns-in-Close-clause-right g c = subst (λ (tables : Tables). IsRight c.take_filter.new.self.request (tables c.args.p.0)) c.claims.ensures.claims c.in_ok-take_filter.ensures.right
 
 pub returns-in_ok-take_given-in-Whole-clause-heard : goal.returns-in_ok-take_given-in-Whole-clause-heard
 returns-in_ok-take_given-in-Whole-clause-heard g c = λ t holds f.
     let m = Cfilter c.args.filter c.args.block.now c.args.bytes.now in
-    let o = subst (λ (x : Heard). TakesFilter c.hear_filter.new.self m t x) c.in-Whole.is (c.in_ok-hear_filter.ensures.heard t holds (λ hash. ap (λ (tables : Tables). tables c.args.p.0 hash) c.claims.ensures.claims ∙ f.claims hash)) in
+    let o = subst (λ (x : Heard). TakesFilter c.take_filter.new.self m t x) c.in-Whole.is (c.in_ok-take_filter.ensures.heard t holds (λ hash. ap (λ (tables : Tables). tables c.args.p.0 hash) c.claims.ensures.claims ∙ f.claims hash)) in
     let before = seen_of c.args.tracker.now in
     let after = seen_of c.let_go.new.tracker in
     let judged = opens_of c.take_given.new.tracker in
     let kept = c.in_ok-take_given-in-Whole.ensures in
     let gone = c.let_go.ensures in
-    may_expose before after c.args.p c.hear_filter.new.self m t (c.args.block.now.0 ∷ []) c.reply_after.result o.2 c.reply_after.ensures.exposed
-    (filter_hears before after c.args.p c.hear_filter.new.self c.args.filter c.args.block.now c.args.bytes.now c.in-Whole.jobs t o.0 o.1 f
+    may_expose before after c.args.p c.take_filter.new.self m t (c.args.block.now.0 ∷ []) c.reply_after.result o.2 c.reply_after.ensures.exposed
+    (filter_hears before after c.args.p c.take_filter.new.self c.args.filter c.args.block.now c.args.bytes.now c.in-Whole.jobs t o.0 o.1 f
     (gone.watch ∙ kept.watch) (λ q. gone.chains q ∙ kept.chains q) (λ q block. gone.claims q block ∙ kept.claims q block)
     (λ hash. sym (kept.table hash ∙ gone.table hash))
     (λ block hash. gone.verdicts block hash
     ∙ subst (λ (js : List Job). AreSameVerdicts (verdicts_of c.take_given.new.tracker) (judged_if (aims_of c.args.tracker.now c.args.p.0) (watch_of c.args.tracker.now) js (verdicts_of c.args.tracker.now)))
     c.as_slice.ensures kept.ok block hash)
-    (opens_whole judged after.opens c.args.p.0 c.args.peer.now c.hear_filter.new.self c.args.filter c.args.block.now c.args.bytes.now t holds o.0 gone.closes gone.stays
+    (opens_whole judged after.opens c.args.p.0 c.args.peer.now c.take_filter.new.self c.args.filter c.args.block.now c.args.bytes.now t holds o.0 gone.closes gone.stays
     (opens_on before.opens judged c.args.p.0 t kept.opens f.opens))
     (else_then before.opens judged after.opens c.args.p.0 (else_of before.opens judged c.args.p.0 kept.opens) gone.others)
     (go_given before.trials before.trials (trials_of c.take_given.new.tracker) after.trials c.args.p.0 c.as_slice.result.now c.in-Whole.jobs c.as_slice.ensures
@@ -64,8 +64,7 @@ returns-in_ok-take_given-in-Whole-clause-heard g c = λ t holds f.
 
 pub returns-in_ok-take_given-in-Whole-clause-exposes : goal.returns-in_ok-take_given-in-Whole-clause-exposes
 returns-in_ok-take_given-in-Whole-clause-exposes g c = λ t holds f.
-    let m = Cfilter c.args.filter c.args.block.now c.args.bytes.now in
-    let o = subst (λ (x : Heard). TakesFilter c.hear_filter.new.self m t x) c.in-Whole.is (c.in_ok-hear_filter.ensures.heard t holds (λ hash. ap (λ (tables : Tables). tables c.args.p.0 hash) c.claims.ensures.claims ∙ f.claims hash)) in
+    let o = subst (λ (x : Heard). TakesFilter c.take_filter.new.self (Cfilter c.args.filter c.args.block.now c.args.bytes.now) t x) c.in-Whole.is (c.in_ok-take_filter.ensures.heard t holds (λ hash. ap (λ (tables : Tables). tables c.args.p.0 hash) c.claims.ensures.claims ∙ f.claims hash)) in
     let before = seen_of c.args.tracker.now in
     let after = seen_of c.let_go.new.tracker in
     let kept = c.in_ok-take_given-in-Whole.ensures in
@@ -83,9 +82,9 @@ returns-in-Close-clause-exposes g c = λ t holds f none. none
 
 pub returns-in_ok-take_given-in-Whole-clause-right : goal.returns-in_ok-take_given-in-Whole-clause-right
 returns-in_ok-take_given-in-Whole-clause-right g c =
-    right_same c.hear_filter.new.self.request (claims_of c.args.tracker.now c.args.p.0) (claims_of c.let_go.new.tracker c.args.p.0)
+    right_same c.take_filter.new.self.request (claims_of c.args.tracker.now c.args.p.0) (claims_of c.let_go.new.tracker c.args.p.0)
     (λ block. c.let_go.ensures.claims c.args.p.0 block ∙ c.in_ok-take_given-in-Whole.ensures.claims c.args.p.0 block)
-    (subst (λ (tables : Tables). IsRight c.hear_filter.new.self.request (tables c.args.p.0)) c.claims.ensures.claims c.in_ok-hear_filter.ensures.right)
+    (subst (λ (tables : Tables). IsRight c.take_filter.new.self.request (tables c.args.p.0)) c.claims.ensures.claims c.in_ok-take_filter.ensures.right)
 
 pub returns-in-Nothing-clause-judged : goal.returns-in-Nothing-clause-judged
 returns-in-Nothing-clause-judged g c = inl (record { same = refl; kept = λ block hash. refl })

@@ -14,14 +14,14 @@ use Rattle.cf_walk.proofs.Growing.{headers_more}
 use Rattle.cf_index.proofs.Judging.{refused_before, refused_coins, stands}
 use Rattle.cf_index.proofs.index.Index.add.Goals as goal
 
-pub judge_on-requires-clause-chain : goal.judge_on-requires-clause-chain
-judge_on-requires-clause-chain c =
+pub judge_by_kept-requires-clause-chain : goal.judge_by_kept-requires-clause-chain
+judge_by_kept-requires-clause-chain c =
     subst (λ (bs : List Block). AreTheirs c.self.inside.coins bs × IsGoodChain bs) (sym c.as_slice.ensures) (c.self.invariant.1.found, c.self.invariant.0.good)
 
 pub take_coins-requires : goal.take_coins-requires
 take_coins-requires c =
-    subst (λ (bs : List Block). AreTheirs c.judge_on.new.coins bs × IsGoodChain bs) (c.as_slice.ensures ∙ sym c.as_slice-3.ensures)
-    (c.judge_on.ensures.theirs, subst IsGoodChain (sym c.as_slice.ensures) c.self.invariant.0.good)
+    subst (λ (bs : List Block). AreTheirs c.judge_by_kept.new.coins bs × IsGoodChain bs) (c.as_slice.ensures ∙ sym c.as_slice-3.ensures)
+    (c.judge_by_kept.ensures.theirs, subst IsGoodChain (sym c.as_slice.ensures) c.self.invariant.0.good)
 
 pub returns-in-Err-clause-exact : goal.returns-in-Err-clause-exact
 returns-in-Err-clause-exact c =
@@ -29,10 +29,10 @@ returns-in-Err-clause-exact c =
     subst (λ (bs : List Block). RefusesFor (cause_on bs c.args.block) c.in-Err.e) c.self.view_is
     (refused_before c.self.inside.blocks c.args.block _ _ _ c.in-Err.e tip c.self.invariant.1.timed c.len-height.ensures c.in-Err.ensures.exact)
 
-pub returns-in-Err-judge_on-clause-exact : goal.returns-in-Err-judge_on-clause-exact
-returns-in-Err-judge_on-clause-exact c =
+pub returns-in-Err-judge_by_kept-clause-exact : goal.returns-in-Err-judge_by_kept-clause-exact
+returns-in-Err-judge_by_kept-clause-exact c =
     let tip = c.top_hash-tip.ensures ∙ ap (λ (bs : List Block). tip_hash (headers_of bs)) (sym c.self.view_is) in
-    let failed = c.in-Err-judge_on in
+    let failed = c.in-Err-judge_by_kept in
     subst (λ (bs : List Block). RefusesFor (cause_on bs c.args.block) failed.e) c.self.view_is
     (refused_coins c.self.inside.blocks c.args.block _ _ _ _ failed.e tip c.self.invariant.1.timed c.len-height.ensures c.in-Ok.ensures.exact
     (ap (coins_after empty) c.as_slice.ensures) failed.ensures.exact)
@@ -44,7 +44,7 @@ invariant_of-self-2 c =
     let tip = c.top_hash-tip.ensures ∙ ap (λ (bs : List Block). tip_hash (headers_of bs)) (sym c.self.view_is) in
     let laid = c.in_ok-coins.ensures.found ∙ ap (coins_after empty) c.as_slice-3.ensures in
     let fit = stands blocks block _ _ _ _ tip c.self.invariant.1.timed c.len-height.ensures c.in-Ok.ensures.exact (ap (coins_after empty) c.as_slice.ensures)
-    c.in-Ok-judge_on.ensures.exact in
+    c.in-Ok-judge_by_kept.ensures.exact in
     let last = c.last_header-last.ensures ∙ ap last_header (sym c.self.view_is) in
     let told = told_on blocks block c.with_header-filter.result c.as_slice-5.result.now c.in_ok-coins.coins c.last_header-last.result.0
     (c.with_header-filter.ensures c.as_slice-5.result.now block c.in_ok-bare.ensures) (c.as_slice-5.ensures ∙ c.in-Ok-spend_block.ensures.spent) laid last in
@@ -66,4 +66,4 @@ returns-clause-exact c =
     let tip = c.top_hash-tip.ensures ∙ ap (λ (bs : List Block). tip_hash (headers_of bs)) (sym c.self.view_is) in
     sym (ap (λ (bs : List Block). cause_on bs c.args.block) c.self.view_is)
     ∙ stands c.self.inside.blocks c.args.block _ _ _ _ tip c.self.invariant.1.timed c.len-height.ensures c.in-Ok.ensures.exact
-    (ap (coins_after empty) c.as_slice.ensures) c.in-Ok-judge_on.ensures.exact
+    (ap (coins_after empty) c.as_slice.ensures) c.in-Ok-judge_by_kept.ensures.exact

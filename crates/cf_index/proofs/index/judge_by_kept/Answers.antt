@@ -3,7 +3,7 @@ use Rattle.cf_chain.specs.Coins.{CoinMap}
 use Rattle.cf_coins.specs.Spending.{spend_txs}
 use Rattle.cf_walk.specs.Files.{in_coins}
 use Rattle.cf_walk.specs.Progress.{FindsCause}
-use Rattle.cf_index.proofs.index.judge_on.Goals as goal
+use Rattle.cf_index.proofs.index.judge_by_kept.Goals as goal
 
 pub returns-clause-exact : goal.returns-clause-exact
 returns-clause-exact c =
