@@ -6,10 +6,10 @@ use crate::conversations::{MOMENT, NONCE, conn_in, index_in, shown as bytes_show
 use cf_bytes::{Failed, Sink};
 use cf_conn::{Duplex, MemoryConn, MemoryEnd, Source};
 use cf_grow::{Ending, Grown, Nobody, serve_grown};
+use cf_rows::Host;
 use std::alloc::Global;
 use std::marker::Model;
 use std::sync::{Arc, Mutex, Wait};
-use std::thread::Threads;
 
 // The most bytes that are written to a connection.
 const ROOM: usize = 4_000_000;
@@ -113,11 +113,7 @@ fn shown(alloc: Global, how: &Option<Ending>, conn: &MemoryConn) -> Option<Strin
 
 /// How two connections end over a chain that grows, and what is written. The first one is served whole, once so many
 /// reads of the second have come.
-pub(crate) fn answer<R: Wait + Threads + Sync + Copy + Drop>(
-    rt: R,
-    alloc: Global,
-    row: &str,
-) -> Option<String> {
+pub(crate) fn answer<R: Host>(rt: R, alloc: Global, row: &str) -> Option<String> {
     let (chain, rest) = row.split_once(' ')?;
     let (most, rest) = rest.split_once(' ')?;
     let (before, rest) = rest.split_once(' ')?;

@@ -25,17 +25,12 @@ mod stores;
 mod streams;
 mod verdicts;
 
+use cf_rows::Host;
 use std::alloc::Global;
 use std::process::ExitCode;
-use std::sync::Wait;
-use std::thread::Threads;
 
 // What a row comes to.
-fn answer<R: Wait + Threads + Sync + Copy + Drop + Send + 'static>(
-    rt: R,
-    alloc: Global,
-    row: &str,
-) -> Option<String> {
+fn answer<R: Host>(rt: R, alloc: Global, row: &str) -> Option<String> {
     let (kind, rest) = row.split_once(' ')?;
     match kind {
         "address" => addresses::answer(alloc, rest),
@@ -86,11 +81,7 @@ fn answer<R: Wait + Threads + Sync + Copy + Drop + Send + 'static>(
 }
 
 // The lines that are printed for a row.
-fn shown<R: Wait + Threads + Sync + Copy + Drop + Send + 'static>(
-    rt: R,
-    alloc: Global,
-    row: &str,
-) -> Option<String> {
+fn shown<R: Host>(rt: R, alloc: Global, row: &str) -> Option<String> {
     if row.starts_with('#') {
         return format!(in alloc; "{row}").ok();
     }

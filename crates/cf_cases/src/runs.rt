@@ -4,18 +4,13 @@ ghost use Rattle.cf_wires.specs.Memory.{log_of, finished_of};
 
 use crate::chains::chain_in;
 use crate::fields::{bytes_in, file_in, numbers_in, texts_in};
-use crate::servings::{Same, in_threads, no_link, spawner_in};
-use cf_answers::Status;
-use cf_bytes::{FileFail, Files, MapFiles, VecSink};
-use cf_cli::run;
-use cf_grow::Nobody;
+use crate::servings::spawner_in;
+use cf_bytes::{FileFail, Files, MapFiles};
 use cf_input::read_session;
 use cf_make::records;
-use cf_played::Played;
+use cf_rows::{Host, Limited, answered, no_link};
 use cf_wires::MemoryWires;
 use std::alloc::Global;
-use std::sync::Wait;
-use std::thread::Threads;
 
 // So many of the first bytes of a made chain's records.
 fn front_of(alloc: Global, chain: &str, count: &str) -> Option<Vec<u8>> {
@@ -59,15 +54,6 @@ pub(crate) fn wires_of(alloc: Global, session: &str, failing: &str) -> Option<Me
     Some(wires)
 }
 
-// The exit status, the status, and what went wrong, in words.
-pub(crate) fn told(alloc: Global, status: &Status) -> Option<String> {
-    let code = status.code();
-    match status {
-        Status::Done => format!(in alloc; "{code} {status:?}").ok(),
-        _ => format!(in alloc; "{code} {status:?}: {status}").ok(),
-    }
-}
-
 // What stands under the name `r`, or nothing.
 fn record_of(alloc: Global, files: &mut MapFiles) -> Option<String> {
     match files.read(alloc, "r", 1_000_000) {
@@ -86,67 +72,37 @@ fn blocks_of(alloc: Global, files: &mut MapFiles) -> Option<String> {
     }
 }
 
-fn shown(
-    alloc: Global,
-    status: &Status,
-    written: &[u8],
-    record: &str,
-    blocks: &str,
-) -> Option<String> {
-    let text = str::from_utf8(written).ok()?;
-    let told = told(alloc, status)?;
-    format!(in alloc; "{told}\n{text}{record}{blocks}").ok()
-}
-
 // The answer to these words, over these wires, by this spawner, into a sink with so much room.
-fn answered<R: Wait + Threads + Sync + Copy + Drop + Send + 'static>(
+fn finished<R: Host>(
     rt: R,
     alloc: Global,
     words: &[String],
-    files: MapFiles,
-    wires: MemoryWires,
-    spawner: Same<R>,
+    mut files: MapFiles,
+    mut wires: MemoryWires,
+    mut spawner: Limited<R>,
     room: usize,
 ) -> Option<String>
     requires { (log_of wires ≡ []) × (finished_of wires ≡ false) }
 {
-    let mut files = files;
-    let mut wires = wires;
-    let mut spawner = spawner;
-    let mut tape = MemoryWires::new(alloc).ok()?;
-    let mut played = Played::new(alloc).ok()?;
-    let mut link = no_link(alloc)?;
-    let mut out = VecSink::new(alloc, 7, room).ok()?;
-    let status = run(
+    let told = answered(
         rt,
         alloc,
-        Nobody,
         words,
-        0,
-        0,
+        (0, 0),
+        room,
         &mut files,
         &mut wires,
-        &mut tape,
-        &mut played,
-        &mut link,
+        &mut no_link(alloc)?,
         &mut spawner,
-        &mut out,
-        &mut Vec::new(alloc),
-    );
+    )?;
     let record = record_of(alloc, &mut files)?;
     let blocks = blocks_of(alloc, &mut files)?;
-    shown(
-        alloc,
-        &status,
-        out.bytes(),
-        record.as_str(),
-        blocks.as_str(),
-    )
+    format!(in alloc; "{told}{record}{blocks}").ok()
 }
 
 // The answer over the wires of a session, where the first field tells the room, the calls of the wires that fail, and
 // each behind a `/` those of the files and what is done with tasks.
-fn answered_over<R: Wait + Threads + Sync + Copy + Drop + Send + 'static>(
+fn answered_over<R: Host>(
     rt: R,
     alloc: Global,
     limits: &str,
@@ -161,11 +117,11 @@ fn answered_over<R: Wait + Threads + Sync + Copy + Drop + Send + 'static>(
     let spawner = spawner_in(rt, way)?;
     let wires = wires_of(alloc, session, failing)?;
     files.failing(&numbers_in(alloc, unread)?).ok()?;
-    answered(rt, alloc, words, files, wires, spawner, room)
+    finished(rt, alloc, words, files, wires, spawner, room)
 }
 
 // The call of a row's fields: the room, the calls of the wires that fail, the words, and the files.
-fn called<R: Wait + Threads + Sync + Copy + Drop + Send + 'static>(
+fn called<R: Host>(
     rt: R,
     alloc: Global,
     limits: &str,
@@ -181,7 +137,7 @@ fn called<R: Wait + Threads + Sync + Copy + Drop + Send + 'static>(
 }
 
 /// How `replay` of a session ends, and what it writes, with the watch file of a field.
-pub(crate) fn replayed<R: Wait + Threads + Sync + Copy + Drop + Send + 'static>(
+pub(crate) fn replayed<R: Host>(
     rt: R,
     alloc: Global,
     watch: &str,
@@ -190,15 +146,12 @@ pub(crate) fn replayed<R: Wait + Threads + Sync + Copy + Drop + Send + 'static>(
     let words = texts_in(alloc, "cf replay w s", ' ')?;
     let files = files_of(alloc, watch, session, "-")?;
     let wires = MemoryWires::new(alloc).ok()?;
-    answered(rt, alloc, &words, files, wires, in_threads(rt), 5000)
+    let spawner = spawner_in(rt, "threads")?;
+    finished(rt, alloc, &words, files, wires, spawner, 5000)
 }
 
 /// How the call of a row ends, and what it writes.
-pub(crate) fn answer<R: Wait + Threads + Sync + Copy + Drop + Send + 'static>(
-    rt: R,
-    alloc: Global,
-    row: &str,
-) -> Option<String> {
+pub(crate) fn answer<R: Host>(rt: R, alloc: Global, row: &str) -> Option<String> {
     let (limits, rest) = row.split_once('|')?;
     let (words, rest) = rest.split_once('|')?;
     let (watch, rest) = rest.split_once('|')?;

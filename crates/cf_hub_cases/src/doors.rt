@@ -47,8 +47,8 @@ pub(crate) fn nap(rt: &HostRuntime) {
     thread::sleep(rt, Duration::from_millis(1));
 }
 
-// Whether a count is so high, at one of so many looks.
-fn is_reached(rt: &HostRuntime, count: &Count, wanted: u32) -> bool {
+/// Whether a count is so high, at one of so many looks.
+pub(crate) fn is_reached(rt: &HostRuntime, count: &Count, wanted: u32) -> bool {
     for _ in 0..LOOKS {
         if count.load(Ordering::SeqCst) >= wanted {
             return true;
@@ -71,13 +71,23 @@ pub(crate) fn stands_at(rt: &HostRuntime, count: &Count, wanted: u32) -> bool {
 /// memory.
 #[derive(Drop)]
 pub(crate) struct Door {
-    pub(crate) rt: HostRuntime,
-    pub(crate) count: Count,
-    pub(crate) wanted: u32,
-    pub(crate) enters: bool,
+    rt: HostRuntime,
+    count: Count,
+    wanted: u32,
+    enters: bool,
 }
 
 impl Door {
+    /// A door that is open once this count is so high, for one that counts itself where it enters.
+    pub(crate) fn new(rt: HostRuntime, count: &Count, wanted: u32, enters: bool) -> Option<Door> {
+        Some(Door {
+            rt,
+            count: same(count)?,
+            wanted,
+            enters,
+        })
+    }
+
     /// Waits until it is open. False where it isn't after so many looks.
     pub(crate) fn pass(&mut self) -> bool {
         if self.enters {
@@ -85,5 +95,11 @@ impl Door {
             add(&self.count, 1);
         }
         is_reached(&self.rt, &self.count, self.wanted)
+    }
+
+    /// Waits until it is open, and a millisecond more.
+    pub(crate) fn pass_late(&mut self) {
+        self.pass();
+        nap(&self.rt);
     }
 }

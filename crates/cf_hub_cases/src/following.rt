@@ -1,11 +1,12 @@
 //! The call that follows.
+use crate::doors::count;
 use crate::link::ToldLink;
-use crate::port::port;
-use crate::row::{shown, watch_in, words_at};
+use crate::row::{watch_in, words_at};
 use cf_bytes::{MapFiles, VecSink};
 use cf_cli::run;
 use cf_edge::Edge;
 use cf_grow::Nobody;
+use cf_rows::{Host, shown};
 use cf_tasks::{InThreads, Spawner};
 use cf_wires::MOST_PEERS;
 use std::sync::Wait;
@@ -20,7 +21,7 @@ fn followed<R: Wait + Threads + Sync + Copy + Drop + Send + 'static, K: Spawner>
     spawner: &mut K,
 ) -> Option<String> {
     let alloc = rt.alloc();
-    let mut link = ToldLink::new(rt, port(alloc)?);
+    let mut link = ToldLink::new(rt, count(alloc)?);
     let mut out = VecSink::new(alloc, 7, 1000).ok()?;
     let Ok(mut edge) = Edge::new(&rt, handle, spawner, MOST_PEERS) else {
         return None;
@@ -46,7 +47,7 @@ fn followed<R: Wait + Threads + Sync + Copy + Drop + Send + 'static, K: Spawner>
 
 /// How calls end that dial this port, one after another, and what each writes. They are parted by `;`, and the files
 /// that one writes are there for the next.
-pub(crate) fn follow<R: Wait + Threads + Sync + Copy + Drop + Send + 'static>(
+pub(crate) fn follow<R: Host>(
     rt: HostRuntime,
     handle: R,
     calls: &str,

@@ -14,6 +14,7 @@ use crate::doors::{amount, is_none};
 use crate::telling::{ToldCounts, ToldDialer, ToldPeer, ToldPulse};
 use cf_bytes::PeerNo;
 use cf_hub::Hub;
+use cf_rows::Host;
 use cf_tasks::InThreads;
 use cf_wires::{Delivery, Wires};
 use std::alloc::Global;
@@ -263,11 +264,7 @@ fn text_of(alloc: Global, came: &Came, ticks: usize, counts: &ToldCounts) -> Opt
 
 /// What comes over a hub of the peer of a row: the first so many seconds, its bytes, whether it has gone, and how much
 /// was written to it.
-pub(crate) fn answer<R: Wait + Threads + Copy + Drop + Send + 'static>(
-    rt: HostRuntime,
-    handle: R,
-    row: &str,
-) -> Option<String> {
+pub(crate) fn answer<R: Host>(rt: HostRuntime, handle: R, row: &str) -> Option<String> {
     let alloc = rt.alloc();
     let (most, rest) = row.split_once(' ')?;
     let (ticks, rest) = rest.split_once(' ')?;

@@ -5,9 +5,11 @@ ghost use Rattle.cf_wires.specs.Log.{Tells};
 
 use crate::doors::{Count, SHUT, add, same};
 use crate::guide::Joins;
-use crate::outside::{Counts, Limited, PlannedDialer, PlannedPulse, dialer_of, pulse_of};
+use crate::outside::{Counts, PlannedDialer, PlannedPulse, dialer_of, pulse_of};
 use cf_bytes::{NoMemory, PeerNo};
 use cf_hub::Hub;
+use cf_rows::Limited;
+use cf_tasks::Choice;
 use cf_wires::{Delivery, WireFail, Wires};
 use std::marker::Model;
 use std::sync::Wait;
@@ -35,42 +37,56 @@ impl<R: Wait + Threads + Copy + Drop> Model for Held<R> {
     } };
 }
 
-// A hub that has dialled nobody, with so many threads for readers, of whose threads so many start. Its pulse waits for
-// so many at the gate.
+/// What a row says of its hub: how many threads it has for readers, how many of its threads start, and for how many at
+/// the gate its pulse waits.
+#[derive(Clone, Copy)]
+pub(crate) struct Numbers {
+    threads: usize,
+    starts: u32,
+    wanted: u32,
+}
+
+impl Numbers {
+    /// The numbers of three fields.
+    pub(crate) fn read(threads: &str, starts: &str, wanted: &str) -> Option<Numbers> {
+        Some(Numbers {
+            threads: threads.parse().ok()?,
+            starts: starts.parse().ok()?,
+            wanted: wanted.parse().ok()?,
+        })
+    }
+}
+
+// A hub that has dialled nobody.
 fn hub_of<R: Wait + Threads + Copy + Drop + Send + 'static>(
     rt: HostRuntime,
     handle: R,
     counts: &Counts,
-    threads: usize,
-    starts: u32,
-    wanted: u32,
+    numbers: Numbers,
 ) -> Option<Hub<PlannedDialer, PlannedPulse, R>>
     ensures told { IfSome result (λ h. Tells [] (told_of h.book)) }
     ensures finished { IfSome result (λ h. (told_of h.book).finished ≡ false) }
 {
     let alloc = rt.alloc();
     let dialer = dialer_of(rt, alloc, counts)?;
-    let pulse = pulse_of(rt, counts, wanted)?;
-    let mut spawner = Limited::new(handle, starts);
-    Hub::started(handle, alloc, dialer, pulse, &mut spawner, threads).ok()
+    let pulse = pulse_of(rt, counts, numbers.wanted)?;
+    let mut spawner = Limited::new(handle, Choice::InThread, numbers.starts);
+    Hub::started(handle, alloc, dialer, pulse, &mut spawner, numbers.threads).ok()
 }
 
 impl<R: Wait + Threads + Copy + Drop + Send + 'static> Held<R> {
-    /// A hub that has dialled nobody, with so many threads for readers, of whose threads so many start. Its pulse waits
-    /// for so many at the gate.
+    /// A hub that has dialled nobody.
     pub(crate) fn new(
         rt: HostRuntime,
         handle: R,
         counts: &Counts,
-        threads: usize,
-        starts: u32,
-        wanted: u32,
+        numbers: Numbers,
     ) -> Option<Held<R>>
         ensures told { IfSome result (λ n. Tells [] n.told) }
         ensures finished { IfSome result (λ n. n.told.finished ≡ false) }
     {
         let gate = same(&counts.gate)?;
-        let hub = hub_of(rt, handle, counts, threads, starts, wanted)?;
+        let hub = hub_of(rt, handle, counts, numbers)?;
         Some(Held { hub, gate })
     }
 }

@@ -5,15 +5,14 @@ ghost use Rattle.cf_wires.specs.Log.{Tells};
 use crate::course::{Course, Until};
 use crate::doors::{is_none, stands_at};
 use crate::guide::Joins;
-use crate::held::Held;
+use crate::held::{Held, Numbers};
 use crate::lines::without_ticks;
 use crate::outside::Counts;
 use crate::replays::replayed;
 use cf_bytes::PeerNo;
+use cf_rows::Host;
 use cf_wires::Wires;
 use std::alloc::Global;
-use std::sync::Wait;
-use std::thread::Threads;
 
 // Puts one of two words behind a text.
 fn put_word(is_so: bool, word: &str, other: &str, out: &mut String) -> Option<()> {
@@ -39,27 +38,16 @@ fn send<W: Wires + Joins + Drop>(
     put_word(course.send(p, &bytes)?, "sent", "unsent", out)
 }
 
-// Makes the session of a course again, from its lines.
-fn replay<W: Wires + Joins + Drop>(
-    alloc: Global,
-    course: &Course<W>,
-    out: &mut String,
-) -> Option<()> {
-    let session = course.session()?;
-    let again = replayed(alloc, session.as_str())?;
-    put_word(again.as_str() == session.as_str(), "replayed", "other", out)
+// Makes a session again, from its lines.
+fn replay(alloc: Global, session: &str, out: &mut String) -> Option<()> {
+    let again = replayed(alloc, session)?;
+    put_word(again.as_str() == session, "replayed", "other", out)
 }
 
-// Puts the lines of the session behind a text.
-fn put_session<W: Wires + Joins + Drop>(
-    alloc: Global,
-    course: &Course<W>,
-    out: &mut String,
-) -> Option<()> {
-    let session = course.session()?;
+// Puts the lines of a session behind a text.
+fn put_session(alloc: Global, session: &str, out: &mut String) -> Option<()> {
     out.push(' ').ok()?;
-    out.push_str(without_ticks(alloc, session.as_str())?.as_str())
-        .ok()
+    out.push_str(without_ticks(alloc, session)?.as_str()).ok()
 }
 
 // A step that only looks.
@@ -76,8 +64,8 @@ fn look<W: Wires + Joins + Drop>(
         "ticks" => put_word(course.has_ticks()?, "ticks", "noticks", out),
         "recorded" => put_word(course.is_recorded()?, "recorded", "other", out),
         "joined" => put_word(course.is_joined(), "joined", "unjoined", out),
-        "session" => put_session(alloc, course, out),
-        "replay" => replay(alloc, course, out),
+        "session" => put_session(alloc, course.session()?.as_str(), out),
+        "replay" => replay(alloc, course.session()?.as_str(), out),
         _ => None,
     }
 }
@@ -94,16 +82,15 @@ fn until_in(verb: &str, rest: &str) -> Option<Until> {
 // A step with something behind a colon.
 fn act<W: Wires + Joins + Drop>(
     rt: &HostRuntime,
-    alloc: Global,
     course: &mut Course<W>,
     counts: &Counts,
-    step: &str,
+    verb: &str,
+    rest: &str,
     out: &mut String,
 ) -> Option<()> {
-    let (verb, rest) = step.split_once(':')?;
     match verb {
         "dial" => put_word(course.dial(rest)?, "dialled", "failed", out),
-        "send" => send(alloc, course, rest, out),
+        "send" => send(rt.alloc(), course, rest, out),
         "close" => course.close(peer_in(rest)?),
         "full" => {
             let wanted: u32 = rest.parse().ok()?;
@@ -116,28 +103,26 @@ fn act<W: Wires + Joins + Drop>(
 // A step.
 fn step<W: Wires + Joins + Drop>(
     rt: &HostRuntime,
-    alloc: Global,
     course: &mut Course<W>,
     counts: &Counts,
     step: &str,
     out: &mut String,
 ) -> Option<()> {
-    if step.contains(':') {
-        return act(rt, alloc, course, counts, step, out);
+    if let Some((verb, rest)) = step.split_once(':') {
+        return act(rt, course, counts, verb, rest, out);
     }
     match step {
         "tick" => put_word(course.take(Until::Tick)?, "tick", "notick", out),
         "all" => put_word(course.take(Until::End)?, "ended", "more", out),
         "prompt" => put_word(is_none(&counts.vain), "prompt", "late", out),
         "finish" => course.finish(),
-        _ => look(alloc, course, step, out),
+        _ => look(rt.alloc(), course, step, out),
     }
 }
 
 // What steps come to over these wires.
 fn played<W: Wires + Joins + Drop>(
     rt: &HostRuntime,
-    alloc: Global,
     wires: W,
     counts: &Counts,
     steps: &str,
@@ -145,43 +130,25 @@ fn played<W: Wires + Joins + Drop>(
     requires new { Tells [] (W.told wires) }
     requires running { (W.told wires).finished ≡ false }
 {
-    let mut course = Course::new(alloc, wires);
-    let mut out = String::new(alloc);
+    let mut course = Course::new(rt.alloc(), wires);
+    let mut out = String::new(rt.alloc());
     for one in steps.split(' ') {
-        step(rt, alloc, &mut course, counts, one, &mut out)?;
+        step(rt, &mut course, counts, one, &mut out)?;
     }
     Some(out)
 }
 
 // What the steps of a row come to over a hub.
-fn over_hub<R: Wait + Threads + Copy + Drop + Send + 'static>(
-    rt: HostRuntime,
-    handle: R,
-    threads: usize,
-    starts: u32,
-    wanted: u32,
-    steps: &str,
-) -> Option<String> {
+fn over_hub<R: Host>(rt: HostRuntime, handle: R, numbers: Numbers, steps: &str) -> Option<String> {
     let counts = Counts::new(rt.alloc())?;
-    let hub = Held::new(rt, handle, &counts, threads, starts, wanted)?;
-    played(&rt, rt.alloc(), hub, &counts, steps)
+    let hub = Held::new(rt, handle, &counts, numbers)?;
+    played(&rt, hub, &counts, steps)
 }
 
 /// What the steps of a row come to.
-pub(crate) fn answer<R: Wait + Threads + Copy + Drop + Send + 'static>(
-    rt: HostRuntime,
-    handle: R,
-    row: &str,
-) -> Option<String> {
+pub(crate) fn answer<R: Host>(rt: HostRuntime, handle: R, row: &str) -> Option<String> {
     let (threads, rest) = row.split_once(' ')?;
     let (starts, rest) = rest.split_once(' ')?;
     let (wanted, steps) = rest.split_once(' ')?;
-    over_hub(
-        rt,
-        handle,
-        threads.parse().ok()?,
-        starts.parse().ok()?,
-        wanted.parse().ok()?,
-        steps,
-    )
+    over_hub(rt, handle, Numbers::read(threads, starts, wanted)?, steps)
 }

@@ -1,7 +1,8 @@
 //! A listener over TCP that tells the port at which it listens.
 ghost use Rattle.std.specs.Prelude.{◌≡◌, ◌-◌, None};
 
-use crate::port::{Port, tell};
+use crate::doors::Count;
+use crate::port::tell;
 use cf_bytes::{Failed, Hash32};
 use cf_link::{Link, TcpConn, TcpEnd, TcpLink};
 
@@ -9,12 +10,12 @@ use cf_link::{Link, TcpConn, TcpEnd, TcpLink};
 #[derive(Drop)]
 pub(crate) struct ToldLink {
     link: TcpLink<HostRuntime>,
-    port: Port,
+    port: Count,
 }
 
 impl ToldLink {
     /// A listener that doesn't listen yet.
-    pub(crate) fn new(rt: HostRuntime, port: Port) -> ToldLink {
+    pub(crate) fn new(rt: HostRuntime, port: Count) -> ToldLink {
         ToldLink {
             link: TcpLink::new(rt),
             port,

@@ -1,47 +1,37 @@
 //! A chain that the program serves over TCP, and follows, in one process.
+use crate::doors::{count, same};
 use crate::following::follow;
-use crate::port::{listening, port, same};
-use crate::row::{Row, read};
+use crate::port::listening;
 use crate::serving::serve;
-use std::sync::Wait;
+use cf_rows::Host;
 use std::thread;
-use std::thread::Threads;
 
-// What the calls that follow come to, and whether the one that serves ends with `Done`.
-fn both<R: Wait + Threads + Sync + Copy + Drop + Send + 'static>(
+// What the calls that follow come to, and whether the one that serves ends with `Done` and writes nothing.
+fn both<R: Host>(
     rt: HostRuntime,
     handle: R,
-    row: Row,
+    serving: String,
+    blocks: String,
+    words: &str,
+    watch: &str,
 ) -> Option<String> {
-    let Row {
-        serving,
-        blocks,
-        words,
-        watch,
-    } = row;
-    let port = port(rt.alloc())?;
+    let port = count(rt.alloc())?;
     let theirs = same(&port)?;
     let server = thread::spawn(&handle, move || serve(rt, handle, serving, blocks, theirs)).ok()?;
-    let text = follow(
-        rt,
-        handle,
-        words.as_str(),
-        watch.as_str(),
-        listening(&rt, &port)?,
-    )?;
-    let word = if server.join(&handle) {
-        "served"
-    } else {
-        "unserved"
+    let text = follow(rt, handle, words, watch, listening(&rt, &port)?)?;
+    let word = match server.join(&handle) {
+        Some(told) if told.as_str() == "0 Done\n" => "served",
+        _ => "unserved",
     };
     format!(in rt.alloc(); "{text}{word}").ok()
 }
 
 /// What the calls of a row come to: each that follows, and whether the one that serves ends with `Done`.
-pub(crate) fn answer<R: Wait + Threads + Sync + Copy + Drop + Send + 'static>(
-    rt: HostRuntime,
-    handle: R,
-    row: &str,
-) -> Option<String> {
-    both(rt, handle, read(rt.alloc(), row)?)
+pub(crate) fn answer<R: Host>(rt: HostRuntime, handle: R, row: &str) -> Option<String> {
+    let (serving, rest) = row.split_once('|')?;
+    let (words, rest) = rest.split_once('|')?;
+    let (watch, blocks) = rest.split_once('|')?;
+    let serving = String::from_str(rt.alloc(), serving).ok()?;
+    let blocks = String::from_str(rt.alloc(), blocks).ok()?;
+    both(rt, handle, serving, blocks, words, watch)
 }

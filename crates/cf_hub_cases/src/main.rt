@@ -25,16 +25,11 @@ mod sockets;
 mod telling;
 mod ticking;
 
+use cf_rows::Host;
 use std::process::ExitCode;
-use std::sync::Wait;
-use std::thread::Threads;
 
 // What a row comes to.
-fn answer<R: Wait + Threads + Sync + Copy + Drop + Send + 'static>(
-    rt: HostRuntime,
-    handle: R,
-    row: &str,
-) -> Option<String> {
+fn answer<R: Host>(rt: HostRuntime, handle: R, row: &str) -> Option<String> {
     let (kind, rest) = row.split_once(' ').unwrap_or((row, ""));
     match kind {
         "cf" => loopback::answer(rt, handle, row),
@@ -49,11 +44,7 @@ fn answer<R: Wait + Threads + Sync + Copy + Drop + Send + 'static>(
 }
 
 // The lines that are printed for a row.
-fn shown<R: Wait + Threads + Sync + Copy + Drop + Send + 'static>(
-    rt: HostRuntime,
-    handle: R,
-    row: &str,
-) -> Option<String> {
+fn shown<R: Host>(rt: HostRuntime, handle: R, row: &str) -> Option<String> {
     let alloc = rt.alloc();
     if row.starts_with('#') {
         return format!(in alloc; "{row}").ok();

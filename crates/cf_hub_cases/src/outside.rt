@@ -1,15 +1,11 @@
-//! The outside of a hub in memory: peers of which each is told by the name under which it is dialled, a pulse, and a
-//! spawner that refuses.
-ghost use Rattle.std.specs.Prelude.{◌≡◌, ◌≤◌, ◌<◌, ◌==◌, if◌then◌else◌, None, Some, [], false, IfSome};
-ghost use Rattle.cf_tasks.specs.declared.threads.Choice.TheVariants.{InThread, Refuse};
+//! The outside of a hub in memory: peers of which each is told by the name under which it is dialled, and a pulse.
+ghost use Rattle.std.specs.Prelude.{◌≡◌, ◌<◌, None, Some, [], false, IfSome};
 
-use crate::doors::{Count, Door, SHUT, add, count, nap, same};
+use crate::doors::{Count, Door, SHUT, add, count, same};
 use cf_bytes::{Failed, Sink, VecSink};
 use cf_conn::{MemoryConn, Source};
 use cf_outside::{Dialer, Pulse, Writer};
-use cf_tasks::{Choice, Spawner};
 use std::alloc::Global;
-use std::thread::Threads;
 
 /// Gives the bytes of a connection in memory once its door is open, and none where that isn't in time. A read takes no
 /// memory.
@@ -235,12 +231,7 @@ impl PlannedDialer {
             Way::Sent => (own, plan.wanted, false),
             Way::Shut => (own, SHUT, false),
         };
-        Some(Door {
-            rt: self.rt,
-            count: same(count)?,
-            wanted,
-            enters,
-        })
+        Door::new(self.rt, count, wanted, enters)
     }
 
     // The source of a peer.
@@ -300,8 +291,7 @@ impl Pulse for PlannedPulse {
     ghost answers = { λ _. None };
 
     fn wait(&mut self) -> u32 {
-        self.door.pass();
-        nap(&self.door.rt);
+        self.door.pass_late();
         self.seconds = self.seconds.saturating_add(1);
         self.seconds.clamp(1, 86_400)
     }
@@ -309,12 +299,7 @@ impl Pulse for PlannedPulse {
 
 /// A pulse that waits for so many at the gate.
 pub(crate) fn pulse_of(rt: HostRuntime, counts: &Counts, wanted: u32) -> Option<PlannedPulse> {
-    let door = Door {
-        rt,
-        count: same(&counts.gate)?,
-        wanted,
-        enters: true,
-    };
+    let door = Door::new(rt, &counts.gate, wanted, true)?;
     Some(PlannedPulse { door, seconds: 0 })
 }
 
@@ -328,50 +313,4 @@ pub(crate) fn dialer_of(rt: HostRuntime, alloc: Global, counts: &Counts) -> Opti
         vain: same(&counts.vain)?,
         faults: 0,
     })
-}
-
-/// Starts so many tasks, each in a thread, and refuses the others.
-#[derive(Drop)]
-pub(crate) struct Limited<R> {
-    rt: R,
-    left: u32,
-    refused: u64,
-}
-
-impl<R: Threads + Drop> Limited<R> {
-    /// A spawner that starts so many.
-    pub(crate) fn new(rt: R, left: u32) -> Limited<R> {
-        Limited {
-            rt,
-            left,
-            refused: 0,
-        }
-    }
-}
-
-impl<R: Threads + Drop> Spawner for Limited<R> {
-    type Rt = R;
-
-    ghost refusals = { λ s. s.refused };
-
-    ghost next = { λ s. if s.left == 0 then Refuse else InThread };
-
-    ghost moves = { λ _ _ _. Unit {0} };
-
-    fn rt(&self) -> &R {
-        &self.rt
-    }
-
-    fn choose(&mut self) -> Choice {
-        if self.left == 0 {
-            self.refused = self.refused.saturating_add(1);
-            return Choice::Refuse;
-        }
-        self.left -= 1;
-        Choice::InThread
-    }
-
-    fn count(&mut self) {
-        self.refused = self.refused.saturating_add(1);
-    }
 }

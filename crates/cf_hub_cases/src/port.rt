@@ -1,39 +1,15 @@
 //! The port at which a call listens, which another thread waits for.
-use std::alloc::Global;
-use std::sync::Arc;
-use std::sync::atomic::{AtomicU32, Ordering};
-use std::thread;
-use std::time::Duration;
+use crate::doors::{Count, add, amount, is_reached};
 
-// How often a port is looked at, at most: once a millisecond.
-const LOOKS: u32 = 10_000;
-
-/// A port that threads share: 0 as long as nobody listens.
-pub(crate) type Port = Arc<AtomicU32, Global>;
-
-/// A port of nobody who listens.
-pub(crate) fn port(alloc: Global) -> Option<Port> {
-    Arc::new(alloc, AtomicU32::new(0)).ok()
+/// Says that somebody listens there. The count is of nothing until then.
+pub(crate) fn tell(port: &Count, number: u16) {
+    add(port, u32::from(number));
 }
 
-/// The same port once more.
-pub(crate) fn same(port: &Port) -> Option<Port> {
-    Arc::try_clone(port).ok()
-}
-
-/// Says that somebody listens there.
-pub(crate) fn tell(port: &Port, number: u16) {
-    port.store(u32::from(number), Ordering::SeqCst);
-}
-
-/// Its number, once somebody listens there. `None` where nobody does at so many looks.
-pub(crate) fn listening(rt: &HostRuntime, port: &Port) -> Option<u32> {
-    for _ in 0..LOOKS {
-        let number = port.load(Ordering::SeqCst);
-        if number != 0 {
-            return Some(number);
-        }
-        thread::sleep(rt, Duration::from_millis(1));
+/// The port's number, once somebody listens there. `None` where nobody does at so many looks.
+pub(crate) fn listening(rt: &HostRuntime, port: &Count) -> Option<u32> {
+    if !is_reached(rt, port, 1) {
+        return None;
     }
-    None
+    Some(amount(port))
 }

@@ -1,29 +1,6 @@
-//! Rows with calls of the program, and what of them several calls need.
-use cf_answers::Status;
+//! What several calls need of rows with calls of the program.
 use cf_bytes::{Files, MapFiles};
 use std::alloc::Global;
-
-/// A row of a chain that is served and followed.
-#[derive(Drop)]
-pub(crate) struct Row {
-    pub(crate) serving: String,
-    pub(crate) words: String,
-    pub(crate) watch: String,
-    pub(crate) blocks: String,
-}
-
-/// The row that a line is, if it is one.
-pub(crate) fn read(alloc: Global, line: &str) -> Option<Row> {
-    let (serving, rest) = line.split_once('|')?;
-    let (words, rest) = rest.split_once('|')?;
-    let (watch, blocks) = rest.split_once('|')?;
-    Some(Row {
-        serving: String::from_str(alloc, serving).ok()?,
-        words: String::from_str(alloc, words).ok()?,
-        watch: String::from_str(alloc, watch).ok()?,
-        blocks: String::from_str(alloc, blocks).ok()?,
-    })
-}
 
 /// The words of a call, where `@` stands for this port of loopback.
 pub(crate) fn words_at(alloc: Global, call: &str, port: u32) -> Option<Vec<String>> {
@@ -55,14 +32,4 @@ pub(crate) fn watch_in(alloc: Global, watch: &str) -> Option<MapFiles> {
     let mut files = MapFiles::new(alloc);
     files.write(alloc, "w", watch.as_bytes()).ok()?;
     Some(files)
-}
-
-/// The exit status, the status, what went wrong, in words, and what was written.
-pub(crate) fn shown(alloc: Global, status: &Status, written: &[u8]) -> Option<String> {
-    let text = str::from_utf8(written).ok()?;
-    let code = status.code();
-    match status {
-        Status::Done => format!(in alloc; "{code} {status:?}\n{text}").ok(),
-        _ => format!(in alloc; "{code} {status:?}: {status}\n{text}").ok(),
-    }
 }

@@ -103,12 +103,7 @@ impl ToldDialer {
 
     // The door before a peer's bytes.
     fn door(&self) -> Option<Door> {
-        Some(Door {
-            rt: self.rt,
-            count: same(&self.counts.written)?,
-            wanted: self.peer.wanted,
-            enters: false,
-        })
+        Door::new(self.rt, &self.counts.written, self.peer.wanted, false)
     }
 
     // What a peer gives, beyond its door.

@@ -1,10 +1,12 @@
 //! The seconds that wires over TCP tell.
 ghost use Rattle.std.specs.Prelude.{◌≡◌, false};
 
+use crate::doors::{count, same};
 use crate::link::ToldLink;
-use crate::port::{listening, port, same};
+use crate::port::listening;
 use cf_link::Link;
 use cf_network::Network;
+use cf_rows::Host;
 use cf_tasks::InThreads;
 use cf_wires::{Delivery, Wires};
 use std::rt::Clock;
@@ -67,14 +69,10 @@ fn seconds_in(row: &str) -> Option<u64> {
 
 /// Whether as many seconds have passed as two ticks tell, where the one peer is silent, and nothing is taken for so
 /// many seconds after it was dialled.
-pub(crate) fn answer<R: Wait + Threads + Copy + Drop + Send + 'static>(
-    rt: HostRuntime,
-    handle: R,
-    row: &str,
-) -> Option<String> {
+pub(crate) fn answer<R: Host>(rt: HostRuntime, handle: R, row: &str) -> Option<String> {
     let alloc = rt.alloc();
     let idle = seconds_in(row)?;
-    let port = port(alloc)?;
+    let port = count(alloc)?;
     let mut silent = ToldLink::new(rt, same(&port)?);
     silent.listen("127.0.0.1:0").ok()?;
     let number = listening(&rt, &port)?;

@@ -1,17 +1,18 @@
 //! Batches that several threads judge in parts.
-ghost use Rattle.cf_tasks.specs.declared.threads.Choice.TheVariants.{Refuse};
+ghost use Rattle.std.specs.Prelude.{◌≤◌};
 
 use cf_block::Script;
 use cf_bytes::{Hash32, Listed};
 use cf_match::{Job, Matcher};
 use cf_parallel::{Gate, Parallel};
+use cf_rows::{Host, Limited};
 use cf_scan::Watch;
 use cf_tasks::{Choice, InThreads, Spawner};
 use std::alloc::Global;
 use std::sync::Arc;
 use std::sync::atomic::{AtomicBool, Ordering};
 use std::test::*;
-use std::thread::{Threads, yield_now};
+use std::thread::yield_now;
 
 // The turns for which part 1 is held.
 const MOST_TURNS: u32 = 100_000_000;
@@ -46,36 +47,6 @@ impl Gate for Holds {
     }
 }
 
-// Starts nothing.
-#[derive(Drop)]
-struct Refuses<R> {
-    rt: R,
-    refused: u64,
-}
-
-impl<R: Threads + Drop> Spawner for Refuses<R> {
-    type Rt = R;
-
-    ghost refusals = { λ s. s.refused };
-
-    ghost next = { λ _. Refuse };
-
-    ghost moves = { λ _ _ _. Unit {0} };
-
-    fn rt(&self) -> &R {
-        &self.rt
-    }
-
-    fn choose(&mut self) -> Choice {
-        self.refused = self.refused.saturating_add(1);
-        Choice::Refuse
-    }
-
-    fn count(&mut self) {
-        self.refused = self.refused.saturating_add(1);
-    }
-}
-
 // A batch of one filter that is the code of nothing, and one that is no code.
 fn batch(alloc: Global) -> Result<Vec<Job>, Fail> {
     let mut jobs = Vec::new(alloc);
@@ -106,27 +77,37 @@ fn text_of<M: Matcher>(alloc: Global, matcher: &mut M) -> Result<String, Fail> {
     Ok(text)
 }
 
+// The verdicts of a matcher over so many threads.
+fn judged<R: Host, K: Spawner>(
+    rt: R,
+    alloc: Global,
+    spawner: &mut K,
+    workers: u32,
+) -> Result<String, Fail>
+    requires some { 1 ≤ workers }
+    requires most { workers ≤ 64 }
+{
+    let mut matcher = Parallel::new(rt, alloc, spawner, workers)
+        .ok()
+        .ok_or("no memory")?;
+    text_of(alloc, &mut matcher)
+}
+
 #[test]
 fn verdicts_do_not_depend_on_the_workers(rt: HostRuntime) -> Result<(), Fail> {
-    let alloc = rt.alloc();
     let mut spawner = InThreads::new(rt);
     for workers in [1, 2, 64] {
-        let mut matcher = Parallel::new(rt, alloc, &mut spawner, workers)
-            .ok()
-            .ok_or("no memory")?;
-        assert_eq!(rt; text_of(alloc, &mut matcher)?.as_str(), "Miss Hit 0");
+        let text = judged(rt, rt.alloc(), &mut spawner, workers)?;
+        assert_eq!(rt; text.as_str(), "Miss Hit 0");
     }
     Ok(())
 }
 
 #[test]
 fn parts_without_a_thread_are_judged(rt: HostRuntime) -> Result<(), Fail> {
-    let alloc = rt.alloc();
-    let mut spawner = Refuses { rt, refused: 0 };
-    let mut matcher = Parallel::new(rt, alloc, &mut spawner, 2)
-        .ok()
-        .ok_or("no memory")?;
-    assert_eq!(rt; text_of(alloc, &mut matcher)?.as_str(), "Miss Hit 0");
+    let mut spawner = Limited::new(rt, Choice::InThread, 0);
+    let text = judged(rt, rt.alloc(), &mut spawner, 2)?;
+    assert_eq!(rt; text.as_str(), "Miss Hit 0");
     Ok(())
 }
 
