@@ -15,7 +15,7 @@ use Rattle.cf_run.specs.declared.progress.Progress.{Progress}
 use Rattle.cf_wires.specs.Log.{Log, Told, Tally, Tells, tell, longer, dials}
 use Rattle.cf_wires.specs.Wires.{Made}
 use Rattle.cf_run.specs.Run.{Course, NoFailure, HasFailed, is_failure, HasNames, names_of}
-use Rattle.cf_run.specs.Moments.{SameCounts, trouble, RunState, run_state, Runs, Performs, IsOneMore, IsNoMore, Dials, Turns, IsInStep, EndsTurns, TakesTurns}
+use Rattle.cf_run.specs.Moments.{SameCounts, trouble, RunState, run_state, Runs, Performs, IsOneMore, IsNoMore, Dials, Turns, IsInStep, EndsTurns, TakesTurns, TookTurns}
 use Rattle.cf_run.specs.declared.outcome.End.{End}
 use Rattle.cf_run.specs.declared.outcome.End.TheVariants.{Tired, Ended as EndedFirst}
 use Rattle.cf_run.specs.Texts.{PutBefore, PutBy}
@@ -195,23 +195,26 @@ puts_taken d t u told watch texts has = subst (PutBefore watch texts) (sym told)
   taken None h = tt
   taken (Some log) h = h
 
+-- a dial that was answered so
+one_more : (e : Event) (name : List ℕ) (answered : Bool) (t u : Told)
+    → (tell e t).tally.dials ≡ t.tally.dials + 1
+    → ((log : Log) → dials (e ∷ log) ≡ dials log ++ record { name = name; answered = answered } ∷ [])
+    → ((watch texts : List (List ℕ)) → PutBefore watch texts t → PutBefore watch texts (tell e t))
+    → u ≡ tell e t → IsOneMore name t u
+one_more e name answered t u counted dialled puts told = subst (IsOneMore name t) (sym told) (record {
+  dials = counted;
+  named = names_more_in e t name (λ log. ap (map (λ (d : Dial). d.name)) (dialled log)
+      ∙ map-append (λ (d : Dial). d.name) (dials log) (record { name = name; answered = answered } ∷ []));
+  puts = puts;
+})
+
 pub dialled_one : (p : PeerNo) (name : List ℕ) (t u : Told) → u ≡ tell (Dialled p name) t → IsOneMore name t u
-dialled_one p name t u told = subst (IsOneMore name t) (sym told) (record {
-  dials = refl;
-  named = names_more_in (Dialled p name) t name more;
-  puts = puts_kept (Dialled p name) t (λ watch log texts h. h);
-}) where
-  more : (log : Log) → names_of (Dialled p name ∷ log) ≡ names_of log ++ name ∷ []
-  more log = map-append (λ (d : Dial). d.name) (dials log) (record { name = name; answered = true } ∷ [])
+dialled_one p name t u = one_more (Dialled p name) name true t u refl (λ log. refl)
+    (puts_kept (Dialled p name) t (λ watch log texts h. h))
 
 pub missed_one : (p : PeerNo) (name : List ℕ) (t u : Told) → u ≡ tell (NotDialled p name) t → IsOneMore name t u
-missed_one p name t u told = subst (IsOneMore name t) (sym told) (record {
-  dials = refl;
-  named = names_more_in (NotDialled p name) t name more;
-  puts = puts_kept (NotDialled p name) t (λ watch log texts h. h);
-}) where
-  more : (log : Log) → names_of (NotDialled p name ∷ log) ≡ names_of log ++ name ∷ []
-  more log = map-append (λ (d : Dial). d.name) (dials log) (record { name = name; answered = false } ∷ [])
+missed_one p name t u = one_more (NotDialled p name) name false t u refl (λ log. refl)
+    (puts_kept (NotDialled p name) t (λ watch log texts h. h))
 
 pub one_more_then : (t u v : Told) (name : List ℕ) → IsOneMore name t u → SameCounts u v → IsOneMore name t v
 one_more_then t u v name more counts = record {
@@ -297,14 +300,38 @@ no_more_self t = record { dials = refl; named = λ called h. h }
 pub no_more_then : (t u v : Told) → IsNoMore t u → IsNoMore u v → IsNoMore t v
 no_more_then t u v one two = record { dials = two.dials ∙ one.dials; named = λ called h. two.named called (one.named called h) }
 
+-- no turn was taken yet
+pub took_none : (a : RunState) → a.told.tally.taken ≡ 0 → a.told.tally.ended ≡ 0 → IsInStep a.told a.progress
+    → TookTurns 0 a a
+took_none a fresh unended step =
+    record { taken = fresh; unended = unended; same = no_more_self a.told; runs = runs_self a step }
+
+-- one more was
+pub took_more : {a b c : RunState} (turns : ℕ) → TookTurns turns a b → Turns b c
+    → c.told.tally.taken ≡ b.told.tally.taken + 1 → c.told.tally.ended ≡ b.told.tally.ended → TookTurns (turns + 1) a c
+took_more {a = a} {b = b} {c = c} turns took turn taken unended = record {
+  taken = taken ∙ ap (λ (n : ℕ). n + 1) took.taken;
+  unended = unended ∙ took.unended;
+  same = no_more_then a.told b.told c.told took.same turn.same;
+  runs = runs_then {a = a} {b = b} {c = c} took.runs turn.runs;
+}
+
+-- no more are
+pub turns_over : {a b : RunState} (turns i : ℕ) → TookTurns i a b → i ≤ turns → TakesTurns turns a b
+turns_over turns i took le = record {
+  most = omega (arith, took.taken, le);
+  once = omega (arith, took.unended);
+  same = took.same;
+  runs = took.runs;
+}
+
 -- one turn more, of those that are left
-pub turns_more : {a b c : RunState} (turns i : ℕ) → b.told.tally.taken ≡ i → i < turns → b.told.tally.ended ≡ 0
-    → IsNoMore a.told b.told → Runs a b → Turns b c → TakesTurns turns a c
-turns_more {a = a} {b = b} {c = c} turns i taken lt unended same runs turn = record {
-  most = omega (arith, taken, lt, turn.taken);
-  once = omega (arith, unended, turn.ended);
-  same = no_more_then a.told b.told c.told same turn.same;
-  runs = runs_then {a = a} {b = b} {c = c} runs turn.runs;
+pub turns_more : {a b c : RunState} (turns i : ℕ) → TookTurns i a b → i < turns → Turns b c → TakesTurns turns a c
+turns_more {a = a} {b = b} {c = c} turns i took lt turn = record {
+  most = omega (arith, took.taken, lt, turn.taken);
+  once = omega (arith, took.unended, turn.ended);
+  same = no_more_then a.told b.told c.told took.same turn.same;
+  runs = runs_then {a = a} {b = b} {c = c} took.runs turn.runs;
 }
 
 -- with which the run ends

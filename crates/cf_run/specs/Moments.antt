@@ -186,6 +186,13 @@ pub record Turns (a b : RunState) : Type 0 where
   pub ended : b.told.tally.ended ≤ a.told.tally.ended + 1
   pub puts : (watch texts : List (List ℕ)) → PutBy watch texts a.told → PutBefore watch texts b.told ⊎ PutBy watch texts b.told
 
+-- so many turns were taken, each with a delivery: the end wasn't told, and nobody was dialled
+pub record TookTurns (turns : ℕ) (a b : RunState) : Type 0 where
+  pub taken : b.told.tally.taken ≡ turns
+  pub unended : b.told.tally.ended ≡ 0
+  pub same : IsNoMore a.told b.told
+  pub runs : Runs a b
+
 -- turns were taken, so many at most: the end was told at most once, and nobody was dialled
 pub record TakesTurns (turns : ℕ) (a b : RunState) : Type 0 where
   pub most : b.told.tally.taken ≤ turns
