@@ -1,5 +1,5 @@
 -- What holds from one moment to a later one, put together.
-use Rattle.std.proofs.Common.{◌≡◌, ◌⊎◌, inl, inr, ℕ, ◌+◌, ◌<◌, ◌≤◌, Bool, true, false, List, [], ◌∷◌, ◌++◌, Option, Some, None, refl, sym, ◌∙◌, ap, subst, arith}
+use Rattle.std.proofs.Common.{◌≡◌, ◌⊎◌, inl, inr, ℕ, ◌+◌, ◌<◌, ◌≤◌, Bool, true, false, List, [], ◌∷◌, ◌++◌, map, Option, Some, None, refl, sym, ◌∙◌, ap, subst, arith}
 use Rattle.std.specs.Prelude.{IfSome, IsSome}
 use Rattle.std.specs.List.{list_any}
 use Rattle.std.proofs.lemmas.Bool.{false≢true}
@@ -137,25 +137,27 @@ noted_performs told faults script keeps before after closed fewer step = record 
   fewer = omega (arith, fewer);
 }
 
--- an entry was made
-pub told_runs : (e : Event) (a b : RunState) → is_failure e ≡ false → b.told ≡ tell e a.told → a.faults ≤ b.faults → b.script ≡ a.script → b.keeps ≡ a.keeps
-    → (tell e a.told).tally.closed ≡ a.told.tally.closed → b.progress ≡ a.progress → IsInStep a.told a.progress → Runs a b
-told_runs e a b is told later script keeps closed same step = record {
-  course = course_told e a.told b.told a.faults b.faults a.script b.script is told later script;
+-- an entry was made, by this course
+runs_by : (e : Event) (a b : RunState) → Course a.told b.told a.faults b.faults a.script b.script → b.told ≡ tell e a.told
+    → b.keeps ≡ a.keeps → (tell e a.told).tally.closed ≡ a.told.tally.closed → b.progress ≡ a.progress
+    → IsInStep a.told a.progress → Runs a b
+runs_by e a b course told keeps closed same step = record {
+  course = course;
   keeps = keeps;
   finished = ap (λ (t : Told). t.finished) told;
   step = ap (λ (t : Told). t.tally.closed) told ∙ closed ∙ step ∙ sym (ap (λ (x : Progress). x.closed) same);
 }
 
+pub told_runs : (e : Event) (a b : RunState) → is_failure e ≡ false → b.told ≡ tell e a.told → a.faults ≤ b.faults → b.script ≡ a.script → b.keeps ≡ a.keeps
+    → (tell e a.told).tally.closed ≡ a.told.tally.closed → b.progress ≡ a.progress → IsInStep a.told a.progress → Runs a b
+told_runs e a b is told later script =
+    runs_by e a b (course_told e a.told b.told a.faults b.faults a.script b.script is told later script) told
+
 -- a failure was
 pub failed_runs : (e : Event) (a b : RunState) → HasRisen a.faults b.faults → b.told ≡ tell e a.told → a.faults ≤ b.faults → b.script ≡ a.script → b.keeps ≡ a.keeps
     → (tell e a.told).tally.closed ≡ a.told.tally.closed → b.progress ≡ a.progress → IsInStep a.told a.progress → Runs a b
-failed_runs e a b risen told later script keeps closed same step = record {
-  course = course_failed e a.told b.told a.faults b.faults a.script b.script risen told later script;
-  keeps = keeps;
-  finished = ap (λ (t : Told). t.finished) told;
-  step = ap (λ (t : Told). t.tally.closed) told ∙ closed ∙ step ∙ sym (ap (λ (x : Progress). x.closed) same);
-}
+failed_runs e a b risen told later script =
+    runs_by e a b (course_failed e a.told b.told a.faults b.faults a.script b.script risen told later script) told
 
 -- nothing passed
 pub quiet_runs : (a b : RunState) → b.told ≡ a.told → a.faults ≤ b.faults → b.script ≡ a.script → b.keeps ≡ a.keeps → b.progress ≡ a.progress → IsInStep a.told a.progress → Runs a b

@@ -34,7 +34,7 @@ use Rattle.cf_run.specs.Names.{names_in}
 use Rattle.cf_hear.proofs.Tracking.{tracks_ended}
 use Rattle.cf_client.specs.Stands.{Reflects, IsReportOf, seen_by, rule_by, greeting_by}
 use Rattle.cf_run.specs.Run.{IsOrderly, WasOrderly, AreNumbered, IsUntaken, IsTicked, WereAskedOut, WerePinged, WasRun, RanTo, AreBytesOf, IsEnd, IsTraceOf, names_of, is_lost, NobodyLeft}
-use Rattle.cf_run.specs.Moments.{Notes, Doing, HoldsOver, Stopped, IsEndTold, state_at, is_pending, is_fine}
+use Rattle.cf_run.specs.Moments.{IsUnused, Notes, Doing, HoldsOver, Stopped, IsEndTold, state_at, is_pending, is_fine}
 use Rattle.cf_client.specs.Blameless.{AreAskedOut}
 use Rattle.cf_peer.specs.declared.act.Act.{Act}
 use Rattle.cf_sync.specs.Planned.{is_untold, ArePlanned}
@@ -582,11 +582,11 @@ open_all (suc k) zero = refl
 open_all (suc k) (suc q) = open_all k q
 
 -- nothing has passed
-pub starts : {H M : Type 0} {g : Ghosts H} {j : Judges M} (c : Client H M g j) (progress : Progress) (t : Told) → Reflects c [] → progress.sends ≡ replicate 9 Fine → progress.closed ≡ replicate 9 false → progress.trace.items ≡ []
+pub starts : {H M : Type 0} {g : Ghosts H} {j : Judges M} (c : Client H M g j) (progress : Progress) (t : Told) → Reflects c [] → IsUnused progress
     → Tells [] t → HoldsOver c progress [] t
-starts c progress t reflects sends closed trace tells =
-    let fine : (q : ℕ) → state_at progress.sends q ≡ Fine = λ q. ap (λ (xs : List SendState). get_or xs q Fine) sends ∙ fine_all 9 q in
-    let unshut : (q : ℕ) → get_or progress.closed q false ≡ false = λ q. ap (λ (xs : List Bool). get_or xs q false) closed ∙ open_all 9 q in
+starts c progress t reflects unused tells =
+    let fine : (q : ℕ) → state_at progress.sends q ≡ Fine = λ q. ap (λ (xs : List SendState). get_or xs q Fine) unused.sends ∙ fine_all 9 q in
+    let unshut : (q : ℕ) → get_or progress.closed q false ≡ false = λ q. ap (λ (xs : List Bool). get_or xs q false) unused.closed ∙ open_all 9 q in
     record {
       actual = [];
       notes = record {
@@ -599,7 +599,7 @@ starts c progress t reflects sends closed trace tells =
         in_time = tt;
         numbered = tt;
         first = tt;
-        traced = subst (λ (xs : List TraceLine). IsTraceOf [] (reverse xs)) (sym trace) tt;
+        traced = subst (λ (xs : List TraceLine). IsTraceOf [] (reverse xs)) (sym unused.trace) tt;
         named = refl;
         off = λ q not_it. refl;
         shut = λ q it. (refl, refl);

@@ -1,5 +1,5 @@
 -- machine: what a run keeps from one step to the next, and what each step does of it.
-use Rattle.std.specs.Prelude.{◌≡◌, ◌⊎◌, ℕ, ◌+◌, ◌≤◌, ◌<◌, ◌==◌, ◌||◌, Bool, true, false, List, [], ◌∷◌, ◌++◌, reverse, slice_index_or, Option, Some, None}
+use Rattle.std.specs.Prelude.{◌≡◌, ◌⊎◌, ℕ, ◌+◌, ◌≤◌, ◌<◌, ◌==◌, ◌||◌, Bool, true, false, List, [], ◌∷◌, ◌++◌, replicate, reverse, slice_index_or, Option, Some, None}
 use Rattle.std.specs.List.{sum_by, list_any}
 use Rattle.cf_headers.specs.declared.store.HeaderStore.{Ghosts}
 use Rattle.cf_match.specs.declared.matcher.Matcher.{Ghosts as Judges}
@@ -49,6 +49,12 @@ weight Known = 0
 -- how much may still come of failed sends, over all peers
 abbrev pub trouble : Progress → ℕ
 trouble progress = sum_by weight progress.sends
+
+-- nothing is noted yet: no send has failed, nobody was closed, and the trace is empty
+pub record IsUnused (progress : Progress) : Type 0 where
+  pub sends : progress.sends ≡ replicate 9 Fine
+  pub closed : progress.closed ≡ replicate 9 false
+  pub trace : progress.trace.items ≡ []
 
 -- what the run's own notes say of the log as it is
 pub record Notes (rule : Rule) (progress : Progress) (called : List (List ℕ)) (actual : Log) (t : Told) : Type 0 where

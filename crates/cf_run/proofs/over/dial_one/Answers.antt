@@ -17,12 +17,12 @@ returns-in_ok-greet-in-Ok-clause-holds g c = λ called holds.
 
 pub returns-in_ok-greet-in-Ok-clause-versions : goal.returns-in_ok-greet-in-Ok-clause-versions
 returns-in_ok-greet-in-Ok-clause-versions g c = λ called holds.
-    dial_keeps c.args.client.now c.in-Ok.p c.args.name.now holds c.in-Ok.ensures.dialled.0 c.requires.room c.requires.untaken c.requires.unended c.in-Ok.ensures.dialled.1
+    dial_keeps c.args.client.now (g.W.Wires.told c.greet.new.wires) c.in-Ok.p c.args.name.now holds c.in-Ok.ensures.dialled.0 c.requires.room c.requires.untaken c.requires.unended c.in-Ok.ensures.dialled.1
     c.in_ok-greet-in-Ok.ensures.versions
 
 pub returns-in_err-greet-in-Ok-clause-versions : goal.returns-in_err-greet-in-Ok-clause-versions
 returns-in_err-greet-in-Ok-clause-versions g c = λ called holds.
-    dial_keeps c.args.client.now c.in-Ok.p c.args.name.now holds c.in-Ok.ensures.dialled.0 c.requires.room c.requires.untaken c.requires.unended c.in-Ok.ensures.dialled.1
+    dial_keeps c.args.client.now (g.W.Wires.told c.greet.new.wires) c.in-Ok.p c.args.name.now holds c.in-Ok.ensures.dialled.0 c.requires.room c.requires.untaken c.requires.unended c.in-Ok.ensures.dialled.1
     c.in_err-greet-in-Ok.ensures.versions
 
 pub returns-in_ok-greet-in-Ok-clause-counts : goal.returns-in_ok-greet-in-Ok-clause-counts

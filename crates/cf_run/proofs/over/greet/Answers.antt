@@ -20,13 +20,13 @@ returns-clause-holds g c = λ called log reflects doing ticked.
 pub returns-clause-versions : goal.returns-clause-versions
 returns-clause-versions g c = λ called log reflects doing.
     let acts = c.in_ok-acts.ensures in
-    acts_keep c.args.client.now c.dialled.new.self acts.rule acts.words c.deref.ensures.value (acts.answers log reflects)
+    acts_keep c.args.client.now c.dialled.new.self (g.W.Wires.told c.carry_out.new.wires) acts.rule acts.words c.deref.ensures.value (acts.answers log reflects)
     (greeting_tells (greeting_by c.args.client.now) c.args.p c.in_ok-acts.acts.items acts.greets) (doing c.deref.result.now) c.in_ok-carry_out.ensures.versions
 
 pub returns-in_err-carry_out-clause-versions : goal.returns-in_err-carry_out-clause-versions
 returns-in_err-carry_out-clause-versions g c = λ called log reflects doing.
     let acts = c.in_ok-acts.ensures in
-    acts_keep c.args.client.now c.dialled.new.self acts.rule acts.words c.deref.ensures.value (acts.answers log reflects)
+    acts_keep c.args.client.now c.dialled.new.self (g.W.Wires.told c.carry_out.new.wires) acts.rule acts.words c.deref.ensures.value (acts.answers log reflects)
     (greeting_tells (greeting_by c.args.client.now) c.args.p c.in_ok-acts.acts.items acts.greets) (doing c.deref.result.now) c.in_err-carry_out.ensures.versions
 
 pub returns-in_err-acts-clause-versions : goal.returns-in_err-acts-clause-versions

@@ -63,11 +63,11 @@ returns-in_err-acts-clause-versions g c = λ called holds may. entry_keeps (gree
 pub returns-clause-versions : goal.returns-clause-versions
 returns-clause-versions g c = λ called holds may.
     let acts = c.in_ok-acts.ensures in
-    take_keeps c.args.client.now c.step.new.self c.in_ok-d.d holds may c.note_bytes.ensures c.in_ok-d.ensures.took acts.rule acts.words c.deref.ensures.value
+    take_keeps c.args.client.now c.step.new.self (g.W.Wires.told c.carry_out.new.wires) c.in_ok-d.d holds may c.note_bytes.ensures c.in_ok-d.ensures.took acts.rule acts.words c.deref.ensures.value
     (acts.answers holds.actual holds.reflects) (acts.tells holds.actual holds.reflects) c.in_ok-carry_out.ensures.versions
 
 pub returns-in_err-carry_out-clause-versions : goal.returns-in_err-carry_out-clause-versions
 returns-in_err-carry_out-clause-versions g c = λ called holds may.
     let acts = c.in_ok-acts.ensures in
-    take_keeps c.args.client.now c.step.new.self c.in_ok-d.d holds may c.note_bytes.ensures c.in_ok-d.ensures.took acts.rule acts.words c.deref.ensures.value
+    take_keeps c.args.client.now c.step.new.self (g.W.Wires.told c.carry_out.new.wires) c.in_ok-d.d holds may c.note_bytes.ensures c.in_ok-d.ensures.took acts.rule acts.words c.deref.ensures.value
     (acts.answers holds.actual holds.reflects) (acts.tells holds.actual holds.reflects) c.in_err-carry_out.ensures.versions
