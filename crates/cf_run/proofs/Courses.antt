@@ -1,5 +1,5 @@
 -- What holds from one moment to a later one, put together.
-use Rattle.std.proofs.Common.{◌≡◌, ◌⊎◌, inl, inr, ℕ, ◌+◌, ◌<◌, ◌≤◌, Bool, true, false, List, [], ◌∷◌, ◌++◌, Option, Some, None, refl, sym, ◌∙◌, ap, subst, arith}
+use Rattle.std.proofs.Common.{◌≡◌, ◌⊎◌, inl, inr, ℕ, ◌+◌, ◌<◌, ◌≤◌, Bool, true, false, List, [], ◌∷◌, ◌++◌, map, Option, Some, None, refl, sym, ◌∙◌, ap, subst, arith}
 use Rattle.std.specs.Prelude.{IfSome, IsSome}
 use Rattle.std.specs.List.{list_any}
 use Rattle.std.proofs.lemmas.Bool.{false≢true}
@@ -15,7 +15,7 @@ use Rattle.cf_run.specs.declared.progress.Progress.{Progress}
 use Rattle.cf_wires.specs.Log.{Log, Told, Tally, Tells, tell, longer, dials}
 use Rattle.cf_wires.specs.Wires.{Made}
 use Rattle.cf_run.specs.Run.{Course, NoFailure, HasFailed, is_failure, HasNames, names_of}
-use Rattle.cf_run.specs.Moments.{SameCounts, trouble, RunState, run_state, Runs, Performs, IsOneMore, IsNoMore, Dials, Turns, IsInStep, EndsTurns, TakesTurns}
+use Rattle.cf_run.specs.Moments.{SameCounts, trouble, RunState, run_state, Runs, Performs, IsOneMore, IsNoMore, Dials, Turns, IsInStep, EndsTurns, TakesTurns, TookTurns}
 use Rattle.cf_run.specs.declared.outcome.End.{End}
 use Rattle.cf_run.specs.declared.outcome.End.TheVariants.{Tired, Ended as EndedFirst}
 use Rattle.cf_run.specs.Texts.{PutBefore, PutBy}
@@ -137,25 +137,27 @@ noted_performs told faults script keeps before after closed fewer step = record 
   fewer = omega (arith, fewer);
 }
 
--- an entry was made
-pub told_runs : (e : Event) (a b : RunState) → is_failure e ≡ false → b.told ≡ tell e a.told → a.faults ≤ b.faults → b.script ≡ a.script → b.keeps ≡ a.keeps
-    → (tell e a.told).tally.closed ≡ a.told.tally.closed → b.progress ≡ a.progress → IsInStep a.told a.progress → Runs a b
-told_runs e a b is told later script keeps closed same step = record {
-  course = course_told e a.told b.told a.faults b.faults a.script b.script is told later script;
+-- an entry was made, by this course
+runs_by : (e : Event) (a b : RunState) → Course a.told b.told a.faults b.faults a.script b.script → b.told ≡ tell e a.told
+    → b.keeps ≡ a.keeps → (tell e a.told).tally.closed ≡ a.told.tally.closed → b.progress ≡ a.progress
+    → IsInStep a.told a.progress → Runs a b
+runs_by e a b course told keeps closed same step = record {
+  course = course;
   keeps = keeps;
   finished = ap (λ (t : Told). t.finished) told;
   step = ap (λ (t : Told). t.tally.closed) told ∙ closed ∙ step ∙ sym (ap (λ (x : Progress). x.closed) same);
 }
 
+pub told_runs : (e : Event) (a b : RunState) → is_failure e ≡ false → b.told ≡ tell e a.told → a.faults ≤ b.faults → b.script ≡ a.script → b.keeps ≡ a.keeps
+    → (tell e a.told).tally.closed ≡ a.told.tally.closed → b.progress ≡ a.progress → IsInStep a.told a.progress → Runs a b
+told_runs e a b is told later script =
+    runs_by e a b (course_told e a.told b.told a.faults b.faults a.script b.script is told later script) told
+
 -- a failure was
 pub failed_runs : (e : Event) (a b : RunState) → HasRisen a.faults b.faults → b.told ≡ tell e a.told → a.faults ≤ b.faults → b.script ≡ a.script → b.keeps ≡ a.keeps
     → (tell e a.told).tally.closed ≡ a.told.tally.closed → b.progress ≡ a.progress → IsInStep a.told a.progress → Runs a b
-failed_runs e a b risen told later script keeps closed same step = record {
-  course = course_failed e a.told b.told a.faults b.faults a.script b.script risen told later script;
-  keeps = keeps;
-  finished = ap (λ (t : Told). t.finished) told;
-  step = ap (λ (t : Told). t.tally.closed) told ∙ closed ∙ step ∙ sym (ap (λ (x : Progress). x.closed) same);
-}
+failed_runs e a b risen told later script =
+    runs_by e a b (course_failed e a.told b.told a.faults b.faults a.script b.script risen told later script) told
 
 -- nothing passed
 pub quiet_runs : (a b : RunState) → b.told ≡ a.told → a.faults ≤ b.faults → b.script ≡ a.script → b.keeps ≡ a.keeps → b.progress ≡ a.progress → IsInStep a.told a.progress → Runs a b
@@ -195,23 +197,26 @@ puts_taken d t u told watch texts has = subst (PutBefore watch texts) (sym told)
   taken None h = tt
   taken (Some log) h = h
 
+-- a dial that was answered so
+one_more : (e : Event) (name : List ℕ) (answered : Bool) (t u : Told)
+    → (tell e t).tally.dials ≡ t.tally.dials + 1
+    → ((log : Log) → dials (e ∷ log) ≡ dials log ++ record { name = name; answered = answered } ∷ [])
+    → ((watch texts : List (List ℕ)) → PutBefore watch texts t → PutBefore watch texts (tell e t))
+    → u ≡ tell e t → IsOneMore name t u
+one_more e name answered t u counted dialled puts told = subst (IsOneMore name t) (sym told) (record {
+  dials = counted;
+  named = names_more_in e t name (λ log. ap (map (λ (d : Dial). d.name)) (dialled log)
+      ∙ map-append (λ (d : Dial). d.name) (dials log) (record { name = name; answered = answered } ∷ []));
+  puts = puts;
+})
+
 pub dialled_one : (p : PeerNo) (name : List ℕ) (t u : Told) → u ≡ tell (Dialled p name) t → IsOneMore name t u
-dialled_one p name t u told = subst (IsOneMore name t) (sym told) (record {
-  dials = refl;
-  named = names_more_in (Dialled p name) t name more;
-  puts = puts_kept (Dialled p name) t (λ watch log texts h. h);
-}) where
-  more : (log : Log) → names_of (Dialled p name ∷ log) ≡ names_of log ++ name ∷ []
-  more log = map-append (λ (d : Dial). d.name) (dials log) (record { name = name; answered = true } ∷ [])
+dialled_one p name t u = one_more (Dialled p name) name true t u refl (λ log. refl)
+    (puts_kept (Dialled p name) t (λ watch log texts h. h))
 
 pub missed_one : (p : PeerNo) (name : List ℕ) (t u : Told) → u ≡ tell (NotDialled p name) t → IsOneMore name t u
-missed_one p name t u told = subst (IsOneMore name t) (sym told) (record {
-  dials = refl;
-  named = names_more_in (NotDialled p name) t name more;
-  puts = puts_kept (NotDialled p name) t (λ watch log texts h. h);
-}) where
-  more : (log : Log) → names_of (NotDialled p name ∷ log) ≡ names_of log ++ name ∷ []
-  more log = map-append (λ (d : Dial). d.name) (dials log) (record { name = name; answered = false } ∷ [])
+missed_one p name t u = one_more (NotDialled p name) name false t u refl (λ log. refl)
+    (puts_kept (NotDialled p name) t (λ watch log texts h. h))
 
 pub one_more_then : (t u v : Told) (name : List ℕ) → IsOneMore name t u → SameCounts u v → IsOneMore name t v
 one_more_then t u v name more counts = record {
@@ -297,14 +302,38 @@ no_more_self t = record { dials = refl; named = λ called h. h }
 pub no_more_then : (t u v : Told) → IsNoMore t u → IsNoMore u v → IsNoMore t v
 no_more_then t u v one two = record { dials = two.dials ∙ one.dials; named = λ called h. two.named called (one.named called h) }
 
+-- no turn was taken yet
+pub took_none : (a : RunState) → a.told.tally.taken ≡ 0 → a.told.tally.ended ≡ 0 → IsInStep a.told a.progress
+    → TookTurns 0 a a
+took_none a fresh unended step =
+    record { taken = fresh; unended = unended; same = no_more_self a.told; runs = runs_self a step }
+
+-- one more was
+pub took_more : {a b c : RunState} (turns : ℕ) → TookTurns turns a b → Turns b c
+    → c.told.tally.taken ≡ b.told.tally.taken + 1 → c.told.tally.ended ≡ b.told.tally.ended → TookTurns (turns + 1) a c
+took_more {a = a} {b = b} {c = c} turns took turn taken unended = record {
+  taken = taken ∙ ap (λ (n : ℕ). n + 1) took.taken;
+  unended = unended ∙ took.unended;
+  same = no_more_then a.told b.told c.told took.same turn.same;
+  runs = runs_then {a = a} {b = b} {c = c} took.runs turn.runs;
+}
+
+-- no more are
+pub turns_over : {a b : RunState} (turns i : ℕ) → TookTurns i a b → i ≤ turns → TakesTurns turns a b
+turns_over turns i took le = record {
+  most = omega (arith, took.taken, le);
+  once = omega (arith, took.unended);
+  same = took.same;
+  runs = took.runs;
+}
+
 -- one turn more, of those that are left
-pub turns_more : {a b c : RunState} (turns i : ℕ) → b.told.tally.taken ≡ i → i < turns → b.told.tally.ended ≡ 0
-    → IsNoMore a.told b.told → Runs a b → Turns b c → TakesTurns turns a c
-turns_more {a = a} {b = b} {c = c} turns i taken lt unended same runs turn = record {
-  most = omega (arith, taken, lt, turn.taken);
-  once = omega (arith, unended, turn.ended);
-  same = no_more_then a.told b.told c.told same turn.same;
-  runs = runs_then {a = a} {b = b} {c = c} runs turn.runs;
+pub turns_more : {a b c : RunState} (turns i : ℕ) → TookTurns i a b → i < turns → Turns b c → TakesTurns turns a c
+turns_more {a = a} {b = b} {c = c} turns i took lt turn = record {
+  most = omega (arith, took.taken, lt, turn.taken);
+  once = omega (arith, took.unended, turn.ended);
+  same = no_more_then a.told b.told c.told took.same turn.same;
+  runs = runs_then {a = a} {b = b} {c = c} took.runs turn.runs;
 }
 
 -- with which the run ends

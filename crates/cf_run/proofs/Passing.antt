@@ -1,11 +1,15 @@
 -- What a dial leaves of the client, and what a whole run leaves of its wires, put together.
-use Rattle.std.proofs.Common.{◌≡◌, inl, ℕ, ◌≤◌, Bool, List, [], Option, refl, sym, ◌∙◌, ap, subst, arith}
+use Rattle.std.proofs.Common.{◌≡◌, inl, ℕ, ◌+◌, ◌<◌, ◌≤◌, Bool, List, [], ◌∷◌, ◌++◌, Option, refl, sym, ◌∙◌, ap, subst, arith}
+use Rattle.std.specs.List.{All}
 use Rattle.std.specs.Prelude.{IsSome}
 use Rattle.cf_bytes.specs.Outside.{HasRisen}
 use Rattle.cf_bytes.specs.declared.peer.PeerNo.{PeerNo}
 use Rattle.cf_headers.specs.declared.store.HeaderStore.{Ghosts}
 use Rattle.cf_match.specs.declared.matcher.Matcher.{Ghosts as Judges}
-use Rattle.cf_wires.specs.declared.event.Event.TheVariants.{Dialled, NotDialled}
+use Rattle.cf_peer.specs.declared.act.Act.{Act}
+use Rattle.cf_place.specs.Places.{ActTells}
+use Rattle.cf_wires.specs.declared.event.Delivery.{Delivery}
+use Rattle.cf_wires.specs.declared.event.Event.TheVariants.{Dialled, NotDialled, Took}
 use Rattle.cf_wires.specs.Log.{Log, Told, Tally, Tells, tell, told_finished}
 use Rattle.cf_wires.specs.Wires.{Made}
 use Rattle.cf_client.specs.declared.client.Client.{Client}
@@ -15,17 +19,17 @@ use Rattle.cf_run.specs.Passing.{Passes}
 use Rattle.cf_place.specs.declared.state.State.{State}
 use Rattle.cf_place.specs.declared.state.State.TheVariants.{NoPeers as HasNoPeers}
 use Rattle.cf_place.specs.Standing.{IsState, Greeting}
-use Rattle.cf_client.specs.Stands.{Reflects, rule_by, greeting_by}
+use Rattle.cf_client.specs.Stands.{Answers, Reflects, rule_by, greeting_by}
 use Rattle.cf_peer.specs.declared.mode.Mode.TheVariants.{Following}
 use Rattle.cf_sync.specs.Fetching.{MayTake}
-use Rattle.cf_run.specs.Run.{Course, HasDialled, HasNames, NoFailure}
-use Rattle.cf_run.specs.Moments.{HoldsOver, RunState, Runs, Performs, Dials, IsInStep, Stopped, EndsTurns, TakesTurns, run_state}
+use Rattle.cf_run.specs.Run.{AreBytesOf, Course, HasDialled, HasNames, NoFailure}
+use Rattle.cf_run.specs.Moments.{Doing, HoldsOver, IsUnused, RunState, Runs, Performs, Dials, IsInStep, Stopped, EndsTurns, TakesTurns, run_state}
 use Rattle.cf_run.specs.Versions.{HasGreeting, KeepsGreeting}
 use Rattle.cf_run.specs.Whole.{AreNewWires, EndsWithin, LeavesWires}
 use Rattle.cf_run.proofs.Courses.{course_on, told_runs, failed_runs, failures_blamed, dialled_one, missed_one, dials_then, dials_alone}
 use Rattle.cf_run.proofs.Dialling.{none_dialled, none_named, dialled_on}
-use Rattle.cf_run.proofs.Turns.{holds_same, may_held, no_peers, words_same}
-use Rattle.cf_run.proofs.Versions.{has_so, new_words, words_then}
+use Rattle.cf_run.proofs.Turns.{dial_doing, doing_rule, holds_same, may_held, no_peers, starts, took_doing, words_same}
+use Rattle.cf_run.proofs.Versions.{acts_tell_so, entry_keeps, has_so, new_words, words_then}
 
 -- ---- one dial
 
@@ -49,6 +53,48 @@ keeps_after words t u x one two = λ has. two (one has)
 -- the same words, of another client
 pub keeps_so : (v w : Greeting) (t u : Told) → v ≡ w → KeepsGreeting v t u → KeepsGreeting w t u
 keeps_so v w t u words keeps = subst (λ (x : Greeting). KeepsGreeting x t u) words keeps
+
+-- of acts, each of which tells the client's words
+pub acts_keep : {H M : Type 0} {g : Ghosts H} {j : Judges M} (c d : Client H M g j) {acts more : List Act}
+    {progress : Progress} {called : List (List ℕ)} {log : Log} {u : Told} (x : Told) → rule_by d ≡ rule_by c
+    → greeting_by d ≡ greeting_by c → more ≡ acts → Answers d acts log → All (ActTells (greeting_by c)) acts
+    → Doing (rule_by c) more progress called log u
+    → ((called : List (List ℕ)) (log : Log) → Answers d more log → Doing (rule_by d) more progress called log u
+    → All (ActTells (greeting_by d)) more → KeepsGreeting (greeting_by d) u x)
+    → KeepsGreeting (greeting_by c) u x
+acts_keep c d {acts = acts} {more = more} {called = called} {log = log} {u = u} x rule words same answers tells
+    doing keeps = keeps_so (greeting_by d) (greeting_by c) u x words
+    (keeps called log (subst (λ (a : List Act). Answers d a log) (sym same) answers) (doing_rule rule doing)
+    (acts_tell_so (greeting_by c) (greeting_by d) acts more (sym words) same tells))
+
+-- of a peer that was dialled
+pub dial_keeps : {H M : Type 0} {g : Ghosts H} {j : Judges M} (c : Client H M g j) {progress : Progress}
+    {called : List (List ℕ)} {t u : Told} (x : Told) (p : PeerNo) (name : List ℕ) (holds : HoldsOver c progress called t)
+    → p.0 ≡ t.tally.dials + 1 → t.tally.dials < 8 → t.tally.taken ≡ 0 → t.tally.ended ≡ 0 → u ≡ tell (Dialled p name) t
+    → ((called : List (List ℕ)) (log : Log) → Reflects c log
+    → ((acts : List Act) → Doing (rule_by c) acts progress called (Dialled p name ∷ log) u)
+    → KeepsGreeting (greeting_by c) u x)
+    → KeepsGreeting (greeting_by c) t x
+dial_keeps c {progress = progress} {called = called} {t = t} {u = u} x p name holds is room untaken unended told
+    keeps = keeps_after (greeting_by c) t u x (entry_keeps (greeting_by c) (Dialled p name) t u told tt)
+    (keeps (called ++ name ∷ []) holds.actual holds.reflects (λ acts.
+    rw told (dial_doing c acts progress called t p name holds is room untaken unended)))
+
+-- of a delivery that was taken, and of the acts that answer it
+pub take_keeps : {H M : Type 0} {g : Ghosts H} {j : Judges M} (c d : Client H M g j) {acts more : List Act}
+    {progress : Progress} {called : List (List ℕ)} {t u : Told} (x : Told) (e : Delivery) (holds : HoldsOver c progress called t)
+    → MayTake (rule_by c).mode holds.actual → AreBytesOf e → u ≡ tell (Took e) t → rule_by d ≡ rule_by c
+    → greeting_by d ≡ greeting_by c → more ≡ acts → Answers d acts (Took e ∷ holds.actual)
+    → All (ActTells (greeting_by c)) acts
+    → ((called : List (List ℕ)) (log : Log) → Answers d more log → Doing (rule_by d) more progress called log u
+    → All (ActTells (greeting_by d)) more → KeepsGreeting (greeting_by d) u x)
+    → KeepsGreeting (greeting_by c) t x
+take_keeps c d {more = more} {progress = progress} {called = called} {t = t} {u = u} x e holds may bytes took rule
+    words same answers tells keeps =
+    let doing : Doing (rule_by c) more progress called (Took e ∷ holds.actual) u =
+    rw took (took_doing c more progress called t e bytes holds may) in
+    keeps_after (greeting_by c) t u x (entry_keeps (greeting_by c) (Took e) t u took tt)
+    (acts_keep c d x rule words same answers tells doing keeps)
 
 -- of a client that puts a text at rest, and takes the next delivery
 pub keeps_next : {H M : Type 0} {g : Ghosts H} {j : Judges M} {c d : Client H M g j} {progress : Progress}
@@ -80,15 +126,15 @@ passes_none told faults script keeps words names turns now tells = record {
 -- the dials were begun
 pub passes_dials : {W H M : Type 0} {g : Ghosts H} {j : Judges M} {told : W → Told} {faults : W → ℕ}
     {script : W → Option Made} {keeps : W → Bool} {before after : W} {p q : Progress} {names : List (List ℕ)}
-    (c : Client H M g j) → HoldsOver c p [] (told before) → Tells [] (told before)
+    (c : Client H M g j) → Reflects c [] → IsUnused p → Tells [] (told before)
     → (HoldsOver c p [] (told before) → KeepsGreeting (greeting_by c) (told before) (told after))
     → (HasNames [] (told before) → HasDialled names (told after)) → (told after).tally.taken ≡ 0
     → (told after).tally.ended ≡ 0
     → Runs (run_state (told before) (faults before) (script before) (keeps before) p)
     (run_state (told after) (faults after) (script after) (keeps after) q)
     → Passes told faults script keeps (greeting_by c) names 0 before after
-passes_dials {told = told} {before = before} c start new versions first taken ended runs = record {
-  versions = versions start (new_words (greeting_by c) (told before) new);
+passes_dials {told = told} {before = before} {p = p} c reflects unused new versions first taken ended runs = record {
+  versions = versions (starts c p (told before) reflects unused new) (new_words (greeting_by c) (told before) new);
   first = first (none_named (told before) new);
   most = omega (arith, taken);
   once = omega (arith, ended);

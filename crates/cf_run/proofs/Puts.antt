@@ -30,7 +30,7 @@ use Rattle.cf_run.specs.declared.texts.TextFail.TheVariants.{NoMemory, Failed}
 use Rattle.cf_run.specs.Run.{WasRun}
 use Rattle.cf_run.specs.Moments.{HoldsOver}
 use Rattle.cf_run.specs.Texts.{AllPut, ButPut, HasBegun, HasPut, HasPutBut, HasPutSo, HavePut, IsLast, PutBefore, PutBy, PutsBegun, PutsNext, PutsOne, PutsSome, SoPut, SomePut, joined}
-use Rattle.cf_run.specs.Whole.{GivesUp}
+use Rattle.cf_run.specs.Whole.{GivesUp, IsShort}
 use Rattle.cf_run.proofs.Courses.{puts_taken}
 use Rattle.cf_run.proofs.Turns.{ended_holds, mode_same, rule_same, told_so, was_run}
 
@@ -327,12 +327,18 @@ pub none_put : (watch : List (List ℕ)) (t : Told) (now : Option (List ℕ)) �
 none_put watch t now were = record { texts = []; puts = inl were; taken = sym (more_none now) }
 
 -- of one that was given up
-pub so_told : (watch : List (List ℕ)) (t : Told) (before now : Option (List ℕ)) → SoPut watch t before now
+so_told : (watch : List (List ℕ)) (t : Told) (before now : Option (List ℕ)) → SoPut watch t before now
     → IfSome t.log (λ log. HasPutSo watch log before now)
 so_told watch t before now so = by t.log so.puts where
   by : (o : Option Log) → IfSome o (λ log. WerePut watch log so.texts) ⊎ IfSome o (λ log. ArePut watch log so.texts) → IfSome o (λ log. HasPutSo watch log before now)
   by None puts = tt
   by (Some log) puts = record { texts = so.texts; puts = puts; taken = so.taken }
+
+pub is_short : {T : Type 0} (told : T → Option (List ℕ)) (faults : T → ℕ) (watch : List (List ℕ)) (t : Told)
+    (before after : T) → SoPut watch t (told before) (told after) → faults after ≡ faults before
+    → IsShort told faults watch t.log before after
+is_short told faults watch t before after so fine =
+    record { put = so_told watch t (told before) (told after) so; fine = fine }
 
 but_told : (watch called : List (List ℕ)) (t : Told) (before now : Option (List ℕ)) → ButPut watch called t before now
     → IfSome t.log (λ log. HasPutBut watch log before now)
@@ -345,11 +351,11 @@ but_told watch called t before now but = by t.log but.earlier but.due where
 pub gives_up : {T : Type 0} (fail : TextFail) (told : T → Option (List ℕ)) (faults : T → ℕ)
     (watch called : List (List ℕ)) (t : Told) (before after : T)
     → SomePut fail watch called t (told before) (told after) → t.tally.dials ≡ length called
-    → (fail ≡ Failed → HasRisen (faults before) (faults after))
+    → (fail ≡ NoMemory → faults after ≡ faults before) → (fail ≡ Failed → HasRisen (faults before) (faults after))
     → GivesUp fail told faults watch called t before after
-gives_up NoMemory told faults watch called t before after some dials risen = so_told watch t (told before)
-    (told after) some
-gives_up Failed told faults watch called t before after but dials risen = record {
+gives_up NoMemory told faults watch called t before after some dials fine risen =
+    is_short told faults watch t before after some (fine refl)
+gives_up Failed told faults watch called t before after but dials fine risen = record {
   put = but_told watch called t (told before) (told after) but;
   right = but.right;
   run = but.run;
@@ -362,6 +368,6 @@ pub gives_finished : {T : Type 0} (fail : TextFail) (told : T → Option (List �
     (watch called : List (List ℕ)) (t : Told) (before after : T)
     → GivesUp fail told faults watch called t before after → GivesUp fail told faults watch called
     (told_finished t) before after
-gives_finished NoMemory told faults watch called t before after put = put
+gives_finished NoMemory told faults watch called t before after short = short
 gives_finished Failed told faults watch called t before after cut =
     record { put = cut.put; right = cut.right; run = cut.run; dialled = cut.dialled; risen = cut.risen }

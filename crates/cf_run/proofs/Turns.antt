@@ -1,5 +1,5 @@
 -- How what holds of a client and its wires goes on from turn to turn.
-use Rattle.std.proofs.Common.{◌≡◌, ◌≢◌, ◌⊎◌, inl, inr, ℕ, zero, suc, ◌+◌, ◌<◌, ◌≤◌, List, [], ◌∷◌, ◌++◌, length, map, take, get_or, String, string_bytes, set, replicate, reverse, Option, Some, None, Result, Ok, Err, Bool, true, false, refl, sym, ◌∙◌, ap, subst, arith, if◌then◌else◌}
+use Rattle.std.proofs.Common.{◌≡◌, ◌≢◌, ◌⊎◌, inl, inr, ℕ, zero, suc, ◌+◌, ◌<◌, ◌≤◌, List, [], ◌∷◌, ◌++◌, length, map, take, get_or, String, string_bytes, set, replicate, reverse, Option, Some, None, Bool, true, false, refl, sym, ◌∙◌, ap, subst, arith, if◌then◌else◌}
 use Rattle.std.specs.Prelude.{◌↔◌, ◌==◌, ◌&&◌, ◌||◌, not, IfSome}
 use Rattle.std.proofs.lemmas.Grind.{common_steps}
 use Rattle.std.proofs.lemmas.Bool.{cases_eq, cases_Bool, cases_lt, both_ways, false≢true}
@@ -7,14 +7,8 @@ use Rattle.std.proofs.lemmas.List.{map-append, take_more, get_or-set_same, get_o
 use Rattle.std.specs.declared.alloc.Global.{Global}
 use Rattle.cf_bytes.specs.declared.hash.Hash32.{Hash32}
 use Rattle.cf_bytes.specs.declared.peer.PeerNo.{PeerNo}
-use Rattle.cf_frame.specs.declared.frame.Frame.{Frame}
-use Rattle.cf_frame.specs.declared.frame.FrameFault.{FrameFault}
-use Rattle.cf_frame.specs.Stream.{read_stream}
 use Rattle.cf_headers.specs.declared.store.HeaderStore.{Ghosts}
 use Rattle.cf_match.specs.declared.matcher.Matcher.{Ghosts as Judges}
-use Rattle.cf_msg.specs.declared.msg.Malformed.{Malformed}
-use Rattle.cf_msg.specs.declared.msg.Msg.{Msg}
-use Rattle.cf_msg.specs.Reading.{message_of}
 use Rattle.cf_wires.specs.declared.event.Delivery.{Delivery}
 use Rattle.cf_wires.specs.declared.event.Delivery.TheVariants.{Got, Gone, Tick, Ended}
 use Rattle.cf_wires.specs.declared.event.Dial.{Dial}
@@ -23,7 +17,7 @@ use Rattle.cf_wires.specs.declared.event.Event.TheVariants.{Dialled, NotDialled,
 use Rattle.cf_wires.specs.declared.event.Mark.{Mark}
 use Rattle.cf_wires.specs.declared.event.Mark.TheVariants.{NotYet, Called, Missed, Left, Shut, Broken}
 use Rattle.cf_wires.specs.Log.{Log, Told, Tally, Tells, tally_of, tell, dials}
-use Rattle.cf_peer.specs.Trail.{Trail, Part, Why, Lost, Failing, Shutting, Went, item_of, item_of_read, hears, hears_fault, heard_part, called_part, with_item, part_of, trail, went_on, connected, ready}
+use Rattle.cf_peer.specs.Trail.{Trail, Part, Why, Lost, Failing, Shutting, Went, heard_part, called_part, with_item, part_of, trail, went_on, connected, ready}
 use Rattle.cf_peer.specs.Asking.{is_open, is_idle, request}
 use Rattle.cf_scan.specs.declared.history.Entry.{Entry}
 use Rattle.cf_peer.specs.declared.mode.Mode.{Mode}
@@ -40,12 +34,13 @@ use Rattle.cf_run.specs.Names.{names_in}
 use Rattle.cf_hear.proofs.Tracking.{tracks_ended}
 use Rattle.cf_client.specs.Stands.{Reflects, IsReportOf, seen_by, rule_by, greeting_by}
 use Rattle.cf_run.specs.Run.{IsOrderly, WasOrderly, AreNumbered, IsUntaken, IsTicked, WereAskedOut, WerePinged, WasRun, RanTo, AreBytesOf, IsEnd, IsTraceOf, names_of, is_lost, NobodyLeft}
-use Rattle.cf_run.specs.Moments.{Notes, Doing, HoldsOver, Stopped, IsEndTold, state_at, is_pending, is_fine}
+use Rattle.cf_run.specs.Moments.{IsUnused, Notes, Doing, HoldsOver, Stopped, IsEndTold, state_at, is_pending, is_fine}
 use Rattle.cf_client.specs.Blameless.{AreAskedOut}
 use Rattle.cf_peer.specs.declared.act.Act.{Act}
 use Rattle.cf_sync.specs.Planned.{is_untold, ArePlanned}
 use Rattle.cf_sync.specs.Sync.{HasAskedIn}
 use Rattle.cf_sync.proofs.Planning.{own_plan}
+use Rattle.cf_sync.proofs.Deaf.{heard_on}
 use Rattle.cf_sync.proofs.Modes.{rightly_following}
 use Rattle.cf_sync.proofs.Settles.{followed_in}
 use Rattle.cf_client.proofs.Innocent.{innocent, answered}
@@ -57,25 +52,8 @@ use Rattle.cf_run.proofs.Ticked.{ticked_ended, ticked_first, ticked_missed}
 use Rattle.cf_run.proofs.Performs.{tells_more, lost_off, sent_connected, untold_failing_here, untold_failing_others, untold_closed_others}
 
 -- what a piece says connects nobody, and cuts nobody off
-item_connected : (r : Result Msg Malformed) (t : Trail) → connected (item_of_read r ∷ t) ≡ connected t
-item_connected (Ok m) t = refl
-item_connected (Err e) t = refl
-
-hears_connected : (fs : List Frame) (t : Trail) → connected (hears fs t) ≡ connected t
-hears_connected [] t = refl
-hears_connected (f ∷ fs) t = hears_connected fs (item_of f ∷ t) ∙ item_connected (message_of f) t
-
-fault_connected : (o : Option FrameFault) (t : Trail) → connected (hears_fault o t) ≡ connected t
-fault_connected None t = refl
-fault_connected (Some fault) t = refl
-
-heard_connected : (piece : List ℕ) (part : Part) → connected (heard_part piece part).trail ≡ connected part.trail
-heard_connected piece part =
-    let r = read_stream (part.waits ++ piece) in
-    fault_connected r.fault (hears r.frames part.trail) ∙ hears_connected r.frames part.trail
-
 got_connected : (b : Bool) (piece : List ℕ) (part : Part) → connected (if b then heard_part piece part else part).trail ≡ connected part.trail
-got_connected true piece part = heard_connected piece part
+got_connected true piece part = heard_on piece part
 got_connected false piece part = refl
 
 dialled_others : (p : PeerNo) (name : List ℕ) (q : ℕ) (part : Part) → q ≢ p.0 → went_on (Dialled p name) q part ≡ part
@@ -336,36 +314,16 @@ took_closed Ended t = refl
 
 -- the tally says who is connected
 abbrev is_called : Mark → Bool
-is_called NotYet = false
 is_called Called = true
-is_called Missed = false
-is_called Left = false
-is_called Shut = false
-is_called Broken = false
+is_called _ = false
 
-abbrev is_not_yet : Mark → Bool
-is_not_yet NotYet = true
-is_not_yet Called = false
-is_not_yet Missed = false
-is_not_yet Left = false
-is_not_yet Shut = false
-is_not_yet Broken = false
-
-abbrev is_broken : Mark → Bool
-is_broken NotYet = false
-is_broken Called = false
-is_broken Missed = false
-is_broken Left = false
-is_broken Shut = false
-is_broken Broken = true
-
-lost_by : (m : Mark) → is_not_yet m ≡ false → is_called m ≡ false → is_broken m ≡ false → is_lost m ≡ true
-lost_by NotYet n c b = absurd (false≢true (sym n))
+lost_by : (m : Mark) → m ≢ NotYet → is_called m ≡ false → m ≢ Broken → is_lost m ≡ true
+lost_by NotYet n c b = absurd (n refl)
 lost_by Called n c b = absurd (false≢true (sym c))
 lost_by Missed n c b = refl
 lost_by Left n c b = refl
 lost_by Shut n c b = refl
-lost_by Broken n c b = absurd (false≢true (sym b))
+lost_by Broken n c b = absurd (b refl)
 
 called_not : (m : Mark) → is_lost m ≡ true → is_called m ≡ false
 called_not NotYet h = refl
@@ -504,46 +462,51 @@ numbered_on (Took (Tick s) ∷ log) p n on = numbered_on log p n on
 numbered_on (Took Ended ∷ log) p n on = numbered_on log p n on
 
 -- whoever was dialled has a mark of his own
-not_yet_set : (marks : List Mark) (i p : ℕ) (m : Mark) → p < 9 → length marks ≡ 9 → is_not_yet m ≡ false → (p ≢ i → is_not_yet (get_or marks p NotYet) ≡ false)
-    → is_not_yet (get_or (set marks i m) p NotYet) ≡ false
+set_same : (marks : List Mark) (i p : ℕ) (m : Mark) → p < 9 → length marks ≡ 9 → p ≡ i → get_or (set marks i m) p NotYet ≡ m
+set_same marks i p m lt size e =
+    ap (λ (k : ℕ). get_or (set marks i m) k NotYet) e ∙ get_or-set_same marks i m NotYet (omega (arith, e, size, lt))
+
+not_yet_set : (marks : List Mark) (i p : ℕ) (m : Mark) → p < 9 → length marks ≡ 9 → m ≢ NotYet
+    → (p ≢ i → get_or marks p NotYet ≢ NotYet) → get_or (set marks i m) p NotYet ≢ NotYet
 not_yet_set marks i p m lt size is old = elim (cases_eq p i) [
-  | inl e ↦ ap is_not_yet (ap (λ (k : ℕ). get_or (set marks i m) k NotYet) e ∙ get_or-set_same marks i m NotYet (omega (arith, e, size, lt))) ∙ is
-  | inr ne ↦ ap is_not_yet (get_or-set_other marks i p m NotYet ne) ∙ old ne
+  | inl e ↦ λ not_yet. is (sym (set_same marks i p m lt size e) ∙ not_yet)
+  | inr ne ↦ λ not_yet. old ne (sym (get_or-set_other marks i p m NotYet ne) ∙ not_yet)
 ]
 
 below : (p n k : ℕ) → p ≤ n + 1 → k ≡ n + 1 → p ≢ k → p ≤ n
 below p n k le is ne = elim (cases_lt p (n + 1)) [ inl lt ↦ omega (arith, lt) | inr ge ↦ absurd (ne (omega (arith, ge, le, is))) ]
 
-dialled_mark : (log : Log) (p : ℕ) → AreNumbered log → 1 ≤ p → p ≤ (tally_of log).dials → p < 9 → is_not_yet (get_or (tally_of log).marks p NotYet) ≡ false
+dialled_mark : (log : Log) (p : ℕ) → AreNumbered log → 1 ≤ p → p ≤ (tally_of log).dials → p < 9
+    → get_or (tally_of log).marks p NotYet ≢ NotYet
 dialled_mark [] p n one le lt = absurd (omega (arith, one, le))
 dialled_mark (Dialled q name ∷ log) p n one le lt =
-    not_yet_set (tally_of log).marks q.0 p Called lt (marks_of log p lt).size refl (λ ne. dialled_mark log p n.1 one (below p (tally_of log).dials q.0 le n.0 ne) lt)
+    not_yet_set (tally_of log).marks q.0 p Called lt (marks_of log p lt).size (λ e. cc e) (λ ne. dialled_mark log p n.1 one (below p (tally_of log).dials q.0 le n.0 ne) lt)
 dialled_mark (NotDialled q name ∷ log) p n one le lt =
-    not_yet_set (tally_of log).marks q.0 p Missed lt (marks_of log p lt).size refl (λ ne. dialled_mark log p n.1 one (below p (tally_of log).dials q.0 le n.0 ne) lt)
+    not_yet_set (tally_of log).marks q.0 p Missed lt (marks_of log p lt).size (λ e. cc e) (λ ne. dialled_mark log p n.1 one (below p (tally_of log).dials q.0 le n.0 ne) lt)
 dialled_mark (Sent q bytes ∷ log) p n one le lt = dialled_mark log p n one le lt
-dialled_mark (SendFailed q ∷ log) p n one le lt = not_yet_set (tally_of log).marks q.0 p Broken lt (marks_of log p lt).size refl (λ ne. dialled_mark log p n one le lt)
-dialled_mark (Closed q ∷ log) p n one le lt = not_yet_set (tally_of log).marks q.0 p Shut lt (marks_of log p lt).size refl (λ ne. dialled_mark log p n one le lt)
+dialled_mark (SendFailed q ∷ log) p n one le lt = not_yet_set (tally_of log).marks q.0 p Broken lt (marks_of log p lt).size (λ e. cc e) (λ ne. dialled_mark log p n one le lt)
+dialled_mark (Closed q ∷ log) p n one le lt = not_yet_set (tally_of log).marks q.0 p Shut lt (marks_of log p lt).size (λ e. cc e) (λ ne. dialled_mark log p n one le lt)
 dialled_mark (Took (Got q piece) ∷ log) p n one le lt = dialled_mark log p n one le lt
-dialled_mark (Took (Gone q) ∷ log) p n one le lt = not_yet_set (tally_of log).marks q.0 p Left lt (marks_of log p lt).size refl (λ ne. dialled_mark log p n one le lt)
+dialled_mark (Took (Gone q) ∷ log) p n one le lt = not_yet_set (tally_of log).marks q.0 p Left lt (marks_of log p lt).size (λ e. cc e) (λ ne. dialled_mark log p n one le lt)
 dialled_mark (Took (Tick s) ∷ log) p n one le lt = dialled_mark log p n one le lt
 dialled_mark (Took Ended ∷ log) p n one le lt = dialled_mark log p n one le lt
 
 -- whose mark is that of a failed send, of him it isn't told yet
-broken_set : (marks : List Mark) (i p : ℕ) (m : Mark) → p < 9 → length marks ≡ 9 → is_broken (get_or (set marks i m) p NotYet) ≡ true
-    → ((p ≡ i) × (is_broken m ≡ true)) ⊎ ((p ≢ i) × (is_broken (get_or marks p NotYet) ≡ true))
+broken_set : (marks : List Mark) (i p : ℕ) (m : Mark) → p < 9 → length marks ≡ 9 → get_or (set marks i m) p NotYet ≡ Broken
+    → ((p ≡ i) × (m ≡ Broken)) ⊎ ((p ≢ i) × (get_or marks p NotYet ≡ Broken))
 broken_set marks i p m lt size is = elim (cases_eq p i) [
-  | inl e ↦ inl (e, sym (ap is_broken (ap (λ (k : ℕ). get_or (set marks i m) k NotYet) e ∙ get_or-set_same marks i m NotYet (omega (arith, e, size, lt)))) ∙ is)
-  | inr ne ↦ inr (ne, sym (ap is_broken (get_or-set_other marks i p m NotYet ne)) ∙ is)
+  | inl e ↦ inl (e, sym (set_same marks i p m lt size e) ∙ is)
+  | inr ne ↦ inr (ne, sym (get_or-set_other marks i p m NotYet ne) ∙ is)
 ]
 
-broken_mark : (log : Log) (p : ℕ) → p < 9 → WasOrderly log → is_broken (get_or (tally_of log).marks p NotYet) ≡ true → is_untold log p ≡ true
-broken_mark [] p lt w is = absurd (false≢true (sym (ap is_broken (fresh_mark 9 p)) ∙ is))
+broken_mark : (log : Log) (p : ℕ) → p < 9 → WasOrderly log → get_or (tally_of log).marks p NotYet ≡ Broken → is_untold log p ≡ true
+broken_mark [] p lt w is = let e : NotYet ≡ Broken = sym (fresh_mark 9 p) ∙ is in cc e
 broken_mark (Dialled q name ∷ log) p lt w is = elim (broken_set (tally_of log).marks q.0 p Called lt (marks_of log p lt).size is) [
-  | inl x ↦ absurd (false≢true x.1)
+  | inl x ↦ cc x.1
   | inr x ↦ broken_mark log p lt w x.1
 ]
 broken_mark (NotDialled q name ∷ log) p lt w is = elim (broken_set (tally_of log).marks q.0 p Missed lt (marks_of log p lt).size is) [
-  | inl x ↦ absurd (false≢true x.1)
+  | inl x ↦ cc x.1
   | inr x ↦ broken_mark log p lt w x.1
 ]
 broken_mark (Sent q bytes ∷ log) p lt w is = broken_mark log p lt w is
@@ -552,12 +515,12 @@ broken_mark (SendFailed q ∷ log) p lt w is = elim (broken_set (tally_of log).m
   | inr x ↦ untold_failing_others q log p x.0 ∙ broken_mark log p lt w.1 x.1
 ]
 broken_mark (Closed q ∷ log) p lt w is = elim (broken_set (tally_of log).marks q.0 p Shut lt (marks_of log p lt).size is) [
-  | inl x ↦ absurd (false≢true x.1)
+  | inl x ↦ cc x.1
   | inr x ↦ untold_closed_others q log p x.0 ∙ broken_mark log p lt w.1 x.1
 ]
 broken_mark (Took (Got q piece) ∷ log) p lt w is = absurd (both_ways (is_untold log p) (w.0.told p) (broken_mark log p lt w.1 is))
 broken_mark (Took (Gone q) ∷ log) p lt w is = elim (broken_set (tally_of log).marks q.0 p Left lt (marks_of log p lt).size is) [
-  | inl x ↦ absurd (false≢true x.1)
+  | inl x ↦ cc x.1
   | inr x ↦ absurd (both_ways (is_untold log p) (w.0.told p) (broken_mark log p lt w.1 x.1))
 ]
 broken_mark (Took (Tick s) ∷ log) p lt w is = absurd (both_ways (is_untold log p) (w.0.told p) (broken_mark log p lt w.1 is))
@@ -566,10 +529,7 @@ broken_mark (Took Ended ∷ log) p lt w is = absurd (both_ways (is_untold log p)
 lost_mark : (log : Log) (p : ℕ) → AreNumbered log → WasOrderly log → IsOrderly log → connected (trail log p) ≡ false → 1 ≤ p → p ≤ (tally_of log).dials → p < 9
     → is_lost (get_or (tally_of log).marks p NotYet) ≡ true
 lost_mark log p n was now off one le lt = lost_by (get_or (tally_of log).marks p NotYet) (dialled_mark log p n one le lt) ((marks_of log p lt).says ∙ off)
-    (elim (cases_Bool (is_broken (get_or (tally_of log).marks p NotYet))) [
-      | inl broken ↦ absurd (both_ways (is_untold log p) (now.told p) (broken_mark log p lt was broken))
-      | inr sound ↦ sound
-    ])
+    (λ broken. both_ways (is_untold log p) (now.told p) (broken_mark log p lt was broken))
 
 nobody_left : (log : Log) → NobodyLeft (tally_of log) → AreNumbered log → (tally_of log).dials ≤ 8 → (p : ℕ) → connected (trail log p) ≡ false
 nobody_left log none numbered few p = elim (cases_Bool (connected (trail log p))) [
@@ -622,11 +582,11 @@ open_all (suc k) zero = refl
 open_all (suc k) (suc q) = open_all k q
 
 -- nothing has passed
-pub starts : {H M : Type 0} {g : Ghosts H} {j : Judges M} (c : Client H M g j) (progress : Progress) (t : Told) → Reflects c [] → progress.sends ≡ replicate 9 Fine → progress.closed ≡ replicate 9 false → progress.trace.items ≡ []
+pub starts : {H M : Type 0} {g : Ghosts H} {j : Judges M} (c : Client H M g j) (progress : Progress) (t : Told) → Reflects c [] → IsUnused progress
     → Tells [] t → HoldsOver c progress [] t
-starts c progress t reflects sends closed trace tells =
-    let fine : (q : ℕ) → state_at progress.sends q ≡ Fine = λ q. ap (λ (xs : List SendState). get_or xs q Fine) sends ∙ fine_all 9 q in
-    let unshut : (q : ℕ) → get_or progress.closed q false ≡ false = λ q. ap (λ (xs : List Bool). get_or xs q false) closed ∙ open_all 9 q in
+starts c progress t reflects unused tells =
+    let fine : (q : ℕ) → state_at progress.sends q ≡ Fine = λ q. ap (λ (xs : List SendState). get_or xs q Fine) unused.sends ∙ fine_all 9 q in
+    let unshut : (q : ℕ) → get_or progress.closed q false ≡ false = λ q. ap (λ (xs : List Bool). get_or xs q false) unused.closed ∙ open_all 9 q in
     record {
       actual = [];
       notes = record {
@@ -639,7 +599,7 @@ starts c progress t reflects sends closed trace tells =
         in_time = tt;
         numbered = tt;
         first = tt;
-        traced = subst (λ (xs : List TraceLine). IsTraceOf [] (reverse xs)) (sym trace) tt;
+        traced = subst (λ (xs : List TraceLine). IsTraceOf [] (reverse xs)) (sym unused.trace) tt;
         named = refl;
         off = λ q not_it. refl;
         shut = λ q it. (refl, refl);

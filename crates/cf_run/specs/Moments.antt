@@ -1,5 +1,5 @@
 -- machine: what a run keeps from one step to the next, and what each step does of it.
-use Rattle.std.specs.Prelude.{◌≡◌, ◌⊎◌, ℕ, ◌+◌, ◌≤◌, ◌<◌, ◌==◌, ◌||◌, Bool, true, false, List, [], ◌∷◌, ◌++◌, reverse, slice_index_or, Option, Some, None}
+use Rattle.std.specs.Prelude.{◌≡◌, ◌⊎◌, ℕ, ◌+◌, ◌≤◌, ◌<◌, ◌==◌, ◌||◌, Bool, true, false, List, [], ◌∷◌, ◌++◌, replicate, reverse, slice_index_or, Option, Some, None}
 use Rattle.std.specs.List.{sum_by, list_any}
 use Rattle.cf_headers.specs.declared.store.HeaderStore.{Ghosts}
 use Rattle.cf_match.specs.declared.matcher.Matcher.{Ghosts as Judges}
@@ -49,6 +49,12 @@ weight Known = 0
 -- how much may still come of failed sends, over all peers
 abbrev pub trouble : Progress → ℕ
 trouble progress = sum_by weight progress.sends
+
+-- nothing is noted yet: no send has failed, nobody was closed, and the trace is empty
+pub record IsUnused (progress : Progress) : Type 0 where
+  pub sends : progress.sends ≡ replicate 9 Fine
+  pub closed : progress.closed ≡ replicate 9 false
+  pub trace : progress.trace.items ≡ []
 
 -- what the run's own notes say of the log as it is
 pub record Notes (rule : Rule) (progress : Progress) (called : List (List ℕ)) (actual : Log) (t : Told) : Type 0 where
@@ -185,6 +191,13 @@ pub record Turns (a b : RunState) : Type 0 where
   pub taken : b.told.tally.taken ≤ a.told.tally.taken + 1
   pub ended : b.told.tally.ended ≤ a.told.tally.ended + 1
   pub puts : (watch texts : List (List ℕ)) → PutBy watch texts a.told → PutBefore watch texts b.told ⊎ PutBy watch texts b.told
+
+-- so many turns were taken, each with a delivery: the end wasn't told, and nobody was dialled
+pub record TookTurns (turns : ℕ) (a b : RunState) : Type 0 where
+  pub taken : b.told.tally.taken ≡ turns
+  pub unended : b.told.tally.ended ≡ 0
+  pub same : IsNoMore a.told b.told
+  pub runs : Runs a b
 
 -- turns were taken, so many at most: the end was told at most once, and nobody was dialled
 pub record TakesTurns (turns : ℕ) (a b : RunState) : Type 0 where

@@ -125,12 +125,9 @@ WereAskedOut rule (_ ∷ log) = WereAskedOut rule log
 
 -- a dial or a send has failed
 abbrev pub is_failure : Event → Bool
-is_failure (Dialled p name) = false
 is_failure (NotDialled p name) = true
-is_failure (Sent p bytes) = false
 is_failure (SendFailed p) = true
-is_failure (Closed p) = false
-is_failure (Took d) = false
+is_failure _ = false
 
 -- a dial or a send has failed in this log
 abbrev pub HasFailed : Log → Type 0

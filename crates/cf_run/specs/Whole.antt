@@ -56,7 +56,14 @@ pub record PutsAll {T : Type 0} (told : T → Option (List ℕ)) (faults : T →
   pub put : IfSome log (λ l. HasPut watch l (told before) (told after))
   pub fine : faults after ≡ faults before
 
--- what takes the texts has failed over the one that is due: the run was right until then
+-- the run ended early for want of memory: each text was put whole or not at all, and what takes the texts hasn't failed
+pub record IsShort {T : Type 0} (told : T → Option (List ℕ)) (faults : T → ℕ) (watch : List (List ℕ))
+    (log : Option Log) (before after : T) : Type 0 where
+  pub put : IfSome log (λ l. HasPutSo watch l (told before) (told after))
+  pub fine : faults after ≡ faults before
+
+-- The run ended early over a text: of that, which was due, a beginning was put, or nothing, and the run was right until
+-- then. Since the run began the count of faults has risen.
 pub record IsCut {T : Type 0} (told : T → Option (List ℕ)) (faults : T → ℕ) (watch names : List (List ℕ)) (wires : Told) (before after : T) : Type 0 where
   pub put : IfSome wires.log (λ log. HasPutBut watch log (told before) (told after))
   pub right : IfSome wires.log (λ log. AreBytes log × RightlyIn Following log)
@@ -66,5 +73,5 @@ pub record IsCut {T : Type 0} (told : T → Option (List ℕ)) (faults : T → �
 
 -- what was put of a run that was given up so
 abbrev pub GivesUp : {T : Type 0} → TextFail → (told : T → Option (List ℕ)) → (faults : T → ℕ) → (watch names : List (List ℕ)) → Told → (before after : T) → Type 0
-GivesUp NoMemory told faults watch names wires before after = IfSome wires.log (λ log. HasPutSo watch log (told before) (told after))
+GivesUp NoMemory told faults watch names wires before after = IsShort told faults watch wires.log before after
 GivesUp Failed told faults watch names wires before after = IsCut told faults watch names wires before after

@@ -52,6 +52,7 @@ fn put_text<T: Texts>(
     ensures begun { IfErr result (λ fail. (before : List (List ℕ)) → IsLast last.old before
         → PutsBegun fail (string_bytes text) before (T.told texts.old) (T.told texts.new)) }
     ensures fine { OnOk result (T.faults texts.new ≡ T.faults texts.old) }
+    ensures short { IsErrOf result TextFail.NoMemory → T.faults texts.new ≡ T.faults texts.old }
     ensures failed { IsErrOf result TextFail.Failed → HasRisen (T.faults texts.old) (T.faults texts.new) }
     ensures same_reference { T.holds texts.new ≡ T.holds texts.old }
 {
@@ -78,6 +79,7 @@ fn put_at_rest<H: HeaderStore, M: Matcher, T: Texts>(
         → PutsSome fail client.old before (T.told texts.old) (T.told texts.new)) }
     ensures same { OnOk result (client.new ≡ client.old) }
     ensures fine { OnOk result (T.faults texts.new ≡ T.faults texts.old) }
+    ensures short { IsErrOf result TextFail.NoMemory → T.faults texts.new ≡ T.faults texts.old }
     ensures failed { IsErrOf result TextFail.Failed → HasRisen (T.faults texts.old) (T.faults texts.new) }
     ensures same_reference { T.holds texts.new ≡ T.holds texts.old }
 {
@@ -149,6 +151,7 @@ fn follow_turn<W: Wires, H: HeaderStore, M: Matcher, T: Texts>(
         (run_state (W.told wires.old) (W.faults wires.old) (W.script wires.old) (W.keeps wires.old) progress.old)
         (run_state (W.told wires.new) (W.faults wires.new) (W.script wires.new) (W.keeps wires.new) progress.new) }
     ensures fine { OnOk result (T.faults texts.new ≡ T.faults texts.old) }
+    ensures short { IsErrOf result TextFail.NoMemory → T.faults texts.new ≡ T.faults texts.old }
     ensures failed { IsErrOf result TextFail.Failed → HasRisen (T.faults texts.old) (T.faults texts.new) }
     ensures same_reference { T.holds texts.new ≡ T.holds texts.old }
 {
@@ -196,6 +199,7 @@ fn follow_turns<W: Wires, H: HeaderStore, M: Matcher, T: Texts>(
         (run_state (W.told wires.old) (W.faults wires.old) (W.script wires.old) (W.keeps wires.old) progress.old)
         (run_state (W.told wires.new) (W.faults wires.new) (W.script wires.new) (W.keeps wires.new) progress.new) }
     ensures fine { OnOk result (T.faults texts.new ≡ T.faults texts.old) }
+    ensures short { IsErrOf result TextFail.NoMemory → T.faults texts.new ≡ T.faults texts.old }
     ensures failed { IsErrOf result TextFail.Failed → HasRisen (T.faults texts.old) (T.faults texts.new) }
     ensures same_reference { T.holds texts.new ≡ T.holds texts.old }
 {

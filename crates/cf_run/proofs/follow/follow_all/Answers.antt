@@ -1,4 +1,4 @@
-use Rattle.std.proofs.Common.{sym, ◌∙◌, ap, subst, string_bytes, rules}
+use Rattle.std.proofs.Common.{refl, sym, ◌∙◌, ap, subst, string_bytes, rules}
 use Rattle.std.proofs.Math.Facts.{to_z-of_z}
 use Rattle.std.proofs.lemmas.List.{length-map}
 use Rattle.std.proofs.lemmas.Result.{err_from_is_err_and}
@@ -9,7 +9,7 @@ use Rattle.cf_sync.specs.Fetching.{Rule}
 use Rattle.cf_run.specs.Names.{names_in}
 use Rattle.cf_run.specs.Whole.{IsOutcome}
 use Rattle.cf_run.proofs.Passing.{ends_within, passes_none, passes_turns, passes_untaken}
-use Rattle.cf_run.proofs.Puts.{all_some, all_told, gives_up, none_before, none_put, so_told}
+use Rattle.cf_run.proofs.Puts.{all_some, all_told, gives_up, is_short, none_before, none_put}
 use Rattle.cf_run.proofs.Versions.{words_so}
 use Rattle.cf_run.proofs.follow.follow_all.Goals as goal
 
@@ -81,15 +81,16 @@ returns-clause-put g c =
 pub returns-in_err-client-clause-cut : goal.returns-in_err-client-clause-cut
 returns-in_err-client-clause-cut g c =
     (let p = err_from_is_err_and c.from_residual.result c.from_residual.ensures.1 in
-    rw (p.1, p.2) (so_told c.args.watch (g.W.Wires.told c.args.wires.now) _ _
-    (none_put c.args.watch (g.W.Wires.told c.args.wires.now) _
-    (none_before c.args.watch (g.W.Wires.told c.args.wires.now) c.requires.wires.log))))
+    let t = g.W.Wires.told c.args.wires.now in
+    rw (p.1, p.2) (is_short g.T.Texts.told g.T.Texts.faults c.args.watch t c.args.texts.now _
+    (none_put c.args.watch t _ (none_before c.args.watch t c.requires.wires.log)) refl))
 
 pub returns-in_err-progress-clause-cut : goal.returns-in_err-progress-clause-cut
 returns-in_err-progress-clause-cut g c =
     (let p = err_from_is_err_and c.from_residual-in_err-progress.result c.from_residual-in_err-progress.ensures.1 in
-    rw (p.1, p.2) (so_told c.args.watch (g.W.Wires.told c.dial_first.new.wires) _ _
-    (none_put c.args.watch (g.W.Wires.told c.dial_first.new.wires) _ (c.in_err-progress.ensures.puts c.args.watch))))
+    let t = g.W.Wires.told c.dial_first.new.wires in
+    rw (p.1, p.2) (is_short g.T.Texts.told g.T.Texts.faults c.args.watch t c.args.texts.now _
+    (none_put c.args.watch t _ (c.in_err-progress.ensures.puts c.args.watch)) refl))
 
 pub returns-in_err-end-clause-cut : goal.returns-in_err-end-clause-cut
 returns-in_err-end-clause-cut g c =
@@ -101,7 +102,7 @@ returns-in_err-end-clause-cut g c =
     rw (p.1, p.2) (gives_up _ g.T.Texts.told g.T.Texts.faults c.args.watch called
     (g.W.Wires.told c.follow_turns.new.wires) c.args.texts.now c.follow_turns.new.texts
     (e.put_some c.args.watch called watch d.holds (d.puts c.args.watch))
-    (e.takes.same.dials ∙ d.dialled ∙ sym (length-map c.args.names.now string_bytes)) (λ is. e.failed (cc is))))
+    (e.takes.same.dials ∙ d.dialled ∙ sym (length-map c.args.names.now string_bytes)) (λ is. e.short (cc is)) (λ is. e.failed (cc is))))
 
 pub returns-in_err-outcome-clause-cut : goal.returns-in_err-outcome-clause-cut
 returns-in_err-outcome-clause-cut g c =
@@ -110,8 +111,9 @@ returns-in_err-outcome-clause-cut g c =
     let e = c.in_ok-end.ensures in
     let watch = ap (λ (r : Rule). r.watch) (d.rule ∙ c.in_ok-client.ensures.rule) in
     let t = g.W.Wires.told c.follow_turns.new.wires in
-    rw (p.1, p.2) (so_told c.args.watch t _ _ (all_some c.args.watch t _ _
-    (e.put c.args.watch (names_in c.args.names.now) watch d.holds (d.puts c.args.watch)))))
+    rw (p.1, p.2) (is_short g.T.Texts.told g.T.Texts.faults c.args.watch t c.args.texts.now c.follow_turns.new.texts
+    (all_some c.args.watch t _ _ (e.put c.args.watch (names_in c.args.names.now) watch d.holds (d.puts c.args.watch)))
+    e.fine))
 
 pub returns-clause-done : goal.returns-clause-done
 returns-clause-done g c = λ is. c.in_ok-end.ensures.done (sym c.in_ok-outcome.ensures.end ∙ is)

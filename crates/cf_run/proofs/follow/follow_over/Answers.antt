@@ -10,34 +10,24 @@ use Rattle.cf_run.proofs.Puts.{gives_finished}
 use Rattle.cf_run.proofs.Versions.{words_so}
 use Rattle.cf_run.proofs.follow.follow_over.Goals as goal
 
-pub returns-clause-outcome : goal.returns-clause-outcome
-returns-clause-outcome g c = rw c.finish.ensures.told c.follow_all-outcome.ensures.outcome
-
-pub returns-clause-theorem : goal.returns-clause-theorem
-returns-clause-theorem g c =
-    rw c.finish.ensures.told
-    (IfOk-weaker c.follow_all-outcome.result _ _
-    (λ o is. IfSome_then _ is (λ log came. follow_theorem_of c.args.watch o.height o.tip o.history log
-    came.followed.asked)) c.follow_all-outcome.ensures.outcome)
-
-pub returns-clause-within : goal.returns-clause-within
-returns-clause-within g c = rw c.finish.ensures.told c.follow_all-outcome.ensures.within
-
-pub returns-clause-wires : goal.returns-clause-wires
-returns-clause-wires g c =
-    let words = words_so _ _ c.args.moment c.args.nonce refl (to_z-of_z {w = w64} {z = c.args.moment} (search rules)) in
+pub returns : goal.returns
+returns g c =
+    let all = c.follow_all-outcome.ensures in
     let end = c.finish.ensures in
-    leaves_wires _ _ words c.requires.wires c.follow_all-outcome.ensures.passes end.told end.later end.same end.keeps
-
-pub returns-clause-done : goal.returns-clause-done
-returns-clause-done g c = rw c.finish.ensures.told c.follow_all-outcome.ensures.done
-
-pub returns-clause-put : goal.returns-clause-put
-returns-clause-put g c = rw c.finish.ensures.told c.follow_all-outcome.ensures.put
-
-pub returns-clause-cut : goal.returns-clause-cut
-returns-clause-cut g c =
-    rw c.finish.ensures.told
-    (IfErr-weaker c.follow_all-outcome.result _ _
-    (λ fail cut. gives_finished fail g.T.Texts.told g.T.Texts.faults c.args.watch
-    (names_in c.args.names.now) _ _ _ cut) c.follow_all-outcome.ensures.cut)
+    let words = words_so _ _ c.args.moment c.args.nonce refl (to_z-of_z {w = w64} {z = c.args.moment} (search rules)) in
+    record {
+      outcome = rw end.told all.outcome;
+      theorem = rw end.told
+          (IfOk-weaker c.follow_all-outcome.result _ _
+          (λ o is. IfSome_then _ is (λ log came. follow_theorem_of c.args.watch o.height o.tip o.history log
+          came.followed.asked)) all.outcome);
+      within = rw end.told all.within;
+      done = rw end.told all.done;
+      wires = leaves_wires _ _ words c.requires.wires all.passes end.told end.later end.same end.keeps;
+      put = rw end.told all.put;
+      cut = rw end.told
+          (IfErr-weaker c.follow_all-outcome.result _ _
+          (λ fail cut. gives_finished fail g.T.Texts.told g.T.Texts.faults c.args.watch
+          (names_in c.args.names.now) _ _ _ cut) all.cut);
+      same_reference = all.same_reference;
+    }

@@ -141,17 +141,5 @@ returns-in_err-put_at_rest-clause-turns g c = turns_none _ _ (runs_self _ c.requ
 pub returns-in-NoPeers-clause-turns : goal.returns-in-NoPeers-clause-turns
 returns-in-NoPeers-clause-turns g c = turns_none _ _ (runs_self _ c.requires.step) refl
 
-pub returns-then-more-clause-turns : goal.returns-then-more-clause-turns
-returns-then-more-clause-turns g c = c.in_ok-more.ensures.turns
-
-pub returns-clause-turns : goal.returns-clause-turns
-returns-clause-turns g c = c.in_ok-more.ensures.turns
-
-pub returns-in_err-more-clause-turns : goal.returns-in_err-more-clause-turns
-returns-in_err-more-clause-turns g c = c.in_err-more.ensures.turns
-
-pub returns-in_err-put_at_rest-2-clause-turns : goal.returns-in_err-put_at_rest-2-clause-turns
-returns-in_err-put_at_rest-2-clause-turns g c = c.in_ok-more.ensures.turns
-
 pub returns-clause-untired : goal.returns-clause-untired
 returns-clause-untired g c = λ is. c.end_of_wires.ensures.untired (cc is)

@@ -4,7 +4,7 @@ use Rattle.cf_sync.specs.Fetching.{Rule}
 use Rattle.cf_client.specs.Stands.{greeting_by}
 use Rattle.cf_run.specs.declared.outcome.End.{End}
 use Rattle.cf_run.specs.Moments.{Turned}
-use Rattle.cf_run.proofs.Courses.{runs_self, runs_then, no_more_self, no_more_then, turn_ends, turns_more, turns_used}
+use Rattle.cf_run.proofs.Courses.{took_more, took_none, turn_ends, turns_more, turns_over, turns_used}
 use Rattle.cf_run.proofs.Turns.{holds_same, rule_same, stops}
 use Rattle.cf_run.proofs.Versions.{keeps_then}
 use Rattle.cf_run.proofs.Puts.{all_by, none_have, some_by}
@@ -18,10 +18,7 @@ loop-turn-init g c = record {
   versions = λ called holds has. has;
   rule = refl;
   words = refl;
-  taken = c.requires.fresh;
-  unended = c.requires.unended;
-  same = no_more_self _;
-  runs = runs_self _ c.requires.step;
+  took = took_none _ c.requires.fresh c.requires.unended c.requires.step;
   fine = refl;
   same_reference = refl;
 }
@@ -41,10 +38,8 @@ loop-turn-preserved g c = record {
       (c.in_ok-end.ensures.versions called (c.loop-turn.invariant.holds called holds));
   rule = c.in_ok-end.ensures.rule ∙ c.loop-turn.invariant.rule;
   words = c.in_ok-end.ensures.words ∙ c.loop-turn.invariant.words;
-  taken = c.in_ok-end.ensures.taken c.in_default.is ∙ ap (λ (n : ℕ). n + 1) c.loop-turn.invariant.taken;
-  unended = c.in_ok-end.ensures.unended c.in_default.is ∙ c.loop-turn.invariant.unended;
-  same = no_more_then (g.W.Wires.told c.args.wires.now) (g.W.Wires.told c.loop-turn.wires) (g.W.Wires.told c.follow_turn.new.wires) c.loop-turn.invariant.same c.in_ok-end.ensures.turns.same;
-  runs = runs_then c.loop-turn.invariant.runs c.in_ok-end.ensures.turns.runs;
+  took = took_more c.loop-turn._turn c.loop-turn.invariant.took c.in_ok-end.ensures.turns
+      (c.in_ok-end.ensures.taken c.in_default.is) (c.in_ok-end.ensures.unended c.in_default.is);
   fine = c.in_ok-end.ensures.fine ∙ c.loop-turn.invariant.fine;
   same_reference = c.in_ok-end.ensures.same_reference ∙ c.loop-turn.invariant.same_reference;
 }
@@ -110,7 +105,7 @@ pub returns-in-Some-clause-rule : goal.returns-in-Some-clause-rule
 returns-in-Some-clause-rule g c = c.in_ok-end.ensures.rule ∙ c.loop-turn.invariant.rule
 
 pub returns-in-Some-clause-done : goal.returns-in-Some-clause-done
-returns-in-Some-clause-done g c = λ is. inr (c.in_ok-end.ensures.ended c.in-Some.end c.in-Some.is (λ no. cc (is, no)) ∙ ap (λ (n : ℕ). n + 1) c.loop-turn.invariant.unended)
+returns-in-Some-clause-done g c = λ is. inr (c.in_ok-end.ensures.ended c.in-Some.end c.in-Some.is (λ no. cc (is, no)) ∙ ap (λ (n : ℕ). n + 1) c.loop-turn.invariant.took.unended)
 
 pub returns-in-Some-clause-ends : goal.returns-in-Some-clause-ends
 returns-in-Some-clause-ends g c =
@@ -118,28 +113,20 @@ returns-in-Some-clause-ends g c =
     turn_ends c.in-Some.end c.args.turns _ (g.W.Wires.told c.loop-turn.wires).tally
     (g.W.Wires.told c.follow_turn.new.wires).tally (λ is. e.untired (c.in-Some.is ∙ ap Some is))
     (λ is. e.ended c.in-Some.end c.in-Some.is (λ no. cc (is, no)))
-    (e.untaken (λ no. cc (c.in-Some.is, no))) c.loop-turn.invariant.taken (omega arith) c.loop-turn.invariant.unended
+    (e.untaken (λ no. cc (c.in-Some.is, no))) c.loop-turn.invariant.took.taken (omega arith) c.loop-turn.invariant.took.unended
 
 pub returns-clause-ends : goal.returns-clause-ends
 returns-clause-ends g c = turns_used c.last_end.result c.args.turns
-    (g.W.Wires.told c.loop-turn.wires).tally c.last_end.ensures.unended (omega (arith, c.loop-turn.invariant.taken))
+    (g.W.Wires.told c.loop-turn.wires).tally c.last_end.ensures.unended (omega (arith, c.loop-turn.invariant.took.taken))
 
 pub returns-in-Some-clause-takes : goal.returns-in-Some-clause-takes
-returns-in-Some-clause-takes g c =
-    let turn = c.loop-turn.invariant in
-    turns_more c.args.turns _ turn.taken (omega arith) turn.unended turn.same turn.runs c.in_ok-end.ensures.turns
+returns-in-Some-clause-takes g c = turns_more c.args.turns _ c.loop-turn.invariant.took (omega arith) c.in_ok-end.ensures.turns
 
 pub returns-in_err-end-clause-takes : goal.returns-in_err-end-clause-takes
-returns-in_err-end-clause-takes g c =
-    let turn = c.loop-turn.invariant in
-    turns_more c.args.turns _ turn.taken (omega arith) turn.unended turn.same turn.runs c.in_err-end.ensures.turns
+returns-in_err-end-clause-takes g c = turns_more c.args.turns _ c.loop-turn.invariant.took (omega arith) c.in_err-end.ensures.turns
 
 pub returns-in_err-put_at_rest-clause-takes : goal.returns-in_err-put_at_rest-clause-takes
-returns-in_err-put_at_rest-clause-takes g c =
-    let turn = c.loop-turn.invariant in
-    record { most = omega (arith, turn.taken); once = omega (arith, turn.unended); same = turn.same; runs = turn.runs }
+returns-in_err-put_at_rest-clause-takes g c = turns_over c.args.turns _ c.loop-turn.invariant.took (omega arith)
 
 pub returns-clause-takes : goal.returns-clause-takes
-returns-clause-takes g c =
-    let turn = c.loop-turn.invariant in
-    record { most = omega (arith, turn.taken); once = omega (arith, turn.unended); same = turn.same; runs = turn.runs }
+returns-clause-takes g c = turns_over c.args.turns _ c.loop-turn.invariant.took (omega arith)

@@ -5,28 +5,18 @@ use Rattle.cf_run.proofs.Turns.{starts}
 use Rattle.cf_run.proofs.over.dial_first.Goals as goal
 
 pub returns-clause-holds : goal.returns-clause-holds
-returns-clause-holds g c =
-    let new = c.new-progress.ensures in
-    c.in_ok-dial_all.ensures.holds (starts c.args.client.now c.new-progress.result
-    (g.W.Wires.told c.args.wires.now) c.requires.reflects new.sends new.closed new.trace c.requires.wires.log)
+returns-clause-holds g c = c.in_ok-dial_all.ensures.holds (starts c.args.client.now c.new-progress.result
+    (g.W.Wires.told c.args.wires.now) c.requires.reflects c.new-progress.ensures c.requires.wires.log)
 
 pub returns-clause-passes : goal.returns-clause-passes
-returns-clause-passes g c =
-    let new = c.new-progress.ensures in
-    let dials = c.in_ok-dial_all.ensures in
-    let start = starts c.args.client.now c.new-progress.result
-    (g.W.Wires.told c.args.wires.now) c.requires.reflects new.sends new.closed new.trace c.requires.wires.log in
-    passes_dials c.args.client.now start c.requires.wires.log dials.versions dials.first dials.taken dials.unended
-    dials.runs
+returns-clause-passes g c = let dials = c.in_ok-dial_all.ensures in
+    passes_dials c.args.client.now c.requires.reflects c.new-progress.ensures c.requires.wires.log dials.versions
+    dials.first dials.taken dials.unended dials.runs
 
 pub returns-in_err-dial_all-clause-passes : goal.returns-in_err-dial_all-clause-passes
-returns-in_err-dial_all-clause-passes g c =
-    let new = c.new-progress.ensures in
-    let dials = c.in_err-dial_all.ensures in
-    let start = starts c.args.client.now c.new-progress.result
-    (g.W.Wires.told c.args.wires.now) c.requires.reflects new.sends new.closed new.trace c.requires.wires.log in
-    passes_dials c.args.client.now start c.requires.wires.log dials.versions dials.first dials.taken dials.unended
-    dials.runs
+returns-in_err-dial_all-clause-passes g c = let dials = c.in_err-dial_all.ensures in
+    passes_dials c.args.client.now c.requires.reflects c.new-progress.ensures c.requires.wires.log dials.versions
+    dials.first dials.taken dials.unended dials.runs
 
 pub returns-clause-puts : goal.returns-clause-puts
 returns-clause-puts g c = λ watch. c.in_ok-dial_all.ensures.puts watch []

@@ -1,9 +1,9 @@
 use Rattle.std.proofs.Common.{ℕ, ◌+◌, [], ◌∷◌, ◌++◌, Err, refl, ◌∙◌, ap, subst}
 use Rattle.cf_bytes.specs.declared.peer.PeerNo.{PeerNo}
-use Rattle.cf_wires.specs.declared.event.Event.TheVariants.{Dialled, NotDialled}
+use Rattle.cf_wires.specs.declared.event.Event.TheVariants.{NotDialled}
 use Rattle.cf_client.specs.Stands.{Reflects, greeting_by}
 use Rattle.cf_run.proofs.Courses.{dials_none, quiet_runs, dialled_one, missed_one, one_more_then}
-use Rattle.cf_run.proofs.Passing.{dialled_then, missed_alone, keeps_after}
+use Rattle.cf_run.proofs.Passing.{dial_keeps, dialled_then, missed_alone}
 use Rattle.cf_run.proofs.Versions.{entry_keeps, same_keeps}
 use Rattle.cf_run.proofs.Turns.{dial_doing, not_dialled_holds}
 use Rattle.cf_run.proofs.over.dial_one.Goals as goal
@@ -17,19 +17,13 @@ returns-in_ok-greet-in-Ok-clause-holds g c = λ called holds.
 
 pub returns-in_ok-greet-in-Ok-clause-versions : goal.returns-in_ok-greet-in-Ok-clause-versions
 returns-in_ok-greet-in-Ok-clause-versions g c = λ called holds.
-    keeps_after (greeting_by c.args.client.now) (g.W.Wires.told c.args.wires.now) (g.W.Wires.told c.dial.new.self) (g.W.Wires.told c.greet.new.wires)
-    (entry_keeps (greeting_by c.args.client.now) (Dialled c.in-Ok.p c.args.name.now) _ _ c.in-Ok.ensures.dialled.1 tt)
-    (c.in_ok-greet-in-Ok.ensures.versions (called ++ c.args.name.now ∷ []) holds.actual holds.reflects
-    (λ acts. rw c.in-Ok.ensures.dialled.1
-    (dial_doing c.args.client.now acts c.args.progress.now called (g.W.Wires.told c.args.wires.now) c.in-Ok.p c.args.name.now holds c.in-Ok.ensures.dialled.0 c.requires.room c.requires.untaken c.requires.unended)))
+    dial_keeps c.args.client.now (g.W.Wires.told c.greet.new.wires) c.in-Ok.p c.args.name.now holds c.in-Ok.ensures.dialled.0 c.requires.room c.requires.untaken c.requires.unended c.in-Ok.ensures.dialled.1
+    c.in_ok-greet-in-Ok.ensures.versions
 
 pub returns-in_err-greet-in-Ok-clause-versions : goal.returns-in_err-greet-in-Ok-clause-versions
 returns-in_err-greet-in-Ok-clause-versions g c = λ called holds.
-    keeps_after (greeting_by c.args.client.now) (g.W.Wires.told c.args.wires.now) (g.W.Wires.told c.dial.new.self) (g.W.Wires.told c.greet.new.wires)
-    (entry_keeps (greeting_by c.args.client.now) (Dialled c.in-Ok.p c.args.name.now) _ _ c.in-Ok.ensures.dialled.1 tt)
-    (c.in_err-greet-in-Ok.ensures.versions (called ++ c.args.name.now ∷ []) holds.actual holds.reflects
-    (λ acts. rw c.in-Ok.ensures.dialled.1
-    (dial_doing c.args.client.now acts c.args.progress.now called (g.W.Wires.told c.args.wires.now) c.in-Ok.p c.args.name.now holds c.in-Ok.ensures.dialled.0 c.requires.room c.requires.untaken c.requires.unended)))
+    dial_keeps c.args.client.now (g.W.Wires.told c.greet.new.wires) c.in-Ok.p c.args.name.now holds c.in-Ok.ensures.dialled.0 c.requires.room c.requires.untaken c.requires.unended c.in-Ok.ensures.dialled.1
+    c.in_err-greet-in-Ok.ensures.versions
 
 pub returns-in_ok-greet-in-Ok-clause-counts : goal.returns-in_ok-greet-in-Ok-clause-counts
 returns-in_ok-greet-in-Ok-clause-counts g c = c.in_ok-greet-in-Ok.ensures.counts

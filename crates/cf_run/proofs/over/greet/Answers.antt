@@ -3,10 +3,10 @@ use Rattle.cf_peer.specs.declared.act.Act.{Act}
 use Rattle.cf_wires.specs.declared.event.Event.TheVariants.{Dialled}
 use Rattle.cf_client.specs.Stands.{Answers, greeting_by}
 use Rattle.cf_run.proofs.Courses.{performs_self}
-use Rattle.cf_run.proofs.Passing.{keeps_so}
+use Rattle.cf_run.proofs.Passing.{acts_keep}
 use Rattle.cf_run.proofs.Ticked.{ticked_greeted}
 use Rattle.cf_run.proofs.Turns.{doing_rule}
-use Rattle.cf_run.proofs.Versions.{greeting_tells, acts_tell_so}
+use Rattle.cf_run.proofs.Versions.{greeting_tells}
 use Rattle.cf_run.proofs.over.greet.Goals as goal
 
 pub returns-clause-holds : goal.returns-clause-holds
@@ -19,23 +19,15 @@ returns-clause-holds g c = λ called log reflects doing ticked.
 
 pub returns-clause-versions : goal.returns-clause-versions
 returns-clause-versions g c = λ called log reflects doing.
-    let now = Dialled c.args.p c.args.name.now ∷ log in
-    let tells = greeting_tells (greeting_by c.args.client.now) c.args.p c.in_ok-acts.acts.items c.in_ok-acts.ensures.greets in
-    keeps_so _ (greeting_by c.args.client.now) (g.W.Wires.told c.args.wires.now) (g.W.Wires.told c.carry_out.new.wires) c.in_ok-acts.ensures.words
-    (c.in_ok-carry_out.ensures.versions called now
-    (subst (λ (acts : List Act). Answers c.dialled.new.self acts now) (sym c.deref.ensures.value) (c.in_ok-acts.ensures.answers log reflects))
-    (doing_rule c.in_ok-acts.ensures.rule (doing c.deref.result.now))
-    (acts_tell_so _ _ c.in_ok-acts.acts.items _ (sym c.in_ok-acts.ensures.words) c.deref.ensures.value tells))
+    let acts = c.in_ok-acts.ensures in
+    acts_keep c.args.client.now c.dialled.new.self (g.W.Wires.told c.carry_out.new.wires) acts.rule acts.words c.deref.ensures.value (acts.answers log reflects)
+    (greeting_tells (greeting_by c.args.client.now) c.args.p c.in_ok-acts.acts.items acts.greets) (doing c.deref.result.now) c.in_ok-carry_out.ensures.versions
 
 pub returns-in_err-carry_out-clause-versions : goal.returns-in_err-carry_out-clause-versions
 returns-in_err-carry_out-clause-versions g c = λ called log reflects doing.
-    let now = Dialled c.args.p c.args.name.now ∷ log in
-    let tells = greeting_tells (greeting_by c.args.client.now) c.args.p c.in_ok-acts.acts.items c.in_ok-acts.ensures.greets in
-    keeps_so _ (greeting_by c.args.client.now) (g.W.Wires.told c.args.wires.now) (g.W.Wires.told c.carry_out.new.wires) c.in_ok-acts.ensures.words
-    (c.in_err-carry_out.ensures.versions called now
-    (subst (λ (acts : List Act). Answers c.dialled.new.self acts now) (sym c.deref.ensures.value) (c.in_ok-acts.ensures.answers log reflects))
-    (doing_rule c.in_ok-acts.ensures.rule (doing c.deref.result.now))
-    (acts_tell_so _ _ c.in_ok-acts.acts.items _ (sym c.in_ok-acts.ensures.words) c.deref.ensures.value tells))
+    let acts = c.in_ok-acts.ensures in
+    acts_keep c.args.client.now c.dialled.new.self (g.W.Wires.told c.carry_out.new.wires) acts.rule acts.words c.deref.ensures.value (acts.answers log reflects)
+    (greeting_tells (greeting_by c.args.client.now) c.args.p c.in_ok-acts.acts.items acts.greets) (doing c.deref.result.now) c.in_err-carry_out.ensures.versions
 
 pub returns-in_err-acts-clause-versions : goal.returns-in_err-acts-clause-versions
 returns-in_err-acts-clause-versions g c = λ called log reflects doing has. has

@@ -4,7 +4,8 @@ use Rattle.cf_wires.specs.declared.event.Delivery.{Delivery}
 use Rattle.cf_wires.specs.declared.event.Event.TheVariants.{Took}
 use Rattle.cf_wires.specs.Log.{tell, Told}
 use Rattle.cf_client.specs.Stands.{Answers, greeting_by}
-use Rattle.cf_run.proofs.Versions.{entry_keeps, same_keeps, acts_tell_so, keeps_then}
+use Rattle.cf_run.proofs.Passing.{take_keeps}
+use Rattle.cf_run.proofs.Versions.{entry_keeps, same_keeps}
 use Rattle.cf_run.proofs.Ticked.{ticked_taken}
 use Rattle.cf_run.proofs.Turns.{took_doing, doing_rule, took_counts, took_closed}
 use Rattle.cf_run.proofs.Courses.{told_runs, turns_then, puts_taken}
@@ -61,26 +62,12 @@ returns-in_err-acts-clause-versions g c = λ called holds may. entry_keeps (gree
 
 pub returns-clause-versions : goal.returns-clause-versions
 returns-clause-versions g c = λ called holds may.
-    let d = c.in_ok-d.d in
-    let log = Took d ∷ holds.actual in
-    let doing = took_doing c.args.client.now c.deref.result.now c.args.progress.now called (g.W.Wires.told c.args.wires.now) d c.note_bytes.ensures holds may in
-    let a = c.in_ok-acts.ensures.answers holds.actual holds.reflects in
-    keeps_then _ (greeting_by c.args.client.now) (g.W.Wires.told c.args.wires.now) (g.W.Wires.told c.next.new.self) (g.W.Wires.told c.carry_out.new.wires) c.in_ok-acts.ensures.words
-    (entry_keeps (greeting_by c.args.client.now) (Took d) _ _ c.in_ok-d.ensures.took tt)
-    (c.in_ok-carry_out.ensures.versions called log
-    (subst (λ (acts : List Act). Answers c.step.new.self acts log) (sym c.deref.ensures.value) a)
-    (doing_rule c.in_ok-acts.ensures.rule (rw c.in_ok-d.ensures.took doing))
-    (acts_tell_so _ _ c.in_ok-acts.acts.items _ (sym c.in_ok-acts.ensures.words) c.deref.ensures.value (c.in_ok-acts.ensures.tells holds.actual holds.reflects)))
+    let acts = c.in_ok-acts.ensures in
+    take_keeps c.args.client.now c.step.new.self (g.W.Wires.told c.carry_out.new.wires) c.in_ok-d.d holds may c.note_bytes.ensures c.in_ok-d.ensures.took acts.rule acts.words c.deref.ensures.value
+    (acts.answers holds.actual holds.reflects) (acts.tells holds.actual holds.reflects) c.in_ok-carry_out.ensures.versions
 
 pub returns-in_err-carry_out-clause-versions : goal.returns-in_err-carry_out-clause-versions
 returns-in_err-carry_out-clause-versions g c = λ called holds may.
-    let d = c.in_ok-d.d in
-    let log = Took d ∷ holds.actual in
-    let doing = took_doing c.args.client.now c.deref.result.now c.args.progress.now called (g.W.Wires.told c.args.wires.now) d c.note_bytes.ensures holds may in
-    let a = c.in_ok-acts.ensures.answers holds.actual holds.reflects in
-    keeps_then _ (greeting_by c.args.client.now) (g.W.Wires.told c.args.wires.now) (g.W.Wires.told c.next.new.self) (g.W.Wires.told c.carry_out.new.wires) c.in_ok-acts.ensures.words
-    (entry_keeps (greeting_by c.args.client.now) (Took d) _ _ c.in_ok-d.ensures.took tt)
-    (c.in_err-carry_out.ensures.versions called log
-    (subst (λ (acts : List Act). Answers c.step.new.self acts log) (sym c.deref.ensures.value) a)
-    (doing_rule c.in_ok-acts.ensures.rule (rw c.in_ok-d.ensures.took doing))
-    (acts_tell_so _ _ c.in_ok-acts.acts.items _ (sym c.in_ok-acts.ensures.words) c.deref.ensures.value (c.in_ok-acts.ensures.tells holds.actual holds.reflects)))
+    let acts = c.in_ok-acts.ensures in
+    take_keeps c.args.client.now c.step.new.self (g.W.Wires.told c.carry_out.new.wires) c.in_ok-d.d holds may c.note_bytes.ensures c.in_ok-d.ensures.took acts.rule acts.words c.deref.ensures.value
+    (acts.answers holds.actual holds.reflects) (acts.tells holds.actual holds.reflects) c.in_err-carry_out.ensures.versions

@@ -42,15 +42,6 @@ returns-then-more-clause-ended g c = c.in_ok-more.ensures.unended c.if-more.true
 pub returns-clause-ended : goal.returns-clause-ended
 returns-clause-ended g c = ap (λ (t : Told). t.tally.ended) (c.in_ok-more.ensures.over c.if-more.false).2
 
-pub returns-then-more-clause-turns : goal.returns-then-more-clause-turns
-returns-then-more-clause-turns g c = c.in_ok-more.ensures.turns
-
-pub returns-clause-turns : goal.returns-clause-turns
-returns-clause-turns g c = c.in_ok-more.ensures.turns
-
-pub returns-in_err-more-clause-turns : goal.returns-in_err-more-clause-turns
-returns-in_err-more-clause-turns g c = c.in_err-more.ensures.turns
-
 pub returns-in-Synced-clause-versions : goal.returns-in-Synced-clause-versions
 returns-in-Synced-clause-versions g c = λ called holds has. has
 

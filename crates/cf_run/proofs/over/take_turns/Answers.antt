@@ -1,8 +1,8 @@
-use Rattle.std.proofs.Common.{◌≡◌, ℕ, ◌+◌, Option, Some, ◌∙◌, ap, subst, arith}
+use Rattle.std.proofs.Common.{◌≡◌, ◌+◌, Option, Some, refl, ◌∙◌, ap, subst, arith}
 use Rattle.std.specs.Prelude.{IfNone, IfSome}
 use Rattle.cf_run.specs.declared.outcome.End.{End}
 use Rattle.cf_run.specs.Moments.{Turned}
-use Rattle.cf_run.proofs.Courses.{runs_then, no_more_then, turn_ends, turns_more, turns_used}
+use Rattle.cf_run.proofs.Courses.{took_more, took_none, turn_ends, turns_more, turns_over, turns_used}
 use Rattle.cf_run.proofs.Turns.{stops, told_end, told_unended}
 use Rattle.cf_client.specs.Stands.{greeting_by}
 use Rattle.cf_run.proofs.Versions.{keeps_then}
@@ -35,26 +35,29 @@ returns-in-Some-clause-ends g c =
     turn_ends c.in-Some.end c.args.turns _ before after (λ is. e.untired (c.in-Some.is ∙ ap Some is))
     (λ is. told_end c.in_ok-end.field-0 before after (c.in-Some.is ∙ ap Some is) e.ended)
     (subst (λ (o : Option End). IfSome o (λ e. after.taken ≡ before.taken)) c.in-Some.is e.untaken)
-    c.loop-turn.invariant.taken (omega arith) c.loop-turn.invariant.unended
+    c.loop-turn.invariant.took.taken (omega arith) c.loop-turn.invariant.took.unended
 
 pub returns-clause-ends : goal.returns-clause-ends
 returns-clause-ends g c = turns_used c.last_end.result c.args.turns
-    (g.W.Wires.told c.loop-turn.wires).tally c.last_end.ensures.unended (omega (arith, c.loop-turn.invariant.taken))
+    (g.W.Wires.told c.loop-turn.wires).tally c.last_end.ensures.unended (omega (arith, c.loop-turn.invariant.took.taken))
 
 pub returns-in-Some-clause-takes : goal.returns-in-Some-clause-takes
-returns-in-Some-clause-takes g c =
-    let turn = c.loop-turn.invariant in
-    turns_more c.args.turns _ turn.taken (omega arith) turn.unended turn.same turn.runs c.in_ok-end.ensures.turns
+returns-in-Some-clause-takes g c = turns_more c.args.turns _ c.loop-turn.invariant.took (omega arith) c.in_ok-end.ensures.turns
 
 pub returns-in_err-end-clause-takes : goal.returns-in_err-end-clause-takes
-returns-in_err-end-clause-takes g c =
-    let turn = c.loop-turn.invariant in
-    turns_more c.args.turns _ turn.taken (omega arith) turn.unended turn.same turn.runs c.in_err-end.ensures.turns
+returns-in_err-end-clause-takes g c = turns_more c.args.turns _ c.loop-turn.invariant.took (omega arith) c.in_err-end.ensures.turns
 
 pub returns-clause-takes : goal.returns-clause-takes
-returns-clause-takes g c =
-    let turn = c.loop-turn.invariant in
-    record { most = omega (arith, turn.taken); once = omega (arith, turn.unended); same = turn.same; runs = turn.runs }
+returns-clause-takes g c = turns_over c.args.turns _ c.loop-turn.invariant.took (omega arith)
+
+pub loop-turn-init : goal.loop-turn-init
+loop-turn-init g c = record {
+  holds = λ called holds. holds;
+  versions = λ called holds has. has;
+  rule = refl;
+  words = refl;
+  took = took_none _ c.requires.fresh c.requires.unended c.requires.step;
+}
 
 pub loop-turn-preserved : goal.loop-turn-preserved
 loop-turn-preserved g c = record {
@@ -67,10 +70,7 @@ loop-turn-preserved g c = record {
       (c.in_ok-end.ensures.versions called (c.loop-turn.invariant.holds called holds));
   rule = c.in_ok-end.ensures.rule ∙ c.loop-turn.invariant.rule;
   words = c.in_ok-end.ensures.words ∙ c.loop-turn.invariant.words;
-  taken =
-      subst (λ (o : Option End). IfNone o ((g.W.Wires.told c.take_turn.new.wires).tally.taken ≡ (g.W.Wires.told c.loop-turn.wires).tally.taken + 1)) c.in_default.is c.in_ok-end.ensures.taken
-      ∙ ap (λ (n : ℕ). n + 1) c.loop-turn.invariant.taken;
-  unended = told_unended c.in_ok-end.field-0 (g.W.Wires.told c.loop-turn.wires).tally (g.W.Wires.told c.take_turn.new.wires).tally c.in_default.is c.in_ok-end.ensures.ended ∙ c.loop-turn.invariant.unended;
-  same = no_more_then (g.W.Wires.told c.args.wires.now) (g.W.Wires.told c.loop-turn.wires) (g.W.Wires.told c.take_turn.new.wires) c.loop-turn.invariant.same c.in_ok-end.ensures.turns.same;
-  runs = runs_then c.loop-turn.invariant.runs c.in_ok-end.ensures.turns.runs;
+  took = took_more c.loop-turn._turn c.loop-turn.invariant.took c.in_ok-end.ensures.turns
+      (subst (λ (o : Option End). IfNone o ((g.W.Wires.told c.take_turn.new.wires).tally.taken ≡ (g.W.Wires.told c.loop-turn.wires).tally.taken + 1)) c.in_default.is c.in_ok-end.ensures.taken)
+      (told_unended c.in_ok-end.field-0 (g.W.Wires.told c.loop-turn.wires).tally (g.W.Wires.told c.take_turn.new.wires).tally c.in_default.is c.in_ok-end.ensures.ended);
 }
