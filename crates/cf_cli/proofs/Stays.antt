@@ -37,6 +37,7 @@ use Rattle.cf_answers.specs.declared.status.Status.{Status}
 use Rattle.cf_answers.specs.declared.status.Status.TheVariants.{Done, NoMemory, Usage, BadFile, FileFault, OutFault, NoPeers, Tired, Ended, LinkFault, NoNonce, NoHeight, NotThere, NotAddress}
 use Rattle.cf_loading.specs.Verdicts.{IsOfFile}
 use Rattle.cf_offline.specs.Reading.{CountsOut}
+use Rattle.cf_cli.specs.Handed.{CountsOn}
 use Rattle.cf_cli.specs.Following.{BegunTexts, CutShort, EndsBy, GivenUp, Grows, IsReplayedIn, IsReplayedOn, KeptLive, KeptOn, KeptOnOver, KeptOnTape, Stayed, TalliedOn, with_trace}
 use Rattle.cf_answers.specs.Statuses.{has_run, is_over, was_refused, was_unbegun}
 use Rattle.cf_cli.specs.Theorem.{AnswersTo, IsComplete, IsOfRun, IsWatchFile}
@@ -52,18 +53,16 @@ over_by HasNoPeers ends status is = ap is_over is.1
 over_by IsTired ends status is = ap is_over is
 over_by HasEnded ends status is = ap is_over is
 
--- so its sink hasn't failed, or where it has it is to blame; where nothing is answered of it, it may have
+-- so its sink hasn't failed
 pub counts_fine : (status : Status) (old new : ℕ) → is_over status ≡ true → new ≡ old → CountsOut status old new
-counts_fine status old new over same = record { fault = λ is. absurd (false≢true (sym (ap is_over is) ∙ over)); fine = λ a b d. same }
+counts_fine status old new over same = record { fault = λ is. absurd (false≢true (sym (ap is_over is) ∙ over)); fine = λ ne. same }
 
-pub counts_risen : (old new : ℕ) → HasRisen old new → CountsOut OutFault old new
-counts_risen old new risen = record { fault = λ is. risen; fine = λ ne a b. absurd (ne refl) }
+-- the same of what goes on once its sink has failed; but where its record fails behind it nothing is said
+pub counts_on : (recorded : Bool) (status : Status) (old new : ℕ) → CountsOut status old new → CountsOn recorded status old new
+counts_on recorded status old new counts = record { fault = counts.fault; fine = λ ne fine. counts.fine ne }
 
-pub counts_spent : (old new : ℕ) → CountsOut NoMemory old new
-counts_spent old new = record { fault = λ is. cc; fine = λ a b ne. absurd (ne refl) }
-
-pub counts_unrecorded : (old new : ℕ) → CountsOut FileFault old new
-counts_unrecorded old new = record { fault = λ is. cc; fine = λ a ne b. absurd (ne refl) }
+pub counts_behind : (recorded : Bool) (status : Status) (old new : ℕ) → recorded ≡ true → status ≢ OutFault → ((status ≢ FileFault) × (status ≢ NoMemory) → ⊥) → CountsOn recorded status old new
+counts_behind recorded status old new on ne one = record { fault = λ is. absurd (ne is); fine = λ no fine. absurd (one (fine on)) }
 
 -- where somebody is left it is complete
 complete_by : (end : End) (ends : List PeerEnd) (status : Status) (recorded : Bool) → AnswersTo end ends status → end ≢ HasNoPeers → IsComplete status recorded
@@ -160,7 +159,7 @@ some_but_told (Some log) scripts before after but = inr but
 -- whichever it was
 pub some_by_told : {T : Type 0} (fail : TextFail) (told : T → Option (List ℕ)) (faults : T → ℕ) (scripts names : List (List ℕ)) (t : Told) (before after : T)
     → GivesUp fail told faults scripts names t before after → IfSome t.log (λ log. HasPutSome scripts log (told before) (told after))
-some_by_told LacksMemory told faults scripts names t before after so = some_so_told t.log scripts (told before) (told after) so
+some_by_told LacksMemory told faults scripts names t before after so = some_so_told t.log scripts (told before) (told after) so.put
 some_by_told HasFailed told faults scripts names t before after cut = some_but_told t.log scripts (told before) (told after) cut.put
 
 -- nothing was put over new wires

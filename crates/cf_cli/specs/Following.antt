@@ -70,9 +70,9 @@ pub record BegunTexts (trace : Bool) (scripts : List (List ℕ)) (before after :
   pub begun : HasBegun (with_trace trace lines (joined texts)) before after
 
 -- What was put of a run that was given up, by its answer, and by how often the sink had failed before it, and has then. All that was due before the last
--- delivery was put whole, and at most a beginning of what is due now. Unless memory was wanting, all was put whole, the text of the last moment too, or the
--- sink has failed over that text; and with OutFault it has. Where a file has failed, either nothing has passed, or a run came to its end, by the log, with
--- all its texts written, or the sink has failed over one of them.
+-- delivery was put whole, and at most a beginning of what is due now. Unless memory was wanting, all was put whole, the text of the last moment too, or no more
+-- than a beginning of the text that is due, and the sink has failed more often than before; with OutFault the latter. With FileFault either nothing has passed,
+-- or a run came to its end, by the log, with all its texts written, or no more than such a beginning was put, and the sink has failed more often than before.
 pub record GivenUp (status : Status) (scripts names : List (List ℕ)) (before after : Option (List ℕ)) (old new : ℕ) (log : Log) : Type 0 where
   pub some : is_over status ≡ false → HasPutSome scripts log before after
   pub tried : is_over status ≡ false → status ≢ NoMemory
