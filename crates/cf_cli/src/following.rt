@@ -1,5 +1,5 @@
 //! A run of the client that follows over any wires, and what is written of it.
-ghost use Rattle.std.specs.Prelude.{◌≡◌, ◌≤◌, ℕ, Bool, [], length, IfOk, IfSome, IsSome, None, is_some, true, false};
+ghost use Rattle.std.specs.Prelude.{◌≡◌, ◌≤◌, ℕ, Bool, [], length, IfOk, IfSome, None, is_some, false};
 ghost use Rattle.cf_bytes.specs.Files.{IsAtMostWritten};
 ghost use Rattle.cf_bytes.specs.Outside.{HasRisen};
 ghost use Rattle.cf_run.specs.Names.{names_in};

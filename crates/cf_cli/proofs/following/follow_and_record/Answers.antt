@@ -7,7 +7,7 @@ use Rattle.cf_run.specs.Names.{names_in}
 use Rattle.cf_run.proofs.Versions.{new_words}
 use Rattle.cf_answers.specs.declared.status.Status.TheVariants.{NoMemory, FileFault}
 use Rattle.cf_answers.specs.Statuses.{was_refused}
-use Rattle.cf_cli.proofs.Ends.{over_failed, over_recorded, over_stay}
+use Rattle.cf_cli.proofs.Ends.{ends_stay, over_failed, over_recorded}
 use Rattle.cf_cli.proofs.Plays.{new_dialled, new_unfailed, versions_so}
 use Rattle.cf_cli.proofs.Records.{begun_records}
 use Rattle.cf_cli.proofs.Stays.{begun_by, counts_behind, counts_on, early_tallied_on, fresh_told, kept_some, new_put_told, spent_given, spent_on, spent_tallied_on, tallied_from, unrecorded_given, unrecorded_on}
@@ -37,7 +37,7 @@ pub returns-in_default-clause-failures : goal.returns-in_default-clause-failures
 returns-in_default-clause-failures g c = new_unfailed _ _ _ c.requires.fresh
 
 pub returns-in_default-clause-ends : goal.returns-in_default-clause-ends
-returns-in_default-clause-ends g c = over_stay _ _ _ _ refl
+returns-in_default-clause-ends g c = ends_stay _ _ _ _ refl
 
 -- ---- nor in it
 

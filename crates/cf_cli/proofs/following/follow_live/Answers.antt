@@ -4,7 +4,7 @@ use Rattle.std.specs.Int.{w64}
 use Rattle.cf_run.specs.Names.{names_in}
 use Rattle.cf_sync.specs.Fetching.{following}
 use Rattle.cf_answers.specs.declared.status.Status.TheVariants.{NoMemory}
-use Rattle.cf_cli.proofs.Ends.{copied, over_put, over_stay}
+use Rattle.cf_cli.proofs.Ends.{copied, ends_put, ends_stay}
 use Rattle.cf_cli.proofs.Plays.{leaves_so}
 use Rattle.cf_cli.proofs.Stays.{begun_by, counts_fine, failed_given, failed_told, over_given, run_tallied_on, some_put_told, some_so_told, spent_given, spent_tallied_on, spent_told, stayed_told, unwritten_tallied_on}
 use Rattle.cf_cli.proofs.following.follow_live.Goals as goal
@@ -34,7 +34,7 @@ returns-in-Ok-ends_of-clause-counts g c =
 
 pub returns-in-Ok-ends_of-clause-ends : goal.returns-in-Ok-ends_of-clause-ends
 returns-in-Ok-ends_of-clause-ends g c =
-    over_put c.status_of.result false _ _ _ (begun_by c.status_of.result false c.status_of.ensures.unrefused)
+    ends_put c.status_of.result false _ _ _ (begun_by c.status_of.result false c.status_of.ensures.unrefused)
     (copied (g.W.Wires.told c.follow_over.new.wires).log g.H.HeaderStore.counts (following c.args.watch) (names_in c.args.names.now) c.in-Ok.outcome _ c.in-Ok-ends_of.ensures c.in-Ok.ensures.outcome)
 
 -- ---- memory is wanting
@@ -128,10 +128,10 @@ returns-in-Err-NoMemory-clause-wires g c =
     leaves_so _ c.args.moment c.args.nonce (to_z-of_z {w = w64} {z = c.args.moment} (search rules)) c.follow_over.ensures.wires
 
 pub returns-in_default-clause-ends : goal.returns-in_default-clause-ends
-returns-in_default-clause-ends g c = over_stay _ _ _ _ refl
+returns-in_default-clause-ends g c = ends_stay _ _ _ _ refl
 
 pub returns-in-Err-Failed-clause-ends : goal.returns-in-Err-Failed-clause-ends
-returns-in-Err-Failed-clause-ends g c = over_stay _ _ _ _ refl
+returns-in-Err-Failed-clause-ends g c = ends_stay _ _ _ _ refl
 
 pub returns-in-Err-NoMemory-clause-ends : goal.returns-in-Err-NoMemory-clause-ends
-returns-in-Err-NoMemory-clause-ends g c = over_stay _ _ _ _ refl
+returns-in-Err-NoMemory-clause-ends g c = ends_stay _ _ _ _ refl

@@ -9,9 +9,9 @@ use Rattle.cf_run.proofs.Versions.{new_words}
 use Rattle.cf_sync.specs.Fetching.{following}
 use Rattle.cf_answers.specs.declared.status.Status.TheVariants.{NoMemory, OutFault}
 use Rattle.cf_answers.specs.Statuses.{is_over}
-use Rattle.cf_cli.proofs.Ends.{copied, ends_put, ends_stay, run_begun}
+use Rattle.cf_cli.proofs.Ends.{copied, ends_put, ends_stay}
 use Rattle.cf_cli.proofs.Plays.{all_dialled, new_dialled, versions_so}
-use Rattle.cf_cli.proofs.Stays.{counts_fine, cut_told, early_tallied_on, fresh_told, run_tallied_on, silent_told, some_by_told, some_put_told, spent_tallied_on, stayed_told, tape_begun, tape_written, unwritten_tallied_on, unwritten_told}
+use Rattle.cf_cli.proofs.Stays.{counts_fine, cut_told, early_tallied_on, fresh_told, run_begun, run_tallied_on, silent_told, some_by_told, some_put_told, spent_tallied_on, stayed_told, tape_begun, tape_written, unwritten_tallied_on, unwritten_told}
 use Rattle.cf_cli.proofs.following.follow_on_tape.Goals as goal
 
 -- ---- memory is wanting

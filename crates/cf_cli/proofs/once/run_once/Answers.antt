@@ -10,8 +10,8 @@ use Rattle.cf_answers.specs.declared.status.Status.TheVariants.{NoMemory, FileFa
 use Rattle.cf_run.proofs.Versions.{new_words}
 use Rattle.cf_cli.proofs.Runs.{answered, kept_told, kept_without, unrecorded_told, stands_by, stands_unsaid}
 use Rattle.cf_cli.proofs.Plays.{all_dialled, versions_so, early_tallied, spent_tallied, unwritten_tallied, run_tallied, new_dialled, new_unfailed}
-use Rattle.cf_cli.proofs.Stays.{counts_fine}
-use Rattle.cf_cli.proofs.Ends.{copied, ends_put, ends_stay, run_begun}
+use Rattle.cf_cli.proofs.Stays.{counts_fine, run_begun}
+use Rattle.cf_cli.proofs.Ends.{copied, ends_put, ends_stay}
 use Rattle.cf_cli.proofs.once.run_once.Goals as goal
 
 -- ---- what it keeps
