@@ -25,13 +25,13 @@ use Rattle.cf_input.specs.declared.session.SessionFault.{SessionFault}
 use Rattle.cf_answers.specs.declared.status.Status.{Status}
 use Rattle.cf_answers.specs.declared.status.Status.TheVariants.{Done, NoMemory, Usage, BadFile, FileFault, OutFault, NoPeers, Tired, Ended, LinkFault, NoNonce, NoHeight, NotThere, NotAddress}
 use Rattle.cf_input.specs.declared.words.Command.{Command}
-use Rattle.cf_input.specs.declared.words.Command.TheVariants.{Replay, Sync, Follow}
+use Rattle.cf_input.specs.declared.words.Command.TheVariants.{Replay}
 use Rattle.cf_input.specs.SessionFile.{session_of}
 use Rattle.cf_input.specs.WatchFile.{watch_of}
 use Rattle.cf_answers.specs.Statuses.{has_run}
 use Rattle.cf_cli.specs.Statuses.{verdict_of}
 use Rattle.cf_loading.specs.Verdicts.{IsJudged, Missing, Good, and_then, IsOfFile, watch_verdict, session_verdict}
-use Rattle.cf_cli.specs.Theorem.{AnswersTo, AreLeft, IsWhole, IsWithin, IsWatchFile, KeptOnce, KeptOver, IsOfRun, IsReplayed, Plays, PlaysSession, Tallied, has_somebody}
+use Rattle.cf_cli.specs.Theorem.{AnswersTo, AreLeft, IsWhole, IsWithin, IsWatchFile, KeptOnce, KeptOver, KeptOverWatch, IsOfRun, IsReplayed, Plays, PlaysSession, Tallied, has_somebody}
 
 -- an answer to a file: no run is made, and it is among those of `sync` and `replay`
 record IsEarly (status : Status) : Type 0 where
@@ -156,14 +156,20 @@ early_kept status recorded trace scripts names b log off none = subst (λ (l : L
   unrecorded = λ is. inl refl;
 })
 
-pub early_over : (status : Status) (recorded trace : Bool) (files : Option Named) (watch : List ℕ) (names : List (List ℕ)) (b : Option (List ℕ)) (log : Log) → IsOfFile status → log ≡ []
-    → KeptOver status recorded trace files watch names b b log
-early_over status recorded trace files watch names b log is none = record {
+pub early_watch : (Kept : List (List ℕ) → Type 0) (status : Status) (files : Option Named) (watch : List ℕ) (log : Log)
+    → IsOfFile status → log ≡ [] → Kept [] → KeptOverWatch status files watch log Kept
+early_watch Kept status files watch log is none kept = record {
   scripts = [];
   watched = λ made. absurd (false≢true (sym (no_run status is) ∙ made));
   unwatched = inl none;
-  kept = early_kept status recorded trace [] names b log (no_run status is) none;
+  kept = kept;
 }
+
+pub early_over : (status : Status) (recorded trace : Bool) (files : Option Named) (watch : List ℕ) (names : List (List ℕ)) (b : Option (List ℕ)) (log : Log) → IsOfFile status → log ≡ []
+    → KeptOver status recorded trace files watch names b b log
+early_over status recorded trace files watch names b log is none =
+    early_watch (λ scripts. KeptOnce status recorded trace scripts names b b log) status files watch log is none
+    (early_kept status recorded trace [] names b log (no_run status is) none)
 
 -- the same for wires that are new, which may tell no log
 pub early_told : (t : Told) (status : Status) (recorded trace : Bool) (files : Option Named) (watch : List ℕ) (names : List (List ℕ)) (b : Option (List ℕ)) → IsOfFile status → Tells [] t
@@ -357,21 +363,11 @@ judged_replay o c follow trace watch session watch_name session_name status a b 
     let two = subst (λ (w : List ℕ). IfSome o (λ m. IsJudged (and_then (watch_verdict (finite.get m watch)) (session_verdict (finite.get m w))) status)) b one in
     subst (λ (x : Command). IfSome o (λ m. IsJudged (verdict_of m x) status)) (sym is) two
 
-pub judged_sync : (o : Option Named) (c : Command) (turns workers : ℕ) (file : Option (List ℕ)) (watch : List ℕ) (peers : List (List ℕ)) (watch_name : List ℕ) (status : Status)
-    → watch_name ≡ watch → c ≡ Sync turns workers file watch peers
-    → IfSome o (λ m. IsJudged (watch_verdict (finite.get m watch_name)) status)
-    → IfSome o (λ m. IsJudged (verdict_of m c) status)
-judged_sync o c turns workers file watch peers watch_name status a is judged =
-    let one = subst (λ (w : List ℕ). IfSome o (λ m. IsJudged (watch_verdict (finite.get m w)) status)) a judged in
-    subst (λ (x : Command). IfSome o (λ m. IsJudged (verdict_of m x) status)) (sym is) one
-
-pub judged_follow : (o : Option Named) (c : Command) (turns workers : ℕ) (file : Option (List ℕ)) (watch : List ℕ) (peers : List (List ℕ)) (watch_name : List ℕ) (status : Status)
-    → watch_name ≡ watch → c ≡ Follow turns workers file watch peers
-    → IfSome o (λ m. IsJudged (watch_verdict (finite.get m watch_name)) status)
-    → IfSome o (λ m. IsJudged (verdict_of m c) status)
-judged_follow o c turns workers file watch peers watch_name status a is judged =
-    let one = subst (λ (w : List ℕ). IfSome o (λ m. IsJudged (watch_verdict (finite.get m w)) status)) a judged in
-    subst (λ (x : Command). IfSome o (λ m. IsJudged (verdict_of m x) status)) (sym is) one
+pub judged_watch : (o : Option Named) (c command : Command) (watch watch_name : List ℕ) (status : Status)
+    → ((m : Named) → verdict_of m command ≡ watch_verdict (finite.get m watch)) → watch_name ≡ watch → c ≡ command
+    → IfSome o (λ m. IsJudged (watch_verdict (finite.get m watch_name)) status) → IfSome o (λ m. IsJudged (verdict_of m c) status)
+judged_watch None c command watch watch_name status by same is judged = tt
+judged_watch (Some m) c command watch watch_name status by same is judged = rw (is, by m) (rw same at judged)
 
 -- no version was sent over an empty log
 pub unplayed_words : (words : Greeting) (log : Log) → log ≡ [] → IsOfGreeting words log

@@ -22,12 +22,12 @@ use Rattle.cf_peer.specs.Trail.{trail, connected}
 use Rattle.cf_scan.specs.declared.history.Entry.{Entry}
 use Rattle.cf_scan.specs.HistoryText.{history_text}
 use Rattle.cf_scan.specs.Scan.{scan_of}
-use Rattle.cf_sync.specs.Fetching.{IsQuiet, IsBusy, IsConnected, once}
+use Rattle.cf_sync.specs.Fetching.{IsQuiet, IsBusy, IsConnected, Rule, once}
 use Rattle.cf_sync.specs.Sync.{SyncTheorem, IsHistoryOf}
 use Rattle.cf_answers.specs.declared.status.Status.{Status}
 use Rattle.cf_answers.specs.declared.status.Status.TheVariants.{Done, NoMemory, Usage, BadFile, FileFault, OutFault, NoPeers, Tired, Ended, LinkFault, NoNonce, NoHeight, NotThere, NotAddress}
 use Rattle.cf_answers.specs.Texts.{run_text}
-use Rattle.cf_cli.specs.Theorem.{IsAnswerOf, Settles, IsComplete, KeptOnce, TellsEnds, AnswersTo}
+use Rattle.cf_cli.specs.Theorem.{IsAnswerOf, Settles, IsComplete, KeptOnce, TellsEnds, AnswersTo, WasFollowed}
 
 -- the answer, where the text was written
 pub answered : (end : End) (ends : List PeerEnd) (status : Status) (before after : Option (List ℕ)) (text : List ℕ) → AnswersTo end ends status → after ≡ with_more before text → IsAnswerOf end status before after text
@@ -97,6 +97,12 @@ history_written watch blocks end height tip entries lines trace before after tol
 quiet_once_synced : (end : End) (log : Log) → IsEnd end log → end ≡ IsSynced → IsQuiet log
 quiet_once_synced end log why is = let synced : IsEnd IsSynced log = subst (λ (e : End). IsEnd e log) is why in synced.0
 
+-- what is put together of a run tells how it went
+abbrev pub followed_by : (counts : Chains → ℕ → Type 0) (rule : Rule) (names : List (List ℕ)) (o : Outcome) (log : Log)
+    → IsOutcome counts rule names o log → WasFollowed rule names log
+followed_by counts rule names o log is =
+    record { end = o.end; height = o.height; tip = o.tip; entries = o.history; lines = o.trace.items; followed = is.followed }
+
 kept_of : (counts : Chains → ℕ → Type 0) (watch names : List (List ℕ)) (o : Outcome) (status : Status) (recorded trace : Bool) (before after : Option (List ℕ)) (log : Log)
     → IsOutcome counts (once watch) names o log → SyncTheorem watch o.height o.tip o.history log
     → IsAnswerOf o.end status before after (run_text trace o.trace.items o.end o.history o.height o.tip)
@@ -116,16 +122,7 @@ kept_of counts watch names o status recorded trace before after log is theorem a
           let somebody = somebody_left o.end log p why (theorem.somebody p blocks serves.apart serves.honest) in
           completes o.end status recorded before after text answer somebody;
       never = λ p blocks serves ne. theorem.never p blocks serves.apart serves.honest;
-      ran = λ made. record {
-        end = o.end;
-        height = o.height;
-        tip = o.tip;
-        entries = o.history;
-        lines = o.trace.items;
-        followed = is.followed;
-        answered = answer;
-        stands = stands;
-      };
+      ran = λ made. record { run = followed_by counts (once watch) names o log is; answered = answer; stands = stands };
       unrecorded = λ same. absurd (subst (λ (s : Status). IsAnswerOf o.end s before after text) same answer);
     }
 
@@ -152,14 +149,7 @@ unrecorded_told (Some log) counts watch names o recorded trace before after on i
   complete = λ p blocks serves. on;
   never = λ p blocks serves ne. theorem.never p blocks serves.apart serves.honest;
   ran = λ made. cc;
-  unrecorded = λ same. inr (record {
-    end = o.end;
-    height = o.height;
-    tip = o.tip;
-    entries = o.history;
-    lines = o.trace.items;
-    followed = is.followed;
-  });
+  unrecorded = λ same. inr (followed_by counts (once watch) names o log is);
 }
 
 -- how the peers stand that the answer tells of

@@ -37,11 +37,12 @@ use Rattle.cf_answers.specs.declared.status.Status.{Status}
 use Rattle.cf_answers.specs.declared.status.Status.TheVariants.{Done, NoMemory, Usage, BadFile, FileFault, OutFault, NoPeers, Tired, Ended, LinkFault, NoNonce, NoHeight, NotThere, NotAddress}
 use Rattle.cf_loading.specs.Verdicts.{IsOfFile}
 use Rattle.cf_offline.specs.Reading.{CountsOut}
+use Rattle.cf_cli.specs.Handed.{CountsOn}
 use Rattle.cf_cli.specs.Following.{BegunTexts, CutShort, EndsBy, GivenUp, Grows, IsReplayedIn, IsReplayedOn, KeptLive, KeptOn, KeptOnOver, KeptOnTape, Stayed, TalliedOn, with_trace}
 use Rattle.cf_answers.specs.Statuses.{has_run, is_over, was_refused, was_unbegun}
 use Rattle.cf_cli.specs.Theorem.{AnswersTo, IsComplete, IsOfRun, IsWatchFile}
-use Rattle.cf_cli.proofs.Plays.{early_replayed, early_tallied, ended_as, no_run, not_run, run_tallied, spent_tallied, unwritten_tallied}
-use Rattle.cf_cli.proofs.Runs.{somebody_left}
+use Rattle.cf_cli.proofs.Plays.{early_replayed, early_tallied, early_watch, ended_as, no_run, not_run, run_tallied, spent_tallied, unwritten_tallied}
+use Rattle.cf_cli.proofs.Runs.{followed_by, somebody_left}
 
 -- ---- its answers
 
@@ -52,18 +53,17 @@ over_by HasNoPeers ends status is = ap is_over is.1
 over_by IsTired ends status is = ap is_over is
 over_by HasEnded ends status is = ap is_over is
 
--- so its sink hasn't failed, or where it has it is to blame; where nothing is answered of it, it may have
+-- so its sink hasn't failed
 pub counts_fine : (status : Status) (old new : ℕ) → is_over status ≡ true → new ≡ old → CountsOut status old new
-counts_fine status old new over same = record { fault = λ is. absurd (false≢true (sym (ap is_over is) ∙ over)); fine = λ a b d. same }
+counts_fine status old new over same = record { fault = λ is. absurd (false≢true (sym (ap is_over is) ∙ over)); fine = λ ne. same }
 
-pub counts_risen : (old new : ℕ) → HasRisen old new → CountsOut OutFault old new
-counts_risen old new risen = record { fault = λ is. risen; fine = λ ne a b. absurd (ne refl) }
+-- the same of what goes on once its sink has failed; but where its record fails behind it nothing is said
+pub counts_on : (recorded : Bool) (status : Status) (old new : ℕ) → CountsOut status old new → CountsOn recorded status old new
+counts_on recorded status old new counts = record { fault = counts.fault; fine = λ ne fine. counts.fine ne }
 
-pub counts_spent : (old new : ℕ) → CountsOut NoMemory old new
-counts_spent old new = record { fault = λ is. cc; fine = λ a b ne. absurd (ne refl) }
-
-pub counts_unrecorded : (old new : ℕ) → CountsOut FileFault old new
-counts_unrecorded old new = record { fault = λ is. cc; fine = λ a ne b. absurd (ne refl) }
+pub counts_behind : (recorded : Bool) (status : Status) (old new : ℕ) → recorded ≡ true → status ≢ OutFault
+    → ((status ≢ FileFault) × (status ≢ NoMemory) → ⊥) → CountsOn recorded status old new
+counts_behind recorded status old new on ne one = record { fault = λ is. absurd (ne is); fine = λ no fine. absurd (one (fine on)) }
 
 -- where somebody is left it is complete
 complete_by : (end : End) (ends : List PeerEnd) (status : Status) (recorded : Bool) → AnswersTo end ends status → end ≢ HasNoPeers → IsComplete status recorded
@@ -72,39 +72,36 @@ complete_by HasNoPeers ends status recorded is somebody = absurd (somebody refl)
 complete_by IsTired ends status recorded is somebody = subst (λ (s : Status). IsComplete s recorded) (sym is) tt
 complete_by HasEnded ends status recorded is somebody = subst (λ (s : Status). IsComplete s recorded) (sym is) tt
 
--- what is answered to a file is no end of a run
-pub not_over : (status : Status) → has_run status ≡ false → is_over status ≡ false
-not_over Done off = absurd (false≢true (sym off))
-not_over NoMemory off = refl
-not_over Usage off = refl
-not_over (BadFile which place cause) off = refl
-not_over FileFault off = refl
-not_over OutFault off = refl
-not_over (NoPeers ends) off = absurd (false≢true (sym off))
-not_over Tired off = absurd (false≢true (sym off))
-not_over Ended off = absurd (false≢true (sym off))
-not_over LinkFault off = refl
-not_over (NoNonce height) off = refl
-not_over (NoHeight tip) off = refl
-not_over (NotThere txid) off = refl
-not_over (NotAddress cause) off = refl
+-- what is answered to a file is no end of a run; what wasn't refused was begun, and what was carried out wasn't refused
+record IsAnswer (status : Status) : Type 0 where
+  over : has_run status ≡ false → is_over status ≡ false
+  begun : (recorded : Bool) → was_refused status ≡ false → was_unbegun status recorded ≡ false
+  run : has_run status ≡ true → was_refused status ≡ false
 
--- what wasn't refused was begun
+answer : (status : Status) → IsAnswer status
+answer Done = record { over = λ off. cc; begun = λ recorded off. cc; run = λ on. cc }
+answer NoMemory = record { over = λ off. cc; begun = λ recorded off. cc; run = λ on. cc }
+answer Usage = record { over = λ off. cc; begun = λ recorded off. cc; run = λ on. cc }
+answer (BadFile which place cause) = record { over = λ off. cc; begun = λ recorded off. cc; run = λ on. cc }
+answer FileFault = record { over = λ off. cc; begun = λ recorded off. cc; run = λ on. cc }
+answer OutFault = record { over = λ off. cc; begun = λ recorded off. cc; run = λ on. cc }
+answer (NoPeers ends) = record { over = λ off. cc; begun = λ recorded off. cc; run = λ on. cc }
+answer Tired = record { over = λ off. cc; begun = λ recorded off. cc; run = λ on. cc }
+answer Ended = record { over = λ off. cc; begun = λ recorded off. cc; run = λ on. cc }
+answer LinkFault = record { over = λ off. cc; begun = λ recorded off. cc; run = λ on. cc }
+answer (NoNonce height) = record { over = λ off. cc; begun = λ recorded off. cc; run = λ on. cc }
+answer (NoHeight tip) = record { over = λ off. cc; begun = λ recorded off. cc; run = λ on. cc }
+answer (NotThere txid) = record { over = λ off. cc; begun = λ recorded off. cc; run = λ on. cc }
+answer (NotAddress cause) = record { over = λ off. cc; begun = λ recorded off. cc; run = λ on. cc }
+
+pub not_over : (status : Status) → has_run status ≡ false → is_over status ≡ false
+not_over status = (answer status).over
+
 pub begun_by : (status : Status) (recorded : Bool) → was_refused status ≡ false → was_unbegun status recorded ≡ false
-begun_by Done recorded off = refl
-begun_by NoMemory recorded off = refl
-begun_by Usage recorded off = off
-begun_by (BadFile which place cause) recorded off = off
-begun_by FileFault recorded off = absurd (false≢true (sym off))
-begun_by OutFault recorded off = refl
-begun_by (NoPeers ends) recorded off = refl
-begun_by Tired recorded off = refl
-begun_by Ended recorded off = refl
-begun_by LinkFault recorded off = refl
-begun_by (NoNonce height) recorded off = refl
-begun_by (NoHeight tip) recorded off = refl
-begun_by (NotThere txid) recorded off = refl
-begun_by (NotAddress cause) recorded off = refl
+begun_by status = (answer status).begun
+
+pub run_begun : (status : Status) (recorded : Bool) → has_run status ≡ true → was_unbegun status recorded ≡ false
+run_begun status recorded on = begun_by status recorded ((answer status).run on)
 
 -- ---- its texts
 
@@ -160,7 +157,7 @@ some_but_told (Some log) scripts before after but = inr but
 -- whichever it was
 pub some_by_told : {T : Type 0} (fail : TextFail) (told : T → Option (List ℕ)) (faults : T → ℕ) (scripts names : List (List ℕ)) (t : Told) (before after : T)
     → GivesUp fail told faults scripts names t before after → IfSome t.log (λ log. HasPutSome scripts log (told before) (told after))
-some_by_told LacksMemory told faults scripts names t before after so = some_so_told t.log scripts (told before) (told after) so
+some_by_told LacksMemory told faults scripts names t before after so = some_so_told t.log scripts (told before) (told after) so.put
 some_by_told HasFailed told faults scripts names t before after cut = some_but_told t.log scripts (told before) (told after) cut.put
 
 -- nothing was put over new wires
@@ -248,19 +245,19 @@ tape_begun trace lines old now bytes text before after none same is n low writte
 -- ---- a run that is over
 
 stayed_kept : (status : Status) (recorded trace : Bool) (scripts names : List (List ℕ)) (before after : Option (List ℕ)) (log : Log)
-    → (s : Stayed status trace scripts names before after log) → FollowTheorem scripts s.height s.tip s.entries log → KeptOn status recorded trace scripts names before after log
+    → (s : Stayed status trace scripts names before after log) → FollowTheorem scripts s.run.height s.run.tip s.run.entries log → KeptOn status recorded trace scripts names before after log
 stayed_kept status recorded trace scripts names before after log s theorem = record {
   last = λ p blocks first top grows told none quiet over.
-      last_written scripts trace s.lines s.texts before after log s.puts s.written p blocks first top grows told none
+      last_written scripts trace s.run.lines s.texts before after log s.puts s.written p blocks first top grows told none
       (theorem.somebody p blocks first grows.apart grows.growing) quiet;
   complete = λ p blocks first grows.
-      complete_by s.end s.ends status recorded s.answered
-      (somebody_left s.end log p s.followed.why (theorem.somebody p blocks first grows.apart grows.growing));
+      complete_by s.run.end s.ends status recorded s.answered
+      (somebody_left s.run.end log p s.run.followed.why (theorem.somebody p blocks first grows.apart grows.growing));
   never = λ p blocks first grows ne. theorem.never p blocks first grows.apart grows.growing;
   ran = λ over. s;
-  begun = λ off. absurd (both_ways (is_over status) off (over_by s.end s.ends status s.answered));
-  right = λ ne. (s.followed.asked.bytes, s.followed.asked.rightly);
-  run = λ ne. inr s.followed.run;
+  begun = λ off. absurd (both_ways (is_over status) off (over_by s.run.end s.ends status s.answered));
+  right = λ ne. (s.run.followed.asked.bytes, s.run.followed.asked.rightly);
+  run = λ ne. inr s.run.followed.run;
 }
 
 -- nothing of it was given up
@@ -283,12 +280,7 @@ pub stayed_told : (log : Option Log) (counts : Chains → ℕ → Type 0) (scrip
 stayed_told None counts scripts names o status recorded trace first told before after is theorem answered put write = tt
 stayed_told (Some log) counts scripts names o status recorded trace first told before after is theorem answered put write =
     stayed_kept status recorded trace scripts names before after log (record {
-      end = o.end;
-      height = o.height;
-      tip = o.tip;
-      entries = o.history;
-      lines = o.trace.items;
-      followed = is.followed;
+      run = followed_by counts (following scripts) names o log is;
       ends = o.ends.items;
       stands = is.ends;
       answered = answered;
@@ -304,12 +296,7 @@ pub cut_told : (log : Option Log) (counts : Chains → ℕ → Type 0) (scripts 
     → IfSome log (λ l. CutShort trace scripts names before after l)
 cut_told None counts scripts names o trace first told before after is put begin = tt
 cut_told (Some log) counts scripts names o trace first told before after is put begin = record {
-  end = o.end;
-  height = o.height;
-  tip = o.tip;
-  entries = o.history;
-  lines = o.trace.items;
-  followed = is.followed;
+  run = followed_by counts (following scripts) names o log is;
   texts = put.texts;
   puts = put.puts;
   begun = begin put.texts put.taken;
@@ -326,14 +313,14 @@ unwritten_told (Some log) scripts names o recorded trace before after short theo
   never = λ p blocks first grows ne. theorem.never p blocks first grows.apart grows.growing;
   ran = λ over. absurd (false≢true over);
   begun = λ off. record {
-    lines = short.lines;
-    traced = inr (inr short.followed.traced);
+    lines = short.run.lines;
+    traced = inr (inr short.run.followed.traced);
     texts = short.texts;
     puts = inr short.puts;
     begun = short.begun;
   };
-  right = λ ne. (short.followed.asked.bytes, short.followed.asked.rightly);
-  run = λ ne. inr short.followed.run;
+  right = λ ne. (short.run.followed.asked.bytes, short.run.followed.asked.rightly);
+  run = λ ne. inr short.run.followed.run;
 }
 
 -- ---- a run that failed
@@ -410,11 +397,11 @@ fresh_told o scripts names recorded trace before none = silent_told o scripts na
 stayed_begun : (status : Status) (trace : Bool) (scripts names : List (List ℕ)) (before after : Option (List ℕ)) (log : Log) → Stayed status trace scripts names before after log
     → BegunTexts trace scripts before after log
 stayed_begun status trace scripts names before after log s = record {
-  lines = s.lines;
-  traced = inr (inr s.followed.traced);
+  lines = s.run.lines;
+  traced = inr (inr s.run.followed.traced);
   texts = s.texts;
   puts = inr s.puts;
-  begun = all_begun (with_trace trace s.lines (joined s.texts)) before after s.written;
+  begun = all_begun (with_trace trace s.run.lines (joined s.texts)) before after s.written;
 }
 
 -- however it ended, the texts were begun
@@ -532,12 +519,9 @@ early_kept_on status recorded trace scripts names b log off none = subst (λ (l 
 
 pub early_over_on : (status : Status) (recorded trace : Bool) (files : Option Named) (watch : List ℕ) (names : List (List ℕ)) (b : Option (List ℕ)) (log : Log) → IsOfFile status → log ≡ []
     → KeptOnOver status recorded trace files watch names b b log
-early_over_on status recorded trace files watch names b log is none = record {
-  scripts = [];
-  watched = λ made. absurd (false≢true (sym (no_run status is) ∙ made));
-  unwatched = inl none;
-  kept = early_kept_on status recorded trace [] names b log (no_run status is) none;
-}
+early_over_on status recorded trace files watch names b log is none =
+    early_watch (λ scripts. KeptOn status recorded trace scripts names b b log) status files watch log is none
+    (early_kept_on status recorded trace [] names b log (no_run status is) none)
 
 -- nor is anything given up
 early_given : (status : Status) (scripts names : List (List ℕ)) (b : Option (List ℕ)) (n : ℕ) (log : Log) → IsOfFile status → log ≡ []

@@ -2,15 +2,13 @@
 use Rattle.std.specs.Prelude.{◌≡◌, ◌≢◌, ◌⊎◌, ℕ, Bool, true, false, List, [], ◌++◌, length, reverse, take, Option}
 use Rattle.cf_bytes.specs.Files.{Named}
 use Rattle.cf_bytes.specs.Outside.{HasRisen, with_more}
-use Rattle.cf_bytes.specs.declared.hash.Hash32.{Hash32}
 use Rattle.cf_block.specs.declared.tx.Block.{Block}
 use Rattle.cf_chain.specs.Grow.{top_hash}
 use Rattle.cf_headers.specs.Chain.{NoHashClash}
-use Rattle.cf_run.specs.declared.outcome.End.{End}
 use Rattle.cf_place.specs.declared.place.PeerEnd.{PeerEnd}
 use Rattle.cf_run.specs.declared.trace.TraceLine.{TraceLine}
 use Rattle.cf_place.specs.Standing.{EndsTell}
-use Rattle.cf_run.specs.Run.{RanTo, IsTraceOf, WasRun}
+use Rattle.cf_run.specs.Run.{IsTraceOf, WasRun}
 use Rattle.cf_run.specs.Texts.{HasBegun, HasPut, HasPutBut, HasPutSome, IsOver, joined}
 use Rattle.cf_sync.specs.Fetching.{AreBytes, IsQuiet, RightlyIn, following}
 use Rattle.cf_sync.specs.Growing.{IsGrowing, IsTold, OthersShowNone}
@@ -20,14 +18,13 @@ use Rattle.cf_sync.specs.Sync.{IsHashed}
 use Rattle.cf_peer.specs.declared.mode.Mode.TheVariants.{Following}
 use Rattle.cf_peer.specs.Trail.{trail}
 use Rattle.cf_wires.specs.Log.{Log, Told}
-use Rattle.cf_scan.specs.declared.history.Entry.{Entry}
 use Rattle.cf_scan.specs.HistoryText.{history_text}
 use Rattle.cf_scan.specs.Scan.{scan_of}
 use Rattle.cf_answers.specs.declared.status.Status.{Status}
 use Rattle.cf_answers.specs.declared.status.Status.TheVariants.{Done, NoMemory, FileFault, OutFault}
 use Rattle.cf_answers.specs.Texts.{trace_text}
-use Rattle.cf_answers.specs.Statuses.{has_run, is_over}
-use Rattle.cf_cli.specs.Theorem.{AnswersTo, IsComplete, IsReplayed, IsWatchFile, Tallied}
+use Rattle.cf_answers.specs.Statuses.{is_over}
+use Rattle.cf_cli.specs.Theorem.{AnswersTo, IsComplete, IsReplayed, KeptOverWatch, Tallied, WasFollowed}
 
 -- the trace before other bytes, where it is asked for
 abbrev pub with_trace : Bool → List TraceLine → List ℕ → List ℕ
@@ -36,30 +33,20 @@ with_trace false lines bytes = bytes
 
 -- a run that follows came to its end, by the log, and the texts of all its quiet moments were written whole
 pub record Stayed (status : Status) (trace : Bool) (scripts names : List (List ℕ)) (before after : Option (List ℕ)) (log : Log) : Type 0 where
-  pub end : End
-  pub height : ℕ
-  pub tip : Hash32
-  pub entries : List Entry
-  pub lines : List TraceLine
-  pub followed : RanTo (following scripts) end height tip entries lines names log
+  pub run : WasFollowed (following scripts) names log
   pub ends : List PeerEnd
   pub stands : EndsTell ends log
-  pub answered : AnswersTo end ends status
+  pub answered : AnswersTo run.end ends status
   pub texts : List (List ℕ)
   pub puts : ArePut scripts log texts
-  pub written : after ≡ with_more before (with_trace trace lines (joined texts))
+  pub written : after ≡ with_more before (with_trace trace run.lines (joined texts))
 
 -- the same where the sink has failed at the end: a beginning of those texts was written, behind the trace where it is asked for
 pub record CutShort (trace : Bool) (scripts names : List (List ℕ)) (before after : Option (List ℕ)) (log : Log) : Type 0 where
-  pub end : End
-  pub height : ℕ
-  pub tip : Hash32
-  pub entries : List Entry
-  pub lines : List TraceLine
-  pub followed : RanTo (following scripts) end height tip entries lines names log
+  pub run : WasFollowed (following scripts) names log
   pub texts : List (List ℕ)
   pub puts : ArePut scripts log texts
-  pub begun : HasBegun (with_trace trace lines (joined texts)) before after
+  pub begun : HasBegun (with_trace trace run.lines (joined texts)) before after
 
 -- where it failed: a beginning of the trace, where it is asked for, and of the texts of the quiet moments was written
 pub record BegunTexts (trace : Bool) (scripts : List (List ℕ)) (before after : Option (List ℕ)) (log : Log) : Type 0 where
@@ -70,9 +57,9 @@ pub record BegunTexts (trace : Bool) (scripts : List (List ℕ)) (before after :
   pub begun : HasBegun (with_trace trace lines (joined texts)) before after
 
 -- What was put of a run that was given up, by its answer, and by how often the sink had failed before it, and has then. All that was due before the last
--- delivery was put whole, and at most a beginning of what is due now. Unless memory was wanting, all was put whole, the text of the last moment too, or the
--- sink has failed over that text; and with OutFault it has. Where a file has failed, either nothing has passed, or a run came to its end, by the log, with
--- all its texts written, or the sink has failed over one of them.
+-- delivery was put whole, and at most a beginning of what is due now. Unless memory was wanting, all was put whole, the text of the last moment too, or no more
+-- than a beginning of the text that is due, and the sink has failed more often than before; with OutFault the latter. With FileFault either nothing has passed,
+-- or a run came to its end, by the log, with all its texts written, or no more than such a beginning was put, and the sink has failed more often than before.
 pub record GivenUp (status : Status) (scripts names : List (List ℕ)) (before after : Option (List ℕ)) (old new : ℕ) (log : Log) : Type 0 where
   pub some : is_over status ≡ false → HasPutSome scripts log before after
   pub tried : is_over status ≡ false → status ≢ NoMemory
@@ -110,12 +97,10 @@ pub record KeptOn (status : Status) (recorded trace : Bool) (scripts names : Lis
   pub right : status ≢ NoMemory → AreBytes log × RightlyIn Following log
   pub run : status ≢ NoMemory → (log ≡ []) ⊎ WasRun (following scripts) names log
 
--- the same with the scripts of the watch file, which was there, and was read before anything passed
-pub record KeptOnOver (status : Status) (recorded trace : Bool) (files : Option Named) (watch : List ℕ) (names : List (List ℕ)) (before after : Option (List ℕ)) (log : Log) : Type 0 where
-  pub scripts : List (List ℕ)
-  pub watched : has_run status ≡ true → IsWatchFile files watch scripts
-  pub unwatched : (log ≡ []) ⊎ IsWatchFile files watch scripts
-  pub kept : KeptOn status recorded trace scripts names before after log
+-- the same over a watch file
+abbrev pub KeptOnOver : Status → Bool → Bool → Option Named → List ℕ → List (List ℕ) → Option (List ℕ) → Option (List ℕ) → Log → Type 0
+KeptOnOver status recorded trace files watch names before after log =
+    KeptOverWatch status files watch log (λ scripts. KeptOn status recorded trace scripts names before after log)
 
 -- the same of `follow`, which puts each text at once, and no trace, with what was put where the run was given up
 pub record KeptLive (status : Status) (recorded : Bool) (files : Option Named) (watch : List ℕ) (names : List (List ℕ))

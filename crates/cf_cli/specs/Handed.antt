@@ -1,5 +1,5 @@
 -- statement: what is promised of each thing that a run is handed.
-use Rattle.std.specs.Prelude.{◌≡◌, ℕ, ℤ, Bool, true, false, List, [], ◌∷◌, Option, IfSome}
+use Rattle.std.specs.Prelude.{◌≡◌, ◌≢◌, ℕ, ℤ, Bool, true, false, List, [], ◌∷◌, Option, IfSome}
 use Rattle.std.specs.FinMap as finite
 use Rattle.cf_bytes.specs.Files.{Named, Reads, Opens, Parts, Writes}
 use Rattle.cf_bytes.specs.Outside.{HasRisen}
@@ -13,16 +13,15 @@ use Rattle.cf_played.specs.Told.{log_of as played_log, peers_of, finished_of as 
 use Rattle.cf_played.specs.declared.played.Played.{Played}
 use Rattle.cf_input.specs.declared.words.Command.{Command}
 use Rattle.cf_answers.specs.declared.status.Status.{Status}
-use Rattle.cf_answers.specs.declared.status.Status.TheVariants.{FileFault, LinkFault}
+use Rattle.cf_answers.specs.declared.status.Status.TheVariants.{NoMemory, FileFault, OutFault, LinkFault}
 use Rattle.cf_answers.specs.Statuses.{was_unbegun}
 use Rattle.cf_loading.specs.Asking.{Whole}
 use Rattle.cf_loading.specs.Verdicts.{IsJudged, watch_verdict}
-use Rattle.cf_offline.specs.Reading.{CountsOut}
 use Rattle.cf_cli.specs.Asking.{AreAsked, AsksFor}
 use Rattle.cf_cli.specs.Demo.{may_show}
 use Rattle.cf_cli.specs.Recording.{Records, is_recorded, may_write}
 use Rattle.cf_cli.specs.Serving.{may_serve}
-use Rattle.cf_cli.specs.Statuses.{may_dial, may_play, may_say}
+use Rattle.cf_cli.specs.Statuses.{goes_on, may_dial, may_play, may_say}
 
 -- ---- what is handed in: the wires, the tape and the played peers are new
 
@@ -59,6 +58,12 @@ pub record RunsWires {W : Type 0} (told : W → Told) (keeps : W → Bool) (faul
   pub unkept : recorded ≡ false → keeps after ≡ keeps before
   pub undialled : was_unbegun status recorded ≡ true → told after ≡ told before
 
+-- How often the sink has failed, by the answer, and by whether what is done goes on once it has: more often with OutFault, and not once more with any other
+-- answer. Only where it goes on do FileFault and NoMemory leave it open, since a record can fail behind the sink.
+pub record CountsOn (goes_on : Bool) (status : Status) (before after : ℕ) : Type 0 where
+  pub fault : status ≡ OutFault → HasRisen before after
+  pub fine : status ≢ OutFault → (goes_on ≡ true → (status ≢ FileFault) × (status ≢ NoMemory)) → after ≡ before
+
 -- ---- what becomes of it, by the command that the words ask for, and its answer
 
 -- The files: a command that writes none changes none, what is asked of them is what the command asks, and where they are to blame their count of faults has
@@ -92,7 +97,8 @@ pub record UsesLink {L : Type 0} (faults : L → ℕ) (command : Option Command)
   pub unserved : may_serve command status ≡ false → after ≡ before
   pub fault : status ≡ LinkFault → HasRisen (faults before) (faults after)
 
--- the sink: nothing is written to it unless the command may say something, and how often it has failed is told by the answer
+-- The sink: nothing is written to it unless the command may say something, and how often it has failed is told by the answer, and by whether the command goes
+-- on once it has.
 pub record UsesOut {O : Type 0} (written : O → Option (List ℕ)) (faults : O → ℕ) (command : Option Command) (status : Status) (before after : O) : Type 0 where
   pub unwritten : may_say command status ≡ false → written after ≡ written before
-  pub counts : CountsOut status (faults before) (faults after)
+  pub counts : CountsOn (goes_on command) status (faults before) (faults after)

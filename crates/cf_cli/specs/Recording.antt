@@ -41,11 +41,11 @@ Records Ended file log before after = HasRecord file log before after
 Records FileFault file log before after = KeepsOthers file before after
 Records status file log before after = after ≡ before
 
--- what writing the record that is asked for answers: it stands, or it could not be written, or no memory was found
+-- what writing the record answers: it stands, where it is asked for; or it is, and could not be written, or no memory was found
 abbrev pub IsRecording : Result (Unit {0}) (Refused Failed) → Option (List ℕ) → Option Log → Option Named → Option Named → Type 0
 IsRecording (Ok done) file log before after = HasRecord file log before after
 IsRecording (Err (No failed)) file log before after = (is_some file ≡ true) × KeepsOthers file before after
-IsRecording (Err OutOfMemory) file log before after = after ≡ before
+IsRecording (Err OutOfMemory) file log before after = (is_some file ≡ true) × (after ≡ before)
 
 -- the count of faults rises where it could not be written
 abbrev pub BlamesFiles : Result (Unit {0}) (Refused Failed) → ℕ → ℕ → Type 0

@@ -38,3 +38,8 @@ may_play command status = false
 abbrev pub may_say : Option Command → Status → Bool
 may_say (Some (Follow turns workers file watch peers)) status = not (was_unbegun status (is_some file))
 may_say command status = has_run status
+
+-- whether a command goes on once the sink has failed: `follow` does, where it has a record to write
+abbrev pub goes_on : Option Command → Bool
+goes_on (Some (Follow turns workers file watch peers)) = is_some file
+goes_on command = false

@@ -14,7 +14,7 @@ use Rattle.cf_place.specs.declared.place.PeerEnd.{PeerEnd}
 use Rattle.cf_run.specs.declared.trace.TraceLine.{TraceLine}
 use Rattle.cf_place.specs.Standing.{EndsTell}
 use Rattle.cf_run.specs.Run.{RanTo, NobodyLeft}
-use Rattle.cf_sync.specs.Fetching.{IsQuiet, once}
+use Rattle.cf_sync.specs.Fetching.{IsQuiet, Rule, once}
 use Rattle.cf_sync.specs.Honesty.{IsHonest, ShowsNoOther, IsNeverClosed}
 use Rattle.cf_sync.specs.Sync.{IsHashed}
 use Rattle.cf_wires.specs.Dials.{goes_as_made}
@@ -43,25 +43,20 @@ IsAnswerOf end status before after text = ⊥
 abbrev pub TellsEnds : Status → Log → Type 0
 TellsEnds status log = (ends : Vec PeerEnd Global) → status ≡ NoPeers ends → EndsTell ends.items log
 
+-- a run over a log that went by this rule, and how it ended, by the log
+pub record WasFollowed (rule : Rule) (names : List (List ℕ)) (log : Log) : Type 0 where
+  pub end : End
+  pub height : ℕ
+  pub tip : Hash32
+  pub entries : List Entry
+  pub lines : List TraceLine
+  pub followed : RanTo rule end height tip entries lines names log
+
 -- a run over a log: how it ended, by the log, and what was written of it
 pub record Ran (status : Status) (trace : Bool) (scripts names : List (List ℕ)) (before after : Option (List ℕ)) (log : Log) : Type 0 where
-  pub end : End
-  pub height : ℕ
-  pub tip : Hash32
-  pub entries : List Entry
-  pub lines : List TraceLine
-  pub followed : RanTo (once scripts) end height tip entries lines names log
-  pub answered : IsAnswerOf end status before after (run_text trace lines end entries height tip)
+  pub run : WasFollowed (once scripts) names log
+  pub answered : IsAnswerOf run.end status before after (run_text trace run.lines run.end run.entries run.height run.tip)
   pub stands : TellsEnds status log
-
--- a run over a log that followed the rules, whatever became of its record
-pub record WasFollowed (scripts names : List (List ℕ)) (log : Log) : Type 0 where
-  pub end : End
-  pub height : ℕ
-  pub tip : Hash32
-  pub entries : List Entry
-  pub lines : List TraceLine
-  pub followed : RanTo (once scripts) end height tip entries lines names log
 
 -- where the files tell: the watch file is there, and these are its scripts
 abbrev pub IsWatchFile : Option Named → List ℕ → List (List ℕ) → Type 0
@@ -101,14 +96,19 @@ pub record KeptOnce (status : Status) (recorded trace : Bool) (scripts names : L
   pub complete : (p : ℕ) (blocks : List Block) → Serves log p blocks → IsComplete status recorded
   pub never : (p : ℕ) (blocks : List Block) → Serves log p blocks → status ≢ NoMemory → IsNeverClosed log p
   pub ran : has_run status ≡ true → Ran status trace scripts names before after log
-  pub unrecorded : status ≡ FileFault → (log ≡ []) ⊎ WasFollowed scripts names log
+  pub unrecorded : status ≡ FileFault → (log ≡ []) ⊎ WasFollowed (once scripts) names log
 
--- the same with the scripts of the watch file, which was there, and was read before anything passed
-pub record KeptOver (status : Status) (recorded trace : Bool) (files : Option Named) (watch : List ℕ) (names : List (List ℕ)) (before after : Option (List ℕ)) (log : Log) : Type 0 where
+-- what is promised of a run, with the scripts of the watch file, which was there, and was read before anything passed
+pub record KeptOverWatch (status : Status) (files : Option Named) (watch : List ℕ) (log : Log) (Kept : List (List ℕ) → Type 0) : Type 0 where
   pub scripts : List (List ℕ)
   pub watched : has_run status ≡ true → IsWatchFile files watch scripts
   pub unwatched : (log ≡ []) ⊎ IsWatchFile files watch scripts
-  pub kept : KeptOnce status recorded trace scripts names before after log
+  pub kept : Kept scripts
+
+-- the sync theorem for the program, over a watch file
+abbrev pub KeptOver : Status → Bool → Bool → Option Named → List ℕ → List (List ℕ) → Option (List ℕ) → Option (List ℕ) → Log → Type 0
+KeptOver status recorded trace files watch names before after log =
+    KeptOverWatch status files watch log (λ scripts. KeptOnce status recorded trace scripts names before after log)
 
 -- an answer that comes only where a peer is connected
 abbrev pub has_somebody : Status → Bool

@@ -1,5 +1,5 @@
 //! A run of the client that follows over any wires, and what is written of it.
-ghost use Rattle.std.specs.Prelude.{◌≡◌, ◌≤◌, ℕ, Bool, [], length, IfOk, IfSome, IsSome, None, is_some, true, false};
+ghost use Rattle.std.specs.Prelude.{◌≡◌, ◌≤◌, ℕ, Bool, [], length, IfOk, IfSome, None, is_some, false};
 ghost use Rattle.cf_bytes.specs.Files.{IsAtMostWritten};
 ghost use Rattle.cf_bytes.specs.Outside.{HasRisen};
 ghost use Rattle.cf_run.specs.Names.{names_in};
@@ -9,6 +9,7 @@ ghost use Rattle.cf_run.specs.Whole.{LeavesWires};
 ghost use Rattle.cf_offline.specs.Reading.{CountsOut};
 ghost use Rattle.cf_wires.specs.Log.{Tells};
 ghost use Rattle.cf_cli.specs.Ends.{AreEndsAfter, AreEndsOver};
+ghost use Rattle.cf_cli.specs.Handed.{CountsOn};
 ghost use Rattle.cf_cli.specs.Following.{CutShort, GivenUp, KeptOn, TalliedOn, with_trace};
 ghost use Rattle.cf_cli.specs.Recording.{Records};
 ghost use Rattle.cf_answers.specs.Statuses.{has_run, was_refused, was_unbegun};
@@ -105,7 +106,7 @@ pub(crate) fn follow_and_record<F: Files, W: Wires, M: Matcher + Drop, O: Sink>(
     ensures unkept { is_some log_file.now ≡ false → W.keeps wires.new ≡ W.keeps wires.old }
     ensures records { Records result log_file.now (W.told wires.new).log (F.files files.old) (F.files files.new) }
     ensures file_fault { result ≡ Status.FileFault → HasRisen (F.faults files.old) (F.faults files.new) }
-    ensures counts { CountsOut result (O.faults out.old) (O.faults out.new) }
+    ensures counts { CountsOn (is_some log_file.now) result (O.faults out.old) (O.faults out.new) }
     ensures begun { was_unbegun result (is_some log_file.now) ≡ false }
     ensures written { IsAtMostWritten F.writes log_file.now files.old files.new }
     ensures ends { AreEndsOver result (is_some log_file.now) (W.told wires.new).log ends.old.items ends.new.items }

@@ -9,7 +9,7 @@ ghost use Rattle.cf_offline.specs.Reading.{CountsOut};
 ghost use Rattle.cf_wires.specs.Log.{Tells};
 ghost use Rattle.cf_cli.specs.Ends.{AreEndsAfter};
 ghost use Rattle.cf_cli.specs.Recording.{Records};
-ghost use Rattle.cf_answers.specs.Statuses.{has_run, was_refused, was_unbegun};
+ghost use Rattle.cf_answers.specs.Statuses.{has_run, is_over, was_refused, was_unbegun};
 ghost use Rattle.cf_cli.specs.Theorem.{KeptOnce, Tallied, AnswersTo, IsOfRun};
 
 use crate::recording::{keep_where, write_record};
@@ -30,6 +30,7 @@ pub(crate) fn status_of(end: End, ends: Vec<PeerEnd>) -> Status
     ensures answers { IsOfRun result }
     ensures ran { has_run result ≡ true }
     ensures unrefused { was_refused result ≡ false }
+    ensures over { is_over result ≡ true }
 {
     match end {
         End::Synced => Status::Done,

@@ -18,7 +18,7 @@ ghost use Rattle.cf_cli.specs.Statuses.{verdict_of};
 ghost use Rattle.cf_link.specs.Links.{link_now};
 ghost use Rattle.cf_cli.specs.Doing.{Does, around};
 ghost use Rattle.cf_cli.specs.Ends.{AreEnds, AreEndsAfter, AreEndsOver};
-ghost use Rattle.cf_cli.specs.Handed.{IsNewPlayed, IsNewTape, RunsFiles, RunsWires, UsesFiles, UsesLink, UsesOut, UsesPlayed, UsesTape, UsesWires};
+ghost use Rattle.cf_cli.specs.Handed.{CountsOn, IsNewPlayed, IsNewTape, RunsFiles, RunsWires, UsesFiles, UsesLink, UsesOut, UsesPlayed, UsesTape, UsesWires};
 ghost use Rattle.cf_cli.specs.Following.{IsReplayedIn, KeptLive, TalliedOn};
 ghost use Rattle.cf_cli.specs.Theorem.{KeptOver, Tallied, PlaysSession};
 ghost use Rattle.cf_input.specs.Words.{command_of, HasFewPeers};
@@ -232,7 +232,7 @@ fn follow<
         (W.told wires.new).log result files.old files.new }
     ensures wires { RunsWires W.told W.keeps W.faults (record { moment = moment; number = nonce })
         (names_in peers.now) (is_some log_file.now) result wires.old wires.new }
-    ensures counts { CountsOut result (O.faults out.old) (O.faults out.new) }
+    ensures counts { CountsOn (is_some log_file.now) result (O.faults out.old) (O.faults out.new) }
     ensures unwritten { was_unbegun result (is_some log_file.now) ≡ true → O.written out.new ≡ O.written out.old }
     ensures asked { result ≢ Status.Usage }
     ensures ends { AreEndsOver result (is_some log_file.now) (W.told wires.new).log ends.old.items ends.new.items }

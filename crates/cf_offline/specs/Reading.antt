@@ -16,11 +16,10 @@ use Rattle.cf_answers.specs.declared.status.Status.{Status}
 use Rattle.cf_answers.specs.declared.status.Status.TheVariants.{Done, NoMemory, BadFile, FileFault, OutFault, NoHeight, NotAddress}
 use Rattle.cf_loading.specs.Scanning.{scan_text}
 
--- How often the sink has failed, by the answer: more often where the sink is to blame for it, and not once more with any other, but that a run that is given up
--- for want of memory, or since a file fails, may have lost its sink before.
+-- how often the sink has failed, by the answer: more often where the sink is to blame for it, and not once more with any other answer
 pub record CountsOut (status : Status) (before after : ℕ) : Type 0 where
   pub fault : status ≡ OutFault → HasRisen before after
-  pub fine : status ≢ OutFault → status ≢ FileFault → status ≢ NoMemory → after ≡ before
+  pub fine : status ≢ OutFault → after ≡ before
 
 -- NAME VALUE, ended by LF
 abbrev pub named_line : List ℕ → List ℕ → List ℕ

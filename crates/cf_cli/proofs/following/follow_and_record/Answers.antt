@@ -7,10 +7,10 @@ use Rattle.cf_run.specs.Names.{names_in}
 use Rattle.cf_run.proofs.Versions.{new_words}
 use Rattle.cf_answers.specs.declared.status.Status.TheVariants.{NoMemory, FileFault}
 use Rattle.cf_answers.specs.Statuses.{was_refused}
-use Rattle.cf_cli.proofs.Ends.{over_failed, over_recorded, over_stay}
+use Rattle.cf_cli.proofs.Ends.{ends_stay, over_failed, over_recorded}
 use Rattle.cf_cli.proofs.Plays.{new_dialled, new_unfailed, versions_so}
 use Rattle.cf_cli.proofs.Records.{begun_records}
-use Rattle.cf_cli.proofs.Stays.{begun_by, counts_spent, counts_unrecorded, early_tallied_on, fresh_told, kept_some, new_put_told, spent_given, spent_on, spent_tallied_on, tallied_from, unrecorded_given, unrecorded_on}
+use Rattle.cf_cli.proofs.Stays.{begun_by, counts_behind, counts_on, early_tallied_on, fresh_told, kept_some, new_put_told, spent_given, spent_on, spent_tallied_on, tallied_from, unrecorded_given, unrecorded_on}
 use Rattle.cf_cli.proofs.following.follow_and_record.Goals as goal
 
 -- ---- no memory is found before the run
@@ -27,9 +27,6 @@ returns-in_default-clause-given_up g c =
 pub returns-in_default-clause-tallied : goal.returns-in_default-clause-tallied
 returns-in_default-clause-tallied g c = early_tallied_on NoMemory _ _ _ tt c.requires.fresh
 
-pub returns-in_default-clause-counts : goal.returns-in_default-clause-counts
-returns-in_default-clause-counts g c = counts_spent _ _
-
 pub returns-in_default-clause-versions : goal.returns-in_default-clause-versions
 returns-in_default-clause-versions g c = new_words _ _ c.requires.fresh
 
@@ -40,7 +37,7 @@ pub returns-in_default-clause-failures : goal.returns-in_default-clause-failures
 returns-in_default-clause-failures g c = new_unfailed _ _ _ c.requires.fresh
 
 pub returns-in_default-clause-ends : goal.returns-in_default-clause-ends
-returns-in_default-clause-ends g c = over_stay _ _ _ _ refl
+returns-in_default-clause-ends g c = ends_stay _ _ _ _ refl
 
 -- ---- nor in it
 
@@ -59,7 +56,9 @@ pub returns-in-NoMemory-clause-tallied : goal.returns-in-NoMemory-clause-tallied
 returns-in-NoMemory-clause-tallied g c = spent_tallied_on NoMemory _ refl tt c.follow_live-status.ensures.wires
 
 pub returns-in-NoMemory-clause-counts : goal.returns-in-NoMemory-clause-counts
-returns-in-NoMemory-clause-counts g c = counts_spent _ _
+returns-in-NoMemory-clause-counts g c =
+    let counts = rw c.in-NoMemory.is at c.follow_live-status.ensures.counts in
+    counts_on (is_some c.args.log_file.now) NoMemory _ _ counts
 
 pub returns-in-NoMemory-clause-versions : goal.returns-in-NoMemory-clause-versions
 returns-in-NoMemory-clause-versions g c =
@@ -86,7 +85,9 @@ pub returns-in-Err-NoMemory-clause-tallied : goal.returns-in-Err-NoMemory-clause
 returns-in-Err-NoMemory-clause-tallied g c = spent_tallied_on NoMemory _ refl tt c.follow_live-status.ensures.wires
 
 pub returns-in-Err-NoMemory-clause-counts : goal.returns-in-Err-NoMemory-clause-counts
-returns-in-Err-NoMemory-clause-counts g c = counts_spent _ _
+returns-in-Err-NoMemory-clause-counts g c =
+    let files = rw c.in-Err-NoMemory.field-0-is at c.in-Err-NoMemory.ensures.files in
+    counts_behind (is_some c.args.log_file.now) NoMemory _ _ files.0 (λ is. cc) (λ fine. fine.1 refl)
 
 pub returns-in-Err-NoMemory-clause-versions : goal.returns-in-Err-NoMemory-clause-versions
 returns-in-Err-NoMemory-clause-versions g c =
@@ -113,7 +114,9 @@ pub returns-clause-tallied : goal.returns-clause-tallied
 returns-clause-tallied g c = spent_tallied_on FileFault _ refl tt c.follow_live-status.ensures.wires
 
 pub returns-clause-counts : goal.returns-clause-counts
-returns-clause-counts g c = counts_unrecorded _ _
+returns-clause-counts g c =
+    let files = rw c.in-Err-No.field-0-is at c.in-Err-No.ensures.files in
+    counts_behind (is_some c.args.log_file.now) FileFault _ _ files.0 (λ is. cc) (λ fine. fine.0 refl)
 
 pub returns-clause-versions : goal.returns-clause-versions
 returns-clause-versions g c =
@@ -142,7 +145,8 @@ pub returns-in-Ok-write_record-clause-tallied : goal.returns-in-Ok-write_record-
 returns-in-Ok-write_record-clause-tallied g c = tallied_from c.follow_live-status.result _ _ _ _ _ c.follow_live-status.ensures.wires.finished c.follow_live-status.ensures.tallied
 
 pub returns-in-Ok-write_record-clause-counts : goal.returns-in-Ok-write_record-clause-counts
-returns-in-Ok-write_record-clause-counts g c = c.follow_live-status.ensures.counts
+returns-in-Ok-write_record-clause-counts g c =
+    counts_on (is_some c.args.log_file.now) c.follow_live-status.result _ _ c.follow_live-status.ensures.counts
 
 pub returns-in-Ok-write_record-clause-versions : goal.returns-in-Ok-write_record-clause-versions
 returns-in-Ok-write_record-clause-versions g c =

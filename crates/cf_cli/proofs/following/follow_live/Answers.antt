@@ -4,9 +4,9 @@ use Rattle.std.specs.Int.{w64}
 use Rattle.cf_run.specs.Names.{names_in}
 use Rattle.cf_sync.specs.Fetching.{following}
 use Rattle.cf_answers.specs.declared.status.Status.TheVariants.{NoMemory}
-use Rattle.cf_cli.proofs.Ends.{copied, over_put, over_stay}
+use Rattle.cf_cli.proofs.Ends.{copied, ends_put, ends_stay}
 use Rattle.cf_cli.proofs.Plays.{leaves_so}
-use Rattle.cf_cli.proofs.Stays.{begun_by, counts_fine, counts_risen, counts_spent, failed_given, failed_told, over_by, over_given, run_tallied_on, some_put_told, some_so_told, spent_given, spent_tallied_on, spent_told, stayed_told, unwritten_tallied_on}
+use Rattle.cf_cli.proofs.Stays.{begun_by, counts_fine, failed_given, failed_told, over_given, run_tallied_on, some_put_told, some_so_told, spent_given, spent_tallied_on, spent_told, stayed_told, unwritten_tallied_on}
 use Rattle.cf_cli.proofs.following.follow_live.Goals as goal
 
 -- ---- the run is over
@@ -20,8 +20,7 @@ returns-in-Ok-ends_of-clause-kept g c =
 
 pub returns-in-Ok-ends_of-clause-given_up : goal.returns-in-Ok-ends_of-clause-given_up
 returns-in-Ok-ends_of-clause-given_up g c =
-    let o = c.in-Ok.outcome in
-    over_given (g.W.Wires.told c.follow_over.new.wires).log c.status_of.result c.args.watch (names_in c.args.names.now) _ _ _ _ (over_by o.end o.ends.items c.status_of.result c.status_of.ensures.answer)
+    over_given (g.W.Wires.told c.follow_over.new.wires).log c.status_of.result c.args.watch (names_in c.args.names.now) _ _ _ _ c.status_of.ensures.over
 
 pub returns-in-Ok-ends_of-clause-tallied : goal.returns-in-Ok-ends_of-clause-tallied
 returns-in-Ok-ends_of-clause-tallied g c =
@@ -31,12 +30,11 @@ returns-in-Ok-ends_of-clause-tallied g c =
 pub returns-in-Ok-ends_of-clause-counts : goal.returns-in-Ok-ends_of-clause-counts
 returns-in-Ok-ends_of-clause-counts g c =
     let same : c.follow_over.new.texts.sink.now ≡ c.out-1.given.0 = search rules in
-    let o = c.in-Ok.outcome in
-    counts_fine c.status_of.result _ _ (over_by o.end o.ends.items c.status_of.result c.status_of.ensures.answer) (rw (c.new-texts.ensures.same, same) at c.in-Ok.ensures.put.fine)
+    counts_fine c.status_of.result _ _ c.status_of.ensures.over (rw (c.new-texts.ensures.same, same) at c.in-Ok.ensures.put.fine)
 
 pub returns-in-Ok-ends_of-clause-ends : goal.returns-in-Ok-ends_of-clause-ends
 returns-in-Ok-ends_of-clause-ends g c =
-    over_put c.status_of.result false _ _ _ (begun_by c.status_of.result false c.status_of.ensures.unrefused)
+    ends_put c.status_of.result false _ _ _ (begun_by c.status_of.result false c.status_of.ensures.unrefused)
     (copied (g.W.Wires.told c.follow_over.new.wires).log g.H.HeaderStore.counts (following c.args.watch) (names_in c.args.names.now) c.in-Ok.outcome _ c.in-Ok-ends_of.ensures c.in-Ok.ensures.outcome)
 
 -- ---- memory is wanting
@@ -57,13 +55,13 @@ returns-in-Err-NoMemory-clause-kept g c =
     λ recorded.
     let same : c.follow_over.new.texts.sink.now ≡ c.out-1.given.0 = search rules in
     let so = rw c.in-Err-NoMemory.field-0-is at c.in-Err-NoMemory.ensures.cut in
-    spent_told (g.W.Wires.told c.follow_over.new.wires).log c.args.watch (names_in c.args.names.now) recorded _ _ (some_so_told (g.W.Wires.told c.follow_over.new.wires).log c.args.watch _ _ (rw (c.new-texts.ensures.same, same) at so))
+    spent_told (g.W.Wires.told c.follow_over.new.wires).log c.args.watch (names_in c.args.names.now) recorded _ _ (some_so_told (g.W.Wires.told c.follow_over.new.wires).log c.args.watch _ _ (rw (c.new-texts.ensures.same, same) at so.put))
 
 pub returns-in-Err-NoMemory-clause-given_up : goal.returns-in-Err-NoMemory-clause-given_up
 returns-in-Err-NoMemory-clause-given_up g c =
     let same : c.follow_over.new.texts.sink.now ≡ c.out-1.given.0 = search rules in
     let so = rw c.in-Err-NoMemory.field-0-is at c.in-Err-NoMemory.ensures.cut in
-    spent_given (g.W.Wires.told c.follow_over.new.wires).log c.args.watch (names_in c.args.names.now) _ _ _ _ (some_so_told (g.W.Wires.told c.follow_over.new.wires).log c.args.watch _ _ (rw (c.new-texts.ensures.same, same) at so))
+    spent_given (g.W.Wires.told c.follow_over.new.wires).log c.args.watch (names_in c.args.names.now) _ _ _ _ (some_so_told (g.W.Wires.told c.follow_over.new.wires).log c.args.watch _ _ (rw (c.new-texts.ensures.same, same) at so.put))
 
 pub returns-in_default-clause-tallied : goal.returns-in_default-clause-tallied
 returns-in_default-clause-tallied g c = spent_tallied_on NoMemory _ refl tt c.follow_over.ensures.wires
@@ -72,10 +70,17 @@ pub returns-in-Err-NoMemory-clause-tallied : goal.returns-in-Err-NoMemory-clause
 returns-in-Err-NoMemory-clause-tallied g c = spent_tallied_on NoMemory _ refl tt c.follow_over.ensures.wires
 
 pub returns-in_default-clause-counts : goal.returns-in_default-clause-counts
-returns-in_default-clause-counts g c = counts_spent _ _
+returns-in_default-clause-counts g c =
+    let same : c.follow_over.new.texts.sink.now ≡ c.out-1.given.0 = search rules in
+    let fine = rw (c.new-texts.ensures.same, same) at c.in-Ok.ensures.put.fine in
+    record { fault = λ is. cc; fine = λ ne. fine }
 
 pub returns-in-Err-NoMemory-clause-counts : goal.returns-in-Err-NoMemory-clause-counts
-returns-in-Err-NoMemory-clause-counts g c = counts_spent _ _
+returns-in-Err-NoMemory-clause-counts g c =
+    let same : c.follow_over.new.texts.sink.now ≡ c.out-1.given.0 = search rules in
+    let so = rw c.in-Err-NoMemory.field-0-is at c.in-Err-NoMemory.ensures.cut in
+    let fine = rw (c.new-texts.ensures.same, same) at so.fine in
+    record { fault = λ is. cc; fine = λ ne. fine }
 
 -- ---- a text could not be put
 
@@ -101,7 +106,8 @@ pub returns-in-Err-Failed-clause-counts : goal.returns-in-Err-Failed-clause-coun
 returns-in-Err-Failed-clause-counts g c =
     let same : c.follow_over.new.texts.sink.now ≡ c.out-1.given.0 = search rules in
     let cut = rw c.in-Err-Failed.field-0-is at c.in-Err-Failed.ensures.cut in
-    counts_risen _ _ (rw (c.new-texts.ensures.same, same) at cut.risen)
+    let risen = rw (c.new-texts.ensures.same, same) at cut.risen in
+    record { fault = λ is. risen; fine = λ ne. absurd (ne refl) }
 
 -- ---- what its wires told, and how its peers stand
 
@@ -122,10 +128,10 @@ returns-in-Err-NoMemory-clause-wires g c =
     leaves_so _ c.args.moment c.args.nonce (to_z-of_z {w = w64} {z = c.args.moment} (search rules)) c.follow_over.ensures.wires
 
 pub returns-in_default-clause-ends : goal.returns-in_default-clause-ends
-returns-in_default-clause-ends g c = over_stay _ _ _ _ refl
+returns-in_default-clause-ends g c = ends_stay _ _ _ _ refl
 
 pub returns-in-Err-Failed-clause-ends : goal.returns-in-Err-Failed-clause-ends
-returns-in-Err-Failed-clause-ends g c = over_stay _ _ _ _ refl
+returns-in-Err-Failed-clause-ends g c = ends_stay _ _ _ _ refl
 
 pub returns-in-Err-NoMemory-clause-ends : goal.returns-in-Err-NoMemory-clause-ends
-returns-in-Err-NoMemory-clause-ends g c = over_stay _ _ _ _ refl
+returns-in-Err-NoMemory-clause-ends g c = ends_stay _ _ _ _ refl

@@ -9,9 +9,9 @@ use Rattle.cf_run.proofs.Versions.{new_words}
 use Rattle.cf_sync.specs.Fetching.{following}
 use Rattle.cf_answers.specs.declared.status.Status.TheVariants.{NoMemory, OutFault}
 use Rattle.cf_answers.specs.Statuses.{is_over}
-use Rattle.cf_cli.proofs.Ends.{copied, ends_put, ends_stay, run_begun}
+use Rattle.cf_cli.proofs.Ends.{copied, ends_put, ends_stay}
 use Rattle.cf_cli.proofs.Plays.{all_dialled, new_dialled, versions_so}
-use Rattle.cf_cli.proofs.Stays.{counts_fine, counts_risen, counts_spent, cut_told, early_tallied_on, fresh_told, over_by, run_tallied_on, silent_told, some_by_told, some_put_told, spent_tallied_on, stayed_told, tape_begun, tape_written, unwritten_tallied_on, unwritten_told}
+use Rattle.cf_cli.proofs.Stays.{counts_fine, cut_told, early_tallied_on, fresh_told, run_begun, run_tallied_on, silent_told, some_by_told, some_put_told, spent_tallied_on, stayed_told, tape_begun, tape_written, unwritten_tallied_on, unwritten_told}
 use Rattle.cf_cli.proofs.following.follow_on_tape.Goals as goal
 
 -- ---- memory is wanting
@@ -47,18 +47,6 @@ returns-in_default-ends_of-clause-tallied g c = spent_tallied_on NoMemory _ refl
 pub returns-in_default-behind_trace-clause-tallied : goal.returns-in_default-behind_trace-clause-tallied
 returns-in_default-behind_trace-clause-tallied g c = spent_tallied_on NoMemory _ refl tt c.follow_over.ensures.wires
 
-pub returns-in_default-clause-counts : goal.returns-in_default-clause-counts
-returns-in_default-clause-counts g c = counts_spent _ _
-
-pub returns-in-Err-clause-counts : goal.returns-in-Err-clause-counts
-returns-in-Err-clause-counts g c = counts_spent _ _
-
-pub returns-in_default-ends_of-clause-counts : goal.returns-in_default-ends_of-clause-counts
-returns-in_default-ends_of-clause-counts g c = counts_spent _ _
-
-pub returns-in_default-behind_trace-clause-counts : goal.returns-in_default-behind_trace-clause-counts
-returns-in_default-behind_trace-clause-counts g c = counts_spent _ _
-
 -- ---- the run is over
 
 pub returns-in-Ok-put_all-clause-kept : goal.returns-in-Ok-put_all-clause-kept
@@ -72,10 +60,7 @@ returns-in-Ok-put_all-clause-kept g c =
     c.new-texts.ensures c.bytes.ensures (c.deref.ensures.value ∙ c.in-Ok-behind_trace.ensures) c.in-Ok-put_all.ensures.ok)
 
 pub returns-in-Ok-put_all-clause-refused : goal.returns-in-Ok-put_all-clause-refused
-returns-in-Ok-put_all-clause-refused g c =
-    λ is.
-    let o = c.in-Ok-follow_over.outcome in
-    absurd (false≢true (sym (ap is_over is) ∙ over_by o.end o.ends.items c.status_of.result c.status_of.ensures.answer))
+returns-in-Ok-put_all-clause-refused g c = λ is. absurd (false≢true (sym (ap is_over is) ∙ c.status_of.ensures.over))
 
 pub returns-in-Ok-put_all-clause-tallied : goal.returns-in-Ok-put_all-clause-tallied
 returns-in-Ok-put_all-clause-tallied g c =
@@ -84,8 +69,7 @@ returns-in-Ok-put_all-clause-tallied g c =
 
 pub returns-in-Ok-put_all-clause-counts : goal.returns-in-Ok-put_all-clause-counts
 returns-in-Ok-put_all-clause-counts g c =
-    let o = c.in-Ok-follow_over.outcome in
-    counts_fine c.status_of.result _ _ (over_by o.end o.ends.items c.status_of.result c.status_of.ensures.answer) c.in-Ok-put_all.ensures.kept
+    counts_fine c.status_of.result _ _ c.status_of.ensures.over c.in-Ok-put_all.ensures.kept
 
 -- ---- but the sink has failed
 
@@ -108,9 +92,6 @@ returns-clause-kept g c =
 
 pub returns-clause-tallied : goal.returns-clause-tallied
 returns-clause-tallied g c = unwritten_tallied_on _ c.follow_over.ensures.wires (all_dialled c.args.names.now c.in-Ok-follow_over.ensures.within)
-
-pub returns-clause-counts : goal.returns-clause-counts
-returns-clause-counts g c = counts_risen _ _ c.in-Err-put_all.ensures.cause
 
 -- ---- what its wires told, and how its peers stand
 

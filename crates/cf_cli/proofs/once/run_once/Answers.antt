@@ -10,8 +10,8 @@ use Rattle.cf_answers.specs.declared.status.Status.TheVariants.{NoMemory, FileFa
 use Rattle.cf_run.proofs.Versions.{new_words}
 use Rattle.cf_cli.proofs.Runs.{answered, kept_told, kept_without, unrecorded_told, stands_by, stands_unsaid}
 use Rattle.cf_cli.proofs.Plays.{all_dialled, versions_so, early_tallied, spent_tallied, unwritten_tallied, run_tallied, new_dialled, new_unfailed}
-use Rattle.cf_cli.proofs.Stays.{counts_fine, counts_risen, counts_spent, counts_unrecorded, over_by}
-use Rattle.cf_cli.proofs.Ends.{copied, ends_put, ends_stay, run_begun}
+use Rattle.cf_cli.proofs.Stays.{counts_fine, run_begun}
+use Rattle.cf_cli.proofs.Ends.{copied, ends_put, ends_stay}
 use Rattle.cf_cli.proofs.once.run_once.Goals as goal
 
 -- ---- what it keeps
@@ -127,31 +127,9 @@ returns-in-Ok-put_all-clause-versions g c =
 
 -- ---- the sink
 
-pub returns-in_default-clause-counts : goal.returns-in_default-clause-counts
-returns-in_default-clause-counts g c = counts_spent _ _
-
-pub returns-in_default-sync_over-clause-counts : goal.returns-in_default-sync_over-clause-counts
-returns-in_default-sync_over-clause-counts g c = counts_spent _ _
-
-pub returns-in_default-ends_of-clause-counts : goal.returns-in_default-ends_of-clause-counts
-returns-in_default-ends_of-clause-counts g c = counts_spent _ _
-
-pub returns-in_default-text_of-clause-counts : goal.returns-in_default-text_of-clause-counts
-returns-in_default-text_of-clause-counts g c = counts_spent _ _
-
-pub returns-in-Err-NoMemory-clause-counts : goal.returns-in-Err-NoMemory-clause-counts
-returns-in-Err-NoMemory-clause-counts g c = counts_spent _ _
-
-pub returns-in-Err-No-clause-counts : goal.returns-in-Err-No-clause-counts
-returns-in-Err-No-clause-counts g c = counts_unrecorded _ _
-
-pub returns-in-Err-clause-counts : goal.returns-in-Err-clause-counts
-returns-in-Err-clause-counts g c = counts_risen _ _ c.in-Err.ensures.cause
-
 pub returns-in-Ok-put_all-clause-counts : goal.returns-in-Ok-put_all-clause-counts
 returns-in-Ok-put_all-clause-counts g c =
-    let o = c.in-Ok-sync_over.outcome in
-    counts_fine c.status_of.result _ _ (over_by o.end o.ends.items c.status_of.result c.status_of.ensures.answer) c.in-Ok-put_all.ensures.kept
+    counts_fine c.status_of.result _ _ c.status_of.ensures.over c.in-Ok-put_all.ensures.kept
 
 -- ---- how its peers stand
 

@@ -3,13 +3,14 @@ use Rattle.std.proofs.Math.Facts.{to_z-of_z}
 use Rattle.std.specs.Int.{w64}
 use Rattle.cf_link.specs.Links.{LinkTold, link_now}
 use Rattle.cf_cli.specs.Serving.{IsServing}
+use Rattle.cf_input.specs.declared.words.Command.TheVariants.{Sync, Follow}
 use Rattle.cf_answers.specs.declared.status.Status.{Status}
 use Rattle.cf_answers.specs.declared.status.Status.TheVariants.{FileFault}
 use Rattle.cf_offline.specs.Reading.{IsAddressed}
 use Rattle.cf_cli.specs.Demo.{IsDemoed}
 use Rattle.cf_played.specs.Told.{log_of as played_log}
 use Rattle.cf_wires.specs.Memory.{told_of}
-use Rattle.cf_cli.proofs.Plays.{versions_so, judged_replay, judged_sync, judged_follow}
+use Rattle.cf_cli.proofs.Plays.{versions_so, judged_replay, judged_watch}
 use Rattle.cf_cli.proofs.Records.{unrecorded_by}
 use Rattle.cf_cli.proofs.Handed.{is_on, is_not, files_stay, wires_stay, tape_stays, dialled_wires}
 use Rattle.cf_cli.proofs.program.perform.Goals as goal
@@ -21,13 +22,13 @@ returns-in-Replay-clause-judged g c =
 
 pub returns-in-Sync-clause-judged : goal.returns-in-Sync-clause-judged
 returns-in-Sync-clause-judged g c =
-    judged_sync (g.F.Files.files c.args.files.now) c.args.command c.in-Sync.turns c.in-Sync.workers c.in-Sync.«record» c.in-Sync.watch c.in-Sync.peers c.as_str-in-Sync.result.now c.sync.result
-    c.as_str-in-Sync.ensures c.in-Sync.is c.sync.ensures.files.judged
+    judged_watch (g.F.Files.files c.args.files.now) c.args.command (Sync c.in-Sync.turns c.in-Sync.workers c.in-Sync.«record» c.in-Sync.watch c.in-Sync.peers)
+    c.in-Sync.watch c.as_str-in-Sync.result.now c.sync.result (λ m. refl) c.as_str-in-Sync.ensures c.in-Sync.is c.sync.ensures.files.judged
 
 pub returns-in-Follow-clause-judged : goal.returns-in-Follow-clause-judged
 returns-in-Follow-clause-judged g c =
-    judged_follow (g.F.Files.files c.args.files.now) c.args.command c.in-Follow.turns c.in-Follow.workers c.in-Follow.«record» c.in-Follow.watch c.in-Follow.peers c.as_str-in-Follow.result.now c.follow.result
-    c.as_str-in-Follow.ensures c.in-Follow.is c.follow.ensures.files.judged
+    judged_watch (g.F.Files.files c.args.files.now) c.args.command (Follow c.in-Follow.turns c.in-Follow.workers c.in-Follow.«record» c.in-Follow.watch c.in-Follow.peers)
+    c.in-Follow.watch c.as_str-in-Follow.result.now c.follow.result (λ m. refl) c.as_str-in-Follow.ensures c.in-Follow.is c.follow.ensures.files.judged
 
 pub returns-in-Replay-clause-does : goal.returns-in-Replay-clause-does
 returns-in-Replay-clause-does g c = rw c.in-Replay.is (record {
