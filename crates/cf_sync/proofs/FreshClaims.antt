@@ -26,7 +26,7 @@ use Rattle.cf_sync.proofs.Counted.{first_none, same_use}
 use Rattle.cf_sync.proofs.Fresh.{shown_more, own_is_shown}
 use Rattle.cf_sync.proofs.Listed.{in_right}
 use Rattle.cf_sync.proofs.Remembers.{AskedRightlyIn, asked_rightly_in}
-use Rattle.cf_seek.proofs.Stops.{back_ends}
+use Rattle.cf_headers.proofs.Found.{back_ends}
 use Rattle.cf_sync.proofs.Settles.{shown_apart}
 
 -- ---- claims stay, and an answer claims all that was asked for

@@ -31,7 +31,7 @@ use Rattle.cf_sync.proofs.FreshClaims.{one_part, some_block}
 use Rattle.cf_sync.proofs.Listed.{in_left, in_right, in_either}
 use Rattle.cf_sync.proofs.Remembers.{AskedRightlyIn, asked_rightly_in}
 use Rattle.cf_sync.proofs.Settles.{shown_apart}
-use Rattle.cf_sync.proofs.VerdictsGrow.{said_gives}
+use Rattle.cf_sync.proofs.Grows.{said_gives}
 
 -- ---- what is claimed of a block stays as it is
 

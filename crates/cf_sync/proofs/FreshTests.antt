@@ -24,7 +24,7 @@ use Rattle.cf_wires.specs.declared.event.Event.TheVariants.{Dialled, NotDialled,
 use Rattle.cf_wires.specs.Log.{Log}
 use Rattle.cf_peer.specs.Trail.{Trail, Part, Said, Refused, Asked, Passed, Lost, Went, Failing, Shutting, called_part, with_item, item_of, item_of_read, hears, hears_fault, part_after, heard_part, spelled, asks, part_of, trail, connected, own}
 use Rattle.cf_peer.specs.Asking.{NothingOpen, FiltersOpen, blocks_from, filters_asked, claims, given, given_by, hash_claimed, request, fault_of, verdict, counted, MayAskIn}
-use Rattle.cf_seek.proofs.Stops.{back_ends}
+use Rattle.cf_headers.proofs.Found.{back_ends}
 use Rattle.cf_sync.specs.Blame.{WasAskedSince}
 use Rattle.cf_sync.specs.Fetching.{IsAlone, IsConnected, blocks_in, IsFetchedHash, IsNew, IsTest, IsTested, IsTestOf, MaySendIn, RightlyIn, test_after}
 use Rattle.cf_sync.proofs.Blamed.{tested_stays}
@@ -35,7 +35,7 @@ use Rattle.cf_sync.proofs.FreshFilters.{AreComing, AreFresh, IsItsOwn, are_fresh
 use Rattle.cf_sync.proofs.Listed.{in_left, in_right, reverse_in}
 use Rattle.cf_sync.proofs.Once.{still_connected}
 use Rattle.cf_sync.proofs.Remembers.{AskedRightlyIn, asked_rightly_in}
-use Rattle.cf_sync.proofs.VerdictsGrow.{said_gives}
+use Rattle.cf_sync.proofs.Grows.{said_gives}
 
 -- ---- the last block of a range
 

@@ -30,14 +30,14 @@ use Rattle.cf_tables.specs.Tests.{IsSameTold}
 use Rattle.cf_tables.specs.Known.{TestResults}
 use Rattle.cf_tables.specs.Trials.{Trials, TrialsGo, tested_if, with_paid}
 use Rattle.cf_sync.specs.Fetching.{AreFiltersWanted, IsConnected, IsFetchedHash, IsNoPiece, IsTest, IsTested, IsTestedWith, IsTestOf, IsSameFetched, blocks_in, counted_part, filters_open, test_after}
-use Rattle.cf_sync.specs.Kept.{AimsAt, AreClean, HoldsOutputs, HoldsTrials, IsNoSend}
-use Rattle.cf_sync.specs.Known.{HoldsTests}
-use Rattle.cf_seek.proofs.Stops.{back_ends}
+use Rattle.cf_holds.specs.Kept.{AimsAt, AreClean, HoldsOutputs, HoldsTrials, IsNoSend}
+use Rattle.cf_holds.specs.Known.{HoldsTests}
+use Rattle.cf_headers.proofs.Found.{back_ends}
 use Rattle.cf_sync.proofs.Deaf.{heard_deaf, heard_on}
 use Rattle.cf_sync.proofs.Entries.{at_either}
 use Rattle.cf_sync.proofs.FreshTests.{tip_only}
 use Rattle.cf_sync.proofs.Idle.{no_block, no_filter, nothing_after}
-use Rattle.cf_sync.proofs.KeptTests.{TestsNone, clean_on, clean_stays, no_piece_tests, one_tested, outputs_grow, outputs_stay, tests_stay}
+use Rattle.cf_holds.proofs.KeptTests.{TestsNone, clean_on, clean_stays, no_piece_tests, one_tested, outputs_grow, outputs_stay, tests_stay}
 use Rattle.cf_sync.proofs.Once.{answered}
 use Rattle.cf_sync.proofs.SameFetched.{no_piece_brings, same_fetched, same_fetched_back, same_fetched_hash}
 use Rattle.cf_sync.specs.Planned.{Alike, IsSameTest}
