@@ -270,7 +270,8 @@ test_like e log q block unsent = (λ t. t, λ t. t)
 
 aims_stay : (e : Event) (log : Log) (q : ℕ) (aim : Bool) → IsNoSend e → (IsConnected log q → AimsAt log q aim) → IsConnected (e ∷ log) q → AimsAt (e ∷ log) q aim
 aims_stay e log q aim unsent a on = elim (was_on e log q unsent on) [
-  | inl before ↦ aims_go log (e ∷ log) q aim (ends_at e log q unsent) (λ block. (test_like e log q block unsent).0) (λ block. (test_like e log q block unsent).1) (a before)
+  | inl before ↦ aims_go log (e ∷ log) q aim (ends_at e log q unsent)
+      (λ block. (test_like e log q block unsent).0) (λ block. (test_like e log q block unsent).1) (a before)
   | inr none ↦ aims_none (e ∷ log) q aim none
 ]
 

@@ -1,6 +1,6 @@
-//! What a client's tables hold of a log: the extracts of fetched blocks, claims, verdicts, open requests and tests; what
-//! these tell of what is wanted, and how they go on with the log; and which question is to be asked next. Definitions,
-//! and the laws that follow from them alone.
+//! What a client's tables hold of a log: the extracts of fetched blocks, claims, verdicts, open requests and tests;
+//! what these tell of what is wanted, and how they go on with the log; and which question is to be asked next.
+//! Definitions, and the laws that follow from them alone.
 #![tactic(auto)]
 
 mod laws;

@@ -50,7 +50,8 @@ cleared_by log t here on claimed gave agree unfetched = record {
     alone = λ p hash on is. agree p hash is;
   };
   filter = filter_of only_hash only_filter;
-  given = came_given log 1 (filter_of only_hash only_filter) (of_part (λ u. IsIn (filter_of only_hash only_filter) (given (counted u))) (part_of log 1) t here gave) unfetched;
+  given = came_given log 1 (filter_of only_hash only_filter)
+      (of_part (λ u. IsIn (filter_of only_hash only_filter) (given (counted u))) (part_of log 1) t here gave) unfetched;
   of_block = refl;
   this = only_filter_hash_is;
   verdict = ap (λ (x : List ℕ). is_miss (match_of x other_watch only_filter)) name_is ∙ ap is_miss only_misses;
@@ -64,7 +65,9 @@ cleared_of_two log other one two both silent =
     (λ p. at_each AgreesWithIt log t_11 other p one two both (its_agrees t_11 counts_11.claimed) silent (silent_agrees [] refl))
 
 cleared : IsCleared other_watch cleared_run only_hash.0
-cleared = cleared_of_two cleared_run u_7 part_18 other_20 all_of_two.1.1 (silent_agrees u_7 (ap (λ (c : Table). c only_hash.0) same_other.claiming)) (λ got. none_fetched got.0 got.1)
+cleared =
+    cleared_of_two cleared_run u_7 part_18 other_20 all_of_two.1.1
+    (silent_agrees u_7 (ap (λ (c : Table). c only_hash.0) same_other.claiming)) (λ got. none_fetched got.0 got.1)
 
 watch_fits : IsWatch other_watch
 watch_fits = refl

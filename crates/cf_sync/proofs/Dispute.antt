@@ -588,7 +588,8 @@ pub disputed_asked : (watch : List (List ℕ)) → IsWatch watch → HasAsked wa
 disputed_asked watch fits =
     asked_all Once watch (scan_of chain_of_one watch) disputed_run t_15 part_27 refl counts_15.chain refl fits disputed_bytes disputed_right
     (record { blocks = chain_of_one; taken = (inl (is_fetched, refl), tt); history = refl })
-    (λ p. of_each (WasHeard Once) p (heard_it Once t_15 counts_15.chain counts_15.claimed counts_15.heard_out) (off_heard Once v_12 refl) (off_heard Once [] refl))
+    (λ p. of_each (WasHeard Once) p (heard_it Once t_15 counts_15.chain counts_15.claimed counts_15.heard_out)
+    (off_heard Once v_12 refl) (off_heard Once [] refl))
     (inl (only_block, is_fetched, refl)) (λ block got disputed. no_dispute block disputed) where
       -- the first alone is left
       no_dispute : (block : List ℕ) → IsDisputed disputed_run block → ⊥

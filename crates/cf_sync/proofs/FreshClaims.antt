@@ -193,7 +193,11 @@ pub claims_not_again : (log : Log) (p : ℕ) → RightlyIn Following log → Are
 claims_not_again log p right bytes clash on clean filter start stop may was =
     let w = has_since (trail log p) on clean (asked_rightly_in Following log p right) filter start stop was in
     elim w.1 [
-      | inl e ↦ absurd (let no : ClaimsOpen stop.0 (block_below start w.0.part) (blocks_from start w.0.part) ≡ NothingOpen = sym e ∙ may.of_its_part.0.idle in cc)
+      | inl e ↦ absurd (
+          let no : ClaimsOpen stop.0 (block_below start w.0.part) (blocks_from start w.0.part) ≡ NothingOpen =
+          sym e ∙ may.of_its_part.0.idle in
+          cc
+          )
       | inr all ↦ (
           let x = block_again log p filter start stop.0 2000 bytes clash on clean w.0 may.of_its_part.1.0 in
           may.of_its_part.1.2 x.0 x.2 (all x.0 x.1)

@@ -770,7 +770,8 @@ pub growing_asked : HasAskedIn Following other_watch 1 only_hash [] growing_run
 growing_asked =
     asked_all Following other_watch [] growing_run v_17 p_17 refl chain_17 refl watch_fits bytes_17 growing_right
     (record { blocks = record { header = only_header; txs = [] } ∷ []; taken = (inr ((λ got. none_fetched got.0 got.1), refl), tt); history = refl })
-    (λ p. at_one (WasHeard Following) growing_run v_17 p p_17 one_17 (heard_it Following v_17 chain_17 claimed_17 heard_17) (off_heard Following (Passed 5 ∷ []) refl))
+    (λ p. at_one (WasHeard Following) growing_run v_17 p p_17 one_17
+    (heard_it Following v_17 chain_17 claimed_17 heard_17) (off_heard Following (Passed 5 ∷ []) refl))
     (inr cleared) (λ block got disputed. none_fetched got.0 got.1)
 
 -- ---- the texts
