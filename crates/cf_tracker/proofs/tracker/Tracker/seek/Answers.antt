@@ -20,7 +20,7 @@ within common own other is = (let low = (common_low own other).0 in omega (arith
 pub next_sought-want-requires-clause-within : goal.next_sought-want-requires-clause-within
 next_sought-want-requires-clause-within g c =
     let own = own_of (g.H.HeaderStore.chain c.args.self.now.store) c.args.p in
-    let low : c.common-common.result ≤ length own = omega (arith, c.common-common.ensures, common_low own (own_of (g.H.HeaderStore.chain c.args.self.now.store) c.args.other)) in
+    let low : c.common-common.result ≤ length own = omega (arith, c.common-common.ensures, (common_low own (own_of (g.H.HeaderStore.chain c.args.self.now.store) c.args.other)).0) in
     low
 
 pub next_sought-want-requires-clause-marks : goal.next_sought-want-requires-clause-marks
@@ -56,7 +56,7 @@ invariant_of-self-2 g c =
 pub wish_for-requires-clause-within : goal.wish_for-requires-clause-within
 wish_for-requires-clause-within g c =
     let own = own_of (g.H.HeaderStore.chain c.args.self.now.store) c.args.p in
-    let low : c.common-common.result ≤ length own = omega (arith, c.common-common.ensures, common_low own (own_of (g.H.HeaderStore.chain c.args.self.now.store) c.args.other)) in
+    let low : c.common-common.result ≤ length own = omega (arith, c.common-common.ensures, (common_low own (own_of (g.H.HeaderStore.chain c.args.self.now.store) c.args.other)).0) in
     low
 
 pub returns-clause-wish : goal.returns-clause-wish
